@@ -1,13 +1,33 @@
-// A library with one function.
+//! The values that Performance Co-Pilot speaks of: identifiers, units, time stamps, descriptions, results
+//! and archive items (pmLookupDesc(3), pmFetch(3), LOGARCHIVE(5)), and readers of fixed fields.
+//! A value that is out of its range can't be made.
 #![tactic(auto)]
 
-ghost use Rattle.std.specs.Prelude.{◌≡◌};
-ghost use Rattle.pcp_base.specs.Echo.{echo_of};
+mod block;
+mod desc;
+mod duplicate;
+mod fields;
+mod file;
+mod ids;
+mod kind;
+mod list;
+mod memory;
+mod result;
+mod stamp;
+mod text;
 
-// The `ensures` clause is the contract: what `echo` returns is `echo_of` of its argument, a definition
-// in `specs/Echo.antt`, which a caller's clause can cite too.
-pub fn echo(x: usize) -> usize
-    ensures { result ≡ echo_of x }
-{
-    x
-}
+pub use block::Block;
+pub use desc::Desc;
+pub use duplicate::Duplicate;
+pub use fields::{be32, be64, le32, le64};
+pub use file::FileId;
+pub use ids::{InDom, Pmid, Units};
+pub use kind::{Kind, Semantics};
+pub use list::{Bytes, List};
+pub use memory::NoMemory;
+pub use result::{Body, Item, PmResult, ValueSet};
+pub use stamp::Stamp;
+pub use text::{Text, TextError, Zero};
+
+#[cfg(test)]
+mod tests;
