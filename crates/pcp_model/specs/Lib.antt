@@ -1,1 +1,10 @@
+pub mod Archive
+pub mod Described
 pub mod Disk
+pub mod Frame
+pub mod LabelFields
+pub mod Labels
+pub mod Payload
+pub mod Records
+pub mod Words
+pub mod Written

@@ -3,5 +3,10 @@
 //! of a disk. The crates above cite these definitions; the plain functions here compute them.
 #![tactic(auto)]
 
-/// The framed length of a label, the first record of each file, in bytes.
-pub const LABEL_LENGTH: u64 = 132;
+mod label;
+mod records;
+mod spelling;
+
+pub use label::Label;
+pub use records::{Entry, MetaRecord};
+pub use spelling::spell_frame;
