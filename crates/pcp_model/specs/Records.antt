@@ -22,7 +22,7 @@ counted_names (name ∷ names) = counted_name name ++ counted_names names
 unfoldable pub description : Desc → List (List ℕ) → List ℕ
 description d names =
     word 1 ++ (word d.pmid ++ (word d.code ++ (word d.indom ++ (word d.semantics ++ (word d.units
-        ++ (word (length names) ++ counted_names names))))))
+    ++ (word (length names) ++ counted_names names))))))
 
 -- the numbers of a domain's instances, and their names
 abbrev pub instance_words : List (ℤ × List ℕ) → List ℕ

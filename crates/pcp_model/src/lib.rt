@@ -4,9 +4,11 @@
 #![tactic(auto)]
 
 mod label;
+mod payload;
 mod records;
 mod spelling;
 
 pub use label::Label;
+pub use payload::spell_payload;
 pub use records::{Entry, MetaRecord};
-pub use spelling::spell_frame;
+pub use spelling::{spell_description, spell_entry, spell_frame, spell_label};

@@ -14,7 +14,7 @@ use pcp_base::{Block, Body, Desc, InDom, NoMemory, PmResult, Stamp, Text, ValueS
 use std::alloc::Global;
 
 #[tactic(auto, unfolding(crate::specs::Words::word))]
-fn put_word(out: &mut Vec<u8>, number: u32) -> Result<(), NoMemory>
+pub(crate) fn put_word(out: &mut Vec<u8>, number: u32) -> Result<(), NoMemory>
     ensures bytes { OnOk result (out.new.items ≡ out.old.items ++ word number) }
     ensures grows { OnOk result (length out.new.items ≡ length out.old.items + 4) }
 {
@@ -23,7 +23,7 @@ fn put_word(out: &mut Vec<u8>, number: u32) -> Result<(), NoMemory>
 }
 
 #[tactic(auto, unfolding(crate::specs::Words::signed_word))]
-fn put_signed(out: &mut Vec<u8>, number: i32) -> Result<(), NoMemory>
+pub(crate) fn put_signed(out: &mut Vec<u8>, number: i32) -> Result<(), NoMemory>
     ensures bytes { OnOk result (out.new.items ≡ out.old.items ++ signed_word number) }
     ensures grows { OnOk result (length out.new.items ≡ length out.old.items + 4) }
 {
