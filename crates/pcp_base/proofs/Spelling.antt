@@ -2,16 +2,9 @@
 use Rattle.std.proofs.Common.{◌≡◌, ℕ, ◌<◌, Bool, true, false, cond, ◌&&◌, List, [], ◌∷◌, ◌++◌, length, IsTrue, ap, sym, ◌∙◌, refl, arith, eqb, subst, append-nil, ◌↔◌}
 use Rattle.std.proofs.lemmas.Bool.{eqb-true}
 use Rattle.std.specs.List.{join_with_byte, list_all}
-use Rattle.pcp_base.specs.Names.{is_letter, is_name_byte, IsComponent, AreComponents, IsName}
+use Rattle.pcp_base.specs.Names.{is_letter, is_name_byte, IsComponent, AreComponents, IsName, spells}
 
--- what the walk answers, at the start of a component or within one
-abbrev pub walk : Bool → List ℕ → Bool
-walk true [] = false
-walk false [] = true
-walk true (b ∷ bs) = is_letter b && walk false bs
-walk false (b ∷ bs) = cond (eqb b 46) (walk true bs) (is_name_byte b && walk false bs)
-
--- the same within one component
+-- what a walk over one component answers, at its start or within it
 abbrev pub walk_one : Bool → List ℕ → Bool
 walk_one true [] = false
 walk_one false [] = true
@@ -62,12 +55,12 @@ unfolding Rest
 dot_before b bs h (parts, some, components, joined) =
     ([], parts, refl, components, ap (λ n. n ∷ bs) h ∙ ap (λ t. 46 ∷ t) joined ∙ sym (join_dot parts some))
 
-within : (t : Bool) (b : ℕ) (bs : List ℕ) → eqb b 46 ≡ t → (IsName bs → b ≡ 46 → Rest (b ∷ bs)) → (is_name_byte b ≡ true → walk false bs ≡ true → Rest (b ∷ bs)) → (walk true bs ≡ true → IsName bs) → cond t (walk true bs) (is_name_byte b && walk false bs) ≡ true → Rest (b ∷ bs)
+within : (t : Bool) (b : ℕ) (bs : List ℕ) → eqb b 46 ≡ t → (IsName bs → b ≡ 46 → Rest (b ∷ bs)) → (is_name_byte b ≡ true → spells false bs ≡ true → Rest (b ∷ bs)) → (spells true bs ≡ true → IsName bs) → cond t (spells true bs) (is_name_byte b && spells false bs) ≡ true → Rest (b ∷ bs)
 within true b bs e dot byte name h = dot (name h) (eqb-true b 46 e)
 within false b bs e dot byte name h = byte (both_left _ _ h) (both_right _ _ h)
 
 -- what the walk accepts is spelt so
-spelt : (start : Bool) (bs : List ℕ) → walk start bs ≡ true → Spelt start bs
+spelt : (start : Bool) (bs : List ℕ) → spells start bs ≡ true → Spelt start bs
 unfolding Rest
 spelt true [] h = cc
 spelt false [] h = ([], [], refl, tt, refl)
@@ -80,24 +73,24 @@ no_dot b false e h = refl
 no_dot b true e h = let at_dot : is_name_byte 46 ≡ true = subst (λ n. is_name_byte n ≡ true) (eqb-true b 46 e) h in cc
 
 -- name bytes end no component
-walk-append : (bs tail : List ℕ) → list_all is_name_byte bs ≡ true → walk false (bs ++ tail) ≡ walk false tail
-walk-append [] tail h = refl
-walk-append (b ∷ bs) tail h =
-    ap (λ t. cond t (walk true (bs ++ tail)) (is_name_byte b && walk false (bs ++ tail))) (no_dot b (eqb b 46) refl (both_left _ _ h))
-    ∙ ap (λ t. t && walk false (bs ++ tail)) (both_left _ _ h) ∙ walk-append bs tail (both_right _ _ h)
+spells-append : (bs tail : List ℕ) → list_all is_name_byte bs ≡ true → spells false (bs ++ tail) ≡ spells false tail
+spells-append [] tail h = refl
+spells-append (b ∷ bs) tail h =
+    ap (λ t. cond t (spells true (bs ++ tail)) (is_name_byte b && spells false (bs ++ tail))) (no_dot b (eqb b 46) refl (both_left _ _ h))
+    ∙ ap (λ t. t && spells false (bs ++ tail)) (both_left _ _ h) ∙ spells-append bs tail (both_right _ _ h)
 
-walk-component : (part tail : List ℕ) → IsComponent part → walk true (part ++ tail) ≡ walk false tail
-walk-component [] tail h = absurd h
-walk-component (b ∷ bs) tail (letter, names) =
-    ap (λ t. t && walk false (bs ++ tail)) (letter) ∙ walk-append bs tail names
+spells-component : (part tail : List ℕ) → IsComponent part → spells true (part ++ tail) ≡ spells false tail
+spells-component [] tail h = absurd h
+spells-component (b ∷ bs) tail (letter, names) =
+    ap (λ t. t && spells false (bs ++ tail)) (letter) ∙ spells-append bs tail names
 
-walk-join : (parts : List (List ℕ)) → 0 < length parts → AreComponents parts → walk true (join_with_byte 46 parts) ≡ true
-walk-join [] h c = absurd (omega (arith, h))
-walk-join (p ∷ []) h (c, _) = ap (walk true) (sym (append-nil p)) ∙ walk-component p [] c
-walk-join (p ∷ q ∷ ps) h (c, cs) = walk-component p (46 ∷ join_with_byte 46 (q ∷ ps)) c ∙ walk-join (q ∷ ps) (omega arith) cs
+spells-join : (parts : List (List ℕ)) → 0 < length parts → AreComponents parts → spells true (join_with_byte 46 parts) ≡ true
+spells-join [] h c = absurd (omega (arith, h))
+spells-join (p ∷ []) h (c, _) = ap (spells true) (sym (append-nil p)) ∙ spells-component p [] c
+spells-join (p ∷ q ∷ ps) h (c, cs) = spells-component p (46 ∷ join_with_byte 46 (q ∷ ps)) c ∙ spells-join (q ∷ ps) (omega arith) cs
 
-pub walks : (bs : List ℕ) (r : Bool) → r ≡ walk true bs → IsTrue r ↔ IsName bs
-walks bs r e = (λ h. spelt true bs (sym e ∙ h), λ (parts, some, components, joined). (e ∙ ap (walk true) joined ∙ walk-join parts some components))
+pub walks : (bs : List ℕ) (r : Bool) → r ≡ spells true bs → IsTrue r ↔ IsName bs
+walks bs r e = (λ h. spelt true bs (sym e ∙ h), λ (parts, some, components, joined). (e ∙ ap (spells true) joined ∙ spells-join parts some components))
 
 walk_one-all : (bs : List ℕ) → walk_one false bs ≡ list_all is_name_byte bs
 walk_one-all [] = refl

@@ -1,5 +1,5 @@
 -- Names of metrics (PCPIntro(1)): components joined by `.`, as `mmv.app.hits`.
-use Rattle.std.specs.Prelude.{◌≡◌, ℕ, ◌<◌, Bool, ◌&&◌, ◌||◌, ◌==◌, nat_le, IsTrue, List, [], ◌∷◌, length}
+use Rattle.std.specs.Prelude.{◌≡◌, ℕ, ◌<◌, Bool, true, false, if◌then◌else◌, ◌&&◌, ◌||◌, ◌==◌, nat_le, IsTrue, List, [], ◌∷◌, length}
 use Rattle.std.specs.List.{join_with_byte, list_all}
 
 -- A to Z or a to z
@@ -22,3 +22,10 @@ AreComponents (part ∷ parts) = IsComponent part × AreComponents parts
 -- one or more components joined by `.`
 abbrev pub IsName : List ℕ → Type 0
 IsName bytes = (parts : List (List ℕ)) × (0 < length parts) × AreComponents parts × (bytes ≡ join_with_byte 46 parts)
+
+-- the same as a test: bytes spell a name, read from the start of a component or from within one
+abbrev pub spells : Bool → List ℕ → Bool
+spells true [] = false
+spells false [] = true
+spells true (b ∷ bs) = is_letter b && spells false bs
+spells false (b ∷ bs) = if b == 46 then spells true bs else (is_name_byte b && spells false bs)

@@ -1,5 +1,5 @@
-ghost use Rattle.std.specs.Prelude.{◌≡◌, ◌↔◌, IsTrue};
-ghost use Rattle.pcp_base.specs.Names.{is_letter, is_name_byte, IsComponent, IsName};
+ghost use Rattle.std.specs.Prelude.{◌≡◌, ◌↔◌, IsTrue, true};
+ghost use Rattle.pcp_base.specs.Names.{is_letter, is_name_byte, IsComponent, IsName, spells};
 
 /// Whether a component may start with this byte.
 fn starts(byte: u8) -> bool
@@ -35,7 +35,8 @@ pub fn is_component(bytes: &[u8]) -> bool
 
 /// Whether the bytes are a name of a metric: one or more components joined by `.` (PCPIntro(1)).
 pub fn is_name(bytes: &[u8]) -> bool
-    ensures { IsTrue result ↔ IsName bytes.now }
+    ensures name { IsTrue result ↔ IsName bytes.now }
+    ensures test { result ≡ spells true bytes.now }
 {
     let mut is_first = true;
     for byte in bytes {
