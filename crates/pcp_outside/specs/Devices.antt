@@ -1,5 +1,5 @@
 -- What the calls of a disk do to what its files hold, and what a crash may leave at each moment.
-use Rattle.std.specs.Prelude.{◌≡◌, ◌⊎◌, ℕ, ◌+◌, ◌-◌, ◌<◌, ◌≤◌, List, [], ◌++◌, length, take, drop, min, Bool, true, false, nat_eq, Option, Result, Ok, Err}
+use Rattle.std.specs.Prelude.{◌≡◌, ◌⊎◌, ℕ, ◌+◌, ◌-◌, ◌<◌, ◌≤◌, List, [], ◌++◌, length, take, drop, min, Bool, true, false, nat_eq, if◌then◌else◌, Option, Result, Ok, Err}
 use Rattle.pcp_base.specs.declared.file.FileId.{FileId}
 use Rattle.pcp_base.specs.declared.file.FileId.TheVariants.{Meta, Index, Volume}
 use Rattle.pcp_model.specs.Disk.{Files, Held, Holdings, bytes_of, CrashImage}
@@ -40,15 +40,15 @@ cut_to n h = record { sure = take n h.sure; rest = take (n - length h.sure) h.re
 
 -- these holdings but for one file
 abbrev pub with_file : FileId → Held → Holdings → Holdings
-with_file file h held = λ g. one_of (same_file file g) h (held g)
-  where
-    one_of : Bool → Held → Held → Held
-    one_of true x y = x
-    one_of false x y = y
+with_file file h held = λ g. if same_file file g then h else held g
 
 -- the holdings with bytes behind a file's end, not yet sure: their crash images are those of every moment of an append and a sync
 abbrev pub grown : FileId → List ℕ → Holdings → Holdings
 grown file bytes held = with_file file (appended (held file) bytes) held
+
+-- what a crash may leave of one file: its sure bytes and any beginning of the rest
+abbrev pub Survives : Held → List ℕ → Type 0
+Survives h bytes = (n : ℕ) × (bytes ≡ h.sure ++ take n h.rest)
 
 -- what `append` does: all the bytes, or where it failed some front of them
 abbrev pub Appends : {T E : Type 0} → FileId → List ℕ → Holdings → Holdings → Result T E → Type 0

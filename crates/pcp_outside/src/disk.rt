@@ -1,13 +1,16 @@
 ghost use Rattle.std.specs.Prelude.{◌≡◌, ◌≤◌, ◌+◌, ℕ, length, take, drop, IfOk, OnOk, Option};
+ghost use Rattle.pcp_model.specs.Disk.{CrashImage};
+ghost use Rattle.pcp_outside.specs.Causes.{HasCause};
+ghost use Rattle.pcp_outside.specs.Devices.{IsNumbered, AppendsSure, LeavesOnly, grown};
 
 use crate::failed::Failed;
 use pcp_base::FileId;
 
 /// The files of one archive. A file that is missing is an empty one.
 pub trait Disk {
-    ghost use Rattle.pcp_model.specs.Disk.{Files, Holdings, bytes_of, CrashImage};
-    ghost use Rattle.pcp_outside.specs.Causes.{HasCause, capped};
-    ghost use Rattle.pcp_outside.specs.Devices.{IsNumbered, length_of, IsVolumes, Appends, Syncs, Cuts, Counts, Elapses};
+    ghost use Rattle.pcp_model.specs.Disk.{Files, Holdings, bytes_of};
+    ghost use Rattle.pcp_outside.specs.Causes.{capped};
+    ghost use Rattle.pcp_outside.specs.Devices.{length_of, IsVolumes, Appends, Syncs, Cuts, Counts, Elapses};
     ghost use Rattle.pcp_base.specs.declared.file.FileId.{FileId as File};
 
     /// Whether the object tells its content; one over the system doesn't.
@@ -111,4 +114,20 @@ pub trait Disk {
 
     /// Since this moment there is no other.
     ghost only_now: { (disk : Self) (c : Files) → left_since disk (moment disk) c → CrashImage (held disk) c };
+}
+
+/// Puts bytes behind a file's end and makes all of the file sure. Where it fails some front of the bytes may
+/// stand there, and the file may be sure or not.
+pub fn append_synced<D: Disk>(disk: &mut D, file: FileId, bytes: &[u8]) -> Result<(), Failed>
+    requires { IsNumbered file }
+    ensures held { D.tells → AppendsSure file bytes.now (D.held disk.old) (D.held disk.new) result }
+    ensures wrapped { D.tells → D.wrapped_file disk.new ≡ D.wrapped_file disk.old }
+    ensures taken { D.tells → D.taken disk.new ≡ D.taken disk.old }
+
+    // A crash at any moment of it leaves some front of the bytes behind what was sure, and the other files alone.
+    ensures any_moment { D.tells → LeavesOnly D.moment D.left_since disk.old disk.new (CrashImage (grown file bytes.now (D.held disk.old))) }
+    ensures cause { HasCause (D.faults disk.old) (D.faults disk.new) result }
+{
+    disk.append(file, bytes)?;
+    disk.sync(file)
 }

@@ -7,7 +7,7 @@ mod disk;
 mod failed;
 mod streams;
 
-pub use disk::Disk;
+pub use disk::{Disk, append_synced};
 pub use failed::Failed;
 pub use pcp_base::FileId;
 pub use streams::{ReadFault, Sink, Source, read_to_limit, write_all};
