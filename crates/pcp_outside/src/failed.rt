@@ -1,0 +1,3 @@
+/// A call of the outside failed; the object's count of faults rose.
+#[derive(Clone, Copy, Debug, PartialEq, Eq)]
+pub struct Failed;
