@@ -1,0 +1,70 @@
+-- What the words of a command line ask for.
+use Rattle.std.specs.Prelude.{◌≡◌, ℕ, ◌+◌, Bool, true, false, ◌&&◌, nat_le, nat_lt, if◌then◌else◌, List, [], ◌∷◌, length, map, Option, Some, None, Result, Ok, Err, codes, bytes_eq, string_bytes, String, option_and_then}
+use Rattle.std.specs.List.{list_all}
+use Rattle.pcp_base.specs.Names.{is_letter, is_name_byte}
+use Rattle.pm_commands.specs.Numbers.{number_of}
+use Rattle.pm_commands.specs.declared.words.Command.{Command}
+use Rattle.pm_commands.specs.declared.words.Command.TheVariants.{Once}
+use Rattle.pm_commands.specs.declared.words.OnceWords.{OnceWords}
+use Rattle.pm_commands.specs.declared.words.WordsFault.{WordsFault}
+use Rattle.pm_commands.specs.declared.words.WordsFault.TheVariants.{Usage, NoMemory}
+
+infixl 10 ◌>>=◌
+abbrev pub ◌>>=◌ : {A B : Type 0} → Result A ℕ → (A → Result B ℕ) → Result B ℕ
+(Ok x) >>= f = f x
+(Err at) >>= f = Err at
+
+-- a value, and the words behind it; or the index of the word that has none
+abbrev pub at_index : {A : Type 0} → ℕ → List (List ℕ) → Option A → Result (A × List (List ℕ)) ℕ
+at_index at words None = Err at
+at_index at words (Some a) = Ok (a, words)
+
+-- what the next word says, at this index
+abbrev pub word_then : {A : Type 0} → (List ℕ → Option A) → ℕ → List (List ℕ) → Result (A × List (List ℕ)) ℕ
+word_then read at [] = Err at
+word_then read at (word ∷ words) = at_index at words (read word)
+
+-- no further word
+abbrev pub end_then : {A : Type 0} → A → ℕ → List (List ℕ) → Result A ℕ
+end_then a at [] = Ok a
+end_then a at (word ∷ words) = Err at
+
+abbrev pub below : ℕ → Option ℕ → Option ℕ
+below limit None = None
+below limit (Some n) = if nat_lt n limit then Some n else None
+
+-- the seconds and microseconds of a stamp
+abbrev pub second_of : List ℕ → Option ℕ
+second_of word = below 2147483648 (number_of word)
+
+abbrev pub microsecond_of : List ℕ → Option ℕ
+microsecond_of word = below 1000000 (number_of word)
+
+-- a region's name: one component of a name, of at most 63 bytes
+abbrev pub file_of : List ℕ → Option (List ℕ)
+file_of [] = None
+file_of (b ∷ bs) = if is_letter b && list_all is_name_byte bs && nat_le (length (b ∷ bs)) 63 then Some (b ∷ bs) else None
+
+-- SEC USEC FILE, from the word at index 1 on
+unfoldable pub once_of : List (List ℕ) → Result Command ℕ
+once_of words = do
+  sec ← word_then second_of 1 words
+  usec ← word_then microsecond_of 2 sec.1
+  file ← word_then file_of 3 usec.1
+  end_then (Once record { stamp = record { sec = sec.0; usec = usec.0 }; file = file.0 }) 4 file.1
+
+-- The command, or the index of the first word that is bad or missing. A command that isn't known is bad at 0.
+abbrev pub command_of : List (List ℕ) → Result Command ℕ
+command_of [] = Err 0
+command_of (word ∷ words) = if bytes_eq word (codes "once") then once_of words else Err 0
+
+-- what a function over words answered, seen by view, is what the definition says
+abbrev pub Gives : {X Y : Type 0} → (X → Y) → Result X ℕ → Result Y ℕ → Type 0
+Gives view (Ok x) read = read ≡ Ok (view x)
+Gives view (Err at) read = read ≡ Err at
+
+-- what a parse of the words answered is what they say, unless memory ran out
+abbrev pub Reads : {A : Type 0} → Result A WordsFault → Result A ℕ → Type 0
+Reads (Ok c) read = read ≡ Ok c
+Reads (Err (Usage at)) read = read ≡ Err at
+Reads (Err NoMemory) read = Unit {0}

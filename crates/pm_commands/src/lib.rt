@@ -1,0 +1,9 @@
+//! The commands of the program `pcp`: the words of a command line, and for each command what it reads, what
+//! it writes to the archive and to its output, and with which status it ends. `offline` is the call that
+//! main makes.
+#![tactic(auto)]
+
+mod numbers;
+mod words;
+
+pub use words::{Command, OnceWords, WordsFault, read_words};
