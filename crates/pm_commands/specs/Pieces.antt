@@ -39,7 +39,7 @@ pieces stamp file s = record {
   volume_label = label (once_label stamp) (pos 0);
   description = frame (description (shown_desc s) (shown_name file s ∷ []));
   sample = frame (payload (shown_result stamp s));
-  entry = entry (flush_entry stamp (logged stamp file s))
+  entry = entry (flush_entry stamp (logged stamp file s));
 }
 
 -- Of these lengths of the three files a crash may leave: a piece stands only where those before it are whole.

@@ -5,5 +5,6 @@
 
 mod numbers;
 mod words;
+mod writes;
 
 pub use words::{Command, OnceWords, WordsFault, read_words};

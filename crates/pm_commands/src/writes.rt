@@ -1,0 +1,75 @@
+//! The writes of `once`: an archive is created, one item is added, and a flush acknowledges it. Metadata is
+//! sure before the item's record, and the record before the index entry that leads past it.
+ghost use Rattle.std.specs.Prelude.{◌≡◌, ◌++◌, OnOk};
+ghost use Rattle.pcp_model.specs.Disk.{nothing_held};
+ghost use Rattle.pcp_outside.specs.Causes.{HasCause};
+ghost use Rattle.pcp_outside.specs.Devices.{LeavesOnly, appended};
+ghost use Rattle.pm_commands.specs.Pieces.{Pieces, Holds, IsCut, sure, meta_file, volume_file};
+
+use pcp_outside::{Disk, Failed, FileId, append_synced};
+use std::marker::Model;
+
+/// What `once` writes, piece by piece; made before the first write.
+#[derive(Drop)]
+pub struct Plan {
+    meta_label: Vec<u8>,
+    index_label: Vec<u8>,
+    volume_label: Vec<u8>,
+    description: Vec<u8>,
+    sample: Vec<u8>,
+    entry: Vec<u8>,
+}
+
+impl Model for Plan {
+    ghost use Rattle.pm_commands.specs.Pieces.{Pieces};
+
+    ghost Value = { Pieces };
+
+    ghost view = { λ a. record { meta_label = a.meta_label.items; index_label = a.index_label.items; volume_label = a.volume_label.items; description = a.description.items; sample = a.sample.items; entry = a.entry.items } };
+}
+
+// The three labels.
+fn create<D: Disk>(disk: &mut D, plan: &Plan) -> Result<(), Failed>
+    requires { D.tells → Holds (D.held disk.old) nothing_held nothing_held nothing_held }
+    ensures ok { D.tells → OnOk result (Holds (D.held disk.new) (sure plan.now.meta_label) (sure plan.now.index_label) (sure plan.now.volume_label)) }
+    ensures any_moment { D.tells → LeavesOnly D.moment D.left_since disk.old disk.new (IsCut plan.now) }
+    ensures cause { HasCause (D.faults disk.old) (D.faults disk.new) result }
+{
+    append_synced(disk, FileId::Meta, &plan.meta_label)?;
+    append_synced(disk, FileId::Index, &plan.index_label)?;
+    append_synced(disk, FileId::Volume(0), &plan.volume_label)
+}
+
+// The description, made sure, and then the item's record.
+fn add_item<D: Disk>(disk: &mut D, plan: &Plan) -> Result<(), Failed>
+    requires { D.tells → Holds (D.held disk.old) (sure plan.now.meta_label) (sure plan.now.index_label) (sure plan.now.volume_label) }
+    ensures ok { D.tells → OnOk result (Holds (D.held disk.new) (sure (meta_file plan.now)) (sure plan.now.index_label) (appended (sure plan.now.volume_label) plan.now.sample)) }
+    ensures any_moment { D.tells → LeavesOnly D.moment D.left_since disk.old disk.new (IsCut plan.now) }
+    ensures cause { HasCause (D.faults disk.old) (D.faults disk.new) result }
+{
+    append_synced(disk, FileId::Meta, &plan.description)?;
+    disk.append(FileId::Volume(0), &plan.sample)
+}
+
+// The record made sure, and then the index entry.
+fn flush<D: Disk>(disk: &mut D, plan: &Plan) -> Result<(), Failed>
+    requires { D.tells → Holds (D.held disk.old) (sure (meta_file plan.now)) (sure plan.now.index_label) (appended (sure plan.now.volume_label) plan.now.sample) }
+    ensures ok { D.tells → OnOk result (Holds (D.held disk.new) (sure (meta_file plan.now)) (appended (sure plan.now.index_label) plan.now.entry) (sure (volume_file plan.now))) }
+    ensures any_moment { D.tells → LeavesOnly D.moment D.left_since disk.old disk.new (IsCut plan.now) }
+    ensures cause { HasCause (D.faults disk.old) (D.faults disk.new) result }
+{
+    disk.sync(FileId::Volume(0))?;
+    disk.append(FileId::Index, &plan.entry)
+}
+
+// The whole archive of one item, over files that hold nothing.
+fn write_archive<D: Disk>(disk: &mut D, plan: &Plan) -> Result<(), Failed>
+    requires { D.tells → Holds (D.held disk.old) nothing_held nothing_held nothing_held }
+    ensures ok { D.tells → OnOk result (Holds (D.held disk.new) (sure (meta_file plan.now)) (appended (sure plan.now.index_label) plan.now.entry) (sure (volume_file plan.now))) }
+    ensures any_moment { D.tells → LeavesOnly D.moment D.left_since disk.old disk.new (IsCut plan.now) }
+    ensures cause { HasCause (D.faults disk.old) (D.faults disk.new) result }
+{
+    create(disk, plan)?;
+    add_item(disk, plan)?;
+    flush(disk, plan)
+}
