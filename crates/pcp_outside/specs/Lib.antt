@@ -1,4 +1,6 @@
 pub mod Causes
+pub mod Contents
 pub mod Devices
 pub mod Memory
 pub mod Streams
+pub mod Volumes

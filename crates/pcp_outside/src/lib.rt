@@ -3,6 +3,7 @@
 //! There is an object in memory for each trait, proved against it, and a thin one over the system.
 #![tactic(auto)]
 
+mod contents;
 mod disk;
 mod failed;
 mod memory_streams;
