@@ -29,6 +29,11 @@ effect (Cut _ n) h = cut_to n h
 abbrev pub changed : FileId → Held → Call → Held
 changed file h c = if same_file (file_of c) file then effect c h else h
 
+-- this many bytes are sure, and these are all
+pub record IsHeld (h : Held) (sure : ℕ) (bytes : List ℕ) : Type 0 where
+  pub sure_bytes : sure ≡ length h.sure
+  pub all_bytes : bytes ≡ bytes_of h
+
 -- what a file holds after these calls, in their order
 abbrev pub held_from : FileId → Held → List Call → Held
 held_from file h [] = h

@@ -4,7 +4,8 @@ ghost use Rattle.std.specs.Prelude.{◌⊎◌};
 ghost use Rattle.pcp_outside.specs.Causes.{HasCause, capped};
 ghost use Rattle.pcp_outside.specs.Devices.{same_file, IsNumbered, taken_after};
 ghost use Rattle.pcp_outside.specs.Memory.{is_listed};
-ghost use Rattle.pcp_outside.specs.Record.{IsKept, held_after, first_wrapped, comes_before, is_append_of, is_sync_of};
+ghost use Rattle.pcp_model.specs.Disk.{Held};
+ghost use Rattle.pcp_outside.specs.Record.{IsKept, IsHeld, changed, held_after, first_wrapped, comes_before, is_append_of, is_sync_of};
 
 use crate::contents::Contents;
 use crate::disk::Disk;
@@ -117,6 +118,47 @@ impl MemDisk {
         ensures { result ≡ length self.now.calls }
     {
         self.calls.len()
+    }
+
+    /// What a file held after the first `moment` calls that changed the disk: how many of its bytes were sure,
+    /// and all of them.
+    pub fn holdings_at(
+        &self,
+        alloc: Global,
+        moment: usize,
+        file: FileId,
+    ) -> Result<(usize, Bytes), NoMemory>
+        requires { moment ≤ length self.now.calls }
+        ensures { IfOk result (λ found. IsHeld (held_after (take moment self.now.calls) file) found.0 found.1) }
+    {
+        let mut sure = 0;
+        let mut bytes = Vec::new(alloc);
+        for call in &self.calls.as_slice()[..moment] {
+            sure = replay(call, file, sure, &mut bytes)?;
+        }
+        Ok((sure, List::from_vec(bytes)))
+    }
+}
+
+// Does a call again to what one file held.
+fn replay(call: &Call, file: FileId, sure: usize, bytes: &mut Vec<u8>) -> Result<usize, NoMemory>
+    ensures { (h : Held) → IsHeld h sure bytes.old.items → IfOk result (λ sure_then. IsHeld (changed file h call.now) sure_then bytes.new.items) }
+{
+    match call {
+        Call::Append(found, more) => {
+            if same(*found, file) {
+                bytes.extend_from_slice(more.as_slice())?;
+            }
+            Ok(sure)
+        }
+        Call::Sync(found) => Ok(if same(*found, file) { bytes.len() } else { sure }),
+        Call::Cut(found, len) => {
+            if !same(*found, file) {
+                return Ok(sure);
+            }
+            bytes.truncate(*len as usize);
+            Ok(sure.min(*len as usize))
+        }
     }
 }
 
