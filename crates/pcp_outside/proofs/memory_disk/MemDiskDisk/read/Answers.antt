@@ -1,0 +1,7 @@
+use Rattle.std.proofs.Common.{ap}
+use Rattle.pcp_outside.specs.Record.{DiskState}
+use Rattle.pcp_outside.proofs.Moments.{elapses_same}
+use Rattle.pcp_outside.proofs.memory_disk.MemDiskDisk.read.Goals as goal
+
+pub returns-clause-time : goal.returns-clause-time
+returns-clause-time c = elapses_same c.args.self.now.calls c.self.inside.calls (ap (λ (d : DiskState). d.calls) c.self.view_is)
