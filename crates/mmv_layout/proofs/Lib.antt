@@ -1,3 +1,4 @@
 pub mod Below
+pub mod Leads
 pub mod Sections
 pub mod Texts

@@ -4,8 +4,11 @@
 #![tactic(auto)]
 
 mod contents;
+mod entries;
 mod fault;
 mod fields;
+mod indoms;
+mod instances;
 mod rows;
 
 pub use fault::ImageFault;
