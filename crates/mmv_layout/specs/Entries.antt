@@ -138,50 +138,65 @@ is_semantics code = is_some (semantics_of_code code)
 abbrev pub is_no_domain : ℕ → Bool
 is_no_domain serial = serial == 0 || serial == 4294967295
 
+-- some domain has a serial
+unfoldable pub is_indom_serial : List ℕ → ℕ → Bool
+is_indom_serial words serial = some_below (indom_count words) (has_serial words serial)
+
 -- a metric's serial is none or that of a domain. Where it isn't is the fault Reference, at the serial
 unfoldable pub serial_leads : List ℕ → ℕ → Bool
-serial_leads words serial = is_no_domain serial || some_below (indom_count words) (has_serial words serial)
+serial_leads words serial = is_no_domain serial || is_indom_serial words serial
+
+-- two metrics have one item or one name
+unfoldable pub is_same_metric : List ℕ → ℕ → ℕ → Bool
+is_same_metric words a b = number32 words (a + 64) == number32 words (b + 64) || same_name words a b
 
 -- no earlier metric has the item or the name of metric i. Where one has is the fault Duplicate, at the entry
 unfoldable pub is_new_metric : List ℕ → ℕ → Bool
-is_new_metric words i = all_below i (λ j.
-    not (number32 words (metric_at words j + 64) == number32 words (metric_at words i + 64)
-        || same_name words (metric_at words j) (metric_at words i)))
+is_new_metric words i = all_below i (λ j. not (is_same_metric words (metric_at words j) (metric_at words i)))
 
 -- an item is at most 1023. Where it isn't is the fault Serial, at the item
 abbrev pub is_item : ℕ → Bool
 is_item item = nat_le item 1023
 
-unfoldable pub is_good_metric : List ℕ → ℕ → Bool
-is_good_metric words i =
-    let metric = metric_at words i in
-    has_name words metric && is_kind (number32 words (metric + 68)) && is_semantics (number32 words (metric + 72))
+-- the metric at a place has codes with a meaning, references that lead, and an item
+unfoldable pub has_good_fields : List ℕ → ℕ → Bool
+has_good_fields words metric =
+    is_kind (number32 words (metric + 68)) && is_semantics (number32 words (metric + 72))
     && serial_leads words (number32 words (metric + 80)) && help_leads words (metric + 88) && help_leads words (metric + 96)
-    && is_new_metric words i && is_item (number32 words (metric + 64))
+    && is_item (number32 words (metric + 64))
+
+unfoldable pub is_good_metric : List ℕ → ℕ → Bool
+is_good_metric words i = has_name words (metric_at words i) && has_good_fields words (metric_at words i) && is_new_metric words i
+
+-- the metric of the value at a place. Where the field leads to none is the fault Reference, at the field
+unfoldable pub metric_of : List ℕ → ℕ → ℕ
+metric_of words value = number64 words (value + 16)
 
 -- the value at a place has the instance 0 where its metric has no domain, and else an instance of that domain. Where it
 -- hasn't is the fault Reference, at its instance field
 unfoldable pub instance_leads : List ℕ → ℕ → Bool
 instance_leads words value =
-    let serial = number32 words (number64 words (value + 16) + 80) in
-    let instance = number64 words (value + 24) in
-    if is_no_domain serial then instance == 0 else (leads_to_instance words instance && number32 words (number64 words instance) == serial)
+    if is_no_domain (number32 words (metric_of words value + 80)) then number64 words (value + 24) == 0
+    else (leads_to_instance words (number64 words (value + 24))
+        && number32 words (number64 words (number64 words (value + 24))) == number32 words (metric_of words value + 80))
 
 -- a string value leads to a string. Where it doesn't is the fault Reference, at its extra field
 unfoldable pub choice_leads : List ℕ → ℕ → Bool
 choice_leads words value =
-    not (number32 words (number64 words (value + 16) + 68) == 6) || leads_to_string words (number64 words (value + 8))
+    not (number32 words (metric_of words value + 68) == 6) || leads_to_string words (number64 words (value + 8))
+
+-- two values have one metric and one instance
+unfoldable pub is_same_value : List ℕ → ℕ → ℕ → Bool
+is_same_value words a b = number64 words (a + 16) == number64 words (b + 16) && number64 words (a + 24) == number64 words (b + 24)
 
 -- no earlier value has the metric and the instance of value i. Where one has is the fault Duplicate, at the entry
 unfoldable pub is_new_value : List ℕ → ℕ → Bool
-is_new_value words i = all_below i (λ j.
-    not (number64 words (value_at words j + 16) == number64 words (value_at words i + 16)
-        && number64 words (value_at words j + 24) == number64 words (value_at words i + 24)))
+is_new_value words i = all_below i (λ j. not (is_same_value words (value_at words j) (value_at words i)))
 
 unfoldable pub is_good_value : List ℕ → ℕ → Bool
 is_good_value words i =
-    let value = value_at words i in
-    leads_to_metric words (number64 words (value + 16)) && instance_leads words value && choice_leads words value && is_new_value words i
+    leads_to_metric words (metric_of words (value_at words i)) && instance_leads words (value_at words i)
+    && choice_leads words (value_at words i) && is_new_value words i
 
 -- string i has a zero byte. Where it hasn't is the fault Name, at the string
 unfoldable pub is_good_string : List ℕ → ℕ → Bool

@@ -9,7 +9,9 @@ mod fault;
 mod fields;
 mod indoms;
 mod instances;
+mod metrics;
 mod rows;
+mod values;
 
 pub use fault::ImageFault;
 pub use rows::{MetricRow, Slot};
