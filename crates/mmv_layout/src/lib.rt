@@ -7,6 +7,7 @@ mod contents;
 mod entries;
 mod fault;
 mod fields;
+mod image;
 mod indoms;
 mod instances;
 mod metrics;
