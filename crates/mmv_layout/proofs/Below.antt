@@ -50,11 +50,11 @@ some_holds (suc n) k test h f =
     ⊎_elim (λ (below : k < n). ap (λ b. b || test n) (some_holds n k test below f))
         (λ (last : k ≡ n). ap (λ b. some_below n test || b) (sym (ap test last) ∙ f) ∙ or_true (some_below n test)) (below_suc k n h)
 
-both_left : (a b : Bool) → (a && b) ≡ true → a ≡ true
+pub both_left : (a b : Bool) → (a && b) ≡ true → a ≡ true
 both_left true b h = refl
 both_left false b h = cc
 
-both_right : (a b : Bool) → (a && b) ≡ true → b ≡ true
+pub both_right : (a b : Bool) → (a && b) ≡ true → b ≡ true
 both_right true b h = h
 both_right false b h = cc
 

@@ -1,3 +1,7 @@
+ghost use Rattle.std.specs.Prelude.{◌≡◌};
+ghost use Rattle.mmv_layout.specs.declared.fault.ImageFault.TheVariants.{NoMemory as Refused};
+
+use std::alloc::AllocError;
 use thiserror::Error;
 
 /// Why words or bytes aren't an image that is read, the first reason in this order.
@@ -15,4 +19,12 @@ pub enum ImageFault {
     /// Memory was refused.
     #[error("out of memory")]
     NoMemory,
+}
+
+impl From<AllocError> for ImageFault {
+    ghost from_gives = { λ _ e. e ≡ Refused };
+
+    fn from(_error: AllocError) -> ImageFault {
+        ImageFault::NoMemory
+    }
 }
