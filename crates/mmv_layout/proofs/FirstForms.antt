@@ -1,0 +1,98 @@
+-- What is known of a first-form image.
+use Rattle.std.proofs.Common.{◌≡◌, ◌≢◌, ℕ, zero, suc, ◌+◌, ◌-◌, ◌*◌, ◌/◌, ◌%◌, ◌<◌, ◌≤◌, Bool, true, false, not, cond, ◌&&◌, ◌||◌, ◌⊎◌, inl, inr, List, [], ◌∷◌, length, ap, sym, subst, ◌∙◌, refl, arith, add-one, nat_eq, nat_le, nat_lt, All, IsTrue, if◌then◌else◌, unwrap_or, ⊎_elim}
+use Rattle.std.proofs.Math.Nat.{mul-mod_right}
+use Rattle.std.proofs.lemmas.Bool.Decides.{nat_tests}
+use Rattle.pcp_base.specs.Names.{IsName, spells}
+use Rattle.pcp_base.specs.Codes.{kind_of_code}
+use Rattle.pcp_base.specs.declared.kind.Kind.TheVariants.{I32, U32}
+use Rattle.mmv_layout.specs.Fields.{number32, number64, byte_at, text_at, has_zero}
+use Rattle.mmv_layout.specs.Contents.{bytes_in, is_short, contents_in, type_in, count_in, place_in, section_bytes, end_in, section_lies, has_good_section, sections_are_good, find_section, section_of, cluster_in}
+use Rattle.mmv_layout.specs.Entries.{metric_at, metric_count, value_at, value_count, has_name, has_good_fields, is_good_metric, metrics_are_good}
+use Rattle.mmv_layout.specs.FirstForm.{has_good_header, is_image, is_plain_metric, is_first_form, only_name, only_item, only_kind, value_word}
+use Rattle.mmv_layout.proofs.Below.{all_at, both_left, both_right}
+
+short_by : (n : ℕ) (a b : Bool) → nat_le 40 (8 * n) ≡ a → b ≡ true → not (a && b) ≡ nat_lt n 5
+short_by n a b e f = grind (arith, nat_tests)
+
+-- whole words are short where there are fewer than five
+pub short_words : (words : List ℕ) → is_short (bytes_in words) ≡ nat_lt (length words) 5
+short_words words = short_by (length words) _ _ refl (grind (arith, nat_tests, mul-mod_right 8 (length words)))
+
+image : (words : List ℕ) → is_first_form words ≡ true → is_image words ≡ true
+unfolding is_first_form
+image words h = both_left _ _ (both_left _ _ (both_left _ _ (both_left _ _ h)))
+
+one_metric : (words : List ℕ) → is_first_form words ≡ true → nat_eq (metric_count words) 1 ≡ true
+unfolding is_first_form
+one_metric words h = both_right _ _ (both_left _ _ (both_left _ _ h))
+
+one_value : (words : List ℕ) → is_first_form words ≡ true → nat_eq (value_count words) 1 ≡ true
+unfolding is_first_form
+one_value words h = both_right _ _ (both_left _ _ h)
+
+plain : (words : List ℕ) → is_first_form words ≡ true → is_plain_metric words (metric_at words 0) ≡ true
+unfolding is_first_form
+plain words h = both_right _ _ h
+
+header : (words : List ℕ) → is_image words ≡ true → has_good_header words ≡ true
+unfolding is_image
+header words h = both_left _ _ (both_left _ _ (both_left _ _ (both_left _ _ (both_left _ _ (both_left _ _ (both_left _ _ h))))))
+
+sections : (words : List ℕ) → is_image words ≡ true → sections_are_good words ≡ true
+unfolding is_image
+sections words h = both_right _ _ (both_left _ _ (both_left _ _ (both_left _ _ (both_left _ _ (both_left _ _ (both_left _ _ h))))))
+
+metrics : (words : List ℕ) → is_image words ≡ true → metrics_are_good words ≡ true
+unfolding is_image
+metrics words h = both_right _ _ (both_left _ _ (both_left _ _ h))
+
+le_of : (a b : ℕ) → nat_le a b ≡ true → a ≤ b
+le_of a b h = grind (arith, nat_tests)
+
+eq_of : (a b : ℕ) → nat_eq a b ≡ true → a ≡ b
+eq_of a b h = grind (arith, nat_tests)
+
+not_true : (b : Bool) → not b ≡ true → b ≡ false
+not_true true h = cc
+not_true false h = refl
+
+some_words : (n : ℕ) → nat_lt n 5 ≡ false → 5 ≤ n
+some_words n h = grind (arith, nat_tests)
+
+pub at_least_five : (words : List ℕ) → is_first_form words ≡ true → 5 ≤ length words
+unfolding has_good_header
+at_least_five words h =
+    some_words (length words) (sym (short_words words) ∙ not_true _ (both_left _ _ (both_left _ _ (both_left _ _ (both_left _ _ (both_left _ _ (header words (image words h))))))))
+
+pub at_most : (words : List ℕ) → is_first_form words ≡ true → length words ≤ 65536
+unfolding has_good_header
+at_most words h = le_of _ _ (both_right _ _ (both_left _ _ (both_left _ _ (both_left _ _ (both_left _ _ (header words (image words h)))))))
+
+pub cluster_fits : (words : List ℕ) → is_first_form words ≡ true → cluster_in words ≤ 4095
+unfolding has_good_header
+cluster_fits words h = le_of _ _ (both_right _ _ (header words (image words h)))
+
+-- the one metric is good
+good_metric : (words : List ℕ) → is_first_form words ≡ true → is_good_metric words 0 ≡ true
+unfolding metrics_are_good
+good_metric words h =
+    let one : metric_count words ≡ 1 = eq_of _ _ (one_metric words h) in
+    all_at (metric_count words) 0 (is_good_metric words) (metrics words (image words h)) (subst (λ n. 0 < n) (sym one) (omega arith))
+
+pub item_fits : (words : List ℕ) → is_first_form words ≡ true → only_item words ≤ 1023
+unfolding is_good_metric has_good_fields only_item
+item_fits words h = le_of _ _ (both_right _ _ (both_right _ _ (both_left _ _ (good_metric words h))))
+
+named : (words : List ℕ) → is_first_form words ≡ true → has_name words (metric_at words 0) ≡ true
+unfolding is_good_metric
+named words h = both_left _ _ (both_left _ _ (good_metric words h))
+
+code_is : (code : ℕ) → code ≤ 1 → (code ≡ 0) ⊎ (code ≡ 1)
+code_is code h = grind arith
+
+pub kind_is : (words : List ℕ) → is_first_form words ≡ true → (only_kind words ≡ I32) ⊎ (only_kind words ≡ U32)
+unfolding is_plain_metric only_kind
+kind_is words h =
+    let code : ℕ = number32 words (metric_at words 0 + 68) in
+    ⊎_elim (λ (zero_is : code ≡ 0). inl (ap (λ n. unwrap_or (kind_of_code n) I32) zero_is)) (λ (one_is : code ≡ 1). inr (ap (λ n. unwrap_or (kind_of_code n) I32) one_is))
+        (code_is code (le_of _ _ (both_left _ _ (both_left _ _ (both_left _ _ (plain words h))))))

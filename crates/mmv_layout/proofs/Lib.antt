@@ -1,0 +1,5 @@
+pub mod Below
+pub mod FirstForms
+pub mod Leads
+pub mod Sections
+pub mod Texts

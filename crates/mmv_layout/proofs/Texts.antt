@@ -1,0 +1,71 @@
+-- Texts up to a zero byte, one byte after the other, and words of bytes.
+use Rattle.std.proofs.Common.{◌≡◌, ◌≢◌, ℕ, zero, suc, ◌+◌, ◌-◌, ◌*◌, ◌<◌, ◌≤◌, Bool, true, false, ◌&&◌, List, [], ◌∷◌, ◌++◌, length, take, drop, ap, ap₂, sym, ◌∙◌, refl, arith, add-one, append_assoc, append-nil, cond, bytes_eq, nat_eq, true≢false}
+use Rattle.std.proofs.lemmas.Bool.{eqb-true, eq-eqb}
+use Rattle.std.proofs.lemmas.Bool.Decides.{nat_tests}
+use Rattle.std.specs.Int.{w64, from_le_bytes}
+use Rattle.mmv_layout.specs.Fields.{byte_at, text_at, first_words}
+
+text_none : (words : List ℕ) (at n : ℕ) → n ≡ 0 → text_at words at n ≡ []
+unfolding text_at
+text_none words at n e = rw e refl
+
+text_more : (words : List ℕ) (at next n m : ℕ) → n ≡ suc m → next ≡ at + 1 → text_at words at n ≡ cond (nat_eq (byte_at words at) 0) [] (byte_at words at ∷ text_at words next m)
+unfolding text_at
+text_more words at next n m e f = rw (e, f) refl
+
+text_stops : (words : List ℕ) (at n : ℕ) → 0 < n → byte_at words at ≡ 0 → text_at words at n ≡ []
+text_stops words at n h e = text_more words at (at + 1) n (n - 1) (omega arith) refl ∙ ap (λ b. cond (nat_eq b 0) [] (b ∷ text_at words (at + 1) (n - 1))) e
+
+text_goes : (words : List ℕ) (at next n m : ℕ) → n ≡ suc m → next ≡ at + 1 → nat_eq (byte_at words at) 0 ≡ false → text_at words at n ≡ byte_at words at ∷ text_at words next m
+text_goes words at next n m e f z = text_more words at next n m e f ∙ ap (λ t. cond t [] (byte_at words at ∷ text_at words next m)) z
+
+-- what was taken so far is the text where a zero byte follows, or where no byte is left
+pub text_ends : (words made whole : List ℕ) (at n : ℕ) → ((0 < n → byte_at words at ≡ 0)) → made ++ text_at words at n ≡ whole → made ≡ whole
+text_ends words made whole at zero stop h = sym (append-nil made) ∙ ap (λ t. made ++ t) (sym (text_none words at 0 refl)) ∙ h
+text_ends words made whole at (suc n) stop h = sym (append-nil made) ∙ ap (λ t. made ++ t) (sym (text_stops words at (suc n) (omega arith) (stop (omega arith)))) ∙ h
+
+-- one byte more was taken
+pub text_grows : (words made whole : List ℕ) (at next n m byte : ℕ) → n ≡ suc m → next ≡ at + 1 → byte ≡ byte_at words at → byte ≢ 0 → made ++ text_at words at n ≡ whole → (made ++ byte ∷ []) ++ text_at words next m ≡ whole
+text_grows words made whole at next n m byte e f is z h =
+    append_assoc made (byte ∷ []) (text_at words next m) ∙ ap (λ b. made ++ (b ∷ text_at words next m)) is
+    ∙ ap (λ t. made ++ t) (sym (text_goes words at next n m e f (isnt_zero byte (byte_at words at) is z))) ∙ h
+  where
+  isnt_zero : (a b : ℕ) → a ≡ b → a ≢ 0 → nat_eq b 0 ≡ false
+  isnt_zero a b e n = grind (arith, nat_tests)
+
+differ_at : (tx ty : Bool) (x y : ℕ) (xs ys : List ℕ) → nat_eq x 0 ≡ tx → nat_eq y 0 ≡ ty → nat_eq x y ≡ false → bytes_eq (cond tx [] (x ∷ xs)) (cond ty [] (y ∷ ys)) ≡ false
+differ_at true true x y xs ys ex ey d = absurd (true≢false (sym (eq-eqb x y (eqb-true x 0 ex ∙ sym (eqb-true y 0 ey))) ∙ d))
+differ_at true false x y xs ys ex ey d = refl
+differ_at false true x y xs ys ex ey d = refl
+differ_at false false x y xs ys ex ey d = ap (λ t. t && bytes_eq xs ys) d
+
+-- texts whose bytes here differ
+pub texts_differ : (words : List ℕ) (a b n : ℕ) → 0 < n → nat_eq (byte_at words a) (byte_at words b) ≡ false → bytes_eq (text_at words a n) (text_at words b n) ≡ false
+texts_differ words a b n h d =
+    ap₂ bytes_eq (text_more words a (a + 1) n (n - 1) (omega arith) refl) (text_more words b (b + 1) n (n - 1) (omega arith) refl)
+    ∙ differ_at _ _ _ _ _ _ refl refl d
+
+-- texts that end here alike
+pub texts_end : (words : List ℕ) (a b n : ℕ) → (0 < n → byte_at words a ≡ 0) → (0 < n → byte_at words b ≡ 0) → bytes_eq (text_at words a n) (text_at words b n) ≡ true
+texts_end words a b zero x y = ap₂ bytes_eq (text_none words a 0 refl) (text_none words b 0 refl)
+texts_end words a b (suc n) x y = ap₂ bytes_eq (text_stops words a (suc n) (omega arith) (x (omega arith))) (text_stops words b (suc n) (omega arith) (y (omega arith)))
+
+-- texts that go on alike
+pub texts_go : (words : List ℕ) (a b next_a next_b n m : ℕ) → n ≡ suc m → next_a ≡ a + 1 → next_b ≡ b + 1 → byte_at words a ≡ byte_at words b → byte_at words a ≢ 0 → bytes_eq (text_at words next_a m) (text_at words next_b m) ≡ bytes_eq (text_at words a n) (text_at words b n)
+texts_go words a b next_a next_b n m e fa fb same z =
+    sym (ap₂ bytes_eq (text_goes words a next_a n m e fa (isnt_zero _ z)) (text_goes words b next_b n m e fb (isnt_zero _ (λ q. z (same ∙ q))))
+        ∙ ap (λ t. t && bytes_eq (text_at words next_a m) (text_at words next_b m)) (eq-eqb _ _ same))
+  where
+  isnt_zero : (a : ℕ) → a ≢ 0 → nat_eq a 0 ≡ false
+  isnt_zero a n = grind (arith, nat_tests)
+
+-- no words are left
+pub words_end : (made whole bytes : List ℕ) (n : ℕ) → n ≡ 0 → made ++ first_words n bytes ≡ whole → made ≡ whole
+unfolding first_words
+words_end made whole bytes n e h = sym (append-nil made) ∙ rw e at h
+
+-- one word more was made
+pub words_grow : (made whole bytes bytes' : List ℕ) (n m word : ℕ) → n ≡ suc m → word ≡ from_le_bytes w64 (take 8 bytes) → bytes' ≡ drop 8 bytes → made ++ first_words n bytes ≡ whole → (made ++ word ∷ []) ++ first_words m bytes' ≡ whole
+unfolding first_words
+words_grow made whole bytes bytes' n m word e is rest h =
+    append_assoc made (word ∷ []) (first_words m bytes') ∙ rw (is, rest) (rw e at h)

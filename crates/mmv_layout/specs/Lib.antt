@@ -1,0 +1,5 @@
+pub mod Below
+pub mod Contents
+pub mod Entries
+pub mod Fields
+pub mod FirstForm
