@@ -2,3 +2,4 @@ pub mod CommandLine
 pub mod Numbers
 pub mod Once
 pub mod Pieces
+pub mod Refusals

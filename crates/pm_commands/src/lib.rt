@@ -4,7 +4,9 @@
 #![tactic(auto)]
 
 mod numbers;
+mod refusal;
 mod words;
 mod writes;
 
+pub use refusal::Refusal;
 pub use words::{Command, OnceWords, WordsFault, read_words};
