@@ -18,6 +18,11 @@ abbrev pub counted_names : List (List ℕ) → List ℕ
 counted_names [] = []
 counted_names (name ∷ names) = counted_name name ++ counted_names names
 
+-- how many bytes they take
+abbrev pub names_length : List (List ℕ) → ℕ
+names_length [] = 0
+names_length (name ∷ names) = 4 + length name + names_length names
+
 -- A description: 1, then the metric's identifier, type, instance domain, semantics and units, and its names.
 unfoldable pub description : Desc → List (List ℕ) → List ℕ
 description d names =

@@ -136,7 +136,8 @@ fn put_set_blocks(out: &mut Vec<u8>, body: &Body) -> Result<(), NoMemory>
 
 fn put_blocks(out: &mut Vec<u8>, sets: &[ValueSet]) -> Result<(), NoMemory>
     requires { length out.old.items + blocks_length (blocks_of sets.now) ≤ 16777208 }
-    ensures { OnOk result (out.new.items ≡ out.old.items ++ blocks_bytes (blocks_of sets.now)) }
+    ensures bytes { OnOk result (out.new.items ≡ out.old.items ++ blocks_bytes (blocks_of sets.now)) }
+    ensures grows { OnOk result (length out.new.items ≡ length out.old.items + blocks_length (blocks_of sets.now)) }
 {
     for set in sets {
         put_set_blocks(out, &set.body)?;
@@ -170,7 +171,8 @@ fn head_size(answer: &PmResult) -> u64
 #[tactic(auto, unfolding(crate::specs::Payload::payload))]
 pub fn spell_payload(alloc: Global, answer: &PmResult) -> Result<Vec<u8>, NoMemory>
     requires { payload_length answer.now ≤ 16777208 }
-    ensures { IfOk result (λ v. v.items ≡ payload answer.now) }
+    ensures bytes { IfOk result (λ v. v.items ≡ payload answer.now) }
+    ensures length { IfOk result (λ v. length v.items ≡ payload_length answer.now) }
 {
     let at = head_size(answer);
     let mut out = Vec::new(alloc);

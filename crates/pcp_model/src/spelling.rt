@@ -5,7 +5,7 @@ ghost use Rattle.pcp_model.specs.Words.{word, signed_word, padded};
 ghost use Rattle.pcp_model.specs.Frame.{frame};
 ghost use Rattle.pcp_model.specs.LabelFields.{FitsLabel};
 ghost use Rattle.pcp_model.specs.Labels.{label_head, label};
-ghost use Rattle.pcp_model.specs.Records.{counted_name, counted_names, description, entry, instance_words, name_offsets, name_table, words, domain};
+ghost use Rattle.pcp_model.specs.Records.{counted_name, counted_names, names_length, description, entry, instance_words, name_offsets, name_table, words, domain};
 ghost use Rattle.pcp_model.specs.Payload.{value_pairs, place_pairs, pair_blocks, places_from, blocks_length, blocks_in, blocks_of, body_words, set_words, body_length, sets_length, head_length, result_head, payload, payload_length, block_head, block, blocks_bytes};
 
 use crate::label::Label;
@@ -86,7 +86,8 @@ pub fn spell_label(alloc: Global, said: &Label, number: i32) -> Result<Vec<u8>, 
 
 fn put_name(out: &mut Vec<u8>, name: &Text) -> Result<(), NoMemory>
     requires { length name.now < 4294967296 }
-    ensures { OnOk result (out.new.items ≡ out.old.items ++ counted_name name.now) }
+    ensures bytes { OnOk result (out.new.items ≡ out.old.items ++ counted_name name.now) }
+    ensures grows { OnOk result (length out.new.items ≡ length out.old.items + 4 + length name.now) }
 {
     let bytes = name.as_slice();
     put_word(out, bytes.len() as u32)?;
@@ -96,7 +97,8 @@ fn put_name(out: &mut Vec<u8>, name: &Text) -> Result<(), NoMemory>
 
 fn put_names(out: &mut Vec<u8>, names: &[Text]) -> Result<(), NoMemory>
     requires { AllByRecursion (λ name. length name < 4294967296) names.now }
-    ensures { OnOk result (out.new.items ≡ out.old.items ++ counted_names names.now) }
+    ensures bytes { OnOk result (out.new.items ≡ out.old.items ++ counted_names names.now) }
+    ensures grows { OnOk result (length out.new.items ≡ length out.old.items + names_length names.now) }
 {
     for name in names {
         put_name(out, name)?;
@@ -109,7 +111,8 @@ fn put_names(out: &mut Vec<u8>, names: &[Text]) -> Result<(), NoMemory>
 pub fn spell_description(alloc: Global, desc: &Desc, names: &[Text]) -> Result<Vec<u8>, NoMemory>
     requires few { length names.now < 4294967296 }
     requires short { AllByRecursion (λ name. length name < 4294967296) names.now }
-    ensures { IfOk result (λ v. v.items ≡ description desc.now names.now) }
+    ensures bytes { IfOk result (λ v. v.items ≡ description desc.now names.now) }
+    ensures length { IfOk result (λ v. length v.items ≡ 28 + names_length names.now) }
 {
     let mut out = Vec::new(alloc);
     put_word(&mut out, 1)?;
@@ -126,7 +129,8 @@ pub fn spell_description(alloc: Global, desc: &Desc, names: &[Text]) -> Result<V
 /// An entry of the index.
 #[tactic(auto, unfolding(crate::specs::Records::entry))]
 pub fn spell_entry(alloc: Global, place: &Entry) -> Result<Vec<u8>, NoMemory>
-    ensures { IfOk result (λ v. v.items ≡ entry place.now) }
+    ensures bytes { IfOk result (λ v. v.items ≡ entry place.now) }
+    ensures length { IfOk result (λ v. length v.items ≡ 20) }
 {
     let mut out = Vec::with_capacity(alloc, 20)?;
     put_word(&mut out, place.stamp.sec())?;

@@ -1,2 +1,3 @@
 pub mod Components
 pub mod Stages
+pub mod Texts

@@ -3,3 +3,4 @@ pub mod Numbers
 pub mod Once
 pub mod Pieces
 pub mod Refusals
+pub mod Shots

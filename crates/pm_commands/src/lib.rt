@@ -4,6 +4,7 @@
 #![tactic(auto)]
 
 mod numbers;
+mod plan;
 mod refusal;
 mod words;
 mod writes;
