@@ -1,5 +1,5 @@
 -- What is known of a first-form image.
-use Rattle.std.proofs.Common.{◌≡◌, ◌≢◌, ℕ, zero, suc, ◌+◌, ◌-◌, ◌*◌, ◌/◌, ◌%◌, ◌<◌, ◌≤◌, Bool, true, false, not, cond, ◌&&◌, ◌||◌, ◌⊎◌, inl, inr, List, [], ◌∷◌, length, ap, sym, subst, ◌∙◌, refl, arith, add-one, nat_eq, nat_le, nat_lt, All, IsTrue, if◌then◌else◌, unwrap_or, ⊎_elim}
+use Rattle.std.proofs.Common.{◌≡◌, ◌≢◌, ℕ, zero, suc, ◌+◌, ◌-◌, ◌*◌, ◌/◌, ◌%◌, ◌<◌, ◌≤◌, Bool, true, false, not, cond, ◌&&◌, ◌||◌, ◌⊎◌, inl, inr, List, [], ◌∷◌, length, ap, sym, subst, ◌∙◌, refl, arith, add-one, nat_eq, nat_le, nat_lt, All, IsTrue, if◌then◌else◌, unwrap_or, ⊎_elim, slice_index}
 use Rattle.std.proofs.Math.Nat.{mul-mod_right}
 use Rattle.std.proofs.lemmas.Bool.Decides.{nat_tests}
 use Rattle.pcp_base.specs.Names.{IsName, spells}
@@ -8,7 +8,9 @@ use Rattle.pcp_base.specs.declared.kind.Kind.TheVariants.{I32, U32}
 use Rattle.mmv_layout.specs.Fields.{number32, number64, byte_at, text_at, has_zero}
 use Rattle.mmv_layout.specs.Contents.{bytes_in, is_short, contents_in, type_in, count_in, place_in, section_bytes, end_in, section_lies, has_good_section, sections_are_good, find_section, section_of, cluster_in}
 use Rattle.mmv_layout.specs.Entries.{metric_at, metric_count, value_at, value_count, has_name, has_good_fields, is_good_metric, metrics_are_good}
-use Rattle.mmv_layout.specs.FirstForm.{has_good_header, is_image, is_plain_metric, is_first_form, only_name, only_item, only_kind, value_word}
+use Rattle.mmv_layout.specs.FirstForm.{has_good_header, is_image, is_plain_metric, is_first_form, only_name, only_item, only_kind, value_word, only_value}
+use Rattle.pcp_base.proofs.Spelling.{spelt}
+use Rattle.mmv_layout.proofs.Texts.{text_short}
 use Rattle.mmv_layout.proofs.Below.{all_at, both_left, both_right}
 
 short_by : (n : ℕ) (a b : Bool) → nat_le 40 (8 * n) ≡ a → b ≡ true → not (a && b) ≡ nat_lt n 5
@@ -96,3 +98,58 @@ kind_is words h =
     let code : ℕ = number32 words (metric_at words 0 + 68) in
     ⊎_elim (λ (zero_is : code ≡ 0). inl (ap (λ n. unwrap_or (kind_of_code n) I32) zero_is)) (λ (one_is : code ≡ 1). inr (ap (λ n. unwrap_or (kind_of_code n) I32) one_is))
         (code_is code (le_of _ _ (both_left _ _ (both_left _ _ (both_left _ _ (plain words h))))))
+
+-- a section with entries is that of a contents entry of its type
+Found : List ℕ → ℕ → ℕ → ℕ → ℕ → Type 0
+Found words type n place count = (i : ℕ) × (i < n) × (type_in words i ≡ type) × (place ≡ place_in words i) × (count ≡ count_in words i)
+
+found : (words : List ℕ) (type n : ℕ) → (find_section words type n).count ≢ 0 → Found words type n (find_section words type n).place (find_section words type n).count
+unfolding find_section Found
+found words type zero some = absurd (some refl)
+found words type (suc n) some = here (nat_eq (type_in words n) type) refl some (found words type n)
+  where
+  here : (t : Bool) → nat_eq (type_in words n) type ≡ t → (if t then record { place = place_in words n; count = count_in words n } else find_section words type n).count ≢ 0 → ((find_section words type n).count ≢ 0 → Found words type n (find_section words type n).place (find_section words type n).count) → Found words type (suc n) (if t then record { place = place_in words n; count = count_in words n } else find_section words type n).place (if t then record { place = place_in words n; count = count_in words n } else find_section words type n).count
+  here true e some before = (n, omega arith, eq_of (type_in words n) type e, refl, refl)
+  here false e some before = let (i, below, type_is, place_is, count_is) = before some in (i, omega arith, type_is, place_is, count_is)
+
+lies_of : (count below inside : Bool) → (count || (below && inside)) ≡ true → count ≡ false → inside ≡ true
+lies_of true below inside h e = cc
+lies_of false below inside h e = both_right _ _ h
+
+isnt_zero : (n : ℕ) → n ≡ 1 → nat_eq n 0 ≡ false
+isnt_zero n h = grind (arith, nat_tests)
+
+value_ends : (words : List ℕ) (i : ℕ) → section_lies words i ≡ true → type_in words i ≡ 4 → count_in words i ≡ 1 → place_in words i + 32 ≤ bytes_in words
+unfolding section_lies end_in section_bytes
+value_ends words i lies type_is count_is =
+    let inside : place_in words i + section_bytes (type_in words i) (count_in words i) ≤ bytes_in words = le_of _ _ (lies_of _ _ _ lies (isnt_zero _ count_is)) in
+    let bytes : section_bytes (type_in words i) (count_in words i) ≡ 32 = ap (λ t. section_bytes t (count_in words i)) type_is ∙ ap (λ n. section_bytes 4 n) count_is in
+    omega arith
+
+-- the value's word is one of the words
+pub value_lies : (words : List ℕ) → is_first_form words ≡ true → value_word words < length words
+unfolding value_word section_of sections_are_good has_good_section Found
+value_lies words h =
+    let one : (find_section words 4 (contents_in words)).count ≡ 1 = eq_of _ _ (one_value words h) in
+    let (i, below, type_is, place_is, count_is) = found words 4 (contents_in words) (λ e. absurd (omega arith)) in
+    let good : has_good_section words i ≡ true = all_at (contents_in words) i (has_good_section words) (sections words (image words h)) below in
+    let ends : place_in words i + 32 ≤ bytes_in words = value_ends words i (both_right _ _ (both_left _ _ good)) type_is (sym count_is ∙ one) in
+    omega arith
+
+name_spelt : (words : List ℕ) → is_first_form words ≡ true → spells true (only_name words) ≡ true
+unfolding has_name only_name
+name_spelt words h = both_right _ _ (named words h)
+
+pub name_is : (words : List ℕ) → is_first_form words ≡ true → IsName (only_name words)
+name_is words h = spelt true (only_name words) (name_spelt words h)
+
+pub name_short : (words : List ℕ) → is_first_form words ≡ true → length (only_name words) ≤ 63
+unfolding has_name only_name
+name_short words h =
+    let less : length (text_at words (metric_at words 0) 64) < 64 = text_short words (metric_at words 0) 64 (both_left _ _ (named words h)) in
+    omega arith
+
+-- the value's word holds the value
+pub value_stands : (words : List ℕ) → slice_index words (value_word words) ≡ only_value words
+unfolding value_word only_value number64
+value_stands words = refl

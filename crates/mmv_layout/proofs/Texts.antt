@@ -1,9 +1,11 @@
 -- Texts up to a zero byte, one byte after the other, and words of bytes.
-use Rattle.std.proofs.Common.{◌≡◌, ◌≢◌, ℕ, zero, suc, ◌+◌, ◌-◌, ◌*◌, ◌<◌, ◌≤◌, Bool, true, false, ◌&&◌, List, [], ◌∷◌, ◌++◌, length, take, drop, ap, ap₂, sym, ◌∙◌, refl, arith, add-one, append_assoc, append-nil, cond, bytes_eq, nat_eq, true≢false}
-use Rattle.std.proofs.lemmas.Bool.{eqb-true, eq-eqb}
+use Rattle.std.proofs.Common.{◌≡◌, ◌≢◌, ℕ, zero, suc, ◌+◌, ◌-◌, ◌*◌, ◌<◌, ◌≤◌, Bool, true, false, ◌&&◌, List, [], ◌∷◌, ◌++◌, length, take, drop, ap, ap₂, sym, ◌∙◌, refl, arith, add-one, append_assoc, append-nil, cond, bytes_eq, nat_eq, true≢false, get_or, add-zero, ◌⊎◌, ⊎_elim, subst}
+use Rattle.pcp_base.specs.Texts.{IsFirstZero}
+use Rattle.std.proofs.lemmas.Bool.{eqb-true, eqb-false, eq-eqb}
 use Rattle.std.proofs.lemmas.Bool.Decides.{nat_tests}
 use Rattle.std.specs.Int.{w64, from_le_bytes}
-use Rattle.mmv_layout.specs.Fields.{byte_at, text_at, first_words}
+use Rattle.mmv_layout.specs.Fields.{byte_at, text_at, has_zero, first_words}
+use Rattle.mmv_layout.proofs.Below.{some_absent}
 
 text_none : (words : List ℕ) (at n : ℕ) → n ≡ 0 → text_at words at n ≡ []
 unfolding text_at
@@ -69,3 +71,48 @@ pub words_grow : (made whole bytes bytes' : List ℕ) (n m word : ℕ) → n ≡
 unfolding first_words
 words_grow made whole bytes bytes' n m word e is rest h =
     append_assoc made (word ∷ []) (first_words m bytes') ∙ rw (is, rest) (rw e at h)
+
+-- no byte of a text is zero
+pub text_nonzero : (words : List ℕ) (at n k : ℕ) → k < length (text_at words at n) → get_or (text_at words at n) k 0 ≢ 0
+unfolding text_at
+text_nonzero words at zero k h = absurd (omega arith)
+text_nonzero words at (suc n) k h = here (nat_eq (byte_at words at) 0) refl (text_nonzero words (at + 1) n) k h
+  where
+  here : (t : Bool) → nat_eq (byte_at words at) 0 ≡ t → ((k : ℕ) → k < length (text_at words (at + 1) n) → get_or (text_at words (at + 1) n) k 0 ≢ 0) → (k : ℕ) → k < length (cond t [] (byte_at words at ∷ text_at words (at + 1) n)) → get_or (cond t [] (byte_at words at ∷ text_at words (at + 1) n)) k 0 ≢ 0
+  here true e rest k h = absurd (omega arith)
+  here false e rest zero h = λ z. eqb-false (byte_at words at) 0 e z
+  here false e rest (suc k) h = rest k (omega arith)
+
+-- where a text fills its field, no byte of the field is zero
+text_full : (words : List ℕ) (at n : ℕ) → n ≤ length (text_at words at n) → (k : ℕ) → k < n → byte_at words (at + k) ≢ 0
+unfolding text_at
+text_full words at zero h k below = absurd (omega arith)
+text_full words at (suc n) h k below = here (nat_eq (byte_at words at) 0) refl (text_full words (at + 1) n) h k below
+  where
+  moved : (k : ℕ) → (at + 1) + k ≡ at + suc k
+  moved k = omega arith
+  here : (t : Bool) → nat_eq (byte_at words at) 0 ≡ t → (n ≤ length (text_at words (at + 1) n) → (k : ℕ) → k < n → byte_at words ((at + 1) + k) ≢ 0) → suc n ≤ length (cond t [] (byte_at words at ∷ text_at words (at + 1) n)) → (k : ℕ) → k < suc n → byte_at words (at + k) ≢ 0
+  here true e rest h k below = absurd (omega arith)
+  here false e rest h zero below = λ z. eqb-false (byte_at words at) 0 e (ap (byte_at words) (sym (add-zero at)) ∙ z)
+  here false e rest h (suc k) below = λ z. rest (omega arith) k (omega arith) (ap (byte_at words) (moved k) ∙ z)
+
+isnt_zero : (a : ℕ) → a ≢ 0 → nat_eq a 0 ≡ false
+isnt_zero a n = grind (arith, nat_tests)
+
+less_or : (a b : ℕ) → (a < b) ⊎ (b ≤ a)
+less_or a b = grind arith
+
+-- a text that ends by a zero byte has fewer bytes than its field
+pub text_short : (words : List ℕ) (at n : ℕ) → has_zero words at n ≡ true → length (text_at words at n) < n
+unfolding has_zero
+text_short words at n h =
+    ⊎_elim (λ (less : length (text_at words at n) < n). less)
+        (λ (full : n ≤ length (text_at words at n)).
+            absurd (true≢false (sym h ∙ some_absent n (λ k. nat_eq (byte_at words (at + k)) 0) (λ k below. isnt_zero (byte_at words (at + k)) (text_full words at n full k below)))))
+        (less_or (length (text_at words at n)) n)
+
+-- a text has no first zero byte
+pub text_whole : (words bytes : List ℕ) (at n k : ℕ) → bytes ≡ text_at words at n → IsFirstZero bytes k → ⊥
+text_whole words bytes at n k is first =
+    let stands : IsFirstZero (text_at words at n) k = subst (λ b. IsFirstZero b k) is first in
+    text_nonzero words at n k stands.within stands.zero

@@ -1,8 +1,8 @@
-ghost use Rattle.std.specs.Prelude.{◌≡◌, ◌≢◌, ◌<◌, ◌≤◌, ◌^◌, ◌⊎◌, ◌==◌, negsuc, true, false, length, IfOk, Err, MatchOption};
+ghost use Rattle.std.specs.Prelude.{◌≡◌, ◌≢◌, ◌<◌, ◌≤◌, ◌^◌, ◌⊎◌, ◌==◌, negsuc, true, false, length, IfOk, IfSome, Err, MatchOption, slice_index};
 ghost use Rattle.pcp_base.specs.declared.kind.Kind.TheVariants.{I32, U32};
 ghost use Rattle.pcp_base.specs.Names.{IsName};
 ghost use Rattle.mmv_layout.specs.Contents.{cluster_in, is_short};
-ghost use Rattle.mmv_layout.specs.FirstForm.{has_good_header, is_image, is_plain_metric, is_first_form, only_item, only_kind, only_name, only_metric, only_slot, only_value, of_whole, image_in, image_of, value_word};
+ghost use Rattle.mmv_layout.specs.FirstForm.{has_good_header, is_image, is_plain_metric, is_first_form, only_item, only_kind, only_semantics, only_units, only_name, only_metric, only_slot, only_value, of_whole, image_in, image_of, value_word};
 
 use crate::contents::{bytes_in, sections_are_aligned, sections_are_good};
 use crate::entries::{metric_at, value_at};
@@ -77,6 +77,60 @@ fn is_short(bytes: usize) -> bool
     ensures { result ≡ is_short bytes }
 {
     bytes < 40 || bytes % 8 != 0
+}
+
+/// The one metric's item.
+#[tactic(auto, unfolding(crate::specs::FirstForm::only_item))]
+fn only_item(words: &[u64]) -> u32
+    ensures { result ≡ only_item words.now }
+{
+    number32(words, metric_at(words, 0) + 64)
+}
+
+/// The one metric's kind.
+#[tactic(auto, unfolding(crate::specs::FirstForm::only_kind))]
+fn only_kind(words: &[u64]) -> Kind
+    ensures { result ≡ only_kind words.now }
+{
+    Kind::of_code(number32(words, metric_at(words, 0) + 68)).unwrap_or(Kind::I32)
+}
+
+/// The one metric's semantics.
+#[tactic(auto, unfolding(crate::specs::FirstForm::only_semantics))]
+fn only_semantics(words: &[u64]) -> Semantics
+    ensures { result ≡ only_semantics words.now }
+{
+    Semantics::of_code(number32(words, metric_at(words, 0) + 72)).unwrap_or(Semantics::Counter)
+}
+
+/// The one metric's units.
+#[tactic(auto, unfolding(crate::specs::FirstForm::only_units))]
+fn only_units(words: &[u64]) -> Units
+    ensures { result ≡ only_units words.now }
+{
+    Units::of_word(number32(words, metric_at(words, 0) + 76))
+}
+
+/// The one metric's name.
+#[tactic(auto, unfolding(crate::specs::FirstForm::only_name))]
+fn only_name(alloc: Global, words: &[u64]) -> Result<Text, NoMemory>
+    ensures { IfOk result (λ name. name ≡ only_name words.now) }
+{
+    let bytes = text_at(alloc, words, metric_at(words, 0), 64)?;
+    match Text::build(alloc, bytes.as_slice()) {
+        Ok(name) => Ok(name),
+        Err(TextError::NoMemory) => Err(NoMemory),
+        Err(TextError::Zero(_)) => unreachable!(),
+    }
+}
+
+/// The index of the word that holds the one value.
+#[tactic(auto, using(crate::proofs::FirstForms::value_lies, crate::proofs::FirstForms::at_most), unfolding(crate::specs::FirstForm::value_word))]
+fn value_word(words: &[u64]) -> u32
+    requires { is_first_form words.now ≡ true }
+    ensures { result ≡ value_word words.now }
+{
+    (value_at(words, 0) / 8) as u32
 }
 
 /// An image of version 1 in the first form (mmv(5)): exactly one metric and one value, the metric without an
@@ -165,5 +219,49 @@ impl Image {
         ensures { result ≡ only_value self.now }
     {
         number64(&self.words, value_at(&self.words, 0))
+    }
+
+    /// The word that holds the value of an item and an instance; the instance is -1, as the metric has no domain.
+    /// `None` exactly where no value word belongs to them.
+    #[tactic(auto, using(crate::proofs::FirstForms::value_lies, crate::proofs::FirstForms::item_fits, crate::proofs::FirstForms::kind_is, crate::proofs::FirstForms::value_stands))]
+    pub fn slot_of(&self, item: u32, instance: i32) -> Option<Slot>
+        ensures slot { MatchOption result ((item ≢ only_item self.now) ⊎ (instance ≢ negsuc 0))
+            (λ s. (item ≡ only_item self.now) × (instance ≡ negsuc 0) × (s ≡ only_slot self.now)) }
+        ensures word { IfSome result (λ s. s.word < length self.now) }
+        ensures value { IfSome result (λ s. slice_index self.now s.word ≡ only_value self.now) }
+        ensures item { IfSome result (λ s. s.item ≤ 1023) }
+        ensures kind { IfSome result (λ s. (s.kind ≡ I32) ⊎ (s.kind ≡ U32)) }
+    {
+        if instance != -1 || item != only_item(&self.words) {
+            return None;
+        }
+        Some(Slot {
+            item,
+            instance,
+            kind: only_kind(&self.words),
+            word: value_word(&self.words),
+        })
+    }
+
+    /// The one metric, without an instance domain and help texts.
+    #[tactic(auto, using(crate::proofs::FirstForms::name_is, crate::proofs::FirstForms::name_short, crate::proofs::FirstForms::item_fits, crate::proofs::FirstForms::kind_is))]
+    pub fn only_metric(&self, alloc: Global) -> Result<MetricRow, NoMemory>
+        ensures row { IfOk result (λ row. row ≡ only_metric self.now) }
+        ensures name { IsName (only_name self.now) }
+        ensures short { length (only_name self.now) ≤ 63 }
+        ensures item { only_item self.now ≤ 1023 }
+        ensures kind { (only_kind self.now ≡ I32) ⊎ (only_kind self.now ≡ U32) }
+    {
+        let name = only_name(alloc, &self.words)?;
+        Ok(MetricRow {
+            name,
+            item: only_item(&self.words),
+            kind: only_kind(&self.words),
+            semantics: only_semantics(&self.words),
+            units: only_units(&self.words),
+            serial: None,
+            short: None,
+            long: None,
+        })
     }
 }

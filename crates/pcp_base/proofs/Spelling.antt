@@ -12,10 +12,10 @@ walk_one true (b ∷ bs) = is_letter b && walk_one false bs
 walk_one false (b ∷ bs) = is_name_byte b && walk_one false bs
 
 -- the end of a component, and further ones
-Rest : List ℕ → Type 0
+pub Rest : List ℕ → Type 0
 Rest bs = (rest : List ℕ) × (parts : List (List ℕ)) × (list_all is_name_byte rest ≡ true) × AreComponents parts × (bs ≡ join_with_byte 46 (rest ∷ parts))
 
-abbrev Spelt : Bool → List ℕ → Type 0
+abbrev pub Spelt : Bool → List ℕ → Type 0
 Spelt true bs = IsName bs
 Spelt false bs = Rest bs
 
@@ -60,7 +60,7 @@ within true b bs e dot byte name h = dot (name h) (eqb-true b 46 e)
 within false b bs e dot byte name h = byte (both_left _ _ h) (both_right _ _ h)
 
 -- what the walk accepts is spelt so
-spelt : (start : Bool) (bs : List ℕ) → spells start bs ≡ true → Spelt start bs
+pub spelt : (start : Bool) (bs : List ℕ) → spells start bs ≡ true → Spelt start bs
 unfolding Rest
 spelt true [] h = cc
 spelt false [] h = ([], [], refl, tt, refl)
