@@ -1,10 +1,11 @@
 -- The record of a disk in memory: the calls that changed its files, from which every moment's holdings follow.
-use Rattle.std.specs.Prelude.{◌≡◌, ℕ, ◌≤◌, List, [], ◌∷◌, length, take, Bool, true, false, if◌then◌else◌, nat_lt, Option, Some, None}
+use Rattle.std.specs.Prelude.{◌≡◌, ◌⊎◌, ℕ, ◌+◌, ◌≤◌, List, [], ◌∷◌, ◌++◌, length, take, Bool, true, false, if◌then◌else◌, nat_lt, Option, Some, None}
 use Rattle.std.proofs.Common.{sym, subst, arith, refl}
 use Rattle.std.proofs.lemmas.List.{take_all}
 use Rattle.pcp_base.specs.declared.file.FileId.{FileId}
 use Rattle.pcp_base.specs.declared.file.FileId.TheVariants.{Meta, Index, Volume}
 use Rattle.pcp_model.specs.Disk.{Files, Held, Holdings, nothing_held, bytes_of, CrashImage}
+use Rattle.pcp_outside.specs.Causes.{capped}
 use Rattle.pcp_outside.specs.Devices.{same_file, appended, synced, cut_to}
 use Rattle.pcp_outside.specs.Contents.{files_of}
 use Rattle.pcp_outside.specs.declared.contents.Contents.{Contents}
@@ -60,6 +61,11 @@ pub record DiskState : Type 0 where
   pub faults : ℕ
   pub taken : ℕ
   pub wrapped : Option FileId
+
+-- A refused call is a fault and changes no file. It is noted as asked for, unless there was no memory for that.
+pub record Refuses (call : Asked) (old new : DiskState) : Type 0 where
+  pub rest : new ≡ record old { asked = new.asked; faults = capped (old.faults + 1) }
+  pub noted : (new.asked ≡ old.asked ++ call ∷ []) ⊎ (new.asked ≡ old.asked)
 
 -- whether an append, or a sync, of this file was asked for
 abbrev pub is_append_of : FileId → Asked → Bool

@@ -1,10 +1,10 @@
-ghost use Rattle.std.specs.Prelude.{◌≡◌, ◌≤◌, ◌+◌, ◌++◌, [], ◌∷◌, ℕ, true, length, take, drop, count_by, None, IfOk, OnOk, OnErr, IsErr, is_err};
+ghost use Rattle.std.specs.Prelude.{◌≡◌, ◌≤◌, ◌+◌, ◌++◌, [], ◌∷◌, ℕ, true, length, take, drop, count_by, None, IfOk, IsOk, IsOkAnd, OnOk, OnErr, IsErr};
 
 ghost use Rattle.std.specs.Prelude.{◌⊎◌};
 ghost use Rattle.pcp_outside.specs.Causes.{HasCause, capped};
 ghost use Rattle.pcp_outside.specs.Devices.{same_file, IsNumbered, taken_after};
 ghost use Rattle.pcp_outside.specs.Memory.{is_listed};
-ghost use Rattle.pcp_model.specs.Disk.{Held};
+ghost use Rattle.pcp_model.specs.Disk.{Held, bytes_of};
 ghost use Rattle.pcp_outside.specs.Record.{IsKept, IsHeld, changed, held_after, first_wrapped, comes_before, is_append_of, is_sync_of};
 
 use crate::contents::Contents;
@@ -55,8 +55,6 @@ impl Model for MemDisk {
 }
 
 impl MemDisk {
-    ghost use Rattle.pcp_model.specs.Disk.{bytes_of};
-
     /// An empty disk. Of its appends, syncs and cuts, counted together from 1, those with the listed numbers
     /// fail and do nothing. So does one that gets no memory, be it for the record that the disk keeps.
     pub fn new(alloc: Global, fails: List<u64>) -> Self
@@ -163,7 +161,8 @@ fn replay(call: &Call, file: FileId, sure: usize, bytes: &mut Vec<u8>) -> Result
 }
 
 impl Disk for MemDisk {
-    ghost use Rattle.pcp_outside.specs.Record.{LeftSince, counts_now_of, only_now_of};
+    ghost use Rattle.pcp_outside.specs.Devices.{length_of, IsVolumes, Appends, Syncs, Cuts, Elapses};
+    ghost use Rattle.pcp_outside.specs.Record.{LeftSince, Refuses, counts_now_of, only_now_of};
 
     ghost tells = { Unit {0} };
 
@@ -183,19 +182,39 @@ impl Disk for MemDisk {
 
     ghost only_now = { λ d c left. only_now_of d.calls c left };
 
-    fn len(&mut self, file: FileId) -> Result<u64, Failed> {
+    fn len(&mut self, file: FileId) -> Result<u64, Failed>
+        requires { IsNumbered file }
+        ensures value { result ≡ Ok (capped (length_of (held_after self.old.calls file))) }
+        ensures same { self.new ≡ self.old }
+        ensures time { Elapses (length self.old.calls) (length self.new.calls) (LeftSince self.old.calls) (LeftSince self.new.calls) (held_after self.new.calls) }
+    {
         Ok(self.contents.bytes(file).len() as u64)
     }
 
-    fn volumes(&mut self) -> Result<u32, Failed> {
+    fn volumes(&mut self) -> Result<u32, Failed>
+        ensures value { IsOkAnd result (IsVolumes (held_after self.old.calls)) }
+        ensures same { self.new ≡ self.old }
+        ensures time { Elapses (length self.old.calls) (length self.new.calls) (LeftSince self.old.calls) (LeftSince self.new.calls) (held_after self.new.calls) }
+    {
         Ok(self.contents.volumes())
     }
 
-    fn wrapped(&mut self) -> Result<Option<FileId>, Failed> {
+    fn wrapped(&mut self) -> Result<Option<FileId>, Failed>
+        ensures value { result ≡ Ok self.old.wrapped }
+        ensures same { self.new ≡ self.old }
+        ensures time { Elapses (length self.old.calls) (length self.new.calls) (LeftSince self.old.calls) (LeftSince self.new.calls) (held_after self.new.calls) }
+    {
         Ok(self.wrapped)
     }
 
-    fn read(&mut self, file: FileId, at: u64, buffer: &mut [u8]) -> Result<(), Failed> {
+    fn read(&mut self, file: FileId, at: u64, buffer: &mut [u8]) -> Result<(), Failed>
+        requires numbered { IsNumbered file }
+        requires within { at + length buffer.old ≤ length_of (held_after self.old.calls file) }
+        ensures done { IsOk result }
+        ensures bytes { buffer.new ≡ take (length buffer.old) (drop at (bytes_of (held_after self.old.calls file))) }
+        ensures counted { self.new ≡ record self.old { taken = taken_after file (length buffer.old) self.old.taken } }
+        ensures time { Elapses (length self.old.calls) (length self.new.calls) (LeftSince self.old.calls) (LeftSince self.new.calls) (held_after self.new.calls) }
+    {
         let start = at as usize;
         let bytes = &self.contents.bytes(file)[start..start + buffer.len()];
         buffer.copy_from_slice(bytes);
@@ -203,7 +222,15 @@ impl Disk for MemDisk {
         Ok(())
     }
 
-    fn append(&mut self, file: FileId, bytes: &[u8]) -> Result<(), Failed> {
+    fn append(&mut self, file: FileId, bytes: &[u8]) -> Result<(), Failed>
+        requires { IsNumbered file }
+        ensures done { OnOk result (self.new ≡ record self.old { calls = self.old.calls ++ Call.Append file bytes.now ∷ []; asked = self.old.asked ++ Asked.Append file ∷ [] }) }
+        ensures refused { OnErr result (Refuses (Asked.Append file) self.old self.new) }
+        ensures listed { is_listed self.old.fails (length self.old.asked + 1) ≡ true → IsErr result }
+        ensures held { Appends file bytes.now (held_after self.old.calls) (held_after self.new.calls) result }
+        ensures cause { HasCause self.old.faults self.new.faults result }
+        ensures time { Elapses (length self.old.calls) (length self.new.calls) (LeftSince self.old.calls) (LeftSince self.new.calls) (held_after self.new.calls) }
+    {
         let admitted = admit(&mut self.asked, &self.fails, Asked::Append(file)).is_ok();
         if admitted {
             match do_append(self.alloc, &mut self.contents, &mut self.calls, file, bytes) {
@@ -215,7 +242,15 @@ impl Disk for MemDisk {
         Err(Failed)
     }
 
-    fn sync(&mut self, file: FileId) -> Result<(), Failed> {
+    fn sync(&mut self, file: FileId) -> Result<(), Failed>
+        requires { IsNumbered file }
+        ensures done { OnOk result (self.new ≡ record self.old { calls = self.old.calls ++ Call.Sync file ∷ []; asked = self.old.asked ++ Asked.Sync file ∷ [] }) }
+        ensures refused { OnErr result (Refuses (Asked.Sync file) self.old self.new) }
+        ensures listed { is_listed self.old.fails (length self.old.asked + 1) ≡ true → IsErr result }
+        ensures held { Syncs file (held_after self.old.calls) (held_after self.new.calls) result }
+        ensures cause { HasCause self.old.faults self.new.faults result }
+        ensures time { Elapses (length self.old.calls) (length self.new.calls) (LeftSince self.old.calls) (LeftSince self.new.calls) (held_after self.new.calls) }
+    {
         let admitted = admit(&mut self.asked, &self.fails, Asked::Sync(file)).is_ok();
         if admitted {
             match do_sync(&self.contents, &mut self.calls, file) {
@@ -227,7 +262,16 @@ impl Disk for MemDisk {
         Err(Failed)
     }
 
-    fn cut(&mut self, file: FileId, len: u64) -> Result<(), Failed> {
+    fn cut(&mut self, file: FileId, len: u64) -> Result<(), Failed>
+        requires numbered { IsNumbered file }
+        requires within { len ≤ length_of (held_after self.old.calls file) }
+        ensures done { OnOk result (self.new ≡ record self.old { calls = self.old.calls ++ Call.Cut file len ∷ []; asked = self.old.asked ++ Asked.Cut file ∷ [] }) }
+        ensures refused { OnErr result (Refuses (Asked.Cut file) self.old self.new) }
+        ensures listed { is_listed self.old.fails (length self.old.asked + 1) ≡ true → IsErr result }
+        ensures held { Cuts file len (held_after self.old.calls) (held_after self.new.calls) result }
+        ensures cause { HasCause self.old.faults self.new.faults result }
+        ensures time { Elapses (length self.old.calls) (length self.new.calls) (LeftSince self.old.calls) (LeftSince self.new.calls) (held_after self.new.calls) }
+    {
         let admitted = admit(&mut self.asked, &self.fails, Asked::Cut(file)).is_ok();
         if admitted {
             match do_cut(&mut self.contents, &mut self.calls, file, len) {

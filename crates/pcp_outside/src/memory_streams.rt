@@ -53,7 +53,7 @@ impl Source for MemSource {
     ghost faults = { λ s. s.faults };
 
     fn take(&mut self, buffer: &mut [u8]) -> Result<usize, Failed>
-        ensures within { IfOk result (λ n. n ≤ length buffer.old) }
+        ensures all { IfOk result (λ n. n ≡ min (length self.old.left) (length buffer.old)) }
         ensures bytes { Takes self.old.left self.new.left buffer.new result }
         ensures asked { self.new.asked ≡ capped (self.old.asked + 1) }
         ensures listed { is_err result ≡ is_listed self.old.fails self.new.asked }
@@ -105,7 +105,10 @@ impl Source for SureSource {
 
     ghost faults = { λ _. 0 };
 
-    fn take(&mut self, buffer: &mut [u8]) -> Result<usize, Failed> {
+    fn take(&mut self, buffer: &mut [u8]) -> Result<usize, Failed>
+        ensures all { result ≡ Ok (min (length self.old) (length buffer.old)) }
+        ensures bytes { Takes self.old self.new buffer.new result }
+    {
         let count = copy_front(&self.content.as_slice()[self.at..], buffer);
         self.at += count;
         Ok(count)

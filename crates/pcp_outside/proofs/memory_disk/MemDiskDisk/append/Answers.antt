@@ -7,7 +7,7 @@ use Rattle.pcp_outside.proofs.memory_disk.MemDiskDisk.append.Goals as goal
 use Rattle.pcp_outside.proofs.memory_disk.MemDiskDisk.append.Goals.{then-admitted+in-Err, else-admitted}
 
 pub returns-in-Ok-clause-held : goal.returns-in-Ok-clause-held
-returns-in-Ok-clause-held c = λ tells.
+returns-in-Ok-clause-held c =
     let same : c.self.inside.calls ≡ c.args.self.now.calls = ap (λ (d : DiskState). d.calls) c.self.view_is in
     becomes_push c.args.self.now.calls c.do_append.new.calls (Append c.args.file c.args.bytes.now) (c.in-Ok.ensures.ok ∙ ap (λ (l : List Call). l ++ (Append c.args.file c.args.bytes.now) ∷ []) same)
 

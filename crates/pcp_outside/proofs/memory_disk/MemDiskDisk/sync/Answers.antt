@@ -7,7 +7,7 @@ use Rattle.pcp_outside.proofs.memory_disk.MemDiskDisk.sync.Goals as goal
 use Rattle.pcp_outside.proofs.memory_disk.MemDiskDisk.sync.Goals.{then-admitted+in-Err, else-admitted}
 
 pub returns-in-Ok-clause-held : goal.returns-in-Ok-clause-held
-returns-in-Ok-clause-held c = λ tells.
+returns-in-Ok-clause-held c =
     let same : c.self.inside.calls ≡ c.args.self.now.calls = ap (λ (d : DiskState). d.calls) c.self.view_is in
     becomes_push c.args.self.now.calls c.do_sync.new.calls (Sync c.args.file) (c.in-Ok.ensures.ok ∙ ap (λ (l : List Call). l ++ (Sync c.args.file) ∷ []) same)
 

@@ -1,0 +1,273 @@
+ghost use Rattle.std.specs.Prelude.{◌≡◌, ◌<◌, ◌≤◌, ◌⊎◌, IfSome, IsErr, OnOk, None as Nothing};
+ghost use Rattle.pcp_model.specs.Disk.{empty_disk, CrashImage};
+ghost use Rattle.pcp_outside.specs.Causes.{HasCause, capped};
+ghost use Rattle.pcp_outside.specs.Devices.{IsNumbered};
+
+use crate::disk::Disk;
+use crate::failed::Failed;
+use crate::memory_disk::is_before;
+use pcp_base::FileId;
+use std::alloc::{AllocError, Global};
+use std::fs::{File, Files, OpenFile, OpenOptions};
+use std::io;
+use std::io::{ErrorKind, Read, Seek, SeekFrom, Write};
+
+/// The files `BASE.meta`, `BASE.index`, `BASE.0` and so on of the system. It tells no content. Each call opens
+/// the file by its name.
+#[derive(Drop)]
+pub struct FileDisk<'a, R: Files> {
+    alloc: Global,
+    files: &'a R,
+    base: String,
+    // Whether the names of all files made by this disk are surely in their folder.
+    has_sure_names: bool,
+    faults: u64,
+}
+
+impl<'a, R: Files> FileDisk<'a, R> {
+    /// The archive whose files' names begin with this path.
+    pub fn new(alloc: Global, files: &'a R, base: String) -> Self
+        ensures { ⟦<FileDisk<'a, R> as Disk>⟧.faults result ≡ 0 }
+    {
+        FileDisk {
+            alloc,
+            files,
+            base,
+            has_sure_names: false,
+            faults: 0,
+        }
+    }
+
+    fn name_of(&self, file: FileId) -> Result<String, AllocError> {
+        let base = self.base.as_str();
+        match file {
+            FileId::Meta => format!(in self.alloc; "{base}.meta"),
+            FileId::Index => format!(in self.alloc; "{base}.index"),
+            FileId::Volume(number) => format!(in self.alloc; "{base}.{number}"),
+        }
+    }
+
+    // The folder of the files, with a slash at its end, and what their names in it begin with.
+    fn place(&self) -> Result<(String, &str), AllocError> {
+        match self.base.as_str().rsplit_once('/') {
+            Some((folder, stem)) => Ok((format!(in self.alloc; "{folder}/")?, stem)),
+            None => Ok((format!(in self.alloc; "./")?, self.base.as_str())),
+        }
+    }
+
+    // The names in the folder, each ended by a zero byte.
+    fn names(&self) -> io::Result<Vec<u8>> {
+        let mut names = Vec::new(self.alloc);
+        match self.files.open_dir(self.place()?.0.as_str()) {
+            Ok(mut folder) => {
+                folder.read_to_end(&mut names)?;
+                Ok(names)
+            }
+            Err(error) if error.kind() == ErrorKind::NotFound => Ok(names),
+            Err(error) => Err(error),
+        }
+    }
+
+    fn length(&self, file: FileId) -> io::Result<u64> {
+        match self.files.metadata(self.name_of(file)?.as_str()) {
+            Ok(metadata) => Ok(metadata.len()),
+            Err(error) if error.kind() == ErrorKind::NotFound => Ok(0),
+            Err(error) => Err(error),
+        }
+    }
+
+    // The file, or `None` where it is missing.
+    fn open_existing(&self, how: &OpenOptions, file: FileId) -> io::Result<Option<R::File>> {
+        match how.open(self.files, self.name_of(file)?.as_str()) {
+            Ok(opened) => Ok(Some(opened)),
+            Err(error) if error.kind() == ErrorKind::NotFound => Ok(None),
+            Err(error) => Err(error),
+        }
+    }
+
+    fn count_volumes(&self) -> io::Result<u32> {
+        let stem = self.place()?.1.as_bytes();
+        let names = self.names()?;
+        let mut most = 0u32;
+        for name in names.as_slice().split(|byte| *byte == 0) {
+            if let Some(FileId::Volume(number)) = named(stem, name) {
+                if self.length(FileId::Volume(number))? > 0 {
+                    most = most.max(number + 1);
+                }
+            }
+        }
+        Ok(most)
+    }
+
+    fn find_wrapped(&self) -> io::Result<Option<FileId>> {
+        let stem = self.place()?.1.as_bytes();
+        let names = self.names()?;
+        let mut first = None;
+        for name in names.as_slice().split(|byte| *byte == 0) {
+            if let Some(file) = wrapped_name(stem, name) {
+                first = earlier(first, file);
+            }
+        }
+        Ok(first)
+    }
+
+    fn read_at(&self, file: FileId, at: u64, buffer: &mut [u8]) -> io::Result<()> {
+        if buffer.is_empty() {
+            return Ok(());
+        }
+        let mut opened = File::open(self.files, self.name_of(file)?.as_str())?;
+        opened.seek(SeekFrom::Start(at))?;
+        opened.read_exact(buffer)
+    }
+
+    fn write_behind(&mut self, file: FileId, bytes: &[u8]) -> io::Result<()>
+        ensures { self.new.faults ≡ self.old.faults }
+    {
+        if let Some(mut opened) = self.open_existing(OpenOptions::new().append(true), file)? {
+            return opened.write_all(bytes);
+        }
+        self.has_sure_names = false;
+        let name = self.name_of(file)?;
+        let mut made = OpenOptions::new()
+            .append(true)
+            .create(true)
+            .open(self.files, name.as_str())?;
+        made.write_all(bytes)
+    }
+
+    // Makes the bytes of a file sure, and its name where it may not be.
+    fn make_sure(&mut self, file: FileId) -> io::Result<()>
+        ensures { self.new.faults ≡ self.old.faults }
+    {
+        let Some(opened) = self.open_existing(OpenOptions::new().append(true), file)? else {
+            return Ok(());
+        };
+        opened.sync_data()?;
+        if !self.has_sure_names {
+            let folder = self.place()?.0;
+            File::open(self.files, folder.as_str())?.sync_all()?;
+            self.has_sure_names = true;
+        }
+        Ok(())
+    }
+
+    fn shorten(&self, file: FileId, len: u64) -> io::Result<()> {
+        let Some(opened) = self.open_existing(OpenOptions::new().write(true), file)? else {
+            return Ok(());
+        };
+        opened.set_len(len)?;
+        opened.sync_all()
+    }
+}
+
+// Counts a call's error.
+fn counted<T: Drop>(faults: &mut u64, answer: io::Result<T>) -> Result<T, Failed>
+    ensures quiet { OnOk result (faults.new ≡ faults.old) }
+    ensures cause { HasCause faults.old faults.new result }
+{
+    match answer {
+        Ok(value) => Ok(value),
+        Err(_) => {
+            *faults = faults.saturating_add(1);
+            Err(Failed)
+        }
+    }
+}
+
+// The archive file that has this name, its folder left out.
+fn named(stem: &[u8], name: &[u8]) -> Option<FileId>
+    ensures { IfSome result IsNumbered }
+{
+    let rest = name.strip_prefix(stem)?.strip_prefix(b".")?;
+    if rest == b"meta".as_slice() {
+        return Some(FileId::Meta);
+    }
+    if rest == b"index".as_slice() {
+        return Some(FileId::Index);
+    }
+    Some(FileId::Volume(volume_number(rest)?))
+}
+
+// The archive file that has this name without the `.xz` or `.gz` at its end.
+fn wrapped_name(stem: &[u8], name: &[u8]) -> Option<FileId>
+    ensures { IfSome result IsNumbered }
+{
+    match name.strip_suffix(b".xz") {
+        Some(rest) => named(stem, rest),
+        None => named(stem, name.strip_suffix(b".gz")?),
+    }
+}
+
+// A volume's number as its file is named: without zeros before it, below 2^32 - 1.
+fn volume_number(digits: &[u8]) -> Option<u32>
+    ensures { IfSome result (λ number. number < 4294967295) }
+{
+    let first = *digits.first()?;
+    if !first.is_ascii_digit() || (first == b'0' && digits.len() > 1) {
+        return None;
+    }
+    let number = std::str::from_utf8(digits).ok()?.parse::<u32>().ok()?;
+    if number < u32::MAX { Some(number) } else { None }
+}
+
+fn earlier(first: Option<FileId>, file: FileId) -> Option<FileId> {
+    match first {
+        Some(found) if !is_before(file, found) => Some(found),
+        _ => Some(file),
+    }
+}
+
+impl<'a, R: Files> Disk for FileDisk<'a, R> {
+    ghost tells = { ⊥ };
+
+    ghost held = { λ _. empty_disk };
+
+    ghost wrapped_file = { λ _. Nothing };
+
+    ghost taken = { λ _. 0 };
+
+    ghost moment = { λ _. 0 };
+
+    ghost left_since = { λ _ _ c. CrashImage empty_disk c };
+
+    ghost faults = { λ d. d.faults };
+
+    ghost counts_now = { λ _ _ _ _ image. image };
+
+    ghost only_now = { λ _ _ image. image };
+
+    fn len(&mut self, file: FileId) -> Result<u64, Failed> {
+        let answer = self.length(file);
+        counted(&mut self.faults, answer)
+    }
+
+    fn volumes(&mut self) -> Result<u32, Failed> {
+        let answer = self.count_volumes();
+        counted(&mut self.faults, answer)
+    }
+
+    fn wrapped(&mut self) -> Result<Option<FileId>, Failed> {
+        let answer = self.find_wrapped();
+        counted(&mut self.faults, answer)
+    }
+
+    fn read(&mut self, file: FileId, at: u64, buffer: &mut [u8]) -> Result<(), Failed> {
+        let answer = self.read_at(file, at, buffer);
+        counted(&mut self.faults, answer)
+    }
+
+    fn append(&mut self, file: FileId, bytes: &[u8]) -> Result<(), Failed> {
+        let answer = self.write_behind(file, bytes);
+        counted(&mut self.faults, answer)
+    }
+
+    fn sync(&mut self, file: FileId) -> Result<(), Failed> {
+        let answer = self.make_sure(file);
+        counted(&mut self.faults, answer)
+    }
+
+    fn cut(&mut self, file: FileId, len: u64) -> Result<(), Failed> {
+        let answer = self.shorten(file, len);
+        counted(&mut self.faults, answer)
+    }
+}
