@@ -15,5 +15,6 @@ mod rows;
 mod values;
 
 pub use fault::ImageFault;
+pub use image::Image;
 pub use rows::{MetricRow, Slot};
 

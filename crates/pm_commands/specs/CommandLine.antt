@@ -1,5 +1,5 @@
 -- What the words of a command line ask for.
-use Rattle.std.specs.Prelude.{◌≡◌, ℕ, ◌+◌, Bool, true, false, ◌&&◌, nat_le, nat_lt, if◌then◌else◌, List, [], ◌∷◌, length, map, Option, Some, None, Result, Ok, Err, codes, bytes_eq, string_bytes, String, option_and_then}
+use Rattle.std.specs.Prelude.{◌≡◌, ℕ, ◌≤◌, ◌+◌, Bool, true, false, ◌&&◌, nat_le, nat_lt, if◌then◌else◌, List, [], ◌∷◌, length, map, Option, Some, None, Result, Ok, Err, codes, bytes_eq, string_bytes, String, option_and_then}
 use Rattle.std.specs.List.{list_all}
 use Rattle.pcp_base.specs.Names.{is_letter, is_name_byte}
 use Rattle.pm_commands.specs.Numbers.{number_of}
@@ -68,3 +68,7 @@ abbrev pub Reads : {A : Type 0} → Result A WordsFault → Result A ℕ → Typ
 Reads (Ok c) read = read ≡ Ok c
 Reads (Err (Usage at)) read = read ≡ Err at
 Reads (Err NoMemory) read = Unit {0}
+
+-- what the words of a command promise of it
+abbrev pub FitsCommand : Command → Type 0
+FitsCommand (Once asked) = length asked.file ≤ 63

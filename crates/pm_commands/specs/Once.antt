@@ -35,9 +35,12 @@ shown_name file s = codes "mmv." ++ (file ++ (46 ∷ s.name))
 abbrev pub shown_desc : Shot → Desc
 shown_desc s = record { pmid = shown_pmid s; code = s.code; indom = null_indom; semantics = s.semantics; units = s.units }
 
--- the null instance's value, of which a metric of 32 bits shows the low 32
+-- one value of the null instance, of which a metric of 32 bits shows the low 32
+abbrev pub result_with : Moment → ℕ → ℕ → PmResult
+result_with stamp pmid value = record { stamp = stamp; sets = record { pmid = pmid; body = InPlace ((negsuc 0, value % 4294967296) ∷ []) } ∷ [] }
+
 abbrev pub shown_result : Moment → Shot → PmResult
-shown_result stamp s = record { stamp = stamp; sets = record { pmid = shown_pmid s; body = InPlace ((negsuc 0, s.value % 4294967296) ∷ []) } ∷ [] }
+shown_result stamp s = result_with stamp (shown_pmid s) s.value
 
 -- the archive begins with the result
 abbrev pub once_label : Moment → LabelFields

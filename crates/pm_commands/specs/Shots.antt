@@ -1,6 +1,9 @@
 -- What a first-form image says (mmv(5)), as `once` shows it.
 use Rattle.std.specs.Prelude.{ℕ, List}
 use Rattle.pcp_base.specs.Codes.{code_of_kind, code_of_semantics}
+use Rattle.pcp_base.specs.Ids.{null_indom}
+use Rattle.pcp_base.specs.declared.desc.Desc.{Desc}
+use Rattle.mmv_layout.specs.declared.rows.MetricRow.{MetricRow}
 use Rattle.mmv_layout.specs.Contents.{cluster_in}
 use Rattle.mmv_layout.specs.FirstForm.{only_item, only_name, only_kind, only_semantics, only_units, only_value}
 use Rattle.pm_commands.specs.Once.{Shot}
@@ -15,3 +18,7 @@ shot_of words = record {
   units = only_units words;
   value = only_value words
 }
+
+-- the description of a metric without a domain
+abbrev pub desc_of : ℕ → MetricRow → Desc
+desc_of pmid row = record { pmid = pmid; code = code_of_kind row.kind; indom = null_indom; semantics = code_of_semantics row.semantics; units = row.units }

@@ -1,17 +1,38 @@
 //! The pieces of the archive that `once` makes of an image, all made before the first write.
 ghost use Rattle.std.specs.Prelude.{◌≡◌, ◌≤◌, ◌<◌, ◌%◌, ◌++◌, ◌∷◌, [], codes, length, negsuc, IfOk};
-ghost use Rattle.pcp_base.specs.declared.result.Body.TheVariants.{InPlace};
+ghost use Rattle.pcp_model.specs.Frame.{frame};
+ghost use Rattle.pcp_model.specs.Payload.{payload};
+ghost use Rattle.pcp_model.specs.Records.{description};
 ghost use Rattle.pcp_base.specs.Texts.{IsText};
-ghost use Rattle.pm_commands.specs.Once.{once_label, shown_name, shown_desc, shown_result, shown_pmid};
+ghost use Rattle.pm_commands.specs.Once.{once_label, result_with};
 ghost use Rattle.pm_commands.specs.Pieces.{pieces};
-ghost use Rattle.pm_commands.specs.Shots.{shot_of};
+ghost use Rattle.pm_commands.specs.Shots.{shot_of, desc_of};
 
 use crate::words::OnceWords;
-use crate::writes::Plan;
 use mmv_layout::{Image, MetricRow};
 use pcp_base::{Body, Desc, InDom, List, NoMemory, Pmid, PmResult, Stamp, Text, TextError, ValueSet};
 use pcp_model::{Entry, Label, spell_description, spell_entry, spell_frame, spell_label, spell_payload};
 use std::alloc::Global;
+use std::marker::Model;
+
+/// What `once` writes, piece by piece; made before the first write.
+#[derive(Drop)]
+pub struct Plan {
+    pub(crate) meta_label: Vec<u8>,
+    pub(crate) index_label: Vec<u8>,
+    pub(crate) volume_label: Vec<u8>,
+    pub(crate) description: Vec<u8>,
+    pub(crate) sample: Vec<u8>,
+    pub(crate) entry: Vec<u8>,
+}
+
+impl Model for Plan {
+    ghost use Rattle.pm_commands.specs.Pieces.{Pieces};
+
+    ghost Value = { Pieces };
+
+    ghost view = { λ a. record { meta_label = a.meta_label.items; index_label = a.index_label.items; volume_label = a.volume_label.items; description = a.description.items; sample = a.sample.items; entry = a.entry.items } };
+}
 
 // A text of bytes that are known to have no zero byte.
 #[tactic(auto, using(crate::proofs::Texts::no_first_zero))]
@@ -50,7 +71,7 @@ fn name_of(alloc: Global, file: &Text, name: &Text) -> Result<Text, NoMemory>
 }
 
 fn result_of(alloc: Global, stamp: Stamp, pmid: Pmid, value: u64) -> Result<PmResult, NoMemory>
-    ensures { IfOk result (λ r. r ≡ record { stamp = stamp; sets = record { pmid = pmid; body = InPlace ((negsuc 0, value % 4294967296) ∷ []) } ∷ [] }) }
+    ensures { IfOk result (λ r. r ≡ result_with stamp pmid value) }
 {
     let mut pairs = List::empty(alloc);
     pairs.push((-1, (value % 4294967296) as u32))?;
@@ -60,4 +81,77 @@ fn result_of(alloc: Global, stamp: Stamp, pmid: Pmid, value: u64) -> Result<PmRe
         body: Body::InPlace(pairs),
     })?;
     Ok(PmResult { stamp, sets })
+}
+
+// The framed description of an image's metric.
+fn description_of(
+    alloc: Global,
+    file: &Text,
+    pmid: Pmid,
+    row: &MetricRow,
+) -> Result<Vec<u8>, NoMemory>
+    requires file { length file.now ≤ 63 }
+    requires name { length row.now.name ≤ 63 }
+    ensures bytes { IfOk result (λ v. v.items ≡ frame (description (desc_of pmid row.now) ((codes "mmv." ++ (file.now ++ (46 ∷ row.now.name))) ∷ []))) }
+    ensures short { IfOk result (λ v. length v.items ≤ 1000) }
+{
+    let desc = Desc {
+        pmid,
+        code: row.kind.code(),
+        indom: InDom::null(),
+        semantics: row.semantics.code(),
+        units: row.units,
+    };
+    let name = name_of(alloc, file, &row.name)?;
+    let description = spell_description(alloc, &desc, &[name])?;
+    let framed = spell_frame(alloc, &description)?;
+    Ok(framed)
+}
+
+// The framed record of an image's value.
+fn sample_of(alloc: Global, stamp: Stamp, pmid: Pmid, value: u64) -> Result<Vec<u8>, NoMemory>
+    ensures bytes { IfOk result (λ v. v.items ≡ frame (payload (result_with stamp pmid value))) }
+    ensures length { IfOk result (λ v. length v.items ≡ 40) }
+{
+    let answer = result_of(alloc, stamp, pmid, value)?;
+    let payload = spell_payload(alloc, &answer)?;
+    let framed = spell_frame(alloc, &payload)?;
+    Ok(framed)
+}
+
+/// The pieces of the archive that `once` makes of an image.
+#[tactic(auto, unfolding(crate::specs::Pieces::pieces))]
+pub(crate) fn plan_of(
+    alloc: Global,
+    asked: &OnceWords,
+    image: &Image,
+) -> Result<Plan, NoMemory>
+    requires { length asked.now.file ≤ 63 }
+    ensures { IfOk result (λ p. p ≡ pieces asked.now.stamp asked.now.file (shot_of image.now)) }
+{
+    let row = image.only_metric(alloc)?;
+    let Some(pmid) = Pmid::build(70, image.cluster(), row.item) else {
+        unreachable!()
+    };
+    let label = label_of(alloc, asked.stamp)?;
+    let meta_label = spell_label(alloc, &label, -1)?;
+    let index_label = spell_label(alloc, &label, -2)?;
+    let volume_label = spell_label(alloc, &label, 0)?;
+    let description = description_of(alloc, &asked.file, pmid, &row)?;
+    let sample = sample_of(alloc, asked.stamp, pmid, image.only_value())?;
+    let place = Entry {
+        stamp: asked.stamp,
+        volume: 0,
+        meta: (meta_label.len() + description.len()) as u32,
+        offset: (volume_label.len() + sample.len()) as u32,
+    };
+    let entry = spell_entry(alloc, &place)?;
+    Ok(Plan {
+        meta_label,
+        index_label,
+        volume_label,
+        description,
+        sample,
+        entry,
+    })
 }

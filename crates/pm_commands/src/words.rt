@@ -1,6 +1,6 @@
-ghost use Rattle.std.specs.Prelude.{◌≡◌, ◌<◌, map, string_bytes, IfOk};
+ghost use Rattle.std.specs.Prelude.{◌≡◌, ◌<◌, ◌≤◌, length, map, string_bytes, IfOk};
 ghost use Rattle.pcp_base.specs.Texts.{IsText};
-ghost use Rattle.pm_commands.specs.CommandLine.{Reads, Gives, command_of, end_then, once_of, second_of, microsecond_of, file_of, word_then};
+ghost use Rattle.pm_commands.specs.CommandLine.{Reads, Gives, FitsCommand, command_of, end_then, once_of, second_of, microsecond_of, file_of, word_then};
 
 use crate::numbers::read_number;
 use pcp_base::{Stamp, Text, TextError, is_component};
@@ -71,6 +71,7 @@ fn microseconds_at(words: &[String], at: usize) -> Result<(u32, &[String]), usiz
 fn file_at(words: &[String], at: usize) -> Result<(&[u8], &[String]), usize>
     ensures word { Gives (λ x. (x.0.now, map string_bytes x.1.now)) result (word_then file_of at (map string_bytes words.now)) }
     ensures text { IfOk result (λ x. IsText x.0.now) }
+    ensures short { IfOk result (λ x. length x.0.now ≤ 63) }
 {
     let [word, rest @ ..] = words else {
         return Err(at);
@@ -91,7 +92,8 @@ fn end_at(words: &[String], at: usize) -> Result<(), usize>
 
 #[tactic(auto, unfolding(crate::specs::CommandLine::once_of))]
 fn once_words(alloc: Global, words: &[String]) -> Result<Command, WordsFault>
-    ensures { Reads result (once_of (map string_bytes words.now)) }
+    ensures command { Reads result (once_of (map string_bytes words.now)) }
+    ensures fits { IfOk result FitsCommand }
 {
     let (sec, rest) = seconds_at(words, 1)?;
     let (usec, rest) = microseconds_at(rest, 2)?;
@@ -110,7 +112,8 @@ fn once_words(alloc: Global, words: &[String]) -> Result<Command, WordsFault>
 /// The command that the words are, or the index of the first word that is bad or missing. A command that
 /// isn't known is bad at 0.
 pub fn read_words(alloc: Global, words: &[String]) -> Result<Command, WordsFault>
-    ensures { Reads result (command_of (map string_bytes words.now)) }
+    ensures command { Reads result (command_of (map string_bytes words.now)) }
+    ensures fits { IfOk result FitsCommand }
 {
     let [name, rest @ ..] = words else {
         return Err(WordsFault::Usage { at: 0 });

@@ -6,27 +6,8 @@ ghost use Rattle.pcp_outside.specs.Causes.{HasCause};
 ghost use Rattle.pcp_outside.specs.Devices.{LeavesOnly, appended};
 ghost use Rattle.pm_commands.specs.Pieces.{Pieces, Holds, IsCut, sure, meta_file, volume_file};
 
+use crate::plan::Plan;
 use pcp_outside::{Disk, Failed, FileId, append_synced};
-use std::marker::Model;
-
-/// What `once` writes, piece by piece; made before the first write.
-#[derive(Drop)]
-pub struct Plan {
-    meta_label: Vec<u8>,
-    index_label: Vec<u8>,
-    volume_label: Vec<u8>,
-    description: Vec<u8>,
-    sample: Vec<u8>,
-    entry: Vec<u8>,
-}
-
-impl Model for Plan {
-    ghost use Rattle.pm_commands.specs.Pieces.{Pieces};
-
-    ghost Value = { Pieces };
-
-    ghost view = { λ a. record { meta_label = a.meta_label.items; index_label = a.index_label.items; volume_label = a.volume_label.items; description = a.description.items; sample = a.sample.items; entry = a.entry.items } };
-}
 
 // The three labels.
 fn create<D: Disk>(disk: &mut D, plan: &Plan) -> Result<(), Failed>
