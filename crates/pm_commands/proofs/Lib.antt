@@ -1,3 +1,6 @@
 pub mod Components
+pub mod Logged
+pub mod Looks
+pub mod Memory
 pub mod Stages
 pub mod Texts

@@ -4,3 +4,4 @@ pub mod Once
 pub mod Pieces
 pub mod Refusals
 pub mod Shots
+pub mod Ends

@@ -4,10 +4,13 @@
 #![tactic(auto)]
 
 mod numbers;
+mod once;
 mod plan;
 mod refusal;
+mod top;
 mod words;
 mod writes;
 
 pub use refusal::Refusal;
+pub use top::offline;
 pub use words::{Command, OnceWords, WordsFault, read_words};

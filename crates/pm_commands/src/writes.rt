@@ -44,7 +44,7 @@ fn flush<D: Disk>(disk: &mut D, plan: &Plan) -> Result<(), Failed>
 }
 
 // The whole archive of one item, over files that hold nothing.
-fn write_archive<D: Disk>(disk: &mut D, plan: &Plan) -> Result<(), Failed>
+pub(crate) fn write_archive<D: Disk>(disk: &mut D, plan: &Plan) -> Result<(), Failed>
     requires { D.tells → Holds (D.held disk.old) nothing_held nothing_held nothing_held }
     ensures ok { D.tells → OnOk result (Holds (D.held disk.new) (sure (meta_file plan.now)) (appended (sure plan.now.index_label) plan.now.entry) (sure (volume_file plan.now))) }
     ensures any_moment { D.tells → LeavesOnly D.moment D.left_since disk.old disk.new (IsCut plan.now) }

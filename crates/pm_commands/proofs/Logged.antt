@@ -1,0 +1,101 @@
+-- The files that the writes leave are those of the definition, and settled.
+use Rattle.std.proofs.Common.{◌≡◌, ◌≢◌, ◌⊎◌, inl, inr, ℕ, zero, suc, ◌+◌, ◌≤◌, negsuc, pos, List, [], ◌∷◌, ◌++◌, length, codes, refl, sym, ap, ◌∙◌, subst, arith, append-nil, cond}
+use Rattle.std.proofs.Math.Dec.{eqb-zero-suc, eqb-suc-zero}
+use Rattle.pcp_base.specs.Time.{Moment}
+use Rattle.pcp_base.specs.declared.file.FileId.{FileId}
+use Rattle.pcp_base.specs.declared.file.FileId.TheVariants.{Meta, Index, Volume}
+use Rattle.pcp_model.specs.Disk.{Files, Held, Holdings, bytes_of, contents_of, nothing_held, IsSettled, IsEmpty, CrashImage}
+use Rattle.pcp_model.specs.Frame.{frame}
+use Rattle.pcp_model.specs.Payload.{payload}
+use Rattle.pcp_model.specs.Records.{description}
+use Rattle.pcp_model.specs.LabelFields.{FitsLabel}
+use Rattle.pcp_model.specs.Labels.{label}
+use Rattle.pcp_model.specs.Written.{with_added, created}
+use Rattle.pcp_model.proofs.Lengths.{length-label}
+use Rattle.pcp_outside.specs.Devices.{appended}
+use Rattle.pm_commands.specs.declared.words.OnceWords.{OnceWords}
+use Rattle.pm_commands.specs.Ends.{IsImageInput, IsLogged, IsRead, SourceSide, DiskSide, MayLeave}
+use Rattle.pm_commands.specs.Once.{Shot, once_files, logged, once_label, shown_desc, shown_name, shown_result}
+use Rattle.pm_commands.specs.Pieces.{Pieces, pieces, Holds, IsCut, sure, meta_file, index_file, volume_file}
+use Rattle.pm_commands.specs.Shots.{shot_of}
+
+pub fits_once : (stamp : Moment) → FitsLabel (once_label stamp)
+fits_once stamp = record { host = omega arith; zone = omega arith }
+
+-- what the files hold at the end
+abbrev pub Final : Pieces → Holdings → Type 0
+Final p held = Holds held (sure (meta_file p)) (appended (sure p.index_label) p.entry) (sure (volume_file p))
+
+meta_text : (stamp : Moment) (file : List ℕ) (s : Shot) → meta_file (pieces stamp file s) ≡ once_files stamp file s Meta
+unfolding pieces
+meta_text stamp file s = refl
+
+index_text : (stamp : Moment) (file : List ℕ) (s : Shot) → index_file (pieces stamp file s) ≡ once_files stamp file s Index
+unfolding pieces
+index_text stamp file s = refl
+
+volume_text : (stamp : Moment) (file : List ℕ) (s : Shot) → volume_file (pieces stamp file s) ≡ once_files stamp file s (Volume 0)
+unfolding pieces
+volume_text stamp file s = refl
+
+other_text : (stamp : Moment) (file : List ℕ) (s : Shot) (k : ℕ) → k ≢ 0 → once_files stamp file s (Volume k) ≡ []
+other_text stamp file s zero h = absurd (h refl)
+other_text stamp file s (suc k) h =
+    let f : Files = created (once_label stamp) in
+    let m : Files = with_added Meta (frame (description (shown_desc s) (shown_name file s ∷ []))) f in
+    ap (λ b. cond b (m (Volume (suc k)) ++ frame (payload (shown_result stamp s))) (m (Volume (suc k)))) (eqb-zero-suc k)
+    ∙ ap (λ b. cond b (label (once_label stamp) (pos 0)) []) (eqb-suc-zero k)
+
+-- the files are those of the definition
+pub final_files : (stamp : Moment) (name : List ℕ) (s : Shot) (held : Holdings) → Final (pieces stamp name s) held → (file : FileId) → contents_of held file ≡ once_files stamp name s file
+final_files stamp name s held final Meta = ap bytes_of final.has_meta ∙ append-nil (meta_file (pieces stamp name s)) ∙ meta_text stamp name s
+final_files stamp name s held final Index = ap bytes_of final.has_index ∙ index_bytes ∙ index_text stamp name s
+  where
+    p : Pieces
+    p = pieces stamp name s
+    index_bytes : bytes_of (appended (sure (pieces stamp name s).index_label) (pieces stamp name s).entry) ≡ index_file (pieces stamp name s)
+    index_bytes = refl
+final_files stamp name s held final (Volume zero) = ap bytes_of final.has_volume ∙ append-nil (volume_file (pieces stamp name s)) ∙ volume_text stamp name s
+final_files stamp name s held final (Volume (suc k)) = ap bytes_of (final.others (suc k) (not_zero k)) ∙ sym (other_text stamp name s (suc k) (not_zero k))
+  where
+    not_zero : (k : ℕ) → suc k ≢ 0
+    not_zero k = λ e. cc
+
+label_long : (stamp : Moment) (file : List ℕ) (s : Shot) → length (pieces stamp file s).index_label ≡ 132
+unfolding pieces
+label_long stamp file s = length-label (once_label stamp) (negsuc 1) (fits_once stamp)
+
+volume_sure : (p : Pieces) (held : Holdings) → Final p held → (k : ℕ) → (held (Volume k)).rest ≡ []
+volume_sure p held final zero = ap (λ (h : Held). h.rest) final.has_volume
+volume_sure p held final (suc k) = ap (λ (h : Held). h.rest) (final.others (suc k) (λ e. cc))
+
+-- and all but the index entry is sure
+pub final_settled : (stamp : Moment) (file : List ℕ) (s : Shot) (held : Holdings) → Final (pieces stamp file s) held → IsSettled held
+final_settled stamp file s held final =
+    let l : length (held Index).sure ≡ 132 = ap (λ (h : Held). length h.sure) final.has_index ∙ label_long stamp file s in
+    record {
+      meta = ap (λ (h : Held). h.rest) final.has_meta;
+      index = inl (omega arith);
+      volumes = volume_sure (pieces stamp file s) held final;
+    }
+
+-- what is read and written makes the whole
+pub is_logged : (asked : OnceWords) (s : SourceSide) (d : DiskSide) (p : Pieces)
+    → ((words : List ℕ) × (p ≡ pieces asked.stamp asked.file (shot_of words)))
+    → (s.tells → (words : List ℕ) × IsImageInput s.left words × (p ≡ pieces asked.stamp asked.file (shot_of words)) × (s.after ≡ []))
+    → (d.tells → IsEmpty (contents_of d.held)) → (d.tells → Final p d.after) → IsLogged asked s d
+is_logged asked s d p shaped made empty final = record {
+  read = λ tells. ((made tells).0, record { image = (made tells).1; all = (made tells).3 });
+  empty = empty;
+  files = λ tells keeps. ((made tells).0, record { image = (made tells).1; all = (made tells).3 },
+      final_files asked.stamp asked.file (shot_of (made tells).0) d.after (subst (λ q. Final q d.after) (made tells).2 (final keeps)));
+  settled = λ keeps. final_settled asked.stamp asked.file (shot_of shaped.0) d.after (subst (λ q. Final q d.after) shaped.1 (final keeps));
+}
+
+-- what the writes may leave, once the input is known
+pub may_leave : (asked : OnceWords) (reads : Type 0) (left : List ℕ) (held : Holdings) (p : Pieces)
+    → (reads → (words : List ℕ) × IsImageInput left words × (p ≡ pieces asked.stamp asked.file (shot_of words)))
+    → (c : Files) → CrashImage held c ⊎ (IsEmpty (contents_of held) × IsCut p c) → MayLeave asked reads left held c
+may_leave asked reads left held p made c (inl was) = inl was
+may_leave asked reads left held p made c (inr cut) =
+    inr (cut.0, λ tells. ((made tells).0, (made tells).1, subst (λ q. IsCut q c) (made tells).2 cut.1))

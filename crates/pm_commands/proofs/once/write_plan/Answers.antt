@@ -1,0 +1,13 @@
+use Rattle.std.proofs.Common.{◌≡◌, ◌⊎◌, inl, inr, ap, subst, sym, ◌∙◌, ℕ, Bool, true, MatchBool}
+use Rattle.pcp_model.specs.Disk.{Files, Holdings, CrashImage, IsEmpty, contents_of, nothing_held}
+use Rattle.pm_commands.specs.Ends.{HasByte}
+use Rattle.pm_commands.specs.Pieces.{Holds}
+use Rattle.pm_commands.proofs.Looks.{empty_holds}
+use Rattle.pm_commands.proofs.once.write_plan.Goals as goal
+
+pub write_archive-requires : goal.write_archive-requires
+write_archive-requires g c = λ tells.
+    let d = g.D.Disk in
+    let files : Files = contents_of (d.held c.args.disk.now) in
+    let empty : IsEmpty files = subst (λ (b : Bool). MatchBool b (IsEmpty files) (HasByte files)) c.if-not-is_empty.false (c.in-Ok.ensures.empty tells) in
+    subst (λ (h : Holdings). Holds h nothing_held nothing_held nothing_held) (sym (c.in-Ok.ensures.held tells)) (empty_holds (d.held c.args.disk.now) empty)
