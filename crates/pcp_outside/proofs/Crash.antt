@@ -1,10 +1,10 @@
 -- How a run of device calls goes on: what every crash image of a run so far has, each image has after one call more.
 -- The parameters are members of `Disk`, and `only_now` its law.
-use Rattle.std.proofs.Common.{◌≡◌, ◌⊎◌, inl, inr, ⊎_elim, ℕ, ◌≤◌, List, Result, Ok, Err, take, length, subst, sym, ap, arith}
+use Rattle.std.proofs.Common.{◌≡◌, inl, inr, ⊎_elim, ℕ, List, Result, Ok, Err, length, subst, sym, arith}
 use Rattle.std.proofs.lemmas.List.{take_all}
 use Rattle.pcp_base.specs.declared.file.FileId.{FileId}
-use Rattle.pcp_model.specs.Disk.{Files, Held, Holdings, CrashImage}
-use Rattle.pcp_outside.specs.Devices.{Becomes, appended, synced, made_sure, cut_to, grown, Appends, Syncs, Cuts, AppendsSure, Elapses, LeavesOnly}
+use Rattle.pcp_model.specs.Disk.{Files, Holdings, CrashImage}
+use Rattle.pcp_outside.specs.Devices.{Becomes, appended, made_sure, cut_to, grown, Appends, Syncs, Cuts, AppendsSure, Elapses, LeavesOnly}
 use Rattle.pcp_outside.proofs.Images.{image_append, image_sync, image_made_sure}
 
 -- after an append, done or refused
@@ -18,6 +18,13 @@ pub image_syncs : {T E : Type 0} (file : FileId) (old new : Holdings) (result : 
 image_syncs file old new (Ok v) c change left = image_sync file old new c change left
 image_syncs file old new (Err e) c (inl same) left = subst (λ (h : Holdings). CrashImage h c) same left
 image_syncs file old new (Err e) c (inr change) left = image_sync file old new c change left
+
+-- after an append and a sync, done or refused
+pub image_appends_sure : {T E : Type 0} (file : FileId) (bytes : List ℕ) (old new : Holdings) (result : Result T E) (c : Files) → AppendsSure file bytes old new result → CrashImage new c → CrashImage (grown file bytes old) c
+image_appends_sure file bytes old new (Ok v) c change left =
+    image_made_sure file (length bytes) bytes old new c (subst (λ (l : List ℕ). Becomes file (made_sure (old file) l) old new) (sym (take_all (length bytes) bytes (omega arith))) change) left
+image_appends_sure file bytes old new (Err e) c (n, inl change) left = image_append file n bytes old new c change left
+image_appends_sure file bytes old new (Err e) c (n, inr change) left = image_made_sure file n bytes old new c change left
 
 module _ {D : Type 0} (moment : D → ℕ) (left_since : D → ℕ → Files → Type 0) (held : D → Holdings) where
   abbrev pub Each : (Files → Type 0) → Holdings → Type 0
@@ -54,6 +61,10 @@ module _ {D : Type 0} (moment : D → ℕ) (left_since : D → ℕ → Files →
     each = λ c left. less c (run.each c left);
     before = λ t c le left. ⊎_elim (λ was. inl was) (λ good. inr (less c good)) (run.before t c le left);
   }
+
+  -- a run, and then another that left only what has Q, as a function of several calls ensures it
+  pub after_run : (old mid new : D) (P Q : Files → Type 0) → LeavesOnly moment left_since old mid P → LeavesOnly moment left_since mid new Q → ((c : Files) → Q c → P c) → LeavesOnly moment left_since old new P
+  after_run old mid new P Q so_far run good = joined old mid new P so_far (weaker mid new Q P run good)
 
   -- a run in which files were only looked at: `len`, `volumes`, `wrapped`, `read`
   pub after_look : (old mid new : D) (P : Files → Type 0) → LeavesOnly moment left_since old mid P → Elapses (moment mid) (moment new) (left_since mid) (left_since new) (held new) → held new ≡ held mid → Each P (held mid) → LeavesOnly moment left_since old new P

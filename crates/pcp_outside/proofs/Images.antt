@@ -1,9 +1,9 @@
 -- What a crash leaves of files that a call of a disk has changed, by what it left of them before.
-use Rattle.std.proofs.Common.{◌≡◌, ◌⊎◌, inl, inr, ⊎_elim, ℕ, ◌+◌, ◌-◌, ◌<◌, ◌≤◌, min, Bool, true, false, List, [], ◌++◌, length, take, drop, refl, sym, ◌∙◌, ap, subst, arith, append_assoc, Result, Ok, Err}
+use Rattle.std.proofs.Common.{◌≡◌, ◌⊎◌, inl, inr, ⊎_elim, ℕ, ◌+◌, ◌-◌, ◌<◌, ◌≤◌, min, Bool, true, false, List, [], ◌++◌, length, take, refl, sym, ◌∙◌, ap, subst, arith, append_assoc, Result, Ok, Err}
 use Rattle.std.proofs.lemmas.Bool.{cases_lt, eqb-true, eq-eqb}
 use Rattle.std.proofs.lemmas.List.{append-nil, take_all, take-append-le, length-take, take-take as shorter}
 use Rattle.std.proofs.Math.Seq.{take-append-add}
-use Rattle.std.specs.Prelude.{if◌then◌else◌, nat_eq}
+use Rattle.std.specs.Prelude.{if◌then◌else◌}
 use Rattle.pcp_base.specs.declared.file.FileId.{FileId}
 use Rattle.pcp_base.specs.declared.file.FileId.TheVariants.{Meta, Index, Volume}
 use Rattle.pcp_model.specs.Disk.{Files, Held, Holdings, bytes_of, contents_of, CrashImage}
@@ -55,6 +55,7 @@ take-append n xs ys = ⊎_elim short long (cases_lt n (length xs))
     short lt =
         let none : n - length xs ≡ 0 = omega arith in
         take-append-le n xs ys (omega arith) ∙ sym (append-nil (take n xs)) ∙ ap (λ (k : ℕ). take n xs ++ take k ys) (sym none)
+
     long : length xs ≤ n → take n (xs ++ ys) ≡ take n xs ++ take (n - length xs) ys
     long le =
         let whole : n ≡ length xs + (n - length xs) = omega arith in
@@ -75,6 +76,7 @@ take-take m n l = ⊎_elim less more (cases_lt m n)
   where
     less : m < n → take m (take n l) ≡ take (min m n) l
     less lt = let is : min m n ≡ m = omega arith in shorter m n l (omega arith) ∙ ap (λ (k : ℕ). take k l) (sym is)
+
     more : n ≤ m → take m (take n l) ≡ take (min m n) l
     more le =
         let is : min m n ≡ n = omega arith in
@@ -99,8 +101,8 @@ pub survives_append : (h : Held) (n : ℕ) (more bytes : List ℕ) → Survives 
 survives_append h n more bytes (m, is) = (
   min m (length h.rest + n),
   is
-  ∙ ap (λ (l : List ℕ). h.sure ++ take m l) (sym (take-append-add h.rest more n))
-  ∙ ap (λ (l : List ℕ). h.sure ++ l) (take-take m (length h.rest + n) (h.rest ++ more)),
+      ∙ ap (λ (l : List ℕ). h.sure ++ take m l) (sym (take-append-add h.rest more n))
+      ∙ ap (λ (l : List ℕ). h.sure ++ l) (take-take m (length h.rest + n) (h.rest ++ more)),
 )
 
 -- without bytes behind it, then with them
@@ -108,10 +110,10 @@ pub survives_before : (h : Held) (more bytes : List ℕ) → Survives h bytes �
 survives_before h more bytes (m, is) = (
   min m (length h.rest),
   is ∙ ap (λ (l : List ℕ). h.sure ++ l) (
-    ap (take m) (sym (take_all (length h.rest) h.rest (omega arith)))
-    ∙ take-take m (length h.rest) h.rest
-    ∙ sym (take-append-le (min m (length h.rest)) h.rest more (omega arith))
-  ),
+      ap (take m) (sym (take_all (length h.rest) h.rest (omega arith)))
+      ∙ take-take m (length h.rest) h.rest
+      ∙ sym (take-append-le (min m (length h.rest)) h.rest more (omega arith))
+      ),
 )
 
 -- after a sync, then before it
@@ -128,8 +130,8 @@ survives_cut h n bytes (m, is) = (
   h.sure ++ take m h.rest,
   (m, refl),
   is
-  ∙ ap (λ (l : List ℕ). take n h.sure ++ l) (take-swap m (n - length h.sure) h.rest)
-  ∙ sym (take-append n h.sure (take m h.rest)),
+      ∙ ap (λ (l : List ℕ). take n h.sure ++ l) (take-swap m (n - length h.sure) h.rest)
+      ∙ sym (take-append n h.sure (take m h.rest)),
 )
   where
     take-swap : (a b : ℕ) (l : List ℕ) → take a (take b l) ≡ take b (take a l)
@@ -219,6 +221,7 @@ sync_after {T} {E} file bytes old mid new result first second = by_result result
       this = change.this ∙ ap synced first.this ∙ synced-appended (old file) bytes;
       others = λ g ne. change.others g ne ∙ first.others g ne;
     }
+
     by_result : (r : Result T E) → Syncs file mid new r → AppendsSure file bytes old new r
     by_result (Ok v) change = sure change
     by_result (Err e) (inl same) = (

@@ -1,10 +1,10 @@
 -- One more call joins the record of a disk in memory.
-use Rattle.std.proofs.Common.{◌≡◌, ◌⊎◌, inl, inr, ⊎_elim, ℕ, ◌+◌, ◌<◌, ◌≤◌, Bool, true, false, List, [], ◌∷◌, ◌++◌, length, take, refl, sym, ◌∙◌, ap, subst, arith, length-append}
+use Rattle.std.proofs.Common.{◌≡◌, ◌⊎◌, inl, inr, ⊎_elim, ℕ, ◌+◌, ◌<◌, ◌≤◌, Bool, true, false, List, [], ◌∷◌, ◌++◌, length, refl, sym, ◌∙◌, ap, subst, arith, length-append}
 use Rattle.std.proofs.lemmas.Bool.{cases_lt}
 use Rattle.std.proofs.lemmas.List.{take_all, take-append-le}
 use Rattle.std.specs.Prelude.{if◌then◌else◌}
 use Rattle.pcp_base.specs.declared.file.FileId.{FileId}
-use Rattle.pcp_model.specs.Disk.{Files, Held, Holdings, nothing_held, bytes_of, CrashImage}
+use Rattle.pcp_model.specs.Disk.{Files, Held, nothing_held, bytes_of, CrashImage}
 use Rattle.pcp_outside.specs.Devices.{same_file, Becomes, Elapses}
 use Rattle.pcp_outside.specs.Contents.{files_of, Sets}
 use Rattle.pcp_outside.specs.Record.{file_of, effect, changed, held_from, held_after, LeftSince, IsKept}
@@ -53,6 +53,7 @@ elapses_one calls c = record {
   where
     longer : length (calls ++ c ∷ []) ≡ length calls + 1
     longer = length-append calls (c ∷ [])
+
     split : (t : ℕ) (image : Files) → LeftSince (calls ++ c ∷ []) t image → LeftSince calls t image ⊎ CrashImage (held_after (calls ++ c ∷ [])) image
     split t image (k, past, within, left) = ⊎_elim
         (λ (now : length calls < k). inr (subst (λ (l : List Call). CrashImage (held_after l) image) (take_all k (calls ++ c ∷ []) (omega (arith, longer))) left))

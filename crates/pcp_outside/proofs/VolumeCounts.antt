@@ -1,5 +1,5 @@
 -- The greatest number of a volume that isn't empty, over the entries of a map.
-use Rattle.std.proofs.Common.{◌≡◌, ◌⊎◌, inl, inr, ⊎_elim, ℕ, ◌+◌, ◌≢◌, ◌≤◌, max, Bool, true, false, cond, List, [], ◌∷◌, length, Vec, Option, Some, None, refl, sym, ◌∙◌, ap, subst, arith}
+use Rattle.std.proofs.Common.{◌≡◌, ⊎_elim, ℕ, ◌+◌, ◌≢◌, ◌≤◌, max, Bool, true, false, cond, List, [], ◌∷◌, length, Vec, Some, refl, sym, ◌∙◌, ap, arith}
 use Rattle.std.specs.Prelude.{if◌then◌else◌, ◌==◌}
 use Rattle.std.specs.List.{All}
 use Rattle.std.specs.Ordering.{nat_cmp}
@@ -55,6 +55,7 @@ found_last m (e ∷ es) all k is none = choose (λ same. found_last m es (All-ta
   where
     Found : Entry → Type 0
     Found d = get nat_cmp m d.0 ≡ Some d.1
+
     choose : (used es ≡ k + 1 → ⊥) → (empty : Bool) → (length e.1.items == 0) ≡ empty → ⊥
     choose rest true empty = rest (sym (used_empty e es empty) ∙ is)
     choose rest false some = ⊎_elim

@@ -1,5 +1,5 @@
 -- Why a call may answer that it failed.
-use Rattle.std.specs.Prelude.{◌⊎◌, ℕ, ◌+◌, ◌<◌, ◌≤◌, min, Result, IsErr}
+use Rattle.std.specs.Prelude.{◌⊎◌, ℕ, ◌<◌, ◌≤◌, min, Result, IsErr}
 
 -- A count of faults rose: it is greater now, or stands at 2^64 - 1, past which it can't rise.
 abbrev pub Rose : ℕ → ℕ → Type 0

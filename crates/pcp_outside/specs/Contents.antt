@@ -1,13 +1,10 @@
 -- The files of a disk in memory.
-use Rattle.std.specs.Prelude.{◌≡◌, ℕ, ◌≤◌, List, [], ◌++◌, take, false, Option, Some, None, Vec}
-use Rattle.std.specs.BTreeMap.{BTreeMap, get}
-use Rattle.std.specs.Ordering.{nat_cmp}
-use Rattle.std.specs.declared.alloc.Global.{Global}
+use Rattle.std.specs.Prelude.{◌≡◌, ℕ, List, false}
 use Rattle.pcp_base.specs.declared.file.FileId.{FileId}
 use Rattle.pcp_base.specs.declared.file.FileId.TheVariants.{Meta, Index, Volume}
 use Rattle.pcp_model.specs.Disk.{Files}
 use Rattle.pcp_outside.specs.Devices.{same_file}
-use Rattle.pcp_outside.specs.Volumes.{Volumes, volume}
+use Rattle.pcp_outside.specs.Volumes.{volume}
 use Rattle.pcp_outside.specs.declared.contents.Contents.{Contents}
 
 -- what each file reads as

@@ -207,7 +207,11 @@ fn volume_number(digits: &[u8]) -> Option<u32>
         return None;
     }
     let number = std::str::from_utf8(digits).ok()?.parse::<u32>().ok()?;
-    if number < u32::MAX { Some(number) } else { None }
+    if number < u32::MAX {
+        Some(number)
+    } else {
+        None
+    }
 }
 
 fn earlier(first: Option<FileId>, file: FileId) -> Option<FileId> {

@@ -1,5 +1,4 @@
 ghost use Rattle.std.specs.Prelude.{◌≡◌, ◌≤◌, ◌+◌, ◌++◌, [], ◌∷◌, ℕ, true, length, take, drop, count_by, None, IfOk, IsOk, IsOkAnd, OnOk, OnErr, IsErr};
-
 ghost use Rattle.std.specs.Prelude.{◌⊎◌};
 ghost use Rattle.pcp_outside.specs.Causes.{HasCause, capped};
 ghost use Rattle.pcp_outside.specs.Devices.{same_file, IsNumbered, taken_after};
@@ -149,7 +148,11 @@ fn replay(call: &Call, file: FileId, sure: usize, bytes: &mut Vec<u8>) -> Result
             }
             Ok(sure)
         }
-        Call::Sync(found) => Ok(if same(*found, file) { bytes.len() } else { sure }),
+        Call::Sync(found) => Ok(if same(*found, file) {
+            bytes.len()
+        } else {
+            sure
+        }),
         Call::Cut(found, len) => {
             if !same(*found, file) {
                 return Ok(sure);

@@ -109,9 +109,9 @@ impl Source for SureSource {
         ensures all { result ≡ Ok (min (length self.old) (length buffer.old)) }
         ensures bytes { Takes self.old self.new buffer.new result }
     {
-        let count = copy_front(&self.content.as_slice()[self.at..], buffer);
-        self.at += count;
-        Ok(count)
+        let taken = copy_front(&self.content.as_slice()[self.at..], buffer);
+        self.at += taken;
+        Ok(taken)
     }
 }
 

@@ -18,11 +18,20 @@ fn listed(alloc: Global, numbers: &[u64]) -> Result<List<u64>, Fail> {
 fn a_source_is_read_to_its_limit(rt: HostRuntime) -> Result<(), Fail> {
     let alloc = rt.alloc();
     let mut whole = SureSource::new(bytes_of(alloc, b"abcd")?);
-    assert_eq!(rt; read_to_limit(alloc, &mut whole, 4)?.as_slice(), b"abcd".as_slice());
+    assert_eq!(rt;
+        read_to_limit(alloc, &mut whole, 4)?.as_slice(),
+        b"abcd".as_slice()
+    );
     let mut long = SureSource::new(bytes_of(alloc, b"abcd")?);
-    assert_eq!(rt; read_to_limit(alloc, &mut long, 3).err(), Some(ReadFault::TooMuch));
+    assert_eq!(rt;
+        read_to_limit(alloc, &mut long, 3).err(),
+        Some(ReadFault::TooMuch)
+    );
     let mut third = MemSource::new(bytes_of(alloc, b"abcd")?, listed(alloc, &[2])?);
-    assert_eq!(rt; read_to_limit(alloc, &mut third, 9).err(), Some(ReadFault::Failed));
+    assert_eq!(rt;
+        read_to_limit(alloc, &mut third, 9).err(),
+        Some(ReadFault::Failed)
+    );
     Ok(())
 }
 
@@ -68,7 +77,10 @@ fn a_disk_in_memory_keeps_every_moment(rt: HostRuntime) -> Result<(), Fail> {
 fn an_adapter_reads_and_writes(rt: HostRuntime) -> Result<(), Fail> {
     let alloc = rt.alloc();
     let mut source = ReaderSource::new(std::io::Cursor::new(b"abc".as_slice()));
-    assert_eq!(rt; read_to_limit(alloc, &mut source, 3)?.as_slice(), b"abc".as_slice());
+    assert_eq!(rt;
+        read_to_limit(alloc, &mut source, 3)?.as_slice(),
+        b"abc".as_slice()
+    );
     let mut sink = WriterSink::new(Vec::new(alloc));
     assert_eq!(rt; write_all(&mut sink, b"abc"), Ok(()));
     let mut full = WriterSink::new(std::io::Cursor::new([0u8; 0]));

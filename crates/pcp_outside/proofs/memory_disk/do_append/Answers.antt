@@ -1,12 +1,8 @@
 use Rattle.std.proofs.Common.{◌≡◌, ◌++◌, ◌∷◌, [], List, ℕ, rules, sym, ◌∙◌, ap}
-use Rattle.pcp_model.specs.Disk.{bytes_of}
-use Rattle.pcp_outside.specs.Contents.{files_of}
-use Rattle.pcp_outside.specs.Devices.{appended}
 use Rattle.pcp_outside.specs.Record.{held_after}
-use Rattle.pcp_outside.specs.declared.memory_disk.Call.{Call}
 use Rattle.pcp_outside.specs.declared.memory_disk.Call.TheVariants.{Append}
 use Rattle.pcp_outside.proofs.Images.{bytes-appended}
-use Rattle.pcp_outside.proofs.Moments.{kept_push, kept_same}
+use Rattle.pcp_outside.proofs.Moments.{kept_push}
 use Rattle.pcp_outside.proofs.memory_disk.do_append.Goals as goal
 
 pub returns-in-Ok-clause-kept : goal.returns-in-Ok-clause-kept

@@ -1,4 +1,4 @@
-use Rattle.std.proofs.Common.{◌≡◌, take, sym, ◌∙◌, ap}
+use Rattle.std.proofs.Common.{take, sym, ◌∙◌, ap}
 use Rattle.pcp_outside.specs.Record.{held_after}
 use Rattle.pcp_outside.specs.declared.memory_disk.Call.TheVariants.{Cut}
 use Rattle.pcp_outside.proofs.Images.{bytes-cut_to}

@@ -1,4 +1,4 @@
-use Rattle.std.proofs.Common.{◌≡◌, sym, ◌∙◌, refl}
+use Rattle.std.proofs.Common.{sym, ◌∙◌, refl}
 use Rattle.pcp_outside.specs.Record.{held_after}
 use Rattle.pcp_outside.specs.declared.memory_disk.Call.TheVariants.{Sync}
 use Rattle.pcp_outside.proofs.Images.{bytes-synced}

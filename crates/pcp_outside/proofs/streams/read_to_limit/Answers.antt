@@ -1,4 +1,4 @@
-use Rattle.std.proofs.Common.{◌≡◌, ℕ, ◌++◌, take, List, length, Err, Ok, sym, ap, ◌∙◌, subst, rules, append_assoc, length-append, length-take, arith}
+use Rattle.std.proofs.Common.{◌≡◌, ℕ, ◌++◌, take, List, length, Err, sym, ap, ◌∙◌, subst, rules, append_assoc, arith}
 use Rattle.std.proofs.lemmas.Grind.{common_steps}
 use Rattle.pcp_outside.specs.declared.streams.ReadFault.TheVariants.{NoMemory}
 use Rattle.pcp_outside.specs.Streams.{ReadsTo}

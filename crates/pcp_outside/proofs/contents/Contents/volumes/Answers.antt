@@ -1,4 +1,4 @@
-use Rattle.std.proofs.Common.{◌≡◌, ℕ, ◌<◌, ◌≤◌, max, [], length, Some, ⊎_elim, sym, ◌∙◌, ap, arith}
+use Rattle.std.proofs.Common.{◌≡◌, ◌<◌, ◌≤◌, max, [], length, Some, ⊎_elim, sym, ◌∙◌, ap, arith}
 use Rattle.std.specs.BTreeMap.{get}
 use Rattle.std.specs.Ordering.{nat_cmp}
 use Rattle.std.specs.Map.Iter.{deref_pair}
@@ -17,9 +17,9 @@ overflow_add-number c =
     let gives = c.into_iter-number-iterator.ensures.into_iter_gives in
     let found : get nat_cmp volumes number ≡ Some bytes = All-turn deref_pair (λ (e : Entry). get nat_cmp volumes e.0 ≡ Some e.1) _ _ _ _ _ _ _ gives.6 gives.0 c.loop-number.yielded_by c.in-Some.is c.next.ensures.steps in
     let small : number < 4294967295 = ⊎_elim (λ (lt : number < 4294967295). lt) (λ (le : 4294967295 ≤ number). absurd (
-      let none : bytes.items ≡ [] = sym (ap bytes_found found) ∙ c.args.self.now.numbered number le in
-      let empty : length bytes.items ≡ 0 = ap length none in
-      grind (arith, nat_tests))) (cases_lt number 4294967295) in
+    let none : bytes.items ≡ [] = sym (ap bytes_found found) ∙ c.args.self.now.numbered number le in
+    let empty : length bytes.items ≡ 0 = ap length none in
+    grind (arith, nat_tests))) (cases_lt number 4294967295) in
     omega arith
 
 pub returns-clause-last : goal.returns-clause-last

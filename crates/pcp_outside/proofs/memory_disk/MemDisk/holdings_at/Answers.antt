@@ -1,7 +1,7 @@
-use Rattle.std.proofs.Common.{◌≡◌, ◌+◌, ◌++◌, ◌∷◌, [], List, length, take, get_or, sym, ◌∙◌, ap, subst, arith}
+use Rattle.std.proofs.Common.{◌≡◌, ◌+◌, ◌++◌, ◌∷◌, [], List, take, sym, ◌∙◌, ap, subst}
 use Rattle.std.proofs.lemmas.List.{take_more}
 use Rattle.pcp_model.specs.Disk.{Held, nothing_held}
-use Rattle.pcp_outside.specs.Record.{IsHeld, held_after, changed}
+use Rattle.pcp_outside.specs.Record.{IsHeld, held_after}
 use Rattle.pcp_outside.specs.declared.memory_disk.Call.{Call}
 use Rattle.pcp_outside.proofs.Moments.{held_from-push}
 use Rattle.pcp_outside.proofs.memory_disk.MemDisk.holdings_at.Goals as goal
