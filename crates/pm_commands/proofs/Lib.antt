@@ -4,3 +4,4 @@ pub mod Looks
 pub mod Memory
 pub mod Stages
 pub mod Texts
+pub mod Facts

@@ -5,3 +5,4 @@ pub mod Pieces
 pub mod Refusals
 pub mod Shots
 pub mod Ends
+pub mod Facts

@@ -1,7 +1,37 @@
+-- Each fact on the status follows from how the call ends.
 use Rattle.std.proofs.Common.{◌≡◌}
-use Rattle.pm_commands.proofs.Memory.{ends_untold}
+use Rattle.pm_commands.proofs.Facts.{usage_is_exact, read_fault_rose, write_fault_rose, disk_fault_rose, limit_is_exact, image_fault_is_exact, later_is_exact, files_kept, completes, done_files, settles}
 use Rattle.pm_commands.proofs.top.offline.Goals as goal
 
-pub returns-in-Err-tell-clause-ends : goal.returns-in-Err-tell-clause-ends
-returns-in-Err-tell-clause-ends g c =
-    ends_untold _ _ _ _ c.in-Err.refusal c.in-Err.ensures.cause c.in-Err-tell.ensures.numbered (λ tells. c.in-Err-tell.ensures.nothing tells)
+pub returns-clause-done : goal.returns-clause-done
+returns-clause-done g c = done_files _ _ _ _ c.answer.result c.answer.ensures.ends
+
+pub returns-clause-usage : goal.returns-clause-usage
+returns-clause-usage g c = usage_is_exact _ _ _ _ c.answer.result c.answer.ensures.ends
+
+pub returns-clause-image_fault : goal.returns-clause-image_fault
+returns-clause-image_fault g c = image_fault_is_exact _ _ _ _ c.answer.result c.answer.ensures.ends
+
+pub returns-clause-read_fault : goal.returns-clause-read_fault
+returns-clause-read_fault g c = read_fault_rose _ _ _ _ c.answer.result c.answer.ensures.ends
+
+pub returns-clause-write_fault : goal.returns-clause-write_fault
+returns-clause-write_fault g c = write_fault_rose _ _ _ _ c.answer.result c.answer.ensures.ends
+
+pub returns-clause-disk_fault : goal.returns-clause-disk_fault
+returns-clause-disk_fault g c = disk_fault_rose _ _ _ _ c.answer.result c.answer.ensures.ends
+
+pub returns-clause-input_limit : goal.returns-clause-input_limit
+returns-clause-input_limit g c = limit_is_exact _ _ _ _ c.answer.result c.answer.ensures.ends
+
+pub returns-clause-later : goal.returns-clause-later
+returns-clause-later g c = later_is_exact _ _ _ _ c.answer.result c.answer.ensures.ends
+
+pub returns-clause-unwritten : goal.returns-clause-unwritten
+returns-clause-unwritten g c = files_kept _ _ _ _ c.answer.result c.answer.ensures.ends
+
+pub returns-clause-completes : goal.returns-clause-completes
+returns-clause-completes g c = completes _ _ _ _ c.answer.result c.answer.ensures.ends
+
+pub returns-clause-settled : goal.returns-clause-settled
+returns-clause-settled g c = settles _ _ _ _ c.answer.result c.answer.ensures.ends
