@@ -6,3 +6,4 @@ pub mod Refusals
 pub mod Shots
 pub mod Ends
 pub mod Facts
+pub mod Fits
