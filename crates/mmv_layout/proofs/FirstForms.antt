@@ -97,7 +97,7 @@ unfolding is_plain_metric only_kind
 kind_is words h =
     let code : ℕ = number32 words (metric_at words 0 + 68) in
     ⊎_elim (λ (zero_is : code ≡ 0). inl (ap (λ n. unwrap_or (kind_of_code n) I32) zero_is)) (λ (one_is : code ≡ 1). inr (ap (λ n. unwrap_or (kind_of_code n) I32) one_is))
-        (code_is code (le_of _ _ (both_left _ _ (both_left _ _ (both_left _ _ (plain words h))))))
+    (code_is code (le_of _ _ (both_left _ _ (both_left _ _ (both_left _ _ (plain words h))))))
 
 -- a section with entries is that of a contents entry of its type
 Found : List ℕ → ℕ → ℕ → ℕ → ℕ → Type 0
@@ -108,9 +108,9 @@ unfolding find_section Found
 found words type zero some = absurd (some refl)
 found words type (suc n) some = here (nat_eq (type_in words n) type) refl some (found words type n)
   where
-  here : (t : Bool) → nat_eq (type_in words n) type ≡ t → (if t then record { place = place_in words n; count = count_in words n } else find_section words type n).count ≢ 0 → ((find_section words type n).count ≢ 0 → Found words type n (find_section words type n).place (find_section words type n).count) → Found words type (suc n) (if t then record { place = place_in words n; count = count_in words n } else find_section words type n).place (if t then record { place = place_in words n; count = count_in words n } else find_section words type n).count
-  here true e some before = (n, omega arith, eq_of (type_in words n) type e, refl, refl)
-  here false e some before = let (i, below, type_is, place_is, count_is) = before some in (i, omega arith, type_is, place_is, count_is)
+    here : (t : Bool) → nat_eq (type_in words n) type ≡ t → (if t then record { place = place_in words n; count = count_in words n } else find_section words type n).count ≢ 0 → ((find_section words type n).count ≢ 0 → Found words type n (find_section words type n).place (find_section words type n).count) → Found words type (suc n) (if t then record { place = place_in words n; count = count_in words n } else find_section words type n).place (if t then record { place = place_in words n; count = count_in words n } else find_section words type n).count
+    here true e some before = (n, omega arith, eq_of (type_in words n) type e, refl, refl)
+    here false e some before = let (i, below, type_is, place_is, count_is) = before some in (i, omega arith, type_is, place_is, count_is)
 
 lies_of : (count below inside : Bool) → (count || (below && inside)) ≡ true → count ≡ false → inside ≡ true
 lies_of true below inside h e = cc
@@ -122,7 +122,8 @@ isnt_zero n h = grind (arith, nat_tests)
 value_ends : (words : List ℕ) (i : ℕ) → section_lies words i ≡ true → type_in words i ≡ 4 → count_in words i ≡ 1 → place_in words i + 32 ≤ bytes_in words
 unfolding section_lies end_in section_bytes
 value_ends words i lies type_is count_is =
-    let inside : place_in words i + section_bytes (type_in words i) (count_in words i) ≤ bytes_in words = le_of _ _ (lies_of _ _ _ lies (isnt_zero _ count_is)) in
+    let inside : end_in words i ≤ bytes_in words =
+    le_of (end_in words i) (bytes_in words) (lies_of (nat_eq (count_in words i) 0) (nat_le (40 + 16 * contents_in words) (place_in words i)) _ lies (isnt_zero (count_in words i) count_is)) in
     let bytes : section_bytes (type_in words i) (count_in words i) ≡ 32 = ap (λ t. section_bytes t (count_in words i)) type_is ∙ ap (λ n. section_bytes 4 n) count_is in
     omega arith
 

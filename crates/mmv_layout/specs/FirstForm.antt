@@ -57,8 +57,15 @@ only_units words = number32 words (metric_at words 0 + 76)
 -- the one metric, which has no domain and no help
 abbrev pub only_metric : List ℕ → MetricRow
 only_metric words = record {
-    name = only_name words; item = only_item words; kind = only_kind words; semantics = only_semantics words;
-    units = only_units words; serial = None; short = None; long = None }
+  name = only_name words;
+  item = only_item words;
+  kind = only_kind words;
+  semantics = only_semantics words;
+  units = only_units words;
+  serial = None;
+  short = None;
+  long = None;
+}
 
 -- the index of the word that holds the one value
 unfoldable pub value_word : List ℕ → ℕ

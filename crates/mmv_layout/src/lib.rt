@@ -15,5 +15,8 @@ mod rows;
 mod values;
 
 pub use fault::ImageFault;
+pub use image::Image;
 pub use rows::{MetricRow, Slot};
 
+#[cfg(test)]
+mod tests;
