@@ -1,5 +1,5 @@
 -- Tests of all numbers below a count, one number after the other.
-use Rattle.std.proofs.Common.{◌≡◌, ℕ, zero, suc, ◌+◌, ◌<◌, ◌≤◌, Bool, true, false, ◌&&◌, ◌||◌, ◌⊎◌, ap, sym, ◌∙◌, refl, subst, arith, add-one, ⊎_elim}
+use Rattle.std.proofs.Common.{◌≡◌, ℕ, zero, suc, ◌+◌, ◌<◌, Bool, true, false, ◌&&◌, ◌||◌, ◌⊎◌, ap, sym, ◌∙◌, refl, arith, add-one, ⊎_elim}
 use Rattle.mmv_layout.specs.Below.{all_below, some_below}
 
 and_false : (a : Bool) → (a && false) ≡ false

@@ -1,13 +1,13 @@
 -- What is known of a first-form image.
-use Rattle.std.proofs.Common.{◌≡◌, ◌≢◌, ℕ, zero, suc, ◌+◌, ◌-◌, ◌*◌, ◌/◌, ◌%◌, ◌<◌, ◌≤◌, Bool, true, false, not, cond, ◌&&◌, ◌||◌, ◌⊎◌, inl, inr, List, [], ◌∷◌, length, ap, sym, subst, ◌∙◌, refl, arith, add-one, nat_eq, nat_le, nat_lt, All, IsTrue, if◌then◌else◌, unwrap_or, ⊎_elim, slice_index}
+use Rattle.std.proofs.Common.{◌≡◌, ◌≢◌, ℕ, zero, suc, ◌+◌, ◌*◌, ◌<◌, ◌≤◌, Bool, true, false, not, ◌&&◌, ◌||◌, ◌⊎◌, inl, inr, List, length, ap, sym, subst, ◌∙◌, refl, arith, nat_eq, nat_le, nat_lt, if◌then◌else◌, unwrap_or, ⊎_elim, slice_index}
 use Rattle.std.proofs.Math.Nat.{mul-mod_right}
 use Rattle.std.proofs.lemmas.Bool.Decides.{nat_tests}
 use Rattle.pcp_base.specs.Names.{IsName, spells}
 use Rattle.pcp_base.specs.Codes.{kind_of_code}
 use Rattle.pcp_base.specs.declared.kind.Kind.TheVariants.{I32, U32}
-use Rattle.mmv_layout.specs.Fields.{number32, number64, byte_at, text_at, has_zero}
+use Rattle.mmv_layout.specs.Fields.{number32, number64, text_at}
 use Rattle.mmv_layout.specs.Contents.{bytes_in, is_short, contents_in, type_in, count_in, place_in, section_bytes, end_in, section_lies, has_good_section, sections_are_good, find_section, section_of, cluster_in}
-use Rattle.mmv_layout.specs.Entries.{metric_at, metric_count, value_at, value_count, has_name, has_good_fields, is_good_metric, metrics_are_good}
+use Rattle.mmv_layout.specs.Entries.{metric_at, metric_count, value_count, has_name, has_good_fields, is_good_metric, metrics_are_good}
 use Rattle.mmv_layout.specs.FirstForm.{has_good_header, is_image, is_plain_metric, is_first_form, only_name, only_item, only_kind, value_word, only_value}
 use Rattle.pcp_base.proofs.Spelling.{spelt}
 use Rattle.mmv_layout.proofs.Texts.{text_short}
@@ -127,14 +127,18 @@ value_ends words i lies type_is count_is =
     let bytes : section_bytes (type_in words i) (count_in words i) ≡ 32 = ap (λ t. section_bytes t (count_in words i)) type_is ∙ ap (λ n. section_bytes 4 n) count_is in
     omega arith
 
+section_of_entry : (words : List ℕ) (i : ℕ) → has_good_section words i ≡ true → section_lies words i ≡ true
+unfolding has_good_section
+section_of_entry words i good = both_right _ _ (both_left _ _ good)
+
 -- the value's word is one of the words
 pub value_lies : (words : List ℕ) → is_first_form words ≡ true → value_word words < length words
-unfolding value_word section_of sections_are_good has_good_section Found
+unfolding value_word section_of sections_are_good Found
 value_lies words h =
     let one : (find_section words 4 (contents_in words)).count ≡ 1 = eq_of _ _ (one_value words h) in
     let (i, below, type_is, place_is, count_is) = found words 4 (contents_in words) (λ e. absurd (omega arith)) in
     let good : has_good_section words i ≡ true = all_at (contents_in words) i (has_good_section words) (sections words (image words h)) below in
-    let ends : place_in words i + 32 ≤ bytes_in words = value_ends words i (both_right _ _ (both_left _ _ good)) type_is (sym count_is ∙ one) in
+    let ends : place_in words i + 32 ≤ bytes_in words = value_ends words i (section_of_entry words i good) type_is (sym count_is ∙ one) in
     omega arith
 
 name_spelt : (words : List ℕ) → is_first_form words ≡ true → spells true (only_name words) ≡ true
