@@ -66,9 +66,12 @@ unfolding has_good_header
 at_least_five words h =
     some_words (length words) (sym (short_words words) ∙ not_true _ (both_left _ _ (both_left _ _ (both_left _ _ (both_left _ _ (both_left _ _ (header words (image words h))))))))
 
+not_above : (n : ℕ) → not (not (nat_le n 65536)) ≡ true → n ≤ 65536
+not_above n h = grind (arith, nat_tests)
+
 pub at_most : (words : List ℕ) → is_first_form words ≡ true → length words ≤ 65536
 unfolding has_good_header
-at_most words h = le_of _ _ (both_right _ _ (both_left _ _ (both_left _ _ (both_left _ _ (both_left _ _ (header words (image words h)))))))
+at_most words h = not_above (length words) (both_right _ _ (both_left _ _ (both_left _ _ (both_left _ _ (both_left _ _ (header words (image words h)))))))
 
 pub cluster_fits : (words : List ℕ) → is_first_form words ≡ true → cluster_in words ≤ 4095
 unfolding has_good_header

@@ -1,11 +1,11 @@
-ghost use Rattle.std.specs.Prelude.{◌≡◌, ◌≢◌, ◌<◌, ◌≤◌, ◌^◌, ◌⊎◌, ◌==◌, negsuc, true, false, length, IfOk, IfSome, OnOk, Err, MatchOption, slice_index};
+ghost use Rattle.std.specs.Prelude.{◌≡◌, ◌≢◌, ◌<◌, ◌≤◌, ◌^◌, ◌⊎◌, negsuc, length, IfOk, IfSome, OnOk, Err, MatchOption, slice_index};
 ghost use Rattle.pcp_base.specs.declared.kind.Kind.TheVariants.{I32, U32};
 ghost use Rattle.pcp_base.specs.Names.{IsName};
 ghost use Rattle.mmv_layout.specs.Contents.{cluster_in, is_short};
 ghost use Rattle.mmv_layout.specs.Fields.{words_of};
-ghost use Rattle.mmv_layout.specs.FirstForm.{has_good_header, is_image, is_plain_metric, is_first_form, only_item, only_kind, only_semantics, only_units, only_name, only_metric, only_slot, only_value, of_whole, image_in, image_of, value_word};
+ghost use Rattle.mmv_layout.specs.FirstForm.{has_good_header, is_image, is_plain_metric, is_first_form, IsFirstForm, only_item, only_kind, only_semantics, only_units, only_name, only_metric, only_slot, only_value, of_whole, image_in, image_of, value_word};
 
-use crate::contents::{bytes_in, sections_are_aligned, sections_are_good};
+use crate::contents::{sections_are_aligned, sections_are_good};
 use crate::entries::{metric_at, value_at};
 use crate::fault::ImageFault;
 use crate::fields::{NAME_SIZE, number32, number64, text_at, words_of};
@@ -132,7 +132,7 @@ fn only_name(alloc: Global, words: &[u64]) -> Result<Text, NoMemory>
 /// The index of the word that holds the one value.
 #[tactic(auto, using(crate::proofs::FirstForms::value_lies, crate::proofs::FirstForms::at_most), unfolding(crate::specs::FirstForm::value_word))]
 fn value_word(words: &[u64]) -> u32
-    requires { is_first_form words.now ≡ true }
+    requires { IsFirstForm words.now }
     ensures { result ≡ value_word words.now }
 {
     (value_at(words, 0) / 8) as u32
@@ -146,14 +146,14 @@ pub struct Image {
 }
 
 impl Model for Image {
-    ghost use Rattle.std.specs.Prelude.{◌≡◌, true, List as Sequence, ℕ};
-    ghost use Rattle.mmv_layout.specs.FirstForm.{is_first_form};
+    ghost use Rattle.std.specs.Prelude.{List as Sequence, ℕ};
+    ghost use Rattle.mmv_layout.specs.FirstForm.{IsFirstForm};
 
     ghost Value = { Sequence ℕ };
 
     ghost view = { λ a. a.words.items };
 
-    ghost invariant = { λ a. is_first_form a.words.items ≡ true };
+    ghost invariant = { λ a. IsFirstForm a.words.items };
 }
 
 impl Image {
@@ -163,7 +163,7 @@ impl Image {
     pub fn parse(alloc: Global, words: Vec<u64>) -> Result<Image, ImageFault>
         ensures image { (result ≡ Err ImageFault.NoMemory) ⊎ (result ≡ image_in words.items) }
         ensures words { IfOk result (λ image. image ≡ words.items) }
-        ensures form { OnOk result (is_first_form words.items ≡ true) }
+        ensures form { OnOk result (IsFirstForm words.items) }
     {
         if words.len() < 5 {
             let have = 8 * words.len() as u64;
@@ -177,7 +177,7 @@ impl Image {
     pub fn from_bytes(alloc: Global, bytes: &[u8]) -> Result<Image, ImageFault>
         ensures image { (result ≡ Err ImageFault.NoMemory) ⊎ (result ≡ image_of bytes.now) }
         ensures words { IfOk result (λ image. image ≡ words_of bytes.now) }
-        ensures form { OnOk result (is_first_form (words_of bytes.now) ≡ true) }
+        ensures form { OnOk result (IsFirstForm (words_of bytes.now)) }
     {
         if is_short(bytes.len()) {
             let have = bytes.len() as u64;
@@ -191,7 +191,7 @@ impl Image {
     fn of_whole(alloc: Global, words: Vec<u64>) -> Result<Image, ImageFault>
         ensures image { (result ≡ Err ImageFault.NoMemory) ⊎ (result ≡ of_whole words.items) }
         ensures words { IfOk result (λ image. image ≡ words.items) }
-        ensures form { OnOk result (is_first_form words.items ≡ true) }
+        ensures form { OnOk result (IsFirstForm words.items) }
     {
         let (g1, g2) = (number64(&words, 8), number64(&words, 16));
         if g1 != g2 {
@@ -208,7 +208,7 @@ impl Image {
     #[tactic(auto, using(crate::proofs::FirstForms::at_least_five, crate::proofs::FirstForms::at_most))]
     pub fn words(&self) -> &[u64]
         ensures value { result.now ≡ self.now }
-        ensures image { is_first_form self.now ≡ true }
+        ensures image { IsFirstForm self.now }
         ensures some { 5 ≤ length self.now }
         ensures bound { length self.now ≤ 65536 }
     {
