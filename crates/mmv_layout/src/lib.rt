@@ -10,12 +10,14 @@ mod fields;
 mod image;
 mod indoms;
 mod instances;
+mod laws;
 mod metrics;
 mod rows;
 mod values;
 
 pub use fault::ImageFault;
 pub use image::Image;
+pub use laws::words_hold_bytes;
 pub use rows::{MetricRow, Slot};
 
 #[cfg(test)]
