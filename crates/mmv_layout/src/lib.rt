@@ -17,7 +17,7 @@ mod values;
 
 pub use fault::ImageFault;
 pub use image::Image;
-pub use laws::words_hold_bytes;
+pub use laws::{number_holds_bytes, number_holds_halves, words_hold_bytes};
 pub use rows::{MetricRow, Slot};
 
 #[cfg(test)]
