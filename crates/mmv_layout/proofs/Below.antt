@@ -1,5 +1,5 @@
 -- Tests of all numbers below a count, one number after the other.
-use Rattle.std.proofs.Common.{◌≡◌, ℕ, zero, suc, ◌+◌, ◌<◌, ◌≤◌, Bool, true, false, ◌&&◌, ◌||◌, ◌⊎◌, ap, sym, ◌∙◌, refl, subst, arith, add-one, ⊎_elim}
+use Rattle.std.proofs.Common.{◌≡◌, ℕ, zero, suc, ◌+◌, ◌<◌, Bool, true, false, ◌&&◌, ◌||◌, ◌⊎◌, ap, sym, ◌∙◌, refl, arith, add-one, ⊎_elim}
 use Rattle.mmv_layout.specs.Below.{all_below, some_below}
 
 and_false : (a : Bool) → (a && false) ≡ false
@@ -41,14 +41,14 @@ unfolding all_below
 all_fails zero k test h f = absurd (omega arith)
 all_fails (suc n) k test h f =
     ⊎_elim (λ (below : k < n). ap (λ b. b && test n) (all_fails n k test below f))
-        (λ (last : k ≡ n). ap (λ b. all_below n test && b) (sym (ap test last) ∙ f) ∙ and_false (all_below n test)) (below_suc k n h)
+    (λ (last : k ≡ n). ap (λ b. all_below n test && b) (sym (ap test last) ∙ f) ∙ and_false (all_below n test)) (below_suc k n h)
 
 pub some_holds : (n k : ℕ) (test : ℕ → Bool) → k < n → test k ≡ true → some_below n test ≡ true
 unfolding some_below
 some_holds zero k test h f = absurd (omega arith)
 some_holds (suc n) k test h f =
     ⊎_elim (λ (below : k < n). ap (λ b. b || test n) (some_holds n k test below f))
-        (λ (last : k ≡ n). ap (λ b. some_below n test || b) (sym (ap test last) ∙ f) ∙ or_true (some_below n test)) (below_suc k n h)
+    (λ (last : k ≡ n). ap (λ b. some_below n test || b) (sym (ap test last) ∙ f) ∙ or_true (some_below n test)) (below_suc k n h)
 
 pub both_left : (a b : Bool) → (a && b) ≡ true → a ≡ true
 both_left true b h = refl

@@ -1,4 +1,5 @@
 pub mod Below
+pub mod Bytes
 pub mod FirstForms
 pub mod Leads
 pub mod Sections

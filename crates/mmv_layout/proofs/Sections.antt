@@ -1,6 +1,5 @@
 -- The section of a type, one contents entry after the other.
 use Rattle.std.proofs.Common.{◌≡◌, ℕ, ◌+◌, List, refl, add-one, cond, nat_eq}
-use Rattle.mmv_layout.specs.declared.contents.Section.{Section}
 use Rattle.mmv_layout.specs.Contents.{type_in, count_in, place_in, find_section}
 
 pub find_none : (words : List ℕ) (type : ℕ) → find_section words type 0 ≡ record { place = 0; count = 0 }

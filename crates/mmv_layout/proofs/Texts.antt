@@ -1,5 +1,5 @@
 -- Texts up to a zero byte, one byte after the other, and words of bytes.
-use Rattle.std.proofs.Common.{◌≡◌, ◌≢◌, ℕ, zero, suc, ◌+◌, ◌-◌, ◌*◌, ◌<◌, ◌≤◌, Bool, true, false, ◌&&◌, List, [], ◌∷◌, ◌++◌, length, take, drop, ap, ap₂, sym, ◌∙◌, refl, arith, add-one, append_assoc, append-nil, cond, bytes_eq, nat_eq, true≢false, get_or, add-zero, ◌⊎◌, ⊎_elim, subst}
+use Rattle.std.proofs.Common.{◌≡◌, ◌≢◌, ℕ, zero, suc, ◌+◌, ◌-◌, ◌<◌, ◌≤◌, Bool, true, false, ◌&&◌, List, [], ◌∷◌, ◌++◌, length, take, drop, ap, ap₂, sym, ◌∙◌, refl, arith, append_assoc, append-nil, cond, bytes_eq, nat_eq, true≢false, get_or, add-zero, ◌⊎◌, ⊎_elim, subst}
 use Rattle.pcp_base.specs.Texts.{IsFirstZero}
 use Rattle.std.proofs.lemmas.Bool.{eqb-true, eqb-false, eq-eqb}
 use Rattle.std.proofs.lemmas.Bool.Decides.{nat_tests}
@@ -32,8 +32,8 @@ text_grows words made whole at next n m byte e f is z h =
     append_assoc made (byte ∷ []) (text_at words next m) ∙ ap (λ b. made ++ (b ∷ text_at words next m)) is
     ∙ ap (λ t. made ++ t) (sym (text_goes words at next n m e f (isnt_zero byte (byte_at words at) is z))) ∙ h
   where
-  isnt_zero : (a b : ℕ) → a ≡ b → a ≢ 0 → nat_eq b 0 ≡ false
-  isnt_zero a b e n = grind (arith, nat_tests)
+    isnt_zero : (a b : ℕ) → a ≡ b → a ≢ 0 → nat_eq b 0 ≡ false
+    isnt_zero a b e n = grind (arith, nat_tests)
 
 differ_at : (tx ty : Bool) (x y : ℕ) (xs ys : List ℕ) → nat_eq x 0 ≡ tx → nat_eq y 0 ≡ ty → nat_eq x y ≡ false → bytes_eq (cond tx [] (x ∷ xs)) (cond ty [] (y ∷ ys)) ≡ false
 differ_at true true x y xs ys ex ey d = absurd (true≢false (sym (eq-eqb x y (eqb-true x 0 ex ∙ sym (eqb-true y 0 ey))) ∙ d))
@@ -56,10 +56,10 @@ texts_end words a b (suc n) x y = ap₂ bytes_eq (text_stops words a (suc n) (om
 pub texts_go : (words : List ℕ) (a b next_a next_b n m : ℕ) → n ≡ suc m → next_a ≡ a + 1 → next_b ≡ b + 1 → byte_at words a ≡ byte_at words b → byte_at words a ≢ 0 → bytes_eq (text_at words next_a m) (text_at words next_b m) ≡ bytes_eq (text_at words a n) (text_at words b n)
 texts_go words a b next_a next_b n m e fa fb same z =
     sym (ap₂ bytes_eq (text_goes words a next_a n m e fa (isnt_zero _ z)) (text_goes words b next_b n m e fb (isnt_zero _ (λ q. z (same ∙ q))))
-        ∙ ap (λ t. t && bytes_eq (text_at words next_a m) (text_at words next_b m)) (eq-eqb _ _ same))
+    ∙ ap (λ t. t && bytes_eq (text_at words next_a m) (text_at words next_b m)) (eq-eqb _ _ same))
   where
-  isnt_zero : (a : ℕ) → a ≢ 0 → nat_eq a 0 ≡ false
-  isnt_zero a n = grind (arith, nat_tests)
+    isnt_zero : (a : ℕ) → a ≢ 0 → nat_eq a 0 ≡ false
+    isnt_zero a n = grind (arith, nat_tests)
 
 -- no words are left
 pub words_end : (made whole bytes : List ℕ) (n : ℕ) → n ≡ 0 → made ++ first_words n bytes ≡ whole → made ≡ whole
@@ -78,10 +78,10 @@ unfolding text_at
 text_nonzero words at zero k h = absurd (omega arith)
 text_nonzero words at (suc n) k h = here (nat_eq (byte_at words at) 0) refl (text_nonzero words (at + 1) n) k h
   where
-  here : (t : Bool) → nat_eq (byte_at words at) 0 ≡ t → ((k : ℕ) → k < length (text_at words (at + 1) n) → get_or (text_at words (at + 1) n) k 0 ≢ 0) → (k : ℕ) → k < length (cond t [] (byte_at words at ∷ text_at words (at + 1) n)) → get_or (cond t [] (byte_at words at ∷ text_at words (at + 1) n)) k 0 ≢ 0
-  here true e rest k h = absurd (omega arith)
-  here false e rest zero h = λ z. eqb-false (byte_at words at) 0 e z
-  here false e rest (suc k) h = rest k (omega arith)
+    here : (t : Bool) → nat_eq (byte_at words at) 0 ≡ t → ((k : ℕ) → k < length (text_at words (at + 1) n) → get_or (text_at words (at + 1) n) k 0 ≢ 0) → (k : ℕ) → k < length (cond t [] (byte_at words at ∷ text_at words (at + 1) n)) → get_or (cond t [] (byte_at words at ∷ text_at words (at + 1) n)) k 0 ≢ 0
+    here true e rest k h = absurd (omega arith)
+    here false e rest zero h = λ z. eqb-false (byte_at words at) 0 e z
+    here false e rest (suc k) h = rest k (omega arith)
 
 -- where a text fills its field, no byte of the field is zero
 text_full : (words : List ℕ) (at n : ℕ) → n ≤ length (text_at words at n) → (k : ℕ) → k < n → byte_at words (at + k) ≢ 0
@@ -89,12 +89,13 @@ unfolding text_at
 text_full words at zero h k below = absurd (omega arith)
 text_full words at (suc n) h k below = here (nat_eq (byte_at words at) 0) refl (text_full words (at + 1) n) h k below
   where
-  moved : (k : ℕ) → (at + 1) + k ≡ at + suc k
-  moved k = omega arith
-  here : (t : Bool) → nat_eq (byte_at words at) 0 ≡ t → (n ≤ length (text_at words (at + 1) n) → (k : ℕ) → k < n → byte_at words ((at + 1) + k) ≢ 0) → suc n ≤ length (cond t [] (byte_at words at ∷ text_at words (at + 1) n)) → (k : ℕ) → k < suc n → byte_at words (at + k) ≢ 0
-  here true e rest h k below = absurd (omega arith)
-  here false e rest h zero below = λ z. eqb-false (byte_at words at) 0 e (ap (byte_at words) (sym (add-zero at)) ∙ z)
-  here false e rest h (suc k) below = λ z. rest (omega arith) k (omega arith) (ap (byte_at words) (moved k) ∙ z)
+    moved : (k : ℕ) → (at + 1) + k ≡ at + suc k
+    moved k = omega arith
+
+    here : (t : Bool) → nat_eq (byte_at words at) 0 ≡ t → (n ≤ length (text_at words (at + 1) n) → (k : ℕ) → k < n → byte_at words ((at + 1) + k) ≢ 0) → suc n ≤ length (cond t [] (byte_at words at ∷ text_at words (at + 1) n)) → (k : ℕ) → k < suc n → byte_at words (at + k) ≢ 0
+    here true e rest h k below = absurd (omega arith)
+    here false e rest h zero below = λ z. eqb-false (byte_at words at) 0 e (ap (byte_at words) (sym (add-zero at)) ∙ z)
+    here false e rest h (suc k) below = λ z. rest (omega arith) k (omega arith) (ap (byte_at words) (moved k) ∙ z)
 
 isnt_zero : (a : ℕ) → a ≢ 0 → nat_eq a 0 ≡ false
 isnt_zero a n = grind (arith, nat_tests)
@@ -107,9 +108,9 @@ pub text_short : (words : List ℕ) (at n : ℕ) → has_zero words at n ≡ tru
 unfolding has_zero
 text_short words at n h =
     ⊎_elim (λ (less : length (text_at words at n) < n). less)
-        (λ (full : n ≤ length (text_at words at n)).
-            absurd (true≢false (sym h ∙ some_absent n (λ k. nat_eq (byte_at words (at + k)) 0) (λ k below. isnt_zero (byte_at words (at + k)) (text_full words at n full k below)))))
-        (less_or (length (text_at words at n)) n)
+    (λ (full : n ≤ length (text_at words at n)).
+    absurd (true≢false (sym h ∙ some_absent n (λ k. nat_eq (byte_at words (at + k)) 0) (λ k below. isnt_zero (byte_at words (at + k)) (text_full words at n full k below)))))
+    (less_or (length (text_at words at n)) n)
 
 -- a text has no first zero byte
 pub text_whole : (words bytes : List ℕ) (at n k : ℕ) → bytes ≡ text_at words at n → IsFirstZero bytes k → ⊥

@@ -178,7 +178,7 @@ unfoldable pub instance_leads : List ℕ → ℕ → Bool
 instance_leads words value =
     if is_no_domain (number32 words (metric_of words value + 80)) then number64 words (value + 24) == 0
     else (leads_to_instance words (number64 words (value + 24))
-        && number32 words (number64 words (number64 words (value + 24))) == number32 words (metric_of words value + 80))
+    && number32 words (number64 words (number64 words (value + 24))) == number32 words (metric_of words value + 80))
 
 -- a string value leads to a string. Where it doesn't is the fault Reference, at its extra field
 unfoldable pub choice_leads : List ℕ → ℕ → Bool

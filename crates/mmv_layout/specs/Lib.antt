@@ -3,3 +3,4 @@ pub mod Contents
 pub mod Entries
 pub mod Fields
 pub mod FirstForm
+pub mod Laws

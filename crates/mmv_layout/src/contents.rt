@@ -1,7 +1,28 @@
-ghost use Rattle.std.specs.Prelude.{◌≡◌, ◌*◌, ◌<◌, ◌^◌, length};
+ghost use Rattle.std.specs.Prelude.{◌≡◌};
 ghost use Rattle.mmv_layout.specs.Contents.{bytes_in, contents_in, type_in, count_in, place_in, section_bytes, end_in, section_lies, are_apart, is_first_of_type, has_good_section, is_aligned, sections_are_good, sections_are_aligned, section_of};
 
 use crate::fields::{number32, number64};
+
+/// The type of the section of instance domains, and how many bytes an entry takes; so of the other sections.
+pub const INDOMS: u32 = 1;
+
+pub const INDOM_SIZE: u64 = 32;
+
+pub const INSTANCES: u32 = 2;
+
+pub const INSTANCE_SIZE: u64 = 80;
+
+pub const METRICS: u32 = 3;
+
+pub const METRIC_SIZE: u64 = 104;
+
+pub const VALUES: u32 = 4;
+
+pub const VALUE_SIZE: u64 = 32;
+
+pub const STRINGS: u32 = 5;
+
+pub const STRING_SIZE: u64 = 256;
 
 /// Where a section's entries begin, and how many there are.
 #[derive(Clone, Copy, Debug, PartialEq, Eq)]
@@ -49,11 +70,11 @@ fn section_bytes(kind: u32, count: u32) -> u64
 {
     let count = count as u64;
     match kind {
-        1 => 32 * count,
-        2 => 80 * count,
-        3 => 104 * count,
-        4 => 32 * count,
-        5 => 256 * count,
+        INDOMS => INDOM_SIZE * count,
+        INSTANCES => INSTANCE_SIZE * count,
+        METRICS => METRIC_SIZE * count,
+        VALUES => VALUE_SIZE * count,
+        STRINGS => STRING_SIZE * count,
         _ => 0,
     }
 }
@@ -72,7 +93,8 @@ fn section_lies(words: &[u64], i: u32) -> bool
     ensures { result ≡ section_lies words.now i }
 {
     count_in(words, i) == 0
-        || 40 + 16 * contents_in(words) as u128 <= place_in(words, i) as u128 && end_in(words, i) <= bytes_in(words)
+        || 40 + 16 * contents_in(words) as u128 <= place_in(words, i) as u128
+            && end_in(words, i) <= bytes_in(words)
 }
 
 /// Whether two entries have different types, and their sections no byte in common.
@@ -106,7 +128,7 @@ fn has_good_section(words: &[u64], i: u32) -> bool
     ensures { result ≡ has_good_section words.now i }
 {
     56 + 16 * i as u128 <= bytes_in(words)
-        && (1 <= type_in(words, i) && type_in(words, i) <= 5)
+        && (INDOMS <= type_in(words, i) && type_in(words, i) <= STRINGS)
         && section_lies(words, i)
         && is_first_of_type(words, i)
 }

@@ -1,7 +1,10 @@
 ghost use Rattle.std.specs.Prelude.{◌≡◌, ◌<◌, ◌^◌};
 ghost use Rattle.mmv_layout.specs.Entries.{leads, leads_to_indom, leads_to_instance, leads_to_metric, leads_to_string, indom_at, instance_at, metric_at, value_at, string_at, help_leads};
 
-use crate::contents::section_of;
+use crate::contents::{
+    INDOM_SIZE, INDOMS, INSTANCE_SIZE, INSTANCES, METRIC_SIZE, METRICS, STRING_SIZE, STRINGS,
+    VALUE_SIZE, VALUES, section_of,
+};
 use crate::fields::number64;
 
 /// Whether a place is that of one of `count` entries of a size, the first of them at `first`.
@@ -24,32 +27,32 @@ pub fn leads(first: u64, count: u32, size: u64, place: u128) -> bool
 pub fn leads_to_indom(words: &[u64], place: u128) -> bool
     ensures { result ≡ leads_to_indom words.now place }
 {
-    let section = section_of(words, 1);
-    leads(section.place, section.count, 32, place)
+    let section = section_of(words, INDOMS);
+    leads(section.place, section.count, INDOM_SIZE, place)
 }
 
 /// Whether an instance stands at a place.
 pub fn leads_to_instance(words: &[u64], place: u128) -> bool
     ensures { result ≡ leads_to_instance words.now place }
 {
-    let section = section_of(words, 2);
-    leads(section.place, section.count, 80, place)
+    let section = section_of(words, INSTANCES);
+    leads(section.place, section.count, INSTANCE_SIZE, place)
 }
 
 /// Whether a metric stands at a place.
 pub fn leads_to_metric(words: &[u64], place: u128) -> bool
     ensures { result ≡ leads_to_metric words.now place }
 {
-    let section = section_of(words, 3);
-    leads(section.place, section.count, 104, place)
+    let section = section_of(words, METRICS);
+    leads(section.place, section.count, METRIC_SIZE, place)
 }
 
 /// Whether a string stands at a place.
 pub fn leads_to_string(words: &[u64], place: u128) -> bool
     ensures { result ≡ leads_to_string words.now place }
 {
-    let section = section_of(words, 5);
-    leads(section.place, section.count, 256, place)
+    let section = section_of(words, STRINGS);
+    leads(section.place, section.count, STRING_SIZE, place)
 }
 
 /// The place of an instance domain.
@@ -57,7 +60,7 @@ pub fn indom_at(words: &[u64], i: u32) -> u128
     ensures place { result ≡ indom_at words.now i }
     ensures bound { result < 2 ^ 80 }
 {
-    section_of(words, 1).place as u128 + 32 * i as u128
+    section_of(words, INDOMS).place as u128 + INDOM_SIZE as u128 * i as u128
 }
 
 /// The place of an instance.
@@ -65,7 +68,7 @@ pub fn instance_at(words: &[u64], i: u32) -> u128
     ensures place { result ≡ instance_at words.now i }
     ensures bound { result < 2 ^ 80 }
 {
-    section_of(words, 2).place as u128 + 80 * i as u128
+    section_of(words, INSTANCES).place as u128 + INSTANCE_SIZE as u128 * i as u128
 }
 
 /// The place of a metric.
@@ -73,7 +76,7 @@ pub fn metric_at(words: &[u64], i: u32) -> u128
     ensures place { result ≡ metric_at words.now i }
     ensures bound { result < 2 ^ 80 }
 {
-    section_of(words, 3).place as u128 + 104 * i as u128
+    section_of(words, METRICS).place as u128 + METRIC_SIZE as u128 * i as u128
 }
 
 /// The place of a value.
@@ -81,7 +84,7 @@ pub fn value_at(words: &[u64], i: u32) -> u128
     ensures place { result ≡ value_at words.now i }
     ensures bound { result < 2 ^ 80 }
 {
-    section_of(words, 4).place as u128 + 32 * i as u128
+    section_of(words, VALUES).place as u128 + VALUE_SIZE as u128 * i as u128
 }
 
 /// The place of a string.
@@ -89,7 +92,7 @@ pub fn string_at(words: &[u64], i: u32) -> u128
     ensures place { result ≡ string_at words.now i }
     ensures bound { result < 2 ^ 80 }
 {
-    section_of(words, 5).place as u128 + 256 * i as u128
+    section_of(words, STRINGS).place as u128 + STRING_SIZE as u128 * i as u128
 }
 
 /// Whether the help field at a place is 0 or leads to a string.

@@ -4,6 +4,9 @@ ghost use Rattle.mmv_layout.specs.Fields.{number32, number64, byte_at, text_at, 
 
 use std::alloc::{AllocError, Global};
 
+/// How many bytes a name field has.
+pub const NAME_SIZE: u32 = 64;
+
 /// The number of eight bytes at a place that is a multiple of 8, and 0 past the words. Places have 128 bits, so that
 /// no sum of numbers from an image wraps.
 #[tactic(auto, unfolding(crate::specs::Fields::number64))]
@@ -70,7 +73,7 @@ pub fn same_name(words: &[u64], a: u128, b: u128) -> bool
     requires second { b < 2 ^ 100 }
     ensures { result ≡ same_name words.now a b }
 {
-    for k in 0..64u32 {
+    for k in 0..NAME_SIZE {
         let byte = byte_at(words, a + k as u128);
         if byte != byte_at(words, b + k as u128) {
             return false;

@@ -1,13 +1,14 @@
-ghost use Rattle.std.specs.Prelude.{◌≡◌, ◌≢◌, ◌<◌, ◌≤◌, ◌^◌, ◌⊎◌, ◌==◌, negsuc, true, false, length, IfOk, IfSome, Err, MatchOption, slice_index};
+ghost use Rattle.std.specs.Prelude.{◌≡◌, ◌≢◌, ◌<◌, ◌≤◌, ◌^◌, ◌⊎◌, negsuc, length, IfOk, IfSome, OnOk, Err, MatchOption, slice_index};
 ghost use Rattle.pcp_base.specs.declared.kind.Kind.TheVariants.{I32, U32};
 ghost use Rattle.pcp_base.specs.Names.{IsName};
 ghost use Rattle.mmv_layout.specs.Contents.{cluster_in, is_short};
-ghost use Rattle.mmv_layout.specs.FirstForm.{has_good_header, is_image, is_plain_metric, is_first_form, only_item, only_kind, only_semantics, only_units, only_name, only_metric, only_slot, only_value, of_whole, image_in, image_of, value_word};
+ghost use Rattle.mmv_layout.specs.Fields.{words_of};
+ghost use Rattle.mmv_layout.specs.FirstForm.{has_good_header, is_image, is_plain_metric, is_first_form, IsFirstForm, only_item, only_kind, only_semantics, only_units, only_name, only_metric, only_slot, only_value, of_whole, image_in, image_of, value_word};
 
-use crate::contents::{bytes_in, sections_are_aligned, sections_are_good};
+use crate::contents::{sections_are_aligned, sections_are_good};
 use crate::entries::{metric_at, value_at};
 use crate::fault::ImageFault;
-use crate::fields::{number32, number64, text_at, words_of};
+use crate::fields::{NAME_SIZE, number32, number64, text_at, words_of};
 use crate::indoms::indoms_are_good;
 use crate::instances::{instances_are_good, strings_are_good};
 use crate::metrics::{is_no_domain, metric_count, metrics_are_good};
@@ -17,6 +18,9 @@ use pcp_base::{Kind, NoMemory, Semantics, Text, TextError, Units};
 use std::alloc::{AllocError, Global};
 use std::marker::Model;
 
+/// `MMV` and a zero byte, the low byte first.
+const MAGIC: u32 = 0x0056_4d4d;
+
 /// Whether the header is that of an image of version 1.
 #[tactic(auto, unfolding(crate::specs::FirstForm::has_good_header))]
 fn has_good_header(words: &[u64]) -> bool
@@ -24,7 +28,7 @@ fn has_good_header(words: &[u64]) -> bool
 {
     words.len() >= 5
         && words.len() <= 65536
-        && number32(words, 0) == 5655885
+        && number32(words, 0) == MAGIC
         && number32(words, 4) == 1
         && number64(words, 8) == number64(words, 16)
         && number32(words, 36) <= 4095
@@ -65,11 +69,12 @@ fn is_first_form(alloc: Global, words: &[u64]) -> Result<bool, AllocError>
     ensures { IfOk result (λ good. good ≡ is_first_form words.now) }
 {
     let good = is_image(alloc, words)?;
-    Ok(good
-        && number32(words, 28) % 2 == 0
-        && metric_count(words) == 1
-        && value_count(words) == 1
-        && is_plain_metric(words, metric_at(words, 0)))
+    Ok(
+        good && number32(words, 28) % 2 == 0
+            && metric_count(words) == 1
+            && value_count(words) == 1
+            && is_plain_metric(words, metric_at(words, 0)),
+    )
 }
 
 /// Whether so many bytes are fewer than a header, or no whole number of words.
@@ -116,7 +121,7 @@ fn only_units(words: &[u64]) -> Units
 fn only_name(alloc: Global, words: &[u64]) -> Result<Text, NoMemory>
     ensures { IfOk result (λ name. name ≡ only_name words.now) }
 {
-    let bytes = text_at(alloc, words, metric_at(words, 0), 64)?;
+    let bytes = text_at(alloc, words, metric_at(words, 0), NAME_SIZE)?;
     match Text::build(alloc, bytes.as_slice()) {
         Ok(name) => Ok(name),
         Err(TextError::NoMemory) => Err(NoMemory),
@@ -127,7 +132,7 @@ fn only_name(alloc: Global, words: &[u64]) -> Result<Text, NoMemory>
 /// The index of the word that holds the one value.
 #[tactic(auto, using(crate::proofs::FirstForms::value_lies, crate::proofs::FirstForms::at_most), unfolding(crate::specs::FirstForm::value_word))]
 fn value_word(words: &[u64]) -> u32
-    requires { is_first_form words.now ≡ true }
+    requires { IsFirstForm words.now }
     ensures { result ≡ value_word words.now }
 {
     (value_at(words, 0) / 8) as u32
@@ -141,14 +146,14 @@ pub struct Image {
 }
 
 impl Model for Image {
-    ghost use Rattle.std.specs.Prelude.{◌≡◌, true, List as Sequence, ℕ};
-    ghost use Rattle.mmv_layout.specs.FirstForm.{is_first_form};
+    ghost use Rattle.std.specs.Prelude.{List as Sequence, ℕ};
+    ghost use Rattle.mmv_layout.specs.FirstForm.{IsFirstForm};
 
     ghost Value = { Sequence ℕ };
 
     ghost view = { λ a. a.words.items };
 
-    ghost invariant = { λ a. is_first_form a.words.items ≡ true };
+    ghost invariant = { λ a. IsFirstForm a.words.items };
 }
 
 impl Image {
@@ -156,7 +161,9 @@ impl Image {
     /// the sections, up to 65,536 in all.
     #[tactic(auto, using(crate::proofs::FirstForms::short_words), unfolding(crate::specs::FirstForm::image_in))]
     pub fn parse(alloc: Global, words: Vec<u64>) -> Result<Image, ImageFault>
-        ensures { (result ≡ Err ImageFault.NoMemory) ⊎ (result ≡ image_in words.items) }
+        ensures image { (result ≡ Err ImageFault.NoMemory) ⊎ (result ≡ image_in words.items) }
+        ensures words { IfOk result (λ image. image ≡ words.items) }
+        ensures form { OnOk result (IsFirstForm words.items) }
     {
         if words.len() < 5 {
             let have = 8 * words.len() as u64;
@@ -168,7 +175,9 @@ impl Image {
     /// The image that bytes are, or their first fault: `Short` also where they are no whole number of words.
     #[tactic(auto, unfolding(crate::specs::FirstForm::image_of))]
     pub fn from_bytes(alloc: Global, bytes: &[u8]) -> Result<Image, ImageFault>
-        ensures { (result ≡ Err ImageFault.NoMemory) ⊎ (result ≡ image_of bytes.now) }
+        ensures image { (result ≡ Err ImageFault.NoMemory) ⊎ (result ≡ image_of bytes.now) }
+        ensures words { IfOk result (λ image. image ≡ words_of bytes.now) }
+        ensures form { OnOk result (IsFirstForm (words_of bytes.now)) }
     {
         if is_short(bytes.len()) {
             let have = bytes.len() as u64;
@@ -180,7 +189,9 @@ impl Image {
     /// The image that whole words are, or their first fault.
     #[tactic(auto, unfolding(crate::specs::FirstForm::of_whole))]
     fn of_whole(alloc: Global, words: Vec<u64>) -> Result<Image, ImageFault>
-        ensures { (result ≡ Err ImageFault.NoMemory) ⊎ (result ≡ of_whole words.items) }
+        ensures image { (result ≡ Err ImageFault.NoMemory) ⊎ (result ≡ of_whole words.items) }
+        ensures words { IfOk result (λ image. image ≡ words.items) }
+        ensures form { OnOk result (IsFirstForm words.items) }
     {
         let (g1, g2) = (number64(&words, 8), number64(&words, 16));
         if g1 != g2 {
@@ -197,7 +208,7 @@ impl Image {
     #[tactic(auto, using(crate::proofs::FirstForms::at_least_five, crate::proofs::FirstForms::at_most))]
     pub fn words(&self) -> &[u64]
         ensures value { result.now ≡ self.now }
-        ensures image { is_first_form self.now ≡ true }
+        ensures image { IsFirstForm self.now }
         ensures some { 5 ≤ length self.now }
         ensures bound { length self.now ≤ 65536 }
     {

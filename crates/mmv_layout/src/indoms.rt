@@ -1,7 +1,7 @@
 ghost use Rattle.std.specs.Prelude.{◌≡◌, ◌<◌, ◌^◌};
 ghost use Rattle.mmv_layout.specs.Entries.{is_instance_of, has_good_run, has_serial, is_new_indom, is_good_indom, indom_count, indoms_are_good};
 
-use crate::contents::section_of;
+use crate::contents::{INDOMS, INSTANCE_SIZE, section_of};
 use crate::entries::{help_leads, indom_at, leads_to_instance};
 use crate::fields::{number32, number64};
 
@@ -21,7 +21,7 @@ fn has_good_run(words: &[u64], domain: u128) -> bool
 {
     let first = number64(words, domain + 8) as u128;
     for k in 0..number32(words, domain + 4) {
-        if !is_instance_of(words, domain, first + 80 * k as u128) {
+        if !is_instance_of(words, domain, first + INSTANCE_SIZE as u128 * k as u128) {
             return false;
         }
     }
@@ -68,7 +68,7 @@ fn is_good_indom(words: &[u64], i: u32) -> bool
 pub fn indom_count(words: &[u64]) -> u32
     ensures { result ≡ indom_count words.now }
 {
-    section_of(words, 1).count
+    section_of(words, INDOMS).count
 }
 
 /// Whether all domains are good.

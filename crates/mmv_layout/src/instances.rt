@@ -1,9 +1,9 @@
 ghost use Rattle.std.specs.Prelude.{◌≡◌, ◌<◌, ◌^◌};
 ghost use Rattle.mmv_layout.specs.Entries.{has_text, lies_in_run, is_same_instance, is_new_instance, is_good_instance, instance_count, instances_are_good, is_good_string, string_count, strings_are_good};
 
-use crate::contents::section_of;
+use crate::contents::{INSTANCE_SIZE, INSTANCES, STRING_SIZE, STRINGS, section_of};
 use crate::entries::{instance_at, leads, leads_to_indom, string_at};
-use crate::fields::{byte_at, has_zero, number32, number64, same_name};
+use crate::fields::{NAME_SIZE, byte_at, has_zero, number32, number64, same_name};
 
 /// Whether the name field at a place holds a text that isn't empty.
 #[tactic(auto, unfolding(crate::specs::Entries::has_text))]
@@ -11,7 +11,7 @@ fn has_text(words: &[u64], field: u128) -> bool
     requires { field < 2 ^ 100 }
     ensures { result ≡ has_text words.now field }
 {
-    has_zero(words, field, 64) && byte_at(words, field) != 0
+    has_zero(words, field, NAME_SIZE) && byte_at(words, field) != 0
 }
 
 /// Whether the instance at a place leads to a domain, in whose run it lies.
@@ -24,7 +24,7 @@ fn lies_in_run(words: &[u64], instance: u128) -> bool
         && leads(
             number64(words, domain + 8),
             number32(words, domain + 4),
-            80,
+            INSTANCE_SIZE,
             instance,
         )
 }
@@ -69,7 +69,7 @@ fn is_good_instance(words: &[u64], i: u32) -> bool
 fn instance_count(words: &[u64]) -> u32
     ensures { result ≡ instance_count words.now }
 {
-    section_of(words, 2).count
+    section_of(words, INSTANCES).count
 }
 
 /// Whether all instances are good.
@@ -90,13 +90,13 @@ pub fn instances_are_good(words: &[u64]) -> bool
 fn is_good_string(words: &[u64], i: u32) -> bool
     ensures { result ≡ is_good_string words.now i }
 {
-    has_zero(words, string_at(words, i), 256)
+    has_zero(words, string_at(words, i), STRING_SIZE as u32)
 }
 
 fn string_count(words: &[u64]) -> u32
     ensures { result ≡ string_count words.now }
 {
-    section_of(words, 5).count
+    section_of(words, STRINGS).count
 }
 
 /// Whether all strings are good.

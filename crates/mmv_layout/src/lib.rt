@@ -10,11 +10,15 @@ mod fields;
 mod image;
 mod indoms;
 mod instances;
+mod laws;
 mod metrics;
 mod rows;
 mod values;
 
 pub use fault::ImageFault;
 pub use image::Image;
+pub use laws::{number_holds_bytes, number_holds_halves, words_hold_bytes};
 pub use rows::{MetricRow, Slot};
 
+#[cfg(test)]
+mod tests;

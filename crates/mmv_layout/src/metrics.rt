@@ -1,9 +1,9 @@
 ghost use Rattle.std.specs.Prelude.{◌≡◌, ◌<◌, ◌^◌, IfOk};
 ghost use Rattle.mmv_layout.specs.Entries.{has_name, is_no_domain, is_indom_serial, serial_leads, is_same_metric, is_new_metric, has_good_fields, is_good_metric, metric_count, metrics_are_good};
 
-use crate::contents::section_of;
+use crate::contents::{METRICS, section_of};
 use crate::entries::{help_leads, metric_at};
-use crate::fields::{has_zero, number32, same_name, text_at};
+use crate::fields::{NAME_SIZE, has_zero, number32, same_name, text_at};
 use crate::indoms::{has_serial, indom_count};
 use pcp_base::{Kind, Semantics, is_name};
 use std::alloc::{AllocError, Global};
@@ -14,10 +14,10 @@ fn has_name(alloc: Global, words: &[u64], field: u128) -> Result<bool, AllocErro
     requires { field < 2 ^ 80 }
     ensures { IfOk result (λ named. named ≡ has_name words.now field) }
 {
-    if !has_zero(words, field, 64) {
+    if !has_zero(words, field, NAME_SIZE) {
         return Ok(false);
     }
-    let name = text_at(alloc, words, field, 64)?;
+    let name = text_at(alloc, words, field, NAME_SIZE)?;
     Ok(is_name(name.as_slice()))
 }
 
@@ -25,7 +25,7 @@ fn has_name(alloc: Global, words: &[u64], field: u128) -> Result<bool, AllocErro
 pub fn is_no_domain(serial: u32) -> bool
     ensures { result ≡ is_no_domain serial }
 {
-    serial == 0 || serial == 4294967295
+    serial == 0 || serial == u32::MAX
 }
 
 /// Whether some domain has a serial.
@@ -103,7 +103,7 @@ fn is_good_metric(alloc: Global, words: &[u64], i: u32) -> Result<bool, AllocErr
 pub fn metric_count(words: &[u64]) -> u32
     ensures { result ≡ metric_count words.now }
 {
-    section_of(words, 3).count
+    section_of(words, METRICS).count
 }
 
 /// Whether all metrics are good.

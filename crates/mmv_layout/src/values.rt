@@ -1,7 +1,7 @@
 ghost use Rattle.std.specs.Prelude.{◌≡◌, ◌<◌, ◌^◌};
 ghost use Rattle.mmv_layout.specs.Entries.{metric_of, instance_leads, choice_leads, is_same_value, is_new_value, is_good_value, value_count, values_are_good};
 
-use crate::contents::section_of;
+use crate::contents::{VALUES, section_of};
 use crate::entries::{leads_to_instance, leads_to_metric, leads_to_string, value_at};
 use crate::fields::{number32, number64};
 use crate::metrics::is_no_domain;
@@ -27,7 +27,8 @@ fn instance_leads(words: &[u64], value: u128) -> bool
         return instance == 0;
     }
     let instance = instance as u128;
-    leads_to_instance(words, instance) && number32(words, number64(words, instance) as u128) == serial
+    leads_to_instance(words, instance)
+        && number32(words, number64(words, instance) as u128) == serial
 }
 
 /// Whether the value at a place leads to a string, where its metric's kind is text.
@@ -47,7 +48,8 @@ fn is_same_value(words: &[u64], a: u128, b: u128) -> bool
     requires second { b < 2 ^ 80 }
     ensures { result ≡ is_same_value words.now a b }
 {
-    number64(words, a + 16) == number64(words, b + 16) && number64(words, a + 24) == number64(words, b + 24)
+    number64(words, a + 16) == number64(words, b + 16)
+        && number64(words, a + 24) == number64(words, b + 24)
 }
 
 /// Whether no earlier value has the metric and the instance of this one.
@@ -80,7 +82,7 @@ fn is_good_value(words: &[u64], i: u32) -> bool
 pub fn value_count(words: &[u64]) -> u32
     ensures { result ≡ value_count words.now }
 {
-    section_of(words, 4).count
+    section_of(words, VALUES).count
 }
 
 /// Whether all values are good.

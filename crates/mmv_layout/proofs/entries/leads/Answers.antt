@@ -1,6 +1,5 @@
 -- The distance from the first entry decides.
-use Rattle.std.proofs.Common.{◌-◌, ◌/◌, nat_lt, arith}
-use Rattle.std.proofs.lemmas.Bool.Decides.{nat_tests}
+use Rattle.std.proofs.Common.{arith}
 use Rattle.mmv_layout.proofs.Leads.{leads_below, leads_not}
 use Rattle.mmv_layout.proofs.entries.leads.Goals as goal
 

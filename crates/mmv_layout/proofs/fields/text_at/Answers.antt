@@ -1,6 +1,5 @@
 -- The text grows byte by byte until it ends.
-use Rattle.std.proofs.Common.{◌+◌, ◌-◌, ◌++◌, ◌∷◌, [], sym, ap, ◌∙◌, arith}
-use Rattle.std.proofs.lemmas.Grind.{common_steps}
+use Rattle.std.proofs.Common.{◌+◌, ◌-◌, ◌++◌, ap, ◌∙◌, arith}
 use Rattle.mmv_layout.specs.Fields.{text_at}
 use Rattle.mmv_layout.proofs.Texts.{text_ends, text_grows}
 use Rattle.mmv_layout.proofs.fields.text_at.Goals as goal

@@ -1,5 +1,5 @@
 -- One that fails decides.
-use Rattle.std.proofs.Common.{◌+◌, ◌*◌, not, sym, arith}
+use Rattle.std.proofs.Common.{◌+◌, ◌*◌, sym, arith}
 use Rattle.mmv_layout.specs.Fields.{number32, number64}
 use Rattle.mmv_layout.specs.Entries.{is_instance_of, has_good_run}
 use Rattle.mmv_layout.proofs.Below.{all_fails}

@@ -1,7 +1,7 @@
 -- The run so far is good.
-use Rattle.std.proofs.Common.{◌≡◌, ◌+◌, ◌*◌, true, not}
+use Rattle.std.proofs.Common.{◌≡◌, ◌+◌, ◌*◌, true}
 use Rattle.mmv_layout.specs.Below.{all_below}
-use Rattle.mmv_layout.specs.Fields.{number32, number64}
+use Rattle.mmv_layout.specs.Fields.{number64}
 use Rattle.mmv_layout.specs.Entries.{is_instance_of}
 use Rattle.mmv_layout.proofs.indoms.has_good_run.Given as goal
 

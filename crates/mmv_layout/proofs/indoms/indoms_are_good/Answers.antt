@@ -1,6 +1,5 @@
 -- One that fails decides.
-use Rattle.std.proofs.Common.{◌+◌, ◌*◌, not, sym, arith}
-use Rattle.mmv_layout.specs.Fields.{number32, number64}
+use Rattle.std.proofs.Common.{sym, arith}
 use Rattle.mmv_layout.specs.Entries.{is_good_indom, indoms_are_good, indom_count}
 use Rattle.mmv_layout.proofs.Below.{all_fails}
 use Rattle.mmv_layout.proofs.indoms.indoms_are_good.Goals as goal

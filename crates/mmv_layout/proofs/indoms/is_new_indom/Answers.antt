@@ -1,6 +1,6 @@
 -- One that fails decides.
-use Rattle.std.proofs.Common.{◌+◌, ◌*◌, not, sym, arith}
-use Rattle.mmv_layout.specs.Fields.{number32, number64}
+use Rattle.std.proofs.Common.{not, sym, arith}
+use Rattle.mmv_layout.specs.Fields.{number32}
 use Rattle.mmv_layout.specs.Entries.{has_serial, indom_at, is_new_indom}
 use Rattle.mmv_layout.proofs.Below.{all_fails}
 use Rattle.mmv_layout.proofs.indoms.is_new_indom.Goals as goal

@@ -1,7 +1,7 @@
 -- No domain so far has the serial.
-use Rattle.std.proofs.Common.{◌≡◌, ◌+◌, ◌*◌, true, not}
+use Rattle.std.proofs.Common.{◌≡◌, true, not}
 use Rattle.mmv_layout.specs.Below.{all_below}
-use Rattle.mmv_layout.specs.Fields.{number32, number64}
+use Rattle.mmv_layout.specs.Fields.{number32}
 use Rattle.mmv_layout.specs.Entries.{has_serial, indom_at}
 use Rattle.mmv_layout.proofs.indoms.is_new_indom.Given as goal
 

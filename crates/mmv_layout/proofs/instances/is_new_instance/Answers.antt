@@ -1,6 +1,5 @@
 -- One that fails decides.
-use Rattle.std.proofs.Common.{◌+◌, ◌*◌, not, sym, arith}
-use Rattle.mmv_layout.specs.Fields.{number32, number64}
+use Rattle.std.proofs.Common.{not, sym, arith}
 use Rattle.mmv_layout.specs.Entries.{is_same_instance, instance_at, is_new_instance}
 use Rattle.mmv_layout.proofs.Below.{all_fails}
 use Rattle.mmv_layout.proofs.instances.is_new_instance.Goals as goal

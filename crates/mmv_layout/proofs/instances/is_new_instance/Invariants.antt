@@ -1,7 +1,6 @@
 -- No instance so far has the number or the name.
-use Rattle.std.proofs.Common.{◌≡◌, ◌+◌, ◌*◌, true, not}
+use Rattle.std.proofs.Common.{◌≡◌, true, not}
 use Rattle.mmv_layout.specs.Below.{all_below}
-use Rattle.mmv_layout.specs.Fields.{number32, number64}
 use Rattle.mmv_layout.specs.Entries.{is_same_instance, instance_at}
 use Rattle.mmv_layout.proofs.instances.is_new_instance.Given as goal
 

@@ -1,6 +1,5 @@
 -- One that is there decides.
-use Rattle.std.proofs.Common.{◌+◌, ◌*◌, not, sym, arith}
-use Rattle.mmv_layout.specs.Fields.{number32, number64}
+use Rattle.std.proofs.Common.{sym, arith}
 use Rattle.mmv_layout.specs.Entries.{has_serial, is_indom_serial, indom_count}
 use Rattle.mmv_layout.proofs.Below.{some_holds}
 use Rattle.mmv_layout.proofs.metrics.is_indom_serial.Goals as goal

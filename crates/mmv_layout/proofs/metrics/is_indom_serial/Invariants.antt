@@ -1,7 +1,6 @@
 -- No domain so far has the serial.
-use Rattle.std.proofs.Common.{◌≡◌, ◌+◌, ◌*◌, false, not}
+use Rattle.std.proofs.Common.{◌≡◌, false}
 use Rattle.mmv_layout.specs.Below.{some_below}
-use Rattle.mmv_layout.specs.Fields.{number32, number64}
 use Rattle.mmv_layout.specs.Entries.{has_serial}
 use Rattle.mmv_layout.proofs.metrics.is_indom_serial.Given as goal
 

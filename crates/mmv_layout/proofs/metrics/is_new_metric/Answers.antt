@@ -1,6 +1,5 @@
 -- One that fails decides.
-use Rattle.std.proofs.Common.{◌+◌, ◌*◌, not, sym, arith}
-use Rattle.mmv_layout.specs.Fields.{number32, number64}
+use Rattle.std.proofs.Common.{not, sym, arith}
 use Rattle.mmv_layout.specs.Entries.{is_same_metric, metric_at, is_new_metric}
 use Rattle.mmv_layout.proofs.Below.{all_fails}
 use Rattle.mmv_layout.proofs.metrics.is_new_metric.Goals as goal

@@ -1,7 +1,6 @@
 -- No metric so far is the same.
-use Rattle.std.proofs.Common.{◌≡◌, ◌+◌, ◌*◌, true, not}
+use Rattle.std.proofs.Common.{◌≡◌, true, not}
 use Rattle.mmv_layout.specs.Below.{all_below}
-use Rattle.mmv_layout.specs.Fields.{number32, number64}
 use Rattle.mmv_layout.specs.Entries.{is_same_metric, metric_at}
 use Rattle.mmv_layout.proofs.metrics.is_new_metric.Given as goal
 

@@ -1,6 +1,5 @@
 -- One that fails decides.
-use Rattle.std.proofs.Common.{◌+◌, ◌*◌, not, sym, arith}
-use Rattle.mmv_layout.specs.Fields.{number32, number64}
+use Rattle.std.proofs.Common.{not, sym, arith}
 use Rattle.mmv_layout.specs.Entries.{is_same_value, value_at, is_new_value}
 use Rattle.mmv_layout.proofs.Below.{all_fails}
 use Rattle.mmv_layout.proofs.values.is_new_value.Goals as goal

@@ -1,7 +1,6 @@
 -- No value so far is the same.
-use Rattle.std.proofs.Common.{◌≡◌, ◌+◌, ◌*◌, true, not}
+use Rattle.std.proofs.Common.{◌≡◌, true, not}
 use Rattle.mmv_layout.specs.Below.{all_below}
-use Rattle.mmv_layout.specs.Fields.{number32, number64}
 use Rattle.mmv_layout.specs.Entries.{is_same_value, value_at}
 use Rattle.mmv_layout.proofs.values.is_new_value.Given as goal
 

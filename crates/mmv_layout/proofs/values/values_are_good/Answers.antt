@@ -1,6 +1,5 @@
 -- One that fails decides.
-use Rattle.std.proofs.Common.{◌+◌, ◌*◌, not, sym, arith}
-use Rattle.mmv_layout.specs.Fields.{number32, number64}
+use Rattle.std.proofs.Common.{sym, arith}
 use Rattle.mmv_layout.specs.Entries.{is_good_value, values_are_good, value_count}
 use Rattle.mmv_layout.proofs.Below.{all_fails}
 use Rattle.mmv_layout.proofs.values.values_are_good.Goals as goal

@@ -1,7 +1,6 @@
 -- The entries so far are good.
-use Rattle.std.proofs.Common.{◌≡◌, ◌+◌, ◌*◌, true, not}
+use Rattle.std.proofs.Common.{◌≡◌, true}
 use Rattle.mmv_layout.specs.Below.{all_below}
-use Rattle.mmv_layout.specs.Fields.{number32, number64}
 use Rattle.mmv_layout.specs.Entries.{is_good_value}
 use Rattle.mmv_layout.proofs.values.values_are_good.Given as goal
 
