@@ -1,6 +1,7 @@
 //! The one spelling of each record, by the definitions in specs/.
 ghost use Rattle.std.specs.Prelude.{◌≡◌, ◌+◌, ◌-◌, ◌*◌, ◌/◌, ◌≤◌, ◌<◌, ◌++◌, length, drop, map, OnOk, IfOk};
 ghost use Rattle.std.specs.List.{AllByRecursion};
+ghost use Rattle.pcp_base.specs.Time.{IsMoment};
 ghost use Rattle.pcp_model.specs.Words.{word, signed_word, padded};
 ghost use Rattle.pcp_model.specs.Frame.{frame};
 ghost use Rattle.pcp_model.specs.LabelFields.{FitsLabel};
@@ -61,6 +62,7 @@ pub fn spell_frame(alloc: Global, payload: &[u8]) -> Result<Vec<u8>, NoMemory>
 fn put_label_head(out: &mut Vec<u8>, label: &Label, number: i32) -> Result<(), NoMemory>
     ensures bytes { OnOk result (out.new.items ≡ out.old.items ++ label_head label.now number) }
     ensures grows { OnOk result (length out.new.items ≡ length out.old.items + 20) }
+    ensures moment { OnOk result (IsMoment label.now.start) }
 {
     put_word(out, 0x5005_2602)?;
     put_word(out, label.pid())?;
@@ -74,6 +76,7 @@ fn put_label_head(out: &mut Vec<u8>, label: &Label, number: i32) -> Result<(), N
 #[tactic(auto, unfolding(crate::specs::Labels::label))]
 pub fn spell_label(alloc: Global, said: &Label, number: i32) -> Result<Vec<u8>, NoMemory>
     ensures bytes { IfOk result (λ v. v.items ≡ label said.now number) }
+    ensures moment { OnOk result (IsMoment said.now.start) }
     ensures length { IfOk result (λ v. length v.items ≡ 132) }
 {
     let mut payload = Vec::with_capacity(alloc, 124)?;

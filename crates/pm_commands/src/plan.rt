@@ -1,9 +1,10 @@
 //! The pieces of the archive that `once` makes of an image, all made before the first write.
-ghost use Rattle.std.specs.Prelude.{◌≡◌, ◌≤◌, ◌<◌, ◌%◌, ◌++◌, ◌∷◌, [], codes, length, negsuc, IfOk};
+ghost use Rattle.std.specs.Prelude.{◌≡◌, ◌≤◌, ◌<◌, ◌%◌, ◌++◌, ◌∷◌, [], codes, length, negsuc, IfOk, OnOk};
 ghost use Rattle.pcp_model.specs.Frame.{frame};
 ghost use Rattle.pcp_model.specs.Payload.{payload};
 ghost use Rattle.pcp_model.specs.Records.{description};
 ghost use Rattle.pcp_base.specs.Texts.{IsText};
+ghost use Rattle.pm_commands.specs.Fits.{FitsOnce, FitsShot};
 ghost use Rattle.pm_commands.specs.Once.{once_label, result_with};
 ghost use Rattle.pm_commands.specs.Pieces.{pieces};
 ghost use Rattle.pm_commands.specs.Shots.{shot_of, desc_of};
@@ -60,7 +61,8 @@ fn label_of(alloc: Global, stamp: Stamp) -> Result<Label, NoMemory>
 
 // `mmv.FILE.NAME`
 fn name_of(alloc: Global, file: &Text, name: &Text) -> Result<Text, NoMemory>
-    ensures { IfOk result (λ t. t ≡ codes "mmv." ++ (file.now ++ (46 ∷ name.now))) }
+    ensures text { IfOk result (λ t. t ≡ codes "mmv." ++ (file.now ++ (46 ∷ name.now))) }
+    ensures file { OnOk result (IsText file.now) }
 {
     let mut bytes = b"mmv.".to_vec(alloc)?;
     bytes.extend_from_slice(file.as_slice())?;
@@ -94,6 +96,7 @@ fn description_of(
     requires name { length row.now.name ≤ 63 }
     ensures bytes { IfOk result (λ v. v.items ≡ frame (description (desc_of pmid row.now) ((codes "mmv." ++ (file.now ++ (46 ∷ row.now.name))) ∷ []))) }
     ensures short { IfOk result (λ v. length v.items ≤ 1000) }
+    ensures text { OnOk result (IsText file.now) }
 {
     let desc = Desc {
         pmid,
@@ -127,7 +130,9 @@ pub(crate) fn plan_of(
     image: &Image,
 ) -> Result<Plan, NoMemory>
     requires { length asked.now.file ≤ 63 }
-    ensures { IfOk result (λ p. p ≡ pieces asked.now.stamp asked.now.file (shot_of image.now)) }
+    ensures pieces { IfOk result (λ p. p ≡ pieces asked.now.stamp asked.now.file (shot_of image.now)) }
+    ensures once { OnOk result (FitsOnce asked.now) }
+    ensures shot { OnOk result (FitsShot (shot_of image.now)) }
 {
     let row = image.only_metric(alloc)?;
     let Some(pmid) = Pmid::build(70, image.cluster(), row.item) else {
