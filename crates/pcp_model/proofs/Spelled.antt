@@ -1,0 +1,98 @@
+-- What the writer spells is what a reader takes.
+use Rattle.std.proofs.Common.{zero, suc, ◌≡◌, ◌≢◌, ◌⊎◌, inl, inr, ⊎_elim, ℕ, ℤ, ◌+◌, ◌-◌, ◌*◌, ◌/◌, ◌%◌, ◌<◌, ◌≤◌, List, [], ◌∷◌, ◌++◌, length, take, drop, max, refl, sym, ap, ◌∙◌, subst, append_assoc, arith, length-append}
+use Rattle.std.proofs.Math.ListN.{length-replicate}
+use Rattle.std.proofs.lemmas.List.{take_at, drop_at}
+use Rattle.pcp_base.specs.Typed.{TypedBytes}
+use Rattle.pcp_base.specs.declared.desc.Desc.{Desc}
+use Rattle.pcp_base.specs.declared.result.Body.{Body}
+use Rattle.pcp_base.specs.declared.result.Body.TheVariants.{InPlace, Blocks, Status}
+use Rattle.pcp_base.specs.declared.result.ValueSet.{ValueSet}
+use Rattle.pcp_base.specs.declared.result.PmResult.{PmResult}
+use Rattle.pcp_base.specs.declared.result.Item.TheVariants.{Sample}
+use Rattle.pcp_model.specs.declared.records.MetaRecord.TheVariants.{Description}
+use Rattle.pcp_model.specs.Words.{word, signed_word, length-word, length-signed_word, zeros}
+use Rattle.pcp_model.specs.Payload.{filling, block, block_head, block_length, blocks_length, blocks_bytes, blocks_in, blocks_of, pair_blocks, places_from, place_pairs, place_byte, value_pairs, body_words, set_words, body_length, sets_length, head_length, payload_length, result_head, payload, reach, BlockStands, BlocksStand, ResultInRange, IsPayload, IsItem}
+use Rattle.pcp_model.specs.Records.{description, DescriptionInRange, IsRecord, counted_name, counted_names, names_length}
+use Rattle.pcp_model.proofs.Payloads.{set_words-cons}
+
+pub is_description : (d : Desc) (names : List (List ℕ)) → DescriptionInRange d names → IsRecord (description d names) (Description d names)
+is_description d names range = (range, refl)
+
+length-counted_names : (names : List (List ℕ)) → length (counted_names names) ≡ names_length names
+length-counted_names [] = refl
+length-counted_names (name ∷ names) =
+    omega (arith, length-append (counted_name name) (counted_names names), length-append (word (length name)) name, length-word (length name), length-counted_names names)
+
+-- how many bytes a description has
+pub length-description : (d : Desc) (names : List (List ℕ)) → length (description d names) ≡ 28 + names_length names
+unfolding description
+length-description d names =
+    let after : List ℕ = word (length names) ++ counted_names names in
+    omega (arith, length-append (word 1) (word d.pmid ++ (word d.code ++ (word d.indom ++ (word d.semantics ++ (word d.units ++ after))))),
+        length-append (word d.pmid) (word d.code ++ (word d.indom ++ (word d.semantics ++ (word d.units ++ after)))),
+        length-append (word d.code) (word d.indom ++ (word d.semantics ++ (word d.units ++ after))),
+        length-append (word d.indom) (word d.semantics ++ (word d.units ++ after)), length-append (word d.semantics) (word d.units ++ after),
+        length-append (word d.units) after, length-append (word (length names)) (counted_names names), length-counted_names names,
+        length-word 1, length-word d.pmid, length-word d.code, length-word d.indom, length-word d.semantics, length-word d.units, length-word (length names))
+
+length-value_pairs : (pairs : List (ℤ × ℕ)) → length (value_pairs pairs) ≡ 8 * length pairs
+length-value_pairs [] = refl
+length-value_pairs (p ∷ pairs) =
+    omega (arith, length-append (signed_word p.0) (word p.1 ++ value_pairs pairs), length-append (word p.1) (value_pairs pairs), length-signed_word p.0, length-word p.1, length-value_pairs pairs)
+
+length-place_pairs : (at : ℕ) (pairs : List (ℤ × TypedBytes)) → length (place_pairs (places_from at (pair_blocks pairs)) pairs) ≡ 8 * length pairs
+length-place_pairs at [] = refl
+length-place_pairs at (p ∷ pairs) =
+    let more : List ℕ = place_pairs (places_from (at + block_length p.1) (pair_blocks pairs)) pairs in
+    omega (arith, length-append (signed_word p.0) (word (3 + at / 4) ++ more), length-append (word (3 + at / 4)) more, length-signed_word p.0, length-word (3 + at / 4), length-place_pairs (at + block_length p.1) pairs)
+
+length-body_words : (at : ℕ) (body : Body) → length (body_words (places_from at (blocks_in body)) body) ≡ body_length body
+length-body_words at (InPlace pairs) =
+    omega (arith, length-append (word (length pairs)) (word 0 ++ value_pairs pairs), length-append (word 0) (value_pairs pairs), length-word (length pairs), length-word 0, length-value_pairs pairs)
+length-body_words at (Blocks pairs) =
+    let more : List ℕ = place_pairs (places_from at (pair_blocks pairs)) pairs in
+    omega (arith, length-append (word (length pairs)) (word 1 ++ more), length-append (word 1) more, length-word (length pairs), length-word 1, length-place_pairs at pairs)
+length-body_words at (Status n) = length-signed_word n
+
+length-set_words : (at : ℕ) (sets : List ValueSet) → length (set_words (places_from at (blocks_of sets)) sets) ≡ sets_length sets
+length-set_words at [] = refl
+length-set_words at (set ∷ sets) =
+    let body : List ℕ = body_words (places_from at (blocks_in set.body)) set.body in
+    let next : ℕ = at + blocks_length (blocks_in set.body) in
+    let more : List ℕ = set_words (places_from next (blocks_of sets)) sets in
+    ap length (set_words-cons at set sets)
+    ∙ (let e : length (word set.pmid ++ (body ++ more)) ≡ 4 + body_length set.body + sets_length sets =
+            omega (arith, length-append (word set.pmid) (body ++ more), length-append body more, length-word set.pmid, length-body_words at set.body, length-set_words next sets) in e)
+
+length-result_head : (at : ℕ) (r : PmResult) → length (result_head (places_from at (blocks_of r.sets)) r) ≡ head_length r
+length-result_head at r =
+    let more : List ℕ = set_words (places_from at (blocks_of r.sets)) r.sets in
+    omega (arith, length-append (word r.stamp.sec) (word r.stamp.usec ++ (word (length r.sets) ++ more)), length-append (word r.stamp.usec) (word (length r.sets) ++ more),
+        length-append (word (length r.sets)) more, length-word r.stamp.sec, length-word r.stamp.usec, length-word (length r.sets), length-set_words at r.sets)
+
+length-block : (b : TypedBytes) → length (block b) ≡ block_length b
+length-block b =
+    omega (arith, length-append (block_head b) (b.bytes ++ zeros (filling (length b.bytes))), length-append b.bytes (zeros (filling (length b.bytes))), length-replicate {A = ℕ} (filling (length b.bytes)) 0)
+
+length-blocks_bytes : (blocks : List TypedBytes) → length (blocks_bytes blocks) ≡ blocks_length blocks
+length-blocks_bytes [] = refl
+length-blocks_bytes (b ∷ blocks) = omega (arith, length-append (block b) (blocks_bytes blocks), length-block b, length-blocks_bytes blocks)
+
+-- how many bytes the payload has
+pub length-payload : (r : PmResult) → length (payload r) ≡ payload_length r
+unfolding payload
+length-payload r =
+    omega (arith, length-append (result_head (places_from (head_length r) (blocks_of r.sets)) r) (blocks_bytes (blocks_of r.sets)), length-result_head (head_length r) r, length-blocks_bytes (blocks_of r.sets))
+
+-- blocks and sets take whole words
+block_words : (b : TypedBytes) → block_length b % 4 ≡ 0
+block_words b = omega arith
+
+body_word_count : (body : Body) → body_length body % 4 ≡ 0
+body_word_count (InPlace pairs) = omega arith
+body_word_count (Blocks pairs) = omega arith
+body_word_count (Status n) = refl
+
+sets_words : (sets : List ValueSet) → sets_length sets % 4 ≡ 0
+sets_words [] = refl
+sets_words (set ∷ sets) = omega (arith, body_word_count set.body, sets_words sets)
