@@ -96,3 +96,77 @@ body_word_count (Status n) = refl
 sets_words : (sets : List ValueSet) → sets_length sets % 4 ≡ 0
 sets_words [] = refl
 sets_words (set ∷ sets) = omega (arith, body_word_count set.body, sets_words sets)
+
+place_of : (at : ℕ) → at % 4 ≡ 0 → place_byte (3 + at / 4) ≡ at
+place_of at h = omega arith
+
+block_text : (b : TypedBytes) (rest : List ℕ) → block b ++ rest ≡ (block_head b ++ b.bytes) ++ (zeros (filling (length b.bytes)) ++ rest)
+block_text b rest =
+    let fill : List ℕ = zeros (filling (length b.bytes)) in
+    ap (λ t. t ++ rest) (sym (append_assoc (block_head b) b.bytes fill)) ∙ append_assoc (block_head b ++ b.bytes) fill rest
+
+stands : (bytes front rest : List ℕ) (sets_end : ℕ) (b : TypedBytes) → bytes ≡ front ++ (block b ++ rest) → length front % 4 ≡ 0 → sets_end ≤ length front → length bytes < 4294967296
+    → BlockStands bytes sets_end (3 + length front / 4) b
+stands bytes front rest sets_end b is quarter behind few =
+    let place : place_byte (3 + length front / 4) ≡ length front = place_of (length front) quarter in
+    let size : length bytes ≡ length front + (block_length b + length rest) =
+        ap length is ∙ length-append front (block b ++ rest) ∙ ap (λ n. length front + n) (length-append (block b) rest ∙ ap (λ n. n + length rest) (length-block b)) in
+    record {
+      word_fits = omega arith;
+      behind = (omega arith, omega arith);
+      within = omega arith;
+      is = ap (λ n. take (4 + length b.bytes) (drop n bytes)) place ∙ ap (λ t. take (4 + length b.bytes) (drop (length front) t)) is
+          ∙ ap (take (4 + length b.bytes)) (drop_at front (block b ++ rest) (length front) refl ∙ block_text b rest)
+          ∙ take_at (block_head b ++ b.bytes) (zeros (filling (length b.bytes)) ++ rest) (4 + length b.bytes) (omega arith);
+    }
+
+-- blocks stand one behind another
+all_stand : (bytes front : List ℕ) (sets_end : ℕ) (blocks : List TypedBytes) → bytes ≡ front ++ blocks_bytes blocks → length front % 4 ≡ 0 → sets_end ≤ length front → length bytes < 4294967296
+    → BlocksStand bytes sets_end (places_from (length front) blocks) blocks
+all_stand bytes front sets_end [] is quarter behind few = tt
+all_stand bytes front sets_end (b ∷ blocks) is quarter behind few =
+    let longer : length (front ++ block b) ≡ length front + block_length b = length-append front (block b) ∙ ap (λ n. length front + n) (length-block b) in
+    let whole : block_length b % 4 ≡ 0 = block_words b in
+    (stands bytes front (blocks_bytes blocks) sets_end b is quarter behind few,
+        subst (λ n. BlocksStand bytes sets_end (places_from n blocks) blocks) longer
+            (all_stand bytes (front ++ block b) sets_end blocks (is ∙ sym (append_assoc front (block b) (blocks_bytes blocks))) (omega arith) (omega arith) few))
+
+-- they reach as far as they are long
+least_reach : (end : ℕ) (places : List ℕ) (blocks : List TypedBytes) → end ≤ reach end places blocks
+least_reach end [] blocks = omega arith
+least_reach end (place ∷ places) [] = omega arith
+least_reach end (place ∷ places) (b ∷ blocks) = omega (arith, least_reach end places blocks)
+
+all_reach : (end at : ℕ) (blocks : List TypedBytes) → end ≤ at → at % 4 ≡ 0 → max at (reach end (places_from at blocks) blocks) ≡ at + blocks_length blocks
+all_reach end at [] h quarter = omega arith
+all_reach end at (b ∷ blocks) h quarter =
+    let place : place_byte (3 + at / 4) ≡ at = place_of at quarter in
+    let whole : block_length b % 4 ≡ 0 = block_words b in
+    let more : max (at + block_length b) (reach end (places_from (at + block_length b) blocks) blocks) ≡ at + block_length b + blocks_length blocks =
+        all_reach end (at + block_length b) blocks (omega arith) (omega arith) in
+    omega arith
+
+-- the writer's payload is a payload
+pub is_payload : (r : PmResult) → ResultInRange r → payload_length r < 4294967296 → IsPayload (payload r) r
+unfolding payload
+is_payload r range few =
+    let blocks : List TypedBytes = blocks_of r.sets in
+    let head : List ℕ = result_head (places_from (head_length r) (blocks_of r.sets)) r in
+    let long : length (result_head (places_from (head_length r) (blocks_of r.sets)) r) ≡ head_length r = length-result_head (head_length r) r in
+    let quarter : head_length r % 4 ≡ 0 = let sets : sets_length r.sets % 4 ≡ 0 = sets_words r.sets in omega arith in
+    let size : length (payload r) ≡ payload_length r = length-payload r in
+    let reached : max (head_length r) (reach (head_length r) (places_from (head_length r) (blocks_of r.sets)) (blocks_of r.sets)) ≡ head_length r + blocks_length (blocks_of r.sets) =
+        all_reach (head_length r) (head_length r) (blocks_of r.sets) (omega arith) quarter in
+    let least : head_length r ≤ reach (head_length r) (places_from (head_length r) (blocks_of r.sets)) (blocks_of r.sets) =
+        least_reach (head_length r) (places_from (head_length r) (blocks_of r.sets)) (blocks_of r.sets) in
+    record {
+      range = range;
+      places = places_from (head_length r) (blocks_of r.sets);
+      head = take_at head (blocks_bytes (blocks_of r.sets)) (head_length r) long;
+      blocks = subst (λ n. BlocksStand (payload r) (head_length r) (places_from n (blocks_of r.sets)) (blocks_of r.sets)) long
+          (all_stand (payload r) head (head_length r) (blocks_of r.sets) refl (subst (λ n. n % 4 ≡ 0) (sym long) quarter) (omega arith) (omega arith));
+      whole = omega arith;
+    }
+
+pub is_sample : (r : PmResult) → ResultInRange r → payload_length r < 4294967296 → 0 < length r.sets → IsItem (payload r) (Sample r)
+is_sample r range few some = (some, is_payload r range few)
