@@ -1,17 +1,20 @@
 -- What a crash leaves of a label, of a frame and of frames: bytes that are cut anywhere.
 use Rattle.std.proofs.Common.{zero, suc, ◌≡◌, ◌≢◌, ◌⊎◌, inl, inr, ⊎_elim, ℕ, ℤ, ◌+◌, ◌-◌, ◌*◌, ◌<◌, ◌≤◌, List, [], ◌∷◌, ◌++◌, length, take, drop, min, replicate, refl, sym, ap, ◌∙◌, subst, append_assoc, arith, length-append}
-use Rattle.std.specs.Prelude.{FitsSigned}
+use Rattle.std.specs.Prelude.{FitsSigned, negsuc}
 use Rattle.std.specs.Int.{w32, from_be_bytes}
 use Rattle.std.specs.List.{AllByRecursion}
 use Rattle.std.proofs.lemmas.Bool.{cases_lt}
 use Rattle.std.proofs.lemmas.List.{take_at, take_all, take-take, take-append-le, take-append-drop, length-take-le, append-nil}
+use Rattle.std.proofs.lemmas.Int.{fits_signed_from_abs}
 use Rattle.std.proofs.lemmas.Nat.{from_be_bytes-to_be_bytes_4}
 use Rattle.std.proofs.Math.ListN.{length-replicate}
 use Rattle.std.proofs.Math.Seq.{take-append-add}
 use Rattle.pcp_base.specs.Texts.{IsText}
 use Rattle.pcp_base.specs.Time.{IsMoment}
+use Rattle.pcp_base.specs.declared.result.Item.{Item}
 use Rattle.pcp_model.specs.declared.records.Entry.{Entry}
-use Rattle.pcp_model.specs.Archive.{AreRead, Holds}
+use Rattle.pcp_model.specs.declared.records.MetaRecord.{MetaRecord}
+use Rattle.pcp_model.specs.Archive.{AreRead, Holds, HasEntries}
 use Rattle.pcp_model.specs.Records.{entry, entries, FitsEntry}
 use Rattle.pcp_model.specs.Words.{word, signed_word, length-word, length-signed_word, padded, zeros}
 use Rattle.pcp_model.specs.Frame.{frame, frames, IsFrameable, IsTorn}
@@ -293,3 +296,34 @@ pub first_fit : (k : ℕ) (es : List Entry) → AllByRecursion FitsEntry es → 
 first_fit zero es fit = tt
 first_fit (suc k) [] fit = tt
 first_fit (suc k) (e ∷ es) fit = (fit.0, first_fit k es fit.1)
+
+-- a written file: its label, and framed records that are read as these values
+pub written_file : {X : Type 0} (R : List ℕ → X → Type 0) (l : LabelFields) (number : ℤ) (payloads : List (List ℕ)) (values : List X) → SpelledLabel l → FitsSigned w32 number → AreRead R payloads values
+    → Holds R (label l number ++ frames payloads) l number values []
+written_file R l number payloads values s fits read = record {
+  head = label l number;
+  label = is_label l number s fits;
+  payloads = payloads;
+  read = read;
+  is = ap (λ t. label l number ++ t) (sym (append-nil (frames payloads)));
+}
+
+-- a file that is cut within its label begins it
+pub cut_in_label : (l : LabelFields) (number : ℤ) (rest : List ℕ) (n : ℕ) → SpelledLabel l → FitsSigned w32 number → n < 132 → BeginsLabel (take n (label l number ++ rest)) l number
+cut_in_label l number rest n s fits h =
+    let long : length (label l number) ≡ 132 = length-label l number s.fits in
+    subst (λ t. BeginsLabel t l number) (sym (take-append-le n (label l number) rest (omega arith))) (cut_label l number n s fits h)
+
+-- the index that is cut behind its label has its first entries
+pub cut_index : (l : LabelFields) (es : List Entry) (n : ℕ) (records : List MetaRecord) (volumes : List (ℕ × List Item)) → SpelledLabel l → AllByRecursion FitsEntry es → 132 ≤ n → (r : CutEntries es (n - 132))
+    → HasEntries (take n (label l (negsuc 1) ++ entries es)) (record { label = l; records = records; entries = take r.k es; volumes = volumes })
+cut_index l es n records volumes s fit h r =
+    let long : length (label l (negsuc 1)) ≡ 132 = length-label l (negsuc 1) s.fits in
+    record {
+      head = label l (negsuc 1);
+      label = is_label l (negsuc 1) s (fits_signed_from_abs w32 (negsuc 1) (omega arith));
+      fit = first_fit r.k es fit;
+      rest = r.rest;
+      short = r.short;
+      is = behind_label (label l (negsuc 1) ++ entries es) (label l (negsuc 1)) (entries es) n long refl h ∙ ap (λ t. label l (negsuc 1) ++ t) r.is;
+    }
