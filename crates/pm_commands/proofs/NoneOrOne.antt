@@ -287,3 +287,171 @@ module _ (p : Pieces) (l : LabelFields) (r : MetaRecord) (item : Item) (e : Entr
         found = f.whole volume;
         described = subst (λ records. Described records item) (sym (f.records meta)) described;
       }
+
+no_zero : List ℕ → Bool
+no_zero [] = true
+no_zero (zero ∷ bytes) = false
+no_zero (suc b ∷ bytes) = no_zero bytes
+
+clean_text : (bytes : List ℕ) → no_zero bytes ≡ true → AllByRecursion (λ b. b ≢ 0) bytes
+unfolding no_zero
+clean_text [] h = tt
+clean_text (zero ∷ bytes) h = absurd (let e : false ≡ true = h in cc)
+clean_text (suc b ∷ bytes) h = (λ e. cc, clean_text bytes h)
+
+host_text : IsText (codes "localhost")
+unfolding no_zero
+host_text = All-from_recursion (λ b. b ≢ 0) (codes "localhost") (clean_text (codes "localhost") refl)
+
+zone_text : IsText (codes "UTC")
+unfolding no_zero
+zone_text = All-from_recursion (λ b. b ≢ 0) (codes "UTC") (clean_text (codes "UTC") refl)
+
+front_text : IsText (codes "mmv.")
+unfolding no_zero
+front_text = All-from_recursion (λ b. b ≢ 0) (codes "mmv.") (clean_text (codes "mmv.") refl)
+
+spelled_once : (stamp : Moment) → IsMoment stamp → SpelledLabel (once_label stamp)
+spelled_once stamp moment = record { pid = omega arith; start = moment; host = host_text; zone = zone_text; fits = fits_once stamp }
+
+-- `mmv.FILE.NAME`
+name_text : (file : List ℕ) (s : Shot) → IsText file → FitsShot s → IsText (shown_name file s)
+name_text file s text f =
+    All-append (λ b. b ≢ 0) (codes "mmv.") (file ++ (46 ∷ s.name)) front_text
+        (All-append (λ b. b ≢ 0) file (46 ∷ s.name) text (All-cons (λ b. b ≢ 0) 46 s.name (λ e. cc) f.text))
+
+name_length : (file : List ℕ) (s : Shot) → length file ≤ 63 → FitsShot s → length (shown_name file s) ≤ 131
+name_length file s short f =
+    let here : length s.name ≤ 63 = f.short in
+    omega (arith, length-append file (46 ∷ s.name))
+
+description_in_range : (file : List ℕ) (s : Shot) → IsText file → length file ≤ 63 → FitsShot s → DescriptionInRange (shown_desc s) (shown_name file s ∷ [])
+description_in_range file s text short f =
+    let long : length (shown_name file s) ≤ 131 = name_length file s short f in
+    record {
+      pmid = let cluster : s.cluster < 4096 = f.cluster in let number : s.item < 1024 = f.item in omega arith;
+      code = f.code;
+      indom = omega arith;
+      semantics = f.semantics;
+      units = f.units;
+      few = omega arith;
+      texts = ((name_text file s text f, omega arith), tt);
+    }
+
+result_in_range : (stamp : Moment) (s : Shot) → IsMoment stamp → FitsShot s → ResultInRange (shown_result stamp s)
+result_in_range stamp s moment f = record {
+  moment = moment;
+  few = omega arith;
+  sets = ((let cluster : s.cluster < 4096 = f.cluster in let number : s.item < 1024 = f.item in omega arith,
+      omega arith, (omega arith, ((meta_fits, omega arith), tt))), tt);
+}
+
+description_length : (file : List ℕ) (s : Shot) → length file ≤ 63 → FitsShot s → length (description (shown_desc s) (shown_name file s ∷ [])) ≤ 163
+description_length file s short f = omega (arith, length-description (shown_desc s) (shown_name file s ∷ []), name_length file s short f)
+
+description_frames : (file : List ℕ) (s : Shot) → length file ≤ 63 → FitsShot s → IsFrameable (description (shown_desc s) (shown_name file s ∷ []))
+description_frames file s short f = record {
+  least = omega (arith, length-description (shown_desc s) (shown_name file s ∷ []));
+  most = omega (arith, description_length file s short f);
+}
+
+result_length : (stamp : Moment) (s : Shot) → length (payload (shown_result stamp s)) ≡ 32
+result_length stamp s = length-payload (shown_result stamp s)
+
+result_frames : (stamp : Moment) (s : Shot) → IsFrameable (payload (shown_result stamp s))
+result_frames stamp s = record { least = omega (arith, result_length stamp s); most = omega (arith, result_length stamp s) }
+
+-- the entry of the flush
+entry_fits : (stamp : Moment) (file : List ℕ) (s : Shot) → IsMoment stamp → length file ≤ 63 → FitsShot s → FitsEntry (flush_entry stamp (logged stamp file s))
+entry_fits stamp file s moment short f =
+    let text : List ℕ = description (shown_desc s) (shown_name file s ∷ []) in
+    let sample : List ℕ = payload (shown_result stamp s) in
+    let meta_label : length (label (once_label stamp) (negsuc 0)) ≡ 132 = length-label (once_label stamp) (negsuc 0) (fits_once stamp) in
+    let volume_label : length (label (once_label stamp) (pos 0)) ≡ 132 = length-label (once_label stamp) (pos 0) (fits_once stamp) in
+    record {
+      moment = moment;
+      volume = omega arith;
+      meta = omega (arith, length-append (label (once_label stamp) (negsuc 0)) (frame text), length-frame text, description_length file s short f);
+      offset = omega (arith, length-append (label (once_label stamp) (pos 0)) (frame sample), length-frame sample, result_length stamp s);
+    }
+
+-- and so the pieces spell the archive
+spells : (asked : OnceWords) (s : Shot) → FitsOnce asked → FitsShot s
+    → Spells (pieces asked.stamp asked.file s) (once_label asked.stamp) (Description (shown_desc s) (shown_name asked.file s ∷ [])) (Sample (shown_result asked.stamp s)) (flush_entry asked.stamp (logged asked.stamp asked.file s))
+unfolding pieces
+spells asked s once shot = record {
+  spelled = spelled_once asked.stamp once.moment;
+  meta_label = refl;
+  index_label = refl;
+  volume_label = refl;
+  says_record = description (shown_desc s) (shown_name asked.file s ∷ []);
+  description = refl;
+  is_record = (description_frames asked.file s once.short shot,
+      is_description (shown_desc s) (shown_name asked.file s ∷ []) (description_in_range asked.file s once.text once.short shot));
+  says_item = payload (shown_result asked.stamp s);
+  sample = refl;
+  is_item = (result_frames asked.stamp s, is_sample (shown_result asked.stamp s) (result_in_range asked.stamp s once.moment shot) (omega arith) (omega arith));
+  last = refl;
+  fits = entry_fits asked.stamp asked.file s once.moment once.short shot;
+}
+
+-- the description describes the result
+described : (stamp : Moment) (file : List ℕ) (s : Shot) → Described (Description (shown_desc s) (shown_name file s ∷ []) ∷ []) (Sample (shown_result stamp s))
+described stamp file s =
+    (record { desc = shown_desc s; names = shown_name file s ∷ []; recorded = (0, omega arith, refl); same = refl; named = inl refl }, tt)
+
+pub none_or_one : (asked : OnceWords) (s : Shot) → FitsOnce asked → FitsShot s → (image : Files) → IsCut (pieces asked.stamp asked.file s) image → NoneOrOne image (Sample (shown_result asked.stamp s))
+none_or_one asked s once shot image cut =
+    none_or_one_of (pieces asked.stamp asked.file s) (once_label asked.stamp) (Description (shown_desc s) (shown_name asked.file s ∷ [])) (Sample (shown_result asked.stamp s))
+        (flush_entry asked.stamp (logged asked.stamp asked.file s)) (spells asked s once shot) image cut (described asked.stamp asked.file s)
+
+-- a file all of whose bytes are sure is there whole
+sure_whole : (held : Holdings) (image : Files) (file : FileId) (bytes : List ℕ) → held file ≡ sure bytes → CrashImage held image → image file ≡ take (length bytes) bytes
+sure_whole held image file bytes is left =
+    (left file).1 ∙ ap (λ (h : Held). h.sure ++ take (left file).0 h.rest) is ∙ ap (λ t. bytes ++ t) (take_all {A = ℕ} (left file).0 [] (omega arith))
+    ∙ append-nil bytes ∙ sym (take_all (length bytes) bytes (omega arith))
+
+index_part : (p : Pieces) (held : Holdings) (image : Files) → Final p held → CrashImage held image → IsPart (appended (sure p.index_label) p.entry) (index_file p) (image Index)
+index_part p held image final left =
+    survivor (appended (sure p.index_label) p.entry) (index_file p) (image Index) (left Index).0 (record { more = []; is = sym (append-nil (index_file p)) })
+        ((left Index).1 ∙ ap (λ (g : Held). g.sure ++ take (left Index).0 g.rest) final.has_index)
+
+final_others : (p : Pieces) (held : Holdings) (image : Files) → Final p held → CrashImage held image → (k : ℕ) → k ≢ 0 → image (Volume k) ≡ []
+final_others p held image final left k other =
+    (left (Volume k)).1 ∙ ap (λ (h : Held). h.sure ++ take (left (Volume k)).0 h.rest) (final.others k other) ∙ take_all {A = ℕ} (left (Volume k)).0 [] (omega arith)
+
+final_cut : (p : Pieces) (held : Holdings) (image : Files) → Final p held → CrashImage held image → (cut : IsCut p image) × (length (meta_file p) ≤ cut.m) × (length (volume_file p) ≤ cut.v)
+final_cut p held image final left =
+    let i : IsPart (appended (sure p.index_label) p.entry) (index_file p) (image Index) = index_part p held image final left in
+    let least : length p.index_label ≤ i.c = i.least in
+    (record {
+      m = length (meta_file p);
+      i = i.c;
+      v = length (volume_file p);
+      meta = sure_whole held image Meta (meta_file p) final.has_meta left;
+      index = i.is;
+      volume = sure_whole held image (Volume 0) (volume_file p) final.has_volume left;
+      others = final_others p held image final left;
+      order = record {
+        index_after = inr (omega (arith, length-append p.meta_label p.description));
+        volume_after = inr (omega (arith, length-append p.meta_label p.description), omega arith);
+        described = inr (omega arith);
+        indexed = inr (omega arith);
+      };
+    }, omega arith, omega arith)
+
+pub has_item : (asked : OnceWords) (s : Shot) → FitsOnce asked → FitsShot s → (held : Holdings) → Final (pieces asked.stamp asked.file s) held → (image : Files) → CrashImage held image
+    → HasItem image (Sample (shown_result asked.stamp s))
+has_item asked s once shot held final image left =
+    let f : (cut : IsCut (pieces asked.stamp asked.file s) image) × (length (meta_file (pieces asked.stamp asked.file s)) ≤ cut.m) × (length (volume_file (pieces asked.stamp asked.file s)) ≤ cut.v) =
+        final_cut (pieces asked.stamp asked.file s) held image final left in
+    has_item_of (pieces asked.stamp asked.file s) (once_label asked.stamp) (Description (shown_desc s) (shown_name asked.file s ∷ [])) (Sample (shown_result asked.stamp s))
+        (flush_entry asked.stamp (logged asked.stamp asked.file s)) (spells asked s once shot) image f.0 (described asked.stamp asked.file s) f.1 f.2
+
+-- empty files are a stopped creation
+pub none_of_nothing : (image : Files) → IsEmpty image → (item : Item) → NoneOrOne image item
+none_of_nothing image empty item = record {
+  reading = Reading.nothing;
+  reads = record { meta = inl (empty Meta); index = empty Index; volumes = λ n. empty (Volume n) };
+  found = inl refl;
+}
