@@ -327,3 +327,40 @@ cut_index l es n records volumes s fit h r =
       short = r.short;
       is = behind_label (label l (negsuc 1) ++ entries es) (label l (negsuc 1)) (entries es) n long refl h ∙ ap (λ t. label l (negsuc 1) ++ t) r.is;
     }
+
+pub frames-append : (first more : List (List ℕ)) → frames (first ++ more) ≡ frames first ++ frames more
+frames-append [] more = refl
+frames-append (payload ∷ first) more = ap (λ t. frame payload ++ t) (frames-append first more) ∙ sym (append_assoc (frame payload) (frames first) (frames more))
+
+read-append : {X : Type 0} (R : List ℕ → X → Type 0) (first more : List (List ℕ)) (values others : List X) → AreRead R first values → AreRead R more others → AreRead R (first ++ more) (values ++ others)
+read-append R [] more [] others read next = next
+read-append R [] more (x ∷ xs) others read next = absurd (read tt)
+read-append R (payload ∷ first) more [] others read next = absurd (read tt)
+read-append R (payload ∷ first) more (x ∷ xs) others read next = (read.0, read.1, read-append R first more xs others read.2 next)
+
+-- a framed record behind a whole file is one value more
+pub added_record : {X : Type 0} (R : List ℕ → X → Type 0) (bytes : List ℕ) (l : LabelFields) (number : ℤ) (values : List X) (payload : List ℕ) (x : X)
+    → Holds R bytes l number values [] → IsFrameable payload → R payload x → Holds R (bytes ++ frame payload) l number (values ++ x ∷ []) []
+added_record R bytes l number values payload x h fits read = record {
+  head = h.head;
+  label = h.label;
+  payloads = h.payloads ++ payload ∷ [];
+  read = read-append R h.payloads (payload ∷ []) values (x ∷ []) h.read (fits, read, tt);
+  is = ap (λ t. t ++ frame payload) (h.is ∙ ap (λ t. h.head ++ t) (append-nil (frames h.payloads))) ∙ append_assoc h.head (frames h.payloads) (frame payload)
+      ∙ ap (λ t. h.head ++ t) (sym (append-nil (frames (h.payloads ++ payload ∷ [])) ∙ frames-append h.payloads (payload ∷ []) ∙ ap (λ t. frames h.payloads ++ t) (append-nil (frame payload))));
+}
+
+-- without its torn end a file is whole
+pub without_end : {X : Type 0} (R : List ℕ → X → Type 0) (bytes : List ℕ) (l : LabelFields) (number : ℤ) (values : List X) (torn : List ℕ)
+    → Holds R bytes l number values torn → Holds R (take (length bytes - length torn) bytes) l number values []
+without_end R bytes l number values torn h =
+    let is : bytes ≡ (h.head ++ frames h.payloads) ++ torn = h.is ∙ sym (append_assoc h.head (frames h.payloads) torn) in
+    let size : length bytes ≡ length (h.head ++ frames h.payloads) + length torn = ap length is ∙ length-append (h.head ++ frames h.payloads) torn in
+    record {
+      head = h.head;
+      label = h.label;
+      payloads = h.payloads;
+      read = h.read;
+      is = ap (take (length bytes - length torn)) is ∙ take_at (h.head ++ frames h.payloads) torn (length bytes - length torn) (omega arith)
+          ∙ ap (λ t. h.head ++ t) (sym (append-nil (frames h.payloads)));
+    }

@@ -2,17 +2,22 @@
 use Rattle.std.proofs.Common.{zero, suc, ◌≡◌, ◌≢◌, ◌⊎◌, inl, inr, ⊎_elim, ℕ, ℤ, ◌+◌, ◌-◌, ◌*◌, ◌/◌, ◌%◌, ◌<◌, ◌≤◌, List, [], ◌∷◌, ◌++◌, length, take, drop, max, refl, sym, ap, ◌∙◌, subst, append_assoc, arith, length-append}
 use Rattle.std.proofs.Math.ListN.{length-replicate}
 use Rattle.std.proofs.lemmas.List.{take_at, drop_at}
+use Rattle.std.specs.Prelude.{FitsSigned}
+use Rattle.std.specs.Int.{w32}
+use Rattle.std.specs.List.{AllByRecursion}
+use Rattle.pcp_base.specs.Texts.{IsText}
+use Rattle.pcp_base.specs.Time.{Moment, IsMoment}
 use Rattle.pcp_base.specs.Typed.{TypedBytes}
 use Rattle.pcp_base.specs.declared.desc.Desc.{Desc}
 use Rattle.pcp_base.specs.declared.result.Body.{Body}
 use Rattle.pcp_base.specs.declared.result.Body.TheVariants.{InPlace, Blocks, Status}
 use Rattle.pcp_base.specs.declared.result.ValueSet.{ValueSet}
 use Rattle.pcp_base.specs.declared.result.PmResult.{PmResult}
-use Rattle.pcp_base.specs.declared.result.Item.TheVariants.{Sample}
-use Rattle.pcp_model.specs.declared.records.MetaRecord.TheVariants.{Description}
+use Rattle.pcp_base.specs.declared.result.Item.TheVariants.{Sample, Mark}
+use Rattle.pcp_model.specs.declared.records.MetaRecord.TheVariants.{Description, Domain}
 use Rattle.pcp_model.specs.Words.{word, signed_word, length-word, length-signed_word, zeros}
 use Rattle.pcp_model.specs.Payload.{filling, block, block_head, block_length, blocks_length, blocks_bytes, blocks_in, blocks_of, pair_blocks, places_from, place_pairs, place_byte, value_pairs, body_words, set_words, body_length, sets_length, head_length, payload_length, result_head, payload, reach, BlockStands, BlocksStand, ResultInRange, IsPayload, IsItem}
-use Rattle.pcp_model.specs.Records.{description, DescriptionInRange, IsRecord, counted_name, counted_names, names_length}
+use Rattle.pcp_model.specs.Records.{description, DescriptionInRange, IsRecord, counted_name, counted_names, names_length, domain, domain_head, instance_words, words, name_table, name_offsets, NameStands, NamesStand, IsDomain}
 use Rattle.pcp_model.proofs.Payloads.{set_words-cons}
 
 pub is_description : (d : Desc) (names : List (List ℕ)) → DescriptionInRange d names → IsRecord (description d names) (Description d names)
@@ -170,3 +175,60 @@ is_payload r range few =
 
 pub is_sample : (r : PmResult) → ResultInRange r → payload_length r < 4294967296 → 0 < length r.sets → IsItem (payload r) (Sample r)
 is_sample r range few some = (some, is_payload r range few)
+
+pub is_mark : (t : Moment) → IsMoment t → IsItem (word t.sec ++ (word t.usec ++ word 0)) (Mark t)
+is_mark t moment = (moment, refl)
+
+-- a domain's names stand one behind another in its table
+name_stands : (table front rest name : List ℕ) → table ≡ front ++ (name ++ 0 ∷ rest) → IsText name → NameStands table (length front) name
+name_stands table front rest name is text = record {
+  text = text;
+  is = ap (λ t. take (length name + 1) (drop (length front) t)) is
+      ∙ ap (take (length name + 1)) (drop_at front (name ++ 0 ∷ rest) (length front) refl ∙ sym (append_assoc name (0 ∷ []) rest))
+      ∙ take_at (name ++ 0 ∷ []) rest (length name + 1) (length-append name (0 ∷ []));
+}
+
+names_stand : (table front : List ℕ) (pairs : List (ℤ × List ℕ)) → table ≡ front ++ name_table pairs → AllByRecursion (λ (p : ℤ × List ℕ). IsText p.1) pairs → NamesStand table (name_offsets (length front) pairs) pairs
+names_stand table front [] is texts = tt
+names_stand table front (p ∷ pairs) is texts =
+    let longer : length (front ++ (p.1 ++ 0 ∷ [])) ≡ length front + length p.1 + 1 = omega (arith, length-append front (p.1 ++ 0 ∷ []), length-append p.1 (0 ∷ [])) in
+    let next : table ≡ (front ++ (p.1 ++ 0 ∷ [])) ++ name_table pairs =
+        is ∙ ap (λ t. front ++ t) (sym (append_assoc p.1 (0 ∷ []) (name_table pairs))) ∙ sym (append_assoc front (p.1 ++ 0 ∷ []) (name_table pairs)) in
+    (name_stands table front (name_table pairs) p.1 is texts.0,
+        subst (λ n. NamesStand table (name_offsets n pairs) pairs) longer (names_stand table (front ++ (p.1 ++ 0 ∷ [])) pairs next texts.1))
+
+-- the writer's domain is a domain
+pub is_domain : (t : Moment) (indom : ℕ) (pairs : List (ℤ × List ℕ)) → IsMoment t → indom < 4294967296 → length pairs < 2147483648
+    → AllByRecursion (λ (p : ℤ × List ℕ). FitsSigned w32 p.0) pairs → AllByRecursion (λ (p : ℤ × List ℕ). IsText p.1) pairs → IsRecord (domain t indom pairs) (Domain t indom pairs)
+unfolding domain
+is_domain t indom pairs moment fits few numbers texts = record {
+  moment = moment;
+  indom_fits = fits;
+  few = few;
+  numbers = numbers;
+  offsets = name_offsets 0 pairs;
+  table = name_table pairs;
+  names = names_stand (name_table pairs) [] pairs refl texts;
+  is = refl;
+}
+
+length-instance_words : (pairs : List (ℤ × List ℕ)) → length (instance_words pairs) ≡ 4 * length pairs
+length-instance_words [] = refl
+length-instance_words (p ∷ pairs) = omega (arith, length-append (signed_word p.0) (instance_words pairs), length-signed_word p.0, length-instance_words pairs)
+
+length-offset_words : (at : ℕ) (pairs : List (ℤ × List ℕ)) → length (words (name_offsets at pairs)) ≡ 4 * length pairs
+length-offset_words at [] = refl
+length-offset_words at (p ∷ pairs) =
+    let next : ℕ = at + length p.1 + 1 in
+    omega (arith, length-append (word at) (words (name_offsets next pairs)), length-word at, length-offset_words next pairs)
+
+-- how many bytes it has
+pub length-domain : (t : Moment) (indom : ℕ) (pairs : List (ℤ × List ℕ)) → length (domain t indom pairs) ≡ 20 + 8 * length pairs + length (name_table pairs)
+unfolding domain
+length-domain t indom pairs =
+    let offsets : List ℕ = words (name_offsets 0 pairs) in
+    let after : List ℕ = word (length pairs) ++ (instance_words pairs ++ offsets) in
+    omega (arith, length-append (domain_head t indom pairs (name_offsets 0 pairs)) (name_table pairs), length-append (word 2) (word t.sec ++ (word t.usec ++ (word indom ++ after))),
+        length-append (word t.sec) (word t.usec ++ (word indom ++ after)), length-append (word t.usec) (word indom ++ after), length-append (word indom) after,
+        length-append (word (length pairs)) (instance_words pairs ++ offsets), length-append (instance_words pairs) offsets, length-instance_words pairs, length-offset_words 0 pairs,
+        length-word 2, length-word t.sec, length-word t.usec, length-word indom, length-word (length pairs))
