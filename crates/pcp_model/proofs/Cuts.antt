@@ -1,5 +1,5 @@
 -- What a crash leaves of a label, of a frame and of frames: bytes that are cut anywhere.
-use Rattle.std.proofs.Common.{zero, suc, ◌≡◌, ◌≢◌, ◌⊎◌, inl, inr, ⊎_elim, ℕ, ℤ, ◌+◌, ◌-◌, ◌*◌, ◌<◌, ◌≤◌, List, [], ◌∷◌, ◌++◌, length, take, drop, min, replicate, refl, sym, ap, ◌∙◌, subst, append_assoc, arith, length-append}
+use Rattle.std.proofs.Common.{zero, suc, ◌≡◌, ◌⊎◌, inl, inr, ⊎_elim, ℕ, ℤ, ◌+◌, ◌-◌, ◌*◌, ◌<◌, ◌≤◌, List, [], ◌∷◌, ◌++◌, length, take, drop, refl, sym, ap, ◌∙◌, subst, append_assoc, arith, length-append}
 use Rattle.std.specs.Prelude.{FitsSigned, negsuc}
 use Rattle.std.specs.Int.{w32, from_be_bytes}
 use Rattle.std.specs.List.{AllByRecursion}
@@ -41,11 +41,11 @@ cut_frame payload n fits h =
     let long : length (frame payload) ≡ length payload + 8 = length-frame payload in
     let cut : length (take n (frame payload)) ≡ n = length-take-le n (frame payload) (omega arith) in
     ⊎_elim (λ (few : n < 4). inl (omega arith))
-        (λ (more : 4 ≤ n). let says : from_be_bytes w32 (take 4 (take n (frame payload))) ≡ length payload + 8 = length_word_of_frame payload n fits more in
-            let least : 4 ≤ length payload = fits.least in
-            let most : length payload ≤ 16777208 = fits.most in
-            inr (omega arith, omega arith, omega arith))
-        (cases_lt n 4)
+    (λ (more : 4 ≤ n). let says : from_be_bytes w32 (take 4 (take n (frame payload))) ≡ length payload + 8 = length_word_of_frame payload n fits more in
+    let least : 4 ≤ length payload = fits.least in
+    let most : length payload ≤ 16777208 = fits.most in
+    inr (omega arith, omega arith, omega arith))
+    (cases_lt n 4)
 
 -- what the writer puts into a label's fields
 pub record SpelledLabel (l : LabelFields) : Type 0 where
@@ -90,10 +90,18 @@ cut_label l number n s fits h =
 
 label_head_long : (l : LabelFields) (number : ℤ) → length (label_head l number) ≡ 20
 label_head_long l number =
-    omega (arith, length-append (word 1342514690) (word l.pid ++ (word l.start.sec ++ (word l.start.usec ++ signed_word number))),
-        length-append (word l.pid) (word l.start.sec ++ (word l.start.usec ++ signed_word number)),
-        length-append (word l.start.sec) (word l.start.usec ++ signed_word number), length-append (word l.start.usec) (signed_word number),
-        length-word 1342514690, length-word l.pid, length-word l.start.sec, length-word l.start.usec, length-signed_word number)
+    omega (
+      arith,
+      length-append (word 1342514690) (word l.pid ++ (word l.start.sec ++ (word l.start.usec ++ signed_word number))),
+      length-append (word l.pid) (word l.start.sec ++ (word l.start.usec ++ signed_word number)),
+      length-append (word l.start.sec) (word l.start.usec ++ signed_word number),
+      length-append (word l.start.usec) (signed_word number),
+      length-word 1342514690,
+      length-word l.pid,
+      length-word l.start.sec,
+      length-word l.start.usec,
+      length-signed_word number,
+    )
 
 -- each label has 132 bytes
 pub length_of_label : (bytes : List ℕ) (l : LabelFields) (number : ℤ) → IsLabel bytes l number → length bytes ≡ 132
@@ -236,9 +244,18 @@ module _ {X : Type 0} (R : List ℕ → X → Type 0) (bytes : List ℕ) (l : La
 pub length-entry : (e : Entry) → length (entry e) ≡ 20
 unfolding entry
 length-entry e =
-    omega (arith, length-append (word e.stamp.sec) (word e.stamp.usec ++ (word e.volume ++ (word e.meta ++ word e.offset))),
-        length-append (word e.stamp.usec) (word e.volume ++ (word e.meta ++ word e.offset)), length-append (word e.volume) (word e.meta ++ word e.offset),
-        length-append (word e.meta) (word e.offset), length-word e.stamp.sec, length-word e.stamp.usec, length-word e.volume, length-word e.meta, length-word e.offset)
+    omega (
+      arith,
+      length-append (word e.stamp.sec) (word e.stamp.usec ++ (word e.volume ++ (word e.meta ++ word e.offset))),
+      length-append (word e.stamp.usec) (word e.volume ++ (word e.meta ++ word e.offset)),
+      length-append (word e.volume) (word e.meta ++ word e.offset),
+      length-append (word e.meta) (word e.offset),
+      length-word e.stamp.sec,
+      length-word e.stamp.usec,
+      length-word e.volume,
+      length-word e.meta,
+      length-word e.offset,
+    )
 
 -- what is left of entries: whole ones and fewer bytes than one more
 pub record CutEntries (es : List Entry) (n : ℕ) : Type 0 where

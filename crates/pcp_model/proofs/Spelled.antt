@@ -1,5 +1,5 @@
 -- What the writer spells is what a reader takes.
-use Rattle.std.proofs.Common.{zero, suc, ◌≡◌, ◌≢◌, ◌⊎◌, inl, inr, ⊎_elim, ℕ, ℤ, ◌+◌, ◌-◌, ◌*◌, ◌/◌, ◌%◌, ◌<◌, ◌≤◌, List, [], ◌∷◌, ◌++◌, length, take, drop, max, refl, sym, ap, ◌∙◌, subst, append_assoc, arith, length-append}
+use Rattle.std.proofs.Common.{◌≡◌, ℕ, ℤ, ◌+◌, ◌*◌, ◌/◌, ◌%◌, ◌<◌, ◌≤◌, List, [], ◌∷◌, ◌++◌, length, take, drop, max, refl, sym, ap, ◌∙◌, subst, append_assoc, arith, length-append}
 use Rattle.std.proofs.Math.ListN.{length-replicate}
 use Rattle.std.proofs.lemmas.List.{take_at, drop_at}
 use Rattle.std.specs.Prelude.{FitsSigned}
@@ -17,7 +17,7 @@ use Rattle.pcp_base.specs.declared.result.Item.TheVariants.{Sample, Mark}
 use Rattle.pcp_model.specs.declared.records.MetaRecord.TheVariants.{Description, Domain}
 use Rattle.pcp_model.specs.Words.{word, signed_word, length-word, length-signed_word, zeros}
 use Rattle.pcp_model.specs.Payload.{filling, block, block_head, block_length, blocks_length, blocks_bytes, blocks_in, blocks_of, pair_blocks, places_from, place_pairs, place_byte, value_pairs, body_words, set_words, body_length, sets_length, head_length, payload_length, result_head, payload, reach, BlockStands, BlocksStand, ResultInRange, IsPayload, IsItem}
-use Rattle.pcp_model.specs.Records.{description, DescriptionInRange, IsRecord, counted_name, counted_names, names_length, domain, domain_head, instance_words, words, name_table, name_offsets, NameStands, NamesStand, IsDomain}
+use Rattle.pcp_model.specs.Records.{description, DescriptionInRange, IsRecord, counted_name, counted_names, names_length, domain, domain_head, instance_words, words, name_table, name_offsets, NameStands, NamesStand}
 use Rattle.pcp_model.proofs.Payloads.{set_words-cons}
 
 pub is_description : (d : Desc) (names : List (List ℕ)) → DescriptionInRange d names → IsRecord (description d names) (Description d names)
@@ -33,12 +33,24 @@ pub length-description : (d : Desc) (names : List (List ℕ)) → length (descri
 unfolding description
 length-description d names =
     let after : List ℕ = word (length names) ++ counted_names names in
-    omega (arith, length-append (word 1) (word d.pmid ++ (word d.code ++ (word d.indom ++ (word d.semantics ++ (word d.units ++ after))))),
-        length-append (word d.pmid) (word d.code ++ (word d.indom ++ (word d.semantics ++ (word d.units ++ after)))),
-        length-append (word d.code) (word d.indom ++ (word d.semantics ++ (word d.units ++ after))),
-        length-append (word d.indom) (word d.semantics ++ (word d.units ++ after)), length-append (word d.semantics) (word d.units ++ after),
-        length-append (word d.units) after, length-append (word (length names)) (counted_names names), length-counted_names names,
-        length-word 1, length-word d.pmid, length-word d.code, length-word d.indom, length-word d.semantics, length-word d.units, length-word (length names))
+    omega (
+      arith,
+      length-append (word 1) (word d.pmid ++ (word d.code ++ (word d.indom ++ (word d.semantics ++ (word d.units ++ after))))),
+      length-append (word d.pmid) (word d.code ++ (word d.indom ++ (word d.semantics ++ (word d.units ++ after)))),
+      length-append (word d.code) (word d.indom ++ (word d.semantics ++ (word d.units ++ after))),
+      length-append (word d.indom) (word d.semantics ++ (word d.units ++ after)),
+      length-append (word d.semantics) (word d.units ++ after),
+      length-append (word d.units) after,
+      length-append (word (length names)) (counted_names names),
+      length-counted_names names,
+      length-word 1,
+      length-word d.pmid,
+      length-word d.code,
+      length-word d.indom,
+      length-word d.semantics,
+      length-word d.units,
+      length-word (length names),
+    )
 
 length-value_pairs : (pairs : List (ℤ × ℕ)) → length (value_pairs pairs) ≡ 8 * length pairs
 length-value_pairs [] = refl
@@ -67,13 +79,21 @@ length-set_words at (set ∷ sets) =
     let more : List ℕ = set_words (places_from next (blocks_of sets)) sets in
     ap length (set_words-cons at set sets)
     ∙ (let e : length (word set.pmid ++ (body ++ more)) ≡ 4 + body_length set.body + sets_length sets =
-            omega (arith, length-append (word set.pmid) (body ++ more), length-append body more, length-word set.pmid, length-body_words at set.body, length-set_words next sets) in e)
+    omega (arith, length-append (word set.pmid) (body ++ more), length-append body more, length-word set.pmid, length-body_words at set.body, length-set_words next sets) in e)
 
 length-result_head : (at : ℕ) (r : PmResult) → length (result_head (places_from at (blocks_of r.sets)) r) ≡ head_length r
 length-result_head at r =
     let more : List ℕ = set_words (places_from at (blocks_of r.sets)) r.sets in
-    omega (arith, length-append (word r.stamp.sec) (word r.stamp.usec ++ (word (length r.sets) ++ more)), length-append (word r.stamp.usec) (word (length r.sets) ++ more),
-        length-append (word (length r.sets)) more, length-word r.stamp.sec, length-word r.stamp.usec, length-word (length r.sets), length-set_words at r.sets)
+    omega (
+      arith,
+      length-append (word r.stamp.sec) (word r.stamp.usec ++ (word (length r.sets) ++ more)),
+      length-append (word r.stamp.usec) (word (length r.sets) ++ more),
+      length-append (word (length r.sets)) more,
+      length-word r.stamp.sec,
+      length-word r.stamp.usec,
+      length-word (length r.sets),
+      length-set_words at r.sets,
+    )
 
 length-block : (b : TypedBytes) → length (block b) ≡ block_length b
 length-block b =
@@ -115,7 +135,7 @@ stands : (bytes front rest : List ℕ) (sets_end : ℕ) (b : TypedBytes) → byt
 stands bytes front rest sets_end b is quarter behind few =
     let place : place_byte (3 + length front / 4) ≡ length front = place_of (length front) quarter in
     let size : length bytes ≡ length front + (block_length b + length rest) =
-        ap length is ∙ length-append front (block b ++ rest) ∙ ap (λ n. length front + n) (length-append (block b) rest ∙ ap (λ n. n + length rest) (length-block b)) in
+    ap length is ∙ length-append front (block b ++ rest) ∙ ap (λ n. length front + n) (length-append (block b) rest ∙ ap (λ n. n + length rest) (length-block b)) in
     record {
       word_fits = omega arith;
       behind = (omega arith, omega arith);
@@ -131,10 +151,11 @@ all_stand : (bytes front : List ℕ) (sets_end : ℕ) (blocks : List TypedBytes)
 all_stand bytes front sets_end [] is quarter behind few = tt
 all_stand bytes front sets_end (b ∷ blocks) is quarter behind few =
     let longer : length (front ++ block b) ≡ length front + block_length b = length-append front (block b) ∙ ap (λ n. length front + n) (length-block b) in
-    let whole : block_length b % 4 ≡ 0 = block_words b in
-    (stands bytes front (blocks_bytes blocks) sets_end b is quarter behind few,
-        subst (λ n. BlocksStand bytes sets_end (places_from n blocks) blocks) longer
-            (all_stand bytes (front ++ block b) sets_end blocks (is ∙ sym (append_assoc front (block b) (blocks_bytes blocks))) (omega arith) (omega arith) few))
+    let whole : block_length b % 4 ≡ 0 = block_words b in (
+      stands bytes front (blocks_bytes blocks) sets_end b is quarter behind few,
+      subst (λ n. BlocksStand bytes sets_end (places_from n blocks) blocks) longer
+          (all_stand bytes (front ++ block b) sets_end blocks (is ∙ sym (append_assoc front (block b) (blocks_bytes blocks))) (omega arith) (omega arith) few),
+    )
 
 -- they reach as far as they are long
 least_reach : (end : ℕ) (places : List ℕ) (blocks : List TypedBytes) → end ≤ reach end places blocks
@@ -148,7 +169,7 @@ all_reach end at (b ∷ blocks) h quarter =
     let place : place_byte (3 + at / 4) ≡ at = place_of at quarter in
     let whole : block_length b % 4 ≡ 0 = block_words b in
     let more : max (at + block_length b) (reach end (places_from (at + block_length b) blocks) blocks) ≡ at + block_length b + blocks_length blocks =
-        all_reach end (at + block_length b) blocks (omega arith) (omega arith) in
+    all_reach end (at + block_length b) blocks (omega arith) (omega arith) in
     omega arith
 
 -- the writer's payload is a payload
@@ -161,9 +182,9 @@ is_payload r range few =
     let quarter : head_length r % 4 ≡ 0 = let sets : sets_length r.sets % 4 ≡ 0 = sets_words r.sets in omega arith in
     let size : length (payload r) ≡ payload_length r = length-payload r in
     let reached : max (head_length r) (reach (head_length r) (places_from (head_length r) (blocks_of r.sets)) (blocks_of r.sets)) ≡ head_length r + blocks_length (blocks_of r.sets) =
-        all_reach (head_length r) (head_length r) (blocks_of r.sets) (omega arith) quarter in
+    all_reach (head_length r) (head_length r) (blocks_of r.sets) (omega arith) quarter in
     let least : head_length r ≤ reach (head_length r) (places_from (head_length r) (blocks_of r.sets)) (blocks_of r.sets) =
-        least_reach (head_length r) (places_from (head_length r) (blocks_of r.sets)) (blocks_of r.sets) in
+    least_reach (head_length r) (places_from (head_length r) (blocks_of r.sets)) (blocks_of r.sets) in
     record {
       range = range;
       places = places_from (head_length r) (blocks_of r.sets);
@@ -193,9 +214,10 @@ names_stand table front [] is texts = tt
 names_stand table front (p ∷ pairs) is texts =
     let longer : length (front ++ (p.1 ++ 0 ∷ [])) ≡ length front + length p.1 + 1 = omega (arith, length-append front (p.1 ++ 0 ∷ []), length-append p.1 (0 ∷ [])) in
     let next : table ≡ (front ++ (p.1 ++ 0 ∷ [])) ++ name_table pairs =
-        is ∙ ap (λ t. front ++ t) (sym (append_assoc p.1 (0 ∷ []) (name_table pairs))) ∙ sym (append_assoc front (p.1 ++ 0 ∷ []) (name_table pairs)) in
-    (name_stands table front (name_table pairs) p.1 is texts.0,
-        subst (λ n. NamesStand table (name_offsets n pairs) pairs) longer (names_stand table (front ++ (p.1 ++ 0 ∷ [])) pairs next texts.1))
+    is ∙ ap (λ t. front ++ t) (sym (append_assoc p.1 (0 ∷ []) (name_table pairs))) ∙ sym (append_assoc front (p.1 ++ 0 ∷ []) (name_table pairs)) in (
+      name_stands table front (name_table pairs) p.1 is texts.0,
+      subst (λ n. NamesStand table (name_offsets n pairs) pairs) longer (names_stand table (front ++ (p.1 ++ 0 ∷ [])) pairs next texts.1),
+    )
 
 -- the writer's domain is a domain
 pub is_domain : (t : Moment) (indom : ℕ) (pairs : List (ℤ × List ℕ)) → IsMoment t → indom < 4294967296 → length pairs < 2147483648
@@ -228,7 +250,20 @@ unfolding domain
 length-domain t indom pairs =
     let offsets : List ℕ = words (name_offsets 0 pairs) in
     let after : List ℕ = word (length pairs) ++ (instance_words pairs ++ offsets) in
-    omega (arith, length-append (domain_head t indom pairs (name_offsets 0 pairs)) (name_table pairs), length-append (word 2) (word t.sec ++ (word t.usec ++ (word indom ++ after))),
-        length-append (word t.sec) (word t.usec ++ (word indom ++ after)), length-append (word t.usec) (word indom ++ after), length-append (word indom) after,
-        length-append (word (length pairs)) (instance_words pairs ++ offsets), length-append (instance_words pairs) offsets, length-instance_words pairs, length-offset_words 0 pairs,
-        length-word 2, length-word t.sec, length-word t.usec, length-word indom, length-word (length pairs))
+    omega (
+      arith,
+      length-append (domain_head t indom pairs (name_offsets 0 pairs)) (name_table pairs),
+      length-append (word 2) (word t.sec ++ (word t.usec ++ (word indom ++ after))),
+      length-append (word t.sec) (word t.usec ++ (word indom ++ after)),
+      length-append (word t.usec) (word indom ++ after),
+      length-append (word indom) after,
+      length-append (word (length pairs)) (instance_words pairs ++ offsets),
+      length-append (instance_words pairs) offsets,
+      length-instance_words pairs,
+      length-offset_words 0 pairs,
+      length-word 2,
+      length-word t.sec,
+      length-word t.usec,
+      length-word indom,
+      length-word (length pairs),
+    )

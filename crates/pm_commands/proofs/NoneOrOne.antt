@@ -1,5 +1,5 @@
 -- What a crash may leave of `once` is a readable archive, whose scan is empty or the one item, described.
-use Rattle.std.proofs.Common.{zero, suc, ◌≡◌, ◌≢◌, ◌⊎◌, inl, inr, ⊎_elim, ℕ, ℤ, ◌+◌, ◌-◌, ◌*◌, ◌%◌, ◌<◌, ◌≤◌, negsuc, pos, List, [], ◌∷◌, ◌++◌, length, take, drop, map, refl, sym, ap, ◌∙◌, subst, arith, length-append, codes, Bool, true, false}
+use Rattle.std.proofs.Common.{zero, suc, ◌≡◌, ◌≢◌, ◌⊎◌, inl, inr, ⊎_elim, ℕ, ◌-◌, ◌*◌, ◌<◌, ◌≤◌, negsuc, pos, List, [], ◌∷◌, ◌++◌, length, take, map, refl, sym, ap, ◌∙◌, subst, arith, length-append, codes, Bool, true, false}
 use Rattle.std.specs.Prelude.{FitsSigned, Contains}
 use Rattle.std.specs.Int.{w32}
 use Rattle.std.specs.List.{AllByRecursion}
@@ -16,13 +16,13 @@ use Rattle.pcp_base.specs.declared.result.Item.{Item}
 use Rattle.pcp_model.specs.declared.records.Entry.{Entry}
 use Rattle.pcp_model.specs.declared.records.MetaRecord.{MetaRecord}
 use Rattle.pcp_model.specs.declared.records.MetaRecord.TheVariants.{Description, Domain, Other}
-use Rattle.pcp_model.specs.Archive.{AreRead, Contents, Holds, IsMeta, HasEntries, IsIndex, IsLastVolume, AreVolumes, IsArchive, IsStoppedCreation, Reading, Reads, items_of, scan, records_in}
-use Rattle.pcp_model.specs.Described.{Described, IsDescribedBy}
+use Rattle.pcp_model.specs.Archive.{Holds, IsMeta, HasEntries, IsIndex, AreVolumes, Reading, Reads, items_of, scan, records_in}
+use Rattle.pcp_model.specs.Described.{Described}
 use Rattle.pcp_model.specs.Disk.{Files, Held, Holdings, CrashImage, IsEmpty}
 use Rattle.pcp_model.specs.Frame.{frame, frames, IsFrameable}
 use Rattle.pcp_model.specs.LabelFields.{LabelFields}
 use Rattle.pcp_model.specs.Labels.{label, BeginsLabel}
-use Rattle.pcp_model.specs.Payload.{payload, payload_length, IsItem, ResultInRange}
+use Rattle.pcp_model.specs.Payload.{payload, IsItem, ResultInRange}
 use Rattle.pcp_model.specs.Records.{description, entry, entries, FitsEntry, IsRecord, AreConsistent, DescriptionInRange}
 use Rattle.pcp_model.proofs.Lengths.{length-frame, length-label}
 use Rattle.pcp_model.proofs.Cuts.{SpelledLabel, CutFile, CutEntries, cut_file, cut_entries, cut_in_label, cut_index, written_file}
@@ -30,8 +30,8 @@ use Rattle.pcp_model.proofs.Spelled.{is_description, is_sample, length-descripti
 use Rattle.pcp_outside.specs.Devices.{appended}
 use Rattle.pm_commands.specs.declared.words.OnceWords.{OnceWords}
 use Rattle.pm_commands.specs.Fits.{FitsOnce, FitsShot}
-use Rattle.pm_commands.specs.Once.{Shot, once_label, shown_desc, shown_name, shown_pmid, shown_result, logged, flush_entry}
-use Rattle.pm_commands.specs.Pieces.{Pieces, pieces, meta_file, index_file, volume_file, InOrder, IsCut, NoneOrOne, HasItem, sure}
+use Rattle.pm_commands.specs.Once.{Shot, once_label, shown_desc, shown_name, shown_result, logged, flush_entry}
+use Rattle.pm_commands.specs.Pieces.{Pieces, pieces, meta_file, index_file, volume_file, IsCut, NoneOrOne, HasItem, sure}
 use Rattle.pm_commands.proofs.Logged.{Final, fits_once}
 use Rattle.pm_commands.proofs.Stages.{IsPart, survivor}
 
@@ -272,9 +272,11 @@ module _ (p : Pieces) (l : LabelFields) (r : MetaRecord) (item : Item) (e : Entr
         reading = f.reading;
         reads = f.reads;
         found = ⊎_elim (λ (none : scan f.reading ≡ []). inl none)
-            (λ (one : (scan f.reading ≡ item ∷ []) × (132 < cut.v)). inr (one.0,
-                (let whole : length (meta_file p) ≤ cut.m = ⊎_elim (λ (few : cut.v ≤ length p.volume_label). absurd (omega (arith, volume_long, one.1))) (λ (all : length (meta_file p) ≤ cut.m). all) cut.order.described in
-                    subst (λ records. Described records item) (sym (f.records whole)) described)))
+            (λ (one : (scan f.reading ≡ item ∷ []) × (132 < cut.v)). inr (
+              one.0,
+              (let whole : length (meta_file p) ≤ cut.m = ⊎_elim (λ (few : cut.v ≤ length p.volume_label). absurd (omega (arith, volume_long, one.1))) (λ (all : length (meta_file p) ≤ cut.m). all) cut.order.described in
+                  subst (λ records. Described records item) (sym (f.records whole)) described),
+            ))
             f.found;
       }
 
@@ -318,7 +320,7 @@ spelled_once stamp moment = record { pid = omega arith; start = moment; host = h
 name_text : (file : List ℕ) (s : Shot) → IsText file → FitsShot s → IsText (shown_name file s)
 name_text file s text f =
     All-append (λ b. b ≢ 0) (codes "mmv.") (file ++ (46 ∷ s.name)) front_text
-        (All-append (λ b. b ≢ 0) file (46 ∷ s.name) text (All-cons (λ b. b ≢ 0) 46 s.name (λ e. cc) f.text))
+    (All-append (λ b. b ≢ 0) file (46 ∷ s.name) text (All-cons (λ b. b ≢ 0) 46 s.name (λ e. cc) f.text))
 
 name_length : (file : List ℕ) (s : Shot) → length file ≤ 63 → FitsShot s → length (shown_name file s) ≤ 131
 name_length file s short f =
@@ -342,8 +344,14 @@ result_in_range : (stamp : Moment) (s : Shot) → IsMoment stamp → FitsShot s 
 result_in_range stamp s moment f = record {
   moment = moment;
   few = omega arith;
-  sets = ((let cluster : s.cluster < 4096 = f.cluster in let number : s.item < 1024 = f.item in omega arith,
-      omega arith, (omega arith, ((meta_fits, omega arith), tt))), tt);
+  sets = (
+    (
+      let cluster : s.cluster < 4096 = f.cluster in let number : s.item < 1024 = f.item in omega arith,
+      omega arith,
+      (omega arith, ((meta_fits, omega arith), tt)),
+    ),
+    tt,
+  );
 }
 
 description_length : (file : List ℕ) (s : Shot) → length file ≤ 63 → FitsShot s → length (description (shown_desc s) (shown_name file s ∷ [])) ≤ 163
@@ -386,8 +394,10 @@ spells asked s once shot = record {
   volume_label = refl;
   says_record = description (shown_desc s) (shown_name asked.file s ∷ []);
   description = refl;
-  is_record = (description_frames asked.file s once.short shot,
-      is_description (shown_desc s) (shown_name asked.file s ∷ []) (description_in_range asked.file s once.text once.short shot));
+  is_record = (
+    description_frames asked.file s once.short shot,
+    is_description (shown_desc s) (shown_name asked.file s ∷ []) (description_in_range asked.file s once.text once.short shot),
+  );
   says_item = payload (shown_result asked.stamp s);
   sample = refl;
   is_item = (result_frames asked.stamp s, is_sample (shown_result asked.stamp s) (result_in_range asked.stamp s once.moment shot) (omega arith) (omega arith));
@@ -403,7 +413,7 @@ described stamp file s =
 pub none_or_one : (asked : OnceWords) (s : Shot) → FitsOnce asked → FitsShot s → (image : Files) → IsCut (pieces asked.stamp asked.file s) image → NoneOrOne image (Sample (shown_result asked.stamp s))
 none_or_one asked s once shot image cut =
     none_or_one_of (pieces asked.stamp asked.file s) (once_label asked.stamp) (Description (shown_desc s) (shown_name asked.file s ∷ [])) (Sample (shown_result asked.stamp s))
-        (flush_entry asked.stamp (logged asked.stamp asked.file s)) (spells asked s once shot) image cut (described asked.stamp asked.file s)
+    (flush_entry asked.stamp (logged asked.stamp asked.file s)) (spells asked s once shot) image cut (described asked.stamp asked.file s)
 
 -- a file all of whose bytes are sure is there whole
 sure_whole : (held : Holdings) (image : Files) (file : FileId) (bytes : List ℕ) → held file ≡ sure bytes → CrashImage held image → image file ≡ take (length bytes) bytes
@@ -414,7 +424,7 @@ sure_whole held image file bytes is left =
 index_part : (p : Pieces) (held : Holdings) (image : Files) → Final p held → CrashImage held image → IsPart (appended (sure p.index_label) p.entry) (index_file p) (image Index)
 index_part p held image final left =
     survivor (appended (sure p.index_label) p.entry) (index_file p) (image Index) (left Index).0 (record { more = []; is = sym (append-nil (index_file p)) })
-        ((left Index).1 ∙ ap (λ (g : Held). g.sure ++ take (left Index).0 g.rest) final.has_index)
+    ((left Index).1 ∙ ap (λ (g : Held). g.sure ++ take (left Index).0 g.rest) final.has_index)
 
 final_others : (p : Pieces) (held : Holdings) (image : Files) → Final p held → CrashImage held image → (k : ℕ) → k ≢ 0 → image (Volume k) ≡ []
 final_others p held image final left k other =
@@ -423,30 +433,33 @@ final_others p held image final left k other =
 final_cut : (p : Pieces) (held : Holdings) (image : Files) → Final p held → CrashImage held image → (cut : IsCut p image) × (length (meta_file p) ≤ cut.m) × (length (volume_file p) ≤ cut.v)
 final_cut p held image final left =
     let i : IsPart (appended (sure p.index_label) p.entry) (index_file p) (image Index) = index_part p held image final left in
-    let least : length p.index_label ≤ i.c = i.least in
-    (record {
-      m = length (meta_file p);
-      i = i.c;
-      v = length (volume_file p);
-      meta = sure_whole held image Meta (meta_file p) final.has_meta left;
-      index = i.is;
-      volume = sure_whole held image (Volume 0) (volume_file p) final.has_volume left;
-      others = final_others p held image final left;
-      order = record {
-        index_after = inr (omega (arith, length-append p.meta_label p.description));
-        volume_after = inr (omega (arith, length-append p.meta_label p.description), omega arith);
-        described = inr (omega arith);
-        indexed = inr (omega arith);
-      };
-    }, omega arith, omega arith)
+    let least : length p.index_label ≤ i.c = i.least in (
+      record {
+        m = length (meta_file p);
+        i = i.c;
+        v = length (volume_file p);
+        meta = sure_whole held image Meta (meta_file p) final.has_meta left;
+        index = i.is;
+        volume = sure_whole held image (Volume 0) (volume_file p) final.has_volume left;
+        others = final_others p held image final left;
+        order = record {
+          index_after = inr (omega (arith, length-append p.meta_label p.description));
+          volume_after = inr (omega (arith, length-append p.meta_label p.description), omega arith);
+          described = inr (omega arith);
+          indexed = inr (omega arith);
+        };
+      },
+      omega arith,
+      omega arith,
+    )
 
 pub has_item : (asked : OnceWords) (s : Shot) → FitsOnce asked → FitsShot s → (held : Holdings) → Final (pieces asked.stamp asked.file s) held → (image : Files) → CrashImage held image
     → HasItem image (Sample (shown_result asked.stamp s))
 has_item asked s once shot held final image left =
     let f : (cut : IsCut (pieces asked.stamp asked.file s) image) × (length (meta_file (pieces asked.stamp asked.file s)) ≤ cut.m) × (length (volume_file (pieces asked.stamp asked.file s)) ≤ cut.v) =
-        final_cut (pieces asked.stamp asked.file s) held image final left in
+    final_cut (pieces asked.stamp asked.file s) held image final left in
     has_item_of (pieces asked.stamp asked.file s) (once_label asked.stamp) (Description (shown_desc s) (shown_name asked.file s ∷ [])) (Sample (shown_result asked.stamp s))
-        (flush_entry asked.stamp (logged asked.stamp asked.file s)) (spells asked s once shot) image f.0 (described asked.stamp asked.file s) f.1 f.2
+    (flush_entry asked.stamp (logged asked.stamp asked.file s)) (spells asked s once shot) image f.0 (described asked.stamp asked.file s) f.1 f.2
 
 -- empty files are a stopped creation
 pub none_of_nothing : (image : Files) → IsEmpty image → (item : Item) → NoneOrOne image item
