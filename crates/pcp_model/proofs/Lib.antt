@@ -1,2 +1,4 @@
-pub mod Payloads
+pub mod Cuts
 pub mod Lengths
+pub mod Payloads
+pub mod Spelled

@@ -1,0 +1,470 @@
+-- What a crash may leave of `once` is a readable archive, whose scan is empty or the one item, described.
+use Rattle.std.proofs.Common.{zero, suc, ◌≡◌, ◌≢◌, ◌⊎◌, inl, inr, ⊎_elim, ℕ, ◌-◌, ◌*◌, ◌<◌, ◌≤◌, negsuc, pos, List, [], ◌∷◌, ◌++◌, length, take, map, refl, sym, ap, ◌∙◌, subst, arith, length-append, codes, Bool, true, false}
+use Rattle.std.specs.Prelude.{FitsSigned, Contains}
+use Rattle.std.specs.Int.{w32}
+use Rattle.std.specs.List.{AllByRecursion}
+use Rattle.std.proofs.lemmas.Bool.{cases_lt}
+use Rattle.std.proofs.lemmas.Int.{fits_signed_from_abs}
+use Rattle.std.proofs.lemmas.List.{take_all, length-take-le, append-nil}
+use Rattle.std.proofs.lemmas.List.Elements.{All-append, All-cons, All-from_recursion}
+use Rattle.pcp_base.specs.Texts.{IsText}
+use Rattle.pcp_base.specs.Time.{Moment, IsMoment}
+use Rattle.pcp_base.specs.declared.file.FileId.{FileId}
+use Rattle.pcp_base.specs.declared.file.FileId.TheVariants.{Meta, Index, Volume}
+use Rattle.pcp_base.specs.declared.result.Item.TheVariants.{Sample}
+use Rattle.pcp_base.specs.declared.result.Item.{Item}
+use Rattle.pcp_model.specs.declared.records.Entry.{Entry}
+use Rattle.pcp_model.specs.declared.records.MetaRecord.{MetaRecord}
+use Rattle.pcp_model.specs.declared.records.MetaRecord.TheVariants.{Description, Domain, Other}
+use Rattle.pcp_model.specs.Archive.{Holds, IsMeta, HasEntries, IsIndex, AreVolumes, Reading, Reads, items_of, scan, records_in}
+use Rattle.pcp_model.specs.Described.{Described}
+use Rattle.pcp_model.specs.Disk.{Files, Held, Holdings, CrashImage, IsEmpty}
+use Rattle.pcp_model.specs.Frame.{frame, frames, IsFrameable}
+use Rattle.pcp_model.specs.LabelFields.{LabelFields}
+use Rattle.pcp_model.specs.Labels.{label, BeginsLabel}
+use Rattle.pcp_model.specs.Payload.{payload, IsItem, ResultInRange}
+use Rattle.pcp_model.specs.Records.{description, entry, entries, FitsEntry, IsRecord, AreConsistent, DescriptionInRange}
+use Rattle.pcp_model.proofs.Lengths.{length-frame, length-label}
+use Rattle.pcp_model.proofs.Cuts.{SpelledLabel, CutFile, CutEntries, cut_file, cut_entries, cut_in_label, cut_index, written_file}
+use Rattle.pcp_model.proofs.Spelled.{is_description, is_sample, length-description, length-payload}
+use Rattle.pcp_outside.specs.Devices.{appended}
+use Rattle.pm_commands.specs.declared.words.OnceWords.{OnceWords}
+use Rattle.pm_commands.specs.Fits.{FitsOnce, FitsShot}
+use Rattle.pm_commands.specs.Once.{Shot, once_label, shown_desc, shown_name, shown_result, logged, flush_entry}
+use Rattle.pm_commands.specs.Pieces.{Pieces, pieces, meta_file, index_file, volume_file, IsCut, NoneOrOne, HasItem, sure}
+use Rattle.pm_commands.proofs.Logged.{Final, fits_once}
+use Rattle.pm_commands.proofs.Stages.{IsPart, survivor}
+
+-- the pieces spell this label, this record of Meta, this item and this entry
+record Spells (p : Pieces) (l : LabelFields) (r : MetaRecord) (item : Item) (e : Entry) : Type 0 where
+  pub spelled : SpelledLabel l
+  pub meta_label : p.meta_label ≡ label l (negsuc 0)
+  pub index_label : p.index_label ≡ label l (negsuc 1)
+  pub volume_label : p.volume_label ≡ label l (pos 0)
+  pub says_record : List ℕ
+  pub description : p.description ≡ frame says_record
+  pub is_record : IsFrameable says_record × IsRecord says_record r
+  pub says_item : List ℕ
+  pub sample : p.sample ≡ frame says_item
+  pub is_item : IsFrameable says_item × IsItem says_item item
+  pub last : p.entry ≡ entry e
+  pub fits : FitsEntry e
+
+meta_fits : FitsSigned w32 (negsuc 0)
+meta_fits = fits_signed_from_abs w32 (negsuc 0) (omega arith)
+
+index_fits : FitsSigned w32 (negsuc 1)
+index_fits = fits_signed_from_abs w32 (negsuc 1) (omega arith)
+
+volume_fits : FitsSigned w32 (pos 0)
+volume_fits = fits_signed_from_abs w32 (pos 0) (omega arith)
+
+-- a record alone agrees with itself
+alone : (r : MetaRecord) → AreConsistent (r ∷ [])
+alone (Description d names) = (tt, tt)
+alone (Domain t indom pairs) = (tt, tt)
+alone Other = (tt, tt)
+
+first_of_one : {X : Type 0} (k : ℕ) (x : X) → (take k (x ∷ []) ≡ []) ⊎ (take k (x ∷ []) ≡ x ∷ [])
+first_of_one zero x = inl refl
+first_of_one {X} (suc k) x = inr (ap (λ t. x ∷ t) (take_all {A = X} k [] (omega arith)))
+
+-- one of one
+all_of_one : {X : Type 0} (k : ℕ) (x : X) → 1 ≤ k → take k (x ∷ []) ≡ x ∷ []
+all_of_one {X} k x h = take_all {A = X} k (x ∷ []) (omega arith)
+
+module _ (p : Pieces) (l : LabelFields) (r : MetaRecord) (item : Item) (e : Entry) (s : Spells p l r item e) (image : Files) (cut : IsCut p image) where
+  meta_text : meta_file p ≡ label l (negsuc 0) ++ frames (s.says_record ∷ [])
+  meta_text = ap (λ t. t ++ p.description) s.meta_label ∙ ap (λ t. label l (negsuc 0) ++ t) (s.description ∙ sym (append-nil (frame s.says_record)))
+
+  volume_text : volume_file p ≡ label l (pos 0) ++ frames (s.says_item ∷ [])
+  volume_text = ap (λ t. t ++ p.sample) s.volume_label ∙ ap (λ t. label l (pos 0) ++ t) (s.sample ∙ sym (append-nil (frame s.says_item)))
+
+  index_text : index_file p ≡ label l (negsuc 1) ++ entries (e ∷ [])
+  index_text = ap (λ t. t ++ p.entry) s.index_label ∙ ap (λ t. label l (negsuc 1) ++ t) (s.last ∙ sym (append-nil (entry e)))
+
+  meta_holds : Holds IsRecord (meta_file p) l (negsuc 0) (r ∷ []) []
+  meta_holds = subst (λ t. Holds IsRecord t l (negsuc 0) (r ∷ []) []) (sym meta_text)
+      (written_file IsRecord l (negsuc 0) (s.says_record ∷ []) (r ∷ []) s.spelled meta_fits (s.is_record.0, s.is_record.1, tt))
+
+  volume_holds : Holds IsItem (volume_file p) l (pos 0) (item ∷ []) []
+  volume_holds = subst (λ t. Holds IsItem t l (pos 0) (item ∷ []) []) (sym volume_text)
+      (written_file IsItem l (pos 0) (s.says_item ∷ []) (item ∷ []) s.spelled volume_fits (s.is_item.0, s.is_item.1, tt))
+
+  meta_long : length p.meta_label ≡ 132
+  meta_long = ap length s.meta_label ∙ length-label l (negsuc 0) s.spelled.fits
+
+  index_long : length p.index_label ≡ 132
+  index_long = ap length s.index_label ∙ length-label l (negsuc 1) s.spelled.fits
+
+  volume_long : length p.volume_label ≡ 132
+  volume_long = ap length s.volume_label ∙ length-label l (pos 0) s.spelled.fits
+
+  meta_least : 132 ≤ length (meta_file p)
+  meta_least = omega (arith, length-append p.meta_label p.description, meta_long)
+
+  volume_least : 132 ≤ length (volume_file p)
+  volume_least = omega (arith, length-append p.volume_label p.sample, volume_long)
+
+  -- Meta behind its label
+  record MetaSide : Type 0 where
+    pub records : List MetaRecord
+    pub is : (es : List Entry) (volumes : List (ℕ × List Item)) → IsMeta (image Meta) (record { label = l; records = records; entries = es; volumes = volumes })
+    pub whole : length (meta_file p) ≤ cut.m → records ≡ r ∷ []
+
+  consistent : (k : ℕ) → AreConsistent (take k (r ∷ []))
+  consistent k = ⊎_elim (λ (none : take k (r ∷ []) ≡ []). subst AreConsistent (sym none) tt) (λ (one : take k (r ∷ []) ≡ r ∷ []). subst AreConsistent (sym one) (alone r)) (first_of_one k r)
+
+  meta_of : CutFile IsRecord (meta_file p) l (negsuc 0) (r ∷ []) cut.m → MetaSide
+  meta_of c = record {
+    records = take c.k (r ∷ []);
+    is = λ es volumes. record {
+      torn = c.torn;
+      is_torn = c.is_torn;
+      holds = subst (λ t. Holds IsRecord t l (negsuc 0) (take c.k (r ∷ [])) c.torn) (sym cut.meta) c.holds;
+      consistent = consistent c.k;
+    };
+    whole = λ h. all_of_one c.k r (c.whole h);
+  }
+
+  meta_side : 132 ≤ cut.m → MetaSide
+  meta_side h = meta_of (cut_file IsRecord (meta_file p) l (negsuc 0) (r ∷ []) cut.m meta_holds h)
+
+  -- the index
+  record IndexSide : Type 0 where
+    pub found : List Entry
+    pub is : (records : List MetaRecord) (volumes : List (ℕ × List Item)) → IsIndex (image Index) (record { label = l; records = records; entries = found; volumes = volumes })
+    pub behind : (found ≡ []) ⊎ (132 < cut.i)
+
+  index_begins : cut.i < 132 → IndexSide
+  index_begins h = record {
+    found = [];
+    is = λ records volumes. inl (refl, subst (λ t. BeginsLabel t l (negsuc 1)) (sym (cut.index ∙ ap (take cut.i) index_text)) (cut_in_label l (negsuc 1) (entries (e ∷ [])) cut.i s.spelled index_fits h));
+    behind = inl refl;
+  }
+
+  some_entry : (k : ℕ) → 20 * k ≤ cut.i - 132 → (take k (e ∷ []) ≡ []) ⊎ (132 < cut.i)
+  some_entry zero h = inl refl
+  some_entry (suc k) h = inr (omega arith)
+
+  index_of : 132 ≤ cut.i → CutEntries (e ∷ []) (cut.i - 132) → IndexSide
+  index_of h c = record {
+    found = take c.k (e ∷ []);
+    is = λ records volumes. inr (subst (λ t. HasEntries t (record { label = l; records = records; entries = take c.k (e ∷ []); volumes = volumes })) (sym (cut.index ∙ ap (take cut.i) index_text))
+        (cut_index l (e ∷ []) cut.i records volumes s.spelled (s.fits, tt) h c));
+    behind = some_entry c.k c.within;
+  }
+
+  index_side : IndexSide
+  index_side = ⊎_elim index_begins (λ (h : 132 ≤ cut.i). index_of h (cut_entries (e ∷ []) (cut.i - 132))) (cases_lt cut.i 132)
+
+  -- the volume
+  record VolumeSide : Type 0 where
+    pub volumes : List (ℕ × List Item)
+    pub are : AreVolumes image l volumes
+    pub others : (n : ℕ) → (Contains (map (λ v. v.0) volumes) n → ⊥) → image (Volume n) ≡ []
+    pub found : (items_of volumes ≡ []) ⊎ ((items_of volumes ≡ item ∷ []) × (132 < cut.v))
+    pub whole : length (volume_file p) ≤ cut.v → items_of volumes ≡ item ∷ []
+
+  other_volume : (n : ℕ) → image (Volume (suc n)) ≡ []
+  other_volume n = cut.others (suc n) (λ same. cc)
+
+  only_first : (items : List Item) (n : ℕ) → (Contains (map (λ (v : ℕ × List Item). v.0) ((0, items) ∷ [])) n → ⊥) → image (Volume n) ≡ []
+  only_first items zero other = absurd (other (0, omega arith, refl))
+  only_first items (suc n) other = other_volume n
+
+  each_empty : cut.v ≡ 0 → (n : ℕ) → image (Volume n) ≡ []
+  each_empty h zero = cut.volume ∙ ap (λ n. take n (volume_file p)) h
+  each_empty h (suc n) = other_volume n
+
+  no_volume : cut.v ≡ 0 → VolumeSide
+  no_volume h = record {
+    volumes = [];
+    are = tt;
+    others = λ n other. each_empty h n;
+    found = inl refl;
+    whole = λ le. absurd (omega (arith, volume_least));
+  }
+
+  volume_begins : 0 < cut.v → cut.v < 132 → VolumeSide
+  volume_begins some h =
+      let long : length (image (Volume 0)) ≡ cut.v = ap length cut.volume ∙ length-take-le cut.v (volume_file p) (omega (arith, volume_least)) in
+      record {
+        volumes = (0, []) ∷ [];
+        are = inl (omega arith, refl, subst (λ t. BeginsLabel t l (pos 0)) (sym (cut.volume ∙ ap (take cut.v) volume_text)) (cut_in_label l (pos 0) (frames (s.says_item ∷ [])) cut.v s.spelled volume_fits h));
+        others = only_first [];
+        found = inl refl;
+        whole = λ le. absurd (omega (arith, volume_least));
+      }
+
+  some_item : (k : ℕ) → (k ≡ 0) ⊎ (132 < cut.v) → (items_of ((0, take k (item ∷ [])) ∷ []) ≡ []) ⊎ ((items_of ((0, take k (item ∷ [])) ∷ []) ≡ item ∷ []) × (132 < cut.v))
+  some_item k (inl none) = inl (ap (λ n. take n (item ∷ []) ++ []) none)
+  some_item k (inr more) =
+      ⊎_elim (λ (none : take k (item ∷ []) ≡ []). inl (ap (λ t. t ++ []) none)) (λ (one : take k (item ∷ []) ≡ item ∷ []). inr (ap (λ t. t ++ []) one, more)) (first_of_one k item)
+
+  volume_of : CutFile IsItem (volume_file p) l (pos 0) (item ∷ []) cut.v → VolumeSide
+  volume_of c = record {
+    volumes = (0, take c.k (item ∷ [])) ∷ [];
+    are = inr (c.torn, c.is_torn, subst (λ t. Holds IsItem t l (pos 0) (take c.k (item ∷ [])) c.torn) (sym cut.volume) c.holds);
+    others = only_first (take c.k (item ∷ []));
+    found = some_item c.k c.behind;
+    whole = λ le. ap (λ t. t ++ []) (all_of_one c.k item (c.whole le));
+  }
+
+  some_volume : 0 < cut.v → VolumeSide
+  some_volume some = ⊎_elim (volume_begins some) (λ (h : 132 ≤ cut.v). volume_of (cut_file IsItem (volume_file p) l (pos 0) (item ∷ []) cut.v volume_holds h)) (cases_lt cut.v 132)
+
+  volume_side : VolumeSide
+  volume_side = ⊎_elim (λ (none : cut.v < 1). no_volume (omega arith)) (λ (some : 1 ≤ cut.v). some_volume (omega arith)) (cases_lt cut.v 1)
+
+  -- what is left is read as this
+  record Left : Type 0 where
+    pub reading : Reading
+    pub reads : Reads image reading
+    pub found : (scan reading ≡ []) ⊎ ((scan reading ≡ item ∷ []) × (132 < cut.v))
+    pub whole : length (volume_file p) ≤ cut.v → scan reading ≡ item ∷ []
+    pub records : length (meta_file p) ≤ cut.m → records_in reading ≡ r ∷ []
+
+  stopped : cut.m < 132 → Left
+  stopped h =
+      let index : cut.i ≡ 0 = ⊎_elim (λ (none : cut.i ≡ 0). none) (λ (some : length p.meta_label ≤ cut.m). absurd (omega (arith, meta_long))) cut.order.index_after in
+      let volume : cut.v ≡ 0 = ⊎_elim (λ (none : cut.v ≡ 0). none) (λ (some : (length p.meta_label ≤ cut.m) × (length p.index_label ≤ cut.i)). absurd (omega (arith, meta_long, some.0))) cut.order.volume_after in
+      record {
+        reading = Reading.nothing;
+        reads = record {
+          meta = inr (l, subst (λ t. BeginsLabel t l (negsuc 0)) (sym (cut.meta ∙ ap (take cut.m) meta_text)) (cut_in_label l (negsuc 0) (frames (s.says_record ∷ [])) cut.m s.spelled meta_fits h));
+          index = cut.index ∙ ap (λ n. take n (index_file p)) index;
+          volumes = each_empty volume;
+        };
+        found = inl refl;
+        whole = λ le. absurd (omega (arith, volume_least));
+        records = λ le. absurd (omega (arith, meta_least));
+      }
+
+  has_label : 132 < cut.i → 132 ≤ length (image (Volume 0))
+  has_label h =
+      let whole : length (volume_file p) ≤ cut.v = ⊎_elim (λ (few : cut.i ≤ length p.index_label). absurd (omega (arith, index_long))) (λ (all : length (volume_file p) ≤ cut.v). all) cut.order.indexed in
+      let is : length (image (Volume 0)) ≡ length (volume_file p) = ap length (cut.volume ∙ take_all cut.v (volume_file p) whole) in
+      omega (arith, volume_least)
+
+  archived : MetaSide → IndexSide → VolumeSide → Left
+  archived m i v = record {
+    reading = Reading.archive (record { label = l; records = m.records; entries = i.found; volumes = v.volumes });
+    reads = record {
+      meta = m.is i.found v.volumes;
+      index = i.is m.records v.volumes;
+      volumes = v.are;
+      others = v.others;
+      labelled = ⊎_elim (λ (none : i.found ≡ []). inl none) (λ (some : 132 < cut.i). inr (0, has_label some)) i.behind;
+    };
+    found = v.found;
+    whole = v.whole;
+    records = m.whole;
+  }
+
+  left : Left
+  left = ⊎_elim stopped (λ (h : 132 ≤ cut.m). archived (meta_side h) index_side volume_side) (cases_lt cut.m 132)
+
+  none_or_one_of : Described (r ∷ []) item → NoneOrOne image item
+  none_or_one_of described =
+      let f : Left = left in
+      record {
+        reading = f.reading;
+        reads = f.reads;
+        found = ⊎_elim (λ (none : scan f.reading ≡ []). inl none)
+            (λ (one : (scan f.reading ≡ item ∷ []) × (132 < cut.v)). inr (
+              one.0,
+              (let whole : length (meta_file p) ≤ cut.m = ⊎_elim (λ (few : cut.v ≤ length p.volume_label). absurd (omega (arith, volume_long, one.1))) (λ (all : length (meta_file p) ≤ cut.m). all) cut.order.described in
+                  subst (λ records. Described records item) (sym (f.records whole)) described),
+            ))
+            f.found;
+      }
+
+  has_item_of : Described (r ∷ []) item → length (meta_file p) ≤ cut.m → length (volume_file p) ≤ cut.v → HasItem image item
+  has_item_of described meta volume =
+      let f : Left = left in
+      record {
+        reading = f.reading;
+        reads = f.reads;
+        found = f.whole volume;
+        described = subst (λ records. Described records item) (sym (f.records meta)) described;
+      }
+
+no_zero : List ℕ → Bool
+no_zero [] = true
+no_zero (zero ∷ bytes) = false
+no_zero (suc b ∷ bytes) = no_zero bytes
+
+clean_text : (bytes : List ℕ) → no_zero bytes ≡ true → AllByRecursion (λ b. b ≢ 0) bytes
+unfolding no_zero
+clean_text [] h = tt
+clean_text (zero ∷ bytes) h = absurd (let e : false ≡ true = h in cc)
+clean_text (suc b ∷ bytes) h = (λ e. cc, clean_text bytes h)
+
+host_text : IsText (codes "localhost")
+unfolding no_zero
+host_text = All-from_recursion (λ b. b ≢ 0) (codes "localhost") (clean_text (codes "localhost") refl)
+
+zone_text : IsText (codes "UTC")
+unfolding no_zero
+zone_text = All-from_recursion (λ b. b ≢ 0) (codes "UTC") (clean_text (codes "UTC") refl)
+
+front_text : IsText (codes "mmv.")
+unfolding no_zero
+front_text = All-from_recursion (λ b. b ≢ 0) (codes "mmv.") (clean_text (codes "mmv.") refl)
+
+spelled_once : (stamp : Moment) → IsMoment stamp → SpelledLabel (once_label stamp)
+spelled_once stamp moment = record { pid = omega arith; start = moment; host = host_text; zone = zone_text; fits = fits_once stamp }
+
+-- `mmv.FILE.NAME`
+name_text : (file : List ℕ) (s : Shot) → IsText file → FitsShot s → IsText (shown_name file s)
+name_text file s text f =
+    All-append (λ b. b ≢ 0) (codes "mmv.") (file ++ (46 ∷ s.name)) front_text
+    (All-append (λ b. b ≢ 0) file (46 ∷ s.name) text (All-cons (λ b. b ≢ 0) 46 s.name (λ e. cc) f.text))
+
+name_length : (file : List ℕ) (s : Shot) → length file ≤ 63 → FitsShot s → length (shown_name file s) ≤ 131
+name_length file s short f =
+    let here : length s.name ≤ 63 = f.short in
+    omega (arith, length-append file (46 ∷ s.name))
+
+description_in_range : (file : List ℕ) (s : Shot) → IsText file → length file ≤ 63 → FitsShot s → DescriptionInRange (shown_desc s) (shown_name file s ∷ [])
+description_in_range file s text short f =
+    let long : length (shown_name file s) ≤ 131 = name_length file s short f in
+    record {
+      pmid = let cluster : s.cluster < 4096 = f.cluster in let number : s.item < 1024 = f.item in omega arith;
+      code = f.code;
+      indom = omega arith;
+      semantics = f.semantics;
+      units = f.units;
+      few = omega arith;
+      texts = ((name_text file s text f, omega arith), tt);
+    }
+
+result_in_range : (stamp : Moment) (s : Shot) → IsMoment stamp → FitsShot s → ResultInRange (shown_result stamp s)
+result_in_range stamp s moment f = record {
+  moment = moment;
+  few = omega arith;
+  sets = (
+    (
+      let cluster : s.cluster < 4096 = f.cluster in let number : s.item < 1024 = f.item in omega arith,
+      omega arith,
+      (omega arith, ((meta_fits, omega arith), tt)),
+    ),
+    tt,
+  );
+}
+
+description_length : (file : List ℕ) (s : Shot) → length file ≤ 63 → FitsShot s → length (description (shown_desc s) (shown_name file s ∷ [])) ≤ 163
+description_length file s short f = omega (arith, length-description (shown_desc s) (shown_name file s ∷ []), name_length file s short f)
+
+description_frames : (file : List ℕ) (s : Shot) → length file ≤ 63 → FitsShot s → IsFrameable (description (shown_desc s) (shown_name file s ∷ []))
+description_frames file s short f = record {
+  least = omega (arith, length-description (shown_desc s) (shown_name file s ∷ []));
+  most = omega (arith, description_length file s short f);
+}
+
+result_length : (stamp : Moment) (s : Shot) → length (payload (shown_result stamp s)) ≡ 32
+result_length stamp s = length-payload (shown_result stamp s)
+
+result_frames : (stamp : Moment) (s : Shot) → IsFrameable (payload (shown_result stamp s))
+result_frames stamp s = record { least = omega (arith, result_length stamp s); most = omega (arith, result_length stamp s) }
+
+-- the entry of the flush
+entry_fits : (stamp : Moment) (file : List ℕ) (s : Shot) → IsMoment stamp → length file ≤ 63 → FitsShot s → FitsEntry (flush_entry stamp (logged stamp file s))
+entry_fits stamp file s moment short f =
+    let text : List ℕ = description (shown_desc s) (shown_name file s ∷ []) in
+    let sample : List ℕ = payload (shown_result stamp s) in
+    let meta_label : length (label (once_label stamp) (negsuc 0)) ≡ 132 = length-label (once_label stamp) (negsuc 0) (fits_once stamp) in
+    let volume_label : length (label (once_label stamp) (pos 0)) ≡ 132 = length-label (once_label stamp) (pos 0) (fits_once stamp) in
+    record {
+      moment = moment;
+      volume = omega arith;
+      meta = omega (arith, length-append (label (once_label stamp) (negsuc 0)) (frame text), length-frame text, description_length file s short f);
+      offset = omega (arith, length-append (label (once_label stamp) (pos 0)) (frame sample), length-frame sample, result_length stamp s);
+    }
+
+-- and so the pieces spell the archive
+spells : (asked : OnceWords) (s : Shot) → FitsOnce asked → FitsShot s
+    → Spells (pieces asked.stamp asked.file s) (once_label asked.stamp) (Description (shown_desc s) (shown_name asked.file s ∷ [])) (Sample (shown_result asked.stamp s)) (flush_entry asked.stamp (logged asked.stamp asked.file s))
+unfolding pieces
+spells asked s once shot = record {
+  spelled = spelled_once asked.stamp once.moment;
+  meta_label = refl;
+  index_label = refl;
+  volume_label = refl;
+  says_record = description (shown_desc s) (shown_name asked.file s ∷ []);
+  description = refl;
+  is_record = (
+    description_frames asked.file s once.short shot,
+    is_description (shown_desc s) (shown_name asked.file s ∷ []) (description_in_range asked.file s once.text once.short shot),
+  );
+  says_item = payload (shown_result asked.stamp s);
+  sample = refl;
+  is_item = (result_frames asked.stamp s, is_sample (shown_result asked.stamp s) (result_in_range asked.stamp s once.moment shot) (omega arith) (omega arith));
+  last = refl;
+  fits = entry_fits asked.stamp asked.file s once.moment once.short shot;
+}
+
+-- the description describes the result
+described : (stamp : Moment) (file : List ℕ) (s : Shot) → Described (Description (shown_desc s) (shown_name file s ∷ []) ∷ []) (Sample (shown_result stamp s))
+described stamp file s =
+    (record { desc = shown_desc s; names = shown_name file s ∷ []; recorded = (0, omega arith, refl); same = refl; named = inl refl }, tt)
+
+pub none_or_one : (asked : OnceWords) (s : Shot) → FitsOnce asked → FitsShot s → (image : Files) → IsCut (pieces asked.stamp asked.file s) image → NoneOrOne image (Sample (shown_result asked.stamp s))
+none_or_one asked s once shot image cut =
+    none_or_one_of (pieces asked.stamp asked.file s) (once_label asked.stamp) (Description (shown_desc s) (shown_name asked.file s ∷ [])) (Sample (shown_result asked.stamp s))
+    (flush_entry asked.stamp (logged asked.stamp asked.file s)) (spells asked s once shot) image cut (described asked.stamp asked.file s)
+
+-- a file all of whose bytes are sure is there whole
+sure_whole : (held : Holdings) (image : Files) (file : FileId) (bytes : List ℕ) → held file ≡ sure bytes → CrashImage held image → image file ≡ take (length bytes) bytes
+sure_whole held image file bytes is left =
+    (left file).1 ∙ ap (λ (h : Held). h.sure ++ take (left file).0 h.rest) is ∙ ap (λ t. bytes ++ t) (take_all {A = ℕ} (left file).0 [] (omega arith))
+    ∙ append-nil bytes ∙ sym (take_all (length bytes) bytes (omega arith))
+
+index_part : (p : Pieces) (held : Holdings) (image : Files) → Final p held → CrashImage held image → IsPart (appended (sure p.index_label) p.entry) (index_file p) (image Index)
+index_part p held image final left =
+    survivor (appended (sure p.index_label) p.entry) (index_file p) (image Index) (left Index).0 (record { more = []; is = sym (append-nil (index_file p)) })
+    ((left Index).1 ∙ ap (λ (g : Held). g.sure ++ take (left Index).0 g.rest) final.has_index)
+
+final_others : (p : Pieces) (held : Holdings) (image : Files) → Final p held → CrashImage held image → (k : ℕ) → k ≢ 0 → image (Volume k) ≡ []
+final_others p held image final left k other =
+    (left (Volume k)).1 ∙ ap (λ (h : Held). h.sure ++ take (left (Volume k)).0 h.rest) (final.others k other) ∙ take_all {A = ℕ} (left (Volume k)).0 [] (omega arith)
+
+final_cut : (p : Pieces) (held : Holdings) (image : Files) → Final p held → CrashImage held image → (cut : IsCut p image) × (length (meta_file p) ≤ cut.m) × (length (volume_file p) ≤ cut.v)
+final_cut p held image final left =
+    let i : IsPart (appended (sure p.index_label) p.entry) (index_file p) (image Index) = index_part p held image final left in
+    let least : length p.index_label ≤ i.c = i.least in (
+      record {
+        m = length (meta_file p);
+        i = i.c;
+        v = length (volume_file p);
+        meta = sure_whole held image Meta (meta_file p) final.has_meta left;
+        index = i.is;
+        volume = sure_whole held image (Volume 0) (volume_file p) final.has_volume left;
+        others = final_others p held image final left;
+        order = record {
+          index_after = inr (omega (arith, length-append p.meta_label p.description));
+          volume_after = inr (omega (arith, length-append p.meta_label p.description), omega arith);
+          described = inr (omega arith);
+          indexed = inr (omega arith);
+        };
+      },
+      omega arith,
+      omega arith,
+    )
+
+pub has_item : (asked : OnceWords) (s : Shot) → FitsOnce asked → FitsShot s → (held : Holdings) → Final (pieces asked.stamp asked.file s) held → (image : Files) → CrashImage held image
+    → HasItem image (Sample (shown_result asked.stamp s))
+has_item asked s once shot held final image left =
+    let f : (cut : IsCut (pieces asked.stamp asked.file s) image) × (length (meta_file (pieces asked.stamp asked.file s)) ≤ cut.m) × (length (volume_file (pieces asked.stamp asked.file s)) ≤ cut.v) =
+    final_cut (pieces asked.stamp asked.file s) held image final left in
+    has_item_of (pieces asked.stamp asked.file s) (once_label asked.stamp) (Description (shown_desc s) (shown_name asked.file s ∷ [])) (Sample (shown_result asked.stamp s))
+    (flush_entry asked.stamp (logged asked.stamp asked.file s)) (spells asked s once shot) image f.0 (described asked.stamp asked.file s) f.1 f.2
+
+-- empty files are a stopped creation
+pub none_of_nothing : (image : Files) → IsEmpty image → (item : Item) → NoneOrOne image item
+none_of_nothing image empty item = record {
+  reading = Reading.nothing;
+  reads = record { meta = inl (empty Meta); index = empty Index; volumes = λ n. empty (Volume n) };
+  found = inl refl;
+}
