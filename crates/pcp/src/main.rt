@@ -5,11 +5,10 @@
 use pcp_outside::{FileDisk, ReaderSource, Sink, WriterSink};
 use pm_commands::{Refusal, offline};
 use std::alloc::{Alloc, Global};
-use std::env;
 use std::env::Env;
-use std::io;
 use std::io::ErrorKind;
 use std::process::ExitCode;
+use std::{env, io};
 
 // The place behind BASE of the first word that isn't UTF-8, where it can be told, else 0.
 fn bad_word(rt: &impl Env) -> usize {

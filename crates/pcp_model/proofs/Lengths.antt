@@ -20,14 +20,29 @@ length-padded width text h = omega (arith, length-append text (zeros (width - le
 
 length-label_head : (l : LabelFields) (number : ℤ) → length (label_head l number) ≡ 20
 length-label_head l number =
-    omega (arith, length-append (word 1342514690) (word l.pid ++ (word l.start.sec ++ (word l.start.usec ++ signed_word number))),
-        length-append (word l.pid) (word l.start.sec ++ (word l.start.usec ++ signed_word number)),
-        length-append (word l.start.sec) (word l.start.usec ++ signed_word number), length-append (word l.start.usec) (signed_word number),
-        length-word 1342514690, length-word l.pid, length-word l.start.sec, length-word l.start.usec, length-signed_word number)
+    omega (
+      arith,
+      length-append (word 1342514690) (word l.pid ++ (word l.start.sec ++ (word l.start.usec ++ signed_word number))),
+      length-append (word l.pid) (word l.start.sec ++ (word l.start.usec ++ signed_word number)),
+      length-append (word l.start.sec) (word l.start.usec ++ signed_word number),
+      length-append (word l.start.usec) (signed_word number),
+      length-word 1342514690,
+      length-word l.pid,
+      length-word l.start.sec,
+      length-word l.start.usec,
+      length-signed_word number,
+    )
 
 -- a label takes 132 bytes
 pub length-label : (l : LabelFields) (number : ℤ) → FitsLabel l → length (label l number) ≡ 132
 unfolding label
 length-label l number fits =
-    omega (arith, length-frame (label_head l number ++ (padded 64 l.host ++ padded 40 l.zone)), length-append (label_head l number) (padded 64 l.host ++ padded 40 l.zone),
-        length-append (padded 64 l.host) (padded 40 l.zone), length-label_head l number, length-padded 64 l.host (let h : length l.host ≤ 64 = omega (arith, fits.host) in h), length-padded 40 l.zone (let h : length l.zone ≤ 40 = omega (arith, fits.zone) in h))
+    omega (
+      arith,
+      length-frame (label_head l number ++ (padded 64 l.host ++ padded 40 l.zone)),
+      length-append (label_head l number) (padded 64 l.host ++ padded 40 l.zone),
+      length-append (padded 64 l.host) (padded 40 l.zone),
+      length-label_head l number,
+      length-padded 64 l.host (let h : length l.host ≤ 64 = omega (arith, fits.host) in h),
+      length-padded 40 l.zone (let h : length l.zone ≤ 40 = omega (arith, fits.zone) in h),
+    )

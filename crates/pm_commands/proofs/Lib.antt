@@ -6,3 +6,5 @@ pub mod NoneOrOne
 pub mod Stages
 pub mod Texts
 pub mod Facts
+pub mod Wholes
+pub mod Moments

@@ -4,7 +4,7 @@ use Rattle.std.proofs.Math.Dec.{eqb-zero-suc, eqb-suc-zero}
 use Rattle.pcp_base.specs.Time.{Moment}
 use Rattle.pcp_base.specs.declared.file.FileId.{FileId}
 use Rattle.pcp_base.specs.declared.file.FileId.TheVariants.{Meta, Index, Volume}
-use Rattle.pcp_model.specs.Disk.{Files, Held, Holdings, bytes_of, contents_of, nothing_held, IsSettled, IsEmpty, CrashImage}
+use Rattle.pcp_model.specs.Disk.{Files, Held, Holdings, bytes_of, contents_of, nothing_held, IsSettled, IsEmpty}
 use Rattle.pcp_model.specs.Frame.{frame}
 use Rattle.pcp_model.specs.Payload.{payload}
 use Rattle.pcp_model.specs.Records.{description}
@@ -14,7 +14,7 @@ use Rattle.pcp_model.specs.Written.{with_added, created}
 use Rattle.pcp_model.proofs.Lengths.{length-label}
 use Rattle.pcp_outside.specs.Devices.{appended}
 use Rattle.pm_commands.specs.declared.words.OnceWords.{OnceWords}
-use Rattle.pm_commands.specs.Ends.{IsImageInput, IsLogged, IsRead, SourceSide, DiskSide, MayLeave}
+use Rattle.pm_commands.specs.Ends.{IsImageInput}
 use Rattle.pm_commands.specs.Once.{Shot, once_files, logged, once_label, shown_desc, shown_name, shown_result}
 use Rattle.pm_commands.specs.Pieces.{Pieces, pieces, Holds, IsCut, sure, meta_file, index_file, volume_file}
 use Rattle.pm_commands.specs.Shots.{shot_of}
@@ -53,6 +53,7 @@ final_files stamp name s held final Index = ap bytes_of final.has_index ∙ inde
   where
     p : Pieces
     p = pieces stamp name s
+
     index_bytes : bytes_of (appended (sure (pieces stamp name s).index_label) (pieces stamp name s).entry) ≡ index_file (pieces stamp name s)
     index_bytes = refl
 final_files stamp name s held final (Volume zero) = ap bytes_of final.has_volume ∙ append-nil (volume_file (pieces stamp name s)) ∙ volume_text stamp name s
@@ -78,24 +79,3 @@ final_settled stamp file s held final =
       index = inl (omega arith);
       volumes = volume_sure (pieces stamp file s) held final;
     }
-
--- what is read and written makes the whole
-pub is_logged : (asked : OnceWords) (s : SourceSide) (d : DiskSide) (p : Pieces)
-    → ((words : List ℕ) × (p ≡ pieces asked.stamp asked.file (shot_of words)))
-    → (s.tells → (words : List ℕ) × IsImageInput s.left words × (p ≡ pieces asked.stamp asked.file (shot_of words)) × (s.after ≡ []))
-    → (d.tells → IsEmpty (contents_of d.held)) → (d.tells → Final p d.after) → IsLogged asked s d
-is_logged asked s d p shaped made empty final = record {
-  read = λ tells. ((made tells).0, record { image = (made tells).1; all = (made tells).3 });
-  empty = empty;
-  files = λ tells keeps. ((made tells).0, record { image = (made tells).1; all = (made tells).3 },
-      final_files asked.stamp asked.file (shot_of (made tells).0) d.after (subst (λ q. Final q d.after) (made tells).2 (final keeps)));
-  settled = λ keeps. final_settled asked.stamp asked.file (shot_of shaped.0) d.after (subst (λ q. Final q d.after) shaped.1 (final keeps));
-}
-
--- what the writes may leave, once the input is known
-pub may_leave : (asked : OnceWords) (reads : Type 0) (left : List ℕ) (held : Holdings) (p : Pieces)
-    → (reads → (words : List ℕ) × IsImageInput left words × (p ≡ pieces asked.stamp asked.file (shot_of words)))
-    → (c : Files) → CrashImage held c ⊎ (IsEmpty (contents_of held) × IsCut p c) → MayLeave asked reads left held c
-may_leave asked reads left held p made c (inl was) = inl was
-may_leave asked reads left held p made c (inr cut) =
-    inr (cut.0, λ tells. ((made tells).0, (made tells).1, subst (λ q. IsCut q c) (made tells).2 cut.1))

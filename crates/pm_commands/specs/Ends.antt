@@ -3,6 +3,8 @@
 use Rattle.std.specs.Prelude.{◌≡◌, ◌⊎◌, ℕ, ◌<◌, ◌≤◌, List, [], ◌∷◌, ◌++◌, length, take, drop, codes, Result, Ok, Err}
 use Rattle.pcp_base.specs.Time.{Moment}
 use Rattle.pcp_base.specs.declared.file.FileId.{FileId}
+use Rattle.pcp_base.specs.declared.result.Item.{Item}
+use Rattle.pcp_base.specs.declared.result.Item.TheVariants.{Sample}
 use Rattle.pcp_model.specs.Disk.{Files, Holdings, contents_of, CrashImage, IsEmpty, IsSettled}
 use Rattle.mmv_layout.specs.FirstForm.{image_of}
 use Rattle.pcp_outside.specs.Causes.{Rose}
@@ -12,8 +14,8 @@ use Rattle.pm_commands.specs.declared.words.OnceWords.{OnceWords}
 use Rattle.pm_commands.specs.declared.refusal.Refusal.{Refusal}
 use Rattle.pm_commands.specs.declared.refusal.Refusal.TheVariants.{Usage, ReadFault, InputLimit, Image, LaterDisk, DiskFault, NoMemory}
 use Rattle.pm_commands.specs.CommandLine.{command_of}
-use Rattle.pm_commands.specs.Once.{once_files}
-use Rattle.pm_commands.specs.Pieces.{pieces, IsCut}
+use Rattle.pm_commands.specs.Once.{once_files, shown_result}
+use Rattle.pm_commands.specs.Pieces.{NoneOrOne, HasItem}
 use Rattle.pm_commands.specs.Refusals.{status_of, line_of, Wrote}
 use Rattle.pm_commands.specs.Shots.{shot_of}
 
@@ -104,18 +106,24 @@ OnceCause s d LaterDisk = WasRead s × DiskCause d LaterDisk
 OnceCause s d DiskFault = WasRead s × DiskCause d DiskFault
 OnceCause s d (Usage at) = ⊥
 
+-- the item that a command logs of an image
+abbrev pub item_of : OnceWords → List ℕ → Item
+item_of asked image = Sample (shown_result asked.stamp (shot_of image))
+
 -- What `once` has done where it is done: the disk was empty, and holds the archive of the image's result; all
--- but the index entry is sure.
+-- but the index entry is sure, and each crash from then on leaves the item and its description.
 pub record IsLogged (asked : OnceWords) (s : SourceSide) (d : DiskSide) : Type 0 where
   pub read : WasRead s
   pub empty : d.tells → IsEmpty (contents_of d.held)
   pub files : s.tells → d.tells → (words : List ℕ) × IsRead s words × ((file : FileId) → contents_of d.after file ≡ once_files asked.stamp asked.file (shot_of words) file)
   pub settled : d.tells → IsSettled d.after
+  pub kept : s.tells → d.tells → (words : List ℕ) × IsRead s words × ((image : Files) → CrashImage d.after image → HasItem image (item_of asked words))
 
--- what a crash may leave at any moment of it: what was there, or over an empty disk the archive's files cut in order
+-- What a crash may leave at any moment of it: what was there, or over an empty disk files that are readable, with
+-- no item or with the one, and then its description.
 abbrev pub MayLeave : OnceWords → Type 0 → List ℕ → Holdings → Files → Type 0
 MayLeave asked reads left held image = CrashImage held image ⊎ (IsEmpty (contents_of held)
-    × (reads → (words : List ℕ) × IsImageInput left words × IsCut (pieces asked.stamp asked.file (shot_of words)) image))
+    × (reads → (words : List ℕ) × IsImageInput left words × NoneOrOne image (item_of asked words)))
 
 -- the same of any words: those that are no command leave what was there
 abbrev pub MayLeaveAny : List (List ℕ) → Type 0 → List ℕ → Holdings → Files → Type 0

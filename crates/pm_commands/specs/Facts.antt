@@ -1,8 +1,10 @@
 -- What a status of `once` says, fact by fact. "Always" yields to want of memory (9) and to a read that failed
 -- before (3), which no clause can foresee.
-use Rattle.std.specs.Prelude.{◌≡◌, ◌⊎◌, ℕ, ◌<◌, ◌≤◌, List, [], ◌++◌, length, drop, codes, Result, Ok, Err}
-use Rattle.pcp_base.specs.declared.result.Item.TheVariants.{Sample}
+use Rattle.std.specs.Prelude.{◌≡◌, ◌⊎◌, ℕ, ◌<◌, ◌≤◌, List, [], ◌∷◌, ◌++◌, length, drop, codes, Result, Ok, Err}
+use Rattle.pcp_base.specs.declared.result.Item.{Item}
 use Rattle.pcp_base.specs.declared.file.FileId.{FileId}
+use Rattle.pcp_model.specs.Archive.{Reading, Reads, scan, records_in}
+use Rattle.pcp_model.specs.Described.{Described}
 use Rattle.pcp_model.specs.Disk.{Files, Holdings, contents_of, CrashImage, IsEmpty, IsSettled}
 use Rattle.mmv_layout.specs.declared.fault.ImageFault.{ImageFault}
 use Rattle.mmv_layout.specs.declared.fault.ImageFault.TheVariants.{Short, Generations, Later}
@@ -12,9 +14,9 @@ use Rattle.pcp_outside.specs.Causes.{Rose}
 use Rattle.pm_commands.specs.declared.words.Command.TheVariants.{Once}
 use Rattle.pm_commands.specs.declared.words.OnceWords.{OnceWords}
 use Rattle.pm_commands.specs.CommandLine.{command_of}
-use Rattle.pm_commands.specs.Ends.{SourceSide, SinkSide, DiskSide, IsOnce, IsImageInput, IsRead, HasByte, Untouched, input_limit}
-use Rattle.pm_commands.specs.Once.{once_files, shown_result}
-use Rattle.pm_commands.specs.Pieces.{NoneOrOne, HasItem}
+use Rattle.pm_commands.specs.Ends.{SourceSide, SinkSide, DiskSide, IsOnce, IsImageInput, IsRead, HasByte, Untouched, input_limit, item_of}
+use Rattle.pm_commands.specs.Once.{once_files}
+use Rattle.pm_commands.specs.Pieces.{HasItem}
 use Rattle.pm_commands.specs.Shots.{shot_of}
 
 -- 1 exactly where the words are no command
@@ -68,3 +70,23 @@ pub record IsGoodRun (words : List (List ℕ)) (s : SourceSide) (k : SinkSide) (
   pub source_kept : Rose s.faults s.faults_after → ⊥
   pub sink_kept : Rose k.faults k.faults_after → ⊥
   pub disk_kept : Rose d.faults d.faults_after → ⊥
+
+-- the item that the words ask for of an input
+pub record IsItemAsked (words : List (List ℕ)) (input : List ℕ) (item : Item) : Type 0 where
+  pub asked : OnceWords
+  pub words_are : command_of words ≡ Ok (Once asked)
+  pub image : List ℕ
+  pub input_is : IsImageInput input image
+  pub is : item ≡ item_of asked image
+
+-- The files that a crash leaves are readable. Their scan is empty, or the one item, which their metadata describes.
+pub record LeavesNoneOrOne (words : List (List ℕ)) (input : List ℕ) (image : Files) : Type 0 where
+  pub reading : Reading
+  pub reads : Reads image reading
+  pub found : (scan reading ≡ []) ⊎ ((item : Item) × IsItemAsked words input item × (scan reading ≡ item ∷ []) × Described (records_in reading) item)
+
+-- each crash from now on leaves the item that was asked for, and its description
+pub record Keeps (words : List (List ℕ)) (input : List ℕ) (held : Holdings) : Type 0 where
+  pub item : Item
+  pub is_asked : IsItemAsked words input item
+  pub each : (image : Files) → CrashImage held image → HasItem image item

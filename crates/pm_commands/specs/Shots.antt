@@ -16,7 +16,7 @@ shot_of words = record {
   code = code_of_kind (only_kind words);
   semantics = code_of_semantics (only_semantics words);
   units = only_units words;
-  value = only_value words
+  value = only_value words;
 }
 
 -- the description of a metric without a domain

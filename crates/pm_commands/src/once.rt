@@ -4,6 +4,7 @@ ghost use Rattle.pcp_model.specs.Disk.{CrashImage, IsEmpty, contents_of};
 ghost use Rattle.pcp_outside.specs.Causes.{HasCause};
 ghost use Rattle.pcp_outside.specs.Devices.{LeavesOnly, appended};
 ghost use Rattle.pm_commands.specs.Ends.{IsImageInput, HasByte, InputCause, DiskCause, OnceCause, IsLogged, MayLeave};
+ghost use Rattle.pm_commands.specs.Fits.{FitsOnce, FitsShot};
 ghost use Rattle.pm_commands.specs.Pieces.{pieces, Holds, IsCut, sure, meta_file, volume_file};
 ghost use Rattle.pm_commands.specs.Shots.{shot_of};
 
@@ -37,13 +38,10 @@ fn is_disk_empty<D: Disk>(disk: &mut D) -> Result<bool, Failed>
 }
 
 // What is read of the input, as an image, and the pieces of its archive. No disk is looked at.
-fn prepare<I: Source>(
-    alloc: Global,
-    asked: &OnceWords,
-    input: &mut I,
-) -> Result<Plan, Refusal>
+fn prepare<I: Source>(alloc: Global, asked: &OnceWords, input: &mut I) -> Result<Plan, Refusal>
     requires { length asked.now.file ≤ 63 }
-    ensures made { I.tells → IfOk result (λ p. (words : _) × IsImageInput (I.left input.old) words × (p ≡ pieces asked.now.stamp asked.now.file (shot_of words)) × (I.left input.new ≡ [])) }
+    ensures made { I.tells → IfOk result (λ p. (words : _) × IsImageInput (I.left input.old) words × (p ≡ pieces asked.now.stamp asked.now.file (shot_of words)) × (I.left input.new ≡ []) × FitsShot (shot_of words)) }
+    ensures fits { OnOk result (FitsOnce asked.now) }
     ensures shaped { IfOk result (λ p. (words : _) × (p ≡ pieces asked.now.stamp asked.now.file (shot_of words))) }
     ensures cause { IfErr result (InputCause record { tells = I.tells; left = I.left input.old; after = I.left input.new; faults = I.faults input.old; faults_after = I.faults input.new }) }
     ensures later { I.faults input.old ≤ I.faults input.new }

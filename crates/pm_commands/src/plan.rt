@@ -11,8 +11,12 @@ ghost use Rattle.pm_commands.specs.Shots.{shot_of, desc_of};
 
 use crate::words::OnceWords;
 use mmv_layout::{Image, MetricRow};
-use pcp_base::{Body, Desc, InDom, List, NoMemory, Pmid, PmResult, Stamp, Text, TextError, ValueSet};
-use pcp_model::{Entry, Label, spell_description, spell_entry, spell_frame, spell_label, spell_payload};
+use pcp_base::{
+    Body, Desc, InDom, List, NoMemory, PmResult, Pmid, Stamp, Text, TextError, ValueSet,
+};
+use pcp_model::{
+    Entry, Label, spell_description, spell_entry, spell_frame, spell_label, spell_payload,
+};
 use std::alloc::Global;
 use std::marker::Model;
 
@@ -124,11 +128,7 @@ fn sample_of(alloc: Global, stamp: Stamp, pmid: Pmid, value: u64) -> Result<Vec<
 
 /// The pieces of the archive that `once` makes of an image.
 #[tactic(auto, unfolding(crate::specs::Pieces::pieces))]
-pub(crate) fn plan_of(
-    alloc: Global,
-    asked: &OnceWords,
-    image: &Image,
-) -> Result<Plan, NoMemory>
+pub(crate) fn plan_of(alloc: Global, asked: &OnceWords, image: &Image) -> Result<Plan, NoMemory>
     requires { length asked.now.file ≤ 63 }
     ensures pieces { IfOk result (λ p. p ≡ pieces asked.now.stamp asked.now.file (shot_of image.now)) }
     ensures once { OnOk result (FitsOnce asked.now) }

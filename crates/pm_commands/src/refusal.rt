@@ -69,8 +69,12 @@ impl Refusal {
     {
         match self {
             Refusal::Usage { at } => Ok(Some(format!(in alloc; "usage {at}\n")?)),
-            Refusal::Image(ImageFault::Short { have }) => Ok(Some(format!(in alloc; "input image Short {have}\n")?)),
-            Refusal::Image(ImageFault::Generations { g1, g2 }) => Ok(Some(format!(in alloc; "input image Generations {g1} {g2}\n")?)),
+            Refusal::Image(ImageFault::Short { have }) => Ok(Some(format!(in alloc;
+                "input image Short {have}\n"
+            )?)),
+            Refusal::Image(ImageFault::Generations { g1, g2 }) => Ok(Some(format!(in alloc;
+                "input image Generations {g1} {g2}\n"
+            )?)),
             _ => Ok(None),
         }
     }

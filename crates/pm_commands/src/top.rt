@@ -1,11 +1,11 @@
 //! The call that main makes.
 ghost use Rattle.std.specs.Prelude.{◌≡◌, ◌⊎◌, ◌≤◌, length, map, string_bytes, codes, IfOk, IfErr, OnOk, Ok};
-ghost use Rattle.pcp_model.specs.Disk.{IsSettled};
+ghost use Rattle.pcp_model.specs.Disk.{IsSettled, IsEmpty, contents_of};
 ghost use Rattle.pcp_outside.specs.Causes.{Rose};
 ghost use Rattle.pcp_outside.specs.Devices.{LeavesOnly};
 ghost use Rattle.pm_commands.specs.CommandLine.{command_of};
 ghost use Rattle.pm_commands.specs.Ends.{Cause, IsLogged, Ends, MayLeaveAny};
-ghost use Rattle.pm_commands.specs.Facts.{UsageIsExact, LimitIsExact, ImageFaultIsExact, LaterIsExact, IsBeforeWrites, Done, IsGoodRun};
+ghost use Rattle.pm_commands.specs.Facts.{UsageIsExact, LimitIsExact, ImageFaultIsExact, LaterIsExact, IsBeforeWrites, Done, IsGoodRun, LeavesNoneOrOne, Keeps};
 ghost use Rattle.pm_commands.specs.declared.words.Command.TheVariants.{Once as Asked};
 
 use crate::once::once;
@@ -120,7 +120,12 @@ pub fn offline<I: Source, O: Sink, D: Disk>(
     // A settled disk is settled after every status but 5.
     ensures settled { (result ≡ 5 → ⊥) → D.tells → IsSettled (D.held disk.old) → IsSettled (D.held disk.new) }
 
-    ensures any_moment { D.tells → LeavesOnly D.moment D.left_since disk.old disk.new (MayLeaveAny (map string_bytes words.now) I.tells (I.left input.old) (D.held disk.old)) }
+    // A crash at any moment of the call, over a disk that was empty at its start, leaves readable files with no item,
+    // or with the one item and its description.
+    ensures any_moment { I.tells → D.tells → IsEmpty (contents_of (D.held disk.old)) → LeavesOnly D.moment D.left_since disk.old disk.new (LeavesNoneOrOne (map string_bytes words.now) (I.left input.old)) }
+
+    // Once the status is 0, each crash leaves the item, until something else touches the disk.
+    ensures kept { result ≡ 0 → I.tells → D.tells → Keeps (map string_bytes words.now) (I.left input.old) (D.held disk.new) }
 {
     answer(alloc, words, input, out, disk)
 }

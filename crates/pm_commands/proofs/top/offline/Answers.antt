@@ -1,5 +1,9 @@
 -- Each fact on the status follows from how the call ends.
-use Rattle.std.proofs.Common.{◌≡◌}
+use Rattle.std.proofs.Common.{◌≡◌, map, string_bytes, Global}
+use Rattle.pcp_outside.proofs.Crash.{weaker}
+use Rattle.pm_commands.specs.Ends.{MayLeaveAny}
+use Rattle.pm_commands.specs.Facts.{LeavesNoneOrOne}
+use Rattle.pm_commands.proofs.Moments.{leaves, keeps}
 use Rattle.pm_commands.proofs.Facts.{usage_is_exact, read_fault_rose, write_fault_rose, disk_fault_rose, limit_is_exact, image_fault_is_exact, later_is_exact, files_kept, completes, done_files, settles}
 use Rattle.pm_commands.proofs.top.offline.Goals as goal
 
@@ -35,3 +39,15 @@ returns-clause-completes g c = completes _ _ _ _ c.answer.result c.answer.ensure
 
 pub returns-clause-settled : goal.returns-clause-settled
 returns-clause-settled g c = settles _ _ _ _ c.answer.result c.answer.ensures.ends
+
+pub returns-clause-any_moment : goal.returns-clause-any_moment
+returns-clause-any_moment g c = λ reads tells empty.
+    let d = g.D.Disk in
+    let words = map (string_bytes {Z = Global}) c.args.words.now in
+    let input = g.I.Source.left c.args.input.now in
+    weaker d.moment d.left_since d.held c.args.disk.now c.answer.new.disk
+    (MayLeaveAny words g.I.Source.tells input (d.held c.args.disk.now)) (LeavesNoneOrOne words input)
+    (c.answer.ensures.any_moment tells) (leaves words g.I.Source.tells input (d.held c.args.disk.now) reads empty)
+
+pub returns-clause-kept : goal.returns-clause-kept
+returns-clause-kept g c = keeps _ _ _ _ c.answer.result c.answer.ensures.ends
