@@ -1,17 +1,16 @@
 -- Each fact on a status follows from how the call ends, by cases on the refusal.
-use Rattle.std.proofs.Common.{◌≡◌, ◌⊎◌, inl, inr, ⊎_elim, ℕ, ◌<◌, ◌≤◌, List, [], ◌++◌, length, drop, codes, refl, sym, ap, ◌∙◌, subst, arith, Result, Ok, Err}
-use Rattle.pcp_model.specs.Disk.{Files, contents_of, IsEmpty, IsSettled}
+use Rattle.std.proofs.Common.{◌≡◌, ◌⊎◌, inl, inr, ⊎_elim, ℕ, ◌<◌, ◌≤◌, List, [], length, drop, refl, sym, ap, ◌∙◌, subst, arith, Ok, Err}
+use Rattle.pcp_model.specs.Disk.{contents_of, IsEmpty, IsSettled}
 use Rattle.mmv_layout.specs.declared.fault.ImageFault.{ImageFault}
 use Rattle.mmv_layout.specs.declared.fault.ImageFault.TheVariants.{Short, Generations, Later}
 use Rattle.mmv_layout.specs.declared.fault.ImageFault.TheVariants as faults
 use Rattle.mmv_layout.specs.FirstForm.{image_of}
 use Rattle.pcp_outside.specs.Causes.{Rose}
 use Rattle.pm_commands.specs.declared.words.Command.TheVariants.{Once}
-use Rattle.pm_commands.specs.declared.words.OnceWords.{OnceWords}
 use Rattle.pm_commands.specs.declared.refusal.Refusal.{Refusal}
 use Rattle.pm_commands.specs.declared.refusal.Refusal.TheVariants.{Usage, ReadFault, InputLimit, Image, LaterDisk, DiskFault, NoMemory}
 use Rattle.pm_commands.specs.CommandLine.{command_of}
-use Rattle.pm_commands.specs.Ends.{SourceSide, SinkSide, DiskSide, IsOnce, IsImageInput, IsRead, HasByte, Untouched, Cause, Ends, EndsDone, EndsUntold, EndsRefused, input_limit}
+use Rattle.pm_commands.specs.Ends.{SourceSide, SinkSide, DiskSide, IsOnce, IsImageInput, IsRead, HasByte, Untouched, Cause, Ends, EndsDone, EndsUntold, input_limit}
 use Rattle.pm_commands.specs.Facts.{UsageIsExact, LimitIsExact, IsShown, ImageFaultIsExact, LaterIsExact, IsBeforeWrites, Done, IsGoodRun}
 use Rattle.pm_commands.specs.Refusals.{status_of}
 

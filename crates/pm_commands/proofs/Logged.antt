@@ -1,10 +1,10 @@
 -- The files that the writes leave are those of the definition, and settled.
-use Rattle.std.proofs.Common.{◌≡◌, ◌≢◌, ◌⊎◌, inl, inr, ℕ, zero, suc, ◌+◌, ◌≤◌, negsuc, pos, List, [], ◌∷◌, ◌++◌, length, codes, refl, sym, ap, ◌∙◌, subst, arith, append-nil, cond}
+use Rattle.std.proofs.Common.{◌≡◌, ◌≢◌, inl, ℕ, zero, suc, negsuc, pos, List, [], ◌∷◌, ◌++◌, length, refl, sym, ap, ◌∙◌, arith, append-nil, cond}
 use Rattle.std.proofs.Math.Dec.{eqb-zero-suc, eqb-suc-zero}
 use Rattle.pcp_base.specs.Time.{Moment}
 use Rattle.pcp_base.specs.declared.file.FileId.{FileId}
 use Rattle.pcp_base.specs.declared.file.FileId.TheVariants.{Meta, Index, Volume}
-use Rattle.pcp_model.specs.Disk.{Files, Held, Holdings, bytes_of, contents_of, nothing_held, IsSettled, IsEmpty}
+use Rattle.pcp_model.specs.Disk.{Files, Held, Holdings, bytes_of, contents_of, IsSettled}
 use Rattle.pcp_model.specs.Frame.{frame}
 use Rattle.pcp_model.specs.Payload.{payload}
 use Rattle.pcp_model.specs.Records.{description}
@@ -13,11 +13,8 @@ use Rattle.pcp_model.specs.Labels.{label}
 use Rattle.pcp_model.specs.Written.{with_added, created}
 use Rattle.pcp_model.proofs.Lengths.{length-label}
 use Rattle.pcp_outside.specs.Devices.{appended}
-use Rattle.pm_commands.specs.declared.words.OnceWords.{OnceWords}
-use Rattle.pm_commands.specs.Ends.{IsImageInput}
-use Rattle.pm_commands.specs.Once.{Shot, once_files, logged, once_label, shown_desc, shown_name, shown_result}
-use Rattle.pm_commands.specs.Pieces.{Pieces, pieces, Holds, IsCut, sure, meta_file, index_file, volume_file}
-use Rattle.pm_commands.specs.Shots.{shot_of}
+use Rattle.pm_commands.specs.Once.{Shot, once_files, once_label, shown_desc, shown_name, shown_result}
+use Rattle.pm_commands.specs.Pieces.{Pieces, pieces, Holds, sure, meta_file, index_file, volume_file}
 
 pub fits_once : (stamp : Moment) → FitsLabel (once_label stamp)
 fits_once stamp = record { host = omega arith; zone = omega arith }

@@ -1,11 +1,11 @@
 -- A refusal whose line could not be made ends as want of memory.
-use Rattle.std.proofs.Common.{◌≡◌, ◌⊎◌, inl, inr, ℕ, ◌≤◌, List, [], ◌++◌, length, drop, refl, sym, ◌∙◌, arith, append-nil, IsSome}
+use Rattle.std.proofs.Common.{◌≡◌, inl, inr, ℕ, ◌≤◌, List, [], length, refl, sym, ◌∙◌, arith, append-nil, IsSome}
 use Rattle.std.proofs.lemmas.List.{drop_all}
 use Rattle.mmv_layout.specs.declared.fault.ImageFault.TheVariants.{Short, Generations, Later}
 use Rattle.mmv_layout.specs.declared.fault.ImageFault.TheVariants as faults
 use Rattle.pm_commands.specs.declared.refusal.Refusal.{Refusal}
 use Rattle.pm_commands.specs.declared.refusal.Refusal.TheVariants.{Usage, ReadFault, InputLimit, Image, LaterDisk, DiskFault, NoMemory}
-use Rattle.pm_commands.specs.Ends.{Cause, SourceSide, SinkSide, DiskSide, TookSome, input_limit, Ends, EndsRefused}
+use Rattle.pm_commands.specs.Ends.{Cause, SourceSide, SinkSide, DiskSide, TookSome, input_limit, Ends}
 use Rattle.pm_commands.specs.Refusals.{numbered_line_of}
 
 all_taken : (s : SourceSide) → length s.left ≤ input_limit → s.after ≡ [] → TookSome s

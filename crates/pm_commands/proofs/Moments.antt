@@ -1,14 +1,12 @@
 -- What each moment of a call leaves, over an empty disk.
-use Rattle.std.proofs.Common.{◌≡◌, ◌⊎◌, inl, inr, ⊎_elim, ℕ, List, [], ◌∷◌, ◌++◌, take, refl, sym, ap, ◌∙◌, subst, arith, Ok}
+use Rattle.std.proofs.Common.{◌≡◌, inl, inr, ⊎_elim, ℕ, List, [], ◌∷◌, ◌++◌, take, refl, ap, ◌∙◌, arith}
 use Rattle.std.proofs.lemmas.List.{take_all}
-use Rattle.pcp_base.specs.declared.file.FileId.{FileId}
 use Rattle.pcp_base.specs.declared.file.FileId.TheVariants.{Meta, Index, Volume}
-use Rattle.pcp_base.specs.declared.result.Item.{Item}
-use Rattle.pcp_model.specs.Archive.{Reading, Reads, scan, records_in}
+use Rattle.pcp_model.specs.Archive.{Reading, scan, records_in}
 use Rattle.pcp_model.specs.Described.{Described}
-use Rattle.pcp_model.specs.Disk.{Files, Held, Holdings, CrashImage, IsEmpty, contents_of, nothing_held}
-use Rattle.pm_commands.specs.Ends.{SourceSide, SinkSide, DiskSide, MayLeave, MayLeaveAny, Ends, EndsDone, IsImageInput, item_of}
-use Rattle.pm_commands.specs.Facts.{IsItemAsked, LeavesNoneOrOne, Keeps}
+use Rattle.pcp_model.specs.Disk.{Files, Held, Holdings, CrashImage, IsEmpty, contents_of}
+use Rattle.pm_commands.specs.Ends.{SourceSide, SinkSide, DiskSide, MayLeaveAny, Ends, EndsDone, item_of}
+use Rattle.pm_commands.specs.Facts.{LeavesNoneOrOne, Keeps}
 use Rattle.pm_commands.specs.Pieces.{NoneOrOne}
 use Rattle.pm_commands.proofs.Facts.{is_done}
 use Rattle.pm_commands.proofs.Looks.{holds_nothing}

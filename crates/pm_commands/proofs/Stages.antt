@@ -1,13 +1,13 @@
 -- Each stage of the writes leaves only files that are cut in order.
-use Rattle.std.proofs.Common.{◌≡◌, ◌≢◌, zero, suc, ◌⊎◌, inl, inr, ⊎_elim, ℕ, ◌+◌, ◌-◌, ◌<◌, ◌≤◌, List, [], ◌∷◌, ◌++◌, length, take, drop, min, refl, sym, ap, ◌∙◌, subst, append_assoc, arith, length-append, append-nil, cond, false}
+use Rattle.std.proofs.Common.{◌≡◌, ◌≢◌, zero, suc, ◌⊎◌, inl, inr, ⊎_elim, ℕ, ◌+◌, ◌≤◌, List, [], ◌++◌, length, take, min, refl, sym, ap, ◌∙◌, append_assoc, arith, length-append, append-nil, cond, false}
 use Rattle.std.proofs.Math.Dec.{eqb-zero-suc}
 use Rattle.std.proofs.lemmas.List.{take_all, take-append-le, take_min}
 use Rattle.std.proofs.Math.Seq.{take-append-add}
 use Rattle.pcp_base.specs.declared.file.FileId.{FileId}
 use Rattle.pcp_base.specs.declared.file.FileId.TheVariants.{Meta, Index, Volume}
-use Rattle.pcp_model.specs.Disk.{Files, Held, Holdings, nothing_held, bytes_of, CrashImage}
+use Rattle.pcp_model.specs.Disk.{Files, Held, Holdings, nothing_held, CrashImage}
 use Rattle.pcp_outside.specs.Devices.{appended, made_sure, synced, grown, Becomes, same_file}
-use Rattle.pm_commands.specs.Pieces.{Pieces, meta_file, index_file, volume_file, InOrder, IsCut, Holds, sure}
+use Rattle.pm_commands.specs.Pieces.{Pieces, meta_file, index_file, volume_file, IsCut, Holds, sure}
 
 -- what one file holds is a beginning of what it is to hold
 pub record Begins (h : Held) (file : List ℕ) : Type 0 where

@@ -1,7 +1,5 @@
 -- Texts that are put together of texts.
-use Rattle.std.proofs.Common.{◌≡◌, ◌≢◌, ℕ, List, [], ◌∷◌, ◌++◌, length, slice_index, codes}
-use Rattle.std.specs.List.{AllByRecursion}
-use Rattle.std.proofs.lemmas.List.Elements.{All-from_recursion, recursion_from_All}
+use Rattle.std.proofs.Common.{ℕ, List}
 use Rattle.pcp_base.specs.Texts.{IsText, IsFirstZero}
 
 -- a text has no zero byte

@@ -2,9 +2,9 @@
 use Rattle.std.proofs.Common.{◌≡◌, ◌⊎◌, inl, inr, ℕ, List, [], subst}
 use Rattle.pcp_model.specs.Disk.{Files, Holdings, CrashImage, IsEmpty, contents_of}
 use Rattle.pm_commands.specs.declared.words.OnceWords.{OnceWords}
-use Rattle.pm_commands.specs.Ends.{IsImageInput, IsLogged, SourceSide, DiskSide, MayLeave, item_of}
+use Rattle.pm_commands.specs.Ends.{IsImageInput, IsLogged, SourceSide, DiskSide, MayLeave}
 use Rattle.pm_commands.specs.Fits.{FitsOnce, FitsShot}
-use Rattle.pm_commands.specs.Pieces.{Pieces, pieces, IsCut, NoneOrOne, HasItem}
+use Rattle.pm_commands.specs.Pieces.{Pieces, pieces, IsCut}
 use Rattle.pm_commands.specs.Shots.{shot_of}
 use Rattle.pm_commands.proofs.Logged.{Final, final_files, final_settled}
 use Rattle.pm_commands.proofs.NoneOrOne.{none_or_one, has_item}

@@ -1,5 +1,5 @@
 -- What is known of a command's words and of a first-form image, so that each field of the archive holds it.
-use Rattle.std.specs.Prelude.{ℕ, ◌<◌, ◌≤◌, List, length}
+use Rattle.std.specs.Prelude.{◌<◌, ◌≤◌, length}
 use Rattle.pcp_base.specs.Time.{IsMoment}
 use Rattle.pcp_base.specs.Texts.{IsText}
 use Rattle.pm_commands.specs.declared.words.OnceWords.{OnceWords}

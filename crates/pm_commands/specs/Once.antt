@@ -1,5 +1,5 @@
 -- What `once` makes of an image: one result of the image's only metric, and the archive that holds it.
-use Rattle.std.specs.Prelude.{◌≡◌, ℕ, ◌+◌, ◌%◌, negsuc, pos, List, [], ◌∷◌, ◌++◌, length, codes}
+use Rattle.std.specs.Prelude.{ℕ, ◌%◌, negsuc, List, [], ◌∷◌, ◌++◌, length, codes}
 use Rattle.pcp_base.specs.Ids.{pmid_word, null_indom}
 use Rattle.pcp_base.specs.Time.{Moment}
 use Rattle.pcp_base.specs.declared.file.FileId.TheVariants.{Meta, Index, Volume}

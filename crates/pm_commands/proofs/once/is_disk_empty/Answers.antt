@@ -1,7 +1,7 @@
 -- Each call only looks, so what a crash may leave is what was there.
-use Rattle.std.proofs.Common.{◌≡◌, ◌≢◌, ◌∙◌, ap, subst, sym, ℕ, arith}
-use Rattle.pcp_model.specs.Disk.{CrashImage, Holdings}
-use Rattle.pcp_outside.specs.Devices.{LeavesOnly, IsVolumes}
+use Rattle.std.proofs.Common.{◌≡◌, ◌∙◌, subst}
+use Rattle.pcp_model.specs.Disk.{Holdings}
+use Rattle.pcp_outside.specs.Devices.{IsVolumes}
 use Rattle.pm_commands.proofs.Looks.{first_look, next_look, looked_volume}
 use Rattle.pm_commands.proofs.once.is_disk_empty.Goals as goal
 

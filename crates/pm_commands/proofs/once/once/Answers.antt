@@ -1,7 +1,7 @@
-use Rattle.std.proofs.Common.{◌≡◌, ◌⊎◌, ℕ}
-use Rattle.pcp_model.specs.Disk.{Files, CrashImage, IsEmpty, contents_of}
+use Rattle.std.proofs.Common.{◌⊎◌}
+use Rattle.pcp_model.specs.Disk.{CrashImage, IsEmpty, contents_of}
 use Rattle.pcp_outside.proofs.Crash.{weaker}
-use Rattle.pm_commands.specs.Ends.{MayLeave, SourceSide, DiskSide}
+use Rattle.pm_commands.specs.Ends.{MayLeave}
 use Rattle.pm_commands.specs.Pieces.{IsCut}
 use Rattle.pm_commands.proofs.Wholes.{is_logged, may_leave}
 use Rattle.pm_commands.proofs.once.once.Goals as goal

@@ -1,5 +1,5 @@
-use Rattle.std.proofs.Common.{◌≡◌, ◌⊎◌, inl, inr, ap, subst, sym, ◌∙◌, ℕ, Bool, true, MatchBool}
-use Rattle.pcp_model.specs.Disk.{Files, Holdings, CrashImage, IsEmpty, contents_of, nothing_held}
+use Rattle.std.proofs.Common.{subst, sym, Bool, MatchBool}
+use Rattle.pcp_model.specs.Disk.{Files, Holdings, IsEmpty, contents_of, nothing_held}
 use Rattle.pm_commands.specs.Ends.{HasByte}
 use Rattle.pm_commands.specs.Pieces.{Holds}
 use Rattle.pm_commands.proofs.Looks.{empty_holds}

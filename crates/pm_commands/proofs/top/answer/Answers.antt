@@ -1,4 +1,3 @@
-use Rattle.std.proofs.Common.{◌≡◌}
 use Rattle.pm_commands.proofs.Memory.{ends_untold}
 use Rattle.pm_commands.proofs.top.answer.Goals as goal
 

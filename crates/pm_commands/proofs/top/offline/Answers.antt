@@ -1,5 +1,5 @@
 -- Each fact on the status follows from how the call ends.
-use Rattle.std.proofs.Common.{◌≡◌, map, string_bytes, Global}
+use Rattle.std.proofs.Common.{map, string_bytes, Global}
 use Rattle.pcp_outside.proofs.Crash.{weaker}
 use Rattle.pm_commands.specs.Ends.{MayLeaveAny}
 use Rattle.pm_commands.specs.Facts.{LeavesNoneOrOne}

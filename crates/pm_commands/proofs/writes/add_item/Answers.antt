@@ -1,5 +1,5 @@
-use Rattle.std.proofs.Common.{◌≡◌, ◌∙◌, ap, subst, List, ℕ}
-use Rattle.pcp_base.specs.declared.file.FileId.TheVariants.{Meta, Index, Volume}
+use Rattle.std.proofs.Common.{◌≡◌, ◌∙◌, ap, subst}
+use Rattle.pcp_base.specs.declared.file.FileId.TheVariants.{Meta, Volume}
 use Rattle.pcp_model.specs.Disk.{CrashImage}
 use Rattle.pcp_outside.specs.Devices.{LeavesOnly, grown}
 use Rattle.pcp_outside.proofs.Crash.{weaker, after_append}

@@ -1,6 +1,6 @@
-use Rattle.std.proofs.Common.{◌≡◌, ◌∙◌, ap, List, ℕ}
-use Rattle.pcp_base.specs.declared.file.FileId.TheVariants.{Meta, Index, Volume}
-use Rattle.pcp_outside.specs.Devices.{LeavesOnly, appended}
+use Rattle.std.proofs.Common.{◌≡◌, ◌∙◌, ap}
+use Rattle.pcp_base.specs.declared.file.FileId.TheVariants.{Index, Volume}
+use Rattle.pcp_outside.specs.Devices.{LeavesOnly}
 use Rattle.pcp_outside.proofs.Crash.{started, after_sync, after_append}
 use Rattle.pm_commands.specs.Pieces.{Pieces, IsCut, sure, meta_file, volume_file, Holds}
 use Rattle.pm_commands.proofs.Stages.{synced_stage, entry_stage, now_synced}
