@@ -2,9 +2,12 @@
 //! an interval, and the instants at which each of its groups is due.
 #![tactic(auto)]
 
+mod bytes;
 mod config;
+mod found;
 mod groups;
 mod instants;
+mod place;
 
-pub use config::{Config, Group};
+pub use config::{Config, ConfigError, ConfigFault, Group};
 pub use groups::Groups;
