@@ -31,7 +31,7 @@ next_other : (p : Place) (b : ℕ) → is_blank b ≡ false → next_of p b ≡ 
 next_other p b other = ap (λ t. if t then blank_step (blank_of p) (other_of p b) else other_of p b) other
 
 -- one step
-step : (p : Place) (f : Found) (b : ℕ) (s : Step) (rest : List ℕ) → next_of p b ≡ Some s → run (p, f) (b ∷ rest) ≡ run (s.0, changed s.1 b f) rest
+pub step : (p : Place) (f : Found) (b : ℕ) (s : Step) (rest : List ℕ) → next_of p b ≡ Some s → run (p, f) (b ∷ rest) ≡ run (s.0, changed s.1 b f) rest
 step p f b s rest e = let go : Option Step → Option State = λ o. option_and_then (λ next. run next rest) (moved o b f) in ap go e
 
 -- blanks where they may stand

@@ -1,10 +1,12 @@
 -- What the reader says of a text is what the grammar says: it is read, or the fault is where the text
 -- can't go on as a configuration.
-use Rattle.std.proofs.Common.{◌≡◌, ℕ, zero, suc, ◌+◌, ◌-◌, ◌*◌, ◌≤◌, ◌<◌, ◌≢◌, Bool, true, false, IsTrue, if◌then◌else◌, ◌&&◌, ◌||◌, ◌==◌, nat_le, ◌⊎◌, inl, inr, List, [], ◌∷◌, ◌++◌, length, take, drop, slice_index, get_or, Option, Some, None, option_and_then, refl, sym, ap, ◌∙◌, subst, append_assoc, arith, codes, drop-cons, add-one, lit<}
+use Rattle.std.proofs.Common.{◌≡◌, ℕ, zero, suc, ◌+◌, ◌-◌, ◌*◌, ◌≤◌, ◌<◌, ◌≢◌, Bool, true, false, IsTrue, if◌then◌else◌, ◌&&◌, ◌||◌, ◌==◌, nat_le, ◌⊎◌, inl, inr, List, [], ◌∷◌, ◌++◌, length, take, drop, slice_index, get_or, Option, Some, None, option_and_then, refl, sym, ap, ◌∙◌, subst, append_assoc, arith, codes, drop-cons, drop_of_length-le, add-one, eq-eqb, lit<}
 use Rattle.std.proofs.lemmas.List.{append-nil}
 use Rattle.std.proofs.lemmas.Bool.{eqb-true, leb-true}
 use Rattle.std.proofs.lemmas.Bool.Decides.{nat_tests}
-use Rattle.std.proofs.Math.Seq.{take-suc}
+use Rattle.std.proofs.Math.Seq.{take-suc, take-length}
+use Rattle.std.specs.List.{AllByRecursion}
+use Rattle.std.proofs.lemmas.List.Elements.{All-from_recursion}
 use Rattle.log_schedule.specs.Names.{is_letter, is_digit, is_name_byte}
 use Rattle.log_schedule.specs.Configuration.{is_blank, IsConfiguration, Begins, IsFault}
 use Rattle.log_schedule.specs.declared.config.Group.{Group}
@@ -19,7 +21,7 @@ use Rattle.log_schedule.specs.declared.place.Act.TheVariants as acts
 use Rattle.log_schedule.specs.Reading.{word_text, Step, after_word, in_word, word_byte, digit_byte, number_byte, interval_byte, first_byte, unit_byte, minute_byte, letter_byte, name_end, name_byte, after_byte, brace_byte, part_byte, comma_byte, blank_step, blank_of, other_of, next_of, Found, changed, IsPlace, IsWord, State, moved, run, opening}
 use Rattle.log_schedule.proofs.Rest.{Ends}
 use Rattle.log_schedule.proofs.Steps.{Rest, Steps, next_step, and_right}
-use Rattle.log_schedule.proofs.Accepts.{taken}
+use Rattle.log_schedule.proofs.Accepts.{step, taken}
 
 -- a fact of both sides of a choice is one of the choice
 all_if : {A : Type 0} (P : A → Type 0) (t : Bool) (x y : A) → (t ≡ true → P x) → (t ≡ false → P y) → P (if t then x else y)
@@ -189,3 +191,227 @@ run-append s t (b ∷ front) more e = by_move (moved (next_of s.0 b) b s.1) e (�
     by_move : (o : Option State) → option_and_then (λ v. run v front) o ≡ Some t → ((v : State) → run v front ≡ Some t → run v (front ++ more) ≡ run t more) → option_and_then (λ v. run v (front ++ more)) o ≡ run t more
     by_move None e' again = cc
     by_move (Some v) e' again = again v e'
+
+word_next : (word : Word) (seen b : ℕ) → next_of (places.Word word seen) b ≡ word_byte word seen b
+word_next word seen b = all_if (λ (o : Option Step). o ≡ word_byte word seen b) (is_blank b) (word_byte word seen b) (word_byte word seen b) (λ (_ : is_blank b ≡ true). refl) (λ (_ : is_blank b ≡ false). refl)
+
+-- the state after a whole word
+abbrev finished : Word → Found → State
+finished word f = ((after_word word).0, changed (after_word word).1 0 f)
+
+same_change : (word : Word) (b : ℕ) (f : Found) → changed (after_word word).1 b f ≡ changed (after_word word).1 0 f
+same_change words.Log b f = refl
+same_change words.Mandatory b f = refl
+same_change words.On b f = refl
+same_change words.Every b f = refl
+same_change words.Once b f = refl
+same_change (words.Unit unit n) b f = refl
+
+-- a word's next byte is taken
+word_step : (word : Word) (seen : ℕ) (f : Found) (rest : List ℕ) → seen < length (word_text word) →
+    run (places.Word word seen, f) (drop seen (word_text word) ++ rest)
+    ≡ run ((in_word word (seen + 1)).0, changed (in_word word (seen + 1)).1 (get_or (word_text word) seen 0) f) (drop (suc seen) (word_text word) ++ rest)
+word_step word seen f rest lt =
+    let text = word_text word in
+    let c = get_or text seen 0 in
+    let same : c == c ≡ true = eq-eqb c c refl in
+    let taken_c : next_of (places.Word word seen) c ≡ Some (in_word word (seen + 1)) = word_next word seen c ∙ ap (λ t. if t then Some (in_word word (seen + 1)) else None) same in
+    ap (λ bs. run (places.Word word seen, f) (bs ++ rest)) (drop-cons text seen 0 lt)
+    ∙ step (places.Word word seen) f c (in_word word (seen + 1)) (drop (suc seen) text ++ rest) taken_c
+
+in_word_is : (word : Word) (seen : ℕ) (t : Bool) → seen == length (word_text word) ≡ t → in_word word seen ≡ (if t then after_word word else (places.Word word seen, acts.Keep))
+in_word_is word seen t e = ap (λ v. if v then after_word word else (places.Word word seen, acts.Keep)) e
+
+other_than : (a b : ℕ) → a ≢ b → a == b ≡ false
+other_than a b h = grind (arith, nat_tests)
+
+-- the rest of a word is taken
+leads_word : (k : ℕ) (word : Word) (seen : ℕ) (f : Found) (rest : List ℕ) → seen + suc k ≡ length (word_text word) → run (places.Word word seen, f) (drop seen (word_text word) ++ rest) ≡ run (finished word f) rest
+leads_word zero word seen f rest within =
+    let c = get_or (word_text word) seen 0 in
+    let whole : in_word word (seen + 1) ≡ after_word word = in_word_is word (seen + 1) true (eq-eqb (seen + 1) (length (word_text word)) (omega arith)) in
+    let nothing : drop (suc seen) (word_text word) ≡ [] = drop_of_length-le (word_text word) {i = suc seen} (omega arith) in
+    word_step word seen f rest (omega arith)
+    ∙ ap (λ (s : Step). run (s.0, changed s.1 c f) (drop (suc seen) (word_text word) ++ rest)) whole
+    ∙ ap (λ bs. run ((after_word word).0, changed (after_word word).1 c f) (bs ++ rest)) nothing
+    ∙ ap (λ g. run ((after_word word).0, g) rest) (same_change word c f)
+leads_word (suc k) word seen f rest within =
+    let c = get_or (word_text word) seen 0 in
+    let more : in_word word (seen + 1) ≡ (places.Word word (seen + 1), acts.Keep) = in_word_is word (seen + 1) false (other_than (seen + 1) (length (word_text word)) (omega arith)) in
+    let next : seen + 1 ≡ suc seen = omega arith in
+    word_step word seen f rest (omega arith)
+    ∙ ap (λ (s : Step). run (s.0, changed s.1 c f) (drop (suc seen) (word_text word) ++ rest)) more
+    ∙ ap (λ n. run (places.Word word n, f) (drop (suc seen) (word_text word) ++ rest)) next
+    ∙ leads_word k word (suc seen) f rest (omega arith)
+
+-- bytes that lead to the end of a statement
+abbrev after_completion : Word → List ℕ
+after_completion words.Log = codes " mandatory on once{a}"
+after_completion words.Mandatory = codes " on once{a}"
+after_completion words.On = codes " once{a}"
+after_completion words.Every = codes " 1 sec{a}"
+after_completion words.Once = codes "{a}"
+after_completion (words.Unit unit n) = codes "{a}"
+
+abbrev next_completion : Next → List ℕ
+next_completion nexts.Mandatory = codes "mandatory on once{a}"
+next_completion nexts.On = codes "on once{a}"
+next_completion nexts.Interval = codes "once{a}"
+next_completion nexts.Number = codes "1 sec{a}"
+
+abbrev completion : Place → List ℕ
+completion places.Between = []
+completion (places.Word word seen) = drop seen (word_text word) ++ after_completion word
+completion (places.Gap next) = 32 ∷ next_completion next
+completion (places.Spaced next) = next_completion next
+completion (places.Number n) = codes " sec{a}"
+completion (places.Unit n) = codes "sec{a}"
+completion (places.Minute n) = codes "in{a}"
+completion places.Brace = codes "{a}"
+completion places.First = codes "a}"
+completion places.Name = codes "}"
+completion places.Dot = codes "a}"
+completion places.Comma = codes "a}"
+completion places.After = codes "}"
+
+abbrev IsLive : Option State → Type 0
+IsLive None = ⊥
+IsLive (Some s) = IsBetween s.0
+
+after_lives : (word : Word) (f : Found) → IsLive (run (finished word f) (after_completion word))
+after_lives words.Log f = tt
+after_lives words.Mandatory f = tt
+after_lives words.On f = tt
+after_lives words.Every f = tt
+after_lives words.Once f = tt
+after_lives (words.Unit unit n) f = tt
+
+next_lives : (next : Next) (f : Found) → IsLive (run (places.Spaced next, f) (next_completion next))
+next_lives nexts.Mandatory f = tt
+next_lives nexts.On f = tt
+next_lives nexts.Interval f = tt
+next_lives nexts.Number f = tt
+
+-- each place can go on to the end of a statement
+lives : (p : Place) (f : Found) → IsPlace p → IsLive (run (p, f) (completion p))
+lives places.Between f good = tt
+lives (places.Word word seen) f good = subst IsLive (sym (leads_word (length (word_text word) - suc seen) word seen f (after_completion word) (let lt : seen < length (word_text word) = good.0 in omega arith))) (after_lives word f)
+lives (places.Gap next) f good = next_lives next f
+lives (places.Spaced next) f good = next_lives next f
+lives (places.Number n) f good = tt
+lives (places.Unit n) f good = tt
+lives (places.Minute n) f good = tt
+lives places.Brace f good = tt
+lives places.First f good = tt
+lives places.Name f good = tt
+lives places.Dot f good = tt
+lives places.Comma f good = tt
+lives places.After f good = tt
+
+-- what leads to the end of a statement is a configuration
+configuration : (bytes : List ℕ) (o : Option State) → run opening bytes ≡ o → IsLive o → (groups : List Group) × IsConfiguration bytes groups
+configuration bytes None e live = absurd live
+configuration bytes (Some s) e live =
+    let outcome : Outcome (Some s) places.Between opening.1 bytes = subst (λ (o : Option State). Outcome o places.Between opening.1 bytes) e (sound bytes places.Between opening.1 tt) in
+    let ends : Ends [] bytes s.1.groups = outcome live refl in
+    (ends.more, ends.whole)
+
+-- bytes that the reader takes begin a configuration
+begins : (bytes : List ℕ) (p : Place) (f : Found) → IsPlace p → run opening bytes ≡ Some (p, f) → Begins bytes
+begins bytes p f good e =
+    let whole = configuration (bytes ++ completion p) (run (p, f) (completion p)) (run-append opening (p, f) bytes (completion p) e) (lives p f good) in
+    record { more = completion p; groups = whole.0; whole = whole.1 }
+
+-- a byte that isn't taken is a fault
+pub fault_at : (text : List ℕ) (at : ℕ) (p : Place) (f : Found) → at < length text → IsPlace p → run opening (take at text) ≡ Some (p, f) → next_of p (get_or text at 0) ≡ None → IsFault text at
+fault_at text at p f within good e stuck = record {
+    within = omega arith;
+    good = begins (take at text) p f good e;
+    bad = λ (_ : at < length text) (b : Begins (take (at + 1) text)).
+      let c = get_or text at 0 in
+      let t = taken b.groups (take (at + 1) text ++ b.more) opening.1 refl b.whole in
+      let front : take (at + 1) text ≡ take at text ++ c ∷ [] = rw add-one (take-suc text at 0 within) in
+      let split : take (at + 1) text ++ b.more ≡ take at text ++ c ∷ b.more = ap (λ bs. bs ++ b.more) front ∙ append_assoc (take at text) (c ∷ []) b.more in
+      let fails : run opening (take (at + 1) text ++ b.more) ≡ None = ap (run opening) split ∙ run-append opening (p, f) (take at text) (c ∷ b.more) e ∙ ap (λ o. option_and_then (λ next. run next b.more) (moved o c f)) stuck in
+      let both : Some (places.Between, t.0) ≡ None = sym t.1 ∙ fails in
+      cc both;
+    short = λ (end : at ≡ length text) (groups : List Group) (whole : IsConfiguration text groups). absurd (omega arith);
+  }
+
+abbrev place_of : Option State → Place
+place_of None = places.Between
+place_of (Some s) = s.0
+
+abbrev groups_of : Option State → List Group
+groups_of None = []
+groups_of (Some s) = s.1.groups
+
+-- a text that ends inside a statement is a fault past its last byte
+pub fault_end : (text : List ℕ) (p : Place) (f : Found) → IsPlace p → run opening text ≡ Some (p, f) → (IsBetween p → ⊥) → IsFault text (length text)
+fault_end text p f good e inside = record {
+    within = omega arith;
+    good = subst Begins (sym (take-length text)) (begins text p f good e);
+    bad = λ (past : length text < length text) (b : Begins (take (length text + 1) text)). absurd (omega arith);
+    short = λ (_ : length text ≡ length text) (groups : List Group) (whole : IsConfiguration text groups).
+      let t = taken groups text opening.1 refl whole in
+      inside (subst IsBetween (ap place_of (sym t.1 ∙ e)) tt);
+  }
+
+-- a text that leads between statements is a configuration of the groups found
+pub is_read : (text : List ℕ) (f : Found) → run opening text ≡ Some (places.Between, f) → IsConfiguration text f.groups
+is_read text f e =
+    let outcome : Outcome (Some (places.Between, f)) places.Between opening.1 text = subst (λ (o : Option State). Outcome o places.Between opening.1 text) e (sound text places.Between opening.1 tt) in
+    let ends : Ends [] text f.groups = outcome tt refl in
+    subst (IsConfiguration text) (sym ends.gives) ends.whole
+
+-- and of no others
+pub only_read : (text : List ℕ) (f : Found) (groups : List Group) → run opening text ≡ Some (places.Between, f) → IsConfiguration text groups → f.groups ≡ groups
+only_read text f groups e whole =
+    let t = taken groups text opening.1 refl whole in
+    ap groups_of (sym e ∙ t.1) ∙ t.2
+
+-- one more byte
+pub one_more : (text : List ℕ) (at : ℕ) (p : Place) (f : Found) (s : Step) → at < length text → run opening (take at text) ≡ Some (p, f) → next_of p (get_or text at 0) ≡ Some s → run opening (take (at + 1) text) ≡ Some (s.0, changed s.1 (get_or text at 0) f)
+one_more text at p f s within e next =
+    let c = get_or text at 0 in
+    let front : take (at + 1) text ≡ take at text ++ c ∷ [] = rw add-one (take-suc text at 0 within) in
+    ap (run opening) front ∙ run-append opening (p, f) (take at text) (c ∷ []) e ∙ step p f c s [] next
+
+text_has_no_zero : (word : Word) → AllByRecursion (λ b. 0 < b) (word_text word)
+text_has_no_zero words.Log = (lit< tt, (lit< tt, (lit< tt, tt)))
+text_has_no_zero words.Mandatory = (lit< tt, (lit< tt, (lit< tt, (lit< tt, (lit< tt, (lit< tt, (lit< tt, (lit< tt, (lit< tt, tt)))))))))
+text_has_no_zero words.On = (lit< tt, (lit< tt, tt))
+text_has_no_zero words.Every = (lit< tt, (lit< tt, (lit< tt, (lit< tt, (lit< tt, tt)))))
+text_has_no_zero words.Once = (lit< tt, (lit< tt, (lit< tt, (lit< tt, tt))))
+text_has_no_zero (words.Unit units.Msec n) = (lit< tt, (lit< tt, (lit< tt, (lit< tt, tt))))
+text_has_no_zero (words.Unit units.Sec n) = (lit< tt, (lit< tt, (lit< tt, tt)))
+text_has_no_zero (words.Unit units.Min n) = (lit< tt, (lit< tt, (lit< tt, tt)))
+text_has_no_zero (words.Unit units.Hour n) = (lit< tt, (lit< tt, (lit< tt, (lit< tt, tt))))
+
+next_refuses_zero : (next : Next) → first_byte next 0 ≡ None
+next_refuses_zero nexts.Mandatory = refl
+next_refuses_zero nexts.On = refl
+next_refuses_zero nexts.Interval = refl
+next_refuses_zero nexts.Number = refl
+
+zero_refused : (p : Place) → IsPlace p → next_of p 0 ≡ None
+zero_refused places.Between good = refl
+zero_refused (places.Word word seen) good =
+    let above : 0 < get_or (word_text word) seen 0 = All-from_recursion (λ b. 0 < b) (word_text word) (text_has_no_zero word) seen 0 good.0 in
+    ap (λ t. if t then Some (in_word word (seen + 1)) else None) (other_than 0 (get_or (word_text word) seen 0) (omega arith))
+zero_refused (places.Gap next) good = refl
+zero_refused (places.Spaced next) good = next_refuses_zero next
+zero_refused (places.Number n) good = refl
+zero_refused (places.Unit n) good = refl
+zero_refused (places.Minute n) good = refl
+zero_refused places.Brace good = refl
+zero_refused places.First good = refl
+zero_refused places.Name good = refl
+zero_refused places.Dot good = refl
+zero_refused places.Comma good = refl
+zero_refused places.After good = refl
+
+-- no statement has a zero byte
+pub never_zero : (p : Place) (b : ℕ) (s : Step) → IsPlace p → next_of p b ≡ Some s → 0 < b
+never_zero p zero s good e = let both : None ≡ Some s = sym (zero_refused p good) ∙ e in cc both
+never_zero p (suc b) s good e = omega arith
