@@ -1,8 +1,8 @@
 -- What the reader says of a text is what the grammar says: it is read, or the fault is where the text
 -- can't go on as a configuration.
-use Rattle.std.proofs.Common.{◌≡◌, ℕ, zero, suc, ◌+◌, ◌-◌, ◌*◌, ◌≤◌, ◌<◌, ◌≢◌, Bool, true, false, IsTrue, if◌then◌else◌, ◌&&◌, ◌||◌, ◌==◌, nat_le, ◌⊎◌, inl, inr, List, [], ◌∷◌, ◌++◌, length, take, drop, slice_index, get_or, Option, Some, None, option_and_then, refl, sym, ap, ◌∙◌, subst, append_assoc, arith, codes, drop-cons, drop_of_length-le, add-one, eq-eqb, lit<}
+use Rattle.std.proofs.Common.{◌≡◌, ℕ, zero, suc, ◌+◌, ◌-◌, ◌*◌, ◌≤◌, ◌<◌, ◌≢◌, Bool, true, false, IsTrue, if◌then◌else◌, ◌&&◌, ◌||◌, ◌==◌, nat_le, ◌⊎◌, inl, inr, List, [], ◌∷◌, ◌++◌, length, take, drop, slice_index, get_or, Option, Some, None, option_and_then, refl, sym, ap, ◌∙◌, subst, append_assoc, arith, codes, drop-cons, drop_of_length-le, take-append-drop, add-one, eq-eqb, lit<}
 use Rattle.std.proofs.lemmas.List.{append-nil}
-use Rattle.std.proofs.lemmas.Bool.{eqb-true, leb-true}
+use Rattle.std.proofs.lemmas.Bool.{cases_lt, eqb-true, leb-true}
 use Rattle.std.proofs.lemmas.Bool.Decides.{nat_tests}
 use Rattle.std.proofs.Math.Seq.{take-suc, take-length}
 use Rattle.std.specs.List.{AllByRecursion}
@@ -18,7 +18,7 @@ use Rattle.log_schedule.specs.declared.place.Next.TheVariants as nexts
 use Rattle.log_schedule.specs.declared.place.Place.{Place}
 use Rattle.log_schedule.specs.declared.place.Place.TheVariants as places
 use Rattle.log_schedule.specs.declared.place.Act.TheVariants as acts
-use Rattle.log_schedule.specs.Reading.{word_text, Step, after_word, in_word, word_byte, digit_byte, number_byte, interval_byte, first_byte, unit_byte, minute_byte, letter_byte, name_end, name_byte, after_byte, brace_byte, part_byte, comma_byte, blank_step, blank_of, other_of, next_of, Found, changed, IsPlace, IsWord, State, moved, run, opening}
+use Rattle.log_schedule.specs.Reading.{word_text, Step, after_word, in_word, word_byte, digit_byte, number_byte, interval_byte, first_byte, unit_byte, minute_byte, letter_byte, name_end, name_byte, after_byte, brace_byte, part_byte, comma_byte, blank_step, blank_of, other_of, next_of, Found, changed, IsPlace, IsWord, State, moved, run, is_between, opening}
 use Rattle.log_schedule.proofs.Rest.{Ends}
 use Rattle.log_schedule.proofs.Steps.{Rest, Steps, next_step, and_right}
 use Rattle.log_schedule.proofs.Accepts.{step, taken}
@@ -145,10 +145,8 @@ blank_good places.After b good = tt
 next_good : (p : Place) (b : ℕ) → IsPlace p → IsGood (next_of p b)
 next_good p b good = all_if IsGood (is_blank b) (blank_step (blank_of p) (other_of p b)) (other_of p b) (λ (_ : is_blank b ≡ true). blank_good p b good) (λ (_ : is_blank b ≡ false). other_good p b good)
 
--- between statements, where a configuration may end
 abbrev pub IsBetween : Place → Type 0
-IsBetween places.Between = Unit {0}
-IsBetween place = ⊥
+IsBetween place = IsTrue (is_between place)
 
 -- what leads between statements may follow
 abbrev Outcome : Option State → Place → Found → List ℕ → Type 0
@@ -157,18 +155,18 @@ Outcome (Some s) p f bytes = IsBetween s.0 → Rest p f s.1.groups bytes
 
 ended : (p : Place) (f : Found) → IsBetween p → Rest p f f.groups []
 ended places.Between f at = λ none. record { more = []; whole = tt; gives = sym (append-nil f.groups) }
-ended (places.Word word seen) f at = absurd at
-ended (places.Gap next) f at = absurd at
-ended (places.Spaced next) f at = absurd at
-ended (places.Number n) f at = absurd at
-ended (places.Unit n) f at = absurd at
-ended (places.Minute n) f at = absurd at
-ended places.Brace f at = absurd at
-ended places.First f at = absurd at
-ended places.Name f at = absurd at
-ended places.Dot f at = absurd at
-ended places.Comma f at = absurd at
-ended places.After f at = absurd at
+ended (places.Word word seen) f at = cc at
+ended (places.Gap next) f at = cc at
+ended (places.Spaced next) f at = cc at
+ended (places.Number n) f at = cc at
+ended (places.Unit n) f at = cc at
+ended (places.Minute n) f at = cc at
+ended places.Brace f at = cc at
+ended places.First f at = cc at
+ended places.Name f at = cc at
+ended places.Dot f at = cc at
+ended places.Comma f at = cc at
+ended places.After f at = cc at
 
 carried : (o : Option State) (p q : Place) (f g : Found) (bytes more : List ℕ) → ((out : List Group) → Rest p f out bytes → Rest q g out more) → Outcome o p f bytes → Outcome o q g more
 carried None p q f g bytes more go h = tt
@@ -279,34 +277,34 @@ IsLive None = ⊥
 IsLive (Some s) = IsBetween s.0
 
 after_lives : (word : Word) (f : Found) → IsLive (run (finished word f) (after_completion word))
-after_lives words.Log f = tt
-after_lives words.Mandatory f = tt
-after_lives words.On f = tt
-after_lives words.Every f = tt
-after_lives words.Once f = tt
-after_lives (words.Unit unit n) f = tt
+after_lives words.Log f = refl
+after_lives words.Mandatory f = refl
+after_lives words.On f = refl
+after_lives words.Every f = refl
+after_lives words.Once f = refl
+after_lives (words.Unit unit n) f = refl
 
 next_lives : (next : Next) (f : Found) → IsLive (run (places.Spaced next, f) (next_completion next))
-next_lives nexts.Mandatory f = tt
-next_lives nexts.On f = tt
-next_lives nexts.Interval f = tt
-next_lives nexts.Number f = tt
+next_lives nexts.Mandatory f = refl
+next_lives nexts.On f = refl
+next_lives nexts.Interval f = refl
+next_lives nexts.Number f = refl
 
 -- each place can go on to the end of a statement
 lives : (p : Place) (f : Found) → IsPlace p → IsLive (run (p, f) (completion p))
-lives places.Between f good = tt
+lives places.Between f good = refl
 lives (places.Word word seen) f good = subst IsLive (sym (leads_word (length (word_text word) - suc seen) word seen f (after_completion word) (let lt : seen < length (word_text word) = good.0 in omega arith))) (after_lives word f)
 lives (places.Gap next) f good = next_lives next f
 lives (places.Spaced next) f good = next_lives next f
-lives (places.Number n) f good = tt
-lives (places.Unit n) f good = tt
-lives (places.Minute n) f good = tt
-lives places.Brace f good = tt
-lives places.First f good = tt
-lives places.Name f good = tt
-lives places.Dot f good = tt
-lives places.Comma f good = tt
-lives places.After f good = tt
+lives (places.Number n) f good = refl
+lives (places.Unit n) f good = refl
+lives (places.Minute n) f good = refl
+lives places.Brace f good = refl
+lives places.First f good = refl
+lives places.Name f good = refl
+lives places.Dot f good = refl
+lives places.Comma f good = refl
+lives places.After f good = refl
 
 -- what leads to the end of a statement is a configuration
 configuration : (bytes : List ℕ) (o : Option State) → run opening bytes ≡ o → IsLive o → (groups : List Group) × IsConfiguration bytes groups
@@ -354,14 +352,14 @@ fault_end text p f good e inside = record {
     bad = λ (past : length text < length text) (b : Begins (take (length text + 1) text)). absurd (omega arith);
     short = λ (_ : length text ≡ length text) (groups : List Group) (whole : IsConfiguration text groups).
       let t = taken groups text opening.1 refl whole in
-      inside (subst IsBetween (ap place_of (sym t.1 ∙ e)) tt);
+      inside (subst IsBetween (ap place_of (sym t.1 ∙ e)) refl);
   }
 
 -- a text that leads between statements is a configuration of the groups found
 pub is_read : (text : List ℕ) (f : Found) → run opening text ≡ Some (places.Between, f) → IsConfiguration text f.groups
 is_read text f e =
     let outcome : Outcome (Some (places.Between, f)) places.Between opening.1 text = subst (λ (o : Option State). Outcome o places.Between opening.1 text) e (sound text places.Between opening.1 tt) in
-    let ends : Ends [] text f.groups = outcome tt refl in
+    let ends : Ends [] text f.groups = outcome refl refl in
     subst (IsConfiguration text) (sym ends.gives) ends.whole
 
 -- and of no others
@@ -415,3 +413,25 @@ zero_refused places.After good = refl
 pub never_zero : (p : Place) (b : ℕ) (s : Step) → IsPlace p → next_of p b ≡ Some s → 0 < b
 never_zero p zero s good e = let both : None ≡ Some s = sym (zero_refused p good) ∙ e in cc both
 never_zero p (suc b) s good e = omega arith
+
+-- what has a fault is no configuration
+pub fault_refuses : (text : List ℕ) (at : ℕ) → IsFault text at → (groups : List Group) → IsConfiguration text groups → ⊥
+fault_refuses text at f groups whole = elim (cases_lt at (length text)) [
+    | inl before ↦ f.bad before (record { more = drop (at + 1) text; groups = groups; whole = subst (λ (bs : List ℕ). IsConfiguration bs groups) (sym (take-append-drop (at + 1) text)) whole })
+    | inr past ↦ f.short (let most : at ≤ length text = f.within in omega arith) groups whole
+  ]
+
+pub is_between_true : (p : Place) → is_between p ≡ true → p ≡ places.Between
+is_between_true places.Between e = refl
+is_between_true (places.Word word seen) e = cc e
+is_between_true (places.Gap next) e = cc e
+is_between_true (places.Spaced next) e = cc e
+is_between_true (places.Number n) e = cc e
+is_between_true (places.Unit n) e = cc e
+is_between_true (places.Minute n) e = cc e
+is_between_true places.Brace e = cc e
+is_between_true places.First e = cc e
+is_between_true places.Name e = cc e
+is_between_true places.Dot e = cc e
+is_between_true places.Comma e = cc e
+is_between_true places.After e = cc e

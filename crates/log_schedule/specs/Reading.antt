@@ -1,6 +1,6 @@
 -- How a configuration is read byte by byte: where a byte stands in a statement, what it changes there,
 -- and what has been read so far.
-use Rattle.std.specs.Prelude.{ℕ, ◌+◌, ◌-◌, ◌*◌, ◌<◌, ◌≤◌, Bool, ◌&&◌, ◌==◌, nat_le, if◌then◌else◌, List, [], ◌∷◌, ◌++◌, length, slice_index, Option, Some, None, option_and_then, codes}
+use Rattle.std.specs.Prelude.{ℕ, ◌+◌, ◌-◌, ◌*◌, ◌<◌, ◌≤◌, Bool, true, false, ◌&&◌, ◌==◌, nat_le, if◌then◌else◌, List, [], ◌∷◌, ◌++◌, length, slice_index, Option, Some, None, option_and_then, codes}
 use Rattle.log_schedule.specs.Names.{is_letter, is_digit, is_name_byte}
 use Rattle.log_schedule.specs.Configuration.{is_blank}
 use Rattle.log_schedule.specs.declared.config.Group.{Group}
@@ -149,6 +149,11 @@ blank_step (Some place) other = Some (place, acts.Keep)
 -- the place after a byte and what the byte changes; None where no statement has it there
 abbrev pub next_of : Place → ℕ → Option Step
 next_of place b = if is_blank b then blank_step (blank_of place) (other_of place b) else other_of place b
+
+-- between statements, where a configuration may end
+abbrev pub is_between : Place → Bool
+is_between places.Between = true
+is_between place = false
 
 -- what has been read: whole groups, and of the statement begun its interval, whole names and last name
 pub record Found : Type 0 where

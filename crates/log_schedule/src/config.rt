@@ -1,7 +1,13 @@
-ghost use Rattle.std.specs.Prelude.{◌≡◌};
-ghost use Rattle.log_schedule.specs.declared.config.ConfigError.TheVariants.{NoMemory as Refused};
+ghost use Rattle.std.specs.Prelude.{◌≡◌, ℕ, ◌↔◌, ◌<◌, ◌≤◌, List as Sequence, IfOk, IfErr, IsTrue};
+ghost use Rattle.log_schedule.specs.Configuration.{IsConfiguration, IsFault};
+ghost use Rattle.log_schedule.specs.Refusals.{IsReadAs, IsRefusal};
+ghost use Rattle.log_schedule.specs.declared.config.ConfigError.TheVariants.{NoMemory as Refused, Fault as Faulty};
+ghost use Rattle.log_schedule.specs.declared.config.Group.{Group as Grouped};
 
+use crate::found::Found;
+use crate::place::Place;
 use pcp_base::{List, NoMemory, Text};
+use std::alloc::Global;
 
 /// The groups of a logger, one for each statement, in order (pmlogger(1)).
 #[derive(Drop)]
@@ -37,4 +43,39 @@ impl From<NoMemory> for ConfigError {
     fn from(_error: NoMemory) -> ConfigError {
         ConfigError::NoMemory
     }
+}
+
+impl Config {
+    /// Reads statements `log mandatory on INTERVAL { NAMES }` (pmlogger(1)); the fault is the first byte that
+    /// no statement has there.
+    pub fn read(alloc: Global, text: &[u8]) -> Result<Config, ConfigError>
+        // What is read is a configuration of these groups.
+        ensures read { IfOk result (λ config. IsConfiguration text.now config.groups) }
+        // Each configuration is read, as its groups and no others.
+        ensures all { (groups : Sequence Grouped) → IsConfiguration text.now groups → IsReadAs groups result }
+        // A fault is the first.
+        ensures fault { IfErr result (IsRefusal text.now) }
+    {
+        let mut found = Found::empty(alloc);
+        let mut place = Place::Between;
+        for (at, byte) in text.iter().enumerate() {
+            let Some((next, act)) = place.take(*byte) else {
+                return Err(fault(at));
+            };
+            found.change(act, *byte)?;
+            place = next;
+        }
+        if !place.is_between() {
+            return Err(fault(text.len()));
+        }
+        Ok(Config {
+            groups: found.into_groups(),
+        })
+    }
+}
+
+fn fault(at: usize) -> ConfigError
+    ensures { result ≡ Faulty record { at = at } }
+{
+    ConfigError::Fault(ConfigFault { at: at as u64 })
 }

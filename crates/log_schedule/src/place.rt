@@ -1,4 +1,5 @@
 ghost use Rattle.std.specs.Prelude.{◌≡◌, ◌+◌, ◌<◌, ◌≤◌, length, IfSome};
+ghost use Rattle.log_schedule.specs.Reading.{is_between as between_lem};
 ghost use Rattle.log_schedule.specs.Reading.{
   after_byte,
   after_word,
@@ -329,6 +330,13 @@ fn take_comma(byte: u8) -> Option<(Place, Act)>
 }
 
 impl Place {
+    /// Whether a configuration may end here.
+    pub fn is_between(self) -> bool
+        ensures { result ≡ between_lem self }
+    {
+        matches!(self, Place::Between)
+    }
+
     /// The place after the byte, and what the byte changes; `None` where no statement has the byte here.
     pub fn take(self, byte: u8) -> Option<(Place, Act)>
         requires { IsPlace self }
