@@ -1,21 +1,18 @@
 -- What the grammar has, the reader takes: from where it stands it goes over each part of a configuration.
-use Rattle.std.proofs.Common.{◌≡◌, ℕ, zero, suc, ◌+◌, ◌-◌, ◌*◌, ◌≤◌, ◌<◌, Bool, true, false, IsTrue, if◌then◌else◌, ◌&&◌, ◌||◌, ◌==◌, nat_le, ◌⊎◌, inl, inr, List, [], ◌∷◌, ◌++◌, length, take, drop, slice_index, get_or, Option, Some, None, option_and_then, ◌≢◌, refl, sym, ap, ◌∙◌, subst, append_assoc, arith, codes, drop-cons, drop_of_length-le, add-one, lit<}
+use Rattle.std.proofs.Common.{◌≡◌, ℕ, ◌+◌, ◌-◌, ◌*◌, ◌≤◌, Bool, true, false, IsTrue, if◌then◌else◌, ◌&&◌, ◌||◌, ◌==◌, nat_le, ◌⊎◌, inl, inr, List, [], ◌∷◌, ◌++◌, Option, Some, None, option_and_then, ◌≢◌, refl, sym, ap, ◌∙◌, subst, append_assoc, arith, codes}
 use Rattle.std.proofs.lemmas.List.{append-nil}
-use Rattle.std.proofs.lemmas.Bool.{eqb-true}
 use Rattle.std.proofs.lemmas.Bool.Decides.{nat_tests}
 use Rattle.std.specs.List.{AllByRecursion}
 use Rattle.log_schedule.specs.Names.{is_letter, is_digit, is_name_byte, Each, IsComponent, dotted, IsName}
 use Rattle.log_schedule.specs.Configuration.{is_blank, is_between, IsGap, number_from, IsNumber, IsUnit, IsEvery, IsTimed, IsInterval, MoreNames, AreNames, IsStatement, IsConfiguration}
 use Rattle.log_schedule.specs.declared.config.Group.{Group}
-use Rattle.log_schedule.specs.declared.place.Unit.TheVariants as units
-use Rattle.log_schedule.specs.declared.place.Word.{Word}
 use Rattle.log_schedule.specs.declared.place.Word.TheVariants as words
 use Rattle.log_schedule.specs.declared.place.Next.{Next}
 use Rattle.log_schedule.specs.declared.place.Next.TheVariants as nexts
 use Rattle.log_schedule.specs.declared.place.Place.{Place}
 use Rattle.log_schedule.specs.declared.place.Place.TheVariants as places
 use Rattle.log_schedule.specs.declared.place.Act.TheVariants as acts
-use Rattle.log_schedule.specs.Reading.{word_text, Step, blank_step, blank_of, other_of, next_of, digit_byte, number_byte, letter_byte, name_end, Found, named, closed, changed, State, moved, run}
+use Rattle.log_schedule.specs.Reading.{Step, blank_step, blank_of, other_of, next_of, digit_byte, number_byte, letter_byte, name_end, Found, named, closed, changed, State, moved, run}
 
 -- from one state to another over these bytes, whatever follows
 abbrev pub Leads : State → State → List ℕ → Type 0
@@ -135,10 +132,10 @@ leads_unit n f word each (inr (inr (inr (e, m)))) rest = ap (λ w. run (places.U
 leads_timed : (next : Next) (f : Found) (bytes : List ℕ) (ms : ℕ) (may : MayNumber next) (i : IsTimed bytes ms) → Leads (places.Spaced next, f) (places.Brace, timed_by f (Some ms)) (i.digits ++ (i.gap ++ i.word))
 leads_timed next f bytes ms may i rest =
     leads_join (places.Spaced next, f) (places.Number i.number, f) (places.Brace, timed_by f (Some (i.number * i.each))) i.digits (i.gap ++ i.word)
-      (leads_number next f i.digits i.number may i.is_number i.in_range)
-      (leads_join (places.Number i.number, f) (places.Unit i.number, f) (places.Brace, timed_by f (Some (i.number * i.each))) i.gap i.word
-        (leads_number_gap i.number f i.gap i.is_gap)
-        (leads_unit i.number f i.word i.each i.is_unit)) rest
+    (leads_number next f i.digits i.number may i.is_number i.in_range)
+    (leads_join (places.Number i.number, f) (places.Unit i.number, f) (places.Brace, timed_by f (Some (i.number * i.each))) i.gap i.word
+    (leads_number_gap i.number f i.gap i.is_gap)
+    (leads_unit i.number f i.word i.each i.is_unit)) rest
     ∙ ap (λ m. run (places.Brace, timed_by f (Some m)) rest) (sym i.product)
 
 leads_interval : (f : Found) (text : List ℕ) (interval : Option ℕ) → IsInterval text interval → Leads (places.Spaced nexts.Interval, f) (places.Brace, timed_by f interval) text
@@ -147,8 +144,10 @@ leads_interval f text (Some ms) i rest = ap (λ w. run (places.Spaced nexts.Inte
   where
     from : State
     from = (places.Spaced nexts.Interval, f)
+
     to : State
     to = (places.Brace, timed_by f (Some ms))
+
     by_every : (every : List ℕ) → IsEvery every → run from ((every ++ (i.digits ++ (i.gap ++ i.word))) ++ rest) ≡ run to rest
     by_every every (inl none) = ap (λ w. run from ((w ++ (i.digits ++ (i.gap ++ i.word))) ++ rest)) none ∙ leads_timed nexts.Interval f text ms tt i rest
     by_every every (inr (gap, e, is)) =
@@ -165,7 +164,7 @@ leads_tail : (f : Found) (name bytes : List ℕ) → Each is_name_byte bytes →
 leads_tail f name [] each rest = ap (λ n. run (in_name f n) rest) (sym (append-nil name))
 leads_tail f name (b ∷ bytes) (passes, each) rest =
     step places.Name (record f { name = name }) b (places.Name, acts.Add) (bytes ++ rest)
-      (next_other places.Name b (name_no_blank b passes) ∙ ap (λ t. if t then Some (places.Name, acts.Add) else if b == 46 then Some (places.Dot, acts.Add) else name_end b) passes)
+    (next_other places.Name b (name_no_blank b passes) ∙ ap (λ t. if t then Some (places.Name, acts.Add) else if b == 46 then Some (places.Dot, acts.Add) else name_end b) passes)
     ∙ leads_tail f (name ++ b ∷ []) bytes each rest
     ∙ ap (λ n. run (in_name f n) rest) (append_assoc name (b ∷ []) bytes)
 
@@ -173,7 +172,7 @@ leads_part : (f : Found) (name part : List ℕ) → IsComponent part → Leads (
 leads_part f name [] is rest = absurd is
 leads_part f name (b ∷ part) (letter, each) rest =
     step places.Dot (record f { name = name }) b (places.Name, acts.Add) (part ++ rest)
-      (next_other places.Dot b (letter_no_blank b letter) ∙ ap (λ t. if t then Some (places.Name, acts.Add) else None) letter)
+    (next_other places.Dot b (letter_no_blank b letter) ∙ ap (λ t. if t then Some (places.Name, acts.Add) else None) letter)
     ∙ leads_tail f (name ++ b ∷ []) part each rest
     ∙ ap (λ n. run (in_name f n) rest) (append_assoc name (b ∷ []) part)
 
@@ -194,7 +193,7 @@ leads_name p f name begins is rest = ap (λ w. run (p, f) (w ++ rest)) is.spelle
     by_first (b ∷ first) (letter, each) =
         step p f b (places.Name, acts.Begin) ((first ++ dotted is.more) ++ rest) (begins b letter)
         ∙ leads_join (in_name f (b ∷ [])) (in_name f (b ∷ first)) (in_name f ((b ∷ first) ++ dotted is.more)) first (dotted is.more)
-            (leads_tail f (b ∷ []) first each) (leads_parts f (b ∷ first) is.more is.components) rest
+        (leads_tail f (b ∷ []) first each) (leads_parts f (b ∷ first) is.more is.components) rest
 
 begins_first : (b : ℕ) → is_letter b ≡ true → next_of places.First b ≡ Some (places.Name, acts.Begin)
 begins_first b letter = next_other places.First b (letter_no_blank b letter) ∙ ap (λ t. if t then Some (places.Name, acts.Begin) else None) letter
@@ -245,9 +244,9 @@ or_cases false y h = inr h
 leads_between : (t : Bool) (f : Found) (bytes : List ℕ) → Each is_between bytes → Moves t f bytes
 leads_between t f [] each = record { at = t; leads = λ rest. refl }
 leads_between t f (b ∷ bytes) (between, each) = elim (or_cases (is_blank b) (b == 44) between) [
-    | inl blank ↦ let m = leads_between t f bytes each in record { at = m.at; leads = λ rest. blank_moves t f b (bytes ++ rest) blank ∙ m.leads rest }
-    | inr comma ↦ let m = leads_between true f bytes each in record { at = m.at; leads = λ rest. comma_moves t f b (bytes ++ rest) comma ∙ m.leads rest }
-  ]
+  | inl blank ↦ let m = leads_between t f bytes each in record { at = m.at; leads = λ rest. blank_moves t f b (bytes ++ rest) blank ∙ m.leads rest }
+  | inr comma ↦ let m = leads_between true f bytes each in record { at = m.at; leads = λ rest. comma_moves t f b (bytes ++ rest) comma ∙ m.leads rest }
+]
 
 no_name_blank : (b : ℕ) → is_blank b ≡ true → is_name_byte b ≡ false
 no_name_blank b blank = grind (arith, nat_tests)
@@ -284,9 +283,9 @@ pub record Separates (f : Found) (bytes : List ℕ) : Type 0 where
 
 leads_separator : (f : Found) (b : ℕ) (bytes : List ℕ) → IsTrue (is_between b) → Each is_between bytes → Separates f (b ∷ bytes)
 leads_separator f b bytes between each = elim (or_cases (is_blank b) (b == 44) between) [
-    | inl blank ↦ let m = leads_between false (named f) bytes each in record { at = m.at; leads = λ rest. name_blank f b (bytes ++ rest) blank ∙ m.leads rest }
-    | inr comma ↦ let m = leads_between true (named f) bytes each in record { at = m.at; leads = λ rest. name_comma f b (bytes ++ rest) comma ∙ m.leads rest }
-  ]
+  | inl blank ↦ let m = leads_between false (named f) bytes each in record { at = m.at; leads = λ rest. name_blank f b (bytes ++ rest) blank ∙ m.leads rest }
+  | inr comma ↦ let m = leads_between true (named f) bytes each in record { at = m.at; leads = λ rest. name_comma f b (bytes ++ rest) comma ∙ m.leads rest }
+]
 
 -- further names, of which the last is still the one begun
 pub record Further (f : Found) (bytes : List ℕ) (names : List (List ℕ)) : Type 0 where
@@ -305,9 +304,9 @@ leads_more f bytes (name ∷ names) (b, between, more, spelled, is, each, is_nam
     record {
       to = m.to;
       leads = λ rest.
-        ap (λ w. run (places.Name, f) (w ++ rest)) spelled
-        ∙ leads_join (places.Name, f) (between_place s.at, named f) (places.Name, m.to) (b ∷ between) (name ++ more) s.leads
-            (leads_join (between_place s.at, named f) (places.Name, g) (places.Name, m.to) name more (leads_name (between_place s.at) (named f) name (begins_between s.at) is_name) m.leads) rest;
+          ap (λ w. run (places.Name, f) (w ++ rest)) spelled
+          ∙ leads_join (places.Name, f) (between_place s.at, named f) (places.Name, m.to) (b ∷ between) (name ++ more) s.leads
+          (leads_join (between_place s.at, named f) (places.Name, g) (places.Name, m.to) name more (leads_name (between_place s.at) (named f) name (begins_between s.at) is_name) m.leads) rest;
       groups = m.groups;
       interval = m.interval;
       all = m.all ∙ append_assoc (f.names ++ f.name ∷ []) (name ∷ []) names;
@@ -335,13 +334,14 @@ leads_names f bytes blanks (name ∷ names) none (more, spelled, is_name, furthe
     let m = leads_more g more names further in
     let to : Found = closed (named m.to) in
     let one : Leads (places.First, f) (places.Name, m.to) bytes = λ rest. ap (λ w. run (places.First, f) (w ++ rest)) spelled ∙ leads_join (places.First, f) (places.Name, g) (places.Name, m.to) name more (leads_name places.First f name begins_first is_name) m.leads rest in
-    let all : m.to.names ++ m.to.name ∷ [] ≡ name ∷ names = m.all ∙ ap (λ (ns : List (List ℕ)). (ns ++ name ∷ []) ++ names) none in
-    (to,
+    let all : m.to.names ++ m.to.name ∷ [] ≡ name ∷ names = m.all ∙ ap (λ (ns : List (List ℕ)). (ns ++ name ∷ []) ++ names) none in (
+      to,
       leads_join (places.First, f) (places.Name, m.to) (places.Between, to) bytes (blanks ++ 125 ∷ []) one (leads_end m.to blanks each),
       ap (λ (gs : List Group). gs ++ record { interval = m.to.interval; names = m.to.names ++ m.to.name ∷ [] } ∷ []) m.groups
-        ∙ ap (λ (i : Option ℕ). f.groups ++ record { interval = i; names = m.to.names ++ m.to.name ∷ [] } ∷ []) m.interval
-        ∙ ap (λ (ns : List (List ℕ)). f.groups ++ record { interval = f.interval; names = ns } ∷ []) all,
-      refl)
+          ∙ ap (λ (i : Option ℕ). f.groups ++ record { interval = i; names = m.to.names ++ m.to.name ∷ [] } ∷ []) m.interval
+          ∙ ap (λ (ns : List (List ℕ)). f.groups ++ record { interval = f.interval; names = ns } ∷ []) all,
+      refl,
+    )
 
 leads_statement : (f : Found) (bytes : List ℕ) (group : Group) → f.names ≡ [] → IsStatement bytes group → Adds f bytes (group ∷ [])
 leads_statement f bytes group none s =
@@ -349,12 +349,12 @@ leads_statement f bytes group none s =
     let names = leads_names timed s.names s.blanks_3 group.names none s.are_names s.blanks.2 in
     let end : State = (places.Between, names.0) in
     let on_names : Leads (places.Brace, timed) end (s.blanks_1 ++ (123 ∷ (s.blanks_2 ++ (s.names ++ (s.blanks_3 ++ 125 ∷ []))))) =
-        leads_join (places.Brace, timed) (places.Brace, timed) end s.blanks_1 (123 ∷ (s.blanks_2 ++ (s.names ++ (s.blanks_3 ++ 125 ∷ []))))
-          (leads_blanks places.Brace timed s.blanks_1 refl s.blanks.0)
-          (leads_join (places.First, timed) (places.First, timed) end s.blanks_2 (s.names ++ (s.blanks_3 ++ 125 ∷ [])) (leads_blanks places.First timed s.blanks_2 refl s.blanks.1) names.1) in
+    leads_join (places.Brace, timed) (places.Brace, timed) end s.blanks_1 (123 ∷ (s.blanks_2 ++ (s.names ++ (s.blanks_3 ++ 125 ∷ []))))
+    (leads_blanks places.Brace timed s.blanks_1 refl s.blanks.0)
+    (leads_join (places.First, timed) (places.First, timed) end s.blanks_2 (s.names ++ (s.blanks_3 ++ 125 ∷ [])) (leads_blanks places.First timed s.blanks_2 refl s.blanks.1) names.1) in
     let rest_5 : List ℕ = s.interval ++ (s.blanks_1 ++ (123 ∷ (s.blanks_2 ++ (s.names ++ (s.blanks_3 ++ 125 ∷ []))))) in
     let on_interval : Leads (places.Spaced nexts.Interval, f) end rest_5 =
-        leads_join (places.Spaced nexts.Interval, f) (places.Brace, timed) end s.interval (s.blanks_1 ++ (123 ∷ (s.blanks_2 ++ (s.names ++ (s.blanks_3 ++ 125 ∷ []))))) (leads_interval f s.interval group.interval s.is_interval) on_names in
+    leads_join (places.Spaced nexts.Interval, f) (places.Brace, timed) end s.interval (s.blanks_1 ++ (123 ∷ (s.blanks_2 ++ (s.names ++ (s.blanks_3 ++ 125 ∷ []))))) (leads_interval f s.interval group.interval s.is_interval) on_names in
     let rest_4 : List ℕ = s.gap_3 ++ rest_5 in
     let on_gap_3 : Leads (places.Gap nexts.Interval, f) end rest_4 = leads_join (places.Gap nexts.Interval, f) (places.Spaced nexts.Interval, f) end s.gap_3 rest_5 (leads_gap nexts.Interval f s.gap_3 s.gaps.2) on_interval in
     let rest_3 : List ℕ = codes "on" ++ rest_4 in
@@ -379,7 +379,8 @@ taken [] bytes f none blanks =
     (f, ap (run (places.Between, f)) (sym (append-nil bytes)) ∙ leads_blanks places.Between f bytes refl blanks [], sym (append-nil f.groups))
 taken (group ∷ groups) bytes f none (blanks, statement, rest, spelled, are_blanks, is, whole) =
     let one = leads_statement f statement group none is in
-    let others = taken groups rest one.to one.none whole in
-    (others.0,
+    let others = taken groups rest one.to one.none whole in (
+      others.0,
       ap (run (places.Between, f)) spelled ∙ leads_blanks places.Between f blanks refl are_blanks (statement ++ rest) ∙ one.leads rest ∙ others.1,
-      others.2 ∙ ap (λ (gs : List Group). gs ++ groups) one.groups_are ∙ append_assoc f.groups (group ∷ []) groups)
+      others.2 ∙ ap (λ (gs : List Group). gs ++ groups) one.groups_are ∙ append_assoc f.groups (group ∷ []) groups,
+    )

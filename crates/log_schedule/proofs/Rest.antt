@@ -1,11 +1,10 @@
 -- What may follow at each place of a configuration, as the grammar has it; and each step that the reader
 -- makes goes back: what may follow after a byte, with that byte before it may follow where it stood.
-use Rattle.std.proofs.Common.{◌≡◌, ℕ, ◌+◌, ◌-◌, ◌*◌, ◌≤◌, ◌<◌, Bool, true, false, IsTrue, if◌then◌else◌, ◌&&◌, ◌||◌, ◌==◌, nat_le, ◌⊎◌, inl, inr, List, [], ◌∷◌, ◌++◌, length, take, drop, slice_index, Option, Some, None, refl, sym, ap, ◌∙◌, subst, append_assoc, arith, codes}
+use Rattle.std.proofs.Common.{◌≡◌, ℕ, ◌+◌, ◌-◌, ◌*◌, ◌≤◌, Bool, IsTrue, ◌⊎◌, inl, inr, List, [], ◌∷◌, ◌++◌, Option, Some, None, refl, sym, ap, ◌∙◌, subst, append_assoc, codes}
 use Rattle.std.proofs.lemmas.List.{append-nil}
-use Rattle.std.proofs.lemmas.Bool.Decides.{nat_tests}
 use Rattle.std.specs.List.{AllByRecursion}
 use Rattle.log_schedule.specs.Names.{is_letter, is_digit, is_name_byte, Each, IsComponent, dotted, IsName}
-use Rattle.log_schedule.specs.Configuration.{is_blank, is_between, IsGap, number_from, IsNumber, IsUnit, IsEvery, IsTimed, IsInterval, MoreNames, AreNames, IsStatement, IsConfiguration}
+use Rattle.log_schedule.specs.Configuration.{is_blank, is_between, number_from, IsUnit, IsEvery, IsInterval, MoreNames, IsConfiguration}
 use Rattle.log_schedule.specs.declared.config.Group.{Group}
 
 -- the end of a statement, and the statements after it
@@ -160,18 +159,24 @@ blank_is_between b blank = rw blank refl
 module _ (groups : List Group) (interval : Option ℕ) (names : List (List ℕ)) (out : List Group) where
   pub done_blank : (b : ℕ) (bytes : List ℕ) → IsTrue (is_blank b) → Done groups interval names bytes out → Done groups interval names (b ∷ bytes) out
   done_blank b bytes blank d = record {
-    blanks = b ∷ d.blanks; rest = d.rest; more = d.more;
+    blanks = b ∷ d.blanks;
+    rest = d.rest;
+    more = d.more;
     spelled = ap (λ bs. b ∷ bs) d.spelled;
     are_blanks = (blank, d.are_blanks);
-    whole = d.whole; gives = d.gives;
+    whole = d.whole;
+    gives = d.gives;
   }
 
   pub next_cons : (test : ℕ → Bool) (b : ℕ) (bytes : List ℕ) → IsTrue (test b) → NextName test groups interval names bytes out → NextName test groups interval names (b ∷ bytes) out
   next_cons test b bytes passes n = record {
-    between = b ∷ n.between; name = n.name; rest = n.rest;
+    between = b ∷ n.between;
+    name = n.name;
+    rest = n.rest;
     spelled = ap (λ bs. b ∷ bs) n.spelled;
     each = (passes, n.each);
-    is_name = n.is_name; closes = n.closes;
+    is_name = n.is_name;
+    closes = n.closes;
   }
 
   -- a name's first letter
@@ -189,13 +194,22 @@ module _ (groups : List Group) (interval : Option ℕ) (names : List (List ℕ))
   -- the closing brace
   pub done_brace : (bytes : List ℕ) → Ends (groups ++ record { interval = interval; names = names } ∷ []) bytes out → Done groups interval names (125 ∷ bytes) out
   done_brace bytes e = record {
-    blanks = []; rest = bytes; more = e.more; spelled = refl; are_blanks = tt; whole = e.whole;
+    blanks = [];
+    rest = bytes;
+    more = e.more;
+    spelled = refl;
+    are_blanks = tt;
+    whole = e.whole;
     gives = e.gives ∙ append_assoc groups (record { interval = interval; names = names } ∷ []) e.more;
   }
 
   pub closes_done : (bytes : List ℕ) → Done groups interval names bytes out → Closes groups interval names bytes out
   closes_done bytes d = record {
-    text = []; rest = bytes; further = []; spelled = refl; are_names = refl;
+    text = [];
+    rest = bytes;
+    further = [];
+    spelled = refl;
+    are_names = refl;
     done = subst (λ (ns : List (List ℕ)). Done groups interval ns bytes out) (sym (append-nil names)) d;
   }
 
@@ -220,7 +234,9 @@ module _ (groups : List Group) (interval : Option ℕ) (names : List (List ℕ))
   -- one more letter, digit or `_`
   pub name_byte_before : (b : ℕ) (bytes : List ℕ) → IsTrue (is_name_byte b) → InName groups interval names (name ++ b ∷ []) bytes out → InName groups interval names name (b ∷ bytes) out
   name_byte_before b bytes passes n = record {
-    tail = b ∷ n.tail; parts = n.parts; rest = n.rest;
+    tail = b ∷ n.tail;
+    parts = n.parts;
+    rest = n.rest;
     spelled = ap (λ bs. b ∷ bs) n.spelled;
     each = (passes, n.each);
     components = n.components;
@@ -232,7 +248,9 @@ module _ (groups : List Group) (interval : Option ℕ) (names : List (List ℕ))
       let is = n.is_name in
       let dots : 46 ∷ n.part ≡ dotted (is.first ∷ is.more) = ap (λ bs. 46 ∷ bs) is.spelled in
       record {
-        tail = []; parts = is.first ∷ is.more; rest = n.rest;
+        tail = [];
+        parts = is.first ∷ is.more;
+        rest = n.rest;
         spelled = ap (λ bs. 46 ∷ bs) n.spelled ∙ ap (λ bs. bs ++ n.rest) dots;
         each = tt;
         components = (is.component, is.components);
@@ -251,7 +269,12 @@ module _ (groups : List Group) (interval : Option ℕ) (names : List (List ℕ))
   -- the end of a name
   pub name_ends : (bytes : List ℕ) → Closes groups interval (names ++ name ∷ []) bytes out → InName groups interval names name bytes out
   name_ends bytes c = record {
-    tail = []; parts = []; rest = bytes; spelled = refl; each = tt; components = tt;
+    tail = [];
+    parts = [];
+    rest = bytes;
+    spelled = refl;
+    each = tt;
+    components = tt;
     closes = subst (λ (whole : List ℕ). Closes groups interval (names ++ whole ∷ []) bytes out) (sym (append-nil name)) c;
   }
 
@@ -268,16 +291,24 @@ module _ (groups : List Group) (names : List (List ℕ)) (out : List Group) wher
   -- a unit's first byte, before the rest of its word
   pub unit_word : (n : ℕ) (word left : List ℕ) (each b : ℕ) (bytes : List ℕ) → word ≡ b ∷ left → IsUnit word each → Goes left (λ rest. Brace groups (Some (n * each)) names rest out) bytes → UnitRest groups names n (b ∷ bytes) out
   unit_word n word left each b bytes is is_unit g = record {
-    blanks = []; word = word; each = each; rest = g.rest;
+    blanks = [];
+    word = word;
+    each = each;
+    rest = g.rest;
     spelled = ap (λ bs. b ∷ bs) g.spelled ∙ ap (λ bs. bs ++ g.rest) (sym is);
-    are_blanks = tt; is_unit = is_unit; brace = g.goes;
+    are_blanks = tt;
+    is_unit = is_unit;
+    brace = g.goes;
   }
 
   pub minute_word : (n : ℕ) (word left : List ℕ) (each b : ℕ) (bytes : List ℕ) → word ≡ 109 ∷ b ∷ left → IsUnit word each → Goes left (λ rest. Brace groups (Some (n * each)) names rest out) bytes → MinuteRest groups names n (b ∷ bytes) out
   minute_word n word left each b bytes is is_unit g = record {
-    word = word; each = each; rest = g.rest;
+    word = word;
+    each = each;
+    rest = g.rest;
     spelled = ap (λ bs. 109 ∷ b ∷ bs) g.spelled ∙ ap (λ bs. bs ++ g.rest) (sym is);
-    is_unit = is_unit; brace = g.goes;
+    is_unit = is_unit;
+    brace = g.goes;
   }
 
   pub unit_minute : (n : ℕ) (bytes : List ℕ) → MinuteRest groups names n bytes out → UnitRest groups names n (109 ∷ bytes) out
@@ -312,12 +343,19 @@ module _ (groups : List Group) (names : List (List ℕ)) (out : List Group) wher
             ∙ ap (λ bs. every ++ d ∷ bs) (append_assoc r.digits (gap ++ u.word) u.rest ∙ ap (λ bs. r.digits ++ r.b ∷ bs) (append_assoc u.blanks u.word u.rest)));
         are_blanks = tt;
         is_interval = record {
-          every = every; digits = d ∷ r.digits; gap = gap; word = u.word; number = number_from (d - 48) r.digits; each = u.each;
-          spelled = refl; may_repeat = is_every;
+          every = every;
+          digits = d ∷ r.digits;
+          gap = gap;
+          word = u.word;
+          number = number_from (d - 48) r.digits;
+          each = u.each;
+          spelled = refl;
+          may_repeat = is_every;
           is_number = (low, high, r.each, refl);
           in_range = r.range;
           is_gap = (r.blank, u.are_blanks);
-          is_unit = u.is_unit; product = refl;
+          is_unit = u.is_unit;
+          product = refl;
         };
         brace = u.brace;
       }
@@ -328,9 +366,14 @@ module _ (groups : List Group) (names : List (List ℕ)) (out : List Group) wher
   -- `once`
   pub interval_once : (left : List ℕ) (b : ℕ) (bytes : List ℕ) → codes "once" ≡ b ∷ left → Goes left (λ rest. Brace groups None names rest out) bytes → IntervalRest groups names (b ∷ bytes) out
   interval_once left b bytes is g = record {
-    blanks = []; text = b ∷ left; interval = None; rest = g.rest;
+    blanks = [];
+    text = b ∷ left;
+    interval = None;
+    rest = g.rest;
     spelled = ap (λ bs. b ∷ bs) g.spelled;
-    are_blanks = tt; is_interval = sym is; brace = g.goes;
+    are_blanks = tt;
+    is_interval = sym is;
+    brace = g.goes;
   }
 
   -- `every`
@@ -361,7 +404,7 @@ module _ (groups : List Group) (names : List (List ℕ)) (out : List Group) wher
 
 -- a statement's parts before what follows it
 flat : (log g m h on k i x y n t z rest : List ℕ) →
-    (log ++ (g ++ (m ++ (h ++ (on ++ (k ++ (i ++ (x ++ 123 ∷ (y ++ ((n ++ t) ++ (z ++ 125 ∷ [])))))))))))  ++ rest
+    (log ++ (g ++ (m ++ (h ++ (on ++ (k ++ (i ++ (x ++ 123 ∷ (y ++ ((n ++ t) ++ (z ++ 125 ∷ []))))))))))) ++ rest
     ≡ log ++ (g ++ (m ++ (h ++ (on ++ (k ++ (i ++ (x ++ 123 ∷ (y ++ (n ++ (t ++ (z ++ 125 ∷ rest)))))))))))
 flat log g m h on k i x y n t z rest = simp append_assoc
 
@@ -383,28 +426,43 @@ statement groups out bytes a =
     let names = n.name ++ cl.text in
     let last : List ℕ = d.blanks ++ 125 ∷ [] in
     let s : List ℕ = codes "log" ++ (gap_1 ++ (codes "mandatory" ++ (gap_2 ++ (codes "on" ++ (gap_3
-      ++ (i.text ++ (br.blanks ++ (123 ∷ (n.between ++ (names ++ last)))))))))) in
+    ++ (i.text ++ (br.blanks ++ (123 ∷ (n.between ++ (names ++ last)))))))))) in
     let group : Group = record { interval = i.interval; names = n.name ∷ cl.further } in
     let tail_3 : cl.rest ≡ d.blanks ++ 125 ∷ d.rest = d.spelled in
     let tail_2 : n.rest ≡ cl.text ++ (d.blanks ++ 125 ∷ d.rest) = cl.spelled ∙ ap (λ bs. cl.text ++ bs) tail_3 in
     let tail_1 : i.rest ≡ br.blanks ++ 123 ∷ (n.between ++ (n.name ++ (cl.text ++ (d.blanks ++ 125 ∷ d.rest)))) =
-        br.spelled ∙ ap (λ bs. br.blanks ++ 123 ∷ bs) (n.spelled ∙ ap (λ bs. n.between ++ (n.name ++ bs)) tail_2) in
+    br.spelled ∙ ap (λ bs. br.blanks ++ 123 ∷ bs) (n.spelled ∙ ap (λ bs. n.between ++ (n.name ++ bs)) tail_2) in
     let tail_on : o.rest ≡ gap_3 ++ (i.text ++ i.rest) = c.spelled ∙ ap (λ bs. c.b ∷ bs) i.spelled in
     let tail_mandatory : m.rest ≡ gap_2 ++ (codes "on" ++ o.rest) = b.spelled ∙ ap (λ bs. b.b ∷ bs) o.spelled in
     let tail_log : bytes ≡ gap_1 ++ (codes "mandatory" ++ m.rest) = a.spelled ∙ ap (λ bs. a.b ∷ bs) m.spelled in
     let whole : codes "log" ++ bytes ≡ s ++ d.rest =
-        ap (λ bs. codes "log" ++ bs) (tail_log ∙ ap (λ bs. gap_1 ++ (codes "mandatory" ++ bs)) (tail_mandatory
-        ∙ ap (λ bs. gap_2 ++ (codes "on" ++ bs)) (tail_on ∙ ap (λ bs. gap_3 ++ (i.text ++ bs)) tail_1)))
-        ∙ sym (flat (codes "log") gap_1 (codes "mandatory") gap_2 (codes "on") gap_3 i.text br.blanks n.between n.name cl.text d.blanks d.rest) in
+    ap (λ bs. codes "log" ++ bs) (tail_log ∙ ap (λ bs. gap_1 ++ (codes "mandatory" ++ bs)) (tail_mandatory
+    ∙ ap (λ bs. gap_2 ++ (codes "on" ++ bs)) (tail_on ∙ ap (λ bs. gap_3 ++ (i.text ++ bs)) tail_1)))
+    ∙ sym (flat (codes "log") gap_1 (codes "mandatory") gap_2 (codes "on") gap_3 i.text br.blanks n.between n.name cl.text d.blanks d.rest) in
     record {
       more = group ∷ d.more;
-      whole = ([], s, d.rest, whole, tt, record {
-        gap_1 = gap_1; gap_2 = gap_2; gap_3 = gap_3; interval = i.text; blanks_1 = br.blanks; blanks_2 = n.between; names = names; blanks_3 = d.blanks;
-        spelled = refl;
-        gaps = ((a.blank, m.are_blanks), (b.blank, o.are_blanks), (c.blank, i.are_blanks));
-        blanks = (br.are_blanks, n.each, d.are_blanks);
-        is_interval = i.is_interval;
-        are_names = (cl.text, refl, n.is_name, cl.are_names);
-      }, d.whole);
+      whole = (
+        [],
+        s,
+        d.rest,
+        whole,
+        tt,
+        record {
+          gap_1 = gap_1;
+          gap_2 = gap_2;
+          gap_3 = gap_3;
+          interval = i.text;
+          blanks_1 = br.blanks;
+          blanks_2 = n.between;
+          names = names;
+          blanks_3 = d.blanks;
+          spelled = refl;
+          gaps = ((a.blank, m.are_blanks), (b.blank, o.are_blanks), (c.blank, i.are_blanks));
+          blanks = (br.are_blanks, n.each, d.are_blanks);
+          is_interval = i.is_interval;
+          are_names = (cl.text, refl, n.is_name, cl.are_names);
+        },
+        d.whole,
+      );
       gives = d.gives;
     }

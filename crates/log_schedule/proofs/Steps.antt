@@ -1,12 +1,11 @@
 -- Each step that the reader makes is one of the grammar: what may follow after it, with the byte before
 -- it may follow where the byte stood.
-use Rattle.std.proofs.Common.{◌≡◌, ℕ, ◌+◌, ◌-◌, ◌*◌, ◌≤◌, ◌<◌, Bool, true, false, IsTrue, if◌then◌else◌, ◌&&◌, ◌||◌, ◌==◌, nat_eq, nat_le, ◌⊎◌, inl, inr, List, [], ◌∷◌, ◌++◌, length, take, drop, slice_index, get_or, Option, Some, None, refl, sym, ap, ◌∙◌, subst, append_assoc, arith, codes, drop-cons, drop_of_length-le, add-one, lit<}
+use Rattle.std.proofs.Common.{◌≡◌, ℕ, ◌+◌, ◌-◌, ◌*◌, ◌≤◌, ◌<◌, Bool, true, false, if◌then◌else◌, ◌&&◌, ◌||◌, ◌==◌, nat_le, inl, inr, List, [], ◌∷◌, ◌++◌, length, drop, slice_index, Option, Some, None, refl, sym, ap, ◌∙◌, subst, arith, codes, drop-cons, drop_of_length-le, add-one, lit<}
 use Rattle.std.proofs.lemmas.Bool.{eqb-true}
 use Rattle.std.proofs.lemmas.Bool.Decides.{nat_tests}
 use Rattle.log_schedule.specs.Names.{is_letter, is_digit, is_name_byte}
-use Rattle.log_schedule.specs.Configuration.{is_blank, is_between, IsUnit, IsConfiguration}
+use Rattle.log_schedule.specs.Configuration.{is_blank, is_between}
 use Rattle.log_schedule.specs.declared.config.Group.{Group}
-use Rattle.log_schedule.specs.declared.place.Unit.{Unit as TimeUnit}
 use Rattle.log_schedule.specs.declared.place.Unit.TheVariants as units
 use Rattle.log_schedule.specs.declared.place.Word.{Word}
 use Rattle.log_schedule.specs.declared.place.Word.TheVariants as words
@@ -15,8 +14,8 @@ use Rattle.log_schedule.specs.declared.place.Next.TheVariants as nexts
 use Rattle.log_schedule.specs.declared.place.Place.{Place}
 use Rattle.log_schedule.specs.declared.place.Place.TheVariants as places
 use Rattle.log_schedule.specs.declared.place.Act.TheVariants as acts
-use Rattle.log_schedule.specs.Reading.{unit_text, millis, word_text, Step, after_word, in_word, word_byte, digit_byte, number_byte, interval_byte, first_byte, unit_byte, minute_byte, letter_byte, name_end, name_byte, after_byte, brace_byte, part_byte, comma_byte, blank_step, blank_of, other_of, next_of, Found, changed, IsPlace, IsWord}
-use Rattle.log_schedule.proofs.Rest.{Done, Closes, NextName, InName, InDot, After, Brace, UnitRest, MinuteRest, NumberRest, FirstDigit, IntervalRest, Gap, Spaced, Goes, Ends, AfterOn, AfterMandatory, AfterLog, blank_before, blank_is_between, done_blank, next_cons, next_letter, done_brace, closes_done, closes_next, closes_blank, name_byte_before, dot_before, part_before, name_ends, brace_blank, brace_open, unit_blank, unit_word, minute_word, unit_minute, number_ends, digit_before, first_blank, first_digit, timed, interval_blank, interval_once, interval_every, spaced_blank, spaced_word, statement}
+use Rattle.log_schedule.specs.Reading.{millis, word_text, Step, after_word, in_word, word_byte, digit_byte, number_byte, interval_byte, first_byte, unit_byte, minute_byte, letter_byte, name_end, name_byte, after_byte, brace_byte, part_byte, comma_byte, blank_step, blank_of, other_of, next_of, Found, changed, IsPlace}
+use Rattle.log_schedule.proofs.Rest.{Done, Closes, NextName, InName, InDot, After, Brace, UnitRest, MinuteRest, NumberRest, FirstDigit, IntervalRest, Gap, Spaced, Goes, Ends, AfterOn, AfterMandatory, AfterLog, blank_before, blank_is_between, done_blank, next_cons, next_letter, done_brace, closes_done, closes_next, closes_blank, name_byte_before, dot_before, part_before, name_ends, brace_blank, brace_open, unit_blank, unit_word, minute_word, unit_minute, number_ends, digit_before, first_blank, first_digit, timed, interval_blank, interval_once, interval_every, spaced_blank, statement}
 
 -- what may follow a whole word
 abbrev pub WordRest : Word → Found → List Group → List ℕ → Type 0
@@ -98,17 +97,17 @@ module _ (f : Found) (out : List Group) (b : ℕ) (bytes : List ℕ) where
   word_steps : (word : Word) (seen : ℕ) → seen < length (word_text word) → Goal (word_byte word seen b) → Goes (drop seen (word_text word)) (WordRest word f out) (b ∷ bytes)
   word_steps word seen within = by_if Goal (b == slice_index (word_text word) seen) (Some (in_word word (seen + 1))) None
       (λ (same : b == slice_index (word_text word) seen ≡ true) (steps : Goal (Some (in_word word (seen + 1)))).
-        let next : drop seen (word_text word) ≡ b ∷ drop (seen + 1) (word_text word) = rw (add-one, eqb-true b (slice_index (word_text word) seen) same) (drop-cons (word_text word) seen 0 within) in
-        let inner : Goes (drop (seen + 1) (word_text word)) (WordRest word f out) bytes = by_if (λ (s : Step). Goal (Some s)) (seen + 1 == length (word_text word)) (after_word word) (places.Word word (seen + 1), acts.Keep)
-          (λ (whole : seen + 1 == length (word_text word) ≡ true) (steps : Goal (Some (after_word word))).
-            record {
-              rest = bytes;
-              spelled = let nothing : drop (seen + 1) (word_text word) ≡ [] = drop_of_length-le (word_text word) (omega (arith, eqb-true (seen + 1) (length (word_text word)) whole)) in ap (λ bs. bs ++ bytes) (sym nothing);
-              goes = after_steps word steps;
-            })
-          (λ (_ : seen + 1 == length (word_text word) ≡ false) (steps : Goal (Some (places.Word word (seen + 1), acts.Keep))). steps)
-          steps in
-        record { rest = inner.rest; spelled = ap (λ bs. b ∷ bs) inner.spelled ∙ ap (λ bs. bs ++ inner.rest) (sym next); goes = inner.goes })
+      let next : drop seen (word_text word) ≡ b ∷ drop (seen + 1) (word_text word) = rw (add-one, eqb-true b (slice_index (word_text word) seen) same) (drop-cons (word_text word) seen 0 within) in
+      let inner : Goes (drop (seen + 1) (word_text word)) (WordRest word f out) bytes = by_if (λ (s : Step). Goal (Some s)) (seen + 1 == length (word_text word)) (after_word word) (places.Word word (seen + 1), acts.Keep)
+      (λ (whole : seen + 1 == length (word_text word) ≡ true) (steps : Goal (Some (after_word word))).
+      record {
+        rest = bytes;
+        spelled = let nothing : drop (seen + 1) (word_text word) ≡ [] = drop_of_length-le (word_text word) (omega (arith, eqb-true (seen + 1) (length (word_text word)) whole)) in ap (λ bs. bs ++ bytes) (sym nothing);
+        goes = after_steps word steps;
+      })
+      (λ (_ : seen + 1 == length (word_text word) ≡ false) (steps : Goal (Some (places.Word word (seen + 1), acts.Keep))). steps)
+      steps in
+      record { rest = inner.rest; spelled = ap (λ bs. b ∷ bs) inner.spelled ∙ ap (λ bs. bs ++ inner.rest) (sym next); goes = inner.goes })
       (λ (_ : b == slice_index (word_text word) seen ≡ false) (no : Goal None). absurd no)
 
   digit_steps : (n : ℕ) → Goal (digit_byte n b) → NumberRest f.groups f.names n (b ∷ bytes) out
@@ -121,11 +120,11 @@ module _ (f : Found) (out : List Group) (b : ℕ) (bytes : List ℕ) where
   number_parts {C} go = by_if Goal {C = C} (b == 48) None (digit_byte 0 b)
       (λ (_ : b == 48 ≡ true) (no : ⊥). absurd no)
       (λ (other : b == 48 ≡ false). by_if Goal {C = C} (is_digit b && nat_le (0 * 10 + (b - 48)) 1000000000) (Some (places.Number (0 * 10 + (b - 48)), acts.Keep)) None
-        (λ (digit : (is_digit b && nat_le (0 * 10 + (b - 48)) 1000000000) ≡ true) (steps : NumberRest f.groups f.names (0 * 10 + (b - 48)) bytes out).
-          let is : is_digit b ≡ true = and_left (is_digit b) (nat_le (0 * 10 + (b - 48)) 1000000000) digit in
-          let same : 0 * 10 + (b - 48) ≡ b - 48 = omega arith in
-          go (low_digit b is other) (high_digit b is) (subst (λ (n : ℕ). NumberRest f.groups f.names n bytes out) same steps))
-        (λ (_ : (is_digit b && nat_le (0 * 10 + (b - 48)) 1000000000) ≡ false) (no : ⊥). absurd no))
+      (λ (digit : (is_digit b && nat_le (0 * 10 + (b - 48)) 1000000000) ≡ true) (steps : NumberRest f.groups f.names (0 * 10 + (b - 48)) bytes out).
+      let is : is_digit b ≡ true = and_left (is_digit b) (nat_le (0 * 10 + (b - 48)) 1000000000) digit in
+      let same : 0 * 10 + (b - 48) ≡ b - 48 = omega arith in
+      go (low_digit b is other) (high_digit b is) (subst (λ (n : ℕ). NumberRest f.groups f.names n bytes out) same steps))
+      (λ (_ : (is_digit b && nat_le (0 * 10 + (b - 48)) 1000000000) ≡ false) (no : ⊥). absurd no))
 
   number_steps : Goal (number_byte b) → FirstDigit f.groups f.names (b ∷ bytes) out
   number_steps = number_parts (λ (low : 49 ≤ b) (high : b ≤ 57) (r : NumberRest f.groups f.names (b - 48) bytes out). first_digit f.groups f.names out b bytes low high r)
@@ -134,24 +133,24 @@ module _ (f : Found) (out : List Group) (b : ℕ) (bytes : List ℕ) where
   interval_steps = by_if Goal (b == 111) (Some (places.Word words.Once 1, acts.Keep)) (if b == 101 then Some (places.Word words.Every 1, acts.Keep) else number_byte b)
       (λ (same : b == 111 ≡ true) (steps : Goal (Some (places.Word words.Once 1, acts.Keep))). interval_once f.groups f.names out (drop 1 (codes "once")) b bytes (begins 111 (drop 1 (codes "once")) (codes "once") refl same) steps)
       (λ (_ : b == 111 ≡ false). by_if Goal (b == 101) (Some (places.Word words.Every 1, acts.Keep)) (number_byte b)
-        (λ (same : b == 101 ≡ true) (steps : Goal (Some (places.Word words.Every 1, acts.Keep))). interval_every f.groups f.names out (drop 1 (codes "every")) b bytes (begins 101 (drop 1 (codes "every")) (codes "every") refl same) steps)
-        (λ (_ : b == 101 ≡ false). number_parts (λ (low : 49 ≤ b) (high : b ≤ 57) (r : NumberRest f.groups f.names (b - 48) bytes out). timed f.groups f.names out [] bytes b (inl refl) low high r)))
+      (λ (same : b == 101 ≡ true) (steps : Goal (Some (places.Word words.Every 1, acts.Keep))). interval_every f.groups f.names out (drop 1 (codes "every")) b bytes (begins 101 (drop 1 (codes "every")) (codes "every") refl same) steps)
+      (λ (_ : b == 101 ≡ false). number_parts (λ (low : 49 ≤ b) (high : b ≤ 57) (r : NumberRest f.groups f.names (b - 48) bytes out). timed f.groups f.names out [] bytes b (inl refl) low high r)))
 
   unit_steps : (n : ℕ) → Goal (unit_byte n b) → UnitRest f.groups f.names n (b ∷ bytes) out
   unit_steps n = by_if Goal (b == 109) (Some (places.Minute n, acts.Keep)) (if b == 115 then Some (places.Word (words.Unit units.Sec n) 1, acts.Keep) else if b == 104 then Some (places.Word (words.Unit units.Hour n) 1, acts.Keep) else None)
       (λ (same : b == 109 ≡ true) (steps : MinuteRest f.groups f.names n bytes out). subst (λ (x : ℕ). UnitRest f.groups f.names n (x ∷ bytes) out) (sym (eqb-true b 109 same)) (unit_minute f.groups f.names out n bytes steps))
       (λ (_ : b == 109 ≡ false). by_if Goal (b == 115) (Some (places.Word (words.Unit units.Sec n) 1, acts.Keep)) (if b == 104 then Some (places.Word (words.Unit units.Hour n) 1, acts.Keep) else None)
-        (λ (same : b == 115 ≡ true) (steps : Goal (Some (places.Word (words.Unit units.Sec n) 1, acts.Keep))). unit_word f.groups f.names out n (codes "sec") (drop 1 (codes "sec")) 1000 b bytes (begins 115 (drop 1 (codes "sec")) (codes "sec") refl same) (inr (inl (refl, refl))) steps)
-        (λ (_ : b == 115 ≡ false). by_if Goal (b == 104) (Some (places.Word (words.Unit units.Hour n) 1, acts.Keep)) None
-          (λ (same : b == 104 ≡ true) (steps : Goal (Some (places.Word (words.Unit units.Hour n) 1, acts.Keep))). unit_word f.groups f.names out n (codes "hour") (drop 1 (codes "hour")) 3600000 b bytes (begins 104 (drop 1 (codes "hour")) (codes "hour") refl same) (inr (inr (inr (refl, refl)))) steps)
-          (λ (_ : b == 104 ≡ false) (no : ⊥). absurd no)))
+      (λ (same : b == 115 ≡ true) (steps : Goal (Some (places.Word (words.Unit units.Sec n) 1, acts.Keep))). unit_word f.groups f.names out n (codes "sec") (drop 1 (codes "sec")) 1000 b bytes (begins 115 (drop 1 (codes "sec")) (codes "sec") refl same) (inr (inl (refl, refl))) steps)
+      (λ (_ : b == 115 ≡ false). by_if Goal (b == 104) (Some (places.Word (words.Unit units.Hour n) 1, acts.Keep)) None
+      (λ (same : b == 104 ≡ true) (steps : Goal (Some (places.Word (words.Unit units.Hour n) 1, acts.Keep))). unit_word f.groups f.names out n (codes "hour") (drop 1 (codes "hour")) 3600000 b bytes (begins 104 (drop 1 (codes "hour")) (codes "hour") refl same) (inr (inr (inr (refl, refl)))) steps)
+      (λ (_ : b == 104 ≡ false) (no : ⊥). absurd no)))
 
   minute_steps : (n : ℕ) → Goal (minute_byte n b) → MinuteRest f.groups f.names n (b ∷ bytes) out
   minute_steps n = by_if Goal (b == 115) (Some (places.Word (words.Unit units.Msec n) 2, acts.Keep)) (if b == 105 then Some (places.Word (words.Unit units.Min n) 2, acts.Keep) else None)
       (λ (same : b == 115 ≡ true) (steps : Goal (Some (places.Word (words.Unit units.Msec n) 2, acts.Keep))). minute_word f.groups f.names out n (codes "msec") (drop 2 (codes "msec")) 1 b bytes (ap (λ x. 109 ∷ x ∷ drop 2 (codes "msec")) (sym (eqb-true b 115 same))) (inl (refl, refl)) steps)
       (λ (_ : b == 115 ≡ false). by_if Goal (b == 105) (Some (places.Word (words.Unit units.Min n) 2, acts.Keep)) None
-        (λ (same : b == 105 ≡ true) (steps : Goal (Some (places.Word (words.Unit units.Min n) 2, acts.Keep))). minute_word f.groups f.names out n (codes "min") (drop 2 (codes "min")) 60000 b bytes (ap (λ x. 109 ∷ x ∷ drop 2 (codes "min")) (sym (eqb-true b 105 same))) (inr (inr (inl (refl, refl)))) steps)
-        (λ (_ : b == 105 ≡ false) (no : ⊥). absurd no))
+      (λ (same : b == 105 ≡ true) (steps : Goal (Some (places.Word (words.Unit units.Min n) 2, acts.Keep))). minute_word f.groups f.names out n (codes "min") (drop 2 (codes "min")) 60000 b bytes (ap (λ x. 109 ∷ x ∷ drop 2 (codes "min")) (sym (eqb-true b 105 same))) (inr (inr (inl (refl, refl)))) steps)
+      (λ (_ : b == 105 ≡ false) (no : ⊥). absurd no))
 
   letter_steps : (test : ℕ → Bool) → Goal (letter_byte b) → NextName test f.groups f.interval f.names (b ∷ bytes) out
   letter_steps test = by_if Goal (is_letter b) (Some (places.Name, acts.Begin)) None
@@ -165,20 +164,20 @@ module _ (f : Found) (out : List Group) (b : ℕ) (bytes : List ℕ) where
   name_end_steps = by_if Goal (is_blank b) (Some (places.After, acts.Name)) (if b == 44 then Some (places.Comma, acts.Name) else if b == 125 then Some (places.Between, acts.Last) else None)
       (λ (blank : is_blank b ≡ true) (steps : After f.groups f.interval names' bytes out). name_ends f.groups f.interval f.names f.name out (b ∷ bytes) (closes_blank f.groups f.interval names' out b bytes blank steps))
       (λ (_ : is_blank b ≡ false). by_if Goal (b == 44) (Some (places.Comma, acts.Name)) (if b == 125 then Some (places.Between, acts.Last) else None)
-        (λ (comma : b == 44 ≡ true) (steps : NextName is_between f.groups f.interval names' bytes out). name_ends f.groups f.interval f.names f.name out (b ∷ bytes) (closes_next f.groups f.interval names' out b bytes (or_right (is_blank b) (b == 44) comma) steps))
-        (λ (_ : b == 44 ≡ false). by_if Goal (b == 125) (Some (places.Between, acts.Last)) None
-          (λ (same : b == 125 ≡ true) (steps : Goal (Some (places.Between, acts.Last))). name_ends f.groups f.interval f.names f.name out (b ∷ bytes)
-            (subst (λ (x : ℕ). Closes f.groups f.interval names' (x ∷ bytes) out) (sym (eqb-true b 125 same)) (closes_done f.groups f.interval names' out (125 ∷ bytes) (done_brace f.groups f.interval names' out bytes (steps refl)))))
-          (λ (_ : b == 125 ≡ false) (no : ⊥). absurd no)))
+      (λ (comma : b == 44 ≡ true) (steps : NextName is_between f.groups f.interval names' bytes out). name_ends f.groups f.interval f.names f.name out (b ∷ bytes) (closes_next f.groups f.interval names' out b bytes (or_right (is_blank b) (b == 44) comma) steps))
+      (λ (_ : b == 44 ≡ false). by_if Goal (b == 125) (Some (places.Between, acts.Last)) None
+      (λ (same : b == 125 ≡ true) (steps : Goal (Some (places.Between, acts.Last))). name_ends f.groups f.interval f.names f.name out (b ∷ bytes)
+      (subst (λ (x : ℕ). Closes f.groups f.interval names' (x ∷ bytes) out) (sym (eqb-true b 125 same)) (closes_done f.groups f.interval names' out (125 ∷ bytes) (done_brace f.groups f.interval names' out bytes (steps refl)))))
+      (λ (_ : b == 125 ≡ false) (no : ⊥). absurd no)))
 
   name_steps : Goal (name_byte b) → InName f.groups f.interval f.names f.name (b ∷ bytes) out
   name_steps = by_if Goal (is_name_byte b) (Some (places.Name, acts.Add)) (if b == 46 then Some (places.Dot, acts.Add) else name_end b)
       (λ (passes : is_name_byte b ≡ true) (steps : InName f.groups f.interval f.names (f.name ++ b ∷ []) bytes out). name_byte_before f.groups f.interval f.names f.name out b bytes passes steps)
       (λ (_ : is_name_byte b ≡ false). by_if Goal (b == 46) (Some (places.Dot, acts.Add)) (name_end b)
-        (λ (same : b == 46 ≡ true) (steps : InDot f.groups f.interval f.names (f.name ++ b ∷ []) bytes out).
-          subst (λ (x : ℕ). InName f.groups f.interval f.names f.name (x ∷ bytes) out) (sym (eqb-true b 46 same))
-            (dot_before f.groups f.interval f.names f.name out bytes (subst (λ (x : ℕ). InDot f.groups f.interval f.names (f.name ++ x ∷ []) bytes out) (eqb-true b 46 same) steps)))
-        (λ (_ : b == 46 ≡ false). name_end_steps))
+      (λ (same : b == 46 ≡ true) (steps : InDot f.groups f.interval f.names (f.name ++ b ∷ []) bytes out).
+      subst (λ (x : ℕ). InName f.groups f.interval f.names f.name (x ∷ bytes) out) (sym (eqb-true b 46 same))
+      (dot_before f.groups f.interval f.names f.name out bytes (subst (λ (x : ℕ). InDot f.groups f.interval f.names (f.name ++ x ∷ []) bytes out) (eqb-true b 46 same) steps)))
+      (λ (_ : b == 46 ≡ false). name_end_steps))
 
   part_steps : Goal (part_byte b) → InDot f.groups f.interval f.names f.name (b ∷ bytes) out
   part_steps = by_if Goal (is_letter b) (Some (places.Name, acts.Add)) None
@@ -194,8 +193,8 @@ module _ (f : Found) (out : List Group) (b : ℕ) (bytes : List ℕ) where
   space_steps = by_if Goal (b == 44) (Some (places.Comma, acts.Keep)) (if b == 125 then Some (places.Between, acts.Statement) else letter_byte b)
       (λ (comma : b == 44 ≡ true) (steps : NextName is_between f.groups f.interval f.names bytes out). inr (next_cons f.groups f.interval f.names out is_between b bytes (or_right (is_blank b) (b == 44) comma) steps))
       (λ (_ : b == 44 ≡ false). by_if Goal (b == 125) (Some (places.Between, acts.Statement)) (letter_byte b)
-        (λ (same : b == 125 ≡ true) (steps : Goal (Some (places.Between, acts.Statement))). inl (subst (λ (x : ℕ). Done f.groups f.interval f.names (x ∷ bytes) out) (sym (eqb-true b 125 same)) (done_brace f.groups f.interval f.names out bytes (steps refl))))
-        (λ (_ : b == 125 ≡ false) (steps : Goal (letter_byte b)). inr (letter_steps is_between steps)))
+      (λ (same : b == 125 ≡ true) (steps : Goal (Some (places.Between, acts.Statement))). inl (subst (λ (x : ℕ). Done f.groups f.interval f.names (x ∷ bytes) out) (sym (eqb-true b 125 same)) (done_brace f.groups f.interval f.names out bytes (steps refl))))
+      (λ (_ : b == 125 ≡ false) (steps : Goal (letter_byte b)). inr (letter_steps is_between steps)))
 
   brace_steps : Goal (brace_byte b) → Brace f.groups f.interval f.names (b ∷ bytes) out
   brace_steps = by_if Goal (b == 123) (Some (places.First, acts.Keep)) None

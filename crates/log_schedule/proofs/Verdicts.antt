@@ -1,12 +1,10 @@
 -- What the reader says of a text is what the grammar says: it is read, or the fault is where the text
 -- can't go on as a configuration.
-use Rattle.std.proofs.Common.{◌≡◌, ℕ, zero, suc, ◌+◌, ◌-◌, ◌*◌, ◌≤◌, ◌<◌, ◌≢◌, Bool, true, false, IsTrue, if◌then◌else◌, ◌&&◌, ◌||◌, ◌==◌, nat_le, ◌⊎◌, inl, inr, List, [], ◌∷◌, ◌++◌, length, take, drop, slice_index, get_or, Option, Some, None, option_and_then, refl, sym, ap, ◌∙◌, subst, append_assoc, arith, codes, drop-cons, drop_of_length-le, take-append-drop, add-one, eq-eqb, lit<}
+use Rattle.std.proofs.Common.{◌≡◌, ℕ, zero, suc, ◌+◌, ◌-◌, ◌*◌, ◌≤◌, ◌<◌, ◌≢◌, Bool, true, false, IsTrue, if◌then◌else◌, ◌&&◌, ◌==◌, nat_le, inl, inr, List, [], ◌∷◌, ◌++◌, length, take, drop, slice_index, get_or, Option, Some, None, option_and_then, refl, sym, ap, ◌∙◌, subst, append_assoc, arith, codes, drop-cons, drop_of_length-le, take-append-drop, add-one, eq-eqb, lit<}
 use Rattle.std.proofs.lemmas.List.{append-nil}
-use Rattle.std.proofs.lemmas.Bool.{cases_lt, eqb-true, leb-true}
+use Rattle.std.proofs.lemmas.Bool.{cases_lt, leb-true}
 use Rattle.std.proofs.lemmas.Bool.Decides.{nat_tests}
 use Rattle.std.proofs.Math.Seq.{take-suc, take-length}
-use Rattle.std.specs.List.{AllByRecursion}
-use Rattle.std.proofs.lemmas.List.Elements.{All-from_recursion}
 use Rattle.log_schedule.specs.Names.{is_letter, is_digit, is_name_byte}
 use Rattle.log_schedule.specs.Configuration.{is_blank, IsConfiguration, Begins, IsFault}
 use Rattle.log_schedule.specs.declared.config.Group.{Group}
@@ -18,7 +16,7 @@ use Rattle.log_schedule.specs.declared.place.Next.TheVariants as nexts
 use Rattle.log_schedule.specs.declared.place.Place.{Place}
 use Rattle.log_schedule.specs.declared.place.Place.TheVariants as places
 use Rattle.log_schedule.specs.declared.place.Act.TheVariants as acts
-use Rattle.log_schedule.specs.Reading.{word_text, Step, after_word, in_word, word_byte, digit_byte, number_byte, interval_byte, first_byte, unit_byte, minute_byte, letter_byte, name_end, name_byte, after_byte, brace_byte, part_byte, comma_byte, blank_step, blank_of, other_of, next_of, Found, changed, IsPlace, IsWord, State, moved, run, is_between, opening}
+use Rattle.log_schedule.specs.Reading.{word_text, Step, after_word, in_word, word_byte, digit_byte, number_byte, interval_byte, first_byte, unit_byte, minute_byte, letter_byte, name_end, name_byte, after_byte, blank_step, blank_of, other_of, next_of, Found, changed, IsPlace, IsWord, State, moved, run, is_between, opening}
 use Rattle.log_schedule.proofs.Rest.{Ends}
 use Rattle.log_schedule.proofs.Steps.{Rest, Steps, next_step, and_right}
 use Rattle.log_schedule.proofs.Accepts.{step, taken}
@@ -50,12 +48,12 @@ test_false a b h = grind (arith, nat_tests)
 word_good : (word : Word) (seen b : ℕ) → seen < length (word_text word) → IsWord word → IsGood (word_byte word seen b)
 word_good word seen b within is = all_if IsGood (b == slice_index (word_text word) seen) (Some (in_word word (seen + 1))) None
     (λ (_ : b == slice_index (word_text word) seen ≡ true).
-      all_if (λ (s : Step). IsGood (Some s)) (seen + 1 == length (word_text word)) (after_word word) (places.Word word (seen + 1), acts.Keep)
-        (λ (_ : seen + 1 == length (word_text word) ≡ true). after_good word)
-        (λ (other : seen + 1 == length (word_text word) ≡ false).
-          let unlike : seen + 1 ≢ length (word_text word) = test_false (seen + 1) (length (word_text word)) other in
-          let less : seen + 1 < length (word_text word) = omega arith in
-          (less, is)))
+    all_if (λ (s : Step). IsGood (Some s)) (seen + 1 == length (word_text word)) (after_word word) (places.Word word (seen + 1), acts.Keep)
+    (λ (_ : seen + 1 == length (word_text word) ≡ true). after_good word)
+    (λ (other : seen + 1 == length (word_text word) ≡ false).
+    let unlike : seen + 1 ≢ length (word_text word) = test_false (seen + 1) (length (word_text word)) other in
+    let less : seen + 1 < length (word_text word) = omega arith in
+    (less, is)))
     (λ (_ : b == slice_index (word_text word) seen ≡ false). tt)
 
 digit_good : (n b : ℕ) → IsGood (digit_byte n b)
@@ -70,7 +68,7 @@ interval_good : (b : ℕ) → IsGood (interval_byte b)
 interval_good b = all_if IsGood (b == 111) (Some (places.Word words.Once 1, acts.Keep)) (if b == 101 then Some (places.Word words.Every 1, acts.Keep) else number_byte b)
     (λ (_ : b == 111 ≡ true). (lit< tt, tt))
     (λ (_ : b == 111 ≡ false). all_if IsGood (b == 101) (Some (places.Word words.Every 1, acts.Keep)) (number_byte b)
-      (λ (_ : b == 101 ≡ true). (lit< tt, tt)) (λ (_ : b == 101 ≡ false). number_good b))
+    (λ (_ : b == 101 ≡ true). (lit< tt, tt)) (λ (_ : b == 101 ≡ false). number_good b))
 
 first_good : (next : Next) (b : ℕ) → IsGood (first_byte next b)
 first_good nexts.Mandatory b = word_good words.Mandatory 0 b (lit< tt) tt
@@ -82,15 +80,15 @@ unit_good : (n b : ℕ) → n ≤ 1000000000 → IsGood (unit_byte n b)
 unit_good n b small = all_if IsGood (b == 109) (Some (places.Minute n, acts.Keep)) (if b == 115 then Some (places.Word (words.Unit units.Sec n) 1, acts.Keep) else if b == 104 then Some (places.Word (words.Unit units.Hour n) 1, acts.Keep) else None)
     (λ (_ : b == 109 ≡ true). small)
     (λ (_ : b == 109 ≡ false). all_if IsGood (b == 115) (Some (places.Word (words.Unit units.Sec n) 1, acts.Keep)) (if b == 104 then Some (places.Word (words.Unit units.Hour n) 1, acts.Keep) else None)
-      (λ (_ : b == 115 ≡ true). (lit< tt, small))
-      (λ (_ : b == 115 ≡ false). all_if IsGood (b == 104) (Some (places.Word (words.Unit units.Hour n) 1, acts.Keep)) None
-        (λ (_ : b == 104 ≡ true). (lit< tt, small)) (λ (_ : b == 104 ≡ false). tt)))
+    (λ (_ : b == 115 ≡ true). (lit< tt, small))
+    (λ (_ : b == 115 ≡ false). all_if IsGood (b == 104) (Some (places.Word (words.Unit units.Hour n) 1, acts.Keep)) None
+    (λ (_ : b == 104 ≡ true). (lit< tt, small)) (λ (_ : b == 104 ≡ false). tt)))
 
 minute_good : (n b : ℕ) → n ≤ 1000000000 → IsGood (minute_byte n b)
 minute_good n b small = all_if IsGood (b == 115) (Some (places.Word (words.Unit units.Msec n) 2, acts.Keep)) (if b == 105 then Some (places.Word (words.Unit units.Min n) 2, acts.Keep) else None)
     (λ (_ : b == 115 ≡ true). (lit< tt, small))
     (λ (_ : b == 115 ≡ false). all_if IsGood (b == 105) (Some (places.Word (words.Unit units.Min n) 2, acts.Keep)) None
-      (λ (_ : b == 105 ≡ true). (lit< tt, small)) (λ (_ : b == 105 ≡ false). tt))
+    (λ (_ : b == 105 ≡ true). (lit< tt, small)) (λ (_ : b == 105 ≡ false). tt))
 
 letter_good : (b : ℕ) → IsGood (letter_byte b)
 letter_good b = all_if IsGood (is_letter b) (Some (places.Name, acts.Begin)) None (λ (_ : is_letter b ≡ true). tt) (λ (_ : is_letter b ≡ false). tt)
@@ -99,8 +97,8 @@ name_end_good : (b : ℕ) → IsGood (name_end b)
 name_end_good b = all_if IsGood (is_blank b) (Some (places.After, acts.Name)) (if b == 44 then Some (places.Comma, acts.Name) else if b == 125 then Some (places.Between, acts.Last) else None)
     (λ (_ : is_blank b ≡ true). tt)
     (λ (_ : is_blank b ≡ false). all_if IsGood (b == 44) (Some (places.Comma, acts.Name)) (if b == 125 then Some (places.Between, acts.Last) else None)
-      (λ (_ : b == 44 ≡ true). tt)
-      (λ (_ : b == 44 ≡ false). all_if IsGood (b == 125) (Some (places.Between, acts.Last)) None (λ (_ : b == 125 ≡ true). tt) (λ (_ : b == 125 ≡ false). tt)))
+    (λ (_ : b == 44 ≡ true). tt)
+    (λ (_ : b == 44 ≡ false). all_if IsGood (b == 125) (Some (places.Between, acts.Last)) None (λ (_ : b == 125 ≡ true). tt) (λ (_ : b == 125 ≡ false). tt)))
 
 name_good : (b : ℕ) → IsGood (name_byte b)
 name_good b = all_if IsGood (is_name_byte b) (Some (places.Name, acts.Add)) (if b == 46 then Some (places.Dot, acts.Add) else name_end b)
@@ -177,7 +175,7 @@ sound [] p f good = λ at. ended p f at
 sound (b ∷ bytes) p f good = by_step (next_of p b) (next_good p b good) (λ out steps. next_step f out b bytes p good steps) (λ q g good'. sound bytes q g good')
   where
     by_step : (o : Option Step) → IsGood o → ((out : List Group) → Steps o b f out bytes → Rest p f out (b ∷ bytes)) → ((q : Place) (g : Found) → IsPlace q → Outcome (run (q, g) bytes) q g bytes)
-      → Outcome (option_and_then (λ next. run next bytes) (moved o b f)) p f (b ∷ bytes)
+        → Outcome (option_and_then (λ next. run next bytes) (moved o b f)) p f (b ∷ bytes)
     by_step None good' go again = tt
     by_step (Some s) good' go again = carried (run (s.0, changed s.1 b f) bytes) s.0 p (changed s.1 b f) f bytes (b ∷ bytes) go (again s.0 (changed s.1 b f) good')
 
@@ -323,9 +321,9 @@ begins bytes p f good e =
 -- a byte that isn't taken is a fault
 pub fault_at : (text : List ℕ) (at : ℕ) (p : Place) (f : Found) → at < length text → IsPlace p → run opening (take at text) ≡ Some (p, f) → next_of p (get_or text at 0) ≡ None → IsFault text at
 fault_at text at p f within good e stuck = record {
-    within = omega arith;
-    good = begins (take at text) p f good e;
-    bad = λ (_ : at < length text) (b : Begins (take (at + 1) text)).
+  within = omega arith;
+  good = begins (take at text) p f good e;
+  bad = λ (_ : at < length text) (b : Begins (take (at + 1) text)).
       let c = get_or text at 0 in
       let t = taken b.groups (take (at + 1) text ++ b.more) opening.1 refl b.whole in
       let front : take (at + 1) text ≡ take at text ++ c ∷ [] = rw add-one (take-suc text at 0 within) in
@@ -333,8 +331,8 @@ fault_at text at p f within good e stuck = record {
       let fails : run opening (take (at + 1) text ++ b.more) ≡ None = ap (run opening) split ∙ run-append opening (p, f) (take at text) (c ∷ b.more) e ∙ ap (λ o. option_and_then (λ next. run next b.more) (moved o c f)) stuck in
       let both : Some (places.Between, t.0) ≡ None = sym t.1 ∙ fails in
       cc both;
-    short = λ (end : at ≡ length text) (groups : List Group) (whole : IsConfiguration text groups). absurd (omega arith);
-  }
+  short = λ (end : at ≡ length text) (groups : List Group) (whole : IsConfiguration text groups). absurd (omega arith);
+}
 
 abbrev place_of : Option State → Place
 place_of None = places.Between
@@ -347,13 +345,13 @@ groups_of (Some s) = s.1.groups
 -- a text that ends inside a statement is a fault past its last byte
 pub fault_end : (text : List ℕ) (p : Place) (f : Found) → IsPlace p → run opening text ≡ Some (p, f) → (IsBetween p → ⊥) → IsFault text (length text)
 fault_end text p f good e inside = record {
-    within = omega arith;
-    good = subst Begins (sym (take-length text)) (begins text p f good e);
-    bad = λ (past : length text < length text) (b : Begins (take (length text + 1) text)). absurd (omega arith);
-    short = λ (_ : length text ≡ length text) (groups : List Group) (whole : IsConfiguration text groups).
+  within = omega arith;
+  good = subst Begins (sym (take-length text)) (begins text p f good e);
+  bad = λ (past : length text < length text) (b : Begins (take (length text + 1) text)). absurd (omega arith);
+  short = λ (_ : length text ≡ length text) (groups : List Group) (whole : IsConfiguration text groups).
       let t = taken groups text opening.1 refl whole in
       inside (subst IsBetween (ap place_of (sym t.1 ∙ e)) refl);
-  }
+}
 
 -- a text that leads between statements is a configuration of the groups found
 pub is_read : (text : List ℕ) (f : Found) → run opening text ≡ Some (places.Between, f) → IsConfiguration text f.groups
@@ -375,51 +373,12 @@ one_more text at p f s within e next =
     let front : take (at + 1) text ≡ take at text ++ c ∷ [] = rw add-one (take-suc text at 0 within) in
     ap (run opening) front ∙ run-append opening (p, f) (take at text) (c ∷ []) e ∙ step p f c s [] next
 
-text_has_no_zero : (word : Word) → AllByRecursion (λ b. 0 < b) (word_text word)
-text_has_no_zero words.Log = (lit< tt, (lit< tt, (lit< tt, tt)))
-text_has_no_zero words.Mandatory = (lit< tt, (lit< tt, (lit< tt, (lit< tt, (lit< tt, (lit< tt, (lit< tt, (lit< tt, (lit< tt, tt)))))))))
-text_has_no_zero words.On = (lit< tt, (lit< tt, tt))
-text_has_no_zero words.Every = (lit< tt, (lit< tt, (lit< tt, (lit< tt, (lit< tt, tt)))))
-text_has_no_zero words.Once = (lit< tt, (lit< tt, (lit< tt, (lit< tt, tt))))
-text_has_no_zero (words.Unit units.Msec n) = (lit< tt, (lit< tt, (lit< tt, (lit< tt, tt))))
-text_has_no_zero (words.Unit units.Sec n) = (lit< tt, (lit< tt, (lit< tt, tt)))
-text_has_no_zero (words.Unit units.Min n) = (lit< tt, (lit< tt, (lit< tt, tt)))
-text_has_no_zero (words.Unit units.Hour n) = (lit< tt, (lit< tt, (lit< tt, (lit< tt, tt))))
-
-next_refuses_zero : (next : Next) → first_byte next 0 ≡ None
-next_refuses_zero nexts.Mandatory = refl
-next_refuses_zero nexts.On = refl
-next_refuses_zero nexts.Interval = refl
-next_refuses_zero nexts.Number = refl
-
-zero_refused : (p : Place) → IsPlace p → next_of p 0 ≡ None
-zero_refused places.Between good = refl
-zero_refused (places.Word word seen) good =
-    let above : 0 < get_or (word_text word) seen 0 = All-from_recursion (λ b. 0 < b) (word_text word) (text_has_no_zero word) seen 0 good.0 in
-    ap (λ t. if t then Some (in_word word (seen + 1)) else None) (other_than 0 (get_or (word_text word) seen 0) (omega arith))
-zero_refused (places.Gap next) good = refl
-zero_refused (places.Spaced next) good = next_refuses_zero next
-zero_refused (places.Number n) good = refl
-zero_refused (places.Unit n) good = refl
-zero_refused (places.Minute n) good = refl
-zero_refused places.Brace good = refl
-zero_refused places.First good = refl
-zero_refused places.Name good = refl
-zero_refused places.Dot good = refl
-zero_refused places.Comma good = refl
-zero_refused places.After good = refl
-
--- no statement has a zero byte
-pub never_zero : (p : Place) (b : ℕ) (s : Step) → IsPlace p → next_of p b ≡ Some s → 0 < b
-never_zero p zero s good e = let both : None ≡ Some s = sym (zero_refused p good) ∙ e in cc both
-never_zero p (suc b) s good e = omega arith
-
 -- what has a fault is no configuration
 pub fault_refuses : (text : List ℕ) (at : ℕ) → IsFault text at → (groups : List Group) → IsConfiguration text groups → ⊥
 fault_refuses text at f groups whole = elim (cases_lt at (length text)) [
-    | inl before ↦ f.bad before (record { more = drop (at + 1) text; groups = groups; whole = subst (λ (bs : List ℕ). IsConfiguration bs groups) (sym (take-append-drop (at + 1) text)) whole })
-    | inr past ↦ f.short (let most : at ≤ length text = f.within in omega arith) groups whole
-  ]
+  | inl before ↦ f.bad before (record { more = drop (at + 1) text; groups = groups; whole = subst (λ (bs : List ℕ). IsConfiguration bs groups) (sym (take-append-drop (at + 1) text)) whole })
+  | inr past ↦ f.short (let most : at ≤ length text = f.within in omega arith) groups whole
+]
 
 pub is_between_true : (p : Place) → is_between p ≡ true → p ≡ places.Between
 is_between_true places.Between e = refl

@@ -11,3 +11,6 @@ mod place;
 
 pub use config::{Config, ConfigError, ConfigFault, Group};
 pub use groups::Groups;
+
+#[cfg(test)]
+mod tests;

@@ -1,8 +1,8 @@
 -- At each return the reader's verdict is the grammar's.
-use Rattle.std.proofs.Common.{◌≡◌, ℕ, ◌<◌, ◌+◌, length, take, get_or, Some, None, true, false, List, arith, sym, ap, ◌∙◌, subst}
+use Rattle.std.proofs.Common.{◌≡◌, ℕ, ◌<◌, length, take, Some, true, false, List, arith, sym, ap, ◌∙◌, subst}
 use Rattle.std.proofs.lemmas.List.{take_all}
 use Rattle.log_schedule.specs.Configuration.{IsConfiguration, IsFault}
-use Rattle.log_schedule.specs.Refusals.{IsRefusal, IsReadAs}
+use Rattle.log_schedule.specs.Refusals.{IsRefusal}
 use Rattle.log_schedule.specs.Reading.{Found, run, opening, is_between}
 use Rattle.log_schedule.specs.declared.place.Place.TheVariants as places
 use Rattle.log_schedule.proofs.Verdicts.{fault_at, fault_end, fault_refuses, is_read, only_read, one_more, is_between_true}
@@ -26,7 +26,7 @@ loop-at-preserved c =
     record {
       good = c.in-Some.ensures.place;
       leads = one_more c.args.text.now c.loop-at.at c.loop-at.place c.loop-at.found (c.in-Some.next, c.in-Some.act) within c.loop-at.invariant.leads (sym c.in-Some.ensures.value)
-        ∙ ap (λ (f : Found). Some (c.in-Some.next, f)) (sym c.in_ok-change.ensures);
+          ∙ ap (λ (f : Found). Some (c.in-Some.next, f)) (sym c.in_ok-change.ensures);
     }
 
 -- a text that ends inside a statement is too short
@@ -35,8 +35,8 @@ short_fault c =
     let text = c.args.text.now in
     let all : take c.loop-at.at text ≡ text = take_all c.loop-at.at text c.loop-at-test.false in
     fault_end text c.loop-at.place c.loop-at.found c.loop-at.invariant.good
-      (subst (λ (bs : List ℕ). run opening bs ≡ Some (c.loop-at.place, c.loop-at.found)) all c.loop-at.invariant.leads)
-      (λ (at : is_between c.loop-at.place ≡ true). let both : false ≡ true = c.if-not-is_between.ensures ∙ at in cc both)
+    (subst (λ (bs : List ℕ). run opening bs ≡ Some (c.loop-at.place, c.loop-at.found)) all c.loop-at.invariant.leads)
+    (λ (at : is_between c.loop-at.place ≡ true). let both : false ≡ true = c.if-not-is_between.ensures ∙ at in cc both)
 
 pub returns-then-not-is_between-clause-fault : goal.returns-then-not-is_between-clause-fault
 returns-then-not-is_between-clause-fault c = subst (IsRefusal c.args.text.now) (sym c.fault-then-not-is_between.ensures) (short_fault c)
