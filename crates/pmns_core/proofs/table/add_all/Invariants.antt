@@ -1,0 +1,12 @@
+-- The pairs so far are added.
+use Rattle.std.proofs.Common.{◌≡◌, take, Ok}
+use Rattle.pmns_core.specs.Pairs.{IsInOrder}
+use Rattle.pmns_core.specs.Adding.{added}
+use Rattle.pmns_core.specs.Shown.{shown}
+use Rattle.pmns_core.proofs.table.add_all.Given as goal
+
+abbrev pub invariant-loop-done : goal.invariant-loop-done
+invariant-loop-done l = record {
+  order : IsInOrder (shown l.table);
+  so_far : added (take l.done l.pairs) (shown l.initial.table) ≡ Ok (shown l.table);
+}
