@@ -17,12 +17,12 @@ order_less Less h = refl
 order_less Equal h = cc h
 order_less Greater h = cc h
 
-order_equal : (o : Ordering) → is_eq o ≡ true → o ≡ Equal
+pub order_equal : (o : Ordering) → is_eq o ≡ true → o ≡ Equal
 order_equal Less h = cc h
 order_equal Equal h = refl
 order_equal Greater h = cc h
 
-order_greater : (o : Ordering) → is_lt o ≡ false → is_eq o ≡ false → o ≡ Greater
+pub order_greater : (o : Ordering) → is_lt o ≡ false → is_eq o ≡ false → o ≡ Greater
 order_greater Less h g = cc h
 order_greater Equal h g = cc g
 order_greater Greater h g = refl

@@ -14,7 +14,7 @@ use Rattle.std.specs.Map.{lookup}
 use Rattle.std.specs.Global.{Vec}
 use Rattle.std.specs.BTreeMap.{is_at}
 use Rattle.pmns_core.specs.Order.{byte_order, is_same, is_before, continues}
-use Rattle.pmns_core.specs.Pairs.{Pair, pmid_of, placed, without, IsInOrder}
+use Rattle.pmns_core.specs.Pairs.{Pair, pmid_of, placed, without, least_name, lesser, noted, IsInOrder}
 use Rattle.pmns_core.specs.Adding.{is_there, is_under, is_above, misfit, unless_fault, added, Adds, AddsOne}
 use Rattle.pmns_core.specs.declared.fault.NamesFault.{NamesFault}
 use Rattle.pmns_core.specs.declared.fault.NamesFault.TheVariants as faults
@@ -168,6 +168,7 @@ added-append (x ∷ xs) ys before es e = by (misfit before x.0) e (λ later. add
   where
     placed' : List Pair
     placed' = placed before x.0 x.1
+
     by : (o : Option NamesFault) → unless_fault o (added xs placed') ≡ Ok es → (added xs placed' ≡ Ok es → added (xs ++ ys) placed' ≡ added ys es) → unless_fault o (added (xs ++ ys) placed') ≡ added ys es
     by None e again = again e
     by (Some fault) e again = cc e
@@ -189,6 +190,7 @@ added_last (x ∷ xs) p before after e = by (misfit before x.0) refl e (λ later
   where
     placed' : List Pair
     placed' = placed before x.0 x.1
+
     by : (o : Option NamesFault) → misfit before x.0 ≡ o → unless_fault o (added (xs ++ p ∷ []) placed') ≡ Ok after → (added (xs ++ p ∷ []) placed' ≡ Ok after → LastOf xs p placed' after) → LastOf (x ∷ xs) p before after
     by None fitted e again = let r = again e in record { middle = r.middle; first = ap (λ o. unless_fault o (added xs placed')) fitted ∙ r.first; fitted = r.fitted; last = r.last }
     by (Some fault) fitted e again = cc e
@@ -205,13 +207,49 @@ pub refused : (fault : NamesFault) (xs rest pairs : List Pair) (p : Pair) (befor
     → ((b : List Pair) → added xs b ≡ Ok new → back ≡ b) → Adds (Err fault) pairs before back
 refused faults.NoMemory xs rest pairs p before es new back split first same undo = undo before (first ∙ ap (λ (ps : List Pair). Ok ps) (sym same))
 refused (faults.Duplicate name) xs rest pairs p before es new back split first one undo = (
-    ap (λ (ps : List Pair). added ps before) split ∙ added-append xs (p ∷ rest) before es first ∙ ap (λ o. unless_fault o (added rest (placed es p.0 p.1))) one.0,
-    undo before (first ∙ ap (λ (ps : List Pair). Ok ps) (sym one.1)))
+  ap (λ (ps : List Pair). added ps before) split ∙ added-append xs (p ∷ rest) before es first ∙ ap (λ o. unless_fault o (added rest (placed es p.0 p.1))) one.0,
+  undo before (first ∙ ap (λ (ps : List Pair). Ok ps) (sym one.1)),
+)
 refused (faults.LeafAndNode name) xs rest pairs p before es new back split first one undo = (
-    ap (λ (ps : List Pair). added ps before) split ∙ added-append xs (p ∷ rest) before es first ∙ ap (λ o. unless_fault o (added rest (placed es p.0 p.1))) one.0,
-    undo before (first ∙ ap (λ (ps : List Pair). Ok ps) (sym one.1)))
+  ap (λ (ps : List Pair). added ps before) split ∙ added-append xs (p ∷ rest) before es first ∙ ap (λ o. unless_fault o (added rest (placed es p.0 p.1))) one.0,
+  undo before (first ∙ ap (λ (ps : List Pair). Ok ps) (sym one.1)),
+)
 
 -- one more pair fits
 pub one_more : (xs ys : List Pair) (p : Pair) (before es new : List Pair) → ys ≡ xs ++ p ∷ [] → added xs before ≡ Ok es → AddsOne (Ok tt) es new p.0 p.1 → added ys before ≡ Ok new
 one_more xs ys p before es new split first one =
     ap (λ (ps : List Pair). added ps before) split ∙ added-append xs (p ∷ []) before es first ∙ ap (λ o. unless_fault o (Ok (placed es p.0 p.1))) one.0 ∙ ap (λ (ps : List Pair). Ok ps) (sym one.1)
+
+-- a name before all others is less than the least of them
+lesser_of : (name : List ℕ) (pairs : List Pair) (q : ℕ) → AllByRecursion (λ (p : Pair). is_before name p.0 ≡ true) pairs → lesser name (least_name pairs q) ≡ name
+lesser_of name [] q all = refl
+lesser_of name (p ∷ pairs) q (before, all) = by (nat_eq p.1 q) (lesser_of name pairs q all)
+  where
+    by : (t : Bool) → lesser name (least_name pairs q) ≡ name → lesser name (if t then Some p.0 else least_name pairs q) ≡ name
+    by true again = ap (λ t. if t then name else p.0) before
+    by false again = again
+
+-- the least name once a pair is in its place
+pub least_placed : (pairs : List Pair) (name : List ℕ) (pmid q : ℕ) → is_there pairs name ≡ false → IsInOrder pairs → least_name (placed pairs name pmid) q ≡ noted q (least_name pairs q) (name, pmid)
+least_placed [] name pmid q absent order = refl
+least_placed (p ∷ pairs) name pmid q absent (all, text, order) = by (byte_order name p.0) refl absent (λ later. least_placed pairs name pmid q later order)
+  where
+    first : Option (List ℕ)
+    first = least_name (p ∷ pairs) q
+
+    by_pmid : (o : Ordering) → o ≡ Greater → byte_order name p.0 ≡ o → (t : Bool) → least_name (placed pairs name pmid) q ≡ noted q (least_name pairs q) (name, pmid)
+        → (if t then Some p.0 else least_name (placed pairs name pmid) q) ≡ noted q (if t then Some p.0 else least_name pairs q) (name, pmid)
+    by_pmid o is e true again = stays (nat_eq pmid q)
+      where
+        stays : (t : Bool) → Some p.0 ≡ (if t then Some (if is_lt (byte_order name p.0) then name else p.0) else Some p.0)
+        stays true = ap (λ r. Some (if is_lt r then name else p.0)) (sym (e ∙ is))
+        stays false = refl
+    by_pmid o is e false again = again
+
+    by : (o : Ordering) → byte_order name p.0 ≡ o → (is_eq o || is_there pairs name) ≡ false → (is_there pairs name ≡ false → least_name (placed pairs name pmid) q ≡ noted q (least_name pairs q) (name, pmid))
+        → least_name (if is_lt o then (name, pmid) ∷ p ∷ pairs else p ∷ placed pairs name pmid) q ≡ noted q first (name, pmid)
+    by Less e absent again =
+        let less : lesser name first ≡ name = lesser_of name (p ∷ pairs) q (ap is_lt e, all_before name p.0 pairs (ap is_lt e) all) in
+        ap (λ n. if nat_eq pmid q then Some n else first) (sym less)
+    by Equal e absent again = cc absent
+    by Greater e absent again = by_pmid Greater refl e (nat_eq p.1 q) (again absent)

@@ -32,3 +32,12 @@ without (p ∷ pairs) name = if is_same name p.0 then pairs else p ∷ without p
 abbrev pub IsInOrder : List Pair → Type 0
 IsInOrder [] = Unit {0}
 IsInOrder (p ∷ pairs) = AllByRecursion (λ q. is_before p.0 q.0 ≡ true) pairs × IsText p.0 × IsInOrder pairs
+
+-- the lesser of a name and another, where there is one
+abbrev pub lesser : List ℕ → Option (List ℕ) → List ℕ
+lesser name None = name
+lesser name (Some other) = if is_before name other then name else other
+
+-- the least name of a PMID once one more pair is there
+abbrev pub noted : ℕ → Option (List ℕ) → Pair → Option (List ℕ)
+noted pmid least p = if nat_eq p.1 pmid then Some (lesser p.0 least) else least

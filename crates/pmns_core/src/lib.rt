@@ -1,9 +1,12 @@
 //! A name space of metrics (pmns(5)): pairs of a name and a PMID, of which no name continues another, kept
-//! in the byte order of the names. Names are found, counted out below a name (pmGetChildren(3),
-//! pmTraversePMNS(3)), and looked up by PMID (pmNameID(3)) without a walk over all of them.
+//! in the byte order of the names. A name, and the least name of a PMID, are found without a walk over
+//! all names; what lies below a name is told in byte order (pmGetChildren(3), pmTraversePMNS(3)).
 #![tactic(auto)]
 
 mod fault;
+mod least;
+mod names;
 mod table;
 
 pub use fault::NamesFault;
+pub use names::Names;

@@ -1,5 +1,5 @@
-ghost use Rattle.std.specs.Prelude.{◌≡◌, [], ◌∷◌, ◌++◌, IfOk, OnOk, OnErr, None, Ok, List as Sequence};
-ghost use Rattle.pmns_core.specs.Pairs.{Pair, placed, pmid_of, IsInOrder};
+ghost use Rattle.std.specs.Prelude.{◌≡◌, ℕ, fold, [], ◌∷◌, ◌++◌, IfOk, OnOk, OnErr, None, Ok, List as Sequence};
+ghost use Rattle.pmns_core.specs.Pairs.{Pair, least_name, noted, placed, pmid_of, IsInOrder};
 ghost use Rattle.pmns_core.specs.Adding.{is_above, is_there, is_under, misfit, added, Adds, AddsOne};
 ghost use Rattle.pmns_core.specs.Shown.{shown};
 
@@ -62,6 +62,7 @@ pub fn add_one(alloc: Global, table: &mut Table, name: &Text, pmid: Pmid) -> Res
     requires { IsInOrder (shown table.old) }
     ensures adds { AddsOne result (shown table.old) (shown table.new) name.now pmid }
     ensures order { IsInOrder (shown table.new) }
+    ensures least { OnOk result ((q : ℕ) → least_name (shown table.new) q ≡ noted q (least_name (shown table.old) q) (name.now, pmid)) }
 {
     if has(table, name.as_slice()) {
         let name = name.copy(alloc)?;
@@ -81,6 +82,7 @@ pub fn add_all(alloc: Global, table: &mut Table, pairs: &[(Text, Pmid)]) -> Resu
     requires { IsInOrder (shown table.old) }
     ensures adds { Adds result pairs.now (shown table.old) (shown table.new) }
     ensures order { IsInOrder (shown table.new) }
+    ensures least { OnOk result ((q : ℕ) → least_name (shown table.new) q ≡ fold (noted q) (least_name (shown table.old) q) pairs.now) }
 {
     for (done, pair) in pairs.iter().enumerate() {
         if let Err(fault) = add_one(alloc, table, &pair.0, pair.1) {

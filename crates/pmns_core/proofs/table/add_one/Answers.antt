@@ -1,9 +1,9 @@
 -- A name that fits takes its place.
 use Rattle.std.proofs.Common.{◌≡◌, ℕ, List, map, false, sym, ap, ◌∙◌, subst}
-use Rattle.pmns_core.specs.Pairs.{placed, IsInOrder}
+use Rattle.pmns_core.specs.Pairs.{placed, least_name, IsInOrder}
 use Rattle.pmns_core.specs.Adding.{is_there, is_under, is_above}
 use Rattle.pmns_core.specs.Shown.{shown}
-use Rattle.pmns_core.proofs.Tables.{pair, fits_in, insert_shown, placed_in_order}
+use Rattle.pmns_core.proofs.Tables.{pair, fits_in, insert_shown, placed_in_order, least_placed}
 use Rattle.pmns_core.proofs.table.add_one.Goals as goal
 
 absent : (c : goal.In_ok-insert) → is_there (shown c.args.table.now) c.args.name.now ≡ false
@@ -24,3 +24,8 @@ returns-clause-adds c =
 
 pub returns-clause-order : goal.returns-clause-order
 returns-clause-order c = subst IsInOrder (sym (takes_place c)) (placed_in_order (shown c.args.table.now) c.args.name.now c.args.pmid c.as_slice.ensures.text (absent c) c.requires)
+
+pub returns-clause-least : goal.returns-clause-least
+returns-clause-least c q =
+    ap (λ ps. least_name ps q) (takes_place c)
+    ∙ least_placed (shown c.args.table.now) c.args.name.now c.args.pmid q (absent c) c.requires

@@ -17,10 +17,10 @@ loop-left-preserved c =
     record {
       within = omega (arith, c.loop-left.invariant.within);
       left = λ (before : List Pair) (e : added pairs before ≡ Ok (shown c.args.table.now)).
-        let front : take c.loop-left.left pairs ≡ take at pairs ++ p ∷ [] = ap (λ n. take n pairs) (sym next) ∙ take-suc pairs at c.index-pairs-left.result within in
-        let r = added_last (take at pairs) p before (shown c.loop-left.table) (ap (λ (ps : List Pair). added ps before) (sym front) ∙ c.loop-left.invariant.left before e) in
-        let gone : shown c.remove.new.self ≡ without (shown c.loop-left.table) p.0 =
+          let front : take c.loop-left.left pairs ≡ take at pairs ++ p ∷ [] = ap (λ n. take n pairs) (sym next) ∙ take-suc pairs at c.index-pairs-left.result within in
+          let r = added_last (take at pairs) p before (shown c.loop-left.table) (ap (λ (ps : List Pair). added ps before) (sym front) ∙ c.loop-left.invariant.left before e) in
+          let gone : shown c.remove.new.self ≡ without (shown c.loop-left.table) p.0 =
           ap (map pair) c.remove.ensures.entries ∙ remove_shown c.loop-left.table.entries c.as_slice.result.now ∙ ap (without (shown c.loop-left.table)) c.as_slice.ensures.value in
-        let back : without (shown c.loop-left.table) p.0 ≡ r.middle = ap (λ (ps : List Pair). without ps p.0) r.last ∙ without_placed r.middle p.0 p.1 (fitted_absent r.middle p.0 r.fitted) in
-        r.first ∙ ap (λ (ps : List Pair). Ok ps) (sym (gone ∙ back));
+          let back : without (shown c.loop-left.table) p.0 ≡ r.middle = ap (λ (ps : List Pair). without ps p.0) r.last ∙ without_placed r.middle p.0 p.1 (fitted_absent r.middle p.0 r.fitted) in
+          r.first ∙ ap (λ (ps : List Pair). Ok ps) (sym (gone ∙ back));
     }
