@@ -41,7 +41,7 @@ before_trans a b c h g = ap is_lt (nat_list_cmp_total.trans a b c (order_less (b
 pub before_other : (a b : List ℕ) → is_before a b ≡ false → is_same a b ≡ false → is_before b a ≡ true
 before_other a b h g = ap is_lt (nat_list_cmp_total.antisymm b a ∙ ap ordering_reverse (order_greater (byte_order a b) h g))
 
-le_itself : (p rest : List ℕ) → is_le (byte_order p (p ++ rest)) ≡ true
+pub le_itself : (p rest : List ℕ) → is_le (byte_order p (p ++ rest)) ≡ true
 le_itself [] [] = refl
 le_itself [] (x ∷ rest) = refl
 le_itself (c ∷ p) rest = ap (λ o. is_le (ordering_then o (byte_order p (p ++ rest)))) (tied_itself nat_cmp_total c) ∙ le_itself p rest

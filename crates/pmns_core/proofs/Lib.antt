@@ -1,3 +1,4 @@
 pub mod Bytes
 pub mod Tables
 pub mod Places
+pub mod Ranges

@@ -68,7 +68,7 @@ head_begins front [] = false
 head_begins front (e ∷ es) = starts_with nat_eq e.0.items front
 
 -- after a name that isn't before a front and doesn't begin with it, none does
-none_after : (front x : List ℕ) (pairs : List Pair) → is_le (byte_order front x) ≡ true → starts_with nat_eq x front ≡ false → AllByRecursion (λ (q : Pair). is_before x q.0 ≡ true) pairs → list_any (λ (p : Pair). starts_with nat_eq p.0 front) pairs ≡ false
+pub none_after : (front x : List ℕ) (pairs : List Pair) → is_le (byte_order front x) ≡ true → starts_with nat_eq x front ≡ false → AllByRecursion (λ (q : Pair). is_before x q.0 ≡ true) pairs → list_any (λ (p : Pair). starts_with nat_eq p.0 front) pairs ≡ false
 none_after front x [] le other all = refl
 none_after front x (q ∷ pairs) le other (before, all) =
     let no_q : starts_with nat_eq q.0 front ≡ false = no_then (starts_with nat_eq q.0 front) (λ (s : starts_with nat_eq q.0 front ≡ true). let both : true ≡ false = sym (front_between front x q.0 le before s) ∙ other in cc both) in

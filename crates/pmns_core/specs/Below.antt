@@ -1,9 +1,17 @@
 -- What lies below a name (pmTraversePMNS(3), pmGetChildren(3)).
-use Rattle.std.specs.Prelude.{ℕ, ◌+◌, Bool, true, false, ◌||◌, if◌then◌else◌, nat_eq, List, [], ◌∷◌, ◌++◌, length, drop, filter, fold, Option, Some, None, not}
-use Rattle.std.specs.List.{list_any, before_first}
+use Rattle.std.specs.Prelude.{ℕ, ◌+◌, Bool, true, false, ◌||◌, if◌then◌else◌, nat_eq, List, [], ◌∷◌, ◌++◌, length, drop, filter, fold, Option, Some, None, option_map, option_to_list, not}
+use Rattle.std.specs.List.{list_any, before_first, starts_with}
 use Rattle.std.specs.BTreeMap.{insert_entry}
 use Rattle.pmns_core.specs.Order.{byte_order, is_same, continues}
-use Rattle.pmns_core.specs.Pairs.{Pair}
+use Rattle.pmns_core.specs.Pairs.{Pair, pmid_of}
+
+-- the pairs whose names begin with a front
+abbrev pub fronted : List Pair → List ℕ → List Pair
+fronted pairs front = filter (λ p. starts_with nat_eq p.0 front) pairs
+
+-- the pair of a name, if it is there
+abbrev pub own : List Pair → List ℕ → List Pair
+own pairs name = option_to_list (option_map (λ pmid. (name, pmid)) (pmid_of pairs name))
 
 -- the pairs whose names are the name or continue it
 abbrev pub below : List Pair → List ℕ → List Pair

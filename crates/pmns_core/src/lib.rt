@@ -3,6 +3,7 @@
 //! all names; what lies below a name is told in byte order (pmGetChildren(3), pmTraversePMNS(3)).
 #![tactic(auto)]
 
+mod below;
 mod fault;
 mod least;
 mod names;

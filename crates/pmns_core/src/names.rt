@@ -1,8 +1,10 @@
-ghost use Rattle.std.specs.Prelude.{◌≡◌, [], filter, IfOk};
+ghost use Rattle.std.specs.Prelude.{◌≡◌, [], IfOk};
 ghost use Rattle.std.specs.Option.{option_copied};
 ghost use Rattle.pmns_core.specs.Adding.{Adds};
+ghost use Rattle.pmns_core.specs.Below.{below};
 ghost use Rattle.pmns_core.specs.Pairs.{least_name, pmid_of, IsInOrder};
 
+use crate::below::all_below;
 use crate::fault::NamesFault;
 use crate::least::{Least, make_places, name_at, note_all};
 use crate::table::{Table, add_all, pmid_at};
@@ -68,5 +70,13 @@ impl Names {
         ensures order { IsInOrder self.now }
     {
         name_at(&self.least, pmid)
+    }
+
+    /// The pairs whose names are this name or continue it, in byte order (pmTraversePMNS(3)).
+    pub fn traverse(&self, alloc: Global, name: &Text) -> Result<List<(Text, Pmid)>, NoMemory>
+        ensures found { IfOk result (λ found. found ≡ below self.now name.now) }
+        ensures order { IsInOrder self.now }
+    {
+        all_below(alloc, &self.table, name)
     }
 }

@@ -15,6 +15,6 @@ loop-name-preserved c =
     record {
       places = keeps_places c.loop-name.least c.note.new.least c.note.ensures.places rest places.1;
       rest = λ q. ap (λ o. fold (noted q) o rest) (c.note.ensures.noted q)
-        ∙ ap (fold (noted q) (least_at c.loop-name.least q)) (sym front)
-        ∙ c.loop-name.invariant.rest q;
+          ∙ ap (fold (noted q) (least_at c.loop-name.least q)) (sym front)
+          ∙ c.loop-name.invariant.rest q;
     }
