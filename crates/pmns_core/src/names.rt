@@ -1,10 +1,10 @@
 ghost use Rattle.std.specs.Prelude.{◌≡◌, [], IfOk};
 ghost use Rattle.std.specs.Option.{option_copied};
 ghost use Rattle.pmns_core.specs.Adding.{Adds};
-ghost use Rattle.pmns_core.specs.Below.{below};
+ghost use Rattle.pmns_core.specs.Below.{below, children_of};
 ghost use Rattle.pmns_core.specs.Pairs.{least_name, pmid_of, IsInOrder};
 
-use crate::below::all_below;
+use crate::below::{all_below, children_below};
 use crate::fault::NamesFault;
 use crate::least::{Least, make_places, name_at, note_all};
 use crate::table::{Table, add_all, pmid_at};
@@ -70,6 +70,18 @@ impl Names {
         ensures order { IsInOrder self.now }
     {
         name_at(&self.least, pmid)
+    }
+
+    /// The next components of the names that continue this name, in byte order, with true for a leaf
+    /// (pmGetChildrenStatus(3)); `None` exactly where no name is this name or continues it.
+    pub fn children(
+        &self,
+        alloc: Global,
+        name: &Text,
+    ) -> Result<Option<List<(Text, bool)>>, NoMemory>
+        ensures { IfOk result (λ found. found ≡ children_of self.now name.now) }
+    {
+        children_below(alloc, &self.table, name)
     }
 
     /// The pairs whose names are this name or continue it, in byte order (pmTraversePMNS(3)).

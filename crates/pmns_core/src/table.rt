@@ -18,7 +18,8 @@ pub fn pmid_at(table: &Table, name: &[u8]) -> Option<Pmid>
     table.get(name).copied()
 }
 
-fn has(table: &Table, name: &[u8]) -> bool
+/// Whether the name is there.
+pub fn has(table: &Table, name: &[u8]) -> bool
     ensures { result ≡ is_there (shown table.now) name.now }
 {
     table.contains_key(name)
@@ -45,8 +46,8 @@ fn continues_one(table: &Table, name: &[u8]) -> bool
     false
 }
 
-// Whether a name that is there continues the name.
-fn is_continued(alloc: Global, table: &Table, name: &[u8]) -> Result<bool, AllocError>
+/// Whether a name that is there continues the name.
+pub fn is_continued(alloc: Global, table: &Table, name: &[u8]) -> Result<bool, AllocError>
     requires { IsInOrder (shown table.now) }
     ensures { IfOk result (λ found. found ≡ is_above (shown table.now) name.now) }
 {
