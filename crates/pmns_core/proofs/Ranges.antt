@@ -1,9 +1,8 @@
 -- The pairs below a name are those from its front on, as far as they begin with it.
-use Rattle.std.proofs.Common.{◌≡◌, ℕ, ◌+◌, ◌<◌, ◌≤◌, Bool, true, false, not, ◌&&◌, ◌||◌, cond, if◌then◌else◌, List, [], ◌∷◌, ◌++◌, length, map, drop, Option, Some, None, refl, sym, ap, ◌∙◌, subst, arith, append_assoc, length-append}
-use Rattle.std.specs.declared.cmp.Ordering.{Ordering}
-use Rattle.std.specs.declared.cmp.Ordering.TheVariants.{Less, Equal, Greater}
+use Rattle.std.proofs.Common.{◌≡◌, ℕ, Bool, true, false, not, ◌&&◌, ◌||◌, cond, if◌then◌else◌, List, [], ◌∷◌, ◌++◌, length, map, drop, Some, None, refl, sym, ap, ◌∙◌, subst, arith, append_assoc, length-append}
+use Rattle.std.specs.declared.cmp.Ordering.TheVariants.{Less, Greater}
 use Rattle.std.specs.Prelude.{nat_eq, option_map, option_to_list}
-use Rattle.std.specs.Ordering.{is_le, is_eq, is_lt, ordering_reverse}
+use Rattle.std.specs.Ordering.{is_le, ordering_reverse}
 use Rattle.std.specs.Cmp.Lexicographic.{nat_list_cmp_total}
 use Rattle.std.specs.List.{list_any, filter, starts_with, AllByRecursion}
 use Rattle.std.specs.Global.{Vec}
@@ -12,7 +11,7 @@ use Rattle.pmns_core.specs.Order.{byte_order, is_same, is_before, continues}
 use Rattle.pmns_core.specs.Pairs.{Pair, pmid_of, IsInOrder}
 use Rattle.pmns_core.specs.Adding.{is_there}
 use Rattle.pmns_core.specs.Below.{below}
-use Rattle.pmns_core.proofs.Bytes.{order_less, order_equal, same_name, same_itself, before_trans, front_le, le_itself, starts_split, no_then}
+use Rattle.pmns_core.proofs.Bytes.{order_less, order_equal, same_name, front_le, le_itself, starts_split, no_then}
 use Rattle.pmns_core.proofs.Tables.{pair, from_front, none_after}
 
 -- the pairs as far as their names begin with a front

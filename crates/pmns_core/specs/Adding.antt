@@ -1,5 +1,5 @@
 -- What becomes of a name space when pairs are added: all of them, or none and the first that doesn't fit.
-use Rattle.std.specs.Prelude.{◌≡◌, ℕ, Bool, ◌||◌, if◌then◌else◌, List, [], ◌∷◌, Option, Some, None, Result, Ok, Err}
+use Rattle.std.specs.Prelude.{◌≡◌, ℕ, Bool, if◌then◌else◌, List, [], ◌∷◌, Option, Some, None, Result, Ok, Err}
 use Rattle.std.specs.List.{list_any}
 use Rattle.pmns_core.specs.Order.{is_same, continues}
 use Rattle.pmns_core.specs.Pairs.{Pair, placed}

@@ -1,5 +1,5 @@
 -- What lies below a name (pmTraversePMNS(3), pmGetChildren(3)).
-use Rattle.std.specs.Prelude.{ℕ, ◌+◌, Bool, true, false, ◌||◌, if◌then◌else◌, nat_eq, List, [], ◌∷◌, ◌++◌, length, take, drop, filter, fold, position, unwrap_or, is_none, Option, Some, None, option_map, option_to_list}
+use Rattle.std.specs.Prelude.{ℕ, Bool, ◌||◌, if◌then◌else◌, nat_eq, List, [], ◌∷◌, ◌++◌, length, take, drop, filter, fold, position, unwrap_or, is_none, Option, Some, None, option_map, option_to_list}
 use Rattle.std.specs.List.{starts_with}
 use Rattle.std.specs.BTreeMap.{insert_entry}
 use Rattle.pmns_core.specs.Order.{byte_order, is_same, continues}

@@ -1,5 +1,5 @@
 -- A name space as its pairs of a name and a PMID, in the byte order of the names (pmns(5)).
-use Rattle.std.specs.Prelude.{◌≡◌, ℕ, Bool, true, false, if◌then◌else◌, nat_eq, List, [], ◌∷◌, ◌++◌, Option, Some, None}
+use Rattle.std.specs.Prelude.{◌≡◌, ℕ, true, if◌then◌else◌, nat_eq, List, [], ◌∷◌, Option, Some, None}
 use Rattle.std.specs.List.{AllByRecursion}
 use Rattle.pcp_base.specs.Texts.{IsText}
 use Rattle.pmns_core.specs.Order.{is_same, is_before}

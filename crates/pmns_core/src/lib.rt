@@ -11,3 +11,6 @@ mod table;
 
 pub use fault::NamesFault;
 pub use names::Names;
+
+#[cfg(test)]
+mod tests;

@@ -1,5 +1,5 @@
 -- The name's own pair, and then those that continue it.
-use Rattle.std.proofs.Common.{◌≡◌, ℕ, List, [], ◌∷◌, ◌++◌, sym, ap, ◌∙◌, subst}
+use Rattle.std.proofs.Common.{◌≡◌, ℕ, List, [], ◌∷◌, ◌++◌, ap, ◌∙◌}
 use Rattle.pmns_core.specs.Pairs.{Pair}
 use Rattle.pmns_core.specs.Below.{fronted, own}
 use Rattle.pmns_core.specs.Shown.{shown}

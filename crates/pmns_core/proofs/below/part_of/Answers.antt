@@ -1,8 +1,7 @@
 -- Without a `.` the component is all.
-use Rattle.std.proofs.Common.{◌≡◌, ℕ, List, Option, Some, None, length, take, sym, ap, ◌∙◌}
-use Rattle.std.specs.Prelude.{unwrap_or, is_none, position}
+use Rattle.std.proofs.Common.{ℕ, Option, length, take, sym, ap, ◌∙◌}
+use Rattle.std.specs.Prelude.{unwrap_or, is_none}
 use Rattle.std.proofs.Math.Seq.{take-length}
-use Rattle.pmns_core.specs.Below.{is_point}
 use Rattle.pmns_core.proofs.below.part_of.Goals as goal
 
 pub returns-in-Some-clause-part : goal.returns-in-Some-clause-part

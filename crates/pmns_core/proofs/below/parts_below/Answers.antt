@@ -5,7 +5,7 @@ use Rattle.std.specs.List.{starts_with}
 use Rattle.std.specs.Global.{Vec}
 use Rattle.pmns_core.proofs.Parts.{part}
 use Rattle.pmns_core.proofs.Tables.{pair, from_front}
-use Rattle.pmns_core.specs.Pairs.{Pair, IsInOrder}
+use Rattle.pmns_core.specs.Pairs.{IsInOrder}
 use Rattle.pmns_core.specs.Below.{with_child, children}
 use Rattle.pmns_core.specs.Shown.{shown_parts, AreTextParts}
 use Rattle.pmns_core.proofs.Ranges.{taken, taken_all, AreTexts, texts_from_front}

@@ -1,12 +1,9 @@
 -- The range begins at the front, and the pairs are taken as far as they begin with it.
-use Rattle.std.proofs.Common.{◌≡◌, ℕ, List, [], ◌∷◌, ◌++◌, false, if◌then◌else◌, map, sym, ap, ◌∙◌, subst, refl}
+use Rattle.std.proofs.Common.{◌≡◌, ℕ, List, [], ◌∷◌, ◌++◌, false, if◌then◌else◌, sym, ap, ◌∙◌, subst, refl}
 use Rattle.std.proofs.lemmas.List.{append-nil}
 use Rattle.std.specs.Prelude.{nat_eq}
 use Rattle.std.specs.List.{starts_with}
 use Rattle.pmns_core.specs.Pairs.{Pair}
-use Rattle.pmns_core.specs.Below.{fronted}
-use Rattle.pmns_core.specs.Shown.{shown}
-use Rattle.pmns_core.proofs.Tables.{pair}
 use Rattle.pmns_core.proofs.Ranges.{taken, taken_all, AreTexts, texts_from_front}
 use Rattle.pmns_core.proofs.below.push_all.Goals as goal
 

@@ -1,6 +1,6 @@
 -- A place without a name changes no name.
-use Rattle.std.proofs.Common.{◌≡◌, ℕ, Some, None, is_some, false, true, sym, ap, ◌∙◌, subst}
-use Rattle.std.specs.Option.{IsSome, option_and_then}
+use Rattle.std.proofs.Common.{◌≡◌, None, true, sym, ap, ◌∙◌}
+use Rattle.std.specs.Option.{option_and_then}
 use Rattle.std.specs.Ordering.{nat_cmp, is_eq}
 use Rattle.std.specs.BTreeMap.{get}
 use Rattle.std.specs.FinMap.{nat_cmp-IsAntisymmetric}

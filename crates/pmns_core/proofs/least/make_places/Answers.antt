@@ -1,5 +1,5 @@
 -- One more pair has its place.
-use Rattle.std.proofs.Common.{◌≡◌, ℕ, ◌+◌, ◌<◌, length, take, List, [], ◌∷◌, ◌++◌, arith, sym, ap, ◌∙◌, subst, add-one}
+use Rattle.std.proofs.Common.{◌≡◌, ℕ, ◌+◌, ◌<◌, length, take, [], ◌∷◌, ◌++◌, arith, sym, ap, ◌∙◌, subst, add-one}
 use Rattle.std.proofs.Math.Seq.{take-suc}
 use Rattle.pmns_core.specs.Pairs.{Pair}
 use Rattle.pmns_core.specs.Shown.{HasPlaces}

@@ -1,6 +1,5 @@
 -- A place that is written stays, and so do the others.
-use Rattle.std.proofs.Common.{◌≡◌, ℕ, Some, sym, subst, rules}
-use Rattle.std.specs.Option.{IsSome}
+use Rattle.std.proofs.Common.{Some}
 use Rattle.pmns_core.proofs.Places.{some_cond}
 use Rattle.pmns_core.proofs.least.note.Goals as goal
 

@@ -1,5 +1,5 @@
 -- The pair that is taken is the first of those that are left.
-use Rattle.std.proofs.Common.{◌≡◌, ℕ, List, [], ◌∷◌, ◌++◌, reverse, fold, sym, ap, ◌∙◌, subst}
+use Rattle.std.proofs.Common.{◌≡◌, List, [], ◌∷◌, reverse, fold, sym, ap, ◌∙◌, subst}
 use Rattle.std.proofs.lemmas.List.{reverse-append}
 use Rattle.pmns_core.specs.Pairs.{Pair, noted}
 use Rattle.pmns_core.specs.Shown.{least_at, HasPlaces}

@@ -1,5 +1,5 @@
 -- The first pair that doesn't fit is told, and the others before it go again.
-use Rattle.std.proofs.Common.{◌≡◌, ℕ, ◌+◌, ◌<◌, suc, length, take, drop, get_or, List, [], ◌∷◌, ◌++◌, arith, sym, ap, ◌∙◌, subst, drop-cons, take-append-drop, add-one, fold}
+use Rattle.std.proofs.Common.{◌≡◌, ℕ, ◌+◌, ◌<◌, suc, length, take, drop, List, [], ◌∷◌, ◌++◌, arith, sym, ap, ◌∙◌, drop-cons, take-append-drop, add-one, fold}
 use Rattle.std.proofs.lemmas.List.Sums.{fold-append}
 use Rattle.std.proofs.Math.Seq.{take-suc}
 use Rattle.pmns_core.specs.Pairs.{Pair, least_name, noted}

@@ -1,6 +1,6 @@
 -- A front that ends before a `.` and is there is what the name continues.
-use Rattle.std.proofs.Common.{◌≡◌, ℕ, ◌<◌, true, false, length, take, sym, ap, ◌∙◌, arith}
-use Rattle.pmns_core.specs.Adding.{is_there, is_under}
+use Rattle.std.proofs.Common.{◌≡◌, ◌<◌, true, false, length, sym, ◌∙◌, arith}
+use Rattle.pmns_core.specs.Adding.{is_under}
 use Rattle.pmns_core.specs.Shown.{shown}
 use Rattle.pmns_core.proofs.Bytes.{no_then}
 use Rattle.pmns_core.proofs.Tables.{under_there, there_under}

@@ -1,4 +1,4 @@
-use Rattle.std.proofs.Common.{ap, sym, ◌∙◌, is_some}
+use Rattle.std.proofs.Common.{ap, ◌∙◌, is_some}
 use Rattle.pmns_core.proofs.Tables.{lookup_shown, there_some}
 use Rattle.pmns_core.specs.Shown.{shown}
 use Rattle.pmns_core.proofs.table.has.Goals as goal

@@ -1,4 +1,4 @@
-use Rattle.std.proofs.Common.{ap, sym, ◌∙◌}
+use Rattle.std.proofs.Common.{◌∙◌}
 use Rattle.pmns_core.proofs.Tables.{lookup_shown}
 use Rattle.pmns_core.proofs.table.pmid_at.Goals as goal
 

@@ -1,7 +1,7 @@
 -- What was added last is taken out.
-use Rattle.std.proofs.Common.{◌≡◌, ℕ, ◌+◌, ◌-◌, ◌<◌, ◌≤◌, suc, length, take, get_or, List, [], ◌∷◌, ◌++◌, map, Ok, arith, sym, ap, ◌∙◌, subst}
+use Rattle.std.proofs.Common.{◌≡◌, ℕ, ◌-◌, ◌<◌, suc, length, take, get_or, List, [], ◌∷◌, ◌++◌, map, Ok, arith, sym, ap, ◌∙◌}
 use Rattle.std.proofs.Math.Seq.{take-suc}
-use Rattle.pmns_core.specs.Pairs.{Pair, placed, without}
+use Rattle.pmns_core.specs.Pairs.{Pair, without}
 use Rattle.pmns_core.specs.Adding.{added}
 use Rattle.pmns_core.specs.Shown.{shown}
 use Rattle.pmns_core.proofs.Tables.{pair, remove_shown, without_placed, added_last, fitted_absent}
