@@ -1,0 +1,4 @@
+pub mod Accepts
+pub mod Rest
+pub mod Steps
+pub mod Verdicts

@@ -1,0 +1,117 @@
+ghost use Rattle.std.specs.Prelude.{◌≡◌, ◌<◌, [], ◌∷◌, ◌++◌, IfOk, OnOk, None};
+ghost use Rattle.pcp_base.specs.Texts.{IsText};
+ghost use Rattle.log_schedule.specs.Reading.{changed, closed, named};
+
+use crate::config::Group;
+use crate::place::Act;
+use pcp_base::{Bytes, List, NoMemory, Text, TextError};
+use std::alloc::Global;
+use std::marker::Model;
+use std::mem;
+
+/// What has been read of a configuration: its whole groups, and of the statement begun the interval, the
+/// whole names and the last name.
+#[derive(Drop)]
+pub struct Found {
+    alloc: Global,
+    groups: List<Group>,
+    interval: Option<u64>,
+    names: List<Text>,
+    name: Bytes,
+}
+
+impl Model for Found {
+    ghost use Rattle.log_schedule.specs.Reading.{Found as Content};
+    ghost use Rattle.pcp_base.specs.Texts.{IsText};
+
+    ghost Value = { Content };
+
+    ghost view = { λ a. record { groups = a.groups; interval = a.interval; names = a.names; name = a.name } };
+
+    ghost invariant = { λ a. IsText a.name };
+}
+
+impl Found {
+    pub fn empty(alloc: Global) -> Found
+        ensures { result ≡ record { groups = []; interval = None; names = []; name = [] } }
+    {
+        Found {
+            alloc,
+            groups: List::empty(alloc),
+            interval: None,
+            names: List::empty(alloc),
+            name: Bytes::empty(alloc),
+        }
+    }
+
+    pub fn into_groups(self) -> List<Group>
+        ensures { result ≡ self.groups }
+    {
+        self.groups
+    }
+
+    /// Makes the change that a byte makes.
+    pub fn change(&mut self, act: Act, byte: u8) -> Result<(), NoMemory>
+        requires { 0 < byte }
+        ensures { OnOk result (self.new ≡ changed act byte self.old) }
+    {
+        match act {
+            Act::Keep => Ok(()),
+            Act::Interval(interval) => {
+                self.interval = interval;
+                Ok(())
+            }
+            Act::Begin => self.begin(byte),
+            Act::Add => self.add(byte),
+            Act::Name => self.end_name(),
+            Act::Statement => self.end_statement(),
+            Act::Last => {
+                self.end_name()?;
+                self.end_statement()
+            }
+        }
+    }
+
+    fn begin(&mut self, byte: u8) -> Result<(), NoMemory>
+        requires { 0 < byte }
+        ensures { OnOk result (self.new ≡ record self.old { name = byte ∷ [] }) }
+    {
+        self.name = Bytes::empty(self.alloc);
+        self.add(byte)
+    }
+
+    fn add(&mut self, byte: u8) -> Result<(), NoMemory>
+        requires { 0 < byte }
+        ensures { OnOk result (self.new ≡ record self.old { name = self.old.name ++ byte ∷ [] }) }
+    {
+        self.name.push(byte)
+    }
+
+    fn end_name(&mut self) -> Result<(), NoMemory>
+        ensures { OnOk result (self.new ≡ named self.old) }
+    {
+        let name = text_of(self.alloc, self.name.as_slice())?;
+        self.names.push(name)
+    }
+
+    fn end_statement(&mut self) -> Result<(), NoMemory>
+        ensures { OnOk result (self.new ≡ closed self.old) }
+    {
+        let names = mem::replace(&mut self.names, List::empty(self.alloc));
+        self.groups.push(Group {
+            interval: self.interval,
+            names,
+        })
+    }
+}
+
+fn text_of(alloc: Global, bytes: &[u8]) -> Result<Text, NoMemory>
+    requires { IsText bytes.now }
+    ensures { IfOk result (λ text. text ≡ bytes.now) }
+{
+    match Text::build(alloc, bytes) {
+        Ok(text) => Ok(text),
+        Err(TextError::NoMemory) => Err(NoMemory),
+        Err(TextError::Zero(_)) => unreachable!(),
+    }
+}

@@ -1,0 +1,16 @@
+//! What a logger logs and when (pmlogger(1)): the configuration, whose statements name metrics and
+//! an interval, and the instants at which each of its groups is due.
+#![tactic(auto)]
+
+mod bytes;
+mod config;
+mod found;
+mod groups;
+mod instants;
+mod place;
+
+pub use config::{Config, ConfigError, ConfigFault, Group};
+pub use groups::Groups;
+
+#[cfg(test)]
+mod tests;

@@ -1,0 +1,5 @@
+pub mod Bytes
+pub mod Tables
+pub mod Places
+pub mod Ranges
+pub mod Parts

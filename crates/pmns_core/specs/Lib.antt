@@ -1,0 +1,5 @@
+pub mod Adding
+pub mod Below
+pub mod Order
+pub mod Pairs
+pub mod Shown

@@ -1,0 +1,149 @@
+ghost use Rattle.std.specs.Prelude.{◌≡◌, ◌<◌, ◌++◌, length, position, IfOk, IfSome, OnOk};
+ghost use Rattle.std.specs.BTreeMap.{insert_entry};
+ghost use Rattle.pcp_base.specs.Texts.{IsText};
+ghost use Rattle.pmns_core.specs.Below.{below, children, children_of, component, fronted, is_leaf, is_point, own};
+ghost use Rattle.pmns_core.specs.Order.{byte_order};
+ghost use Rattle.pmns_core.specs.Pairs.{IsInOrder};
+ghost use Rattle.pmns_core.specs.Shown.{shown, shown_parts, AreTextParts};
+
+use crate::table::{Table, front_of, has, is_continued, pmid_at};
+use pcp_base::{Duplicate, List, NoMemory, Pmid, Text, TextError};
+use std::alloc::Global;
+use std::collections::BTreeMap;
+
+/// The pairs whose names are the name or continue it, in byte order.
+pub fn all_below(alloc: Global, table: &Table, name: &Text) -> Result<List<(Text, Pmid)>, NoMemory>
+    requires { IsInOrder (shown table.now) }
+    ensures { IfOk result (λ found. found ≡ below (shown table.now) name.now) }
+{
+    let mut found = own_pair(alloc, table, name)?;
+    let front = front_of(alloc, name.as_slice())?;
+    push_all(alloc, &mut found, table, &front)?;
+    Ok(found)
+}
+
+// The pair of the name itself, if it is there.
+fn own_pair(alloc: Global, table: &Table, name: &Text) -> Result<List<(Text, Pmid)>, NoMemory>
+    ensures { IfOk result (λ found. found ≡ own (shown table.now) name.now) }
+{
+    let mut found = List::empty(alloc);
+    match pmid_at(table, name.as_slice()) {
+        Some(pmid) => {
+            found.push((name.copy(alloc)?, pmid))?;
+            Ok(found)
+        }
+        None => Ok(found),
+    }
+}
+
+// Adds the pairs whose names begin with a front.
+fn push_all(
+    alloc: Global,
+    found: &mut List<(Text, Pmid)>,
+    table: &Table,
+    front: &Vec<u8>,
+) -> Result<(), NoMemory>
+    requires { IsInOrder (shown table.now) }
+    ensures { OnOk result (found.new ≡ found.old ++ fronted (shown table.now) front.now.items) }
+{
+    let mut rest = table.range(front..);
+    while let Some((key, pmid)) = rest.next() {
+        if !key.as_slice().starts_with(front.as_slice()) {
+            return Ok(());
+        }
+        found.push((text_of(alloc, key.as_slice())?, *pmid))?;
+    }
+    Ok(())
+}
+
+/// The next components of the names that continue a name, true for a leaf, in byte order; `None` where no
+/// name is the name or continues it.
+pub fn children_below(
+    alloc: Global,
+    table: &Table,
+    name: &Text,
+) -> Result<Option<List<(Text, bool)>>, NoMemory>
+    requires { IsInOrder (shown table.now) }
+    ensures { IfOk result (λ found. found ≡ children_of (shown table.now) name.now) }
+{
+    let front = front_of(alloc, name.as_slice())?;
+    if !has(table, name.as_slice()) && !is_continued(alloc, table, name.as_slice())? {
+        return Ok(None);
+    }
+    let parts = parts_below(alloc, table, &front)?;
+    let found = texts_of(alloc, &parts)?;
+    Ok(Some(found))
+}
+
+type Parts = BTreeMap<Vec<u8>, bool>;
+
+// The components after a front.
+fn parts_below(alloc: Global, table: &Table, front: &Vec<u8>) -> Result<Parts, NoMemory>
+    requires { IsInOrder (shown table.now) }
+    ensures parts { IfOk result (λ parts. shown_parts parts ≡ children (shown table.now) front.now.items) }
+    ensures texts { IfOk result (λ parts. AreTextParts (shown_parts parts)) }
+{
+    let mut parts = BTreeMap::new(alloc);
+    let mut rest = table.range(front..);
+    while let Some((key, _pmid)) = rest.next() {
+        if !key.as_slice().starts_with(front.as_slice()) {
+            return Ok(parts);
+        }
+        add_part(alloc, &mut parts, &key.as_slice()[front.len()..])?;
+    }
+    Ok(parts)
+}
+
+fn add_part(alloc: Global, parts: &mut Parts, rest: &[u8]) -> Result<(), NoMemory>
+    requires text { IsText rest.now }
+    requires texts { AreTextParts (shown_parts parts.old) }
+    ensures part { OnOk result (shown_parts parts.new ≡ insert_entry byte_order (shown_parts parts.old) (component rest.now) (is_leaf rest.now)) }
+    ensures texts { OnOk result (AreTextParts (shown_parts parts.new)) }
+{
+    let (part, is_leaf) = part_of(rest);
+    let key = Vec::from_slice(alloc, part)?;
+    parts.insert(key, is_leaf)?;
+    Ok(())
+}
+
+// A name's next component, and whether the name ends with it.
+fn part_of(rest: &[u8]) -> (&[u8], bool)
+    ensures part { result.0.now ≡ component rest.now }
+    ensures leaf { result.1 ≡ is_leaf rest.now }
+{
+    match point_in(rest) {
+        Some(at) => (&rest[..at], false),
+        None => (rest, true),
+    }
+}
+
+fn point_in(rest: &[u8]) -> Option<usize>
+    ensures value { result ≡ position is_point rest.now }
+    ensures within { IfSome result (λ at. at < length rest.now) }
+{
+    rest.iter().position(|byte| *byte == b'.')
+}
+
+fn texts_of(alloc: Global, parts: &Parts) -> Result<List<(Text, bool)>, NoMemory>
+    requires { AreTextParts (shown_parts parts.now) }
+    ensures { IfOk result (λ found. found ≡ shown_parts parts.now) }
+{
+    let mut found = List::empty(alloc);
+    let mut rest = parts.range(..);
+    while let Some((key, is_leaf)) = rest.next() {
+        found.push((text_of(alloc, key.as_slice())?, *is_leaf))?;
+    }
+    Ok(found)
+}
+
+/// The text of bytes of which none is zero.
+pub fn text_of(alloc: Global, bytes: &[u8]) -> Result<Text, NoMemory>
+    requires { IsText bytes.now }
+    ensures { IfOk result (λ text. text ≡ bytes.now) }
+{
+    match Text::build(alloc, bytes) {
+        Ok(text) => Ok(text),
+        Err(TextError::NoMemory) => Err(NoMemory),
+        Err(TextError::Zero(_)) => unreachable!(),
+    }
+}
