@@ -1,0 +1,4 @@
+pub mod Lists
+pub mod Totals
+pub mod Journals
+pub mod Gates

@@ -1,0 +1,46 @@
+-- The acts that store an image word, and their replay over words.
+use Rattle.std.specs.Prelude.{◌≡◌, ℕ, List, [], ◌∷◌, Option, Some, None, IsSome, slice_index, slice_set}
+use Rattle.std.specs.List.{filter_map}
+use Rattle.region_core.specs.declared.act.Act.{Act}
+use Rattle.region_core.specs.declared.act.Act.TheVariants.{Load, Swap, Add, Enter, Leave, Take, Begin, Put, End, Free}
+use Rattle.region_core.specs.declared.act.Entry.{Entry}
+use Rattle.region_core.specs.declared.event.Event.{Event}
+use Rattle.region_core.specs.declared.event.Event.TheVariants.{Begin as Begun, Put as Stored, End as Ended, Swap as Swapped, Add as Added}
+use Rattle.region_core.specs.State.{plus}
+
+-- the event of an act of pass k, if it is one
+abbrev pub event_by : ℕ → Act → Option Event
+event_by k (Begin n) = Some (Begun n)
+event_by k (Put w v) = Some (Stored w v)
+event_by k (End n) = Some (Ended n)
+event_by k (Swap w v) = Some (Swapped k w v)
+event_by k (Add w d) = Some (Added k w d)
+event_by k (Load w) = None
+event_by k Enter = None
+event_by k Leave = None
+event_by k Take = None
+event_by k Free = None
+
+abbrev pub event_of : Entry → Option Event
+event_of e = event_by e.by e.act
+
+-- the entry stores an image word
+abbrev pub IsEvent : Entry → Type 0
+IsEvent e = IsSome (event_of e)
+
+-- the events of these entries, in order
+abbrev pub events_of : List Entry → List Event
+events_of log = filter_map event_of log
+
+-- the words after one event
+abbrev pub applied : List ℕ → Event → List ℕ
+applied words (Begun n) = slice_set words 1 n
+applied words (Stored w v) = slice_set words w v
+applied words (Ended n) = slice_set words 2 n
+applied words (Swapped k w v) = slice_set words w v
+applied words (Added k w d) = slice_set words w (plus (slice_index words w) d)
+
+-- the words after these events
+abbrev pub replayed : List ℕ → List Event → List ℕ
+replayed words [] = words
+replayed words (e ∷ es) = replayed (applied words e) es

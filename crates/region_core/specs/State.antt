@@ -1,0 +1,108 @@
+-- The state of a region, and the ten acts: where each is allowed, and what it does.
+use Rattle.std.specs.Prelude.{◌≡◌, ◌≢◌, ℕ, ◌+◌, ◌-◌, ◌*◌, ◌%◌, ◌^◌, ◌<◌, ◌==◌, ◌⊎◌, Bool, true, false, List, [], ◌∷◌, ◌++◌, length, nat_lt, replicate, slice_index, slice_set}
+use mathlib.Core.Option.{some}
+use lib.ListN.{get_elem?}
+use Rattle.region_core.specs.declared.mode.Mode.{Mode}
+use Rattle.region_core.specs.declared.mode.Mode.TheVariants.{Idle, Attached, Bounced, Changing}
+use Rattle.region_core.specs.declared.act.Act.{Act}
+use Rattle.region_core.specs.declared.act.Act.TheVariants.{Load, Swap, Add, Enter, Leave, Take, Begin, Put, End, Free}
+use Rattle.region_core.specs.Shape.{Shaping, IsWord}
+
+-- the image words up to the capacity, the gate, and a mode for each pass number
+pub record State : Type 0 where
+  pub words : List ℕ
+  pub gate : ℕ
+  pub modes : List Mode
+
+abbrev pub word : State → ℕ → ℕ
+word s w = slice_index s.words w
+
+-- the first generation, which a change raises before its other stores
+abbrev pub g1 : State → ℕ
+g1 s = word s 1
+
+-- the second generation, which it raises after them
+abbrev pub g2 : State → ℕ
+g2 s = word s 2
+
+-- the two generations agree
+abbrev pub IsStable : State → Type 0
+IsStable s = g1 s ≡ g2 s
+
+-- pass k is there, and in this mode
+abbrev pub IsIn : Mode → State → ℕ → Type 0
+IsIn m s k = get_elem? s.modes k ≡ some m
+
+-- a number that is added to a word, modulo 2^64
+abbrev pub plus : ℕ → ℕ → ℕ
+plus n d = (n + d) % 2 ^ 64
+
+-- an image, and zeros behind it up to the capacity
+abbrev pub padded : List ℕ → ℕ → List ℕ
+padded image capacity = image ++ replicate (capacity - length image) 0
+
+-- the state at a region's making: these words, nobody at the gate, and each pass idle
+abbrev pub opening : List ℕ → ℕ → State
+opening words passes = record { words = words; gate = 0; modes = replicate passes Idle }
+
+abbrev pub stored : State → ℕ → ℕ → State
+stored s w v = record { words = slice_set s.words w v; gate = s.gate; modes = s.modes }
+
+-- the gate has moved to this number, and pass k to this mode
+abbrev pub moved : State → ℕ → ℕ → Mode → State
+moved s gate k m = record { words = s.words; gate = gate; modes = slice_set s.modes k m }
+
+-- who comes while the gate is below 2^63 is inside
+abbrev pub entered : Bool → Mode
+entered true = Attached
+entered false = Bounced
+
+-- the gate is taken where it was 0
+abbrev pub taken : State → ℕ → Bool → State
+taken s k true = moved s (2 ^ 63) k Changing
+taken s k false = s
+
+-- what an act of pass k does
+abbrev pub after : State → ℕ → Act → State
+after s k (Load w) = s
+after s k (Swap w v) = stored s w v
+after s k (Add w d) = stored s w (plus (word s w) d)
+after s k Enter = moved s (s.gate + 1) k (entered (nat_lt s.gate (2 ^ 63)))
+after s k Leave = moved s (s.gate - 1) k Idle
+after s k Take = taken s k (s.gate == 0)
+after s k (Begin n) = stored s 1 n
+after s k (Put w v) = stored s w v
+after s k (End n) = stored s 2 n
+after s k Free = moved s (s.gate - 2 ^ 63) k Idle
+
+-- where an act of pass k is allowed, as far as modes, generations and the capacity tell
+abbrev pub IsOpen : State → ℕ → Act → Type 0
+IsOpen s k (Load w) = (k < length s.modes) × (w < length s.words)
+IsOpen s k (Swap w v) = IsIn Attached s k × (w < length s.words) × IsWord v
+IsOpen s k (Add w d) = IsIn Attached s k × (w < length s.words) × IsWord d
+IsOpen s k Enter = IsIn Idle s k
+IsOpen s k Leave = IsIn Attached s k ⊎ IsIn Bounced s k
+IsOpen s k Take = IsIn Idle s k
+IsOpen s k (Begin n) = IsIn Changing s k × IsStable s × (g1 s < n) × IsWord n
+IsOpen s k (Put w v) = IsIn Changing s k × (g1 s ≢ g2 s) × (w ≢ 1) × (w ≢ 2) × (w < length s.words) × IsWord v
+IsOpen s k (End n) = IsIn Changing s k × (g1 s ≡ n) × (g2 s ≢ n)
+IsOpen s k Free = IsIn Changing s k × IsStable s
+
+module _ (S : Shaping) where
+  -- what the form of the words asks besides: a value that the word takes, a number word for an add, and an image where a change ends
+  abbrev pub Suits : State → Act → Type 0
+  Suits s (Swap w v) = S.Takes (S.form s.words) w v
+  Suits s (Add w d) = (v : ℕ) → IsWord v → S.Takes (S.form s.words) w v
+  Suits s (End n) = S.IsImage (slice_set s.words 2 n)
+  Suits s (Load w) = Unit {0}
+  Suits s Enter = Unit {0}
+  Suits s Leave = Unit {0}
+  Suits s Take = Unit {0}
+  Suits s (Begin n) = Unit {0}
+  Suits s (Put w v) = Unit {0}
+  Suits s Free = Unit {0}
+
+  -- the act of pass k is allowed in this state
+  pub record IsAllowed (s : State) (k : ℕ) (act : Act) : Type 0 where
+    pub ready : IsOpen s k act
+    pub suits : Suits s act

@@ -1,0 +1,15 @@
+//! The journal of an MMV region, and its laws. A region is a table of words that threads store into, read and re-lay;
+//! what may happen to it is a list of entries, each one atomic step of one pass. This crate says which lists are legal and
+//! what follows from it: what the gate counts, and how the two generation numbers of mmv(5) tell a reader that it saw one layout.
+#![tactic(auto)]
+
+mod act;
+mod event;
+mod laws;
+mod mode;
+mod shape;
+
+pub use act::{Act, Entry};
+pub use event::Event;
+pub use mode::Mode;
+pub use shape::Shape;
