@@ -2,3 +2,5 @@ pub mod Lists
 pub mod Totals
 pub mod Journals
 pub mod Gates
+pub mod Sound
+pub mod Stretch

@@ -1,5 +1,5 @@
 -- The state of a region, and the ten acts: where each is allowed, and what it does.
-use Rattle.std.specs.Prelude.{◌≡◌, ◌≢◌, ℕ, ◌+◌, ◌-◌, ◌*◌, ◌%◌, ◌^◌, ◌<◌, ◌==◌, ◌⊎◌, Bool, true, false, List, [], ◌∷◌, ◌++◌, length, nat_lt, replicate, slice_index, slice_set}
+use Rattle.std.specs.Prelude.{◌≡◌, ◌≢◌, ℕ, ◌+◌, ◌-◌, ◌*◌, ◌%◌, ◌^◌, ◌<◌, ◌==◌, ◌⊎◌, Bool, true, false, List, [], ◌∷◌, ◌++◌, length, nat_lt, if◌then◌else◌, replicate, slice_index, slice_set}
 use mathlib.Core.Option.{some}
 use lib.ListN.{get_elem?}
 use Rattle.region_core.specs.declared.mode.Mode.{Mode}
@@ -59,8 +59,7 @@ entered false = Bounced
 
 -- the gate is taken where it was 0
 abbrev pub taken : State → ℕ → Bool → State
-taken s k true = moved s (2 ^ 63) k Changing
-taken s k false = s
+taken s k free = record { words = s.words; gate = if free then 2 ^ 63 else s.gate; modes = if free then slice_set s.modes k Changing else s.modes }
 
 -- what an act of pass k does
 abbrev pub after : State → ℕ → Act → State
