@@ -4,3 +4,5 @@ pub mod Journals
 pub mod Gates
 pub mod Sound
 pub mod Stretch
+pub mod Runs
+pub mod Positions
