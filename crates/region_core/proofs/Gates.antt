@@ -29,7 +29,7 @@ counts_after ms k m n e = record {
   inside_has = le_total inside ms k m e;
   bounced_has = le_total bounced ms k m e;
   changing_has = le_total changing ms k m e;
-  length_is = length-set ms k n
+  length_is = length-set ms k n;
 }
 
 -- who enters below 2^63 is inside, and nobody is changing then
@@ -45,6 +45,7 @@ leaves gate ms k g = ⊎_elim from_inside from_bounced
     from_inside : get_elem? ms k ≡ some Attached → IsGated (gate - 1) (set ms k Idle)
     from_inside e = let c = counts_after ms k Attached Idle e in
         record { few = omega arith; counts = omega arith; single = omega arith; apart = ⊎_elim (λ (z : total changing ms ≡ 0). inl (omega arith)) (λ (z : total inside ms ≡ 0). inr (omega arith)) g.apart }
+
     from_bounced : get_elem? ms k ≡ some Bounced → IsGated (gate - 1) (set ms k Idle)
     from_bounced e = let c = counts_after ms k Bounced Idle e in
         record { few = omega arith; counts = omega arith; single = omega arith; apart = ⊎_elim (λ (z : total changing ms ≡ 0). inl (omega arith)) (λ (z : total inside ms ≡ 0). inr (omega arith)) g.apart }

@@ -6,3 +6,4 @@ pub mod Sound
 pub mod Stretch
 pub mod Runs
 pub mod Positions
+pub mod Replays

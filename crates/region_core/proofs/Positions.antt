@@ -2,7 +2,7 @@
 use Rattle.std.proofs.Common.{◌≡◌, ◌≢◌, ℕ, zero, suc, ◌+◌, ◌<◌, ◌≤◌, ◌⊎◌, List, [], ◌∷◌, ◌++◌, length, get_or, set, take, drop, length-set, slice_index, slice_set, get_or-set_same, get_or-set_other, ext_get_or, take-append-drop, sym, refl, ap, ◌∙◌, subst, inl, inr, ⊎_elim, arith}
 use lib.Seq.{set-get_or}
 use mathlib.Core.Logic.{dite}
-use native.Mathlib.Decide.{ℕ_discrete}
+use native.Mathlib.Decide.{ℕ_discrete, dec_le}
 use mathlib.Core.Option.{some}
 use lib.ListN.{get_elem?}
 use Rattle.region_core.specs.declared.act.Entry.{Entry}
@@ -35,8 +35,8 @@ patched_here words found (suc n) i h b =
     let wide = length-patched words found n in
     let before : i ≢ n → slice_index (patched words found n) i ≡ slice_index found i = λ (ne : i ≢ n). patched_here words found n i (omega arith) b in
     dite (ℕ_discrete i n)
-      (λ (e : i ≡ n). subst (λ (k : ℕ). slice_index (set (patched words found n) n (slice_index found n)) k ≡ slice_index found k) (sym e) (get_or-set_same (patched words found n) n (slice_index found n) 0 (omega arith)))
-      (λ (ne : i ≢ n). get_or-set_other (patched words found n) n i (slice_index found n) 0 ne ∙ before ne)
+    (λ (e : i ≡ n). subst (λ (k : ℕ). slice_index (set (patched words found n) n (slice_index found n)) k ≡ slice_index found k) (sym e) (get_or-set_same (patched words found n) n (slice_index found n) 0 (omega arith)))
+    (λ (ne : i ≢ n). get_or-set_other (patched words found n) n i (slice_index found n) 0 ne ∙ before ne)
 
 module _ (S : Shaping) where
   -- each word of the second list is the first one's, or an allowed value
@@ -49,13 +49,13 @@ module _ (S : Shaping) where
       let front : List ℕ = patched words found n in
       let like : IsLike S words front = patched_like laws words found n image (omega arith) patch in
       ⊎_elim
-        (λ (e : slice_index found n ≡ slice_index words n).
-          let same : set front n (slice_index found n) ≡ front = ap (λ (v : ℕ). set front n v) (e ∙ sym (patched_past words found n n (omega arith))) ∙ set-get_or front n 0 in
-          subst (λ (xs : List ℕ). IsLike S words xs) (sym same) like)
-        (λ (d : IsWord (slice_index found n) × S.Takes (S.form words) n (slice_index found n)).
-          let next : IsLike S front (set front n (slice_index found n)) = laws.value front n (slice_index found n) like.image d.0 (subst (λ (f : S.Form). S.Takes f n (slice_index found n)) (sym like.form) d.1) in
-          record { image = next.image; form = next.form ∙ like.form })
-        (patch n (omega arith))
+      (λ (e : slice_index found n ≡ slice_index words n).
+      let same : set front n (slice_index found n) ≡ front = ap (λ (v : ℕ). set front n v) (e ∙ sym (patched_past words found n n (omega arith))) ∙ set-get_or front n 0 in
+      subst (λ (xs : List ℕ). IsLike S words xs) (sym same) like)
+      (λ (d : IsWord (slice_index found n) × S.Takes (S.form words) n (slice_index found n)).
+      let next : IsLike S front (set front n (slice_index found n)) = laws.value front n (slice_index found n) like.image d.0 (subst (λ (f : S.Form). S.Takes f n (slice_index found n)) (sym like.form) d.1) in
+      record { image = next.image; form = next.form ∙ like.form })
+      (patch n (omega arith))
 
   -- an image whose value words are replaced by allowed values is an image of the same form
   pub patch_like : IsShape S → (words found : List ℕ) → S.IsImage words → length found ≡ length words → IsPatch words found → IsLike S words found
@@ -97,7 +97,7 @@ module _ (S : Shaping) (laws : IsShape S) (words : List ℕ) (passes : ℕ) (log
   between p q h = let t = take_further p q log h in record {
     entries = t.0;
     legal = legal-back S start (take p log) t.0 (subst (λ (es : List Entry). IsLegal S start es) t.1 (legal_to q));
-    is = ap (λ (es : List Entry). state start es) t.1 ∙ state-append start (take p log) t.0
+    is = ap (λ (es : List Entry). state start es) t.1 ∙ state-append start (take p log) t.0;
   }
 
   -- neither generation falls between two positions
@@ -132,12 +132,23 @@ module _ (S : Shaping) (laws : IsShape S) (words : List ℕ) (passes : ℕ) (log
 
   -- words found in such a stretch, each at a moment of its own, are an image of its form
   pub mixed_at : (p q : ℕ) (found : List ℕ) → p ≤ q → g2 (at p) ≡ g1 (at q) → length found ≡ length words
-    → ((w : ℕ) → w < length words → (r : ℕ) × (p ≤ r) × (r ≤ q) × (slice_index found w ≡ word (at r) w)) → IsLike S (at p).words found
+      → ((w : ℕ) → w < length words → (r : ℕ) × (p ≤ r) × (r ≤ q) × (slice_index found w ≡ word (at r) w)) → IsLike S (at p).words found
   mixed_at p q found h same wide each =
       let still = still_at p p q (omega arith) h same in
       let long : length (at p).words ≡ length words = wide_run start (take p log) in
       patch_like S laws (at p).words found still.image (wide ∙ sym long)
-        (λ w below.
-          let place = each w (omega arith) in
-          let here = still_at p place.0 q place.1 place.2 same in
-          subst (λ (v : ℕ). (v ≡ slice_index (at p).words w) ⊎ (IsWord v × S.Takes (S.form (at p).words) w v)) (sym place.3) (here.each w))
+      (λ w below.
+      let place = each w (omega arith) in
+      let here = still_at p place.0 q place.1 place.2 same in
+      subst (λ (v : ℕ). (v ≡ slice_index (at p).words w) ⊎ (IsWord v × S.Takes (S.form (at p).words) w v)) (sym place.3) (here.each w))
+
+  one_form_ahead : (p q generation : ℕ) (form other : S.Form) → p ≤ q → HasLayout S (at p) generation form → HasLayout S (at q) generation other → form ≡ other
+  one_form_ahead p q generation form other h first second =
+      let still = still_at p q q h (omega arith) (first.second ∙ sym second.first) in
+      sym first.form_is ∙ sym still.form_is ∙ second.form_is
+
+  -- two states with one generation twice have one form
+  pub one_form : (p q generation : ℕ) (form other : S.Form) → HasLayout S (at p) generation form → HasLayout S (at q) generation other → form ≡ other
+  one_form p q generation form other first second = dite (dec_le p q)
+    (λ (h : p ≤ q). one_form_ahead p q generation form other h first second)
+    (λ (h : ¬ (p ≤ q)). sym (one_form_ahead q p generation other form (omega arith) second first))

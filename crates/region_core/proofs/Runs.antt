@@ -42,6 +42,13 @@ one_changes gate ms j k g d e = dite (ℕ_discrete j k) (λ (same : j ≡ k). sa
 pub none_inside : (gate : ℕ) (ms : List Mode) (j k : ℕ) → IsGated gate ms → get_elem? ms j ≡ some Attached → get_elem? ms k ≡ some Changing → ⊥
 none_inside gate ms j k g d e = let none = inside_shut gate ms j g d in let one = changing_one ms k e in omega arith
 
+-- while a pass is changing, each other one is idle or bounced
+pub idle_or_bounced : (gate : ℕ) (ms : List Mode) (j k : ℕ) (m : Mode) → IsGated gate ms → get_elem? ms k ≡ some Changing → j ≢ k → get_elem? ms j ≡ some m → (m ≡ Idle) ⊎ (m ≡ Bounced)
+idle_or_bounced gate ms j k Idle g e n d = inl refl
+idle_or_bounced gate ms j k Attached g e n d = absurd (none_inside gate ms j k g d e)
+idle_or_bounced gate ms j k Bounced g e n d = inr refl
+idle_or_bounced gate ms j k Changing g e n d = absurd (n (one_changes gate ms j k g d e))
+
 -- a pass that has no entry of its own at the head of a list has none there
 own_none : (b : Bool) (e : Entry) (es : List Entry) → own_then b e es ≡ [] → (b ≡ false) × (es ≡ [])
 own_none true e es h = absurd (cc)
@@ -120,7 +127,7 @@ module _ (S : Shaping) where
   inside_run laws s k (x ∷ xs) sound l o e =
       let t : State = after s x.by x.act in
       still_trans S s.words t.words (state t xs).words (quiet_act S laws s x.by x.act sound l.0 (inside_shut s.gate s.modes k sound.gated e))
-        (inside_run laws t k xs (sound_after S laws s x.by x.act sound l.0) l.1 (others_rest k x xs o) (mode_after s x.by k x.act (other_first k x xs o) ∙ e))
+      (inside_run laws t k xs (sound_after S laws s x.by x.act sound l.0) l.1 (others_rest k x xs o) (mode_after s x.by k x.act (other_first k x xs o) ∙ e))
 
   -- an act of another pass while a pass is changing stores no word
   pub words_after : (s : State) (j k : ℕ) (act : Act) → IsSound S s → IsAllowed S s j act → k ≢ j → IsIn Changing s k → (after s j act).words ≡ s.words
@@ -141,7 +148,7 @@ module _ (S : Shaping) where
   changing_run laws s k (x ∷ xs) sound l o e =
       let t : State = after s x.by x.act in
       changing_run laws t k xs (sound_after S laws s x.by x.act sound l.0) l.1 (others_rest k x xs o) (mode_after s x.by k x.act (other_first k x xs o) ∙ e)
-        ∙ words_after s x.by k x.act sound l.0 (other_first k x xs o) e
+      ∙ words_after s x.by k x.act sound l.0 (other_first k x xs o) e
 
   -- while a pass is changing, an event is its own
   pub alone_changes : (s : State) (j k : ℕ) (act : Act) → IsSound S s → IsAllowed S s j act → IsIn Changing s k → IsSome (event_by j act) → j ≡ k

@@ -49,12 +49,12 @@ module _ (S : Shaping) where
     second = q.second ∙ p.second;
     length_is = q.length_is ∙ p.length_is;
     each = λ w. ⊎_elim
-      (λ (e : slice_index c w ≡ slice_index b w). ⊎_elim
+        (λ (e : slice_index c w ≡ slice_index b w). ⊎_elim
         (λ (d : slice_index b w ≡ slice_index a w). inl (e ∙ d))
         (λ (d : IsWord (slice_index b w) × S.Takes (S.form a) w (slice_index b w)). inr (subst (λ (v : ℕ). IsWord v × S.Takes (S.form a) w v) (sym e) d))
         (p.each w))
-      (λ (d : IsWord (slice_index c w) × S.Takes (S.form b) w (slice_index c w)). inr (d.0, subst (λ (f : S.Form). S.Takes f w (slice_index c w)) p.form_is d.1))
-      (q.each w)
+        (λ (d : IsWord (slice_index c w) × S.Takes (S.form b) w (slice_index c w)). inr (d.0, subst (λ (f : S.Form). S.Takes f w (slice_index c w)) p.form_is d.1))
+        (q.each w);
   }
 
   -- an allowed value in a value word
@@ -66,9 +66,9 @@ module _ (S : Shaping) where
     second = get_or-set_other words w 2 v 0 (not_second S laws words w v image takes);
     length_is = length-set words w v;
     each = λ u. dite (ℕ_discrete u w)
-      (λ (e : u ≡ w). inr (subst (λ (x : ℕ). IsWord (slice_index (set words w v) x) × S.Takes (S.form words) x (slice_index (set words w v) x)) (sym e)
+        (λ (e : u ≡ w). inr (subst (λ (x : ℕ). IsWord (slice_index (set words w v) x) × S.Takes (S.form words) x (slice_index (set words w v) x)) (sym e)
         (subst (λ (y : ℕ). IsWord y × S.Takes (S.form words) w y) (sym (get_or-set_same words w v 0 below)) (fits, takes))))
-      (λ (n : u ≢ w). inl (get_or-set_other words w u v 0 n))
+        (λ (n : u ≢ w). inl (get_or-set_other words w u v 0 n));
   }
 
   -- an act where the generations agree, and the first one stays: the words are still

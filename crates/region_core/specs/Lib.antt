@@ -4,3 +4,4 @@ pub mod Gate
 pub mod Journal
 pub mod Events
 pub mod Readings
+pub mod Laws
