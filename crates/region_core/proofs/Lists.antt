@@ -1,5 +1,6 @@
 -- Lists read by `get_elem?`, and one list patched word by word by another.
 use Rattle.std.proofs.Common.{◌≡◌, ◌≢◌, ℕ, zero, suc, ◌+◌, ◌<◌, ◌≤◌, List, [], ◌∷◌, ◌++◌, length, get_or, set, take, drop, replicate, sym, refl, ap, ◌∙◌, inl, inr, ◌⊎◌, arith}
+use Rattle.std.specs.Prelude.{Some, slice_get}
 use mathlib.Core.Option.{some, some-injective, some-ne-none}
 use lib.ListN.{get_elem?}
 
@@ -65,3 +66,14 @@ module _ {A : Type 0} where
   take_next [] p a e = absurd (some-ne-none a (sym e))
   take_next (x ∷ xs) zero a e = λ k. some-injective x a e k ∷ []
   take_next (x ∷ xs) (suc p) a e = ap (λ (r : List A). x ∷ r) (take_next xs p a e)
+
+  -- the two words for an item at a place
+  pub at_get : (l : List A) (i : ℕ) (a : A) → slice_get l i ≡ Some a → get_elem? l i ≡ some a
+  at_get [] i a e = absurd (cc)
+  at_get (x ∷ xs) zero a e = let same : x ≡ a = cc in ap some same
+  at_get (x ∷ xs) (suc i) a e = at_get xs i a e
+
+  pub get_at : (l : List A) (i : ℕ) (a : A) → get_elem? l i ≡ some a → slice_get l i ≡ Some a
+  get_at [] i a e = absurd (some-ne-none a (sym e))
+  get_at (x ∷ xs) zero a e = ap (λ (y : A). Some y) (some-injective x a e)
+  get_at (x ∷ xs) (suc i) a e = get_at xs i a e

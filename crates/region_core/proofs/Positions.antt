@@ -150,5 +150,5 @@ module _ (S : Shaping) (laws : IsShape S) (words : List ℕ) (passes : ℕ) (log
   -- two states with one generation twice have one form
   pub one_form : (p q generation : ℕ) (form other : S.Form) → HasLayout S (at p) generation form → HasLayout S (at q) generation other → form ≡ other
   one_form p q generation form other first second = dite (dec_le p q)
-    (λ (h : p ≤ q). one_form_ahead p q generation form other h first second)
-    (λ (h : ¬ (p ≤ q)). sym (one_form_ahead q p generation other form (omega arith) second first))
+      (λ (h : p ≤ q). one_form_ahead p q generation form other h first second)
+      (λ (h : ¬ (p ≤ q)). sym (one_form_ahead q p generation other form (omega arith) second first))

@@ -8,6 +8,7 @@ mod event;
 mod laws;
 mod mode;
 mod shape;
+mod state;
 
 pub use act::{Act, Entry};
 pub use event::Event;
@@ -18,3 +19,4 @@ pub use laws::{
 };
 pub use mode::Mode;
 pub use shape::Shape;
+pub use state::{State, Stop};

@@ -9,5 +9,5 @@ returns g c words passes log from k p q found journal since order opens closes s
   opens = opens;
   closes = closes;
   each = each;
-  stretch = λ r after before. layout_at g.S.Shape.shaping g.S.Shape.laws words passes log journal p r q after before same
+  stretch = λ r after before. layout_at g.S.Shape.shaping g.S.Shape.laws words passes log journal p r q after before same;
 }
