@@ -7,3 +7,4 @@ pub mod Stretch
 pub mod Runs
 pub mod Positions
 pub mod Replays
+pub mod Running

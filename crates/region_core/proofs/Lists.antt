@@ -77,3 +77,9 @@ module _ {A : Type 0} where
   get_at [] i a e = absurd (some-ne-none a (sym e))
   get_at (x ∷ xs) zero a e = ap (λ (y : A). Some y) (some-injective x a e)
   get_at (x ∷ xs) (suc i) a e = get_at xs i a e
+
+  -- and the item there
+  pub at_or : (l : List A) (i : ℕ) (d : A) → i < length l → get_elem? l i ≡ some (get_or l i d)
+  at_or [] i d h = absurd (omega arith)
+  at_or (x ∷ xs) zero d h = refl
+  at_or (x ∷ xs) (suc i) d h = at_or xs i d (omega arith)

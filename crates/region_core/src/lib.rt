@@ -19,4 +19,4 @@ pub use laws::{
 };
 pub use mode::Mode;
 pub use shape::Shape;
-pub use state::{State, Stop};
+pub use state::{State, Stop, replay};

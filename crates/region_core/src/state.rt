@@ -1,6 +1,8 @@
 //! A region's state as data, and the replay of a journal over it.
 
 ghost use Rattle.std.specs.Prelude.{◌≡◌, ◌↔◌, ◌<◌, IsTrue, IfOk, MatchResult, length, slice_get};
+ghost use Rattle.region_core.specs.State.{opening as opening_of};
+ghost use Rattle.region_core.specs.Replay.{EndsIn, StopsFor};
 
 use crate::act::{Act, Entry};
 use crate::mode::Mode;
@@ -33,6 +35,35 @@ pub enum Stop {
     NoMemory,
     /// The entry at this place, counted from 0, is the first one that modes, generations or the capacity don't allow.
     NotOpen(usize),
+}
+
+impl From<AllocError> for Stop {
+    ghost use Rattle.region_core.specs.declared.state.Stop.TheVariants.{NoMemory};
+
+    ghost from_gives = { λ _ stop. stop ≡ NoMemory };
+
+    fn from(_error: AllocError) -> Stop {
+        Stop::NoMemory
+    }
+}
+
+/// Runs a journal over a new region of these words, up to the capacity, and so many passes. `Ok` is the state after the last
+/// entry. `Err(NotOpen(place))` names the first entry that modes, generations or the capacity don't allow, and comes exactly
+/// where there is one; no layout makes such a journal legal.
+pub fn replay(alloc: Global, words: &[u64], passes: u32, log: &[Entry]) -> Result<State, Stop>
+    ensures { MatchResult
+        result
+        (EndsIn (opening_of words.now passes) log.now)
+        (StopsFor (opening_of words.now passes) log.now) }
+{
+    let mut state = State::opening(alloc, words, passes)?;
+    for (place, entry) in log.iter().enumerate() {
+        if !state.is_open(*entry) {
+            return Err(Stop::NotOpen(place));
+        }
+        state.step(*entry);
+    }
+    Ok(state)
 }
 
 /// The gate of a region where a pass is changing and nobody was bounced, 2^63.
