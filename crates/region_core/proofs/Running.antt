@@ -19,23 +19,14 @@ runnable-snoc : (s : State) (es : List Entry) (e : Entry) → IsRunnable s es �
 runnable-snoc s [] e r o = (o, tt)
 runnable-snoc s (x ∷ xs) e r o = (r.0, runnable-snoc (after s x.by x.act) xs e r.1 o)
 
-pub ran_none : (s : State) (log : List Entry) → Ran s log 0 s
-ran_none s log = record { is = refl; runs = tt }
-
 -- one more entry, which is open
 pub ran_more : (s : State) (log : List Entry) (place : ℕ) (t : State) (e : Entry) → get_elem? log place ≡ some e → Ran s log place t → IsOpen t e.by e.act → Ran s log (suc place) (after t e.by e.act)
 ran_more s log place t e there ran o =
     let next : take (suc place) log ≡ take place log ++ e ∷ [] = take_next log place e there in
     record {
       is = ap (λ (u : State). after u e.by e.act) ran.is ∙ sym (state-snoc s (take place log) e) ∙ ap (λ (es : List Entry). state s es) (sym next);
-      runs = subst (λ (es : List Entry). IsRunnable s es) (sym next) (runnable-snoc s (take place log) e ran.runs (subst (λ (u : State). IsOpen u e.by e.act) ran.is o))
+      runs = subst (λ (es : List Entry). IsRunnable s es) (sym next) (runnable-snoc s (take place log) e ran.runs (subst (λ (u : State). IsOpen u e.by e.act) ran.is o));
     }
-
--- all entries
-pub ran_all : (s : State) (log : List Entry) (place : ℕ) (t : State) → length log ≤ place → Ran s log place t → EndsIn s log t
-ran_all s log place t h ran =
-    let whole : take place log ≡ log = take_all {A = Entry} place log h in
-    record { runs = subst (λ (es : List Entry). IsRunnable s es) whole ran.runs; is = ran.is ∙ ap (λ (es : List Entry). state s es) whole }
 
 -- the entry that stopped a replay
 pub ran_until : (s : State) (log : List Entry) (place : ℕ) (t : State) (e : Entry) → get_elem? log place ≡ some e → Ran s log place t → (IsOpen t e.by e.act → ⊥) → IsFirstShut s log place
@@ -47,3 +38,8 @@ ran_more_at s log place t d h ran o = rw add-one (ran_more s log place t (get_or
 
 pub ran_until_at : (s : State) (log : List Entry) (place : ℕ) (t : State) (d : Entry) (b : Bool) → place < length log → Ran s log place t → (IsOpen t (get_or log place d).by (get_or log place d).act → IsTrue b) → b ≡ false → IsFirstShut s log place
 ran_until_at s log place t d b h ran o no_way = ran_until s log place t (get_or log place d) (at_or log place d h) ran (λ p. true≢false (sym (o p) ∙ no_way))
+
+-- a legal journal's entries are all open
+pub legal_runs : (S : Shaping) (s : State) (es : List Entry) → IsLegal S s es → IsRunnable s es
+legal_runs S s [] l = tt
+legal_runs S s (e ∷ es) l = (l.0.ready, legal_runs S (after s e.by e.act) es l.1)

@@ -11,6 +11,7 @@ use Rattle.region_core.specs.State.{State, word, g1, g2, opening, padded, IsIn}
 use Rattle.region_core.specs.Journal.{state_at, IsJournal}
 use Rattle.region_core.specs.Gate.{IsGated}
 use Rattle.region_core.specs.Events.{IsEvent, events_of, replayed}
+use Rattle.region_core.specs.Replay.{IsRunnable}
 use Rattle.region_core.specs.Readings.{LoadsAt, IsFoundBetween, HasLayout, Reading, IsShownBetween}
 
 -- the state of a region of these words and passes after the first p entries
@@ -76,6 +77,10 @@ module _ (S : Shaping) where
   -- an image with zeros behind it is an image of the same form
   abbrev pub PaddingKeepsTheForm : Type 0
   PaddingKeepsTheForm = (image : List ℕ) (capacity : ℕ) → S.IsImage image → length image ≤ capacity → capacity ≤ 65536 → IsLike S image (padded image capacity)
+
+  -- a legal journal can be replayed to its end
+  abbrev pub LegalRuns : Type 0
+  LegalRuns = (words : List ℕ) (passes : ℕ) (log : List Entry) → IsJournal S words passes log → IsRunnable (opening words passes) log
 
 -- the words of a state are the replay of the events before it over the opening words
 abbrev pub WordsAreReplayed : Type 0

@@ -6,3 +6,5 @@ pub mod Events
 pub mod Replay
 pub mod Readings
 pub mod Laws
+pub mod Slate
+pub mod SlateJournals

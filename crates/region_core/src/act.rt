@@ -1,3 +1,5 @@
+use crate::event::Event;
+
 /// One atomic step of a pass. A word is named by its index in the image, and stays below the region's capacity.
 #[derive(Clone, Copy, Debug, PartialEq, Eq)]
 pub enum Act {
@@ -28,4 +30,23 @@ pub enum Act {
 pub struct Entry {
     pub by: u32,
     pub act: Act,
+}
+
+impl Entry {
+    ghost use Rattle.std.specs.Prelude.{◌≡◌};
+    ghost use Rattle.region_core.specs.Events.{event_of};
+
+    /// The event of this entry; `None` where its act stores no image word.
+    pub fn event(self) -> Option<Event>
+        ensures { result ≡ event_of self }
+    {
+        match self.act {
+            Act::Begin(generation) => Some(Event::Begin(generation)),
+            Act::Put(word, value) => Some(Event::Put(word, value)),
+            Act::End(generation) => Some(Event::End(generation)),
+            Act::Swap(word, value) => Some(Event::Swap(self.by, word, value)),
+            Act::Add(word, number) => Some(Event::Add(self.by, word, number)),
+            Act::Load(_) | Act::Enter | Act::Leave | Act::Take | Act::Free => None,
+        }
+    }
 }

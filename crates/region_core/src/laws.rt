@@ -1,6 +1,6 @@
 //! The laws of legal journals. Each is the contract of a function without parameters, which does nothing.
 
-ghost use Rattle.region_core.specs.Laws.{GenerationsRise, HasOneFormBetween, HasOneFormEach, WordsAreAnImage, GateCounts, OnePassChanges, ChangesAlone, NoChangeBegins, AgreementShows, PaddingKeepsTheForm, WordsAreReplayed};
+ghost use Rattle.region_core.specs.Laws.{GenerationsRise, HasOneFormBetween, HasOneFormEach, WordsAreAnImage, GateCounts, OnePassChanges, ChangesAlone, NoChangeBegins, AgreementShows, PaddingKeepsTheForm, LegalRuns, WordsAreReplayed};
 
 use crate::shape::Shape;
 
@@ -55,6 +55,11 @@ pub fn agreement_shows<S: Shape>()
 /// An image with zeros behind it, up to a capacity of at most 65,536 words, is an image of the same form.
 pub fn padding_keeps_the_form<S: Shape>()
     ensures { PaddingKeepsTheForm S.shaping }
+{}
+
+/// A legal journal can be replayed to its end. So one that `replay` stops at is legal under no layout.
+pub fn legal_runs<S: Shape>()
+    ensures { LegalRuns S.shaping }
 {}
 
 /// The words of a state are the replay of its events over the opening words.

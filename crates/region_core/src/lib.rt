@@ -8,12 +8,13 @@ mod event;
 mod laws;
 mod mode;
 mod shape;
+pub mod slate;
 mod state;
 
 pub use act::{Act, Entry};
 pub use event::Event;
 pub use laws::{
-    agreement_shows, changes_alone, gate_counts, generations_rise, no_change_begins,
+    agreement_shows, changes_alone, gate_counts, generations_rise, legal_runs, no_change_begins,
     one_form_between, one_form_each, one_pass_changes, padding_keeps_the_form, words_are_an_image,
     words_are_replayed,
 };

@@ -10,4 +10,4 @@ pub loop-place-preserved : goal.loop-place-preserved
 loop-place-preserved c =
     let open_ = c.is_open.ensures.0 c.if-not-is_open.false in
     subst (λ (t : State). Ran (opening c.args.words.now c.args.passes) c.args.log.now (c.loop-place.place + 1) t) (sym c.step.ensures)
-      (ran_more_at (opening c.args.words.now c.args.passes) c.args.log.now c.loop-place.place c.loop-place.state _ (search rules) c.loop-place.invariant open_)
+    (ran_more_at (opening c.args.words.now c.args.passes) c.args.log.now c.loop-place.place c.loop-place.state _ (search rules) c.loop-place.invariant open_)
