@@ -80,6 +80,10 @@ module _ (S : Shaping) (laws : IsShape S) (words : List ℕ) (passes : ℕ) (log
   pub sound_at : (p : ℕ) → IsSound S (at p)
   sound_at p = sound_run S laws start (take p log) (sound_opening S laws words passes journal.image journal.few) (legal_to p)
 
+  -- and so does the last one
+  pub sound_end : IsSound S (state start log)
+  sound_end = sound_run S laws start log (sound_opening S laws words passes journal.image journal.few) journal.legal
+
   -- the entry at a position is allowed in the state there
   pub allowed_at : (p : ℕ) (e : Entry) → get_elem? log p ≡ some e → IsAllowed S (at p) e.by e.act
   allowed_at p e there =

@@ -1,5 +1,5 @@
 -- What a pass may count on while only others act: its mode, and still words.
-use Rattle.std.proofs.Common.{◌≡◌, ◌≢◌, ℕ, suc, ◌+◌, ◌-◌, ◌*◌, ◌^◌, ◌<◌, ◌≤◌, ◌⊎◌, Bool, true, false, List, [], ◌∷◌, length, set, eqb, ltb, length-set, slice_index, slice_set, sym, refl, ap, ◌∙◌, subst, inl, inr, ⊎_elim, true≢false, arith}
+use Rattle.std.proofs.Common.{◌≡◌, ◌≢◌, ℕ, suc, ◌+◌, ◌-◌, ◌*◌, ◌^◌, ◌<◌, ◌≤◌, ◌⊎◌, Bool, true, false, List, [], ◌∷◌, length, set, eqb, ltb, length-set, slice_index, slice_set, sym, refl, ap, ◌∙◌, subst, inl, inr, ⊎_elim, ne_eqb, true≢false, arith}
 use borrow.Author.Tests.{eqb-false}
 use mathlib.Core.Option.{some, some-injective}
 use mathlib.Core.Logic.{dite}
@@ -166,3 +166,26 @@ module _ (S : Shaping) where
   -- while a pass is inside, no change begins
   pub no_begin : (s : State) (j k n : ℕ) → IsSound S s → IsAllowed S s j (Begin n) → IsIn Attached s k → ⊥
   no_begin s j k n sound a e = none_inside s.gate s.modes k j sound.gated e a.ready.0
+
+  passes_only : (s : State) (j : ℕ) (act : Act) → IsOpen s j act → j < length s.modes
+  passes_only s j (Load w) o = o.0
+  passes_only s j (Swap w v) o = at_below s.modes j Attached o.0
+  passes_only s j (Add w d) o = at_below s.modes j Attached o.0
+  passes_only s j Enter o = at_below s.modes j Idle o
+  passes_only s j Leave o = ⊎_elim (λ (e : IsIn Attached s j). at_below s.modes j Attached e) (λ (e : IsIn Bounced s j). at_below s.modes j Bounced e) o
+  passes_only s j Take o = at_below s.modes j Idle o
+  passes_only s j (Begin n) o = at_below s.modes j Changing o.0
+  passes_only s j (Put w v) o = at_below s.modes j Changing o.0
+  passes_only s j (End n) o = at_below s.modes j Changing o.0
+  passes_only s j Free o = at_below s.modes j Changing o.0
+
+  own_skip : (k : ℕ) (e : Entry) (es : List Entry) → e.by ≢ k → own k (e ∷ es) ≡ own k es
+  own_skip k e es n = ap (λ (b : Bool). own_then b e (own k es)) (ne_eqb e.by k n)
+
+  -- a number that is no pass's has no entry
+  pub none_past : (s : State) (k : ℕ) (es : List Entry) → IsLegal S s es → length s.modes ≤ k → own k es ≡ []
+  none_past s k [] l h = refl
+  none_past s k (e ∷ es) l h =
+      let below = passes_only s e.by e.act l.0.ready in
+      let same = count_after s e.by e.act in
+      own_skip k e es (λ (p : e.by ≡ k). omega arith) ∙ none_past (after s e.by e.act) k es l.1 (omega arith)

@@ -10,6 +10,8 @@ mod mode;
 mod shape;
 pub mod slate;
 mod state;
+#[cfg(test)]
+mod tests;
 
 pub use act::{Act, Entry};
 pub use event::Event;
