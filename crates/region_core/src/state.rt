@@ -1,6 +1,6 @@
 //! A region's state as data, and the replay of a journal over it.
 
-ghost use Rattle.std.specs.Prelude.{◌≡◌, ◌↔◌, ◌<◌, IsTrue, IfOk, MatchResult, length, slice_get};
+ghost use Rattle.std.specs.Prelude.{◌≡◌, ◌≢◌, ◌↔◌, ◌<◌, IsTrue, IfOk, MatchResult, length, slice_get};
 ghost use Rattle.region_core.specs.State.{opening as opening_of};
 ghost use Rattle.region_core.specs.Replay.{EndsIn, StopsFor};
 
@@ -183,8 +183,8 @@ impl State {
         (by as usize) < self.modes.len() && (at as usize) < self.words.len()
     }
 
-    fn may_swap(&self, by: u32, at: u32, value: u64) -> bool
-        ensures { IsTrue result ↔ IsOpen self.now by (Act.Swap at value) }
+    fn may_swap(&self, by: u32, at: u32) -> bool
+        ensures { IsTrue result ↔ (IsIn Mode.Attached self.now by × (at < length self.now.words)) }
     {
         self.is_in(by, Mode::Attached) && (at as usize) < self.words.len()
     }
@@ -201,8 +201,8 @@ impl State {
         self.is_in(by, Mode::Changing) && self.is_stable() && self.word(1) < generation
     }
 
-    fn may_put(&self, by: u32, at: u32, value: u64) -> bool
-        ensures { IsTrue result ↔ IsOpen self.now by (Act.Put at value) }
+    fn may_put(&self, by: u32, at: u32) -> bool
+        ensures { IsTrue result ↔ (IsIn Mode.Changing self.now by × (g1 self.now ≢ g2 self.now) × (at ≢ 1) × (at ≢ 2) × (at < length self.now.words)) }
     {
         self.is_in(by, Mode::Changing)
             && !self.is_stable()
@@ -231,13 +231,13 @@ impl State {
         let by = entry.by;
         match entry.act {
             Act::Load(at) => self.may_load(by, at),
-            Act::Swap(at, value) => self.may_swap(by, at, value),
-            Act::Add(at, number) => self.may_swap(by, at, number),
+            Act::Swap(at, value) => self.may_swap(by, at),
+            Act::Add(at, number) => self.may_swap(by, at),
             Act::Enter => self.is_in(by, Mode::Idle),
             Act::Leave => self.may_leave(by),
             Act::Take => self.is_in(by, Mode::Idle),
             Act::Begin(generation) => self.may_begin(by, generation),
-            Act::Put(at, value) => self.may_put(by, at, value),
+            Act::Put(at, value) => self.may_put(by, at),
             Act::End(generation) => self.may_end(by, generation),
             Act::Free => self.may_free(by),
         }

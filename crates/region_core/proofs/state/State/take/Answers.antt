@@ -17,4 +17,4 @@ index_mut-requires c = let below = at_below c.self.inside.modes.items c.args.by 
 pub invariant_of-self : goal.invariant_of-self
 invariant_of-self c =
     let s : State = record { words = c.self.inside.words.items; gate = c.self.inside.gate; modes = c.self.inside.modes.items } in
-    takes s c.args.by true (eq-eqb c.self.inside.gate 0 c.if-self-eq0.true) c.self.invariant (subst (λ (s : State). IsIn Idle s c.args.by) (sym c.self.view_is) c.requires)
+    takes s c.args.by true (eq-eqb c.self.inside.gate 0 (omega arith)) c.self.invariant (subst (λ (s : State). IsIn Idle s c.args.by) (sym c.self.view_is) c.requires)
