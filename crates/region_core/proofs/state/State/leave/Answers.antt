@@ -14,8 +14,10 @@ pub overflow_sub-self : goal.overflow_sub-self
 overflow_sub-self c =
     let s : State = record { words = c.self.inside.words.items; gate = c.self.inside.gate; modes = c.self.inside.modes.items } in
     let is : IsOpen s c.args.by Leave = subst (λ (t : State). IsOpen t c.args.by Leave) (sym c.self.view_is) c.requires in
-    ⊎_elim (λ (e : IsIn Attached s c.args.by). (gate_inside c.self.inside.gate c.self.inside.modes.items c.args.by c.self.invariant e).0)
-    (λ (e : IsIn Bounced s c.args.by). gate_bounced c.self.inside.gate c.self.inside.modes.items c.args.by c.self.invariant e) is
+    let counted : 1 ≤ c.self.inside.gate = ⊎_elim
+    (λ (e : IsIn Attached s c.args.by). (gate_inside c.self.inside.gate c.self.inside.modes.items c.args.by c.self.invariant e).0)
+    (λ (e : IsIn Bounced s c.args.by). gate_bounced c.self.inside.gate c.self.inside.modes.items c.args.by c.self.invariant e) is in
+    omega arith
 
 pub index_mut-requires : goal.index_mut-requires
 index_mut-requires c =
