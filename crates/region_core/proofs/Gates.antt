@@ -7,7 +7,7 @@ use Rattle.region_core.specs.declared.mode.Mode.{Mode}
 use Rattle.region_core.specs.declared.mode.Mode.TheVariants.{Idle, Attached, Bounced, Changing}
 use Rattle.region_core.specs.declared.act.Act.{Act}
 use Rattle.region_core.specs.declared.act.Act.TheVariants.{Load, Swap, Add, Enter, Leave, Take, Begin, Put, End, Free}
-use Rattle.region_core.specs.State.{State, after, entered, taken, opening, IsIn, IsOpen}
+use Rattle.region_core.specs.State.{State, after, entry_mode, after_take, opening, IsIn, IsOpen}
 use Rattle.region_core.specs.Gate.{total, inside, bounced, changing, IsGated}
 use Rattle.region_core.proofs.Totals.{total-set, le_total, total-copies}
 
@@ -33,7 +33,7 @@ counts_after ms k m n e = record {
 }
 
 -- who enters below 2^63 is inside, and nobody is changing then
-pub enters : (gate : ℕ) (ms : List Mode) (k : ℕ) (b : Bool) → ltb gate (2 ^ 63) ≡ b → IsGated gate ms → get_elem? ms k ≡ some Idle → IsGated (gate + 1) (set ms k (entered b))
+pub enters : (gate : ℕ) (ms : List Mode) (k : ℕ) (b : Bool) → ltb gate (2 ^ 63) ≡ b → IsGated gate ms → get_elem? ms k ≡ some Idle → IsGated (gate + 1) (set ms k (entry_mode b))
 enters gate ms k true lt g e = let c = counts_after ms k Idle Attached e in let small : gate < 2 ^ 63 = ltb-true gate (2 ^ 63) lt in
     record { few = omega arith; counts = omega arith; single = omega arith; apart = inl (omega arith) }
 enters gate ms k false lt g e = let c = counts_after ms k Idle Bounced e in
@@ -50,7 +50,7 @@ leaves gate ms k g = ⊎_elim from_inside from_bounced
     from_bounced e = let c = counts_after ms k Bounced Idle e in
         record { few = omega arith; counts = omega arith; single = omega arith; apart = ⊎_elim (λ (z : total changing ms ≡ 0). inl (omega arith)) (λ (z : total inside ms ≡ 0). inr (omega arith)) g.apart }
 
-pub takes : (s : State) (k : ℕ) (b : Bool) → eqb s.gate 0 ≡ b → IsGated s.gate s.modes → IsIn Idle s k → IsGated (taken s k b).gate (taken s k b).modes
+pub takes : (s : State) (k : ℕ) (b : Bool) → eqb s.gate 0 ≡ b → IsGated s.gate s.modes → IsIn Idle s k → IsGated (after_take s k b).gate (after_take s k b).modes
 takes s k true zero_gate g e = let c = counts_after s.modes k Idle Changing e in let none : s.gate ≡ 0 = eqb-true s.gate 0 zero_gate in
     record { few = omega arith; counts = omega arith; single = omega arith; apart = inr (omega arith) }
 takes s k false zero_gate g e = g

@@ -83,3 +83,8 @@ module _ {A : Type 0} where
   at_or [] i d h = absurd (omega arith)
   at_or (x ∷ xs) zero d h = refl
   at_or (x ∷ xs) (suc i) d h = at_or xs i d (omega arith)
+
+  pub get_or_at : (l : List A) (i : ℕ) (a : A) → get_elem? l i ≡ some a → get_or l i a ≡ a
+  get_or_at [] i a e = refl
+  get_or_at (x ∷ xs) zero a e = some-injective x a e
+  get_or_at (x ∷ xs) (suc i) a e = get_or_at xs i a e

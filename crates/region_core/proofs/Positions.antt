@@ -1,5 +1,5 @@
 -- The laws at positions of a journal.
-use Rattle.std.proofs.Common.{◌≡◌, ◌≢◌, ℕ, zero, suc, ◌+◌, ◌<◌, ◌≤◌, ◌⊎◌, List, [], ◌∷◌, ◌++◌, length, get_or, set, take, drop, length-set, slice_index, slice_set, get_or-set_same, get_or-set_other, ext_get_or, take-append-drop, sym, refl, ap, ◌∙◌, subst, inl, inr, ⊎_elim, arith}
+use Rattle.std.proofs.Common.{◌≡◌, ◌≢◌, ℕ, zero, suc, ◌+◌, ◌<◌, ◌≤◌, ◌⊎◌, List, [], ◌∷◌, ◌++◌, length, get_or, set, take, drop, length-set, slice_index, slice_set, slice_get, Some, All, get_or-set_same, get_or-set_other, ext_get_or, take-append-drop, sym, refl, ap, ◌∙◌, subst, inl, inr, ⊎_elim, arith}
 use lib.Seq.{set-get_or}
 use mathlib.Core.Logic.{dite}
 use native.Mathlib.Decide.{ℕ_discrete, dec_le}
@@ -9,8 +9,8 @@ use Rattle.region_core.specs.declared.act.Entry.{Entry}
 use Rattle.region_core.specs.Shape.{Shaping, IsShape, IsWord, IsLike}
 use Rattle.region_core.specs.State.{State, word, g1, g2, after, opening, IsAllowed}
 use Rattle.region_core.specs.Journal.{state, state_at, own, IsLegal, IsJournal}
-use Rattle.region_core.specs.Readings.{HasLayout}
-use Rattle.region_core.proofs.Lists.{take_further, take_next, drop_at}
+use Rattle.region_core.specs.Readings.{HasLayout, Reading, IsFoundBetween, IsShownBetween}
+use Rattle.region_core.proofs.Lists.{take_further, take_next, drop_at, at_get, at_below, get_or_at}
 use Rattle.region_core.proofs.Journals.{state-append, legal-front, legal-back}
 use Rattle.region_core.proofs.Sound.{IsSound, sound_run, sound_opening}
 use Rattle.region_core.proofs.Stretch.{Rises, IsStill, still_refl, rises_run, still_run}
@@ -64,6 +64,12 @@ module _ (S : Shaping) where
       let long = length-patched words found n in
       let same : patched words found n ≡ found = ext_get_or 0 (patched words found n) found (long ∙ sym wide) (λ i below. patched_here words found n i (omega arith) (omega arith)) in
       subst (λ (xs : List ℕ). IsLike S words xs) same (patched_like laws words found n image (omega arith) patch)
+
+-- what a reading found at a place of its list
+found_at : (S : Shaping) (start : State) (log : List Entry) (k p q : ℕ) (found : List (ℕ × ℕ)) (i : ℕ) (x : ℕ × ℕ) → All (IsFoundBetween S start log k p q) found → slice_get found i ≡ Some x → IsFoundBetween S start log k p q x
+found_at S start log k p q found i x all there =
+    let place : get_elem? found i ≡ some x = at_get found i x there in
+    subst (λ (y : ℕ × ℕ). IsFoundBetween S start log k p q y) (get_or_at found i x place) (all i x (at_below found i x place))
 
 module _ (S : Shaping) (laws : IsShape S) (words : List ℕ) (passes : ℕ) (log : List Entry) (journal : IsJournal S words passes log) where
   abbrev start : State
@@ -156,3 +162,16 @@ module _ (S : Shaping) (laws : IsShape S) (words : List ℕ) (passes : ℕ) (log
   one_form p q generation form other first second = dite (dec_le p q)
       (λ (h : p ≤ q). one_form_ahead p q generation form other h first second)
       (λ (h : ¬ (p ≤ q)). sym (one_form_ahead q p generation other form (omega arith) second first))
+
+  -- the words of a shown reading, if it loaded each, are an image of the form that it shows
+  pub shown_image : (from k p q : ℕ) (reading : Reading S) (found : List ℕ) → IsShownBetween S start log from k reading p q → length found ≡ length words
+      → ((w : ℕ) → w < length words → (i : ℕ) × (slice_get reading.found i ≡ Some (w, slice_index found w))) → S.IsImage found × (S.form found ≡ reading.form)
+  shown_image from k p q reading found shown wide each =
+      let first = shown.stretch p (omega arith) (omega (arith, shown.order)) in
+      let last = shown.stretch q (omega (arith, shown.order)) (omega arith) in
+      let like : IsLike S (at p).words found = mixed_at p q found (omega (arith, shown.order)) (first.second ∙ sym last.first) wide
+      (λ w below.
+      let place = each w below in
+      let load = found_at S start log k p q reading.found place.0 (w, slice_index found w) shown.each place.1 in
+      (load.0, omega (arith, load.1), omega (arith, load.2), load.4)) in
+      (like.image, like.form ∙ first.form_is)

@@ -12,7 +12,7 @@ use Rattle.region_core.specs.declared.act.Act.{Act}
 use Rattle.region_core.specs.declared.act.Act.TheVariants.{Load, Swap, Add, Enter, Leave, Take, Begin, Put, End, Free}
 use Rattle.region_core.specs.declared.act.Entry.{Entry}
 use Rattle.region_core.specs.Shape.{Shaping, IsShape}
-use Rattle.region_core.specs.State.{State, g1, g2, plus, word, after, taken, entered, IsIn, IsOpen, IsAllowed}
+use Rattle.region_core.specs.State.{State, g1, g2, plus, word, after, after_take, entry_mode, IsIn, IsOpen, IsAllowed}
 use Rattle.region_core.specs.Journal.{state, own, own_then, IsLegal}
 use Rattle.region_core.specs.Events.{event_by, event_of, IsEvent}
 use Rattle.region_core.specs.Gate.{total, inside, bounced, changing, IsGated}
@@ -60,7 +60,7 @@ other_first k e es h = let n = own_none (eqb e.by k) e (own k es) h in λ (same 
 pub others_rest : (k : ℕ) (e : Entry) (es : List Entry) → own k (e ∷ es) ≡ [] → own k es ≡ []
 others_rest k e es h = let n = own_none (eqb e.by k) e (own k es) h in n.1
 
-taken_mode : (s : State) (j k : ℕ) (b : Bool) → k ≢ j → get_elem? (taken s j b).modes k ≡ get_elem? s.modes k
+taken_mode : (s : State) (j k : ℕ) (b : Bool) → k ≢ j → get_elem? (after_take s j b).modes k ≡ get_elem? s.modes k
 taken_mode s j k true n = set_else s.modes j k Changing n
 taken_mode s j k false n = refl
 
@@ -69,7 +69,7 @@ pub mode_after : (s : State) (j k : ℕ) (act : Act) → k ≢ j → get_elem? (
 mode_after s j k (Load w) n = refl
 mode_after s j k (Swap w v) n = refl
 mode_after s j k (Add w d) n = refl
-mode_after s j k Enter n = set_else s.modes j k (entered (ltb s.gate (2 ^ 63))) n
+mode_after s j k Enter n = set_else s.modes j k (entry_mode (ltb s.gate (2 ^ 63))) n
 mode_after s j k Leave n = set_else s.modes j k Idle n
 mode_after s j k Take n = taken_mode s j k (eqb s.gate 0) n
 mode_after s j k (Begin m) n = refl
@@ -82,7 +82,7 @@ pub mode_run : (s : State) (k : ℕ) (m : Mode) (es : List Entry) → own k es �
 mode_run s k m [] o e = e
 mode_run s k m (x ∷ xs) o e = mode_run (after s x.by x.act) k m xs (others_rest k x xs o) (mode_after s x.by k x.act (other_first k x xs o) ∙ e)
 
-taken_count : (s : State) (j : ℕ) (b : Bool) → length (taken s j b).modes ≡ length s.modes
+taken_count : (s : State) (j : ℕ) (b : Bool) → length (after_take s j b).modes ≡ length s.modes
 taken_count s j true = length-set s.modes j Changing
 taken_count s j false = refl
 
@@ -90,7 +90,7 @@ count_after : (s : State) (j : ℕ) (act : Act) → length (after s j act).modes
 count_after s j (Load w) = refl
 count_after s j (Swap w v) = refl
 count_after s j (Add w d) = refl
-count_after s j Enter = length-set s.modes j (entered (ltb s.gate (2 ^ 63)))
+count_after s j Enter = length-set s.modes j (entry_mode (ltb s.gate (2 ^ 63)))
 count_after s j Leave = length-set s.modes j Idle
 count_after s j Take = taken_count s j (eqb s.gate 0)
 count_after s j (Begin m) = refl

@@ -8,7 +8,7 @@ use Rattle.region_core.specs.declared.act.Act.{Act}
 use Rattle.region_core.specs.declared.act.Act.TheVariants.{Load, Swap, Add, Enter, Leave, Take, Begin, Put, End, Free}
 use Rattle.region_core.specs.declared.act.Entry.{Entry}
 use Rattle.region_core.specs.Shape.{Shaping, IsShape, IsWord, IsLike}
-use Rattle.region_core.specs.State.{State, word, g1, g2, plus, after, entered, taken, stored, opening, IsIn, IsOpen, IsAllowed}
+use Rattle.region_core.specs.State.{State, word, g1, g2, plus, after, entry_mode, after_take, with_word, opening, IsIn, IsOpen, IsAllowed}
 use Rattle.region_core.specs.Journal.{state, IsLegal}
 use Rattle.region_core.specs.Gate.{total, inside, bounced, changing, IsGated}
 use Rattle.region_core.proofs.Totals.{total-set, le_total}
@@ -46,7 +46,7 @@ module _ (S : Shaping) where
   not_second laws words w v image takes e = (laws.fixed words v image).1 (subst (λ (u : ℕ). S.Takes (S.form words) u v) (sym e) takes)
 
   -- another value in a value word keeps the invariant
-  valued : IsShape S → (s : State) (w v : ℕ) → IsSound s → g1 s ≡ g2 s → IsWord v → S.Takes (S.form s.words) w v → IsSound (stored s w v)
+  valued : IsShape S → (s : State) (w v : ℕ) → IsSound s → g1 s ≡ g2 s → IsWord v → S.Takes (S.form s.words) w v → IsSound (with_word s w v)
   valued laws s w v sound stable fits takes =
       let image : S.IsImage s.words = sound.image stable in
       let first : slice_index (set s.words w v) 1 ≡ slice_index s.words 1 = get_or-set_other s.words w 1 v 0 (not_first laws s.words w v image takes) in
@@ -61,11 +61,11 @@ module _ (S : Shaping) where
   remoded : (s : State) (gate : ℕ) (modes : List Mode) → IsSound s → IsGated gate modes → (total changing modes ≡ 0 → g1 s ≡ g2 s) → IsSound (record { words = s.words; gate = gate; modes = modes })
   remoded s gate modes sound gated shut = record { gated = gated; wide = sound.wide; ordered = sound.ordered; image = sound.image; shut = shut }
 
-  takes_sound : (s : State) (k : ℕ) (b : Bool) → IsSound s → IsGated (taken s k b).gate (taken s k b).modes → IsIn Idle s k → IsSound (taken s k b)
+  takes_sound : (s : State) (k : ℕ) (b : Bool) → IsSound s → IsGated (after_take s k b).gate (after_take s k b).modes → IsIn Idle s k → IsSound (after_take s k b)
   takes_sound s k true sound gated e = remoded s (2 ^ 63) (set s.modes k Changing) sound gated (λ h. let c = total-set changing s.modes k Idle Changing e in absurd (omega arith))
   takes_sound s k false sound gated e = remoded s s.gate s.modes sound gated sound.shut
 
-  begun : (s : State) (k n : ℕ) → IsSound s → IsOpen s k (Begin n) → IsSound (stored s 1 n)
+  begun : (s : State) (k n : ℕ) → IsSound s → IsOpen s k (Begin n) → IsSound (with_word s 1 n)
   begun s k n sound o =
       let wide : 2 < length s.words = sound.wide in
       let first : slice_index (set s.words 1 n) 1 ≡ n = get_or-set_same s.words 1 n 0 (omega arith) in
@@ -76,7 +76,7 @@ module _ (S : Shaping) where
       let one : 1 ≤ total changing s.modes = changing_one s.modes k o.0 in
       record { gated = sound.gated; wide = omega arith; ordered = omega arith; image = λ e. absurd (omega arith); shut = λ e. absurd (omega arith) }
 
-  put : (s : State) (k w v : ℕ) → IsSound s → IsOpen s k (Put w v) → IsSound (stored s w v)
+  put : (s : State) (k w v : ℕ) → IsSound s → IsOpen s k (Put w v) → IsSound (with_word s w v)
   put s k w v sound o =
       let wide : 2 < length s.words = sound.wide in
       let first : slice_index (set s.words w v) 1 ≡ slice_index s.words 1 = get_or-set_other s.words w 1 v 0 (λ (e : 1 ≡ w). o.2 (sym e)) in
@@ -86,7 +86,7 @@ module _ (S : Shaping) where
       let one : 1 ≤ total changing s.modes = changing_one s.modes k o.0 in
       record { gated = sound.gated; wide = omega arith; ordered = omega arith; image = λ e. absurd (o.1 (sym first ∙ e ∙ second)); shut = λ e. absurd (omega arith) }
 
-  ended : (s : State) (k n : ℕ) → IsSound s → IsOpen s k (End n) → S.IsImage (set s.words 2 n) → IsSound (stored s 2 n)
+  ended : (s : State) (k n : ℕ) → IsSound s → IsOpen s k (End n) → S.IsImage (set s.words 2 n) → IsSound (with_word s 2 n)
   ended s k n sound o image =
       let wide : 2 < length s.words = sound.wide in
       let first : slice_index (set s.words 2 n) 1 ≡ slice_index s.words 1 = get_or-set_other s.words 2 1 n 0 (λ (e : 1 ≡ 2). omega arith) in
@@ -103,7 +103,7 @@ module _ (S : Shaping) where
   sound_act laws s k (Load w) sound a g = sound
   sound_act laws s k (Swap w v) sound a g = valued laws s w v sound (inside_stable s k sound a.ready.0) a.ready.2 a.suits
   sound_act laws s k (Add w d) sound a g = let fits = plus_word (word s w) d in valued laws s w (plus (word s w) d) sound (inside_stable s k sound a.ready.0) fits (a.suits (plus (word s w) d) fits)
-  sound_act laws s k Enter sound a g = remoded s (s.gate + 1) (set s.modes k (entered (ltb s.gate (2 ^ 63)))) sound g (λ h. sound.shut (none_before s.modes k Idle (entered (ltb s.gate (2 ^ 63))) a.ready refl h))
+  sound_act laws s k Enter sound a g = remoded s (s.gate + 1) (set s.modes k (entry_mode (ltb s.gate (2 ^ 63)))) sound g (λ h. sound.shut (none_before s.modes k Idle (entry_mode (ltb s.gate (2 ^ 63))) a.ready refl h))
   sound_act laws s k Leave sound a g = remoded s (s.gate - 1) (set s.modes k Idle) sound g
       (λ h. sound.shut (⊎_elim (λ (e : IsIn Attached s k). none_before s.modes k Attached Idle e refl h) (λ (e : IsIn Bounced s k). none_before s.modes k Bounced Idle e refl h) a.ready))
   sound_act laws s k Take sound a g = takes_sound s k (eqb s.gate 0) sound g a.ready

@@ -10,7 +10,7 @@ use Rattle.region_core.specs.declared.act.Act.{Act}
 use Rattle.region_core.specs.declared.act.Act.TheVariants.{Load, Swap, Add, Enter, Leave, Take, Begin, Put, End, Free}
 use Rattle.region_core.specs.declared.act.Entry.{Entry}
 use Rattle.region_core.specs.Shape.{Shaping, IsShape, IsWord, IsLike}
-use Rattle.region_core.specs.State.{State, word, g1, g2, plus, after, stored, IsIn, IsOpen, IsAllowed}
+use Rattle.region_core.specs.State.{State, word, g1, g2, plus, after, with_word, IsIn, IsOpen, IsAllowed}
 use Rattle.region_core.specs.Journal.{state, own, own_then, IsLegal}
 use Rattle.region_core.specs.Gate.{total, inside, changing, IsGated}
 use Rattle.region_core.proofs.Lists.{at_below, set_else}

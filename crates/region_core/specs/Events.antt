@@ -15,11 +15,7 @@ event_by k (Put w v) = Some (Stored w v)
 event_by k (End n) = Some (Ended n)
 event_by k (Swap w v) = Some (Swapped k w v)
 event_by k (Add w d) = Some (Added k w d)
-event_by k (Load w) = None
-event_by k Enter = None
-event_by k Leave = None
-event_by k Take = None
-event_by k Free = None
+event_by k _ = None
 
 abbrev pub event_of : Entry → Option Event
 event_of e = event_by e.by e.act
@@ -33,14 +29,14 @@ abbrev pub events_of : List Entry → List Event
 events_of log = filter_map event_of log
 
 -- the words after one event
-abbrev pub applied : List ℕ → Event → List ℕ
-applied words (Begun n) = slice_set words 1 n
-applied words (Stored w v) = slice_set words w v
-applied words (Ended n) = slice_set words 2 n
-applied words (Swapped k w v) = slice_set words w v
-applied words (Added k w d) = slice_set words w (plus (slice_index words w) d)
+abbrev pub after_event : List ℕ → Event → List ℕ
+after_event words (Begun n) = slice_set words 1 n
+after_event words (Stored w v) = slice_set words w v
+after_event words (Ended n) = slice_set words 2 n
+after_event words (Swapped k w v) = slice_set words w v
+after_event words (Added k w d) = slice_set words w (plus (slice_index words w) d)
 
 -- the words after these events
-abbrev pub replayed : List ℕ → List Event → List ℕ
-replayed words [] = words
-replayed words (e ∷ es) = replayed (applied words e) es
+abbrev pub after_events : List ℕ → List Event → List ℕ
+after_events words [] = words
+after_events words (e ∷ es) = after_events (after_event words e) es

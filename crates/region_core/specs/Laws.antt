@@ -1,5 +1,5 @@
 -- The laws of legal journals, each over every journal of a shape, and over all positions.
-use Rattle.std.specs.Prelude.{◌≡◌, ◌≢◌, ℕ, ◌<◌, ◌≤◌, ◌⊎◌, List, length, take, All, slice_index}
+use Rattle.std.specs.Prelude.{◌≡◌, ◌≢◌, ℕ, ◌<◌, ◌≤◌, ◌⊎◌, List, length, take, All, Some, slice_get, slice_index}
 use mathlib.Core.Option.{some}
 use lib.ListN.{get_elem?}
 use Rattle.region_core.specs.declared.mode.Mode.{Mode}
@@ -7,10 +7,10 @@ use Rattle.region_core.specs.declared.mode.Mode.TheVariants.{Idle, Attached, Bou
 use Rattle.region_core.specs.declared.act.Act.TheVariants.{Begin}
 use Rattle.region_core.specs.declared.act.Entry.{Entry}
 use Rattle.region_core.specs.Shape.{Shaping, IsLike}
-use Rattle.region_core.specs.State.{State, word, g1, g2, opening, padded, IsIn}
+use Rattle.region_core.specs.State.{State, word, g1, g2, opening, with_zeros, IsIn}
 use Rattle.region_core.specs.Journal.{state_at, IsJournal}
 use Rattle.region_core.specs.Gate.{IsGated}
-use Rattle.region_core.specs.Events.{IsEvent, events_of, replayed}
+use Rattle.region_core.specs.Events.{IsEvent, events_of, after_events}
 use Rattle.region_core.specs.Replay.{IsRunnable}
 use Rattle.region_core.specs.Readings.{LoadsAt, IsFoundBetween, HasLayout, Reading, IsShownBetween}
 
@@ -74,9 +74,17 @@ module _ (S : Shaping) where
       → IsShownBetween S (opening words passes) log from k
       (record { generation = g2 (region_at words passes log p); form = S.form (region_at words passes log p).words; found = found }) p q
 
+  -- and where it loaded every word, these are together an image of the form that it shows
+  abbrev pub ShownWordsAreAnImage : Type 0
+  ShownWordsAreAnImage = (words : List ℕ) (passes : ℕ) (log : List Entry) (from k p q : ℕ) (reading : Reading S) (found : List ℕ) → IsJournal S words passes log
+      → IsShownBetween S (opening words passes) log from k reading p q
+      → length found ≡ length words
+      → ((w : ℕ) → w < length words → (i : ℕ) × (slice_get reading.found i ≡ Some (w, slice_index found w)))
+      → S.IsImage found × (S.form found ≡ reading.form)
+
   -- an image with zeros behind it is an image of the same form
   abbrev pub PaddingKeepsTheForm : Type 0
-  PaddingKeepsTheForm = (image : List ℕ) (capacity : ℕ) → S.IsImage image → length image ≤ capacity → capacity ≤ 65536 → IsLike S image (padded image capacity)
+  PaddingKeepsTheForm = (image : List ℕ) (capacity : ℕ) → S.IsImage image → length image ≤ capacity → capacity ≤ 65536 → IsLike S image (with_zeros image capacity)
 
   -- a legal journal can be replayed to its end
   abbrev pub LegalRuns : Type 0
@@ -85,4 +93,4 @@ module _ (S : Shaping) where
 -- the words of a state are the replay of the events before it over the opening words
 abbrev pub WordsAreReplayed : Type 0
 WordsAreReplayed = (words : List ℕ) (passes : ℕ) (log : List Entry) (p : ℕ)
-    → (region_at words passes log p).words ≡ replayed words (events_of (take p log))
+    → (region_at words passes log p).words ≡ after_events words (events_of (take p log))

@@ -24,6 +24,11 @@ abbrev pub whole_day : List Entry
 whole_day = entry 2 (Load 2) ∷ entry 0 Take ∷ entry 1 Enter ∷ entry 1 Leave ∷ entry 0 (Begin 6) ∷ entry 0 (Put 3 9) ∷ entry 0 (End 6) ∷ entry 0 Free
     ∷ entry 2 (Load 1) ∷ entry 2 (Load 2) ∷ entry 2 (Load 3) ∷ entry 2 (Load 1) ∷ entry 1 Enter ∷ entry 1 (Add 3 4) ∷ entry 1 (Swap 4 128) ∷ entry 1 Leave ∷ []
 
+-- pass 2 reads three times, each time across a part of one change by pass 0
+abbrev pub busy_day : List Entry
+busy_day = entry 2 (Load 2) ∷ entry 0 Take ∷ entry 0 (Begin 6) ∷ entry 2 (Load 1) ∷ entry 2 (Load 2) ∷ entry 2 (Load 1)
+    ∷ entry 2 (Load 2) ∷ entry 0 (End 6) ∷ entry 2 (Load 1) ∷ entry 0 Free ∷ []
+
 -- a change that begins with the generation that stands
 abbrev pub generation_kept : List Entry
 generation_kept = entry 0 Take ∷ entry 0 (Begin 5) ∷ entry 0 (Put 3 9) ∷ entry 0 (End 5) ∷ entry 0 Free ∷ []

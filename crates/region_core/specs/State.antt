@@ -38,41 +38,41 @@ abbrev pub plus : ℕ → ℕ → ℕ
 plus n d = (n + d) % 2 ^ 64
 
 -- an image, and zeros behind it up to the capacity
-abbrev pub padded : List ℕ → ℕ → List ℕ
-padded image capacity = image ++ replicate (capacity - length image) 0
+abbrev pub with_zeros : List ℕ → ℕ → List ℕ
+with_zeros image capacity = image ++ replicate (capacity - length image) 0
 
 -- the state at a region's making: these words, nobody at the gate, and each pass idle
 abbrev pub opening : List ℕ → ℕ → State
 opening words passes = record { words = words; gate = 0; modes = replicate passes Idle }
 
-abbrev pub stored : State → ℕ → ℕ → State
-stored s w v = record { words = slice_set s.words w v; gate = s.gate; modes = s.modes }
+abbrev pub with_word : State → ℕ → ℕ → State
+with_word s w v = record { words = slice_set s.words w v; gate = s.gate; modes = s.modes }
 
 -- the gate has moved to this number, and pass k to this mode
-abbrev pub moved : State → ℕ → ℕ → Mode → State
-moved s gate k m = record { words = s.words; gate = gate; modes = slice_set s.modes k m }
+abbrev pub with_mode : State → ℕ → ℕ → Mode → State
+with_mode s gate k m = record { words = s.words; gate = gate; modes = slice_set s.modes k m }
 
 -- who comes while the gate is below 2^63 is inside
-abbrev pub entered : Bool → Mode
-entered true = Attached
-entered false = Bounced
+abbrev pub entry_mode : Bool → Mode
+entry_mode true = Attached
+entry_mode false = Bounced
 
 -- the gate is taken where it was 0
-abbrev pub taken : State → ℕ → Bool → State
-taken s k free = record { words = s.words; gate = if free then 2 ^ 63 else s.gate; modes = if free then slice_set s.modes k Changing else s.modes }
+abbrev pub after_take : State → ℕ → Bool → State
+after_take s k free = record { words = s.words; gate = if free then 2 ^ 63 else s.gate; modes = if free then slice_set s.modes k Changing else s.modes }
 
 -- what an act of pass k does
 abbrev pub after : State → ℕ → Act → State
 after s k (Load w) = s
-after s k (Swap w v) = stored s w v
-after s k (Add w d) = stored s w (plus (word s w) d)
-after s k Enter = moved s (s.gate + 1) k (entered (nat_lt s.gate (2 ^ 63)))
-after s k Leave = moved s (s.gate - 1) k Idle
-after s k Take = taken s k (s.gate == 0)
-after s k (Begin n) = stored s 1 n
-after s k (Put w v) = stored s w v
-after s k (End n) = stored s 2 n
-after s k Free = moved s (s.gate - 2 ^ 63) k Idle
+after s k (Swap w v) = with_word s w v
+after s k (Add w d) = with_word s w (plus (word s w) d)
+after s k Enter = with_mode s (s.gate + 1) k (entry_mode (nat_lt s.gate (2 ^ 63)))
+after s k Leave = with_mode s (s.gate - 1) k Idle
+after s k Take = after_take s k (s.gate == 0)
+after s k (Begin n) = with_word s 1 n
+after s k (Put w v) = with_word s w v
+after s k (End n) = with_word s 2 n
+after s k Free = with_mode s (s.gate - 2 ^ 63) k Idle
 
 -- where an act of pass k is allowed, as far as modes, generations and the capacity tell
 abbrev pub IsOpen : State → ℕ → Act → Type 0
@@ -93,13 +93,7 @@ module _ (S : Shaping) where
   Suits s (Swap w v) = S.Takes (S.form s.words) w v
   Suits s (Add w d) = (v : ℕ) → IsWord v → S.Takes (S.form s.words) w v
   Suits s (End n) = S.IsImage (slice_set s.words 2 n)
-  Suits s (Load w) = Unit {0}
-  Suits s Enter = Unit {0}
-  Suits s Leave = Unit {0}
-  Suits s Take = Unit {0}
-  Suits s (Begin n) = Unit {0}
-  Suits s (Put w v) = Unit {0}
-  Suits s Free = Unit {0}
+  Suits s _ = Unit {0}
 
   -- the act of pass k is allowed in this state
   pub record IsAllowed (s : State) (k : ℕ) (act : Act) : Type 0 where

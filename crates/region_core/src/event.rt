@@ -18,11 +18,11 @@ pub enum Event {
 
 impl Event {
     ghost use Rattle.std.specs.Prelude.{◌≡◌};
-    ghost use Rattle.region_core.specs.Events.{applied};
+    ghost use Rattle.region_core.specs.Events.{after_event};
 
     /// Does to the words of an image what the event does to those of a region. A word past the end is let be.
     pub fn apply(self, words: &mut [u64])
-        ensures { words.new ≡ applied words.old self }
+        ensures { words.new ≡ after_event words.old self }
     {
         match self {
             Event::Begin(generation) => store(words, 1, generation),

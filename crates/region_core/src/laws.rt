@@ -1,6 +1,6 @@
 //! The laws of legal journals. Each is the contract of a function without parameters, which does nothing.
 
-ghost use Rattle.region_core.specs.Laws.{GenerationsRise, HasOneFormBetween, HasOneFormEach, WordsAreAnImage, GateCounts, OnePassChanges, ChangesAlone, NoChangeBegins, AgreementShows, PaddingKeepsTheForm, LegalRuns, WordsAreReplayed};
+ghost use Rattle.region_core.specs.Laws.{GenerationsRise, HasOneFormBetween, HasOneFormEach, WordsAreAnImage, GateCounts, OnePassChanges, ChangesAlone, NoChangeBegins, AgreementShows, ShownWordsAreAnImage, PaddingKeepsTheForm, LegalRuns, WordsAreReplayed};
 
 use crate::shape::Shape;
 
@@ -50,6 +50,11 @@ pub fn no_change_begins<S: Shape>()
 /// A reading whose two loaded numbers agree is a shown one: it shows one generation's layout, and values of that stretch.
 pub fn agreement_shows<S: Shape>()
     ensures { AgreementShows S.shaping }
+{}
+
+/// The words of a shown reading that loaded every word are together an image of the form that it shows.
+pub fn shown_words_are_an_image<S: Shape>()
+    ensures { ShownWordsAreAnImage S.shaping }
 {}
 
 /// An image with zeros behind it, up to a capacity of at most 65,536 words, is an image of the same form.

@@ -5,8 +5,8 @@
 ghost use Rattle.std.specs.Prelude.{[], ◌∷◌};
 ghost use Rattle.region_core.specs.Slate.{slate};
 ghost use Rattle.region_core.specs.State.{opening};
-ghost use Rattle.region_core.specs.Readings.{Shown, IsAgain};
-ghost use Rattle.region_core.specs.SlateJournals.{one_counter, IsLegalSlate, IsIllegalSlate, whole_day, generation_kept, end_first, put_first, taken_over, text_added, text_lost, image_lost};
+ghost use Rattle.region_core.specs.Readings.{Shown, IsAgain, Missed};
+ghost use Rattle.region_core.specs.SlateJournals.{one_counter, IsLegalSlate, IsIllegalSlate, whole_day, busy_day, generation_kept, end_first, put_first, taken_over, text_added, text_lost, image_lost};
 
 use crate::shape::Shape;
 
@@ -69,4 +69,10 @@ pub fn reading_across_is_refused()
 /// The reading after it is shown: generation 6, one counter, which is 9.
 pub fn reading_after_is_shown()
     ensures { Shown slate (opening one_counter 3) whole_day 9 2 (record { generation = 6; form = 1; found = (3, 9) ∷ [] }) }
+{}
+
+/// Three readings within one change miss the region: each finds generation 6 in word 1, and 5 in word 2 before it.
+pub fn three_tries_miss()
+    ensures missed { Missed (opening one_counter 3) busy_day 0 2 }
+    ensures legal { IsLegalSlate busy_day }
 {}

@@ -70,7 +70,7 @@ pub fn replay(alloc: Global, words: &[u64], passes: u32, log: &[Entry]) -> Resul
 const TAKEN: u64 = 1 << 63;
 
 impl State {
-    ghost use Rattle.region_core.specs.State.{word, g1, g2, opening, stored, after, IsIn, IsOpen, IsStable};
+    ghost use Rattle.region_core.specs.State.{word, g1, g2, opening, with_word, after, IsIn, IsOpen, IsStable};
 
     /// The state at a region's making: these words, and so many passes, each idle.
     pub fn opening(alloc: Global, words: &[u64], passes: u32) -> Result<State, AllocError>
@@ -131,7 +131,7 @@ impl State {
     }
 
     fn store(&mut self, at: usize, value: u64)
-        ensures { self.new ≡ stored self.old at value }
+        ensures { self.new ≡ with_word self.old at value }
     {
         if at < self.words.len() {
             self.words[at] = value;

@@ -231,6 +231,7 @@ fn the_laws_hold_of_the_toy_layout(_rt: HostRuntime) -> Result<(), Fail> {
     laws::changes_alone::<Slate>();
     laws::no_change_begins::<Slate>();
     laws::agreement_shows::<Slate>();
+    laws::shown_words_are_an_image::<Slate>();
     laws::padding_keeps_the_form::<Slate>();
     laws::legal_runs::<Slate>();
     laws::words_are_replayed();
@@ -244,5 +245,6 @@ fn the_laws_hold_of_the_toy_layout(_rt: HostRuntime) -> Result<(), Fail> {
     slate::image_lost_is_illegal();
     slate::reading_across_is_refused();
     slate::reading_after_is_shown();
+    slate::three_tries_miss();
     Ok(())
 }

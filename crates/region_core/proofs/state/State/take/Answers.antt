@@ -3,7 +3,7 @@ use mathlib.Core.Option.{some}
 use Rattle.region_core.specs.declared.mode.Mode.{Mode}
 use Rattle.region_core.specs.declared.mode.Mode.TheVariants.{Idle}
 use Rattle.region_core.specs.declared.act.Act.TheVariants.{Take}
-use Rattle.region_core.specs.State.{State, IsIn, IsOpen, entered}
+use Rattle.region_core.specs.State.{State, IsIn, IsOpen, entry_mode}
 use Rattle.region_core.specs.Gate.{IsGated}
 use Rattle.region_core.proofs.Gates.{gated_after, takes}
 use Rattle.region_core.proofs.Runs.{gate_inside, gate_bounced, gate_changing}
