@@ -1,5 +1,5 @@
 -- The laws at positions of a journal.
-use Rattle.std.proofs.Common.{◌≡◌, ◌≢◌, ℕ, zero, suc, ◌+◌, ◌<◌, ◌≤◌, ◌⊎◌, List, [], ◌∷◌, ◌++◌, length, get_or, set, take, drop, length-set, slice_index, slice_set, slice_get, Some, All, get_or-set_same, get_or-set_other, ext_get_or, take-append-drop, sym, refl, ap, ◌∙◌, subst, inl, inr, ⊎_elim, arith}
+use Rattle.std.proofs.Common.{◌≡◌, ◌≢◌, ℕ, zero, suc, ◌<◌, ◌≤◌, ◌⊎◌, List, ◌∷◌, ◌++◌, length, set, take, drop, length-set, slice_index, slice_get, Some, All, get_or-set_same, get_or-set_other, ext_get_or, take-append-drop, sym, refl, ap, ◌∙◌, subst, ⊎_elim, arith}
 use lib.Seq.{set-get_or}
 use mathlib.Core.Logic.{dite}
 use native.Mathlib.Decide.{ℕ_discrete, dec_le}
@@ -7,13 +7,13 @@ use mathlib.Core.Option.{some}
 use lib.ListN.{get_elem?}
 use Rattle.region_core.specs.declared.act.Entry.{Entry}
 use Rattle.region_core.specs.Shape.{Shaping, IsShape, IsWord, IsLike}
-use Rattle.region_core.specs.State.{State, word, g1, g2, after, opening, IsAllowed}
-use Rattle.region_core.specs.Journal.{state, state_at, own, IsLegal, IsJournal}
+use Rattle.region_core.specs.State.{State, word, g1, g2, opening, IsAllowed}
+use Rattle.region_core.specs.Journal.{state, state_at, IsLegal, IsJournal}
 use Rattle.region_core.specs.Readings.{HasLayout, Reading, IsFoundBetween, IsShownBetween}
-use Rattle.region_core.proofs.Lists.{take_further, take_next, drop_at, at_get, at_below, get_or_at}
+use Rattle.region_core.proofs.Lists.{take_further, drop_at, at_get, at_below, get_or_at}
 use Rattle.region_core.proofs.Journals.{state-append, legal-front, legal-back}
 use Rattle.region_core.proofs.Sound.{IsSound, sound_run, sound_opening}
-use Rattle.region_core.proofs.Stretch.{Rises, IsStill, still_refl, rises_run, still_run}
+use Rattle.region_core.proofs.Stretch.{Rises, IsStill, rises_run, still_run}
 use Rattle.region_core.proofs.Runs.{wide_run}
 
 -- the first n words are those of the second list

@@ -1,12 +1,12 @@
 -- A replay of a journal entry by entry.
-use Rattle.std.proofs.Common.{◌≡◌, ℕ, zero, suc, ◌+◌, ◌≤◌, ◌<◌, List, [], ◌∷◌, ◌++◌, length, take, take_all, add-one, get_or, Bool, true, false, IsTrue, true≢false, sym, refl, ap, ◌∙◌, subst, arith}
+use Rattle.std.proofs.Common.{◌≡◌, ℕ, suc, ◌+◌, ◌<◌, List, [], ◌∷◌, ◌++◌, length, take, add-one, get_or, Bool, false, IsTrue, true≢false, sym, ap, ◌∙◌, subst}
 use mathlib.Core.Option.{some}
 use lib.ListN.{get_elem?}
 use Rattle.region_core.specs.declared.act.Entry.{Entry}
 use Rattle.region_core.specs.Shape.{Shaping}
 use Rattle.region_core.specs.State.{State, after, IsOpen}
 use Rattle.region_core.specs.Journal.{state, state_at, IsLegal}
-use Rattle.region_core.specs.Replay.{IsRunnable, EndsIn, IsFirstShut}
+use Rattle.region_core.specs.Replay.{IsRunnable, IsFirstShut}
 use Rattle.region_core.proofs.Lists.{take_next, at_or}
 use Rattle.region_core.proofs.Journals.{state-snoc}
 

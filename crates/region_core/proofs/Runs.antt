@@ -1,7 +1,7 @@
 -- What a pass may count on while only others act: its mode, and still words.
-use Rattle.std.proofs.Common.{◌≡◌, ◌≢◌, ℕ, suc, ◌+◌, ◌-◌, ◌*◌, ◌^◌, ◌<◌, ◌≤◌, ◌⊎◌, Bool, true, false, List, [], ◌∷◌, length, set, eqb, ltb, length-set, slice_index, slice_set, sym, refl, ap, ◌∙◌, subst, inl, inr, ⊎_elim, ne_eqb, true≢false, arith}
+use Rattle.std.proofs.Common.{◌≡◌, ◌≢◌, ℕ, ◌^◌, ◌<◌, ◌≤◌, ◌⊎◌, Bool, true, false, List, [], ◌∷◌, length, eqb, ltb, length-set, sym, refl, ap, ◌∙◌, inl, inr, ⊎_elim, ne_eqb, true≢false, arith}
 use borrow.Author.Tests.{eqb-false}
-use mathlib.Core.Option.{some, some-injective}
+use mathlib.Core.Option.{some}
 use mathlib.Core.Logic.{dite}
 use native.Mathlib.Decide.{ℕ_discrete}
 use lib.ListN.{get_elem?}
@@ -12,11 +12,11 @@ use Rattle.region_core.specs.declared.act.Act.{Act}
 use Rattle.region_core.specs.declared.act.Act.TheVariants.{Load, Swap, Add, Enter, Leave, Take, Begin, Put, End, Free}
 use Rattle.region_core.specs.declared.act.Entry.{Entry}
 use Rattle.region_core.specs.Shape.{Shaping, IsShape}
-use Rattle.region_core.specs.State.{State, g1, g2, plus, word, after, after_take, entry_mode, IsIn, IsOpen, IsAllowed}
+use Rattle.region_core.specs.State.{State, plus, word, after, after_take, entry_mode, IsIn, IsOpen, IsAllowed}
 use Rattle.region_core.specs.Journal.{state, own, own_then, IsLegal}
-use Rattle.region_core.specs.Events.{event_by, event_of, IsEvent}
-use Rattle.region_core.specs.Gate.{total, inside, bounced, changing, IsGated}
-use Rattle.region_core.proofs.Lists.{at_below, set_here, set_else}
+use Rattle.region_core.specs.Events.{event_by}
+use Rattle.region_core.specs.Gate.{inside, bounced, changing, IsGated}
+use Rattle.region_core.proofs.Lists.{at_below, set_else}
 use Rattle.region_core.proofs.Totals.{le_total, two_le_total}
 use Rattle.region_core.proofs.Gates.{at_most}
 use Rattle.region_core.proofs.Sound.{IsSound, sound_after, changing_one, inside_shut}

@@ -1,5 +1,5 @@
 -- The invariant of a legal journal's states, from which every law comes.
-use Rattle.std.proofs.Common.{◌≡◌, ◌≢◌, ℕ, zero, suc, ◌+◌, ◌-◌, ◌*◌, ◌%◌, ◌^◌, ◌<◌, ◌≤◌, ◌⊎◌, Bool, true, false, List, [], ◌∷◌, length, set, take, drop, replicate, eqb, ltb, length-set, slice_index, slice_set, get_or-set_same, get_or-set_other, take-append-drop, mod-lt, sym, refl, ap, ◌∙◌, subst, inl, inr, ⊎_elim, lit<, arith}
+use Rattle.std.proofs.Common.{◌≡◌, ◌≢◌, ℕ, ◌+◌, ◌-◌, ◌^◌, ◌<◌, ◌≤◌, Bool, true, false, List, [], ◌∷◌, length, set, eqb, ltb, length-set, slice_index, get_or-set_same, get_or-set_other, mod-lt, sym, refl, ◌∙◌, subst, ⊎_elim, lit<, arith}
 use mathlib.Core.Option.{some}
 use lib.ListN.{get_elem?}
 use Rattle.region_core.specs.declared.mode.Mode.{Mode}
@@ -10,7 +10,7 @@ use Rattle.region_core.specs.declared.act.Entry.{Entry}
 use Rattle.region_core.specs.Shape.{Shaping, IsShape, IsWord, IsLike}
 use Rattle.region_core.specs.State.{State, word, g1, g2, plus, after, entry_mode, after_take, with_word, opening, IsIn, IsOpen, IsAllowed}
 use Rattle.region_core.specs.Journal.{state, IsLegal}
-use Rattle.region_core.specs.Gate.{total, inside, bounced, changing, IsGated}
+use Rattle.region_core.specs.Gate.{total, inside, changing, IsGated}
 use Rattle.region_core.proofs.Totals.{total-set, le_total}
 use Rattle.region_core.proofs.Gates.{gated_after, gated_opening}
 

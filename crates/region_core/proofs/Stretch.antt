@@ -1,21 +1,15 @@
 -- What stays as it is while the generations agree, and while one pass is inside or changing.
-use Rattle.std.proofs.Common.{◌≡◌, ◌≢◌, ℕ, suc, ◌+◌, ◌<◌, ◌≤◌, ◌⊎◌, Bool, true, false, List, [], ◌∷◌, length, set, eqb, length-set, slice_index, slice_set, get_or-set_same, get_or-set_other, le_refl, le_of_eq, sym, refl, ap, ◌∙◌, subst, inl, inr, ⊎_elim, arith}
-use mathlib.Core.Option.{some}
+use Rattle.std.proofs.Common.{◌≡◌, ◌≢◌, ℕ, ◌<◌, ◌≤◌, ◌⊎◌, List, [], ◌∷◌, length, set, length-set, slice_index, get_or-set_same, get_or-set_other, sym, refl, ◌∙◌, subst, inl, inr, ⊎_elim, arith}
 use mathlib.Core.Logic.{dite}
 use native.Mathlib.Decide.{ℕ_discrete}
-use lib.ListN.{get_elem?}
-use Rattle.region_core.specs.declared.mode.Mode.{Mode}
-use Rattle.region_core.specs.declared.mode.Mode.TheVariants.{Idle, Attached, Bounced, Changing}
 use Rattle.region_core.specs.declared.act.Act.{Act}
 use Rattle.region_core.specs.declared.act.Act.TheVariants.{Load, Swap, Add, Enter, Leave, Take, Begin, Put, End, Free}
 use Rattle.region_core.specs.declared.act.Entry.{Entry}
 use Rattle.region_core.specs.Shape.{Shaping, IsShape, IsWord, IsLike}
-use Rattle.region_core.specs.State.{State, word, g1, g2, plus, after, with_word, IsIn, IsOpen, IsAllowed}
-use Rattle.region_core.specs.Journal.{state, own, own_then, IsLegal}
-use Rattle.region_core.specs.Gate.{total, inside, changing, IsGated}
-use Rattle.region_core.proofs.Lists.{at_below, set_else}
-use Rattle.region_core.proofs.Totals.{le_total, two_le_total}
-use Rattle.region_core.proofs.Sound.{IsSound, sound_after, plus_word, changing_one, inside_shut, inside_stable, not_first, not_second}
+use Rattle.region_core.specs.State.{State, word, g1, g2, plus, after, IsAllowed}
+use Rattle.region_core.specs.Journal.{state, IsLegal}
+use Rattle.region_core.specs.Gate.{total, changing}
+use Rattle.region_core.proofs.Sound.{IsSound, sound_after, plus_word, changing_one, inside_shut, not_first, not_second}
 
 -- neither generation falls
 pub record Rises (from to : List ℕ) : Type 0 where

@@ -1,8 +1,8 @@
 -- The acts that store an image word, and their replay over words.
-use Rattle.std.specs.Prelude.{◌≡◌, ℕ, List, [], ◌∷◌, Option, Some, None, IsSome, slice_index, slice_set}
+use Rattle.std.specs.Prelude.{ℕ, List, [], ◌∷◌, Option, Some, None, IsSome, slice_index, slice_set}
 use Rattle.std.specs.List.{filter_map}
 use Rattle.region_core.specs.declared.act.Act.{Act}
-use Rattle.region_core.specs.declared.act.Act.TheVariants.{Load, Swap, Add, Enter, Leave, Take, Begin, Put, End, Free}
+use Rattle.region_core.specs.declared.act.Act.TheVariants.{Swap, Add, Begin, Put, End}
 use Rattle.region_core.specs.declared.act.Entry.{Entry}
 use Rattle.region_core.specs.declared.event.Event.{Event}
 use Rattle.region_core.specs.declared.event.Event.TheVariants.{Begin as Begun, Put as Stored, End as Ended, Swap as Swapped, Add as Added}

@@ -1,5 +1,5 @@
 -- What a kind of layout has to say of its images, and the laws that it keeps. Words are numbers from 0 to 2^64 - 1.
-use Rattle.std.specs.Prelude.{◌≡◌, ℕ, ◌+◌, ◌^◌, ◌<◌, ◌≤◌, List, ◌++◌, length, All, slice_index, slice_set}
+use Rattle.std.specs.Prelude.{◌≡◌, ℕ, ◌^◌, ◌<◌, ◌≤◌, List, ◌++◌, length, All, slice_index, slice_set}
 
 -- the number fits a word
 abbrev pub IsWord : ℕ → Type 0

@@ -1,9 +1,9 @@
 -- A toy layout, by which the laws of a shape are seen to be possible. Word 0 says how many counters there are, words 1 and 2 are the
 -- generation, the counters follow, and behind them one text word holds the offset of one of two strings.
-use Rattle.std.specs.Prelude.{◌≡◌, ◌≢◌, ℕ, ◌+◌, ◌^◌, ◌<◌, ◌≤◌, ◌⊎◌, List, ◌++◌, length, All, slice_index, slice_set}
-use Rattle.std.proofs.Common.{set, get_or-set_same, get_or-set_other, length-set, length-append, subst, sym, ◌∙◌, ap, inl, inr, ⊎_elim, arith}
+use Rattle.std.specs.Prelude.{◌≡◌, ℕ, ◌+◌, ◌<◌, ◌≤◌, ◌⊎◌, List, ◌++◌, length, slice_index, slice_set}
+use Rattle.std.proofs.Common.{set, get_or-set_same, get_or-set_other, length-set, length-append, subst, sym, ◌∙◌, ⊎_elim, arith}
 use Rattle.std.proofs.lemmas.List.{get_or_append_left}
-use Rattle.region_core.specs.Shape.{Shaping, IsShape, IsWord, IsLike, with_generation}
+use Rattle.region_core.specs.Shape.{Shaping, IsShape, IsLike, with_generation}
 
 -- where the two strings are
 abbrev pub IsText : ℕ → Type 0

@@ -1,4 +1,3 @@
-use Rattle.std.proofs.Common.{◌≡◌, ◌≤◌}
 use Rattle.region_core.proofs.Positions.{layout_at}
 use Rattle.region_core.proofs.laws.agreement_shows.Goals as goal
 

@@ -1,4 +1,4 @@
-use Rattle.std.proofs.Common.{rules, ◌≤◌, ◌<◌, ◌≡◌, ℕ, zero, suc, [], ◌∷◌, All, refl, arith}
+use Rattle.std.proofs.Common.{rules, zero, suc, [], ◌∷◌, All, refl, arith}
 use Rattle.region_core.specs.Slate.{slate, slate_laws}
 use Rattle.region_core.specs.SlateJournals.{one_counter, whole_day, IsLegalSlate}
 use Rattle.region_core.specs.State.{opening}

@@ -1,4 +1,4 @@
-use Rattle.std.proofs.Common.{rules, subst, sym, ◌+◌, ◌<◌, length, arith, IsTrue, true, false, true≢false}
+use Rattle.std.proofs.Common.{rules, subst, sym, ◌+◌}
 use Rattle.region_core.specs.State.{State, opening}
 use Rattle.region_core.proofs.Running.{Ran, ran_more_at, ran_until_at}
 use Rattle.region_core.proofs.state.replay.Goals as goal

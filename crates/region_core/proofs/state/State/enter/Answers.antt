@@ -1,12 +1,10 @@
-use Rattle.std.proofs.Common.{rules, ◌≡◌, ℕ, ◌+◌, ◌-◌, ◌^◌, ◌<◌, ◌≤◌, ◌⊎◌, ⊎_elim, set, refl, sym, ap, subst, ◌∙◌, arith}
-use mathlib.Core.Option.{some}
+use Rattle.std.proofs.Common.{rules, ◌≡◌, ◌+◌, ◌^◌, set, sym, ap, subst, ◌∙◌}
 use Rattle.region_core.specs.declared.mode.Mode.{Mode}
 use Rattle.region_core.specs.declared.mode.Mode.TheVariants.{Idle}
 use Rattle.region_core.specs.declared.act.Act.TheVariants.{Enter}
-use Rattle.region_core.specs.State.{State, IsIn, IsOpen, entry_mode}
+use Rattle.region_core.specs.State.{State, IsIn, entry_mode}
 use Rattle.region_core.specs.Gate.{IsGated}
-use Rattle.region_core.proofs.Gates.{gated_after, gate_room, enters, takes}
-use Rattle.region_core.proofs.Runs.{gate_inside, gate_bounced, gate_changing}
+use Rattle.region_core.proofs.Gates.{gated_after, gate_room}
 use Rattle.region_core.proofs.Lists.{at_below}
 use Rattle.std.proofs.Common.{ltb, lt-ltb, le-ltb}
 use Rattle.region_core.proofs.state.State.enter.Goals.{then-self-lt-TAKEN, else-self-lt-TAKEN}

@@ -1,12 +1,8 @@
-use Rattle.std.proofs.Common.{rules, ◌≡◌, ℕ, ◌+◌, ◌-◌, ◌^◌, ◌<◌, ◌≤◌, ◌⊎◌, ⊎_elim, set, refl, sym, ap, subst, ◌∙◌, arith}
-use mathlib.Core.Option.{some}
-use Rattle.region_core.specs.declared.mode.Mode.{Mode}
+use Rattle.std.proofs.Common.{rules, sym, subst, arith}
 use Rattle.region_core.specs.declared.mode.Mode.TheVariants.{Changing}
-use Rattle.region_core.specs.declared.act.Act.TheVariants.{Free}
-use Rattle.region_core.specs.State.{State, IsIn, IsOpen, entry_mode}
-use Rattle.region_core.specs.Gate.{IsGated}
-use Rattle.region_core.proofs.Gates.{gated_after, frees}
-use Rattle.region_core.proofs.Runs.{gate_inside, gate_bounced, gate_changing}
+use Rattle.region_core.specs.State.{State, IsIn}
+use Rattle.region_core.proofs.Gates.{frees}
+use Rattle.region_core.proofs.Runs.{gate_changing}
 use Rattle.region_core.proofs.Lists.{at_below}
 use Rattle.region_core.proofs.state.State.free.Goals as goal
 

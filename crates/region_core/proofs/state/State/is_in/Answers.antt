@@ -1,11 +1,10 @@
-use Rattle.std.proofs.Common.{rules, ◌≡◌, ◌∙◌, sym, ap, subst, IsTrue, Some, true≢false}
+use Rattle.std.proofs.Common.{rules, ◌≡◌, ◌∙◌, sym, ap, Some, true≢false}
 use Rattle.std.specs.Prelude.{slice_get}
 use mathlib.Core.Option.{some}
 use lib.ListN.{get_elem?}
 use denote.Enum.Bare.{same_true, true_same}
 use Rattle.region_core.specs.declared.mode.Mode.{Mode}
 use Rattle.region_core.specs.contracts.mode.Mode.{the_type}
-use Rattle.region_core.specs.State.{IsIn}
 use Rattle.region_core.proofs.Lists.{at_get, get_at}
 use Rattle.region_core.proofs.state.State.is_in.Goals as goal
 

@@ -1,12 +1,9 @@
-use Rattle.std.proofs.Common.{rules, ◌≡◌, ℕ, ◌+◌, ◌-◌, ◌^◌, ◌<◌, ◌≤◌, ◌⊎◌, ⊎_elim, length, set, refl, sym, ap, subst, ◌∙◌, arith}
-use mathlib.Core.Option.{some}
-use Rattle.region_core.specs.declared.mode.Mode.{Mode}
+use Rattle.std.proofs.Common.{rules, ◌<◌, ◌≤◌, ⊎_elim, length, sym, subst, arith}
 use Rattle.region_core.specs.declared.mode.Mode.TheVariants.{Attached, Bounced}
 use Rattle.region_core.specs.declared.act.Act.TheVariants.{Leave}
-use Rattle.region_core.specs.State.{State, IsIn, IsOpen, entry_mode}
-use Rattle.region_core.specs.Gate.{IsGated}
-use Rattle.region_core.proofs.Gates.{gated_after, gate_room, enters, takes}
-use Rattle.region_core.proofs.Runs.{gate_inside, gate_bounced, gate_changing}
+use Rattle.region_core.specs.State.{State, IsIn, IsOpen}
+use Rattle.region_core.proofs.Gates.{gated_after}
+use Rattle.region_core.proofs.Runs.{gate_inside, gate_bounced}
 use Rattle.region_core.proofs.Lists.{at_below}
 use Rattle.region_core.proofs.state.State.leave.Goals as goal
 

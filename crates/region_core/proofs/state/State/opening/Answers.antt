@@ -1,6 +1,4 @@
-use Rattle.std.proofs.Common.{ℕ, ◌≡◌, ◌<◌, ◌^◌, List, [], sym, subst, arith}
-use Rattle.region_core.specs.declared.mode.Mode.{Mode}
-use Rattle.region_core.specs.Gate.{IsGated}
+use Rattle.std.proofs.Common.{[], arith}
 use Rattle.region_core.proofs.Gates.{gated_opening}
 use Rattle.region_core.proofs.state.State.opening.Goals as goal
 

@@ -1,14 +1,9 @@
-use Rattle.std.proofs.Common.{rules, ◌≡◌, ℕ, ◌+◌, ◌-◌, ◌^◌, ◌<◌, ◌≤◌, ◌⊎◌, ⊎_elim, set, refl, sym, ap, subst, ◌∙◌, arith}
-use mathlib.Core.Option.{some}
-use Rattle.region_core.specs.declared.mode.Mode.{Mode}
+use Rattle.std.proofs.Common.{rules, sym, subst, arith}
 use Rattle.region_core.specs.declared.mode.Mode.TheVariants.{Idle}
-use Rattle.region_core.specs.declared.act.Act.TheVariants.{Take}
-use Rattle.region_core.specs.State.{State, IsIn, IsOpen, entry_mode}
-use Rattle.region_core.specs.Gate.{IsGated}
-use Rattle.region_core.proofs.Gates.{gated_after, takes}
-use Rattle.region_core.proofs.Runs.{gate_inside, gate_bounced, gate_changing}
+use Rattle.region_core.specs.State.{State, IsIn}
+use Rattle.region_core.proofs.Gates.{takes}
 use Rattle.region_core.proofs.Lists.{at_below}
-use Rattle.std.proofs.Common.{eqb, eq-eqb, true}
+use Rattle.std.proofs.Common.{eq-eqb, true}
 use Rattle.region_core.proofs.state.State.take.Goals as goal
 
 pub index_mut-requires : goal.index_mut-requires
