@@ -1,5 +1,5 @@
 -- What a pass may count on while only others act: its mode, and still words.
-use Rattle.std.proofs.Common.{◌≡◌, ◌≢◌, ℕ, ◌^◌, ◌<◌, ◌≤◌, ◌⊎◌, Bool, true, false, List, [], ◌∷◌, length, eqb, ltb, length-set, sym, refl, ap, ◌∙◌, inl, inr, ⊎_elim, ne_eqb, true≢false, arith}
+use Rattle.std.proofs.Common.{◌≡◌, ◌≢◌, ℕ, ◌^◌, ◌<◌, ◌≤◌, ◌⊎◌, Bool, true, false, cond, List, [], ◌∷◌, length, eqb, ltb, length-set, sym, refl, ap, ◌∙◌, inl, inr, ⊎_elim, ne_eqb, true≢false, arith}
 use borrow.Author.Tests.{eqb-false}
 use mathlib.Core.Option.{some}
 use mathlib.Core.Logic.{dite}
@@ -12,11 +12,11 @@ use Rattle.region_core.specs.declared.act.Act.{Act}
 use Rattle.region_core.specs.declared.act.Act.TheVariants.{Load, Swap, Add, Enter, Leave, Take, Begin, Put, End, Free}
 use Rattle.region_core.specs.declared.act.Entry.{Entry}
 use Rattle.region_core.specs.Shape.{Shaping, IsShape}
-use Rattle.region_core.specs.State.{State, plus, word, after, after_take, entry_mode, IsIn, IsOpen, IsAllowed}
+use Rattle.region_core.specs.State.{State, plus, word, after, next_mode, after_take, entry_mode, IsIn, IsOpen, IsAllowed}
 use Rattle.region_core.specs.Journal.{state, own, own_then, IsLegal}
 use Rattle.region_core.specs.Events.{event_by}
 use Rattle.region_core.specs.Gate.{inside, bounced, changing, IsGated}
-use Rattle.region_core.proofs.Lists.{at_below, set_else}
+use Rattle.region_core.proofs.Lists.{at_below, set_here, set_else}
 use Rattle.region_core.proofs.Totals.{le_total, two_le_total}
 use Rattle.region_core.proofs.Gates.{at_most}
 use Rattle.region_core.proofs.Sound.{IsSound, sound_after, changing_one, inside_shut}
@@ -81,6 +81,23 @@ mode_after s j k Free n = set_else s.modes j k Idle n
 pub mode_run : (s : State) (k : ℕ) (m : Mode) (es : List Entry) → own k es ≡ [] → IsIn m s k → IsIn m (state s es) k
 mode_run s k m [] o e = e
 mode_run s k m (x ∷ xs) o e = mode_run (after s x.by x.act) k m xs (others_rest k x xs o) (mode_after s x.by k x.act (other_first k x xs o) ∙ e)
+
+taken_own : (s : State) (k : ℕ) (m : Mode) (b : Bool) → IsIn m s k → IsIn (cond b Changing m) (after_take s k b) k
+taken_own s k m true e = set_here s.modes k Changing (at_below s.modes k m e)
+taken_own s k m false e = e
+
+-- a pass's mode after its own act
+pub mode_own : (s : State) (k : ℕ) (m : Mode) (act : Act) → IsIn m s k → IsIn (next_mode s.gate m act) (after s k act) k
+mode_own s k m (Load w) e = e
+mode_own s k m (Swap w v) e = e
+mode_own s k m (Add w d) e = e
+mode_own s k m Enter e = set_here s.modes k (entry_mode (ltb s.gate (2 ^ 63))) (at_below s.modes k m e)
+mode_own s k m Leave e = set_here s.modes k Idle (at_below s.modes k m e)
+mode_own s k m Take e = taken_own s k m (eqb s.gate 0) e
+mode_own s k m (Begin n) e = e
+mode_own s k m (Put w v) e = e
+mode_own s k m (End n) e = e
+mode_own s k m Free e = set_here s.modes k Idle (at_below s.modes k m e)
 
 taken_count : (s : State) (j : ℕ) (b : Bool) → length (after_take s j b).modes ≡ length s.modes
 taken_count s j true = length-set s.modes j Changing

@@ -17,6 +17,7 @@ event_by k (Swap w v) = Some (Swapped k w v)
 event_by k (Add w d) = Some (Added k w d)
 event_by k _ = None
 
+-- the event of an entry, if its act is one
 abbrev pub event_of : Entry → Option Event
 event_of e = event_by e.by e.act
 

@@ -9,10 +9,11 @@ abbrev pub state : State → List Entry → State
 state s [] = s
 state s (e ∷ es) = state (after s e.by e.act) es
 
--- the state after the first p entries
+-- the state after the first p entries, and after all of them where p is past the end
 abbrev pub state_at : State → List Entry → ℕ → State
 state_at s log p = state s (take p log)
 
+-- with the entry in front, if it is of that pass
 abbrev pub own_then : Bool → Entry → List Entry → List Entry
 own_then true e es = e ∷ es
 own_then false e es = es

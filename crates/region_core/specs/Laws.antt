@@ -11,7 +11,7 @@ use Rattle.region_core.specs.State.{State, word, g1, g2, opening, with_zeros, Is
 use Rattle.region_core.specs.Journal.{state_at, IsJournal}
 use Rattle.region_core.specs.Gate.{IsGated}
 use Rattle.region_core.specs.Events.{IsEvent, events_of, after_events}
-use Rattle.region_core.specs.Replay.{IsRunnable}
+use Rattle.region_core.specs.Replay.{IsRunnable, IsFirstShut}
 use Rattle.region_core.specs.Readings.{LoadsAt, IsFoundBetween, HasLayout, Reading, IsShownBetween}
 
 -- the state of a region of these words and passes after the first p entries
@@ -89,6 +89,10 @@ module _ (S : Shaping) where
   -- a legal journal can be replayed to its end
   abbrev pub LegalRuns : Type 0
   LegalRuns = (words : List ℕ) (passes : ℕ) (log : List Entry) → IsJournal S words passes log → IsRunnable (opening words passes) log
+
+  -- and one with an entry that modes, generations or the capacity don't allow is not legal
+  abbrev pub StoppedIsIllegal : Type 0
+  StoppedIsIllegal = (words : List ℕ) (passes : ℕ) (log : List Entry) (place : ℕ) → IsFirstShut (opening words passes) log place → IsJournal S words passes log → ⊥
 
 -- the words of a state are the replay of the events before it over the opening words
 abbrev pub WordsAreReplayed : Type 0

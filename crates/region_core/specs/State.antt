@@ -14,6 +14,7 @@ pub record State : Type 0 where
   pub gate : ℕ
   pub modes : List Mode
 
+-- an image word, and 0 past the capacity
 abbrev pub word : State → ℕ → ℕ
 word s w = slice_index s.words w
 
@@ -45,6 +46,7 @@ with_zeros image capacity = image ++ replicate (capacity - length image) 0
 abbrev pub opening : List ℕ → ℕ → State
 opening words passes = record { words = words; gate = 0; modes = replicate passes Idle }
 
+-- one word has this value
 abbrev pub with_word : State → ℕ → ℕ → State
 with_word s w v = record { words = slice_set s.words w v; gate = s.gate; modes = s.modes }
 
@@ -73,6 +75,14 @@ after s k (Begin n) = with_word s 1 n
 after s k (Put w v) = with_word s w v
 after s k (End n) = with_word s 2 n
 after s k Free = with_mode s (s.gate - 2 ^ 63) k Idle
+
+-- the mode of a pass after an act of its own, which found this gate
+abbrev pub next_mode : ℕ → Mode → Act → Mode
+next_mode gate m Enter = entry_mode (nat_lt gate (2 ^ 63))
+next_mode gate m Leave = Idle
+next_mode gate m Take = if gate == 0 then Changing else m
+next_mode gate m Free = Idle
+next_mode gate m _ = m
 
 -- where an act of pass k is allowed, as far as modes, generations and the capacity tell
 abbrev pub IsOpen : State → ℕ → Act → Type 0

@@ -1,6 +1,6 @@
 //! The laws of legal journals. Each is the contract of a function without parameters, which does nothing.
 
-ghost use Rattle.region_core.specs.Laws.{GenerationsRise, HasOneFormBetween, HasOneFormEach, WordsAreAnImage, GateCounts, OnePassChanges, ChangesAlone, NoChangeBegins, AgreementShows, ShownWordsAreAnImage, PaddingKeepsTheForm, LegalRuns, WordsAreReplayed};
+ghost use Rattle.region_core.specs.Laws.{GenerationsRise, HasOneFormBetween, HasOneFormEach, WordsAreAnImage, GateCounts, OnePassChanges, ChangesAlone, NoChangeBegins, AgreementShows, ShownWordsAreAnImage, PaddingKeepsTheForm, LegalRuns, StoppedIsIllegal, WordsAreReplayed};
 
 use crate::shape::Shape;
 
@@ -62,9 +62,14 @@ pub fn padding_keeps_the_form<S: Shape>()
     ensures { PaddingKeepsTheForm S.shaping }
 {}
 
-/// A legal journal can be replayed to its end. So one that `replay` stops at is legal under no layout.
+/// A legal journal can be replayed to its end.
 pub fn legal_runs<S: Shape>()
     ensures { LegalRuns S.shaping }
+{}
+
+/// A journal at which `replay` stops for an entry is legal under no layout.
+pub fn stopped_is_illegal<S: Shape>()
+    ensures { StoppedIsIllegal S.shaping }
 {}
 
 /// The words of a state are the replay of its events over the opening words.

@@ -234,6 +234,7 @@ fn the_laws_hold_of_the_toy_layout(_rt: HostRuntime) -> Result<(), Fail> {
     laws::shown_words_are_an_image::<Slate>();
     laws::padding_keeps_the_form::<Slate>();
     laws::legal_runs::<Slate>();
+    laws::stopped_is_illegal::<Slate>();
     laws::words_are_replayed();
     slate::whole_day_is_legal();
     slate::generation_kept_is_illegal();
