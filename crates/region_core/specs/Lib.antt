@@ -1,0 +1,10 @@
+pub mod Shape
+pub mod State
+pub mod Gate
+pub mod Journal
+pub mod Events
+pub mod Replay
+pub mod Readings
+pub mod Laws
+pub mod Slate
+pub mod SlateJournals

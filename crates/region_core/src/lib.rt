@@ -1,0 +1,25 @@
+//! The journal of an MMV region, and its laws. A region is a table of words that threads store into, read and re-lay;
+//! what may happen to it is a list of entries, each one atomic step of one pass. This crate says which lists are legal and
+//! what follows from it: what the gate counts, and how the two generation numbers of mmv(5) tell a reader that it saw one layout.
+#![tactic(auto)]
+
+mod act;
+mod event;
+mod laws;
+mod mode;
+mod shape;
+pub mod slate;
+mod state;
+#[cfg(test)]
+mod tests;
+
+pub use act::{Act, Entry};
+pub use event::Event;
+pub use laws::{
+    agreement_shows, changes_alone, gate_counts, generations_rise, legal_runs, no_change_begins,
+    one_form_between, one_form_each, one_pass_changes, padding_keeps_the_form,
+    shown_words_are_an_image, stopped_is_illegal, words_are_an_image, words_are_replayed,
+};
+pub use mode::Mode;
+pub use shape::Shape;
+pub use state::{State, Stop, replay};

@@ -1,0 +1,12 @@
+/// What a pass is doing.
+#[derive(Clone, Copy, Debug, PartialEq, Eq)]
+pub enum Mode {
+    /// Neither attached nor changing: it may read.
+    Idle,
+    /// Inside the region: it may swap and add values, and no layout changes.
+    Attached,
+    /// It came while another pass was changing the layout, and has still to leave.
+    Bounced,
+    /// It has the region to itself, and may change the layout.
+    Changing,
+}
