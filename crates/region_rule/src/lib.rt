@@ -1,0 +1,10 @@
+//! The region rule: what holds of a region's words whatever threads do. There is one journal, it is legal, the words and
+//! the gate are those of its last state, and what each pass has seen is a beginning of it with all the pass's own entries.
+//! Each call of a pass says by which entries it made that beginning grow. No call waits but the two under `Wait`.
+#![tactic(auto)]
+
+mod rule;
+mod view;
+
+pub use rule::Rule;
+pub use view::{Opening, Role, View};
