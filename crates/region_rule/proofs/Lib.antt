@@ -1,2 +1,4 @@
 pub mod Keeps
 pub mod Acts
+pub mod Fronts
+pub mod Tokens

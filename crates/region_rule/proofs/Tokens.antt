@@ -1,0 +1,1 @@
+-- Views that are cut in two or joined keep the rule, and so does a look at the table.
