@@ -3,8 +3,10 @@
 //! Each call of a pass says by which entries it made that beginning grow. No call waits but the two under `Wait`.
 #![tactic(auto)]
 
+mod region;
 mod rule;
 mod view;
 
+pub use region::Region;
 pub use rule::Rule;
 pub use view::{Opening, Role, View};
