@@ -5,6 +5,7 @@
 
 mod region;
 mod rule;
+mod steps;
 mod view;
 
 pub use region::Region;
