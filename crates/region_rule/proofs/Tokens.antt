@@ -286,3 +286,10 @@ module _ (S : Shaping) (words : List ℕ) (passes : ℕ) where
         mode = o.mode;
         lists = lists_of v.seen own_rest.0 v.kept o.kept;
       }))
+
+-- the first of the numbers that wait, and those after it
+pub waiting_next : (k m p : ℕ) → m ≡ k + 1 → k < p → waiting k (p - k) ≡ (k, []) ∷ waiting m (p - m)
+waiting_next k m p next below =
+    let more : p - k ≡ suc (p - m) = omega arith in
+    let after : suc k ≡ m = omega arith in
+    ap (λ (n : ℕ). waiting k n) more ∙ ap (λ (j : ℕ). (k, []) ∷ waiting j (p - m)) after

@@ -2,3 +2,4 @@ pub mod Views
 pub mod Steps
 pub mod Tokens
 pub mod Places
+pub mod Calls

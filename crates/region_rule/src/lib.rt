@@ -3,11 +3,16 @@
 //! Each call of a pass says by which entries it made that beginning grow. No call waits but the two under `Wait`.
 #![tactic(auto)]
 
+mod fault;
+mod join;
+mod pass;
 mod region;
 mod rule;
 mod steps;
 mod view;
 
+pub use fault::{Again, Changing, NoMemory, OpenFault, Stable};
+pub use pass::{Note, Pass};
 pub use region::Region;
 pub use rule::Rule;
 pub use view::{Opening, Role, View};

@@ -1,0 +1,44 @@
+use std::alloc::AllocError;
+
+/// Why a region was not made.
+#[derive(Clone, Copy, Debug, PartialEq, Eq)]
+pub enum OpenFault {
+    /// The image has `need` words, more than the region's `capacity`.
+    TooLarge { need: u64, capacity: u64 },
+    /// There was no memory left.
+    NoMemory,
+}
+
+impl From<AllocError> for OpenFault {
+    ghost use Rattle.std.specs.Prelude.{◌≡◌};
+    ghost use Rattle.region_rule.specs.declared.fault.OpenFault.TheVariants.{NoMemory};
+
+    ghost from_gives = { λ _ fault. fault ≡ NoMemory };
+
+    fn from(_error: AllocError) -> OpenFault {
+        OpenFault::NoMemory
+    }
+}
+
+/// There was no memory left. What the call took by value comes back with it where it says so.
+#[derive(Clone, Copy, Debug, PartialEq, Eq)]
+pub struct NoMemory;
+
+/// An attach came while a pass was changing the layout: `gate` is the gate's word before it, 2^63 or more.
+#[derive(Clone, Copy, Debug, PartialEq, Eq)]
+pub struct Changing {
+    pub gate: u64,
+}
+
+/// A reading that is of one layout: both numbers were this generation.
+#[derive(Clone, Copy, Debug, PartialEq, Eq)]
+pub struct Stable {
+    pub generation: u64,
+}
+
+/// A reading that was crossed by a change: generation 2 was `first`, and generation 1 after it `last`, which differs.
+#[derive(Clone, Copy, Debug, PartialEq, Eq)]
+pub struct Again {
+    pub first: u64,
+    pub last: u64,
+}
