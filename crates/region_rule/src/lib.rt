@@ -6,13 +6,17 @@
 mod fault;
 mod join;
 mod pass;
+mod reading;
 mod region;
 mod rule;
 mod steps;
+mod stint;
 mod view;
 
 pub use fault::{Again, Changing, NoMemory, OpenFault, Stable};
 pub use pass::{Note, Pass};
+pub use reading::Reading;
 pub use region::Region;
 pub use rule::Rule;
+pub use stint::Stint;
 pub use view::{Opening, Role, View};

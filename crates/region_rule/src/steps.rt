@@ -29,6 +29,24 @@ impl<S: Shape> Region<S> {
         self.table.shared.load::<Loads<S>>(seat, word as usize + 1)
     }
 
+    /// A load of generation 2.
+    pub(crate) fn load_second(&self, seat: &mut Seat<(), View>) -> u64
+        requires here { IsSeatOf self.now seat.old }
+        ensures tells { Tells S.shaping (Load 2) seat.old.me result seat.new.me }
+        ensures table { seat.new.table_id ≡ seat.old.table_id }
+    {
+        self.table.shared.load::<Loads<S>>(seat, 3)
+    }
+
+    /// A load of generation 1.
+    pub(crate) fn load_first(&self, seat: &mut Seat<(), View>) -> u64
+        requires here { IsSeatOf self.now seat.old }
+        ensures tells { Tells S.shaping (Load 1) seat.old.me result seat.new.me }
+        ensures table { seat.new.table_id ≡ seat.old.table_id }
+    {
+        self.table.shared.load::<Loads<S>>(seat, 2)
+    }
+
     /// A swap of a value word.
     pub(crate) fn swap(&self, seat: &mut Seat<(), View>, word: u32, value: u64) -> u64
         requires here { IsSeatOf self.now seat.old }
