@@ -51,7 +51,7 @@ agrees_whole k act seen rest (x ∷ xs) c a =
     (own-others k x.0 (seen ++ rest) act (λ e. differ (sym e)) ∙ both, refl, agrees_whole k act seen rest xs (omega arith) a.2)
 
 -- none of the numbers that are kept has an entry in the rest
-none_kept : (seen rest : List Entry) (kept : List (ℕ × List Entry)) → Agrees seen rest kept → HasNone rest kept
+pub none_kept : (seen rest : List Entry) (kept : List (ℕ × List Entry)) → Agrees seen rest kept → HasNone rest kept
 none_kept seen rest [] a = tt
 none_kept seen rest (x ∷ xs) a = (a.1, none_kept seen rest xs a.2)
 

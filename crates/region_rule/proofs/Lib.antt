@@ -2,3 +2,4 @@ pub mod Keeps
 pub mod Acts
 pub mod Fronts
 pub mod Tokens
+pub mod Rows
