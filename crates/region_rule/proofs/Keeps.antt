@@ -210,6 +210,7 @@ module _ (S : Shaping) where
             found = refl;
             journal = longer;
             mode = mine.mode;
+            had = mine.had;
           };
         }
 

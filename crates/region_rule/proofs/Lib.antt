@@ -3,3 +3,4 @@ pub mod Acts
 pub mod Fronts
 pub mod Tokens
 pub mod Rows
+pub mod Relaying

@@ -3,3 +3,4 @@ pub mod Steps
 pub mod Tokens
 pub mod Places
 pub mod Calls
+pub mod Changes

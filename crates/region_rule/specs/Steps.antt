@@ -49,3 +49,4 @@ pub record Extends (S : Shaping) (v : View) (act : Act) (n : ℕ) (w : View) : T
   pub found : n ≡ found_by act (state (opened v) (v.seen ++ between))
   pub journal : IsJournal S v.start v.passes ((v.seen ++ between) ++ entry v.number act ∷ [])
   pub mode : IsIn w.mode (now w) w.number
+  pub had : own w.number w.seen ≡ w.own

@@ -42,3 +42,14 @@ pub struct Again {
     pub first: u64,
     pub last: u64,
 }
+
+/// Why no change began.
+#[derive(Clone, Copy, Debug, PartialEq, Eq)]
+pub enum ChangeFault {
+    /// The image has `need` words, more than the region's `capacity`.
+    TooLarge { need: u64, capacity: u64 },
+    /// The gate was `gate` and not 0: a pass is inside, bounced or changing.
+    Busy { gate: u64 },
+    /// Generation 1 is 2^64 - 1, above which there is none.
+    Spent { generation: u64 },
+}
