@@ -4,3 +4,4 @@ pub mod Fronts
 pub mod Tokens
 pub mod Rows
 pub mod Relaying
+pub mod Finishing

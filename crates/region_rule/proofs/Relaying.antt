@@ -21,7 +21,7 @@ use Rattle.region_rule.specs.declared.view.View.{View}
 use Rattle.region_rule.specs.Views.{opened, now}
 use Rattle.region_rule.specs.Steps.{entry, found_by, acted, Extends}
 use Rattle.region_rule.specs.Calls.{Learns}
-use Rattle.region_rule.specs.Changes.{next_after, UnderWay}
+use Rattle.region_rule.specs.Changes.{next_after, left_from, UnderWay}
 
 -- the words of a list of words are words, and so is the 0 past its end
 word_of : (ws : List ℕ) (i : ℕ) → All IsWord ws → IsWord (slice_index ws i)
@@ -273,3 +273,27 @@ module _ (S : Shaping) where
         let first : slice_index (set (now v).words 2 n) 1 ≡ n = get_or-set_other (now v).words 2 1 n 0 (λ (q : 1 ≡ 2). omega arith) ∙ u.first in
         let second : slice_index (set (now v).words 2 n) 2 ≡ n = get_or-set_same (now v).words 2 n 0 wide in
         (ap (λ (x : View). x.mode) e.is ∙ u.changing, subst (λ (ws : List ℕ). slice_index ws 1 ≡ slice_index ws 2) (sym words) (first ∙ sym second))
+
+    -- a pass that took a free gate and loaded the first generation
+    pub loaded_stable : (v u x : View) (gate old : ℕ) → gate ≡ 0 → Extends S v Take gate u → v.mode ≡ Idle → Extends S u (Load 1) old x → (x.mode ≡ Changing) × IsStable (now x) × (g1 (now x) ≡ old)
+    loaded_stable v u x gate old free take idle load =
+        let takes : Extends S v Take 0 u = subst (λ (n : ℕ). Extends S v Take n u) free take in
+        let t = taken v u takes idle in
+        loaded u x old load t.0 takes.mode t.1
+
+    -- where no word is left, the next one is the image's end
+    pub all_stored : (v : View) (image : List ℕ) (next n : ℕ) → UnderWay S v image next n → left_from next image ≡ 0 → next ≡ length image
+    all_stored v image zero n u e = let both = laws.generations image u.is_image in let wide = both.0 in let none : length image - 2 ≡ 0 = e in absurd (omega arith)
+    all_stored v image (suc k) n u e =
+        let most = u.most in
+        let none : length image - suc k ≡ 0 = sym (left_suc k image) ∙ e in
+        omega arith
+      where
+        left_suc : (k : ℕ) (image : List ℕ) → left_from (suc k) image ≡ length image - suc k
+        left_suc k image = ap (λ (b : Bool). cond b (length image - 2) (length image - suc k)) (ne_eqb (suc k) 0 (λ (q : suc k ≡ 0). omega arith))
+
+    -- and where some are, the next one is before it
+    pub some_left : (image : List ℕ) (next : ℕ) → 2 < length image → left_from next image ≢ 0 → next < length image
+    some_left image zero wide h = omega arith
+    some_left image (suc k) wide h = dite (dec_le (suc (suc k)) (length image)) (λ (q : suc (suc k) ≤ length image). omega arith)
+        (λ (q : ¬ (suc (suc k) ≤ length image)). absurd (h (ap (λ (b : Bool). cond b (length image - 2) (length image - suc k)) (ne_eqb (suc k) 0 (λ (r : suc k ≡ 0). omega arith)) ∙ omega arith)))

@@ -3,6 +3,7 @@
 //! Each call of a pass says by which entries it made that beginning grow. No call waits but the two under `Wait`.
 #![tactic(auto)]
 
+mod change;
 mod fault;
 mod join;
 mod pass;
@@ -13,7 +14,8 @@ mod steps;
 mod stint;
 mod view;
 
-pub use fault::{Again, Changing, NoMemory, OpenFault, Stable};
+pub use change::Change;
+pub use fault::{Again, ChangeFault, Changing, NoMemory, OpenFault, Stable};
 pub use pass::{Note, Pass};
 pub use reading::Reading;
 pub use region::Region;

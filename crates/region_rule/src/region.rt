@@ -21,14 +21,15 @@ pub struct Region<S: Shape> {
 }
 
 impl<S: Shape> Model for Region<S> {
-    ghost use Rattle.std.specs.Prelude.{◌≡◌, ◌+◌, ◌<◌, length};
+    ghost use Rattle.std.specs.Prelude.{◌≡◌, ◌+◌, ◌<◌, All, length};
+    ghost use Rattle.region_core.specs.Shape.{IsWord};
     ghost use Rattle.region_rule.specs.Places.{Place};
 
     ghost Value = { Place };
 
     ghost view = { λ r. record { table = r.table.shared.table_id; words = r.table.shared.key.words.items; passes = r.table.shared.key.passes } };
 
-    ghost invariant = { λ r. (r.table.shared.table_id.words ≡ length r.table.shared.key.words.items + 1) × (length r.table.shared.key.words.items ≡ r.capacity) × (2 < r.capacity) × (r.table.shared.table_id.slots ≡ 0) };
+    ghost invariant = { λ r. (r.table.shared.table_id.words ≡ length r.table.shared.key.words.items + 1) × (length r.table.shared.key.words.items ≡ r.capacity) × (2 < r.capacity) × (r.table.shared.table_id.slots ≡ 0) × All IsWord r.table.shared.key.words.items };
 }
 
 impl<S: Shape> Region<S> {
