@@ -5,3 +5,4 @@ pub mod Tokens
 pub mod Rows
 pub mod Relaying
 pub mod Finishing
+pub mod Showing

@@ -4,3 +4,4 @@ pub mod Tokens
 pub mod Places
 pub mod Calls
 pub mod Changes
+pub mod Reads

@@ -53,3 +53,23 @@ pub enum ChangeFault {
     /// Generation 1 is 2^64 - 1, above which there is none.
     Spent { generation: u64 },
 }
+
+/// Why a read of all words gave none.
+#[derive(Clone, Copy, Debug, PartialEq, Eq)]
+pub enum ReadFault {
+    /// A change crossed the reading: generation 2 was `first`, and generation 1 after it `last`.
+    Again { first: u64, last: u64 },
+    /// There was no memory left.
+    NoMemory,
+}
+
+impl From<AllocError> for ReadFault {
+    ghost use Rattle.std.specs.Prelude.{◌≡◌};
+    ghost use Rattle.region_rule.specs.declared.fault.ReadFault.TheVariants.{NoMemory};
+
+    ghost from_gives = { λ _ fault. fault ≡ NoMemory };
+
+    fn from(_error: AllocError) -> ReadFault {
+        ReadFault::NoMemory
+    }
+}

@@ -15,7 +15,7 @@ mod stint;
 mod view;
 
 pub use change::Change;
-pub use fault::{Again, ChangeFault, Changing, NoMemory, OpenFault, Stable};
+pub use fault::{Again, ChangeFault, Changing, NoMemory, OpenFault, ReadFault, Stable};
 pub use pass::{Note, Pass};
 pub use reading::Reading;
 pub use region::Region;
