@@ -6,3 +6,4 @@ pub mod Rows
 pub mod Relaying
 pub mod Finishing
 pub mod Showing
+pub mod Lawful

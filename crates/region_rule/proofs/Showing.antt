@@ -296,9 +296,22 @@ module _ (S : Shaping) where
         let s : Stays v r.0 x.0 x.1 = stays v r.0 x.0 x.1 r.1 mode there in
         fits_before (now v).words (now r.0).words (get_or xs k d) s.still (inside_each r.0 w xs r.2 s.mode s.there k d (omega arith))
 
+    journal_of : (v w : View) (words : List ℕ) → Reads S v (numbered_from 0 words) w → 0 < length words → IsJournal S v.start v.passes v.seen
+    journal_of v w [] r h = absurd (omega arith)
+    journal_of v w (x ∷ xs) r h =
+        let e = r.1 in
+        let j = e.journal in
+        record {
+          image = j.image;
+          wide = j.wide;
+          few = j.few;
+          legal = legal-front S (opened v) v.seen e.between (legal-front S (opened v) (v.seen ++ e.between) (entry v.number (Load 0) ∷ []) j.legal);
+        }
+
     -- every word read while the pass is inside: an image of the form that stands
-    pub reads_inside : (v w : View) (words : List ℕ) → Reads S v (numbered_from 0 words) w → v.mode ≡ Attached → IsIn v.mode (now v) v.number → IsJournal S v.start v.passes v.seen → length words ≡ length v.start → ReadsInside S v words w
-    reads_inside v w words r mode there journal wide =
+    pub reads_inside : (v w : View) (words : List ℕ) → Reads S v (numbered_from 0 words) w → v.mode ≡ Attached → IsIn v.mode (now v) v.number → 0 < length words → length words ≡ length v.start → ReadsInside S v words w
+    reads_inside v w words r mode there some_of wide =
+        let journal : IsJournal S v.start v.passes v.seen = journal_of v w words r some_of in
         let here : IsStill S (now v).words (now v).words = inside_run S laws (now v) v.number [] (sound_of v journal) tt refl (subst (λ (m : Mode). IsIn m (now v) v.number) mode there) in
         let still : IsStill S (now v).words (now w).words = inside_still v w (numbered_from 0 words) r mode there here.image in
         let long : length (now v).words ≡ length v.start = wide_run (opened v) v.seen in
@@ -307,3 +320,8 @@ module _ (S : Shaping) where
         (λ i h. subst (λ (x : ℕ × ℕ). Fits (now v).words x) (numbered_or 0 words i (0, 0) (omega arith) ∙ ap (λ (k : ℕ). (k, slice_index words i)) (omega arith))
         (inside_each v w (numbered_from 0 words) r mode there i (0, 0) (omega arith))) in
         record { whole = wide; loads = r; image = like.image; form = like.form ∙ sym still.form_is }
+
+-- a pass's mode is told after each load
+pub reads_there : (S : Shaping) (v w : View) (found : List (ℕ × ℕ)) → Reads S v found w → IsIn v.mode (now v) v.number → IsIn w.mode (now w) w.number
+reads_there S v w [] r there = subst (λ (x : View). IsIn x.mode (now x) x.number) (sym r) there
+reads_there S v w (x ∷ xs) r there = let e = r.1 in reads_there S r.0 w xs r.2 e.mode

@@ -5,3 +5,5 @@ pub mod Places
 pub mod Calls
 pub mod Changes
 pub mod Reads
+pub mod Waits
+pub mod Laws

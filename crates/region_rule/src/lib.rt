@@ -6,16 +6,23 @@
 mod change;
 mod fault;
 mod join;
+mod laws;
 mod pass;
 mod reading;
+mod reads;
 mod region;
 mod rule;
 mod steps;
 mod stint;
 mod view;
+mod waits;
 
 pub use change::Change;
 pub use fault::{Again, ChangeFault, Changing, NoMemory, OpenFault, ReadFault, Stable};
+pub use laws::{
+    agreement_is_shown, disagreement_is_again, form_stays_inside, last_closes_all, last_sees_all,
+    steps_keep_the_form,
+};
 pub use pass::{Note, Pass};
 pub use reading::Reading;
 pub use region::Region;

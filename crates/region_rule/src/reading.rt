@@ -1,10 +1,12 @@
 //! Readings: generation 2 first, then words, then generation 1 (mmv(5)).
-ghost use Rattle.std.specs.Prelude.{◌≡◌, ◌≢◌, ◌<◌, ℕ, MatchResult, length};
+ghost use Rattle.std.specs.Prelude.{◌≡◌, ◌≢◌, ◌<◌, ℕ, List, MatchResult, length};
 ghost use Rattle.region_core.specs.declared.act.Act.TheVariants.{Load};
 ghost use Rattle.region_rule.specs.Steps.{Extends};
 ghost use Rattle.region_rule.specs.Tokens.{note_of};
 ghost use Rattle.region_rule.specs.Places.{IsSame};
+ghost use Rattle.region_rule.specs.declared.view.View.{View};
 ghost use Rattle.region_rule.specs.Calls.{Learns};
+ghost use Rattle.region_rule.specs.Reads.{Reads, ShowsIn, RefusedIn};
 
 use crate::fault::{Again, Stable};
 use crate::pass::{Note, Pass};
@@ -73,6 +75,10 @@ impl Reading {
             result.1
             (λ stable. (stable.generation ≡ self.first) × (last ≡ self.first))
             (λ again. (again.first ≡ self.first) × (again.last ≡ last) × (self.first ≢ last)) }
+        ensures shown { (v begun : View) (found : List (ℕ × ℕ)) → Extends S.shaping v (Load 2) self.first begun → Reads S.shaping begun found self.token.view → MatchResult
+            result.1
+            (λ stable. (form : S.shaping.Form) × ShowsIn S.shaping v (record { generation = stable.generation; form = form; found = found }) result.0.view)
+            (λ again. RefusedIn v again.first again.last result.0.view) }
         ensures stays { IsSame self.token result.0 }
     {
         let Reading {

@@ -18,21 +18,23 @@ use std::marker::Model;
 /// A pass that is inside its region.
 #[derive(Drop)]
 pub struct Stint {
-    number: u32,
-    seat: Seat<(), View>,
+    pub(crate) number: u32,
+    pub(crate) seat: Seat<(), View>,
 }
 
 impl Model for Stint {
     ghost use Rattle.std.specs.Prelude.{◌≡◌, []};
     ghost use Rattle.region_core.specs.declared.mode.Mode.TheVariants.{Attached};
     ghost use Rattle.region_rule.specs.declared.view.Role.TheVariants.{Numbered};
+    ghost use Rattle.region_core.specs.State.{IsIn};
+    ghost use Rattle.region_rule.specs.Views.{now};
     ghost use Rattle.region_rule.specs.Places.{Token, token_of};
 
     ghost Value = { Token };
 
     ghost view = { λ s. token_of s.seat };
 
-    ghost invariant = { λ s. (s.seat.me.1 ≡ []) × (s.seat.me.0.role ≡ Numbered) × (s.seat.me.0.mode ≡ Attached) × (s.number ≡ s.seat.me.0.number) };
+    ghost invariant = { λ s. (s.seat.me.1 ≡ []) × (s.seat.me.0.role ≡ Numbered) × (s.seat.me.0.mode ≡ Attached) × (s.number ≡ s.seat.me.0.number) × IsIn s.seat.me.0.mode (now s.seat.me.0) s.seat.me.0.number };
 }
 
 impl<S: Shape> Region<S> {
