@@ -8,9 +8,9 @@ use Rattle.region_core.specs.declared.mode.Mode.TheVariants.{Idle, Attached}
 use Rattle.region_core.specs.declared.act.Act.{Act}
 use Rattle.region_core.specs.declared.act.Entry.{Entry}
 use Rattle.region_core.specs.Shape.{Shaping, IsShape}
-use Rattle.region_core.specs.State.{State, after, IsIn, IsAllowed}
+use Rattle.region_core.specs.State.{State, after, opening, IsIn, IsAllowed}
 use Rattle.region_core.specs.Journal.{state, own, IsLegal, IsJournal}
-use Rattle.region_core.proofs.Journals.{state-append, legal-front, legal-back}
+use Rattle.region_core.proofs.Journals.{state-append, own-append, legal-front, legal-back}
 use Rattle.region_core.proofs.Sound.{IsSound, sound_run, sound_opening, inside_shut}
 use Rattle.region_core.proofs.Stretch.{IsStill, quiet_act}
 use Rattle.region_core.proofs.Runs.{mode_run, count_run, none_past, other_first}
@@ -18,7 +18,7 @@ use Rattle.region_rule.specs.declared.view.View.{View}
 use Rattle.region_rule.specs.Views.{opened, now, HasNone, one_if, count}
 use Rattle.region_rule.specs.Steps.{entry, Extends}
 use Rattle.region_rule.specs.Tokens.{IsLast}
-use Rattle.region_rule.specs.Calls.{Closes}
+use Rattle.region_rule.specs.Calls.{Closes, Learns}
 use Rattle.region_rule.proofs.Keeps.{Ahead, ahead}
 use Rattle.region_rule.proofs.Acts.{form_inside}
 use Rattle.region_rule.proofs.Relaying.{now_after}
@@ -70,3 +70,21 @@ module _ (S : Shaping) where
         let still : IsStill S t.words (after t v.number act).words = quiet_act S laws t v.number act sound allowed (inside_shut t.gate t.modes v.number sound.gated here) in
         let before : IsJournal S v.start v.passes (v.seen ++ e.between) = record { image = e.journal.image; wide = e.journal.wide; few = e.journal.few; legal = legal } in
         ap (λ (s : State). S.form s.words) (now_after S v w act n e) ∙ still.form_is ∙ stays_inside v e.between before e.others mode there
+
+    none_added : (xs ys : List Entry) → xs ++ ys ≡ xs → ys ≡ []
+    none_added [] ys e = e
+    none_added (x ∷ xs) ys e = none_added xs ys (cc)
+
+    -- and so does learning what a note has seen
+    pub informed_inside : (v w new : View) → v.mode ≡ Attached → IsIn v.mode (now v) v.number → own v.number v.seen ≡ v.own → Learns S v w new → S.form (now new).words ≡ S.form (now v).words
+    informed_inside v w new mode there mine l =
+        let mid : List Entry = l.mine.0 in
+        let seen : new.seen ≡ v.seen ++ mid = l.mine.1 in
+        let had : own v.number (v.seen ++ mid) ≡ own v.number v.seen =
+        ap (λ (es : List Entry). own v.number es) (sym seen) ∙ ap (λ (x : View). own x.number new.seen) (sym l.is) ∙ l.knows.had ∙ ap (λ (x : View). x.own) l.is ∙ sym mine in
+        let none : own v.number mid ≡ [] = none_added (own v.number v.seen) (own v.number mid) (sym (own-append v.number v.seen mid) ∙ had) in
+        let start : new.start ≡ v.start = ap (λ (x : View). x.start) l.is in
+        let count_is : new.passes ≡ v.passes = ap (λ (x : View). x.passes) l.is in
+        let journal : IsJournal S v.start v.passes (v.seen ++ mid) = subst (λ (es : List Entry). IsJournal S v.start v.passes es) seen
+        (subst (λ (n : ℕ). IsJournal S v.start n new.seen) count_is (subst (λ (ws : List ℕ). IsJournal S ws new.passes new.seen) start l.knows.journal)) in
+        (λ i. S.form (state (opening (start i) (count_is i)) (seen i)).words) ∙ stays_inside v mid journal none mode there

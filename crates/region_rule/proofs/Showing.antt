@@ -319,9 +319,14 @@ module _ (S : Shaping) where
         let like : IsLike S (now v).words words = patch_like S laws (now v).words words here.image (wide ∙ sym long)
         (λ i h. subst (λ (x : ℕ × ℕ). Fits (now v).words x) (numbered_or 0 words i (0, 0) (omega arith) ∙ ap (λ (k : ℕ). (k, slice_index words i)) (omega arith))
         (inside_each v w (numbered_from 0 words) r mode there i (0, 0) (omega arith))) in
-        record { whole = wide; loads = r; image = like.image; form = like.form ∙ sym still.form_is }
+        record { whole = wide; loads = r; image = like.image; form = like.form ∙ sym still.form_is; same = still.form_is }
 
 -- a pass's mode is told after each load
 pub reads_there : (S : Shaping) (v w : View) (found : List (ℕ × ℕ)) → Reads S v found w → IsIn v.mode (now v) v.number → IsIn w.mode (now w) w.number
 reads_there S v w [] r there = subst (λ (x : View). IsIn x.mode (now x) x.number) (sym r) there
 reads_there S v w (x ∷ xs) r there = let e = r.1 in reads_there S r.0 w xs r.2 e.mode
+
+-- and so are its own entries
+pub reads_had : (S : Shaping) (v w : View) (found : List (ℕ × ℕ)) → Reads S v found w → own v.number v.seen ≡ v.own → own w.number w.seen ≡ w.own
+reads_had S v w [] r had = subst (λ (x : View). own x.number x.seen ≡ x.own) (sym r) had
+reads_had S v w (x ∷ xs) r had = let e = r.1 in reads_had S r.0 w xs r.2 e.had

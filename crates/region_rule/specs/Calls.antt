@@ -81,3 +81,7 @@ pub record Closes (S : Shaping) (v : View) (words : List ℕ) : Type 0 where
   pub is : words ≡ (state (opened v) (v.seen ++ rest)).words
   pub others : own v.number rest ≡ []
   pub gathered_none : HasNone rest v.kept
+
+-- the form of what the pass has seen is the same
+abbrev pub KeepsForm : Shaping → View → View → Type 0
+KeepsForm S v w = S.form (now w).words ≡ S.form (now v).words

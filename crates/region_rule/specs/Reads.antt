@@ -70,3 +70,4 @@ pub record ReadsInside (S : Shaping) (v : View) (words : List ℕ) (w : View) : 
   pub loads : Reads S v (numbered_from 0 words) w
   pub image : S.IsImage words
   pub form : S.form words ≡ S.form (now w).words
+  pub same : S.form (now w).words ≡ S.form (now v).words

@@ -4,7 +4,7 @@ ghost use Rattle.region_core.specs.declared.act.Act.TheVariants.{Swap, Add};
 ghost use Rattle.region_rule.specs.Steps.{Extends};
 ghost use Rattle.region_rule.specs.Tokens.{note_of};
 ghost use Rattle.region_rule.specs.Places.{IsSame};
-ghost use Rattle.region_rule.specs.Calls.{Attaches, Bounces, Detaches, TakesValue, TakesAll, Learns};
+ghost use Rattle.region_rule.specs.Calls.{Attaches, Bounces, Detaches, KeepsForm, TakesValue, TakesAll, Learns};
 
 use crate::fault::Changing;
 use crate::pass::{Note, Pass};
@@ -27,6 +27,7 @@ impl Model for Stint {
     ghost use Rattle.region_core.specs.declared.mode.Mode.TheVariants.{Attached};
     ghost use Rattle.region_rule.specs.declared.view.Role.TheVariants.{Numbered};
     ghost use Rattle.region_core.specs.State.{IsIn};
+    ghost use Rattle.region_core.specs.Journal.{own};
     ghost use Rattle.region_rule.specs.Views.{now};
     ghost use Rattle.region_rule.specs.Places.{Token, token_of};
 
@@ -34,7 +35,7 @@ impl Model for Stint {
 
     ghost view = { λ s. token_of s.seat };
 
-    ghost invariant = { λ s. (s.seat.me.1 ≡ []) × (s.seat.me.0.role ≡ Numbered) × (s.seat.me.0.mode ≡ Attached) × (s.number ≡ s.seat.me.0.number) × IsIn s.seat.me.0.mode (now s.seat.me.0) s.seat.me.0.number };
+    ghost invariant = { λ s. (s.seat.me.1 ≡ []) × (s.seat.me.0.role ≡ Numbered) × (s.seat.me.0.mode ≡ Attached) × (s.number ≡ s.seat.me.0.number) × IsIn s.seat.me.0.mode (now s.seat.me.0) s.seat.me.0.number × (own s.seat.me.0.number s.seat.me.0.seen ≡ s.seat.me.0.own) };
 }
 
 impl<S: Shape> Region<S> {
@@ -65,6 +66,7 @@ impl Stint {
         requires below { word < length region.now.words }
         requires takes { TakesValue S.shaping self.old.view word value }
         ensures swaps { Extends S.shaping self.old.view (Swap word value) result self.new.view }
+        ensures form { KeepsForm S.shaping self.old.view self.new.view }
         ensures stays { IsSame self.old self.new }
     {
         region.swap(&mut self.seat, word, value)
@@ -76,6 +78,7 @@ impl Stint {
         requires below { word < length region.now.words }
         requires takes { TakesAll S.shaping self.old.view word }
         ensures adds { Extends S.shaping self.old.view (Add word delta) result self.new.view }
+        ensures form { KeepsForm S.shaping self.old.view self.new.view }
         ensures stays { IsSame self.old self.new }
     {
         region.add(&mut self.seat, word, delta)
@@ -108,6 +111,7 @@ impl Stint {
         requires here { self.old.place ≡ region.now }
         requires note { note.place ≡ region.now }
         ensures learns { Learns S.shaping self.old.view note.view self.new.view }
+        ensures form { KeepsForm S.shaping self.old.view self.new.view }
         ensures stays { IsSame self.old self.new }
     {
         region.learn_seat(&mut self.seat, note.seat);

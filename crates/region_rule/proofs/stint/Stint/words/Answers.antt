@@ -1,7 +1,7 @@
 use Rattle.std.proofs.Common.{◌≡◌, ◌<◌, ℕ, List, [], length, sym, ap, ◌∙◌, subst, arith}
 use Rattle.region_rule.specs.Places.{Place, Token}
 use Rattle.region_rule.specs.Reads.{numbered_from, ReadsInside}
-use Rattle.region_rule.proofs.Showing.{reads_inside, reads_there}
+use Rattle.region_rule.proofs.Showing.{reads_inside, reads_there, reads_had}
 use Rattle.region_rule.proofs.stint.Stint.words.Goals as goal
 
 pub invariant_of-self : goal.invariant_of-self
@@ -15,6 +15,7 @@ invariant_of-self g c =
       e.seat.3 ∙ c.self.invariant.2,
       c.self.invariant.3 ∙ sym e.seat.2,
       reads_there S v w (numbered_from 0 c.load_all.new.words.items) e.reads c.self.invariant.4,
+      reads_had S v w (numbered_from 0 c.load_all.new.words.items) e.reads c.self.invariant.5,
     )
 
 pub returns-clause-reads : goal.returns-clause-reads
