@@ -1,5 +1,5 @@
 -- Where each kind of act is allowed, by what its pass has seen alone, and the table's step that it is.
-use Rattle.std.proofs.Common.{◌≡◌, ◌≢◌, ℕ, suc, ◌+◌, ◌-◌, ◌%◌, ◌^◌, ◌<◌, ◌≤◌, ◌⊎◌, Bool, true, false, List, [], ◌∷◌, length, set, slice_index, slice_set, eqb, add-one, mod-eq_of_lt, sym, refl, ap, ◌∙◌, subst, inl, inr, ⊎_elim, arith}
+use Rattle.std.proofs.Common.{◌≡◌, ◌≢◌, ℕ, suc, ◌+◌, ◌-◌, ◌%◌, ◌^◌, ◌<◌, ◌≤◌, ◌⊎◌, Bool, true, false, List, ◌∷◌, length, slice_index, slice_set, eqb, add-one, mod-eq_of_lt, sym, refl, ap, ◌∙◌, subst, inl, inr, ⊎_elim, arith}
 use Rattle.std.proofs.Math.Nat.{add-mod_right}
 use lib.Seq.{set-get_or}
 use prog.Atomic.{either}
@@ -10,7 +10,7 @@ use Rattle.region_core.specs.declared.act.Act.{Act}
 use Rattle.region_core.specs.declared.act.Act.TheVariants.{Load, Swap, Add, Enter, Leave, Take, Begin, Put, End, Free}
 use Rattle.region_core.specs.declared.act.Entry.{Entry}
 use Rattle.region_core.specs.Shape.{Shaping, IsShape, IsWord}
-use Rattle.region_core.specs.State.{State, word, g1, g2, after, after_take, IsIn, IsStable}
+use Rattle.region_core.specs.State.{State, g1, g2, after_take, IsIn, IsStable}
 use Rattle.region_core.specs.Journal.{state}
 use Rattle.region_core.proofs.Lists.{at_below}
 use Rattle.region_core.proofs.Gates.{gate_room}

@@ -1,12 +1,12 @@
 -- Beginnings of one list, and what a view may say of a longer one.
-use Rattle.std.proofs.Common.{◌≡◌, ◌≢◌, ℕ, zero, suc, ◌+◌, ◌<◌, ◌≤◌, Bool, true, false, cond, List, [], ◌∷◌, ◌++◌, length, eqb, ltb, append_assoc, append-nil, sym, refl, ap, ◌∙◌, subst, arith}
+use Rattle.std.proofs.Common.{◌≡◌, ℕ, ◌+◌, ◌≤◌, Bool, true, false, cond, List, [], ◌∷◌, ◌++◌, length, ltb, append_assoc, append-nil, sym, refl, ap, ◌∙◌, subst, arith}
 use Rattle.region_core.specs.declared.act.Entry.{Entry}
 use Rattle.region_core.specs.State.{State, IsIn}
-use Rattle.region_core.specs.Journal.{state, own}
+use Rattle.region_core.specs.Journal.{own}
 use Rattle.region_core.proofs.Journals.{state-append, own-append}
 use Rattle.region_core.proofs.Runs.{mode_run}
 use Rattle.region_rule.specs.declared.view.View.{View}
-use Rattle.region_rule.specs.Views.{opened, now, Begins, Agrees, HasNone, Sees, Owns, one_if, count}
+use Rattle.region_rule.specs.Views.{opened, now, Begins, Agrees, Owns, count}
 use Rattle.region_core.specs.Shape.{Shaping}
 use Rattle.region_rule.specs.Tokens.{HasLists, Knows, informed, longer, shorter}
 use Rattle.region_rule.specs.Calls.{Learns}

@@ -1,17 +1,15 @@
 -- An act of one view that is allowed keeps the rule.
-use Rattle.std.proofs.Common.{◌≡◌, ◌≢◌, ℕ, ◌+◌, ◌<◌, ◌≤◌, ◌⊎◌, Bool, true, false, List, [], ◌∷◌, ◌++◌, set, slice_index, eqb, ltb, eq-eqb, append_assoc, append-nil, sym, refl, ap, ◌∙◌, subst, ⊎_elim, arith}
+use Rattle.std.proofs.Common.{◌≡◌, ◌≢◌, ℕ, ◌+◌, ◌≤◌, Bool, true, false, List, [], ◌∷◌, ◌++◌, set, slice_index, eqb, ltb, eq-eqb, append_assoc, append-nil, sym, refl, ap, ◌∙◌, subst, ⊎_elim, arith}
 use mathlib.Core.Option.{some}
-use mathlib.Core.Logic.{dite}
-use native.Mathlib.Decide.{ℕ_discrete}
 use lib.ListN.{get_elem?}
-use Rattle.atomic_table.specs.Table.{State as Table, Act as Move, keeps, Allows}
+use Rattle.atomic_table.specs.Table.{State as Table, keeps, Allows}
 use Rattle.atomic_table.proofs.Lists.{at_set}
 use Rattle.region_core.specs.declared.mode.Mode.{Mode}
 use Rattle.region_core.specs.declared.act.Act.{Act}
 use Rattle.region_core.specs.declared.act.Act.TheVariants.{Load, Swap, Add, Enter, Leave, Take, Begin, Put, End, Free}
 use Rattle.region_core.specs.declared.act.Entry.{Entry}
 use Rattle.region_core.specs.Shape.{Shaping, IsShape}
-use Rattle.region_core.specs.State.{State, after, opening, next_mode, IsIn, IsAllowed}
+use Rattle.region_core.specs.State.{State, after, next_mode, IsIn, IsAllowed}
 use Rattle.region_core.specs.Journal.{state, own, IsLegal, IsJournal}
 use Rattle.region_core.specs.Gate.{total}
 use Rattle.region_core.proofs.Totals.{total-set, le_total, two_le_total}
@@ -21,7 +19,7 @@ use Rattle.region_core.proofs.Runs.{mode_run, mode_own}
 use Rattle.region_rule.specs.declared.view.View.{View}
 use Rattle.region_rule.specs.declared.view.Role.{Role}
 use Rattle.region_rule.specs.declared.view.Role.TheVariants.{Spent, Copied, Numbered}
-use Rattle.region_rule.specs.Views.{table_words, opened, now, Begins, Agrees, HasNone, Sees, Owns, fits_as, Fits, one_if, count, held_as, held, Kept}
+use Rattle.region_rule.specs.Views.{table_words, opened, now, Agrees, HasNone, Sees, Owns, fits_as, Fits, one_if, count, held_as, held, Kept}
 use Rattle.region_rule.specs.Steps.{entry, found_by, acted, Extends}
 
 -- a number that isn't counted is another one
@@ -69,14 +67,16 @@ fits_longer Spent words passes log v k act h f = tt
 fits_longer Copied words passes log v k act h f = (f.0 ++ entry k act ∷ [], sees_longer words passes log f.0 (entry k act ∷ []) v f.1)
 fits_longer Numbered words passes log v k act h f =
     let differ : v.number ≢ k = not_counted v.number k (omega arith) in
-    let o = f.1 in
-    (f.0 ++ entry k act ∷ [], record {
-      sees = sees_longer words passes log f.0 (entry k act ∷ []) v o.sees;
-      had = o.had;
-      none = own-others k v.number f.0 act (λ e. differ (sym e)) ∙ o.none;
-      mode = o.mode;
-      kept = agrees_longer k act v.seen f.0 v.kept (omega arith) o.kept;
-    })
+    let o = f.1 in (
+      f.0 ++ entry k act ∷ [],
+      record {
+        sees = sees_longer words passes log f.0 (entry k act ∷ []) v o.sees;
+        had = o.had;
+        none = own-others k v.number f.0 act (λ e. differ (sym e)) ∙ o.none;
+        mode = o.mode;
+        kept = agrees_longer k act v.seen f.0 v.kept (omega arith) o.kept;
+      },
+    )
 
 -- a view with a number fits as one that has all its entries
 pub numbered : (words : List ℕ) (passes : ℕ) (log : List Entry) (v : View) → v.role ≡ Numbered → Fits words passes log v → (rest : List Entry) × Owns words passes log rest v

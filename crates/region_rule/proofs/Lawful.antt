@@ -1,5 +1,5 @@
 -- What follows from the clauses of the calls.
-use Rattle.std.proofs.Common.{◌≡◌, ◌≢◌, ℕ, ◌+◌, ◌<◌, ◌≤◌, Bool, true, false, List, [], ◌∷◌, ◌++◌, length, eqb, eqb-true, sym, refl, ap, ◌∙◌, subst, arith}
+use Rattle.std.proofs.Common.{◌≡◌, ◌≢◌, ℕ, ◌<◌, ◌≤◌, Bool, true, false, List, [], ◌∷◌, ◌++◌, length, eqb, eqb-true, sym, refl, ap, ◌∙◌, subst, arith}
 use Rattle.std.proofs.lemmas.List.{length-replicate}
 use mathlib.Core.Logic.{dite}
 use native.Mathlib.Decide.{ℕ_discrete, dec_le}
@@ -19,7 +19,7 @@ use Rattle.region_rule.specs.Views.{opened, now, HasNone, one_if, count}
 use Rattle.region_rule.specs.Steps.{entry, Extends}
 use Rattle.region_rule.specs.Tokens.{IsLast}
 use Rattle.region_rule.specs.Calls.{Closes, Learns}
-use Rattle.region_rule.proofs.Keeps.{Ahead, ahead}
+use Rattle.region_rule.proofs.Keeps.{ahead}
 use Rattle.region_rule.proofs.Acts.{form_inside}
 use Rattle.region_rule.proofs.Relaying.{now_after}
 

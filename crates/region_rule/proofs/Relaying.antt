@@ -1,25 +1,25 @@
 -- What is true while a change is under way, step by step.
-use Rattle.std.proofs.Common.{◌≡◌, ◌≢◌, ℕ, zero, suc, ◌+◌, ◌-◌, ◌^◌, ◌<◌, ◌≤◌, ◌⊎◌, Bool, true, false, cond, List, [], ◌∷◌, ◌++◌, All, length, set, drop, get_or, slice_index, eqb, eq-eqb, ne_eqb, append-nil, length-set, length-append, length-drop, get_or-set_same, get_or-set_other, ext_get_or, sym, refl, ap, ◌∙◌, subst, inl, inr, ⊎_elim, arith}
+use Rattle.std.proofs.Common.{◌≡◌, ◌≢◌, ℕ, zero, suc, ◌+◌, ◌-◌, ◌<◌, ◌≤◌, ◌⊎◌, Bool, true, false, cond, List, [], ◌∷◌, ◌++◌, All, length, set, drop, slice_index, eqb, ne_eqb, length-set, length-append, length-drop, get_or-set_same, get_or-set_other, ext_get_or, sym, refl, ap, ◌∙◌, subst, inl, inr, ⊎_elim, arith}
 use Rattle.std.proofs.lemmas.List.Elements.{All-set, All-drop}
 use Rattle.std.proofs.lemmas.List.{get_or_append_left, get_or-append-add, get_or-drop}
 use Rattle.std.proofs.Common.{lit<}
 use mathlib.Core.Logic.{dite}
 use native.Mathlib.Decide.{ℕ_discrete, dec_le}
 use Rattle.region_core.specs.declared.mode.Mode.{Mode}
-use Rattle.region_core.specs.declared.mode.Mode.TheVariants.{Idle, Attached, Changing}
+use Rattle.region_core.specs.declared.mode.Mode.TheVariants.{Idle, Changing}
 use Rattle.region_core.specs.declared.act.Act.{Act}
 use Rattle.region_core.specs.declared.act.Act.TheVariants.{Load, Swap, Add, Enter, Leave, Take, Begin, Put, End, Free}
 use Rattle.region_core.specs.declared.act.Entry.{Entry}
 use Rattle.region_core.specs.Shape.{Shaping, IsShape, IsWord, IsLike, with_generation}
-use Rattle.region_core.specs.State.{State, word, g1, g2, plus, after, after_take, opening, next_mode, IsIn, IsStable, IsAllowed}
+use Rattle.region_core.specs.State.{State, word, g1, g2, plus, after, after_take, IsIn, IsStable, IsAllowed}
 use Rattle.region_core.specs.Journal.{state, own, IsLegal, IsJournal}
-use Rattle.region_core.specs.Gate.{total, inside, bounced, changing}
+use Rattle.region_core.specs.Gate.{total, changing}
 use Rattle.region_core.proofs.Journals.{state-append, state-snoc, own-append, legal-front, legal-back}
 use Rattle.region_core.proofs.Sound.{IsSound, sound_run, sound_opening, plus_word}
-use Rattle.region_core.proofs.Runs.{mode_run, wide_run, changing_run}
+use Rattle.region_core.proofs.Runs.{wide_run, changing_run}
 use Rattle.region_rule.specs.declared.view.View.{View}
 use Rattle.region_rule.specs.Views.{opened, now}
-use Rattle.region_rule.specs.Steps.{entry, found_by, acted, Extends}
+use Rattle.region_rule.specs.Steps.{entry, Extends}
 use Rattle.region_rule.specs.Calls.{Learns}
 use Rattle.region_rule.specs.Changes.{next_after, left_from, UnderWay}
 
@@ -125,10 +125,11 @@ module _ (S : Shaping) where
     pub loaded : (u x : View) (old : ℕ) → Extends S u (Load 1) old x → u.mode ≡ Changing → IsIn u.mode (now u) u.number → IsStable (now u) → (x.mode ≡ Changing) × IsStable (now x) × (g1 (now x) ≡ old)
     loaded u x old e mode there stable =
         let before = words_before u x (Load 1) old e mode there in
-        let words : (now x).words ≡ (now u).words = ap (λ (s : State). s.words) (now_after u x (Load 1) old e) ∙ before in
-        (ap (λ (y : View). y.mode) e.is ∙ mode,
-        subst (λ (ws : List ℕ). slice_index ws 1 ≡ slice_index ws 2) (sym words) stable,
-        ap (λ (ws : List ℕ). slice_index ws 1) (words ∙ sym before) ∙ sym e.found)
+        let words : (now x).words ≡ (now u).words = ap (λ (s : State). s.words) (now_after u x (Load 1) old e) ∙ before in (
+          ap (λ (y : View). y.mode) e.is ∙ mode,
+          subst (λ (ws : List ℕ). slice_index ws 1 ≡ slice_index ws 2) (sym words) stable,
+          ap (λ (ws : List ℕ). slice_index ws 1) (words ∙ sym before) ∙ sym e.found,
+        )
 
     wide_now : (v : View) → length (now v).words ≡ length v.start
     wide_now v = wide_run (opened v) v.seen

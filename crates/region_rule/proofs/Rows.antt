@@ -1,5 +1,5 @@
 -- Rows of words and of tokens that loops make, and what closing a region gives.
-use Rattle.std.proofs.Common.{◌≡◌, ◌≢◌, ℕ, zero, suc, ◌+◌, ◌-◌, ◌<◌, ◌≤◌, List, [], ◌∷◌, ◌++◌, length, set, slice_index, length-set, get_or-set_same, get_or-set_other, ext_get_or, add-zero, add-one, sym, refl, ap, ◌∙◌, subst, arith}
+use Rattle.std.proofs.Common.{◌≡◌, ◌≢◌, ℕ, zero, suc, ◌+◌, ◌<◌, List, [], ◌∷◌, ◌++◌, length, set, slice_index, get_or-set_same, get_or-set_other, ext_get_or, add-zero, add-one, sym, refl, ap, ◌∙◌, subst, arith}
 use mathlib.Core.Option.{some}
 use mathlib.Core.Logic.{dite}
 use native.Mathlib.Decide.{ℕ_discrete}
@@ -8,11 +8,11 @@ use Rattle.atomic_table.specs.declared.shared.Seat.{Seat}
 use Rattle.region_core.specs.declared.act.Entry.{Entry}
 use Rattle.region_core.specs.Shape.{Shaping}
 use Rattle.region_core.specs.State.{State, opening}
-use Rattle.region_core.specs.Journal.{state, own, IsJournal}
-use Rattle.region_core.proofs.Lists.{at_below, get_or_at}
+use Rattle.region_core.specs.Journal.{state, IsJournal}
+use Rattle.region_core.proofs.Lists.{get_or_at}
 use Rattle.region_rule.specs.declared.view.View.{View}
 use Rattle.region_rule.specs.declared.view.Role.TheVariants.{Numbered}
-use Rattle.region_rule.specs.Views.{table_words, opened, Agrees, HasNone, Owns, Kept, fresh_view}
+use Rattle.region_rule.specs.Views.{table_words, opened, Owns, Kept, fresh_view}
 use Rattle.region_rule.specs.Places.{Place, Token, token_of}
 use Rattle.region_rule.specs.Calls.{fresh_from, Closes}
 use Rattle.region_rule.proofs.Keeps.{numbered, none_kept}

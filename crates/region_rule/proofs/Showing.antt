@@ -3,8 +3,6 @@ use Rattle.std.proofs.Common.{◌≡◌, ◌≢◌, ℕ, zero, suc, ◌+◌, ◌
 use Rattle.std.proofs.Math.Seq.{take-append_seam}
 use Rattle.std.proofs.lemmas.List.{take-append-le}
 use Rattle.std.proofs.Common.{◌⊎◌, inl, inr, ⊎_elim, get_or}
-use mathlib.Core.Option.{some}
-use lib.ListN.{get_elem?}
 use Rattle.std.specs.Prelude.{slice_get, Some}
 use Rattle.region_core.specs.declared.act.Act.{Act}
 use Rattle.region_core.specs.declared.act.Act.TheVariants.{Load}
@@ -14,7 +12,7 @@ use Rattle.region_core.specs.declared.mode.Mode.TheVariants.{Attached}
 use Rattle.region_core.specs.Shape.{Shaping, IsShape, IsWord, IsLike}
 use Rattle.region_core.specs.State.{State, word, g1, g2, opening, IsIn}
 use Rattle.region_core.specs.Journal.{state, state_at, IsJournal}
-use Rattle.region_core.specs.Readings.{LoadsAt, Reading, IsFoundBetween, IsShownBetween, IsAgainBetween, HasLayout}
+use Rattle.region_core.specs.Readings.{LoadsAt, Reading, IsFoundBetween, HasLayout}
 use Rattle.region_core.proofs.Lists.{at_longer, at_seam}
 use Rattle.region_core.proofs.Journals.{state-append, legal-front, legal-back}
 use Rattle.region_core.proofs.Sound.{IsSound, sound_run, sound_opening}
@@ -25,7 +23,7 @@ use Rattle.region_core.specs.Journal.{own, IsLegal}
 use Rattle.region_rule.specs.declared.view.View.{View}
 use Rattle.region_rule.specs.Views.{opened, now, Begins}
 use Rattle.region_rule.specs.Steps.{entry, Extends}
-use Rattle.region_rule.specs.Reads.{Reads, numbered_from, WholeReading, ShowsIn, RefusedIn, ReadsImage, ReadsAgain, ReadsInside}
+use Rattle.region_rule.specs.Reads.{Reads, numbered_from, WholeReading, ShowsIn, RefusedIn, ReadsImage, ReadsInside}
 use Rattle.region_rule.proofs.Relaying.{now_after}
 
 -- a load of word i by pass k stands in the log, at a place from here on, and found n
@@ -200,7 +198,7 @@ module _ (S : Shaping) where
             let high = s.before in
             (s.at, omega arith, omega arith, s'.loads, s'.found);
         journal = subst (λ (n : ℕ). IsJournal S v.start n w.seen) vb.passes (subst (λ (ws : List ℕ). IsJournal S ws b.passes w.seen) vb.start
-        (subst (λ (es : List Entry). IsJournal S b.start b.passes es) (sym (ap (λ (x : View). x.seen) r.closes.is)) r.closes.journal));
+            (subst (λ (es : List Entry). IsJournal S b.start b.passes es) (sym (ap (λ (x : View). x.seen) r.closes.is)) r.closes.journal));
         follows = follows_trans v b w vb fw;
       }
 
@@ -216,15 +214,21 @@ module _ (S : Shaping) where
     agrees v w first last found r same =
         let t = placed v w first last found r in
         let e : g2 (state_at (opened v) w.seen t.p) ≡ g1 (state_at (opened v) w.seen t.q) = sym t.first_is ∙ same ∙ t.last_is in
-        let form : S.Form = S.form (state_at (opened v) w.seen t.p).words in
-        (form, (t.p, t.q, record {
-          since = t.since;
-          order = t.order;
-          opens = t.opens;
-          closes = t.closes;
-          each = t.each;
-          stretch = λ k after before. subst (λ (n : ℕ). HasLayout S (state_at (opened v) w.seen k) n form) (sym t.first_is) (layout_at S laws v.start v.passes w.seen t.journal t.p k t.q after before e);
-        }))
+        let form : S.Form = S.form (state_at (opened v) w.seen t.p).words in (
+          form,
+          (
+            t.p,
+            t.q,
+            record {
+              since = t.since;
+              order = t.order;
+              opens = t.opens;
+              closes = t.closes;
+              each = t.each;
+              stretch = λ k after before. subst (λ (n : ℕ). HasLayout S (state_at (opened v) w.seen k) n form) (sym t.first_is) (layout_at S laws v.start v.passes w.seen t.journal t.p k t.q after before e);
+            },
+          ),
+        )
 
     -- and where it read every word, they are an image
     pub reads_image : (v w : View) (first last : ℕ) (words : List ℕ) → WholeReading S v first (numbered_from 0 words) last w → first ≡ last → length words ≡ length v.start → ReadsImage S v words w

@@ -1,5 +1,5 @@
 -- Views that are cut in two or joined keep the rule, and so does a look at the table.
-use Rattle.std.proofs.Common.{◌≡◌, ◌≢◌, ℕ, zero, suc, ◌+◌, ◌-◌, ◌^◌, ◌<◌, ◌≤◌, ◌⊎◌, Bool, true, false, cond, List, [], ◌∷◌, ◌++◌, length, set, slice_index, replicate, eqb, ltb, ltb-true, eq-eqb, ne_eqb, add-zero, add-suc, suc-add, sym, refl, ap, ◌∙◌, subst, ⊎_elim, arith}
+use Rattle.std.proofs.Common.{◌≡◌, ◌≢◌, ℕ, zero, suc, ◌+◌, ◌-◌, ◌^◌, ◌<◌, ◌≤◌, Bool, true, false, cond, List, [], ◌∷◌, ◌++◌, length, set, slice_index, replicate, eqb, ltb, ltb-true, eq-eqb, ne_eqb, add-zero, sym, refl, ap, ◌∙◌, subst, ⊎_elim, arith}
 use Rattle.std.proofs.lemmas.Bool.{lt-ltb, le-ltb, ltb-false}
 use Rattle.std.proofs.lemmas.List.{length-replicate}
 use lib.Seq.{set-get_or}
@@ -9,21 +9,20 @@ use native.Mathlib.Decide.{ℕ_discrete}
 use lib.ListN.{get_elem?}
 use Rattle.atomic_table.specs.Table.{State as Table, keeps, Allows, Splits, Joins}
 use Rattle.atomic_table.proofs.Lists.{at_set, at_snoc, set_again, set_else}
-use Rattle.region_core.specs.declared.mode.Mode.{Mode}
 use Rattle.region_core.specs.declared.mode.Mode.TheVariants.{Idle}
 use Rattle.region_core.specs.declared.act.Entry.{Entry}
-use Rattle.region_core.specs.Shape.{Shaping, IsShape}
-use Rattle.region_core.specs.State.{State, opening, IsIn}
-use Rattle.region_core.specs.Journal.{state, own, IsLegal, IsJournal}
+use Rattle.region_core.specs.Shape.{Shaping}
+use Rattle.region_core.specs.State.{opening, IsIn}
+use Rattle.region_core.specs.Journal.{IsLegal, IsJournal}
 use Rattle.region_core.specs.Gate.{total}
 use Rattle.region_core.proofs.Lists.{at_some, at_copies}
 use Rattle.region_core.proofs.Totals.{total-set, le_total, total-snoc}
 use Rattle.region_core.proofs.Journals.{legal-front}
 use Rattle.region_rule.specs.declared.view.View.{View}
 use Rattle.region_rule.specs.declared.view.Role.{Role}
-use Rattle.region_rule.specs.declared.view.Role.TheVariants.{Spent, Copied, Numbered}
-use Rattle.region_rule.specs.Views.{opened, now, Begins, Agrees, Sees, Owns, fits_as, Fits, one_if, count, held_as, held, Kept, waiting, fresh_view, first_view}
-use Rattle.region_rule.specs.Tokens.{without, next_pass, note_of, spent_view, longer, shorter, informed, gathered, Knows}
+use Rattle.region_rule.specs.declared.view.Role.TheVariants.{Copied, Numbered}
+use Rattle.region_rule.specs.Views.{Agrees, Owns, fits_as, Fits, one_if, count, held_as, held, Kept, waiting, fresh_view, first_view}
+use Rattle.region_rule.specs.Tokens.{without, next_pass, note_of, spent_view, informed, gathered, Knows}
 use Rattle.region_rule.proofs.Keeps.{numbered, counted}
 use Rattle.region_rule.proofs.Fronts.{Front, front, agrees_further, agrees_both, lists_of, count-append, owns_further}
 
@@ -140,14 +139,16 @@ module _ (S : Shaping) (words : List ℕ) (passes : ℕ) where
         log = [];
         journal = record { image = image; wide = wide; few = few; legal = tt };
         is = refl;
-        fits = λ id u at. subst (λ (x : View). Fits words passes [] x) (at_one v u id at)
-            ([], record {
-              sees = record { start = refl; passes_are = refl; is = refl; told = ([], refl) };
-              had = refl;
-              none = refl;
-              mode = idle_there words passes 0 some_of;
-              kept = agrees_waiting 1 (passes - 1);
-            });
+        fits = λ id u at. subst (λ (x : View). Fits words passes [] x) (at_one v u id at) (
+          [],
+          record {
+            sees = record { start = refl; passes_are = refl; is = refl; told = ([], refl) };
+            had = refl;
+            none = refl;
+            mode = idle_there words passes 0 some_of;
+            kept = agrees_waiting 1 (passes - 1);
+          },
+        );
         once = λ k.
             let first = next_below k 0 in
             let others : count k (waiting 1 (passes - 1)) + one_if (ltb k 1) ≡ one_if (ltb k (1 + (passes - 1))) = counts_waiting k 1 (passes - 1) in
@@ -188,14 +189,16 @@ module _ (S : Shaping) (words : List ℕ) (passes : ℕ) where
       let one : one_if (eqb x.0 x.0) ≡ 1 = counted x.0 in
       let below : x.0 < passes = kept_below passes s.views id x.0 v (kept.once x.0) at (omega arith) in
       split s id v (without v) (next_pass v) kept at
-      (rest, keeping words passes kept.log rest v [] o tt)
-      (rest, record {
-        sees = record { start = refl; passes_are = refl; is = o.sees.is; told = ([], refl) };
-        had = refl;
-        none = o.kept.1;
-        mode = idle_there words passes x.0 below;
-        kept = o.kept.2;
-      })
+      (rest, keeping words passes kept.log rest v [] o tt) (
+        rest,
+        record {
+          sees = record { start = refl; passes_are = refl; is = o.sees.is; told = ([], refl) };
+          had = refl;
+          none = o.kept.1;
+          mode = idle_there words passes x.0 below;
+          kept = o.kept.2;
+        },
+      )
       (λ k. omega arith)
 
   -- a note has seen what its pass has seen
@@ -253,9 +256,11 @@ module _ (S : Shaping) (words : List ℕ) (passes : ℕ) where
       let j : Joined words passes kept.log its_rest.0 v w b = joined words passes kept.log own_rest.0 its_rest.0 v w b refl own_rest.1 o.sees.is in
       let its : Agrees (cond b w.seen v.seen) j.rest ((w.number, w.own) ∷ w.kept) = j.others ((w.number, w.own) ∷ w.kept) (o.had, o.none, o.kept) in
       join s id other v w (gathered v w) kept at differ there
-      (subst (λ (r : Role). fits_as r words passes kept.log (gathered v w)) (sym is)
-      (j.rest, keeping words passes kept.log j.rest (informed v w) ((w.number, w.own) ∷ (w.kept ++ v.kept)) j.owns
-      (its.0, its.1, agrees_both (cond b w.seen v.seen) j.rest w.kept v.kept its.2 j.owns.kept)))
+      (subst (λ (r : Role). fits_as r words passes kept.log (gathered v w)) (sym is) (
+        j.rest,
+        keeping words passes kept.log j.rest (informed v w) ((w.number, w.own) ∷ (w.kept ++ v.kept)) j.owns
+            (its.0, its.1, agrees_both (cond b w.seen v.seen) j.rest w.kept v.kept its.2 j.owns.kept),
+      ))
       (λ k.
       let mine : held k v ≡ one_if (eqb v.number k) + count k v.kept = ap (λ (r : Role). held_as r k v.number v.kept) is in
       let theirs : held k w ≡ one_if (eqb w.number k) + count k w.kept = ap (λ (r : Role). held_as r k w.number w.kept) ended in
@@ -278,14 +283,22 @@ module _ (S : Shaping) (words : List ℕ) (passes : ℕ) where
       } in
       let same : Kept S words passes (set s.words 0 (slice_index s.words 0)) (set s.views id v) =
       subst (λ (xs : List ℕ). Kept S words passes xs (set s.views id v)) (sym (set-get_or s.words 0 0))
-      (subst (λ (us : List View). Kept S words passes s.words us) (sym (set_again s.views id v at)) kept) in
-      (v, keeps, tt, same, (refl, record {
-        journal = subst (λ (n : ℕ). IsJournal S v.start n v.seen) count_is (subst (λ (ws : List ℕ). IsJournal S ws passes v.seen) start seen);
-        told = o.sees.told;
-        had = o.had;
-        mode = o.mode;
-        lists = lists_of v.seen own_rest.0 v.kept o.kept;
-      }))
+      (subst (λ (us : List View). Kept S words passes s.words us) (sym (set_again s.views id v at)) kept) in (
+        v,
+        keeps,
+        tt,
+        same,
+        (
+          refl,
+          record {
+            journal = subst (λ (n : ℕ). IsJournal S v.start n v.seen) count_is (subst (λ (ws : List ℕ). IsJournal S ws passes v.seen) start seen);
+            told = o.sees.told;
+            had = o.had;
+            mode = o.mode;
+            lists = lists_of v.seen own_rest.0 v.kept o.kept;
+          },
+        ),
+      )
 
 -- the first of the numbers that wait, and those after it
 pub waiting_next : (k m p : ℕ) → m ≡ k + 1 → k < p → waiting k (p - k) ≡ (k, []) ∷ waiting m (p - m)

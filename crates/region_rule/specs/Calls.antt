@@ -1,9 +1,9 @@
 -- What the calls of a pass say.
-use Rattle.std.specs.Prelude.{◌≡◌, ◌≢◌, ℕ, zero, suc, ◌+◌, ◌-◌, ◌^◌, ◌<◌, ◌≤◌, List, [], ◌∷◌, ◌++◌, length}
-use Rattle.region_core.specs.declared.act.Act.TheVariants.{Load, Enter, Leave}
+use Rattle.std.specs.Prelude.{◌≡◌, ℕ, zero, suc, ◌^◌, ◌<◌, ◌≤◌, List, [], ◌∷◌, ◌++◌, length}
+use Rattle.region_core.specs.declared.act.Act.TheVariants.{Enter, Leave}
 use Rattle.region_core.specs.declared.act.Entry.{Entry}
 use Rattle.region_core.specs.Shape.{Shaping, IsWord}
-use Rattle.region_core.specs.State.{State, with_zeros}
+use Rattle.region_core.specs.State.{with_zeros}
 use Rattle.region_core.specs.Journal.{state, own, IsJournal}
 use Rattle.region_rule.specs.declared.view.View.{View}
 use Rattle.region_rule.specs.declared.fault.OpenFault.{OpenFault}

@@ -11,7 +11,7 @@ use Rattle.region_rule.specs.declared.fault.ChangeFault.{ChangeFault}
 use Rattle.region_rule.specs.declared.fault.ChangeFault.TheVariants.{TooLarge, Busy, Spent}
 use Rattle.region_rule.specs.Views.{now}
 use Rattle.region_rule.specs.Steps.{Extends}
-use Rattle.region_rule.specs.Places.{Place, Token}
+use Rattle.region_rule.specs.Places.{Token}
 
 -- a change: its pass, its generation, its image, and the next word that it stores
 pub record Relaying : Type 0 where

@@ -53,7 +53,11 @@ impl<S: Shape> Region<S> {
 impl Stint {
     /// Loads every word by rising index. No change runs meanwhile, so they are an image of the form of what the stint has
     /// seen, which is the region's.
-    pub fn words<S: Shape>(&mut self, region: &Region<S>, alloc: Global) -> Result<Vec<u64>, NoMemory>
+    pub fn words<S: Shape>(
+        &mut self,
+        region: &Region<S>,
+        alloc: Global,
+    ) -> Result<Vec<u64>, NoMemory>
         requires here { self.old.place ≡ region.now }
         ensures reads { MatchResult result (λ words. ReadsInside S.shaping self.old.view words.items self.new.view) (λ _. self.new ≡ self.old) }
         ensures stays { IsSame self.old self.new }

@@ -8,9 +8,7 @@ ghost use Rattle.region_rule.specs.Views.{now};
 ghost use Rattle.region_rule.specs.Places.{IsSeatOf, Tells, TellsView};
 
 use crate::region::Region;
-use crate::rule::{
-    Adds, Begins, Ends, Enters, Frees, Leaves, Loads, Looks, Puts, Swaps, Takes,
-};
+use crate::rule::{Adds, Begins, Ends, Enters, Frees, Leaves, Loads, Looks, Puts, Swaps, Takes};
 use crate::view::View;
 use atomic_table::Seat;
 use region_core::Shape;
@@ -56,7 +54,9 @@ impl<S: Shape> Region<S> {
         ensures tells { Tells S.shaping (Swap word value) seat.old.me result seat.new.me }
         ensures table { seat.new.table_id ≡ seat.old.table_id }
     {
-        self.table.shared.swap::<Swaps<S>>(seat, word as usize + 1, value)
+        self.table
+            .shared
+            .swap::<Swaps<S>>(seat, word as usize + 1, value)
     }
 
     /// A fetch_add to a value word.
@@ -68,7 +68,9 @@ impl<S: Shape> Region<S> {
         ensures tells { Tells S.shaping (Add word number) seat.old.me result seat.new.me }
         ensures table { seat.new.table_id ≡ seat.old.table_id }
     {
-        self.table.shared.fetch_add::<Adds<S>>(seat, word as usize + 1, number)
+        self.table
+            .shared
+            .fetch_add::<Adds<S>>(seat, word as usize + 1, number)
     }
 
     /// A fetch_add of 1 to the gate.
@@ -98,7 +100,9 @@ impl<S: Shape> Region<S> {
         ensures tells { Tells S.shaping Take seat.old.me result seat.new.me }
         ensures table { seat.new.table_id ≡ seat.old.table_id }
     {
-        self.table.shared.compare_exchange::<Takes<S>>(seat, 0, 0, TAKEN)
+        self.table
+            .shared
+            .compare_exchange::<Takes<S>>(seat, 0, 0, TAKEN)
     }
 
     /// A store of word 1.
@@ -124,7 +128,9 @@ impl<S: Shape> Region<S> {
         ensures tells { Tells S.shaping (Put word value) seat.old.me value seat.new.me }
         ensures table { seat.new.table_id ≡ seat.old.table_id }
     {
-        self.table.shared.store::<Puts<S>>(seat, word as usize + 1, value);
+        self.table
+            .shared
+            .store::<Puts<S>>(seat, word as usize + 1, value);
     }
 
     /// A store of word 2.

@@ -1,4 +1,4 @@
-use Rattle.std.proofs.Common.{◌≡◌, ◌+◌, ◌<◌, ◌≤◌, ℕ, ◌∷◌, length, slice_index, length-set, sym, ◌∙◌, arith}
+use Rattle.std.proofs.Common.{◌<◌, ◌≤◌, length, length-set, ◌∙◌, arith}
 use Rattle.std.specs.Slots.{slots_items}
 use Rattle.std.specs.Mem.Slots.{slots_counts}
 use Rattle.region_rule.proofs.Rows.{copied, whole}

@@ -1,4 +1,4 @@
-use Rattle.std.proofs.Common.{◌≡◌, ◌<◌, ℕ, sym, ◌∙◌, subst, arith}
+use Rattle.std.proofs.Common.{◌<◌, ◌∙◌, arith}
 use Rattle.region_rule.specs.Changes.{left_of}
 use Rattle.region_rule.proofs.Finishing.{continues_step}
 use Rattle.region_rule.proofs.change.Change.finish.Goals as goal

@@ -1,4 +1,4 @@
-use Rattle.std.proofs.Common.{◌≡◌, ℕ}
+use Rattle.std.proofs.Common.{◌≡◌}
 use Rattle.region_rule.specs.Changes.{left_of}
 use Rattle.region_rule.proofs.Finishing.{Continues}
 use Rattle.region_rule.proofs.change.Change.finish.Given as goal

@@ -1,4 +1,4 @@
-use Rattle.std.proofs.Common.{◌≡◌, ℕ, [], sym, ap, ◌∙◌}
+use Rattle.std.proofs.Common.{sym, ap, ◌∙◌}
 use Rattle.region_rule.specs.declared.view.View.{View}
 use Rattle.region_rule.specs.Calls.{Learns}
 use Rattle.region_rule.proofs.Fronts.{learned}

@@ -1,8 +1,8 @@
-use Rattle.std.proofs.Common.{◌≡◌, ◌<◌, ℕ, [], length, slice_index, sym, ap, ◌∙◌, subst}
+use Rattle.std.proofs.Common.{◌<◌, ℕ, length, slice_index, sym, ap, ◌∙◌, subst}
 use Rattle.region_core.specs.declared.act.Act.TheVariants.{Put}
 use Rattle.region_rule.specs.declared.view.View.{View}
 use Rattle.region_rule.specs.Steps.{Extends}
-use Rattle.region_rule.specs.Changes.{UnderWay, left_of, next_after}
+use Rattle.region_rule.specs.Changes.{UnderWay, left_of}
 use Rattle.region_rule.proofs.Relaying.{put_under, some_left}
 use Rattle.region_rule.proofs.change.Change.step.Goals as goal
 

@@ -1,4 +1,4 @@
-use Rattle.std.proofs.Common.{◌≡◌, ◌≢◌, ℕ, List, sym, ap, ◌∙◌, subst}
+use Rattle.std.proofs.Common.{ℕ, sym, ap, subst}
 use Rattle.region_core.specs.declared.act.Act.TheVariants.{Load}
 use Rattle.region_rule.specs.declared.view.View.{View}
 use Rattle.region_rule.specs.Steps.{Extends}

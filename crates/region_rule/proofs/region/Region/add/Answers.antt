@@ -1,4 +1,4 @@
-use Rattle.std.proofs.Common.{◌≡◌, ◌+◌, ◌<◌, length, ℕ, ◌-◌, ◌%◌, ◌^◌, List, sym, ap, ◌∙◌, subst, arith}
+use Rattle.std.proofs.Common.{◌≡◌, ◌+◌, ◌<◌, length, ℕ, ◌%◌, ◌^◌, List, sym, ap, ◌∙◌, subst, arith}
 use Rattle.region_core.specs.declared.act.Act.TheVariants.{Add}
 use Rattle.region_rule.specs.Places.{Place, place_of}
 use Rattle.region_rule.proofs.Acts.{at_word, adds}
@@ -22,5 +22,5 @@ fetch_add-requires g c =
       ap (λ (p : Place). p.table) is,
       omega arith,
       at_word S laws place.words place.passes v c.args.seat.now.me.1 (λ u. Add u c.args.number) w (λ n. (n + c.args.number) % 2 ^ 64) (λ n. n) place.table.slots c.args.seat.now.id start (ap (λ (p : Place). p.passes) is) c.requires.here.named
-      (adds S laws v w c.args.number c.requires.inside wide c.ranges.number.fits c.requires.takes),
+          (adds S laws v w c.args.number c.requires.inside wide c.ranges.number.fits c.requires.takes),
     )

@@ -1,4 +1,4 @@
-use Rattle.std.proofs.Common.{◌≡◌, ℕ, suc, ◌∙◌}
+use Rattle.std.proofs.Common.{suc, ◌∙◌}
 use Rattle.region_rule.proofs.region.Region.attach_wait.Goals as goal
 
 pub loop-preserved : goal.loop-preserved

@@ -1,4 +1,4 @@
-use Rattle.std.proofs.Common.{◌≡◌, ◌+◌, ◌<◌, length, ℕ, sym, ap, ◌∙◌, subst, arith}
+use Rattle.std.proofs.Common.{◌≡◌, sym, ap, ◌∙◌, arith}
 use Rattle.region_core.specs.declared.act.Act.TheVariants.{Begin}
 use Rattle.region_rule.specs.Places.{Place, place_of}
 use Rattle.region_rule.proofs.Acts.{at_place, begins}
@@ -19,5 +19,5 @@ store-requires g c =
       ap (λ (p : Place). p.table) is,
       omega arith,
       at_place S laws place.words place.passes v c.args.seat.now.me.1 (Begin c.args.generation) 2 (λ _. c.args.generation) (λ _. c.args.generation) place.table.slots c.args.seat.now.id start (ap (λ (p : Place). p.passes) is) c.requires.here.named
-      (begins S laws v c.args.generation c.requires.changing c.requires.stable c.requires.above c.ranges.generation.fits),
+          (begins S laws v c.args.generation c.requires.changing c.requires.stable c.requires.above c.ranges.generation.fits),
     )

@@ -1,8 +1,6 @@
-use Rattle.std.proofs.Common.{◌≡◌, ◌<◌, ◌≤◌, ℕ, List, [], All, length, sym, ap, ◌∙◌, subst, arith}
+use Rattle.std.proofs.Common.{◌≡◌, ◌<◌, ◌≤◌, ℕ, List, All, length, sym, ap, ◌∙◌, subst, arith}
 use Rattle.region_core.specs.Shape.{IsWord}
-use Rattle.region_core.specs.State.{g1}
 use Rattle.region_rule.specs.declared.view.View.{View}
-use Rattle.region_rule.specs.Views.{now}
 use Rattle.region_rule.specs.Places.{Place, Token}
 use Rattle.region_rule.proofs.Relaying.{loaded_stable, begun_under}
 use Rattle.region_rule.proofs.region.Region.begin_change.Goals as goal
@@ -42,6 +40,6 @@ invariant_of-result-2 g c =
       ap (λ (z : View). z.role) begin.0.is ∙ ap (λ (z : View). z.role) load.0.is ∙ ap (λ (z : View). z.role) take.0.is ∙ c.pass.invariant.1,
       c.pass.invariant.3 ∙ sym (ap (λ (z : View). z.number) begin.0.is ∙ ap (λ (z : View). z.number) load.0.is ∙ ap (λ (z : View). z.number) take.0.is),
       begun_under g.S.Shape.shaping g.S.Shape.laws x w c.args.image.items c.load_first-generation.result c.next_generation-generation.result begin.0 l.0 load.0.mode l.1 l.2
-      c.next_generation-generation.ensures.above c.next_generation-generation.type_inv c.requires.image
-      (subst (λ (ws : List ℕ). length c.args.image.items ≤ length ws) (sym start) room) (subst (λ (ws : List ℕ). All IsWord ws) (sym start) c.self.invariant.4),
+          c.next_generation-generation.ensures.above c.next_generation-generation.type_inv c.requires.image
+          (subst (λ (ws : List ℕ). length c.args.image.items ≤ length ws) (sym start) room) (subst (λ (ws : List ℕ). All IsWord ws) (sym start) c.self.invariant.4),
     )

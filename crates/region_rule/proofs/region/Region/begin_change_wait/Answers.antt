@@ -1,4 +1,4 @@
-use Rattle.std.proofs.Common.{◌≡◌, ℕ, suc, length, ◌∙◌, subst}
+use Rattle.std.proofs.Common.{suc, length, ◌∙◌, subst}
 use Rattle.region_rule.specs.declared.fault.ChangeFault.{ChangeFault}
 use Rattle.region_rule.specs.Changes.{Fails}
 use Rattle.region_rule.proofs.region.Region.begin_change_wait.Goals as goal

@@ -1,4 +1,4 @@
-use Rattle.std.proofs.Common.{◌≡◌, ◌+◌, ◌<◌, length, ℕ, ◌-◌, ◌%◌, ◌^◌, sym, ap, ◌∙◌, subst, arith}
+use Rattle.std.proofs.Common.{◌≡◌, ◌+◌, ◌%◌, ◌^◌, sym, ap, ◌∙◌, arith}
 use Rattle.region_core.specs.declared.act.Act.TheVariants.{Enter}
 use Rattle.region_rule.specs.Places.{Place, place_of}
 use Rattle.region_rule.proofs.Acts.{at_place, enters}
@@ -19,5 +19,5 @@ fetch_add-requires g c =
       ap (λ (p : Place). p.table) is,
       omega arith,
       at_place S laws place.words place.passes v c.args.seat.now.me.1 Enter 0 (λ n. (n + 1) % 2 ^ 64) (λ n. n) place.table.slots c.args.seat.now.id start (ap (λ (p : Place). p.passes) is) c.requires.here.named
-      (enters S laws v c.requires.idle),
+          (enters S laws v c.requires.idle),
     )

@@ -1,4 +1,4 @@
-use Rattle.std.proofs.Common.{◌≡◌, ◌+◌, ◌<◌, length, ℕ, ◌-◌, ◌%◌, ◌^◌, sym, ap, ◌∙◌, subst, arith}
+use Rattle.std.proofs.Common.{◌≡◌, ◌+◌, ◌-◌, ◌%◌, ◌^◌, sym, ap, ◌∙◌, arith}
 use Rattle.region_core.specs.declared.act.Act.TheVariants.{Free}
 use Rattle.region_rule.specs.Places.{Place, place_of}
 use Rattle.region_rule.proofs.Acts.{at_place, frees}
@@ -19,5 +19,5 @@ fetch_sub-requires g c =
       ap (λ (p : Place). p.table) is,
       omega arith,
       at_place S laws place.words place.passes v c.args.seat.now.me.1 Free 0 (λ n. (n + (2 ^ 64 - 2 ^ 63)) % 2 ^ 64) (λ n. n) place.table.slots c.args.seat.now.id start (ap (λ (p : Place). p.passes) is) c.requires.here.named
-      (frees S laws v c.requires.changing c.requires.stable),
+          (frees S laws v c.requires.changing c.requires.stable),
     )

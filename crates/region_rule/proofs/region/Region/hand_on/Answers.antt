@@ -25,7 +25,7 @@ split_seat-requires g c =
       c.requires.table ∙ sym (ap (λ (p : Place). p.table) here),
       omega arith,
       subst (λ (v : View). Splits (Holds S place.words place.passes) c.args.seat.now.id v (without v) (next_pass v)) (sym whole)
-      (gives S place.words place.passes c.args.seat.now.id n (n + 1, []) rest),
+          (gives S place.words place.passes c.args.seat.now.id n (n + 1, []) rest),
     )
 
 pub returns-clause-next : goal.returns-clause-next

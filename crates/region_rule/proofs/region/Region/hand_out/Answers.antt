@@ -1,6 +1,6 @@
-use Rattle.std.proofs.Common.{◌≡◌, ◌+◌, ◌-◌, ◌<◌, ◌≤◌, ℕ, suc, List, [], ◌∷◌, ◌++◌, sym, refl, ap, ◌∙◌, subst, arith}
+use Rattle.std.proofs.Common.{◌≡◌, ◌+◌, ◌-◌, ◌<◌, ◌≤◌, ℕ, suc, [], ◌∷◌, ◌++◌, sym, ap, ◌∙◌, arith}
 use Rattle.region_rule.specs.Views.{fresh_view, waiting}
-use Rattle.region_rule.specs.Places.{Place, Token, token_of}
+use Rattle.region_rule.specs.Places.{Place, token_of}
 use Rattle.region_rule.specs.Calls.{fresh_from}
 use Rattle.region_rule.proofs.Rows.{fresh_more, fresh_token}
 use Rattle.region_rule.proofs.region.Region.hand_out.Goals as goal

@@ -1,4 +1,4 @@
-use Rattle.std.proofs.Common.{◌≡◌, ◌+◌, ◌-◌, ◌<◌, ◌≤◌, ℕ, []}
+use Rattle.std.proofs.Common.{◌≡◌, ◌+◌, ◌-◌, ◌<◌, []}
 use Rattle.region_rule.specs.Views.{fresh_view, waiting}
 use Rattle.region_rule.specs.Calls.{fresh_from}
 use Rattle.region_rule.proofs.region.Region.hand_out.Given as goal

@@ -1,4 +1,4 @@
-use Rattle.std.proofs.Common.{◌≡◌, ◌-◌, ◌≤◌, ℕ, length, take}
+use Rattle.std.proofs.Common.{◌≡◌, ◌-◌, ◌≤◌, length, take}
 use Rattle.region_rule.specs.Places.{IsSeatOf, place_of}
 use Rattle.region_rule.specs.Reads.{Reads, numbered_from}
 use Rattle.region_rule.proofs.region.Region.load_all.Given as goal

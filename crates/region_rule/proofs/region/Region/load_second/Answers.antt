@@ -1,4 +1,4 @@
-use Rattle.std.proofs.Common.{◌≡◌, ◌+◌, ◌<◌, length, ℕ, List, sym, ap, ◌∙◌, subst, arith}
+use Rattle.std.proofs.Common.{◌≡◌, ◌<◌, length, ℕ, List, sym, ap, ◌∙◌, subst, arith}
 use Rattle.region_core.specs.declared.act.Act.TheVariants.{Load}
 use Rattle.region_rule.specs.Places.{Place, place_of}
 use Rattle.region_rule.proofs.Acts.{at_word, loads}
@@ -22,5 +22,5 @@ load-requires g c =
       ap (λ (p : Place). p.table) is,
       omega arith,
       at_word S laws place.words place.passes v c.args.seat.now.me.1 Load w (λ n. n) (λ n. n) place.table.slots c.args.seat.now.id start (ap (λ (p : Place). p.passes) is) c.requires.here.named
-      (loads S laws v w wide),
+          (loads S laws v w wide),
     )

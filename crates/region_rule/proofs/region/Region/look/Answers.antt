@@ -1,4 +1,4 @@
-use Rattle.std.proofs.Common.{◌≡◌, ◌+◌, ◌<◌, length, ℕ, sym, ap, ◌∙◌, subst, arith}
+use Rattle.std.proofs.Common.{◌≡◌, sym, ap, ◌∙◌, arith}
 use Rattle.region_rule.specs.Places.{Place, place_of}
 use Rattle.region_rule.proofs.Tokens.{looks}
 use Rattle.region_rule.proofs.region.Region.look.Goals as goal

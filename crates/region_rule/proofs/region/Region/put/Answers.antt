@@ -1,4 +1,4 @@
-use Rattle.std.proofs.Common.{◌≡◌, ◌+◌, ◌<◌, length, ℕ, List, sym, ap, ◌∙◌, subst, arith}
+use Rattle.std.proofs.Common.{◌≡◌, ◌<◌, length, ℕ, List, sym, ap, ◌∙◌, subst, arith}
 use Rattle.region_core.specs.declared.act.Act.TheVariants.{Put}
 use Rattle.region_rule.specs.Places.{Place, place_of}
 use Rattle.region_rule.proofs.Acts.{at_word, puts}
@@ -22,5 +22,5 @@ store-requires g c =
       ap (λ (p : Place). p.table) is,
       omega arith,
       at_word S laws place.words place.passes v c.args.seat.now.me.1 (λ u. Put u c.args.value) w (λ _. c.args.value) (λ _. c.args.value) place.table.slots c.args.seat.now.id start (ap (λ (p : Place). p.passes) is) c.requires.here.named
-      (puts S laws v w c.args.value c.requires.changing c.requires.unstable c.requires.not_first c.requires.not_second wide c.ranges.value.fits),
+          (puts S laws v w c.args.value c.requires.changing c.requires.unstable c.requires.not_first c.requires.not_second wide c.ranges.value.fits),
     )

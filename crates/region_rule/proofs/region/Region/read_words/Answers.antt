@@ -1,5 +1,4 @@
-use Rattle.std.proofs.Common.{◌≡◌, ◌≢◌, ◌<◌, ℕ, List, length, sym, ap, ◌∙◌, subst, arith}
-use Rattle.region_rule.specs.declared.view.View.{View}
+use Rattle.std.proofs.Common.{◌≡◌, ℕ, List, length, sym, ap, ◌∙◌, subst, arith}
 use Rattle.region_rule.specs.Places.{Place, Token}
 use Rattle.region_rule.specs.Reads.{WholeReading, numbered_from, ReadsImage, ReadsAgain}
 use Rattle.region_rule.proofs.Showing.{disagrees, reads_image}

@@ -1,4 +1,4 @@
-use Rattle.std.proofs.Common.{◌≡◌, ◌+◌, ◌<◌, length, ℕ, List, sym, ap, ◌∙◌, subst, arith}
+use Rattle.std.proofs.Common.{◌≡◌, ◌<◌, length, ℕ, List, sym, ap, ◌∙◌, subst, arith}
 use Rattle.region_core.specs.declared.act.Act.TheVariants.{Swap}
 use Rattle.region_rule.specs.Places.{Place, place_of}
 use Rattle.region_rule.proofs.Acts.{at_word, swaps}
@@ -22,5 +22,5 @@ swap-requires g c =
       ap (λ (p : Place). p.table) is,
       omega arith,
       at_word S laws place.words place.passes v c.args.seat.now.me.1 (λ u. Swap u c.args.value) w (λ _. c.args.value) (λ n. n) place.table.slots c.args.seat.now.id start (ap (λ (p : Place). p.passes) is) c.requires.here.named
-      (swaps S laws v w c.args.value c.requires.inside wide c.ranges.value.fits c.requires.takes),
+          (swaps S laws v w c.args.value c.requires.inside wide c.ranges.value.fits c.requires.takes),
     )

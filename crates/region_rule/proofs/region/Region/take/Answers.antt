@@ -1,4 +1,4 @@
-use Rattle.std.proofs.Common.{◌≡◌, ◌+◌, ◌<◌, length, ℕ, ◌^◌, eqb, sym, ap, ◌∙◌, subst, arith}
+use Rattle.std.proofs.Common.{◌≡◌, ◌^◌, eqb, sym, ap, ◌∙◌, arith}
 use Rattle.region_core.specs.declared.act.Act.TheVariants.{Take}
 use prog.Atomic.{either}
 use Rattle.region_rule.specs.Places.{Place, place_of}
@@ -20,5 +20,5 @@ compare_exchange-requires g c =
       ap (λ (p : Place). p.table) is,
       omega arith,
       at_place S laws place.words place.passes v c.args.seat.now.me.1 Take 0 (λ n. either (eqb n 0) (2 ^ 63) n) (λ n. n) place.table.slots c.args.seat.now.id start (ap (λ (p : Place). p.passes) is) c.requires.here.named
-      (takes S laws v c.requires.idle),
+          (takes S laws v c.requires.idle),
     )

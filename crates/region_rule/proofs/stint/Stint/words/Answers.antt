@@ -1,4 +1,4 @@
-use Rattle.std.proofs.Common.{◌≡◌, ◌<◌, ℕ, List, [], length, sym, ap, ◌∙◌, subst, arith}
+use Rattle.std.proofs.Common.{◌≡◌, ℕ, List, length, sym, ap, ◌∙◌, subst, arith}
 use Rattle.region_rule.specs.Places.{Place, Token}
 use Rattle.region_rule.specs.Reads.{numbered_from, ReadsInside}
 use Rattle.region_rule.proofs.Showing.{reads_inside, reads_there, reads_had}
