@@ -14,6 +14,8 @@ mod region;
 mod rule;
 mod steps;
 mod stint;
+#[cfg(test)]
+mod tests;
 mod view;
 mod waits;
 
