@@ -16,6 +16,8 @@ mod steps;
 mod stint;
 #[cfg(test)]
 mod tests;
+#[cfg(test)]
+mod thread_tests;
 mod view;
 mod waits;
 

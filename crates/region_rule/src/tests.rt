@@ -1,8 +1,6 @@
 ghost use Rattle.std.specs.Prelude.{◌≡◌, length};
 
-use crate::{
-    Again, ChangeFault, Changing, OpenFault, Pass, ReadFault, Region, Stable, Stint,
-};
+use crate::{Again, ChangeFault, Changing, OpenFault, Pass, ReadFault, Region, Stable, Stint};
 use region_core::slate::Slate;
 use std::alloc::Global;
 use std::process::Abort;
@@ -11,10 +9,7 @@ use std::process::Abort;
 const ONE_COUNTER: [u64; 5] = [1, 5, 5, 7, 64];
 
 // A region of the slate above and its three passes.
-fn make_three(
-    rt: &impl Abort,
-    alloc: Global,
-) -> (Region<Slate>, Pass, Pass, Pass)
+fn make_three(rt: &impl Abort, alloc: Global) -> (Region<Slate>, Pass, Pass, Pass)
     ensures words { length result.0.words ≡ 5 }
     ensures places { (result.1.place ≡ result.0) × (result.2.place ≡ result.0) × (result.3.place ≡ result.0) }
 {
@@ -54,7 +49,10 @@ fn add_to_counter(
 fn a_reading_across_a_change_is_refused(rt: HostRuntime) {
     let (region, writer, reader, other) = make_three(&rt, rt.alloc());
     assert_eq!(&rt; region.capacity(), 5);
-    assert_eq!(&rt; (writer.number(), reader.number(), other.number()), (0, 1, 2));
+    assert_eq!(&rt;
+        (writer.number(), reader.number(), other.number()),
+        (0, 1, 2)
+    );
     let mut reading = region.start_read(reader);
     assert_eq!(&rt; reading.word(&region, 3), 7);
     let Ok(image) = Vec::from_slice(rt.alloc(), &[1, 0, 0, 9, 128]) else {
@@ -110,7 +108,7 @@ fn a_change_waits_for_the_stint_and_a_spent_generation_ends_it(rt: HostRuntime) 
             assert_eq!(&rt; change.generation(), u64::MAX);
             change.finish(&region)
         }
-        Err((first, _, fault)) => {
+        Err((first, _image, fault)) => {
             assert_eq!(&rt; Some(fault), None);
             first
         }
@@ -123,7 +121,7 @@ fn a_change_waits_for_the_stint_and_a_spent_generation_ends_it(rt: HostRuntime) 
             assert_eq!(&rt; change.generation(), 0, "no generation is left");
             change.finish(&region)
         }
-        Err((first, _, fault)) => {
+        Err((first, _image, fault)) => {
             let spent = ChangeFault::Spent {
                 generation: u64::MAX,
             };
@@ -140,8 +138,14 @@ fn an_add_wraps_and_the_gatherer_closes(rt: HostRuntime) {
     let Ok(mut stint) = region.attach(third) else {
         panic!(&rt; "nobody is changing")
     };
-    assert_eq!(&rt; add_to_counter(&rt, rt.alloc(), &region, &mut stint, u64::MAX - 7), 7);
-    assert_eq!(&rt; add_to_counter(&rt, rt.alloc(), &region, &mut stint, 9), u64::MAX);
+    assert_eq!(&rt;
+        add_to_counter(&rt, rt.alloc(), &region, &mut stint, u64::MAX - 7),
+        7
+    );
+    assert_eq!(&rt;
+        add_to_counter(&rt, rt.alloc(), &region, &mut stint, 9),
+        u64::MAX
+    );
     let third = stint.detach(&region);
     let note = second.note(&region);
     first.learn(&region, note);
@@ -160,8 +164,12 @@ fn an_add_wraps_and_the_gatherer_closes(rt: HostRuntime) {
 
 #[test]
 fn an_image_with_more_words_is_refused(rt: HostRuntime) {
-    let made: Result<(Region<Slate>, Vec<Pass>), OpenFault> =
-        Region::make(rt.alloc(), &ONE_COUNTER, 4, 1);
+    let made: Result<(Region<Slate>, Vec<Pass>), OpenFault> = Region::make(
+        rt.alloc(),
+        &ONE_COUNTER,
+        4,
+        1,
+    );
     let fault = OpenFault::TooLarge {
         need: 5,
         capacity: 4,

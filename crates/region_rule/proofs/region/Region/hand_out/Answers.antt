@@ -36,4 +36,6 @@ returns g c =
     let token : token_of c.loop-number.seat ≡ record { place = place; view = fresh_view place.words place.passes n [] } = fresh_token c.loop-number.seat place n i.2 me in
     let pushed : c.push-2.new.self.items ≡ c.loop-number.given.items ++ token_of c.loop-number.seat ∷ [] = let e = c.in_ok-push-2.ensures in e.items in
     let end : suc n ≡ c.args.passes = omega arith in
-    pushed ∙ (λ k. i.1 k ++ token k ∷ []) ∙ fresh_more place 0 n n (omega arith) ∙ ap (λ (m : ℕ). fresh_from place 0 m) end
+    let grown : c.loop-number.given.items ++ token_of c.loop-number.seat ∷ [] ≡ fresh_from place 0 n ++ record { place = place; view = fresh_view place.words place.passes n [] } ∷ [] = (λ k. i.1 k ++ token k ∷ []) in
+    let all : fresh_from place 0 (suc n) ≡ fresh_from place 0 c.args.passes = ap (λ (m : ℕ). fresh_from place 0 m) end in
+    pushed ∙ (grown ∙ (fresh_more place 0 n n (omega arith) ∙ all))
