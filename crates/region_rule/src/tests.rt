@@ -1,6 +1,8 @@
 ghost use Rattle.std.specs.Prelude.{◌≡◌, length};
 
-use crate::{Again, ChangeFault, Changing, OpenFault, Pass, ReadFault, Region, Stable, Stint};
+use crate::{
+    Again, ChangeFault, Changing, Note, OpenFault, Pass, ReadFault, Reading, Region, Stable, Stint,
+};
 use region_core::slate::Slate;
 use std::alloc::Global;
 use std::process::Abort;
@@ -178,4 +180,17 @@ fn an_image_with_more_words_is_refused(rt: HostRuntime) {
         Ok(_) => panic!(&rt; "five words don't fit"),
         Err(found) => assert_eq!(&rt; found, fault),
     }
+}
+
+fn needs_send<T: Send>() {}
+
+fn needs_sync<T: Sync>() {}
+
+#[test]
+fn passes_and_notes_may_be_sent_and_a_region_shared(_rt: HostRuntime) {
+    needs_send::<Pass>();
+    needs_send::<Note>();
+    needs_send::<Reading>();
+    needs_send::<Stint>();
+    needs_sync::<Region<Slate>>();
 }
