@@ -1,0 +1,23 @@
+use Rattle.std.proofs.Common.{◌≡◌, sym, ap, ◌∙◌, arith}
+use Rattle.region_core.specs.declared.act.Act.TheVariants.{End}
+use Rattle.region_rule.specs.Places.{Place, place_of}
+use Rattle.region_rule.proofs.Acts.{at_place, ends}
+use Rattle.region_rule.proofs.region.Region.end.Goals as goal
+
+pub store-requires : goal.store-requires
+store-requires g c =
+    let S = g.S.Shape.shaping in
+    let laws = g.S.Shape.laws in
+    let r = c.self.inside in
+    let v = c.args.seat.now.me.0 in
+    let place : Place = record { table = r.table.shared.table_id; words = r.table.shared.key.words.items; passes = r.table.shared.key.passes } in
+    let is : place_of c.args.seat.now ≡ place = c.requires.here.is ∙ sym c.self.view_is in
+    let start : v.start ≡ place.words = ap (λ (p : Place). p.words) is in
+    let count = c.self.invariant.0 in
+    let capacity = c.self.invariant.1 in
+    let some_of = c.self.invariant.2 in (
+      ap (λ (p : Place). p.table) is,
+      omega arith,
+      at_place S laws place.words place.passes v c.args.seat.now.me.1 (End c.args.generation) 3 (λ _. c.args.generation) (λ _. c.args.generation) place.table.slots c.args.seat.now.id start (ap (λ (p : Place). p.passes) is) c.requires.here.named
+          (ends S laws v c.args.generation c.requires.changing c.requires.first c.requires.second c.requires.image),
+    )

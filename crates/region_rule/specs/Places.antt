@@ -1,0 +1,47 @@
+-- Which region a pass belongs to, and what contracts see of a pass.
+use Rattle.std.specs.Prelude.{◌≡◌, ℕ, List}
+use Rattle.atomic_table.specs.Table.{Me}
+use Rattle.atomic_table.specs.Seated.{TableId}
+use Rattle.atomic_table.specs.declared.shared.Seat.{Seat}
+use Rattle.region_core.specs.Shape.{Shaping}
+use Rattle.region_core.specs.declared.act.Act.{Act}
+use Rattle.region_rule.specs.declared.view.View.{View}
+use Rattle.region_rule.specs.declared.view.Role.TheVariants.{Numbered}
+use Rattle.region_rule.specs.Steps.{Extends}
+use Rattle.region_rule.specs.Tokens.{Knows}
+
+-- a region: its table, its words at its making, up to the capacity, and how many passes it has
+pub record Place : Type 0 where
+  pub table : TableId
+  pub words : List ℕ
+  pub passes : ℕ
+
+-- a pass, a reading, a stint, a change or a note: its region, and what it has seen
+pub record Token : Type 0 where
+  pub place : Place
+  pub view : View
+
+-- the region of a seat
+abbrev pub place_of : Seat (Unit {0}) View → Place
+place_of seat = record { table = seat.table_id; words = seat.me.0.start; passes = seat.me.0.passes }
+
+abbrev pub token_of : Seat (Unit {0}) View → Token
+token_of seat = record { place = place_of seat; view = seat.me.0 }
+
+-- the region, its capacity and the pass's number stay
+pub record IsSame (old new : Token) : Type 0 where
+  pub place : new.place ≡ old.place
+  pub number : new.view.number ≡ old.view.number
+
+-- the seat of a pass of this region
+pub record IsSeatOf (place : Place) (seat : Seat (Unit {0}) View) : Type 0 where
+  pub is : place_of seat ≡ place
+  pub named : seat.me.0.role ≡ Numbered
+
+-- what a step tells the pass that takes it
+abbrev pub Tells : Shaping → Act → Me (Unit {0}) View → ℕ → Me (Unit {0}) View → Type 0
+Tells S act me n new = Extends S me.0 act n new.0 × (new.1 ≡ me.1)
+
+-- and what a look tells
+abbrev pub TellsView : Shaping → Me (Unit {0}) View → ℕ → Me (Unit {0}) View → Type 0
+TellsView S me n new = (new ≡ me) × Knows S me.0

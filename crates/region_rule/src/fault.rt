@@ -1,0 +1,75 @@
+use std::alloc::AllocError;
+
+/// Why a region was not made.
+#[derive(Clone, Copy, Debug, PartialEq, Eq)]
+pub enum OpenFault {
+    /// The image has `need` words, more than the region's `capacity`.
+    TooLarge { need: u64, capacity: u64 },
+    /// There was no memory left.
+    NoMemory,
+}
+
+impl From<AllocError> for OpenFault {
+    ghost use Rattle.std.specs.Prelude.{◌≡◌};
+    ghost use Rattle.region_rule.specs.declared.fault.OpenFault.TheVariants.{NoMemory};
+
+    ghost from_gives = { λ _ fault. fault ≡ NoMemory };
+
+    fn from(_error: AllocError) -> OpenFault {
+        OpenFault::NoMemory
+    }
+}
+
+/// There was no memory left. What the call took by value comes back with it where it says so.
+#[derive(Clone, Copy, Debug, PartialEq, Eq)]
+pub struct NoMemory;
+
+/// An attach came while a pass was changing the layout: `gate` is the gate's word before it, 2^63 or more.
+#[derive(Clone, Copy, Debug, PartialEq, Eq)]
+pub struct Changing {
+    pub gate: u64,
+}
+
+/// A reading that is of one layout: both numbers were this generation.
+#[derive(Clone, Copy, Debug, PartialEq, Eq)]
+pub struct Stable {
+    pub generation: u64,
+}
+
+/// A reading that was crossed by a change: generation 2 was `first`, and generation 1 after it `last`, which differs.
+#[derive(Clone, Copy, Debug, PartialEq, Eq)]
+pub struct Again {
+    pub first: u64,
+    pub last: u64,
+}
+
+/// Why no change began.
+#[derive(Clone, Copy, Debug, PartialEq, Eq)]
+pub enum ChangeFault {
+    /// The image has `need` words, more than the region's `capacity`.
+    TooLarge { need: u64, capacity: u64 },
+    /// The gate was `gate` and not 0: a pass is inside, bounced or changing.
+    Busy { gate: u64 },
+    /// Generation 1 is 2^64 - 1, above which there is none.
+    Spent { generation: u64 },
+}
+
+/// Why a read of all words gave none.
+#[derive(Clone, Copy, Debug, PartialEq, Eq)]
+pub enum ReadFault {
+    /// A change crossed the reading: generation 2 was `first`, and generation 1 after it `last`.
+    Again { first: u64, last: u64 },
+    /// There was no memory left.
+    NoMemory,
+}
+
+impl From<AllocError> for ReadFault {
+    ghost use Rattle.std.specs.Prelude.{◌≡◌};
+    ghost use Rattle.region_rule.specs.declared.fault.ReadFault.TheVariants.{NoMemory};
+
+    ghost from_gives = { λ _ fault. fault ≡ NoMemory };
+
+    fn from(_error: AllocError) -> ReadFault {
+        ReadFault::NoMemory
+    }
+}

@@ -1,0 +1,58 @@
+//! How views are cut in two and joined.
+ghost use Rattle.std.specs.Prelude.{◌≡◌, ℕ, ◌+◌, ◌-◌, ◌<◌, []};
+ghost use Rattle.region_rule.specs.declared.view.Role.TheVariants.{Copied, Numbered};
+ghost use Rattle.region_rule.specs.Views.{fresh_view, waiting};
+ghost use Rattle.region_rule.specs.Tokens.{note_of, informed, gathered, Knows};
+ghost use Rattle.region_rule.specs.Places.{IsSeatOf, place_of};
+
+use crate::region::Region;
+use crate::rule::{Gather, Give, Learn, Noting};
+use crate::view::View;
+use atomic_table::Seat;
+use region_core::Shape;
+
+impl<S: Shape> Region<S> {
+    /// A new seat for the pass with the next number.
+    pub(crate) fn hand_on(&self, seat: &mut Seat<(), View>, number: u32) -> Seat<(), View>
+        requires more { number + 1 < self.now.passes }
+        requires table { seat.old.table_id ≡ self.now.table }
+        requires fresh { seat.old.me ≡ (fresh_view self.now.words self.now.passes number (waiting (number + 1) (self.now.passes - (number + 1))), []) }
+        ensures given { (seat.new.table_id ≡ seat.old.table_id) × (seat.new.me ≡ (fresh_view self.now.words self.now.passes number [], [])) }
+        ensures next { (result.table_id ≡ seat.old.table_id) × (result.me ≡ (fresh_view self.now.words self.now.passes (number + 1) (waiting (number + 2) (self.now.passes - (number + 2))), [])) }
+    {
+        self.table.shared.split_seat::<Give>(seat)
+    }
+
+    /// A seat for a note.
+    pub(crate) fn note_seat(&self, seat: &mut Seat<(), View>) -> Seat<(), View>
+        requires here { IsSeatOf self.now seat.old }
+        ensures same { (seat.new.table_id ≡ seat.old.table_id) × (seat.new.me ≡ seat.old.me) }
+        ensures note { (result.table_id ≡ seat.old.table_id) × (result.me ≡ (note_of seat.old.me.0, [])) }
+    {
+        self.table.shared.split_seat::<Noting>(seat)
+    }
+
+    /// Takes the longer of two lists.
+    pub(crate) fn learn_seat(&self, seat: &mut Seat<(), View>, note: Seat<(), View>)
+        requires here { IsSeatOf self.now seat.old }
+        requires note { (place_of note ≡ self.now) × (note.me.0.role ≡ Copied) × (note.me.1 ≡ []) }
+        ensures table { seat.new.table_id ≡ seat.old.table_id }
+        ensures both { seat.new.me ≡ (informed seat.old.me.0 note.me.0, seat.old.me.1) }
+        ensures knows { Knows S.shaping seat.new.me.0 }
+    {
+        self.table.shared.join_seat::<Learn>(seat, note);
+        self.look(seat);
+    }
+
+    /// Ends another pass.
+    pub(crate) fn gather_seat(&self, seat: &mut Seat<(), View>, ended: Seat<(), View>)
+        requires here { IsSeatOf self.now seat.old }
+        requires ended { IsSeatOf self.now ended × (ended.me.1 ≡ []) }
+        ensures table { seat.new.table_id ≡ seat.old.table_id }
+        ensures both { seat.new.me ≡ (gathered seat.old.me.0 ended.me.0, seat.old.me.1) }
+        ensures knows { Knows S.shaping seat.new.me.0 }
+    {
+        self.table.shared.join_seat::<Gather>(seat, ended);
+        self.look(seat);
+    }
+}

@@ -1,0 +1,71 @@
+//! Reads of all words.
+ghost use Rattle.std.specs.Prelude.{◌≡◌, MatchResult, length};
+ghost use Rattle.region_rule.specs.Places.{IsSeatOf, IsSame};
+ghost use Rattle.region_rule.specs.Reads.{Reads, numbered_from, ReadsImage, ReadsNot, ReadsInside};
+
+use crate::fault::{NoMemory, ReadFault};
+use crate::pass::Pass;
+use crate::region::Region;
+use crate::stint::Stint;
+use crate::view::View;
+use atomic_table::Seat;
+use region_core::Shape;
+use std::alloc::Global;
+
+impl<S: Shape> Region<S> {
+    /// Loads every word by rising index.
+    fn load_all(&self, seat: &mut Seat<(), View>, words: &mut Vec<u64>)
+        requires here { IsSeatOf self.now seat.old }
+        requires wide { length words.old.items ≡ length self.now.words }
+        ensures reads { Reads S.shaping seat.old.me.0 (numbered_from 0 words.new.items) seat.new.me.0 }
+        ensures wide { length words.new.items ≡ length words.old.items }
+        ensures seat { IsSeatOf self.now seat.new × (seat.new.me.1 ≡ seat.old.me.1) × (seat.new.me.0.number ≡ seat.old.me.0.number) × (seat.new.me.0.mode ≡ seat.old.me.0.mode) }
+    {
+        let mut index = 0;
+        while index < self.capacity {
+            let found = self.load(seat, index);
+            words[index as usize] = found;
+            index += 1;
+        }
+    }
+
+    /// Reads all words: generation 2, each word by rising index, and generation 1. `Ok` comes exactly where the two numbers
+    /// are equal, and the words are then an image of one layout; `Again` carries both numbers where they differ.
+    pub fn read_words(&self, alloc: Global, pass: &mut Pass) -> Result<Vec<u64>, ReadFault>
+        requires here { pass.old.place ≡ self.now }
+        ensures reads { MatchResult
+            result
+            (λ words. ReadsImage S.shaping pass.old.view words.items pass.new.view)
+            (ReadsNot S.shaping pass.old.view pass.new.view) }
+        ensures stays { IsSame pass.old pass.new }
+    {
+        let mut words = Vec::from_elem(alloc, 0u64, self.capacity as usize)?;
+        let first = self.load_second(&mut pass.seat);
+        self.load_all(&mut pass.seat, &mut words);
+        let last = self.load_first(&mut pass.seat);
+        if first != last {
+            return Err(ReadFault::Again { first, last });
+        }
+        Ok(words)
+    }
+}
+
+impl Stint {
+    /// Loads every word by rising index. No change runs meanwhile, so they are an image of the form of what the stint has
+    /// seen, which is the region's.
+    pub fn words<S: Shape>(
+        &mut self,
+        region: &Region<S>,
+        alloc: Global,
+    ) -> Result<Vec<u64>, NoMemory>
+        requires here { self.old.place ≡ region.now }
+        ensures reads { MatchResult result (λ words. ReadsInside S.shaping self.old.view words.items self.new.view) (λ _. self.new ≡ self.old) }
+        ensures stays { IsSame self.old self.new }
+    {
+        let Ok(mut words) = Vec::from_elem(alloc, 0u64, region.capacity as usize) else {
+            return Err(NoMemory);
+        };
+        region.load_all(&mut self.seat, &mut words);
+        Ok(words)
+    }
+}
