@@ -1,3 +1,5 @@
 pub mod Fields
 pub mod Loops
 pub mod Pairs
+pub mod Sets
+pub mod Whole

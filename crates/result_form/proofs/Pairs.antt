@@ -8,7 +8,7 @@ use Rattle.std.proofs.lemmas.Bool.{ltb-false, le-ltb}
 use Rattle.std.proofs.lemmas.List.{take_at, take-append-drop, length-append, length-take, length-drop}
 use Rattle.std.proofs.lemmas.Nat.{be_bytes_4}
 use Rattle.pcp_base.specs.Typed.{TypedBytes}
-use Rattle.pcp_model.specs.Words.{word, signed_word}
+use Rattle.pcp_model.specs.Words.{word, signed_word, length-word, length-signed_word}
 use Rattle.pcp_model.specs.Payload.{three_bytes, block_head, block_length, filling, place_byte, pair_blocks, value_pairs, place_pairs, reach, BlockStands, BlocksStand}
 use Rattle.result_form.specs.declared.fault.FormFault.{FormFault}
 use Rattle.result_form.specs.declared.fault.FormFault.TheVariants.{Place, Block}
@@ -53,14 +53,20 @@ values_takes bytes (suc n) at pairs fits within e =
 regrouped : (x y z rest : List ℕ) → (x ++ (y ++ z)) ++ rest ≡ x ++ (y ++ (z ++ rest))
 regrouped x y z rest = append_assoc x (y ++ z) rest ∙ ap (λ t. x ++ t) (append_assoc y z rest)
 
-pub values_again : (bytes : List ℕ) (at : ℕ) (pairs : List (ℤ × ℕ)) (rest : List ℕ) → AllByRecursion (λ p. FitsSigned w32 p.0 × (p.1 < 4294967296)) pairs → drop at bytes ≡ value_pairs pairs ++ rest
-    → (values_from bytes (length pairs) at ≡ Ok pairs) × (drop (at + 8 * length pairs) bytes ≡ rest)
+-- pairs that stand in the payload end in it
+pair_room : (bytes : List ℕ) (at : ℕ) (z : ℤ) (n : ℕ) (rest : List ℕ) → drop at bytes ≡ signed_word z ++ (word n ++ rest) → at + 8 ≤ length bytes
+pair_room bytes at z n rest e =
+    omega (arith, ap length e, length-drop at bytes, length-append (signed_word z) (word n ++ rest), length-append (word n) rest, length-signed_word z, length-word n)
+
+pub values_again : (bytes : List ℕ) (at : ℕ) (pairs : List (ℤ × ℕ)) (rest : List ℕ) → AllByRecursion (λ p. FitsSigned w32 p.0 × (p.1 < 4294967296)) pairs → at ≤ length bytes → drop at bytes ≡ value_pairs pairs ++ rest
+    → (values_from bytes (length pairs) at ≡ Ok pairs) × (drop (at + 8 * length pairs) bytes ≡ rest) × (at + 8 * length pairs ≤ length bytes)
 unfolding values_from
-values_again bytes at [] rest fits e = (refl, ap (λ k. drop k bytes) (let n : at + 8 * 0 ≡ at = omega arith in n) ∙ e)
-values_again bytes at (p ∷ pairs) rest fits e =
-    let one = pair_again bytes at p (value_pairs pairs ++ rest) fits.0.0 fits.0.1 (e ∙ regrouped (signed_word p.0) (word p.1) (value_pairs pairs) rest) in
-    let more = values_again bytes (at + 8) pairs rest fits.1 one.1 in
-    (rw (one.0, more.0) refl, ap (λ k. drop k bytes) (let n : at + 8 * suc (length pairs) ≡ at + 8 + 8 * length pairs = omega arith in n) ∙ more.1)
+values_again bytes at [] rest fits within e = (refl, ap (λ k. drop k bytes) (let n : at + 8 * 0 ≡ at = omega arith in n) ∙ e, omega arith)
+values_again bytes at (p ∷ pairs) rest fits within e =
+    let cut : drop at bytes ≡ signed_word p.0 ++ (word p.1 ++ (value_pairs pairs ++ rest)) = e ∙ regrouped (signed_word p.0) (word p.1) (value_pairs pairs) rest in
+    let one = pair_again bytes at p (value_pairs pairs ++ rest) fits.0.0 fits.0.1 cut in
+    let more = values_again bytes (at + 8) pairs rest fits.1 (pair_room bytes at p.0 p.1 (value_pairs pairs ++ rest) cut) one.1 in
+    (rw (one.0, more.0) refl, ap (λ k. drop k bytes) (let n : at + 8 * suc (length pairs) ≡ at + 8 + 8 * length pairs = omega arith in n) ∙ more.1, omega (arith, more.2))
 
 -- ---- blocks
 
@@ -233,31 +239,35 @@ pub record BlocksAgain (bytes : List ℕ) (sets_end reached at : ℕ) (pairs : L
   pub read : blocks_from bytes sets_end reached (length pairs) at ≡ Ok (pairs, end)
   pub stand : BlocksStand bytes sets_end (drop (length (pair_blocks pairs)) places) more
   pub behind : drop (at + 8 * length pairs) bytes ≡ rest
+  pub room : at + 8 * length pairs ≤ length bytes
   pub grows : reached ≤ end
   pub whole : max reached (reach sets_end places (pair_blocks pairs ++ more)) ≡ max end (reach sets_end (drop (length (pair_blocks pairs)) places) more)
 
 pub blocks_again : (bytes : List ℕ) (sets_end reached at : ℕ) (pairs : List (ℤ × TypedBytes)) (places : List ℕ) (more : List TypedBytes) (rest : List ℕ) → IsBytes bytes → AllByRecursion (λ p. FitsSigned w32 p.0 × (length p.1.bytes ≤ 16777211)) pairs
-    → BlocksStand bytes sets_end places (pair_blocks pairs ++ more) → drop at bytes ≡ place_pairs places pairs ++ rest → BlocksAgain bytes sets_end reached at pairs places more rest
+    → BlocksStand bytes sets_end places (pair_blocks pairs ++ more) → at ≤ length bytes → drop at bytes ≡ place_pairs places pairs ++ rest → BlocksAgain bytes sets_end reached at pairs places more rest
 unfolding blocks_from placed_pair
-blocks_again bytes sets_end reached at [] places more rest fits in_range stand e = record {
+blocks_again bytes sets_end reached at [] places more rest fits in_range stand within e = record {
   end = reached;
   read = refl;
   stand = stand;
   behind = ap (λ k. drop k bytes) (let n : at + 8 * 0 ≡ at = omega arith in n) ∙ e ∙ ap (λ t. t ++ rest) (no_pairs places);
+  room = omega arith;
   grows = omega arith;
   whole = refl;
 }
-blocks_again bytes sets_end reached at (p ∷ pairs) [] more rest fits in_range stand e = absurd (stand tt)
-blocks_again bytes sets_end reached at (p ∷ pairs) (place ∷ places) more rest fits in_range stand e =
+blocks_again bytes sets_end reached at (p ∷ pairs) [] more rest fits in_range stand within e = absurd (stand tt)
+blocks_again bytes sets_end reached at (p ∷ pairs) (place ∷ places) more rest fits in_range stand within e =
     let text : List ℕ = place_pairs places pairs in
-    let one = pair_again bytes at (p.0, place) (text ++ rest) in_range.0.0 stand.0.word_fits (e ∙ regrouped (signed_word p.0) (word place) text rest) in
+    let cut : drop at bytes ≡ signed_word p.0 ++ (word place ++ (text ++ rest)) = e ∙ regrouped (signed_word p.0) (word place) text rest in
+    let one = pair_again bytes at (p.0, place) (text ++ rest) in_range.0.0 stand.0.word_fits cut in
     let found : placed_block bytes sets_end (at + 4) place ≡ Ok (p.1, place_byte place + block_length p.1) = placed_again bytes sets_end (at + 4) place p.1 fits stand.0 in_range.0.1 in
-    let q = blocks_again bytes sets_end (max reached (place_byte place + block_length p.1)) (at + 8) pairs places more rest fits in_range.1 stand.1 one.1 in
+    let q = blocks_again bytes sets_end (max reached (place_byte place + block_length p.1)) (at + 8) pairs places more rest fits in_range.1 stand.1 (pair_room bytes at p.0 place (text ++ rest) cut) one.1 in
     record {
       end = q.end;
       read = rw (one.0, found, q.read) refl;
       stand = q.stand;
       behind = ap (λ k. drop k bytes) (let n : at + 8 * suc (length pairs) ≡ at + 8 + 8 * length pairs = omega arith in n) ∙ q.behind;
+      room = omega (arith, q.room);
       grows = omega (arith, q.grows);
       whole = omega (arith, q.whole);
     }

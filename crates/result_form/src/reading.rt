@@ -1,5 +1,6 @@
 //! The reader of a payload.
-ghost use Rattle.std.specs.Prelude.{◌≡◌, ◌≤◌, length};
+ghost use Rattle.std.specs.Prelude.{IfOk};
+ghost use Rattle.pcp_model.specs.Payload.{IsPayload};
 ghost use Rattle.result_form.specs.Reading.{Gives, set_at, sets_from, decoded};
 
 use crate::blocks::body_of;
@@ -54,6 +55,9 @@ fn read(alloc: Global, payload: &[u8]) -> Result<PmResult, FormFault>
 /// The result of a payload. The blocks may stand anywhere behind the last set, shared and out of order, with any
 /// padding; a refusal tells the first fault and its place, or that memory was refused.
 pub fn decode(alloc: Global, payload: &[u8]) -> Result<PmResult, FormFault>
+    // What is read is what the payload spells.
+    ensures found { IfOk result (λ r. IsPayload payload.now r) }
+    // Which result or fault it is.
     ensures exact { Gives result (decoded payload.now) }
 {
     read(alloc, payload)
