@@ -1,3 +1,4 @@
+pub mod Again
 pub mod Fields
 pub mod Loops
 pub mod Pairs

@@ -1,5 +1,5 @@
 //! The reader of a payload.
-ghost use Rattle.std.specs.Prelude.{IfOk};
+ghost use Rattle.std.specs.Prelude.{IfOk, Ok};
 ghost use Rattle.pcp_model.specs.Payload.{IsPayload};
 ghost use Rattle.result_form.specs.Reading.{Gives, set_at, sets_from, decoded};
 
@@ -57,6 +57,8 @@ fn read(alloc: Global, payload: &[u8]) -> Result<PmResult, FormFault>
 pub fn decode(alloc: Global, payload: &[u8]) -> Result<PmResult, FormFault>
     // What is read is what the payload spells.
     ensures found { IfOk result (λ r. IsPayload payload.now r) }
+    // What the payload spells is read, unless memory runs out.
+    ensures only { (r : PmResult) → IsPayload payload.now r → Gives result (Ok r) }
     // Which result or fault it is.
     ensures exact { Gives result (decoded payload.now) }
 {
