@@ -1,5 +1,5 @@
 -- What stands in the payload is read, and so is the whole of it.
-use Rattle.std.proofs.Common.{◌≡◌, ℕ, ℤ, zero, suc, ◌+◌, ◌-◌, ◌*◌, ◌/◌, ◌<◌, ◌≤◌, Bool, true, false, cond, ltb, leb, eqb, max, List, [], ◌∷◌, ◌++◌, length, take, drop, Result, Ok, Err, refl, sym, ap, ◌∙◌, subst, append_assoc, arith, inl, inr}
+use Rattle.std.proofs.Common.{◌≡◌, ℕ, ℤ, ◌+◌, ◌-◌, ◌*◌, ◌/◌, ◌<◌, ◌≤◌, Bool, true, false, cond, ltb, leb, eqb, max, List, [], ◌∷◌, ◌++◌, length, drop, Ok, Err, refl, sym, ap, ◌∙◌, append_assoc, arith, inl, inr}
 use Rattle.std.specs.Prelude.{◌⊎◌, FitsSigned, ◌||◌, ◌≤ℤ◌, pos}
 use Rattle.std.specs.Int.{w32, cast_signed, cast_unsigned}
 use Rattle.std.specs.List.{AllByRecursion}
@@ -13,15 +13,15 @@ use Rattle.pcp_base.specs.declared.result.Body.TheVariants as bodies
 use Rattle.pcp_base.specs.declared.result.ValueSet.{ValueSet}
 use Rattle.pcp_base.specs.declared.result.PmResult.{PmResult}
 use Rattle.pcp_model.specs.Words.{word, signed_word}
-use Rattle.pcp_model.specs.Payload.{blocks_in, blocks_of, pair_blocks, value_pairs, place_pairs, body_words, set_words, body_length, sets_length, head_length, result_head, reach, BlocksStand, BodyInRange, SetInRange, IsPayload}
+use Rattle.pcp_model.specs.Payload.{blocks_in, blocks_of, value_pairs, place_pairs, body_words, set_words, body_length, sets_length, head_length, result_head, reach, BlocksStand, BodyInRange, SetInRange, IsPayload}
 use Rattle.result_form.specs.declared.fault.FormFault.{FormFault}
 use Rattle.result_form.specs.declared.fault.FormFault.TheVariants.{Short, Stamp, Count, Mode, Trailing}
 use Rattle.result_form.specs.declared.words.Run.{Run}
 use Rattle.result_form.specs.declared.words.Counted.{Counted}
 use Rattle.result_form.specs.declared.words.Counted.TheVariants as counted
-use Rattle.result_form.specs.Reading.{◌>>=◌, word_at, word_below, stamp_of, run_at, counted_at, run_end, end_of, set_end, sets_end, values_from, blocks_from, body_of, set_at, sets_from, decoded}
+use Rattle.result_form.specs.Reading.{◌>>=◌, word_at, word_below, stamp_of, run_at, counted_at, run_end, end_of, set_end, sets_end, body_of, set_at, sets_from, decoded}
 use Rattle.result_form.proofs.Fields.{IsBytes, word_again, behind_word, unsigned_fits, signed_back, word_of_signed, status_word}
-use Rattle.result_form.proofs.Pairs.{values_again, BlocksAgain, blocks_again}
+use Rattle.result_form.proofs.Pairs.{values_again, blocks_again}
 use Rattle.result_form.proofs.Whole.{least_reach}
 
 holds : {A : Type 0} (b : Bool) (x y : A) → b ≡ true → cond b x y ≡ x
@@ -60,8 +60,8 @@ status_again bytes at z rest fits low e =
     let cut : drop at bytes ≡ word n ++ rest = e ∙ ap (λ t. t ++ rest) (word_of_signed z) in
     let read : word_at bytes at ≡ Ok n = word_again bytes at n rest (unsigned_fits z fits) cut in (
       ap (λ r. r >>= λ m. cond (eqb m 0 || leb 2147483648 m) (Ok (counted.Status (cast_signed w32 m))) (run_at bytes (at + 4) m)) read
-      ∙ holds (eqb n 0 || leb 2147483648 n) (Ok (counted.Status (cast_signed w32 n))) (run_at bytes (at + 4) n) (low_test n (status_word z fits low))
-      ∙ ap (λ s. Ok (counted.Status s)) (signed_back z fits),
+          ∙ holds (eqb n 0 || leb 2147483648 n) (Ok (counted.Status (cast_signed w32 n))) (run_at bytes (at + 4) n) (low_test n (status_word z fits low))
+          ∙ ap (λ s. Ok (counted.Status s)) (signed_back z fits),
       behind_word bytes at (at + 4) n rest refl cut,
     )
 
@@ -262,9 +262,9 @@ payload_again bytes r fits p =
     let q = sets_again bytes size size 12 r.sets p.places rest fits p.range.sets p.blocks (omega (arith, p.whole)) cut4 in
     let reached : length bytes ≤ q.furthest = omega (arith, p.whole, q.whole, q.grows) in
     ap (λ x. x >>= λ stamp. word_below bytes 8 2147483648 (Count 8) >>= λ count. sets_end bytes count 12 >>= λ end. sets_from bytes end end count 12
-      >>= λ read. cond (ltb read.1 (length bytes)) (Err (Trailing read.1)) (Ok (record { stamp = stamp; sets = read.0 }))) stamp
+    >>= λ read. cond (ltb read.1 (length bytes)) (Err (Trailing read.1)) (Ok (record { stamp = stamp; sets = read.0 }))) stamp
     ∙ ap (λ x. x >>= λ count. sets_end bytes count 12 >>= λ end. sets_from bytes end end count 12
-      >>= λ read. cond (ltb read.1 (length bytes)) (Err (Trailing read.1)) (Ok (record { stamp = r.stamp; sets = read.0 }))) many
+    >>= λ read. cond (ltb read.1 (length bytes)) (Err (Trailing read.1)) (Ok (record { stamp = r.stamp; sets = read.0 }))) many
     ∙ ap (λ x. x >>= λ end. sets_from bytes end end count 12 >>= λ read. cond (ltb read.1 (length bytes)) (Err (Trailing read.1)) (Ok (record { stamp = r.stamp; sets = read.0 }))) q.ends
     ∙ ap (λ x. x >>= λ read. cond (ltb read.1 (length bytes)) (Err (Trailing read.1)) (Ok (record { stamp = r.stamp; sets = read.0 }))) q.read
     ∙ fails (ltb q.furthest (length bytes)) (Err (Trailing q.furthest)) (Ok r) (le-ltb _ _ reached)

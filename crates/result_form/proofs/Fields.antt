@@ -1,16 +1,14 @@
 -- A text that stands in the payload, and what words say of it.
-use Rattle.std.proofs.Common.{◌≡◌, ℕ, ℤ, ◌+◌, ◌-◌, ◌*◌, ◌/◌, ◌%◌, ◌<◌, ◌≤◌, Bool, true, false, cond, ltb, List, [], ◌∷◌, ◌++◌, length, get_or, take, drop, Option, Some, None, Result, Ok, Err, refl, sym, ap, ◌∙◌, subst, append_assoc, arith, inl, inr}
-use Rattle.std.specs.Prelude.{FitsSigned, ◌⊎◌, ◌||◌, ◌==◌, nat_lt, nat_le, ◌≤ℤ◌, pos}
-use Rattle.std.specs.Int.{w32, byte_len, from_be_bytes, to_be_bytes, cast_signed, cast_unsigned}
+use Rattle.std.proofs.Common.{◌≡◌, ℕ, ℤ, ◌+◌, ◌-◌, ◌<◌, ◌≤◌, Bool, true, false, cond, ltb, List, [], ◌++◌, length, get_or, take, drop, Some, None, Result, Ok, Err, refl, sym, ap, ◌∙◌, subst, append_assoc, arith, inl, inr}
+use Rattle.std.specs.Prelude.{FitsSigned, ◌⊎◌, ◌||◌, ◌≤ℤ◌, pos}
+use Rattle.std.specs.Int.{w32, from_be_bytes, to_be_bytes, cast_signed, cast_unsigned}
 use Rattle.std.proofs.lemmas.Bool.{cases_lt, ltb-false, le-ltb}
 use Rattle.std.proofs.lemmas.Int.{ints, of_z-to_z, to_z-of_z}
 use Rattle.std.proofs.lemmas.List.{take_at, drop_at, drop-drop, take-append-drop, length-append, length-take, length-drop, get_or-drop, get_or-take, get_or_past}
 use Rattle.std.proofs.lemmas.Nat.{be_bytes_4, from_be_bytes-to_be_bytes_4}
 use Rattle.pcp_model.specs.Words.{word, signed_word}
-use Rattle.pcp_model.specs.Payload.{three_bytes}
 use Rattle.result_form.specs.declared.fault.FormFault.{FormFault}
-use Rattle.result_form.specs.declared.fault.FormFault.TheVariants.{Short}
-use Rattle.result_form.specs.Reading.{◌>>=◌, or_short, word_at, word_below, pair_at}
+use Rattle.result_form.specs.Reading.{◌>>=◌, or_short, word_at, pair_at}
 
 abbrev pub IsBytes : List ℕ → Type 0
 IsBytes bytes = (i : ℕ) → get_or bytes i 0 < 256
@@ -134,6 +132,7 @@ word_of_signed z = refl
 pub status_low : (n : ℕ) → n < 4294967296 → (n ≡ 0) ⊎ (2147483648 ≤ n) → cast_signed w32 n ≤ℤ pos 0
 status_low n lt (inl e) = grind (arith, ints)
 status_low n lt (inr h) = grind (arith, ints)
+
 pub status_word : (z : ℤ) → FitsSigned w32 z → z ≤ℤ pos 0 → (cast_unsigned w32 z ≡ 0) ⊎ (2147483648 ≤ cast_unsigned w32 z)
 status_word z fits low = grind (arith, ints)
 
@@ -153,7 +152,7 @@ pair_takes bytes at p fits e =
     let one = word_takes bytes at (at + 4) a.0 fits refl a.1 in
     let two = word_takes bytes (at + 4) (at + 8) b.0 fits (omega arith) b.1 in
     subst (PairSpans bytes at) (ok_is (cast_signed w32 a.0, b.0) p b.2)
-        (record { first = rw (signed_is a.0 one.1) one.0; second = two.0; signed = signed_fits a.0 one.1; fits = two.1 })
+    (record { first = rw (signed_is a.0 one.1) one.0; second = two.0; signed = signed_fits a.0 one.1; fits = two.1 })
 
 pub pair_again : (bytes : List ℕ) (at : ℕ) (p : ℤ × ℕ) (rest : List ℕ) → FitsSigned w32 p.0 → p.1 < 4294967296 → drop at bytes ≡ signed_word p.0 ++ (word p.1 ++ rest) → (pair_at bytes at ≡ Ok p) × (drop (at + 8) bytes ≡ rest)
 unfolding pair_at

@@ -1,7 +1,7 @@
 -- Pairs and blocks: what is read stands so, and what stands so is read.
 use Rattle.std.proofs.Common.{◌≡◌, ℕ, ℤ, zero, suc, ◌+◌, ◌-◌, ◌*◌, ◌/◌, ◌%◌, ◌<◌, ◌≤◌, Bool, true, false, cond, ltb, max, List, [], ◌∷◌, ◌++◌, length, get_or, take, drop, Result, Ok, Err, refl, sym, ap, ◌∙◌, subst, append_assoc, arith}
 use Rattle.std.specs.Prelude.{FitsSigned, ◌||◌}
-use Rattle.std.specs.Int.{w32, from_be_bytes, to_be_bytes}
+use Rattle.std.specs.Int.{w32, to_be_bytes}
 use Rattle.std.specs.List.{AllByRecursion}
 use Rattle.std.proofs.Math.Seq.{take-append-add}
 use Rattle.std.proofs.lemmas.Bool.{ltb-false, le-ltb}
@@ -9,11 +9,11 @@ use Rattle.std.proofs.lemmas.List.{take_at, take-append-drop, length-append, len
 use Rattle.std.proofs.lemmas.Nat.{be_bytes_4}
 use Rattle.pcp_base.specs.Typed.{TypedBytes}
 use Rattle.pcp_model.specs.Words.{word, signed_word, length-word, length-signed_word}
-use Rattle.pcp_model.specs.Payload.{three_bytes, block_head, block_length, filling, place_byte, pair_blocks, value_pairs, place_pairs, reach, BlockStands, BlocksStand}
+use Rattle.pcp_model.specs.Payload.{three_bytes, block_head, block_length, place_byte, pair_blocks, value_pairs, place_pairs, reach, BlockStands, BlocksStand}
 use Rattle.result_form.specs.declared.fault.FormFault.{FormFault}
 use Rattle.result_form.specs.declared.fault.FormFault.TheVariants.{Place, Block}
 use Rattle.result_form.specs.Reading.{◌>>=◌, word_at, pair_at, values_from, typed, padded_size, block_at, placed_block, placed_pair, blocks_from}
-use Rattle.result_form.proofs.Fields.{IsBytes, IsBytes-drop, bind_ok, guard_ok, ok_is, neither, Spans, nothing, joined, word_takes, word_again, behind_word, PairSpans, pair_takes, pair_again}
+use Rattle.result_form.proofs.Fields.{IsBytes, IsBytes-drop, bind_ok, guard_ok, ok_is, neither, Spans, nothing, joined, word_takes, word_again, behind_word, pair_takes, pair_again}
 
 pub moved : (bytes : List ℕ) (at : ℕ) (text : List ℕ) (next other : ℕ) → next ≡ other → Spans bytes at text next → Spans bytes at text other
 moved bytes at text next other e s = subst (λ n. Spans bytes at text n) e s
@@ -48,7 +48,7 @@ values_takes bytes (suc n) at pairs fits within e =
     let whole : Spans bytes at (value_pairs (a.0 ∷ b.0)) next =
     joined bytes at (at + 4) next (signed_word a.0.0) (word a.0.1 ++ value_pairs b.0) p.first (joined bytes (at + 4) (at + 8) next (word a.0.1) (value_pairs b.0) p.second q.spans) in
     subst (ValuesRead bytes (suc n) at) (ok_is (a.0 ∷ b.0) pairs b.2)
-        (record { spans = moved bytes at (value_pairs (a.0 ∷ b.0)) next (at + 8 * suc n) (omega arith) whole; count = ap suc q.count; fits = ((p.signed, p.fits), q.fits) })
+    (record { spans = moved bytes at (value_pairs (a.0 ∷ b.0)) next (at + 8 * suc n) (omega arith) whole; count = ap suc q.count; fits = ((p.signed, p.fits), q.fits) })
 
 regrouped : (x y z rest : List ℕ) → (x ++ (y ++ z)) ++ rest ≡ x ++ (y ++ (z ++ rest))
 regrouped x y z rest = append_assoc x (y ++ z) rest ∙ ap (λ t. x ++ t) (append_assoc y z rest)
@@ -108,13 +108,13 @@ block_takes bytes at x fits e =
     let first : word head ≡ (head / 16777216) ∷ three_bytes (head % 16777216) = head_word head (head / 16777216) (head % 16777216) (omega arith) (omega (arith, w.1)) (omega arith) in
     let size : head % 16777216 ≡ 4 + length kept = omega arith in
     subst (BlockRead bytes at) g.1
-        (record {
-          is = ap (λ m. take (4 + m) (drop at bytes)) long ∙ ap (take (4 + k)) w.0.cut ∙ take_behind head k (drop (at + 4) bytes)
-              ∙ ap (λ t. t ++ kept) (first ∙ ap (λ m. (head / 16777216) ∷ three_bytes m) size);
-          within = omega arith;
-          ends = omega arith;
-          small = omega arith;
-        })
+    (record {
+      is = ap (λ m. take (4 + m) (drop at bytes)) long ∙ ap (take (4 + k)) w.0.cut ∙ take_behind head k (drop (at + 4) bytes)
+          ∙ ap (λ t. t ++ kept) (first ∙ ap (λ m. (head / 16777216) ∷ three_bytes m) size);
+      within = omega arith;
+      ends = omega arith;
+      small = omega arith;
+    })
 
 abbrev block_of : ℕ → List ℕ → TypedBytes
 block_of code bytes = record { code = code; bytes = bytes }
@@ -166,15 +166,15 @@ placed_takes bytes sets_end at x fits some e =
     let behind : sets_end ≤ place_byte place = ltb-false _ _ n.0 in
     let q = block_takes bytes (place_byte place) b.0 fits g.1 in
     subst (PlacedRead bytes sets_end at) (ok_is ((a.0.0, b.0.0), b.0.1) x b.2)
-        (record {
-          place = place;
-          first = p.first;
-          second = p.second;
-          signed = p.signed;
-          stands = record { word_fits = p.fits; behind = (omega arith, behind); within = q.within; is = q.is };
-          small = q.small;
-          ends = q.ends;
-        })
+    (record {
+      place = place;
+      first = p.first;
+      second = p.second;
+      signed = p.signed;
+      stands = record { word_fits = p.fits; behind = (omega arith, behind); within = q.within; is = q.is };
+      small = q.small;
+      ends = q.ends;
+    })
 
 placed_again : (bytes : List ℕ) (sets_end at place : ℕ) (b : TypedBytes) → IsBytes bytes → BlockStands bytes sets_end place b → length b.bytes ≤ 16777211 → placed_block bytes sets_end at place ≡ Ok (b, place_byte place + block_length b)
 unfolding placed_block
@@ -204,16 +204,16 @@ pub blocks_takes : (bytes : List ℕ) (sets_end reached n at : ℕ) (x : List (�
 unfolding blocks_from
 blocks_takes bytes sets_end reached zero at x others more fits some within stand e =
     subst (λ y. BlocksRead bytes sets_end reached 0 at y others more) (ok_is ([], reached) x e)
-        (record {
-          places = others;
-          spans = subst (λ t. Spans bytes at t (at + 8 * 0)) (sym (no_pairs others)) (nothing bytes at (at + 8 * 0) (omega arith) within);
-          count = refl;
-          fits = tt;
-          stand = stand;
-          behind = refl;
-          grows = omega arith;
-          whole = refl;
-        })
+    (record {
+      places = others;
+      spans = subst (λ t. Spans bytes at t (at + 8 * 0)) (sym (no_pairs others)) (nothing bytes at (at + 8 * 0) (omega arith) within);
+      count = refl;
+      fits = tt;
+      stand = stand;
+      behind = refl;
+      grows = omega arith;
+      whole = refl;
+    })
 blocks_takes bytes sets_end reached (suc n) at x others more fits some within stand e =
     let a = bind_ok (placed_pair bytes sets_end at) (λ first. blocks_from bytes sets_end (max reached first.1) n (at + 8) >>= λ rest. Ok (first.0 ∷ rest.0, rest.1)) x e in
     let b = bind_ok (blocks_from bytes sets_end (max reached a.0.1) n (at + 8)) (λ rest. Ok (a.0.0 ∷ rest.0, rest.1)) x a.2 in
@@ -223,16 +223,16 @@ blocks_takes bytes sets_end reached (suc n) at x others more fits some within st
     let text : List ℕ = place_pairs q.places b.0.0 in
     let whole : Spans bytes at (signed_word a.0.0.0 ++ (word p.place ++ text)) next = joined bytes at (at + 4) next (signed_word a.0.0.0) (word p.place ++ text) p.first (joined bytes (at + 4) (at + 8) next (word p.place) text p.second q.spans) in
     subst (λ y. BlocksRead bytes sets_end reached (suc n) at y others more) (ok_is (a.0.0 ∷ b.0.0, b.0.1) x b.2)
-        (record {
-          places = p.place ∷ q.places;
-          spans = moved bytes at (signed_word a.0.0.0 ++ (word p.place ++ text)) next (at + 8 * suc n) (omega arith) whole;
-          count = ap suc q.count;
-          fits = ((p.signed, p.small), q.fits);
-          stand = (p.stands, q.stand);
-          behind = q.behind;
-          grows = omega (arith, q.grows);
-          whole = omega (arith, q.whole, p.ends);
-        })
+    (record {
+      places = p.place ∷ q.places;
+      spans = moved bytes at (signed_word a.0.0.0 ++ (word p.place ++ text)) next (at + 8 * suc n) (omega arith) whole;
+      count = ap suc q.count;
+      fits = ((p.signed, p.small), q.fits);
+      stand = (p.stands, q.stand);
+      behind = q.behind;
+      grows = omega (arith, q.grows);
+      whole = omega (arith, q.whole, p.ends);
+    })
 
 pub record BlocksAgain (bytes : List ℕ) (sets_end reached at : ℕ) (pairs : List (ℤ × TypedBytes)) (places : List ℕ) (more : List TypedBytes) (rest : List ℕ) : Type 0 where
   pub end : ℕ

@@ -1,5 +1,5 @@
 -- What is read of the whole payload is what it spells.
-use Rattle.std.proofs.Common.{◌≡◌, ℕ, ◌+◌, ◌*◌, ◌<◌, ◌≤◌, Bool, true, false, cond, ltb, max, List, [], ◌∷◌, ◌++◌, length, take, drop, Result, Ok, Err, refl, sym, ap, ◌∙◌, subst, arith}
+use Rattle.std.proofs.Common.{◌≡◌, ℕ, ◌+◌, ◌<◌, ◌≤◌, cond, ltb, List, [], ◌∷◌, ◌++◌, length, take, drop, Result, Ok, Err, refl, sym, ap, ◌∙◌, subst, arith}
 use Rattle.std.specs.Prelude.{IfOk}
 use Rattle.std.proofs.lemmas.Bool.{ltb-true, ltb-false}
 use Rattle.std.proofs.lemmas.List.{take_at}
@@ -8,12 +8,12 @@ use Rattle.pcp_base.specs.Typed.{TypedBytes}
 use Rattle.pcp_base.specs.declared.result.ValueSet.{ValueSet}
 use Rattle.pcp_base.specs.declared.result.PmResult.{PmResult}
 use Rattle.pcp_model.specs.Words.{word}
-use Rattle.pcp_model.specs.Payload.{place_byte, block_length, blocks_of, set_words, sets_length, head_length, result_head, reach, BlocksStand, ResultInRange, IsPayload}
+use Rattle.pcp_model.specs.Payload.{place_byte, block_length, blocks_of, set_words, sets_length, head_length, result_head, reach, BlocksStand, IsPayload}
 use Rattle.result_form.specs.declared.fault.FormFault.{FormFault}
 use Rattle.result_form.specs.declared.fault.FormFault.TheVariants.{Stamp, Count, Trailing}
 use Rattle.result_form.specs.Reading.{◌>>=◌, Gives, word_at, word_below, stamp_of, sets_end, sets_from, decoded}
 use Rattle.result_form.proofs.Fields.{IsBytes, bind_ok, guard_ok, only_ok, ok_is, Spans, joined, word_takes}
-use Rattle.result_form.proofs.Sets.{SetsRead, sets_takes, sets_grow}
+use Rattle.result_form.proofs.Sets.{sets_takes, sets_grow}
 
 below_ok : (bytes : List ℕ) (at bound n : ℕ) (fault : FormFault) → word_below bytes at bound fault ≡ Ok n → (word_at bytes at ≡ Ok n) × (n < bound)
 below_ok bytes at bound n fault e =
@@ -57,11 +57,11 @@ pub payload_takes : (bytes : List ℕ) (r : PmResult) → IsBytes bytes → deco
 unfolding decoded
 payload_takes bytes r fits e =
     let a = bind_ok (stamp_of bytes)
-        (λ stamp. word_below bytes 8 2147483648 (Count 8) >>= λ count. sets_end bytes count 12 >>= λ end. sets_from bytes end end count 12
-          >>= λ read. cond (ltb read.1 (length bytes)) (Err (Trailing read.1)) (Ok (record { stamp = stamp; sets = read.0 }))) r e in
+    (λ stamp. word_below bytes 8 2147483648 (Count 8) >>= λ count. sets_end bytes count 12 >>= λ end. sets_from bytes end end count 12
+    >>= λ read. cond (ltb read.1 (length bytes)) (Err (Trailing read.1)) (Ok (record { stamp = stamp; sets = read.0 }))) r e in
     let b = bind_ok (word_below bytes 8 2147483648 (Count 8))
-        (λ count. sets_end bytes count 12 >>= λ end. sets_from bytes end end count 12
-          >>= λ read. cond (ltb read.1 (length bytes)) (Err (Trailing read.1)) (Ok (record { stamp = a.0; sets = read.0 }))) r a.2 in
+    (λ count. sets_end bytes count 12 >>= λ end. sets_from bytes end end count 12
+    >>= λ read. cond (ltb read.1 (length bytes)) (Err (Trailing read.1)) (Ok (record { stamp = a.0; sets = read.0 }))) r a.2 in
     let c = bind_ok (sets_end bytes b.0 12) (λ end. sets_from bytes end end b.0 12 >>= λ read. cond (ltb read.1 (length bytes)) (Err (Trailing read.1)) (Ok (record { stamp = a.0; sets = read.0 }))) r b.2 in
     let d = bind_ok (sets_from bytes c.0 c.0 b.0 12) (λ read. cond (ltb read.1 (length bytes)) (Err (Trailing read.1)) (Ok (record { stamp = a.0; sets = read.0 }))) r c.2 in
     let sets : List ValueSet = d.0.0 in
@@ -77,18 +77,18 @@ payload_takes bytes r fits e =
     let counted : Spans bytes 8 (word (length sets)) 12 = subst (λ n. Spans bytes 8 (word n) 12) (sym q.count) number.0 in
     let head : Spans bytes 0 (result_head q.places made) (head_length made) =
     joined bytes 0 4 (head_length made) (word a.0.sec) (word a.0.usec ++ (word (length sets) ++ words)) stamp.sec
-        (joined bytes 4 8 (head_length made) (word a.0.usec) (word (length sets) ++ words) stamp.usec (joined bytes 8 12 (head_length made) (word (length sets)) words counted q.spans)) in
+    (joined bytes 4 8 (head_length made) (word a.0.usec) (word (length sets) ++ words) stamp.usec (joined bytes 8 12 (head_length made) (word (length sets)) words counted q.spans)) in
     let ended : length bytes ≤ d.0.1 = ltb-false _ _ g.0 in
     let inside : reach c.0 q.places (blocks_of sets) ≤ length bytes = reach_within bytes c.0 q.places (blocks_of sets) (let h : c.0 ≤ length bytes = omega (arith, q.spans.within, end) in h) q.stand in
     let whole : length bytes ≡ reach c.0 q.places (blocks_of sets) = omega (arith, q.whole, q.grows, least_reach c.0 q.places (blocks_of sets)) in
     subst (IsPayload bytes) g.1
-        (record {
-          range = record { moment = stamp.moment; few = subst (λ n. n < 2147483648) (sym q.count) many.1; sets = q.fits };
-          places = q.places;
-          head = front_of bytes (result_head q.places made) (head_length made) head;
-          blocks = subst (λ n. BlocksStand bytes n q.places (blocks_of sets)) end q.stand;
-          whole = subst (λ n. length bytes ≡ reach n q.places (blocks_of sets)) end whole;
-        })
+    (record {
+      range = record { moment = stamp.moment; few = subst (λ n. n < 2147483648) (sym q.count) many.1; sets = q.fits };
+      places = q.places;
+      head = front_of bytes (result_head q.places made) (head_length made) head;
+      blocks = subst (λ n. BlocksStand bytes n q.places (blocks_of sets)) end q.stand;
+      whole = subst (λ n. length bytes ≡ reach n q.places (blocks_of sets)) end whole;
+    })
 
 pub is_found : (bytes : List ℕ) (result : Result PmResult FormFault) → IsBytes bytes → Gives result (decoded bytes) → IfOk result (λ r. IsPayload bytes r)
 is_found bytes (Ok r) fits given = payload_takes bytes r fits given

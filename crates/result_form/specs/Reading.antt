@@ -1,6 +1,6 @@
 -- Reading the payload of a result (pmFetch(3), LOGARCHIVE(5)) from left to right: its words, then the blocks of
 -- its pairs in order, then its end. The answer is the result, or the first fault and its place.
-use Rattle.std.specs.Prelude.{◌≡◌, ◌⊎◌, ℕ, zero, suc, ℤ, ◌+◌, ◌-◌, ◌*◌, ◌/◌, ◌%◌, ◌≤◌, List, [], ◌∷◌, length, take, drop, max, Option, Some, None, Result, Ok, Err, nat_lt, nat_le, ◌==◌, ◌||◌, ◌&&◌, if◌then◌else◌}
+use Rattle.std.specs.Prelude.{◌≡◌, ◌⊎◌, ℕ, zero, suc, ℤ, ◌+◌, ◌-◌, ◌*◌, ◌/◌, ◌%◌, ◌≤◌, List, [], ◌∷◌, length, take, drop, max, Option, Some, None, Result, Ok, Err, nat_lt, nat_le, ◌==◌, ◌||◌, if◌then◌else◌}
 use Rattle.std.specs.Int.{w32, cast_signed}
 use Rattle.pcp_base.specs.Fields.{be_field}
 use Rattle.pcp_base.specs.Time.{Moment}
@@ -58,7 +58,7 @@ unfoldable pub run_at : List ℕ → ℕ → ℕ → Result Counted FormFault
 run_at bytes at count = do
   mode ← word_at bytes at
   if mode == 0 then Ok (counted.InPlace (record { from = at + 4; count = count })) else
-    if mode == 1 then Ok (counted.Blocks (record { from = at + 4; count = count })) else Err (Mode at)
+      if mode == 1 then Ok (counted.Blocks (record { from = at + 4; count = count })) else Err (Mode at)
 
 -- Behind its metric a set has the number of its values; one of 0 or below is the status, and nothing follows it.
 unfoldable pub counted_at : List ℕ → ℕ → Result Counted FormFault

@@ -51,7 +51,13 @@ fn block_at(alloc: Global, payload: &[u8], at: usize) -> Result<(Block, usize), 
 
 /// The block at a place, the place's word being at a byte, and the byte behind the block.
 #[tactic(auto, unfolding(crate::specs::Reading::placed_block))]
-fn placed_block(alloc: Global, payload: &[u8], sets_end: usize, at: usize, place: u32) -> Result<(Block, usize), FormFault>
+fn placed_block(
+    alloc: Global,
+    payload: &[u8],
+    sets_end: usize,
+    at: usize,
+    place: u32,
+) -> Result<(Block, usize), FormFault>
     ensures { Gives result (placed_block payload.now sets_end at place) }
 {
     let begin = place.saturating_sub(3) as usize * 4;
@@ -63,7 +69,12 @@ fn placed_block(alloc: Global, payload: &[u8], sets_end: usize, at: usize, place
 
 /// The pair at a byte whose word is the place of its block, and the byte behind this block.
 #[tactic(auto, unfolding(crate::specs::Reading::placed_pair))]
-fn placed_pair(alloc: Global, payload: &[u8], sets_end: usize, at: usize) -> Result<((i32, Block), usize), FormFault>
+fn placed_pair(
+    alloc: Global,
+    payload: &[u8],
+    sets_end: usize,
+    at: usize,
+) -> Result<((i32, Block), usize), FormFault>
     ensures pair { Gives result (placed_pair payload.now sets_end at) }
     ensures within { OnOk result (at + 8 ≤ length payload.now) }
 {
@@ -74,7 +85,13 @@ fn placed_pair(alloc: Global, payload: &[u8], sets_end: usize, at: usize) -> Res
 
 /// The pairs of a set whose values stand in blocks, and the greater of an end reached before and of their ends.
 #[tactic(auto, unfolding(crate::specs::Reading::blocks_from))]
-fn blocks_from(alloc: Global, payload: &[u8], sets_end: usize, reached: usize, run: Run) -> Result<(List<(i32, Block)>, usize), FormFault>
+fn blocks_from(
+    alloc: Global,
+    payload: &[u8],
+    sets_end: usize,
+    reached: usize,
+    run: Run,
+) -> Result<(List<(i32, Block)>, usize), FormFault>
     ensures { Gives result (blocks_from payload.now sets_end reached run.count run.from) }
 {
     let mut at = run.from;
@@ -91,7 +108,13 @@ fn blocks_from(alloc: Global, payload: &[u8], sets_end: usize, reached: usize, r
 
 /// What a set holds, and the greatest end with those of its blocks.
 #[tactic(auto, unfolding(crate::specs::Reading::body_of))]
-pub fn body_of(alloc: Global, payload: &[u8], sets_end: usize, reached: usize, body: Counted) -> Result<(Body, usize), FormFault>
+pub fn body_of(
+    alloc: Global,
+    payload: &[u8],
+    sets_end: usize,
+    reached: usize,
+    body: Counted,
+) -> Result<(Body, usize), FormFault>
     ensures { Gives result (body_of payload.now sets_end reached body) }
 {
     match body {

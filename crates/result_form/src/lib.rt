@@ -5,17 +5,15 @@
 
 mod blocks;
 mod fault;
-
 mod reading;
 mod sizes;
 mod words;
 mod writing;
 
 pub use fault::FormFault;
-
 pub use reading::decode;
 pub use sizes::length;
-pub use writing::encode;
+pub use writing::{encode, fits};
 
-
-
+#[cfg(test)]
+mod tests;

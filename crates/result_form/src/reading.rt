@@ -11,7 +11,13 @@ use std::alloc::Global;
 
 /// The set at a byte, and the greatest end with those of its blocks.
 #[tactic(auto, unfolding(crate::specs::Reading::set_at))]
-fn set_at(alloc: Global, payload: &[u8], sets_end: usize, reached: usize, at: usize) -> Result<(ValueSet, usize), FormFault>
+fn set_at(
+    alloc: Global,
+    payload: &[u8],
+    sets_end: usize,
+    reached: usize,
+    at: usize,
+) -> Result<(ValueSet, usize), FormFault>
     ensures { Gives result (set_at payload.now sets_end reached at) }
 {
     let pmid = Pmid::of_word(word_at(payload, at)?);
@@ -22,7 +28,13 @@ fn set_at(alloc: Global, payload: &[u8], sets_end: usize, reached: usize, at: us
 
 /// So many sets, and the greatest end of the sets and of their blocks.
 #[tactic(auto, unfolding(crate::specs::Reading::sets_from))]
-fn sets_from(alloc: Global, payload: &[u8], sets_end: usize, count: u32, from: usize) -> Result<(List<ValueSet>, usize), FormFault>
+fn sets_from(
+    alloc: Global,
+    payload: &[u8],
+    sets_end: usize,
+    count: u32,
+    from: usize,
+) -> Result<(List<ValueSet>, usize), FormFault>
     ensures { Gives result (sets_from payload.now sets_end sets_end count from) }
 {
     let mut at = from;

@@ -35,7 +35,10 @@ fn with_body(before: u64, body: &Body) -> u64
 {
     match body {
         Body::InPlace(pairs) => before.saturating_add(pairs_size(pairs.len())),
-        Body::Blocks(pairs) => with_pairs(before.saturating_add(pairs_size(pairs.len())), pairs.as_slice()),
+        Body::Blocks(pairs) => with_pairs(
+            before.saturating_add(pairs_size(pairs.len())),
+            pairs.as_slice(),
+        ),
         Body::Status(_) => before.saturating_add(4),
     }
 }

@@ -1,10 +1,11 @@
 //! The one spelling of a payload: the words, and behind them the blocks in the order of the pairs.
-ghost use Rattle.std.specs.Prelude.{◌≡◌, ◌+◌, ◌*◌, ◌/◌, ◌≤◌, ◌<◌, ◌++◌, length, OnOk, IfOk};
+ghost use Rattle.std.specs.Prelude.{◌≡◌, ◌+◌, ◌*◌, ◌/◌, ◌≤◌, ◌<◌, ◌++◌, length, OnOk, IfOk, IsTrue, ◌↔◌};
 ghost use Rattle.std.specs.List.{AllByRecursion};
 ghost use Rattle.pcp_base.specs.Results.{Fits};
 ghost use Rattle.pcp_model.specs.Words.{word, signed_word};
 ghost use Rattle.pcp_model.specs.Payload.{value_pairs, place_pairs, pair_blocks, places_from, block_length, blocks_length, blocks_in, blocks_of, body_words, set_words, body_length, sets_length, head_length, result_head, payload, payload_length, block, blocks_bytes, filling};
 
+use crate::sizes::length;
 use pcp_base::{Block, Body, Bytes, List, NoMemory, PmResult, ValueSet};
 use std::alloc::Global;
 
@@ -199,6 +200,28 @@ fn put_head(out: &mut Vec<u8>, at: u64, answer: &PmResult) -> Result<(), NoMemor
     put_word(out, sets.len() as u32)?;
     put_sets(out, at, sets)?;
     Ok(())
+}
+
+/// Whether each set holds what can be written.
+fn sets_fit(sets: &[ValueSet]) -> bool
+    ensures { IsTrue result ↔ AllByRecursion Fits sets.now }
+{
+    for set in sets {
+        if !set.fits() {
+            return false;
+        }
+    }
+    true
+}
+
+/// Whether `encode` can write a result: each set holds what can be written, and the payload has at most 16 MiB.
+pub fn fits(answer: &PmResult) -> bool
+    ensures { IsTrue result ↔ (AllByRecursion Fits answer.now.sets × (payload_length answer.now ≤ 16777216)) }
+{
+    if length(answer) > 16_777_216 {
+        return false;
+    }
+    sets_fit(answer.sets.as_slice())
 }
 
 /// The one spelling of a result: its blocks stand behind the last set, in the order of the pairs, with zeros as

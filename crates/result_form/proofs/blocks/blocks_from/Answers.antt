@@ -1,5 +1,3 @@
-use Rattle.std.proofs.Common.{◌≡◌, sym}
-use Rattle.result_form.specs.Reading.{blocks_from}
 use Rattle.result_form.proofs.Loops.{blocks_on}
 use Rattle.result_form.proofs.blocks.blocks_from.Goals as goal
 

@@ -1,5 +1,4 @@
-use Rattle.std.proofs.Common.{◌≡◌, sym}
-use Rattle.result_form.specs.Reading.{values_from}
+use Rattle.std.proofs.Common.{sym}
 use Rattle.result_form.proofs.Loops.{values_on}
 use Rattle.result_form.proofs.blocks.values_from.Goals as goal
 

@@ -1,4 +1,4 @@
-use Rattle.std.proofs.Common.{Ok, arith, subst}
+use Rattle.std.proofs.Common.{arith, subst}
 use Rattle.result_form.specs.Reading.{Gives}
 use Rattle.result_form.proofs.Again.{payload_again}
 use Rattle.result_form.proofs.Whole.{is_found}

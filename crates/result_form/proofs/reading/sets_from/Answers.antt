@@ -1,5 +1,4 @@
-use Rattle.std.proofs.Common.{◌≡◌, sym}
-use Rattle.result_form.specs.Reading.{sets_from}
+use Rattle.std.proofs.Common.{sym}
 use Rattle.result_form.proofs.Loops.{sets_on}
 use Rattle.result_form.proofs.reading.sets_from.Goals as goal
 

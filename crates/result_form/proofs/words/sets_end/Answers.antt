@@ -1,5 +1,4 @@
-use Rattle.std.proofs.Common.{sym, ◌∙◌}
-use Rattle.result_form.specs.Reading.{sets_end}
+use Rattle.std.proofs.Common.{sym}
 use Rattle.result_form.proofs.Loops.{ends_on}
 use Rattle.result_form.proofs.words.sets_end.Goals as goal
 
