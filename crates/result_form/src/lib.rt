@@ -5,12 +5,14 @@
 
 mod blocks;
 mod fault;
+mod laws;
 mod reading;
 mod sizes;
 mod words;
 mod writing;
 
 pub use fault::FormFault;
+pub use laws::written_is_read;
 pub use reading::decode;
 pub use sizes::length;
 pub use writing::{encode, fits};
