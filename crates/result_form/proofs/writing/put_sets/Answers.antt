@@ -1,0 +1,25 @@
+use Rattle.std.proofs.Common.{◌≡◌, ◌+◌, ◌++◌, drop, arith, subst, sym, ap, ◌∙◌}
+use Rattle.pcp_model.specs.Words.{word}
+use Rattle.pcp_model.specs.Payload.{set_words, places_from, blocks_of}
+use Rattle.pcp_model.proofs.Payloads.{sets_next, blocks_length_next, sets_length_next}
+use Rattle.result_form.proofs.writing.put_sets.Goals as goal
+
+pub put_body-requires-clause-room : goal.put_body-requires-clause-room
+put_body-requires-clause-room c =
+    omega (arith, blocks_length_next c.args.sets.now c.loop-set.set-index c.set-item.result c.loop-set-test.true c.set-item.is)
+
+pub put_body-requires-clause-few : goal.put_body-requires-clause-few
+put_body-requires-clause-few c =
+    omega (arith, sets_length_next c.args.sets.now c.loop-set.set-index c.set-item.result c.loop-set-test.true c.set-item.is)
+
+pub loop-set-preserved : goal.loop-set-preserved
+loop-set-preserved c =
+    let sets = c.args.sets.now in
+    let rest = drop (c.loop-set.set-index + 1) sets in
+    record {
+      whole = subst (λ p. c.put_body.new.out.items ++ set_words (places_from p (blocks_of rest)) rest ≡ c.args.out.now.items ++ set_words (places_from c.args.at (blocks_of sets)) sets) (sym c.in_ok-place.ensures.next)
+          (sets_next sets c.loop-set.set-index c.set-item.result c.loop-set.place c.loop-set.out.items c.put_word.new.out.items c.put_body.new.out.items _ c.loop-set-test.true c.set-item.is (c.in_ok-put_word.ensures.bytes ∙ ap (λ n. c.loop-set.out.items ++ word n) c.word.ensures) c.in_ok-place.ensures.bytes c.loop-set.invariant.whole);
+      places = omega (arith, c.in_ok-place.ensures.next, blocks_length_next sets c.loop-set.set-index c.set-item.result c.loop-set-test.true c.set-item.is);
+      long = omega (arith, c.in_ok-put_word.ensures.grows, c.in_ok-place.ensures.grows, sets_length_next sets c.loop-set.set-index c.set-item.result c.loop-set-test.true c.set-item.is);
+      few = omega (arith, sets_length_next sets c.loop-set.set-index c.set-item.result c.loop-set-test.true c.set-item.is);
+    }

@@ -1,0 +1,21 @@
+//! The payload of a result, as archives and PDUs carry it (pmFetch(3), LOGARCHIVE(5)): its length, its one
+//! spelling, and the reader, which takes each allowed place of the blocks. What isn't a payload is refused by
+//! the first fault and its place.
+#![tactic(auto)]
+
+mod blocks;
+mod fault;
+mod laws;
+mod reading;
+mod sizes;
+mod words;
+mod writing;
+
+pub use fault::FormFault;
+pub use laws::written_is_read;
+pub use reading::decode;
+pub use sizes::length;
+pub use writing::{encode, fits};
+
+#[cfg(test)]
+mod tests;

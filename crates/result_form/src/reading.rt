@@ -1,0 +1,78 @@
+//! The reader of a payload.
+ghost use Rattle.std.specs.Prelude.{IfOk, Ok};
+ghost use Rattle.pcp_model.specs.Payload.{IsPayload};
+ghost use Rattle.result_form.specs.Reading.{Gives, set_at, sets_from, decoded};
+
+use crate::blocks::body_of;
+use crate::fault::FormFault;
+use crate::words::{counted_at, set_end, sets_end, stamp_of, word_at, word_below};
+use pcp_base::{List, PmResult, Pmid, ValueSet};
+use std::alloc::Global;
+
+/// The set at a byte, and the greatest end with those of its blocks.
+#[tactic(auto, unfolding(crate::specs::Reading::set_at))]
+fn set_at(
+    alloc: Global,
+    payload: &[u8],
+    sets_end: usize,
+    reached: usize,
+    at: usize,
+) -> Result<(ValueSet, usize), FormFault>
+    ensures { Gives result (set_at payload.now sets_end reached at) }
+{
+    let pmid = Pmid::of_word(word_at(payload, at)?);
+    let counted = counted_at(payload, at + 4)?;
+    let (body, reach) = body_of(alloc, payload, sets_end, reached, counted)?;
+    Ok((ValueSet { pmid, body }, reach))
+}
+
+/// So many sets, and the greatest end of the sets and of their blocks.
+#[tactic(auto, unfolding(crate::specs::Reading::sets_from))]
+fn sets_from(
+    alloc: Global,
+    payload: &[u8],
+    sets_end: usize,
+    count: u32,
+    from: usize,
+) -> Result<(List<ValueSet>, usize), FormFault>
+    ensures { Gives result (sets_from payload.now sets_end sets_end count from) }
+{
+    let mut at = from;
+    let mut reach = sets_end;
+    let mut sets = List::empty(alloc);
+    for _ in 0..count {
+        let (set, end) = set_at(alloc, payload, sets_end, reach, at)?;
+        at = set_end(payload, at)?;
+        sets.push(set)?;
+        reach = end;
+    }
+    Ok((sets, reach))
+}
+
+/// The result of a payload, or the first fault and its place.
+#[tactic(auto, unfolding(crate::specs::Reading::decoded))]
+fn read(alloc: Global, payload: &[u8]) -> Result<PmResult, FormFault>
+    ensures { Gives result (decoded payload.now) }
+{
+    let stamp = stamp_of(payload)?;
+    let count = word_below(payload, 8, 1 << 31, FormFault::Count { at: 8 })?;
+    let end = sets_end(payload, count, 12)?;
+    let (sets, reach) = sets_from(alloc, payload, end, count, 12)?;
+    if reach < payload.len() {
+        return Err(FormFault::Trailing { at: reach });
+    }
+    Ok(PmResult { stamp, sets })
+}
+
+/// The result of a payload. The blocks may stand anywhere behind the last set, shared and out of order, with any
+/// padding; a refusal tells the first fault and its place, or that memory was refused.
+pub fn decode(alloc: Global, payload: &[u8]) -> Result<PmResult, FormFault>
+    // What is read is what the payload spells.
+    ensures found { IfOk result (λ r. IsPayload payload.now r) }
+    // What the payload spells is read, unless memory runs out.
+    ensures only { (r : PmResult) → IsPayload payload.now r → Gives result (Ok r) }
+    // Which result or fault it is.
+    ensures exact { Gives result (decoded payload.now) }
+{
+    read(alloc, payload)
+}
