@@ -1,5 +1,5 @@
 -- The codes of kinds and semantics (pmLookupDesc(3), mmv(5)).
-use Rattle.std.specs.Prelude.{ℕ, Option, Some, None, Bool, if◌then◌else◌, ◌==◌}
+use Rattle.std.specs.Prelude.{ℕ, Option, Some, None, if◌then◌else◌, ◌==◌}
 use Rattle.pcp_base.specs.declared.kind.Kind.{Kind}
 use Rattle.pcp_base.specs.declared.kind.Kind.TheVariants as kinds
 use Rattle.pcp_base.specs.declared.kind.Semantics.{Semantics}

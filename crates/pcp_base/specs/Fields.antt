@@ -1,5 +1,5 @@
 -- Fixed fields: archives and PDUs are big-endian, images little-endian.
-use Rattle.std.specs.Prelude.{ℕ, ◌+◌, List, length, take, drop, Option, Some, None, Bool, if◌then◌else◌, nat_lt}
+use Rattle.std.specs.Prelude.{ℕ, ◌+◌, List, length, take, drop, Option, Some, None, if◌then◌else◌, nat_lt}
 use Rattle.std.specs.Int.{Width, byte_len, from_be_bytes, from_le_bytes}
 
 -- the number that stands at a place, where it lies in the bytes

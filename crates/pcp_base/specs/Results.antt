@@ -1,9 +1,8 @@
 -- What the sets of a result hold (pmFetch(3)).
-use Rattle.std.specs.Prelude.{ℕ, ◌<◌, length, pos, ◌≤ℤ◌, All}
+use Rattle.std.specs.Prelude.{◌<◌, length, pos, ◌≤ℤ◌}
 use Rattle.pcp_base.specs.declared.result.Body.{Body}
 use Rattle.pcp_base.specs.declared.result.Body.TheVariants.{InPlace, Blocks, Status}
 use Rattle.pcp_base.specs.declared.result.ValueSet.{ValueSet}
-use Rattle.pcp_base.specs.declared.result.PmResult.{PmResult}
 
 -- a set with values holds at least one, and a status isn't above 0
 abbrev pub HasContent : Body → Type 0

@@ -54,7 +54,7 @@ impl<A: Duplicate, B: Duplicate> Duplicate for (A, B) {
 
 impl<T: Duplicate> Duplicate for List<T> {
     fn copy(&self, alloc: Global) -> Result<Self, NoMemory> {
-        let mut made = List::empty(alloc);
+        let mut made = List::from_vec(Vec::with_capacity(alloc, self.len())?);
         for item in self.as_slice() {
             made.push(item.copy(alloc)?)?;
         }

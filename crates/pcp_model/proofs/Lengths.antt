@@ -1,5 +1,5 @@
 -- How long records are.
-use Rattle.std.proofs.Common.{◌≡◌, ℕ, ℤ, ◌+◌, ◌-◌, ◌≤◌, List, [], ◌∷◌, ◌++◌, length, refl, ap, ◌∙◌, arith, length-append, replicate}
+use Rattle.std.proofs.Common.{◌≡◌, ℕ, ℤ, ◌+◌, ◌-◌, ◌≤◌, List, ◌++◌, length, arith, length-append}
 use Rattle.std.proofs.Math.ListN.{length-replicate}
 use Rattle.pcp_model.specs.Words.{word, signed_word, length-word, length-signed_word, padded, zeros}
 use Rattle.pcp_model.specs.Frame.{frame}

@@ -1,6 +1,6 @@
 -- A framed record (LOGARCHIVE(5)): its length, the payload, and its length again; the length counts both
 -- length words, and is 12 to 16,777,216.
-use Rattle.std.specs.Prelude.{◌≡◌, ◌⊎◌, ℕ, ◌+◌, ◌<◌, ◌≤◌, List, [], ◌∷◌, ◌++◌, length, take}
+use Rattle.std.specs.Prelude.{◌⊎◌, ℕ, ◌+◌, ◌<◌, ◌≤◌, List, [], ◌∷◌, ◌++◌, length, take}
 use Rattle.std.specs.Int.{w32, from_be_bytes}
 use Rattle.pcp_model.specs.Words.{word}
 

@@ -1,7 +1,6 @@
 -- What a label says, without where it lies in memory.
-use Rattle.std.specs.Prelude.{ℕ, ◌<◌, ◌≤◌, List, length}
-use Rattle.pcp_base.specs.Time.{Moment, IsMoment}
-use Rattle.pcp_base.specs.Texts.{IsText}
+use Rattle.std.specs.Prelude.{ℕ, ◌≤◌, List, length}
+use Rattle.pcp_base.specs.Time.{Moment}
 
 -- the logger's process number, the archive's start, and the host and time zone that it was written for
 pub record LabelFields : Type 0 where

@@ -1,5 +1,5 @@
 -- The label, the first record of each file of an archive (LOGARCHIVE(5)).
-use Rattle.std.specs.Prelude.{◌≡◌, ℕ, ℤ, pos, negsuc, ◌<◌, List, [], ◌∷◌, ◌++◌, length, FitsSigned}
+use Rattle.std.specs.Prelude.{◌≡◌, ℕ, ℤ, pos, negsuc, ◌<◌, List, ◌∷◌, ◌++◌, length, FitsSigned}
 use Rattle.std.specs.Int.{w32}
 use Rattle.pcp_base.specs.Texts.{IsText}
 use Rattle.pcp_base.specs.Time.{IsMoment}

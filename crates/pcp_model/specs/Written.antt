@@ -1,5 +1,5 @@
 -- What a writer makes of whole files: an archive without an item, and bytes added to one file.
-use Rattle.std.specs.Prelude.{◌≡◌, ℕ, pos, negsuc, List, [], ◌∷◌, ◌++◌, Bool, true, false, if◌then◌else◌, ◌==◌}
+use Rattle.std.specs.Prelude.{ℕ, pos, negsuc, List, [], ◌++◌, Bool, true, false, if◌then◌else◌, ◌==◌}
 use Rattle.pcp_base.specs.declared.file.FileId.{FileId}
 use Rattle.pcp_base.specs.declared.file.FileId.TheVariants.{Meta, Index, Volume}
 use Rattle.pcp_model.specs.Disk.{Files}

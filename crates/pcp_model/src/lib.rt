@@ -11,4 +11,6 @@ mod spelling;
 pub use label::Label;
 pub use payload::spell_payload;
 pub use records::{Entry, MetaRecord};
-pub use spelling::{spell_description, spell_entry, spell_frame, spell_label};
+pub use spelling::{
+    put_signed, put_word, spell_description, spell_domain, spell_entry, spell_frame, spell_label,
+};

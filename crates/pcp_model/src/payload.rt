@@ -32,7 +32,7 @@ fn put_value_pairs(out: &mut Vec<u8>, pairs: &[(i32, u32)]) -> Result<(), NoMemo
 }
 
 fn put_place_pair(out: &mut Vec<u8>, at: u64, instance: i32) -> Result<(), NoMemory>
-    requires { at ≤ 16777208 }
+    requires { at ≤ 16777216 }
     ensures bytes { OnOk result (out.new.items ≡ out.old.items ++ (signed_word instance ++ word (3 + at / 4))) }
     ensures grows { OnOk result (length out.new.items ≡ length out.old.items + 8) }
 {
@@ -43,7 +43,7 @@ fn put_place_pair(out: &mut Vec<u8>, at: u64, instance: i32) -> Result<(), NoMem
 
 // The pairs of a set whose first block begins at a byte, and the byte behind its last block.
 fn put_place_pairs(out: &mut Vec<u8>, at: u64, pairs: &[(i32, Block)]) -> Result<u64, NoMemory>
-    requires { at + blocks_length (pair_blocks pairs.now) ≤ 16777208 }
+    requires { at + blocks_length (pair_blocks pairs.now) ≤ 16777216 }
     ensures bytes { OnOk result (out.new.items ≡ out.old.items ++ place_pairs (places_from at (pair_blocks pairs.now)) pairs.now) }
     ensures grows { OnOk result (length out.new.items ≡ length out.old.items + 8 * length pairs.now) }
     ensures next { IfOk result (λ next. next ≡ at + blocks_length (pair_blocks pairs.now)) }
@@ -58,8 +58,8 @@ fn put_place_pairs(out: &mut Vec<u8>, at: u64, pairs: &[(i32, Block)]) -> Result
 
 // The words of a set behind its metric, and the byte behind its last block.
 fn put_body(out: &mut Vec<u8>, at: u64, body: &Body) -> Result<u64, NoMemory>
-    requires room { at + blocks_length (blocks_in body.now) ≤ 16777208 }
-    requires few { body_length body.now ≤ 16777208 }
+    requires room { at + blocks_length (blocks_in body.now) ≤ 16777216 }
+    requires few { body_length body.now ≤ 16777216 }
     ensures bytes { OnOk result (out.new.items ≡ out.old.items ++ body_words (places_from at (blocks_in body.now)) body.now) }
     ensures grows { OnOk result (length out.new.items ≡ length out.old.items + body_length body.now) }
     ensures next { IfOk result (λ next. next ≡ at + blocks_length (blocks_in body.now)) }
@@ -85,8 +85,8 @@ fn put_body(out: &mut Vec<u8>, at: u64, body: &Body) -> Result<u64, NoMemory>
 }
 
 fn put_sets(out: &mut Vec<u8>, at: u64, sets: &[ValueSet]) -> Result<(), NoMemory>
-    requires room { at + blocks_length (blocks_of sets.now) ≤ 16777208 }
-    requires few { sets_length sets.now ≤ 16777208 }
+    requires room { at + blocks_length (blocks_of sets.now) ≤ 16777216 }
+    requires few { sets_length sets.now ≤ 16777216 }
     ensures bytes { OnOk result (out.new.items ≡ out.old.items ++ set_words (places_from at (blocks_of sets.now)) sets.now) }
     ensures grows { OnOk result (length out.new.items ≡ length out.old.items + sets_length sets.now) }
 {
@@ -113,7 +113,7 @@ fn put_block(out: &mut Vec<u8>, value: &Block) -> Result<(), NoMemory>
 }
 
 fn put_pair_blocks(out: &mut Vec<u8>, pairs: &[(i32, Block)]) -> Result<(), NoMemory>
-    requires { length out.old.items + blocks_length (pair_blocks pairs.now) ≤ 16777208 }
+    requires { length out.old.items + blocks_length (pair_blocks pairs.now) ≤ 16777216 }
     ensures bytes { OnOk result (out.new.items ≡ out.old.items ++ blocks_bytes (pair_blocks pairs.now)) }
     ensures grows { OnOk result (length out.new.items ≡ length out.old.items + blocks_length (pair_blocks pairs.now)) }
 {
@@ -124,7 +124,7 @@ fn put_pair_blocks(out: &mut Vec<u8>, pairs: &[(i32, Block)]) -> Result<(), NoMe
 }
 
 fn put_set_blocks(out: &mut Vec<u8>, body: &Body) -> Result<(), NoMemory>
-    requires { length out.old.items + blocks_length (blocks_in body.now) ≤ 16777208 }
+    requires { length out.old.items + blocks_length (blocks_in body.now) ≤ 16777216 }
     ensures bytes { OnOk result (out.new.items ≡ out.old.items ++ blocks_bytes (blocks_in body.now)) }
     ensures grows { OnOk result (length out.new.items ≡ length out.old.items + blocks_length (blocks_in body.now)) }
 {
@@ -135,7 +135,7 @@ fn put_set_blocks(out: &mut Vec<u8>, body: &Body) -> Result<(), NoMemory>
 }
 
 fn put_blocks(out: &mut Vec<u8>, sets: &[ValueSet]) -> Result<(), NoMemory>
-    requires { length out.old.items + blocks_length (blocks_of sets.now) ≤ 16777208 }
+    requires { length out.old.items + blocks_length (blocks_of sets.now) ≤ 16777216 }
     ensures bytes { OnOk result (out.new.items ≡ out.old.items ++ blocks_bytes (blocks_of sets.now)) }
     ensures grows { OnOk result (length out.new.items ≡ length out.old.items + blocks_length (blocks_of sets.now)) }
 {
@@ -146,7 +146,7 @@ fn put_blocks(out: &mut Vec<u8>, sets: &[ValueSet]) -> Result<(), NoMemory>
 }
 
 fn body_size(body: &Body) -> u64
-    requires { body_length body.now ≤ 16777208 }
+    requires { body_length body.now ≤ 16777216 }
     ensures { result ≡ body_length body.now }
 {
     match body {
@@ -157,7 +157,7 @@ fn body_size(body: &Body) -> u64
 }
 
 fn head_size(answer: &PmResult) -> u64
-    requires { head_length answer.now ≤ 16777208 }
+    requires { head_length answer.now ≤ 16777216 }
     ensures { result ≡ head_length answer.now }
 {
     let mut size = 12;
@@ -170,12 +170,12 @@ fn head_size(answer: &PmResult) -> u64
 /// The payload of a result; its blocks stand behind the last set, in the order of the pairs.
 #[tactic(auto, unfolding(crate::specs::Payload::payload))]
 pub fn spell_payload(alloc: Global, answer: &PmResult) -> Result<Vec<u8>, NoMemory>
-    requires { payload_length answer.now ≤ 16777208 }
+    requires { payload_length answer.now ≤ 16777216 }
     ensures bytes { IfOk result (λ v. v.items ≡ payload answer.now) }
     ensures length { IfOk result (λ v. length v.items ≡ payload_length answer.now) }
 {
     let at = head_size(answer);
-    let mut out = Vec::new(alloc);
+    let mut out = Vec::with_capacity(alloc, at as usize)?;
     put_head(&mut out, at, answer)?;
     put_blocks(&mut out, answer.sets.as_slice())?;
     Ok(out)
@@ -184,7 +184,7 @@ pub fn spell_payload(alloc: Global, answer: &PmResult) -> Result<Vec<u8>, NoMemo
 #[tactic(auto, using(crate::proofs::Payloads::sets_few))]
 fn put_head(out: &mut Vec<u8>, at: u64, answer: &PmResult) -> Result<(), NoMemory>
     requires places { at ≡ head_length answer.now }
-    requires room { payload_length answer.now ≤ 16777208 }
+    requires room { payload_length answer.now ≤ 16777216 }
     ensures bytes { OnOk result (out.new.items ≡ out.old.items ++ result_head (places_from at (blocks_of answer.now.sets)) answer.now) }
     ensures grows { OnOk result (length out.new.items ≡ length out.old.items + at) }
 {

@@ -14,8 +14,9 @@ use crate::records::Entry;
 use pcp_base::{Block, Body, Desc, InDom, NoMemory, PmResult, Stamp, Text, ValueSet};
 use std::alloc::Global;
 
+/// Adds a word of 4 bytes, big-endian.
 #[tactic(auto, unfolding(crate::specs::Words::word))]
-pub(crate) fn put_word(out: &mut Vec<u8>, number: u32) -> Result<(), NoMemory>
+pub fn put_word(out: &mut Vec<u8>, number: u32) -> Result<(), NoMemory>
     ensures bytes { OnOk result (out.new.items ≡ out.old.items ++ word number) }
     ensures grows { OnOk result (length out.new.items ≡ length out.old.items + 4) }
 {
@@ -23,8 +24,9 @@ pub(crate) fn put_word(out: &mut Vec<u8>, number: u32) -> Result<(), NoMemory>
     Ok(())
 }
 
+/// Adds a signed word of 4 bytes, in two's complement.
 #[tactic(auto, unfolding(crate::specs::Words::signed_word))]
-pub(crate) fn put_signed(out: &mut Vec<u8>, number: i32) -> Result<(), NoMemory>
+pub fn put_signed(out: &mut Vec<u8>, number: i32) -> Result<(), NoMemory>
     ensures bytes { OnOk result (out.new.items ≡ out.old.items ++ signed_word number) }
     ensures grows { OnOk result (length out.new.items ≡ length out.old.items + 4) }
 {
@@ -126,6 +128,66 @@ pub fn spell_description(alloc: Global, desc: &Desc, names: &[Text]) -> Result<V
     put_word(&mut out, desc.units.word())?;
     put_word(&mut out, names.len() as u32)?;
     put_names(&mut out, names)?;
+    Ok(out)
+}
+
+fn put_numbers(out: &mut Vec<u8>, pairs: &[(i32, Text)]) -> Result<(), NoMemory>
+    ensures bytes { OnOk result (out.new.items ≡ out.old.items ++ instance_words pairs.now) }
+    ensures grows { OnOk result (length out.new.items ≡ length out.old.items + 4 * length pairs.now) }
+{
+    for (instance, _) in pairs {
+        put_signed(out, *instance)?;
+    }
+    Ok(())
+}
+
+// Where each name begins in the table.
+fn put_offsets(out: &mut Vec<u8>, pairs: &[(i32, Text)]) -> Result<(), NoMemory>
+    requires { length (name_table pairs.now) < 4294967296 }
+    ensures bytes { OnOk result (out.new.items ≡ out.old.items ++ words (name_offsets 0 pairs.now)) }
+    ensures grows { OnOk result (length out.new.items ≡ length out.old.items + 4 * length pairs.now) }
+{
+    let mut at: u32 = 0;
+    for (_, name) in pairs {
+        put_word(out, at)?;
+        at += name.as_slice().len() as u32 + 1;
+    }
+    Ok(())
+}
+
+fn put_table(out: &mut Vec<u8>, pairs: &[(i32, Text)]) -> Result<(), NoMemory>
+    ensures bytes { OnOk result (out.new.items ≡ out.old.items ++ name_table pairs.now) }
+    ensures grows { OnOk result (length out.new.items ≡ length out.old.items + length (name_table pairs.now)) }
+{
+    for (_, name) in pairs {
+        out.extend_from_slice(name.as_slice())?;
+        out.push(0)?;
+    }
+    Ok(())
+}
+
+/// An instance domain from a moment on; the table has the names in the order of the pairs, without gaps.
+#[tactic(auto, unfolding(crate::specs::Records::domain))]
+pub fn spell_domain(
+    alloc: Global,
+    stamp: Stamp,
+    indom: InDom,
+    pairs: &[(i32, Text)],
+) -> Result<Vec<u8>, NoMemory>
+    requires few { length pairs.now < 2147483648 }
+    requires short { length (name_table pairs.now) < 4294967296 }
+    ensures bytes { IfOk result (λ v. v.items ≡ domain stamp indom pairs.now) }
+    ensures length { IfOk result (λ v. length v.items ≡ 20 + 8 * length pairs.now + length (name_table pairs.now)) }
+{
+    let mut out = Vec::new(alloc);
+    put_word(&mut out, 2)?;
+    put_word(&mut out, stamp.sec())?;
+    put_word(&mut out, stamp.usec())?;
+    put_word(&mut out, indom.word())?;
+    put_word(&mut out, pairs.len() as u32)?;
+    put_numbers(&mut out, pairs)?;
+    put_offsets(&mut out, pairs)?;
+    put_table(&mut out, pairs)?;
     Ok(out)
 }
 

@@ -7,7 +7,8 @@ use Rattle.std.specs.Prelude.{if◌then◌else◌}
 use Rattle.pcp_base.specs.declared.file.FileId.{FileId}
 use Rattle.pcp_base.specs.declared.file.FileId.TheVariants.{Meta, Index, Volume}
 use Rattle.pcp_model.specs.Disk.{Files, Held, Holdings, bytes_of, contents_of, CrashImage}
-use Rattle.pcp_outside.specs.Devices.{same_file, Becomes, appended, synced, made_sure, cut_to, with_file, grown, Syncs, AppendsSure, Survives}
+use Rattle.pcp_outside.specs.Devices.{Becomes, appended, synced, made_sure, cut_to, with_file, grown, Syncs, AppendsSure, Survives}
+use Rattle.pcp_model.specs.Written.{same_file}
 
 -- one file tested against itself, and against another
 pub same_file-refl : (f : FileId) → same_file f f ≡ true

@@ -5,7 +5,8 @@ use Rattle.std.proofs.lemmas.List.{take_all, take-append-le}
 use Rattle.std.specs.Prelude.{if◌then◌else◌}
 use Rattle.pcp_base.specs.declared.file.FileId.{FileId}
 use Rattle.pcp_model.specs.Disk.{Files, Held, nothing_held, bytes_of, CrashImage}
-use Rattle.pcp_outside.specs.Devices.{same_file, Becomes, Elapses}
+use Rattle.pcp_outside.specs.Devices.{Becomes, Elapses}
+use Rattle.pcp_model.specs.Written.{same_file}
 use Rattle.pcp_outside.specs.Contents.{files_of, Sets}
 use Rattle.pcp_outside.specs.Record.{file_of, effect, changed, held_from, held_after, LeftSince, IsKept}
 use Rattle.pcp_outside.specs.declared.contents.Contents.{Contents}

@@ -3,7 +3,7 @@ use Rattle.std.specs.Prelude.{◌≡◌, ℕ, List, false}
 use Rattle.pcp_base.specs.declared.file.FileId.{FileId}
 use Rattle.pcp_base.specs.declared.file.FileId.TheVariants.{Meta, Index, Volume}
 use Rattle.pcp_model.specs.Disk.{Files}
-use Rattle.pcp_outside.specs.Devices.{same_file}
+use Rattle.pcp_model.specs.Written.{same_file}
 use Rattle.pcp_outside.specs.Volumes.{volume}
 use Rattle.pcp_outside.specs.declared.contents.Contents.{Contents}
 

@@ -3,6 +3,7 @@ use Rattle.std.specs.Prelude.{◌≡◌, ◌⊎◌, ℕ, ◌+◌, ◌-◌, ◌<�
 use Rattle.pcp_base.specs.declared.file.FileId.{FileId}
 use Rattle.pcp_base.specs.declared.file.FileId.TheVariants.{Meta, Index, Volume}
 use Rattle.pcp_model.specs.Disk.{Files, Held, Holdings, bytes_of, CrashImage}
+use Rattle.pcp_model.specs.Written.{same_file}
 use Rattle.pcp_outside.specs.Causes.{capped}
 
 -- a volume's number is below 2^32 - 1
@@ -10,12 +11,6 @@ abbrev pub IsNumbered : FileId → Type 0
 IsNumbered (Volume k) = k < 4294967295
 IsNumbered Meta = Unit {0}
 IsNumbered Index = Unit {0}
-
-abbrev pub same_file : FileId → FileId → Bool
-same_file Meta Meta = true
-same_file Index Index = true
-same_file (Volume k) (Volume j) = nat_eq k j
-same_file _ _ = false
 
 -- one file holds this now, and the others what they held
 pub record Becomes (file : FileId) (h : Held) (old new : Holdings) : Type 0 where

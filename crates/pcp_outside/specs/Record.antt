@@ -6,7 +6,8 @@ use Rattle.pcp_base.specs.declared.file.FileId.{FileId}
 use Rattle.pcp_base.specs.declared.file.FileId.TheVariants.{Meta, Index, Volume}
 use Rattle.pcp_model.specs.Disk.{Files, Held, Holdings, nothing_held, bytes_of, CrashImage}
 use Rattle.pcp_outside.specs.Causes.{capped}
-use Rattle.pcp_outside.specs.Devices.{same_file, appended, synced, cut_to}
+use Rattle.pcp_outside.specs.Devices.{appended, synced, cut_to}
+use Rattle.pcp_model.specs.Written.{same_file}
 use Rattle.pcp_outside.specs.Contents.{files_of}
 use Rattle.pcp_outside.specs.declared.contents.Contents.{Contents}
 use Rattle.pcp_outside.specs.declared.memory_disk.Call.{Call}

@@ -1,7 +1,8 @@
 ghost use Rattle.std.specs.Prelude.{◌≡◌, ◌≤◌, ◌+◌, ◌++◌, [], ◌∷◌, ℕ, true, length, take, drop, count_by, None, IfOk, IsOk, IsOkAnd, OnOk, OnErr, IsErr};
 ghost use Rattle.std.specs.Prelude.{◌⊎◌};
 ghost use Rattle.pcp_outside.specs.Causes.{HasCause, capped};
-ghost use Rattle.pcp_outside.specs.Devices.{same_file, IsNumbered, taken_after};
+ghost use Rattle.pcp_outside.specs.Devices.{IsNumbered, taken_after};
+ghost use Rattle.pcp_model.specs.Written.{same_file};
 ghost use Rattle.pcp_outside.specs.Memory.{is_listed};
 ghost use Rattle.pcp_model.specs.Disk.{Held, bytes_of};
 ghost use Rattle.pcp_outside.specs.Record.{IsKept, IsHeld, changed, held_after, first_wrapped, comes_before, is_append_of, is_sync_of};

@@ -6,7 +6,8 @@ use Rattle.std.proofs.Math.Seq.{take-append-add}
 use Rattle.pcp_base.specs.declared.file.FileId.{FileId}
 use Rattle.pcp_base.specs.declared.file.FileId.TheVariants.{Meta, Index, Volume}
 use Rattle.pcp_model.specs.Disk.{Files, Held, Holdings, nothing_held, CrashImage}
-use Rattle.pcp_outside.specs.Devices.{appended, made_sure, synced, grown, Becomes, same_file}
+use Rattle.pcp_outside.specs.Devices.{appended, made_sure, synced, grown, Becomes}
+use Rattle.pcp_model.specs.Written.{same_file}
 use Rattle.pm_commands.specs.Pieces.{Pieces, meta_file, index_file, volume_file, IsCut, Holds, sure}
 
 -- what one file holds is a beginning of what it is to hold

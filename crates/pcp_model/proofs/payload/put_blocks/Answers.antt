@@ -1,4 +1,4 @@
-use Rattle.std.proofs.Common.{arith, rules}
+use Rattle.std.proofs.Common.{arith}
 use Rattle.pcp_model.proofs.Payloads.{blocks_next, blocks_length_next}
 use Rattle.pcp_model.proofs.payload.put_blocks.Goals as goal
 

@@ -7,5 +7,5 @@ invariant-loop-set l = let rest = drop l.set-index l.sets in record {
   whole : l.out.items ++ set_words (places_from l.place (blocks_of rest)) rest ≡ l.initial.out.items ++ set_words (places_from l.initial.place (blocks_of l.sets)) l.sets;
   places : l.place + blocks_length (blocks_of rest) ≡ l.initial.place + blocks_length (blocks_of l.sets);
   long : length l.out.items + sets_length rest ≡ length l.initial.out.items + sets_length l.sets;
-  few : sets_length rest ≤ 16777208;
+  few : sets_length rest ≤ 16777216;
 }

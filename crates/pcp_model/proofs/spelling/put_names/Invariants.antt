@@ -1,5 +1,5 @@
 -- What is written and what is left make the whole, and the names left are short.
-use Rattle.std.proofs.Common.{◌≡◌, ℕ, ◌<◌, ◌+◌, ◌++◌, drop, length}
+use Rattle.std.proofs.Common.{◌≡◌, ◌<◌, ◌+◌, ◌++◌, drop, length}
 use Rattle.std.specs.List.{AllByRecursion}
 use Rattle.pcp_model.specs.Records.{counted_names, names_length}
 use Rattle.pcp_model.proofs.spelling.put_names.Given as goal
