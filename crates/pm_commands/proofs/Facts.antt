@@ -1,17 +1,16 @@
 -- Each fact on a status follows from how the call ends, by cases on the refusal.
-use Rattle.std.proofs.Common.{◌≡◌, ◌⊎◌, inl, inr, ⊎_elim, ℕ, ◌<◌, ◌≤◌, List, [], length, drop, refl, sym, ap, ◌∙◌, subst, arith, Ok, Err}
+use Rattle.std.proofs.Common.{◌≡◌, ◌⊎◌, inl, inr, ⊎_elim, ℕ, ◌<◌, ◌≤◌, List, [], length, drop, refl, sym, ap, ◌∙◌, subst, arith, true, false, Ok, Err}
 use Rattle.pcp_model.specs.Disk.{contents_of, IsEmpty, IsSettled}
 use Rattle.mmv_layout.specs.declared.fault.ImageFault.{ImageFault}
-use Rattle.mmv_layout.specs.declared.fault.ImageFault.TheVariants.{Short, Generations, Later}
-use Rattle.mmv_layout.specs.declared.fault.ImageFault.TheVariants as faults
-use Rattle.mmv_layout.specs.FirstForm.{image_of}
+use Rattle.mmv_layout.specs.Faults.{image_of}
+use Rattle.mmv_layout.specs.FirstForm.{is_first_form}
 use Rattle.pcp_outside.specs.Causes.{Rose}
 use Rattle.pm_commands.specs.declared.words.Command.TheVariants.{Once}
 use Rattle.pm_commands.specs.declared.refusal.Refusal.{Refusal}
-use Rattle.pm_commands.specs.declared.refusal.Refusal.TheVariants.{Usage, ReadFault, InputLimit, Image, LaterDisk, DiskFault, NoMemory}
+use Rattle.pm_commands.specs.declared.refusal.Refusal.TheVariants.{Usage, ReadFault, InputLimit, Image, LaterImage, LaterDisk, DiskFault, NoMemory}
 use Rattle.pm_commands.specs.CommandLine.{command_of}
-use Rattle.pm_commands.specs.Ends.{SourceSide, SinkSide, DiskSide, IsOnce, IsImageInput, IsRead, HasByte, Untouched, Cause, Ends, EndsDone, EndsUntold, input_limit}
-use Rattle.pm_commands.specs.Facts.{UsageIsExact, LimitIsExact, IsShown, ImageFaultIsExact, LaterIsExact, IsBeforeWrites, Done, IsGoodRun}
+use Rattle.pm_commands.specs.Ends.{SourceSide, SinkSide, DiskSide, IsOnce, IsImageInput, IsLaterInput, IsRead, HasByte, Untouched, Cause, Ends, EndsDone, EndsUntold, input_limit}
+use Rattle.pm_commands.specs.Facts.{UsageIsExact, LimitIsExact, ImageFaultIsExact, LaterIsExact, IsBeforeWrites, Done, IsGoodRun}
 use Rattle.pm_commands.specs.Refusals.{status_of}
 
 module _ (words : List (List ℕ)) (s : SourceSide) (k : SinkSide) (d : DiskSide) where
@@ -33,10 +32,8 @@ module _ (words : List (List ℕ)) (s : SourceSide) (k : SinkSide) (d : DiskSide
   usage_only (Usage at) c = λ h. (at, c.0)
   usage_only ReadFault c = λ h. absurd (omega (arith, h))
   usage_only InputLimit c = λ h. absurd (omega (arith, h))
-  usage_only (Image (Short have)) c = λ h. absurd (omega (arith, h))
-  usage_only (Image (Generations g1 g2)) c = λ h. absurd (omega (arith, h))
-  usage_only (Image Later) c = λ h. absurd (omega (arith, h))
-  usage_only (Image faults.NoMemory) c = λ h. absurd (omega (arith, h))
+  usage_only (Image fault) c = λ h. absurd (omega (arith, h))
+  usage_only LaterImage c = λ h. absurd (omega (arith, h))
   usage_only LaterDisk c = λ h. absurd (omega (arith, h))
   usage_only DiskFault c = λ h. absurd (omega (arith, h))
   usage_only NoMemory c = λ h. absurd (omega (arith, h))
@@ -45,10 +42,8 @@ module _ (words : List (List ℕ)) (s : SourceSide) (k : SinkSide) (d : DiskSide
   usage_found (Usage other) c at bad = inl refl
   usage_found ReadFault c at bad = absurd (apart at bad c.0)
   usage_found InputLimit c at bad = absurd (apart at bad c.0)
-  usage_found (Image (Short have)) c at bad = absurd (apart at bad c.0)
-  usage_found (Image (Generations g1 g2)) c at bad = absurd (apart at bad c.0)
-  usage_found (Image Later) c at bad = absurd (apart at bad c.0)
-  usage_found (Image faults.NoMemory) c at bad = inr refl
+  usage_found (Image fault) c at bad = absurd (apart at bad c.0)
+  usage_found LaterImage c at bad = absurd (apart at bad c.0)
   usage_found LaterDisk c at bad = absurd (apart at bad c.0)
   usage_found DiskFault c at bad = absurd (apart at bad c.0)
   usage_found NoMemory c at bad = inr refl
@@ -64,10 +59,8 @@ module _ (words : List (List ℕ)) (s : SourceSide) (k : SinkSide) (d : DiskSide
   read_rose (Usage at) c = λ h. absurd (omega (arith, h))
   read_rose ReadFault c = λ h. c.1.0.0
   read_rose InputLimit c = λ h. absurd (omega (arith, h))
-  read_rose (Image (Short have)) c = λ h. absurd (omega (arith, h))
-  read_rose (Image (Generations g1 g2)) c = λ h. absurd (omega (arith, h))
-  read_rose (Image Later) c = λ h. absurd (omega (arith, h))
-  read_rose (Image faults.NoMemory) c = λ h. absurd (omega (arith, h))
+  read_rose (Image fault) c = λ h. absurd (omega (arith, h))
+  read_rose LaterImage c = λ h. absurd (omega (arith, h))
   read_rose LaterDisk c = λ h. absurd (omega (arith, h))
   read_rose DiskFault c = λ h. absurd (omega (arith, h))
   read_rose NoMemory c = λ h. absurd (omega (arith, h))
@@ -79,10 +72,8 @@ module _ (words : List (List ℕ)) (s : SourceSide) (k : SinkSide) (d : DiskSide
   disk_rose (Usage at) c = λ h. absurd (omega (arith, h))
   disk_rose ReadFault c = λ h. absurd (omega (arith, h))
   disk_rose InputLimit c = λ h. absurd (omega (arith, h))
-  disk_rose (Image (Short have)) c = λ h. absurd (omega (arith, h))
-  disk_rose (Image (Generations g1 g2)) c = λ h. absurd (omega (arith, h))
-  disk_rose (Image Later) c = λ h. absurd (omega (arith, h))
-  disk_rose (Image faults.NoMemory) c = λ h. absurd (omega (arith, h))
+  disk_rose (Image fault) c = λ h. absurd (omega (arith, h))
+  disk_rose LaterImage c = λ h. absurd (omega (arith, h))
   disk_rose LaterDisk c = λ h. absurd (omega (arith, h))
   disk_rose DiskFault c = λ h. c.1.1
   disk_rose NoMemory c = λ h. absurd (omega (arith, h))
@@ -94,10 +85,8 @@ module _ (words : List (List ℕ)) (s : SourceSide) (k : SinkSide) (d : DiskSide
   write_rose (Usage at) c = λ h. absurd (omega (arith, h))
   write_rose ReadFault c = λ h. absurd (omega (arith, h))
   write_rose InputLimit c = λ h. absurd (omega (arith, h))
-  write_rose (Image (Short have)) c = λ h. absurd (omega (arith, h))
-  write_rose (Image (Generations g1 g2)) c = λ h. absurd (omega (arith, h))
-  write_rose (Image Later) c = λ h. absurd (omega (arith, h))
-  write_rose (Image faults.NoMemory) c = λ h. absurd (omega (arith, h))
+  write_rose (Image fault) c = λ h. absurd (omega (arith, h))
+  write_rose LaterImage c = λ h. absurd (omega (arith, h))
   write_rose LaterDisk c = λ h. absurd (omega (arith, h))
   write_rose DiskFault c = λ h. absurd (omega (arith, h))
   write_rose NoMemory c = λ h. absurd (omega (arith, h))
@@ -109,10 +98,8 @@ module _ (words : List (List ℕ)) (s : SourceSide) (k : SinkSide) (d : DiskSide
   limit_only (Usage at) c = λ h. absurd (omega (arith, h))
   limit_only ReadFault c = λ h. absurd (omega (arith, h))
   limit_only InputLimit c = λ h. (c.0, c.1.0)
-  limit_only (Image (Short have)) c = λ h. absurd (omega (arith, h))
-  limit_only (Image (Generations g1 g2)) c = λ h. absurd (omega (arith, h))
-  limit_only (Image Later) c = λ h. absurd (omega (arith, h))
-  limit_only (Image faults.NoMemory) c = λ h. absurd (omega (arith, h))
+  limit_only (Image fault) c = λ h. absurd (omega (arith, h))
+  limit_only LaterImage c = λ h. absurd (omega (arith, h))
   limit_only LaterDisk c = λ h. absurd (omega (arith, h))
   limit_only DiskFault c = λ h. absurd (omega (arith, h))
   limit_only NoMemory c = λ h. absurd (omega (arith, h))
@@ -124,10 +111,8 @@ module _ (words : List (List ℕ)) (s : SourceSide) (k : SinkSide) (d : DiskSide
   limit_found (Usage at) c once tells above = absurd (apart at c.0 once)
   limit_found ReadFault c once tells above = inr (inr refl)
   limit_found InputLimit c once tells above = inl refl
-  limit_found (Image (Short have)) c once tells above = absurd (within_not_above (c.1.0 tells).0 above)
-  limit_found (Image (Generations g1 g2)) c once tells above = absurd (within_not_above (c.1.0 tells).0 above)
-  limit_found (Image Later) c once tells above = absurd (within_not_above (c.1.0 tells).0 above)
-  limit_found (Image faults.NoMemory) c once tells above = inr (inl refl)
+  limit_found (Image fault) c once tells above = absurd (within_not_above (c.1.0 tells).0 above)
+  limit_found LaterImage c once tells above = absurd (within_not_above (c.1.0 tells).1.within above)
   limit_found LaterDisk c once tells above = absurd (within_not_above (c.1.0 tells).1.image.within above)
   limit_found DiskFault c once tells above = absurd (within_not_above (c.1.0 tells).1.image.within above)
   limit_found NoMemory c once tells above = inr (inl refl)
@@ -139,14 +124,12 @@ module _ (words : List (List ℕ)) (s : SourceSide) (k : SinkSide) (d : DiskSide
         (λ done once tells above. absurd (within_not_above (done.logged.read tells).1.image.within above)) (λ untold once tells above. absurd (within_not_above (untold.logged.read tells).1.image.within above)) limit_found;
   }
 
-  image_only : (e : Refusal) → Caused e → status_of e ≡ 2 → IsOnce words × (s.tells → (length s.left ≤ input_limit) × (fault : ImageFault) × IsShown fault × (image_of s.left ≡ Err fault) × (s.after ≡ []))
+  image_only : (e : Refusal) → Caused e → status_of e ≡ 2 → IsOnce words × (s.tells → (length s.left ≤ input_limit) × (fault : ImageFault) × (image_of s.left ≡ Err fault) × (s.after ≡ []))
   image_only (Usage at) c = λ h. absurd (omega (arith, h))
   image_only ReadFault c = λ h. absurd (omega (arith, h))
   image_only InputLimit c = λ h. absurd (omega (arith, h))
-  image_only (Image (Short have)) c = λ h. (c.0, λ tells. ((c.1.0 tells).0, Short have, tt, (c.1.0 tells).1, (c.1.0 tells).2))
-  image_only (Image (Generations g1 g2)) c = λ h. (c.0, λ tells. ((c.1.0 tells).0, Generations g1 g2, tt, (c.1.0 tells).1, (c.1.0 tells).2))
-  image_only (Image Later) c = λ h. absurd (omega (arith, h))
-  image_only (Image faults.NoMemory) c = λ h. absurd (omega (arith, h))
+  image_only (Image fault) c = λ h. (c.0, λ tells. ((c.1.0 tells).0, fault, (c.1.0 tells).1, (c.1.0 tells).2))
+  image_only LaterImage c = λ h. absurd (omega (arith, h))
   image_only LaterDisk c = λ h. absurd (omega (arith, h))
   image_only DiskFault c = λ h. absurd (omega (arith, h))
   image_only NoMemory c = λ h. absurd (omega (arith, h))
@@ -155,58 +138,50 @@ module _ (words : List (List ℕ)) (s : SourceSide) (k : SinkSide) (d : DiskSide
   no_fault : (fault : ImageFault) (image : List ℕ) → image_of s.left ≡ Err fault → image_of s.left ≡ Ok image → ⊥
   no_fault fault image bad good = let e : Err fault ≡ Ok image = sym bad ∙ good in cc
 
-  not_later : (fault : ImageFault) → IsShown fault → image_of s.left ≡ Err fault → image_of s.left ≡ Err Later → ⊥
-  not_later fault shown bad later = shown_not fault shown (let e : Err fault ≡ Err Later = sym bad ∙ later in cc)
+  -- an image of the first form is of no other
+  not_both : (image other : List ℕ) → IsImageInput s.left image → IsLaterInput s.left other → ⊥
+  not_both image other now later = apart_forms image other (let e : Ok image ≡ Ok other = sym now.image ∙ later.image in cc) now.form later.other
     where
-      shown_not : (fault : ImageFault) → IsShown fault → fault ≡ Later → ⊥
-      shown_not (Short have) shown e = cc
-      shown_not (Generations g1 g2) shown e = cc
-      shown_not Later shown e = shown
-      shown_not faults.NoMemory shown e = shown
+      apart_forms : (image other : List ℕ) → image ≡ other → is_first_form image ≡ true → is_first_form other ≡ false → ⊥
+      apart_forms image other e yes no = cc
 
-  image_found : (e : Refusal) → Caused e → IsOnce words → s.tells → length s.left ≤ input_limit → (fault : ImageFault) → IsShown fault → image_of s.left ≡ Err fault → (status_of e ≡ 2) ⊎ ((status_of e ≡ 9) ⊎ (status_of e ≡ 3))
-  image_found (Usage at) c once tells within fault shown bad = absurd (apart at c.0 once)
-  image_found ReadFault c once tells within fault shown bad = inr (inr refl)
-  image_found InputLimit c once tells within fault shown bad = absurd (within_not_above within (c.1.0 tells).0)
-  image_found (Image (Short have)) c once tells within fault shown bad = inl refl
-  image_found (Image (Generations g1 g2)) c once tells within fault shown bad = inl refl
-  image_found (Image Later) c once tells within fault shown bad = absurd (not_later fault shown bad (c.1.0 tells).1)
-  image_found (Image faults.NoMemory) c once tells within fault shown bad = inr (inl refl)
-  image_found LaterDisk c once tells within fault shown bad = absurd (no_fault fault (c.1.0 tells).0 bad (c.1.0 tells).1.image.image)
-  image_found DiskFault c once tells within fault shown bad = absurd (no_fault fault (c.1.0 tells).0 bad (c.1.0 tells).1.image.image)
-  image_found NoMemory c once tells within fault shown bad = inr (inl refl)
+  image_found : (e : Refusal) → Caused e → IsOnce words → s.tells → length s.left ≤ input_limit → (fault : ImageFault) → image_of s.left ≡ Err fault → (status_of e ≡ 2) ⊎ ((status_of e ≡ 9) ⊎ (status_of e ≡ 3))
+  image_found (Usage at) c once tells within fault bad = absurd (apart at c.0 once)
+  image_found ReadFault c once tells within fault bad = inr (inr refl)
+  image_found InputLimit c once tells within fault bad = absurd (within_not_above within (c.1.0 tells).0)
+  image_found (Image fault) c once tells within fault bad = inl refl
+  image_found LaterImage c once tells within fault bad = absurd (no_fault fault (c.1.0 tells).0 bad (c.1.0 tells).1.image)
+  image_found LaterDisk c once tells within fault bad = absurd (no_fault fault (c.1.0 tells).0 bad (c.1.0 tells).1.image.image)
+  image_found DiskFault c once tells within fault bad = absurd (no_fault fault (c.1.0 tells).0 bad (c.1.0 tells).1.image.image)
+  image_found NoMemory c once tells within fault bad = inr (inl refl)
 
   pub image_fault_is_exact : (status : ℕ) → Ends words s k d status → ImageFaultIsExact words s status
   image_fault_is_exact status ends = record {
-    only = by_end status (λ n. n ≡ 2 → IsOnce words × (s.tells → (length s.left ≤ input_limit) × (fault : ImageFault) × IsShown fault × (image_of s.left ≡ Err fault) × (s.after ≡ []))) ends (λ done h. absurd (omega (arith, h))) (λ untold h. absurd (omega (arith, h))) image_only;
-    always = by_end status (λ n. IsOnce words → s.tells → length s.left ≤ input_limit → (fault : ImageFault) → IsShown fault → image_of s.left ≡ Err fault → (n ≡ 2) ⊎ ((n ≡ 9) ⊎ (n ≡ 3))) ends
-        (λ done once tells within fault shown bad. absurd (no_fault fault (done.logged.read tells).0 bad (done.logged.read tells).1.image.image))
-        (λ untold once tells within fault shown bad. absurd (no_fault fault (untold.logged.read tells).0 bad (untold.logged.read tells).1.image.image)) image_found;
+    only = by_end status (λ n. n ≡ 2 → IsOnce words × (s.tells → (length s.left ≤ input_limit) × (fault : ImageFault) × (image_of s.left ≡ Err fault) × (s.after ≡ []))) ends (λ done h. absurd (omega (arith, h))) (λ untold h. absurd (omega (arith, h))) image_only;
+    always = by_end status (λ n. IsOnce words → s.tells → length s.left ≤ input_limit → (fault : ImageFault) → image_of s.left ≡ Err fault → (n ≡ 2) ⊎ ((n ≡ 9) ⊎ (n ≡ 3))) ends
+        (λ done once tells within fault bad. absurd (no_fault fault (done.logged.read tells).0 bad (done.logged.read tells).1.image.image))
+        (λ untold once tells within fault bad. absurd (no_fault fault (untold.logged.read tells).0 bad (untold.logged.read tells).1.image.image)) image_found;
   }
 
-  later_only : (e : Refusal) → Caused e → status_of e ≡ 15 → IsOnce words × ((s.tells → (length s.left ≤ input_limit) × (image_of s.left ≡ Err Later)) ⊎ ((s.tells → (image : List ℕ) × IsRead s image) × (d.tells → HasByte (contents_of d.held))))
+  later_only : (e : Refusal) → Caused e → status_of e ≡ 15 → IsOnce words × ((s.tells → (image : List ℕ) × IsLaterInput s.left image) ⊎ ((s.tells → (image : List ℕ) × IsRead s image) × (d.tells → HasByte (contents_of d.held))))
   later_only (Usage at) c = λ h. absurd (omega (arith, h))
   later_only ReadFault c = λ h. absurd (omega (arith, h))
   later_only InputLimit c = λ h. absurd (omega (arith, h))
-  later_only (Image (Short have)) c = λ h. absurd (omega (arith, h))
-  later_only (Image (Generations g1 g2)) c = λ h. absurd (omega (arith, h))
-  later_only (Image Later) c = λ h. (c.0, inl (λ tells. ((c.1.0 tells).0, (c.1.0 tells).1)))
-  later_only (Image faults.NoMemory) c = λ h. absurd (omega (arith, h))
+  later_only (Image fault) c = λ h. absurd (omega (arith, h))
+  later_only LaterImage c = λ h. (c.0, inl (λ tells. ((c.1.0 tells).0, (c.1.0 tells).1)))
   later_only LaterDisk c = λ h. (c.0, inr (c.1.0, c.1.1.1))
   later_only DiskFault c = λ h. absurd (omega (arith, h))
   later_only NoMemory c = λ h. absurd (omega (arith, h))
 
-  later_image_found : (e : Refusal) → Caused e → IsOnce words → s.tells → length s.left ≤ input_limit → image_of s.left ≡ Err Later → (status_of e ≡ 15) ⊎ ((status_of e ≡ 9) ⊎ (status_of e ≡ 3))
-  later_image_found (Usage at) c once tells within bad = absurd (apart at c.0 once)
-  later_image_found ReadFault c once tells within bad = inr (inr refl)
-  later_image_found InputLimit c once tells within bad = absurd (within_not_above within (c.1.0 tells).0)
-  later_image_found (Image (Short have)) c once tells within bad = absurd (not_later (Short have) tt (c.1.0 tells).1 bad)
-  later_image_found (Image (Generations g1 g2)) c once tells within bad = absurd (not_later (Generations g1 g2) tt (c.1.0 tells).1 bad)
-  later_image_found (Image Later) c once tells within bad = inl refl
-  later_image_found (Image faults.NoMemory) c once tells within bad = inr (inl refl)
-  later_image_found LaterDisk c once tells within bad = inl refl
-  later_image_found DiskFault c once tells within bad = absurd (no_fault Later (c.1.0 tells).0 bad (c.1.0 tells).1.image.image)
-  later_image_found NoMemory c once tells within bad = inr (inl refl)
+  later_image_found : (e : Refusal) → Caused e → IsOnce words → s.tells → (image : List ℕ) → IsLaterInput s.left image → (status_of e ≡ 15) ⊎ ((status_of e ≡ 9) ⊎ (status_of e ≡ 3))
+  later_image_found (Usage at) c once tells image later = absurd (apart at c.0 once)
+  later_image_found ReadFault c once tells image later = inr (inr refl)
+  later_image_found InputLimit c once tells image later = absurd (within_not_above later.within (c.1.0 tells).0)
+  later_image_found (Image fault) c once tells image later = absurd (no_fault fault image (c.1.0 tells).1 later.image)
+  later_image_found LaterImage c once tells image later = inl refl
+  later_image_found LaterDisk c once tells image later = inl refl
+  later_image_found DiskFault c once tells image later = absurd (not_both (c.1.0 tells).0 image (c.1.0 tells).1.image later)
+  later_image_found NoMemory c once tells image later = inr (inl refl)
 
   has_no_byte : IsEmpty (contents_of d.held) → HasByte (contents_of d.held) → ⊥
   has_no_byte empty (file, some) = let l : length (contents_of d.held file) ≡ 0 = ap length (empty file) in omega arith
@@ -215,21 +190,19 @@ module _ (words : List (List ℕ)) (s : SourceSide) (k : SinkSide) (d : DiskSide
   later_disk_found (Usage at) c once tells keeps image input some = absurd (apart at c.0 once)
   later_disk_found ReadFault c once tells keeps image input some = inr (inr (inl refl))
   later_disk_found InputLimit c once tells keeps image input some = absurd (within_not_above input.within (c.1.0 tells).0)
-  later_disk_found (Image (Short have)) c once tells keeps image input some = absurd (no_fault (Short have) image (c.1.0 tells).1 input.image)
-  later_disk_found (Image (Generations g1 g2)) c once tells keeps image input some = absurd (no_fault (Generations g1 g2) image (c.1.0 tells).1 input.image)
-  later_disk_found (Image Later) c once tells keeps image input some = inl refl
-  later_disk_found (Image faults.NoMemory) c once tells keeps image input some = inr (inl refl)
+  later_disk_found (Image fault) c once tells keeps image input some = absurd (no_fault fault image (c.1.0 tells).1 input.image)
+  later_disk_found LaterImage c once tells keeps image input some = inl refl
   later_disk_found LaterDisk c once tells keeps image input some = inl refl
   later_disk_found DiskFault c once tells keeps image input some = inr (inr (inr refl))
   later_disk_found NoMemory c once tells keeps image input some = inr (inl refl)
 
   pub later_is_exact : (status : ℕ) → Ends words s k d status → LaterIsExact words s d status
   later_is_exact status ends = record {
-    only = by_end status (λ n. n ≡ 15 → IsOnce words × ((s.tells → (length s.left ≤ input_limit) × (image_of s.left ≡ Err Later)) ⊎ ((s.tells → (image : List ℕ) × IsRead s image) × (d.tells → HasByte (contents_of d.held))))) ends
+    only = by_end status (λ n. n ≡ 15 → IsOnce words × ((s.tells → (image : List ℕ) × IsLaterInput s.left image) ⊎ ((s.tells → (image : List ℕ) × IsRead s image) × (d.tells → HasByte (contents_of d.held))))) ends
         (λ done h. absurd (omega (arith, h))) (λ untold h. absurd (omega (arith, h))) later_only;
-    image = by_end status (λ n. IsOnce words → s.tells → length s.left ≤ input_limit → image_of s.left ≡ Err Later → (n ≡ 15) ⊎ ((n ≡ 9) ⊎ (n ≡ 3))) ends
-        (λ done once tells within bad. absurd (no_fault Later (done.logged.read tells).0 bad (done.logged.read tells).1.image.image))
-        (λ untold once tells within bad. absurd (no_fault Later (untold.logged.read tells).0 bad (untold.logged.read tells).1.image.image)) later_image_found;
+    image = by_end status (λ n. IsOnce words → s.tells → (image : List ℕ) → IsLaterInput s.left image → (n ≡ 15) ⊎ ((n ≡ 9) ⊎ (n ≡ 3))) ends
+        (λ done once tells image later. absurd (not_both (done.logged.read tells).0 image (done.logged.read tells).1.image later))
+        (λ untold once tells image later. absurd (not_both (untold.logged.read tells).0 image (untold.logged.read tells).1.image later)) later_image_found;
     disk = by_end status (λ n. IsOnce words → s.tells → d.tells → (image : List ℕ) → IsImageInput s.left image → HasByte (contents_of d.held) → (n ≡ 15) ⊎ ((n ≡ 9) ⊎ ((n ≡ 3) ⊎ (n ≡ 5)))) ends
         (λ done once tells keeps image input some. absurd (has_no_byte (done.logged.empty keeps) some))
         (λ untold once tells keeps image input some. absurd (has_no_byte (untold.logged.empty keeps) some)) later_disk_found;
@@ -247,10 +220,8 @@ module _ (words : List (List ℕ)) (s : SourceSide) (k : SinkSide) (d : DiskSide
   kept (Usage at) c = λ b. c.2
   kept ReadFault c = λ b. c.1.1
   kept InputLimit c = λ b. c.1.1
-  kept (Image (Short have)) c = λ b. c.1.1
-  kept (Image (Generations g1 g2)) c = λ b. c.1.1
-  kept (Image Later) c = λ b. c.1.1
-  kept (Image faults.NoMemory) c = λ b. c.1.1
+  kept (Image fault) c = λ b. c.1.1
+  kept LaterImage c = λ b. c.1.1
   kept LaterDisk c = λ b. c.1.1.0
   kept DiskFault c = λ b. absurd (before 5 b (inr (inr refl)))
   kept NoMemory c = λ b. c.1
@@ -263,10 +234,8 @@ module _ (words : List (List ℕ)) (s : SourceSide) (k : SinkSide) (d : DiskSide
   completed (Usage at) c tells keeps good = absurd (apart at c.0 good.command)
   completed ReadFault c tells keeps good = absurd (good.source_kept c.1.0.0)
   completed InputLimit c tells keeps good = absurd (within_not_above good.input.within (c.1.0 tells).0)
-  completed (Image (Short have)) c tells keeps good = absurd (no_fault (Short have) good.image (c.1.0 tells).1 good.input.image)
-  completed (Image (Generations g1 g2)) c tells keeps good = absurd (no_fault (Generations g1 g2) good.image (c.1.0 tells).1 good.input.image)
-  completed (Image Later) c tells keeps good = absurd (no_fault Later good.image (c.1.0 tells).1 good.input.image)
-  completed (Image faults.NoMemory) c tells keeps good = inr refl
+  completed (Image fault) c tells keeps good = absurd (no_fault fault good.image (c.1.0 tells).1 good.input.image)
+  completed LaterImage c tells keeps good = absurd (not_both good.image (c.1.0 tells).0 good.input (c.1.0 tells).1)
   completed LaterDisk c tells keeps good = absurd (has_no_byte good.empty (c.1.1.1 keeps))
   completed DiskFault c tells keeps good = absurd (good.disk_kept c.1.1)
   completed NoMemory c tells keeps good = inr refl
@@ -280,10 +249,8 @@ module _ (words : List (List ℕ)) (s : SourceSide) (k : SinkSide) (d : DiskSide
   not_done (Usage at) c = λ h. omega (arith, h)
   not_done ReadFault c = λ h. omega (arith, h)
   not_done InputLimit c = λ h. omega (arith, h)
-  not_done (Image (Short have)) c = λ h. omega (arith, h)
-  not_done (Image (Generations g1 g2)) c = λ h. omega (arith, h)
-  not_done (Image Later) c = λ h. omega (arith, h)
-  not_done (Image faults.NoMemory) c = λ h. omega (arith, h)
+  not_done (Image fault) c = λ h. omega (arith, h)
+  not_done LaterImage c = λ h. omega (arith, h)
   not_done LaterDisk c = λ h. omega (arith, h)
   not_done DiskFault c = λ h. omega (arith, h)
   not_done NoMemory c = λ h. omega (arith, h)
@@ -309,10 +276,8 @@ module _ (words : List (List ℕ)) (s : SourceSide) (k : SinkSide) (d : DiskSide
   stays_settled (Usage at) c = λ h tells settled. subst IsSettled (sym (c.2 tells)) settled
   stays_settled ReadFault c = λ h tells settled. subst IsSettled (sym (c.1.1 tells)) settled
   stays_settled InputLimit c = λ h tells settled. subst IsSettled (sym (c.1.1 tells)) settled
-  stays_settled (Image (Short have)) c = λ h tells settled. subst IsSettled (sym (c.1.1 tells)) settled
-  stays_settled (Image (Generations g1 g2)) c = λ h tells settled. subst IsSettled (sym (c.1.1 tells)) settled
-  stays_settled (Image Later) c = λ h tells settled. subst IsSettled (sym (c.1.1 tells)) settled
-  stays_settled (Image faults.NoMemory) c = λ h tells settled. subst IsSettled (sym (c.1.1 tells)) settled
+  stays_settled (Image fault) c = λ h tells settled. subst IsSettled (sym (c.1.1 tells)) settled
+  stays_settled LaterImage c = λ h tells settled. subst IsSettled (sym (c.1.1 tells)) settled
   stays_settled LaterDisk c = λ h tells settled. subst IsSettled (sym (c.1.1.0 tells)) settled
   stays_settled DiskFault c = λ h. absurd (h refl)
   stays_settled NoMemory c = λ h tells settled. subst IsSettled (sym (c.1 tells)) settled

@@ -1,10 +1,8 @@
 -- A refusal whose line could not be made ends as want of memory.
 use Rattle.std.proofs.Common.{◌≡◌, inl, inr, ℕ, ◌≤◌, List, [], length, refl, sym, ◌∙◌, arith, append-nil, IsSome}
 use Rattle.std.proofs.lemmas.List.{drop_all}
-use Rattle.mmv_layout.specs.declared.fault.ImageFault.TheVariants.{Short, Generations, Later}
-use Rattle.mmv_layout.specs.declared.fault.ImageFault.TheVariants as faults
 use Rattle.pm_commands.specs.declared.refusal.Refusal.{Refusal}
-use Rattle.pm_commands.specs.declared.refusal.Refusal.TheVariants.{Usage, ReadFault, InputLimit, Image, LaterDisk, DiskFault, NoMemory}
+use Rattle.pm_commands.specs.declared.refusal.Refusal.TheVariants.{Usage, ReadFault, InputLimit, Image, LaterImage, LaterDisk, DiskFault, NoMemory}
 use Rattle.pm_commands.specs.Ends.{Cause, SourceSide, SinkSide, DiskSide, TookSome, input_limit, Ends}
 use Rattle.pm_commands.specs.Refusals.{numbered_line_of}
 
@@ -13,10 +11,8 @@ all_taken s within all = (length s.left, omega arith, all ∙ sym (drop_all (len
 
 pub out_of_memory : (words : List (List ℕ)) (s : SourceSide) (d : DiskSide) (e : Refusal) → Cause words s d e → IsSome (numbered_line_of e) → Cause words s d NoMemory
 out_of_memory words s d (Usage at) c some = (λ tells. (0, omega arith, c.1 tells), c.2)
-out_of_memory words s d (Image (Short have)) c some = (λ tells. all_taken s (c.1.0 tells).0 (c.1.0 tells).2, c.1.1)
-out_of_memory words s d (Image (Generations g1 g2)) c some = (λ tells. all_taken s (c.1.0 tells).0 (c.1.0 tells).2, c.1.1)
-out_of_memory words s d (Image Later) c some = cc
-out_of_memory words s d (Image faults.NoMemory) c some = cc
+out_of_memory words s d (Image fault) c some = (λ tells. all_taken s (c.1.0 tells).0 (c.1.0 tells).2, c.1.1)
+out_of_memory words s d LaterImage c some = cc
 out_of_memory words s d ReadFault c some = cc
 out_of_memory words s d InputLimit c some = cc
 out_of_memory words s d LaterDisk c some = cc

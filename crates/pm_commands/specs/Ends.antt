@@ -1,16 +1,17 @@
 -- How `once` ends: what it found outside, what it left, and for each refusal its cause. Causes are
 -- cumulative: each says also that all that is looked at before it was good.
-use Rattle.std.specs.Prelude.{◌≡◌, ◌⊎◌, ℕ, ◌<◌, ◌≤◌, List, [], ◌++◌, length, take, drop, codes, Ok, Err}
+use Rattle.std.specs.Prelude.{◌≡◌, ◌⊎◌, ℕ, ◌<◌, ◌≤◌, List, [], ◌++◌, length, take, drop, codes, true, false, Ok, Err}
 use Rattle.pcp_base.specs.declared.file.FileId.{FileId}
 use Rattle.pcp_base.specs.declared.result.Item.{Item}
 use Rattle.pcp_base.specs.declared.result.Item.TheVariants.{Sample}
 use Rattle.pcp_model.specs.Disk.{Files, Holdings, contents_of, CrashImage, IsEmpty, IsSettled}
-use Rattle.mmv_layout.specs.FirstForm.{image_of}
+use Rattle.mmv_layout.specs.Faults.{image_of}
+use Rattle.mmv_layout.specs.FirstForm.{is_first_form}
 use Rattle.pcp_outside.specs.Causes.{Rose}
 use Rattle.pm_commands.specs.declared.words.Command.TheVariants.{Once}
 use Rattle.pm_commands.specs.declared.words.OnceWords.{OnceWords}
 use Rattle.pm_commands.specs.declared.refusal.Refusal.{Refusal}
-use Rattle.pm_commands.specs.declared.refusal.Refusal.TheVariants.{Usage, ReadFault, InputLimit, Image, LaterDisk, DiskFault, NoMemory}
+use Rattle.pm_commands.specs.declared.refusal.Refusal.TheVariants.{Usage, ReadFault, InputLimit, Image, LaterImage, LaterDisk, DiskFault, NoMemory}
 use Rattle.pm_commands.specs.CommandLine.{command_of}
 use Rattle.pm_commands.specs.Once.{once_files, shown_result}
 use Rattle.pm_commands.specs.Pieces.{NoneOrOne, HasItem}
@@ -25,6 +26,13 @@ input_limit = 16777216
 pub record IsImageInput (input words : List ℕ) : Type 0 where
   pub within : length input ≤ input_limit
   pub image : image_of input ≡ Ok words
+  pub form : is_first_form words ≡ true
+
+-- the input is an image of another form
+pub record IsLaterInput (input words : List ℕ) : Type 0 where
+  pub within : length input ≤ input_limit
+  pub image : image_of input ≡ Ok words
+  pub other : is_first_form words ≡ false
 
 -- the words are a command `once`
 abbrev pub IsOnce : List (List ℕ) → Type 0
@@ -75,6 +83,7 @@ abbrev pub InputCause : SourceSide → Refusal → Type 0
 InputCause s ReadFault = Rose s.faults s.faults_after × (s.tells → TookSome s)
 InputCause s InputLimit = s.tells → (input_limit < length s.left) × (s.after ≡ drop 16777217 s.left)
 InputCause s (Image fault) = s.tells → (length s.left ≤ input_limit) × (image_of s.left ≡ Err fault) × (s.after ≡ [])
+InputCause s LaterImage = s.tells → (words : List ℕ) × IsLaterInput s.left words × (s.after ≡ [])
 InputCause s NoMemory = s.tells → TookSome s
 InputCause s (Usage at) = ⊥
 InputCause s LaterDisk = ⊥
@@ -91,6 +100,7 @@ DiskCause d DiskFault = Rose d.faults d.faults_after
 DiskCause d ReadFault = ⊥
 DiskCause d InputLimit = ⊥
 DiskCause d (Image fault) = ⊥
+DiskCause d LaterImage = ⊥
 DiskCause d NoMemory = ⊥
 DiskCause d (Usage at) = ⊥
 
@@ -99,6 +109,7 @@ abbrev pub OnceCause : SourceSide → DiskSide → Refusal → Type 0
 OnceCause s d ReadFault = InputCause s ReadFault × Untouched d
 OnceCause s d InputLimit = InputCause s InputLimit × Untouched d
 OnceCause s d (Image fault) = InputCause s (Image fault) × Untouched d
+OnceCause s d LaterImage = InputCause s LaterImage × Untouched d
 OnceCause s d NoMemory = InputCause s NoMemory × Untouched d
 OnceCause s d LaterDisk = WasRead s × DiskCause d LaterDisk
 OnceCause s d DiskFault = WasRead s × DiskCause d DiskFault
@@ -134,6 +145,7 @@ Cause words s d NoMemory = OnceCause s d NoMemory
 Cause words s d ReadFault = IsOnce words × OnceCause s d ReadFault
 Cause words s d InputLimit = IsOnce words × OnceCause s d InputLimit
 Cause words s d (Image fault) = IsOnce words × OnceCause s d (Image fault)
+Cause words s d LaterImage = IsOnce words × OnceCause s d LaterImage
 Cause words s d LaterDisk = IsOnce words × OnceCause s d LaterDisk
 Cause words s d DiskFault = IsOnce words × OnceCause s d DiskFault
 

@@ -7,14 +7,12 @@ use Rattle.pcp_model.specs.Archive.{Reading, Reads, scan, records_in}
 use Rattle.pcp_model.specs.Described.{Described}
 use Rattle.pcp_model.specs.Disk.{Files, Holdings, contents_of, CrashImage, IsEmpty}
 use Rattle.mmv_layout.specs.declared.fault.ImageFault.{ImageFault}
-use Rattle.mmv_layout.specs.declared.fault.ImageFault.TheVariants.{Short, Generations, Later}
-use Rattle.mmv_layout.specs.declared.fault.ImageFault.TheVariants as faults
-use Rattle.mmv_layout.specs.FirstForm.{image_of}
+use Rattle.mmv_layout.specs.Faults.{image_of}
 use Rattle.pcp_outside.specs.Causes.{Rose}
 use Rattle.pm_commands.specs.declared.words.Command.TheVariants.{Once}
 use Rattle.pm_commands.specs.declared.words.OnceWords.{OnceWords}
 use Rattle.pm_commands.specs.CommandLine.{command_of}
-use Rattle.pm_commands.specs.Ends.{SourceSide, SinkSide, DiskSide, IsOnce, IsImageInput, IsRead, HasByte, input_limit, item_of}
+use Rattle.pm_commands.specs.Ends.{SourceSide, SinkSide, DiskSide, IsOnce, IsImageInput, IsLaterInput, IsRead, HasByte, input_limit, item_of}
 use Rattle.pm_commands.specs.Once.{once_files}
 use Rattle.pm_commands.specs.Pieces.{HasItem}
 use Rattle.pm_commands.specs.Shots.{shot_of}
@@ -29,22 +27,15 @@ pub record LimitIsExact (words : List (List ℕ)) (s : SourceSide) (status : ℕ
   pub only : status ≡ 7 → IsOnce words × (s.tells → (input_limit < length s.left) × (s.after ≡ drop 16777217 s.left))
   pub always : IsOnce words → s.tells → input_limit < length s.left → (status ≡ 7) ⊎ ((status ≡ 9) ⊎ (status ≡ 3))
 
--- the faults that are told by themselves
-abbrev pub IsShown : ImageFault → Type 0
-IsShown (Short have) = Unit {0}
-IsShown (Generations g1 g2) = Unit {0}
-IsShown Later = ⊥
-IsShown faults.NoMemory = ⊥
-
--- 2 exactly where the input is no whole image, or its generations differ
+-- 2 exactly where the input is no image
 pub record ImageFaultIsExact (words : List (List ℕ)) (s : SourceSide) (status : ℕ) : Type 0 where
-  pub only : status ≡ 2 → IsOnce words × (s.tells → (length s.left ≤ input_limit) × (fault : ImageFault) × IsShown fault × (image_of s.left ≡ Err fault) × (s.after ≡ []))
-  pub always : IsOnce words → s.tells → length s.left ≤ input_limit → (fault : ImageFault) → IsShown fault → image_of s.left ≡ Err fault → (status ≡ 2) ⊎ ((status ≡ 9) ⊎ (status ≡ 3))
+  pub only : status ≡ 2 → IsOnce words × (s.tells → (length s.left ≤ input_limit) × (fault : ImageFault) × (image_of s.left ≡ Err fault) × (s.after ≡ []))
+  pub always : IsOnce words → s.tells → length s.left ≤ input_limit → (fault : ImageFault) → image_of s.left ≡ Err fault → (status ≡ 2) ⊎ ((status ≡ 9) ⊎ (status ≡ 3))
 
--- 15 exactly where the image is of a later form, or a file of the disk isn't empty; a disk that fails comes before the second
+-- 15 exactly where the image is not of the first form, or a file of the disk isn't empty; a disk that fails comes before the second
 pub record LaterIsExact (words : List (List ℕ)) (s : SourceSide) (d : DiskSide) (status : ℕ) : Type 0 where
-  pub only : status ≡ 15 → IsOnce words × ((s.tells → (length s.left ≤ input_limit) × (image_of s.left ≡ Err Later)) ⊎ ((s.tells → (image : List ℕ) × IsRead s image) × (d.tells → HasByte (contents_of d.held))))
-  pub image : IsOnce words → s.tells → length s.left ≤ input_limit → image_of s.left ≡ Err Later → (status ≡ 15) ⊎ ((status ≡ 9) ⊎ (status ≡ 3))
+  pub only : status ≡ 15 → IsOnce words × ((s.tells → (image : List ℕ) × IsLaterInput s.left image) ⊎ ((s.tells → (image : List ℕ) × IsRead s image) × (d.tells → HasByte (contents_of d.held))))
+  pub image : IsOnce words → s.tells → (image : List ℕ) → IsLaterInput s.left image → (status ≡ 15) ⊎ ((status ≡ 9) ⊎ (status ≡ 3))
   pub disk : IsOnce words → s.tells → d.tells → (image : List ℕ) → IsImageInput s.left image → HasByte (contents_of d.held) → (status ≡ 15) ⊎ ((status ≡ 9) ⊎ ((status ≡ 3) ⊎ (status ≡ 5)))
 
 -- before the first write, and where it is refused there, the files hold what they held

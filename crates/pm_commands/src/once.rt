@@ -57,6 +57,9 @@ fn prepare<I: Source>(alloc: Global, asked: &OnceWords, input: &mut I) -> Result
         Err(ImageFault::NoMemory) => return Err(Refusal::NoMemory),
         Err(fault) => return Err(Refusal::Image(fault)),
     };
+    if !image.is_first_form() {
+        return Err(Refusal::LaterImage);
+    }
     match plan_of(alloc, asked, &image) {
         Ok(plan) => Ok(plan),
         Err(_) => Err(Refusal::NoMemory),

@@ -4,6 +4,7 @@ ghost use Rattle.pcp_model.specs.Frame.{frame};
 ghost use Rattle.pcp_model.specs.Payload.{payload};
 ghost use Rattle.pcp_model.specs.Records.{description};
 ghost use Rattle.pcp_base.specs.Texts.{IsText};
+ghost use Rattle.mmv_layout.specs.FirstForm.{is_first_form};
 ghost use Rattle.pm_commands.specs.Fits.{FitsOnce, FitsShot};
 ghost use Rattle.pm_commands.specs.Once.{once_label, result_with};
 ghost use Rattle.pm_commands.specs.Pieces.{pieces};
@@ -14,9 +15,8 @@ use mmv_layout::{Image, MetricRow};
 use pcp_base::{
     Body, Desc, InDom, List, NoMemory, PmResult, Pmid, Stamp, Text, TextError, ValueSet,
 };
-use pcp_model::{
-    Entry, Label, spell_description, spell_entry, spell_frame, spell_label, spell_payload,
-};
+use pcp_model::{Entry, Label, spell_description, spell_entry, spell_frame, spell_label};
+use result_form::encode;
 use std::alloc::Global;
 use std::marker::Model;
 
@@ -121,15 +121,16 @@ fn sample_of(alloc: Global, stamp: Stamp, pmid: Pmid, value: u64) -> Result<Vec<
     ensures length { IfOk result (λ v. length v.items ≡ 40) }
 {
     let answer = result_of(alloc, stamp, pmid, value)?;
-    let payload = spell_payload(alloc, &answer)?;
-    let framed = spell_frame(alloc, &payload)?;
+    let payload = encode(alloc, &answer)?;
+    let framed = spell_frame(alloc, payload.as_slice())?;
     Ok(framed)
 }
 
 /// The pieces of the archive that `once` makes of an image.
 #[tactic(auto, unfolding(crate::specs::Pieces::pieces))]
 pub(crate) fn plan_of(alloc: Global, asked: &OnceWords, image: &Image) -> Result<Plan, NoMemory>
-    requires { length asked.now.file ≤ 63 }
+    requires file { length asked.now.file ≤ 63 }
+    requires form { is_first_form image.now ≡ true }
     ensures pieces { IfOk result (λ p. p ≡ pieces asked.now.stamp asked.now.file (shot_of image.now)) }
     ensures once { OnOk result (FitsOnce asked.now) }
     ensures shot { OnOk result (FitsShot (shot_of image.now)) }

@@ -1,7 +1,7 @@
 ghost use Rattle.std.specs.Prelude.{◌≡◌, IfOk, OnOk, OnErr, IsSome, string_bytes};
 ghost use Rattle.std.specs.Option.{option_map};
 ghost use Rattle.pcp_outside.specs.Causes.{Rose};
-ghost use Rattle.pm_commands.specs.Refusals.{status_of, numbered_line_of, plain_line_of, line_of, Wrote};
+ghost use Rattle.pm_commands.specs.Refusals.{image_line, status_of, numbered_line_of, plain_line_of, line_of, Wrote};
 
 use mmv_layout::ImageFault;
 use pcp_base::NoMemory;
@@ -17,8 +17,10 @@ pub enum Refusal {
     ReadFault,
     /// The source holds more than 16 MiB.
     InputLimit,
-    /// The input is no image that is run.
+    /// The input is no image.
     Image(ImageFault),
+    /// The image is not of the first form; such images are run later.
+    LaterImage,
     /// The disk isn't empty; such an archive is gone on with later.
     LaterDisk,
     /// The disk failed.
@@ -46,6 +48,30 @@ impl From<NoMemory> for Refusal {
     }
 }
 
+// The line of an image's fault.
+#[tactic(auto, unfolding(crate::specs::Refusals::image_line))]
+fn image_line(alloc: Global, fault: &ImageFault) -> Result<String, AllocError>
+    ensures { IfOk result (λ line. string_bytes line ≡ image_line fault.now) }
+{
+    match fault {
+        ImageFault::Short { have } => format!(in alloc; "input image Short {have}\n"),
+        ImageFault::TooLarge { words } => format!(in alloc; "input image TooLarge {words}\n"),
+        ImageFault::Magic => format!(in alloc; "input image Magic\n"),
+        ImageFault::Version { found } => format!(in alloc; "input image Version {found}\n"),
+        ImageFault::Generations { g1, g2 } => {
+            format!(in alloc; "input image Generations {g1} {g2}\n")
+        }
+        ImageFault::Section { kind } => format!(in alloc; "input image Section {kind}\n"),
+        ImageFault::Offset { at } => format!(in alloc; "input image Offset {at}\n"),
+        ImageFault::Name { at } => format!(in alloc; "input image Name {at}\n"),
+        ImageFault::Kind { at } => format!(in alloc; "input image Kind {at}\n"),
+        ImageFault::Reference { at } => format!(in alloc; "input image Reference {at}\n"),
+        ImageFault::Duplicate { at } => format!(in alloc; "input image Duplicate {at}\n"),
+        ImageFault::Serial { at } => format!(in alloc; "input image Serial {at}\n"),
+        ImageFault::NoMemory => Ok(String::new(alloc)),
+    }
+}
+
 impl Refusal {
     /// The exit status.
     pub fn status(&self) -> u8
@@ -53,8 +79,8 @@ impl Refusal {
     {
         match self {
             Refusal::Usage { .. } => 1,
-            Refusal::Image(ImageFault::Later) | Refusal::LaterDisk => 15,
-            Refusal::Image(ImageFault::NoMemory) | Refusal::NoMemory => 9,
+            Refusal::LaterImage | Refusal::LaterDisk => 15,
+            Refusal::NoMemory => 9,
             Refusal::Image(_) => 2,
             Refusal::ReadFault => 3,
             Refusal::DiskFault => 5,
@@ -69,12 +95,7 @@ impl Refusal {
     {
         match self {
             Refusal::Usage { at } => Ok(Some(format!(in alloc; "usage {at}\n")?)),
-            Refusal::Image(ImageFault::Short { have }) => Ok(Some(format!(in alloc;
-                "input image Short {have}\n"
-            )?)),
-            Refusal::Image(ImageFault::Generations { g1, g2 }) => Ok(Some(format!(in alloc;
-                "input image Generations {g1} {g2}\n"
-            )?)),
+            Refusal::Image(fault) => Ok(Some(image_line(alloc, fault)?)),
             _ => Ok(None),
         }
     }
@@ -84,7 +105,7 @@ impl Refusal {
         ensures { result.now ≡ plain_line_of self.now }
     {
         match self {
-            Refusal::Image(ImageFault::Later) => b"later image\n",
+            Refusal::LaterImage => b"later image\n",
             Refusal::ReadFault => b"read fault\n",
             Refusal::DiskFault => b"disk fault\n",
             Refusal::InputLimit => b"limit input 16777217\n",
