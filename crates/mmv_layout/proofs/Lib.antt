@@ -1,6 +1,9 @@
 pub mod Below
 pub mod Bytes
 pub mod FirstForms
+pub mod Images
 pub mod Leads
+pub mod Lies
+pub mod Nones
 pub mod Sections
 pub mod Texts

@@ -1,6 +1,7 @@
 pub mod Below
 pub mod Contents
 pub mod Entries
+pub mod Faults
 pub mod Fields
 pub mod FirstForm
 pub mod Laws

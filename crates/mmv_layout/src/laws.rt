@@ -1,4 +1,4 @@
-ghost use Rattle.mmv_layout.specs.Laws.{WordsHoldBytes, NumberHoldsBytes, NumberHoldsHalves};
+ghost use Rattle.mmv_layout.specs.Laws.{WordsHoldBytes, NumberHoldsBytes, NumberHoldsHalves, ImagesAreGood};
 
 /// The words that bytes make hold these bytes, each at its place.
 #[tactic(auto, using(crate::proofs::Bytes::words_hold))]
@@ -16,4 +16,10 @@ pub fn number_holds_bytes()
 #[tactic(auto, using(crate::proofs::Bytes::number_splits))]
 pub fn number_holds_halves()
     ensures { NumberHoldsHalves }
+{}
+
+/// Words are an image exactly where they have no fault.
+#[tactic(auto, using(crate::proofs::Images::images_same))]
+pub fn images_are_good()
+    ensures { ImagesAreGood }
 {}
