@@ -143,13 +143,13 @@ module _ (words : List (List ℕ)) (s : SourceSide) (k : SinkSide) (d : DiskSide
   not_both image other now later = apart_forms image other (let e : Ok image ≡ Ok other = sym now.image ∙ later.image in cc) now.form later.other
     where
       apart_forms : (image other : List ℕ) → image ≡ other → is_first_form image ≡ true → is_first_form other ≡ false → ⊥
-      apart_forms image other e yes no = cc
+      apart_forms image other e first not_first = cc
 
   image_found : (e : Refusal) → Caused e → IsOnce words → s.tells → length s.left ≤ input_limit → (fault : ImageFault) → image_of s.left ≡ Err fault → (status_of e ≡ 2) ⊎ ((status_of e ≡ 9) ⊎ (status_of e ≡ 3))
   image_found (Usage at) c once tells within fault bad = absurd (apart at c.0 once)
   image_found ReadFault c once tells within fault bad = inr (inr refl)
   image_found InputLimit c once tells within fault bad = absurd (within_not_above within (c.1.0 tells).0)
-  image_found (Image fault) c once tells within fault bad = inl refl
+  image_found (Image other) c once tells within fault bad = inl refl
   image_found LaterImage c once tells within fault bad = absurd (no_fault fault (c.1.0 tells).0 bad (c.1.0 tells).1.image)
   image_found LaterDisk c once tells within fault bad = absurd (no_fault fault (c.1.0 tells).0 bad (c.1.0 tells).1.image.image)
   image_found DiskFault c once tells within fault bad = absurd (no_fault fault (c.1.0 tells).0 bad (c.1.0 tells).1.image.image)

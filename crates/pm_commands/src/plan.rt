@@ -1,5 +1,5 @@
 //! The pieces of the archive that `once` makes of an image, all made before the first write.
-ghost use Rattle.std.specs.Prelude.{◌≡◌, ◌≤◌, ◌<◌, ◌%◌, ◌++◌, ◌∷◌, [], codes, length, negsuc, IfOk, OnOk};
+ghost use Rattle.std.specs.Prelude.{◌≡◌, ◌≤◌, ◌<◌, ◌%◌, ◌++◌, ◌∷◌, [], codes, length, negsuc, true, IfOk, OnOk};
 ghost use Rattle.pcp_model.specs.Frame.{frame};
 ghost use Rattle.pcp_model.specs.Payload.{payload};
 ghost use Rattle.pcp_model.specs.Records.{description};
