@@ -1,0 +1,11 @@
+//! What every file of an archive is made of (LOGARCHIVE(5)): the label, and framed records, over which a reader
+//! steps forward and back. Both are written and read; what is read wrong is refused by the first fault and its
+//! place.
+#![tactic(auto)]
+
+mod fault;
+mod steps;
+
+pub use fault::FrameFault;
+pub use pcp_model::Label;
+pub use steps::{Step, step_back, step_forward};
