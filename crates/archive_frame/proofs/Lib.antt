@@ -1,2 +1,4 @@
+pub mod Filling
 pub mod Only
 pub mod Records
+pub mod Widths

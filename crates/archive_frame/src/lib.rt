@@ -5,7 +5,9 @@
 
 mod fault;
 mod steps;
+mod writing;
 
 pub use fault::FrameFault;
 pub use pcp_model::Label;
 pub use steps::{Step, step_back, step_forward};
+pub use writing::label_bytes;
