@@ -4,10 +4,12 @@
 #![tactic(auto)]
 
 mod fault;
+mod reading;
 mod steps;
 mod writing;
 
 pub use fault::FrameFault;
 pub use pcp_model::Label;
+pub use reading::read_label;
 pub use steps::{Step, step_back, step_forward};
 pub use writing::label_bytes;
