@@ -1,10 +1,9 @@
 -- The first misfits of a label's fields.
-use Rattle.std.proofs.Common.{zero, suc, ◌≡◌, ◌≢◌, ◌⊎◌, inl, inr, ℕ, ◌+◌, ◌-◌, ◌*◌, ◌/◌, ◌<◌, ◌≤◌, List, [], ◌∷◌, ◌++◌, length, get_or, take, drop, refl, sym, ap, ◌∙◌, subst, append_assoc, arith}
-use Rattle.std.specs.Int.{w32, from_be_bytes, to_be_bytes}
-use Rattle.std.specs.List.{All}
+use Rattle.std.proofs.Common.{zero, suc, ◌≡◌, ◌≢◌, ◌⊎◌, inl, inr, ℕ, ◌+◌, ◌-◌, ◌*◌, ◌/◌, ◌<◌, ◌≤◌, List, [], ◌∷◌, ◌++◌, length, get_or, take, drop, refl, sym, ap, ◌∙◌, subst, arith}
+use Rattle.std.specs.Int.{w32, from_be_bytes}
 use Rattle.std.proofs.lemmas.Bool.{cases_lt}
-use Rattle.std.proofs.lemmas.List.{take_at, drop_at, take_all, take-take, take-append-le, take-append-drop, length-append, length-take, length-drop, length-take-le, append-nil, get_or-take, get_or-drop, get_or_past, get_or_append_left, get_or-append_right, get_or-replicate, get_or_at, length-replicate, drop_more, get_or_default}
-use Rattle.std.proofs.lemmas.List.Elements.{All-nil, All-cons, All-take}
+use Rattle.std.proofs.lemmas.List.{take_all, take-take, take-append-le, take-append-drop, length-append, length-take, length-drop, length-take-le, get_or-take, get_or-drop, get_or_past, get_or_append_left, get_or-append_right, get_or-replicate, get_or_at, length-replicate, drop_more, get_or_default}
+use Rattle.std.proofs.lemmas.List.Elements.{All-nil, All-cons}
 use Rattle.std.proofs.lemmas.Nat.{be_bytes_4}
 use Rattle.pcp_base.specs.Texts.{IsText, IsFirstZero}
 use Rattle.pcp_model.specs.Words.{word, length-word, zeros}

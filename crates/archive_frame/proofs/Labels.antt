@@ -3,17 +3,16 @@ use Rattle.std.proofs.Common.{◌≡◌, ◌≢◌, ℕ, ℤ, ◌+◌, ◌<◌, 
 use Rattle.std.specs.Prelude.{FitsSigned}
 use Rattle.std.specs.Int.{w32, cast_signed, cast_unsigned}
 use Rattle.std.proofs.lemmas.Int.{ints, of_z-to_z}
-use Rattle.std.proofs.lemmas.List.{take-append-drop, drop-drop, drop_all, length-append, length-take, length-drop, length-replicate, append-nil}
+use Rattle.std.proofs.lemmas.List.{take-append-drop, drop-drop, drop_all, length-append, length-take, length-replicate, append-nil}
 use Rattle.std.proofs.lemmas.List.Elements.{All-nil}
 use Rattle.pcp_base.specs.Texts.{IsText, IsFirstZero}
-use Rattle.pcp_base.specs.Time.{Moment, IsMoment}
-use Rattle.pcp_model.specs.Words.{word, signed_word, length-word, length-signed_word, zeros}
+use Rattle.pcp_model.specs.Words.{word, signed_word, length-word, zeros}
 use Rattle.pcp_model.specs.Frame.{frame}
 use Rattle.pcp_model.specs.LabelFields.{LabelFields}
 use Rattle.pcp_model.specs.Labels.{label_head, HasText, IsLabel}
-use Rattle.archive_frame.specs.Misfits.{Begins, IsFirstMisfit}
+use Rattle.archive_frame.specs.Misfits.{IsFirstMisfit}
 use Rattle.archive_frame.specs.Labels.{IsSomeLabel, IsUpTo, IsTextField}
-use Rattle.archive_frame.proofs.Misfits.{Then, then_is, same_misfit, Passed, pass}
+use Rattle.archive_frame.proofs.Misfits.{Then, then_is, same_misfit, Passed}
 use Rattle.archive_frame.proofs.Widths.{length-label_head}
 use Rattle.archive_frame.proofs.Filling.{word_of_signed}
 

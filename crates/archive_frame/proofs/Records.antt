@@ -1,13 +1,13 @@
 -- A framed record that stands in bytes, and the words at its ends.
-use Rattle.std.proofs.Common.{inl, inr, ◌≡◌, ℕ, ◌+◌, ◌-◌, ◌<◌, ◌≤◌, List, ◌++◌, length, get_or, take, drop, refl, sym, ap, ◌∙◌, subst, append_assoc, arith}
-use Rattle.std.specs.Int.{w32, from_be_bytes, to_be_bytes}
-use Rattle.std.specs.List.{slice_range}
+use Rattle.std.proofs.Common.{zero, suc, inl, inr, [], ◌∷◌, slice_index_or, ◌≡◌, ℕ, ◌+◌, ◌-◌, ◌<◌, ◌≤◌, List, ◌++◌, length, get_or, take, drop, refl, sym, ap, ◌∙◌, subst, append_assoc, arith}
+use Rattle.std.specs.Int.{w32, from_be_bytes}
+use Rattle.std.specs.List.{slice_range, AllByRecursion}
 use Rattle.std.proofs.lemmas.List.{take_at, drop_at, drop-drop, take-append-drop, length-append, length-take, length-drop, get_or-drop, get_or-take, get_or_past}
 use Rattle.std.proofs.lemmas.Bool.{cases_lt}
 use Rattle.std.proofs.lemmas.List.Folds.{drop_split}
 use Rattle.std.proofs.lemmas.Nat.{be_bytes_4}
 use Rattle.pcp_model.specs.Words.{word, length-word}
-use Rattle.pcp_model.specs.Frame.{frame, IsFrameable}
+use Rattle.pcp_model.specs.Frame.{frame, frames, IsFrameable}
 use Rattle.pcp_model.proofs.Lengths.{length-frame}
 use Rattle.pcp_model.proofs.Cuts.{number_of_word}
 use Rattle.archive_frame.specs.Steps.{Stands, number_at, IsSize}
@@ -97,3 +97,36 @@ stood bytes payload first behind s =
       payload_is = ap (λ t. slice_range t (first + 4) (behind - 4)) two ∙ ap (take (behind - 4 - (first + 4))) (drop_at (s.front ++ word n) (payload ++ (word n ++ s.rest)) (first + 4) here)
           ∙ take_at payload (word n ++ s.rest) (behind - 4 - (first + 4)) (omega arith);
     }
+
+-- each of framed records stands in them, whatever precedes and follows them
+stands_in : (payloads : List (List ℕ)) (front rest : List ℕ) (k : ℕ) → AllByRecursion IsFrameable payloads → k < length payloads
+    → Stands (front ++ (frames payloads ++ rest)) (get_or payloads k []) (length front + length (frames (take k payloads))) (length front + length (frames (take (suc k) payloads)))
+stands_in [] front rest k fits few = absurd (omega arith)
+stands_in (payload ∷ payloads) front rest zero fits few = record {
+  fits = fits.0;
+  front = front;
+  rest = frames payloads ++ rest;
+  is = ap (λ t. front ++ t) (append_assoc (frame payload) (frames payloads) rest);
+  begins = omega arith;
+  ends = omega (arith, length-append (frame payload) [], length-frame payload);
+}
+stands_in (payload ∷ payloads) front rest (suc k) fits few =
+    let longer : length (front ++ frame payload) ≡ length front + length (frame payload) = length-append front (frame payload) in
+    let later : Stands ((front ++ frame payload) ++ (frames payloads ++ rest)) (get_or payloads k []) (length (front ++ frame payload) + length (frames (take k payloads))) (length (front ++ frame payload) + length (frames (take (suc k) payloads))) =
+    stands_in payloads (front ++ frame payload) rest k fits.1 (omega arith) in
+    let same : (front ++ frame payload) ++ (frames payloads ++ rest) ≡ front ++ ((frame payload ++ frames payloads) ++ rest) = simp append_assoc in
+    let from : length (front ++ frame payload) + length (frames (take k payloads)) ≡ length front + length (frame payload ++ frames (take k payloads)) =
+    omega (arith, longer, length-append (frame payload) (frames (take k payloads))) in
+    let to : length (front ++ frame payload) + length (frames (take (suc k) payloads)) ≡ length front + length (frame payload ++ frames (take (suc k) payloads)) =
+    omega (arith, longer, length-append (frame payload) (frames (take (suc k) payloads))) in
+    subst (λ t. Stands t (get_or payloads k []) (length front + length (frame payload ++ frames (take k payloads))) (length front + length (frame payload ++ frames (take (suc k) payloads)))) same
+    (subst (λ n. Stands ((front ++ frame payload) ++ (frames payloads ++ rest)) (get_or payloads k []) n (length front + length (frame payload ++ frames (take (suc k) payloads)))) from
+    (subst (λ n. Stands ((front ++ frame payload) ++ (frames payloads ++ rest)) (get_or payloads k []) (length (front ++ frame payload) + length (frames (take k payloads))) n) to later))
+
+pub each_stands : (payloads : List (List ℕ)) (rest : List ℕ) (k : ℕ) → AllByRecursion IsFrameable payloads → k < length payloads
+    → Stands (frames payloads ++ rest) (slice_index_or payloads k []) (length (frames (take k payloads))) (length (frames (take (k + 1) payloads)))
+each_stands payloads rest k fits few =
+    let none : (n : ℕ) → 0 + n ≡ n = λ n. omega arith in
+    subst (λ n. Stands (frames payloads ++ rest) (get_or payloads k []) (length (frames (take k payloads))) (length (frames (take n payloads)))) (let e : suc k ≡ k + 1 = omega arith in e)
+    (subst (λ n. Stands (frames payloads ++ rest) (get_or payloads k []) (length (frames (take k payloads))) n) (none (length (frames (take (suc k) payloads))))
+    (subst (λ n. Stands (frames payloads ++ rest) (get_or payloads k []) n (0 + length (frames (take (suc k) payloads)))) (none (length (frames (take k payloads)))) (stands_in payloads [] rest k fits few)))

@@ -1,18 +1,17 @@
 -- A label has one reading.
-use Rattle.std.proofs.Common.{zero, suc, ◌≡◌, ◌≢◌, ℕ, ℤ, ◌+◌, ◌<◌, ◌≤◌, List, [], ◌∷◌, ◌++◌, length, take, drop, Result, Ok, Err, refl, sym, ap, ◌∙◌, subst, append_assoc, arith}
+use Rattle.std.proofs.Common.{◌≡◌, ◌≢◌, ℕ, ℤ, ◌+◌, ◌<◌, ◌≤◌, List, [], ◌∷◌, ◌++◌, length, take, drop, Result, Ok, Err, refl, sym, ap, ◌∙◌, append_assoc, arith}
 use Rattle.std.specs.Prelude.{IfOk, IfErr, FitsSigned}
 use Rattle.std.specs.Int.{w32, cast_unsigned, cast_signed, from_be_bytes}
 use Rattle.std.proofs.lemmas.Int.{ints, to_z-of_z}
 use Rattle.std.proofs.lemmas.List.{take_at, drop_at, append-nil, length-append}
 use Rattle.std.proofs.lemmas.List.Elements.{All-head, All-tail}
 use Rattle.pcp_base.specs.Texts.{IsText}
-use Rattle.pcp_base.specs.Time.{Moment}
-use Rattle.pcp_model.specs.Words.{word, signed_word, length-word, length-signed_word}
+use Rattle.pcp_base.specs.Time.{IsMoment}
+use Rattle.pcp_model.specs.Words.{word, signed_word, length-word}
 use Rattle.pcp_model.specs.Frame.{frame, IsFrameable}
-use Rattle.pcp_model.specs.LabelFields.{LabelFields}
-use Rattle.pcp_model.specs.Labels.{label_head, HasText, IsLabel}
-use Rattle.pcp_model.proofs.Cuts.{number_of_word}
-use Rattle.pcp_model.proofs.Lengths.{length-frame}
+use Rattle.pcp_model.specs.LabelFields.{LabelFields, FitsLabel}
+use Rattle.pcp_model.specs.Labels.{label, label_head, HasText, IsLabel}
+use Rattle.pcp_model.proofs.Cuts.{number_of_word, is_label}
 use Rattle.archive_frame.specs.declared.fault.FrameFault.{FrameFault}
 use Rattle.archive_frame.specs.declared.fault.FrameFault.TheVariants.{Torn, Size, Lengths, Label, NoMemory}
 use Rattle.archive_frame.specs.Labels.{IsLabelFault, IsRead}
@@ -114,3 +113,7 @@ only_reading bytes (Err (Size at number)) found fault l n is = absurd fault
 only_reading bytes (Err (Lengths at head tail)) found fault l number is = absurd fault
 only_reading bytes (Err (Label at)) found fault l number is = absurd (fault.none (l, number, is))
 only_reading bytes (Err NoMemory) found fault l number is = refl
+
+-- the writer's label is read
+pub written_read : (l : LabelFields) (number : ℤ) → l.pid < 4294967296 → IsMoment l.start → IsText l.host → IsText l.zone → FitsLabel l → FitsSigned w32 number → IsLabel (label l number) l number
+written_read l number pid start host zone fits low = is_label l number (record { pid = pid; start = start; host = host; zone = zone; fits = fits }) low

@@ -1,5 +1,5 @@
 -- How long the parts of a label are.
-use Rattle.std.proofs.Common.{◌≡◌, ℕ, ℤ, ◌+◌, ◌-◌, ◌≤◌, List, ◌++◌, length, arith, length-append}
+use Rattle.std.proofs.Common.{◌≡◌, ℕ, ℤ, ◌-◌, ◌≤◌, List, ◌++◌, length, arith, length-append}
 use Rattle.std.proofs.Math.ListN.{length-replicate}
 use Rattle.pcp_model.specs.Words.{word, signed_word, length-word, length-signed_word, padded, zeros}
 use Rattle.pcp_model.specs.LabelFields.{LabelFields}

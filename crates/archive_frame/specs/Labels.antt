@@ -1,7 +1,5 @@
 -- Reading a label (LOGARCHIVE(5)): its fields stand one behind another.
-use Rattle.std.specs.Prelude.{◌≡◌, ℕ, ℤ, ◌+◌, ◌<◌, ◌≤◌, List, ◌++◌, length, take, drop, Result, Ok, Err}
-use Rattle.std.specs.Int.{w32, cast_signed}
-use Rattle.pcp_base.specs.Time.{Moment}
+use Rattle.std.specs.Prelude.{◌≡◌, ℕ, ℤ, ◌+◌, ◌≤◌, List, take, drop, Result, Ok, Err}
 use Rattle.pcp_model.specs.Words.{word}
 use Rattle.pcp_model.specs.LabelFields.{LabelFields}
 use Rattle.pcp_model.specs.Labels.{HasText, IsLabel}
@@ -14,13 +12,13 @@ use Rattle.archive_frame.specs.declared.reading.Said.{Said}
 abbrev pub IsSomeLabel : List ℕ → Type 0
 IsSomeLabel bytes = (l : LabelFields) × (number : ℤ) × IsLabel bytes l number
 
--- the refusal of bytes that are no label
+-- the refusal of bytes that are no label; memory is asked for a label alone
 abbrev pub IsLabelFault : List ℕ → FrameFault → Type 0
 IsLabelFault bytes (Torn at) = ⊥
 IsLabelFault bytes (Size at found) = ⊥
 IsLabelFault bytes (Lengths at head tail) = ⊥
 IsLabelFault bytes (Label at) = IsFirstMisfit IsSomeLabel bytes at
-IsLabelFault bytes NoMemory = Unit {0}
+IsLabelFault bytes NoMemory = IsSomeLabel bytes
 
 -- what a label says was read, unless memory ran out
 abbrev pub IsRead : LabelFields → ℤ → Result (LabelFields × ℤ) FrameFault → Type 0

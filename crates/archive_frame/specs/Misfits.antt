@@ -1,5 +1,5 @@
 -- How far bytes go on like one of some texts, where they are none of them themselves.
-use Rattle.std.specs.Prelude.{◌≡◌, ℕ, ◌+◌, ◌≤◌, List, ◌++◌, length, take, drop}
+use Rattle.std.specs.Prelude.{ℕ, ◌≤◌, List, ◌++◌, length, take}
 
 -- one of these texts begins so
 abbrev pub Begins : (List ℕ → Type 0) → List ℕ → Type 0

@@ -4,11 +4,15 @@
 #![tactic(auto)]
 
 mod fault;
+mod laws;
 mod reading;
 mod steps;
 mod writing;
 
 pub use fault::FrameFault;
+pub use laws::{
+    each_frame_stands, label_says_one_thing, no_frame_begins_another, written_label_is_read,
+};
 pub use pcp_model::Label;
 pub use reading::read_label;
 pub use steps::{Step, step_back, step_forward};

@@ -155,8 +155,8 @@ fn read(alloc: Global, bytes: &[u8]) -> Result<(Label, i32), FrameFault>
 }
 
 /// The label that these bytes are, and its number: -1 Meta's, -2 the index's, else the volume's. A refusal tells the
-/// first byte that fits no label, which is where the bytes end if they are only a label's beginning, or that memory
-/// was refused. What follows a text's first zero byte isn't looked at.
+/// first byte that fits no label, which is where the bytes end if they are only a label's beginning, or for a label that
+/// memory was refused. What follows a text's first zero byte isn't looked at.
 pub fn read_label(alloc: Global, bytes: &[u8]) -> Result<(Label, i32), FrameFault>
     // What is read is what the bytes say.
     ensures found { IfOk result (λ read. IsLabel bytes.now read.0 read.1) }

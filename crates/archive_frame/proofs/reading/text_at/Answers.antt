@@ -1,4 +1,4 @@
-use Rattle.std.proofs.Common.{◌≡◌, ◌+◌, ◌-◌, length, take, drop, arith, subst, ap, sym, ◌∙◌}
+use Rattle.std.proofs.Common.{◌≡◌, ◌+◌, ◌-◌, length, take, drop, arith, subst}
 use Rattle.std.proofs.lemmas.List.{length-take, length-drop, take-take}
 use Rattle.pcp_base.specs.Texts.{IsText, IsFirstZero}
 use Rattle.pcp_model.specs.Labels.{HasText}

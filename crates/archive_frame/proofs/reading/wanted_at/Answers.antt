@@ -1,4 +1,4 @@
-use Rattle.std.proofs.Common.{◌≡◌, ◌⊎◌, inl, inr, ◌-◌, ◌<◌, ◌≤◌, ◌≢◌, length, get_or, take, drop, refl, arith, ap, sym, ◌∙◌}
+use Rattle.std.proofs.Common.{◌≡◌, inl, inr, ◌-◌, ◌≤◌, length, get_or, take, drop, refl, arith, ap, sym, ◌∙◌}
 use Rattle.std.proofs.lemmas.List.{length-take, length-drop, take-take, take_rest, get_or-take}
 use Rattle.archive_frame.proofs.Fields.{wanted_misfit}
 use Rattle.archive_frame.proofs.reading.wanted_at.Goals as goal
