@@ -25,7 +25,7 @@ wanted_longest wanted f k (inl short) n h b = omega arith
 wanted_longest wanted f k (inr differs) n h b =
     elim (cases_lt k n) [
       | inl lt ↦ let long : k < length (take n f) = omega (arith, length-take n f) in
-      absurd (differs.1 (sym (get_or-take n f k 0 lt) ∙ sym (get_or_append_left (take n f) b.0 0 k long) ∙ ap (λ t. get_or t k 0) b.1))
+          absurd (differs.1 (sym (get_or-take n f k 0 lt) ∙ sym (get_or_append_left (take n f) b.0 0 k long) ∙ ap (λ t. get_or t k 0) b.1))
       | inr le ↦ le
     ]
 
@@ -55,10 +55,10 @@ least_bytes k f fits h i =
     elim (cases_lt i k) [
       | inl lt ↦ let low : i < length (take k f) = omega arith in rw (get_or_append_left (take k f) (zeros (4 - k)) 0 i low, get_or-take k f i 0 lt) (fits i)
       | inr le ↦ rw (get_or-append_right (take k f) (zeros (4 - k)) k i 0 long le)
-      (elim (cases_lt (i - k) (4 - k)) [
-        | inl lt ↦ rw (get_or-replicate {A = ℕ} (4 - k) (i - k) 0 0 lt) (omega arith)
-        | inr ge ↦ rw (get_or_past (zeros (4 - k)) (i - k) 0 (omega (arith, length-replicate {A = ℕ} (4 - k) 0))) (omega arith)
-      ])
+          (elim (cases_lt (i - k) (4 - k)) [
+            | inl lt ↦ rw (get_or-replicate {A = ℕ} (4 - k) (i - k) 0 0 lt) (omega arith)
+            | inr ge ↦ rw (get_or_past (zeros (4 - k)) (i - k) 0 (omega (arith, length-replicate {A = ℕ} (4 - k) 0))) (omega arith)
+          ])
     ]
 
 least_word : (k : ℕ) (f : List ℕ) → IsBytes f → k ≤ length f → k ≤ 4 → take k f ++ zeros (4 - k) ≡ word (least k f)
@@ -81,13 +81,13 @@ word_longest most f k low few (inl short) n h b = omega arith
 word_longest most f k low few (inr over) n h b =
     elim (cases_lt k n) [
       | inl lt ↦ let m : ℕ = b.1.0 in
-      let upto : m ≤ most = b.1.1 in
-      let long : k + 1 ≤ length (take n f) = omega (arith, length-take n f) in
-      let step : k + 1 ≤ n = omega arith in
-      let front : take (k + 1) (word m) ≡ take (k + 1) f = ap (take (k + 1)) (sym b.1.2) ∙ take-append-le (k + 1) (take n f) b.0 long ∙ take-take (k + 1) n f step in
-      let same : least (k + 1) (word m) ≡ least (k + 1) f = ap (λ t. from_be_bytes w32 (t ++ zeros (4 - (k + 1)))) front in
-      let floor : least (k + 1) (word m) ≤ m = least_of_word (k + 1) m (omega arith) (omega arith) in
-      absurd (omega (arith, same, floor, over.1))
+          let upto : m ≤ most = b.1.1 in
+          let long : k + 1 ≤ length (take n f) = omega (arith, length-take n f) in
+          let step : k + 1 ≤ n = omega arith in
+          let front : take (k + 1) (word m) ≡ take (k + 1) f = ap (take (k + 1)) (sym b.1.2) ∙ take-append-le (k + 1) (take n f) b.0 long ∙ take-take (k + 1) n f step in
+          let same : least (k + 1) (word m) ≡ least (k + 1) f = ap (λ t. from_be_bytes w32 (t ++ zeros (4 - (k + 1)))) front in
+          let floor : least (k + 1) (word m) ≤ m = least_of_word (k + 1) m (omega arith) (omega arith) in
+          absurd (omega (arith, same, floor, over.1))
       | inr le ↦ le
     ]
 
@@ -225,9 +225,11 @@ text_short width f short =
     record {
       none = none_so_long (IsTextField width) width f (length f) (text_wide width) short longest;
       within = omega arith;
-      begins = (0 ∷ zeros (width - length f - 1),
-      ends_so width (take (length f) f) (zeros (width - length f - 1))
-      (omega (arith, length-append (take (length f) f) (0 ∷ zeros (width - length f - 1)), length-take (length f) f, length-replicate {A = ℕ} (width - length f - 1) 0)));
+      begins = (
+        0 ∷ zeros (width - length f - 1),
+        ends_so width (take (length f) f) (zeros (width - length f - 1))
+            (omega (arith, length-append (take (length f) f) (0 ∷ zeros (width - length f - 1)), length-take (length f) f, length-replicate {A = ℕ} (width - length f - 1) 0)),
+      );
       longest = longest;
     }
 
@@ -261,8 +263,8 @@ text_found width f n long z =
     record {
       wide = long;
       clean = λ k d lt.
-      let low : k < n = omega (arith, length-take n f) in
-      let same : get_or (take n f) k d ≡ get_or f k 0 = get_or-take n f k d low ∙ get_or_default f k d 0 (omega arith) in
-      λ e. z.first k low (sym same ∙ e);
+          let low : k < n = omega (arith, length-take n f) in
+          let same : get_or (take n f) k d ≡ get_or f k 0 = get_or-take n f k d low ∙ get_or_default f k d 0 (omega arith) in
+          λ e. z.first k low (sym same ∙ e);
       ended = (drop (n + 1) f, sym (take-append-drop n f) ∙ ap (λ t. take n f ++ t) (drop_more f n 0 here ∙ ap (λ b. b ∷ drop (n + 1) f) z.zero));
     }

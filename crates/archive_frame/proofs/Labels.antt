@@ -155,8 +155,7 @@ from_fields t h =
     let s3 = split 4 t3 (word usec.0) (word number.0 ++ (take 64 t5 ++ (take 40 t6 ++ back_bytes))) usec.2 s4 in
     let s2 = split 4 t2 (word sec.0) (word usec.0 ++ (word number.0 ++ (take 64 t5 ++ (take 40 t6 ++ back_bytes)))) sec.2 s3 in
     let s1 = split 4 t1 (word pid.0) (word sec.0 ++ (word usec.0 ++ (word number.0 ++ (take 64 t5 ++ (take 40 t6 ++ back_bytes))))) pid.2 s2 in
-    let s0 = split 8 t front_bytes (word pid.0 ++ (word sec.0 ++ (word usec.0 ++ (word number.0 ++ (take 64 t5 ++ (take 40 t6 ++ back_bytes)))))) h.0 s1 in
-    (
+    let s0 = split 8 t front_bytes (word pid.0 ++ (word sec.0 ++ (word usec.0 ++ (word number.0 ++ (take 64 t5 ++ (take 40 t6 ++ back_bytes)))))) h.0 s1 in (
       record { pid = pid.0; start = record { sec = sec.0; usec = usec.0 }; host = host.0; zone = zone.0 },
       cast_signed w32 number.0,
       is_label t pid.0 sec.0 usec.0 number.0 (take 64 t5) (take 40 t6) host.0 zone.0 pid.1 sec.1 usec.1 number.1 host.1 zone.1 s0,

@@ -36,16 +36,16 @@ first_longest : (Field : List ℕ → Type 0) (width : ℕ) (Rest : List ℕ →
 first_longest Field width Rest bytes at m n h b =
     elim (cases_lt width n) [
       | inl lt ↦ absurd
-      (m.none
-      (subst Field
-      (let long : width ≤ length (take n bytes) = omega (arith, length-take n bytes) in
-      let low : width ≤ n = omega arith in take-append-le width (take n bytes) b.0 long ∙ take-take width n bytes low)
-      b.1.0))
+          (m.none
+          (subst Field
+          (let long : width ≤ length (take n bytes) = omega (arith, length-take n bytes) in
+          let low : width ≤ n = omega arith in take-append-le width (take n bytes) b.0 long ∙ take-take width n bytes low)
+          b.1.0))
       | inr le ↦ let long : length (take n bytes) ≡ n = length-take-le n bytes h in
-      let front : take width (take n bytes ++ b.0) ≡ take n (take width bytes) ++ take (width - n) b.0 =
-      ap (λ k. take k (take n bytes ++ b.0)) (let e : width ≡ length (take n bytes) + (width - n) = omega arith in e) ∙ take-append-add (take n bytes) b.0 (width - n)
-      ∙ ap (λ t. t ++ take (width - n) b.0) (sym (take-take n width bytes le)) in
-      m.longest n (omega (arith, length-take width bytes)) (take (width - n) b.0, subst Field front b.1.0)
+          let front : take width (take n bytes ++ b.0) ≡ take n (take width bytes) ++ take (width - n) b.0 =
+          ap (λ k. take k (take n bytes ++ b.0)) (let e : width ≡ length (take n bytes) + (width - n) = omega arith in e) ∙ take-append-add (take n bytes) b.0 (width - n)
+          ∙ ap (λ t. t ++ take (width - n) b.0) (sym (take-take n width bytes le)) in
+          m.longest n (omega (arith, length-take width bytes)) (take (width - n) b.0, subst Field front b.1.0)
     ]
 
 pub first_misfit : (Field : List ℕ → Type 0) (width : ℕ) (Rest : List ℕ → Type 0) (bytes : List ℕ) (at : ℕ) → HasWidth Field width → (rest : List ℕ) × Rest rest
@@ -70,11 +70,11 @@ later_longest Field width Rest bytes at long m n h b =
     elim (cases_lt n width) [
       | inl lt ↦ omega arith
       | inr le ↦ let split : n ≡ width + (n - width) = omega arith in
-      let enough : width ≤ length (take n bytes) = omega (arith, length-take n bytes) in
-      let behind : drop width (take n bytes ++ b.0) ≡ take (n - width) (drop width bytes) ++ b.0 =
-      drop-append-le width (take n bytes) b.0 enough ∙ ap (λ k. drop width (take k bytes) ++ b.0) split ∙ ap (λ t. t ++ b.0) (drop-take width (n - width) bytes) in
-      let few : n - width ≤ at = m.longest (n - width) (omega (arith, length-drop width bytes)) (b.0, subst Rest behind b.1.1) in
-      omega arith
+          let enough : width ≤ length (take n bytes) = omega (arith, length-take n bytes) in
+          let behind : drop width (take n bytes ++ b.0) ≡ take (n - width) (drop width bytes) ++ b.0 =
+          drop-append-le width (take n bytes) b.0 enough ∙ ap (λ k. drop width (take k bytes) ++ b.0) split ∙ ap (λ t. t ++ b.0) (drop-take width (n - width) bytes) in
+          let few : n - width ≤ at = m.longest (n - width) (omega (arith, length-drop width bytes)) (b.0, subst Rest behind b.1.1) in
+          omega arith
     ]
 
 pub later_misfit : (Field : List ℕ → Type 0) (width : ℕ) (Rest : List ℕ → Type 0) (bytes : List ℕ) (at : ℕ) → width ≤ length bytes → Field (take width bytes)
@@ -88,10 +88,13 @@ later_misfit Field width Rest bytes at long fits m =
     record {
       none = λ both. m.none both.1;
       within = omega (arith, length-drop width bytes);
-      begins = (more, (
-        subst Field (sym (take-append-le width front more enough ∙ take-take width (width + at) bytes low)) fits,
-        subst Rest (sym (drop-append-le width front more enough ∙ ap (λ t. t ++ more) (drop-take width at bytes))) m.begins.1,
-      ));
+      begins = (
+        more,
+        (
+          subst Field (sym (take-append-le width front more enough ∙ take-take width (width + at) bytes low)) fits,
+          subst Rest (sym (drop-append-le width front more enough ∙ ap (λ t. t ++ more) (drop-take width at bytes))) m.begins.1,
+        ),
+      );
       longest = later_longest Field width Rest bytes at long m;
     }
 

@@ -14,7 +14,8 @@ use Rattle.pcp_model.specs.Labels.{label, label_head, HasText, IsLabel}
 use Rattle.pcp_model.proofs.Cuts.{number_of_word, is_label}
 use Rattle.archive_frame.specs.declared.fault.FrameFault.{FrameFault}
 use Rattle.archive_frame.specs.declared.fault.FrameFault.TheVariants.{Torn, Size, Lengths, Label, NoMemory}
-use Rattle.archive_frame.specs.Labels.{IsLabelFault, IsRead}
+use Rattle.archive_frame.specs.Labels.{IsSomeLabel, IsLabelFault, IsRead}
+use Rattle.archive_frame.specs.Misfits.{IsFirstMisfit}
 use Rattle.archive_frame.proofs.Widths.{length-label_head}
 use Rattle.archive_frame.proofs.Filling.{word_of_signed}
 
@@ -98,8 +99,7 @@ one_reading bytes l m n k a b =
     let w4 = both_words l.start.usec m.start.usec (signed_word n) (signed_word k) (omega arith) (omega arith) w3.1 in
     let number : word (cast_unsigned w32 n) ++ [] ≡ word (cast_unsigned w32 k) ++ [] =
     ap (λ t. t ++ []) (word_of_signed n ∙ w4.1 ∙ sym (word_of_signed k)) in
-    let w5 = both_words (cast_unsigned w32 n) (cast_unsigned w32 k) [] [] (unsigned_low n a.number_fits) (unsigned_low k b.number_fits) number in
-    (
+    let w5 = both_words (cast_unsigned w32 n) (cast_unsigned w32 k) [] [] (unsigned_low n a.number_fits) (unsigned_low k b.number_fits) number in (
       same_fields l m w2.0 w3.0 w4.0 (field_text 64 a.host b.host l.host m.host a.has_host b.has_host texts.0) (field_text 40 a.zone b.zone l.zone m.zone a.has_zone b.has_zone texts.1),
       sym (to_z-of_z w32 n a.number_fits) ∙ ap (cast_signed w32) w5.0 ∙ to_z-of_z w32 k b.number_fits,
     )
@@ -117,3 +117,10 @@ only_reading bytes (Err NoMemory) found fault l number is = refl
 -- the writer's label is read
 pub written_read : (l : LabelFields) (number : ℤ) → l.pid < 4294967296 → IsMoment l.start → IsText l.host → IsText l.zone → FitsLabel l → FitsSigned w32 number → IsLabel (label l number) l number
 written_read l number pid start host zone fits low = is_label l number (record { pid = pid; start = start; host = host; zone = zone; fits = fits }) low
+
+-- the longest beginning has one length
+pub stops_once : (bytes : List ℕ) (i j : ℕ) → IsFirstMisfit IsSomeLabel bytes i → IsFirstMisfit IsSomeLabel bytes j → i ≡ j
+stops_once bytes i j m n =
+    let low : i ≤ j = n.longest i m.within m.begins in
+    let high : j ≤ i = m.longest j n.within n.begins in
+    omega arith

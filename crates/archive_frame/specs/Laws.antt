@@ -8,6 +8,8 @@ use Rattle.pcp_model.specs.Frame.{frame, frames, IsFrameable}
 use Rattle.pcp_model.specs.LabelFields.{LabelFields, FitsLabel}
 use Rattle.pcp_model.specs.Labels.{label, IsLabel}
 use Rattle.archive_frame.specs.Steps.{Stands}
+use Rattle.archive_frame.specs.Misfits.{IsFirstMisfit}
+use Rattle.archive_frame.specs.Labels.{IsSomeLabel}
 
 -- bytes that begin with two framed records begin with one
 abbrev pub NoFrameBeginsAnother : Type 0
@@ -26,3 +28,7 @@ WrittenLabelIsRead = (l : LabelFields) (number : ℤ) → l.pid < 4294967296 →
 -- and no label says two things
 abbrev pub LabelSaysOneThing : Type 0
 LabelSaysOneThing = (bytes : List ℕ) (l m : LabelFields) (n k : ℤ) → IsLabel bytes l n → IsLabel bytes m k → (l ≡ m) × (n ≡ k)
+
+-- bytes that are no label stop being one at one place
+abbrev pub LabelStopsOnce : Type 0
+LabelStopsOnce = (bytes : List ℕ) (i j : ℕ) → IsFirstMisfit IsSomeLabel bytes i → IsFirstMisfit IsSomeLabel bytes j → i ≡ j

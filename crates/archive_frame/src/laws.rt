@@ -1,5 +1,5 @@
 //! What holds between writing and reading.
-ghost use Rattle.archive_frame.specs.Laws.{NoFrameBeginsAnother, EachFrameStands, WrittenLabelIsRead, LabelSaysOneThing};
+ghost use Rattle.archive_frame.specs.Laws.{NoFrameBeginsAnother, EachFrameStands, WrittenLabelIsRead, LabelSaysOneThing, LabelStopsOnce};
 
 /// No framed record is the beginning of another one.
 #[tactic(auto, using(crate::proofs::Unique::both_frames))]
@@ -23,4 +23,9 @@ pub fn written_label_is_read()
 /// No bytes are the labels of two values.
 pub fn label_says_one_thing()
     ensures { LabelSaysOneThing }
+{}
+
+/// Bytes that are no label have one first byte that fits none.
+pub fn label_stops_once()
+    ensures { LabelStopsOnce }
 {}

@@ -11,7 +11,8 @@ mod writing;
 
 pub use fault::FrameFault;
 pub use laws::{
-    each_frame_stands, label_says_one_thing, no_frame_begins_another, written_label_is_read,
+    each_frame_stands, label_says_one_thing, label_stops_once, no_frame_begins_another,
+    written_label_is_read,
 };
 pub use pcp_model::Label;
 pub use reading::read_label;

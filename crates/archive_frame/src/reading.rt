@@ -94,9 +94,7 @@ fn text_at(bytes: &[u8], at: usize, width: usize) -> Result<usize, FrameFault>
     let field = &bytes[at..at + width];
     match first_zero(field) {
         Some(size) => Ok(size),
-        None => Err(FrameFault::Label {
-            at: at + width - 1,
-        }),
+        None => Err(FrameFault::Label { at: at + width - 1 }),
     }
 }
 

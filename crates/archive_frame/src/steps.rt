@@ -13,11 +13,7 @@ pub enum Step {
     End,
     /// The record whose payload is the bytes from `from` up to `to`. `next` is the place after the record, or for a
     /// step back the record's first byte.
-    Payload {
-        from: usize,
-        to: usize,
-        next: usize,
-    },
+    Payload { from: usize, to: usize, next: usize },
 }
 
 /// The word of 4 bytes at a byte; `None` exactly where it doesn't lie in the bytes.

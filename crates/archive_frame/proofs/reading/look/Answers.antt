@@ -56,8 +56,7 @@ returns-then-bytes-gt-LABEL-clause-fault c =
 
 pub returns-clause-label : goal.returns-clause-label
 returns-clause-label c =
-    let low : c.in_ok-number.number < 4294967296 = let most : c.in_ok-number.number ≤ 4294967295 = c.in_ok-number.ensures.word.1 in omega arith in
-    (
+    let low : c.in_ok-number.number < 4294967296 = let most : c.in_ok-number.number ≤ 4294967295 = c.in_ok-number.ensures.word.1 in omega arith in (
       c.in_ok-host.ensures.text.1,
       c.in_ok-zone.ensures.text.1,
       (let there : 132 ≤ length c.args.bytes.now = c.in_ok-wanted_at-2.ensures.there.0 in omega arith),

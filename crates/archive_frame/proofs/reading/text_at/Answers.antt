@@ -23,8 +23,7 @@ returns-in-Some-clause-text c =
     let field = take c.args.width (drop c.args.at c.args.bytes.now) in
     let long : length field ≡ c.args.width = omega (arith, length-take c.args.width (drop c.args.at c.args.bytes.now), length-drop c.args.at c.args.bytes.now) in
     let same : c.args.at + c.args.width - c.args.at ≡ c.args.width = omega arith in
-    let zero : IsFirstZero field c.in-Some.size = subst (λ n. IsFirstZero (take n (drop c.args.at c.args.bytes.now)) c.in-Some.size) same c.in-Some.ensures in
-    (
+    let zero : IsFirstZero field c.in-Some.size = subst (λ n. IsFirstZero (take n (drop c.args.at c.args.bytes.now)) c.in-Some.size) same c.in-Some.ensures in (
       omega arith,
       omega (arith, long, zero.within),
       subst (HasText c.args.width field) (take-take c.in-Some.size c.args.width (drop c.args.at c.args.bytes.now) (omega (arith, long, zero.within))) (text_found c.args.width field c.in-Some.size long zero),

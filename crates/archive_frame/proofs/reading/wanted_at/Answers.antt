@@ -15,8 +15,7 @@ returns-then-i-rest-clause-fault c =
     let room : length (take (length bytes - c.args.at) rest) ≡ length bytes - c.args.at = omega (arith, length-take (length bytes - c.args.at) rest, length-drop c.args.at bytes) in
     let long : (length f ≤ length wanted) × (length f ≤ length bytes - c.args.at) = (omega (arith, length-take (length wanted) rest), omega (arith, length-take (length wanted) rest, length-drop c.args.at bytes)) in
     let within : i ≤ length f = omega (arith, c.loop-i.invariant.within, room, length-take (length wanted) rest, length-drop c.args.at bytes) in
-    let same : take i f ≡ take i wanted = take-take i (length wanted) rest (omega arith) ∙ ap (take i) (sym whole) ∙ c.loop-i.invariant.same in
-    (
+    let same : take i f ≡ take i wanted = take-take i (length wanted) rest (omega arith) ∙ ap (take i) (sym whole) ∙ c.loop-i.invariant.same in (
       i,
       refl,
       wanted_misfit wanted f i (omega arith) within same
