@@ -11,11 +11,12 @@ ghost use Rattle.pm_commands.specs.Pieces.{pieces};
 ghost use Rattle.pm_commands.specs.Shots.{shot_of, desc_of};
 
 use crate::words::OnceWords;
+use archive_frame::{Label, label_bytes};
 use mmv_layout::{Image, MetricRow};
 use pcp_base::{
     Body, Desc, InDom, List, NoMemory, PmResult, Pmid, Stamp, Text, TextError, ValueSet,
 };
-use pcp_model::{Entry, Label, spell_description, spell_entry, spell_frame, spell_label};
+use pcp_model::{Entry, spell_description, spell_entry, spell_frame};
 use result_form::encode;
 use std::alloc::Global;
 use std::marker::Model;
@@ -23,9 +24,9 @@ use std::marker::Model;
 /// What `once` writes, piece by piece; made before the first write.
 #[derive(Drop)]
 pub struct Plan {
-    pub(crate) meta_label: Vec<u8>,
-    pub(crate) index_label: Vec<u8>,
-    pub(crate) volume_label: Vec<u8>,
+    pub(crate) meta_label: [u8; 132],
+    pub(crate) index_label: [u8; 132],
+    pub(crate) volume_label: [u8; 132],
     pub(crate) description: Vec<u8>,
     pub(crate) sample: Vec<u8>,
     pub(crate) entry: Vec<u8>,
@@ -36,7 +37,7 @@ impl Model for Plan {
 
     ghost Value = { Pieces };
 
-    ghost view = { λ a. record { meta_label = a.meta_label.items; index_label = a.index_label.items; volume_label = a.volume_label.items; description = a.description.items; sample = a.sample.items; entry = a.entry.items } };
+    ghost view = { λ a. record { meta_label = a.meta_label; index_label = a.index_label; volume_label = a.volume_label; description = a.description.items; sample = a.sample.items; entry = a.entry.items } };
 }
 
 // A text of bytes that are known to have no zero byte.
@@ -140,9 +141,9 @@ pub(crate) fn plan_of(alloc: Global, asked: &OnceWords, image: &Image) -> Result
         unreachable!()
     };
     let label = label_of(alloc, asked.stamp)?;
-    let meta_label = spell_label(alloc, &label, -1)?;
-    let index_label = spell_label(alloc, &label, -2)?;
-    let volume_label = spell_label(alloc, &label, 0)?;
+    let meta_label = label_bytes(&label, -1);
+    let index_label = label_bytes(&label, -2);
+    let volume_label = label_bytes(&label, 0);
     let description = description_of(alloc, &asked.file, pmid, &row)?;
     let sample = sample_of(alloc, asked.stamp, pmid, image.only_value())?;
     let place = Entry {

@@ -1,0 +1,10 @@
+pub mod Exits
+pub mod Fields
+pub mod Filling
+pub mod Labels
+pub mod Looked
+pub mod Misfits
+pub mod Only
+pub mod Records
+pub mod Unique
+pub mod Widths

@@ -1,0 +1,54 @@
+-- Reading a label (LOGARCHIVE(5)): its fields stand one behind another.
+use Rattle.std.specs.Prelude.{◌≡◌, ℕ, ℤ, ◌+◌, ◌≤◌, List, take, drop, Result, Ok, Err}
+use Rattle.pcp_model.specs.Words.{word}
+use Rattle.pcp_model.specs.LabelFields.{LabelFields}
+use Rattle.pcp_model.specs.Labels.{HasText, IsLabel}
+use Rattle.archive_frame.specs.Misfits.{IsFirstMisfit}
+use Rattle.archive_frame.specs.declared.fault.FrameFault.{FrameFault}
+use Rattle.archive_frame.specs.declared.fault.FrameFault.TheVariants.{Torn, Size, Lengths, Label, NoMemory}
+use Rattle.archive_frame.specs.declared.reading.Said.{Said}
+
+-- some label
+abbrev pub IsSomeLabel : List ℕ → Type 0
+IsSomeLabel bytes = (l : LabelFields) × (number : ℤ) × IsLabel bytes l number
+
+-- the refusal of bytes that are no label; memory is asked for a label alone
+abbrev pub IsLabelFault : List ℕ → FrameFault → Type 0
+IsLabelFault bytes (Torn at) = ⊥
+IsLabelFault bytes (Size at found) = ⊥
+IsLabelFault bytes (Lengths at head tail) = ⊥
+IsLabelFault bytes (Label at) = IsFirstMisfit IsSomeLabel bytes at
+IsLabelFault bytes NoMemory = IsSomeLabel bytes
+
+-- what a label says was read, unless memory ran out
+abbrev pub IsRead : LabelFields → ℤ → Result (LabelFields × ℤ) FrameFault → Type 0
+IsRead l number (Ok read) = (read.0 ≡ l) × (read.1 ≡ number)
+IsRead l number (Err fault) = fault ≡ NoMemory
+
+-- a word that says at most this
+abbrev pub IsUpTo : ℕ → List ℕ → Type 0
+IsUpTo most field = (n : ℕ) × (n ≤ most) × (field ≡ word n)
+
+-- a field of fixed width with some text
+abbrev pub IsTextField : ℕ → List ℕ → Type 0
+IsTextField width field = (text : List ℕ) × HasText width field text
+
+-- the refusal of the field that should stand at a byte
+abbrev pub IsFieldFault : (List ℕ → Type 0) → ℕ → List ℕ → ℕ → FrameFault → Type 0
+IsFieldFault Field width bytes at (Torn place) = ⊥
+IsFieldFault Field width bytes at (Size place found) = ⊥
+IsFieldFault Field width bytes at (Lengths place head tail) = ⊥
+IsFieldFault Field width bytes at (Label place) = (k : ℕ) × (place ≡ at + k) × IsFirstMisfit Field (take width (drop at bytes)) k
+IsFieldFault Field width bytes at NoMemory = ⊥
+
+-- the refusal of bytes that are none of these texts
+abbrev pub IsMisfit : (List ℕ → Type 0) → List ℕ → FrameFault → Type 0
+IsMisfit Texts bytes (Torn at) = ⊥
+IsMisfit Texts bytes (Size at found) = ⊥
+IsMisfit Texts bytes (Lengths at head tail) = ⊥
+IsMisfit Texts bytes (Label at) = IsFirstMisfit Texts bytes at
+IsMisfit Texts bytes NoMemory = ⊥
+
+-- the fields of a label that was looked at, whose texts stand in its bytes
+abbrev pub fields_said : List ℕ → Said → LabelFields
+fields_said bytes s = record { pid = s.pid; start = s.start; host = take s.host (drop 24 bytes); zone = take s.zone (drop 88 bytes) }
