@@ -1,5 +1,6 @@
 use crate::samples::{HITS, INDEX, META, VOLUME, disk_failing, run, run_failing};
 use pcp_outside::{FileId, MemDisk};
+use std::alloc::{AllocError, Global};
 use std::test::Fail;
 
 fn is_empty(disk: &MemDisk) -> bool {
@@ -37,6 +38,42 @@ fn a_short_image_is_refused(rt: HostRuntime) -> Result<(), Fail> {
         b"input image Short 39\n".as_slice()
     );
     assert!(rt; is_empty(&disk));
+    Ok(())
+}
+
+/// The sample with one byte changed and further bytes behind it.
+fn changed(alloc: Global, at: usize, byte: u8, more: &[u8]) -> Result<Vec<u8>, AllocError> {
+    let mut image = Vec::from_slice(alloc, &HITS)?;
+    if at < image.len() {
+        image[at] = byte;
+    }
+    image.extend_from_slice(more)?;
+    Ok(image)
+}
+
+#[test]
+fn each_fault_of_an_image_has_its_line(rt: HostRuntime) -> Result<(), Fail> {
+    let alloc = rt.alloc();
+    // The contents entries stand at 40 and 56, the metric at 72 and the value at 176.
+    let cases = [
+        (0, 0, HITS.get(..0), "input image Magic\n"),
+        (4, 2, HITS.get(..0), "input image Version 2\n"),
+        (40, 6, HITS.get(..0), "input image Section 6\n"),
+        (64, 0xb1, HITS.get(..8), "input image Offset 64\n"),
+        (72, b'1', HITS.get(..0), "input image Name 72\n"),
+        (140, 7, HITS.get(..0), "input image Kind 140\n"),
+        (192, 0x49, HITS.get(..0), "input image Reference 192\n"),
+        (60, 2, HITS.get(176..), "input image Duplicate 208\n"),
+        (137, 4, HITS.get(..0), "input image Serial 136\n"),
+    ];
+    for (at, byte, more, line) in cases {
+        let image = changed(alloc, at, byte, more.unwrap_or(&[]))?;
+        let mut disk = disk_failing(alloc, &[])?;
+        let ended = run(alloc, "once 100 0 app", &image, &mut disk)?;
+        assert_eq!(rt; ended.status, 2, "at {at}");
+        assert_eq!(rt; ended.output.as_slice(), line.as_bytes(), "at {at}");
+        assert!(rt; is_empty(&disk), "at {at}");
+    }
     Ok(())
 }
 
@@ -138,8 +175,11 @@ fn an_input_above_the_limit_is_refused(rt: HostRuntime) -> Result<(), Fail> {
     assert!(rt; is_empty(&disk));
     input.truncate(16_777_216);
     let at_limit = run(alloc, "once 100 0 app", &input, &mut disk)?;
-    assert_eq!(rt; at_limit.status, 15);
-    assert_eq!(rt; at_limit.output.as_slice(), b"later image\n".as_slice());
+    assert_eq!(rt; at_limit.status, 2);
+    assert_eq!(rt;
+        at_limit.output.as_slice(),
+        b"input image TooLarge 2097152\n".as_slice()
+    );
     Ok(())
 }
 

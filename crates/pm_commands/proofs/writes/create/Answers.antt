@@ -13,44 +13,44 @@ pub returns-in_err-append_synced-clause-any_moment :
 returns-in_err-append_synced-clause-any_moment g c = λ tells.
     let d = g.D.Disk in
     let p = c.args.plan.now in
-    let e : c.deref.result.now ≡ p.meta_label = c.deref.ensures.value ∙ ap (λ (q : Pieces). q.meta_label) c.plan.view_is in
-    weaker d.moment d.left_since d.held c.args.disk.now c.append_synced.new.disk (CrashImage (grown Meta c.deref.result.now (d.held c.args.disk.now))) (IsCut p)
-    (c.append_synced.ensures.any_moment tells) (meta_label_stage p (d.held c.args.disk.now) c.deref.result.now e (c.requires tells))
+    let e : c.plan.inside.meta_label ≡ p.meta_label = ap (λ (q : Pieces). q.meta_label) c.plan.view_is in
+    weaker d.moment d.left_since d.held c.args.disk.now c.append_synced.new.disk (CrashImage (grown Meta c.plan.inside.meta_label (d.held c.args.disk.now))) (IsCut p)
+    (c.append_synced.ensures.any_moment tells) (meta_label_stage p (d.held c.args.disk.now) c.plan.inside.meta_label e (c.requires tells))
 
 pub returns-in_err-append_synced-2-clause-any_moment :
     goal.returns-in_err-append_synced-2-clause-any_moment
 returns-in_err-append_synced-2-clause-any_moment g c = λ tells.
     let d = g.D.Disk in
     let p = c.args.plan.now in
-    let e : c.deref.result.now ≡ p.meta_label = c.deref.ensures.value ∙ ap (λ (q : Pieces). q.meta_label) c.plan.view_is in
-    let e2 : c.deref-2.result.now ≡ p.index_label = c.deref-2.ensures.value ∙ ap (λ (q : Pieces). q.index_label) c.plan.view_is in
+    let e : c.plan.inside.meta_label ≡ p.meta_label = ap (λ (q : Pieces). q.meta_label) c.plan.view_is in
+    let e2 : c.plan.inside.index_label ≡ p.index_label = ap (λ (q : Pieces). q.index_label) c.plan.view_is in
     let first : LeavesOnly d.moment d.left_since c.args.disk.now c.append_synced.new.disk (IsCut p) =
-    weaker d.moment d.left_since d.held c.args.disk.now c.append_synced.new.disk (CrashImage (grown Meta c.deref.result.now (d.held c.args.disk.now))) (IsCut p)
-    (c.append_synced.ensures.any_moment tells) (meta_label_stage p (d.held c.args.disk.now) c.deref.result.now e (c.requires tells)) in
+    weaker d.moment d.left_since d.held c.args.disk.now c.append_synced.new.disk (CrashImage (grown Meta c.plan.inside.meta_label (d.held c.args.disk.now))) (IsCut p)
+    (c.append_synced.ensures.any_moment tells) (meta_label_stage p (d.held c.args.disk.now) c.plan.inside.meta_label e (c.requires tells)) in
     let held : Holds (d.held c.append_synced.new.disk) (sure p.meta_label) nothing_held nothing_held =
-    now_meta (d.held c.args.disk.now) (d.held c.append_synced.new.disk) nothing_held nothing_held nothing_held c.deref.result.now p.meta_label e (c.requires tells) (c.in_ok-append_synced.ensures.held tells) in
+    now_meta (d.held c.args.disk.now) (d.held c.append_synced.new.disk) nothing_held nothing_held nothing_held c.plan.inside.meta_label p.meta_label e (c.requires tells) (c.in_ok-append_synced.ensures.held tells) in
     joined d.moment d.left_since d.held c.args.disk.now c.append_synced.new.disk c.append_synced-2.new.disk (IsCut p) first
-    (weaker d.moment d.left_since d.held c.append_synced.new.disk c.append_synced-2.new.disk (CrashImage (grown Index c.deref-2.result.now (d.held c.append_synced.new.disk))) (IsCut p)
-    (c.append_synced-2.ensures.any_moment tells) (index_label_stage p (d.held c.append_synced.new.disk) c.deref-2.result.now e2 held))
+    (weaker d.moment d.left_since d.held c.append_synced.new.disk c.append_synced-2.new.disk (CrashImage (grown Index c.plan.inside.index_label (d.held c.append_synced.new.disk))) (IsCut p)
+    (c.append_synced-2.ensures.any_moment tells) (index_label_stage p (d.held c.append_synced.new.disk) c.plan.inside.index_label e2 held))
 
 pub returns-clause-any_moment : goal.returns-clause-any_moment
 returns-clause-any_moment g c = λ tells.
     let d = g.D.Disk in
     let p = c.args.plan.now in
-    let e : c.deref.result.now ≡ p.meta_label = c.deref.ensures.value ∙ ap (λ (q : Pieces). q.meta_label) c.plan.view_is in
-    let e2 : c.deref-2.result.now ≡ p.index_label = c.deref-2.ensures.value ∙ ap (λ (q : Pieces). q.index_label) c.plan.view_is in
-    let e3 : c.deref-3.result.now ≡ p.volume_label = c.deref-3.ensures.value ∙ ap (λ (q : Pieces). q.volume_label) c.plan.view_is in
+    let e : c.plan.inside.meta_label ≡ p.meta_label = ap (λ (q : Pieces). q.meta_label) c.plan.view_is in
+    let e2 : c.plan.inside.index_label ≡ p.index_label = ap (λ (q : Pieces). q.index_label) c.plan.view_is in
+    let e3 : c.plan.inside.volume_label ≡ p.volume_label = ap (λ (q : Pieces). q.volume_label) c.plan.view_is in
     let first : LeavesOnly d.moment d.left_since c.args.disk.now c.append_synced.new.disk (IsCut p) =
-    weaker d.moment d.left_since d.held c.args.disk.now c.append_synced.new.disk (CrashImage (grown Meta c.deref.result.now (d.held c.args.disk.now))) (IsCut p)
-    (c.append_synced.ensures.any_moment tells) (meta_label_stage p (d.held c.args.disk.now) c.deref.result.now e (c.requires tells)) in
+    weaker d.moment d.left_since d.held c.args.disk.now c.append_synced.new.disk (CrashImage (grown Meta c.plan.inside.meta_label (d.held c.args.disk.now))) (IsCut p)
+    (c.append_synced.ensures.any_moment tells) (meta_label_stage p (d.held c.args.disk.now) c.plan.inside.meta_label e (c.requires tells)) in
     let held : Holds (d.held c.append_synced.new.disk) (sure p.meta_label) nothing_held nothing_held =
-    now_meta (d.held c.args.disk.now) (d.held c.append_synced.new.disk) nothing_held nothing_held nothing_held c.deref.result.now p.meta_label e (c.requires tells) (c.in_ok-append_synced.ensures.held tells) in
+    now_meta (d.held c.args.disk.now) (d.held c.append_synced.new.disk) nothing_held nothing_held nothing_held c.plan.inside.meta_label p.meta_label e (c.requires tells) (c.in_ok-append_synced.ensures.held tells) in
     let second : LeavesOnly d.moment d.left_since c.append_synced.new.disk c.append_synced-2.new.disk (IsCut p) =
-    weaker d.moment d.left_since d.held c.append_synced.new.disk c.append_synced-2.new.disk (CrashImage (grown Index c.deref-2.result.now (d.held c.append_synced.new.disk))) (IsCut p)
-    (c.append_synced-2.ensures.any_moment tells) (index_label_stage p (d.held c.append_synced.new.disk) c.deref-2.result.now e2 held) in
+    weaker d.moment d.left_since d.held c.append_synced.new.disk c.append_synced-2.new.disk (CrashImage (grown Index c.plan.inside.index_label (d.held c.append_synced.new.disk))) (IsCut p)
+    (c.append_synced-2.ensures.any_moment tells) (index_label_stage p (d.held c.append_synced.new.disk) c.plan.inside.index_label e2 held) in
     let held2 : Holds (d.held c.append_synced-2.new.disk) (sure p.meta_label) (sure p.index_label) nothing_held =
-    now_index (d.held c.append_synced.new.disk) (d.held c.append_synced-2.new.disk) (sure p.meta_label) nothing_held nothing_held c.deref-2.result.now p.index_label e2 held (c.in_ok-append_synced-2.ensures.held tells) in
+    now_index (d.held c.append_synced.new.disk) (d.held c.append_synced-2.new.disk) (sure p.meta_label) nothing_held nothing_held c.plan.inside.index_label p.index_label e2 held (c.in_ok-append_synced-2.ensures.held tells) in
     joined d.moment d.left_since d.held c.args.disk.now c.append_synced-2.new.disk c.append_synced-3.new.disk (IsCut p)
     (joined d.moment d.left_since d.held c.args.disk.now c.append_synced.new.disk c.append_synced-2.new.disk (IsCut p) first second)
-    (weaker d.moment d.left_since d.held c.append_synced-2.new.disk c.append_synced-3.new.disk (CrashImage (grown (Volume 0) c.deref-3.result.now (d.held c.append_synced-2.new.disk))) (IsCut p)
-    (c.append_synced-3.ensures.any_moment tells) (volume_label_stage p (d.held c.append_synced-2.new.disk) c.deref-3.result.now e3 held2))
+    (weaker d.moment d.left_since d.held c.append_synced-2.new.disk c.append_synced-3.new.disk (CrashImage (grown (Volume 0) c.plan.inside.volume_label (d.held c.append_synced-2.new.disk))) (IsCut p)
+    (c.append_synced-3.ensures.any_moment tells) (volume_label_stage p (d.held c.append_synced-2.new.disk) c.plan.inside.volume_label e3 held2))
