@@ -11,6 +11,7 @@ mod first_fault;
 mod image;
 mod indoms;
 mod instances;
+mod keys;
 mod laws;
 mod metrics;
 mod places;
