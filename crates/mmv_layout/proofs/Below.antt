@@ -1,5 +1,5 @@
 -- Tests of all numbers below a count, one number after the other.
-use Rattle.std.proofs.Common.{◌≡◌, ℕ, zero, suc, ◌+◌, ◌<◌, Bool, true, false, ◌&&◌, ◌||◌, ◌⊎◌, ap, sym, ◌∙◌, refl, arith, add-one, ⊎_elim}
+use Rattle.std.proofs.Common.{◌≡◌, ℕ, zero, suc, ◌+◌, ◌<◌, ◌≤◌, Bool, true, false, ◌&&◌, ◌||◌, ◌⊎◌, ap, sym, ◌∙◌, refl, arith, add-one, ⊎_elim}
 use Rattle.std.specs.Prelude.{Option, Some, None}
 use Rattle.mmv_layout.specs.Below.{all_below, some_below}
 use Rattle.mmv_layout.specs.Faults.{or_else, unless, first_below}
@@ -96,3 +96,13 @@ found_stops n k at found h none here = sym (first_stops n k at found h none here
 pub test_stops : (n k at : ℕ) (good : ℕ → Bool) (place : ℕ → ℕ) → k < n → first_below k (λ i. unless (good i) (place i)) ≡ None → good k ≡ false → at ≡ place k → Some at ≡ first_below n (λ i. unless (good i) (place i))
 unfolding unless
 test_stops n k at good place h none bad is = found_stops n k at (λ i. unless (good i) (place i)) h none (rw (bad, is) refl)
+
+-- what all pass below a count, all pass below a lesser one
+pub all_lesser : (n k : ℕ) (test : ℕ → Bool) → all_below n test ≡ true → k ≤ n → all_below k test ≡ true
+unfolding all_below
+all_lesser zero zero test h le = h
+all_lesser zero (suc k) test h le = absurd (omega arith)
+all_lesser (suc n) k test h le = ⊎_elim (λ (below : k < suc n). all_lesser n k test (both_left _ _ h) (omega arith)) (λ (same : k ≡ suc n). ap (λ m. all_below m test) same ∙ h) (less_or_same k (suc n) le)
+  where
+    less_or_same : (a b : ℕ) → a ≤ b → (a < b) ⊎ (a ≡ b)
+    less_or_same a b p = grind arith

@@ -1,3 +1,4 @@
+pub mod Again
 pub mod Below
 pub mod Bytes
 pub mod FirstForms
@@ -6,4 +7,5 @@ pub mod Leads
 pub mod Lies
 pub mod Nones
 pub mod Sections
+pub mod Seen
 pub mod Texts

@@ -4,4 +4,5 @@ pub mod Entries
 pub mod Faults
 pub mod Fields
 pub mod FirstForm
+pub mod Keys
 pub mod Laws

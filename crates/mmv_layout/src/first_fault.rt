@@ -46,38 +46,31 @@ fn name_fault(alloc: Global, words: &[u64]) -> Result<Option<u64>, AllocError>
 
 /// The lowest place of a reference that leads nowhere.
 #[tactic(auto, unfolding(crate::specs::Faults::reference_fault))]
-fn reference_fault(words: &[u64]) -> Option<u64>
+fn reference_fault(alloc: Global, words: &[u64]) -> Result<Option<u64>, AllocError>
     requires { HasSections words.now }
-    ensures { result ≡ reference_fault words.now }
+    ensures { IfOk result (λ at. at ≡ reference_fault words.now) }
 {
-    lower(
+    let metric = metrics_reference_fault(alloc, words)?;
+    Ok(lower(
         lower(
             indoms_reference_fault(words),
             instances_reference_fault(words),
         ),
-        lower(
-            metrics_reference_fault(words),
-            values_reference_fault(words),
-        ),
-    )
+        lower(metric, values_reference_fault(words)),
+    ))
 }
 
 /// The lowest place of an entry that stood before.
 #[tactic(auto, unfolding(crate::specs::Faults::duplicate_fault))]
-fn duplicate_fault(words: &[u64]) -> Option<u64>
+fn duplicate_fault(alloc: Global, words: &[u64]) -> Result<Option<u64>, AllocError>
     requires { HasSections words.now }
-    ensures { result ≡ duplicate_fault words.now }
+    ensures { IfOk result (λ at. at ≡ duplicate_fault words.now) }
 {
-    lower(
-        lower(
-            indoms_duplicate_fault(words),
-            instances_duplicate_fault(words),
-        ),
-        lower(
-            metrics_duplicate_fault(words),
-            values_duplicate_fault(words),
-        ),
-    )
+    let domain = indoms_duplicate_fault(alloc, words)?;
+    let instance = instances_duplicate_fault(alloc, words)?;
+    let metric = metrics_duplicate_fault(alloc, words)?;
+    let value = values_duplicate_fault(alloc, words)?;
+    Ok(lower(lower(domain, instance), lower(metric, value)))
 }
 
 /// The place of a cluster above 4095.
@@ -144,10 +137,10 @@ fn entries_fault(alloc: Global, words: &[u64]) -> Result<Option<ImageFault>, All
     if let Some(at) = kind_fault(words) {
         return Ok(Some(ImageFault::Kind { at }));
     }
-    if let Some(at) = reference_fault(words) {
+    if let Some(at) = reference_fault(alloc, words)? {
         return Ok(Some(ImageFault::Reference { at }));
     }
-    if let Some(at) = duplicate_fault(words) {
+    if let Some(at) = duplicate_fault(alloc, words)? {
         return Ok(Some(ImageFault::Duplicate { at }));
     }
     if let Some(at) = serial_fault(words) {

@@ -1,11 +1,15 @@
-ghost use Rattle.std.specs.Prelude.{◌≡◌, ◌<◌, ◌^◌};
-ghost use Rattle.mmv_layout.specs.Entries.{is_instance_of, has_good_run, has_serial, is_new_indom, indom_count};
+ghost use Rattle.std.specs.Prelude.{◌≡◌, ◌<◌, ◌^◌, IfOk};
+ghost use Rattle.mmv_layout.specs.Keys.{HasSerials};
+ghost use Rattle.mmv_layout.specs.Entries.{is_instance_of, has_good_run, indom_count};
 ghost use Rattle.mmv_layout.specs.Faults.{HasSections, help_fault, indom_reference_fault, indoms_reference_fault, indoms_duplicate_fault, indoms_serial_fault};
 
 use crate::contents::{INDOMS, INSTANCE_SIZE, section_of};
 use crate::entries::{help_leads, indom_at, leads_to_instance};
 use crate::fields::{number32, number64};
+use crate::keys::{Key, first_again};
 use crate::places::indom_place;
+use std::alloc::{AllocError, Global};
+use std::collections::BTreeSet;
 
 /// Whether an instance stands at a place and leads to a domain.
 #[tactic(auto, unfolding(crate::specs::Entries::is_instance_of))]
@@ -24,28 +28,6 @@ fn has_good_run(words: &[u64], domain: u128) -> bool
     let first = number64(words, domain + 8) as u128;
     for k in 0..number32(words, domain + 4) {
         if !is_instance_of(words, domain, first + INSTANCE_SIZE as u128 * k as u128) {
-            return false;
-        }
-    }
-    true
-}
-
-/// Whether a domain has a serial.
-#[tactic(auto, unfolding(crate::specs::Entries::has_serial))]
-pub fn has_serial(words: &[u64], serial: u32, i: u32) -> bool
-    ensures { result ≡ has_serial words.now serial i }
-{
-    number32(words, indom_at(words, i)) == serial
-}
-
-/// Whether no earlier domain has the serial of this one.
-#[tactic(auto, using(crate::proofs::Below::all_none, crate::proofs::Below::all_more), unfolding(crate::specs::Entries::is_new_indom))]
-fn is_new_indom(words: &[u64], i: u32) -> bool
-    ensures { result ≡ is_new_indom words.now i }
-{
-    let serial = number32(words, indom_at(words, i));
-    for j in 0..i {
-        if has_serial(words, serial, j) {
             return false;
         }
     }
@@ -101,17 +83,16 @@ pub fn indoms_reference_fault(words: &[u64]) -> Option<u64>
 }
 
 /// The place of the first domain whose serial stood before.
-#[tactic(auto, using(crate::proofs::Below::first_none, crate::proofs::Below::first_goes), unfolding(crate::specs::Faults::indoms_duplicate_fault, crate::specs::Faults::unless))]
-pub fn indoms_duplicate_fault(words: &[u64]) -> Option<u64>
+pub fn indoms_duplicate_fault(alloc: Global, words: &[u64]) -> Result<Option<u64>, AllocError>
     requires { HasSections words.now }
-    ensures { result ≡ indoms_duplicate_fault words.now }
+    ensures { IfOk result (λ at. at ≡ indoms_duplicate_fault words.now) }
 {
-    for i in 0..indom_count(words) {
-        if !is_new_indom(words, i) {
-            return Some(indom_place(words, i));
-        }
+    let count = indom_count(words);
+    let first = first_again(alloc, words, Key::Serial, count)?;
+    if first == count {
+        return Ok(None);
     }
-    None
+    Ok(Some(indom_place(words, first)))
 }
 
 /// The place of the first serial of a domain that is 0 or above 1023.
@@ -128,4 +109,15 @@ pub fn indoms_serial_fault(words: &[u64]) -> Option<u64>
         }
     }
     None
+}
+
+/// The serials of the domains.
+pub fn indom_serials(alloc: Global, words: &[u64]) -> Result<BTreeSet<u32>, AllocError>
+    ensures { IfOk result (HasSerials words.now) }
+{
+    let mut serials: BTreeSet<u32> = BTreeSet::new(alloc);
+    for i in 0..indom_count(words) {
+        serials.insert(number32(words, indom_at(words, i)))?;
+    }
+    Ok(serials)
 }

@@ -1,11 +1,13 @@
-ghost use Rattle.std.specs.Prelude.{◌≡◌, ◌<◌, ◌^◌};
-ghost use Rattle.mmv_layout.specs.Entries.{has_text, lies_in_run, is_same_instance, is_new_instance, instance_count, is_good_string, string_count};
+ghost use Rattle.std.specs.Prelude.{◌≡◌, ◌<◌, ◌^◌, IfOk};
+ghost use Rattle.mmv_layout.specs.Entries.{has_text, lies_in_run, instance_count, is_good_string, string_count};
 ghost use Rattle.mmv_layout.specs.Faults.{HasSections, instance_name_fault, instances_reference_fault, instances_duplicate_fault, instances_serial_fault, string_fault};
 
 use crate::contents::{INSTANCE_SIZE, INSTANCES, STRING_SIZE, STRINGS, section_of};
 use crate::entries::{instance_at, leads, leads_to_indom, string_at};
-use crate::fields::{NAME_SIZE, byte_at, has_zero, number32, number64, same_name};
+use crate::fields::{NAME_SIZE, byte_at, has_zero, number32, number64};
+use crate::keys::{Key, first_again};
 use crate::places::{instance_place, string_place};
+use std::alloc::{AllocError, Global};
 
 /// Whether the name field at a place holds a text that isn't empty.
 #[tactic(auto, unfolding(crate::specs::Entries::has_text))]
@@ -29,31 +31,6 @@ fn lies_in_run(words: &[u64], instance: u128) -> bool
             INSTANCE_SIZE,
             instance,
         )
-}
-
-/// Whether two instances of one domain have one number or one name.
-#[tactic(auto, unfolding(crate::specs::Entries::is_same_instance))]
-fn is_same_instance(words: &[u64], a: u128, b: u128) -> bool
-    requires first { a < 2 ^ 80 }
-    requires second { b < 2 ^ 80 }
-    ensures { result ≡ is_same_instance words.now a b }
-{
-    number64(words, a) == number64(words, b)
-        && (number32(words, a + 12) == number32(words, b + 12) || same_name(words, a + 16, b + 16))
-}
-
-/// Whether no earlier instance of its domain has the number or the name of this one.
-#[tactic(auto, using(crate::proofs::Below::all_none, crate::proofs::Below::all_more), unfolding(crate::specs::Entries::is_new_instance))]
-fn is_new_instance(words: &[u64], i: u32) -> bool
-    ensures { result ≡ is_new_instance words.now i }
-{
-    let instance = instance_at(words, i);
-    for j in 0..i {
-        if is_same_instance(words, instance_at(words, j), instance) {
-            return false;
-        }
-    }
-    true
 }
 
 fn instance_count(words: &[u64]) -> u32
@@ -93,17 +70,17 @@ pub fn instances_reference_fault(words: &[u64]) -> Option<u64>
 }
 
 /// The place of the first instance whose number or name stood in its domain before.
-#[tactic(auto, using(crate::proofs::Below::first_none, crate::proofs::Below::first_goes), unfolding(crate::specs::Faults::instances_duplicate_fault, crate::specs::Faults::unless))]
-pub fn instances_duplicate_fault(words: &[u64]) -> Option<u64>
+pub fn instances_duplicate_fault(alloc: Global, words: &[u64]) -> Result<Option<u64>, AllocError>
     requires { HasSections words.now }
-    ensures { result ≡ instances_duplicate_fault words.now }
+    ensures { IfOk result (λ at. at ≡ instances_duplicate_fault words.now) }
 {
-    for i in 0..instance_count(words) {
-        if !is_new_instance(words, i) {
-            return Some(instance_place(words, i));
-        }
+    let count = instance_count(words);
+    let before = first_again(alloc, words, Key::Number, count)?;
+    let first = first_again(alloc, words, Key::InstanceName, before)?;
+    if first == count {
+        return Ok(None);
     }
-    None
+    Ok(Some(instance_place(words, first)))
 }
 
 /// The place of the first negative number of an instance.

@@ -11,6 +11,7 @@ mod first_fault;
 mod image;
 mod indoms;
 mod instances;
+mod keys;
 mod laws;
 mod metrics;
 mod places;
@@ -21,6 +22,3 @@ pub use fault::ImageFault;
 pub use image::Image;
 pub use laws::{images_are_good, number_holds_bytes, number_holds_halves, words_hold_bytes};
 pub use rows::{MetricRow, Slot};
-
-#[cfg(test)]
-mod tests;

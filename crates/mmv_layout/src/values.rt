@@ -1,12 +1,14 @@
-ghost use Rattle.std.specs.Prelude.{◌≡◌, ◌<◌, ◌^◌};
-ghost use Rattle.mmv_layout.specs.Entries.{metric_of, instance_leads, choice_leads, is_same_value, is_new_value, value_count};
+ghost use Rattle.std.specs.Prelude.{◌≡◌, ◌<◌, ◌^◌, IfOk};
+ghost use Rattle.mmv_layout.specs.Entries.{metric_of, instance_leads, choice_leads, value_count};
 ghost use Rattle.mmv_layout.specs.Faults.{HasSections, value_reference_fault, values_reference_fault, values_duplicate_fault};
 
 use crate::contents::{VALUES, section_of};
-use crate::entries::{leads_to_instance, leads_to_metric, leads_to_string, value_at};
+use crate::entries::{leads_to_instance, leads_to_metric, leads_to_string};
 use crate::fields::{number32, number64};
+use crate::keys::{Key, first_again};
 use crate::metrics::is_no_domain;
 use crate::places::value_place;
+use std::alloc::{AllocError, Global};
 
 /// The place of the metric of the value at a place.
 #[tactic(auto, unfolding(crate::specs::Entries::metric_of))]
@@ -41,31 +43,6 @@ fn choice_leads(words: &[u64], value: u128) -> bool
 {
     number32(words, metric_of(words, value) as u128 + 68) != 6
         || leads_to_string(words, number64(words, value + 8) as u128)
-}
-
-/// Whether two values have one metric and one instance.
-#[tactic(auto, unfolding(crate::specs::Entries::is_same_value))]
-fn is_same_value(words: &[u64], a: u128, b: u128) -> bool
-    requires first { a < 2 ^ 80 }
-    requires second { b < 2 ^ 80 }
-    ensures { result ≡ is_same_value words.now a b }
-{
-    number64(words, a + 16) == number64(words, b + 16)
-        && number64(words, a + 24) == number64(words, b + 24)
-}
-
-/// Whether no earlier value has the metric and the instance of this one.
-#[tactic(auto, using(crate::proofs::Below::all_none, crate::proofs::Below::all_more), unfolding(crate::specs::Entries::is_new_value))]
-fn is_new_value(words: &[u64], i: u32) -> bool
-    ensures { result ≡ is_new_value words.now i }
-{
-    let value = value_at(words, i);
-    for j in 0..i {
-        if is_same_value(words, value_at(words, j), value) {
-            return false;
-        }
-    }
-    true
 }
 
 /// How many values there are.
@@ -108,15 +85,14 @@ pub fn values_reference_fault(words: &[u64]) -> Option<u64>
 }
 
 /// The place of the first value whose metric and instance stood before.
-#[tactic(auto, using(crate::proofs::Below::first_none, crate::proofs::Below::first_goes), unfolding(crate::specs::Faults::values_duplicate_fault, crate::specs::Faults::unless))]
-pub fn values_duplicate_fault(words: &[u64]) -> Option<u64>
+pub fn values_duplicate_fault(alloc: Global, words: &[u64]) -> Result<Option<u64>, AllocError>
     requires { HasSections words.now }
-    ensures { result ≡ values_duplicate_fault words.now }
+    ensures { IfOk result (λ at. at ≡ values_duplicate_fault words.now) }
 {
-    for i in 0..value_count(words) {
-        if !is_new_value(words, i) {
-            return Some(value_place(words, i));
-        }
+    let count = value_count(words);
+    let first = first_again(alloc, words, Key::Place, count)?;
+    if first == count {
+        return Ok(None);
     }
-    None
+    Ok(Some(value_place(words, first)))
 }

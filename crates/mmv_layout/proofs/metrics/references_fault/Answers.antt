@@ -3,7 +3,7 @@ use Rattle.std.proofs.Common.{arith}
 use Rattle.mmv_layout.specs.Entries.{metric_count, metric_at}
 use Rattle.mmv_layout.specs.Faults.{metrics_reference_fault, metric_reference_fault}
 use Rattle.mmv_layout.proofs.Below.{found_stops}
-use Rattle.mmv_layout.proofs.metrics.metrics_reference_fault.Goals as goal
+use Rattle.mmv_layout.proofs.metrics.references_fault.Goals as goal
 
 pub returns-in-Some : goal.returns-in-Some
 unfolding metrics_reference_fault

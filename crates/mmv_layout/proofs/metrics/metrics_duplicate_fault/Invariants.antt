@@ -1,9 +1,0 @@
--- Nothing was found so far.
-use Rattle.std.proofs.Common.{◌≡◌}
-use Rattle.std.specs.Prelude.{None}
-use Rattle.mmv_layout.specs.Entries.{metric_at, is_new_metric}
-use Rattle.mmv_layout.specs.Faults.{unless, first_below}
-use Rattle.mmv_layout.proofs.metrics.metrics_duplicate_fault.Given as goal
-
-abbrev pub invariant-loop-i : goal.invariant-loop-i
-invariant-loop-i l = first_below l.i (λ i. unless (is_new_metric l.words i) (metric_at l.words i)) ≡ None
