@@ -1,7 +1,6 @@
 -- The first entry that stood before, by its keys.
-use Rattle.std.proofs.Common.{◌≡◌, ℕ, ◌+◌, ◌<◌, ◌≤◌, Bool, true, false, not, ◌&&◌, ◌||◌, ◌≢◌, ◌⊎◌, List, ap, sym, subst, ◌∙◌, refl, arith, ⊎_elim, nat_eq, bytes_eq}
+use Rattle.std.proofs.Common.{◌≡◌, ℕ, ◌+◌, ◌<◌, ◌≤◌, Bool, true, false, not, ◌&&◌, ◌||◌, ◌≢◌, ◌⊎◌, List, sym, subst, ◌∙◌, refl, arith, ⊎_elim, nat_eq, bytes_eq}
 use Rattle.std.specs.Prelude.{Option, Some, None, is_none}
-use Rattle.std.proofs.lemmas.Bool.Decides.{nat_tests}
 use Rattle.mmv_layout.specs.declared.keys.Key.TheVariants.{Serial, Number, InstanceName, Item, MetricName, Place}
 use Rattle.mmv_layout.specs.Below.{all_below}
 use Rattle.mmv_layout.specs.Fields.{number32, number64, text_at, same_name}

@@ -5,6 +5,7 @@ pub mod FirstForms
 pub mod Images
 pub mod Leads
 pub mod Lies
+pub mod Lowest
 pub mod Nones
 pub mod Sections
 pub mod Seen

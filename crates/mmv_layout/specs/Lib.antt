@@ -6,3 +6,4 @@ pub mod Fields
 pub mod FirstForm
 pub mod Keys
 pub mod Laws
+pub mod Lowest

@@ -1,3 +1,4 @@
+ghost use Rattle.mmv_layout.specs.Lowest.{OffsetsAreLowest, NamesAreLowest, KindsAreLowest, ReferencesAreLowest, DuplicatesAreLowest, SerialsAreLowest};
 ghost use Rattle.mmv_layout.specs.Laws.{WordsHoldBytes, NumberHoldsBytes, NumberHoldsHalves, ImagesAreGood};
 
 /// The words that bytes make hold these bytes, each at its place.
@@ -22,4 +23,15 @@ pub fn number_holds_halves()
 #[tactic(auto, using(crate::proofs::Images::images_same))]
 pub fn images_are_good()
     ensures { ImagesAreGood }
+{}
+
+/// The place of a fault is the lowest at which one of its kind is.
+#[tactic(auto, using(crate::proofs::Lowest::offsets_are_lowest, crate::proofs::Lowest::names_are_lowest, crate::proofs::Lowest::kinds_are_lowest, crate::proofs::Lowest::references_are_lowest, crate::proofs::Lowest::duplicates_are_lowest, crate::proofs::Lowest::serials_are_lowest))]
+pub fn lowest_place()
+    ensures offsets { OffsetsAreLowest }
+    ensures names { NamesAreLowest }
+    ensures kinds { KindsAreLowest }
+    ensures references { ReferencesAreLowest }
+    ensures duplicates { DuplicatesAreLowest }
+    ensures serials { SerialsAreLowest }
 {}

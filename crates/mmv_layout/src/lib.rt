@@ -20,5 +20,7 @@ mod values;
 
 pub use fault::ImageFault;
 pub use image::Image;
-pub use laws::{images_are_good, number_holds_bytes, number_holds_halves, words_hold_bytes};
+pub use laws::{
+    images_are_good, lowest_place, number_holds_bytes, number_holds_halves, words_hold_bytes,
+};
 pub use rows::{MetricRow, Slot};

@@ -1,12 +1,12 @@
 -- One serial more is in the set.
-use Rattle.std.proofs.Common.{ℕ, ◌∙◌, ap, sym, arith}
+use Rattle.std.proofs.Common.{◌∙◌, ap, sym, arith}
 use Rattle.std.specs.List.{list_any}
 use Rattle.std.specs.Ordering.{nat_cmp}
 use Rattle.std.specs.BTreeMap.{is_at}
 use Rattle.std.proofs.lemmas.Grind.{common_steps}
 use Rattle.std.proofs.lemmas.Bool.Decides.{nat_tests}
 use Rattle.mmv_layout.specs.Below.{some_below}
-use Rattle.mmv_layout.specs.Entries.{has_serial, is_indom_serial, indom_count}
+use Rattle.mmv_layout.specs.Entries.{has_serial, is_indom_serial}
 use Rattle.mmv_layout.proofs.Below.{some_none, some_more}
 use Rattle.mmv_layout.proofs.indoms.indom_serials.Goals as goal
 

@@ -1,9 +1,7 @@
 -- The first entry that stood before is the first with a key that stood before.
 use Rattle.std.proofs.Common.{arith}
-use Rattle.mmv_layout.specs.declared.keys.Key.TheVariants.{Serial}
 use Rattle.mmv_layout.specs.Entries.{indom_count, indom_at, is_new_indom}
 use Rattle.mmv_layout.specs.Faults.{indoms_duplicate_fault}
-use Rattle.mmv_layout.specs.Keys.{is_new_key}
 use Rattle.mmv_layout.proofs.Again.{first_same, found_at, found_none, indom_keys}
 use Rattle.mmv_layout.proofs.indoms.indoms_duplicate_fault.Goals as goal
 

@@ -1,7 +1,6 @@
 -- What is added is new, and then it was seen.
-use Rattle.std.proofs.Common.{◌≡◌, ℕ, List, Bool, true, false, not, ◌∙◌, sym, ap, arith, bytes_eq, Vec, Global, cond, ◌&&◌}
+use Rattle.std.proofs.Common.{ℕ, ◌∙◌, sym, ap, arith, bytes_eq, Vec, Global, ◌&&◌}
 use Rattle.std.specs.List.{list_any}
-use Rattle.mmv_layout.specs.Below.{all_below}
 use Rattle.mmv_layout.specs.Keys.{is_new_key}
 use Rattle.mmv_layout.proofs.Below.{all_none, all_more, some_none}
 use Rattle.mmv_layout.proofs.Seen.{added_new, seen_more}

@@ -1,9 +1,7 @@
 -- The first entry that stood before is the first with a key that stood before.
 use Rattle.std.proofs.Common.{arith}
-use Rattle.mmv_layout.specs.declared.keys.Key.TheVariants.{Place}
 use Rattle.mmv_layout.specs.Entries.{value_count, value_at, is_new_value}
 use Rattle.mmv_layout.specs.Faults.{values_duplicate_fault}
-use Rattle.mmv_layout.specs.Keys.{is_new_key}
 use Rattle.mmv_layout.proofs.Again.{first_same, found_at, found_none, value_keys}
 use Rattle.mmv_layout.proofs.values.values_duplicate_fault.Goals as goal
 
