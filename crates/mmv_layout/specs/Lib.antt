@@ -4,3 +4,4 @@ pub mod Entries
 pub mod Fields
 pub mod FirstForm
 pub mod Laws
+pub mod Rows
