@@ -1,7 +1,9 @@
 pub mod Below
 pub mod Bytes
 pub mod FirstForms
+pub mod Goods
 pub mod Leads
 pub mod RowLists
+pub mod Saying
 pub mod Sections
 pub mod Texts

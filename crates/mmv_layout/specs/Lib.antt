@@ -4,4 +4,6 @@ pub mod Entries
 pub mod Fields
 pub mod FirstForm
 pub mod Laws
+pub mod Form
 pub mod Rows
+pub mod Says

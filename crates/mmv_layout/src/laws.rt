@@ -1,4 +1,5 @@
 ghost use Rattle.mmv_layout.specs.Laws.{WordsHoldBytes, NumberHoldsBytes, NumberHoldsHalves};
+ghost use Rattle.mmv_layout.specs.Says.{SaysOneLayout};
 
 /// The words that bytes make hold these bytes, each at its place.
 #[tactic(auto, using(crate::proofs::Bytes::words_hold))]
@@ -16,4 +17,10 @@ pub fn number_holds_bytes()
 #[tactic(auto, using(crate::proofs::Bytes::number_splits))]
 pub fn number_holds_halves()
     ensures { NumberHoldsHalves }
+{}
+
+/// An image says exactly one layout.
+#[tactic(auto, using(crate::proofs::Saying::says_one))]
+pub fn says_one_layout()
+    ensures { SaysOneLayout }
 {}

@@ -1,4 +1,6 @@
 ghost use Rattle.std.specs.Prelude.{◌≡◌, ◌<◌, ◌^◌, IfOk};
+ghost use Rattle.mmv_layout.specs.FirstForm.{IsImage};
+ghost use Rattle.mmv_layout.specs.Says.{Says};
 ghost use Rattle.mmv_layout.specs.Fields.{text_at};
 ghost use Rattle.mmv_layout.specs.Rows.{signed32, help_of, instance_row, instances_of, indom_row, serial_of, metric_row, instance_of, content_of, value_row, indoms_of, metrics_of, values_of, strings_of, layout_of};
 
@@ -233,4 +235,15 @@ pub fn layout_of(alloc: Global, words: &[u64]) -> Result<Layout, NoMemory>
         values: values_of(alloc, words)?,
         strings: strings_of(alloc, words)?,
     })
+}
+
+/// What an image says.
+#[tactic(auto, using(crate::proofs::Saying::layout_says))]
+pub fn layout(alloc: Global, words: &[u64]) -> Result<Layout, NoMemory>
+    requires { IsImage words.now }
+    ensures value { IfOk result (λ layout. layout ≡ layout_of words.now) }
+    ensures says { IfOk result (λ layout. Says words.now layout) }
+{
+    let layout = layout_of(alloc, words)?;
+    Ok(layout)
 }
