@@ -3,7 +3,9 @@ pub mod Bytes
 pub mod FirstForms
 pub mod Goods
 pub mod Leads
+pub mod Places
 pub mod RowLists
 pub mod Saying
 pub mod Sections
+pub mod SlotLists
 pub mod Texts

@@ -32,6 +32,10 @@ slot_at words value =
 unfoldable pub slots_of : List ℕ → List Slot
 slots_of words = filter_map (slot_at words) (list_below (value_count words) (value_at words))
 
+-- the slot is that of an item and an instance
+abbrev pub is_slot_of : ℕ → ℤ → Slot → Bool
+is_slot_of item instance slot = slot.item == item && int_eq slot.instance instance
+
 -- each string's offset
 unfoldable pub offsets_of : List ℕ → List ℕ
 offsets_of words = list_below (string_count words) (string_at words)

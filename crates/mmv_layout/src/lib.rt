@@ -14,6 +14,7 @@ mod laws;
 mod layout;
 mod metrics;
 mod rows;
+mod slots;
 mod values;
 
 pub use fault::ImageFault;
