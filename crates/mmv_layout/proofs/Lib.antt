@@ -7,5 +7,6 @@ pub mod Places
 pub mod RowLists
 pub mod Saying
 pub mod Sections
+pub mod SlotFacts
 pub mod SlotLists
 pub mod Texts

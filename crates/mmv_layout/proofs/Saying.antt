@@ -247,7 +247,7 @@ value_same row other a b c =
     let same : value_with row.item row.instance row.content ≡ value_with other.item other.instance other.content = cc in same
 
 -- a value's metric is one of the image's, and its type has a meaning
-value_metric : (words : List ℕ) (i : ℕ) → is_good_value words i ≡ true → LeadsTo (metric_count words) (metric_at words) (metric_of words (value_at words i))
+pub value_metric : (words : List ℕ) (i : ℕ) → is_good_value words i ≡ true → LeadsTo (metric_count words) (metric_at words) (metric_of words (value_at words i))
 unfolding is_good_value
 value_metric words i good =
     leads_there (section_of words 3).place (section_of words 3).count 104 (metric_of words (value_at words i)) (both_left _ _ (both_left _ _ (both_left _ _ good)))

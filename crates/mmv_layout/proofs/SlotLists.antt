@@ -1,8 +1,8 @@
 -- The value words of the values below a count, and the first of an item and an instance.
-use Rattle.std.proofs.Common.{◌≡◌, ◌≢◌, ℕ, zero, suc, ◌+◌, ◌<◌, ◌≤◌, Bool, true, false, ◌&&◌, ◌⊎◌, inl, inr, List, [], ◌∷◌, ◌++◌, append-nil, Option, None, Some, ap, ap₂, sym, subst, ◌∙◌, refl, arith, cond, add-one, ⊎_elim}
-use Rattle.std.specs.List.{filter_map, find, cons_option}
+use Rattle.std.proofs.Common.{◌≡◌, ◌≢◌, ℕ, zero, suc, ◌+◌, ◌<◌, ◌≤◌, Bool, true, false, ◌&&◌, ◌⊎◌, inl, inr, List, [], ◌∷◌, ◌++◌, append-nil, length, slice_index_or, Option, None, Some, ap, ap₂, sym, subst, ◌∙◌, refl, arith, cond, add-one, ⊎_elim}
+use Rattle.std.specs.List.{filter_map, find, cons_option, Contains}
 use Rattle.std.specs.Option.{option_to_list, option_or}
-use Rattle.std.proofs.lemmas.List.Elements.{filter_map-append}
+use Rattle.std.proofs.lemmas.List.Elements.{filter_map-append, Contains-append_cases}
 use Rattle.std.proofs.lemmas.List.Folds.{find-append}
 use Rattle.mmv_layout.specs.Rows.{list_below}
 
@@ -54,3 +54,51 @@ finds_first p f (suc n) i row y h none e this =
     ap (find p) (gives_suc f n row (Some y) (ap (λ k. f (row k)) (sym last) ∙ e)) ∙ find-append p (filter_map f (list_below n row)) (y ∷ [])
     ∙ ap₂ option_or (ap (λ k. find p (filter_map f (list_below k row))) (sym last) ∙ none) (ap (λ b. cond b (Some y) None) this))
     (below_suc i n h)
+
+in_option : {X : Type 0} (o : Option X) (y : X) → Contains (option_to_list o) y → o ≡ Some y
+in_option None y (k, below, stands) = absurd (omega arith)
+in_option (Some x) y (zero, below, stands) = ap Some stands
+in_option (Some x) y (suc k, below, stands) = absurd (omega arith)
+
+-- one of the numbers below n gives it
+pub record GivenBy {X Y : Type 0} (f : X → Option Y) (n : ℕ) (row : ℕ → X) (y : Y) : Type 0 where
+  pub index : ℕ
+  pub below : index < n
+  pub gives : f (row index) ≡ Some y
+
+pub given_of : {X Y : Type 0} (f : X → Option Y) (n : ℕ) (row : ℕ → X) (y : Y) → Contains (filter_map f (list_below n row)) y → GivenBy f n row y
+unfolding list_below
+given_of f zero row y (k, below, stands) = absurd (omega arith)
+given_of f (suc n) row y h =
+    ⊎_elim
+    (λ (before : Contains (filter_map f (list_below n row)) y).
+    let g : GivenBy f n row y = given_of f n row y before in record { index = g.index; below = omega arith; gives = g.gives })
+    (λ (last : Contains (option_to_list (f (row n))) y). record { index = n; below = omega arith; gives = in_option (f (row n)) y last })
+    (Contains-append_cases (filter_map f (list_below n row)) (option_to_list (f (row n))) y
+    (subst (λ ys. Contains ys y) (gives_suc f n row (f (row n)) refl) h))
+
+none_some : {X : Type 0} (x : X) → None ≡ Some x → ⊥
+none_some x h = cc
+
+some_same : {X : Type 0} (x y : X) → Some x ≡ Some y → x ≡ y
+some_same x y h = cc
+
+-- what is found is among them, and passes
+pub found_among : {X : Type 0} (p : X → Bool) (xs : List X) (y : X) → find p xs ≡ Some y → Contains xs y × (p y ≡ true)
+found_among p [] y h = absurd (none_some y h)
+found_among p (x ∷ xs) y h = here (p x) refl h (found_among p xs y)
+  where
+    here : (t : Bool) → p x ≡ t → cond t (Some x) (find p xs) ≡ Some y → (find p xs ≡ Some y → Contains xs y × (p y ≡ true)) → Contains (x ∷ xs) y × (p y ≡ true)
+    here true e h rest = ((0, omega arith, some_same x y h), sym (ap p (some_same x y h)) ∙ e)
+    here false e h rest = let ((k, below, stands), passes) = rest h in ((suc k, omega arith, stands), passes)
+
+-- where nothing is found, none passes
+pub found_none : (X : Type 0) (p : X → Bool) (xs : List X) → find p xs ≡ None → (k : ℕ) (d : X) → k < length xs → p (slice_index_or xs k d) ≡ false
+found_none X p [] h k d below = absurd (omega arith)
+found_none X p (x ∷ xs) h k d below = here (p x) refl h (found_none X p xs) k below
+  where
+    here : (t : Bool) → p x ≡ t → cond t (Some x) (find p xs) ≡ None → (find p xs ≡ None → (k : ℕ) (d : X) → k < length xs → p (slice_index_or xs k d) ≡ false)
+        → (k : ℕ) → k < suc (length xs) → p (slice_index_or (x ∷ xs) k d) ≡ false
+    here true e h rest k below = absurd (none_some x (sym h))
+    here false e h rest zero below = e
+    here false e h rest (suc k) below = rest h k d (omega arith)

@@ -1,6 +1,6 @@
 -- The form of an image: what it says without its generation and the contents of its values, and where these contents
 -- stand. Two images have one form where all of it agrees.
-use Rattle.std.specs.Prelude.{ℕ, ℤ, negsuc, ◌+◌, ◌/◌, Bool, ◌&&◌, ◌==◌, nat_le, if◌then◌else◌, List, length, map, Option, None, Some, unwrap_or}
+use Rattle.std.specs.Prelude.{◌≡◌, ◌≢◌, ◌⊎◌, ℕ, ℤ, negsuc, ◌+◌, ◌/◌, Bool, ◌&&◌, ◌==◌, nat_le, if◌then◌else◌, List, length, map, Option, None, Some, unwrap_or}
 use Rattle.std.specs.Ordering.{int_eq}
 use Rattle.std.specs.List.{filter_map}
 use Rattle.pcp_base.specs.Codes.{kind_of_code}
@@ -35,6 +35,12 @@ slots_of words = filter_map (slot_at words) (list_below (value_count words) (val
 -- the slot is that of an item and an instance
 abbrev pub is_slot_of : ℕ → ℤ → Slot → Bool
 is_slot_of item instance slot = slot.item == item && int_eq slot.instance instance
+
+abbrev pub IsSlotOf : ℕ → ℤ → Slot → Type 0
+IsSlotOf item instance slot = (slot.item ≡ item) × (slot.instance ≡ instance)
+
+abbrev pub IsOther : ℕ → ℤ → Slot → Type 0
+IsOther item instance slot = (slot.item ≢ item) ⊎ (slot.instance ≢ instance)
 
 -- each string's offset
 unfoldable pub offsets_of : List ℕ → List ℕ

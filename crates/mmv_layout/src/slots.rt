@@ -1,8 +1,8 @@
-ghost use Rattle.std.specs.Prelude.{◌≡◌, ◌≢◌, ◌<◌, ◌≤◌, ◌^◌, ◌⊎◌, length, IfOk, IfSome, MatchOption, All, Contains};
+ghost use Rattle.std.specs.Prelude.{◌≡◌, ◌≢◌, ◌<◌, ◌≤◌, ◌^◌, ◌⊎◌, length, None, IfOk, IfSome, MatchOption, All, Contains};
 ghost use Rattle.std.specs.List.{find};
 ghost use Rattle.mmv_layout.specs.FirstForm.{IsImage};
 ghost use Rattle.mmv_layout.specs.Rows.{item_of, type_of};
-ghost use Rattle.mmv_layout.specs.Form.{slot_in, slot_at, slots_of, is_slot_of, texts_of};
+ghost use Rattle.mmv_layout.specs.Form.{slot_in, slot_at, slots_of, is_slot_of, texts_of, IsSlotOf, IsOther};
 
 use crate::entries::{string_at, value_at};
 use crate::fields::number32;
@@ -88,12 +88,11 @@ fn is_slot_of(item: u32, instance: i32, slot: Slot) -> bool
     slot.item == item && slot.instance == instance
 }
 
-/// The value word of an item and an instance, which is -1 for a metric without a domain; `None` exactly where an
-/// image has none.
+/// The first value word of an item and an instance.
 #[tactic(auto, using(crate::proofs::Places::value_near), unfolding(crate::specs::Form::slots_of))]
-pub fn slot_of(words: &[u64], item: u32, instance: i32) -> Option<Slot>
+fn first_slot(words: &[u64], item: u32, instance: i32) -> Option<Slot>
     requires { IsImage words.now }
-    ensures slot { result ≡ find (is_slot_of item instance) (slots_of words.now) }
+    ensures { result ≡ find (is_slot_of item instance) (slots_of words.now) }
 {
     for i in 0..value_count(words) {
         if let Some(slot) = slot_at(words, value_at(words, i)) {
@@ -103,4 +102,17 @@ pub fn slot_of(words: &[u64], item: u32, instance: i32) -> Option<Slot>
         }
     }
     None
+}
+
+/// The value word of an item and an instance, which is -1 for a metric without a domain; `None` exactly where an
+/// image has none. The first word of a value of kinds `I32` to `U64`, and the second of a `Text`; other kinds have none.
+pub fn slot_of(words: &[u64], item: u32, instance: i32) -> Option<Slot>
+    requires { IsImage words.now }
+    ensures first { result ≡ find (is_slot_of item instance) (slots_of words.now) }
+    ensures slot { MatchOption result (All (IsOther item instance) (slots_of words.now))
+        (λ s. Contains (slots_of words.now) s × IsSlotOf item instance s) }
+    ensures word { IfSome result (λ s. s.word < length words.now) }
+    ensures item { item ≤ 1023 ⊎ (result ≡ None) }
+{
+    first_slot(words, item, instance)
 }

@@ -1,37 +1,32 @@
--- A value lies among the first 65,536 words; the first slot that fits is the one found.
-use Rattle.std.proofs.Common.{◌≡◌, ◌<◌, ◌+◌, ℤ, true, None, Some, ap, sym, subst, ◌∙◌, arith, w32, to_z, of_z}
+-- What is found among the value words is one of them.
+use Rattle.std.proofs.Common.{◌≡◌, ◌<◌, ◌≤◌, ◌⊎◌, length, inl, inr, Option, None, Some, subst, List, ℕ, ℤ, IfSome, MatchOption, All, Contains, true, refl, w32}
 use Rattle.std.proofs.lemmas.Int.{to_z-of_z}
-use Rattle.std.specs.List.{filter_map, find}
-use Rattle.mmv_layout.specs.Entries.{value_at, value_count}
-use Rattle.mmv_layout.specs.Rows.{list_below}
-use Rattle.mmv_layout.specs.Form.{slot_at, slots_of, is_slot_of}
-use Rattle.mmv_layout.proofs.Places.{value_near}
-use Rattle.mmv_layout.proofs.SlotLists.{gives_none, finds_nothing, finds_other, finds_first}
+use Rattle.std.specs.List.{find}
+use Rattle.mmv_layout.specs.declared.rows.Slot.{Slot}
+use Rattle.mmv_layout.specs.Form.{slots_of, is_slot_of, IsSlotOf, IsOther}
+use Rattle.mmv_layout.specs.FirstForm.{is_image}
+use Rattle.mmv_layout.proofs.SlotFacts.{slot_found, slot_lies, slot_item}
 use Rattle.mmv_layout.proofs.slots.slot_of.Goals as goal
-use Rattle.mmv_layout.proofs.slots.slot_of.Goals.{in-Some+else-is_slot_of, in_default}
 
-pub loop-i-init : goal.loop-i-init
-loop-i-init c = ap (find (is_slot_of c.args.item (to_z w32 (of_z w32 c.args.instance)))) (gives_none (slot_at c.args.words.now) (value_at c.args.words.now))
+word_of : (words : List ℕ) (item : ℕ) (instance : ℤ) (found : Option Slot) → is_image words ≡ true
+    → MatchOption found (All (IsOther item instance) (slots_of words)) (λ slot. Contains (slots_of words) slot × IsSlotOf item instance slot)
+    → IfSome found (λ slot. slot.word < length words)
+word_of words item instance None h among = tt
+word_of words item instance (Some slot) h among = (slot_lies words slot h among.0).1
 
-pub slot_at-requires : goal.slot_at-requires
-slot_at-requires c = subst (λ place. place < 1048576) (sym c.value_at.ensures.place) (value_near c.args.words.now c.loop-i.i c.requires (omega arith))
+item_of : (words : List ℕ) (item : ℕ) (instance : ℤ) (found : Option Slot) → is_image words ≡ true
+    → MatchOption found (All (IsOther item instance) (slots_of words)) (λ slot. Contains (slots_of words) slot × IsSlotOf item instance slot)
+    → (item ≤ 1023) ⊎ (found ≡ None)
+item_of words item instance None h among = inr refl
+item_of words item instance (Some slot) h among = inl (subst (λ n. n ≤ 1023) among.1.0 (slot_item words slot h among.0))
 
-pub returns-then-is_slot_of : goal.returns-then-is_slot_of
-unfolding slots_of
-returns-then-is_slot_of c =
-    let same : to_z w32 (of_z w32 c.args.instance) ≡ c.args.instance = to_z-of_z w32 c.args.instance c.ranges.instance in
-    let given : slot_at c.args.words.now (value_at c.args.words.now c.loop-i.i) ≡ Some c.in-Some.slot =
-    ap (slot_at c.args.words.now) (sym c.value_at.ensures.place) ∙ sym c.slot_at.ensures ∙ c.in-Some.is in
-    record { slot = sym (finds_first (is_slot_of c.args.item c.args.instance) (slot_at c.args.words.now) (value_count c.args.words.now) c.loop-i.i (value_at c.args.words.now) c.in-Some.slot (omega arith)
-    (subst (λ instance. find (is_slot_of c.args.item instance) (filter_map (slot_at c.args.words.now) (list_below c.loop-i.i (value_at c.args.words.now))) ≡ None) same c.loop-i.invariant)
-    given (subst (λ instance. is_slot_of c.args.item instance c.in-Some.slot ≡ true) same (sym c.is_slot_of.ensures ∙ c.if-is_slot_of.true))) }
-
-pub loop-i-preserved : goal.loop-i-preserved
-loop-i-preserved c = elim c.match-slot_at.branch [
-  in-Some+else-is_slot_of w ↦
-    finds_other (is_slot_of c.args.item (to_z w32 (of_z w32 c.args.instance))) (slot_at c.args.words.now) c.loop-i.i (value_at c.args.words.now) w.in-Some.slot c.loop-i.invariant
-    (ap (slot_at c.args.words.now) (sym c.value_at.ensures.place) ∙ sym c.slot_at.ensures ∙ w.in-Some.is) (sym w.is_slot_of.ensures ∙ w.if-is_slot_of.false)
-  | in_default w ↦
-    finds_nothing (is_slot_of c.args.item (to_z w32 (of_z w32 c.args.instance))) (slot_at c.args.words.now) c.loop-i.i (value_at c.args.words.now) c.loop-i.invariant
-    (ap (slot_at c.args.words.now) (sym c.value_at.ensures.place) ∙ sym c.slot_at.ensures ∙ w.in_default.is)
-  ]
+pub returns : goal.returns
+returns c =
+    let first : c.first_slot.result ≡ find (is_slot_of c.args.item c.args.instance) (slots_of c.args.words.now) =
+    subst (λ instance. c.first_slot.result ≡ find (is_slot_of c.args.item instance) (slots_of c.args.words.now)) (to_z-of_z w32 c.args.instance c.ranges.instance) c.first_slot.ensures in
+    let found = slot_found c.args.words.now c.args.item c.args.instance c.first_slot.result first in record {
+  first = first;
+  slot = found;
+  word = word_of c.args.words.now c.args.item c.args.instance c.first_slot.result c.requires found;
+  item = item_of c.args.words.now c.args.item c.args.instance c.first_slot.result c.requires found;
+}
