@@ -36,7 +36,7 @@ fn has_good_header(words: &[u64]) -> bool
 
 /// Whether words are an image of version 1.
 #[tactic(auto, unfolding(crate::specs::FirstForm::is_image))]
-fn is_image(alloc: Global, words: &[u64]) -> Result<bool, AllocError>
+pub fn is_image(alloc: Global, words: &[u64]) -> Result<bool, AllocError>
     ensures { IfOk result (λ good. good ≡ is_image words.now) }
 {
     if !(has_good_header(words)

@@ -11,14 +11,14 @@ mod image;
 mod indoms;
 mod instances;
 mod laws;
-mod layout;
+pub mod layout;
 mod metrics;
 mod rows;
-mod slots;
+pub mod slots;
 mod values;
 
 pub use fault::ImageFault;
-pub use image::Image;
+pub use image::{Image, is_image};
 pub use laws::{number_holds_bytes, number_holds_halves, says_one_layout, words_hold_bytes};
 pub use rows::{Content, IndomRow, Layout, MetricRow, Slot, ValueRow};
 
