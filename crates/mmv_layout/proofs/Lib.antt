@@ -1,8 +1,10 @@
+pub mod Alike
 pub mod Below
 pub mod Bytes
 pub mod FirstForms
 pub mod Goods
 pub mod Leads
+pub mod Looked
 pub mod Places
 pub mod RowLists
 pub mod Saying

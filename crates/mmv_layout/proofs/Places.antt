@@ -56,7 +56,7 @@ section_stands words type h some =
     subst (λ place. Lies words place (section_bytes type (find_section words type (contents_in words)).count)) e.place_is
     (subst (λ bytes. Lies words (place_in words e.index) bytes) (ap₂ section_bytes e.type_is e.count_is) lies)
 
-some_of : (i n : ℕ) → i < n → n ≢ 0
+pub some_of : (i n : ℕ) → i < n → n ≢ 0
 some_of i n h e = omega arith
 
 not_above : (n : ℕ) → not (not (nat_le n 65536)) ≡ true → n ≤ 65536
