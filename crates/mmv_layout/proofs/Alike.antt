@@ -93,13 +93,13 @@ module _ (a b : List ℕ) (h : is_image a ≡ true) (g : Agrees a b) where
   type_same : (i : ℕ) → i < contents_in a → type_in b i ≡ type_in a i
   type_same i below = same32 (40 + 16 * i) (subst (Looked a) (add-zero (40 + 16 * i)) (looked_contents a i 0 h below (omega arith)))
 
-  count_same : (i : ℕ) → i < contents_in a → count_in b i ≡ count_in a i
+  pub count_same : (i : ℕ) → i < contents_in a → count_in b i ≡ count_in a i
   count_same i below = same32 (44 + 16 * i) (subst (Looked a) (moved i) (looked_contents a i 4 h below (omega arith)))
     where
       moved : (i : ℕ) → (40 + 16 * i) + 4 ≡ 44 + 16 * i
       moved i = omega arith
 
-  place_same : (i : ℕ) → i < contents_in a → place_in b i ≡ place_in a i
+  pub place_same : (i : ℕ) → i < contents_in a → place_in b i ≡ place_in a i
   place_same i below = g.same (48 + 16 * i) (subst (Looked a) (moved i) (looked_contents a i 8 h below (omega arith)))
     where
       moved : (i : ℕ) → (40 + 16 * i) + 8 ≡ 48 + 16 * i
@@ -128,7 +128,7 @@ module _ (a b : List ℕ) (h : is_image a ≡ true) (g : Agrees a b) where
   unfolding is_first_of_type
   first_same i below = all_alike i (λ j. are_apart a j i) (λ j. are_apart b j i) (λ j less. apart_same j i (omega arith) below)
 
-  section_still : (i : ℕ) → i < contents_in a → has_good_section a i ≡ true → has_good_section b i ≡ true
+  pub section_still : (i : ℕ) → i < contents_in a → has_good_section a i ≡ true → has_good_section b i ≡ true
   unfolding has_good_section section_lies
   section_still i below good =
       all_four _ _ _ _
@@ -196,7 +196,7 @@ module _ (a b : List ℕ) (h : is_image a ≡ true) (g : Agrees a b) where
       ∙ member_same (indom_at a i) (number64 a (indom_at a i + 8) + 80 * k)
       (at_first (number64 a (indom_at a i + 8) + 80 * k) (looked_run (number64 a (indom_at a i + 8) + 80 * k) 0 (run_leads i k below within) (omega arith))))
 
-  indom_same : (i : ℕ) → i < indom_count a → is_good_indom b i ≡ is_good_indom a i
+  pub indom_same : (i : ℕ) → i < indom_count a → is_good_indom b i ≡ is_good_indom a i
   unfolding is_good_indom
   indom_same i below =
       rw (indom_serial i below, new_indom_same i below, indom_place i, help_same (indom_at a i + 16) (looked_indom a i 16 h below (omega arith)),
@@ -251,7 +251,7 @@ module _ (a b : List ℕ) (h : is_image a ≡ true) (g : Agrees a b) where
       all_alike i (λ j. not (is_same_instance a (instance_at a j) (instance_at a i))) (λ j. not (is_same_instance b (instance_at b j) (instance_at b i)))
       (λ j less. ap₂ (λ p q. not (is_same_instance b p q)) (instance_place j) (instance_place i) ∙ ap not (same_instance_same j i (omega arith) below))
 
-  instance_same : (i : ℕ) → i < instance_count a → is_good_instance b i ≡ is_good_instance a i
+  pub instance_same : (i : ℕ) → i < instance_count a → is_good_instance b i ≡ is_good_instance a i
   unfolding is_good_instance
   instance_same i below =
       rw (new_instance_same i below, instance_place i, text_field_same (instance_at a i + 16) (name_looked i below), lies_same i below,
@@ -298,7 +298,7 @@ module _ (a b : List ℕ) (h : is_image a ≡ true) (g : Agrees a b) where
       all_alike i (λ j. not (is_same_metric a (metric_at a j) (metric_at a i))) (λ j. not (is_same_metric b (metric_at b j) (metric_at b i)))
       (λ j less. ap₂ (λ p q. not (is_same_metric b p q)) (metric_place j) (metric_place i) ∙ ap not (same_metric_same j i (omega arith) below))
 
-  metric_same : (i : ℕ) → i < metric_count a → is_good_metric b i ≡ is_good_metric a i
+  pub metric_same : (i : ℕ) → i < metric_count a → is_good_metric b i ≡ is_good_metric a i
   unfolding is_good_metric
   metric_same i below = rw (new_metric_same i below, metric_place i, name_field_same (metric_at a i) (metric_looked i below), fields_same i below) refl
 
@@ -378,7 +378,7 @@ module _ (a b : List ℕ) (h : is_image a ≡ true) (g : Agrees a b) where
       or_last true y e = refl
       or_last false y e = e
 
-  value_still : (i : ℕ) → i < value_count a → is_good_value a i ≡ true → is_good_value b i ≡ true
+  pub value_still : (i : ℕ) → i < value_count a → is_good_value a i ≡ true → is_good_value b i ≡ true
   unfolding is_good_value
   value_still i below good =
       all_four _ _ _ _
@@ -392,6 +392,6 @@ module _ (a b : List ℕ) (h : is_image a ≡ true) (g : Agrees a b) where
   pub string_place : (i : ℕ) → string_at b i ≡ string_at a i
   string_place i = ap (λ s. s.place + 256 * i) (section_same 5)
 
-  string_same : (i : ℕ) → i < string_count a → is_good_string b i ≡ is_good_string a i
+  pub string_same : (i : ℕ) → i < string_count a → is_good_string b i ≡ is_good_string a i
   unfolding is_good_string
   string_same i below = ap (λ p. has_zero b p 256) (string_place i) ∙ zero_same 256 (string_at a i) (λ k small. looked_string a i k h below small)

@@ -1,4 +1,5 @@
 pub mod Alike
+pub mod AlikeForm
 pub mod Below
 pub mod Bytes
 pub mod FirstForms
@@ -9,6 +10,7 @@ pub mod Places
 pub mod RowLists
 pub mod Saying
 pub mod Sections
+pub mod Shapes
 pub mod SlotFacts
 pub mod SlotLists
 pub mod Texts

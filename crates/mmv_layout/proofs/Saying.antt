@@ -72,15 +72,15 @@ indom_there words i good = record {
 indom_with : ℕ → List (ℤ × List ℕ) → Option (List ℕ) → Option (List ℕ) → IndomRow
 indom_with a b c d = record { serial = a; instances = b; short = c; long = d }
 
-indom_same : (row other : IndomRow) → row.serial ≡ other.serial → row.instances ≡ other.instances → row.short ≡ other.short → row.long ≡ other.long → row ≡ other
+pub indom_rows_same : (row other : IndomRow) → row.serial ≡ other.serial → row.instances ≡ other.instances → row.short ≡ other.short → row.long ≡ other.long → row ≡ other
 unfolding indom_with
-indom_same row other a b c d =
+indom_rows_same row other a b c d =
     let same : indom_with row.serial row.instances row.short row.long ≡ indom_with other.serial other.instances other.short other.long = cc in same
 
 indom_only : (words : List ℕ) (domain : ℕ) (row : IndomRow) → IndomAt words domain row → row ≡ indom_row words domain
 unfolding indom_row instances_of
 indom_only words domain row h =
-    indom_same row (indom_row words domain) h.serial
+    indom_rows_same row (indom_row words domain) h.serial
     (each_only (InstanceAt words) (instance_row words) 80 (instance_only words) (number64 words (domain + 8)) row.instances h.instances
     ∙ ap (λ n. list_below n (λ k. instance_row words (number64 words (domain + 8) + 80 * k))) h.count)
     (help_only words (domain + 16) row.short h.short) (help_only words (domain + 24) row.long h.long)
@@ -136,14 +136,14 @@ serial_only found (Some serial) h = ap Some h.1 ∙ sym (ap (λ b. cond b None (
 metric_with : List ℕ → ℕ → Kind → Semantics → ℕ → Option ℕ → Option (List ℕ) → Option (List ℕ) → MetricRow
 metric_with a b c d e f g h = record { name = a; item = b; kind = c; semantics = d; units = e; serial = f; short = g; long = h }
 
-metric_same : (row other : MetricRow) → row.name ≡ other.name → row.item ≡ other.item → row.kind ≡ other.kind → row.semantics ≡ other.semantics
+pub metric_rows_same : (row other : MetricRow) → row.name ≡ other.name → row.item ≡ other.item → row.kind ≡ other.kind → row.semantics ≡ other.semantics
     → row.units ≡ other.units → row.serial ≡ other.serial → row.short ≡ other.short → row.long ≡ other.long → row ≡ other
 unfolding metric_with
-metric_same row other a b c d e f g h =
+metric_rows_same row other a b c d e f g h =
     let same : metric_with row.name row.item row.kind row.semantics row.units row.serial row.short row.long
     ≡ metric_with other.name other.item other.kind other.semantics other.units other.serial other.short other.long = cc in same
 
-metric_fields : (words : List ℕ) (i : ℕ) → is_good_metric words i ≡ true → has_good_fields words (metric_at words i) ≡ true
+pub metric_fields : (words : List ℕ) (i : ℕ) → is_good_metric words i ≡ true → has_good_fields words (metric_at words i) ≡ true
 unfolding is_good_metric
 metric_fields words i good = both_right _ _ (both_left _ _ good)
 
@@ -163,7 +163,7 @@ metric_there words metric good = record {
 metric_only : (words : List ℕ) (metric : ℕ) (row : MetricRow) → MetricAt words metric row → row ≡ metric_row words metric
 unfolding metric_row
 metric_only words metric row h =
-    metric_same row (metric_row words metric) h.name h.item (kind_only row.kind (number32 words (metric + 68)) h.kind)
+    metric_rows_same row (metric_row words metric) h.name h.item (kind_only row.kind (number32 words (metric + 68)) h.kind)
     (semantics_only row.semantics (number32 words (metric + 72)) h.semantics) h.units (serial_only (number32 words (metric + 80)) row.serial h.serial)
     (help_only words (metric + 88) row.short h.short) (help_only words (metric + 96) row.long h.long)
 

@@ -102,3 +102,11 @@ found_none X p (x ∷ xs) h k d below = here (p x) refl h (found_none X p xs) k 
     here true e h rest k below = absurd (none_some x (sym h))
     here false e h rest zero below = e
     here false e h rest (suc k) below = rest h k d (omega arith)
+
+-- functions that agree on the rows below the count
+pub gives_same : {X Y : Type 0} (f g : X → Option Y) (n : ℕ) (row : ℕ → X) → ((k : ℕ) → k < n → f (row k) ≡ g (row k)) → filter_map f (list_below n row) ≡ filter_map g (list_below n row)
+unfolding list_below
+gives_same f g zero row same = refl
+gives_same f g (suc n) row same =
+    gives_suc f n row (g (row n)) (same n (omega arith)) ∙ ap (λ ys. ys ++ option_to_list (g (row n))) (gives_same f g n row (λ k below. same k (omega arith)))
+    ∙ sym (gives_suc g n row (g (row n)) refl)

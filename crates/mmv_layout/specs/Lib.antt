@@ -7,3 +7,4 @@ pub mod Laws
 pub mod Form
 pub mod Rows
 pub mod Says
+pub mod ShapeLaws

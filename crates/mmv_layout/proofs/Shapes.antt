@@ -1,0 +1,135 @@
+-- The laws of images as a kind of layout.
+use Rattle.std.proofs.Common.{◌≡◌, ◌≢◌, ℕ, zero, suc, ◌+◌, ◌*◌, ◌/◌, ◌%◌, ◌^◌, ◌<◌, ◌≤◌, Bool, true, false, not, ◌||◌, ◌⊎◌, inl, inr, List, ◌++◌, length, length-append, slice_index, slice_set, Some, unwrap_or, ap, ap₂, sym, subst, ◌∙◌, refl, arith, nat_eq, nat_le, ⊎_elim, All, Contains}
+use Rattle.std.proofs.Math.ListN.{get_or-append}
+use Rattle.std.proofs.lemmas.List.{get_or-set_same, get_or-set_other, length-set}
+use Rattle.std.proofs.lemmas.Bool.{cases_eq, eq-eqb}
+use Rattle.std.proofs.lemmas.Bool.Decides.{nat_tests}
+use Rattle.pcp_base.specs.Codes.{kind_of_code}
+use Rattle.pcp_base.specs.declared.kind.Kind.{Kind}
+use Rattle.pcp_base.specs.declared.kind.Kind.TheVariants as kinds
+use Rattle.mmv_layout.specs.declared.rows.Slot.{Slot}
+use Rattle.mmv_layout.specs.Fields.{number32, number64}
+use Rattle.mmv_layout.specs.Contents.{first_generation, second_generation, section_of}
+use Rattle.mmv_layout.specs.Entries.{leads, leads_to_string, value_count, value_at, string_count, string_at, metric_of, choice_leads, is_good_value}
+use Rattle.mmv_layout.specs.FirstForm.{has_good_header, is_image, IsImage}
+use Rattle.mmv_layout.specs.Rows.{list_below, type_of}
+use Rattle.mmv_layout.specs.Form.{slot_in, slot_at, slots_of, offsets_of, Form, form_of}
+use Rattle.mmv_layout.specs.ShapeLaws.{IsWord, TakesAs, Takes, IsAlike, HasGenerationTwice, GenerationIsNoValue, ValueKeepsTheForm, LengthKeepsTheForm, GenerationKeepsTheForm}
+use Rattle.mmv_layout.proofs.Below.{both_left, both_right, some_holds}
+use Rattle.mmv_layout.proofs.Goods.{eq_of, header, good_value}
+use Rattle.mmv_layout.proofs.Places.{Stands, value_stands, few_words}
+use Rattle.mmv_layout.proofs.Looked.{Looked, five_words}
+use Rattle.mmv_layout.proofs.SlotLists.{GivenBy}
+use Rattle.mmv_layout.proofs.SlotFacts.{SlotIs, slot_is, slot_value, slot_lies}
+use Rattle.mmv_layout.proofs.Alike.{Agrees}
+use Rattle.mmv_layout.proofs.AlikeForm.{image_still, form_same}
+
+alike : (a b : List ℕ) → is_image a ≡ true → Agrees a b → IsAlike a b
+alike a b h g = record { image = image_still a b h g; form = form_same a b h g }
+
+-- both generations are one number
+twice : (words : List ℕ) → is_image words ≡ true → number64 words 8 ≡ number64 words 16
+unfolding has_good_header
+twice words h = eq_of (number64 words 8) (number64 words 16) (both_right _ _ (both_left _ _ (header words h)))
+
+pub has_twice : HasGenerationTwice
+unfolding number64
+has_twice words h = let five : 5 ≤ length words = five_words words h in (omega arith, twice words h)
+
+not_near : (w n : ℕ) → 5 ≤ n → n ≡ w → w ≤ 2 → ⊥
+not_near w n a e b = omega arith
+
+slots_in_form : (words : List ℕ) (slot : Slot) → Contains (form_of words .slots) slot → Contains (slots_of words) slot
+unfolding form_of
+slots_in_form words slot h = h
+
+pub is_no_value : GenerationIsNoValue
+is_no_value words value h =
+    (λ t. not_near 1 t.slot.word (slot_lies words t.slot h (slots_in_form words t.slot t.among)).0 t.stands (omega arith),
+    λ t. not_near 2 t.slot.word (slot_lies words t.slot h (slots_in_form words t.slot t.among)).0 t.stands (omega arith))
+
+-- a string value leads to a string
+leads_of : (six leads : Bool) → (not six || leads) ≡ true → six ≡ true → leads ≡ true
+leads_of true leads h e = h
+leads_of false leads h e = cc
+
+choice_good : (words : List ℕ) (i : ℕ) → is_good_value words i ≡ true → choice_leads words (value_at words i) ≡ true
+unfolding is_good_value
+choice_good words i good = both_right _ _ (both_left _ _ good)
+
+chosen : (words : List ℕ) (i : ℕ) → is_image words ≡ true → i < value_count words → type_of words (value_at words i) ≡ 6 → leads_to_string words (number64 words (value_at words i + 8)) ≡ true
+unfolding choice_leads
+chosen words i h below six =
+    leads_of (nat_eq (type_of words (value_at words i)) 6) _ (choice_good words i (good_value words i h below)) (eq-eqb (type_of words (value_at words i)) 6 six)
+
+-- further words
+
+number_before : (a more : List ℕ) (place : ℕ) → place < 8 * length a → number64 (a ++ more) place ≡ number64 a place
+unfolding number64
+number_before a more place below = get_or-append a more 0 (place / 8) (omega arith)
+
+longer_agrees : (a more : List ℕ) → is_image a ≡ true → length (a ++ more) ≤ 65536 → Agrees a (a ++ more)
+longer_agrees a more h few =
+    let five : 5 ≤ length a = five_words a h in
+    let sum : length (a ++ more) ≡ length a + length more = length-append a more in record {
+  longer = omega arith;
+  few = few;
+  again = number_before a more 8 (omega arith) ∙ twice a h ∙ sym (number_before a more 16 (omega arith));
+  same = λ place looked. number_before a more place looked.within;
+  choices = λ i below six. let stands : Stands a (value_at a i) 32 = value_stands a i h below in
+    ap (leads_to_string a) (number_before a more (value_at a i + 8) (inside (value_at a i) stands.within)) ∙ chosen a i h below six;
+}
+  where
+    inside : (v : ℕ) → v + 32 ≤ 8 * length a → v + 8 < 8 * length a
+    inside v b = omega arith
+
+pub length_keeps : LengthKeepsTheForm
+length_keeps words more h fit few = alike words (words ++ more) h (longer_agrees words more h few)
+
+-- another generation
+
+with_twice : List ℕ → ℕ → List ℕ
+with_twice a n = slice_set (slice_set a 1 n) 2 n
+
+twice_length : (a : List ℕ) (n : ℕ) → length (with_twice a n) ≡ length a
+unfolding with_twice
+twice_length a n = length-set (slice_set a 1 n) 2 n ∙ length-set a 1 n
+
+number_beside : (a : List ℕ) (n place : ℕ) → (place < 8) ⊎ (24 ≤ place) → number64 (with_twice a n) place ≡ number64 a place
+unfolding number64 with_twice
+number_beside a n place outside =
+    get_or-set_other (slice_set a 1 n) 2 (place / 8) n 0 (λ e. far (place / 8) outside (omega arith) e) ∙ get_or-set_other a 1 (place / 8) n 0 (λ e. close (place / 8) outside (omega arith) e)
+  where
+    far : (q : ℕ) → (place < 8) ⊎ (24 ≤ place) → q ≡ place / 8 → q ≡ 2 → ⊥
+    far q o d e = grind arith
+
+    close : (q : ℕ) → (place < 8) ⊎ (24 ≤ place) → q ≡ place / 8 → q ≡ 1 → ⊥
+    close q o d e = grind arith
+
+first_is : (a : List ℕ) (n : ℕ) → 5 ≤ length a → number64 (with_twice a n) 8 ≡ n
+unfolding number64 with_twice
+first_is a n five = get_or-set_other (slice_set a 1 n) 2 1 n 0 (λ e. absurd (omega arith)) ∙ get_or-set_same a 1 n 0 (omega arith)
+
+second_is : (a : List ℕ) (n : ℕ) → 5 ≤ length a → number64 (with_twice a n) 16 ≡ n
+unfolding number64 with_twice
+second_is a n five = get_or-set_same (slice_set a 1 n) 2 n 0 (let e : length (slice_set a 1 n) ≡ length a = length-set a 1 n in omega arith)
+
+twice_agrees : (a : List ℕ) (n : ℕ) → is_image a ≡ true → Agrees a (with_twice a n)
+twice_agrees a n h =
+    let five : 5 ≤ length a = five_words a h in
+    let few : length a ≤ 65536 = few_words a h in
+    let long : length (with_twice a n) ≡ length a = twice_length a n in record {
+  longer = omega arith;
+  few = omega arith;
+  again = first_is a n five ∙ sym (second_is a n five);
+  same = λ place looked. number_beside a n place looked.outside;
+  choices = λ i below six. let stands : Stands a (value_at a i) 32 = value_stands a i h below in
+    ap (leads_to_string a) (number_beside a n (value_at a i + 8) (inr (behind (value_at a i) stands.behind))) ∙ chosen a i h below six;
+}
+  where
+    behind : (v : ℕ) → 40 ≤ v → 24 ≤ v + 8
+    behind v b = omega arith
+
+pub generation_keeps : GenerationKeepsTheForm
+unfolding with_twice
+generation_keeps words n h fits = alike words (with_twice words n) h (twice_agrees words n h)
