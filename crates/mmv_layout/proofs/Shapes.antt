@@ -39,7 +39,7 @@ has_twice words h = let five : 5 ≤ length words = five_words words h in (omega
 not_near : (w n : ℕ) → 5 ≤ n → n ≡ w → w ≤ 2 → ⊥
 not_near w n a e b = omega arith
 
-slots_in_form : (words : List ℕ) (slot : Slot) → Contains (form_of words .slots) slot → Contains (slots_of words) slot
+slots_in_form : (words : List ℕ) (slot : Slot) → Contains (form_of words).slots slot → Contains (slots_of words) slot
 unfolding form_of
 slots_in_form words slot h = h
 
