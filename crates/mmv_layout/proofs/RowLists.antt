@@ -1,5 +1,6 @@
 -- Lists of one row for each number below a count, and rows that stand one behind the other.
-use Rattle.std.proofs.Common.{◌≡◌, ℕ, zero, suc, ◌+◌, ◌*◌, ◌<◌, List, [], ◌∷◌, ◌++◌, length, length-append, refl, add-one, ap, ap₂, sym, subst, ◌∙◌, arith}
+use Rattle.std.proofs.Common.{◌≡◌, ℕ, zero, suc, ◌+◌, ◌*◌, ◌<◌, List, [], ◌∷◌, ◌++◌, length, length-append, refl, add-one, ap, ap₂, sym, subst, ◌∙◌, arith, ⊎_elim, Contains}
+use Rattle.std.proofs.lemmas.List.Elements.{Contains-push_cases}
 use Rattle.mmv_layout.specs.Rows.{list_below}
 use Rattle.mmv_layout.specs.Says.{EachAt}
 
@@ -56,3 +57,11 @@ each_there R row size (suc n) at each =
     (subst (λ p. R p (row (at + size * 0))) (sym (first_place at size)) (each 0 (omega arith)),
     subst (EachAt R (at + size) size) (rows_same n (λ k. row ((at + size) + size * k)) (λ k. row (at + size * suc k)) (λ k h. ap row (next_place at size k)))
     (each_there R row size n (at + size) (λ k h. subst (λ p. R p (row p)) (sym (next_place at size k)) (each (suc k) (omega arith)))))
+
+-- what is among the rows is one of them
+pub among_rows : {X : Type 0} (n : ℕ) (row : ℕ → X) (y : X) → Contains (list_below n row) y → (k : ℕ) × (k < n) × (y ≡ row k)
+unfolding list_below
+among_rows zero row y (k, below, stands) = absurd (omega arith)
+among_rows (suc n) row y h =
+    ⊎_elim (λ (before : Contains (list_below n row) y). let (k, below, is) = among_rows n row y before in (k, omega arith, is))
+    (λ (last : row n ≡ y). (n, omega arith, sym last)) (Contains-push_cases (list_below n row) (row n) y h)

@@ -9,7 +9,7 @@ use Rattle.pcp_base.specs.declared.kind.Kind.{Kind}
 use Rattle.pcp_base.specs.declared.kind.Kind.TheVariants as kinds
 use Rattle.mmv_layout.specs.declared.rows.Slot.{Slot}
 use Rattle.mmv_layout.specs.Fields.{number32, number64}
-use Rattle.mmv_layout.specs.Contents.{first_generation, second_generation, section_of}
+use Rattle.mmv_layout.specs.Contents.{section_bytes, section_of}
 use Rattle.mmv_layout.specs.Entries.{leads, leads_to_string, value_count, value_at, string_count, string_at, metric_of, choice_leads, is_good_value}
 use Rattle.mmv_layout.specs.FirstForm.{has_good_header, is_image, IsImage}
 use Rattle.mmv_layout.specs.Rows.{list_below, type_of}
@@ -17,7 +17,8 @@ use Rattle.mmv_layout.specs.Form.{slot_in, slot_at, slots_of, offsets_of, Form, 
 use Rattle.mmv_layout.specs.ShapeLaws.{IsWord, TakesAs, Takes, IsAlike, HasGenerationTwice, GenerationIsNoValue, ValueKeepsTheForm, LengthKeepsTheForm, GenerationKeepsTheForm}
 use Rattle.mmv_layout.proofs.Below.{both_left, both_right, some_holds}
 use Rattle.mmv_layout.proofs.Goods.{eq_of, header, good_value}
-use Rattle.mmv_layout.proofs.Places.{Stands, value_stands, few_words}
+use Rattle.mmv_layout.proofs.Places.{Lies, section_stands, some_of, Stands, value_stands, few_words}
+use Rattle.mmv_layout.proofs.RowLists.{among_rows}
 use Rattle.mmv_layout.proofs.Looked.{Looked, five_words}
 use Rattle.mmv_layout.proofs.SlotLists.{GivenBy}
 use Rattle.mmv_layout.proofs.SlotFacts.{SlotIs, slot_is, slot_value, slot_lies}
@@ -133,3 +134,85 @@ twice_agrees a n h =
 pub generation_keeps : GenerationKeepsTheForm
 unfolding with_twice
 generation_keeps words n h fits = alike words (with_twice words n) h (twice_agrees words n h)
+
+-- another value
+
+number_other : (a : List ℕ) (w v place : ℕ) → place / 8 ≢ w → number64 (slice_set a w v) place ≡ number64 a place
+unfolding number64
+number_other a w v place other = get_or-set_other a w (place / 8) v 0 other
+
+number_there : (a : List ℕ) (w v place : ℕ) → w < length a → place / 8 ≡ w → number64 (slice_set a w v) place ≡ v
+unfolding number64
+number_there a w v place below here = ap (slice_index (slice_set a w v)) here ∙ get_or-set_same a w v 0 below
+
+-- places outside of a value's first 16 bytes lie in other words
+off_first : (value place : ℕ) → value % 8 ≡ 0 → (place < value) ⊎ (value + 16 ≤ place) → place / 8 ≢ value / 8
+off_first value place whole outside e = ⊎_elim (λ (x : place < value). absurd (omega arith)) (λ (y : value + 16 ≤ place). absurd (omega arith)) outside
+
+off_second : (value place : ℕ) → value % 8 ≡ 0 → (place < value) ⊎ (value + 16 ≤ place) → place / 8 ≢ value / 8 + 1
+off_second value place whole outside e = ⊎_elim (λ (x : place < value). absurd (omega arith)) (λ (y : value + 16 ≤ place). absurd (omega arith)) outside
+
+-- the extra field of a value is not the value field of one
+extra_apart : (first i j : ℕ) → first % 8 ≡ 0 → ((first + 32 * i) + 8) / 8 ≡ (first + 32 * j) / 8 → ⊥
+extra_apart first i j whole e = omega arith
+
+string_leads : (words : List ℕ) (value : ℕ) → Contains (offsets_of words) value → leads_to_string words value ≡ true
+unfolding offsets_of leads
+string_leads words value h =
+    let (k, below, is) = among_rows (string_count words) (string_at words) value h in
+    some_holds (string_count words) k (λ k. nat_eq (string_at words k) value) below (eq-eqb (string_at words k) value (sym is))
+
+text_kind : (words : List ℕ) (value : ℕ) (slot : Slot) → slot ≡ slot_in words value slot.word → type_of words value ≡ 6 → slot.kind ≡ kinds.Text
+text_kind words value slot is six = ap (λ s. s.kind) is ∙ ap (λ n. unwrap_or (kind_of_code n) kinds.I32) six
+
+text_takes : (words : List ℕ) (kind : Kind) (value : ℕ) → kind ≡ kinds.Text → TakesAs kind (form_of words).offsets value → Contains (offsets_of words) value
+unfolding form_of
+text_takes words kind value is takes = subst (λ k. TakesAs k (offsets_of words) value) is takes
+
+section_whole : (words : List ℕ) (i : ℕ) → is_image words ≡ true → i < value_count words → (section_of words 4).place % 8 ≡ 0
+section_whole words i h below =
+    let lies : Lies words (section_of words 4).place (section_bytes 4 (section_of words 4).count) = section_stands words 4 h (some_of i (value_count words) below) in lies.whole
+
+-- the word of a slot as the first or the second word of its value
+slot_place : (words : List ℕ) (value : ℕ) (slot : Slot) (place : ℕ) → value % 8 ≡ 0 → SlotIs words value slot → (place < value) ⊎ (value + 16 ≤ place) → place / 8 ≢ slot.word
+slot_place words value slot place whole is outside e =
+    ⊎_elim
+    (λ (x : (type_of words value ≤ 3) × (slot.word ≡ value / 8)). off_first value place whole outside (e ∙ x.1))
+    (λ (y : (type_of words value ≡ 6) × (slot.word ≡ value / 8 + 1)). off_second value place whole outside (e ∙ y.1)) is.word
+
+-- where the extra field of a string value is the word of a slot, that takes offsets of strings alone
+extra_takes : (words : List ℕ) (i j v : ℕ) (slot : Slot) → is_image words ≡ true → i < value_count words → SlotIs words (value_at words j) slot
+    → (value_at words i + 8) / 8 ≡ slot.word → TakesAs slot.kind (form_of words).offsets v → leads_to_string words v ≡ true
+extra_takes words i j v slot h below is here takes =
+    ⊎_elim
+    (λ (x : (type_of words (value_at words j) ≤ 3) × (slot.word ≡ value_at words j / 8)).
+    absurd (extra_apart (section_of words 4).place i j (section_whole words i h below) (here ∙ x.1)))
+    (λ (y : (type_of words (value_at words j) ≡ 6) × (slot.word ≡ value_at words j / 8 + 1)).
+    string_leads words v (text_takes words slot.kind v (text_kind words (value_at words j) slot is.is y.0) takes)) is.word
+
+far_from : (w n : ℕ) → 5 ≤ w → n ≤ 2 → n ≢ w
+far_from w n a b e = omega arith
+
+slot_agrees : (a : List ℕ) (v : ℕ) (slot : Slot) → is_image a ≡ true → Contains (slots_of a) slot → TakesAs slot.kind (form_of a).offsets v → Agrees a (slice_set a slot.word v)
+slot_agrees a v slot h among takes =
+    let few : length a ≤ 65536 = few_words a h in
+    let long : length (slice_set a slot.word v) ≡ length a = length-set a slot.word v in
+    let lies : (5 ≤ slot.word) × (slot.word < length a) = slot_lies a slot h among in
+    let given : GivenBy (slot_at a) (value_count a) (value_at a) slot = slot_value a slot among in
+    let stands : Stands a (value_at a given.index) 32 = value_stands a given.index h given.below in
+    let is : SlotIs a (value_at a given.index) slot = slot_is a (value_at a given.index) slot given.gives in record {
+  longer = omega arith;
+  few = omega arith;
+  again = number_other a slot.word v 8 (far_from slot.word 1 lies.0 (omega arith)) ∙ twice a h ∙ sym (number_other a slot.word v 16 (far_from slot.word 2 lies.0 (omega arith)));
+  same = λ place looked. number_other a slot.word v place (slot_place a (value_at a given.index) slot place stands.whole is (looked.apart given.index given.below));
+  choices = λ i below six. ⊎_elim
+    (λ (here : (value_at a i + 8) / 8 ≡ slot.word).
+    ap (leads_to_string a) (number_there a slot.word v (value_at a i + 8) lies.1 here) ∙ extra_takes a i given.index v slot h below is here takes)
+    (λ (other : (value_at a i + 8) / 8 ≡ slot.word → ⊥). ap (leads_to_string a) (number_other a slot.word v (value_at a i + 8) other) ∙ chosen a i h below six)
+    (cases_eq ((value_at a i + 8) / 8) slot.word);
+}
+
+pub value_keeps : ValueKeepsTheForm
+value_keeps words word value h fits t =
+    subst (λ w. IsAlike words (slice_set words w value)) t.stands
+    (alike words (slice_set words t.slot.word value) h (slot_agrees words value t.slot h (slots_in_form words t.slot t.among) t.takes))

@@ -1,5 +1,6 @@
 ghost use Rattle.mmv_layout.specs.Laws.{WordsHoldBytes, NumberHoldsBytes, NumberHoldsHalves};
 ghost use Rattle.mmv_layout.specs.Says.{SaysOneLayout};
+ghost use Rattle.mmv_layout.specs.ShapeLaws.{HasGenerationTwice, GenerationIsNoValue, ValueKeepsTheForm, LengthKeepsTheForm, GenerationKeepsTheForm};
 
 /// The words that bytes make hold these bytes, each at its place.
 #[tactic(auto, using(crate::proofs::Bytes::words_hold))]
@@ -23,4 +24,29 @@ pub fn number_holds_halves()
 #[tactic(auto, using(crate::proofs::Saying::says_one))]
 pub fn says_one_layout()
     ensures { SaysOneLayout }
+{}
+
+/// Words 1 and 2 of an image are there and equal.
+pub fn has_generation_twice()
+    ensures { HasGenerationTwice }
+{}
+
+/// Words 1 and 2 of an image are no value words.
+pub fn generation_is_no_value()
+    ensures { GenerationIsNoValue }
+{}
+
+/// An image with another value in a value word that takes it is an image of the same form.
+pub fn value_keeps_the_form()
+    ensures { ValueKeepsTheForm }
+{}
+
+/// An image with further words behind it, up to 65,536 in all, is an image of the same form.
+pub fn length_keeps_the_form()
+    ensures { LengthKeepsTheForm }
+{}
+
+/// An image with both generations replaced by one number is an image of the same form.
+pub fn generation_keeps_the_form()
+    ensures { GenerationKeepsTheForm }
 {}
