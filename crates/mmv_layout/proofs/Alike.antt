@@ -1,19 +1,17 @@
 -- Words that agree with an image wherever its tests look are an image too: each test has the same answer.
-use Rattle.std.proofs.Common.{◌≡◌, ◌≢◌, ℕ, zero, suc, ◌+◌, ◌*◌, ◌/◌, ◌%◌, ◌^◌, ◌<◌, ◌≤◌, Bool, true, false, not, ◌&&◌, ◌||◌, ◌⊎◌, inl, inr, List, [], ◌∷◌, length, ap, ap₂, sym, subst, ◌∙◌, refl, arith, add-zero, nat_eq, nat_le, nat_lt, cond, bytes_eq, ⊎_elim}
+use Rattle.std.proofs.Common.{◌≡◌, ℕ, zero, suc, ◌+◌, ◌*◌, ◌/◌, ◌%◌, ◌^◌, ◌<◌, ◌≤◌, Bool, true, false, not, ◌&&◌, ◌||◌, ◌⊎◌, inr, List, [], ◌∷◌, length, ap, ap₂, sym, subst, ◌∙◌, refl, arith, add-zero, nat_eq, nat_le, cond, bytes_eq, ⊎_elim}
 use Rattle.std.proofs.lemmas.Bool.Decides.{nat_tests}
-use Rattle.pcp_base.specs.Names.{spells}
 use Rattle.mmv_layout.specs.declared.contents.Section.{Section}
 use Rattle.mmv_layout.specs.Below.{all_below, some_below}
 use Rattle.mmv_layout.specs.Fields.{number32, number64, byte_at, text_at, has_zero, same_name}
-use Rattle.mmv_layout.specs.Contents.{bytes_in, is_short, has_magic, version_in, first_generation, second_generation, flags_in, cluster_in, contents_in, type_in, count_in, place_in, section_bytes, end_in, section_lies, are_apart, is_first_of_type, has_good_section, is_aligned, sections_are_good, sections_are_aligned, find_section, section_of}
-use Rattle.mmv_layout.specs.Entries.{leads, leads_to_indom, leads_to_instance, leads_to_metric, leads_to_string, indom_count, indom_at, instance_count, instance_at, metric_count, metric_at, value_count, value_at, string_count, string_at, help_leads, is_instance_of, has_good_run, has_serial, is_new_indom, is_good_indom, has_text, lies_in_run, is_same_instance, is_new_instance, is_good_instance, has_name, is_no_domain, is_indom_serial, serial_leads, is_same_metric, is_new_metric, has_good_fields, is_good_metric, metric_of, instance_leads, choice_leads, is_same_value, is_new_value, is_good_value, is_good_string, indoms_are_good, instances_are_good, metrics_are_good, values_are_good, strings_are_good}
-use Rattle.mmv_layout.specs.FirstForm.{has_good_header, is_too_large, is_cluster, is_image}
-use Rattle.mmv_layout.specs.Rows.{process_in, domain_of, type_of}
+use Rattle.mmv_layout.specs.Contents.{contents_in, type_in, count_in, place_in, section_bytes, end_in, section_lies, are_apart, is_first_of_type, has_good_section, find_section, section_of}
+use Rattle.mmv_layout.specs.Entries.{leads_to_string, indom_count, indom_at, instance_count, instance_at, metric_count, metric_at, value_count, value_at, string_count, string_at, help_leads, is_instance_of, has_good_run, has_serial, is_new_indom, is_good_indom, has_text, lies_in_run, is_same_instance, is_new_instance, is_good_instance, has_name, is_no_domain, is_indom_serial, serial_leads, is_same_metric, is_new_metric, has_good_fields, is_good_metric, metric_of, instance_leads, choice_leads, is_same_value, is_new_value, is_good_value, is_good_string}
+use Rattle.mmv_layout.specs.FirstForm.{is_image}
+use Rattle.mmv_layout.specs.Rows.{domain_of}
 use Rattle.mmv_layout.specs.Says.{LeadsTo}
 use Rattle.mmv_layout.proofs.Below.{all_at, both_left, both_right}
-use Rattle.mmv_layout.proofs.FirstForms.{short_words}
-use Rattle.mmv_layout.proofs.Goods.{le_of, eq_of, either, or_right, leads_there, header, sections, aligned, good_indom, good_instance, good_metric, good_value, good_string}
-use Rattle.mmv_layout.proofs.Looked.{Looked, five_words, looked_header, looked_contents, looked_indom, looked_instance, looked_metric, looked_string, looked_value}
+use Rattle.mmv_layout.proofs.Goods.{eq_of, either, leads_there, good_indom, good_instance, good_value}
+use Rattle.mmv_layout.proofs.Looked.{Looked, looked_header, looked_contents, looked_indom, looked_instance, looked_metric, looked_string, looked_value}
 use Rattle.mmv_layout.proofs.Saying.{value_metric}
 
 -- other words agree with an image where its tests look, have one generation twice, and no more than 65,536 words
@@ -199,8 +197,14 @@ module _ (a b : List ℕ) (h : is_image a ≡ true) (g : Agrees a b) where
   pub indom_same : (i : ℕ) → i < indom_count a → is_good_indom b i ≡ is_good_indom a i
   unfolding is_good_indom
   indom_same i below =
-      rw (indom_serial i below, new_indom_same i below, indom_place i, help_same (indom_at a i + 16) (looked_indom a i 16 h below (omega arith)),
-      help_same (indom_at a i + 24) (looked_indom a i 24 h below (omega arith)), run_same i below) refl
+      rw (
+        indom_serial i below,
+        new_indom_same i below,
+        indom_place i,
+        help_same (indom_at a i + 16) (looked_indom a i 16 h below (omega arith)),
+        help_same (indom_at a i + 24) (looked_indom a i 24 h below (omega arith)),
+        run_same i below,
+      ) refl
 
   -- instances
 
@@ -229,9 +233,12 @@ module _ (a b : List ℕ) (h : is_image a ≡ true) (g : Agrees a b) where
   lies_same : (i : ℕ) → i < instance_count a → lies_in_run b (instance_at a i) ≡ lies_in_run a (instance_at a i)
   unfolding lies_in_run
   lies_same i below =
-      rw (domain_same i below, section_same 1,
-      g.same (number64 a (instance_at a i) + 8) (looked_domain (number64 a (instance_at a i)) 8 (domain_leads i below) (omega arith)),
-      same32 (number64 a (instance_at a i) + 4) (looked_domain (number64 a (instance_at a i)) 4 (domain_leads i below) (omega arith))) refl
+      rw (
+        domain_same i below,
+        section_same 1,
+        g.same (number64 a (instance_at a i) + 8) (looked_domain (number64 a (instance_at a i)) 8 (domain_leads i below) (omega arith)),
+        same32 (number64 a (instance_at a i) + 4) (looked_domain (number64 a (instance_at a i)) 4 (domain_leads i below) (omega arith)),
+      ) refl
 
   name_looked : (i : ℕ) → i < instance_count a → (k : ℕ) → k < 64 → Looked a ((instance_at a i + 16) + k)
   name_looked i below k small = subst (Looked a) (moved (instance_at a i)) (looked_instance a i (16 + k) h below (omega arith))
@@ -242,8 +249,13 @@ module _ (a b : List ℕ) (h : is_image a ≡ true) (g : Agrees a b) where
   same_instance_same : (j i : ℕ) → j < instance_count a → i < instance_count a → is_same_instance b (instance_at a j) (instance_at a i) ≡ is_same_instance a (instance_at a j) (instance_at a i)
   unfolding is_same_instance
   same_instance_same j i x y =
-      rw (domain_same j x, domain_same i y, same32 (instance_at a j + 12) (looked_instance a j 12 h x (omega arith)), same32 (instance_at a i + 12) (looked_instance a i 12 h y (omega arith)),
-      name_same (instance_at a j + 16) (instance_at a i + 16) (name_looked j x) (name_looked i y)) refl
+      rw (
+        domain_same j x,
+        domain_same i y,
+        same32 (instance_at a j + 12) (looked_instance a j 12 h x (omega arith)),
+        same32 (instance_at a i + 12) (looked_instance a i 12 h y (omega arith)),
+        name_same (instance_at a j + 16) (instance_at a i + 16) (name_looked j x) (name_looked i y),
+      ) refl
 
   new_instance_same : (i : ℕ) → i < instance_count a → is_new_instance b i ≡ is_new_instance a i
   unfolding is_new_instance
@@ -254,8 +266,13 @@ module _ (a b : List ℕ) (h : is_image a ≡ true) (g : Agrees a b) where
   pub instance_same : (i : ℕ) → i < instance_count a → is_good_instance b i ≡ is_good_instance a i
   unfolding is_good_instance
   instance_same i below =
-      rw (new_instance_same i below, instance_place i, text_field_same (instance_at a i + 16) (name_looked i below), lies_same i below,
-      same32 (instance_at a i + 12) (looked_instance a i 12 h below (omega arith))) refl
+      rw (
+        new_instance_same i below,
+        instance_place i,
+        text_field_same (instance_at a i + 16) (name_looked i below),
+        lies_same i below,
+        same32 (instance_at a i + 12) (looked_instance a i 12 h below (omega arith)),
+      ) refl
 
   -- metrics
 
@@ -278,10 +295,15 @@ module _ (a b : List ℕ) (h : is_image a ≡ true) (g : Agrees a b) where
   fields_same : (i : ℕ) → i < metric_count a → has_good_fields b (metric_at a i) ≡ has_good_fields a (metric_at a i)
   unfolding has_good_fields
   fields_same i below =
-      rw (same32 (metric_at a i + 68) (looked_metric a i 68 h below (omega arith)), same32 (metric_at a i + 72) (looked_metric a i 72 h below (omega arith)),
-      same32 (metric_at a i + 80) (looked_metric a i 80 h below (omega arith)), serial_leads_same (number32 a (metric_at a i + 80)),
-      help_same (metric_at a i + 88) (looked_metric a i 88 h below (omega arith)), help_same (metric_at a i + 96) (looked_metric a i 96 h below (omega arith)),
-      same32 (metric_at a i + 64) (looked_metric a i 64 h below (omega arith))) refl
+      rw (
+        same32 (metric_at a i + 68) (looked_metric a i 68 h below (omega arith)),
+        same32 (metric_at a i + 72) (looked_metric a i 72 h below (omega arith)),
+        same32 (metric_at a i + 80) (looked_metric a i 80 h below (omega arith)),
+        serial_leads_same (number32 a (metric_at a i + 80)),
+        help_same (metric_at a i + 88) (looked_metric a i 88 h below (omega arith)),
+        help_same (metric_at a i + 96) (looked_metric a i 96 h below (omega arith)),
+        same32 (metric_at a i + 64) (looked_metric a i 64 h below (omega arith)),
+      ) refl
 
   pub metric_looked : (i : ℕ) → i < metric_count a → (k : ℕ) → k < 64 → Looked a (metric_at a i + k)
   metric_looked i below k small = looked_metric a i k h below (omega arith)
@@ -289,8 +311,11 @@ module _ (a b : List ℕ) (h : is_image a ≡ true) (g : Agrees a b) where
   same_metric_same : (j i : ℕ) → j < metric_count a → i < metric_count a → is_same_metric b (metric_at a j) (metric_at a i) ≡ is_same_metric a (metric_at a j) (metric_at a i)
   unfolding is_same_metric
   same_metric_same j i x y =
-      rw (same32 (metric_at a j + 64) (looked_metric a j 64 h x (omega arith)), same32 (metric_at a i + 64) (looked_metric a i 64 h y (omega arith)),
-      name_same (metric_at a j) (metric_at a i) (metric_looked j x) (metric_looked i y)) refl
+      rw (
+        same32 (metric_at a j + 64) (looked_metric a j 64 h x (omega arith)),
+        same32 (metric_at a i + 64) (looked_metric a i 64 h y (omega arith)),
+        name_same (metric_at a j) (metric_at a i) (metric_looked j x) (metric_looked i y),
+      ) refl
 
   new_metric_same : (i : ℕ) → i < metric_count a → is_new_metric b i ≡ is_new_metric a i
   unfolding is_new_metric
@@ -354,8 +379,12 @@ module _ (a b : List ℕ) (h : is_image a ≡ true) (g : Agrees a b) where
   same_value_same : (j i : ℕ) → j < value_count a → i < value_count a → is_same_value b (value_at a j) (value_at a i) ≡ is_same_value a (value_at a j) (value_at a i)
   unfolding is_same_value
   same_value_same j i x y =
-      rw (g.same (value_at a j + 16) (looked_value a j 16 h x (omega arith) (omega arith)), g.same (value_at a i + 16) (looked_value a i 16 h y (omega arith) (omega arith)),
-      field_same j x, field_same i y) refl
+      rw (
+        g.same (value_at a j + 16) (looked_value a j 16 h x (omega arith) (omega arith)),
+        g.same (value_at a i + 16) (looked_value a i 16 h y (omega arith) (omega arith)),
+        field_same j x,
+        field_same i y,
+      ) refl
 
   new_value_same : (i : ℕ) → i < value_count a → is_new_value b i ≡ is_new_value a i
   unfolding is_new_value

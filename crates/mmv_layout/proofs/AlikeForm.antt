@@ -1,5 +1,5 @@
 -- Words that agree with an image wherever its tests look are an image, of the same form.
-use Rattle.std.proofs.Common.{◌≡◌, ◌≢◌, ℕ, zero, suc, ℤ, negsuc, ◌+◌, ◌*◌, ◌/◌, ◌%◌, ◌^◌, ◌<◌, ◌≤◌, Bool, true, false, not, ◌&&◌, ◌||◌, ◌⊎◌, inl, inr, List, [], ◌∷◌, length, Option, None, Some, unwrap_or, ap, ap₂, sym, subst, ◌∙◌, refl, arith, add-zero, nat_eq, nat_le, nat_lt, cond, w32, ⊎_elim}
+use Rattle.std.proofs.Common.{◌≡◌, ℕ, zero, suc, ℤ, ◌+◌, ◌*◌, ◌%◌, ◌<◌, ◌≤◌, Bool, true, false, not, ◌&&◌, ◌||◌, inl, inr, List, length, Option, Some, ap, ap₂, sym, subst, ◌∙◌, refl, arith, add-zero, nat_eq, nat_le, nat_lt, w32, ⊎_elim}
 use Rattle.std.specs.Int.{cast_signed}
 use Rattle.std.specs.List.{filter_map}
 use Rattle.std.proofs.lemmas.Bool.Decides.{nat_tests}
@@ -8,21 +8,21 @@ use Rattle.mmv_layout.specs.declared.rows.IndomRow.{IndomRow}
 use Rattle.mmv_layout.specs.declared.rows.MetricRow.{MetricRow}
 use Rattle.mmv_layout.specs.declared.rows.Slot.{Slot}
 use Rattle.mmv_layout.specs.Below.{all_below}
-use Rattle.mmv_layout.specs.Fields.{number32, number64, text_at}
-use Rattle.mmv_layout.specs.Contents.{bytes_in, is_short, has_magic, version_in, first_generation, second_generation, flags_in, cluster_in, contents_in, count_in, place_in, has_good_section, is_aligned, sections_are_good, sections_are_aligned, section_of}
-use Rattle.mmv_layout.specs.Entries.{leads_to_string, indom_count, indom_at, instance_count, instance_at, metric_count, metric_at, value_count, value_at, string_count, string_at, help_leads, is_good_indom, is_good_instance, is_no_domain, has_good_fields, is_good_metric, metric_of, is_good_value, is_good_string, indoms_are_good, instances_are_good, metrics_are_good, values_are_good, strings_are_good}
-use Rattle.mmv_layout.specs.FirstForm.{has_good_header, is_too_large, is_cluster, is_image}
-use Rattle.mmv_layout.specs.Rows.{list_below, process_in, string_text, help_of, instance_row, instances_of, indom_row, metric_row, item_of, type_of, domain_of, instance_of, indoms_of, metrics_of, strings_of}
-use Rattle.mmv_layout.specs.Form.{slot_in, slot_at, slots_of, offsets_of, subjects_of, Form, form_of}
+use Rattle.mmv_layout.specs.Fields.{number32, number64}
+use Rattle.mmv_layout.specs.Contents.{bytes_in, is_short, contents_in, has_good_section, is_aligned, sections_are_good, sections_are_aligned, section_of}
+use Rattle.mmv_layout.specs.Entries.{indom_count, indom_at, instance_count, instance_at, metric_count, metric_at, value_count, value_at, string_count, string_at, help_leads, is_good_indom, is_good_instance, is_no_domain, has_good_fields, is_good_metric, is_good_value, is_good_string, indoms_are_good, instances_are_good, metrics_are_good, values_are_good, strings_are_good}
+use Rattle.mmv_layout.specs.FirstForm.{has_good_header, is_image}
+use Rattle.mmv_layout.specs.Rows.{list_below, string_text, help_of, instance_row, instances_of, indom_row, metric_row, item_of, domain_of, instance_of, indoms_of, metrics_of, strings_of}
+use Rattle.mmv_layout.specs.Form.{slot_at, slots_of, offsets_of, subjects_of, Form, form_of}
 use Rattle.mmv_layout.specs.Says.{LeadsTo}
 use Rattle.mmv_layout.proofs.Below.{all_at, both_left, both_right}
 use Rattle.mmv_layout.proofs.FirstForms.{short_words}
-use Rattle.mmv_layout.proofs.Goods.{le_of, eq_of, either, or_right, leads_there, header, sections, aligned, good_indom, good_instance, good_metric, good_value, good_string}
-use Rattle.mmv_layout.proofs.Looked.{Looked, five_words, looked_header, looked_indom, looked_metric, looked_string}
+use Rattle.mmv_layout.proofs.Goods.{either, or_right, leads_there, header, sections, aligned, good_indom, good_instance, good_metric, good_value, good_string}
+use Rattle.mmv_layout.proofs.Looked.{Looked, five_words, looked_indom, looked_metric, looked_string}
 use Rattle.mmv_layout.proofs.RowLists.{rows_same}
 use Rattle.mmv_layout.proofs.SlotLists.{gives_same}
 use Rattle.mmv_layout.proofs.Saying.{indom_rows_same, metric_rows_same, metric_fields}
-use Rattle.mmv_layout.proofs.Alike.{Agrees, head32, contents_same, count_same, place_same, section_same, section_still, same32, text_same, help_same, indom_place, run_leads, looked_run, indom_same, instance_same, metric_place, metric_looked, metric_same, value_place, of_same, field_same, instance_there, value_still, string_place, string_same}
+use Rattle.mmv_layout.proofs.Alike.{Agrees, head32, contents_same, count_same, place_same, section_same, section_still, same32, text_same, indom_place, run_leads, looked_run, indom_same, instance_same, metric_place, metric_looked, metric_same, of_same, field_same, instance_there, value_still, string_place, string_same}
 
 all_hold : (n m : ℕ) (test : ℕ → Bool) → m ≡ n → ((k : ℕ) → k < n → test k ≡ true) → all_below m test ≡ true
 unfolding all_below

@@ -1,13 +1,10 @@
 -- The places at which the tests of an image look: neither its generation nor the contents of its values.
-use Rattle.std.proofs.Common.{◌≡◌, ◌≢◌, ℕ, zero, suc, ◌+◌, ◌*◌, ◌/◌, ◌%◌, ◌^◌, ◌<◌, ◌≤◌, Bool, true, false, not, ◌&&◌, ◌||◌, ◌⊎◌, inl, inr, List, length, ap, ap₂, sym, subst, ◌∙◌, refl, arith, nat_eq, nat_le, nat_lt, ⊎_elim}
+use Rattle.std.proofs.Common.{◌≡◌, ◌≢◌, ℕ, ◌+◌, ◌*◌, ◌<◌, ◌≤◌, Bool, true, false, not, ◌||◌, ◌⊎◌, inl, inr, List, length, ap, ap₂, sym, subst, ◌∙◌, refl, arith, nat_eq, nat_le, nat_lt, ⊎_elim}
 use Rattle.std.proofs.lemmas.Bool.Decides.{nat_tests}
 use Rattle.std.proofs.lemmas.Bool.{cases_order}
-use Rattle.mmv_layout.specs.declared.contents.Section.{Section}
-use Rattle.mmv_layout.specs.Fields.{number32, number64, byte_at}
 use Rattle.mmv_layout.specs.Contents.{bytes_in, is_short, contents_in, type_in, count_in, place_in, section_bytes, end_in, are_apart, is_first_of_type, has_good_section, sections_are_good, find_section, section_of}
-use Rattle.mmv_layout.specs.Entries.{indom_count, indom_at, instance_count, instance_at, metric_count, metric_at, value_count, value_at, string_count, string_at, leads_to_string}
+use Rattle.mmv_layout.specs.Entries.{indom_count, indom_at, instance_count, instance_at, metric_count, metric_at, value_count, value_at, string_count, string_at}
 use Rattle.mmv_layout.specs.FirstForm.{has_good_header, is_image}
-use Rattle.mmv_layout.specs.Rows.{type_of}
 use Rattle.mmv_layout.proofs.Below.{all_at, both_left, both_right}
 use Rattle.mmv_layout.proofs.FirstForms.{short_words}
 use Rattle.mmv_layout.proofs.Goods.{le_of, header, sections}
@@ -30,10 +27,10 @@ five_words words h =
 pub looked_header : (words : List ℕ) (place : ℕ) → is_image words ≡ true → place < 40 → (place < 8) ⊎ (24 ≤ place) → Looked words place
 looked_header words place h below outside =
     let five : 5 ≤ length words = five_words words h in record {
-  within = omega arith;
-  outside = outside;
-  apart = λ i some. let stands : Stands words (value_at words i) 32 = value_stands words i h some in inl (before place (value_at words i) below stands.behind);
-}
+      within = omega arith;
+      outside = outside;
+      apart = λ i some. let stands : Stands words (value_at words i) 32 = value_stands words i h some in inl (before place (value_at words i) below stands.behind);
+    }
   where
     before : (p v : ℕ) → p < 40 → 40 ≤ v → p < v
     before p v a b = omega arith
@@ -54,10 +51,10 @@ values_behind words i h below =
 pub looked_contents : (words : List ℕ) (i o : ℕ) → is_image words ≡ true → i < contents_in words → o < 16 → Looked words (40 + 16 * i + o)
 looked_contents words i o h below small =
     let inside : 56 + 16 * i ≤ 8 * length words = entry_within words i (good_section words i h below) in record {
-  within = omega arith;
-  outside = inr (omega arith);
-  apart = λ j some. inl (before (contents_in words) (value_at words j) below small (values_behind words j h some));
-}
+      within = omega arith;
+      outside = inr (omega arith);
+      apart = λ j some. inl (before (contents_in words) (value_at words j) below small (values_behind words j h some));
+    }
   where
     before : (n v : ℕ) → i < n → o < 16 → 40 + 16 * n ≤ v → 40 + 16 * i + o < v
     before n v a b c = omega arith
@@ -125,15 +122,15 @@ unfolding section_bytes
 looked_in words type d h other some below =
     let lies : Lies words (section_of words type).place (section_bytes type (section_of words type).count) = section_stands words type h some in
     record {
-  within = before (section_of words type).place (section_bytes type (section_of words type).count) (length words) below lies.within;
-  outside = inr (behind (contents_in words) (section_of words type).place lies.behind);
-  apart = λ j values. ⊎_elim
-    (λ (a : (section_of words type).place + section_bytes type (section_of words type).count ≤ (section_of words 4).place).
-    inl (first (section_of words type).place (section_bytes type (section_of words type).count) (section_of words 4).place j below a))
-    (λ (b : (section_of words 4).place + 32 * (section_of words 4).count ≤ (section_of words type).place).
-    inr (last (section_of words type).place (section_of words 4).place (section_of words 4).count j values b))
-    (sections_apart words type 4 h other some (some_of j (value_count words) values));
-}
+      within = before (section_of words type).place (section_bytes type (section_of words type).count) (length words) below lies.within;
+      outside = inr (behind (contents_in words) (section_of words type).place lies.behind);
+      apart = λ j values. ⊎_elim
+          (λ (a : (section_of words type).place + section_bytes type (section_of words type).count ≤ (section_of words 4).place).
+          inl (first (section_of words type).place (section_bytes type (section_of words type).count) (section_of words 4).place j below a))
+          (λ (b : (section_of words 4).place + 32 * (section_of words 4).count ≤ (section_of words type).place).
+          inr (last (section_of words type).place (section_of words 4).place (section_of words 4).count j values b))
+          (sections_apart words type 4 h other some (some_of j (value_count words) values));
+    }
   where
     before : (p n w : ℕ) → d < n → p + n ≤ 8 * w → p + d < 8 * w
     before p n w a b = omega arith
@@ -187,10 +184,10 @@ looked_string words i o h below small =
 pub looked_value : (words : List ℕ) (i o : ℕ) → is_image words ≡ true → i < value_count words → 16 ≤ o → o < 32 → Looked words (value_at words i + o)
 looked_value words i o h below some small =
     let stands : Stands words (value_at words i) 32 = value_stands words i h below in record {
-  within = inside (value_at words i) (length words) stands.within;
-  outside = inr (behind (value_at words i) stands.behind);
-  apart = λ j others. others_apart (section_of words 4).place j;
-}
+      within = inside (value_at words i) (length words) stands.within;
+      outside = inr (behind (value_at words i) stands.behind);
+      apart = λ j others. others_apart (section_of words 4).place j;
+    }
   where
     inside : (v n : ℕ) → v + 32 ≤ 8 * n → v + o < 8 * n
     inside v n a = omega arith

@@ -1,5 +1,5 @@
 -- Where the sections of an image lie.
-use Rattle.std.proofs.Common.{◌≡◌, ◌≢◌, ℕ, zero, suc, ◌+◌, ◌*◌, ◌%◌, ◌^◌, ◌<◌, ◌≤◌, Bool, true, false, not, ◌&&◌, ◌||◌, List, length, ap, ap₂, sym, subst, ◌∙◌, refl, arith, nat_eq, nat_le, if◌then◌else◌}
+use Rattle.std.proofs.Common.{◌≡◌, ◌≢◌, ℕ, zero, suc, ◌+◌, ◌*◌, ◌%◌, ◌^◌, ◌<◌, ◌≤◌, Bool, true, false, not, List, length, ap₂, sym, subst, ◌∙◌, refl, arith, nat_eq, nat_le, if◌then◌else◌}
 use Rattle.std.proofs.lemmas.Bool.Decides.{nat_tests}
 use Rattle.mmv_layout.specs.Contents.{bytes_in, contents_in, type_in, count_in, place_in, section_bytes, end_in, section_lies, has_good_section, is_aligned, sections_are_good, sections_are_aligned, find_section, section_of}
 use Rattle.mmv_layout.specs.Entries.{value_count, value_at, string_count, string_at}
@@ -40,10 +40,10 @@ unfolding has_good_section section_lies end_in is_aligned
 entry_lies words i good straight some =
     let none : nat_eq (count_in words i) 0 ≡ false = isnt_zero (count_in words i) some in
     let lies = or_right (nat_eq (count_in words i) 0) _ (both_right _ _ (both_left _ _ good)) none in record {
-  behind = le_of (40 + 16 * contents_in words) (place_in words i) (both_left _ _ lies);
-  within = le_of (place_in words i + section_bytes (type_in words i) (count_in words i)) (bytes_in words) (both_right _ _ lies);
-  whole = eq_of (place_in words i % 8) 0 (or_right (nat_eq (count_in words i) 0) _ straight none);
-}
+      behind = le_of (40 + 16 * contents_in words) (place_in words i) (both_left _ _ lies);
+      within = le_of (place_in words i + section_bytes (type_in words i) (count_in words i)) (bytes_in words) (both_right _ _ lies);
+      whole = eq_of (place_in words i % 8) 0 (or_right (nat_eq (count_in words i) 0) _ straight none);
+    }
 
 pub section_stands : (words : List ℕ) (type : ℕ) → is_image words ≡ true → (section_of words type).count ≢ 0
     → Lies words (section_of words type).place (section_bytes type (section_of words type).count)

@@ -53,10 +53,11 @@ pub each_there : {X : Type 0} (R : ℕ → X → Type 0) (row : ℕ → X) (size
 unfolding EachAt list_below
 each_there R row size zero at each = tt
 each_there R row size (suc n) at each =
-    subst (EachAt R at size) (sym (rows_front n (λ k. row (at + size * k))))
-    (subst (λ p. R p (row (at + size * 0))) (sym (first_place at size)) (each 0 (omega arith)),
-    subst (EachAt R (at + size) size) (rows_same n (λ k. row ((at + size) + size * k)) (λ k. row (at + size * suc k)) (λ k h. ap row (next_place at size k)))
-    (each_there R row size n (at + size) (λ k h. subst (λ p. R p (row p)) (sym (next_place at size k)) (each (suc k) (omega arith)))))
+    subst (EachAt R at size) (sym (rows_front n (λ k. row (at + size * k)))) (
+      subst (λ p. R p (row (at + size * 0))) (sym (first_place at size)) (each 0 (omega arith)),
+      subst (EachAt R (at + size) size) (rows_same n (λ k. row ((at + size) + size * k)) (λ k. row (at + size * suc k)) (λ k h. ap row (next_place at size k)))
+          (each_there R row size n (at + size) (λ k h. subst (λ p. R p (row p)) (sym (next_place at size k)) (each (suc k) (omega arith)))),
+    )
 
 -- what is among the rows is one of them
 pub among_rows : {X : Type 0} (n : ℕ) (row : ℕ → X) (y : X) → Contains (list_below n row) y → (k : ℕ) × (k < n) × (y ≡ row k)

@@ -1,5 +1,5 @@
 -- An image says the layout that stands at its places, and no other.
-use Rattle.std.proofs.Common.{◌≡◌, ◌≢◌, ℕ, zero, suc, ℤ, ◌+◌, ◌*◌, ◌<◌, ◌≤◌, Bool, true, false, ◌&&◌, ◌||◌, ◌⊎◌, inl, inr, List, [], ◌∷◌, length, ap, ap₂, sym, subst, ◌∙◌, refl, arith, nat_eq, nat_le, cond, not, Option, None, Some, unwrap_or, is_some, ⊎_elim}
+use Rattle.std.proofs.Common.{◌≡◌, ◌≢◌, ℕ, ℤ, ◌+◌, ◌*◌, ◌<◌, ◌≤◌, Bool, true, false, ◌||◌, ◌⊎◌, List, length, ap, ap₂, sym, subst, ◌∙◌, refl, arith, nat_eq, nat_le, cond, not, Option, None, Some, unwrap_or, ⊎_elim}
 use Rattle.std.proofs.lemmas.Bool.Decides.{nat_tests}
 use Rattle.std.proofs.lemmas.Bool.{eq-eqb}
 use Rattle.pcp_base.specs.Codes.{kind_of_code, code_of_kind, semantics_of_code, code_of_semantics}
@@ -13,12 +13,12 @@ use Rattle.mmv_layout.specs.declared.rows.ValueRow.{ValueRow}
 use Rattle.mmv_layout.specs.declared.rows.Content.{Content}
 use Rattle.mmv_layout.specs.declared.rows.Content.TheVariants.{Number, Choice, Raw}
 use Rattle.mmv_layout.specs.declared.rows.Layout.{Layout}
-use Rattle.mmv_layout.specs.Fields.{number32, number64, text_at}
+use Rattle.mmv_layout.specs.Fields.{number32, number64}
 use Rattle.mmv_layout.specs.Contents.{section_of, first_generation, second_generation}
-use Rattle.mmv_layout.specs.Entries.{indom_count, indom_at, metric_count, metric_at, value_count, value_at, string_count, string_at, help_leads, is_good_indom, is_good_metric, has_good_fields, is_good_value, metric_of, instance_leads, choice_leads, is_no_domain, is_kind, is_semantics}
-use Rattle.mmv_layout.specs.FirstForm.{has_good_header, is_image, IsImage}
-use Rattle.mmv_layout.specs.Rows.{list_below, signed32, string_text, help_of, instance_row, instances_of, indom_row, serial_of, metric_row, item_of, type_of, domain_of, instance_of, content_of, value_row, indoms_of, metrics_of, values_of, strings_of, layout_of}
-use Rattle.mmv_layout.specs.Says.{EachAt, InSection, LeadsTo, StringAt, HelpAt, InstanceAt, IndomAt, IsNull, IsNamed, SerialIs, MetricAt, InstanceOf, ContentAt, ValueAt, TextAt, Says, SaysOneLayout}
+use Rattle.mmv_layout.specs.Entries.{indom_at, metric_count, metric_at, value_count, value_at, help_leads, is_good_indom, is_good_metric, has_good_fields, is_good_value, metric_of, instance_leads, choice_leads, is_no_domain, is_kind, is_semantics}
+use Rattle.mmv_layout.specs.FirstForm.{has_good_header, is_image}
+use Rattle.mmv_layout.specs.Rows.{list_below, signed32, string_text, help_of, instance_row, instances_of, indom_row, serial_of, metric_row, type_of, domain_of, instance_of, content_of, value_row, indoms_of, metrics_of, values_of, strings_of, layout_of}
+use Rattle.mmv_layout.specs.Says.{EachAt, InSection, LeadsTo, HelpAt, InstanceAt, IndomAt, IsNull, IsNamed, SerialIs, MetricAt, InstanceOf, ContentAt, ValueAt, TextAt, Says, SaysOneLayout}
 use Rattle.mmv_layout.proofs.Below.{both_left, both_right}
 use Rattle.mmv_layout.proofs.RowLists.{rows_length, each_only, each_there}
 use Rattle.mmv_layout.proofs.Goods.{le_of, eq_of, ne_of, either, or_right, leads_there, header, good_indom, good_metric, good_value}
@@ -177,9 +177,11 @@ instance_there words value h =
     (λ (none : is_no_domain (domain_of words value) ≡ true).
     subst (λ b. InstanceOf words value (cond b None (Some (signed32 words (number64 words (value + 24) + 12))))) (sym none) (null_of (domain_of words value) none))
     (λ (some : is_no_domain (domain_of words value) ≡ false).
-    subst (λ b. InstanceOf words value (cond b None (Some (signed32 words (number64 words (value + 24) + 12))))) (sym some)
-    (named_of (domain_of words value) some,
-    leads_there (section_of words 2).place (section_of words 2).count 80 place (both_left _ _ (taken _ _ _ h some)), refl))
+    subst (λ b. InstanceOf words value (cond b None (Some (signed32 words (number64 words (value + 24) + 12))))) (sym some) (
+      named_of (domain_of words value) some,
+      leads_there (section_of words 2).place (section_of words 2).count 80 place (both_left _ _ (taken _ _ _ h some)),
+      refl,
+    ))
     (either (is_no_domain (domain_of words value)))
   where
     taken : (b x y : Bool) → cond b x y ≡ true → b ≡ false → y ≡ true
@@ -266,11 +268,11 @@ value_there : (words : List ℕ) (i : ℕ) → is_image words ≡ true → i < v
 unfolding is_good_value value_row
 value_there words i h below =
     let good : is_good_value words i ≡ true = good_value words i h below in record {
-  metric = value_metric words i good;
-  item = refl;
-  instance = instance_there words (value_at words i) (both_right _ _ (both_left _ _ (both_left _ _ good)));
-  content = content_there words (value_at words i) (value_kind words i h below) (both_right _ _ (both_left _ _ good));
-}
+      metric = value_metric words i good;
+      item = refl;
+      instance = instance_there words (value_at words i) (both_right _ _ (both_left _ _ (both_left _ _ good)));
+      content = content_there words (value_at words i) (value_kind words i h below) (both_right _ _ (both_left _ _ good));
+    }
 
 value_only : (words : List ℕ) (value : ℕ) (row : ValueRow) → ValueAt words value row → row ≡ value_row words value
 unfolding value_row
@@ -314,7 +316,7 @@ layout_says words h = record {
   cluster = refl;
   indoms = in_section (IndomAt words) (indom_row words) 32 (section_of words 1).place (section_of words 1).count (λ i below. indom_there words i (good_indom words i h below));
   metrics = in_section (MetricAt words) (metric_row words) 104 (section_of words 3).place (section_of words 3).count
-    (λ i below. metric_there words (metric_at words i) (metric_fields words i (good_metric words i h below)));
+      (λ i below. metric_there words (metric_at words i) (metric_fields words i (good_metric words i h below)));
   values = in_section (ValueAt words) (value_row words) 32 (section_of words 4).place (section_of words 4).count (λ i below. value_there words i h below);
   strings = in_section (TextAt words) (string_text words) 256 (section_of words 5).place (section_of words 5).count (λ i below. refl);
 }

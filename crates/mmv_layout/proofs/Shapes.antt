@@ -1,25 +1,24 @@
 -- The laws of images as a kind of layout.
-use Rattle.std.proofs.Common.{◌≡◌, ◌≢◌, ℕ, zero, suc, ◌+◌, ◌*◌, ◌/◌, ◌%◌, ◌^◌, ◌<◌, ◌≤◌, Bool, true, false, not, ◌||◌, ◌⊎◌, inl, inr, List, ◌++◌, length, length-append, slice_index, slice_set, Some, unwrap_or, ap, ap₂, sym, subst, ◌∙◌, refl, arith, nat_eq, nat_le, ⊎_elim, All, Contains}
+use Rattle.std.proofs.Common.{◌≡◌, ◌≢◌, ℕ, ◌+◌, ◌*◌, ◌/◌, ◌%◌, ◌<◌, ◌≤◌, Bool, true, false, not, ◌||◌, ◌⊎◌, inr, List, ◌++◌, length, length-append, slice_index, slice_set, unwrap_or, ap, sym, subst, ◌∙◌, arith, nat_eq, ⊎_elim, Contains}
 use Rattle.std.proofs.Math.ListN.{get_or-append}
 use Rattle.std.proofs.lemmas.List.{get_or-set_same, get_or-set_other, length-set}
 use Rattle.std.proofs.lemmas.Bool.{cases_eq, eq-eqb}
-use Rattle.std.proofs.lemmas.Bool.Decides.{nat_tests}
 use Rattle.pcp_base.specs.Codes.{kind_of_code}
 use Rattle.pcp_base.specs.declared.kind.Kind.{Kind}
 use Rattle.pcp_base.specs.declared.kind.Kind.TheVariants as kinds
 use Rattle.mmv_layout.specs.declared.rows.Slot.{Slot}
-use Rattle.mmv_layout.specs.Fields.{number32, number64}
+use Rattle.mmv_layout.specs.Fields.{number64}
 use Rattle.mmv_layout.specs.Contents.{section_bytes, section_of}
-use Rattle.mmv_layout.specs.Entries.{leads, leads_to_string, value_count, value_at, string_count, string_at, metric_of, choice_leads, is_good_value}
-use Rattle.mmv_layout.specs.FirstForm.{has_good_header, is_image, IsImage}
-use Rattle.mmv_layout.specs.Rows.{list_below, type_of}
-use Rattle.mmv_layout.specs.Form.{slot_in, slot_at, slots_of, offsets_of, Form, form_of}
-use Rattle.mmv_layout.specs.ShapeLaws.{IsWord, TakesAs, Takes, IsAlike, HasGenerationTwice, GenerationIsNoValue, ValueKeepsTheForm, LengthKeepsTheForm, GenerationKeepsTheForm}
+use Rattle.mmv_layout.specs.Entries.{leads, leads_to_string, value_count, value_at, string_count, string_at, choice_leads, is_good_value}
+use Rattle.mmv_layout.specs.FirstForm.{has_good_header, is_image}
+use Rattle.mmv_layout.specs.Rows.{type_of}
+use Rattle.mmv_layout.specs.Form.{slot_in, slot_at, slots_of, offsets_of, form_of}
+use Rattle.mmv_layout.specs.ShapeLaws.{TakesAs, IsAlike, HasGenerationTwice, GenerationIsNoValue, ValueKeepsTheForm, LengthKeepsTheForm, GenerationKeepsTheForm}
 use Rattle.mmv_layout.proofs.Below.{both_left, both_right, some_holds}
 use Rattle.mmv_layout.proofs.Goods.{eq_of, header, good_value}
 use Rattle.mmv_layout.proofs.Places.{Lies, section_stands, some_of, Stands, value_stands, few_words}
 use Rattle.mmv_layout.proofs.RowLists.{among_rows}
-use Rattle.mmv_layout.proofs.Looked.{Looked, five_words}
+use Rattle.mmv_layout.proofs.Looked.{five_words}
 use Rattle.mmv_layout.proofs.SlotLists.{GivenBy}
 use Rattle.mmv_layout.proofs.SlotFacts.{SlotIs, slot_is, slot_value, slot_lies}
 use Rattle.mmv_layout.proofs.Alike.{Agrees}
@@ -45,9 +44,10 @@ unfolding form_of
 slots_in_form words slot h = h
 
 pub is_no_value : GenerationIsNoValue
-is_no_value words value h =
-    (λ t. not_near 1 t.slot.word (slot_lies words t.slot h (slots_in_form words t.slot t.among)).0 t.stands (omega arith),
-    λ t. not_near 2 t.slot.word (slot_lies words t.slot h (slots_in_form words t.slot t.among)).0 t.stands (omega arith))
+is_no_value words value h = (
+  λ t. not_near 1 t.slot.word (slot_lies words t.slot h (slots_in_form words t.slot t.among)).0 t.stands (omega arith),
+  λ t. not_near 2 t.slot.word (slot_lies words t.slot h (slots_in_form words t.slot t.among)).0 t.stands (omega arith),
+)
 
 -- a string value leads to a string
 leads_of : (six leads : Bool) → (not six || leads) ≡ true → six ≡ true → leads ≡ true
@@ -73,13 +73,13 @@ longer_agrees : (a more : List ℕ) → is_image a ≡ true → length (a ++ mor
 longer_agrees a more h few =
     let five : 5 ≤ length a = five_words a h in
     let sum : length (a ++ more) ≡ length a + length more = length-append a more in record {
-  longer = omega arith;
-  few = few;
-  again = number_before a more 8 (omega arith) ∙ twice a h ∙ sym (number_before a more 16 (omega arith));
-  same = λ place looked. number_before a more place looked.within;
-  choices = λ i below six. let stands : Stands a (value_at a i) 32 = value_stands a i h below in
-    ap (leads_to_string a) (number_before a more (value_at a i + 8) (inside (value_at a i) stands.within)) ∙ chosen a i h below six;
-}
+      longer = omega arith;
+      few = few;
+      again = number_before a more 8 (omega arith) ∙ twice a h ∙ sym (number_before a more 16 (omega arith));
+      same = λ place looked. number_before a more place looked.within;
+      choices = λ i below six. let stands : Stands a (value_at a i) 32 = value_stands a i h below in
+          ap (leads_to_string a) (number_before a more (value_at a i + 8) (inside (value_at a i) stands.within)) ∙ chosen a i h below six;
+    }
   where
     inside : (v : ℕ) → v + 32 ≤ 8 * length a → v + 8 < 8 * length a
     inside v b = omega arith
@@ -120,13 +120,13 @@ twice_agrees a n h =
     let five : 5 ≤ length a = five_words a h in
     let few : length a ≤ 65536 = few_words a h in
     let long : length (with_twice a n) ≡ length a = twice_length a n in record {
-  longer = omega arith;
-  few = omega arith;
-  again = first_is a n five ∙ sym (second_is a n five);
-  same = λ place looked. number_beside a n place looked.outside;
-  choices = λ i below six. let stands : Stands a (value_at a i) 32 = value_stands a i h below in
-    ap (leads_to_string a) (number_beside a n (value_at a i + 8) (inr (behind (value_at a i) stands.behind))) ∙ chosen a i h below six;
-}
+      longer = omega arith;
+      few = omega arith;
+      again = first_is a n five ∙ sym (second_is a n five);
+      same = λ place looked. number_beside a n place looked.outside;
+      choices = λ i below six. let stands : Stands a (value_at a i) 32 = value_stands a i h below in
+          ap (leads_to_string a) (number_beside a n (value_at a i + 8) (inr (behind (value_at a i) stands.behind))) ∙ chosen a i h below six;
+    }
   where
     behind : (v : ℕ) → 40 ≤ v → 24 ≤ v + 8
     behind v b = omega arith
@@ -201,16 +201,16 @@ slot_agrees a v slot h among takes =
     let given : GivenBy (slot_at a) (value_count a) (value_at a) slot = slot_value a slot among in
     let stands : Stands a (value_at a given.index) 32 = value_stands a given.index h given.below in
     let is : SlotIs a (value_at a given.index) slot = slot_is a (value_at a given.index) slot given.gives in record {
-  longer = omega arith;
-  few = omega arith;
-  again = number_other a slot.word v 8 (far_from slot.word 1 lies.0 (omega arith)) ∙ twice a h ∙ sym (number_other a slot.word v 16 (far_from slot.word 2 lies.0 (omega arith)));
-  same = λ place looked. number_other a slot.word v place (slot_place a (value_at a given.index) slot place stands.whole is (looked.apart given.index given.below));
-  choices = λ i below six. ⊎_elim
-    (λ (here : (value_at a i + 8) / 8 ≡ slot.word).
-    ap (leads_to_string a) (number_there a slot.word v (value_at a i + 8) lies.1 here) ∙ extra_takes a i given.index v slot h below is here takes)
-    (λ (other : (value_at a i + 8) / 8 ≡ slot.word → ⊥). ap (leads_to_string a) (number_other a slot.word v (value_at a i + 8) other) ∙ chosen a i h below six)
-    (cases_eq ((value_at a i + 8) / 8) slot.word);
-}
+      longer = omega arith;
+      few = omega arith;
+      again = number_other a slot.word v 8 (far_from slot.word 1 lies.0 (omega arith)) ∙ twice a h ∙ sym (number_other a slot.word v 16 (far_from slot.word 2 lies.0 (omega arith)));
+      same = λ place looked. number_other a slot.word v place (slot_place a (value_at a given.index) slot place stands.whole is (looked.apart given.index given.below));
+      choices = λ i below six. ⊎_elim
+          (λ (here : (value_at a i + 8) / 8 ≡ slot.word).
+          ap (leads_to_string a) (number_there a slot.word v (value_at a i + 8) lies.1 here) ∙ extra_takes a i given.index v slot h below is here takes)
+          (λ (other : (value_at a i + 8) / 8 ≡ slot.word → ⊥). ap (leads_to_string a) (number_other a slot.word v (value_at a i + 8) other) ∙ chosen a i h below six)
+          (cases_eq ((value_at a i + 8) / 8) slot.word);
+    }
 
 pub value_keeps : ValueKeepsTheForm
 value_keeps words word value h fits t =

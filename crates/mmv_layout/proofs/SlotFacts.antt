@@ -1,18 +1,16 @@
 -- What is known of the value words of an image.
-use Rattle.std.proofs.Common.{◌≡◌, ◌≢◌, ℕ, zero, suc, ℤ, negsuc, ◌+◌, ◌*◌, ◌/◌, ◌%◌, ◌<◌, ◌≤◌, Bool, true, false, ◌&&◌, ◌⊎◌, inl, inr, List, length, slice_index_or, Option, None, Some, unwrap_or, ap, sym, subst, ◌∙◌, refl, arith, cond, nat_eq, nat_le, ⊎_elim, MatchOption, All, Contains}
+use Rattle.std.proofs.Common.{◌≡◌, ◌≢◌, ℕ, ℤ, ◌+◌, ◌*◌, ◌/◌, ◌<◌, ◌≤◌, Bool, true, false, ◌&&◌, ◌⊎◌, inl, inr, List, length, slice_index_or, Option, None, Some, ap, sym, subst, ◌∙◌, refl, arith, cond, nat_eq, nat_le, ⊎_elim, MatchOption, All, Contains}
 use Rattle.std.specs.List.{find}
 use Rattle.std.specs.Ordering.{int_eq}
 use Rattle.std.proofs.lemmas.Bool.Decides.{nat_tests, Decides-int_eq, not_from_Decides}
-use Rattle.pcp_base.specs.Codes.{kind_of_code}
-use Rattle.pcp_base.specs.declared.kind.Kind.TheVariants.{I32}
 use Rattle.mmv_layout.specs.declared.rows.Slot.{Slot}
 use Rattle.mmv_layout.specs.Fields.{number32}
-use Rattle.mmv_layout.specs.Entries.{value_count, value_at, metric_at, metric_of, is_good_metric, has_good_fields}
-use Rattle.mmv_layout.specs.FirstForm.{is_image, IsImage}
-use Rattle.mmv_layout.specs.Rows.{item_of, type_of, instance_of}
+use Rattle.mmv_layout.specs.Entries.{value_count, value_at, metric_at, is_good_metric, has_good_fields}
+use Rattle.mmv_layout.specs.FirstForm.{is_image}
+use Rattle.mmv_layout.specs.Rows.{type_of}
 use Rattle.mmv_layout.specs.Form.{slot_in, slot_at, slots_of, is_slot_of, IsSlotOf, IsOther}
 use Rattle.mmv_layout.proofs.Below.{both_left, both_right}
-use Rattle.mmv_layout.proofs.Goods.{le_of, eq_of, either, good_metric, good_value}
+use Rattle.mmv_layout.proofs.Goods.{le_of, eq_of, good_metric, good_value}
 use Rattle.mmv_layout.proofs.Places.{Stands, value_stands}
 use Rattle.mmv_layout.proofs.Saying.{value_metric}
 use Rattle.mmv_layout.proofs.SlotLists.{GivenBy, given_of, found_among, found_none}

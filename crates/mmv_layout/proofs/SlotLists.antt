@@ -1,5 +1,5 @@
 -- The value words of the values below a count, and the first of an item and an instance.
-use Rattle.std.proofs.Common.{◌≡◌, ◌≢◌, ℕ, zero, suc, ◌+◌, ◌<◌, ◌≤◌, Bool, true, false, ◌&&◌, ◌⊎◌, inl, inr, List, [], ◌∷◌, ◌++◌, append-nil, length, slice_index_or, Option, None, Some, ap, ap₂, sym, subst, ◌∙◌, refl, arith, cond, add-one, ⊎_elim}
+use Rattle.std.proofs.Common.{◌≡◌, ℕ, zero, suc, ◌+◌, ◌<◌, Bool, true, false, ◌⊎◌, List, [], ◌∷◌, ◌++◌, append-nil, length, slice_index_or, Option, None, Some, ap, ap₂, sym, subst, ◌∙◌, refl, arith, cond, add-one, ⊎_elim}
 use Rattle.std.specs.List.{filter_map, find, cons_option, Contains}
 use Rattle.std.specs.Option.{option_to_list, option_or}
 use Rattle.std.proofs.lemmas.List.Elements.{filter_map-append, Contains-append_cases}

@@ -1,6 +1,6 @@
 -- The form of an image: what it says without its generation and the contents of its values, and where these contents
 -- stand. Two images have one form where all of it agrees.
-use Rattle.std.specs.Prelude.{◌≡◌, ◌≢◌, ◌⊎◌, ℕ, ℤ, negsuc, ◌+◌, ◌/◌, Bool, ◌&&◌, ◌==◌, nat_le, if◌then◌else◌, List, length, map, Option, None, Some, unwrap_or}
+use Rattle.std.specs.Prelude.{◌≡◌, ◌≢◌, ◌⊎◌, ℕ, ℤ, negsuc, ◌+◌, ◌/◌, Bool, ◌&&◌, ◌==◌, nat_le, if◌then◌else◌, List, Option, None, Some, unwrap_or}
 use Rattle.std.specs.Ordering.{int_eq}
 use Rattle.std.specs.List.{filter_map}
 use Rattle.pcp_base.specs.Codes.{kind_of_code}

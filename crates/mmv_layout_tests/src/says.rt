@@ -236,7 +236,10 @@ fn instances_are_those_of_the_run(rt: HostRuntime) -> Result<(), Fail> {
     let instance = second.instances.get(0).ok_or("an instance")?;
     assert_eq!(rt; instance.0, 1);
     assert_eq!(rt; instance.1.as_slice(), b"x".as_slice());
-    assert_eq!(rt; layout.metrics.len() + layout.values.len() + layout.strings.len(), 0);
+    assert_eq!(rt;
+        layout.metrics.len() + layout.values.len() + layout.strings.len(),
+        0
+    );
     Ok(())
 }
 
@@ -275,7 +278,9 @@ fn values_have_the_content_of_their_kind(rt: HostRuntime) -> Result<(), Fail> {
     let state = layout.values.get(0).ok_or("the value of state")?;
     assert_eq!(rt; state.item, 5);
     assert_eq!(rt; state.instance, None);
-    assert!(rt; matches!(&state.content, Content::Choice(text) if text.as_slice() == b"second".as_slice()));
+    assert!(rt;
+        matches!(&state.content, Content::Choice(text) if text.as_slice() == b"second".as_slice())
+    );
     let seventh = layout.values.get(1).ok_or("the value of instance 7")?;
     assert_eq!(rt; seventh.item, 6);
     assert_eq!(rt; seventh.instance, Some(7));

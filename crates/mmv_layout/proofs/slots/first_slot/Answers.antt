@@ -1,5 +1,5 @@
 -- A value lies among the first 65,536 words; the first slot that fits is the one found.
-use Rattle.std.proofs.Common.{◌≡◌, ◌<◌, ◌+◌, ℤ, true, None, Some, ap, sym, subst, ◌∙◌, arith, w32, to_z, of_z}
+use Rattle.std.proofs.Common.{◌≡◌, ◌<◌, true, None, Some, ap, sym, subst, ◌∙◌, arith, w32, to_z, of_z}
 use Rattle.std.proofs.lemmas.Int.{to_z-of_z}
 use Rattle.std.specs.List.{filter_map, find}
 use Rattle.mmv_layout.specs.Entries.{value_at, value_count}
@@ -28,10 +28,10 @@ returns-then-is_slot_of c =
 
 pub loop-i-preserved : goal.loop-i-preserved
 loop-i-preserved c = elim c.match-slot_at.branch [
-  in-Some+else-is_slot_of w ↦
-    finds_other (is_slot_of c.args.item (to_z w32 (of_z w32 c.args.instance))) (slot_at c.args.words.now) c.loop-i.i (value_at c.args.words.now) w.in-Some.slot c.loop-i.invariant
-    (ap (slot_at c.args.words.now) (sym c.value_at.ensures.place) ∙ sym c.slot_at.ensures ∙ w.in-Some.is) (sym w.is_slot_of.ensures ∙ w.if-is_slot_of.false)
+  | in-Some+else-is_slot_of w ↦
+      finds_other (is_slot_of c.args.item (to_z w32 (of_z w32 c.args.instance))) (slot_at c.args.words.now) c.loop-i.i (value_at c.args.words.now) w.in-Some.slot c.loop-i.invariant
+      (ap (slot_at c.args.words.now) (sym c.value_at.ensures.place) ∙ sym c.slot_at.ensures ∙ w.in-Some.is) (sym w.is_slot_of.ensures ∙ w.if-is_slot_of.false)
   | in_default w ↦
-    finds_nothing (is_slot_of c.args.item (to_z w32 (of_z w32 c.args.instance))) (slot_at c.args.words.now) c.loop-i.i (value_at c.args.words.now) c.loop-i.invariant
-    (ap (slot_at c.args.words.now) (sym c.value_at.ensures.place) ∙ sym c.slot_at.ensures ∙ w.in_default.is)
-  ]
+      finds_nothing (is_slot_of c.args.item (to_z w32 (of_z w32 c.args.instance))) (slot_at c.args.words.now) c.loop-i.i (value_at c.args.words.now) c.loop-i.invariant
+      (ap (slot_at c.args.words.now) (sym c.value_at.ensures.place) ∙ sym c.slot_at.ensures ∙ w.in_default.is)
+]

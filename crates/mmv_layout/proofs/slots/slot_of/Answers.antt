@@ -25,8 +25,8 @@ returns c =
     let first : c.first_slot.result ≡ find (is_slot_of c.args.item c.args.instance) (slots_of c.args.words.now) =
     subst (λ instance. c.first_slot.result ≡ find (is_slot_of c.args.item instance) (slots_of c.args.words.now)) (to_z-of_z w32 c.args.instance c.ranges.instance) c.first_slot.ensures in
     let found = slot_found c.args.words.now c.args.item c.args.instance c.first_slot.result first in record {
-  first = first;
-  slot = found;
-  word = word_of c.args.words.now c.args.item c.args.instance c.first_slot.result c.requires found;
-  item = item_of c.args.words.now c.args.item c.args.instance c.first_slot.result c.requires found;
-}
+      first = first;
+      slot = found;
+      word = word_of c.args.words.now c.args.item c.args.instance c.first_slot.result c.requires found;
+      item = item_of c.args.words.now c.args.item c.args.instance c.first_slot.result c.requires found;
+    }
