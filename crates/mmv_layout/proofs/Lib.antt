@@ -13,4 +13,5 @@ pub mod Sections
 pub mod Shapes
 pub mod SlotFacts
 pub mod SlotLists
+pub mod SlotsOnce
 pub mod Texts

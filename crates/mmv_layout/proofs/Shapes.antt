@@ -1,5 +1,5 @@
 -- The laws of images as a kind of layout.
-use Rattle.std.proofs.Common.{◌≡◌, ◌≢◌, ℕ, ◌+◌, ◌*◌, ◌/◌, ◌%◌, ◌<◌, ◌≤◌, Bool, true, false, not, ◌||◌, ◌⊎◌, inr, List, ◌++◌, length, length-append, slice_index, slice_set, unwrap_or, ap, sym, subst, ◌∙◌, arith, nat_eq, ⊎_elim, Contains}
+use Rattle.std.proofs.Common.{refl, ◌≡◌, ◌≢◌, ℕ, ◌+◌, ◌*◌, ◌/◌, ◌%◌, ◌<◌, ◌≤◌, Bool, true, false, not, ◌||◌, ◌⊎◌, inr, List, ◌++◌, length, length-append, slice_index, slice_set, unwrap_or, ap, sym, subst, ◌∙◌, arith, nat_eq, ⊎_elim, Contains}
 use Rattle.std.proofs.Math.ListN.{get_or-append}
 use Rattle.std.proofs.lemmas.List.{get_or-set_same, get_or-set_other, length-set}
 use Rattle.std.proofs.lemmas.Bool.{cases_eq, eq-eqb}
@@ -216,3 +216,13 @@ pub value_keeps : ValueKeepsTheForm
 value_keeps words word value h fits t =
     subst (λ w. IsAlike words (slice_set words w value)) t.stands
     (alike words (slice_set words t.slot.word value) h (slot_agrees words value t.slot h (slots_in_form words t.slot t.among) t.takes))
+
+-- an image agrees with itself
+pub self_agrees : (a : List ℕ) → is_image a ≡ true → Agrees a a
+self_agrees a h = record {
+  longer = omega arith;
+  few = few_words a h;
+  again = twice a h;
+  same = λ place looked. refl;
+  choices = λ i below six. chosen a i h below six;
+}

@@ -2,13 +2,14 @@
 -- stand. Two images have one form where all of it agrees.
 use Rattle.std.specs.Prelude.{◌≡◌, ◌≢◌, ◌⊎◌, ℕ, ℤ, negsuc, ◌+◌, ◌/◌, Bool, ◌&&◌, ◌==◌, nat_le, if◌then◌else◌, List, Option, None, Some, unwrap_or}
 use Rattle.std.specs.Ordering.{int_eq}
-use Rattle.std.specs.List.{filter_map}
+use Rattle.std.specs.List.{filter_map, Contains}
 use Rattle.pcp_base.specs.Codes.{kind_of_code}
 use Rattle.pcp_base.specs.declared.kind.Kind.TheVariants.{I32}
 use Rattle.mmv_layout.specs.declared.rows.IndomRow.{IndomRow}
 use Rattle.mmv_layout.specs.declared.rows.MetricRow.{MetricRow}
 use Rattle.mmv_layout.specs.declared.rows.Slot.{Slot}
 use Rattle.mmv_layout.specs.Contents.{version_in, flags_in, cluster_in}
+use Rattle.mmv_layout.specs.FirstForm.{IsImage}
 use Rattle.mmv_layout.specs.Entries.{value_count, value_at, string_count, string_at}
 use Rattle.mmv_layout.specs.Rows.{list_below, process_in, string_text, item_of, type_of, instance_of, indoms_of, metrics_of, strings_of}
 
@@ -79,3 +80,8 @@ form_of words = record {
   slots = slots_of words;
   offsets = offsets_of words;
 }
+
+-- an image has at most one value word for an item and an instance
+abbrev pub HasOneSlotEach : Type 0
+HasOneSlotEach = (words : List ℕ) → IsImage words → (slot other : Slot) → Contains (slots_of words) slot → Contains (slots_of words) other
+    → slot.item ≡ other.item → slot.instance ≡ other.instance → slot ≡ other

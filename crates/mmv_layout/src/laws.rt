@@ -1,3 +1,4 @@
+ghost use Rattle.mmv_layout.specs.Form.{HasOneSlotEach};
 ghost use Rattle.mmv_layout.specs.Laws.{WordsHoldBytes, NumberHoldsBytes, NumberHoldsHalves};
 ghost use Rattle.mmv_layout.specs.Says.{SaysOneLayout};
 ghost use Rattle.mmv_layout.specs.ShapeLaws.{HasGenerationTwice, GenerationIsNoValue, ValueKeepsTheForm, LengthKeepsTheForm, GenerationKeepsTheForm};
@@ -49,4 +50,9 @@ pub fn length_keeps_the_form()
 /// An image with both generations replaced by one number is an image of the same form.
 pub fn generation_keeps_the_form()
     ensures { GenerationKeepsTheForm }
+{}
+
+/// An image has at most one value word for an item and an instance.
+pub fn one_slot_each()
+    ensures { HasOneSlotEach }
 {}

@@ -21,7 +21,7 @@ pub use fault::ImageFault;
 pub use image::{Image, is_image};
 pub use laws::{
     generation_is_no_value, generation_keeps_the_form, has_generation_twice, length_keeps_the_form,
-    number_holds_bytes, number_holds_halves, says_one_layout, value_keeps_the_form,
+    number_holds_bytes, number_holds_halves, one_slot_each, says_one_layout, value_keeps_the_form,
     words_hold_bytes,
 };
 pub use rows::{Content, IndomRow, Layout, MetricRow, Slot, ValueRow};
