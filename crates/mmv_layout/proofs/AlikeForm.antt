@@ -1,5 +1,5 @@
 -- Words that agree with an image wherever its tests look are an image, of the same form.
-use Rattle.std.proofs.Common.{◌≡◌, ℕ, zero, suc, ℤ, ◌+◌, ◌*◌, ◌%◌, ◌<◌, ◌≤◌, Bool, true, false, not, ◌&&◌, ◌||◌, inl, inr, List, length, Option, Some, ap, ap₂, sym, subst, ◌∙◌, refl, arith, add-zero, nat_eq, nat_le, nat_lt, w32, ⊎_elim}
+use Rattle.std.proofs.Common.{cond, ◌≡◌, ℕ, zero, suc, ℤ, ◌+◌, ◌*◌, ◌%◌, ◌<◌, ◌≤◌, Bool, true, false, not, ◌&&◌, ◌||◌, inl, inr, List, length, Option, Some, ap, ap₂, sym, subst, ◌∙◌, refl, arith, add-zero, nat_eq, nat_le, nat_lt, w32, ⊎_elim}
 use Rattle.std.specs.Int.{cast_signed}
 use Rattle.std.specs.List.{filter_map}
 use Rattle.std.proofs.lemmas.Bool.Decides.{nat_tests}
@@ -7,21 +7,22 @@ use Rattle.std.proofs.lemmas.Bool.{eq-eqb}
 use Rattle.mmv_layout.specs.declared.rows.IndomRow.{IndomRow}
 use Rattle.mmv_layout.specs.declared.rows.MetricRow.{MetricRow}
 use Rattle.mmv_layout.specs.declared.rows.Slot.{Slot}
+use Rattle.mmv_layout.specs.declared.rows.Content.TheVariants.{Number, Choice, Raw}
 use Rattle.mmv_layout.specs.Below.{all_below}
 use Rattle.mmv_layout.specs.Fields.{number32, number64}
 use Rattle.mmv_layout.specs.Contents.{bytes_in, is_short, contents_in, has_good_section, is_aligned, sections_are_good, sections_are_aligned, section_of}
-use Rattle.mmv_layout.specs.Entries.{indom_count, indom_at, instance_count, instance_at, metric_count, metric_at, value_count, value_at, string_count, string_at, help_leads, is_good_indom, is_good_instance, is_no_domain, has_good_fields, is_good_metric, is_good_value, is_good_string, indoms_are_good, instances_are_good, metrics_are_good, values_are_good, strings_are_good}
+use Rattle.mmv_layout.specs.Entries.{leads_to_string, indom_count, indom_at, instance_count, instance_at, metric_count, metric_at, value_count, value_at, string_count, string_at, help_leads, is_good_indom, is_good_instance, is_no_domain, has_good_fields, is_good_metric, is_good_value, is_good_string, indoms_are_good, instances_are_good, metrics_are_good, values_are_good, strings_are_good}
 use Rattle.mmv_layout.specs.FirstForm.{has_good_header, is_image}
-use Rattle.mmv_layout.specs.Rows.{list_below, string_text, help_of, instance_row, instances_of, indom_row, metric_row, item_of, domain_of, instance_of, indoms_of, metrics_of, strings_of}
+use Rattle.mmv_layout.specs.Rows.{list_below, string_text, help_of, instance_row, instances_of, indom_row, metric_row, item_of, type_of, domain_of, instance_of, content_of, value_row, indoms_of, metrics_of, values_of, strings_of, layout_of}
 use Rattle.mmv_layout.specs.Form.{slot_at, slots_of, offsets_of, subjects_of, Form, form_of}
 use Rattle.mmv_layout.specs.Says.{LeadsTo}
 use Rattle.mmv_layout.proofs.Below.{all_at, both_left, both_right}
 use Rattle.mmv_layout.proofs.FirstForms.{short_words}
-use Rattle.mmv_layout.proofs.Goods.{either, or_right, leads_there, header, sections, aligned, good_indom, good_instance, good_metric, good_value, good_string}
+use Rattle.mmv_layout.proofs.Goods.{eq_of, either, or_right, leads_there, header, sections, aligned, good_indom, good_instance, good_metric, good_value, good_string}
 use Rattle.mmv_layout.proofs.Looked.{Looked, five_words, looked_indom, looked_metric, looked_string}
 use Rattle.mmv_layout.proofs.RowLists.{rows_same}
 use Rattle.mmv_layout.proofs.SlotLists.{gives_same}
-use Rattle.mmv_layout.proofs.Saying.{indom_rows_same, metric_rows_same, metric_fields}
+use Rattle.mmv_layout.proofs.Saying.{indom_rows_same, metric_rows_same, value_rows_same, layouts_same, metric_fields}
 use Rattle.mmv_layout.proofs.Alike.{Agrees, head32, contents_same, count_same, place_same, section_same, section_still, same32, text_same, indom_place, run_leads, looked_run, indom_same, instance_same, metric_place, metric_looked, metric_same, of_same, field_same, instance_there, value_still, string_place, string_same}
 
 all_hold : (n m : ℕ) (test : ℕ → Bool) → m ≡ n → ((k : ℕ) → k < n → test k ≡ true) → all_below m test ≡ true
@@ -231,3 +232,39 @@ module _ (a b : List ℕ) (h : is_image a ≡ true) (g : Agrees a b) where
       (head32 a b h g 4 (omega arith) (inl (omega arith))) (head32 a b h g 28 (omega arith) (inr (omega arith)))
       (head32 a b h g 32 (omega arith) (inr (omega arith))) (head32 a b h g 36 (omega arith) (inr (omega arith)))
       indoms_same metrics_same subjects_same strings_same slots_same offsets_same
+
+  -- what they say, where they agree in the contents and the generation too
+
+  module _ (numbers : (i : ℕ) → i < value_count a → number64 b (value_at a i) ≡ number64 a (value_at a i))
+      (extras : (i : ℕ) → i < value_count a → number64 b (value_at a i + 8) ≡ number64 a (value_at a i + 8))
+      (generation : number64 b 8 ≡ number64 a 8) where
+    content_same : (i : ℕ) → i < value_count a → content_of b (value_at a i) ≡ content_of a (value_at a i)
+    unfolding content_of
+    content_same i below =
+        rw (of_same a b h g i 68 below (omega arith), numbers i below, extras i below)
+        (⊎_elim
+        (λ (choice : nat_eq (type_of a (value_at a i)) 6 ≡ true).
+        ap (λ t. cond (nat_le (type_of a (value_at a i)) 3) (Number (number64 a (value_at a i))) (cond (nat_eq (type_of a (value_at a i)) 6) (Choice t) (Raw (number64 a (value_at a i)) (number64 a (value_at a i + 8)))))
+        (string_text_same (number64 a (value_at a i + 8)) (leads_there (section_of a 5).place (section_of a 5).count 256 (number64 a (value_at a i + 8))
+        (ap (leads_to_string a) (sym (extras i below)) ∙ g.choices i below (eq_of (type_of a (value_at a i)) 6 choice)))))
+        (λ (other : nat_eq (type_of a (value_at a i)) 6 ≡ false). rw other refl)
+        (either (nat_eq (type_of a (value_at a i)) 6)))
+
+    value_row_same : (i : ℕ) → i < value_count a → value_row b (value_at a i) ≡ value_row a (value_at a i)
+    unfolding value_row
+    value_row_same i below =
+        value_rows_same (value_row b (value_at a i)) (value_row a (value_at a i)) (of_same a b h g i 64 below (omega arith)) (instance_of_same i below) (content_same i below)
+
+    values_same : values_of b ≡ values_of a
+    unfolding values_of
+    values_same =
+        ap (λ s. list_below s.count (λ i. value_row b (s.place + 32 * i))) (section_same a b h g 4)
+        ∙ rows_same (value_count a) (λ i. value_row b (value_at a i)) (λ i. value_row a (value_at a i)) value_row_same
+
+    pub layout_same : layout_of b ≡ layout_of a
+    unfolding layout_of
+    layout_same =
+        layouts_same (layout_of b) (layout_of a)
+        (head32 a b h g 4 (omega arith) (inl (omega arith))) generation (head32 a b h g 28 (omega arith) (inr (omega arith)))
+        (head32 a b h g 32 (omega arith) (inr (omega arith))) (head32 a b h g 36 (omega arith) (inr (omega arith)))
+        indoms_same metrics_same values_same strings_same

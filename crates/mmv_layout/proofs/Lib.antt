@@ -3,6 +3,7 @@ pub mod AlikeForm
 pub mod Below
 pub mod Bytes
 pub mod FirstForms
+pub mod FormSays
 pub mod Goods
 pub mod Leads
 pub mod Looked

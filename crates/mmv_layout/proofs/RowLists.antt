@@ -1,6 +1,7 @@
 -- Lists of one row for each number below a count, and rows that stand one behind the other.
-use Rattle.std.proofs.Common.{◌≡◌, ℕ, zero, suc, ◌+◌, ◌*◌, ◌<◌, List, [], ◌∷◌, ◌++◌, length, length-append, refl, add-one, ap, ap₂, sym, subst, ◌∙◌, arith, ⊎_elim, Contains}
-use Rattle.std.proofs.lemmas.List.Elements.{Contains-push_cases}
+use Rattle.std.proofs.Common.{◌≡◌, ℕ, zero, suc, ◌+◌, ◌*◌, ◌<◌, List, [], ◌∷◌, ◌++◌, length, length-append, refl, add-one, ap, ap₂, sym, subst, ◌∙◌, arith, ⊎_elim, ◌⊎◌, Contains, map}
+use Rattle.std.proofs.lemmas.List.Elements.{Contains-push_cases, Contains-append_left, Contains-append_right}
+use Rattle.std.proofs.lemmas.List.{map-append}
 use Rattle.mmv_layout.specs.Rows.{list_below}
 use Rattle.mmv_layout.specs.Says.{EachAt}
 
@@ -66,3 +67,20 @@ among_rows zero row y (k, below, stands) = absurd (omega arith)
 among_rows (suc n) row y h =
     ⊎_elim (λ (before : Contains (list_below n row) y). let (k, below, is) = among_rows n row y before in (k, omega arith, is))
     (λ (last : row n ≡ y). (n, omega arith, sym last)) (Contains-push_cases (list_below n row) (row n) y h)
+
+-- each row is among them
+pub row_among : {X : Type 0} (n k : ℕ) (row : ℕ → X) → k < n → Contains (list_below n row) (row k)
+unfolding list_below
+row_among zero k row below = absurd (omega arith)
+row_among (suc n) k row below =
+    ⊎_elim (λ (before : k < n). Contains-append_left (list_below n row) (row n ∷ []) (row k) (row_among n k row before))
+    (λ (last : k ≡ n). Contains-append_right (list_below n row) (row n ∷ []) (row k) (0, omega arith, ap row (sym last))) (below_suc k n below)
+  where
+    below_suc : (k n : ℕ) → k < suc n → (k < n) ⊎ (k ≡ n)
+    below_suc k n h = grind arith
+
+-- a function of each row
+pub rows_mapped : {X Y : Type 0} (f : X → Y) (n : ℕ) (row : ℕ → X) → map f (list_below n row) ≡ list_below n (λ k. f (row k))
+unfolding list_below
+rows_mapped f zero row = refl
+rows_mapped f (suc n) row = map-append f (list_below n row) (row n ∷ []) ∙ ap (λ ys. ys ++ f (row n) ∷ []) (rows_mapped f n row)

@@ -243,9 +243,9 @@ content_only words value (Raw number extra) h =
 value_with : ℕ → Option ℤ → Content → ValueRow
 value_with a b c = record { item = a; instance = b; content = c }
 
-value_same : (row other : ValueRow) → row.item ≡ other.item → row.instance ≡ other.instance → row.content ≡ other.content → row ≡ other
+pub value_rows_same : (row other : ValueRow) → row.item ≡ other.item → row.instance ≡ other.instance → row.content ≡ other.content → row ≡ other
 unfolding value_with
-value_same row other a b c =
+value_rows_same row other a b c =
     let same : value_with row.item row.instance row.content ≡ value_with other.item other.instance other.content = cc in same
 
 -- a value's metric is one of the image's, and its type has a meaning
@@ -277,17 +277,17 @@ value_there words i h below =
 value_only : (words : List ℕ) (value : ℕ) (row : ValueRow) → ValueAt words value row → row ≡ value_row words value
 unfolding value_row
 value_only words value row h =
-    value_same row (value_row words value) h.item (instance_of_only words value row.instance h.instance) (content_only words value row.content h.content)
+    value_rows_same row (value_row words value) h.item (instance_of_only words value row.instance h.instance) (content_only words value row.content h.content)
 
 -- Layouts
 
 layout_with : ℕ → ℕ → ℕ → ℕ → ℕ → List IndomRow → List MetricRow → List ValueRow → List (List ℕ) → Layout
 layout_with a b c d e f g h i = record { version = a; generation = b; flags = c; pid = d; cluster = e; indoms = f; metrics = g; values = h; strings = i }
 
-layout_same : (a b : Layout) → a.version ≡ b.version → a.generation ≡ b.generation → a.flags ≡ b.flags → a.pid ≡ b.pid → a.cluster ≡ b.cluster
+pub layouts_same : (a b : Layout) → a.version ≡ b.version → a.generation ≡ b.generation → a.flags ≡ b.flags → a.pid ≡ b.pid → a.cluster ≡ b.cluster
     → a.indoms ≡ b.indoms → a.metrics ≡ b.metrics → a.values ≡ b.values → a.strings ≡ b.strings → a ≡ b
 unfolding layout_with
-layout_same a b p q r s t u v w x =
+layouts_same a b p q r s t u v w x =
     let same : layout_with a.version a.generation a.flags a.pid a.cluster a.indoms a.metrics a.values a.strings
     ≡ layout_with b.version b.generation b.flags b.pid b.cluster b.indoms b.metrics b.values b.strings = cc in same
 
@@ -324,7 +324,7 @@ layout_says words h = record {
 pub says_layout : (words : List ℕ) (other : Layout) → Says words other → other ≡ layout_of words
 unfolding layout_of indoms_of metrics_of values_of strings_of
 says_layout words other h =
-    layout_same other (layout_of words) h.version h.generation h.flags h.pid h.cluster
+    layouts_same other (layout_of words) h.version h.generation h.flags h.pid h.cluster
     (only_section (IndomAt words) (indom_row words) 32 (section_of words 1).place (section_of words 1).count other.indoms (indom_only words) h.indoms)
     (only_section (MetricAt words) (metric_row words) 104 (section_of words 3).place (section_of words 3).count other.metrics (metric_only words) h.metrics)
     (only_section (ValueAt words) (value_row words) 32 (section_of words 4).place (section_of words 4).count other.values (value_only words) h.values)

@@ -65,11 +65,11 @@ chosen words i h below six =
 
 -- further words
 
-number_before : (a more : List ℕ) (place : ℕ) → place < 8 * length a → number64 (a ++ more) place ≡ number64 a place
+pub number_before : (a more : List ℕ) (place : ℕ) → place < 8 * length a → number64 (a ++ more) place ≡ number64 a place
 unfolding number64
 number_before a more place below = get_or-append a more 0 (place / 8) (omega arith)
 
-longer_agrees : (a more : List ℕ) → is_image a ≡ true → length (a ++ more) ≤ 65536 → Agrees a (a ++ more)
+pub longer_agrees : (a more : List ℕ) → is_image a ≡ true → length (a ++ more) ≤ 65536 → Agrees a (a ++ more)
 longer_agrees a more h few =
     let five : 5 ≤ length a = five_words a h in
     let sum : length (a ++ more) ≡ length a + length more = length-append a more in record {

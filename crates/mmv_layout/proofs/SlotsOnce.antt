@@ -1,14 +1,13 @@
 -- An image has at most one value word for an item and an instance.
-use Rattle.std.proofs.Common.{◌≡◌, ◌≢◌, ℕ, zero, suc, ℤ, negsuc, ◌+◌, ◌*◌, ◌%◌, ◌^◌, ◌<◌, ◌≤◌, Bool, true, false, not, ◌&&◌, ◌||◌, ◌⊎◌, inl, inr, List, length, Option, None, Some, unwrap_or, ap, ap₂, sym, subst, ◌∙◌, refl, arith, cond, nat_eq, w32, ⊎_elim, true≢false, Contains}
+use Rattle.std.proofs.Common.{◌≡◌, ℕ, negsuc, ◌+◌, ◌^◌, ◌<◌, Bool, true, false, not, ◌||◌, ◌⊎◌, List, Some, unwrap_or, ap, sym, ◌∙◌, refl, arith, cond, w32, ⊎_elim, true≢false}
 use Rattle.std.specs.Int.{cast_signed, cast_unsigned}
 use Rattle.std.proofs.lemmas.Int.{of_z-to_z}
 use Rattle.std.proofs.lemmas.Bool.{eq-eqb, cases_order}
-use Rattle.mmv_layout.specs.declared.rows.Slot.{Slot}
 use Rattle.mmv_layout.specs.Fields.{number32, number64}
 use Rattle.mmv_layout.specs.Entries.{indom_count, indom_at, instance_count, instance_at, metric_count, metric_at, value_count, value_at, metric_of, is_no_domain, has_serial, is_new_indom, is_good_indom, is_same_instance, is_new_instance, is_good_instance, is_same_metric, is_new_metric, is_good_metric, instance_leads, is_same_value, is_new_value, is_good_value}
-use Rattle.mmv_layout.specs.FirstForm.{is_image, IsImage}
+use Rattle.mmv_layout.specs.FirstForm.{is_image}
 use Rattle.mmv_layout.specs.Rows.{item_of, domain_of, instance_of}
-use Rattle.mmv_layout.specs.Form.{slot_at, slots_of, HasOneSlotEach}
+use Rattle.mmv_layout.specs.Form.{slot_at, HasOneSlotEach}
 use Rattle.mmv_layout.specs.Says.{LeadsTo}
 use Rattle.mmv_layout.proofs.Below.{all_at, both_left, both_right}
 use Rattle.mmv_layout.proofs.Goods.{eq_of, either, good_indom, good_instance, good_metric, good_value}
@@ -136,16 +135,17 @@ module _ (a : List ℕ) (h : is_image a ≡ true) where
       let (q, q_below, q_is) = value_metric a j (good_value a j h y) in
       let metrics : metric_of a (value_at a i) ≡ metric_of a (value_at a j) =
       p_is ∙ ap (metric_at a) (metric_once p q p_below q_below (sym (ap (λ m. number32 a (m + 64)) p_is) ∙ items ∙ ap (λ m. number32 a (m + 64)) q_is)) ∙ sym q_is in
-      let domains : domain_of a (value_at a i) ≡ domain_of a (value_at a j) = ap (λ m. number32 a (m + 80)) metrics in
-      (metrics,
-      ⊎_elim
-      (λ (none : is_no_domain (domain_of a (value_at a i)) ≡ true). null_field i x none ∙ sym (null_field j y (sym (ap is_no_domain domains) ∙ none)))
-      (λ (some : is_no_domain (domain_of a (value_at a i)) ≡ false).
-      let others : is_no_domain (domain_of a (value_at a j)) ≡ false = sym (ap is_no_domain domains) ∙ some in
-      place_once (number64 a (value_at a i + 24)) (number64 a (value_at a j + 24)) (instance_there a a h (self_agrees a h) i x some) (instance_there a a h (self_agrees a h) j y others)
-      (field_serial i x some ∙ domains ∙ sym (field_serial j y others))
-      (number_of (number64 a (value_at a i + 24) + 12) (number64 a (value_at a j + 24) + 12) (sym (told i some) ∙ instances ∙ told j others)))
-      (either (is_no_domain (domain_of a (value_at a i)))))
+      let domains : domain_of a (value_at a i) ≡ domain_of a (value_at a j) = ap (λ m. number32 a (m + 80)) metrics in (
+        metrics,
+        ⊎_elim
+            (λ (none : is_no_domain (domain_of a (value_at a i)) ≡ true). null_field i x none ∙ sym (null_field j y (sym (ap is_no_domain domains) ∙ none)))
+            (λ (some : is_no_domain (domain_of a (value_at a i)) ≡ false).
+            let others : is_no_domain (domain_of a (value_at a j)) ≡ false = sym (ap is_no_domain domains) ∙ some in
+            place_once (number64 a (value_at a i + 24)) (number64 a (value_at a j + 24)) (instance_there a a h (self_agrees a h) i x some) (instance_there a a h (self_agrees a h) j y others)
+            (field_serial i x some ∙ domains ∙ sym (field_serial j y others))
+            (number_of (number64 a (value_at a i + 24) + 12) (number64 a (value_at a j + 24) + 12) (sym (told i some) ∙ instances ∙ told j others)))
+            (either (is_no_domain (domain_of a (value_at a i)))),
+      )
 
   value_new : (i j : ℕ) → j < value_count a → i < j → is_same_value a (value_at a i) (value_at a j) ≡ false
   unfolding is_good_value is_new_value

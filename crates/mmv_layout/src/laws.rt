@@ -1,7 +1,7 @@
 ghost use Rattle.mmv_layout.specs.Form.{HasOneSlotEach};
 ghost use Rattle.mmv_layout.specs.Laws.{WordsHoldBytes, NumberHoldsBytes, NumberHoldsHalves};
 ghost use Rattle.mmv_layout.specs.Says.{SaysOneLayout};
-ghost use Rattle.mmv_layout.specs.ShapeLaws.{HasGenerationTwice, GenerationIsNoValue, ValueKeepsTheForm, LengthKeepsTheForm, GenerationKeepsTheForm};
+ghost use Rattle.mmv_layout.specs.ShapeLaws.{HasGenerationTwice, GenerationIsNoValue, ValueKeepsTheForm, LengthKeepsTheForm, GenerationKeepsTheForm, LengthKeepsTheLayout, FormIsSaid, TextsAreTheForms, SlotHoldsTheContent};
 
 /// The words that bytes make hold these bytes, each at its place.
 #[tactic(auto, using(crate::proofs::Bytes::words_hold))]
@@ -55,4 +55,24 @@ pub fn generation_keeps_the_form()
 /// An image has at most one value word for an item and an instance.
 pub fn one_slot_each()
     ensures { HasOneSlotEach }
+{}
+
+/// An image with further words behind it, up to 65,536 in all, says the same.
+pub fn length_keeps_the_layout()
+    ensures { LengthKeepsTheLayout }
+{}
+
+/// The form of words is what they say without the generation and the contents of their values.
+pub fn form_is_said()
+    ensures { FormIsSaid }
+{}
+
+/// The texts with their offsets are the strings and the offsets of the form.
+pub fn texts_are_the_forms()
+    ensures { TextsAreTheForms }
+{}
+
+/// What a value word of an image holds is the content of its value.
+pub fn slot_holds_the_content()
+    ensures { SlotHoldsTheContent }
 {}

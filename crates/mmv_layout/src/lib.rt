@@ -20,9 +20,10 @@ mod values;
 pub use fault::ImageFault;
 pub use image::{Image, is_image};
 pub use laws::{
-    generation_is_no_value, generation_keeps_the_form, has_generation_twice, length_keeps_the_form,
-    number_holds_bytes, number_holds_halves, one_slot_each, says_one_layout, value_keeps_the_form,
-    words_hold_bytes,
+    form_is_said, generation_is_no_value, generation_keeps_the_form, has_generation_twice,
+    length_keeps_the_form, length_keeps_the_layout, number_holds_bytes, number_holds_halves,
+    one_slot_each, says_one_layout, slot_holds_the_content, texts_are_the_forms,
+    value_keeps_the_form, words_hold_bytes,
 };
 pub use rows::{Content, IndomRow, Layout, MetricRow, Slot, ValueRow};
 
