@@ -58,17 +58,6 @@ kind_is words h =
     ⊎_elim (λ (zero_is : code ≡ 0). inl (ap (λ n. unwrap_or (kind_of_code n) I32) zero_is)) (λ (one_is : code ≡ 1). inr (ap (λ n. unwrap_or (kind_of_code n) I32) one_is))
     (code_is code (le_of _ _ (both_left _ _ (both_left _ _ (both_left _ _ (plain words h))))))
 
-one_is_some : (n : ℕ) → n ≡ 1 → n ≢ 0
-one_is_some n h = λ e. absurd (omega arith)
-
--- the value's word is one of the words
-pub value_lies : (words : List ℕ) → is_first_form words ≡ true → value_word words < length words
-unfolding value_word section_bytes
-value_lies words h =
-    let one : value_count words ≡ 1 = eq_of _ _ (one_value words h) in
-    let ends : (section_of words 4).place + section_bytes 4 (section_of words 4).count ≤ bytes_in words = section_ends words 4 (sections words (image words h)) (one_is_some _ one) in
-    omega arith
-
 name_spelt : (words : List ℕ) → is_first_form words ≡ true → spells true (only_name words) ≡ true
 unfolding has_name only_name
 name_spelt words h = both_right _ _ (named words h)
@@ -81,8 +70,3 @@ unfolding has_name only_name
 name_short words h =
     let less : length (text_at words (metric_at words 0) 64) < 64 = text_short words (metric_at words 0) 64 (both_left _ _ (named words h)) in
     omega arith
-
--- the value's word holds the value
-pub value_stands : (words : List ℕ) → slice_index words (value_word words) ≡ only_value words
-unfolding value_word only_value number64
-value_stands words = refl

@@ -79,14 +79,6 @@ only_metric words = record {
   long = None;
 }
 
--- the index of the word that holds the one value
-unfoldable pub value_word : List ℕ → ℕ
-value_word words = value_at words 0 / 8
-
 -- the whole value field of the one value
 unfoldable pub only_value : List ℕ → ℕ
 only_value words = number64 words (value_at words 0)
-
--- the one value word; its instance is -1, as its metric has no domain
-abbrev pub only_slot : List ℕ → Slot
-only_slot words = record { item = only_item words; instance = negsuc 0; kind = only_kind words; word = value_word words }

@@ -1,19 +1,24 @@
-ghost use Rattle.std.specs.Prelude.{◌≡◌, ◌≢◌, ◌<◌, ◌≤◌, ◌^◌, ◌⊎◌, negsuc, length, IfOk, IfSome, OnOk, Err, MatchOption, slice_index};
+ghost use Rattle.std.specs.Prelude.{◌≡◌, ◌≢◌, ◌<◌, ◌≤◌, ◌^◌, ◌⊎◌, negsuc, length, All, Contains, IfOk, IfSome, OnOk, Err, None, MatchOption};
 ghost use Rattle.pcp_base.specs.declared.kind.Kind.TheVariants.{I32, U32};
 ghost use Rattle.pcp_base.specs.Names.{IsName};
 ghost use Rattle.mmv_layout.specs.Contents.{cluster_in, is_short};
 ghost use Rattle.mmv_layout.specs.Fields.{words_of};
 ghost use Rattle.mmv_layout.specs.Faults.{image_in, image_of};
-ghost use Rattle.mmv_layout.specs.FirstForm.{IsImage, is_plain_metric, is_first_form, IsFirstForm, only_item, only_kind, only_semantics, only_units, only_name, only_metric, only_slot, only_value, value_word};
+ghost use Rattle.mmv_layout.specs.Form.{slots_of, texts_of, IsSlotOf, IsOther};
+ghost use Rattle.mmv_layout.specs.Rows.{layout_of};
+ghost use Rattle.mmv_layout.specs.Says.{Says};
+ghost use Rattle.mmv_layout.specs.FirstForm.{IsImage, is_plain_metric, is_first_form, IsFirstForm, only_item, only_kind, only_semantics, only_units, only_name, only_metric, only_value};
 
 use crate::entries::{metric_at, value_at};
 use crate::fault::ImageFault;
 use crate::fields::{NAME_SIZE, number32, number64, text_at, words_of};
 use crate::first_fault::image_fault;
+use crate::layout::layout;
 use crate::metrics::{is_no_domain, metric_count};
-use crate::rows::{MetricRow, Slot};
+use crate::rows::{Layout, MetricRow, Slot};
+use crate::slots::{slot_of, slots, texts};
 use crate::values::value_count;
-use pcp_base::{Kind, NoMemory, Semantics, Text, TextError, Units};
+use pcp_base::{Kind, List, NoMemory, Semantics, Text, TextError, Units};
 use std::alloc::Global;
 use std::marker::Model;
 
@@ -79,15 +84,6 @@ fn only_name(alloc: Global, words: &[u64]) -> Result<Text, NoMemory>
         Err(TextError::NoMemory) => Err(NoMemory),
         Err(TextError::Zero(_)) => unreachable!(),
     }
-}
-
-/// The index of the word that holds the one value.
-#[tactic(auto, using(crate::proofs::FirstForms::value_lies, crate::proofs::Images::at_most, crate::proofs::FirstForms::image), unfolding(crate::specs::FirstForm::value_word))]
-fn value_word(words: &[u64]) -> u32
-    requires { IsFirstForm words.now }
-    ensures { result ≡ value_word words.now }
-{
-    (value_at(words, 0) / 8) as u32
 }
 
 /// An image of version 1 (mmv(5)). Contracts see it as the list of its words.
@@ -188,27 +184,38 @@ impl Image {
         number64(&self.words, value_at(&self.words, 0))
     }
 
-    /// The word that holds the value of an item and an instance; the instance is -1, as the metric has no domain.
-    /// `None` exactly where no value word belongs to them.
-    #[tactic(auto, using(crate::proofs::FirstForms::value_lies, crate::proofs::FirstForms::item_fits, crate::proofs::FirstForms::kind_is, crate::proofs::FirstForms::value_stands))]
-    pub fn slot_of(&self, item: u32, instance: i32) -> Option<Slot>
-        requires { IsFirstForm self.now }
-        ensures slot { MatchOption result ((item ≢ only_item self.now) ⊎ (instance ≢ negsuc 0))
-            (λ s. (item ≡ only_item self.now) × (instance ≡ negsuc 0) × (s ≡ only_slot self.now)) }
-        ensures word { IfSome result (λ s. s.word < length self.now) }
-        ensures value { IfSome result (λ s. slice_index self.now s.word ≡ only_value self.now) }
-        ensures item { IfSome result (λ s. s.item ≤ 1023) }
-        ensures kind { IfSome result (λ s. (s.kind ≡ I32) ⊎ (s.kind ≡ U32)) }
+    /// What the image says: each row by the addresses of its fields, each reference as the row to which it leads.
+    pub fn layout(&self, alloc: Global) -> Result<Layout, NoMemory>
+        ensures value { IfOk result (λ layout. layout ≡ layout_of self.now) }
+        ensures says { IfOk result (λ layout. Says self.now layout) }
     {
-        if instance != -1 || item != only_item(&self.words) {
-            return None;
-        }
-        Some(Slot {
-            item,
-            instance,
-            kind: only_kind(&self.words),
-            word: value_word(&self.words),
-        })
+        layout(alloc, &self.words)
+    }
+
+    /// The value words, in the order of the values.
+    pub fn slots(&self, alloc: Global) -> Result<List<Slot>, NoMemory>
+        ensures { IfOk result (λ slots. slots ≡ slots_of self.now) }
+    {
+        slots(alloc, &self.words)
+    }
+
+    /// The strings with their offsets, in the order of their section.
+    pub fn texts(&self, alloc: Global) -> Result<List<(u64, Text)>, NoMemory>
+        ensures { IfOk result (λ texts. texts ≡ texts_of self.now) }
+    {
+        texts(alloc, &self.words)
+    }
+
+    /// The word that holds the value of an item and an instance, which is -1 for a metric without a domain; `None`
+    /// exactly where no value word belongs to them. A value of kinds `I32` to `U64` has its first word, one of `Text`
+    /// its second, and other kinds have none.
+    pub fn slot_of(&self, item: u32, instance: i32) -> Option<Slot>
+        ensures slot { MatchOption result (All (IsOther item instance) (slots_of self.now))
+            (λ s. Contains (slots_of self.now) s × IsSlotOf item instance s) }
+        ensures word { IfSome result (λ s. s.word < length self.now) }
+        ensures item { item ≤ 1023 ⊎ (result ≡ None) }
+    {
+        slot_of(&self.words, item, instance)
     }
 
     /// The one metric, without an instance domain and help texts.

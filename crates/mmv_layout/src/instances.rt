@@ -106,7 +106,7 @@ fn is_good_string(words: &[u64], i: u32) -> bool
     has_zero(words, string_at(words, i), STRING_SIZE as u32)
 }
 
-fn string_count(words: &[u64]) -> u32
+pub fn string_count(words: &[u64]) -> u32
     ensures { result ≡ string_count words.now }
 {
     section_of(words, STRINGS).count

@@ -12,7 +12,7 @@ use std::alloc::{AllocError, Global};
 
 /// The place of the metric of the value at a place.
 #[tactic(auto, unfolding(crate::specs::Entries::metric_of))]
-fn metric_of(words: &[u64], value: u128) -> u64
+pub fn metric_of(words: &[u64], value: u128) -> u64
     requires { value < 2 ^ 80 }
     ensures { result ≡ metric_of words.now value }
 {

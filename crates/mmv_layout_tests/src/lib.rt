@@ -12,3 +12,5 @@ mod hostile;
 mod images;
 #[cfg(test)]
 mod order;
+#[cfg(test)]
+mod says;

@@ -1,0 +1,426 @@
+-- Words that agree with an image wherever its tests look are an image too: each test has the same answer.
+use Rattle.std.proofs.Common.{◌≡◌, ℕ, zero, suc, ◌+◌, ◌*◌, ◌/◌, ◌%◌, ◌^◌, ◌<◌, ◌≤◌, Bool, true, false, not, ◌&&◌, ◌||◌, ◌⊎◌, inr, List, [], ◌∷◌, length, ap, ap₂, sym, subst, ◌∙◌, refl, arith, add-zero, nat_eq, nat_le, cond, bytes_eq, ⊎_elim}
+use Rattle.std.proofs.lemmas.Bool.Decides.{nat_tests}
+use Rattle.mmv_layout.specs.declared.contents.Section.{Section}
+use Rattle.mmv_layout.specs.Below.{all_below, some_below}
+use Rattle.mmv_layout.specs.Fields.{number32, number64, byte_at, text_at, has_zero, same_name}
+use Rattle.mmv_layout.specs.Contents.{contents_in, type_in, count_in, place_in, section_bytes, end_in, section_lies, are_apart, is_first_of_type, has_good_section, find_section, section_of}
+use Rattle.mmv_layout.specs.Entries.{leads_to_string, indom_count, indom_at, instance_count, instance_at, metric_count, metric_at, value_count, value_at, string_count, string_at, help_leads, is_instance_of, has_good_run, has_serial, is_new_indom, is_good_indom, has_text, lies_in_run, is_same_instance, is_new_instance, is_good_instance, has_name, is_no_domain, is_indom_serial, serial_leads, is_same_metric, is_new_metric, has_good_fields, is_good_metric, metric_of, instance_leads, choice_leads, is_same_value, is_new_value, is_good_value, is_good_string}
+use Rattle.mmv_layout.specs.FirstForm.{is_image}
+use Rattle.mmv_layout.specs.Rows.{domain_of}
+use Rattle.mmv_layout.specs.Says.{LeadsTo}
+use Rattle.mmv_layout.proofs.Below.{all_at, both_left, both_right}
+use Rattle.mmv_layout.proofs.Goods.{eq_of, either, leads_there, good_indom, good_instance, good_value}
+use Rattle.mmv_layout.proofs.Looked.{Looked, looked_header, looked_contents, looked_indom, looked_instance, looked_metric, looked_string, looked_value}
+use Rattle.mmv_layout.proofs.Saying.{value_metric}
+
+-- other words agree with an image where its tests look, have one generation twice, and no more than 65,536 words
+pub record Agrees (a b : List ℕ) : Type 0 where
+  pub longer : length a ≤ length b
+  pub few : length b ≤ 65536
+  pub again : number64 b 8 ≡ number64 b 16
+  pub same : (place : ℕ) → Looked a place → number64 b place ≡ number64 a place
+  pub choices : (i : ℕ) → i < value_count a → number32 a (metric_of a (value_at a i) + 68) ≡ 6 → leads_to_string a (number64 b (value_at a i + 8)) ≡ true
+
+all_alike : (n : ℕ) (test other : ℕ → Bool) → ((k : ℕ) → k < n → other k ≡ test k) → all_below n other ≡ all_below n test
+unfolding all_below
+all_alike zero test other same = refl
+all_alike (suc n) test other same = ap₂ (λ x y. x && y) (all_alike n test other (λ k below. same k (omega arith))) (same n (omega arith))
+
+some_alike : (n : ℕ) (test other : ℕ → Bool) → ((k : ℕ) → k < n → other k ≡ test k) → some_below n other ≡ some_below n test
+unfolding some_below
+some_alike zero test other same = refl
+some_alike (suc n) test other same = ap₂ (λ x y. x || y) (some_alike n test other (λ k below. same k (omega arith))) (same n (omega arith))
+
+all_same : (n m : ℕ) (test other : ℕ → Bool) → m ≡ n → ((k : ℕ) → k < n → other k ≡ test k) → all_below m other ≡ all_below n test
+all_same n m test other e same = ap (λ c. all_below c other) e ∙ all_alike n test other same
+
+some_same : (n m : ℕ) (test other : ℕ → Bool) → m ≡ n → ((k : ℕ) → k < n → other k ≡ test k) → some_below m other ≡ some_below n test
+some_same n m test other e same = ap (λ c. some_below c other) e ∙ some_alike n test other same
+
+section_with : ℕ → ℕ → Section
+section_with p c = record { place = p; count = c }
+
+pick_same : (type t u p q c d : ℕ) (s r : Section) → t ≡ u → p ≡ q → c ≡ d → s ≡ r → cond (nat_eq t type) (section_with p c) s ≡ cond (nat_eq u type) (section_with q d) r
+pick_same type t u p q c d s r e f m n = cc
+
+lies_still : (c n p e w v : ℕ) → w ≤ v → (nat_eq c 0 || (nat_le (40 + 16 * n) p && nat_le e (8 * w))) ≡ true → (nat_eq c 0 || (nat_le (40 + 16 * n) p && nat_le e (8 * v))) ≡ true
+lies_still c n p e w v h l = grind (arith, nat_tests)
+
+fits_still : (n w v : ℕ) → w ≤ v → nat_le n (8 * w) ≡ true → nat_le n (8 * v) ≡ true
+fits_still n w v h l = grind (arith, nat_tests)
+
+all_four : (p q r s : Bool) → p ≡ true → q ≡ true → r ≡ true → s ≡ true → (p && q && r && s) ≡ true
+all_four p q r s a b c d = rw (a, b, c, d) refl
+
+module _ (a b : List ℕ) (h : is_image a ≡ true) (g : Agrees a b) where
+  pub same32 : (place : ℕ) → Looked a place → number32 b place ≡ number32 a place
+  unfolding number32
+  same32 place looked = ap (λ n. n / 2 ^ (8 * (place % 8)) % 4294967296) (g.same place looked)
+
+  same_byte : (place : ℕ) → Looked a place → byte_at b place ≡ byte_at a place
+  unfolding byte_at
+  same_byte place looked = ap (λ n. n / 2 ^ (8 * (place % 8)) % 256) (g.same place looked)
+
+  pub text_same : (n at : ℕ) → ((k : ℕ) → k < n → Looked a (at + k)) → text_at b at n ≡ text_at a at n
+  unfolding text_at
+  text_same zero at looked = refl
+  text_same (suc n) at looked =
+      ap₂ (λ c t. cond (nat_eq c 0) [] (c ∷ t)) (same_byte at (subst (Looked a) (add-zero at) (looked 0 (omega arith))))
+      (text_same n (at + 1) (λ k below. subst (Looked a) (moved at k) (looked (suc k) (omega arith))))
+    where
+      moved : (at k : ℕ) → at + suc k ≡ (at + 1) + k
+      moved at k = omega arith
+
+  zero_same : (n at : ℕ) → ((k : ℕ) → k < n → Looked a (at + k)) → has_zero b at n ≡ has_zero a at n
+  unfolding has_zero
+  zero_same n at looked = some_alike n (λ k. nat_eq (byte_at a (at + k)) 0) (λ k. nat_eq (byte_at b (at + k)) 0) (λ k below. ap (λ c. nat_eq c 0) (same_byte (at + k) (looked k below)))
+
+  name_same : (x y : ℕ) → ((k : ℕ) → k < 64 → Looked a (x + k)) → ((k : ℕ) → k < 64 → Looked a (y + k)) → same_name b x y ≡ same_name a x y
+  unfolding same_name
+  name_same x y looked others = ap₂ bytes_eq (text_same 64 x looked) (text_same 64 y others)
+
+  -- the header and the contents
+
+  pub head32 : (place : ℕ) → place < 40 → (place < 8) ⊎ (24 ≤ place) → number32 b place ≡ number32 a place
+  head32 place below outside = same32 place (looked_header a place h below outside)
+
+  pub contents_same : contents_in b ≡ contents_in a
+  contents_same = head32 24 (omega arith) (inr (omega arith))
+
+  type_same : (i : ℕ) → i < contents_in a → type_in b i ≡ type_in a i
+  type_same i below = same32 (40 + 16 * i) (subst (Looked a) (add-zero (40 + 16 * i)) (looked_contents a i 0 h below (omega arith)))
+
+  pub count_same : (i : ℕ) → i < contents_in a → count_in b i ≡ count_in a i
+  count_same i below = same32 (44 + 16 * i) (subst (Looked a) (moved i) (looked_contents a i 4 h below (omega arith)))
+    where
+      moved : (i : ℕ) → (40 + 16 * i) + 4 ≡ 44 + 16 * i
+      moved i = omega arith
+
+  pub place_same : (i : ℕ) → i < contents_in a → place_in b i ≡ place_in a i
+  place_same i below = g.same (48 + 16 * i) (subst (Looked a) (moved i) (looked_contents a i 8 h below (omega arith)))
+    where
+      moved : (i : ℕ) → (40 + 16 * i) + 8 ≡ 48 + 16 * i
+      moved i = omega arith
+
+  end_same : (i : ℕ) → i < contents_in a → end_in b i ≡ end_in a i
+  unfolding end_in
+  end_same i below = ap₂ (λ p n. p + n) (place_same i below) (ap₂ section_bytes (type_same i below) (count_same i below))
+
+  find_same : (type n : ℕ) → n ≤ contents_in a → find_section b type n ≡ find_section a type n
+  unfolding find_section section_with
+  find_same type zero below = refl
+  find_same type (suc n) below =
+      pick_same type (type_in b n) (type_in a n) (place_in b n) (place_in a n) (count_in b n) (count_in a n) (find_section b type n) (find_section a type n)
+      (type_same n (omega arith)) (place_same n (omega arith)) (count_same n (omega arith)) (find_same type n (omega arith))
+
+  pub section_same : (type : ℕ) → section_of b type ≡ section_of a type
+  unfolding section_of
+  section_same type = ap (find_section b type) contents_same ∙ find_same type (contents_in a) (omega arith)
+
+  apart_same : (j i : ℕ) → j < contents_in a → i < contents_in a → are_apart b j i ≡ are_apart a j i
+  unfolding are_apart
+  apart_same j i x y = rw (type_same j x, type_same i y, count_same j x, count_same i y, end_same j x, end_same i y, place_same j x, place_same i y) refl
+
+  first_same : (i : ℕ) → i < contents_in a → is_first_of_type b i ≡ is_first_of_type a i
+  unfolding is_first_of_type
+  first_same i below = all_alike i (λ j. are_apart a j i) (λ j. are_apart b j i) (λ j less. apart_same j i (omega arith) below)
+
+  pub section_still : (i : ℕ) → i < contents_in a → has_good_section a i ≡ true → has_good_section b i ≡ true
+  unfolding has_good_section section_lies
+  section_still i below good =
+      all_four _ _ _ _
+      (fits_still (56 + 16 * i) (length a) (length b) g.longer (both_left _ _ (both_left _ _ (both_left _ _ good))))
+      (rw (type_same i below) (both_right _ _ (both_left _ _ (both_left _ _ good))))
+      (rw (count_same i below, contents_same, place_same i below, end_same i below) (lies_still (count_in a i) (contents_in a) (place_in a i) (end_in a i) (length a) (length b) g.longer (both_right _ _ (both_left _ _ good))))
+      (first_same i below ∙ both_right _ _ good)
+
+  -- references
+
+  pub help_same : (field : ℕ) → Looked a field → help_leads b field ≡ help_leads a field
+  unfolding help_leads
+  help_same field looked = rw (g.same field looked, section_same 5) refl
+
+  at_first : (place : ℕ) → Looked a (place + 0) → Looked a place
+  at_first place looked = subst (Looked a) (add-zero place) looked
+
+  -- domains
+
+  pub indom_place : (i : ℕ) → indom_at b i ≡ indom_at a i
+  indom_place i = ap (λ s. s.place + 32 * i) (section_same 1)
+
+  indom_serial : (i : ℕ) → i < indom_count a → number32 b (indom_at b i) ≡ number32 a (indom_at a i)
+  indom_serial i below = ap (number32 b) (indom_place i) ∙ same32 (indom_at a i) (at_first (indom_at a i) (looked_indom a i 0 h below (omega arith)))
+
+  serial_same : (serial i : ℕ) → i < indom_count a → has_serial b serial i ≡ has_serial a serial i
+  unfolding has_serial
+  serial_same serial i below = ap (λ n. nat_eq n serial) (indom_serial i below)
+
+  new_indom_same : (i : ℕ) → i < indom_count a → is_new_indom b i ≡ is_new_indom a i
+  unfolding is_new_indom
+  new_indom_same i below =
+      all_alike i (λ j. not (has_serial a (number32 a (indom_at a i)) j)) (λ j. not (has_serial b (number32 b (indom_at b i)) j))
+      (λ j less. ap (λ n. not (has_serial b n j)) (indom_serial i below) ∙ ap not (serial_same (number32 a (indom_at a i)) j (omega arith)))
+
+  good_run : (i : ℕ) → is_good_indom a i ≡ true → has_good_run a (indom_at a i) ≡ true
+  unfolding is_good_indom
+  good_run i good = both_right _ _ (both_left _ _ (both_left _ _ good))
+
+  member_leads : (domain instance : ℕ) → is_instance_of a domain instance ≡ true → LeadsTo (instance_count a) (instance_at a) instance
+  unfolding is_instance_of
+  member_leads domain instance member = leads_there (section_of a 2).place (section_of a 2).count 80 instance (both_left _ _ member)
+
+  -- instance k of the run of a domain
+  pub run_leads : (i k : ℕ) → i < indom_count a → k < number32 a (indom_at a i + 4) → LeadsTo (instance_count a) (instance_at a) (number64 a (indom_at a i + 8) + 80 * k)
+  unfolding has_good_run
+  run_leads i k below within =
+      member_leads (indom_at a i) (number64 a (indom_at a i + 8) + 80 * k)
+      (all_at (number32 a (indom_at a i + 4)) k (λ k. is_instance_of a (indom_at a i) (number64 a (indom_at a i + 8) + 80 * k)) (good_run i (good_indom a i h below)) within)
+
+  pub looked_run : (place o : ℕ) → LeadsTo (instance_count a) (instance_at a) place → o < 80 → Looked a (place + o)
+  looked_run place o (k, below, stands) small = subst (λ p. Looked a (p + o)) (sym stands) (looked_instance a k o h below small)
+
+  member_same : (domain instance : ℕ) → Looked a instance → is_instance_of b domain instance ≡ is_instance_of a domain instance
+  unfolding is_instance_of
+  member_same domain instance looked = rw (section_same 2, g.same instance looked) refl
+
+  run_same : (i : ℕ) → i < indom_count a → has_good_run b (indom_at a i) ≡ has_good_run a (indom_at a i)
+  unfolding has_good_run
+  run_same i below =
+      all_same (number32 a (indom_at a i + 4)) (number32 b (indom_at a i + 4)) (λ k. is_instance_of a (indom_at a i) (number64 a (indom_at a i + 8) + 80 * k))
+      (λ k. is_instance_of b (indom_at a i) (number64 b (indom_at a i + 8) + 80 * k))
+      (same32 (indom_at a i + 4) (looked_indom a i 4 h below (omega arith)))
+      (λ k within. ap (λ n. is_instance_of b (indom_at a i) (n + 80 * k)) (g.same (indom_at a i + 8) (looked_indom a i 8 h below (omega arith)))
+      ∙ member_same (indom_at a i) (number64 a (indom_at a i + 8) + 80 * k)
+      (at_first (number64 a (indom_at a i + 8) + 80 * k) (looked_run (number64 a (indom_at a i + 8) + 80 * k) 0 (run_leads i k below within) (omega arith))))
+
+  pub indom_same : (i : ℕ) → i < indom_count a → is_good_indom b i ≡ is_good_indom a i
+  unfolding is_good_indom
+  indom_same i below =
+      rw (
+        indom_serial i below,
+        new_indom_same i below,
+        indom_place i,
+        help_same (indom_at a i + 16) (looked_indom a i 16 h below (omega arith)),
+        help_same (indom_at a i + 24) (looked_indom a i 24 h below (omega arith)),
+        run_same i below,
+      ) refl
+
+  -- instances
+
+  pub instance_place : (i : ℕ) → instance_at b i ≡ instance_at a i
+  instance_place i = ap (λ s. s.place + 80 * i) (section_same 2)
+
+  text_field_same : (field : ℕ) → ((k : ℕ) → k < 64 → Looked a (field + k)) → has_text b field ≡ has_text a field
+  unfolding has_text
+  text_field_same field looked = rw (zero_same 64 field looked, same_byte field (at_first field (looked 0 (omega arith)))) refl
+
+  good_lies : (i : ℕ) → is_good_instance a i ≡ true → lies_in_run a (instance_at a i) ≡ true
+  unfolding is_good_instance
+  good_lies i good = both_right _ _ (both_left _ _ (both_left _ _ good))
+
+  -- an instance leads to a domain
+  pub domain_leads : (i : ℕ) → i < instance_count a → LeadsTo (indom_count a) (indom_at a) (number64 a (instance_at a i))
+  unfolding lies_in_run
+  domain_leads i below = leads_there (section_of a 1).place (section_of a 1).count 32 (number64 a (instance_at a i)) (both_left _ _ (good_lies i (good_instance a i h below)))
+
+  pub looked_domain : (place o : ℕ) → LeadsTo (indom_count a) (indom_at a) place → o < 32 → Looked a (place + o)
+  looked_domain place o (k, below, stands) small = subst (λ p. Looked a (p + o)) (sym stands) (looked_indom a k o h below small)
+
+  domain_same : (i : ℕ) → i < instance_count a → number64 b (instance_at a i) ≡ number64 a (instance_at a i)
+  domain_same i below = g.same (instance_at a i) (at_first (instance_at a i) (looked_instance a i 0 h below (omega arith)))
+
+  lies_same : (i : ℕ) → i < instance_count a → lies_in_run b (instance_at a i) ≡ lies_in_run a (instance_at a i)
+  unfolding lies_in_run
+  lies_same i below =
+      rw (
+        domain_same i below,
+        section_same 1,
+        g.same (number64 a (instance_at a i) + 8) (looked_domain (number64 a (instance_at a i)) 8 (domain_leads i below) (omega arith)),
+        same32 (number64 a (instance_at a i) + 4) (looked_domain (number64 a (instance_at a i)) 4 (domain_leads i below) (omega arith)),
+      ) refl
+
+  name_looked : (i : ℕ) → i < instance_count a → (k : ℕ) → k < 64 → Looked a ((instance_at a i + 16) + k)
+  name_looked i below k small = subst (Looked a) (moved (instance_at a i)) (looked_instance a i (16 + k) h below (omega arith))
+    where
+      moved : (p : ℕ) → p + (16 + k) ≡ (p + 16) + k
+      moved p = omega arith
+
+  same_instance_same : (j i : ℕ) → j < instance_count a → i < instance_count a → is_same_instance b (instance_at a j) (instance_at a i) ≡ is_same_instance a (instance_at a j) (instance_at a i)
+  unfolding is_same_instance
+  same_instance_same j i x y =
+      rw (
+        domain_same j x,
+        domain_same i y,
+        same32 (instance_at a j + 12) (looked_instance a j 12 h x (omega arith)),
+        same32 (instance_at a i + 12) (looked_instance a i 12 h y (omega arith)),
+        name_same (instance_at a j + 16) (instance_at a i + 16) (name_looked j x) (name_looked i y),
+      ) refl
+
+  new_instance_same : (i : ℕ) → i < instance_count a → is_new_instance b i ≡ is_new_instance a i
+  unfolding is_new_instance
+  new_instance_same i below =
+      all_alike i (λ j. not (is_same_instance a (instance_at a j) (instance_at a i))) (λ j. not (is_same_instance b (instance_at b j) (instance_at b i)))
+      (λ j less. ap₂ (λ p q. not (is_same_instance b p q)) (instance_place j) (instance_place i) ∙ ap not (same_instance_same j i (omega arith) below))
+
+  pub instance_same : (i : ℕ) → i < instance_count a → is_good_instance b i ≡ is_good_instance a i
+  unfolding is_good_instance
+  instance_same i below =
+      rw (
+        new_instance_same i below,
+        instance_place i,
+        text_field_same (instance_at a i + 16) (name_looked i below),
+        lies_same i below,
+        same32 (instance_at a i + 12) (looked_instance a i 12 h below (omega arith)),
+      ) refl
+
+  -- metrics
+
+  pub metric_place : (i : ℕ) → metric_at b i ≡ metric_at a i
+  metric_place i = ap (λ s. s.place + 104 * i) (section_same 3)
+
+  name_field_same : (field : ℕ) → ((k : ℕ) → k < 64 → Looked a (field + k)) → has_name b field ≡ has_name a field
+  unfolding has_name
+  name_field_same field looked = rw (zero_same 64 field looked, text_same 64 field looked) refl
+
+  indom_serial_same : (serial : ℕ) → is_indom_serial b serial ≡ is_indom_serial a serial
+  unfolding is_indom_serial
+  indom_serial_same serial =
+      some_same (indom_count a) (indom_count b) (has_serial a serial) (has_serial b serial) (ap (λ s. s.count) (section_same 1)) (λ k below. serial_same serial k below)
+
+  serial_leads_same : (serial : ℕ) → serial_leads b serial ≡ serial_leads a serial
+  unfolding serial_leads
+  serial_leads_same serial = ap (λ t. is_no_domain serial || t) (indom_serial_same serial)
+
+  fields_same : (i : ℕ) → i < metric_count a → has_good_fields b (metric_at a i) ≡ has_good_fields a (metric_at a i)
+  unfolding has_good_fields
+  fields_same i below =
+      rw (
+        same32 (metric_at a i + 68) (looked_metric a i 68 h below (omega arith)),
+        same32 (metric_at a i + 72) (looked_metric a i 72 h below (omega arith)),
+        same32 (metric_at a i + 80) (looked_metric a i 80 h below (omega arith)),
+        serial_leads_same (number32 a (metric_at a i + 80)),
+        help_same (metric_at a i + 88) (looked_metric a i 88 h below (omega arith)),
+        help_same (metric_at a i + 96) (looked_metric a i 96 h below (omega arith)),
+        same32 (metric_at a i + 64) (looked_metric a i 64 h below (omega arith)),
+      ) refl
+
+  pub metric_looked : (i : ℕ) → i < metric_count a → (k : ℕ) → k < 64 → Looked a (metric_at a i + k)
+  metric_looked i below k small = looked_metric a i k h below (omega arith)
+
+  same_metric_same : (j i : ℕ) → j < metric_count a → i < metric_count a → is_same_metric b (metric_at a j) (metric_at a i) ≡ is_same_metric a (metric_at a j) (metric_at a i)
+  unfolding is_same_metric
+  same_metric_same j i x y =
+      rw (
+        same32 (metric_at a j + 64) (looked_metric a j 64 h x (omega arith)),
+        same32 (metric_at a i + 64) (looked_metric a i 64 h y (omega arith)),
+        name_same (metric_at a j) (metric_at a i) (metric_looked j x) (metric_looked i y),
+      ) refl
+
+  new_metric_same : (i : ℕ) → i < metric_count a → is_new_metric b i ≡ is_new_metric a i
+  unfolding is_new_metric
+  new_metric_same i below =
+      all_alike i (λ j. not (is_same_metric a (metric_at a j) (metric_at a i))) (λ j. not (is_same_metric b (metric_at b j) (metric_at b i)))
+      (λ j less. ap₂ (λ p q. not (is_same_metric b p q)) (metric_place j) (metric_place i) ∙ ap not (same_metric_same j i (omega arith) below))
+
+  pub metric_same : (i : ℕ) → i < metric_count a → is_good_metric b i ≡ is_good_metric a i
+  unfolding is_good_metric
+  metric_same i below = rw (new_metric_same i below, metric_place i, name_field_same (metric_at a i) (metric_looked i below), fields_same i below) refl
+
+  -- values
+
+  pub value_place : (i : ℕ) → value_at b i ≡ value_at a i
+  value_place i = ap (λ s. s.place + 32 * i) (section_same 4)
+
+  pub metric_of_same : (i : ℕ) → i < value_count a → metric_of b (value_at a i) ≡ metric_of a (value_at a i)
+  unfolding metric_of
+  metric_of_same i below = g.same (value_at a i + 16) (looked_value a i 16 h below (omega arith) (omega arith))
+
+  pub looked_of : (i o : ℕ) → i < value_count a → o < 104 → Looked a (metric_of a (value_at a i) + o)
+  looked_of i o below small =
+      let (k, within, stands) = value_metric a i (good_value a i h below) in
+      subst (λ p. Looked a (p + o)) (sym stands) (looked_metric a k o h within small)
+
+  -- a field of the value's metric
+  pub of_same : (i o : ℕ) → i < value_count a → o < 104 → number32 b (metric_of b (value_at a i) + o) ≡ number32 a (metric_of a (value_at a i) + o)
+  of_same i o below small = ap (λ m. number32 b (m + o)) (metric_of_same i below) ∙ same32 (metric_of a (value_at a i) + o) (looked_of i o below small)
+
+  pub field_same : (i : ℕ) → i < value_count a → number64 b (value_at a i + 24) ≡ number64 a (value_at a i + 24)
+  field_same i below = g.same (value_at a i + 24) (looked_value a i 24 h below (omega arith) (omega arith))
+
+  leads_good : (i : ℕ) → is_good_value a i ≡ true → instance_leads a (value_at a i) ≡ true
+  unfolding is_good_value
+  leads_good i good = both_right _ _ (both_left _ _ (both_left _ _ good))
+
+  taken : (t x y : Bool) → cond t x y ≡ true → t ≡ false → y ≡ true
+  taken true x y p e = cc
+  taken false x y p e = p
+
+  -- the instance of a value whose metric has a domain
+  pub instance_there : (i : ℕ) → i < value_count a → is_no_domain (domain_of a (value_at a i)) ≡ false → LeadsTo (instance_count a) (instance_at a) (number64 a (value_at a i + 24))
+  unfolding instance_leads
+  instance_there i below some =
+      leads_there (section_of a 2).place (section_of a 2).count 80 (number64 a (value_at a i + 24)) (both_left _ _ (taken _ _ _ (leads_good i (good_value a i h below)) some))
+
+  instance_serial : (place : ℕ) → LeadsTo (instance_count a) (instance_at a) place → number32 b (number64 b place) ≡ number32 a (number64 a place)
+  instance_serial place (k, below, stands) =
+      ap (number32 b) (g.same place (at_first place (looked_run place 0 (k, below, stands) (omega arith))))
+      ∙ same32 (number64 a place) (at_first (number64 a place) (looked_domain (number64 a place) 0 (subst (λ p. LeadsTo (indom_count a) (indom_at a) (number64 a p)) (sym stands) (domain_leads k below)) (omega arith)))
+
+  instance_leads_same : (i : ℕ) → i < value_count a → instance_leads b (value_at a i) ≡ instance_leads a (value_at a i)
+  unfolding instance_leads
+  instance_leads_same i below =
+      rw (of_same i 80 below (omega arith), field_same i below, section_same 2)
+      (⊎_elim
+      (λ (none : is_no_domain (domain_of a (value_at a i)) ≡ true). rw none refl)
+      (λ (some : is_no_domain (domain_of a (value_at a i)) ≡ false). rw (some, instance_serial (number64 a (value_at a i + 24)) (instance_there i below some)) refl)
+      (either (is_no_domain (domain_of a (value_at a i)))))
+
+  same_value_same : (j i : ℕ) → j < value_count a → i < value_count a → is_same_value b (value_at a j) (value_at a i) ≡ is_same_value a (value_at a j) (value_at a i)
+  unfolding is_same_value
+  same_value_same j i x y =
+      rw (
+        g.same (value_at a j + 16) (looked_value a j 16 h x (omega arith) (omega arith)),
+        g.same (value_at a i + 16) (looked_value a i 16 h y (omega arith) (omega arith)),
+        field_same j x,
+        field_same i y,
+      ) refl
+
+  new_value_same : (i : ℕ) → i < value_count a → is_new_value b i ≡ is_new_value a i
+  unfolding is_new_value
+  new_value_same i below =
+      all_alike i (λ j. not (is_same_value a (value_at a j) (value_at a i))) (λ j. not (is_same_value b (value_at b j) (value_at b i)))
+      (λ j less. ap₂ (λ p q. not (is_same_value b p q)) (value_place j) (value_place i) ∙ ap not (same_value_same j i (omega arith) below))
+
+  -- a string value leads to a string, also where it is another
+  choice_still : (i : ℕ) → i < value_count a → choice_leads b (value_at a i) ≡ true
+  unfolding choice_leads
+  choice_still i below =
+      rw (of_same i 68 below (omega arith), section_same 5)
+      (⊎_elim
+      (λ (choice : nat_eq (number32 a (metric_of a (value_at a i) + 68)) 6 ≡ true).
+      or_last _ _ (g.choices i below (eq_of (number32 a (metric_of a (value_at a i) + 68)) 6 choice)))
+      (λ (other : nat_eq (number32 a (metric_of a (value_at a i) + 68)) 6 ≡ false). rw other refl)
+      (either (nat_eq (number32 a (metric_of a (value_at a i) + 68)) 6)))
+    where
+      or_last : (x y : Bool) → y ≡ true → (x || y) ≡ true
+      or_last true y e = refl
+      or_last false y e = e
+
+  pub value_still : (i : ℕ) → i < value_count a → is_good_value a i ≡ true → is_good_value b i ≡ true
+  unfolding is_good_value
+  value_still i below good =
+      all_four _ _ _ _
+      (rw (value_place i, metric_of_same i below, section_same 3) (both_left _ _ (both_left _ _ (both_left _ _ good))))
+      (ap (instance_leads b) (value_place i) ∙ instance_leads_same i below ∙ both_right _ _ (both_left _ _ (both_left _ _ good)))
+      (ap (choice_leads b) (value_place i) ∙ choice_still i below)
+      (new_value_same i below ∙ both_right _ _ good)
+
+  -- strings
+
+  pub string_place : (i : ℕ) → string_at b i ≡ string_at a i
+  string_place i = ap (λ s. s.place + 256 * i) (section_same 5)
+
+  pub string_same : (i : ℕ) → i < string_count a → is_good_string b i ≡ is_good_string a i
+  unfolding is_good_string
+  string_same i below = ap (λ p. has_zero b p 256) (string_place i) ∙ zero_same 256 (string_at a i) (λ k small. looked_string a i k h below small)

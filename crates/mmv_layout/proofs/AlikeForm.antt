@@ -1,0 +1,270 @@
+-- Words that agree with an image wherever its tests look are an image, of the same form.
+use Rattle.std.proofs.Common.{cond, ◌≡◌, ℕ, zero, suc, ℤ, ◌+◌, ◌*◌, ◌%◌, ◌<◌, ◌≤◌, Bool, true, false, not, ◌&&◌, ◌||◌, inl, inr, List, length, Option, Some, ap, ap₂, sym, subst, ◌∙◌, refl, arith, add-zero, nat_eq, nat_le, nat_lt, w32, ⊎_elim}
+use Rattle.std.specs.Int.{cast_signed}
+use Rattle.std.specs.List.{filter_map}
+use Rattle.std.proofs.lemmas.Bool.Decides.{nat_tests}
+use Rattle.std.proofs.lemmas.Bool.{eq-eqb}
+use Rattle.mmv_layout.specs.declared.rows.IndomRow.{IndomRow}
+use Rattle.mmv_layout.specs.declared.rows.MetricRow.{MetricRow}
+use Rattle.mmv_layout.specs.declared.rows.Slot.{Slot}
+use Rattle.mmv_layout.specs.declared.rows.Content.TheVariants.{Number, Choice, Raw}
+use Rattle.mmv_layout.specs.Below.{all_below}
+use Rattle.mmv_layout.specs.Fields.{number32, number64}
+use Rattle.mmv_layout.specs.Contents.{bytes_in, is_short, contents_in, has_good_section, is_aligned, sections_are_good, sections_are_aligned, section_of}
+use Rattle.mmv_layout.specs.Entries.{leads_to_string, indom_count, indom_at, instance_count, instance_at, metric_count, metric_at, value_count, value_at, string_count, string_at, help_leads, is_good_indom, is_good_instance, is_no_domain, has_good_fields, is_good_metric, is_good_value, is_good_string, indoms_are_good, instances_are_good, metrics_are_good, values_are_good, strings_are_good}
+use Rattle.mmv_layout.specs.FirstForm.{has_good_header, is_image}
+use Rattle.mmv_layout.specs.Rows.{list_below, string_text, help_of, instance_row, instances_of, indom_row, metric_row, item_of, type_of, domain_of, instance_of, content_of, value_row, indoms_of, metrics_of, values_of, strings_of, layout_of}
+use Rattle.mmv_layout.specs.Form.{slot_at, slots_of, offsets_of, subjects_of, Form, form_of}
+use Rattle.mmv_layout.specs.Says.{LeadsTo}
+use Rattle.mmv_layout.proofs.Below.{all_at, both_left, both_right}
+use Rattle.mmv_layout.proofs.FirstForms.{short_words}
+use Rattle.mmv_layout.proofs.Goods.{eq_of, either, or_right, leads_there, header, sections, aligned, good_indom, good_instance, good_metric, good_value, good_string}
+use Rattle.mmv_layout.proofs.Looked.{Looked, five_words, looked_indom, looked_metric, looked_string}
+use Rattle.mmv_layout.proofs.RowLists.{rows_same}
+use Rattle.mmv_layout.proofs.SlotLists.{gives_same}
+use Rattle.mmv_layout.proofs.Saying.{indom_rows_same, metric_rows_same, value_rows_same, layouts_same, metric_fields}
+use Rattle.mmv_layout.proofs.Alike.{Agrees, head32, contents_same, count_same, place_same, section_same, section_still, same32, text_same, indom_place, run_leads, looked_run, indom_same, instance_same, metric_place, metric_looked, metric_same, of_same, field_same, instance_there, value_still, string_place, string_same}
+
+all_hold : (n m : ℕ) (test : ℕ → Bool) → m ≡ n → ((k : ℕ) → k < n → test k ≡ true) → all_below m test ≡ true
+unfolding all_below
+all_hold n m test e holds = ap (λ c. all_below c test) e ∙ go n test holds
+  where
+    go : (n : ℕ) (test : ℕ → Bool) → ((k : ℕ) → k < n → test k ≡ true) → all_below n test ≡ true
+    go zero test holds = refl
+    go (suc n) test holds = rw (go n test (λ k below. holds k (omega arith)), holds n (omega arith)) refl
+
+long_words : (short : Bool) (n : ℕ) → short ≡ nat_lt n 5 → 5 ≤ n → not short ≡ true
+long_words short n e h = grind (arith, nat_tests)
+
+few_enough : (n : ℕ) → n ≤ 65536 → not (not (nat_le n 65536)) ≡ true
+few_enough n h = grind (arith, nat_tests)
+
+header_of : (p q r s t u : Bool) → p ≡ true → q ≡ true → r ≡ true → s ≡ true → t ≡ true → u ≡ true → (p && q && r && s && t && u) ≡ true
+header_of p q r s t u a b c d e f = rw (a, b, c, d, e, f) refl
+
+image_of : (p q r s t u v w : Bool) → p ≡ true → q ≡ true → r ≡ true → s ≡ true → t ≡ true → u ≡ true → v ≡ true → w ≡ true → (p && q && r && s && t && u && v && w) ≡ true
+image_of p q r s t u v w a b c d e f g h = rw (a, b, c, d, e, f, g, h) refl
+
+form_with : ℕ → ℕ → ℕ → ℕ → List IndomRow → List MetricRow → List (ℕ × Option ℤ) → List (List ℕ) → List Slot → List ℕ → Form
+form_with a b c d e f g h i j = record { version = a; flags = b; pid = c; cluster = d; indoms = e; metrics = f; subjects = g; strings = h; slots = i; offsets = j }
+
+forms_same : (x y : Form) → x.version ≡ y.version → x.flags ≡ y.flags → x.pid ≡ y.pid → x.cluster ≡ y.cluster → x.indoms ≡ y.indoms → x.metrics ≡ y.metrics
+    → x.subjects ≡ y.subjects → x.strings ≡ y.strings → x.slots ≡ y.slots → x.offsets ≡ y.offsets → x ≡ y
+unfolding form_with
+forms_same x y a b c d e f g h i j =
+    let same : form_with x.version x.flags x.pid x.cluster x.indoms x.metrics x.subjects x.strings x.slots x.offsets
+    ≡ form_with y.version y.flags y.pid y.cluster y.indoms y.metrics y.subjects y.strings y.slots y.offsets = cc in same
+
+module _ (a b : List ℕ) (h : is_image a ≡ true) (g : Agrees a b) where
+  header_still : has_good_header b ≡ true
+  unfolding has_good_header
+  header_still =
+      let good : has_good_header a ≡ true = header a h in
+      let five : 5 ≤ length a = five_words a h in
+      let longer : length a ≤ length b = g.longer in
+      header_of _ _ _ _ _ _
+      (long_words (is_short (bytes_in b)) (length b) (short_words b) (omega arith))
+      (few_enough (length b) g.few)
+      (ap (λ n. nat_eq n 5655885) (head32 a b h g 0 (omega arith) (inl (omega arith))) ∙ both_right _ _ (both_left _ _ (both_left _ _ (both_left _ _ good))))
+      (ap (λ n. nat_eq n 1) (head32 a b h g 4 (omega arith) (inl (omega arith))) ∙ both_right _ _ (both_left _ _ (both_left _ _ good)))
+      (eq-eqb (number64 b 8) (number64 b 16) g.again)
+      (ap (λ n. nat_le n 4095) (head32 a b h g 36 (omega arith) (inr (omega arith))) ∙ both_right _ _ good)
+
+  sections_still : sections_are_good b ≡ true
+  unfolding sections_are_good
+  sections_still =
+      all_hold (contents_in a) (contents_in b) (has_good_section b) (contents_same a b h g)
+      (λ i below. section_still a b h g i below (all_at (contents_in a) i (has_good_section a) (sections a h) below))
+
+  aligned_same : (i : ℕ) → i < contents_in a → is_aligned b i ≡ is_aligned a i
+  unfolding is_aligned
+  aligned_same i below = ap₂ (λ c p. nat_eq c 0 || nat_eq (p % 8) 0) (count_same a b h g i below) (place_same a b h g i below)
+
+  aligned_still : sections_are_aligned b ≡ true
+  unfolding sections_are_aligned
+  aligned_still =
+      all_hold (contents_in a) (contents_in b) (is_aligned b) (contents_same a b h g)
+      (λ i below. aligned_same i below ∙ all_at (contents_in a) i (is_aligned a) (aligned a h) below)
+
+  count_of : (type : ℕ) → (section_of b type).count ≡ (section_of a type).count
+  count_of type = ap (λ s. s.count) (section_same a b h g type)
+
+  pub image_still : is_image b ≡ true
+  unfolding is_image indoms_are_good instances_are_good metrics_are_good values_are_good strings_are_good
+  image_still =
+      image_of _ _ _ _ _ _ _ _ header_still sections_still aligned_still
+      (all_hold (indom_count a) (indom_count b) (is_good_indom b) (count_of 1) (λ i below. indom_same a b h g i below ∙ good_indom a i h below))
+      (all_hold (instance_count a) (instance_count b) (is_good_instance b) (count_of 2) (λ i below. instance_same a b h g i below ∙ good_instance a i h below))
+      (all_hold (metric_count a) (metric_count b) (is_good_metric b) (count_of 3) (λ i below. metric_same a b h g i below ∙ good_metric a i h below))
+      (all_hold (value_count a) (value_count b) (is_good_value b) (count_of 4) (λ i below. value_still a b h g i below (good_value a i h below)))
+      (all_hold (string_count a) (string_count b) (is_good_string b) (count_of 5) (λ i below. string_same a b h g i below ∙ good_string a i h below))
+
+  -- the rows
+
+  string_text_same : (place : ℕ) → LeadsTo (string_count a) (string_at a) place → string_text b place ≡ string_text a place
+  string_text_same place (k, below, stands) =
+      text_same a b h g 256 place (λ o small. subst (λ p. Looked a (p + o)) (sym stands) (looked_string a k o h below small))
+
+  help_of_same : (field : ℕ) → Looked a field → help_leads a field ≡ true → help_of b field ≡ help_of a field
+  unfolding help_of help_leads
+  help_of_same field looked leads =
+      rw (g.same field looked)
+      (⊎_elim
+      (λ (null : nat_eq (number64 a field) 0 ≡ true). rw null refl)
+      (λ (some : nat_eq (number64 a field) 0 ≡ false).
+      rw some (ap Some (string_text_same (number64 a field) (leads_there (section_of a 5).place (section_of a 5).count 256 (number64 a field) (or_right _ _ leads some)))))
+      (either (nat_eq (number64 a field) 0)))
+
+  instance_row_same : (place : ℕ) → LeadsTo (instance_count a) (instance_at a) place → instance_row b place ≡ instance_row a place
+  unfolding instance_row
+  instance_row_same place leads =
+      ap₂ (λ n t. (cast_signed w32 n, t)) (same32 a b h g (place + 12) (looked_run a b h g place 12 leads (omega arith)))
+      (text_same a b h g 64 (place + 16) (λ k small. subst (Looked a) (moved place k) (looked_run a b h g place (16 + k) leads (omega arith))))
+    where
+      moved : (p k : ℕ) → p + (16 + k) ≡ (p + 16) + k
+      moved p k = omega arith
+
+  instances_of_same : (i : ℕ) → i < indom_count a → instances_of b (indom_at a i) ≡ instances_of a (indom_at a i)
+  unfolding instances_of
+  instances_of_same i below =
+      ap (λ n. list_below n (λ k. instance_row b (number64 b (indom_at a i + 8) + 80 * k))) (same32 a b h g (indom_at a i + 4) (looked_indom a i 4 h below (omega arith)))
+      ∙ rows_same (number32 a (indom_at a i + 4)) (λ k. instance_row b (number64 b (indom_at a i + 8) + 80 * k)) (λ k. instance_row a (number64 a (indom_at a i + 8) + 80 * k))
+      (λ k within. ap (λ n. instance_row b (n + 80 * k)) (g.same (indom_at a i + 8) (looked_indom a i 8 h below (omega arith)))
+      ∙ instance_row_same (number64 a (indom_at a i + 8) + 80 * k) (run_leads a b h g i k below within))
+
+  short_leads : (i : ℕ) → is_good_indom a i ≡ true → help_leads a (indom_at a i + 16) ≡ true
+  unfolding is_good_indom
+  short_leads i good = both_left _ _ (both_left _ _ (both_left _ _ (both_left _ _ good)))
+
+  long_leads : (i : ℕ) → is_good_indom a i ≡ true → help_leads a (indom_at a i + 24) ≡ true
+  unfolding is_good_indom
+  long_leads i good = both_right _ _ (both_left _ _ (both_left _ _ (both_left _ _ good)))
+
+  indom_row_same : (i : ℕ) → i < indom_count a → indom_row b (indom_at a i) ≡ indom_row a (indom_at a i)
+  unfolding indom_row
+  indom_row_same i below =
+      indom_rows_same (indom_row b (indom_at a i)) (indom_row a (indom_at a i))
+      (same32 a b h g (indom_at a i) (subst (Looked a) (add-zero (indom_at a i)) (looked_indom a i 0 h below (omega arith))))
+      (instances_of_same i below)
+      (help_of_same (indom_at a i + 16) (looked_indom a i 16 h below (omega arith)) (short_leads i (good_indom a i h below)))
+      (help_of_same (indom_at a i + 24) (looked_indom a i 24 h below (omega arith)) (long_leads i (good_indom a i h below)))
+
+  indoms_same : indoms_of b ≡ indoms_of a
+  unfolding indoms_of
+  indoms_same =
+      ap (λ n. list_below n (λ i. indom_row b (indom_at b i))) (count_of 1)
+      ∙ rows_same (indom_count a) (λ i. indom_row b (indom_at b i)) (λ i. indom_row a (indom_at a i)) (λ i below. ap (indom_row b) (indom_place a b h g i) ∙ indom_row_same i below)
+
+  metric_short : (metric : ℕ) → has_good_fields a metric ≡ true → help_leads a (metric + 88) ≡ true
+  unfolding has_good_fields
+  metric_short metric good = both_right _ _ (both_left _ _ (both_left _ _ good))
+
+  metric_long : (metric : ℕ) → has_good_fields a metric ≡ true → help_leads a (metric + 96) ≡ true
+  unfolding has_good_fields
+  metric_long metric good = both_right _ _ (both_left _ _ good)
+
+  metric_row_same : (i : ℕ) → i < metric_count a → metric_row b (metric_at a i) ≡ metric_row a (metric_at a i)
+  unfolding metric_row
+  metric_row_same i below =
+      let good : has_good_fields a (metric_at a i) ≡ true = metric_fields a i (good_metric a i h below) in
+      metric_rows_same (metric_row b (metric_at a i)) (metric_row a (metric_at a i))
+      (text_same a b h g 64 (metric_at a i) (metric_looked a b h g i below))
+      (same32 a b h g (metric_at a i + 64) (looked_metric a i 64 h below (omega arith)))
+      (rw (same32 a b h g (metric_at a i + 68) (looked_metric a i 68 h below (omega arith))) refl)
+      (rw (same32 a b h g (metric_at a i + 72) (looked_metric a i 72 h below (omega arith))) refl)
+      (same32 a b h g (metric_at a i + 76) (looked_metric a i 76 h below (omega arith)))
+      (rw (same32 a b h g (metric_at a i + 80) (looked_metric a i 80 h below (omega arith))) refl)
+      (help_of_same (metric_at a i + 88) (looked_metric a i 88 h below (omega arith)) (metric_short (metric_at a i) good))
+      (help_of_same (metric_at a i + 96) (looked_metric a i 96 h below (omega arith)) (metric_long (metric_at a i) good))
+
+  metrics_same : metrics_of b ≡ metrics_of a
+  unfolding metrics_of
+  metrics_same =
+      ap (λ n. list_below n (λ i. metric_row b (metric_at b i))) (count_of 3)
+      ∙ rows_same (metric_count a) (λ i. metric_row b (metric_at b i)) (λ i. metric_row a (metric_at a i)) (λ i below. ap (metric_row b) (metric_place a b h g i) ∙ metric_row_same i below)
+
+  strings_same : strings_of b ≡ strings_of a
+  unfolding strings_of
+  strings_same =
+      ap (λ n. list_below n (λ i. string_text b (string_at b i))) (count_of 5)
+      ∙ rows_same (string_count a) (λ i. string_text b (string_at b i)) (λ i. string_text a (string_at a i))
+      (λ i below. ap (string_text b) (string_place a b h g i) ∙ string_text_same (string_at a i) (i, below, refl))
+
+  offsets_same : offsets_of b ≡ offsets_of a
+  unfolding offsets_of
+  offsets_same = ap (λ s. list_below s.count (λ i. s.place + 256 * i)) (section_same a b h g 5)
+
+  -- the values
+
+  instance_of_same : (i : ℕ) → i < value_count a → instance_of b (value_at a i) ≡ instance_of a (value_at a i)
+  unfolding instance_of
+  instance_of_same i below =
+      rw (of_same a b h g i 80 below (omega arith), field_same a b h g i below)
+      (⊎_elim
+      (λ (none : is_no_domain (domain_of a (value_at a i)) ≡ true). rw none refl)
+      (λ (some : is_no_domain (domain_of a (value_at a i)) ≡ false).
+      rw some (ap (λ n. Some (cast_signed w32 n)) (same32 a b h g (number64 a (value_at a i + 24) + 12)
+      (looked_run a b h g (number64 a (value_at a i + 24)) 12 (instance_there a b h g i below some) (omega arith)))))
+      (either (is_no_domain (domain_of a (value_at a i)))))
+
+  slot_at_same : (i : ℕ) → i < value_count a → slot_at b (value_at a i) ≡ slot_at a (value_at a i)
+  unfolding slot_at
+  slot_at_same i below =
+      rw (of_same a b h g i 68 below (omega arith), of_same a b h g i 64 below (omega arith), instance_of_same i below) refl
+
+  slots_same : slots_of b ≡ slots_of a
+  unfolding slots_of
+  slots_same =
+      ap (λ s. filter_map (slot_at b) (list_below s.count (λ i. s.place + 32 * i))) (section_same a b h g 4)
+      ∙ gives_same (slot_at b) (slot_at a) (value_count a) (value_at a) slot_at_same
+
+  subjects_same : subjects_of b ≡ subjects_of a
+  unfolding subjects_of
+  subjects_same =
+      ap (λ s. list_below s.count (λ i. (item_of b (s.place + 32 * i), instance_of b (s.place + 32 * i)))) (section_same a b h g 4)
+      ∙ rows_same (value_count a) (λ i. (item_of b (value_at a i), instance_of b (value_at a i))) (λ i. (item_of a (value_at a i), instance_of a (value_at a i)))
+      (λ i below. ap₂ (λ n o. (n, o)) (of_same a b h g i 64 below (omega arith)) (instance_of_same i below))
+
+  pub form_same : form_of b ≡ form_of a
+  unfolding form_of
+  form_same =
+      forms_same (form_of b) (form_of a)
+      (head32 a b h g 4 (omega arith) (inl (omega arith))) (head32 a b h g 28 (omega arith) (inr (omega arith)))
+      (head32 a b h g 32 (omega arith) (inr (omega arith))) (head32 a b h g 36 (omega arith) (inr (omega arith)))
+      indoms_same metrics_same subjects_same strings_same slots_same offsets_same
+
+  -- what they say, where they agree in the contents and the generation too
+
+  module _ (numbers : (i : ℕ) → i < value_count a → number64 b (value_at a i) ≡ number64 a (value_at a i))
+      (extras : (i : ℕ) → i < value_count a → number64 b (value_at a i + 8) ≡ number64 a (value_at a i + 8))
+      (generation : number64 b 8 ≡ number64 a 8) where
+    content_same : (i : ℕ) → i < value_count a → content_of b (value_at a i) ≡ content_of a (value_at a i)
+    unfolding content_of
+    content_same i below =
+        rw (of_same a b h g i 68 below (omega arith), numbers i below, extras i below)
+        (⊎_elim
+        (λ (choice : nat_eq (type_of a (value_at a i)) 6 ≡ true).
+        ap (λ t. cond (nat_le (type_of a (value_at a i)) 3) (Number (number64 a (value_at a i))) (cond (nat_eq (type_of a (value_at a i)) 6) (Choice t) (Raw (number64 a (value_at a i)) (number64 a (value_at a i + 8)))))
+        (string_text_same (number64 a (value_at a i + 8)) (leads_there (section_of a 5).place (section_of a 5).count 256 (number64 a (value_at a i + 8))
+        (ap (leads_to_string a) (sym (extras i below)) ∙ g.choices i below (eq_of (type_of a (value_at a i)) 6 choice)))))
+        (λ (other : nat_eq (type_of a (value_at a i)) 6 ≡ false). rw other refl)
+        (either (nat_eq (type_of a (value_at a i)) 6)))
+
+    value_row_same : (i : ℕ) → i < value_count a → value_row b (value_at a i) ≡ value_row a (value_at a i)
+    unfolding value_row
+    value_row_same i below =
+        value_rows_same (value_row b (value_at a i)) (value_row a (value_at a i)) (of_same a b h g i 64 below (omega arith)) (instance_of_same i below) (content_same i below)
+
+    values_same : values_of b ≡ values_of a
+    unfolding values_of
+    values_same =
+        ap (λ s. list_below s.count (λ i. value_row b (s.place + 32 * i))) (section_same a b h g 4)
+        ∙ rows_same (value_count a) (λ i. value_row b (value_at a i)) (λ i. value_row a (value_at a i)) value_row_same
+
+    pub layout_same : layout_of b ≡ layout_of a
+    unfolding layout_of
+    layout_same =
+        layouts_same (layout_of b) (layout_of a)
+        (head32 a b h g 4 (omega arith) (inl (omega arith))) generation (head32 a b h g 28 (omega arith) (inr (omega arith)))
+        (head32 a b h g 32 (omega arith) (inr (omega arith))) (head32 a b h g 36 (omega arith) (inr (omega arith)))
+        indoms_same metrics_same values_same strings_same

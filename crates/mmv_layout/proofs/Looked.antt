@@ -1,0 +1,199 @@
+-- The places at which the tests of an image look: neither its generation nor the contents of its values.
+use Rattle.std.proofs.Common.{◌≡◌, ◌≢◌, ℕ, ◌+◌, ◌*◌, ◌<◌, ◌≤◌, Bool, true, false, not, ◌||◌, ◌⊎◌, inl, inr, List, length, ap, ap₂, sym, subst, ◌∙◌, refl, arith, nat_eq, nat_le, nat_lt, ⊎_elim}
+use Rattle.std.proofs.lemmas.Bool.Decides.{nat_tests}
+use Rattle.std.proofs.lemmas.Bool.{cases_order}
+use Rattle.mmv_layout.specs.Contents.{bytes_in, is_short, contents_in, type_in, count_in, place_in, section_bytes, end_in, are_apart, is_first_of_type, has_good_section, sections_are_good, find_section, section_of}
+use Rattle.mmv_layout.specs.Entries.{indom_count, indom_at, instance_count, instance_at, metric_count, metric_at, value_count, value_at, string_count, string_at}
+use Rattle.mmv_layout.specs.FirstForm.{has_good_header, is_image}
+use Rattle.mmv_layout.proofs.Below.{all_at, both_left, both_right}
+use Rattle.mmv_layout.proofs.FirstForms.{short_words}
+use Rattle.mmv_layout.proofs.Goods.{le_of, header, sections}
+use Rattle.mmv_layout.proofs.Places.{Entry, entry_of, Lies, section_stands, some_of, Stands, value_stands}
+
+-- a place in the words, outside of the generation and of the first 16 bytes of each value
+pub record Looked (words : List ℕ) (place : ℕ) : Type 0 where
+  pub within : place < 8 * length words
+  pub outside : (place < 8) ⊎ (24 ≤ place)
+  pub apart : (i : ℕ) → i < value_count words → (place < value_at words i) ⊎ (value_at words i + 16 ≤ place)
+
+some_words : (short : Bool) (n : ℕ) → short ≡ nat_lt n 5 → not short ≡ true → 5 ≤ n
+some_words short n e h = grind (arith, nat_tests)
+
+pub five_words : (words : List ℕ) → is_image words ≡ true → 5 ≤ length words
+unfolding has_good_header
+five_words words h =
+    some_words (is_short (bytes_in words)) (length words) (short_words words) (both_left _ _ (both_left _ _ (both_left _ _ (both_left _ _ (both_left _ _ (header words h))))))
+
+pub looked_header : (words : List ℕ) (place : ℕ) → is_image words ≡ true → place < 40 → (place < 8) ⊎ (24 ≤ place) → Looked words place
+looked_header words place h below outside =
+    let five : 5 ≤ length words = five_words words h in record {
+      within = omega arith;
+      outside = outside;
+      apart = λ i some. let stands : Stands words (value_at words i) 32 = value_stands words i h some in inl (before place (value_at words i) below stands.behind);
+    }
+  where
+    before : (p v : ℕ) → p < 40 → 40 ≤ v → p < v
+    before p v a b = omega arith
+
+good_section : (words : List ℕ) (i : ℕ) → is_image words ≡ true → i < contents_in words → has_good_section words i ≡ true
+unfolding sections_are_good
+good_section words i h below = all_at (contents_in words) i (has_good_section words) (sections words h) below
+
+entry_within : (words : List ℕ) (i : ℕ) → has_good_section words i ≡ true → 56 + 16 * i ≤ bytes_in words
+unfolding has_good_section
+entry_within words i good = le_of (56 + 16 * i) (bytes_in words) (both_left _ _ (both_left _ _ (both_left _ _ good)))
+
+pub values_behind : (words : List ℕ) (i : ℕ) → is_image words ≡ true → i < value_count words → 40 + 16 * contents_in words ≤ value_at words i
+values_behind words i h below =
+    let lies : Lies words (section_of words 4).place (section_bytes 4 (section_of words 4).count) = section_stands words 4 h (some_of i (value_count words) below) in
+    let behind : 40 + 16 * contents_in words ≤ (section_of words 4).place = lies.behind in omega arith
+
+pub looked_contents : (words : List ℕ) (i o : ℕ) → is_image words ≡ true → i < contents_in words → o < 16 → Looked words (40 + 16 * i + o)
+looked_contents words i o h below small =
+    let inside : 56 + 16 * i ≤ 8 * length words = entry_within words i (good_section words i h below) in record {
+      within = omega arith;
+      outside = inr (omega arith);
+      apart = λ j some. inl (before (contents_in words) (value_at words j) below small (values_behind words j h some));
+    }
+  where
+    before : (n v : ℕ) → i < n → o < 16 → 40 + 16 * n ≤ v → 40 + 16 * i + o < v
+    before n v a b c = omega arith
+
+first_of : (words : List ℕ) (i : ℕ) → has_good_section words i ≡ true → is_first_of_type words i ≡ true
+unfolding has_good_section
+first_of words i good = both_right _ _ good
+
+either_end : (a b c d : Bool) → (a || b || c || d) ≡ true → a ≡ false → b ≡ false → (c ≡ true) ⊎ (d ≡ true)
+either_end true b c d h p q = cc
+either_end false true c d h p q = cc
+either_end false false true d h p q = inl refl
+either_end false false false d h p q = inr h
+
+isnt_zero : (n : ℕ) → n ≢ 0 → nat_eq n 0 ≡ false
+isnt_zero n h = grind (arith, nat_tests)
+
+entries_apart : (words : List ℕ) (j i : ℕ) → is_first_of_type words i ≡ true → j < i → count_in words j ≢ 0 → count_in words i ≢ 0
+    → (end_in words j ≤ place_in words i) ⊎ (end_in words i ≤ place_in words j)
+unfolding is_first_of_type are_apart
+entries_apart words j i first less some others =
+    ⊎_elim (λ (c : nat_le (end_in words j) (place_in words i) ≡ true). inl (le_of (end_in words j) (place_in words i) c))
+    (λ (d : nat_le (end_in words i) (place_in words j) ≡ true). inr (le_of (end_in words i) (place_in words j) d))
+    (either_end (nat_eq (count_in words j) 0) (nat_eq (count_in words i) 0) _ _
+    (both_right _ _ (all_at i j (λ j. are_apart words j i) first less)) (isnt_zero (count_in words j) some) (isnt_zero (count_in words i) others))
+
+entry_end : (words : List ℕ) (type n place count : ℕ) (e : Entry words type n place count) → end_in words e.index ≡ place + section_bytes type count
+unfolding end_in
+entry_end words type n place count e = ap₂ (λ p m. p + m) e.place_is (ap₂ section_bytes e.type_is e.count_is)
+
+turned : {A B : Type 0} → A ⊎ B → B ⊎ A
+turned (inl a) = inr a
+turned (inr b) = inl b
+
+both_entries : (words : List ℕ) (s t n p q c d : ℕ) (e : Entry words s n p c) (f : Entry words t n q d) → (end_in words e.index ≤ place_in words f.index) ⊎ (end_in words f.index ≤ place_in words e.index)
+    → (p + section_bytes s c ≤ q) ⊎ (q + section_bytes t d ≤ p)
+both_entries words s t n p q c d e f h =
+    ⊎_elim
+    (λ (a : end_in words e.index ≤ place_in words f.index). inl (subst (λ m. m ≤ q) (entry_end words s n p c e) (subst (λ m. end_in words e.index ≤ m) f.place_is a)))
+    (λ (b : end_in words f.index ≤ place_in words e.index). inr (subst (λ m. m ≤ p) (entry_end words t n q d f) (subst (λ m. end_in words f.index ≤ m) e.place_is b))) h
+
+-- two sections with entries lie apart
+pub sections_apart : (words : List ℕ) (s t : ℕ) → is_image words ≡ true → s ≢ t → (section_of words s).count ≢ 0 → (section_of words t).count ≢ 0
+    → ((section_of words s).place + section_bytes s (section_of words s).count ≤ (section_of words t).place)
+    ⊎ ((section_of words t).place + section_bytes t (section_of words t).count ≤ (section_of words s).place)
+unfolding section_of
+sections_apart words s t h differ some others =
+    let n : ℕ = contents_in words in
+    let e : Entry words s n (find_section words s n).place (find_section words s n).count = entry_of words s n some in
+    let f : Entry words t n (find_section words t n).place (find_section words t n).count = entry_of words t n others in
+    let some_e : count_in words e.index ≢ 0 = λ z. some (sym e.count_is ∙ z) in
+    let some_f : count_in words f.index ≢ 0 = λ z. others (sym f.count_is ∙ z) in
+    both_entries words s t n _ _ _ _ e f
+    (⊎_elim
+    (λ (same : e.index ≡ f.index). absurd (differ (sym e.type_is ∙ ap (type_in words) same ∙ f.type_is)))
+    (λ (apart : (e.index < f.index) ⊎ (f.index < e.index)).
+    ⊎_elim (λ (before : e.index < f.index). entries_apart words e.index f.index (first_of words f.index (good_section words f.index h f.below)) before some_e some_f)
+    (λ (behind : f.index < e.index). turned (entries_apart words f.index e.index (first_of words e.index (good_section words e.index h e.below)) behind some_f some_e)) apart)
+    (cases_order e.index f.index))
+
+-- a place in another section than that of the values
+pub looked_in : (words : List ℕ) (type d : ℕ) → is_image words ≡ true → type ≢ 4 → (section_of words type).count ≢ 0 → d < section_bytes type (section_of words type).count
+    → Looked words ((section_of words type).place + d)
+unfolding section_bytes
+looked_in words type d h other some below =
+    let lies : Lies words (section_of words type).place (section_bytes type (section_of words type).count) = section_stands words type h some in
+    record {
+      within = before (section_of words type).place (section_bytes type (section_of words type).count) (length words) below lies.within;
+      outside = inr (behind (contents_in words) (section_of words type).place lies.behind);
+      apart = λ j values. ⊎_elim
+          (λ (a : (section_of words type).place + section_bytes type (section_of words type).count ≤ (section_of words 4).place).
+          inl (first (section_of words type).place (section_bytes type (section_of words type).count) (section_of words 4).place j below a))
+          (λ (b : (section_of words 4).place + 32 * (section_of words 4).count ≤ (section_of words type).place).
+          inr (last (section_of words type).place (section_of words 4).place (section_of words 4).count j values b))
+          (sections_apart words type 4 h other some (some_of j (value_count words) values));
+    }
+  where
+    before : (p n w : ℕ) → d < n → p + n ≤ 8 * w → p + d < 8 * w
+    before p n w a b = omega arith
+
+    behind : (n p : ℕ) → 40 + 16 * n ≤ p → 24 ≤ p + d
+    behind n p a = omega arith
+
+    first : (p n v j : ℕ) → d < n → p + n ≤ v → p + d < v + 32 * j
+    first p n v j a b = omega arith
+
+    last : (p v n j : ℕ) → j < n → v + 32 * n ≤ p → (v + 32 * j) + 16 ≤ p + d
+    last p v n j a b = omega arith
+
+pub looked_indom : (words : List ℕ) (i o : ℕ) → is_image words ≡ true → i < indom_count words → o < 32 → Looked words (indom_at words i + o)
+unfolding section_bytes
+looked_indom words i o h below small =
+    let place : (section_of words 1).place + (32 * i + o) ≡ indom_at words i + o = omega arith in
+    subst (Looked words) place (looked_in words 1 (32 * i + o) h (λ e. absurd (omega arith)) (some_of i (indom_count words) below) (inside (section_of words 1).count below))
+  where
+    inside : (n : ℕ) → i < n → 32 * i + o < 32 * n
+    inside n a = omega arith
+
+pub looked_instance : (words : List ℕ) (i o : ℕ) → is_image words ≡ true → i < instance_count words → o < 80 → Looked words (instance_at words i + o)
+unfolding section_bytes
+looked_instance words i o h below small =
+    let place : (section_of words 2).place + (80 * i + o) ≡ instance_at words i + o = omega arith in
+    subst (Looked words) place (looked_in words 2 (80 * i + o) h (λ e. absurd (omega arith)) (some_of i (instance_count words) below) (inside (section_of words 2).count below))
+  where
+    inside : (n : ℕ) → i < n → 80 * i + o < 80 * n
+    inside n a = omega arith
+
+pub looked_metric : (words : List ℕ) (i o : ℕ) → is_image words ≡ true → i < metric_count words → o < 104 → Looked words (metric_at words i + o)
+unfolding section_bytes
+looked_metric words i o h below small =
+    let place : (section_of words 3).place + (104 * i + o) ≡ metric_at words i + o = omega arith in
+    subst (Looked words) place (looked_in words 3 (104 * i + o) h (λ e. absurd (omega arith)) (some_of i (metric_count words) below) (inside (section_of words 3).count below))
+  where
+    inside : (n : ℕ) → i < n → 104 * i + o < 104 * n
+    inside n a = omega arith
+
+pub looked_string : (words : List ℕ) (i o : ℕ) → is_image words ≡ true → i < string_count words → o < 256 → Looked words (string_at words i + o)
+unfolding section_bytes
+looked_string words i o h below small =
+    let place : (section_of words 5).place + (256 * i + o) ≡ string_at words i + o = omega arith in
+    subst (Looked words) place (looked_in words 5 (256 * i + o) h (λ e. absurd (omega arith)) (some_of i (string_count words) below) (inside (section_of words 5).count below))
+  where
+    inside : (n : ℕ) → i < n → 256 * i + o < 256 * n
+    inside n a = omega arith
+
+-- the last two words of a value
+pub looked_value : (words : List ℕ) (i o : ℕ) → is_image words ≡ true → i < value_count words → 16 ≤ o → o < 32 → Looked words (value_at words i + o)
+looked_value words i o h below some small =
+    let stands : Stands words (value_at words i) 32 = value_stands words i h below in record {
+      within = inside (value_at words i) (length words) stands.within;
+      outside = inr (behind (value_at words i) stands.behind);
+      apart = λ j others. others_apart (section_of words 4).place j;
+    }
+  where
+    inside : (v n : ℕ) → v + 32 ≤ 8 * n → v + o < 8 * n
+    inside v n a = omega arith
+
+    behind : (v : ℕ) → 40 ≤ v → 24 ≤ v + o
+    behind v a = omega arith
+
+    others_apart : (v j : ℕ) → ((v + 32 * i) + o < v + 32 * j) ⊎ ((v + 32 * j) + 16 ≤ (v + 32 * i) + o)
+    others_apart v j = grind arith

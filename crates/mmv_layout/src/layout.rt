@@ -1,0 +1,249 @@
+ghost use Rattle.std.specs.Prelude.{◌≡◌, ◌<◌, ◌^◌, IfOk};
+ghost use Rattle.mmv_layout.specs.FirstForm.{IsImage};
+ghost use Rattle.mmv_layout.specs.Says.{Says};
+ghost use Rattle.mmv_layout.specs.Fields.{text_at};
+ghost use Rattle.mmv_layout.specs.Rows.{signed32, help_of, instance_row, instances_of, indom_row, serial_of, metric_row, instance_of, content_of, value_row, indoms_of, metrics_of, values_of, strings_of, layout_of};
+
+use crate::contents::{INSTANCE_SIZE, STRING_SIZE};
+use crate::entries::{indom_at, metric_at, string_at, value_at};
+use crate::fields::{NAME_SIZE, number32, number64, text_at};
+use crate::indoms::indom_count;
+use crate::instances::string_count;
+use crate::metrics::{is_no_domain, metric_count};
+use crate::rows::{Content, IndomRow, Layout, MetricRow, ValueRow};
+use crate::values::{metric_of, value_count};
+use pcp_base::{Kind, List, NoMemory, Semantics, Text, TextError, Units};
+use std::alloc::Global;
+
+/// The text of the `n` bytes at a place, up to the first zero byte.
+pub fn field_text(alloc: Global, words: &[u64], at: u128, n: u32) -> Result<Text, NoMemory>
+    requires { at < 2 ^ 100 }
+    ensures { IfOk result (λ text. text ≡ text_at words.now at n) }
+{
+    let bytes = text_at(alloc, words, at, n)?;
+    match Text::build(alloc, bytes.as_slice()) {
+        Ok(text) => Ok(text),
+        Err(TextError::NoMemory) => Err(NoMemory),
+        Err(TextError::Zero(_)) => unreachable!(),
+    }
+}
+
+/// The text of the string at a place.
+pub fn string_text(alloc: Global, words: &[u64], place: u128) -> Result<Text, NoMemory>
+    requires { place < 2 ^ 100 }
+    ensures { IfOk result (λ text. text ≡ text_at words.now place 256) }
+{
+    field_text(alloc, words, place, STRING_SIZE as u32)
+}
+
+/// The number of four bytes at a place, with its sign.
+fn signed32(words: &[u64], at: u128) -> i32
+    ensures { result ≡ signed32 words.now at }
+{
+    number32(words, at).cast_signed()
+}
+
+/// The help to which a field leads, if it isn't 0.
+#[tactic(auto, unfolding(crate::specs::Rows::help_of))]
+fn help_of(alloc: Global, words: &[u64], field: u128) -> Result<Option<Text>, NoMemory>
+    ensures { IfOk result (λ help. help ≡ help_of words.now field) }
+{
+    let place = number64(words, field);
+    if place == 0 {
+        return Ok(None);
+    }
+    let text = string_text(alloc, words, place as u128)?;
+    Ok(Some(text))
+}
+
+/// The number and the name of the instance at a place.
+#[tactic(auto, unfolding(crate::specs::Rows::instance_row))]
+fn instance_row(alloc: Global, words: &[u64], instance: u128) -> Result<(i32, Text), NoMemory>
+    requires { instance < 2 ^ 80 }
+    ensures { IfOk result (λ row. row ≡ instance_row words.now instance) }
+{
+    let name = field_text(alloc, words, instance + 16, NAME_SIZE)?;
+    Ok((signed32(words, instance + 12), name))
+}
+
+/// The instances of the domain at a place, in the order of its run.
+#[tactic(auto, using(crate::proofs::RowLists::rows_none, crate::proofs::RowLists::rows_more), unfolding(crate::specs::Rows::instances_of))]
+fn instances_of(alloc: Global, words: &[u64], domain: u128) -> Result<List<(i32, Text)>, NoMemory>
+    requires { domain < 2 ^ 80 }
+    ensures { IfOk result (λ rows. rows ≡ instances_of words.now domain) }
+{
+    let first = number64(words, domain + 8) as u128;
+    let mut rows = List::empty(alloc);
+    for k in 0..number32(words, domain + 4) {
+        let row = instance_row(alloc, words, first + INSTANCE_SIZE as u128 * k as u128)?;
+        rows.push(row)?;
+    }
+    Ok(rows)
+}
+
+/// The row of the domain at a place.
+#[tactic(auto, unfolding(crate::specs::Rows::indom_row))]
+fn indom_row(alloc: Global, words: &[u64], domain: u128) -> Result<IndomRow, NoMemory>
+    requires { domain < 2 ^ 80 }
+    ensures { IfOk result (λ row. row ≡ indom_row words.now domain) }
+{
+    Ok(IndomRow {
+        serial: number32(words, domain),
+        instances: instances_of(alloc, words, domain)?,
+        short: help_of(alloc, words, domain + 16)?,
+        long: help_of(alloc, words, domain + 24)?,
+    })
+}
+
+/// The domain that a metric's serial names, if it has one.
+#[tactic(auto, unfolding(crate::specs::Rows::serial_of))]
+fn serial_of(serial: u32) -> Option<u32>
+    ensures { result ≡ serial_of serial }
+{
+    if is_no_domain(serial) {
+        return None;
+    }
+    Some(serial)
+}
+
+/// The row of the metric at a place.
+#[tactic(auto, unfolding(crate::specs::Rows::metric_row))]
+fn metric_row(alloc: Global, words: &[u64], metric: u128) -> Result<MetricRow, NoMemory>
+    requires { metric < 2 ^ 80 }
+    ensures { IfOk result (λ row. row ≡ metric_row words.now metric) }
+{
+    Ok(MetricRow {
+        name: field_text(alloc, words, metric, NAME_SIZE)?,
+        item: number32(words, metric + 64),
+        kind: Kind::of_code(number32(words, metric + 68)).unwrap_or(Kind::I32),
+        semantics: Semantics::of_code(number32(words, metric + 72)).unwrap_or(Semantics::Counter),
+        units: Units::of_word(number32(words, metric + 76)),
+        serial: serial_of(number32(words, metric + 80)),
+        short: help_of(alloc, words, metric + 88)?,
+        long: help_of(alloc, words, metric + 96)?,
+    })
+}
+
+/// The number of the instance of the value at a place, if its metric has a domain.
+#[tactic(auto, unfolding(crate::specs::Rows::instance_of))]
+pub fn instance_of(words: &[u64], value: u128) -> Option<i32>
+    requires { value < 2 ^ 80 }
+    ensures { result ≡ instance_of words.now value }
+{
+    if is_no_domain(number32(words, metric_of(words, value) as u128 + 80)) {
+        return None;
+    }
+    Some(signed32(words, number64(words, value + 24) as u128 + 12))
+}
+
+/// The content of the value at a place, by the type of its metric.
+#[tactic(auto, unfolding(crate::specs::Rows::content_of))]
+fn content_of(alloc: Global, words: &[u64], value: u128) -> Result<Content, NoMemory>
+    requires { value < 2 ^ 80 }
+    ensures { IfOk result (λ content. content ≡ content_of words.now value) }
+{
+    let code = number32(words, metric_of(words, value) as u128 + 68);
+    let (number, extra) = (number64(words, value), number64(words, value + 8));
+    if code <= 3 {
+        return Ok(Content::Number(number));
+    }
+    if code != 6 {
+        return Ok(Content::Raw(number, extra));
+    }
+    let text = string_text(alloc, words, extra as u128)?;
+    Ok(Content::Choice(text))
+}
+
+/// The row of the value at a place.
+#[tactic(auto, unfolding(crate::specs::Rows::value_row))]
+fn value_row(alloc: Global, words: &[u64], value: u128) -> Result<ValueRow, NoMemory>
+    requires { value < 2 ^ 80 }
+    ensures { IfOk result (λ row. row ≡ value_row words.now value) }
+{
+    Ok(ValueRow {
+        item: number32(words, metric_of(words, value) as u128 + 64),
+        instance: instance_of(words, value),
+        content: content_of(alloc, words, value)?,
+    })
+}
+
+/// The rows of the domains, in section order.
+#[tactic(auto, using(crate::proofs::RowLists::rows_none, crate::proofs::RowLists::rows_more), unfolding(crate::specs::Rows::indoms_of))]
+fn indoms_of(alloc: Global, words: &[u64]) -> Result<List<IndomRow>, NoMemory>
+    ensures { IfOk result (λ rows. rows ≡ indoms_of words.now) }
+{
+    let mut rows = List::empty(alloc);
+    for i in 0..indom_count(words) {
+        let row = indom_row(alloc, words, indom_at(words, i))?;
+        rows.push(row)?;
+    }
+    Ok(rows)
+}
+
+/// The rows of the metrics, in section order.
+#[tactic(auto, using(crate::proofs::RowLists::rows_none, crate::proofs::RowLists::rows_more), unfolding(crate::specs::Rows::metrics_of))]
+fn metrics_of(alloc: Global, words: &[u64]) -> Result<List<MetricRow>, NoMemory>
+    ensures { IfOk result (λ rows. rows ≡ metrics_of words.now) }
+{
+    let mut rows = List::empty(alloc);
+    for i in 0..metric_count(words) {
+        let row = metric_row(alloc, words, metric_at(words, i))?;
+        rows.push(row)?;
+    }
+    Ok(rows)
+}
+
+/// The rows of the values, in section order.
+#[tactic(auto, using(crate::proofs::RowLists::rows_none, crate::proofs::RowLists::rows_more), unfolding(crate::specs::Rows::values_of))]
+fn values_of(alloc: Global, words: &[u64]) -> Result<List<ValueRow>, NoMemory>
+    ensures { IfOk result (λ rows. rows ≡ values_of words.now) }
+{
+    let mut rows = List::empty(alloc);
+    for i in 0..value_count(words) {
+        let row = value_row(alloc, words, value_at(words, i))?;
+        rows.push(row)?;
+    }
+    Ok(rows)
+}
+
+/// The texts of the strings, in section order.
+#[tactic(auto, using(crate::proofs::RowLists::rows_none, crate::proofs::RowLists::rows_more), unfolding(crate::specs::Rows::strings_of))]
+fn strings_of(alloc: Global, words: &[u64]) -> Result<List<Text>, NoMemory>
+    ensures { IfOk result (λ rows. rows ≡ strings_of words.now) }
+{
+    let mut rows = List::empty(alloc);
+    for i in 0..string_count(words) {
+        let text = string_text(alloc, words, string_at(words, i))?;
+        rows.push(text)?;
+    }
+    Ok(rows)
+}
+
+/// What words say, in one pass over each section.
+#[tactic(auto, unfolding(crate::specs::Rows::layout_of))]
+pub fn layout_of(alloc: Global, words: &[u64]) -> Result<Layout, NoMemory>
+    ensures { IfOk result (λ layout. layout ≡ layout_of words.now) }
+{
+    Ok(Layout {
+        version: number32(words, 4),
+        generation: number64(words, 8),
+        flags: number32(words, 28),
+        pid: number32(words, 32),
+        cluster: number32(words, 36),
+        indoms: indoms_of(alloc, words)?,
+        metrics: metrics_of(alloc, words)?,
+        values: values_of(alloc, words)?,
+        strings: strings_of(alloc, words)?,
+    })
+}
+
+/// What an image says.
+#[tactic(auto, using(crate::proofs::Saying::layout_says))]
+pub fn layout(alloc: Global, words: &[u64]) -> Result<Layout, NoMemory>
+    requires { IsImage words.now }
+    ensures value { IfOk result (λ layout. layout ≡ layout_of words.now) }
+    ensures says { IfOk result (λ layout. Says words.now layout) }
+{
+    let layout = layout_of(alloc, words)?;
+    Ok(layout)
+}
