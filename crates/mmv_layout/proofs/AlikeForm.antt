@@ -17,7 +17,7 @@ use Rattle.mmv_layout.specs.Rows.{list_below, string_text, help_of, instance_row
 use Rattle.mmv_layout.specs.Form.{slot_at, slots_of, offsets_of, subjects_of, Form, form_of}
 use Rattle.mmv_layout.specs.Says.{LeadsTo}
 use Rattle.mmv_layout.proofs.Below.{all_at, both_left, both_right}
-use Rattle.mmv_layout.proofs.FirstForms.{short_words}
+use Rattle.mmv_layout.proofs.Images.{short_words}
 use Rattle.mmv_layout.proofs.Goods.{eq_of, either, or_right, leads_there, header, sections, aligned, good_indom, good_instance, good_metric, good_value, good_string}
 use Rattle.mmv_layout.proofs.Looked.{Looked, five_words, looked_indom, looked_metric, looked_string}
 use Rattle.mmv_layout.proofs.RowLists.{rows_same}

@@ -12,7 +12,7 @@ use Rattle.mmv_layout.specs.Rows.{string_text, type_of, content_of, value_row, v
 use Rattle.mmv_layout.specs.Form.{slot_at, texts_of, offsets_of, subjects_of, form_of}
 use Rattle.mmv_layout.specs.Says.{Says}
 use Rattle.mmv_layout.specs.ShapeLaws.{IsFormOf, FormIsSaid, TextsAreTheForms, LengthKeepsTheLayout, held, SlotHoldsTheContent}
-use Rattle.mmv_layout.proofs.Places.{Stands, value_stands}
+use Rattle.mmv_layout.proofs.EntryPlaces.{Stands, value_stands}
 use Rattle.mmv_layout.proofs.RowLists.{row_among, rows_mapped}
 use Rattle.mmv_layout.proofs.Saying.{layout_says, says_layout}
 use Rattle.mmv_layout.proofs.SlotLists.{GivenBy}

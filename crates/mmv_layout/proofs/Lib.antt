@@ -12,7 +12,7 @@ pub mod Lies
 pub mod Looked
 pub mod Lowest
 pub mod Nones
-pub mod Places
+pub mod EntryPlaces
 pub mod RowLists
 pub mod Saying
 pub mod Sections

@@ -6,9 +6,9 @@ use Rattle.mmv_layout.specs.Contents.{bytes_in, is_short, contents_in, type_in, 
 use Rattle.mmv_layout.specs.Entries.{indom_count, indom_at, instance_count, instance_at, metric_count, metric_at, value_count, value_at, string_count, string_at}
 use Rattle.mmv_layout.specs.FirstForm.{has_good_header, is_image}
 use Rattle.mmv_layout.proofs.Below.{all_at, both_left, both_right}
-use Rattle.mmv_layout.proofs.FirstForms.{short_words}
+use Rattle.mmv_layout.proofs.Images.{short_words}
 use Rattle.mmv_layout.proofs.Goods.{le_of, header, sections}
-use Rattle.mmv_layout.proofs.Places.{Entry, entry_of, Lies, section_stands, some_of, Stands, value_stands}
+use Rattle.mmv_layout.proofs.EntryPlaces.{Entry, entry_of, Lies, section_stands, some_of, Stands, value_stands}
 
 -- a place in the words, outside of the generation and of the first 16 bytes of each value
 pub record Looked (words : List ℕ) (place : ℕ) : Type 0 where

@@ -16,7 +16,7 @@ use Rattle.mmv_layout.specs.Form.{slot_in, slot_at, slots_of, offsets_of, form_o
 use Rattle.mmv_layout.specs.ShapeLaws.{TakesAs, IsAlike, HasGenerationTwice, GenerationIsNoValue, ValueKeepsTheForm, LengthKeepsTheForm, GenerationKeepsTheForm}
 use Rattle.mmv_layout.proofs.Below.{both_left, both_right, some_holds}
 use Rattle.mmv_layout.proofs.Goods.{eq_of, header, good_value}
-use Rattle.mmv_layout.proofs.Places.{Lies, section_stands, some_of, Stands, value_stands, few_words}
+use Rattle.mmv_layout.proofs.EntryPlaces.{Lies, section_stands, some_of, Stands, value_stands, few_words}
 use Rattle.mmv_layout.proofs.RowLists.{among_rows}
 use Rattle.mmv_layout.proofs.Looked.{five_words}
 use Rattle.mmv_layout.proofs.SlotLists.{GivenBy}

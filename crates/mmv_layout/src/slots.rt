@@ -52,7 +52,7 @@ fn slot_at(words: &[u64], value: u128) -> Option<Slot>
 }
 
 /// The value words of an image, in the order of the values.
-#[tactic(auto, using(crate::proofs::SlotLists::gives_none, crate::proofs::SlotLists::gives_nothing, crate::proofs::SlotLists::gives_one, crate::proofs::Places::value_near), unfolding(crate::specs::Form::slots_of))]
+#[tactic(auto, using(crate::proofs::SlotLists::gives_none, crate::proofs::SlotLists::gives_nothing, crate::proofs::SlotLists::gives_one, crate::proofs::EntryPlaces::value_near), unfolding(crate::specs::Form::slots_of))]
 pub fn slots(alloc: Global, words: &[u64]) -> Result<List<Slot>, NoMemory>
     requires { IsImage words.now }
     ensures { IfOk result (λ slots. slots ≡ slots_of words.now) }
@@ -67,7 +67,7 @@ pub fn slots(alloc: Global, words: &[u64]) -> Result<List<Slot>, NoMemory>
 }
 
 /// The strings of an image with their offsets, in section order.
-#[tactic(auto, using(crate::proofs::RowLists::rows_none, crate::proofs::RowLists::rows_more, crate::proofs::Places::string_near), unfolding(crate::specs::Form::texts_of))]
+#[tactic(auto, using(crate::proofs::RowLists::rows_none, crate::proofs::RowLists::rows_more, crate::proofs::EntryPlaces::string_near), unfolding(crate::specs::Form::texts_of))]
 pub fn texts(alloc: Global, words: &[u64]) -> Result<List<(u64, Text)>, NoMemory>
     requires { IsImage words.now }
     ensures { IfOk result (λ texts. texts ≡ texts_of words.now) }
@@ -89,7 +89,7 @@ fn is_slot_of(item: u32, instance: i32, slot: Slot) -> bool
 }
 
 /// The first value word of an item and an instance.
-#[tactic(auto, using(crate::proofs::Places::value_near), unfolding(crate::specs::Form::slots_of))]
+#[tactic(auto, using(crate::proofs::EntryPlaces::value_near), unfolding(crate::specs::Form::slots_of))]
 fn first_slot(words: &[u64], item: u32, instance: i32) -> Option<Slot>
     requires { IsImage words.now }
     ensures { result ≡ find (is_slot_of item instance) (slots_of words.now) }

@@ -5,7 +5,7 @@ use Rattle.std.specs.List.{filter_map, find}
 use Rattle.mmv_layout.specs.Entries.{value_at, value_count}
 use Rattle.mmv_layout.specs.Rows.{list_below}
 use Rattle.mmv_layout.specs.Form.{slot_at, slots_of, is_slot_of}
-use Rattle.mmv_layout.proofs.Places.{value_near}
+use Rattle.mmv_layout.proofs.EntryPlaces.{value_near}
 use Rattle.mmv_layout.proofs.SlotLists.{gives_none, finds_nothing, finds_other, finds_first}
 use Rattle.mmv_layout.proofs.slots.first_slot.Goals as goal
 use Rattle.mmv_layout.proofs.slots.first_slot.Goals.{in-Some+else-is_slot_of, in_default}

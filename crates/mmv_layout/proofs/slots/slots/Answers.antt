@@ -1,6 +1,6 @@
 -- A value lies among the first 65,536 words.
 use Rattle.std.proofs.Common.{◌<◌, sym, subst, arith}
-use Rattle.mmv_layout.proofs.Places.{value_near}
+use Rattle.mmv_layout.proofs.EntryPlaces.{value_near}
 use Rattle.mmv_layout.proofs.slots.slots.Goals as goal
 
 pub slot_at-requires : goal.slot_at-requires

@@ -1,6 +1,6 @@
 -- A string lies among the first 65,536 words.
 use Rattle.std.proofs.Common.{◌<◌, sym, subst, arith}
-use Rattle.mmv_layout.proofs.Places.{string_near}
+use Rattle.mmv_layout.proofs.EntryPlaces.{string_near}
 use Rattle.mmv_layout.proofs.slots.texts.Goals as goal
 
 pub overflow_cast-place : goal.overflow_cast-place
