@@ -1,0 +1,8 @@
+//! Plain readers of the files of an archive (LOGARCHIVE(5)), for tests. They guess what the bytes say, spell it
+//! again with the definition's own spelling, and answer only what compares equal. So whatever they answer is
+//! true by the definitions of readable files, of their scan and of described items; they copy a lot and are slow.
+#![tactic(auto)]
+
+mod entries;
+mod frames;
+mod label;
