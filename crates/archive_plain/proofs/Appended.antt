@@ -1,10 +1,11 @@
 -- One more of what is read: what was read before, and then it.
-use Rattle.std.proofs.Common.{◌≡◌, ℕ, ◌+◌, ◌<◌, ◌≤◌, List, [], ◌∷◌, ◌++◌, length, take, drop, refl, sym, ap, ◌∙◌, append_assoc, arith}
+use Rattle.std.proofs.Common.{◌≡◌, ℕ, ℤ, ◌+◌, ◌<◌, ◌≤◌, List, [], ◌∷◌, ◌++◌, length, take, drop, get_or, refl, subst, subst₂, sym, ap, ◌∙◌, append_assoc, arith}
 use Rattle.std.specs.List.{AllByRecursion}
-use Rattle.std.proofs.lemmas.List.{take-append-drop, drop-drop, append-nil}
+use Rattle.std.proofs.lemmas.List.{take-append-drop, drop-drop, append-nil, take_more, drop_more}
 use Rattle.pcp_model.specs.declared.records.Entry.{Entry}
-use Rattle.pcp_model.specs.Frame.{frame, frames}
-use Rattle.pcp_model.specs.Records.{entry, entries}
+use Rattle.pcp_model.specs.Frame.{frame, frames, IsFrameable}
+use Rattle.pcp_model.specs.Archive.{AreRead}
+use Rattle.pcp_model.specs.Records.{entry, entries, NameStands, NamesStand}
 use Rattle.pcp_model.proofs.Cuts.{frames-append}
 
 pub each-push : {X : Type 0} (P : X → Type 0) (xs : List X) (x : X) → AllByRecursion P xs → P x → AllByRecursion P (xs ++ x ∷ [])
@@ -31,3 +32,36 @@ pub frames_more : (bytes : List ℕ) (payloads : List (List ℕ)) (at n : ℕ) (
     → bytes ≡ frames payloads ++ drop at bytes → bytes ≡ frames (payloads ++ p ∷ []) ++ drop (at + n) bytes
 frames_more bytes payloads at n p here is =
     is ∙ ap (λ t. frames payloads ++ t) (here ∙ ap (λ t. frame p ++ t) (drop-drop n at bytes)) ∙ sym (frames-push payloads p (drop (at + n) bytes))
+
+-- one item more of a list that is gone through
+pub each_more : {X : Type 0} (P : X → Type 0) (xs : List X) (i : ℕ) (x : X) → i < length xs → x ≡ get_or xs i x → AllByRecursion P (take i xs) → P x → AllByRecursion P (take (i + 1) xs)
+each_more P xs i x within item each is =
+    subst (AllByRecursion P) (sym (take_more xs i x within ∙ ap (λ y. take i xs ++ y ∷ []) (sym item))) (each-push P (take i xs) x each is)
+
+read-push : {X : Type 0} (R : List ℕ → X → Type 0) (payloads : List (List ℕ)) (xs : List X) (p : List ℕ) (x : X) → AreRead R payloads xs → IsFrameable p → R p x → AreRead R (payloads ++ p ∷ []) (xs ++ x ∷ [])
+read-push R [] [] p x read fits is = (fits, is, tt)
+read-push R [] (y ∷ ys) p x read fits is = absurd (read tt)
+read-push R (q ∷ qs) [] p x read fits is = absurd (read tt)
+read-push R (q ∷ qs) (y ∷ ys) p x read fits is = (read.0, read.1, read-push R qs ys p x read.2 fits is)
+
+pub read_more : {X : Type 0} (R : List ℕ → X → Type 0) (payloads : List (List ℕ)) (xs : List X) (i : ℕ) (p : List ℕ) (x : X) → i < length payloads → p ≡ get_or payloads i p
+    → AreRead R (take i payloads) xs → IsFrameable p → R p x → AreRead R (take (i + 1) payloads) (xs ++ x ∷ [])
+read_more R payloads xs i p x within item read fits is =
+    subst (λ ps. AreRead R ps (xs ++ x ∷ [])) (sym (take_more payloads i p within ∙ ap (λ y. take i payloads ++ y ∷ []) (sym item))) (read-push R (take i payloads) xs p x read fits is)
+
+-- one name more of a table
+stand-push : (table offsets : List ℕ) (pairs : List (ℤ × List ℕ)) (offset : ℕ) (p : ℤ × List ℕ) → NamesStand table offsets pairs → NameStands table offset p.1 → NamesStand table (offsets ++ offset ∷ []) (pairs ++ p ∷ [])
+stand-push table [] [] offset p stand here = (here, tt)
+stand-push table [] (q ∷ pairs) offset p stand here = absurd (stand tt)
+stand-push table (o ∷ offsets) [] offset p stand here = absurd (stand tt)
+stand-push table (o ∷ offsets) (q ∷ pairs) offset p stand here = (stand.0, stand-push table offsets pairs offset p stand.1 here)
+
+pub stand_more : (table offsets : List ℕ) (pairs : List (ℤ × List ℕ)) (i : ℕ) (p : ℤ × List ℕ) → i < length offsets → i < length pairs → p ≡ get_or pairs i p
+    → NamesStand table (take i offsets) (take i pairs) → NameStands table (get_or offsets i 0) (get_or pairs i p).1 → NamesStand table (take (i + 1) offsets) (take (i + 1) pairs)
+stand_more table offsets pairs i p in_offsets in_pairs is_pair stand here =
+    subst₂ (NamesStand table) (sym (take_more offsets i 0 in_offsets))
+        (sym (take_more pairs i p in_pairs ∙ ap (λ q. take i pairs ++ q ∷ []) (sym is_pair))) (stand-push table (take i offsets) (take i pairs) (get_or offsets i 0) p stand (subst (λ (q : ℤ × List ℕ). NameStands table (get_or offsets i 0) q.1) (sym is_pair) here))
+
+-- what holds of each item left holds of the first and of each other
+pub each_first : {X : Type 0} (P : X → Type 0) (xs : List X) (i : ℕ) (x : X) → i < length xs → x ≡ get_or xs i x → AllByRecursion P (drop i xs) → P x × AllByRecursion P (drop (i + 1) xs)
+each_first P xs i x within item each = subst (AllByRecursion P) (drop_more xs i x within ∙ ap (λ y. y ∷ drop (i + 1) xs) (sym item)) each

@@ -1,6 +1,7 @@
 -- What the readers answer of parts of an archive's files.
 use Rattle.std.specs.Prelude.{◌≡◌, ℕ, ◌<◌, List, ◌++◌, length}
 use Rattle.std.specs.List.{AllByRecursion}
+use Rattle.pcp_base.specs.declared.desc.Desc.{Desc}
 use Rattle.pcp_model.specs.declared.records.Entry.{Entry}
 use Rattle.pcp_model.specs.Records.{entries, FitsEntry}
 
@@ -10,3 +11,11 @@ pub record AreEntries (bytes : List ℕ) (es : List Entry) : Type 0 where
   pub rest : List ℕ
   pub short : length rest < 20
   pub is : bytes ≡ entries es ++ rest
+
+-- each number of a description fits its word
+pub record DescInRange (d : Desc) : Type 0 where
+  pub pmid : d.pmid < 4294967296
+  pub code : d.code < 4294967296
+  pub indom : d.indom < 4294967296
+  pub semantics : d.semantics < 4294967296
+  pub units : d.units < 4294967296

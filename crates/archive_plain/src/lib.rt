@@ -3,6 +3,8 @@
 //! true by the definitions of readable files, of their scan and of described items; they copy a lot and are slow.
 #![tactic(auto)]
 
+mod domains;
 mod entries;
 mod frames;
 mod label;
+mod records;
