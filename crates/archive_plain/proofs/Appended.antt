@@ -1,7 +1,7 @@
 -- One more of what is read: what was read before, and then it.
-use Rattle.std.proofs.Common.{◌≡◌, ℕ, ℤ, ◌+◌, ◌<◌, ◌≤◌, List, [], ◌∷◌, ◌++◌, length, take, drop, get_or, refl, subst, subst₂, sym, ap, ◌∙◌, append_assoc, arith}
+use Rattle.std.proofs.Common.{◌≡◌, ℕ, ℤ, ◌+◌, ◌-◌, ◌<◌, ◌≤◌, List, [], ◌∷◌, ◌++◌, length, take, drop, get_or, refl, subst, subst₂, sym, ap, ◌∙◌, append_assoc, arith}
 use Rattle.std.specs.List.{AllByRecursion}
-use Rattle.std.proofs.lemmas.List.{take-append-drop, drop-drop, append-nil, take_more, drop_more}
+use Rattle.std.proofs.lemmas.List.{take-append-drop, drop-drop, append-nil, take_more, drop_more, take_rest}
 use Rattle.pcp_model.specs.declared.records.Entry.{Entry}
 use Rattle.pcp_model.specs.Frame.{frame, frames, IsFrameable}
 use Rattle.pcp_model.specs.Archive.{AreRead}
@@ -15,6 +15,9 @@ each-push P (y ∷ ys) x each is = (each.0, each-push P ys x each.1 is)
 -- what is left begins with a part, and goes on behind it
 pub next_part : {A : Type 0} (n at : ℕ) (xs part : List A) → take n (drop at xs) ≡ part → drop at xs ≡ part ++ drop (at + n) xs
 next_part n at xs part is = sym (take-append-drop n (drop at xs)) ∙ ap (λ front. front ++ drop n (drop at xs)) is ∙ ap (λ rest. part ++ rest) (drop-drop n at xs)
+
+pub behind_front : {A : Type 0} (n : ℕ) (xs rest : List A) → take (length xs - n) (drop n xs) ≡ rest → xs ≡ take n xs ++ rest
+behind_front n xs rest is = sym (take-append-drop n xs) ∙ ap (λ more. take n xs ++ more) (sym (take_rest xs n) ∙ is)
 
 entries-push : (es : List Entry) (e : Entry) (rest : List ℕ) → entries (es ++ e ∷ []) ++ rest ≡ entries es ++ (entry e ++ rest)
 entries-push [] e rest = ap (λ t. t ++ rest) (append-nil (entry e))

@@ -1,8 +1,11 @@
 -- What the readers answer of parts of an archive's files.
-use Rattle.std.specs.Prelude.{◌≡◌, ℕ, ◌<◌, List, ◌++◌, length}
+use Rattle.std.specs.Prelude.{◌≡◌, ℕ, ℤ, ◌<◌, List, ◌++◌, length}
 use Rattle.std.specs.List.{AllByRecursion}
 use Rattle.pcp_base.specs.declared.desc.Desc.{Desc}
 use Rattle.pcp_model.specs.declared.records.Entry.{Entry}
+use Rattle.pcp_model.specs.Frame.{frames}
+use Rattle.pcp_model.specs.LabelFields.{LabelFields}
+use Rattle.pcp_model.specs.Labels.{IsLabel}
 use Rattle.pcp_model.specs.Records.{entries, FitsEntry}
 
 -- whole entries in range, and fewer bytes than one more
@@ -19,3 +22,9 @@ pub record DescInRange (d : Desc) : Type 0 where
   pub indom : d.indom < 4294967296
   pub semantics : d.semantics < 4294967296
   pub units : d.units < 4294967296
+
+-- a file is its label, framed records and an end
+pub record IsHeaded (bytes : List ℕ) (l : LabelFields) (number : ℤ) (payloads : List (List ℕ)) (rest : List ℕ) : Type 0 where
+  pub head : List ℕ
+  pub label : IsLabel head l number
+  pub is : bytes ≡ head ++ (frames payloads ++ rest)

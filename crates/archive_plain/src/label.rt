@@ -13,7 +13,8 @@ use std::alloc::Global;
 const HOST: usize = 24;
 const ZONE: usize = 88;
 const TEXTS_END: usize = 128;
-const LABEL_LEN: usize = 132;
+/// How many bytes a label has.
+pub const LABEL_LEN: usize = 132;
 
 /// Whether bytes are the same.
 pub fn are_same(a: &[u8], b: &[u8]) -> bool

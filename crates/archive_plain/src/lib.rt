@@ -5,6 +5,8 @@
 
 mod domains;
 mod entries;
+mod files;
 mod frames;
+mod items;
 mod label;
 mod records;
