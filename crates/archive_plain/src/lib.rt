@@ -3,6 +3,8 @@
 //! true by the definitions of readable files, of their scan and of described items; they copy a lot and are slow.
 #![tactic(auto)]
 
+mod archive;
+mod described;
 mod domains;
 mod entries;
 mod files;
@@ -10,3 +12,7 @@ mod frames;
 mod items;
 mod label;
 mod records;
+mod volumes;
+
+pub use archive::{PlainContents, PlainReading, read_archive, records_in, scan};
+pub use described::is_described;
