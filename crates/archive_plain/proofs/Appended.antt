@@ -63,7 +63,7 @@ pub stand_more : (table offsets : List ℕ) (pairs : List (ℤ × List ℕ)) (i 
     → NamesStand table (take i offsets) (take i pairs) → NameStands table (get_or offsets i 0) (get_or pairs i p).1 → NamesStand table (take (i + 1) offsets) (take (i + 1) pairs)
 stand_more table offsets pairs i p in_offsets in_pairs is_pair stand here =
     subst₂ (NamesStand table) (sym (take_more offsets i 0 in_offsets))
-        (sym (take_more pairs i p in_pairs ∙ ap (λ q. take i pairs ++ q ∷ []) (sym is_pair))) (stand-push table (take i offsets) (take i pairs) (get_or offsets i 0) p stand (subst (λ (q : ℤ × List ℕ). NameStands table (get_or offsets i 0) q.1) (sym is_pair) here))
+    (sym (take_more pairs i p in_pairs ∙ ap (λ q. take i pairs ++ q ∷ []) (sym is_pair))) (stand-push table (take i offsets) (take i pairs) (get_or offsets i 0) p stand (subst (λ (q : ℤ × List ℕ). NameStands table (get_or offsets i 0) q.1) (sym is_pair) here))
 
 -- what holds of each item left holds of the first and of each other
 pub each_first : {X : Type 0} (P : X → Type 0) (xs : List X) (i : ℕ) (x : X) → i < length xs → x ≡ get_or xs i x → AllByRecursion P (drop i xs) → P x × AllByRecursion P (drop (i + 1) xs)

@@ -31,7 +31,7 @@ pub add_whole : (volumes : List (List ℕ)) (l : LabelFields) (n : ℕ) (vs : Li
 add_whole volumes l n vs items holds whole = record {
   followed = λ meta index v more le are.
       subst (AreVolumes (files_of meta index volumes) l) (sym (append_assoc vs ((n, items) ∷ []) (v ∷ more)))
-          (whole.followed meta index (n, items) (v ∷ more) (omega arith) (holds, (let lt : n < v.0 = omega arith in lt), are));
+      (whole.followed meta index (n, items) (v ∷ more) (omega arith) (holds, (let lt : n < v.0 = omega arith in lt), are));
   told = told_next {P = λ m. (slice_index_or volumes m [] ≡ []) ⊎ Contains (numbers (vs ++ (n, items) ∷ [])) m} n
       (λ m h. ⊎_elim (λ (none : slice_index_or volumes m [] ≡ []). inl none) (λ (told : Contains (numbers vs) m). inr (still_told vs (n, items) m told)) (whole.told m h))
       (inr (now_told vs (n, items)));

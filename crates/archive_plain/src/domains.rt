@@ -106,12 +106,7 @@ fn spell_instances(
 }
 
 // Whether the name stands in the table from an offset on, ended by a zero byte.
-fn name_stands(
-    alloc: Global,
-    table: &[u8],
-    offset: u32,
-    name: &Text,
-) -> Result<bool, NoMemory>
+fn name_stands(alloc: Global, table: &[u8], offset: u32, name: &Text) -> Result<bool, NoMemory>
     ensures { IfOk result (λ stands. IsTrue stands → NameStands table.now offset name.now) }
 {
     let mut ended = Vec::from_slice(alloc, name.as_slice())?;

@@ -11,7 +11,9 @@ use pcp_model::{Label, put_signed, put_word, spell_frame, spell_label};
 use std::alloc::Global;
 
 const HOST: usize = 24;
+
 const ZONE: usize = 88;
+
 const TEXTS_END: usize = 128;
 /// How many bytes a label has.
 pub const LABEL_LEN: usize = 132;
@@ -103,12 +105,7 @@ pub fn read_label(alloc: Global, bytes: &[u8], number: i32) -> Result<Option<Lab
 }
 
 // What the bytes say when the end of this label fills them up to one.
-fn fill_up(
-    alloc: Global,
-    bytes: &[u8],
-    end: &Label,
-    number: i32,
-) -> Result<Option<Label>, NoMemory>
+fn fill_up(alloc: Global, bytes: &[u8], end: &Label, number: i32) -> Result<Option<Label>, NoMemory>
     ensures { IfOk result (λ found. IfSome found (λ l. BeginsLabel bytes.now l number)) }
 {
     if bytes.len() >= LABEL_LEN {

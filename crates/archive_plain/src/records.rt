@@ -82,10 +82,7 @@ fn fit_words(names: &[Text]) -> bool
 }
 
 // The description that the payload is, and its names.
-fn read_description(
-    alloc: Global,
-    payload: &[u8],
-) -> Result<Option<(Desc, List<Text>)>, NoMemory>
+fn read_description(alloc: Global, payload: &[u8]) -> Result<Option<(Desc, List<Text>)>, NoMemory>
     ensures range { IfOk result (λ found. IfSome found (λ d. DescriptionInRange d.0 d.1)) }
     ensures is { IfOk result (λ found. IfSome found (λ d. payload.now ≡ description d.0 d.1)) }
 {
@@ -122,10 +119,7 @@ fn read_record(alloc: Global, payload: &[u8]) -> Result<Option<MetaRecord>, NoMe
 
 /// The records of Meta that the payloads are.
 #[tactic(auto, using(crate::proofs::Appended::read_more))]
-pub fn read_records(
-    alloc: Global,
-    payloads: &[Bytes],
-) -> Result<Option<List<MetaRecord>>, NoMemory>
+pub fn read_records(alloc: Global, payloads: &[Bytes]) -> Result<Option<List<MetaRecord>>, NoMemory>
     requires { AllByRecursion IsFrameable payloads.now }
     ensures { IfOk result (λ found. IfSome found (AreRead IsRecord payloads.now)) }
 {

@@ -9,9 +9,9 @@ use Rattle.archive_plain.proofs.volumes.read_wholes.Goals as goal
 pub loop-number-preserved-then-is_empty : goal.loop-number-preserved-then-is_empty
 loop-number-preserved-then-is_empty c =
     skip_empty c.args.volumes.now c.args.label.now c.loop-number.number c.loop-number.read
-        (volume_here c.args.volumes.now c.loop-number.number c.index-volumes-number.result c.as_slice-bytes.result.now (omega arith) c.as_slice-bytes.ensures c.index-volumes-number.is
-        ∙ nil_from_length c.as_slice-bytes.result.now (eqb-true _ _ (sym c.is_empty.ensures ∙ c.if-is_empty.true)))
-        c.loop-number.invariant
+    (volume_here c.args.volumes.now c.loop-number.number c.index-volumes-number.result c.as_slice-bytes.result.now (omega arith) c.as_slice-bytes.ensures c.index-volumes-number.is
+    ∙ nil_from_length c.as_slice-bytes.result.now (eqb-true _ _ (sym c.is_empty.ensures ∙ c.if-is_empty.true)))
+    c.loop-number.invariant
 
 pub loop-number-preserved : goal.loop-number-preserved
 loop-number-preserved c = rw c.in_ok-push.ensures.ok
