@@ -1,6 +1,9 @@
 //! Each spelling of worked values: one counter `mmv.app.hits` with the value 7 at second 100, and more.
-use pcp_base::{Desc, InDom, Pmid, Stamp, Text, Units};
-use pcp_model::{Entry, Label, spell_description, spell_entry, spell_frame, spell_label};
+use pcp_base::{Block, Body, Desc, InDom, List, PmResult, Pmid, Stamp, Text, Units, ValueSet};
+use pcp_model::{
+    Entry, Label, spell_description, spell_domain, spell_entry, spell_frame, spell_label,
+    spell_payload,
+};
 use std::alloc::Global;
 use std::test::Fail;
 
@@ -92,5 +95,63 @@ fn an_entry_has_five_words(rt: HostRuntime) -> Result<(), Fail> {
     };
     let want = big_endian(alloc, &[0x64, 0, 0, 0xb8, 0xac])?;
     assert_eq!(rt; spell_entry(alloc, &place)?.as_slice(), want.as_slice());
+    Ok(())
+}
+
+#[test]
+fn a_domain_record_is_spelled(rt: HostRuntime) -> Result<(), Fail> {
+    let alloc = rt.alloc();
+    let (first, second) = (Text::build(alloc, b"a")?, Text::build(alloc, b"b")?);
+    let mut pairs = Vec::new(alloc);
+    pairs.push((0, first))?;
+    pairs.push((1, second))?;
+    let indom = InDom::of_word(0x1180_0401);
+    let made = spell_domain(alloc, hundred()?, indom, &pairs)?;
+    let mut want = big_endian(alloc, &[2, 100, 0, 0x1180_0401, 2, 0, 1, 0, 2])?;
+    want.extend_from_slice(&[0x61, 0, 0x62, 0])?;
+    assert_eq!(rt; made.as_slice(), want.as_slice());
+    Ok(())
+}
+
+// A value of 64 bits in a block, and behind it one of 32 bits in its set.
+#[test]
+fn a_payload_with_a_block_is_spelled(rt: HostRuntime) -> Result<(), Fail> {
+    let alloc = rt.alloc();
+    let bytes = List::from_vec([0xff; 8].to_vec(alloc)?);
+    assert!(rt; bytes.len() == 8);
+    let value = Block::build(3, bytes).ok_or("too long")?;
+    let mut large = List::empty(alloc);
+    large.push((-1, value))?;
+    let mut small = List::empty(alloc);
+    small.push((-1, 0xffff_ffff))?;
+    let mut sets = List::empty(alloc);
+    sets.push(ValueSet {
+        pmid: Pmid::of_word(0x1180_0403),
+        body: Body::Blocks(large),
+    })?;
+    sets.push(ValueSet {
+        pmid: Pmid::of_word(HITS),
+        body: Body::InPlace(small),
+    })?;
+    let answer = PmResult {
+        stamp: hundred()?,
+        sets,
+    };
+    let made = spell_payload(alloc, &answer)?;
+    let head = [0x64, 0, 2, 0x1180_0403, 1, 1, 0xffff_ffff, 16];
+    let mut want = big_endian(alloc, &head)?;
+    let rest = [
+        HITS,
+        1,
+        0,
+        0xffff_ffff,
+        0xffff_ffff,
+        0x0300_000c,
+        0xffff_ffff,
+        0xffff_ffff,
+    ];
+    want.extend_from_slice(&big_endian(alloc, &rest)?)?;
+    assert_eq!(rt; made.len(), 64);
+    assert_eq!(rt; made.as_slice(), want.as_slice());
     Ok(())
 }

@@ -1,0 +1,13 @@
+-- The payloads so far are read, and the others can be framed.
+use Rattle.std.proofs.Common.{take, drop}
+use Rattle.std.specs.List.{AllByRecursion}
+use Rattle.pcp_model.specs.Archive.{AreRead}
+use Rattle.pcp_model.specs.Frame.{IsFrameable}
+use Rattle.pcp_model.specs.Payload.{IsItem}
+use Rattle.archive_plain.proofs.items.read_items.Given as goal
+
+abbrev pub invariant-loop-payload : goal.invariant-loop-payload
+invariant-loop-payload l = record {
+  read : AreRead IsItem (take l.payload-index l.payloads) l.items;
+  fit : AllByRecursion IsFrameable (drop l.payload-index l.payloads);
+}
