@@ -1,6 +1,6 @@
 //! Images of memory mapped values, version 1 (mmv(5)): reads words or bytes as an image, or tells the first fault and
-//! its place. Of an image with exactly one metric and one value, without a domain or a help and of 32-bit kind (the
-//! first form), it answers what it says.
+//! its place, and answers what an image says, by the addresses of its fields. The laws say what changes of an image
+//! keep its form.
 #![tactic(auto)]
 
 mod contents;

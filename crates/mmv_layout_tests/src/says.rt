@@ -223,8 +223,7 @@ fn instances_are_those_of_the_run(rt: HostRuntime) -> Result<(), Fail> {
     };
     assert_eq!(rt; (first.serial, second.serial), (3, 2));
     assert!(rt; first.short.is_none() && first.long.is_none());
-    let ([of_first], [of_second]) = (first.instances.as_slice(), second.instances.as_slice())
-    else {
+    let ([of_first], [of_second]) = (first.instances.as_slice(), second.instances.as_slice()) else {
         panic!(rt; "not one instance each");
     };
     assert!(rt; of_first.0 == 3 && of_first.1.as_slice() == b"y".as_slice());
