@@ -4,6 +4,7 @@ use pcp_model::{
     Entry, Label, spell_description, spell_domain, spell_entry, spell_frame, spell_label,
     spell_payload,
 };
+use result_form::fits;
 use std::alloc::Global;
 use std::test::Fail;
 
@@ -98,15 +99,20 @@ fn an_entry_has_five_words(rt: HostRuntime) -> Result<(), Fail> {
     Ok(())
 }
 
+/// The domain 70.1025 of the instances 0 and 1 from second 100 on.
+fn domain(alloc: Global, first: Text, second: Text) -> Result<Vec<u8>, Fail> {
+    if first.as_slice().len() > 63 || second.as_slice().len() > 63 {
+        return Err(Fail::new("long names"));
+    }
+    let indom = InDom::of_word(0x1180_0401);
+    Ok(spell_domain(alloc, hundred()?, indom, &[(0, first), (1, second)])?)
+}
+
 #[test]
 fn a_domain_record_is_spelled(rt: HostRuntime) -> Result<(), Fail> {
     let alloc = rt.alloc();
     let (first, second) = (Text::build(alloc, b"a")?, Text::build(alloc, b"b")?);
-    let mut pairs = Vec::new(alloc);
-    pairs.push((0, first))?;
-    pairs.push((1, second))?;
-    let indom = InDom::of_word(0x1180_0401);
-    let made = spell_domain(alloc, hundred()?, indom, &pairs)?;
+    let made = domain(alloc, first, second)?;
     let mut want = big_endian(alloc, &[2, 100, 0, 0x1180_0401, 2, 0, 1, 0, 2])?;
     want.extend_from_slice(&[0x61, 0, 0x62, 0])?;
     assert_eq!(rt; made.as_slice(), want.as_slice());
@@ -137,6 +143,9 @@ fn a_payload_with_a_block_is_spelled(rt: HostRuntime) -> Result<(), Fail> {
         stamp: hundred()?,
         sets,
     };
+    if !fits(&answer) {
+        panic!(rt; "does not fit");
+    }
     let made = spell_payload(alloc, &answer)?;
     let head = [0x64, 0, 2, 0x1180_0403, 1, 1, 0xffff_ffff, 16];
     let mut want = big_endian(alloc, &head)?;
