@@ -18,7 +18,7 @@ mod values;
 pub use fault::ImageFault;
 pub use image::Image;
 pub use laws::{number_holds_bytes, number_holds_halves, words_hold_bytes};
-pub use rows::{MetricRow, Slot};
+pub use rows::{Content, IndomRow, Layout, MetricRow, Slot, ValueRow};
 
 #[cfg(test)]
 mod tests;
