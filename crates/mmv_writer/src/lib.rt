@@ -1,0 +1,8 @@
+//! Writes images of memory mapped values, version 1 (mmv(5)). A builder takes the rows of an image one by one and
+//! refuses a row that would break the format; what was built is then spelled in one way alone, without gaps.
+#![tactic(auto)]
+
+mod fault;
+mod rules;
+
+pub use fault::BuildFault;
