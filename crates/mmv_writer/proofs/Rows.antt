@@ -47,11 +47,11 @@ apart_snoc same xs y apart none i j a b less at_i at_j =
 
 pub any_longer : {T : Type 0} (test : T → Bool) (xs ys : List T) → list_any test xs ≡ true → list_any test (xs ++ ys) ≡ true
 any_longer test [] ys h = cc
-any_longer test (x ∷ xs) ys h = here (test x) h
+any_longer test (x ∷ xs) ys h = here (test x) (any_longer test xs ys) h
   where
-    here : (b : Bool) → (b || list_any test xs) ≡ true → (b || list_any test (xs ++ ys)) ≡ true
-    here true e = refl
-    here false e = any_longer test xs ys e
+    here : (b : Bool) → (list_any test xs ≡ true → list_any test (xs ++ ys) ≡ true) → (b || list_any test xs) ≡ true → (b || list_any test (xs ++ ys)) ≡ true
+    here true rest e = refl
+    here false rest e = rest e
 
 pub any_wider : {T : Type 0} (test wide : T → Bool) (xs : List T) → ((x : T) → test x ≡ true → wide x ≡ true) → list_any test xs ≡ true → list_any wide xs ≡ true
 any_wider test wide [] w h = cc

@@ -2,7 +2,9 @@
 //! refuses a row that would break the format; what was built is then spelled in one way alone, without gaps.
 #![tactic(auto)]
 
+mod builder;
 mod fault;
 mod rules;
 
+pub use builder::Builder;
 pub use fault::BuildFault;

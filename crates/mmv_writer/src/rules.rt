@@ -1,4 +1,4 @@
-ghost use Rattle.std.specs.Prelude.{◌≡◌, ◌<◌, ℕ, false, None, bytes_eq, slice_index};
+ghost use Rattle.std.specs.Prelude.{◌≡◌, ◌<◌, ◌^◌, ℕ, false, None, bytes_eq, slice_index};
 ghost use Rattle.std.specs.Ordering.{int_eq};
 ghost use Rattle.std.specs.List.{list_any};
 ghost use Rattle.mmv_writer.specs.Rules.{is_long, is_long_help, has_domain, is_serial, header_fault, indom_fault, is_instance_name, is_same_instance, has_same_instance, instance_fault, is_metric_name, is_same_metric, lacks_domain, metric_fault, has_instance, fits_instance, fits_kind, fits_metric, fits_some_metric, is_same_number, is_same_value, is_long_content, value_fault, text_fault};
@@ -186,7 +186,9 @@ fn has_same_metric(metrics: &[MetricRow], row: &MetricRow) -> bool
 pub fn metric_fault(draft: &Layout, row: &MetricRow) -> Option<BuildFault>
     ensures value { result ≡ metric_fault draft.now row.now }
     ensures helps { result ≡ None → IsHelp row.now.short × IsHelp row.now.long }
+    ensures units { row.now.units < 2 ^ 32 }
 {
+    let _units = row.units.word();
     if !is_metric_name(&row.name) || is_long_help(&row.short) || is_long_help(&row.long) {
         return Some(BuildFault::Name);
     }
