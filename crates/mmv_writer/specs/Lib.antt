@@ -1,2 +1,4 @@
 pub mod Draft
+pub mod Places
 pub mod Rules
+pub mod Spelling

@@ -4,7 +4,9 @@
 
 mod builder;
 mod fault;
+mod places;
 mod rules;
+mod strings;
 
 pub use builder::Builder;
 pub use fault::BuildFault;

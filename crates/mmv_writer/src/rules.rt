@@ -96,7 +96,7 @@ fn is_instance_name(name: &Text) -> bool
 }
 
 /// Whether two texts are the same.
-fn same_text(a: &Text, b: &Text) -> bool
+pub fn same_text(a: &Text, b: &Text) -> bool
     ensures { result ≡ bytes_eq a.now b.now }
 {
     a.as_slice() == b.as_slice()
