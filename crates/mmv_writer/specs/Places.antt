@@ -1,6 +1,6 @@
 -- Where the sections of a spelled image stand: behind the header and the contents, in the order of their types and
 -- without gaps. Places are bytes from the image's start.
-use Rattle.std.specs.Prelude.{ℕ, ◌+◌, ◌*◌, ◌==◌, if◌then◌else◌, List, length, sum_by}
+use Rattle.std.specs.Prelude.{ℕ, ◌+◌, ◌*◌, ◌≤◌, ◌==◌, if◌then◌else◌, List, length, sum_by}
 use Rattle.mmv_layout.specs.declared.rows.IndomRow.{IndomRow}
 use Rattle.mmv_layout.specs.declared.rows.Layout.{Layout}
 use Rattle.mmv_writer.specs.declared.places.Counts.{Counts}
@@ -45,3 +45,11 @@ places_of counts = record {
 abbrev pub words_in : Counts → ℕ
 words_in counts =
     5 + 2 * sections_in counts + 4 * counts.indoms + 10 * counts.instances + 13 * counts.metrics + 4 * counts.values + 32 * counts.strings
+
+-- places of an image of at most 65,536 words, and what its references count
+pub record AreSmall (places : Places) : Type 0 where
+  pub indoms : places.indoms ≤ 1048576
+  pub instances : places.instances ≤ 1048576
+  pub metrics : places.metrics ≤ 1048576
+  pub values : places.values ≤ 1048576
+  pub strings : places.strings ≤ 1048576

@@ -5,8 +5,10 @@
 mod builder;
 mod fault;
 mod places;
+mod references;
 mod rules;
 mod strings;
+mod words;
 
 pub use builder::Builder;
 pub use fault::BuildFault;
