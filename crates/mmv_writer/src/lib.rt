@@ -7,6 +7,7 @@ mod fault;
 mod places;
 mod references;
 mod rules;
+mod spelling;
 mod strings;
 mod words;
 
