@@ -4,6 +4,7 @@
 
 mod builder;
 mod fault;
+mod laws;
 mod places;
 mod references;
 mod rules;
@@ -13,3 +14,4 @@ mod words;
 
 pub use builder::Builder;
 pub use fault::BuildFault;
+pub use laws::drafts_are_images;
