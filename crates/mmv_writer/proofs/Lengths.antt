@@ -125,7 +125,7 @@ length_spelled draft s =
 
 -- Counts that stop at 2^64 - 1
 
-sections_most : (c : Counts) → sections_in c ≤ 5
+pub sections_most : (c : Counts) → sections_in c ≤ 5
 unfolding sections_in
 sections_most c = sum5 (nat_eq c.indoms 0) (nat_eq c.instances 0) (nat_eq c.metrics 0) (nat_eq c.values 0) (nat_eq c.strings 0)
   where
