@@ -1,7 +1,8 @@
 -- A draft with one row more is a draft, where no rule forbids the row.
-use Rattle.std.proofs.Common.{◌≡◌, ◌≢◌, ℕ, zero, suc, ◌+◌, ◌<◌, ◌≤◌, ◌^◌, ℤ, Bool, true, false, not, ◌&&◌, ◌||◌, ◌⊎◌, inl, inr, List, [], ◌∷◌, ◌++◌, length, get_or, set, take, drop, ap, ap₂, sym, subst, ◌∙◌, refl, arith, ⊎_elim, true≢false, cond, nat_eq, nat_le, add-one, Option, Some, None}
+use Rattle.std.proofs.Common.{◌≡◌, ◌≢◌, ℕ, zero, suc, ◌+◌, ◌<◌, ◌≤◌, ◌^◌, ℤ, pos, negsuc, Bool, true, false, not, ◌&&◌, ◌||◌, ◌⊎◌, inl, inr, List, [], ◌∷◌, ◌++◌, length, get_or, set, take, drop, ap, ap₂, sym, subst, ◌∙◌, refl, arith, ⊎_elim, true≢false, cond, nat_eq, nat_le, add-one, Option, Some, None}
 use Rattle.std.specs.List.{list_any, slice_get}
-use Rattle.std.specs.Int.{is_negative}
+use Rattle.std.specs.Int.{w32, is_negative}
+use Rattle.std.specs.Int.RustNames.{FitsSigned}
 use Rattle.std.proofs.lemmas.Bool.Decides.{nat_tests}
 use Rattle.std.proofs.lemmas.Bool.{eqb-true, eq-eqb}
 use Rattle.std.specs.Ordering.{int_eq}
@@ -13,7 +14,7 @@ use Rattle.mmv_layout.proofs.Below.{both_left, both_right}
 use Rattle.mmv_writer.specs.declared.fault.BuildFault.{BuildFault}
 use Rattle.mmv_writer.specs.declared.fault.BuildFault.TheVariants.{Name, Duplicate, Unknown, Serial, Item}
 use Rattle.mmv_writer.specs.Rules.{is_long, is_long_help, has_domain, is_serial, indom_fault, is_instance_name, is_same_instance, has_same_instance, instance_fault, is_metric_name, is_same_metric, lacks_domain, unknown_or, metric_fault, has_instance, fits_instance, fits_kind, fits_metric, fits_some_metric, is_same_value, is_long_content, value_fault, text_fault}
-use Rattle.mmv_writer.specs.Draft.{Each, Apart, IsStored, IsString, IsHelp, IsInstance, IsDomain, HasDomain, IsMetric, IsContent, IsValue, is_same_serial, IsDraft, empty_draft, with_domain, add_instance, with_instance, with_metric, with_value, with_string}
+use Rattle.mmv_writer.specs.Draft.{Each, Apart, IsStored, IsString, IsHelp, IsNumber, IsInstance, IsDomain, HasDomain, IsMetric, IsContent, IsValue, is_same_serial, IsDraft, empty_draft, with_domain, add_instance, with_instance, with_metric, with_value, with_string}
 use Rattle.mmv_writer.proofs.Rows.{get_snoc, any_at, each_snoc, apart_snoc, any_longer, any_wider}
 
 -- What a row that no rule forbids is
@@ -85,6 +86,7 @@ widened ix (Some s) more wide h = wide s h
 metric_stays : (ix more : List IndomRow) (row : MetricRow) → ((s : ℕ) → has_domain ix s ≡ true → has_domain more s ≡ true) → IsMetric ix row → IsMetric more row
 metric_stays ix more row wide m = record {
   name = m.name;
+  stored = m.stored;
   item = m.item;
   units = m.units;
   domain = widened ix row.serial more wide m.domain;
@@ -138,12 +140,13 @@ domain_added draft row d h none helps =
 at_most : (n : ℕ) → nat_le n 1023 ≡ true → n ≤ 1023
 at_most n h = grind (arith, nat_tests)
 
-pub metric_added : (draft : Layout) (row : MetricRow) → IsDraft draft → metric_fault draft row ≡ None → row.units < 2 ^ 32 → IsHelp row.short × IsHelp row.long → IsDraft (with_metric draft row)
+pub metric_added : (draft : Layout) (row : MetricRow) → IsDraft draft → metric_fault draft row ≡ None → row.units < 2 ^ 32 → IsStored row.name → IsHelp row.short × IsHelp row.long → IsDraft (with_metric draft row)
 unfolding with_metric
-metric_added draft row d h units helps =
+metric_added draft row d h units stored helps =
     let rules : (is_metric_name row.name ≡ true) × (list_any (λ other. is_same_metric other row) draft.metrics ≡ false) × (lacks_domain draft.indoms row.serial ≡ None) × (nat_le row.item 1023 ≡ true) = metric_rules draft row h in
     let good : IsMetric draft.indoms row = record {
         name = rules.0;
+        stored = stored;
         item = at_most row.item rules.3;
         units = units;
         domain = domain_is_there draft.indoms row.serial rules.2;
@@ -279,11 +282,15 @@ grown_serials rows serial instance apart i j a b less at_a at_b =
     let (y, was_y, how_y) = grown_row rows serial instance j b at_b in
     ap₂ nat_eq (serial_of_grown a x serial instance how_x) (serial_of_grown b y serial instance how_y) ∙ apart i j x y less was_x was_y
 
-pub instance_added : (draft : Layout) (serial : ℕ) (id : ℤ) (name : List ℕ) → IsDraft draft → instance_fault draft serial id name ≡ None → IsStored name → IsDraft (with_instance draft serial id name)
+number_is : (id : ℤ) → is_negative id ≡ false → FitsSigned w32 id → IsNumber id
+number_is (pos n) h fits = (n, refl, fits.sfits)
+number_is (negsuc n) h fits = cc
+
+pub instance_added : (draft : Layout) (serial : ℕ) (id : ℤ) (name : List ℕ) → IsDraft draft → instance_fault draft serial id name ≡ None → FitsSigned w32 id → IsStored name → IsDraft (with_instance draft serial id name)
 unfolding with_instance
-instance_added draft serial id name d h stored =
+instance_added draft serial id name d h fits stored =
     let rules : (is_instance_name name ≡ true) × (has_same_instance draft.indoms serial (id, name) ≡ false) × (has_domain draft.indoms serial ≡ true) × (is_negative id ≡ false) = instance_rules draft serial id name h in
-    let is : IsInstance (id, name) = record { number = rules.3; name = rules.0; stored = stored } in
+    let is : IsInstance (id, name) = record { number = number_is id rules.3 fits; name = rules.0; stored = stored } in
     record {
       version = d.version;
       flags = d.flags;

@@ -1,6 +1,7 @@
 -- Lists of rows: what a row more changes.
-use Rattle.std.proofs.Common.{◌≡◌, ◌≢◌, ℕ, zero, suc, ◌+◌, ◌<◌, ◌≤◌, Bool, true, false, not, ◌&&◌, ◌||◌, ◌⊎◌, inl, inr, List, [], ◌∷◌, ◌++◌, length, ap, ap₂, sym, subst, ◌∙◌, refl, arith, ⊎_elim, true≢false, cond, nat_eq, Option, Some, None}
+use Rattle.std.proofs.Common.{◌≡◌, ◌≢◌, ℕ, zero, suc, ◌+◌, ◌<◌, ◌≤◌, Bool, true, false, not, ◌&&◌, ◌||◌, ◌⊎◌, inl, inr, List, [], ◌∷◌, ◌++◌, length, ap, ap₂, sym, subst, ◌∙◌, refl, arith, ⊎_elim, true≢false, cond, nat_eq, nat_lt, nat_le, Option, Some, None}
 use Rattle.std.specs.List.{list_any, slice_get}
+use Rattle.std.proofs.lemmas.Bool.Decides.{nat_tests}
 use Rattle.mmv_writer.specs.Draft.{Each, Apart}
 
 pub either_left : (a b : Bool) → (a || b) ≡ false → a ≡ false
@@ -61,3 +62,8 @@ any_wider test wide (x ∷ xs) w h = here (test x) (wide x) (w x) (any_wider tes
     here true b one rest h = ap (λ c. c || list_any wide xs) (one refl)
     here false true one rest h = refl
     here false false one rest h = rest h
+
+-- what is too long for a string is too long for a name
+pub too_long : (b : Bool) (n : ℕ) → nat_lt 255 n ≡ true → false ≡ (b && nat_le n 63)
+too_long true n h = grind (arith, nat_tests)
+too_long false n h = refl

@@ -1,7 +1,6 @@
 -- What a builder has been given: a layout of which all rules for rows hold, and what each row adds to it.
 use Rattle.std.specs.Prelude.{◌≡◌, ℕ, ◌<◌, ◌≤◌, ◌^◌, ℤ, pos, Bool, true, false, ◌&&◌, ◌==◌, if◌then◌else◌, IsTrue, List, [], ◌∷◌, ◌++◌, length, Option, Some, None, slice_get, slice_index, ◌⊎◌}
 use Rattle.std.specs.List.{list_any}
-use Rattle.std.specs.Int.{is_negative}
 use Rattle.pcp_base.specs.Texts.{IsText}
 use Rattle.mmv_layout.specs.declared.rows.IndomRow.{IndomRow}
 use Rattle.mmv_layout.specs.declared.rows.MetricRow.{MetricRow}
@@ -35,8 +34,12 @@ abbrev pub IsHelp : Option (List ℕ) → Type 0
 IsHelp None = Unit {0}
 IsHelp (Some text) = IsString text
 
+-- an instance's number isn't negative, and has 32 bits
+abbrev pub IsNumber : ℤ → Type 0
+IsNumber id = (n : ℕ) × (id ≡ pos n) × (n < 2147483648)
+
 pub record IsInstance (instance : ℤ × List ℕ) : Type 0 where
-  pub number : is_negative instance.0 ≡ false
+  pub number : IsNumber instance.0
   pub name : is_instance_name instance.1 ≡ true
   pub stored : IsStored instance.1
 
@@ -54,6 +57,7 @@ HasDomain indoms (Some serial) = has_domain indoms serial ≡ true
 
 pub record IsMetric (indoms : List IndomRow) (row : MetricRow) : Type 0 where
   pub name : is_metric_name row.name ≡ true
+  pub stored : IsStored row.name
   pub item : row.item ≤ 1023
   pub units : row.units < 2 ^ 32
   pub domain : HasDomain indoms row.serial

@@ -144,9 +144,14 @@ pub fn instance_fault(draft: &Layout, serial: u32, id: i32, name: &Text) -> Opti
 }
 
 /// Whether a text can name a metric.
+#[tactic(auto, using(crate::proofs::Rows::too_long))]
 fn is_metric_name(name: &Text) -> bool
-    ensures { result ≡ is_metric_name name.now }
+    ensures value { result ≡ is_metric_name name.now }
+    ensures stored { IsStored name.now }
 {
+    if is_long(name) {
+        return false;
+    }
     let bytes = name.as_slice();
     is_name(bytes) && bytes.len() <= MOST_NAME
 }
@@ -187,6 +192,7 @@ pub fn metric_fault(draft: &Layout, row: &MetricRow) -> Option<BuildFault>
     ensures value { result ≡ metric_fault draft.now row.now }
     ensures helps { result ≡ None → IsHelp row.now.short × IsHelp row.now.long }
     ensures units { row.now.units < 2 ^ 32 }
+    ensures stored { IsStored row.now.name }
 {
     let _units = row.units.word();
     if !is_metric_name(&row.name) || is_long_help(&row.short) || is_long_help(&row.long) {
