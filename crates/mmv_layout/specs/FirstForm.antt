@@ -1,15 +1,13 @@
 -- Images of version 1 (mmv(5)), those of the first form, and what one of these says.
-use Rattle.std.specs.Prelude.{ℕ, negsuc, ◌+◌, ◌/◌, ◌%◌, Bool, not, ◌&&◌, ◌==◌, nat_le, if◌then◌else◌, IsTrue, List, length, None, Result, Ok, Err, unwrap_or}
+use Rattle.std.specs.Prelude.{ℕ, negsuc, ◌+◌, ◌/◌, ◌%◌, Bool, not, ◌&&◌, ◌==◌, nat_le, IsTrue, List, length, None, unwrap_or}
 use Rattle.pcp_base.specs.Codes.{kind_of_code, semantics_of_code}
 use Rattle.pcp_base.specs.declared.kind.Kind.{Kind}
 use Rattle.pcp_base.specs.declared.kind.Kind.TheVariants.{I32}
 use Rattle.pcp_base.specs.declared.kind.Semantics.{Semantics}
 use Rattle.pcp_base.specs.declared.kind.Semantics.TheVariants.{Counter}
-use Rattle.mmv_layout.specs.declared.fault.ImageFault.{ImageFault}
-use Rattle.mmv_layout.specs.declared.fault.ImageFault.TheVariants.{Short, Generations, Later}
 use Rattle.mmv_layout.specs.declared.rows.MetricRow.{MetricRow}
 use Rattle.mmv_layout.specs.declared.rows.Slot.{Slot}
-use Rattle.mmv_layout.specs.Fields.{number32, number64, text_at, words_of}
+use Rattle.mmv_layout.specs.Fields.{number32, number64, text_at}
 use Rattle.mmv_layout.specs.Contents.{bytes_in, has_magic, version_in, first_generation, second_generation, flags_in, cluster_in, is_short, sections_are_good, sections_are_aligned}
 use Rattle.mmv_layout.specs.Entries.{metric_count, metric_at, value_count, value_at, is_no_domain, indoms_are_good, instances_are_good, metrics_are_good, values_are_good, strings_are_good}
 
@@ -92,17 +90,3 @@ only_value words = number64 words (value_at words 0)
 -- the one value word; its instance is -1, as its metric has no domain
 abbrev pub only_slot : List ℕ → Slot
 only_slot words = record { item = only_item words; instance = negsuc 0; kind = only_kind words; word = value_word words }
-
--- what whole words are: a first-form image, or their first fault
-unfoldable pub of_whole : List ℕ → Result (List ℕ) ImageFault
-of_whole words =
-    if not (first_generation words == second_generation words) then Err (Generations (first_generation words) (second_generation words)) else
-    if is_first_form words then Ok words else Err Later
-
--- what words are
-unfoldable pub image_in : List ℕ → Result (List ℕ) ImageFault
-image_in words = if is_short (bytes_in words) then Err (Short (bytes_in words)) else of_whole words
-
--- what bytes are
-unfoldable pub image_of : List ℕ → Result (List ℕ) ImageFault
-image_of bytes = if is_short (length bytes) then Err (Short (length bytes)) else of_whole (words_of bytes)

@@ -1,5 +1,6 @@
 ghost use Rattle.std.specs.Prelude.{◌≡◌};
-ghost use Rattle.mmv_layout.specs.Contents.{bytes_in, contents_in, type_in, count_in, place_in, section_bytes, end_in, section_lies, are_apart, is_first_of_type, has_good_section, is_aligned, sections_are_good, sections_are_aligned, section_of};
+ghost use Rattle.mmv_layout.specs.Contents.{bytes_in, contents_in, type_in, count_in, place_in, section_bytes, end_in, section_lies, are_apart, is_first_of_type, entry_lies, has_good_section, is_aligned, section_of};
+ghost use Rattle.mmv_layout.specs.Faults.{bad_type, section_fault, offset_fault};
 
 use crate::fields::{number32, number64};
 
@@ -122,12 +123,19 @@ fn is_first_of_type(words: &[u64], i: u32) -> bool
     true
 }
 
+/// Whether a contents entry lies in the words.
+fn entry_lies(words: &[u64], i: u32) -> bool
+    ensures { result ≡ entry_lies words.now i }
+{
+    56 + 16 * i as u128 <= bytes_in(words)
+}
+
 /// Whether a contents entry and its section are good.
 #[tactic(auto, unfolding(crate::specs::Contents::has_good_section))]
 fn has_good_section(words: &[u64], i: u32) -> bool
     ensures { result ≡ has_good_section words.now i }
 {
-    56 + 16 * i as u128 <= bytes_in(words)
+    entry_lies(words, i)
         && (INDOMS <= type_in(words, i) && type_in(words, i) <= STRINGS)
         && section_lies(words, i)
         && is_first_of_type(words, i)
@@ -141,30 +149,42 @@ fn is_aligned(words: &[u64], i: u32) -> bool
     count_in(words, i) == 0 || place_in(words, i) % 8 == 0
 }
 
-/// Whether each contents entry and its section are good.
-#[tactic(auto, using(crate::proofs::Below::all_none, crate::proofs::Below::all_more), unfolding(crate::specs::Contents::sections_are_good))]
-pub fn sections_are_good(words: &[u64]) -> bool
-    ensures { result ≡ sections_are_good words.now }
+/// The type of a contents entry, and 0 where it doesn't lie in the words.
+#[tactic(auto, unfolding(crate::specs::Faults::bad_type))]
+fn bad_type(words: &[u64], i: u32) -> u32
+    ensures { result ≡ bad_type words.now i }
+{
+    if entry_lies(words, i) {
+        type_in(words, i)
+    } else {
+        0
+    }
+}
+
+/// The type of the first contents entry that isn't good.
+#[tactic(auto, using(crate::proofs::Below::first_none, crate::proofs::Below::first_goes), unfolding(crate::specs::Faults::section_fault, crate::specs::Faults::unless))]
+pub fn section_fault(words: &[u64]) -> Option<u32>
+    ensures { result ≡ section_fault words.now }
 {
     for i in 0..contents_in(words) {
         if !has_good_section(words, i) {
-            return false;
+            return Some(bad_type(words, i));
         }
     }
-    true
+    None
 }
 
-/// Whether each section begins at a multiple of 8.
-#[tactic(auto, using(crate::proofs::Below::all_none, crate::proofs::Below::all_more), unfolding(crate::specs::Contents::sections_are_aligned))]
-pub fn sections_are_aligned(words: &[u64]) -> bool
-    ensures { result ≡ sections_are_aligned words.now }
+/// The place of the first section place that is no multiple of 8.
+#[tactic(auto, using(crate::proofs::Below::first_none, crate::proofs::Below::first_goes), unfolding(crate::specs::Faults::offset_fault, crate::specs::Faults::unless))]
+pub fn offset_fault(words: &[u64]) -> Option<u64>
+    ensures { result ≡ offset_fault words.now }
 {
     for i in 0..contents_in(words) {
         if !is_aligned(words, i) {
-            return false;
+            return Some(48 + 16 * i as u64);
         }
     }
-    true
+    None
 }
 
 /// The section of a type, without entries where the contents have none.

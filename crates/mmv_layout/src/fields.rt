@@ -1,6 +1,6 @@
 ghost use Rattle.std.specs.Prelude.{◌≡◌, ◌+◌, ◌<◌, ◌≤◌, ◌^◌, IfOk, length, take, drop};
 ghost use Rattle.std.specs.Int.{w64, from_le_bytes};
-ghost use Rattle.mmv_layout.specs.Fields.{number32, number64, byte_at, text_at, has_zero, same_name, words_of};
+ghost use Rattle.mmv_layout.specs.Fields.{number32, number64, byte_at, text_at, has_zero, words_of};
 
 use std::alloc::{AllocError, Global};
 
@@ -65,24 +65,6 @@ pub fn text_at(alloc: Global, words: &[u64], at: u128, n: u32) -> Result<Vec<u8>
         text.push(byte)?;
     }
     Ok(text)
-}
-
-/// Whether the name fields at two places hold one text.
-pub fn same_name(words: &[u64], a: u128, b: u128) -> bool
-    requires first { a < 2 ^ 100 }
-    requires second { b < 2 ^ 100 }
-    ensures { result ≡ same_name words.now a b }
-{
-    for k in 0..NAME_SIZE {
-        let byte = byte_at(words, a + k as u128);
-        if byte != byte_at(words, b + k as u128) {
-            return false;
-        }
-        if byte == 0 {
-            return true;
-        }
-    }
-    true
 }
 
 /// The word that eight bytes make, the low byte first.

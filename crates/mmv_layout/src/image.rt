@@ -3,53 +3,19 @@ ghost use Rattle.pcp_base.specs.declared.kind.Kind.TheVariants.{I32, U32};
 ghost use Rattle.pcp_base.specs.Names.{IsName};
 ghost use Rattle.mmv_layout.specs.Contents.{cluster_in, is_short};
 ghost use Rattle.mmv_layout.specs.Fields.{words_of};
-ghost use Rattle.mmv_layout.specs.FirstForm.{has_good_header, is_image, is_plain_metric, is_first_form, IsFirstForm, only_item, only_kind, only_semantics, only_units, only_name, only_metric, only_slot, only_value, of_whole, image_in, image_of, value_word};
+ghost use Rattle.mmv_layout.specs.Faults.{image_in, image_of};
+ghost use Rattle.mmv_layout.specs.FirstForm.{IsImage, is_plain_metric, is_first_form, IsFirstForm, only_item, only_kind, only_semantics, only_units, only_name, only_metric, only_slot, only_value, value_word};
 
-use crate::contents::{sections_are_aligned, sections_are_good};
 use crate::entries::{metric_at, value_at};
 use crate::fault::ImageFault;
 use crate::fields::{NAME_SIZE, number32, number64, text_at, words_of};
-use crate::indoms::indoms_are_good;
-use crate::instances::{instances_are_good, strings_are_good};
-use crate::metrics::{is_no_domain, metric_count, metrics_are_good};
+use crate::first_fault::image_fault;
+use crate::metrics::{is_no_domain, metric_count};
 use crate::rows::{MetricRow, Slot};
-use crate::values::{value_count, values_are_good};
+use crate::values::value_count;
 use pcp_base::{Kind, NoMemory, Semantics, Text, TextError, Units};
-use std::alloc::{AllocError, Global};
+use std::alloc::Global;
 use std::marker::Model;
-
-/// `MMV` and a zero byte, the low byte first.
-const MAGIC: u32 = 0x0056_4d4d;
-
-/// Whether the header is that of an image of version 1.
-#[tactic(auto, unfolding(crate::specs::FirstForm::has_good_header))]
-fn has_good_header(words: &[u64]) -> bool
-    ensures { result ≡ has_good_header words.now }
-{
-    words.len() >= 5
-        && words.len() <= 65536
-        && number32(words, 0) == MAGIC
-        && number32(words, 4) == 1
-        && number64(words, 8) == number64(words, 16)
-        && number32(words, 36) <= 4095
-}
-
-/// Whether words are an image of version 1.
-#[tactic(auto, unfolding(crate::specs::FirstForm::is_image))]
-fn is_image(alloc: Global, words: &[u64]) -> Result<bool, AllocError>
-    ensures { IfOk result (λ good. good ≡ is_image words.now) }
-{
-    if !(has_good_header(words)
-        && sections_are_good(words)
-        && sections_are_aligned(words)
-        && indoms_are_good(words)
-        && instances_are_good(words))
-    {
-        return Ok(false);
-    }
-    let good = metrics_are_good(alloc, words)?;
-    Ok(good && values_are_good(words) && strings_are_good(words))
-}
 
 /// Whether the metric at a place has 32-bit values, no domain and no help.
 #[tactic(auto, unfolding(crate::specs::FirstForm::is_plain_metric))]
@@ -61,20 +27,6 @@ fn is_plain_metric(words: &[u64], metric: u128) -> bool
         && is_no_domain(number32(words, metric + 80))
         && number64(words, metric + 88) == 0
         && number64(words, metric + 96) == 0
-}
-
-/// Whether words are a first-form image.
-#[tactic(auto, unfolding(crate::specs::FirstForm::is_first_form))]
-fn is_first_form(alloc: Global, words: &[u64]) -> Result<bool, AllocError>
-    ensures { IfOk result (λ good. good ≡ is_first_form words.now) }
-{
-    let good = is_image(alloc, words)?;
-    Ok(
-        good && number32(words, 28) % 2 == 0
-            && metric_count(words) == 1
-            && value_count(words) == 1
-            && is_plain_metric(words, metric_at(words, 0)),
-    )
 }
 
 /// Whether so many bytes are fewer than a header, or no whole number of words.
@@ -130,7 +82,7 @@ fn only_name(alloc: Global, words: &[u64]) -> Result<Text, NoMemory>
 }
 
 /// The index of the word that holds the one value.
-#[tactic(auto, using(crate::proofs::FirstForms::value_lies, crate::proofs::FirstForms::at_most), unfolding(crate::specs::FirstForm::value_word))]
+#[tactic(auto, using(crate::proofs::FirstForms::value_lies, crate::proofs::Images::at_most, crate::proofs::FirstForms::image), unfolding(crate::specs::FirstForm::value_word))]
 fn value_word(words: &[u64]) -> u32
     requires { IsFirstForm words.now }
     ensures { result ≡ value_word words.now }
@@ -138,8 +90,7 @@ fn value_word(words: &[u64]) -> u32
     (value_at(words, 0) / 8) as u32
 }
 
-/// An image of version 1 in the first form (mmv(5)): exactly one metric and one value, the metric without an
-/// instance domain or a help, of 32-bit kind. Contracts see it as the list of its words.
+/// An image of version 1 (mmv(5)). Contracts see it as the list of its words.
 #[derive(Drop)]
 pub struct Image {
     words: Vec<u64>,
@@ -147,68 +98,60 @@ pub struct Image {
 
 impl Model for Image {
     ghost use Rattle.std.specs.Prelude.{List as Sequence, ℕ};
-    ghost use Rattle.mmv_layout.specs.FirstForm.{IsFirstForm};
+    ghost use Rattle.mmv_layout.specs.FirstForm.{IsImage};
 
     ghost Value = { Sequence ℕ };
 
     ghost view = { λ a. a.words.items };
 
-    ghost invariant = { λ a. IsFirstForm a.words.items };
+    ghost invariant = { λ a. IsImage a.words.items };
 }
 
 impl Image {
-    /// The image that words are, or their first fault: `Short`, `Generations`, `Later`. Further words may follow
-    /// the sections, up to 65,536 in all.
-    #[tactic(auto, using(crate::proofs::FirstForms::short_words), unfolding(crate::specs::FirstForm::image_in))]
+    /// The image that words are, or their first fault. Further words may follow the sections, up to 65,536 in all.
+    #[tactic(auto, using(crate::proofs::Images::is_image_where), unfolding(crate::specs::Faults::image_in))]
     pub fn parse(alloc: Global, words: Vec<u64>) -> Result<Image, ImageFault>
         ensures image { (result ≡ Err ImageFault.NoMemory) ⊎ (result ≡ image_in words.items) }
         ensures words { IfOk result (λ image. image ≡ words.items) }
-        ensures form { OnOk result (IsFirstForm words.items) }
+        ensures form { OnOk result (IsImage words.items) }
     {
-        if words.len() < 5 {
-            let have = 8 * words.len() as u64;
-            return Err(ImageFault::Short { have });
+        if let Some(fault) = image_fault(alloc, &words)? {
+            return Err(fault);
         }
-        Image::of_whole(alloc, words)
+        Ok(Image { words })
     }
 
     /// The image that bytes are, or their first fault: `Short` also where they are no whole number of words.
-    #[tactic(auto, unfolding(crate::specs::FirstForm::image_of))]
+    #[tactic(auto, using(crate::proofs::Images::large_bytes), unfolding(crate::specs::Faults::image_of))]
     pub fn from_bytes(alloc: Global, bytes: &[u8]) -> Result<Image, ImageFault>
         ensures image { (result ≡ Err ImageFault.NoMemory) ⊎ (result ≡ image_of bytes.now) }
         ensures words { IfOk result (λ image. image ≡ words_of bytes.now) }
-        ensures form { OnOk result (IsFirstForm (words_of bytes.now)) }
+        ensures form { OnOk result (IsImage (words_of bytes.now)) }
     {
         if is_short(bytes.len()) {
             let have = bytes.len() as u64;
             return Err(ImageFault::Short { have });
         }
-        Image::of_whole(alloc, words_of(alloc, bytes)?)
+        let words = bytes.len() as u64 / 8;
+        if words > 65536 {
+            return Err(ImageFault::TooLarge { words });
+        }
+        Image::parse(alloc, words_of(alloc, bytes)?)
     }
 
-    /// The image that whole words are, or their first fault.
-    #[tactic(auto, unfolding(crate::specs::FirstForm::of_whole))]
-    fn of_whole(alloc: Global, words: Vec<u64>) -> Result<Image, ImageFault>
-        ensures image { (result ≡ Err ImageFault.NoMemory) ⊎ (result ≡ of_whole words.items) }
-        ensures words { IfOk result (λ image. image ≡ words.items) }
-        ensures form { OnOk result (IsFirstForm words.items) }
+    /// An equal image; only want of memory refuses it.
+    pub fn copy(&self, alloc: Global) -> Result<Image, NoMemory>
+        ensures { IfOk result (λ made. made ≡ self.now) }
     {
-        let (g1, g2) = (number64(&words, 8), number64(&words, 16));
-        if g1 != g2 {
-            return Err(ImageFault::Generations { g1, g2 });
-        }
-        let is_read = is_first_form(alloc, &words)?;
-        if !is_read {
-            return Err(ImageFault::Later);
-        }
+        let words = Vec::from_slice(alloc, &self.words)?;
         Ok(Image { words })
     }
 
     /// The words, in order; at least 5 and at most 65,536.
-    #[tactic(auto, using(crate::proofs::FirstForms::at_least_five, crate::proofs::FirstForms::at_most))]
+    #[tactic(auto, using(crate::proofs::Images::at_least_five, crate::proofs::Images::at_most))]
     pub fn words(&self) -> &[u64]
         ensures value { result.now ≡ self.now }
-        ensures image { IsFirstForm self.now }
+        ensures image { IsImage self.now }
         ensures some { 5 ≤ length self.now }
         ensures bound { length self.now ≤ 65536 }
     {
@@ -216,12 +159,25 @@ impl Image {
     }
 
     /// The cluster that the metric is served in, at most 4095.
-    #[tactic(auto, using(crate::proofs::FirstForms::cluster_fits))]
+    #[tactic(auto, using(crate::proofs::Images::cluster_fits))]
     pub fn cluster(&self) -> u32
         ensures value { result ≡ cluster_in self.now }
         ensures bound { result ≤ 4095 }
     {
         number32(&self.words, 36)
+    }
+
+    /// Whether the image has the first form: exactly one metric and one value, the metric without an instance domain
+    /// or a help, of 32-bit kind, and without flag 1.
+    #[tactic(auto, unfolding(crate::specs::FirstForm::is_first_form))]
+    pub fn is_first_form(&self) -> bool
+        ensures { result ≡ is_first_form self.now }
+    {
+        let words = self.words.as_slice();
+        number32(words, 28) % 2 == 0
+            && metric_count(words) == 1
+            && value_count(words) == 1
+            && is_plain_metric(words, metric_at(words, 0))
     }
 
     /// The whole value field; an `I32` or `U32` value is its low 32 bits.
@@ -236,6 +192,7 @@ impl Image {
     /// `None` exactly where no value word belongs to them.
     #[tactic(auto, using(crate::proofs::FirstForms::value_lies, crate::proofs::FirstForms::item_fits, crate::proofs::FirstForms::kind_is, crate::proofs::FirstForms::value_stands))]
     pub fn slot_of(&self, item: u32, instance: i32) -> Option<Slot>
+        requires { IsFirstForm self.now }
         ensures slot { MatchOption result ((item ≢ only_item self.now) ⊎ (instance ≢ negsuc 0))
             (λ s. (item ≡ only_item self.now) × (instance ≡ negsuc 0) × (s ≡ only_slot self.now)) }
         ensures word { IfSome result (λ s. s.word < length self.now) }
@@ -257,6 +214,7 @@ impl Image {
     /// The one metric, without an instance domain and help texts.
     #[tactic(auto, using(crate::proofs::FirstForms::name_is, crate::proofs::FirstForms::name_short, crate::proofs::FirstForms::item_fits, crate::proofs::FirstForms::kind_is))]
     pub fn only_metric(&self, alloc: Global) -> Result<MetricRow, NoMemory>
+        requires { IsFirstForm self.now }
         ensures row { IfOk result (λ row. row ≡ only_metric self.now) }
         ensures name { IsName (only_name self.now) }
         ensures short { length (only_name self.now) ≤ 63 }

@@ -1,9 +1,13 @@
-ghost use Rattle.std.specs.Prelude.{◌≡◌, ◌<◌, ◌^◌};
-ghost use Rattle.mmv_layout.specs.Entries.{has_text, lies_in_run, is_same_instance, is_new_instance, is_good_instance, instance_count, instances_are_good, is_good_string, string_count, strings_are_good};
+ghost use Rattle.std.specs.Prelude.{◌≡◌, ◌<◌, ◌^◌, IfOk};
+ghost use Rattle.mmv_layout.specs.Entries.{has_text, lies_in_run, instance_count, is_good_string, string_count};
+ghost use Rattle.mmv_layout.specs.Faults.{HasSections, instance_name_fault, instances_reference_fault, instances_duplicate_fault, instances_serial_fault, string_fault};
 
 use crate::contents::{INSTANCE_SIZE, INSTANCES, STRING_SIZE, STRINGS, section_of};
 use crate::entries::{instance_at, leads, leads_to_indom, string_at};
-use crate::fields::{NAME_SIZE, byte_at, has_zero, number32, number64, same_name};
+use crate::fields::{NAME_SIZE, byte_at, has_zero, number32, number64};
+use crate::keys::{Key, first_again};
+use crate::places::{instance_place, string_place};
+use std::alloc::{AllocError, Global};
 
 /// Whether the name field at a place holds a text that isn't empty.
 #[tactic(auto, unfolding(crate::specs::Entries::has_text))]
@@ -29,60 +33,69 @@ fn lies_in_run(words: &[u64], instance: u128) -> bool
         )
 }
 
-/// Whether two instances of one domain have one number or one name.
-#[tactic(auto, unfolding(crate::specs::Entries::is_same_instance))]
-fn is_same_instance(words: &[u64], a: u128, b: u128) -> bool
-    requires first { a < 2 ^ 80 }
-    requires second { b < 2 ^ 80 }
-    ensures { result ≡ is_same_instance words.now a b }
-{
-    number64(words, a) == number64(words, b)
-        && (number32(words, a + 12) == number32(words, b + 12) || same_name(words, a + 16, b + 16))
-}
-
-/// Whether no earlier instance of its domain has the number or the name of this one.
-#[tactic(auto, using(crate::proofs::Below::all_none, crate::proofs::Below::all_more), unfolding(crate::specs::Entries::is_new_instance))]
-fn is_new_instance(words: &[u64], i: u32) -> bool
-    ensures { result ≡ is_new_instance words.now i }
-{
-    let instance = instance_at(words, i);
-    for j in 0..i {
-        if is_same_instance(words, instance_at(words, j), instance) {
-            return false;
-        }
-    }
-    true
-}
-
-/// Whether an instance is good: its name, its domain, its number.
-#[tactic(auto, unfolding(crate::specs::Entries::is_good_instance))]
-fn is_good_instance(words: &[u64], i: u32) -> bool
-    ensures { result ≡ is_good_instance words.now i }
-{
-    let instance = instance_at(words, i);
-    has_text(words, instance + 16)
-        && lies_in_run(words, instance)
-        && is_new_instance(words, i)
-        && number32(words, instance + 12) < 2147483648
-}
-
 fn instance_count(words: &[u64]) -> u32
     ensures { result ≡ instance_count words.now }
 {
     section_of(words, INSTANCES).count
 }
 
-/// Whether all instances are good.
-#[tactic(auto, using(crate::proofs::Below::all_none, crate::proofs::Below::all_more), unfolding(crate::specs::Entries::instances_are_good))]
-pub fn instances_are_good(words: &[u64]) -> bool
-    ensures { result ≡ instances_are_good words.now }
+/// The place of the first name of an instance that is none.
+#[tactic(auto, using(crate::proofs::Below::first_none, crate::proofs::Below::first_goes), unfolding(crate::specs::Faults::instance_name_fault, crate::specs::Faults::unless))]
+pub fn instance_name_fault(words: &[u64]) -> Option<u64>
+    requires { HasSections words.now }
+    ensures { result ≡ instance_name_fault words.now }
 {
     for i in 0..instance_count(words) {
-        if !is_good_instance(words, i) {
-            return false;
+        let name = instance_place(words, i) + 16;
+        if !has_text(words, name as u128) {
+            return Some(name);
         }
     }
-    true
+    None
+}
+
+/// The place of the first instance outside its domain's run.
+#[tactic(auto, using(crate::proofs::Below::first_none, crate::proofs::Below::first_goes), unfolding(crate::specs::Faults::instances_reference_fault, crate::specs::Faults::unless))]
+pub fn instances_reference_fault(words: &[u64]) -> Option<u64>
+    requires { HasSections words.now }
+    ensures { result ≡ instances_reference_fault words.now }
+{
+    for i in 0..instance_count(words) {
+        let instance = instance_place(words, i);
+        if !lies_in_run(words, instance as u128) {
+            return Some(instance);
+        }
+    }
+    None
+}
+
+/// The place of the first instance whose number or name stood in its domain before.
+pub fn instances_duplicate_fault(alloc: Global, words: &[u64]) -> Result<Option<u64>, AllocError>
+    requires { HasSections words.now }
+    ensures { IfOk result (λ at. at ≡ instances_duplicate_fault words.now) }
+{
+    let count = instance_count(words);
+    let before = first_again(alloc, words, Key::Number, count)?;
+    let first = first_again(alloc, words, Key::InstanceName, before)?;
+    if first == count {
+        return Ok(None);
+    }
+    Ok(Some(instance_place(words, first)))
+}
+
+/// The place of the first negative number of an instance.
+#[tactic(auto, using(crate::proofs::Below::first_none, crate::proofs::Below::first_goes), unfolding(crate::specs::Faults::instances_serial_fault, crate::specs::Faults::unless))]
+pub fn instances_serial_fault(words: &[u64]) -> Option<u64>
+    requires { HasSections words.now }
+    ensures { result ≡ instances_serial_fault words.now }
+{
+    for i in 0..instance_count(words) {
+        let number = instance_place(words, i) + 12;
+        if number32(words, number as u128) >= 2147483648 {
+            return Some(number);
+        }
+    }
+    None
 }
 
 /// Whether a string has a zero byte.
@@ -99,15 +112,16 @@ fn string_count(words: &[u64]) -> u32
     section_of(words, STRINGS).count
 }
 
-/// Whether all strings are good.
-#[tactic(auto, using(crate::proofs::Below::all_none, crate::proofs::Below::all_more), unfolding(crate::specs::Entries::strings_are_good))]
-pub fn strings_are_good(words: &[u64]) -> bool
-    ensures { result ≡ strings_are_good words.now }
+/// The place of the first string without a zero byte.
+#[tactic(auto, using(crate::proofs::Below::first_none, crate::proofs::Below::first_goes), unfolding(crate::specs::Faults::string_fault, crate::specs::Faults::unless))]
+pub fn string_fault(words: &[u64]) -> Option<u64>
+    requires { HasSections words.now }
+    ensures { result ≡ string_fault words.now }
 {
     for i in 0..string_count(words) {
         if !is_good_string(words, i) {
-            return false;
+            return Some(string_place(words, i));
         }
     }
-    true
+    None
 }

@@ -1,10 +1,14 @@
-ghost use Rattle.std.specs.Prelude.{◌≡◌, ◌<◌, ◌^◌};
-ghost use Rattle.mmv_layout.specs.Entries.{metric_of, instance_leads, choice_leads, is_same_value, is_new_value, is_good_value, value_count, values_are_good};
+ghost use Rattle.std.specs.Prelude.{◌≡◌, ◌<◌, ◌^◌, IfOk};
+ghost use Rattle.mmv_layout.specs.Entries.{metric_of, instance_leads, choice_leads, value_count};
+ghost use Rattle.mmv_layout.specs.Faults.{HasSections, value_reference_fault, values_reference_fault, values_duplicate_fault};
 
 use crate::contents::{VALUES, section_of};
-use crate::entries::{leads_to_instance, leads_to_metric, leads_to_string, value_at};
+use crate::entries::{leads_to_instance, leads_to_metric, leads_to_string};
 use crate::fields::{number32, number64};
+use crate::keys::{Key, first_again};
 use crate::metrics::is_no_domain;
+use crate::places::value_place;
+use std::alloc::{AllocError, Global};
 
 /// The place of the metric of the value at a place.
 #[tactic(auto, unfolding(crate::specs::Entries::metric_of))]
@@ -41,43 +45,6 @@ fn choice_leads(words: &[u64], value: u128) -> bool
         || leads_to_string(words, number64(words, value + 8) as u128)
 }
 
-/// Whether two values have one metric and one instance.
-#[tactic(auto, unfolding(crate::specs::Entries::is_same_value))]
-fn is_same_value(words: &[u64], a: u128, b: u128) -> bool
-    requires first { a < 2 ^ 80 }
-    requires second { b < 2 ^ 80 }
-    ensures { result ≡ is_same_value words.now a b }
-{
-    number64(words, a + 16) == number64(words, b + 16)
-        && number64(words, a + 24) == number64(words, b + 24)
-}
-
-/// Whether no earlier value has the metric and the instance of this one.
-#[tactic(auto, using(crate::proofs::Below::all_none, crate::proofs::Below::all_more), unfolding(crate::specs::Entries::is_new_value))]
-fn is_new_value(words: &[u64], i: u32) -> bool
-    ensures { result ≡ is_new_value words.now i }
-{
-    let value = value_at(words, i);
-    for j in 0..i {
-        if is_same_value(words, value_at(words, j), value) {
-            return false;
-        }
-    }
-    true
-}
-
-/// Whether a value is good: its metric, its instance, its string, and that no earlier one is the same.
-#[tactic(auto, unfolding(crate::specs::Entries::is_good_value))]
-fn is_good_value(words: &[u64], i: u32) -> bool
-    ensures { result ≡ is_good_value words.now i }
-{
-    let value = value_at(words, i);
-    leads_to_metric(words, metric_of(words, value) as u128)
-        && instance_leads(words, value)
-        && choice_leads(words, value)
-        && is_new_value(words, i)
-}
-
 /// How many values there are.
 pub fn value_count(words: &[u64]) -> u32
     ensures { result ≡ value_count words.now }
@@ -85,15 +52,47 @@ pub fn value_count(words: &[u64]) -> u32
     section_of(words, VALUES).count
 }
 
-/// Whether all values are good.
-#[tactic(auto, using(crate::proofs::Below::all_none, crate::proofs::Below::all_more), unfolding(crate::specs::Entries::values_are_good))]
-pub fn values_are_good(words: &[u64]) -> bool
-    ensures { result ≡ values_are_good words.now }
+/// The place of the first reference of the value at a place that leads nowhere: its string, its metric, its instance.
+#[tactic(auto, unfolding(crate::specs::Faults::value_reference_fault, crate::specs::Faults::unless, crate::specs::Faults::or_else))]
+fn value_reference_fault(words: &[u64], value: u64) -> Option<u64>
+    requires { value < 524288 }
+    ensures { result ≡ value_reference_fault words.now value }
+{
+    if !leads_to_metric(words, metric_of(words, value as u128) as u128) {
+        return Some(value + 16);
+    }
+    if !choice_leads(words, value as u128) {
+        return Some(value + 8);
+    }
+    if !instance_leads(words, value as u128) {
+        return Some(value + 24);
+    }
+    None
+}
+
+/// The place of the first reference of a value that leads nowhere.
+#[tactic(auto, using(crate::proofs::Below::first_none, crate::proofs::Below::first_goes), unfolding(crate::specs::Faults::values_reference_fault, crate::specs::Faults::unless))]
+pub fn values_reference_fault(words: &[u64]) -> Option<u64>
+    requires { HasSections words.now }
+    ensures { result ≡ values_reference_fault words.now }
 {
     for i in 0..value_count(words) {
-        if !is_good_value(words, i) {
-            return false;
+        if let Some(at) = value_reference_fault(words, value_place(words, i)) {
+            return Some(at);
         }
     }
-    true
+    None
+}
+
+/// The place of the first value whose metric and instance stood before.
+pub fn values_duplicate_fault(alloc: Global, words: &[u64]) -> Result<Option<u64>, AllocError>
+    requires { HasSections words.now }
+    ensures { IfOk result (λ at. at ≡ values_duplicate_fault words.now) }
+{
+    let count = value_count(words);
+    let first = first_again(alloc, words, Key::Place, count)?;
+    if first == count {
+        return Ok(None);
+    }
+    Ok(Some(value_place(words, first)))
 }
