@@ -7,6 +7,9 @@ use Rattle.mmv_layout.specs.Fields.{number32, number64}
 use Rattle.mmv_layout.specs.Contents.{bytes_in, is_short, has_magic, version_in, first_generation, second_generation, cluster_in, sections_are_good, sections_are_aligned}
 use Rattle.mmv_layout.specs.Entries.{indoms_are_good, instances_are_good, metrics_are_good, values_are_good, strings_are_good}
 use Rattle.mmv_layout.specs.FirstForm.{is_too_large, is_cluster, has_good_header, is_image}
+use Rattle.std.specs.Prelude.{Option, Some, None, is_none, Ok}
+use Rattle.mmv_layout.specs.Faults.{image_fault, unless_fault, image_in}
+use Rattle.mmv_layout.proofs.Images.{images_same}
 use Rattle.mmv_layout.specs.declared.rows.Layout.{Layout}
 use Rattle.mmv_writer.specs.Draft.{IsDraft}
 use Rattle.mmv_writer.specs.Places.{counts_of, sections_in, words_in}
@@ -64,3 +67,15 @@ unfolding image_words
 drafts_are_images draft d few =
     let long : length (spelled draft (all_strings draft)) ≡ words_in (counts_of draft (all_strings draft)) = length_spelled draft (all_strings draft) in
     spelled_image draft d (omega arith)
+
+none_of : {A : Type 0} (found : Option A) → is_none found ≡ true → found ≡ None
+none_of None h = refl
+none_of (Some a) h = cc
+
+-- an image is read as one
+pub image_parses : (words : List ℕ) → is_image words ≡ true → image_in words ≡ Ok words
+unfolding image_in
+image_parses words h = ap (unless_fault words) (none_of (image_fault words) (sym (images_same words) ∙ h))
+
+pub draft_parses : (draft : Layout) → IsDraft draft → length (image_words draft) ≤ 65536 → image_in (image_words draft) ≡ Ok (image_words draft)
+draft_parses draft d few = image_parses (image_words draft) (drafts_are_images draft d few)

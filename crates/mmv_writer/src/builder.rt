@@ -1,12 +1,15 @@
-ghost use Rattle.std.specs.Prelude.{◌≡◌, None, Some, MatchResult, OnOk, OnErr};
+ghost use Rattle.std.specs.Prelude.{◌≡◌, ◌≤◌, length, None, Some, MatchResult, OnOk, OnErr, IfOk, IfErr};
 ghost use Rattle.mmv_writer.specs.Rules.{header_fault, indom_fault, instance_fault, metric_fault, value_fault, text_fault};
+ghost use Rattle.mmv_writer.specs.Spelling.{image_words};
+ghost use Rattle.mmv_writer.specs.Refusals.{IsTooLarge};
 ghost use Rattle.mmv_writer.specs.Draft.{IsDraft, IsRefusal, empty_draft, new_domain, with_domain, add_instance, with_instance, with_metric, with_value, with_string};
 
 use crate::fault::BuildFault;
 use crate::rules::{
     header_fault, indom_fault, instance_fault, metric_fault, text_fault, value_fault,
 };
-use mmv_layout::{IndomRow, Layout, MetricRow, ValueRow};
+use crate::spelling::words_of_draft;
+use mmv_layout::{Image, ImageFault, IndomRow, Layout, MetricRow, ValueRow};
 use pcp_base::{List, NoMemory, Text};
 use std::alloc::Global;
 use std::marker::Model;
@@ -62,6 +65,21 @@ fn grow(
     let added = add_instance(items.as_mut_slice(), serial, instance);
     *rows = List::from_vec(items);
     added
+}
+
+/// The image of a draft.
+#[tactic(auto, using(crate::proofs::Images::draft_parses))]
+fn image_of(alloc: Global, draft: &Layout) -> Result<Image, BuildFault>
+    requires { IsDraft draft.now }
+    ensures ok { IfOk result (λ image. (image ≡ image_words draft.now) × (length (image_words draft.now) ≤ 65536)) }
+    ensures err { IfErr result (λ fault. IsTooLarge draft.now fault) }
+{
+    let words = words_of_draft(alloc, draft)?;
+    match Image::parse(alloc, words) {
+        Ok(image) => Ok(image),
+        Err(ImageFault::NoMemory) => Err(BuildFault::NoMemory),
+        Err(_) => unreachable!(),
+    }
 }
 
 impl Builder {
@@ -185,5 +203,17 @@ impl Builder {
         }
         self.layout.strings.push(text)?;
         Ok(())
+    }
+
+    /// Ends the builder and gives the image of its rows, in the one spelling. `TooLarge` exactly where that needs more
+    /// than 65,536 words; a refusal gives the builder back as it was.
+    pub fn finish(self, alloc: Global) -> Result<Image, (Builder, BuildFault)>
+        ensures ok { IfOk result (λ image. (image ≡ image_words self) × (length (image_words self) ≤ 65536)) }
+        ensures err { IfErr result (λ refused. (refused.0 ≡ self) × IsTooLarge self refused.1) }
+    {
+        match image_of(alloc, &self.layout) {
+            Ok(image) => Ok(image),
+            Err(fault) => Err((self, fault)),
+        }
     }
 }

@@ -1,5 +1,5 @@
-ghost use Rattle.std.specs.Prelude.{◌≡◌, ◌<◌, ◌≤◌, ◌++◌, ◌⊎◌, length, min, OnOk, IfOk, MatchResult};
-ghost use Rattle.mmv_writer.specs.declared.fault.BuildFault.TheVariants.{TooLarge, NoMemory as Refused};
+ghost use Rattle.std.specs.Prelude.{◌≡◌, ◌≤◌, ◌++◌, length, min, OnOk, IfOk, MatchResult};
+ghost use Rattle.mmv_writer.specs.Refusals.{IsTooLarge};
 ghost use Rattle.mmv_writer.specs.Places.{instances_in, counts_of, words_in, places_of, AreSmall};
 ghost use Rattle.mmv_writer.specs.Spelling.{all_strings, sections_words, spelled, image_words};
 
@@ -79,7 +79,7 @@ fn spelled(alloc: Global, draft: &Layout, strings: &[Text]) -> Result<Vec<u64>, 
 pub fn words_of_draft(alloc: Global, draft: &Layout) -> Result<Vec<u64>, BuildFault>
     ensures { MatchResult result
         (λ words. (words.items ≡ image_words draft.now) × (length (image_words draft.now) ≤ 65536))
-        (λ fault. (fault ≡ Refused) ⊎ ((65536 < length (image_words draft.now)) × (fault ≡ TooLarge (min (length (image_words draft.now)) 18446744073709551615)))) }
+        (λ fault. IsTooLarge draft.now fault) }
 {
     let strings = all_strings(alloc, draft)?;
     let words = words_needed(draft, strings.as_slice());
