@@ -34,21 +34,21 @@ good_run draft s few d i at row here e =
     let all : instances_in (take i draft.indoms) + length row.instances ≤ instances_in draft.indoms = before_this draft.indoms i row here in
     let from : number64 words (at + 8) ≡ first_instance (places draft s) draft.indoms row = first_read draft s i (at + 8) row here (ap (λ n. n + 8) e) in
     all_hold (number32 words (at + 4)) (λ k. leads_to_instance words (number64 words (at + 8) + 80 * k) && nat_eq (number64 words (number64 words (at + 8) + 80 * k)) at) (λ k below.
-      let within : k < length row.instances = subst (λ n. k < n) run below in
-      let (instance, inside) = get_some row.instances k within in
-      let first : number64 words (at + 8) ≡ (places draft s).instances + 80 * instances_in (take i draft.indoms) = from ∙ first_is draft s d i row here (omega arith) in
-      let place : number64 words (at + 8) + 80 * k ≡ (places draft s).instances + 80 * (instances_in (take i draft.indoms) + k) = omega arith in
-      let owner : number64 words (number64 words (at + 8) + 80 * k) ≡ at = owner_read draft s d i k (number64 words (at + 8) + 80 * k) row instance here inside (omega arith) ∙ back draft s at i e in
-      ap₂ (λ a b. a && b) (instance_leads_to draft s few (instances_in (take i draft.indoms) + k) (number64 words (at + 8) + 80 * k) (omega arith) place) (eq-eqb (number64 words (number64 words (at + 8) + 80 * k)) at owner))
+    let within : k < length row.instances = subst (λ n. k < n) run below in
+    let (instance, inside) = get_some row.instances k within in
+    let first : number64 words (at + 8) ≡ (places draft s).instances + 80 * instances_in (take i draft.indoms) = from ∙ first_is draft s d i row here (omega arith) in
+    let place : number64 words (at + 8) + 80 * k ≡ (places draft s).instances + 80 * (instances_in (take i draft.indoms) + k) = omega arith in
+    let owner : number64 words (number64 words (at + 8) + 80 * k) ≡ at = owner_read draft s d i k (number64 words (at + 8) + 80 * k) row instance here inside (omega arith) ∙ back draft s at i e in
+    ap₂ (λ a b. a && b) (instance_leads_to draft s few (instances_in (take i draft.indoms) + k) (number64 words (at + 8) + 80 * k) (omega arith) place) (eq-eqb (number64 words (number64 words (at + 8) + 80 * k)) at owner))
 
 new_indom : (draft : Layout) (s : List (List ℕ)) → words_in (counts_of draft s) ≤ 65536 → IsDraft draft → (i : ℕ) (row : IndomRow) → slice_get draft.indoms i ≡ Some row → is_new_indom (spelled draft s) i ≡ true
 unfolding is_new_indom has_serial
 new_indom draft s few d i row here =
     let below : i < length draft.indoms = get_below draft.indoms i row here in
     all_hold i (λ j. not (nat_eq (number32 (spelled draft s) (indom_at (spelled draft s) j)) (number32 (spelled draft s) (indom_at (spelled draft s) i)))) (λ j less.
-      let (other, there) = get_some draft.indoms j (omega arith) in
-      ap not (ap₂ nat_eq (serial_read draft s few d j (indom_at (spelled draft s) j) other there (indom_is draft s few j (omega arith))) (serial_read draft s few d i (indom_at (spelled draft s) i) row here (indom_is draft s few i below))
-        ∙ d.serials j i other row less there here))
+    let (other, there) = get_some draft.indoms j (omega arith) in
+    ap not (ap₂ nat_eq (serial_read draft s few d j (indom_at (spelled draft s) j) other there (indom_is draft s few j (omega arith))) (serial_read draft s few d i (indom_at (spelled draft s) i) row here (indom_is draft s few i below))
+    ∙ d.serials j i other row less there here))
 
 pub good_indom : (draft : Layout) (s : List (List ℕ)) → words_in (counts_of draft s) ≤ 65536 → IsDraft draft → Each (λ row. HasHelp s row.short × HasHelp s row.long) draft.indoms → (i : ℕ) → i < length draft.indoms → is_good_indom (spelled draft s) i ≡ true
 unfolding is_good_indom domain_words
@@ -185,8 +185,8 @@ good_instance draft s few d q below =
     let place : instance_at words q ≡ 8 * (instances_from draft s + 10 * (instances_in (take m.i draft.indoms) + m.k)) = at ∙ ap (λ x. 8 * (instances_from draft s + 10 * x)) m.is in
     let is : IsInstance m.instance = (d.domains m.i m.row m.at).instances m.k m.instance m.within in
     ap₂ (λ a b. a && b) (ap₂ (λ a b. a && b) (ap₂ (λ a b. a && b) (named draft s d m.i m.k (instance_at words q) m.row m.instance m.at m.within place) (in_run draft s few d m.i m.k (instance_at words q) m.row m.instance m.at m.within place))
-      (all_hold q (λ j. not (is_same_instance words (instance_at words j) (instance_at words q))) (λ j less.
-          ap not (other_instance draft s d j q (instance_at words j) (instance_at words q) (member draft.indoms j (omega arith)) m less (instance_is draft s few j (omega arith)) at))))
+    (all_hold q (λ j. not (is_same_instance words (instance_at words j) (instance_at words q))) (λ j less.
+    ap not (other_instance draft s d j q (instance_at words j) (instance_at words q) (member draft.indoms j (omega arith)) m less (instance_is draft s few j (omega arith)) at))))
     (ap is_instance_number (number_read draft s d m.i m.k (instance_at words q + 12) is.number.0 m.row m.instance m.at m.within is.number.1 is.number.2 (ap (λ n. n + 12) place)) ∙ small is.number.0 is.number.2)
 
 pub good_instances : (draft : Layout) (s : List (List ℕ)) → words_in (counts_of draft s) ≤ 65536 → IsDraft draft → instances_are_good (spelled draft s) ≡ true

@@ -115,12 +115,12 @@ pub domain_added : (draft : Layout) (row : IndomRow) → IsDraft draft → indom
 unfolding with_domain
 domain_added draft row d h none helps =
     let good : IsDomain row = record {
-        serial = (indom_rules draft row h).2;
-        short = helps.0;
-        long = helps.1;
-        instances = λ i x at. absurd (empty (slice_get row.instances i) x (ap (λ xs. slice_get xs i) none) at);
-        apart = λ i j a b less at more. absurd (empty (slice_get row.instances i) a (ap (λ xs. slice_get xs i) none) at);
-      } in record {
+      serial = (indom_rules draft row h).2;
+      short = helps.0;
+      long = helps.1;
+      instances = λ i x at. absurd (empty (slice_get row.instances i) x (ap (λ xs. slice_get xs i) none) at);
+      apart = λ i j a b less at more. absurd (empty (slice_get row.instances i) a (ap (λ xs. slice_get xs i) none) at);
+    } in record {
       version = d.version;
       flags = d.flags;
       process = d.process;
@@ -145,14 +145,14 @@ unfolding with_metric
 metric_added draft row d h units stored helps =
     let rules : (is_metric_name row.name ≡ true) × (list_any (λ other. is_same_metric other row) draft.metrics ≡ false) × (lacks_domain draft.indoms row.serial ≡ None) × (nat_le row.item 1023 ≡ true) = metric_rules draft row h in
     let good : IsMetric draft.indoms row = record {
-        name = rules.0;
-        stored = stored;
-        item = at_most row.item rules.3;
-        units = units;
-        domain = domain_is_there draft.indoms row.serial rules.2;
-        short = helps.0;
-        long = helps.1;
-      } in record {
+      name = rules.0;
+      stored = stored;
+      item = at_most row.item rules.3;
+      units = units;
+      domain = domain_is_there draft.indoms row.serial rules.2;
+      short = helps.0;
+      long = helps.1;
+    } in record {
       version = d.version;
       flags = d.flags;
       process = d.process;
@@ -270,7 +270,7 @@ grown_domains rows serial instance all is new i grown at =
     ⊎_elim (λ (same : grown ≡ row). subst IsDomain (sym same) (all i row was))
     (λ (more : (row.serial ≡ serial) × (grown ≡ record row { instances = row.instances ++ instance ∷ [] })).
     subst IsDomain (sym more.1) (domain_grows row instance (all i row was) is
-      (one_then (nat_eq row.serial serial) (list_any (λ other. is_same_instance other instance) row.instances) (any_at (λ r. nat_eq r.serial serial && list_any (λ other. is_same_instance other instance) r.instances) rows row i new was) (eq-eqb row.serial serial more.0)))) how
+    (one_then (nat_eq row.serial serial) (list_any (λ other. is_same_instance other instance) row.instances) (any_at (λ r. nat_eq r.serial serial && list_any (λ other. is_same_instance other instance) r.instances) rows row i new was) (eq-eqb row.serial serial more.0)))) how
 
 serial_of_grown : (grown row : IndomRow) (serial : ℕ) (instance : ℤ × List ℕ) → ((grown ≡ row) ⊎ ((row.serial ≡ serial) × (grown ≡ record row { instances = row.instances ++ instance ∷ [] }))) → grown.serial ≡ row.serial
 serial_of_grown grown row serial instance how = ⊎_elim (λ (same : grown ≡ row). ap (λ r. r.serial) same) (λ (more : (row.serial ≡ serial) × (grown ≡ record row { instances = row.instances ++ instance ∷ [] })). ap (λ r. r.serial) more.1) how

@@ -46,20 +46,20 @@ good_header draft s few d =
     let second : number64 words 16 ≡ draft.generation = word_read words 0 2 16 (header_words draft (sections_in (counts_of draft s))) (stand_header draft s) (omega arith) refl in
     let group : number32 words 36 ≡ draft.cluster = high_read words 0 4 36 (header_words draft (sections_in (counts_of draft s))) draft.pid draft.cluster (stand_header draft s) (omega arith) refl refl process (omega arith) in
     ap₂ (λ a b. a && b) (ap₂ (λ a b. a && b) (ap₂ (λ a b. a && b) (ap₂ (λ a b. a && b) (ap₂ (λ a b. a && b)
-            (ap not (long_enough (length words) (omega arith)))
-            (ap (λ b. not (not b)) (at_most (length words) 65536 (omega arith))))
-          (eq-eqb (number32 words 0) 5655885 magic))
-        (eq-eqb (number32 words 4) 1 (edition ∙ version)))
-      (eq-eqb (number64 words 8) (number64 words 16) (first ∙ sym second)))
+    (ap not (long_enough (length words) (omega arith)))
+    (ap (λ b. not (not b)) (at_most (length words) 65536 (omega arith))))
+    (eq-eqb (number32 words 0) 5655885 magic))
+    (eq-eqb (number32 words 4) 1 (edition ∙ version)))
+    (eq-eqb (number64 words 8) (number64 words 16) (first ∙ sym second)))
     (ap is_cluster group ∙ at_most draft.cluster 4095 cluster)
 
 pub spelled_image : (draft : Layout) → IsDraft draft → words_in (counts_of draft (all_strings draft)) ≤ 65536 → is_image (spelled draft (all_strings draft)) ≡ true
 unfolding is_image
 spelled_image draft d few =
     ap₂ (λ a b. a && b) (ap₂ (λ a b. a && b) (ap₂ (λ a b. a && b) (ap₂ (λ a b. a && b) (ap₂ (λ a b. a && b) (ap₂ (λ a b. a && b) (ap₂ (λ a b. a && b)
-                (good_header draft (all_strings draft) few d) (spelt_sections draft (all_strings draft) few)) (spelt_aligned draft (all_strings draft) few))
-            (good_indoms draft (all_strings draft) few d (domain_helps draft))) (good_instances draft (all_strings draft) few d))
-        (good_metrics draft (all_strings draft) few d (metric_helps draft))) (good_values draft (all_strings draft) few d (value_texts draft)))
+    (good_header draft (all_strings draft) few d) (spelt_sections draft (all_strings draft) few)) (spelt_aligned draft (all_strings draft) few))
+    (good_indoms draft (all_strings draft) few d (domain_helps draft))) (good_instances draft (all_strings draft) few d))
+    (good_metrics draft (all_strings draft) few d (metric_helps draft))) (good_values draft (all_strings draft) few d (value_texts draft)))
     (good_strings draft (all_strings draft) few (strings_short draft d))
 
 pub drafts_are_images : DraftsAreImages

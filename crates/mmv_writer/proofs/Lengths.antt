@@ -93,8 +93,8 @@ unfolding contents_words sections_in
 length_contents c p =
     joined (entry_words 1 c.indoms p.indoms) _ _ _ (length_entry 1 c.indoms p.indoms)
     (joined (entry_words 2 c.instances p.instances) _ _ _ (length_entry 2 c.instances p.instances)
-      (joined (entry_words 3 c.metrics p.metrics) _ _ _ (length_entry 3 c.metrics p.metrics)
-        (joined (entry_words 4 c.values p.values) (entry_words 5 c.strings p.strings) _ _ (length_entry 4 c.values p.values) (length_entry 5 c.strings p.strings))))
+    (joined (entry_words 3 c.metrics p.metrics) _ _ _ (length_entry 3 c.metrics p.metrics)
+    (joined (entry_words 4 c.values p.values) (entry_words 5 c.strings p.strings) _ _ (length_entry 4 c.values p.values) (length_entry 5 c.strings p.strings))))
     ∙ spread (one_if_some c.indoms) (one_if_some c.instances) (one_if_some c.metrics) (one_if_some c.values) (one_if_some c.strings)
   where
     spread : (a b c d e : ℕ) → 2 * a + (2 * b + (2 * c + (2 * d + 2 * e))) ≡ 2 * (a + b + c + d + e)
@@ -105,8 +105,8 @@ unfolding sections_words
 length_sections draft s p =
     joined (domain_section p s draft.indoms) _ _ _ (length_domains p s draft.indoms)
     (joined (instance_section p draft.indoms) _ _ _ (length_instances p draft.indoms)
-      (joined (metric_section p s draft.metrics) _ _ _ (length_metrics p s draft.metrics)
-        (joined (value_section p s draft.indoms draft.metrics draft.values) (string_section s) _ _ (length_values p s draft.indoms draft.metrics draft.values) (length_strings s))))
+    (joined (metric_section p s draft.metrics) _ _ _ (length_metrics p s draft.metrics)
+    (joined (value_section p s draft.indoms draft.metrics draft.values) (string_section s) _ _ (length_values p s draft.indoms draft.metrics draft.values) (length_strings s))))
 
 pub length_header : (draft : Layout) (n : ℕ) → length (header_words draft n) ≡ 5
 unfolding header_words

@@ -23,7 +23,6 @@ use Rattle.mmv_writer.proofs.Wanted.{Has, HasHelp}
 use Rattle.mmv_writer.proofs.Positions.{Passes, first_passes, position_is, get_below, before_this}
 use Rattle.mmv_writer.proofs.Spelt.{domains_from, instances_from, metrics_from, values_from, strings_from, places, stand_domains, stand_instances, stand_metrics, stand_values, stand_strings, Finds, find_indoms, find_instances, find_metrics, find_values, find_strings}
 
-
 -- Places of entries
 
 pub indom_is : (draft : Layout) (s : List (List ℕ)) → words_in (counts_of draft s) ≤ 65536 → (k : ℕ) → k < length draft.indoms → indom_at (spelled draft s) k ≡ 8 * (domains_from draft s + 4 * k)
@@ -90,8 +89,8 @@ stand_instance draft s i k row instance at within =
     stands_entry (spelled draft s) (instance_words (domain_place (places draft s) draft.indoms row.serial)) 10 (length_instance (domain_place (places draft s) draft.indoms row.serial)) row.instances
     (instances_from draft s + 10 * instances_in (take i draft.indoms)) (instances_from draft s + 10 * (instances_in (take i draft.indoms) + k)) k instance
     (stands_group (spelled draft s) (λ r. flat_map (λ x. instance_words (domain_place (places draft s) draft.indoms r.serial) x) r.instances) (λ r. length r.instances) 10
-      (λ r. length_even (instance_words (domain_place (places draft s) draft.indoms r.serial)) 10 (length_instance (domain_place (places draft s) draft.indoms r.serial)) r.instances)
-      draft.indoms (instances_from draft s) (instances_from draft s + 10 * instances_in (take i draft.indoms)) i row (stand_instances draft s) at refl)
+    (λ r. length_even (instance_words (domain_place (places draft s) draft.indoms r.serial)) 10 (length_instance (domain_place (places draft s) draft.indoms r.serial)) r.instances)
+    draft.indoms (instances_from draft s) (instances_from draft s + 10 * instances_in (take i draft.indoms)) i row (stand_instances draft s) at refl)
     within (spread (instances_from draft s) (instances_in (take i draft.indoms)) k)
   where
     spread : (n a k : ℕ) → n + 10 * (a + k) ≡ n + 10 * a + 10 * k

@@ -121,7 +121,7 @@ leads_serial draft s few d (Some serial) h =
     let below : domain_of draft.indoms serial < length draft.indoms = get_below draft.indoms (domain_of draft.indoms serial) p.row p.at in
     ap (λ b. is_no_domain serial || b)
     (some_holds (indom_count words) (domain_of draft.indoms serial) (λ j. nat_eq (number32 words (indom_at words j)) serial) (subst (λ n. domain_of draft.indoms serial < n) (sym (find_indoms draft s few).count) below)
-      (ap (λ n. nat_eq n serial) (serial_read draft s few d (domain_of draft.indoms serial) (indom_at words (domain_of draft.indoms serial)) p.row p.at (indom_is draft s few (domain_of draft.indoms serial) below)) ∙ p.is))
+    (ap (λ n. nat_eq n serial) (serial_read draft s few d (domain_of draft.indoms serial) (indom_at words (domain_of draft.indoms serial)) p.row p.at (indom_is draft s few (domain_of draft.indoms serial) below)) ∙ p.is))
     ∙ or_true (is_no_domain serial)
   where
     or_true : (b : Bool) → (b || true) ≡ true
@@ -166,10 +166,10 @@ new_metric draft s few d i row here =
     let below : i < length draft.metrics = get_below draft.metrics i row here in
     let place : metric_at words i ≡ 8 * (metrics_from draft s + 13 * i) = metric_is draft s few i below in
     all_hold i (λ j. not (nat_eq (number32 words (metric_at words j + 64)) (number32 words (metric_at words i + 64)) || bytes_eq (text_at words (metric_at words j) 64) (text_at words (metric_at words i) 64))) (λ j less.
-      let (other, there) = get_some draft.metrics j (omega arith) in
-      let at : metric_at words j ≡ 8 * (metrics_from draft s + 13 * j) = metric_is draft s few j (omega arith) in
-      ap not (ap₂ (λ a b. a || b) (ap₂ nat_eq (item_read draft s d j (metric_at words j + 64) other there (ap (λ n. n + 64) at)) (item_read draft s d i (metric_at words i + 64) row here (ap (λ n. n + 64) place)))
-          (ap₂ bytes_eq (name_read draft s d j (metric_at words j) other there at) (name_read draft s d i (metric_at words i) row here place)) ∙ d.items j i other row less there here))
+    let (other, there) = get_some draft.metrics j (omega arith) in
+    let at : metric_at words j ≡ 8 * (metrics_from draft s + 13 * j) = metric_is draft s few j (omega arith) in
+    ap not (ap₂ (λ a b. a || b) (ap₂ nat_eq (item_read draft s d j (metric_at words j + 64) other there (ap (λ n. n + 64) at)) (item_read draft s d i (metric_at words i + 64) row here (ap (λ n. n + 64) place)))
+    (ap₂ bytes_eq (name_read draft s d j (metric_at words j) other there at) (name_read draft s d i (metric_at words i) row here place)) ∙ d.items j i other row less there here))
 
 good_metric : (draft : Layout) (s : List (List ℕ)) → words_in (counts_of draft s) ≤ 65536 → IsDraft draft → Each (λ row. HasHelp s row.short × HasHelp s row.long) draft.metrics → (i : ℕ) → i < length draft.metrics → is_good_metric (spelled draft s) i ≡ true
 unfolding is_good_metric

@@ -83,11 +83,11 @@ member (r ∷ rows) q h =
     let parts : instances_in (r ∷ rows) ≡ length r.instances + instances_in rows = sum_by-cons (λ x. length x.instances) r rows in
     ⊎_elim
     (λ (here : q < length r.instances).
-      let (instance, within) = get_some r.instances q here in
-      record { i = 0; row = r; k = q; instance = instance; at = refl; within = within; is = omega arith })
+    let (instance, within) = get_some r.instances q here in
+    record { i = 0; row = r; k = q; instance = instance; at = refl; within = within; is = omega arith })
     (λ (later : length r.instances ≤ q).
-      let m : Member rows (q - length r.instances) = member rows (q - length r.instances) (omega arith) in
-      let is : q - length r.instances ≡ instances_in (take m.i rows) + m.k = m.is in
-      let taken : instances_in (take (suc m.i) (r ∷ rows)) ≡ length r.instances + instances_in (take m.i rows) = sum_by-cons (λ x. length x.instances) r (take m.i rows) in
-      record { i = suc m.i; row = m.row; k = m.k; instance = m.instance; at = m.at; within = m.within; is = omega arith })
+    let m : Member rows (q - length r.instances) = member rows (q - length r.instances) (omega arith) in
+    let is : q - length r.instances ≡ instances_in (take m.i rows) + m.k = m.is in
+    let taken : instances_in (take (suc m.i) (r ∷ rows)) ≡ length r.instances + instances_in (take m.i rows) = sum_by-cons (λ x. length x.instances) r (take m.i rows) in
+    record { i = suc m.i; row = m.row; k = m.k; instance = m.instance; at = m.at; within = m.within; is = omega arith })
     (cases_lt q (length r.instances))

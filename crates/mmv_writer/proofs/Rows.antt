@@ -37,13 +37,13 @@ pub apart_snoc : {T : Type 0} (same : T → T → Bool) (xs : List T) (y : T) �
 apart_snoc same xs y apart none i j a b less at_i at_j =
     ⊎_elim
     (λ (a_there : slice_get xs i ≡ Some a). ⊎_elim
-      (λ (b_there : slice_get xs j ≡ Some b). apart i j a b less a_there b_there)
-      (λ (b_last : (j ≡ length xs) × (b ≡ y)). ap (same a) b_last.1 ∙ any_at (λ x. same x y) xs a i none a_there)
-      (get_snoc xs y b j at_j))
+    (λ (b_there : slice_get xs j ≡ Some b). apart i j a b less a_there b_there)
+    (λ (b_last : (j ≡ length xs) × (b ≡ y)). ap (same a) b_last.1 ∙ any_at (λ x. same x y) xs a i none a_there)
+    (get_snoc xs y b j at_j))
     (λ (a_last : (i ≡ length xs) × (a ≡ y)). ⊎_elim
-      (λ (b_there : slice_get xs j ≡ Some b). let below : j < length xs = get_below xs b j b_there in let is : i ≡ length xs = a_last.0 in absurd (omega arith))
-      (λ (b_last : (j ≡ length xs) × (b ≡ y)). let is : i ≡ length xs = a_last.0 in let too : j ≡ length xs = b_last.0 in absurd (omega arith))
-      (get_snoc xs y b j at_j))
+    (λ (b_there : slice_get xs j ≡ Some b). let below : j < length xs = get_below xs b j b_there in let is : i ≡ length xs = a_last.0 in absurd (omega arith))
+    (λ (b_last : (j ≡ length xs) × (b ≡ y)). let is : i ≡ length xs = a_last.0 in let too : j ≡ length xs = b_last.0 in absurd (omega arith))
+    (get_snoc xs y b j at_j))
     (get_snoc xs y a i at_i)
 
 pub any_longer : {T : Type 0} (test : T → Bool) (xs ys : List T) → list_any test xs ≡ true → list_any test (xs ++ ys) ≡ true

@@ -156,12 +156,12 @@ good_section words es p end r l room fits i below =
     ap (λ b. nat_eq (count_in words i) 0 || b) (ap₂ (λ a b. a && b) low high) ∙ or_true (nat_eq (count_in words i) 0) in
     ap₂ (λ a b. a && b) (ap₂ (λ a b. a && b) (ap₂ (λ a b. a && b) entry typed) lies)
     (all_hold i (λ j. not (nat_eq (type_in words j) (type_in words i)) && (nat_eq (count_in words j) 0 || nat_eq (count_in words i) 0 || nat_le (end_in words j) (place_in words i) || nat_le (end_in words i) (place_in words j)))
-      (λ j less. let (d, was) = get_some es j (omega arith) in
-        let order : (d.type < e.type) × (end_of d ≤ e.place) = laid_apart 1 p end es j i d e l less was at in
-        ap₂ (λ a b. a && b)
-        (ap not (ap₂ nat_eq (r.type j d was) (r.type i e at) ∙ apart_false d.type e.type order.0))
-        (third (nat_eq (count_in words j) 0) (nat_eq (count_in words i) 0) (nat_le (end_in words j) (place_in words i)) (nat_le (end_in words i) (place_in words j))
-          (ap₂ nat_le (end_read words es j d r was) (r.place i e at) ∙ le_true (end_of d) e.place order.1))))
+    (λ j less. let (d, was) = get_some es j (omega arith) in
+    let order : (d.type < e.type) × (end_of d ≤ e.place) = laid_apart 1 p end es j i d e l less was at in
+    ap₂ (λ a b. a && b)
+    (ap not (ap₂ nat_eq (r.type j d was) (r.type i e at) ∙ apart_false d.type e.type order.0))
+    (third (nat_eq (count_in words j) 0) (nat_eq (count_in words i) 0) (nat_le (end_in words j) (place_in words i)) (nat_le (end_in words i) (place_in words j))
+    (ap₂ nat_le (end_read words es j d r was) (r.place i e at) ∙ le_true (end_of d) e.place order.1))))
   where
     or_true : (b : Bool) → (b || true) ≡ true
     or_true true = refl
@@ -176,9 +176,9 @@ pub aligned_sections : (words : List ℕ) (es : List Entry) (p end : ℕ) → Re
 unfolding sections_are_aligned is_aligned
 aligned_sections words es p end r l =
     all_hold (contents_in words) (λ i. nat_eq (count_in words i) 0 || nat_eq (place_in words i % 8) 0) (λ i below.
-      let (e, at) = get_some es i (subst (λ n. i < n) r.count below) in
-      let is : IsEntry 1 p e × (end_of e ≤ end) = laid_at 1 p end es i e l at in
-      ap (λ b. nat_eq (count_in words i) 0 || b) (ap (λ n. nat_eq (n % 8) 0) (r.place i e at) ∙ eq-eqb (e.place % 8) 0 is.0.whole) ∙ or_true (nat_eq (count_in words i) 0))
+    let (e, at) = get_some es i (subst (λ n. i < n) r.count below) in
+    let is : IsEntry 1 p e × (end_of e ≤ end) = laid_at 1 p end es i e l at in
+    ap (λ b. nat_eq (count_in words i) 0 || b) (ap (λ n. nat_eq (n % 8) 0) (r.place i e at) ∙ eq-eqb (e.place % 8) 0 is.0.whole) ∙ or_true (nat_eq (count_in words i) 0))
   where
     or_true : (b : Bool) → (b || true) ≡ true
     or_true true = refl
@@ -201,13 +201,13 @@ found_from words es p end t (suc n) i e r l le less at is =
         let typed : d.type ≡ t = sym (r.type n d here) ∙ eqb-true (type_in words n) t f in
         ⊎_elim (λ (before : i < n). let order : (e.type < d.type) × (end_of e ≤ d.place) = laid_apart 1 p end es i n e d l before at here in let less : e.type < d.type = order.0 in absurd (omega arith))
         (λ (same : n ≤ i). let last : n ≡ i = omega arith in
-          let at_n : slice_get es n ≡ Some e = ap (slice_get es) last ∙ at in
-          ap₂ (λ x y. record { place = x; count = y }) (r.place n e at_n) (r.number n e at_n)) (cases_lt i n)
+        let at_n : slice_get es n ≡ Some e = ap (slice_get es) last ∙ at in
+        ap₂ (λ x y. record { place = x; count = y }) (r.place n e at_n) (r.number n e at_n)) (cases_lt i n)
     by false f d here rest =
         ⊎_elim (λ (before : i < n). rest before at is)
         (λ (same : n ≤ i). let last : n ≡ i = omega arith in
-          let at_n : slice_get es n ≡ Some e = ap (slice_get es) last ∙ at in
-          absurd (eqb-false (type_in words n) t f (r.type n e at_n ∙ is))) (cases_lt i n)
+        let at_n : slice_get es n ≡ Some e = ap (slice_get es) last ∙ at in
+        absurd (eqb-false (type_in words n) t f (r.type n e at_n ∙ is))) (cases_lt i n)
 
 none_from : (words : List ℕ) (es : List Entry) (t n : ℕ) → Reads words es → n ≤ length es → ((i : ℕ) (e : Entry) → slice_get es i ≡ Some e → e.type ≢ t) → find_section words t n ≡ record { place = 0; count = 0 }
 unfolding find_section
@@ -244,9 +244,9 @@ section_is words es p end t r l =
     ap (find_section words t) r.count
     ∙ ⊎_elim
     (λ (there : (i : ℕ) × (e : Entry) × (slice_get es i ≡ Some e) × (e.type ≡ t) × (pick t es ≡ record { place = e.place; count = e.count })).
-      found_from words es p end t (length es) there.0 there.1 r l (omega arith) (get_below es there.1 there.0 there.2) there.2 there.3 ∙ sym there.4)
+    found_from words es p end t (length es) there.0 there.1 r l (omega arith) (get_below es there.1 there.0 there.2) there.2 there.3 ∙ sym there.4)
     (λ (not_there : ((i : ℕ) (e : Entry) → slice_get es i ≡ Some e → e.type ≢ t) × (pick t es ≡ record { place = 0; count = 0 })).
-      none_from words es t (length es) r (omega arith) not_there.0 ∙ sym not_there.1) (pick_is t es)
+    none_from words es t (length es) r (omega arith) not_there.0 ∙ sym not_there.1) (pick_is t es)
 
 pub pick_skip : (t : ℕ) (e : Entry) (rest : List Entry) → nat_eq e.type t ≡ false → pick t (kept e ++ rest) ≡ pick t rest
 pick_skip t e rest h = here (nat_eq e.count 0)

@@ -111,7 +111,7 @@ contents_are : (c : Counts) (p : Places) → contents_words c p ≡ flat_map wor
 unfolding contents_words
 contents_are c p =
     one_more 1 c.indoms p.indoms _ _ (one_more 2 c.instances p.instances _ _ (one_more 3 c.metrics p.metrics _ _ (one_more 4 c.values p.values _ _
-          (kept_words 5 c.strings p.strings ∙ ap (flat_map words_of_entry) (sym (append-nil (kept (entry 5 c.strings p.strings))))))))
+    (kept_words 5 c.strings p.strings ∙ ap (flat_map words_of_entry) (sym (append-nil (kept (entry 5 c.strings p.strings))))))))
 
 kept_count : (t n p : ℕ) (es : List Entry) → length (kept (entry t n p) ++ es) ≡ one_if_some n + length es
 kept_count t n p es = here (nat_eq n 0)
@@ -124,7 +124,7 @@ pub entries_count : (c : Counts) (p : Places) → length (entries c p) ≡ secti
 unfolding sections_in
 entries_count c p =
     kept_count 1 c.indoms p.indoms _ ∙ ap (λ n. one_if_some c.indoms + n) (kept_count 2 c.instances p.instances _ ∙ ap (λ n. one_if_some c.instances + n) (kept_count 3 c.metrics p.metrics _
-        ∙ ap (λ n. one_if_some c.metrics + n) (kept_count 4 c.values p.values _ ∙ ap (λ n. one_if_some c.values + n) (kept_count 5 c.strings p.strings []))))
+    ∙ ap (λ n. one_if_some c.metrics + n) (kept_count 4 c.values p.values _ ∙ ap (λ n. one_if_some c.values + n) (kept_count 5 c.strings p.strings []))))
     ∙ spread (one_if_some c.indoms) (one_if_some c.instances) (one_if_some c.metrics) (one_if_some c.values) (one_if_some c.strings)
   where
     spread : (a b c d e : ℕ) → a + (b + (c + (d + (e + 0)))) ≡ a + b + c + d + e
@@ -135,9 +135,9 @@ unfolding section_bytes
 entries_laid c few =
     laid_kept 1 (places_of c).indoms (places_of c).instances (8 * words_in c) c.indoms _ (omega arith) (omega arith) (omega arith) refl
     (laid_kept 2 (places_of c).instances (places_of c).metrics (8 * words_in c) c.instances _ (omega arith) (omega arith) (omega arith) refl
-      (laid_kept 3 (places_of c).metrics (places_of c).values (8 * words_in c) c.metrics _ (omega arith) (omega arith) (omega arith) refl
-        (laid_kept 4 (places_of c).values (places_of c).strings (8 * words_in c) c.values _ (omega arith) (omega arith) (omega arith) refl
-          (laid_kept 5 (places_of c).strings ((places_of c).strings + 256 * c.strings) (8 * words_in c) c.strings [] (omega arith) (omega arith) (omega arith) refl (omega arith)))))
+    (laid_kept 3 (places_of c).metrics (places_of c).values (8 * words_in c) c.metrics _ (omega arith) (omega arith) (omega arith) refl
+    (laid_kept 4 (places_of c).values (places_of c).strings (8 * words_in c) c.values _ (omega arith) (omega arith) (omega arith) refl
+    (laid_kept 5 (places_of c).strings ((places_of c).strings + 256 * c.strings) (8 * words_in c) c.strings [] (omega arith) (omega arith) (omega arith) refl (omega arith)))))
 
 contents_stand : (draft : Layout) (s : List (List ℕ)) → Stands (spelled draft s) 5 (flat_map words_of_entry (entries (counts_of draft s) (places draft s)))
 contents_stand draft s = subst (λ part. Stands (spelled draft s) 5 part) (contents_are (counts_of draft s) (places draft s)) (stand_contents draft s)
@@ -155,9 +155,9 @@ entries_read draft s few =
     record {
       count = low_read words 0 3 24 (header_words draft (sections_in (counts_of draft s))) (sections_in (counts_of draft s)) draft.flags (stand_header draft s) (omega arith) refl refl (omega arith) ∙ sym (entries_count (counts_of draft s) (places draft s));
       type = λ i e at. low_read words (5 + 2 * i) 0 (40 + 16 * i) (words_of_entry e) e.type e.count (stand i e at) (omega arith) (omega arith) refl
-        (let h : e.type ≤ 5 = (entry_is draft s few i e at).last in omega arith);
+          (let h : e.type ≤ 5 = (entry_is draft s few i e at).last in omega arith);
       number = λ i e at. high_read words (5 + 2 * i) 0 (44 + 16 * i) (words_of_entry e) e.type e.count (stand i e at) (omega arith) (omega arith) refl
-        (let h : e.type ≤ 5 = (entry_is draft s few i e at).last in omega arith) (entry_is draft s few i e at).few;
+          (let h : e.type ≤ 5 = (entry_is draft s few i e at).last in omega arith) (entry_is draft s few i e at).few;
       place = λ i e at. word_read words (5 + 2 * i) 1 (48 + 16 * i) (words_of_entry e) (stand i e at) (omega arith) (omega arith);
     }
 
@@ -214,4 +214,3 @@ find_strings draft s few =
     let c : Counts = counts_of draft s in
     let p : Places = places draft s in
     finds c.strings p.strings (section_of (spelled draft s) 5) (found_section draft s 5 few ∙ pick_skip 5 (entry 1 c.indoms p.indoms) _ refl ∙ pick_skip 5 (entry 2 c.instances p.instances) _ refl ∙ pick_skip 5 (entry 3 c.metrics p.metrics) _ refl ∙ pick_skip 5 (entry 4 c.values p.values) _ refl ∙ pick_hit 5 (entry 5 c.strings p.strings) _ refl)
-

@@ -158,9 +158,9 @@ fields_differ draft s d (Some serial) (Some a) (Some b) fa fb other =
     let x : Passes p.row.instances (index_in p.row a) (λ other. int_eq other.0 a) = first_passes (λ other. int_eq other.0 a) p.row.instances (both_right (nat_eq p.row.serial serial) (list_any (λ other. int_eq other.0 a) p.row.instances) p.is) in
     let y : Passes q.row.instances (index_in q.row b) (λ other. int_eq other.0 b) = first_passes (λ other. int_eq other.0 b) q.row.instances (both_right (nat_eq q.row.serial serial) (list_any (λ other. int_eq other.0 b) q.row.instances) q.is) in
     let places_differ : index_in p.row a ≢ index_in q.row b = λ e.
-      let same : x.row ≡ y.row = same_row q.row.instances (index_in q.row b) x.row y.row (ap (slice_get q.row.instances) (sym e) ∙ ap (λ r. slice_get r.instances (index_in p.row a)) (sym one) ∙ x.at) y.at in
-      let equal : a ≡ b = sym (same_int x.row.0 a x.is) ∙ ap (λ z. z.0) same ∙ same_int y.row.0 b y.is in
-      true≢false (sym (ap (int_eq a) (sym equal) ∙ int_same a) ∙ other) in
+    let same : x.row ≡ y.row = same_row q.row.instances (index_in q.row b) x.row y.row (ap (slice_get q.row.instances) (sym e) ∙ ap (λ r. slice_get r.instances (index_in p.row a)) (sym one) ∙ x.at) y.at in
+    let equal : a ≡ b = sym (same_int x.row.0 a x.is) ∙ ap (λ z. z.0) same ∙ same_int y.row.0 b y.is in
+    true≢false (sym (ap (int_eq a) (sym equal) ∙ int_same a) ∙ other) in
     ap₂ nat_eq (ap (λ k. instance_place (places draft s) draft.indoms serial k) (member_found draft serial a p.row p.at)) (ap (λ k. instance_place (places draft s) draft.indoms serial k) (member_found draft serial b q.row q.at))
     ∙ isnt _ _ (apart (places draft s).instances (instances_in (take (domain_of draft.indoms serial) draft.indoms)) (index_in p.row a) (index_in q.row b) places_differ)
   where
@@ -202,15 +202,15 @@ other_value draft s d j i at_a at_b a b here_a here_b less ea eb = here (nat_eq 
         let one : p.row ≡ q.row = same_row draft.metrics (metric_index draft b.item) p.row q.row (ap (λ n. slice_get draft.metrics (metric_index draft n)) (sym items) ∙ p.at) q.at in
         ap (λ t. nat_eq (number64 (spelled draft s) (at_a + 16)) (number64 (spelled draft s) (at_b + 16)) && t)
         (ap₂ nat_eq (instance_read draft s j (at_a + 24) a p.row here_a p.at (ap (λ n. n + 24) ea)) (instance_read draft s i (at_b + 24) b q.row here_b q.at (ap (λ n. n + 24) eb) ∙ ap (λ r. instance_field (places draft s) draft.indoms r.serial b.instance) (sym one))
-          ∙ fields_differ draft s d p.row.serial a.instance b.instance fits_p (ap (λ r. fits_instance draft.indoms r.serial b.instance) one ∙ fits_q) other)
+        ∙ fields_differ draft s d p.row.serial a.instance b.instance fits_p (ap (λ r. fits_instance draft.indoms r.serial b.instance) one ∙ fits_q) other)
         ∙ and_false (nat_eq (number64 (spelled draft s) (at_a + 16)) (number64 (spelled draft s) (at_b + 16)))
     here false e other =
         let indexes : metric_index draft a.item ≢ metric_index draft b.item = λ same.
-          let one : p.row ≡ q.row = same_row draft.metrics (metric_index draft b.item) p.row q.row (ap (slice_get draft.metrics) (sym same) ∙ p.at) q.at in
-          eqb-false a.item b.item e (sym item_p ∙ ap (λ r. r.item) one ∙ item_q) in
+        let one : p.row ≡ q.row = same_row draft.metrics (metric_index draft b.item) p.row q.row (ap (slice_get draft.metrics) (sym same) ∙ p.at) q.at in
+        eqb-false a.item b.item e (sym item_p ∙ ap (λ r. r.item) one ∙ item_q) in
         ap (λ t. t && nat_eq (number64 (spelled draft s) (at_a + 24)) (number64 (spelled draft s) (at_b + 24)))
         (ap₂ nat_eq (metric_field draft s j (at_a + 16) a here_a (ap (λ n. n + 16) ea)) (metric_field draft s i (at_b + 16) b here_b (ap (λ n. n + 16) eb))
-          ∙ isnt _ _ (apart (places draft s).metrics (metric_index draft a.item) (metric_index draft b.item) indexes))
+        ∙ isnt _ _ (apart (places draft s).metrics (metric_index draft a.item) (metric_index draft b.item) indexes))
 
 good_value : (draft : Layout) (s : List (List ℕ)) → words_in (counts_of draft s) ≤ 65536 → IsDraft draft → Each (λ row. HasContent s row.content) draft.values → (i : ℕ) → i < length draft.values → is_good_value (spelled draft s) i ≡ true
 unfolding is_good_value instance_leads choice_leads is_new_value metric_of
@@ -225,14 +225,14 @@ good_value draft s few d texts i below =
     let kind : number32 words (number64 words (value_at words i + 16) + 68) ≡ code_of_kind p.row.kind = kind_read draft s d (metric_index draft row.item) (number64 words (value_at words i + 16) + 68) p.row p.at (omega arith) in
     let serial : number32 words (number64 words (value_at words i + 16) + 80) ≡ serial_word p.row.serial = metric_serial_read draft s d (metric_index draft row.item) (number64 words (value_at words i + 16) + 80) p.row p.at (omega arith) in
     ap₂ (λ a b. a && b) (ap₂ (λ a b. a && b) (ap₂ (λ a b. a && b)
-        (metric_leads draft s few (metric_index draft row.item) (number64 words (value_at words i + 16)) inside metric)
-        (instance_good draft s few d p.row.serial row.instance (number64 words (value_at words i + 24)) (number32 words (number64 words (value_at words i + 16) + 80)) (both_left (fits_instance draft.indoms p.row.serial row.instance) (fits_kind p.row.kind row.content) fits)
-          (instance_read draft s i (value_at words i + 24) row p.row here p.at (ap (λ n. n + 24) place)) serial))
-      (choice_good draft s few row.content p.row.kind (number64 words (value_at words i + 8)) (number32 words (number64 words (value_at words i + 16) + 68)) (both_right (fits_instance draft.indoms p.row.serial row.instance) (fits_kind p.row.kind row.content) fits) (texts i row here)
-        (extra_read draft s i (value_at words i + 8) row here (ap (λ n. n + 8) place)) kind))
+    (metric_leads draft s few (metric_index draft row.item) (number64 words (value_at words i + 16)) inside metric)
+    (instance_good draft s few d p.row.serial row.instance (number64 words (value_at words i + 24)) (number32 words (number64 words (value_at words i + 16) + 80)) (both_left (fits_instance draft.indoms p.row.serial row.instance) (fits_kind p.row.kind row.content) fits)
+    (instance_read draft s i (value_at words i + 24) row p.row here p.at (ap (λ n. n + 24) place)) serial))
+    (choice_good draft s few row.content p.row.kind (number64 words (value_at words i + 8)) (number32 words (number64 words (value_at words i + 16) + 68)) (both_right (fits_instance draft.indoms p.row.serial row.instance) (fits_kind p.row.kind row.content) fits) (texts i row here)
+    (extra_read draft s i (value_at words i + 8) row here (ap (λ n. n + 8) place)) kind))
     (all_hold i (λ j. not (is_same_value words (value_at words j) (value_at words i))) (λ j less.
-        let (other, there) = get_some draft.values j (omega arith) in
-        ap not (other_value draft s d j i (value_at words j) (value_at words i) other row there here less (value_is draft s few j (omega arith)) place)))
+    let (other, there) = get_some draft.values j (omega arith) in
+    ap not (other_value draft s d j i (value_at words j) (value_at words i) other row there here less (value_is draft s few j (omega arith)) place)))
 
 pub good_values : (draft : Layout) (s : List (List ℕ)) → words_in (counts_of draft s) ≤ 65536 → IsDraft draft → Each (λ row. HasContent s row.content) draft.values → values_are_good (spelled draft s) ≡ true
 unfolding values_are_good

@@ -34,11 +34,7 @@ impl Model for Builder {
 
 /// Adds an instance at the end of the first domain of this serial; without one there is nothing to do.
 #[tactic(auto, unfolding(crate::specs::Draft::add_instance))]
-fn add_instance(
-    rows: &mut [IndomRow],
-    serial: u32,
-    instance: (i32, Text),
-) -> Result<(), NoMemory>
+fn add_instance(rows: &mut [IndomRow], serial: u32, instance: (i32, Text)) -> Result<(), NoMemory>
     ensures ok { OnOk result (rows.new ≡ add_instance rows.old serial instance) }
     ensures err { OnErr result (rows.new ≡ rows.old) }
 {

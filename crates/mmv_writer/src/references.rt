@@ -198,12 +198,7 @@ fn member_of(indoms: &[IndomRow], serial: u32, id: &i32) -> u64
 }
 
 /// The instance field of a value of a metric with a domain.
-fn number_field(
-    places: &Places,
-    indoms: &[IndomRow],
-    serial: u32,
-    instance: &Option<i32>,
-) -> u64
+fn number_field(places: &Places, indoms: &[IndomRow], serial: u32, instance: &Option<i32>) -> u64
     requires small { AreSmall places.now }
     requires count { instances_in indoms.now ≤ 65536 }
     ensures { result ≡ instance_field places.now indoms.now (Some serial) instance.now }

@@ -37,7 +37,14 @@ fn push_sections(
     push_domains(out, places, strings, indoms)?;
     push_instances(out, places, indoms)?;
     push_metrics(out, places, strings, metrics)?;
-    push_values(out, places, strings, indoms, metrics, draft.values.as_slice())?;
+    push_values(
+        out,
+        places,
+        strings,
+        indoms,
+        metrics,
+        draft.values.as_slice(),
+    )?;
     push_strings(out, strings)?;
     Ok(())
 }

@@ -29,11 +29,7 @@ fn add_text(alloc: Global, strings: &mut List<Text>, text: &Text) -> Result<(), 
 
 /// Adds a help, if there is one.
 #[tactic(auto, unfolding(crate::specs::Spelling::with_missing))]
-fn add_help(
-    alloc: Global,
-    strings: &mut List<Text>,
-    help: &Option<Text>,
-) -> Result<(), NoMemory>
+fn add_help(alloc: Global, strings: &mut List<Text>, help: &Option<Text>) -> Result<(), NoMemory>
     ensures { OnOk result (strings.new ≡ with_missing strings.old (texts_of help.now)) }
 {
     match help {
@@ -90,11 +86,7 @@ fn add_of_metrics(
 
 /// Adds the text of a content, if it is one.
 #[tactic(auto, unfolding(crate::specs::Spelling::with_missing))]
-fn add_content(
-    alloc: Global,
-    strings: &mut List<Text>,
-    content: &Content,
-) -> Result<(), NoMemory>
+fn add_content(alloc: Global, strings: &mut List<Text>, content: &Content) -> Result<(), NoMemory>
     ensures { OnOk result (strings.new ≡ with_missing strings.old (texts_in content.now)) }
 {
     match content {
@@ -107,11 +99,7 @@ fn add_content(
 
 /// Adds the texts of values.
 #[tactic(auto, using(crate::proofs::Missing::missing_joined, crate::proofs::Missing::missing_none))]
-fn add_of_values(
-    alloc: Global,
-    strings: &mut List<Text>,
-    rows: &[ValueRow],
-) -> Result<(), NoMemory>
+fn add_of_values(alloc: Global, strings: &mut List<Text>, rows: &[ValueRow]) -> Result<(), NoMemory>
     ensures { OnOk result (strings.new ≡ with_missing strings.old (flat_map (λ row. texts_in row.content) rows.now)) }
 {
     for row in rows {

@@ -93,11 +93,7 @@ fn push_entry(out: &mut Vec<u64>, kind: u32, count: u64, place: u64) -> Result<(
 
 /// Writes the contents.
 #[tactic(auto, unfolding(crate::specs::Spelling::contents_words))]
-pub fn push_contents(
-    out: &mut Vec<u64>,
-    counts: &Counts,
-    places: &Places,
-) -> Result<(), NoMemory>
+pub fn push_contents(out: &mut Vec<u64>, counts: &Counts, places: &Places) -> Result<(), NoMemory>
     requires { words_in counts.now ≤ 65536 }
     ensures { OnOk result (out.new.items ≡ out.old.items ++ contents_words counts.now places.now) }
 {
@@ -154,11 +150,7 @@ pub fn push_domains(
 
 /// Writes an instance of the domain at a place.
 #[tactic(auto, unfolding(crate::specs::Spelling::instance_words))]
-fn push_instance(
-    out: &mut Vec<u64>,
-    domain: u64,
-    instance: &(i32, Text),
-) -> Result<(), NoMemory>
+fn push_instance(out: &mut Vec<u64>, domain: u64, instance: &(i32, Text)) -> Result<(), NoMemory>
     ensures { OnOk result (out.new.items ≡ out.old.items ++ instance_words domain instance.now) }
 {
     out.extend_from_slice(&[domain, halves(0, instance.0.cast_unsigned())])?;
@@ -167,11 +159,7 @@ fn push_instance(
 }
 
 /// Writes the instances of the domain at a place.
-fn push_members(
-    out: &mut Vec<u64>,
-    domain: u64,
-    instances: &[(i32, Text)],
-) -> Result<(), NoMemory>
+fn push_members(out: &mut Vec<u64>, domain: u64, instances: &[(i32, Text)]) -> Result<(), NoMemory>
     ensures { OnOk result (out.new.items ≡ out.old.items ++ flat_map (λ instance. instance_words domain instance) instances.now) }
 {
     for instance in instances {

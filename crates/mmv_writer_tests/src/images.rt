@@ -1,4 +1,4 @@
-use crate::rows::{are_words, choice, metric, number, text};
+use crate::rows::{are_words, choice, finished, metric, number, text};
 use mmv_layout::{Content, ValueRow};
 use mmv_writer::Builder;
 use pcp_base::{Kind, Semantics};
@@ -17,9 +17,7 @@ fn one_counter_is_spelled_so(rt: HostRuntime) -> Result<(), Fail> {
         0x0010_0000,
     )?)?;
     builder.value(number(2, None, 7))?;
-    let Ok(image) = builder.finish(alloc) else {
-        return Err(Fail);
-    };
+    let image = finished(alloc, builder)?;
     let words = [
         (0, 0x1_0056_4d4d),
         (1, 5),
@@ -47,20 +45,11 @@ fn two_metrics_have_344_bytes(rt: HostRuntime) -> Result<(), Fail> {
     let mut builder = Builder::new(alloc, 1, 1, 0, 0, 1)?;
     let low = metric(alloc, b"low", 2, Kind::I32, Semantics::Instant, 0)?;
     builder.metric(low)?;
-    let big = metric(
-        alloc,
-        b"big",
-        3,
-        Kind::U64,
-        Semantics::Counter,
-        0x0010_0000,
-    )?;
+    let big = metric(alloc, b"big", 3, Kind::U64, Semantics::Counter, 0x0010_0000)?;
     builder.metric(big)?;
     builder.value(number(2, None, 0xffff_ffff_ffff_ffff))?;
     builder.value(number(3, None, 0xffff_ffff_ffff_ffff))?;
-    let Ok(image) = builder.finish(alloc) else {
-        return Err(Fail);
-    };
+    let image = finished(alloc, builder)?;
     let words = [
         (0, 0x1_0056_4d4d),
         (1, 1),
@@ -109,9 +98,7 @@ fn domains_and_strings_are_referred_to(rt: HostRuntime) -> Result<(), Fail> {
         instance: None,
         content: Content::Raw(1, 2),
     })?;
-    let Ok(image) = builder.finish(alloc) else {
-        return Err(Fail);
-    };
+    let image = finished(alloc, builder)?;
     let words = [
         (0, 0x1_0056_4d4d),
         (1, 7),

@@ -1,4 +1,4 @@
-use crate::rows::{choice, metric, metric_of, number, text};
+use crate::rows::{choice, finished, metric, metric_of, number, text};
 use mmv_writer::{BuildFault, Builder};
 use pcp_base::{Kind, Semantics};
 use std::alloc::Global;
@@ -29,10 +29,22 @@ fn domains_are_refused(rt: HostRuntime) -> Result<(), Fail> {
     let alloc = rt.alloc();
     let mut builder = one_instance(alloc)?;
     let long = text(alloc, &[0x61; 256])?;
-    assert_eq!(rt; builder.indom(alloc, 0, None, Some(long)), Err(BuildFault::Name));
-    assert_eq!(rt; builder.indom(alloc, 1, None, None), Err(BuildFault::Duplicate));
-    assert_eq!(rt; builder.indom(alloc, 0, None, None), Err(BuildFault::Serial));
-    assert_eq!(rt; builder.indom(alloc, 1024, None, None), Err(BuildFault::Serial));
+    assert_eq!(rt;
+        builder.indom(alloc, 0, None, Some(long)),
+        Err(BuildFault::Name)
+    );
+    assert_eq!(rt;
+        builder.indom(alloc, 1, None, None),
+        Err(BuildFault::Duplicate)
+    );
+    assert_eq!(rt;
+        builder.indom(alloc, 0, None, None),
+        Err(BuildFault::Serial)
+    );
+    assert_eq!(rt;
+        builder.indom(alloc, 1024, None, None),
+        Err(BuildFault::Serial)
+    );
     let most = text(alloc, &[0x61; 255])?;
     assert_eq!(rt; builder.indom(alloc, 1023, Some(most), None), Ok(()));
     Ok(())
@@ -91,14 +103,7 @@ fn metrics_are_refused(rt: HostRuntime) -> Result<(), Fail> {
     let mut helped = metric_of(alloc, b"other", 5, Kind::U32, 1)?;
     helped.long = Some(text(alloc, &[0x61; 256])?);
     assert_eq!(rt; builder.metric(helped), Err(BuildFault::Name));
-    let most = metric(
-        alloc,
-        &[0x61; 63],
-        1023,
-        Kind::U32,
-        Semantics::Counter,
-        0,
-    )?;
+    let most = metric(alloc, &[0x61; 63], 1023, Kind::U32, Semantics::Counter, 0)?;
     assert_eq!(rt; builder.metric(most), Ok(()));
     Ok(())
 }
@@ -134,12 +139,15 @@ fn a_builder_goes_on_after_a_refusal(rt: HostRuntime) -> Result<(), Fail> {
     let mut other = one_instance(alloc)?;
     assert!(rt; other.indom(alloc, 1, None, None).is_err());
     assert!(rt; other.instance(alloc, 1, 0, text(alloc, b"b")?).is_err());
-    assert!(rt; other.metric(metric_of(alloc, b"per", 5, Kind::U32, 1)?).is_err());
+    assert!(rt;
+        other
+            .metric(metric_of(alloc, b"per", 5, Kind::U32, 1)?)
+            .is_err()
+    );
     assert!(rt; other.value(number(4, Some(0), 8)).is_err());
     assert!(rt; other.text(text(alloc, &[0x61; 256])?).is_err());
-    let (Ok(a), Ok(b)) = (plain.finish(alloc), other.finish(alloc)) else {
-        return Err(Fail);
-    };
+    let a = finished(alloc, plain)?;
+    let b = finished(alloc, other)?;
     assert_eq!(rt; a.words(), b.words());
     assert_eq!(rt; a.words().len(), 44);
     Ok(())

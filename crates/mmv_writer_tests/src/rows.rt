@@ -1,4 +1,5 @@
-use mmv_layout::{Content, MetricRow, ValueRow};
+use mmv_layout::{Content, Image, MetricRow, ValueRow};
+use mmv_writer::{BuildFault, Builder};
 use pcp_base::{Kind, Semantics, Text, TextError, Units};
 use std::alloc::Global;
 
@@ -83,4 +84,12 @@ pub fn are_words(words: &[u64], size: usize, expected: &[(usize, u64)]) -> bool 
         }
     }
     next.is_none() && words.len() == size
+}
+
+/// The image of a builder.
+pub fn finished(alloc: Global, builder: Builder) -> Result<Image, BuildFault> {
+    match builder.finish(alloc) {
+        Ok(image) => Ok(image),
+        Err((_, fault)) => Err(fault),
+    }
 }

@@ -1,4 +1,4 @@
-use crate::rows::text;
+use crate::rows::{finished, text};
 use mmv_writer::{BuildFault, Builder};
 use std::alloc::Global;
 use std::test::Fail;
@@ -19,16 +19,17 @@ fn more_than_65536_words_are_too_large(rt: HostRuntime) -> Result<(), Fail> {
     for serial in 1..15 {
         builder.indom(alloc, serial, None, None)?;
     }
-    let Err((mut builder, fault)) = builder.finish(alloc) else {
-        return Err(Fail);
-    };
-    assert_eq!(rt; fault, BuildFault::TooLarge { words: 65537 });
-    assert_eq!(rt; builder.indom(alloc, 14, None, None), Err(BuildFault::Duplicate));
-    assert_eq!(rt; builder.indom(alloc, 15, None, None), Ok(()));
-    let Err((_, fault)) = builder.finish(alloc) else {
-        return Err(Fail);
-    };
-    assert_eq!(rt; fault, BuildFault::TooLarge { words: 65541 });
+    match builder.finish(alloc) {
+        Ok(_) => assert!(rt; false),
+        Err((mut builder, fault)) => {
+            assert_eq!(rt; fault, BuildFault::TooLarge { words: 65537 });
+            assert_eq!(rt;
+                builder.indom(alloc, 14, None, None),
+                Err(BuildFault::Duplicate)
+            );
+            assert_eq!(rt; builder.indom(alloc, 15, None, None), Ok(()));
+        }
+    }
     Ok(())
 }
 
@@ -39,9 +40,7 @@ fn as_many_words_as_an_image_has_are_spelled(rt: HostRuntime) -> Result<(), Fail
     for serial in 1..14 {
         builder.indom(alloc, serial, None, None)?;
     }
-    let Ok(image) = builder.finish(alloc) else {
-        return Err(Fail);
-    };
+    let image = finished(alloc, builder)?;
     assert_eq!(rt; image.words().len(), 65533);
     Ok(())
 }
