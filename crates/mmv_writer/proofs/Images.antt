@@ -1,0 +1,81 @@
+-- The spelling of a draft is an image.
+use Rattle.std.proofs.Common.{◌≡◌, ℕ, ◌+◌, ◌*◌, ◌%◌, ◌<◌, ◌≤◌, Bool, true, false, not, ◌&&◌, List, length, ap, ap₂, sym, ◌∙◌, refl, arith, nat_eq, nat_le}
+use Rattle.std.proofs.lemmas.Bool.{eq-eqb}
+use Rattle.std.proofs.lemmas.Bool.Decides.{nat_tests}
+use Rattle.std.proofs.Math.Nat.{mul-mod_right}
+use Rattle.mmv_layout.specs.Fields.{number32, number64}
+use Rattle.mmv_layout.specs.Contents.{bytes_in, is_short, has_magic, version_in, first_generation, second_generation, cluster_in, sections_are_good, sections_are_aligned}
+use Rattle.mmv_layout.specs.Entries.{indoms_are_good, instances_are_good, metrics_are_good, values_are_good, strings_are_good}
+use Rattle.mmv_layout.specs.FirstForm.{is_too_large, is_cluster, has_good_header, is_image}
+use Rattle.std.specs.Prelude.{Option, Some, None, is_none, Ok}
+use Rattle.mmv_layout.specs.Faults.{image_fault, unless_fault, image_in}
+use Rattle.mmv_layout.proofs.Images.{images_same}
+use Rattle.mmv_layout.specs.declared.rows.Layout.{Layout}
+use Rattle.mmv_writer.specs.Draft.{IsDraft}
+use Rattle.mmv_writer.specs.Places.{counts_of, sections_in, words_in}
+use Rattle.mmv_writer.specs.Spelling.{header_words, spelled, all_strings, image_words}
+use Rattle.mmv_writer.specs.Laws.{DraftsAreImages}
+use Rattle.mmv_writer.proofs.Lengths.{length_spelled}
+use Rattle.mmv_writer.proofs.Standing.{low_read, high_read, word_read}
+use Rattle.mmv_writer.proofs.Spelt.{stand_header, spelt_sections, spelt_aligned}
+use Rattle.mmv_writer.proofs.DomainTests.{good_indoms, good_instances}
+use Rattle.mmv_writer.proofs.MetricTests.{good_metrics, good_strings}
+use Rattle.mmv_writer.proofs.ValueTests.{good_values}
+use Rattle.mmv_writer.proofs.Wanted.{domain_helps, metric_helps, value_texts, strings_short}
+
+long_enough : (n : ℕ) → 5 ≤ n → not (nat_le 40 (8 * n) && nat_eq (8 * n % 8) 0) ≡ false
+long_enough n h = ap not (ap₂ (λ a b. a && b) (at_least (8 * n) (omega arith)) (eq-eqb (8 * n % 8) 0 (mul-mod_right 8 n)))
+  where
+    at_least : (m : ℕ) → 40 ≤ m → nat_le 40 m ≡ true
+    at_least m h = grind (arith, nat_tests)
+
+at_most : (n m : ℕ) → n ≤ m → nat_le n m ≡ true
+at_most n m h = grind (arith, nat_tests)
+
+good_header : (draft : Layout) (s : List (List ℕ)) → words_in (counts_of draft s) ≤ 65536 → IsDraft draft → has_good_header (spelled draft s) ≡ true
+unfolding has_good_header header_words
+good_header draft s few d =
+    let words : List ℕ = spelled draft s in
+    let long : length (spelled draft s) ≡ words_in (counts_of draft s) = length_spelled draft s in
+    let version : draft.version ≡ 1 = d.version in
+    let process : draft.pid < 4294967296 = d.process in
+    let cluster : draft.cluster ≤ 4095 = d.cluster in
+    let magic : number32 words 0 ≡ 5655885 = low_read words 0 0 0 (header_words draft (sections_in (counts_of draft s))) 5655885 draft.version (stand_header draft s) (omega arith) refl refl (omega arith) in
+    let edition : number32 words 4 ≡ draft.version = high_read words 0 0 4 (header_words draft (sections_in (counts_of draft s))) 5655885 draft.version (stand_header draft s) (omega arith) refl refl (omega arith) (omega arith) in
+    let first : number64 words 8 ≡ draft.generation = word_read words 0 1 8 (header_words draft (sections_in (counts_of draft s))) (stand_header draft s) (omega arith) refl in
+    let second : number64 words 16 ≡ draft.generation = word_read words 0 2 16 (header_words draft (sections_in (counts_of draft s))) (stand_header draft s) (omega arith) refl in
+    let group : number32 words 36 ≡ draft.cluster = high_read words 0 4 36 (header_words draft (sections_in (counts_of draft s))) draft.pid draft.cluster (stand_header draft s) (omega arith) refl refl process (omega arith) in
+    ap₂ (λ a b. a && b) (ap₂ (λ a b. a && b) (ap₂ (λ a b. a && b) (ap₂ (λ a b. a && b) (ap₂ (λ a b. a && b)
+    (ap not (long_enough (length words) (omega arith)))
+    (ap (λ b. not (not b)) (at_most (length words) 65536 (omega arith))))
+    (eq-eqb (number32 words 0) 5655885 magic))
+    (eq-eqb (number32 words 4) 1 (edition ∙ version)))
+    (eq-eqb (number64 words 8) (number64 words 16) (first ∙ sym second)))
+    (ap is_cluster group ∙ at_most draft.cluster 4095 cluster)
+
+pub spelled_image : (draft : Layout) → IsDraft draft → words_in (counts_of draft (all_strings draft)) ≤ 65536 → is_image (spelled draft (all_strings draft)) ≡ true
+unfolding is_image
+spelled_image draft d few =
+    ap₂ (λ a b. a && b) (ap₂ (λ a b. a && b) (ap₂ (λ a b. a && b) (ap₂ (λ a b. a && b) (ap₂ (λ a b. a && b) (ap₂ (λ a b. a && b) (ap₂ (λ a b. a && b)
+    (good_header draft (all_strings draft) few d) (spelt_sections draft (all_strings draft) few)) (spelt_aligned draft (all_strings draft) few))
+    (good_indoms draft (all_strings draft) few d (domain_helps draft))) (good_instances draft (all_strings draft) few d))
+    (good_metrics draft (all_strings draft) few d (metric_helps draft))) (good_values draft (all_strings draft) few d (value_texts draft)))
+    (good_strings draft (all_strings draft) few (strings_short draft d))
+
+pub drafts_are_images : DraftsAreImages
+unfolding image_words
+drafts_are_images draft d few =
+    let long : length (spelled draft (all_strings draft)) ≡ words_in (counts_of draft (all_strings draft)) = length_spelled draft (all_strings draft) in
+    spelled_image draft d (omega arith)
+
+none_of : {A : Type 0} (found : Option A) → is_none found ≡ true → found ≡ None
+none_of None h = refl
+none_of (Some a) h = cc
+
+-- an image is read as one
+pub image_parses : (words : List ℕ) → is_image words ≡ true → image_in words ≡ Ok words
+unfolding image_in
+image_parses words h = ap (unless_fault words) (none_of (image_fault words) (sym (images_same words) ∙ h))
+
+pub draft_parses : (draft : Layout) → IsDraft draft → length (image_words draft) ≤ 65536 → image_in (image_words draft) ≡ Ok (image_words draft)
+draft_parses draft d few = image_parses (image_words draft) (drafts_are_images draft d few)

@@ -1,0 +1,201 @@
+-- The metrics, the values and the strings of a spelled image are good.
+use Rattle.std.proofs.Common.{◌≡◌, ◌≢◌, ℕ, zero, suc, ◌+◌, ◌-◌, ◌*◌, ◌<◌, ◌≤◌, ℤ, pos, Bool, true, false, not, ◌&&◌, ◌||◌, List, [], ◌∷◌, ◌++◌, length, take, ap, ap₂, sym, subst, ◌∙◌, refl, arith, cond, nat_eq, nat_le, nat_lt, Option, Some, None, bytes_eq, slice_index, ◌⊎◌, ⊎_elim, find, true≢false, is_some}
+use Rattle.std.specs.List.{list_any, slice_get, flat_map, position_or_len}
+use Rattle.std.specs.Ordering.{int_eq}
+use Rattle.std.proofs.lemmas.Bool.{eq-eqb, eqb-true, eqb-false, cases_lt}
+use Rattle.std.proofs.lemmas.Bool.Decides.{nat_tests}
+use Rattle.pcp_base.specs.Codes.{kind_of_code, code_of_kind, semantics_of_code, code_of_semantics}
+use Rattle.pcp_base.specs.Names.{spells}
+use Rattle.pcp_base.specs.declared.kind.Kind.{Kind}
+use Rattle.pcp_base.specs.declared.kind.Kind.TheVariants as kinds
+use Rattle.pcp_base.specs.declared.kind.Semantics.{Semantics}
+use Rattle.pcp_base.specs.declared.kind.Semantics.TheVariants as meanings
+use Rattle.mmv_layout.specs.Below.{all_below, some_below}
+use Rattle.mmv_layout.specs.Fields.{number32, number64, text_at, has_zero, same_name, first_words}
+use Rattle.mmv_layout.specs.Contents.{section_of}
+use Rattle.mmv_layout.specs.Entries.{indom_at, indom_count, metric_at, metric_count, string_at, string_count, help_leads, has_serial, has_name, is_kind, is_semantics, is_no_domain, is_indom_serial, serial_leads, is_same_metric, is_new_metric, is_item, has_good_fields, is_good_metric, is_good_string, metrics_are_good, strings_are_good}
+use Rattle.mmv_layout.specs.declared.rows.IndomRow.{IndomRow}
+use Rattle.mmv_layout.specs.declared.rows.MetricRow.{MetricRow}
+use Rattle.mmv_layout.specs.declared.rows.Layout.{Layout}
+use Rattle.mmv_layout.proofs.Below.{both_left, both_right, some_holds}
+use Rattle.mmv_writer.specs.Rules.{has_domain}
+use Rattle.mmv_writer.specs.Draft.{Each, Apart, IsDomain, HasDomain, IsMetric, IsString, IsDraft}
+use Rattle.mmv_writer.specs.Places.{instances_in, counts_of, sections_in, places_of, words_in}
+use Rattle.mmv_writer.specs.Spelling.{halves, help_place, domain_of, serial_word, metric_words, spelled}
+use Rattle.mmv_writer.proofs.Rows.{either_left, either_right}
+use Rattle.mmv_writer.proofs.Sections.{all_hold}
+use Rattle.mmv_writer.proofs.Standing.{Stands, stands_left, stands_right, word_read, low_read, high_read, text_read, zero_read, length_text}
+use Rattle.mmv_writer.proofs.Wanted.{HasHelp}
+use Rattle.mmv_writer.proofs.Positions.{Passes, first_passes, get_below, get_some}
+use Rattle.mmv_writer.proofs.Spelt.{domains_from, metrics_from, strings_from, places, Finds, find_indoms, find_metrics, find_strings}
+use Rattle.mmv_writer.proofs.Marks.{indom_is, metric_is, string_is, help_good, stand_metric, stand_string, serial_fits, serial_read}
+
+-- The words of a metric behind its name
+
+abbrev pub fields_of : Layout → List (List ℕ) → MetricRow → List ℕ
+fields_of draft s row =
+    halves row.item (code_of_kind row.kind) ∷ halves (code_of_semantics row.semantics) row.units ∷ serial_word row.serial
+    ∷ help_place (places draft s) s row.short ∷ help_place (places draft s) s row.long ∷ []
+
+stand_name : (draft : Layout) (s : List (List ℕ)) (i : ℕ) (row : MetricRow) → slice_get draft.metrics i ≡ Some row → Stands (spelled draft s) (metrics_from draft s + 13 * i) (first_words 8 row.name)
+unfolding metric_words
+stand_name draft s i row here = stands_left (spelled draft s) (metrics_from draft s + 13 * i) (first_words 8 row.name) (fields_of draft s row) (stand_metric draft s i row here)
+
+stand_fields : (draft : Layout) (s : List (List ℕ)) (i : ℕ) (row : MetricRow) → slice_get draft.metrics i ≡ Some row → Stands (spelled draft s) (metrics_from draft s + 13 * i + 8) (fields_of draft s row)
+unfolding metric_words
+stand_fields draft s i row here =
+    stands_right (spelled draft s) (metrics_from draft s + 13 * i) (metrics_from draft s + 13 * i + 8) (first_words 8 row.name) (fields_of draft s row)
+    (ap (λ n. metrics_from draft s + 13 * i + n) (sym (length_text 8 row.name))) (stand_metric draft s i row here)
+
+kind_fits : (k : Kind) → code_of_kind k < 10
+kind_fits kinds.I32 = omega arith
+kind_fits kinds.U32 = omega arith
+kind_fits kinds.I64 = omega arith
+kind_fits kinds.U64 = omega arith
+kind_fits kinds.Float = omega arith
+kind_fits kinds.Double = omega arith
+kind_fits kinds.Text = omega arith
+kind_fits kinds.Elapsed = omega arith
+
+kind_known : (k : Kind) → is_kind (code_of_kind k) ≡ true
+kind_known kinds.I32 = refl
+kind_known kinds.U32 = refl
+kind_known kinds.I64 = refl
+kind_known kinds.U64 = refl
+kind_known kinds.Float = refl
+kind_known kinds.Double = refl
+kind_known kinds.Text = refl
+kind_known kinds.Elapsed = refl
+
+meaning_fits : (m : Semantics) → code_of_semantics m < 5
+meaning_fits meanings.Counter = omega arith
+meaning_fits meanings.Instant = omega arith
+meaning_fits meanings.Discrete = omega arith
+
+meaning_known : (m : Semantics) → is_semantics (code_of_semantics m) ≡ true
+meaning_known meanings.Counter = refl
+meaning_known meanings.Instant = refl
+meaning_known meanings.Discrete = refl
+
+-- a metric's serial is that of a domain, or there is none
+domain_there : (draft : Layout) → IsDraft draft → (serial : ℕ) → has_domain draft.indoms serial ≡ true → Passes draft.indoms (domain_of draft.indoms serial) (λ row. nat_eq row.serial serial)
+domain_there draft d serial h = first_passes (λ row. nat_eq row.serial serial) draft.indoms h
+
+pub serial_small : (draft : Layout) → IsDraft draft → (serial : Option ℕ) → HasDomain draft.indoms serial → serial_word serial < 4294967296
+serial_small draft d None h = omega arith
+serial_small draft d (Some serial) h =
+    let p : Passes draft.indoms (domain_of draft.indoms serial) (λ row. nat_eq row.serial serial) = domain_there draft d serial h in
+    let fits : p.row.serial ≤ 1023 = serial_fits draft d (domain_of draft.indoms serial) p.row p.at in
+    let same : p.row.serial ≡ serial = eqb-true p.row.serial serial p.is in
+    omega arith
+
+pub item_read : (draft : Layout) (s : List (List ℕ)) → IsDraft draft → (i at : ℕ) (row : MetricRow) → slice_get draft.metrics i ≡ Some row → at ≡ 8 * (metrics_from draft s + 13 * i) + 64 → number32 (spelled draft s) at ≡ row.item
+item_read draft s d i at row here e =
+    let few : row.item ≤ 1023 = (d.metrics i row here).item in
+    low_read (spelled draft s) (metrics_from draft s + 13 * i + 8) 0 at (fields_of draft s row) row.item (code_of_kind row.kind) (stand_fields draft s i row here) (omega arith) (omega arith) refl (omega arith)
+
+pub kind_read : (draft : Layout) (s : List (List ℕ)) → IsDraft draft → (i at : ℕ) (row : MetricRow) → slice_get draft.metrics i ≡ Some row → at ≡ 8 * (metrics_from draft s + 13 * i) + 68 → number32 (spelled draft s) at ≡ code_of_kind row.kind
+kind_read draft s d i at row here e =
+    let few : row.item ≤ 1023 = (d.metrics i row here).item in
+    let fits : code_of_kind row.kind < 10 = kind_fits row.kind in
+    high_read (spelled draft s) (metrics_from draft s + 13 * i + 8) 0 at (fields_of draft s row) row.item (code_of_kind row.kind) (stand_fields draft s i row here) (omega arith) (omega arith) refl (omega arith) (omega arith)
+
+meaning_read : (draft : Layout) (s : List (List ℕ)) → IsDraft draft → (i at : ℕ) (row : MetricRow) → slice_get draft.metrics i ≡ Some row → at ≡ 8 * (metrics_from draft s + 13 * i) + 72 → number32 (spelled draft s) at ≡ code_of_semantics row.semantics
+meaning_read draft s d i at row here e =
+    let fits : code_of_semantics row.semantics < 5 = meaning_fits row.semantics in
+    low_read (spelled draft s) (metrics_from draft s + 13 * i + 8) 1 at (fields_of draft s row) (code_of_semantics row.semantics) row.units (stand_fields draft s i row here) (omega arith) (omega arith) refl (omega arith)
+
+pub metric_serial_read : (draft : Layout) (s : List (List ℕ)) → IsDraft draft → (i at : ℕ) (row : MetricRow) → slice_get draft.metrics i ≡ Some row → at ≡ 8 * (metrics_from draft s + 13 * i) + 80 → number32 (spelled draft s) at ≡ serial_word row.serial
+metric_serial_read draft s d i at row here e =
+    low_read (spelled draft s) (metrics_from draft s + 13 * i + 8) 2 at (fields_of draft s row) (serial_word row.serial) 0 (stand_fields draft s i row here) (omega arith) (omega arith) (plain (serial_word row.serial)) (serial_small draft d row.serial (d.metrics i row here).domain)
+  where
+    plain : (n : ℕ) → n ≡ halves n 0
+    plain n = omega arith
+
+leads_serial : (draft : Layout) (s : List (List ℕ)) → words_in (counts_of draft s) ≤ 65536 → IsDraft draft → (serial : Option ℕ) → HasDomain draft.indoms serial → serial_leads (spelled draft s) (serial_word serial) ≡ true
+unfolding serial_leads is_indom_serial has_serial
+leads_serial draft s few d None h = refl
+leads_serial draft s few d (Some serial) h =
+    let words : List ℕ = spelled draft s in
+    let p : Passes draft.indoms (domain_of draft.indoms serial) (λ row. nat_eq row.serial serial) = domain_there draft d serial h in
+    let below : domain_of draft.indoms serial < length draft.indoms = get_below draft.indoms (domain_of draft.indoms serial) p.row p.at in
+    ap (λ b. is_no_domain serial || b)
+    (some_holds (indom_count words) (domain_of draft.indoms serial) (λ j. nat_eq (number32 words (indom_at words j)) serial) (subst (λ n. domain_of draft.indoms serial < n) (sym (find_indoms draft s few).count) below)
+    (ap (λ n. nat_eq n serial) (serial_read draft s few d (domain_of draft.indoms serial) (indom_at words (domain_of draft.indoms serial)) p.row p.at (indom_is draft s few (domain_of draft.indoms serial) below)) ∙ p.is))
+    ∙ or_true (is_no_domain serial)
+  where
+    or_true : (b : Bool) → (b || true) ≡ true
+    or_true true = refl
+    or_true false = refl
+
+short_name : (n : ℕ) → nat_le n 63 ≡ true → n < 64
+short_name n h = grind (arith, nat_tests)
+
+at_most : (n : ℕ) → n ≤ 1023 → nat_le n 1023 ≡ true
+at_most n h = grind (arith, nat_tests)
+
+pub name_read : (draft : Layout) (s : List (List ℕ)) → IsDraft draft → (i at : ℕ) (row : MetricRow) → slice_get draft.metrics i ≡ Some row → at ≡ 8 * (metrics_from draft s + 13 * i) → text_at (spelled draft s) at 64 ≡ row.name
+name_read draft s d i at row here e =
+    let is : IsMetric draft.indoms row = d.metrics i row here in
+    text_read (spelled draft s) (metrics_from draft s + 13 * i) 8 at row.name (stand_name draft s i row here) is.stored e (short_name (length row.name) (both_right (spells true row.name) (nat_le (length row.name) 63) is.name))
+
+good_name : (draft : Layout) (s : List (List ℕ)) → IsDraft draft → (i at : ℕ) (row : MetricRow) → slice_get draft.metrics i ≡ Some row → at ≡ 8 * (metrics_from draft s + 13 * i) → has_name (spelled draft s) at ≡ true
+unfolding has_name
+good_name draft s d i at row here e =
+    let is : IsMetric draft.indoms row = d.metrics i row here in
+    ap₂ (λ a b. a && b) (zero_read (spelled draft s) (metrics_from draft s + 13 * i) 8 at row.name (stand_name draft s i row here) is.stored e (short_name (length row.name) (both_right (spells true row.name) (nat_le (length row.name) 63) is.name)))
+    (ap (spells true) (name_read draft s d i at row here e) ∙ both_left (spells true row.name) (nat_le (length row.name) 63) is.name)
+
+good_fields : (draft : Layout) (s : List (List ℕ)) → words_in (counts_of draft s) ≤ 65536 → IsDraft draft → (i at : ℕ) (row : MetricRow) → slice_get draft.metrics i ≡ Some row → HasHelp s row.short × HasHelp s row.long → at ≡ 8 * (metrics_from draft s + 13 * i) → has_good_fields (spelled draft s) at ≡ true
+unfolding has_good_fields
+good_fields draft s few d i at row here helps e =
+    let words : List ℕ = spelled draft s in
+    let is : IsMetric draft.indoms row = d.metrics i row here in
+    let kind : is_kind (number32 words (at + 68)) ≡ true = ap is_kind (kind_read draft s d i (at + 68) row here (ap (λ n. n + 68) e)) ∙ kind_known row.kind in
+    let meaning : is_semantics (number32 words (at + 72)) ≡ true = ap is_semantics (meaning_read draft s d i (at + 72) row here (ap (λ n. n + 72) e)) ∙ meaning_known row.semantics in
+    let serial : serial_leads words (number32 words (at + 80)) ≡ true = ap (serial_leads words) (metric_serial_read draft s d i (at + 80) row here (ap (λ n. n + 80) e)) ∙ leads_serial draft s few d row.serial is.domain in
+    let short : help_leads words (at + 88) ≡ true = help_good draft s few row.short (at + 88) helps.0 (word_read words (metrics_from draft s + 13 * i + 8) 3 (at + 88) (fields_of draft s row) (stand_fields draft s i row here) (omega arith) (omega arith)) in
+    let long : help_leads words (at + 96) ≡ true = help_good draft s few row.long (at + 96) helps.1 (word_read words (metrics_from draft s + 13 * i + 8) 4 (at + 96) (fields_of draft s row) (stand_fields draft s i row here) (omega arith) (omega arith)) in
+    let item : is_item (number32 words (at + 64)) ≡ true = ap is_item (item_read draft s d i (at + 64) row here (ap (λ n. n + 64) e)) ∙ at_most row.item is.item in
+    ap₂ (λ a b. a && b) (ap₂ (λ a b. a && b) (ap₂ (λ a b. a && b) (ap₂ (λ a b. a && b) (ap₂ (λ a b. a && b) kind meaning) serial) short) long) item
+
+new_metric : (draft : Layout) (s : List (List ℕ)) → words_in (counts_of draft s) ≤ 65536 → IsDraft draft → (i : ℕ) (row : MetricRow) → slice_get draft.metrics i ≡ Some row → is_new_metric (spelled draft s) i ≡ true
+unfolding is_new_metric is_same_metric same_name
+new_metric draft s few d i row here =
+    let words : List ℕ = spelled draft s in
+    let below : i < length draft.metrics = get_below draft.metrics i row here in
+    let place : metric_at words i ≡ 8 * (metrics_from draft s + 13 * i) = metric_is draft s few i below in
+    all_hold i (λ j. not (nat_eq (number32 words (metric_at words j + 64)) (number32 words (metric_at words i + 64)) || bytes_eq (text_at words (metric_at words j) 64) (text_at words (metric_at words i) 64))) (λ j less.
+    let (other, there) = get_some draft.metrics j (omega arith) in
+    let at : metric_at words j ≡ 8 * (metrics_from draft s + 13 * j) = metric_is draft s few j (omega arith) in
+    ap not (ap₂ (λ a b. a || b) (ap₂ nat_eq (item_read draft s d j (metric_at words j + 64) other there (ap (λ n. n + 64) at)) (item_read draft s d i (metric_at words i + 64) row here (ap (λ n. n + 64) place)))
+    (ap₂ bytes_eq (name_read draft s d j (metric_at words j) other there at) (name_read draft s d i (metric_at words i) row here place)) ∙ d.items j i other row less there here))
+
+good_metric : (draft : Layout) (s : List (List ℕ)) → words_in (counts_of draft s) ≤ 65536 → IsDraft draft → Each (λ row. HasHelp s row.short × HasHelp s row.long) draft.metrics → (i : ℕ) → i < length draft.metrics → is_good_metric (spelled draft s) i ≡ true
+unfolding is_good_metric
+good_metric draft s few d helps i below =
+    let (row, here) = get_some draft.metrics i below in
+    let place : metric_at (spelled draft s) i ≡ 8 * (metrics_from draft s + 13 * i) = metric_is draft s few i below in
+    ap₂ (λ a b. a && b) (ap₂ (λ a b. a && b) (good_name draft s d i (metric_at (spelled draft s) i) row here place) (good_fields draft s few d i (metric_at (spelled draft s) i) row here (helps i row here) place)) (new_metric draft s few d i row here)
+
+pub good_metrics : (draft : Layout) (s : List (List ℕ)) → words_in (counts_of draft s) ≤ 65536 → IsDraft draft → Each (λ row. HasHelp s row.short × HasHelp s row.long) draft.metrics → metrics_are_good (spelled draft s) ≡ true
+unfolding metrics_are_good
+good_metrics draft s few d helps =
+    all_hold (metric_count (spelled draft s)) (is_good_metric (spelled draft s)) (λ i below. good_metric draft s few d helps i (subst (λ n. i < n) (find_metrics draft s few).count below))
+
+-- Strings
+
+fits_string : (n : ℕ) → nat_lt 255 n ≡ false → n < 256
+fits_string n h = grind (arith, nat_tests)
+
+good_string : (draft : Layout) (s : List (List ℕ)) → words_in (counts_of draft s) ≤ 65536 → Each IsString s → (i : ℕ) → i < length s → is_good_string (spelled draft s) i ≡ true
+unfolding is_good_string
+good_string draft s few short i below =
+    let (text, here) = get_some s i below in
+    let is : IsString text = short i text here in
+    zero_read (spelled draft s) (strings_from draft s + 32 * i) 32 (string_at (spelled draft s) i) text (stand_string draft s i text here) is.stored (string_is draft s few i below) (fits_string (length text) is.short)
+
+pub good_strings : (draft : Layout) (s : List (List ℕ)) → words_in (counts_of draft s) ≤ 65536 → Each IsString s → strings_are_good (spelled draft s) ≡ true
+unfolding strings_are_good
+good_strings draft s few short =
+    all_hold (string_count (spelled draft s)) (is_good_string (spelled draft s)) (λ i below. good_string draft s few short i (subst (λ n. i < n) (find_strings draft s few).count below))

@@ -1,0 +1,6 @@
+pub mod Draft
+pub mod Laws
+pub mod Places
+pub mod Refusals
+pub mod Rules
+pub mod Spelling

@@ -1,0 +1,17 @@
+//! Writes images of memory mapped values, version 1 (mmv(5)). A builder takes the rows of an image one by one and
+//! refuses a row that would break the format; what was built is then spelled in one way alone, without gaps.
+#![tactic(auto)]
+
+mod builder;
+mod fault;
+mod laws;
+mod places;
+mod references;
+mod rules;
+mod spelling;
+mod strings;
+mod words;
+
+pub use builder::Builder;
+pub use fault::BuildFault;
+pub use laws::drafts_are_images;
