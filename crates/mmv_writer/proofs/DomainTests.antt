@@ -69,19 +69,19 @@ good_indoms draft s few d helps =
 
 -- Instances
 
-name_from : (draft : Layout) (s : List (List ℕ)) (i k : ℕ) (row : IndomRow) (instance : ℤ × List ℕ) → slice_get draft.indoms i ≡ Some row → slice_get row.instances k ≡ Some instance → Stands (spelled draft s) (instances_from draft s + 10 * (instances_in (take i draft.indoms) + k) + 2) (first_words 8 instance.1)
+pub name_from : (draft : Layout) (s : List (List ℕ)) (i k : ℕ) (row : IndomRow) (instance : ℤ × List ℕ) → slice_get draft.indoms i ≡ Some row → slice_get row.instances k ≡ Some instance → Stands (spelled draft s) (instances_from draft s + 10 * (instances_in (take i draft.indoms) + k) + 2) (first_words 8 instance.1)
 unfolding instance_words
 name_from draft s i k row instance here within =
     stands_right (spelled draft s) (instances_from draft s + 10 * (instances_in (take i draft.indoms) + k)) (instances_from draft s + 10 * (instances_in (take i draft.indoms) + k) + 2)
     (domain_place (places draft s) draft.indoms row.serial ∷ halves 0 (cast_unsigned w32 instance.0) ∷ []) (first_words 8 instance.1) refl (stand_instance draft s i k row instance here within)
 
-number_read : (draft : Layout) (s : List (List ℕ)) → IsDraft draft → (i k at n : ℕ) (row : IndomRow) (instance : ℤ × List ℕ) → slice_get draft.indoms i ≡ Some row → slice_get row.instances k ≡ Some instance → instance.0 ≡ pos n → n < 2147483648 → at ≡ 8 * (instances_from draft s + 10 * (instances_in (take i draft.indoms) + k)) + 12 → number32 (spelled draft s) at ≡ n
+pub number_read : (draft : Layout) (s : List (List ℕ)) → IsDraft draft → (i k at n : ℕ) (row : IndomRow) (instance : ℤ × List ℕ) → slice_get draft.indoms i ≡ Some row → slice_get row.instances k ≡ Some instance → instance.0 ≡ pos n → n < 2147483648 → at ≡ 8 * (instances_from draft s + 10 * (instances_in (take i draft.indoms) + k)) + 12 → number32 (spelled draft s) at ≡ n
 unfolding instance_words
 number_read draft s d i k at n row instance here within is fits e =
     high_read (spelled draft s) (instances_from draft s + 10 * (instances_in (take i draft.indoms) + k)) 1 at (instance_words (domain_place (places draft s) draft.indoms row.serial) instance) 0 n (stand_instance draft s i k row instance here within) (omega arith) (omega arith)
     (ap (λ id. halves 0 (cast_unsigned w32 id)) is) (omega arith) (omega arith)
 
-short_name : (n : ℕ) → (nat_le 1 n && nat_le n 63) ≡ true → (0 < n) × (n < 64)
+pub short_name : (n : ℕ) → (nat_le 1 n && nat_le n 63) ≡ true → (0 < n) × (n < 64)
 short_name n h = (one n (both_left (nat_le 1 n) (nat_le n 63) h), most n (both_right (nat_le 1 n) (nat_le n 63) h))
   where
     one : (n : ℕ) → nat_le 1 n ≡ true → 0 < n

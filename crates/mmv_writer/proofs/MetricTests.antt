@@ -41,7 +41,7 @@ stand_name : (draft : Layout) (s : List (List ℕ)) (i : ℕ) (row : MetricRow) 
 unfolding metric_words
 stand_name draft s i row here = stands_left (spelled draft s) (metrics_from draft s + 13 * i) (first_words 8 row.name) (fields_of draft s row) (stand_metric draft s i row here)
 
-stand_fields : (draft : Layout) (s : List (List ℕ)) (i : ℕ) (row : MetricRow) → slice_get draft.metrics i ≡ Some row → Stands (spelled draft s) (metrics_from draft s + 13 * i + 8) (fields_of draft s row)
+pub stand_fields : (draft : Layout) (s : List (List ℕ)) (i : ℕ) (row : MetricRow) → slice_get draft.metrics i ≡ Some row → Stands (spelled draft s) (metrics_from draft s + 13 * i + 8) (fields_of draft s row)
 unfolding metric_words
 stand_fields draft s i row here =
     stands_right (spelled draft s) (metrics_from draft s + 13 * i) (metrics_from draft s + 13 * i + 8) (first_words 8 row.name) (fields_of draft s row)
@@ -67,7 +67,7 @@ kind_known kinds.Double = refl
 kind_known kinds.Text = refl
 kind_known kinds.Elapsed = refl
 
-meaning_fits : (m : Semantics) → code_of_semantics m < 5
+pub meaning_fits : (m : Semantics) → code_of_semantics m < 5
 meaning_fits meanings.Counter = omega arith
 meaning_fits meanings.Instant = omega arith
 meaning_fits meanings.Discrete = omega arith
@@ -100,7 +100,7 @@ kind_read draft s d i at row here e =
     let fits : code_of_kind row.kind < 10 = kind_fits row.kind in
     high_read (spelled draft s) (metrics_from draft s + 13 * i + 8) 0 at (fields_of draft s row) row.item (code_of_kind row.kind) (stand_fields draft s i row here) (omega arith) (omega arith) refl (omega arith) (omega arith)
 
-meaning_read : (draft : Layout) (s : List (List ℕ)) → IsDraft draft → (i at : ℕ) (row : MetricRow) → slice_get draft.metrics i ≡ Some row → at ≡ 8 * (metrics_from draft s + 13 * i) + 72 → number32 (spelled draft s) at ≡ code_of_semantics row.semantics
+pub meaning_read : (draft : Layout) (s : List (List ℕ)) → IsDraft draft → (i at : ℕ) (row : MetricRow) → slice_get draft.metrics i ≡ Some row → at ≡ 8 * (metrics_from draft s + 13 * i) + 72 → number32 (spelled draft s) at ≡ code_of_semantics row.semantics
 meaning_read draft s d i at row here e =
     let fits : code_of_semantics row.semantics < 5 = meaning_fits row.semantics in
     low_read (spelled draft s) (metrics_from draft s + 13 * i + 8) 1 at (fields_of draft s row) (code_of_semantics row.semantics) row.units (stand_fields draft s i row here) (omega arith) (omega arith) refl (omega arith)
@@ -185,7 +185,7 @@ good_metrics draft s few d helps =
 
 -- Strings
 
-fits_string : (n : ℕ) → nat_lt 255 n ≡ false → n < 256
+pub fits_string : (n : ℕ) → nat_lt 255 n ≡ false → n < 256
 fits_string n h = grind (arith, nat_tests)
 
 good_string : (draft : Layout) (s : List (List ℕ)) → words_in (counts_of draft s) ≤ 65536 → Each IsString s → (i : ℕ) → i < length s → is_good_string (spelled draft s) i ≡ true

@@ -56,7 +56,7 @@ serial_found draft item metric at = ap serial_in (find_at (λ m. nat_eq m.item i
 
 -- The instance of a value
 
-same_int : (x y : ℤ) → int_eq x y ≡ true → x ≡ y
+pub same_int : (x y : ℤ) → int_eq x y ≡ true → x ≡ y
 same_int x y h = grind (arith, Decides-int_eq)
 
 int_same : (x : ℤ) → int_eq x x ≡ true
@@ -68,13 +68,13 @@ domain_found draft d serial id h = only_one (λ row. row.serial) (λ row. list_a
 abbrev pub index_in : IndomRow → ℤ → ℕ
 index_in row id = position_or_len (λ other. int_eq other.0 id) row.instances
 
-member_found : (draft : Layout) (serial : ℕ) (id : ℤ) (row : IndomRow) → slice_get draft.indoms (domain_of draft.indoms serial) ≡ Some row → member_of draft.indoms serial id ≡ index_in row id
+pub member_found : (draft : Layout) (serial : ℕ) (id : ℤ) (row : IndomRow) → slice_get draft.indoms (domain_of draft.indoms serial) ≡ Some row → member_of draft.indoms serial id ≡ index_in row id
 member_found draft serial id row at = ap (λ f. position_or_len (λ other. int_eq other.0 id) (members_in f)) (find_at (λ r. nat_eq r.serial serial) draft.indoms ∙ at)
 
 no_domain : (n : ℕ) → 0 < n → n < 4294967295 → is_no_domain n ≡ false
 no_domain n some few = grind (arith, nat_tests)
 
-one_at_least : (n : ℕ) → (nat_le 1 n && nat_le n 1023) ≡ true → 0 < n
+pub one_at_least : (n : ℕ) → (nat_le 1 n && nat_le n 1023) ≡ true → 0 < n
 one_at_least n h = least n (both_left (nat_le 1 n) (nat_le n 1023) h)
   where
     least : (n : ℕ) → nat_le 1 n ≡ true → 0 < n
@@ -126,15 +126,15 @@ choice_good draft s few (Raw value extra) kind field code fits has is shown =
 
 -- Fields of a value
 
-metric_field : (draft : Layout) (s : List (List ℕ)) (i at : ℕ) (row : ValueRow) → slice_get draft.values i ≡ Some row → at ≡ 8 * (values_from draft s + 4 * i) + 16 → number64 (spelled draft s) at ≡ (places draft s).metrics + 104 * metric_index draft row.item
+pub metric_field : (draft : Layout) (s : List (List ℕ)) (i at : ℕ) (row : ValueRow) → slice_get draft.values i ≡ Some row → at ≡ 8 * (values_from draft s + 4 * i) + 16 → number64 (spelled draft s) at ≡ (places draft s).metrics + 104 * metric_index draft row.item
 unfolding value_words
 metric_field draft s i at row here e = word_read (spelled draft s) (values_from draft s + 4 * i) 2 at (value_words (places draft s) s draft.indoms draft.metrics row) (stand_value draft s i row here) (omega arith) (omega arith)
 
-extra_read : (draft : Layout) (s : List (List ℕ)) (i at : ℕ) (row : ValueRow) → slice_get draft.values i ≡ Some row → at ≡ 8 * (values_from draft s + 4 * i) + 8 → number64 (spelled draft s) at ≡ extra_field (places draft s) s row.content
+pub extra_read : (draft : Layout) (s : List (List ℕ)) (i at : ℕ) (row : ValueRow) → slice_get draft.values i ≡ Some row → at ≡ 8 * (values_from draft s + 4 * i) + 8 → number64 (spelled draft s) at ≡ extra_field (places draft s) s row.content
 unfolding value_words
 extra_read draft s i at row here e = word_read (spelled draft s) (values_from draft s + 4 * i) 1 at (value_words (places draft s) s draft.indoms draft.metrics row) (stand_value draft s i row here) (omega arith) (omega arith)
 
-instance_read : (draft : Layout) (s : List (List ℕ)) (i at : ℕ) (row : ValueRow) (metric : MetricRow) → slice_get draft.values i ≡ Some row → slice_get draft.metrics (metric_index draft row.item) ≡ Some metric → at ≡ 8 * (values_from draft s + 4 * i) + 24 → number64 (spelled draft s) at ≡ instance_field (places draft s) draft.indoms metric.serial row.instance
+pub instance_read : (draft : Layout) (s : List (List ℕ)) (i at : ℕ) (row : ValueRow) (metric : MetricRow) → slice_get draft.values i ≡ Some row → slice_get draft.metrics (metric_index draft row.item) ≡ Some metric → at ≡ 8 * (values_from draft s + 4 * i) + 24 → number64 (spelled draft s) at ≡ instance_field (places draft s) draft.indoms metric.serial row.instance
 unfolding value_words
 instance_read draft s i at row metric here there e =
     word_read (spelled draft s) (values_from draft s + 4 * i) 3 at (value_words (places draft s) s draft.indoms draft.metrics row) (stand_value draft s i row here) (omega arith) (omega arith)

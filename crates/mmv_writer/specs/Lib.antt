@@ -3,4 +3,5 @@ pub mod Laws
 pub mod Places
 pub mod Refusals
 pub mod Rules
+pub mod Saying
 pub mod Spelling

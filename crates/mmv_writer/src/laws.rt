@@ -1,7 +1,13 @@
 ghost use Rattle.mmv_writer.specs.Laws.{DraftsAreImages};
+ghost use Rattle.mmv_writer.specs.Saying.{DraftsAreSaid};
 
 /// The spelling of a draft that has at most 65,536 words is an image.
 #[tactic(auto, using(crate::proofs::Images::drafts_are_images))]
 pub fn drafts_are_images()
     ensures { DraftsAreImages }
+{}
+
+/// The spelling of a draft that has at most 65,536 words says the draft, with all its strings.
+pub fn drafts_are_said()
+    ensures { DraftsAreSaid }
 {}

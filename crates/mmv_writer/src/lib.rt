@@ -14,4 +14,4 @@ mod words;
 
 pub use builder::Builder;
 pub use fault::BuildFault;
-pub use laws::drafts_are_images;
+pub use laws::{drafts_are_images, drafts_are_said};

@@ -1,0 +1,233 @@
+-- What a spelled image says: its draft, with all its strings.
+use Rattle.std.proofs.Common.{◌≡◌, ◌≢◌, ℕ, zero, suc, ◌+◌, ◌-◌, ◌*◌, ◌<◌, ◌≤◌, ℤ, pos, Bool, true, false, not, ◌&&◌, ◌||◌, ◌⊎◌, inl, inr, List, [], ◌∷◌, ◌++◌, length, take, ap, ap₂, sym, subst, ◌∙◌, refl, arith, cond, nat_eq, nat_le, Option, Some, None, bytes_eq}
+use Rattle.std.specs.List.{list_any, slice_get, position_or_len}
+use Rattle.std.specs.Int.{w32, cast_signed}
+use Rattle.std.specs.Ordering.{int_eq}
+use Rattle.std.proofs.lemmas.Int.{to_z-of_z}
+use Rattle.std.proofs.lemmas.Bool.{eqb-true}
+use Rattle.std.proofs.lemmas.Bool.Decides.{nat_tests}
+use Rattle.pcp_base.specs.Codes.{code_of_kind, code_of_semantics}
+use Rattle.pcp_base.specs.declared.kind.Kind.{Kind}
+use Rattle.pcp_base.specs.declared.kind.Kind.TheVariants as kinds
+use Rattle.mmv_layout.specs.Fields.{number32, number64, text_at, first_words}
+use Rattle.mmv_layout.specs.Contents.{section_of}
+use Rattle.mmv_layout.specs.Entries.{indom_at, instance_count, instance_at, metric_count, metric_at, value_at, string_count, string_at, metric_of}
+use Rattle.mmv_layout.specs.Says.{EachAt, InSection, LeadsTo, StringAt, HelpAt, InstanceAt, IndomAt, IsNull, IsNamed, SerialIs, MetricAt, InstanceOf, ContentAt, ValueAt, TextAt, Says}
+use Rattle.mmv_layout.specs.Rows as rows
+use Rattle.mmv_layout.specs.declared.contents.Section.{Section}
+use Rattle.mmv_layout.specs.declared.rows.IndomRow.{IndomRow}
+use Rattle.mmv_layout.specs.declared.rows.MetricRow.{MetricRow}
+use Rattle.mmv_layout.specs.declared.rows.ValueRow.{ValueRow}
+use Rattle.mmv_layout.specs.declared.rows.Content.{Content}
+use Rattle.mmv_layout.specs.declared.rows.Content.TheVariants.{Number, Choice, Raw}
+use Rattle.mmv_layout.specs.declared.rows.Layout.{Layout}
+use Rattle.mmv_layout.proofs.Below.{both_left, both_right}
+use Rattle.mmv_writer.specs.Rules.{fits_instance, fits_kind, fits_metric}
+use Rattle.mmv_writer.specs.Draft.{Each, IsString, IsDomain, IsInstance, HasDomain, IsMetric, IsDraft}
+use Rattle.mmv_writer.specs.Places.{instances_in, counts_of, sections_in, words_in}
+use Rattle.mmv_writer.specs.Spelling.{halves, string_place, help_place, domain_of, serial_word, header_words, domain_words, metric_words, value_words, value_field, extra_field, instance_field, spelled, all_strings, image_words}
+use Rattle.mmv_writer.specs.Saying.{DraftsAreSaid, with_all_strings}
+use Rattle.mmv_writer.proofs.Lengths.{length_spelled, sections_most}
+use Rattle.mmv_writer.proofs.Standing.{Stands, word_read, low_read, high_read, text_read}
+use Rattle.mmv_writer.proofs.Wanted.{Has, HasHelp, HasContent, same_bytes, domain_helps, metric_helps, value_texts, strings_short}
+use Rattle.mmv_writer.proofs.Positions.{Passes, first_passes, get_below, get_some, before_this}
+use Rattle.mmv_writer.proofs.Spelt.{domains_from, instances_from, metrics_from, values_from, strings_from, places, stand_header, Finds, find_indoms, find_instances, find_metrics, find_values, find_strings}
+use Rattle.mmv_writer.proofs.Marks.{indom_is, instance_is, metric_is, value_is, string_is, stand_domain, stand_value, stand_string, serial_fits, serial_read, run_read, first_read, first_is, owner_read}
+use Rattle.mmv_writer.proofs.DomainTests.{name_from, number_read, short_name}
+use Rattle.mmv_writer.proofs.MetricTests.{fields_of, stand_fields, meaning_fits, item_read, kind_read, meaning_read, metric_serial_read, name_read, fits_string}
+use Rattle.mmv_writer.proofs.ValueTests.{metric_index, metric_found, domain_found, index_in, member_found, metric_field, extra_read, instance_read, one_at_least, same_int}
+
+-- Rows one after the other
+
+each_at : {X : Type 0} (R : ℕ → X → Type 0) (at size : ℕ) (xs : List X) → ((i : ℕ) (x : X) (place : ℕ) → slice_get xs i ≡ Some x → place ≡ at + size * i → R place x) → EachAt R at size xs
+unfolding EachAt
+each_at R at size [] one = tt
+each_at R at size (x ∷ xs) one =
+    (one 0 x at refl (omega arith), each_at R (at + size) size xs (λ i y place there e. one (suc i) y place there (e ∙ next at size i)))
+  where
+    next : (n s i : ℕ) → n + s + s * i ≡ n + s * suc i
+    next n s i = grind arith
+
+in_section : {X : Type 0} (R : ℕ → X → Type 0) (section : Section) (n p size : ℕ) (xs : List X) → Finds section n p → length xs ≡ n → ((i : ℕ) (x : X) (place : ℕ) → slice_get xs i ≡ Some x → place ≡ p + size * i → R place x) → InSection R section size xs
+in_section R section n p size xs f long one = (
+  long ∙ sym f.count,
+  each_at R section.place size xs (λ i x place there e.
+      let below : i < length xs = get_below xs i x there in
+      one i x place there (e ∙ ap (λ q. q + size * i) (f.place (omega arith)))),
+)
+
+-- Strings
+
+string_said : (draft : Layout) (s : List (List ℕ)) → words_in (counts_of draft s) ≤ 65536 → Each IsString s → (text : List ℕ) (place : ℕ) → Has s text → place ≡ string_place (places draft s) s text → StringAt (spelled draft s) place text
+string_said draft s few short text place has e =
+    let k : ℕ = position_or_len (λ other. bytes_eq other text) s in
+    let p : Passes s (position_or_len (λ other. bytes_eq other text) s) (λ other. bytes_eq other text) = first_passes (λ other. bytes_eq other text) s has in
+    let below : position_or_len (λ other. bytes_eq other text) s < length s = get_below s (position_or_len (λ other. bytes_eq other text) s) p.row p.at in
+    let same : p.row ≡ text = same_bytes p.row text p.is in
+    let is : IsString p.row = short (position_or_len (λ other. bytes_eq other text) s) p.row p.at in
+    let at : string_at (spelled draft s) (position_or_len (λ other. bytes_eq other text) s) ≡ 8 * (strings_from draft s + 32 * position_or_len (λ other. bytes_eq other text) s) = string_is draft s few (position_or_len (λ other. bytes_eq other text) s) below in (
+      (position_or_len (λ other. bytes_eq other text) s, subst (λ n. position_or_len (λ other. bytes_eq other text) s < n) (sym (find_strings draft s few).count) below, omega arith),
+      sym same ∙ sym (text_read (spelled draft s) (strings_from draft s + 32 * position_or_len (λ other. bytes_eq other text) s) 32 place p.row (stand_string draft s (position_or_len (λ other. bytes_eq other text) s) p.row p.at) is.stored (omega arith) (fits_string (length p.row) is.short)),
+    )
+
+help_said : (draft : Layout) (s : List (List ℕ)) → words_in (counts_of draft s) ≤ 65536 → Each IsString s → (help : Option (List ℕ)) (field : ℕ) → HasHelp s help → number64 (spelled draft s) field ≡ help_place (places draft s) s help → HelpAt (spelled draft s) field help
+help_said draft s few short None field has e = e
+help_said draft s few short (Some text) field has e =
+    (λ z. let some : number64 (spelled draft s) field ≡ 0 = z in absurd (omega arith), string_said draft s few short text (number64 (spelled draft s) field) has e)
+
+-- Domains
+
+signed_small : (n : ℕ) → n < 2147483648 → cast_signed w32 n ≡ pos n
+signed_small n h = to_z-of_z w32 (pos n) (record { sfits = h })
+
+instance_said : (draft : Layout) (s : List (List ℕ)) → IsDraft draft → (i k at : ℕ) (row : IndomRow) (instance : ℤ × List ℕ) → slice_get draft.indoms i ≡ Some row → slice_get row.instances k ≡ Some instance → at ≡ 8 * (instances_from draft s + 10 * (instances_in (take i draft.indoms) + k)) → InstanceAt (spelled draft s) at instance
+instance_said draft s d i k at row instance here within e =
+    let is : IsInstance instance = (d.domains i row here).instances k instance within in (
+      is.number.1 ∙ sym (ap (cast_signed w32) (number_read draft s d i k (at + 12) is.number.0 row instance here within is.number.1 is.number.2 (ap (λ n. n + 12) e)) ∙ signed_small is.number.0 is.number.2),
+      sym (text_read (spelled draft s) (instances_from draft s + 10 * (instances_in (take i draft.indoms) + k) + 2) 8 (at + 16) instance.1 (name_from draft s i k row instance here within) is.stored (omega arith) (short_name (length instance.1) is.name).1),
+    )
+
+indom_said : (draft : Layout) (s : List (List ℕ)) → words_in (counts_of draft s) ≤ 65536 → IsDraft draft → Each IsString s → (i at : ℕ) (row : IndomRow) → slice_get draft.indoms i ≡ Some row → HasHelp s row.short × HasHelp s row.long → at ≡ 8 * (domains_from draft s + 4 * i) → IndomAt (spelled draft s) at row
+unfolding domain_words
+indom_said draft s few d short i at row here helps e = record {
+  serial = sym (serial_read draft s few d i at row here e);
+  count = sym (run_read draft s few d i (at + 4) row here (ap (λ n. n + 4) e));
+  instances = each_at (InstanceAt (spelled draft s)) (number64 (spelled draft s) (at + 8)) 80 row.instances (λ k instance place within p.
+      let inside : k < length row.instances = get_below row.instances k instance within in
+      let first : number64 (spelled draft s) (at + 8) ≡ (places draft s).instances + 80 * instances_in (take i draft.indoms) = first_read draft s i (at + 8) row here (ap (λ n. n + 8) e) ∙ first_is draft s d i row here (omega arith) in
+      instance_said draft s d i k place row instance here within (omega arith));
+  short = help_said draft s few short row.short (at + 16) helps.0 (word_read (spelled draft s) (domains_from draft s + 4 * i) 2 (at + 16) (domain_words (places draft s) s draft.indoms row) (stand_domain draft s i row here) (omega arith) (omega arith));
+  long = help_said draft s few short row.long (at + 24) helps.1 (word_read (spelled draft s) (domains_from draft s + 4 * i) 3 (at + 24) (domain_words (places draft s) s draft.indoms row) (stand_domain draft s i row here) (omega arith) (omega arith));
+}
+
+-- Metrics
+
+serial_said : (draft : Layout) → IsDraft draft → (serial : Option ℕ) (found : ℕ) → HasDomain draft.indoms serial → found ≡ serial_word serial → SerialIs found serial
+serial_said draft d None found there e = inr e
+serial_said draft d (Some serial) found there e =
+    let p : Passes draft.indoms (domain_of draft.indoms serial) (λ row. nat_eq row.serial serial) = first_passes (λ row. nat_eq row.serial serial) draft.indoms there in
+    let fits : p.row.serial ≤ 1023 = serial_fits draft d (domain_of draft.indoms serial) p.row p.at in
+    let some : 0 < p.row.serial = one_at_least p.row.serial (d.domains (domain_of draft.indoms serial) p.row p.at).serial in
+    let same : p.row.serial ≡ serial = eqb-true p.row.serial serial p.is in
+    ((λ z. let no : found ≡ 0 = z in absurd (omega arith), λ z. let no : found ≡ 4294967295 = z in absurd (omega arith)), sym e)
+
+metric_said : (draft : Layout) (s : List (List ℕ)) → words_in (counts_of draft s) ≤ 65536 → IsDraft draft → Each IsString s → (i at : ℕ) (row : MetricRow) → slice_get draft.metrics i ≡ Some row → HasHelp s row.short × HasHelp s row.long → at ≡ 8 * (metrics_from draft s + 13 * i) → MetricAt (spelled draft s) at row
+metric_said draft s few d short i at row here helps e =
+    let is : IsMetric draft.indoms row = d.metrics i row here in
+    let meaning : code_of_semantics row.semantics < 5 = meaning_fits row.semantics in
+    let units : row.units < 4294967296 = is.units in
+    record {
+      name = sym (name_read draft s d i at row here e);
+      item = sym (item_read draft s d i (at + 64) row here (ap (λ n. n + 64) e));
+      kind = sym (kind_read draft s d i (at + 68) row here (ap (λ n. n + 68) e));
+      semantics = sym (meaning_read draft s d i (at + 72) row here (ap (λ n. n + 72) e));
+      units = sym (high_read (spelled draft s) (metrics_from draft s + 13 * i + 8) 1 (at + 76) (fields_of draft s row) (code_of_semantics row.semantics) row.units (stand_fields draft s i row here) (omega arith) (omega arith) refl (omega arith) units);
+      serial = serial_said draft d row.serial (number32 (spelled draft s) (at + 80)) is.domain (metric_serial_read draft s d i (at + 80) row here (ap (λ n. n + 80) e));
+      short = help_said draft s few short row.short (at + 88) helps.0 (word_read (spelled draft s) (metrics_from draft s + 13 * i + 8) 3 (at + 88) (fields_of draft s row) (stand_fields draft s i row here) (omega arith) (omega arith));
+      long = help_said draft s few short row.long (at + 96) helps.1 (word_read (spelled draft s) (metrics_from draft s + 13 * i + 8) 4 (at + 96) (fields_of draft s row) (stand_fields draft s i row here) (omega arith) (omega arith));
+    }
+
+-- Values
+
+number_said : (draft : Layout) (s : List (List ℕ)) → words_in (counts_of draft s) ≤ 65536 → IsDraft draft → (serial : Option ℕ) (number : Option ℤ) (value : ℕ) → HasDomain draft.indoms serial → fits_instance draft.indoms serial number ≡ true → rows.domain_of (spelled draft s) value ≡ serial_word serial → number64 (spelled draft s) (value + 24) ≡ instance_field (places draft s) draft.indoms serial number → InstanceOf (spelled draft s) value number
+number_said draft s few d None None value there fits word is = inr word
+number_said draft s few d None (Some id) value there fits word is = cc
+number_said draft s few d (Some serial) None value there fits word is = cc
+number_said draft s few d (Some serial) (Some id) value there fits word is =
+    let words : List ℕ = spelled draft s in
+    let p : Passes draft.indoms (domain_of draft.indoms serial) (λ row. nat_eq row.serial serial && list_any (λ other. int_eq other.0 id) row.instances) = domain_found draft d serial id fits in
+    let q : Passes p.row.instances (index_in p.row id) (λ other. int_eq other.0 id) = first_passes (λ other. int_eq other.0 id) p.row.instances (both_right (nat_eq p.row.serial serial) (list_any (λ other. int_eq other.0 id) p.row.instances) p.is) in
+    let inside : index_in p.row id < length p.row.instances = get_below p.row.instances (index_in p.row id) q.row q.at in
+    let all : instances_in (take (domain_of draft.indoms serial) draft.indoms) + length p.row.instances ≤ instances_in draft.indoms = before_this draft.indoms (domain_of draft.indoms serial) p.row p.at in
+    let q_at : number64 words (value + 24) ≡ (places draft s).instances + 80 * (instances_in (take (domain_of draft.indoms serial) draft.indoms) + index_in p.row id) =
+    is ∙ ap (λ k. (places draft s).instances + 80 * (instances_in (take (domain_of draft.indoms serial) draft.indoms) + k)) (member_found draft serial id p.row p.at) in
+    let index : ℕ = instances_in (take (domain_of draft.indoms serial) draft.indoms) + index_in p.row id in
+    let at : instance_at words (instances_in (take (domain_of draft.indoms serial) draft.indoms) + index_in p.row id) ≡ 8 * (instances_from draft s + 10 * (instances_in (take (domain_of draft.indoms serial) draft.indoms) + index_in p.row id)) =
+    instance_is draft s few (instances_in (take (domain_of draft.indoms serial) draft.indoms) + index_in p.row id) (omega arith) in
+    let said : InstanceAt words (number64 words (value + 24)) q.row = instance_said draft s d (domain_of draft.indoms serial) (index_in p.row id) (number64 words (value + 24)) p.row q.row p.at q.at (omega arith) in (
+      (serial_said draft d (Some serial) (rows.domain_of words value) there word).0,
+      (instances_in (take (domain_of draft.indoms serial) draft.indoms) + index_in p.row id, subst (λ n. instances_in (take (domain_of draft.indoms serial) draft.indoms) + index_in p.row id < n) (sym (find_instances draft s few).count) (omega arith), omega arith),
+      sym (same_int q.row.0 id q.is) ∙ said.0,
+    )
+
+le_three : (n : ℕ) → nat_le n 3 ≡ true → n ≤ 3
+le_three n h = grind (arith, nat_tests)
+
+raw_kind : (k : Kind) → not (nat_le (code_of_kind k) 3 || nat_eq (code_of_kind k) 6) ≡ true → (code_of_kind k ≡ 4) ⊎ (code_of_kind k ≡ 5) ⊎ (code_of_kind k ≡ 9)
+raw_kind kinds.I32 h = cc
+raw_kind kinds.U32 h = cc
+raw_kind kinds.I64 h = cc
+raw_kind kinds.U64 h = cc
+raw_kind kinds.Float h = inl refl
+raw_kind kinds.Double h = inr (inl refl)
+raw_kind kinds.Text h = cc
+raw_kind kinds.Elapsed h = inr (inr refl)
+
+content_said : (draft : Layout) (s : List (List ℕ)) → words_in (counts_of draft s) ≤ 65536 → Each IsString s → (content : Content) (kind : Kind) (value : ℕ) → fits_kind kind content ≡ true → HasContent s content → rows.type_of (spelled draft s) value ≡ code_of_kind kind → number64 (spelled draft s) value ≡ value_field content → number64 (spelled draft s) (value + 8) ≡ extra_field (places draft s) s content → ContentAt (spelled draft s) value content
+content_said draft s few short (Number n) kind value fits has code is more = (subst (λ c. c ≤ 3) (sym code) (le_three (code_of_kind kind) fits), sym is)
+content_said draft s few short (Choice text) kind value fits has code is more = (code ∙ eqb-true (code_of_kind kind) 6 fits, string_said draft s few short text (number64 (spelled draft s) (value + 8)) has more)
+content_said draft s few short (Raw v e) kind value fits has code is more =
+    (subst (λ c. (c ≡ 4) ⊎ (c ≡ 5) ⊎ (c ≡ 9)) (sym code) (raw_kind kind fits), sym is, sym more)
+
+value_said : (draft : Layout) (s : List (List ℕ)) → words_in (counts_of draft s) ≤ 65536 → IsDraft draft → Each IsString s → (i at : ℕ) (row : ValueRow) → slice_get draft.values i ≡ Some row → HasContent s row.content → at ≡ 8 * (values_from draft s + 4 * i) → ValueAt (spelled draft s) at row
+unfolding metric_of value_words
+value_said draft s few d short i at row here has e =
+    let words : List ℕ = spelled draft s in
+    let p : Passes draft.metrics (metric_index draft row.item) (λ metric. fits_metric draft.indoms row metric) = metric_found draft d row (d.values i row here).metric in
+    let fits : (fits_instance draft.indoms p.row.serial row.instance && fits_kind p.row.kind row.content) ≡ true = both_right (nat_eq p.row.item row.item) (fits_instance draft.indoms p.row.serial row.instance && fits_kind p.row.kind row.content) p.is in
+    let item : p.row.item ≡ row.item = eqb-true p.row.item row.item (both_left (nat_eq p.row.item row.item) (fits_instance draft.indoms p.row.serial row.instance && fits_kind p.row.kind row.content) p.is) in
+    let inside : metric_index draft row.item < length draft.metrics = get_below draft.metrics (metric_index draft row.item) p.row p.at in
+    let metric : number64 words (at + 16) ≡ (places draft s).metrics + 104 * metric_index draft row.item = metric_field draft s i (at + 16) row here (ap (λ n. n + 16) e) in
+    let place : metric_at words (metric_index draft row.item) ≡ 8 * (metrics_from draft s + 13 * metric_index draft row.item) = metric_is draft s few (metric_index draft row.item) inside in
+    record {
+      metric = (metric_index draft row.item, subst (λ n. metric_index draft row.item < n) (sym (find_metrics draft s few).count) inside, omega arith);
+      item = sym item ∙ sym (item_read draft s d (metric_index draft row.item) (number64 words (at + 16) + 64) p.row p.at (omega arith));
+      instance = number_said draft s few d p.row.serial row.instance at (d.metrics (metric_index draft row.item) p.row p.at).domain (both_left (fits_instance draft.indoms p.row.serial row.instance) (fits_kind p.row.kind row.content) fits)
+          (metric_serial_read draft s d (metric_index draft row.item) (number64 words (at + 16) + 80) p.row p.at (omega arith)) (instance_read draft s i (at + 24) row p.row here p.at (ap (λ n. n + 24) e));
+      content = content_said draft s few short row.content p.row.kind at (both_right (fits_instance draft.indoms p.row.serial row.instance) (fits_kind p.row.kind row.content) fits) has
+          (kind_read draft s d (metric_index draft row.item) (number64 words (at + 16) + 68) p.row p.at (omega arith))
+          (word_read words (values_from draft s + 4 * i) 0 at (value_words (places draft s) s draft.indoms draft.metrics row) (stand_value draft s i row here) (omega arith) (omega arith))
+          (extra_read draft s i (at + 8) row here (ap (λ n. n + 8) e));
+    }
+
+text_said : (draft : Layout) (s : List (List ℕ)) → Each IsString s → (i at : ℕ) (text : List ℕ) → slice_get s i ≡ Some text → at ≡ 8 * (strings_from draft s + 32 * i) → TextAt (spelled draft s) at text
+text_said draft s short i at text here e =
+    let is : IsString text = short i text here in
+    sym (text_read (spelled draft s) (strings_from draft s + 32 * i) 32 at text (stand_string draft s i text here) is.stored e (fits_string (length text) is.short))
+
+-- The whole
+
+pub said : (draft : Layout) → IsDraft draft → words_in (counts_of draft (all_strings draft)) ≤ 65536 → Says (spelled draft (all_strings draft)) (with_all_strings draft)
+unfolding header_words
+said draft d few =
+    let s : List (List ℕ) = all_strings draft in
+    let short : Each IsString (all_strings draft) = strings_short draft d in
+    let words : List ℕ = spelled draft (all_strings draft) in
+    let most : sections_in (counts_of draft (all_strings draft)) ≤ 5 = sections_most (counts_of draft (all_strings draft)) in
+    let flags : draft.flags < 4294967296 = d.flags in
+    let process : draft.pid < 4294967296 = d.process in
+    let cluster : draft.cluster ≤ 4095 = d.cluster in
+    let version : draft.version ≡ 1 = d.version in
+    let head : List ℕ = header_words draft (sections_in (counts_of draft (all_strings draft))) in
+    record {
+      version = sym (high_read words 0 0 4 (header_words draft (sections_in (counts_of draft (all_strings draft)))) 5655885 draft.version (stand_header draft (all_strings draft)) (omega arith) refl refl (omega arith) (omega arith));
+      generation = sym (word_read words 0 1 8 (header_words draft (sections_in (counts_of draft (all_strings draft)))) (stand_header draft (all_strings draft)) (omega arith) refl);
+      again = sym (word_read words 0 2 16 (header_words draft (sections_in (counts_of draft (all_strings draft)))) (stand_header draft (all_strings draft)) (omega arith) refl);
+      flags = sym (high_read words 0 3 28 (header_words draft (sections_in (counts_of draft (all_strings draft)))) (sections_in (counts_of draft (all_strings draft))) draft.flags (stand_header draft (all_strings draft)) (omega arith) refl refl (omega arith) flags);
+      pid = sym (low_read words 0 4 32 (header_words draft (sections_in (counts_of draft (all_strings draft)))) draft.pid draft.cluster (stand_header draft (all_strings draft)) (omega arith) refl refl process);
+      cluster = sym (high_read words 0 4 36 (header_words draft (sections_in (counts_of draft (all_strings draft)))) draft.pid draft.cluster (stand_header draft (all_strings draft)) (omega arith) refl refl process (omega arith));
+      indoms = in_section (IndomAt words) (section_of words 1) (length draft.indoms) (places draft (all_strings draft)).indoms 32 draft.indoms (find_indoms draft (all_strings draft) few) refl
+          (λ i row place here e. indom_said draft (all_strings draft) few d short i place row here (domain_helps draft i row here) (omega arith));
+      metrics = in_section (MetricAt words) (section_of words 3) (length draft.metrics) (places draft (all_strings draft)).metrics 104 draft.metrics (find_metrics draft (all_strings draft) few) refl
+          (λ i row place here e. metric_said draft (all_strings draft) few d short i place row here (metric_helps draft i row here) (omega arith));
+      values = in_section (ValueAt words) (section_of words 4) (length draft.values) (places draft (all_strings draft)).values 32 draft.values (find_values draft (all_strings draft) few) refl
+          (λ i row place here e. value_said draft (all_strings draft) few d short i place row here (value_texts draft i row here) (omega arith));
+      strings = in_section (TextAt words) (section_of words 5) (length (all_strings draft)) (places draft (all_strings draft)).strings 256 (all_strings draft) (find_strings draft (all_strings draft) few) refl
+          (λ i text place here e. text_said draft (all_strings draft) short i place text here (omega arith));
+    }
+
+pub drafts_are_said : DraftsAreSaid
+unfolding image_words
+drafts_are_said draft d few =
+    let long : length (spelled draft (all_strings draft)) ≡ words_in (counts_of draft (all_strings draft)) = length_spelled draft (all_strings draft) in
+    said draft d (omega arith)
