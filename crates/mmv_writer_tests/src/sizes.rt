@@ -12,6 +12,14 @@ fn many_strings(alloc: Global) -> Result<Builder, Fail> {
     Ok(builder)
 }
 
+/// The refusal of a builder to end.
+fn refused(alloc: Global, builder: Builder) -> Result<(Builder, BuildFault), Fail> {
+    match builder.finish(alloc) {
+        Ok(_) => Err(Fail::new("an image")),
+        Err(refusal) => Ok(refusal),
+    }
+}
+
 #[test]
 fn more_than_65536_words_are_too_large(rt: HostRuntime) -> Result<(), Fail> {
     let alloc = rt.alloc();
@@ -19,17 +27,11 @@ fn more_than_65536_words_are_too_large(rt: HostRuntime) -> Result<(), Fail> {
     for serial in 1..15 {
         builder.indom(alloc, serial, None, None)?;
     }
-    match builder.finish(alloc) {
-        Ok(_) => assert!(rt; false),
-        Err((mut builder, fault)) => {
-            assert_eq!(rt; fault, BuildFault::TooLarge { words: 65537 });
-            assert_eq!(rt;
-                builder.indom(alloc, 14, None, None),
-                Err(BuildFault::Duplicate)
-            );
-            assert_eq!(rt; builder.indom(alloc, 15, None, None), Ok(()));
-        }
-    }
+    let (mut builder, fault) = refused(alloc, builder)?;
+    assert_eq!(rt; fault, BuildFault::TooLarge { words: 65537 });
+    let again = builder.indom(alloc, 14, None, None);
+    assert_eq!(rt; again, Err(BuildFault::Duplicate));
+    builder.indom(alloc, 15, None, None)?;
     Ok(())
 }
 
