@@ -1,5 +1,5 @@
 //! What is left of a line, from which its parts are taken.
-ghost use Rattle.std.specs.Prelude.{◌≡◌, ◌≤◌, length, MatchResult, Some, IfOk};
+ghost use Rattle.std.specs.Prelude.{◌≡◌, ◌≤◌, length, drop, MatchResult, Some, IfOk};
 ghost use Rattle.layout_text.specs.Numbers.{number32, number64, int32, hex_number};
 ghost use Rattle.pcp_base.specs.Texts.{IsText};
 ghost use Rattle.layout_text.specs.Lines.{ended};
@@ -41,6 +41,7 @@ impl From<AllocError> for Stop {
 }
 
 /// The bytes of a line that are left.
+#[derive(Drop)]
 pub struct Rest<'a> {
     bytes: &'a [u8],
 }
@@ -66,6 +67,16 @@ fn word_length(bytes: &[u8]) -> usize
         count += 1;
     }
     count
+}
+
+// The bytes behind the first.
+fn behind_first(bytes: &[u8]) -> &[u8]
+    ensures { result.now ≡ drop 1 bytes.now }
+{
+    match bytes {
+        [_, rest @ ..] => rest,
+        [] => bytes,
+    }
 }
 
 /// The bytes before the first space, and the others.
@@ -224,7 +235,7 @@ impl<'a> Rest<'a> {
     }
 
     // The bytes of a text up to its closing quote, fewer than `limit`.
-    #[tactic(auto, using(crate::proofs::Quoting::behind_nothing, crate::proofs::Quoting::behind_more, crate::proofs::Quoting::within_quote, crate::proofs::Quoting::within_none, crate::proofs::Quoting::within_more))]
+    #[tactic(auto, using(crate::proofs::Quoting::behind_nothing))]
     fn unquoted(&mut self, alloc: Global, limit: usize) -> Result<Bytes, Stop>
         ensures text { Taken (text_within limit self.old) result self.new }
         ensures zero { IfOk result IsText }
@@ -233,7 +244,7 @@ impl<'a> Rest<'a> {
         let mut text = Bytes::empty(alloc);
         for _ in 0..limit {
             if starts_quoted(rest) {
-                self.bytes = &rest[1..];
+                self.bytes = behind_first(rest);
                 return Ok(text);
             }
             let Some((byte, behind)) = text_byte(rest) else {

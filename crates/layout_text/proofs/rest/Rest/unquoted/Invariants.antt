@@ -5,8 +5,8 @@ use Rattle.layout_text.specs.Words.{text_within}
 use Rattle.layout_text.proofs.Quoting.{behind}
 use Rattle.layout_text.proofs.rest.Rest.unquoted.Given as goal
 
-abbrev pub invariant-loop-_ : goal.invariant-loop-_
-invariant-loop-_ l = record {
-  text : text_within l.limit l.fn.self ≡ behind l.text (text_within (l.limit - l._) l.rest);
+abbrev pub invariant-loop : goal.invariant-loop
+invariant-loop l = record {
+  text : text_within l.limit l.fn.self ≡ behind l.text (text_within (l.limit - l.counter) l.rest);
   zero : IsText l.text;
 }
