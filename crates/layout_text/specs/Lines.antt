@@ -1,12 +1,11 @@
 -- The lines of layout text: a word, and behind it the parts that this line has, each behind one space.
 use Rattle.std.specs.Prelude.{ℕ, ◌==◌, if◌then◌else◌, List, length, Option, Some, None, codes, bytes_eq}
-use Rattle.mmv_layout.specs.declared.rows.MetricRow.{MetricRow}
 use Rattle.layout_text.specs.declared.line.Line.{Line}
 use Rattle.layout_text.specs.declared.line.Line.TheVariants as lines
 use Rattle.layout_text.specs.declared.line.Written.{Written}
 use Rattle.layout_text.specs.declared.line.Written.TheVariants as written
 use Rattle.layout_text.specs.Numbers.{◌>>=◌, number32, number64, int32, signed_number, hex_number}
-use Rattle.layout_text.specs.Words.{first_word, behind_word, take_space, take_word, take_as, optional, name_of, kind_of, semantics_of, starts_quoted, quoted, take_text, take_help}
+use Rattle.layout_text.specs.Words.{first_word, behind_word, take_space, take_as, optional, name_of, kind_of, semantics_of, starts_quoted, quoted, take_text, take_help}
 
 -- Nothing stands behind the last part.
 abbrev pub ended : {X : Type 0} → List ℕ → X → Option X

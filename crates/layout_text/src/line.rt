@@ -21,7 +21,11 @@ pub enum Line {
         long: Option<Text>,
     },
     /// An instance of the domain with this serial.
-    Instance { serial: u32, id: i32, name: Text },
+    Instance {
+        serial: u32,
+        id: i32,
+        name: Text,
+    },
     /// A metric.
     Metric(MetricRow),
     /// A value of the metric with this item; `instance` is `None` for a metric without a domain.

@@ -5,10 +5,9 @@ ghost use Rattle.pcp_base.specs.Texts.{IsText};
 ghost use Rattle.layout_text.specs.Lines.{ended};
 ghost use Rattle.layout_text.specs.Words.{Taken, Read, text_within, quoted, take_text, starts_missing, take_help, IsStopped, take_space, word_length, first_word, behind_word, take_word, take_as, optional, name_of, kind_of, semantics_of};
 
-use crate::numbers;
 use crate::quoted::text_byte;
-use crate::words;
 use crate::words::starts_quoted;
+use crate::{numbers, words};
 use pcp_base::{Bytes, Kind, NoMemory, Semantics, Text, TextError, Units};
 use std::alloc::{AllocError, Global};
 use std::marker::Model;

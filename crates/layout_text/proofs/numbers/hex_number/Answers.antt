@@ -1,5 +1,5 @@
 -- A number of fewer than 16 digits has room for one more.
-use Rattle.std.proofs.Common.{◌≡◌, ◌≤◌, ◌<◌, ◌+◌, ◌*◌, ◌^◌, ℕ, arith, lit<, Fits, w64}
+use Rattle.std.proofs.Common.{◌≤◌, ◌^◌, arith, lit<}
 use Rattle.std.proofs.Math.Nat.{pow-le-pow_right}
 use Rattle.layout_text.proofs.numbers.hex_number.Goals as goal
 

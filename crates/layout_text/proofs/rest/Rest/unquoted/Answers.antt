@@ -1,5 +1,5 @@
 -- The text ends, stops or goes on.
-use Rattle.std.proofs.Common.{◌≡◌, ◌≤◌, ◌<◌, sym, ◌∙◌, arith}
+use Rattle.std.proofs.Common.{sym, ◌∙◌, arith}
 use Rattle.layout_text.proofs.Quoting.{ends_text, stops_text, goes_on, runs_out, text_more}
 use Rattle.layout_text.proofs.rest.Rest.unquoted.Goals as goal
 
