@@ -1,0 +1,47 @@
+-- All lines of a layout: its header, the strings, each domain with its instances behind it, the metrics, the values.
+use Rattle.std.specs.Prelude.{ℕ, ℤ, ◌==◌, if◌then◌else◌, List, [], ◌∷◌, ◌++◌}
+use Rattle.pcp_base.specs.declared.kind.Kind.{Kind}
+use Rattle.pcp_base.specs.declared.kind.Kind.TheVariants as kinds
+use Rattle.mmv_layout.specs.declared.rows.IndomRow.{IndomRow}
+use Rattle.mmv_layout.specs.declared.rows.MetricRow.{MetricRow}
+use Rattle.mmv_layout.specs.declared.rows.ValueRow.{ValueRow}
+use Rattle.mmv_layout.specs.declared.rows.Layout.{Layout}
+use Rattle.layout_text.specs.declared.line.Line.TheVariants as lines
+use Rattle.layout_text.specs.Contents.{written_of}
+use Rattle.layout_text.specs.Spelling.{full_line}
+
+abbrev pub strings_text : List (List ℕ) → List ℕ
+strings_text [] = []
+strings_text (text ∷ texts) = full_line (lines.String text) ++ strings_text texts
+
+abbrev pub instances_text : ℕ → List (ℤ × List ℕ) → List ℕ
+instances_text serial [] = []
+instances_text serial (row ∷ rows) = full_line (lines.Instance serial row.0 row.1) ++ instances_text serial rows
+
+unfoldable pub indom_text : IndomRow → List ℕ
+indom_text row = full_line (lines.Indom row.serial row.short row.long) ++ instances_text row.serial row.instances
+
+abbrev pub indoms_text : List IndomRow → List ℕ
+indoms_text [] = []
+indoms_text (row ∷ rows) = indom_text row ++ indoms_text rows
+
+abbrev pub metrics_text : List MetricRow → List ℕ
+metrics_text [] = []
+metrics_text (row ∷ rows) = full_line (lines.Metric row) ++ metrics_text rows
+
+-- the kind of the first metric with this item; without one a number is written as it stands
+abbrev pub kind_of_item : ℕ → List MetricRow → Kind
+kind_of_item item [] = kinds.U64
+kind_of_item item (row ∷ rows) = if row.item == item then row.kind else kind_of_item item rows
+
+unfoldable pub value_text : List MetricRow → ValueRow → List ℕ
+value_text metrics row = full_line (lines.Value row.item row.instance (written_of (kind_of_item row.item metrics) row.content))
+
+abbrev pub values_text : List MetricRow → List ValueRow → List ℕ
+values_text metrics [] = []
+values_text metrics (row ∷ rows) = value_text metrics row ++ values_text metrics rows
+
+unfoldable pub layout_text : Layout → List ℕ
+layout_text layout =
+    full_line (lines.Mmv layout.version layout.generation layout.flags layout.pid layout.cluster)
+    ++ (strings_text layout.strings ++ (indoms_text layout.indoms ++ (metrics_text layout.metrics ++ values_text layout.metrics layout.values)))

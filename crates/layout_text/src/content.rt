@@ -1,0 +1,139 @@
+//! What written content means for a metric's kind.
+ghost use Rattle.std.specs.Prelude.{◌≡◌, ◌≤◌, ◌<◌, ◌*◌, IfOk};
+ghost use Rattle.layout_text.specs.Contents.{negated, ranged, number_as, text_as, raw_as, content_of, turned, written_number, written_of};
+
+use crate::line::Written;
+use mmv_layout::Content;
+use pcp_base::{Duplicate, Kind, NoMemory, Text};
+use std::alloc::Global;
+
+// The bits of a negative number.
+fn negated(magnitude: u64) -> u64
+    ensures { result ≡ negated magnitude }
+{
+    if magnitude == 0 {
+        return 0;
+    }
+    u64::MAX - magnitude + 1
+}
+
+// The value field of a number from `-low` to `high`.
+fn ranged(low: u64, high: u64, negative: bool, magnitude: u64) -> Option<Content>
+    ensures { result ≡ ranged low high negative magnitude }
+{
+    if negative {
+        if magnitude > low {
+            return None;
+        }
+        return Some(Content::Number(negated(magnitude)));
+    }
+    if magnitude > high {
+        return None;
+    }
+    Some(Content::Number(magnitude))
+}
+
+fn number_as(kind: Kind, negative: bool, magnitude: u64) -> Option<Content>
+    ensures { result ≡ number_as kind negative magnitude }
+{
+    match kind {
+        Kind::I32 => ranged(2_147_483_648, 2_147_483_647, negative, magnitude),
+        Kind::U32 => ranged(0, 4_294_967_295, negative, magnitude),
+        Kind::I64 => ranged(
+            9_223_372_036_854_775_808,
+            9_223_372_036_854_775_807,
+            negative,
+            magnitude,
+        ),
+        Kind::U64 => ranged(0, 18_446_744_073_709_551_615, negative, magnitude),
+        Kind::Float => None,
+        Kind::Double => None,
+        Kind::Text => None,
+        Kind::Elapsed => None,
+    }
+}
+
+fn text_as(kind: Kind, text: Text) -> Option<Content>
+    ensures { result ≡ text_as kind text }
+{
+    match kind {
+        Kind::Text => Some(Content::Choice(text)),
+        _ => None,
+    }
+}
+
+fn raw_as(kind: Kind, value: u64, extra: u64) -> Option<Content>
+    ensures { result ≡ raw_as kind value extra }
+{
+    match kind {
+        Kind::Float => Some(Content::Raw(value, extra)),
+        Kind::Double => Some(Content::Raw(value, extra)),
+        Kind::Elapsed => Some(Content::Raw(value, extra)),
+        _ => None,
+    }
+}
+
+/// The content that a value of this kind has by what is written of it: a number in the kind's range as the 64 bits of
+/// the value field, a text, or the two fields of the other kinds. `None` exactly where it isn't of the kind or in its
+/// range.
+pub fn content_of(kind: Kind, written: Written) -> Option<Content>
+    ensures { result ≡ content_of kind written }
+{
+    match written {
+        Written::Number {
+            negative,
+            magnitude,
+        } => number_as(kind, negative, magnitude),
+        Written::Quoted(text) => text_as(kind, text),
+        Written::Raw(value, extra) => raw_as(kind, value, extra),
+    }
+}
+
+// A number of two's complement, by half of how many there are.
+fn turned(half: u64, number: u64) -> Written
+    requires { number < 2 * half }
+    ensures { result ≡ turned half number }
+{
+    if number < half {
+        return Written::Number {
+            negative: false,
+            magnitude: number,
+        };
+    }
+    Written::Number {
+        negative: true,
+        magnitude: half - (number - half),
+    }
+}
+
+fn written_number(kind: Kind, number: u64) -> Written
+    ensures { result ≡ written_number kind number }
+{
+    match kind {
+        Kind::I32 => turned(2_147_483_648, number % 4_294_967_296),
+        Kind::U32 => Written::Number {
+            negative: false,
+            magnitude: number % 4_294_967_296,
+        },
+        Kind::I64 => turned(9_223_372_036_854_775_808, number),
+        _ => Written::Number {
+            negative: false,
+            magnitude: number,
+        },
+    }
+}
+
+/// What is written of a value of this kind: `i32` and `u32` by the low 32 bits of the value field, `i64` and `u64` by
+/// all 64, a text, or the two fields of the other kinds. A number of another kind is written as a `u64`.
+pub fn written_of(alloc: Global, kind: Kind, content: &Content) -> Result<Written, NoMemory>
+    ensures { IfOk result (λ written. written ≡ written_of kind content.now) }
+{
+    match content {
+        Content::Number(number) => Ok(written_number(kind, *number)),
+        Content::Choice(text) => {
+            let copy = text.copy(alloc)?;
+            Ok(Written::Quoted(copy))
+        }
+        Content::Raw(value, extra) => Ok(Written::Raw(*value, *extra)),
+    }
+}

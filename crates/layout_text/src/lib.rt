@@ -1,0 +1,20 @@
+//! The lines of layout text, in which an image of memory mapped values (mmv(5)) is written down: reads a line, or
+//! tells that it is none, and writes each line in its one spelling. The laws say that what is written is read again.
+#![tactic(auto)]
+
+mod content;
+mod line;
+mod numbers;
+mod parts;
+mod quoted;
+mod reading;
+mod rest;
+mod whole;
+mod words;
+mod writing;
+
+pub use content::{content_of, written_of};
+pub use line::{Line, Written};
+pub use reading::read_line;
+pub use whole::layout_text;
+pub use writing::write_line;
