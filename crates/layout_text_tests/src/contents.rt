@@ -21,10 +21,12 @@ fn field_of(kind: Kind, negative: bool, magnitude: u64) -> Option<u64> {
 /// The number that is written of a kind's value field.
 fn number_of(alloc: Global, kind: Kind, field: u64) -> Option<(bool, u64)> {
     match written_of(alloc, kind, &Content::Number(field)) {
-        Ok(Written::Number {
-            negative,
-            magnitude,
-        }) => Some((negative, magnitude)),
+        Ok(
+            Written::Number {
+                negative,
+                magnitude,
+            },
+        ) => Some((negative, magnitude)),
         _ => None,
     }
 }
@@ -32,16 +34,28 @@ fn number_of(alloc: Global, kind: Kind, field: u64) -> Option<(bool, u64)> {
 #[test]
 fn each_kind_has_its_range(rt: HostRuntime) {
     assert_eq!(rt; field_of(Kind::I32, true, 1), Some(0xffff_ffff_ffff_ffff));
-    assert_eq!(rt; field_of(Kind::I32, true, 2_147_483_648), Some(0xffff_ffff_8000_0000));
+    assert_eq!(rt;
+        field_of(Kind::I32, true, 2_147_483_648),
+        Some(0xffff_ffff_8000_0000)
+    );
     assert_eq!(rt; field_of(Kind::I32, true, 2_147_483_649), None);
-    assert_eq!(rt; field_of(Kind::I32, false, 2_147_483_647), Some(2_147_483_647));
+    assert_eq!(rt;
+        field_of(Kind::I32, false, 2_147_483_647),
+        Some(2_147_483_647)
+    );
     assert_eq!(rt; field_of(Kind::I32, false, 2_147_483_648), None);
-    assert_eq!(rt; field_of(Kind::U32, false, 4_294_967_295), Some(4_294_967_295));
+    assert_eq!(rt;
+        field_of(Kind::U32, false, 4_294_967_295),
+        Some(4_294_967_295)
+    );
     assert_eq!(rt; field_of(Kind::U32, false, 4_294_967_296), None);
     assert_eq!(rt; field_of(Kind::U32, true, 1), None);
     assert_eq!(rt; field_of(Kind::I64, true, 1 << 63), Some(1 << 63));
     assert_eq!(rt; field_of(Kind::I64, true, (1 << 63) + 1), None);
-    assert_eq!(rt; field_of(Kind::I64, false, (1 << 63) - 1), Some((1 << 63) - 1));
+    assert_eq!(rt;
+        field_of(Kind::I64, false, (1 << 63) - 1),
+        Some((1 << 63) - 1)
+    );
     assert_eq!(rt; field_of(Kind::I64, false, 1 << 63), None);
     assert_eq!(rt; field_of(Kind::U64, false, u64::MAX), Some(u64::MAX));
     assert_eq!(rt; field_of(Kind::U64, true, 1), None);
@@ -51,18 +65,48 @@ fn each_kind_has_its_range(rt: HostRuntime) {
 
 #[test]
 fn numbers_are_told_by_their_kind(rt: HostRuntime) {
-    assert_eq!(rt; number_of(rt.alloc(), Kind::I32, 0xffff_ffff_ffff_fffe), Some((true, 2)));
-    assert_eq!(rt; number_of(rt.alloc(), Kind::I32, 0x1_0000_0007), Some((false, 7)));
-    assert_eq!(rt; number_of(rt.alloc(), Kind::U32, 0x1_ffff_ffff), Some((false, 0xffff_ffff)));
-    assert_eq!(rt; number_of(rt.alloc(), Kind::I64, 1 << 63), Some((true, 1 << 63)));
-    assert_eq!(rt; number_of(rt.alloc(), Kind::U64, u64::MAX), Some((false, u64::MAX)));
+    assert_eq!(rt;
+        number_of(rt.alloc(), Kind::I32, 0xffff_ffff_ffff_fffe),
+        Some((true, 2))
+    );
+    assert_eq!(rt;
+        number_of(rt.alloc(), Kind::I32, 0x1_0000_0007),
+        Some((false, 7))
+    );
+    assert_eq!(rt;
+        number_of(rt.alloc(), Kind::U32, 0x1_ffff_ffff),
+        Some((false, 0xffff_ffff))
+    );
+    assert_eq!(rt;
+        number_of(rt.alloc(), Kind::I64, 1 << 63),
+        Some((true, 1 << 63))
+    );
+    assert_eq!(rt;
+        number_of(rt.alloc(), Kind::U64, u64::MAX),
+        Some((false, u64::MAX))
+    );
 }
 
 #[test]
 fn other_kinds_have_other_content(rt: HostRuntime) {
-    assert!(rt; matches!(content_of(Kind::Double, Written::Raw(1, 2)), Some(Content::Raw(1, 2))));
-    assert!(rt; matches!(content_of(Kind::Float, Written::Raw(1, 2)), Some(Content::Raw(1, 2))));
-    assert!(rt; matches!(content_of(Kind::Elapsed, Written::Raw(1, 2)), Some(Content::Raw(1, 2))));
+    assert!(rt;
+        matches!(
+            content_of(Kind::Double, Written::Raw(1, 2)),
+            Some(Content::Raw(1, 2))
+        )
+    );
+    assert!(rt;
+        matches!(
+            content_of(Kind::Float, Written::Raw(1, 2)),
+            Some(Content::Raw(1, 2))
+        )
+    );
+    assert!(rt;
+        matches!(
+            content_of(Kind::Elapsed, Written::Raw(1, 2)),
+            Some(Content::Raw(1, 2))
+        )
+    );
     assert!(rt; content_of(Kind::Text, Written::Raw(1, 2)).is_none());
     assert!(rt; content_of(Kind::U64, Written::Raw(1, 2)).is_none());
 }

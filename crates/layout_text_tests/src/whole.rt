@@ -44,7 +44,9 @@ fn the_worked_image_is_three_lines(rt: HostRuntime) -> Result<(), Fail> {
     let Ok(text) = layout_text(rt.alloc(), &layout) else {
         return Err(Fail);
     };
-    assert_eq!(rt; text.as_slice(),
-        b"mmv 1 5 0 0 1\nmetric hits 2 i32 counter 00100000 - - -\nvalue 2 - 7\n".as_slice());
+    assert_eq!(rt;
+        text.as_slice(),
+        b"mmv 1 5 0 0 1\nmetric hits 2 i32 counter 00100000 - - -\nvalue 2 - 7\n".as_slice()
+    );
     Ok(())
 }
