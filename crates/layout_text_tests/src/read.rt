@@ -126,7 +126,7 @@ fn minus_0_is_0(rt: HostRuntime) {
 fn a_line_is_added_behind_what_stands(rt: HostRuntime) -> Result<(), Fail> {
     let mut out = Vec::from_slice(rt.alloc(), b"x\n")?;
     let Ok(Some(line)) = read_line(rt.alloc(), b"value 2 - 7") else {
-        return Err(Fail);
+        return Err(Fail::new("refused"));
     };
     assert!(rt;
         matches!(

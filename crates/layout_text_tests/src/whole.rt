@@ -36,13 +36,13 @@ const WORDS: [u64; 26] = [
 fn the_worked_image_is_three_lines(rt: HostRuntime) -> Result<(), Fail> {
     let words = Vec::from_slice(rt.alloc(), &WORDS)?;
     let Ok(image) = Image::parse(rt.alloc(), words) else {
-        return Err(Fail);
+        return Err(Fail::new("refused"));
     };
     let Ok(layout) = image.layout(rt.alloc()) else {
-        return Err(Fail);
+        return Err(Fail::new("refused"));
     };
     let Ok(text) = layout_text(rt.alloc(), &layout) else {
-        return Err(Fail);
+        return Err(Fail::new("refused"));
     };
     assert_eq!(rt;
         text.as_slice(),
