@@ -1,5 +1,5 @@
 //! The lines of layout text, in which an image of memory mapped values (mmv(5)) is written down: reads a line, or
-//! tells that it is none, and writes each line in its one spelling. The laws say that what is written is read again.
+//! tells that it is none, and writes each line, and a whole layout, in its one spelling.
 #![tactic(auto)]
 
 mod content;
