@@ -1,0 +1,4 @@
+pub mod Bytes
+pub mod Dumps
+pub mod FaultLines
+pub mod Laws
