@@ -1,38 +1,15 @@
--- Images of version 1 (mmv(5)), those of the first form, and what one of these says.
-use Rattle.std.specs.Prelude.{ℕ, negsuc, ◌+◌, ◌/◌, ◌%◌, Bool, not, ◌&&◌, ◌==◌, nat_le, IsTrue, List, length, None, unwrap_or}
+-- Images of the first form (mmv(5), version 1): those of one plain metric and one value, and what one of these says.
+use Rattle.std.specs.Prelude.{ℕ, ◌+◌, ◌%◌, Bool, ◌&&◌, ◌==◌, nat_le, IsTrue, List, None, unwrap_or}
 use Rattle.pcp_base.specs.Codes.{kind_of_code, semantics_of_code}
 use Rattle.pcp_base.specs.declared.kind.Kind.{Kind}
 use Rattle.pcp_base.specs.declared.kind.Kind.TheVariants.{I32}
 use Rattle.pcp_base.specs.declared.kind.Semantics.{Semantics}
 use Rattle.pcp_base.specs.declared.kind.Semantics.TheVariants.{Counter}
+use Rattle.mmv_entries.specs.Fields.{number32, number64, text_at}
+use Rattle.mmv_entries.specs.Contents.{flags_in}
+use Rattle.mmv_entries.specs.Entries.{metric_count, metric_at, value_count, value_at, is_no_domain}
+use Rattle.mmv_entries.specs.Images.{is_image}
 use Rattle.mmv_layout.specs.declared.rows.MetricRow.{MetricRow}
-use Rattle.mmv_layout.specs.declared.rows.Slot.{Slot}
-use Rattle.mmv_layout.specs.Fields.{number32, number64, text_at}
-use Rattle.mmv_layout.specs.Contents.{bytes_in, has_magic, version_in, first_generation, second_generation, flags_in, cluster_in, is_short, sections_are_good, sections_are_aligned}
-use Rattle.mmv_layout.specs.Entries.{metric_count, metric_at, value_count, value_at, is_no_domain, indoms_are_good, instances_are_good, metrics_are_good, values_are_good, strings_are_good}
-
--- more than 65,536 words are the fault TooLarge
-abbrev pub is_too_large : List ℕ → Bool
-is_too_large words = not (nat_le (length words) 65536)
-
--- a cluster above 4095 is the fault Serial, at the cluster
-abbrev pub is_cluster : ℕ → Bool
-is_cluster cluster = nat_le cluster 4095
-
--- the header of an image of version 1: no fault Short, TooLarge, Magic, Version, Generations, and no such cluster
-unfoldable pub has_good_header : List ℕ → Bool
-has_good_header words =
-    not (is_short (bytes_in words)) && not (is_too_large words) && has_magic words && version_in words == 1
-    && first_generation words == second_generation words && is_cluster (cluster_in words)
-
--- an image of version 1: no fault is there
-unfoldable pub is_image : List ℕ → Bool
-is_image words =
-    has_good_header words && sections_are_good words && sections_are_aligned words && indoms_are_good words
-    && instances_are_good words && metrics_are_good words && values_are_good words && strings_are_good words
-
-abbrev pub IsImage : List ℕ → Type 0
-IsImage words = IsTrue (is_image words)
 
 -- the metric at a place has the type of I32 or U32, no domain and no help
 unfoldable pub is_plain_metric : List ℕ → ℕ → Bool

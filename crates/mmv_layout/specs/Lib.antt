@@ -1,13 +1,5 @@
-pub mod Below
-pub mod Contents
-pub mod Entries
-pub mod Faults
-pub mod Fields
 pub mod FirstForm
 pub mod Form
-pub mod Keys
-pub mod Laws
-pub mod Lowest
 pub mod Rows
 pub mod Says
 pub mod ShapeLaws

@@ -11,9 +11,9 @@ use Rattle.mmv_layout.specs.declared.rows.ValueRow.{ValueRow}
 use Rattle.mmv_layout.specs.declared.rows.Content.{Content}
 use Rattle.mmv_layout.specs.declared.rows.Content.TheVariants.{Number, Choice, Raw}
 use Rattle.mmv_layout.specs.declared.rows.Layout.{Layout}
-use Rattle.mmv_layout.specs.Fields.{number32, number64, text_at}
-use Rattle.mmv_layout.specs.Contents.{version_in, first_generation, flags_in, cluster_in}
-use Rattle.mmv_layout.specs.Entries.{indom_count, indom_at, metric_count, metric_at, value_count, value_at, string_count, string_at, is_no_domain, metric_of}
+use Rattle.mmv_entries.specs.Fields.{number32, number64, text_at}
+use Rattle.mmv_entries.specs.Contents.{version_in, first_generation, flags_in, cluster_in}
+use Rattle.mmv_entries.specs.Entries.{indom_count, indom_at, metric_count, metric_at, value_count, value_at, string_count, string_at, is_no_domain, metric_of}
 
 -- what a function gives for each number below n, in order
 unfoldable pub list_below : {X : Type 0} → ℕ → (ℕ → X) → List X

@@ -1,17 +1,15 @@
 ghost use Rattle.std.specs.Prelude.{◌≡◌, ◌<◌, ◌^◌, IfOk};
-ghost use Rattle.mmv_layout.specs.FirstForm.{IsImage};
+ghost use Rattle.mmv_entries.specs.Images.{IsImage};
 ghost use Rattle.mmv_layout.specs.Says.{Says};
-ghost use Rattle.mmv_layout.specs.Fields.{text_at};
+ghost use Rattle.mmv_entries.specs.Fields.{text_at};
 ghost use Rattle.mmv_layout.specs.Rows.{signed32, help_of, instance_row, instances_of, indom_row, serial_of, metric_row, instance_of, content_of, value_row, indoms_of, metrics_of, values_of, strings_of, layout_of};
 
-use crate::contents::{INSTANCE_SIZE, STRING_SIZE};
-use crate::entries::{indom_at, metric_at, string_at, value_at};
-use crate::fields::{NAME_SIZE, number32, number64, text_at};
-use crate::indoms::indom_count;
-use crate::instances::string_count;
-use crate::metrics::{is_no_domain, metric_count};
 use crate::rows::{Content, IndomRow, Layout, MetricRow, ValueRow};
-use crate::values::{metric_of, value_count};
+use mmv_entries::{
+    INSTANCE_SIZE, NAME_SIZE, STRING_SIZE, indom_at, indom_count, is_no_domain, metric_at,
+    metric_count, metric_of, number32, number64, string_at, string_count, text_at, value_at,
+    value_count,
+};
 use pcp_base::{Kind, List, NoMemory, Semantics, Text, TextError, Units};
 use std::alloc::Global;
 

@@ -5,13 +5,13 @@ use Rattle.std.specs.Int.{w32, cast_unsigned}
 use Rattle.std.specs.Ordering.{int_eq}
 use Rattle.std.proofs.lemmas.Bool.{eq-eqb, eqb-true, eqb-false, cases_lt}
 use Rattle.std.proofs.lemmas.Bool.Decides.{nat_tests}
-use Rattle.mmv_layout.specs.Below.{all_below}
-use Rattle.mmv_layout.specs.Fields.{number32, number64, byte_at, text_at, has_zero, same_name, first_words}
-use Rattle.mmv_layout.specs.Contents.{section_of}
-use Rattle.mmv_layout.specs.Entries.{leads, indom_at, instance_at, indom_count, instance_count, leads_to_indom, leads_to_instance, help_leads, is_instance_of, has_good_run, has_serial, is_new_indom, is_serial, is_good_indom, has_text, lies_in_run, is_same_instance, is_new_instance, is_instance_number, is_good_instance, indoms_are_good, instances_are_good}
+use Rattle.mmv_entries.specs.Below.{all_below}
+use Rattle.mmv_entries.specs.Fields.{number32, number64, byte_at, text_at, has_zero, same_name, first_words}
+use Rattle.mmv_entries.specs.Contents.{section_of}
+use Rattle.mmv_entries.specs.Entries.{leads, indom_at, instance_at, indom_count, instance_count, leads_to_indom, leads_to_instance, help_leads, is_instance_of, has_good_run, has_serial, is_new_indom, is_serial, is_good_indom, has_text, lies_in_run, is_same_instance, is_new_instance, is_instance_number, is_good_instance, indoms_are_good, instances_are_good}
 use Rattle.mmv_layout.specs.declared.rows.IndomRow.{IndomRow}
 use Rattle.mmv_layout.specs.declared.rows.Layout.{Layout}
-use Rattle.mmv_layout.proofs.Below.{both_left, both_right}
+use Rattle.mmv_entries.proofs.Below.{both_left, both_right}
 use Rattle.mmv_writer.specs.Draft.{Each, Apart, IsDomain, IsInstance, IsNumber, IsStored, is_same_serial, IsDraft}
 use Rattle.mmv_writer.specs.Places.{instances_in, counts_of, sections_in, places_of, words_in}
 use Rattle.mmv_writer.specs.Spelling.{halves, help_place, domain_of, domain_place, domain_words, instance_words, spelled, first_instance}

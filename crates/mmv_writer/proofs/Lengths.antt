@@ -3,7 +3,7 @@ use Rattle.std.proofs.Common.{◌≡◌, ℕ, zero, suc, ◌+◌, ◌*◌, ◌<�
 use Rattle.std.specs.List.{flat_map}
 use Rattle.std.proofs.lemmas.List.Sums.{sum_by-cons}
 use Rattle.std.proofs.lemmas.Bool.Decides.{nat_tests}
-use Rattle.mmv_layout.specs.Fields.{first_words}
+use Rattle.mmv_entries.specs.Fields.{first_words}
 use Rattle.mmv_layout.specs.declared.rows.IndomRow.{IndomRow}
 use Rattle.mmv_layout.specs.declared.rows.MetricRow.{MetricRow}
 use Rattle.mmv_layout.specs.declared.rows.ValueRow.{ValueRow}

@@ -5,11 +5,11 @@ use Rattle.std.specs.Int.{w32, cast_unsigned}
 use Rattle.std.proofs.lemmas.Bool.{eq-eqb, eqb-true}
 use Rattle.std.proofs.lemmas.Bool.Decides.{nat_tests}
 use Rattle.pcp_base.specs.Codes.{code_of_kind, code_of_semantics}
-use Rattle.mmv_layout.specs.Fields.{number32, number64, first_words}
-use Rattle.mmv_layout.specs.Contents.{section_of}
-use Rattle.mmv_layout.specs.Entries.{leads, indom_at, instance_at, metric_at, value_at, string_at, leads_to_indom, leads_to_instance, leads_to_metric, leads_to_string, help_leads}
-use Rattle.mmv_layout.proofs.Below.{some_holds, both_left, both_right}
-use Rattle.mmv_layout.specs.declared.contents.Section.{Section}
+use Rattle.mmv_entries.specs.Fields.{number32, number64, first_words}
+use Rattle.mmv_entries.specs.Contents.{section_of}
+use Rattle.mmv_entries.specs.Entries.{leads, indom_at, instance_at, metric_at, value_at, string_at, leads_to_indom, leads_to_instance, leads_to_metric, leads_to_string, help_leads}
+use Rattle.mmv_entries.proofs.Below.{some_holds, both_left, both_right}
+use Rattle.mmv_entries.specs.declared.contents.Section.{Section}
 use Rattle.mmv_layout.specs.declared.rows.IndomRow.{IndomRow}
 use Rattle.mmv_layout.specs.declared.rows.MetricRow.{MetricRow}
 use Rattle.mmv_layout.specs.declared.rows.ValueRow.{ValueRow}

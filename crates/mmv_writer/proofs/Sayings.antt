@@ -9,19 +9,19 @@ use Rattle.std.proofs.lemmas.Bool.Decides.{nat_tests}
 use Rattle.pcp_base.specs.Codes.{code_of_kind, code_of_semantics}
 use Rattle.pcp_base.specs.declared.kind.Kind.{Kind}
 use Rattle.pcp_base.specs.declared.kind.Kind.TheVariants as kinds
-use Rattle.mmv_layout.specs.Fields.{number32, number64, text_at, first_words}
-use Rattle.mmv_layout.specs.Contents.{section_of}
-use Rattle.mmv_layout.specs.Entries.{indom_at, instance_count, instance_at, metric_count, metric_at, value_at, string_count, string_at, metric_of}
+use Rattle.mmv_entries.specs.Fields.{number32, number64, text_at, first_words}
+use Rattle.mmv_entries.specs.Contents.{section_of}
+use Rattle.mmv_entries.specs.Entries.{indom_at, instance_count, instance_at, metric_count, metric_at, value_at, string_count, string_at, metric_of}
 use Rattle.mmv_layout.specs.Says.{EachAt, InSection, LeadsTo, StringAt, HelpAt, InstanceAt, IndomAt, IsNull, IsNamed, SerialIs, MetricAt, InstanceOf, ContentAt, ValueAt, TextAt, Says}
 use Rattle.mmv_layout.specs.Rows as rows
-use Rattle.mmv_layout.specs.declared.contents.Section.{Section}
+use Rattle.mmv_entries.specs.declared.contents.Section.{Section}
 use Rattle.mmv_layout.specs.declared.rows.IndomRow.{IndomRow}
 use Rattle.mmv_layout.specs.declared.rows.MetricRow.{MetricRow}
 use Rattle.mmv_layout.specs.declared.rows.ValueRow.{ValueRow}
 use Rattle.mmv_layout.specs.declared.rows.Content.{Content}
 use Rattle.mmv_layout.specs.declared.rows.Content.TheVariants.{Number, Choice, Raw}
 use Rattle.mmv_layout.specs.declared.rows.Layout.{Layout}
-use Rattle.mmv_layout.proofs.Below.{both_left, both_right}
+use Rattle.mmv_entries.proofs.Below.{both_left, both_right}
 use Rattle.mmv_writer.specs.Rules.{fits_instance, fits_kind, fits_metric}
 use Rattle.mmv_writer.specs.Draft.{Each, IsString, IsDomain, IsInstance, HasDomain, IsMetric, IsDraft}
 use Rattle.mmv_writer.specs.Places.{instances_in, counts_of, sections_in, words_in}

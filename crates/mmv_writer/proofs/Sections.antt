@@ -3,10 +3,10 @@ use Rattle.std.proofs.Common.{◌≡◌, ◌≢◌, ℕ, zero, suc, ◌+◌, ◌
 use Rattle.std.specs.List.{slice_get, flat_map}
 use Rattle.std.proofs.lemmas.Bool.{eq-eqb, eqb-true, eqb-false, cases_lt}
 use Rattle.std.proofs.lemmas.Bool.Decides.{nat_tests}
-use Rattle.mmv_layout.specs.Below.{all_below, some_below}
-use Rattle.mmv_layout.specs.Fields.{number32, number64}
-use Rattle.mmv_layout.specs.Contents.{bytes_in, contents_in, type_in, count_in, place_in, section_bytes, end_in, entry_lies, is_type, section_lies, are_apart, is_first_of_type, has_good_section, is_aligned, sections_are_good, sections_are_aligned, find_section, section_of}
-use Rattle.mmv_layout.specs.declared.contents.Section.{Section}
+use Rattle.mmv_entries.specs.Below.{all_below, some_below}
+use Rattle.mmv_entries.specs.Fields.{number32, number64}
+use Rattle.mmv_entries.specs.Contents.{bytes_in, contents_in, type_in, count_in, place_in, section_bytes, end_in, entry_lies, is_type, section_lies, are_apart, is_first_of_type, has_good_section, is_aligned, sections_are_good, sections_are_aligned, find_section, section_of}
+use Rattle.mmv_entries.specs.declared.contents.Section.{Section}
 use Rattle.mmv_writer.specs.Spelling.{halves, entry_words}
 use Rattle.mmv_writer.proofs.Rows.{get_below}
 use Rattle.mmv_writer.proofs.Standing.{Stands, stands_left, stands_right, stands_entry, word_read, low_read, high_read}

@@ -4,8 +4,8 @@ use Rattle.std.specs.List.{slice_get, flat_map}
 use Rattle.std.proofs.lemmas.List.Concat.{flat_map-append}
 use Rattle.std.proofs.lemmas.Bool.{eqb-true}
 use Rattle.std.proofs.lemmas.Bool.Decides.{nat_tests}
-use Rattle.mmv_layout.specs.Contents.{bytes_in, contents_in, type_in, count_in, place_in, section_bytes, section_of, sections_are_good, sections_are_aligned}
-use Rattle.mmv_layout.specs.declared.contents.Section.{Section}
+use Rattle.mmv_entries.specs.Contents.{bytes_in, contents_in, type_in, count_in, place_in, section_bytes, section_of, sections_are_good, sections_are_aligned}
+use Rattle.mmv_entries.specs.declared.contents.Section.{Section}
 use Rattle.mmv_layout.specs.declared.rows.Layout.{Layout}
 use Rattle.mmv_writer.specs.declared.places.Counts.{Counts}
 use Rattle.mmv_writer.specs.declared.places.Places.{Places}

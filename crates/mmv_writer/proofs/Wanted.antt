@@ -8,7 +8,7 @@ use Rattle.mmv_layout.specs.declared.rows.ValueRow.{ValueRow}
 use Rattle.mmv_layout.specs.declared.rows.Content.{Content}
 use Rattle.mmv_layout.specs.declared.rows.Content.TheVariants.{Number, Choice, Raw}
 use Rattle.mmv_layout.specs.declared.rows.Layout.{Layout}
-use Rattle.mmv_layout.proofs.Below.{both_left, both_right}
+use Rattle.mmv_entries.proofs.Below.{both_left, both_right}
 use Rattle.mmv_writer.specs.Draft.{Each, IsString, IsHelp, IsContent, IsDraft}
 use Rattle.mmv_writer.specs.Spelling.{texts_of, texts_in, wanted, with_missing, all_strings}
 use Rattle.mmv_writer.proofs.Rows.{any_longer, each_snoc}

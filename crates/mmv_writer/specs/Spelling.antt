@@ -5,7 +5,7 @@ use Rattle.std.specs.List.{list_any, position_or_len, flat_map}
 use Rattle.std.specs.Int.{w32, cast_unsigned}
 use Rattle.std.specs.Ordering.{int_eq}
 use Rattle.pcp_base.specs.Codes.{code_of_kind, code_of_semantics}
-use Rattle.mmv_layout.specs.Fields.{first_words}
+use Rattle.mmv_entries.specs.Fields.{first_words}
 use Rattle.mmv_layout.specs.declared.rows.IndomRow.{IndomRow}
 use Rattle.mmv_layout.specs.declared.rows.MetricRow.{MetricRow}
 use Rattle.mmv_layout.specs.declared.rows.ValueRow.{ValueRow}

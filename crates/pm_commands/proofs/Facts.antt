@@ -1,8 +1,8 @@
 -- Each fact on a status follows from how the call ends, by cases on the refusal.
 use Rattle.std.proofs.Common.{◌≡◌, ◌⊎◌, inl, inr, ⊎_elim, ℕ, ◌<◌, ◌≤◌, List, [], length, drop, refl, sym, ap, ◌∙◌, subst, arith, true, false, Ok, Err}
 use Rattle.pcp_model.specs.Disk.{contents_of, IsEmpty, IsSettled}
-use Rattle.mmv_layout.specs.declared.fault.ImageFault.{ImageFault}
-use Rattle.mmv_layout.specs.Faults.{image_of}
+use Rattle.mmv_entries.specs.declared.fault.ImageFault.{ImageFault}
+use Rattle.mmv_entries.specs.Faults.{image_of}
 use Rattle.mmv_layout.specs.FirstForm.{is_first_form}
 use Rattle.pcp_outside.specs.Causes.{Rose}
 use Rattle.pm_commands.specs.declared.words.Command.TheVariants.{Once}

@@ -6,8 +6,8 @@ use Rattle.pcp_base.specs.declared.file.FileId.{FileId}
 use Rattle.pcp_model.specs.Archive.{Reading, Reads, scan, records_in}
 use Rattle.pcp_model.specs.Described.{Described}
 use Rattle.pcp_model.specs.Disk.{Files, Holdings, contents_of, CrashImage, IsEmpty}
-use Rattle.mmv_layout.specs.declared.fault.ImageFault.{ImageFault}
-use Rattle.mmv_layout.specs.Faults.{image_of}
+use Rattle.mmv_entries.specs.declared.fault.ImageFault.{ImageFault}
+use Rattle.mmv_entries.specs.Faults.{image_of}
 use Rattle.pcp_outside.specs.Causes.{Rose}
 use Rattle.pm_commands.specs.declared.words.Command.TheVariants.{Once}
 use Rattle.pm_commands.specs.declared.words.OnceWords.{OnceWords}

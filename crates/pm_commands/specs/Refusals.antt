@@ -1,8 +1,8 @@
 -- How a command that is refused ends: its status and its last line.
 use Rattle.std.specs.Prelude.{◌≡◌, ◌⊎◌, ℕ, List, [], ◌∷◌, ◌++◌, take, Option, Some, None, unwrap_or, codes}
 use Rattle.std.specs.Fmt.{decimal}
-use Rattle.mmv_layout.specs.declared.fault.ImageFault.{ImageFault}
-use Rattle.mmv_layout.specs.declared.fault.ImageFault.TheVariants as faults
+use Rattle.mmv_entries.specs.declared.fault.ImageFault.{ImageFault}
+use Rattle.mmv_entries.specs.declared.fault.ImageFault.TheVariants as faults
 use Rattle.pcp_outside.specs.Causes.{Rose}
 use Rattle.pm_commands.specs.declared.refusal.Refusal.{Refusal}
 use Rattle.pm_commands.specs.declared.refusal.Refusal.TheVariants.{Usage, ReadFault, InputLimit, Image, LaterImage, LaterDisk, DiskFault, NoMemory}

@@ -5,13 +5,13 @@ use Rattle.std.specs.Int.{w64, to_le_bytes}
 use Rattle.std.specs.List.{flat_map, AllByRecursion}
 use Rattle.std.proofs.lemmas.List.Elements.{recursion_from_All}
 use Rattle.std.proofs.lemmas.Nat.{from_le_bytes-to_le_bytes_8}
-use Rattle.mmv_layout.specs.declared.fault.ImageFault.{ImageFault}
-use Rattle.mmv_layout.specs.declared.fault.ImageFault.TheVariants.{Short}
-use Rattle.mmv_layout.specs.Fields.{first_words, words_of}
-use Rattle.mmv_layout.specs.Faults.{image_of, image_in, image_fault, unless_fault}
-use Rattle.mmv_layout.specs.Contents.{is_short}
-use Rattle.mmv_layout.specs.FirstForm.{IsImage}
-use Rattle.mmv_layout.proofs.Images.{images_same, at_least_five, short_words}
+use Rattle.mmv_entries.specs.declared.fault.ImageFault.{ImageFault}
+use Rattle.mmv_entries.specs.declared.fault.ImageFault.TheVariants.{Short}
+use Rattle.mmv_entries.specs.Fields.{first_words, words_of}
+use Rattle.mmv_entries.specs.Faults.{image_of, image_in, image_fault, unless_fault}
+use Rattle.mmv_entries.specs.Contents.{is_short}
+use Rattle.mmv_entries.specs.Images.{IsImage}
+use Rattle.mmv_entries.proofs.Images.{images_same, at_least_five, short_words}
 use Rattle.pm_print.specs.Bytes.{bytes_of}
 use Rattle.pm_print.specs.Laws.{BytesAreTheImage}
 

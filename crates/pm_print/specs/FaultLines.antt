@@ -1,8 +1,8 @@
 -- The line of each fault of an input: its name and its fields.
 use Rattle.std.specs.Prelude.{ℕ, List, [], ◌∷◌, ◌++◌, codes}
 use Rattle.std.specs.Fmt.{decimal}
-use Rattle.mmv_layout.specs.declared.fault.ImageFault.{ImageFault}
-use Rattle.mmv_layout.specs.declared.fault.ImageFault.TheVariants as faults
+use Rattle.mmv_entries.specs.declared.fault.ImageFault.{ImageFault}
+use Rattle.mmv_entries.specs.declared.fault.ImageFault.TheVariants as faults
 
 -- the line of an image's fault. Want of memory is no fault of an image.
 unfoldable pub image_line : ImageFault → List ℕ

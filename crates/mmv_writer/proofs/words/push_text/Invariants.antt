@@ -1,6 +1,6 @@
 -- The words so far and those of the bytes behind are all.
 use Rattle.std.proofs.Common.{◌≡◌, ◌*◌, ◌-◌, ◌++◌, drop}
-use Rattle.mmv_layout.specs.Fields.{first_words}
+use Rattle.mmv_entries.specs.Fields.{first_words}
 use Rattle.mmv_writer.proofs.words.push_text.Given as goal
 
 abbrev pub invariant-loop-k : goal.invariant-loop-k

@@ -1,0 +1,11 @@
+pub mod Again
+pub mod Below
+pub mod Bytes
+pub mod Images
+pub mod Leads
+pub mod Lies
+pub mod Lowest
+pub mod Nones
+pub mod Sections
+pub mod Seen
+pub mod Texts

@@ -1,0 +1,9 @@
+pub mod Below
+pub mod Contents
+pub mod Entries
+pub mod Faults
+pub mod Fields
+pub mod Images
+pub mod Keys
+pub mod Laws
+pub mod Lowest
