@@ -8,3 +8,4 @@ pub mod Texts
 pub mod Facts
 pub mod Wholes
 pub mod Moments
+pub mod Served

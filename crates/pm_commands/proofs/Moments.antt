@@ -1,13 +1,16 @@
 -- What each moment of a call leaves, over an empty disk.
-use Rattle.std.proofs.Common.{◌≡◌, inl, inr, ⊎_elim, ℕ, List, [], ◌∷◌, ◌++◌, take, refl, ap, ◌∙◌, arith}
+use Rattle.std.proofs.Common.{◌≡◌, inl, inr, ⊎_elim, ℕ, List, [], ◌∷◌, ◌++◌, take, refl, sym, ap, ◌∙◌, subst, arith, Ok}
 use Rattle.std.proofs.lemmas.List.{take_all}
 use Rattle.pcp_base.specs.declared.file.FileId.TheVariants.{Meta, Index, Volume}
 use Rattle.pcp_model.specs.Archive.{Reading, scan, records_in}
 use Rattle.pcp_model.specs.Described.{Described}
 use Rattle.pcp_model.specs.Disk.{Files, Held, Holdings, CrashImage, IsEmpty, contents_of}
-use Rattle.pm_commands.specs.Ends.{SourceSide, SinkSide, DiskSide, MayLeaveAny, Ends, EndsDone, item_of}
+use Rattle.pm_commands.specs.declared.words.Command.{Command}
+use Rattle.pm_commands.specs.declared.words.Command.TheVariants.{Once, MmvMake, MmvDump}
+use Rattle.pm_commands.specs.declared.words.OnceWords.{OnceWords}
+use Rattle.pm_commands.specs.CommandLine.{command_of}
+use Rattle.pm_commands.specs.Ends.{SourceSide, SinkSide, DiskSide, IsOnce, IsImageInput, IsLogged, HasDone, MayLeave, MayLeaveAny, Ends, EndsDone, item_of}
 use Rattle.pm_commands.specs.Facts.{LeavesNoneOrOne, Keeps}
-use Rattle.pm_commands.specs.Pieces.{NoneOrOne}
 use Rattle.pm_commands.proofs.Facts.{is_done}
 use Rattle.pm_commands.proofs.Looks.{holds_nothing}
 
@@ -23,26 +26,37 @@ nothing_left words input image empty = record {
   found = inl refl;
 }
 
-pub leaves : (words : List (List ℕ)) (reads : Type 0) (input : List ℕ) (held : Holdings) → reads → IsEmpty (contents_of held) → (image : Files) → MayLeaveAny words reads input held image → LeavesNoneOrOne words input image
-leaves words reads input held tells empty image (inl was) = nothing_left words input image (left_empty held image empty was)
-leaves words reads input held tells empty image (inr (asked, words_are, inl was)) = nothing_left words input image (left_empty held image empty was)
-leaves words reads input held tells empty image (inr (asked, words_are, inr (none, made))) =
-    let one : NoneOrOne image (item_of asked (made tells).0) = (made tells).2 in
-    record {
-      reading = one.reading;
-      reads = one.reads;
-      found = ⊎_elim (λ (nothing : scan one.reading ≡ []). inl nothing)
-          (λ (some : (scan one.reading ≡ item_of asked (made tells).0 ∷ []) × Described (records_in one.reading) (item_of asked (made tells).0)).
-          inr (item_of asked (made tells).0, record { asked = asked; words_are = words_are; image = (made tells).0; input_is = (made tells).1; is = refl }, some.0, some.1))
-          one.found;
-    }
+-- a moment of a command whose input is all that the source had
+left_by : (words : List (List ℕ)) (left input : List ℕ) (held : Holdings) (command : Command) → command_of words ≡ Ok command → input ≡ left → IsEmpty (contents_of held) → (crash : Files) → MayLeave command input held crash → LeavesNoneOrOne words left crash
+left_by words left input held (Once asked) are all empty crash (inl was) = nothing_left words left crash (left_empty held crash empty was)
+left_by words left input held (Once asked) are all empty crash (inr (none, image, is, one)) = record {
+  reading = one.reading;
+  reads = one.reads;
+  found = ⊎_elim (λ (nothing : scan one.reading ≡ []). inl nothing)
+      (λ (some : (scan one.reading ≡ item_of asked image ∷ []) × Described (records_in one.reading) (item_of asked image)).
+      inr (item_of asked image, record { asked = asked; words_are = are; image = image; input_is = subst (λ bytes. IsImageInput bytes image) all is; is = refl }, some.0, some.1))
+      one.found;
+}
+left_by words left input held MmvMake are all empty crash was = nothing_left words left crash (left_empty held crash empty was)
+left_by words left input held MmvDump are all empty crash was = nothing_left words left crash (left_empty held crash empty was)
 
--- where the status is 0, the item stays
-pub keeps : (words : List (List ℕ)) (s : SourceSide) (k : SinkSide) (d : DiskSide) (status : ℕ) → Ends words s k d status → status ≡ 0 → s.tells → d.tells → Keeps words s.left d.after
-keeps words s k d status ends zero reads holds =
+pub leaves : (words : List (List ℕ)) (s : SourceSide) (held : Holdings) → s.tells → IsEmpty (contents_of held) → (crash : Files) → MayLeaveAny words s held crash → LeavesNoneOrOne words s.left crash
+leaves words s held tells empty crash (inl was) = nothing_left words s.left crash (left_empty held crash empty was)
+leaves words s held tells empty crash (inr (command, are, input, read, may)) = left_by words s.left input held command are (read.told tells).0 empty crash may
+
+-- where `once` is done, the item stays
+kept_by : (words : List (List ℕ)) (left input : List ℕ) (d : DiskSide) (asked : OnceWords) → command_of words ≡ Ok (Once asked) → input ≡ left → IsLogged asked input d → d.tells → Keeps words left d.after
+kept_by words left input d asked are all logged holds = record {
+  item = item_of asked logged.image;
+  is_asked = record { asked = asked; words_are = are; image = logged.image; input_is = subst (λ bytes. IsImageInput bytes logged.image) all logged.is_image; is = refl };
+  each = logged.kept holds;
+}
+
+pub keeps : (words : List (List ℕ)) (s : SourceSide) (k : SinkSide) (d : DiskSide) (status : ℕ) → Ends words s k d status → status ≡ 0 → IsOnce words → s.tells → d.tells → Keeps words s.left d.after
+keeps words s k d status ends zero (asked, are) reads holds =
     let done : EndsDone words s k d = is_done words s k d status ends zero in
-    record {
-      item = item_of done.asked (done.logged.kept reads holds).0;
-      is_asked = record { asked = done.asked; words_are = done.words_are; image = (done.logged.kept reads holds).0; input_is = (done.logged.kept reads holds).1.image; is = refl };
-      each = (done.logged.kept reads holds).2;
-    }
+    let same : done.command ≡ Once asked = same_command done.words_are are in
+    kept_by words s.left done.input d asked are (done.read.told reads).0 (subst (λ command. HasDone command done.input d) same done.done) holds
+  where
+    same_command : {a b : Command} → command_of words ≡ Ok a → command_of words ≡ Ok b → a ≡ b
+    same_command {a} {b} is other = let e : Ok a ≡ Ok b = sym is ∙ other in cc

@@ -4,7 +4,7 @@ use Rattle.std.specs.List.{list_all}
 use Rattle.pcp_base.specs.Names.{is_letter, is_name_byte}
 use Rattle.pm_commands.specs.Numbers.{number_of}
 use Rattle.pm_commands.specs.declared.words.Command.{Command}
-use Rattle.pm_commands.specs.declared.words.Command.TheVariants.{Once}
+use Rattle.pm_commands.specs.declared.words.Command.TheVariants.{Once, MmvMake, MmvDump}
 use Rattle.pm_commands.specs.declared.words.WordsFault.{WordsFault}
 use Rattle.pm_commands.specs.declared.words.WordsFault.TheVariants.{Usage, NoMemory}
 
@@ -55,7 +55,10 @@ once_of words = do
 -- The command, or the index of the first word that is bad or missing. A command that isn't known is bad at 0.
 abbrev pub command_of : List (List ℕ) → Result Command ℕ
 command_of [] = Err 0
-command_of (word ∷ words) = if bytes_eq word (codes "once") then once_of words else Err 0
+command_of (word ∷ words) =
+    if bytes_eq word (codes "once") then once_of words else
+    if bytes_eq word (codes "mmv-make") then end_then MmvMake 1 words else
+    if bytes_eq word (codes "mmv-dump") then end_then MmvDump 1 words else Err 0
 
 -- what a function over words answered, seen by view, is what the definition says
 abbrev pub Gives : {X Y : Type 0} → (X → Y) → Result X ℕ → Result Y ℕ → Type 0
@@ -71,3 +74,5 @@ Reads (Err NoMemory) read = Unit {0}
 -- what the words of a command promise of it
 abbrev pub FitsCommand : Command → Type 0
 FitsCommand (Once asked) = length asked.file ≤ 63
+FitsCommand MmvMake = Unit {0}
+FitsCommand MmvDump = Unit {0}

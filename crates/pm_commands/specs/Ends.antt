@@ -1,6 +1,6 @@
--- How `once` ends: what it found outside, what it left, and for each refusal its cause. Causes are
--- cumulative: each says also that all that is looked at before it was good.
-use Rattle.std.specs.Prelude.{◌≡◌, ◌⊎◌, ℕ, ◌<◌, ◌≤◌, List, [], ◌++◌, length, take, drop, codes, true, false, Ok, Err}
+-- How a command ends: what it found outside, what it left, and for each refusal its cause. Causes are cumulative: each
+-- says also that all that is looked at before it was good.
+use Rattle.std.specs.Prelude.{◌≡◌, ◌⊎◌, ℕ, ◌<◌, ◌≤◌, List, [], ◌++◌, length, take, drop, codes, true, false, Option, Some, None, Ok, Err}
 use Rattle.pcp_base.specs.declared.file.FileId.{FileId}
 use Rattle.pcp_base.specs.declared.result.Item.{Item}
 use Rattle.pcp_base.specs.declared.result.Item.TheVariants.{Sample}
@@ -8,39 +8,19 @@ use Rattle.pcp_model.specs.Disk.{Files, Holdings, contents_of, CrashImage, IsEmp
 use Rattle.mmv_entries.specs.Faults.{image_of}
 use Rattle.mmv_layout.specs.FirstForm.{is_first_form}
 use Rattle.pcp_outside.specs.Causes.{Rose}
-use Rattle.pm_commands.specs.declared.words.Command.TheVariants.{Once}
+use Rattle.pm_commands.specs.declared.words.Command.{Command}
+use Rattle.pm_commands.specs.declared.words.Command.TheVariants.{Once, MmvMake, MmvDump}
 use Rattle.pm_commands.specs.declared.words.OnceWords.{OnceWords}
 use Rattle.pm_commands.specs.declared.refusal.Refusal.{Refusal}
-use Rattle.pm_commands.specs.declared.refusal.Refusal.TheVariants.{Usage, ReadFault, InputLimit, Image, LaterImage, LaterDisk, DiskFault, NoMemory}
+use Rattle.pm_commands.specs.declared.refusal.Refusal.TheVariants.{Usage, ReadFault, InputLimit, Image, Line, LaterImage, LaterDisk, DiskFault, NoMemory}
+use Rattle.pm_commands.specs.declared.inputs.Output.{Output}
+use Rattle.pm_commands.specs.declared.inputs.Output.TheVariants.{Logged, Made}
 use Rattle.pm_commands.specs.CommandLine.{command_of}
+use Rattle.pm_commands.specs.Inputs.{input_limit, refusal_of, output_of, uses_disk}
 use Rattle.pm_commands.specs.Once.{once_files, shown_result}
 use Rattle.pm_commands.specs.Pieces.{NoneOrOne, HasItem}
 use Rattle.pm_commands.specs.Refusals.{status_of, line_of, Wrote}
 use Rattle.pm_commands.specs.Shots.{shot_of}
-
--- An input is limited to 16 MiB.
-abbrev pub input_limit : ℕ
-input_limit = 16777216
-
--- the input is a first-form image of these words, within the limit
-pub record IsImageInput (input words : List ℕ) : Type 0 where
-  pub within : length input ≤ input_limit
-  pub image : image_of input ≡ Ok words
-  pub form : is_first_form words ≡ true
-
--- the input is an image of another form
-pub record IsLaterInput (input words : List ℕ) : Type 0 where
-  pub within : length input ≤ input_limit
-  pub image : image_of input ≡ Ok words
-  pub other : is_first_form words ≡ false
-
--- the words are a command `once`
-abbrev pub IsOnce : List (List ℕ) → Type 0
-IsOnce words = (asked : OnceWords) × (command_of words ≡ Ok (Once asked))
-
--- some file holds a byte
-abbrev pub HasByte : Files → Type 0
-HasByte files = (file : FileId) × (0 < length (files file))
 
 -- What a call found of a source and left of it, where it tells; and its count of faults before and after.
 pub record SourceSide : Type 1 where
@@ -66,32 +46,67 @@ pub record SinkSide : Type 1 where
   pub faults : ℕ
   pub faults_after : ℕ
 
--- the input is an image, and was read to its end
-pub record IsRead (s : SourceSide) (words : List ℕ) : Type 0 where
-  pub image : IsImageInput s.left words
-  pub all : s.after ≡ []
+-- Words
 
-abbrev pub WasRead : SourceSide → Type 0
-WasRead s = s.tells → (words : List ℕ) × IsRead s words
+-- the words are some command
+abbrev pub IsCommand : List (List ℕ) → Type 0
+IsCommand words = (command : Command) × (command_of words ≡ Ok command)
+
+-- the words are a command `once`
+abbrev pub IsOnce : List (List ℕ) → Type 0
+IsOnce words = (asked : OnceWords) × (command_of words ≡ Ok (Once asked))
+
+-- the words are a command that has nothing to do with the disk
+abbrev pub IsAside : List (List ℕ) → Type 0
+IsAside words = (command : Command) × (command_of words ≡ Ok command) × (uses_disk command ≡ false)
+
+-- Inputs
+
+-- an input of at most 16 MiB was read to its end, and where the source tells, it's all that the source had left
+pub record WasRead (s : SourceSide) (input : List ℕ) : Type 0 where
+  pub within : length input ≤ input_limit
+  pub told : s.tells → (input ≡ s.left) × (s.after ≡ [])
 
 -- a front of the input was taken, no byte behind the first above the limit
 abbrev pub TookSome : SourceSide → Type 0
 TookSome s = (n : ℕ) × (n ≤ 16777217) × (s.after ≡ drop n s.left)
 
--- why an input isn't run, and what was taken of it
-abbrev pub InputCause : SourceSide → Refusal → Type 0
-InputCause s ReadFault = Rose s.faults s.faults_after × (s.tells → TookSome s)
-InputCause s InputLimit = s.tells → (input_limit < length s.left) × (s.after ≡ drop 16777217 s.left)
-InputCause s (Image fault) = s.tells → (length s.left ≤ input_limit) × (image_of s.left ≡ Err fault) × (s.after ≡ [])
-InputCause s LaterImage = s.tells → (words : List ℕ) × IsLaterInput s.left words × (s.after ≡ [])
-InputCause s NoMemory = s.tells → TookSome s
-InputCause s (Usage at) = ⊥
-InputCause s LaterDisk = ⊥
-InputCause s DiskFault = ⊥
+-- why an input isn't read to its end, and what was taken of it
+abbrev pub ReadCause : SourceSide → Refusal → Type 0
+ReadCause s ReadFault = Rose s.faults s.faults_after × (s.tells → TookSome s)
+ReadCause s InputLimit = s.tells → (input_limit < length s.left) × (s.after ≡ drop 16777217 s.left)
+ReadCause s NoMemory = s.tells → TookSome s
+ReadCause s (Usage at) = ⊥
+ReadCause s (Image fault) = ⊥
+ReadCause s (Line fault) = ⊥
+ReadCause s LaterImage = ⊥
+ReadCause s LaterDisk = ⊥
+ReadCause s DiskFault = ⊥
+
+-- the words are a command, whose input was read to its end, and this is what the command says of it
+abbrev pub Finds : List (List ℕ) → SourceSide → Option Refusal → Type 0
+Finds words s found = (command : Command) × (command_of words ≡ Ok command) × (input : List ℕ) × WasRead s input × (refusal_of command input ≡ found)
+
+-- the words are a command that uses the disk, whose input was read to its end and is what the command reads
+abbrev pub GoesOn : List (List ℕ) → SourceSide → Type 0
+GoesOn words s =
+    (command : Command) × (command_of words ≡ Ok command) × (uses_disk command ≡ true) × (input : List ℕ) × WasRead s input × (refusal_of command input ≡ None)
+
+-- an input is an image of the first form of these words, within the limit
+pub record IsImageInput (input words : List ℕ) : Type 0 where
+  pub within : length input ≤ input_limit
+  pub image : image_of input ≡ Ok words
+  pub form : is_first_form words ≡ true
+
+-- Disks
 
 -- the disk holds what it held
 abbrev pub Untouched : DiskSide → Type 0
 Untouched d = d.tells → d.after ≡ d.held
+
+-- some file holds a byte
+abbrev pub HasByte : Files → Type 0
+HasByte files = (file : FileId) × (0 < length (files file))
 
 -- why a disk isn't written to the end; one that isn't empty stays as it was
 abbrev pub DiskCause : DiskSide → Refusal → Type 0
@@ -100,73 +115,99 @@ DiskCause d DiskFault = Rose d.faults d.faults_after
 DiskCause d ReadFault = ⊥
 DiskCause d InputLimit = ⊥
 DiskCause d (Image fault) = ⊥
+DiskCause d (Line fault) = ⊥
 DiskCause d LaterImage = ⊥
 DiskCause d NoMemory = ⊥
 DiskCause d (Usage at) = ⊥
 
--- why `once` is refused behind its words: the input is looked at before the disk
-abbrev pub OnceCause : SourceSide → DiskSide → Refusal → Type 0
-OnceCause s d ReadFault = InputCause s ReadFault × Untouched d
-OnceCause s d InputLimit = InputCause s InputLimit × Untouched d
-OnceCause s d (Image fault) = InputCause s (Image fault) × Untouched d
-OnceCause s d LaterImage = InputCause s LaterImage × Untouched d
-OnceCause s d NoMemory = InputCause s NoMemory × Untouched d
-OnceCause s d LaterDisk = WasRead s × DiskCause d LaterDisk
-OnceCause s d DiskFault = WasRead s × DiskCause d DiskFault
-OnceCause s d (Usage at) = ⊥
+-- Refusals
+
+-- Why a call is refused. The words are looked at first, then the input, then the disk. Want of memory may come at any
+-- place before the first write.
+abbrev pub Cause : List (List ℕ) → SourceSide → DiskSide → Refusal → Type 0
+Cause words s d (Usage at) = (command_of words ≡ Err at) × (s.tells → s.after ≡ s.left) × Untouched d
+Cause words s d NoMemory = ReadCause s NoMemory × Untouched d
+Cause words s d ReadFault = IsCommand words × ReadCause s ReadFault × Untouched d
+Cause words s d InputLimit = IsCommand words × ReadCause s InputLimit × Untouched d
+Cause words s d (Image fault) = Finds words s (Some (Image fault)) × Untouched d
+Cause words s d (Line fault) = Finds words s (Some (Line fault)) × Untouched d
+Cause words s d LaterImage = Finds words s (Some LaterImage) × Untouched d
+Cause words s d LaterDisk = GoesOn words s × DiskCause d LaterDisk
+Cause words s d DiskFault = GoesOn words s × DiskCause d DiskFault
+
+-- the same of a command whose input was read
+abbrev pub ServeCause : Command → List ℕ → DiskSide → Refusal → Type 0
+ServeCause command input d NoMemory = Untouched d
+ServeCause command input d (Image fault) = (refusal_of command input ≡ Some (Image fault)) × Untouched d
+ServeCause command input d (Line fault) = (refusal_of command input ≡ Some (Line fault)) × Untouched d
+ServeCause command input d LaterImage = (refusal_of command input ≡ Some LaterImage) × Untouched d
+ServeCause command input d LaterDisk = (uses_disk command ≡ true) × (refusal_of command input ≡ None) × DiskCause d LaterDisk
+ServeCause command input d DiskFault = (uses_disk command ≡ true) × (refusal_of command input ≡ None) × DiskCause d DiskFault
+ServeCause command input d (Usage at) = ⊥
+ServeCause command input d ReadFault = ⊥
+ServeCause command input d InputLimit = ⊥
+
+-- Done
 
 -- the item that a command logs of an image
 abbrev pub item_of : OnceWords → List ℕ → Item
 item_of asked image = Sample (shown_result asked.stamp (shot_of image))
 
--- What `once` has done where it is done: the disk was empty, and holds the archive of the image's result; all
--- but the index entry is sure, and each crash from then on leaves the item and its description.
-pub record IsLogged (asked : OnceWords) (s : SourceSide) (d : DiskSide) : Type 0 where
-  pub read : WasRead s
+-- What `once` has done with the image of its input where it is done: the disk was empty, and holds the archive of the
+-- image's result; all but the index entry is sure, and each crash from then on leaves the item and its description.
+pub record IsLogged (asked : OnceWords) (input : List ℕ) (d : DiskSide) : Type 0 where
+  pub image : List ℕ
+  pub is_image : IsImageInput input image
   pub empty : d.tells → IsEmpty (contents_of d.held)
-  pub files : s.tells → d.tells → (words : List ℕ) × IsRead s words × ((file : FileId) → contents_of d.after file ≡ once_files asked.stamp asked.file (shot_of words) file)
+  pub files : d.tells → (file : FileId) → contents_of d.after file ≡ once_files asked.stamp asked.file (shot_of image) file
   pub settled : d.tells → IsSettled d.after
-  pub kept : s.tells → d.tells → (words : List ℕ) × IsRead s words × ((image : Files) → CrashImage d.after image → HasItem image (item_of asked words))
+  pub kept : d.tells → (crash : Files) → CrashImage d.after crash → HasItem crash (item_of asked image)
 
--- What a crash may leave at any moment of it: what was there, or over an empty disk files that are readable, with
--- no item or with the one, and then its description.
-abbrev pub MayLeave : OnceWords → Type 0 → List ℕ → Holdings → Files → Type 0
-MayLeave asked reads left held image = CrashImage held image ⊎ (IsEmpty (contents_of held)
-    × (reads → (words : List ℕ) × IsImageInput left words × NoneOrOne image (item_of asked words)))
+-- what is written of an output
+abbrev pub shown : Output → List ℕ
+shown Logged = codes "logged 1\n"
+shown (Made bytes) = bytes
 
--- the same of any words: those that are no command leave what was there
-abbrev pub MayLeaveAny : List (List ℕ) → Type 0 → List ℕ → Holdings → Files → Type 0
-MayLeaveAny words reads left held image = CrashImage held image ⊎ ((asked : OnceWords) × (command_of words ≡ Ok (Once asked)) × MayLeave asked reads left held image)
+-- what a command has done to the disk
+abbrev pub HasDone : Command → List ℕ → DiskSide → Type 0
+HasDone (Once asked) input d = IsLogged asked input d
+HasDone MmvMake input d = Untouched d
+HasDone MmvDump input d = Untouched d
 
--- why a call is refused. Want of memory may come at any place before the first write.
-abbrev pub Cause : List (List ℕ) → SourceSide → DiskSide → Refusal → Type 0
-Cause words s d (Usage at) = (command_of words ≡ Err at) × (s.tells → s.after ≡ s.left) × Untouched d
-Cause words s d NoMemory = OnceCause s d NoMemory
-Cause words s d ReadFault = IsOnce words × OnceCause s d ReadFault
-Cause words s d InputLimit = IsOnce words × OnceCause s d InputLimit
-Cause words s d (Image fault) = IsOnce words × OnceCause s d (Image fault)
-Cause words s d LaterImage = IsOnce words × OnceCause s d LaterImage
-Cause words s d LaterDisk = IsOnce words × OnceCause s d LaterDisk
-Cause words s d DiskFault = IsOnce words × OnceCause s d DiskFault
+-- a command has run, with an input that was read to its end, and this is its output
+pub record HasRun (words : List (List ℕ)) (s : SourceSide) (d : DiskSide) (output : Output) : Type 0 where
+  pub command : Command
+  pub words_are : command_of words ≡ Ok command
+  pub input : List ℕ
+  pub read : WasRead s input
+  pub good : refusal_of command input ≡ None
+  pub done : HasDone command input d
+  pub output_is : shown output ≡ output_of command input
 
--- the output: a line, or a front of it where the sink failed
-abbrev pub Told : SinkSide → List ℕ → Type 0
-Told k line = k.tells → Wrote k.faults k.faults_after k.written k.after line
-
--- done, and all of the line written
+-- done with an input that was read to its end, and all of the output written
 pub record EndsDone (words : List (List ℕ)) (s : SourceSide) (k : SinkSide) (d : DiskSide) : Type 0 where
-  pub asked : OnceWords
-  pub words_are : command_of words ≡ Ok (Once asked)
-  pub logged : IsLogged asked s d
-  pub told : k.tells → k.after ≡ k.written ++ codes "logged 1\n"
+  pub command : Command
+  pub words_are : command_of words ≡ Ok command
+  pub input : List ℕ
+  pub read : WasRead s input
+  pub good : refusal_of command input ≡ None
+  pub done : HasDone command input d
+  pub told : k.tells → k.after ≡ k.written ++ output_of command input
 
 -- done, but the sink failed
 pub record EndsUntold (words : List (List ℕ)) (s : SourceSide) (k : SinkSide) (d : DiskSide) : Type 0 where
-  pub asked : OnceWords
-  pub words_are : command_of words ≡ Ok (Once asked)
-  pub logged : IsLogged asked s d
+  pub command : Command
+  pub words_are : command_of words ≡ Ok command
+  pub input : List ℕ
+  pub read : WasRead s input
+  pub good : refusal_of command input ≡ None
+  pub done : HasDone command input d
   pub rose : Rose k.faults k.faults_after
-  pub told : k.tells → (n : ℕ) × (k.after ≡ k.written ++ take n (codes "logged 1\n"))
+  pub told : k.tells → (n : ℕ) × (k.after ≡ k.written ++ take n (output_of command input))
+
+-- the output of a refusal: a line, or a front of it where the sink failed
+abbrev pub Told : SinkSide → List ℕ → Type 0
+Told k line = k.tells → Wrote k.faults k.faults_after k.written k.after line
 
 -- refused
 pub record EndsRefused (words : List (List ℕ)) (s : SourceSide) (k : SinkSide) (d : DiskSide) (status : ℕ) : Type 0 where
@@ -178,3 +219,18 @@ pub record EndsRefused (words : List (List ℕ)) (s : SourceSide) (k : SinkSide)
 -- how a call ends, by its status
 abbrev pub Ends : List (List ℕ) → SourceSide → SinkSide → DiskSide → ℕ → Type 0
 Ends words s k d status = ((status ≡ 0) × EndsDone words s k d) ⊎ (((status ≡ 4) × EndsUntold words s k d) ⊎ EndsRefused words s k d status)
+
+-- Crashes
+
+-- What a crash may leave at any moment of a command whose input was read: what was there; or of `once`, over an empty disk,
+-- files that are readable, with no item or with the one, and then its description.
+abbrev pub MayLeave : Command → List ℕ → Holdings → Files → Type 0
+MayLeave (Once asked) input held crash = CrashImage held crash ⊎ (IsEmpty (contents_of held)
+    × (image : List ℕ) × IsImageInput input image × NoneOrOne crash (item_of asked image))
+MayLeave MmvMake input held crash = CrashImage held crash
+MayLeave MmvDump input held crash = CrashImage held crash
+
+-- the same of words, of which an input may have been read
+abbrev pub MayLeaveAny : List (List ℕ) → SourceSide → Holdings → Files → Type 0
+MayLeaveAny words s held crash = CrashImage held crash
+    ⊎ ((command : Command) × (command_of words ≡ Ok command) × (input : List ℕ) × WasRead s input × MayLeave command input held crash)

@@ -1,4 +1,5 @@
 pub mod CommandLine
+pub mod Inputs
 pub mod Numbers
 pub mod Once
 pub mod Pieces

@@ -1,15 +1,15 @@
 -- How a command that is refused ends: its status and its last line.
 use Rattle.std.specs.Prelude.{◌≡◌, ◌⊎◌, ℕ, List, [], ◌∷◌, ◌++◌, take, Option, Some, None, unwrap_or, codes}
 use Rattle.std.specs.Fmt.{decimal}
-use Rattle.mmv_entries.specs.declared.fault.ImageFault.{ImageFault}
-use Rattle.mmv_entries.specs.declared.fault.ImageFault.TheVariants as faults
 use Rattle.pcp_outside.specs.Causes.{Rose}
+use Rattle.pm_print.specs.FaultLines.{image_line, text_line}
 use Rattle.pm_commands.specs.declared.refusal.Refusal.{Refusal}
-use Rattle.pm_commands.specs.declared.refusal.Refusal.TheVariants.{Usage, ReadFault, InputLimit, Image, LaterImage, LaterDisk, DiskFault, NoMemory}
+use Rattle.pm_commands.specs.declared.refusal.Refusal.TheVariants.{Usage, ReadFault, InputLimit, Image, Line, LaterImage, LaterDisk, DiskFault, NoMemory}
 
 abbrev pub status_of : Refusal → ℕ
 status_of (Usage at) = 1
 status_of (Image fault) = 2
+status_of (Line fault) = 2
 status_of LaterImage = 15
 status_of ReadFault = 3
 status_of DiskFault = 5
@@ -17,26 +17,11 @@ status_of InputLimit = 7
 status_of LaterDisk = 15
 status_of NoMemory = 9
 
--- the line of an image's fault: its name and its fields. Want of memory is no fault of an image.
-unfoldable pub image_line : ImageFault → List ℕ
-image_line (faults.Short have) = codes "input image Short " ++ (decimal have ++ 10 ∷ [])
-image_line (faults.TooLarge words) = codes "input image TooLarge " ++ (decimal words ++ 10 ∷ [])
-image_line faults.Magic = codes "input image Magic\n"
-image_line (faults.Version found) = codes "input image Version " ++ (decimal found ++ 10 ∷ [])
-image_line (faults.Generations g1 g2) = codes "input image Generations " ++ (decimal g1 ++ (codes " " ++ (decimal g2 ++ 10 ∷ [])))
-image_line (faults.Section kind) = codes "input image Section " ++ (decimal kind ++ 10 ∷ [])
-image_line (faults.Offset at) = codes "input image Offset " ++ (decimal at ++ 10 ∷ [])
-image_line (faults.Name at) = codes "input image Name " ++ (decimal at ++ 10 ∷ [])
-image_line (faults.Kind at) = codes "input image Kind " ++ (decimal at ++ 10 ∷ [])
-image_line (faults.Reference at) = codes "input image Reference " ++ (decimal at ++ 10 ∷ [])
-image_line (faults.Duplicate at) = codes "input image Duplicate " ++ (decimal at ++ 10 ∷ [])
-image_line (faults.Serial at) = codes "input image Serial " ++ (decimal at ++ 10 ∷ [])
-image_line faults.NoMemory = []
-
 -- the line where making it takes memory
 abbrev pub numbered_line_of : Refusal → Option (List ℕ)
 numbered_line_of (Usage at) = Some (codes "usage " ++ (decimal at ++ 10 ∷ []))
 numbered_line_of (Image fault) = Some (image_line fault)
+numbered_line_of (Line fault) = Some (text_line fault)
 numbered_line_of LaterImage = None
 numbered_line_of ReadFault = None
 numbered_line_of DiskFault = None
@@ -48,6 +33,7 @@ numbered_line_of NoMemory = None
 abbrev pub plain_line_of : Refusal → List ℕ
 plain_line_of (Usage at) = []
 plain_line_of (Image fault) = []
+plain_line_of (Line fault) = []
 plain_line_of LaterImage = codes "later image\n"
 plain_line_of ReadFault = codes "read fault\n"
 plain_line_of DiskFault = codes "disk fault\n"

@@ -3,6 +3,7 @@
 //! main makes.
 #![tactic(auto)]
 
+mod inputs;
 mod numbers;
 mod once;
 mod plan;

@@ -1,9 +1,11 @@
 //! The command `once SEC USEC FILE`: an image becomes one logged result.
-ghost use Rattle.std.specs.Prelude.{◌≡◌, ◌⊎◌, ◌≤◌, length, [], IfOk, IfErr, OnOk, MatchBool};
+ghost use Rattle.std.specs.Prelude.{◌≡◌, ◌⊎◌, ◌≤◌, length, IfOk, IfErr, OnOk, MatchBool, None};
 ghost use Rattle.pcp_model.specs.Disk.{CrashImage, IsEmpty, contents_of};
 ghost use Rattle.pcp_outside.specs.Causes.{HasCause};
 ghost use Rattle.pcp_outside.specs.Devices.{LeavesOnly, appended};
-ghost use Rattle.pm_commands.specs.Ends.{IsImageInput, HasByte, InputCause, DiskCause, OnceCause, IsLogged, MayLeave};
+ghost use Rattle.pm_commands.specs.declared.words.Command.TheVariants.{Once as Asked};
+ghost use Rattle.pm_commands.specs.Ends.{IsImageInput, HasByte, DiskCause, ServeCause, IsLogged, MayLeave};
+ghost use Rattle.pm_commands.specs.Inputs.{input_limit, refusal_of, Refuses};
 ghost use Rattle.pm_commands.specs.Fits.{FitsOnce, FitsShot};
 ghost use Rattle.pm_commands.specs.Pieces.{pieces, Holds, IsCut, sure, meta_file, volume_file};
 ghost use Rattle.pm_commands.specs.Shots.{shot_of};
@@ -13,10 +15,8 @@ use crate::refusal::Refusal;
 use crate::words::OnceWords;
 use crate::writes::write_archive;
 use mmv_layout::{Image, ImageFault};
-use pcp_outside::{Disk, Failed, FileId, ReadFault, Source, read_to_limit};
+use pcp_outside::{Disk, Failed, FileId};
 use std::alloc::Global;
-
-const INPUT_LIMIT: usize = 16_777_216;
 
 // Whether no file holds a byte.
 fn is_disk_empty<D: Disk>(disk: &mut D) -> Result<bool, Failed>
@@ -37,22 +37,16 @@ fn is_disk_empty<D: Disk>(disk: &mut D) -> Result<bool, Failed>
     Ok(true)
 }
 
-// What is read of the input, as an image, and the pieces of its archive. No disk is looked at.
-fn prepare<I: Source>(alloc: Global, asked: &OnceWords, input: &mut I) -> Result<Plan, Refusal>
-    requires { length asked.now.file ≤ 63 }
-    ensures made { I.tells → IfOk result (λ p. (words : _) × IsImageInput (I.left input.old) words × (p ≡ pieces asked.now.stamp asked.now.file (shot_of words)) × (I.left input.new ≡ []) × FitsShot (shot_of words)) }
+// The pieces of the archive of an input, which is an image of the first form.
+fn prepare(alloc: Global, asked: &OnceWords, input: &[u8]) -> Result<Plan, Refusal>
+    requires file { length asked.now.file ≤ 63 }
+    requires within { length input.now ≤ input_limit }
+    ensures made { IfOk result (λ p. (words : _) × IsImageInput input.now words × (p ≡ pieces asked.now.stamp asked.now.file (shot_of words)) × FitsShot (shot_of words)) }
+    ensures good { OnOk result (refusal_of (Asked asked.now) input.now ≡ None) }
     ensures fits { OnOk result (FitsOnce asked.now) }
-    ensures shaped { IfOk result (λ p. (words : _) × (p ≡ pieces asked.now.stamp asked.now.file (shot_of words))) }
-    ensures cause { IfErr result (InputCause record { tells = I.tells; left = I.left input.old; after = I.left input.new; faults = I.faults input.old; faults_after = I.faults input.new }) }
-    ensures later { I.faults input.old ≤ I.faults input.new }
+    ensures cause { IfErr result (Refuses (Asked asked.now) input.now) }
 {
-    let bytes = match read_to_limit(alloc, input, INPUT_LIMIT) {
-        Ok(bytes) => bytes,
-        Err(ReadFault::NoMemory) => return Err(Refusal::NoMemory),
-        Err(ReadFault::Failed) => return Err(Refusal::ReadFault),
-        Err(ReadFault::TooMuch) => return Err(Refusal::InputLimit),
-    };
-    let image = match Image::from_bytes(alloc, bytes.as_slice()) {
+    let image = match Image::from_bytes(alloc, input) {
         Ok(image) => image,
         Err(ImageFault::NoMemory) => return Err(Refusal::NoMemory),
         Err(fault) => return Err(Refusal::Image(fault)),
@@ -87,24 +81,24 @@ fn write_plan<D: Disk>(disk: &mut D, plan: &Plan) -> Result<(), Refusal>
     }
 }
 
-/// Logs one result of the image on the input, over an empty disk.
-pub(crate) fn once<I: Source, D: Disk>(
+/// Logs one result of an input, an image of the first form, over an empty disk.
+pub(crate) fn once<D: Disk>(
     alloc: Global,
     asked: &OnceWords,
-    input: &mut I,
+    input: &[u8],
     disk: &mut D,
 ) -> Result<(), Refusal>
-    requires { length asked.now.file ≤ 63 }
+    requires file { length asked.now.file ≤ 63 }
+    requires within { length input.now ≤ input_limit }
 
-    ensures done { OnOk result (IsLogged asked.now
-        record { tells = I.tells; left = I.left input.old; after = I.left input.new; faults = I.faults input.old; faults_after = I.faults input.new }
+    ensures done { OnOk result (IsLogged asked.now input.now
+        record { tells = D.tells; held = D.held disk.old; after = D.held disk.new; faults = D.faults disk.old; faults_after = D.faults disk.new }) }
+    ensures good { OnOk result (refusal_of (Asked asked.now) input.now ≡ None) }
+
+    ensures cause { IfErr result (ServeCause (Asked asked.now) input.now
         record { tells = D.tells; held = D.held disk.old; after = D.held disk.new; faults = D.faults disk.old; faults_after = D.faults disk.new }) }
 
-    ensures cause { IfErr result (OnceCause
-        record { tells = I.tells; left = I.left input.old; after = I.left input.new; faults = I.faults input.old; faults_after = I.faults input.new }
-        record { tells = D.tells; held = D.held disk.old; after = D.held disk.new; faults = D.faults disk.old; faults_after = D.faults disk.new }) }
-
-    ensures any_moment { D.tells → LeavesOnly D.moment D.left_since disk.old disk.new (MayLeave asked.now I.tells (I.left input.old) (D.held disk.old)) }
+    ensures any_moment { D.tells → LeavesOnly D.moment D.left_since disk.old disk.new (MayLeave (Asked asked.now) input.now (D.held disk.old)) }
 {
     let plan = prepare(alloc, asked, input)?;
     write_plan(disk, &plan)?;

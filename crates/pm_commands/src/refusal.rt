@@ -1,11 +1,12 @@
-ghost use Rattle.std.specs.Prelude.{◌≡◌, IfOk, OnOk, OnErr, IsSome, string_bytes};
-ghost use Rattle.std.specs.Option.{option_map};
+ghost use Rattle.std.specs.Prelude.{◌≡◌, IfOk, OnOk, OnErr, IsSome};
 ghost use Rattle.pcp_outside.specs.Causes.{Rose};
-ghost use Rattle.pm_commands.specs.Refusals.{image_line, status_of, numbered_line_of, plain_line_of, line_of, Wrote};
+ghost use Rattle.pm_commands.specs.Refusals.{status_of, numbered_line_of, plain_line_of, line_of, Wrote};
 
 use mmv_layout::ImageFault;
-use pcp_base::NoMemory;
-use pcp_outside::{ReadFault, Sink, write_all};
+use mmv_writer::TextFault;
+use pcp_base::{Bytes, List, NoMemory};
+use pcp_outside::{Sink, write_all};
+use pm_print::{image_fault_text, line_fault_text};
 use std::alloc::{AllocError, Global};
 
 /// Why a command ended before it was done.
@@ -19,6 +20,8 @@ pub enum Refusal {
     InputLimit,
     /// The input is no image.
     Image(ImageFault),
+    /// The input is no layout text.
+    Line(TextFault),
     /// The image is not of the first form; such images are run later.
     LaterImage,
     /// The disk isn't empty; such an archive is gone on with later.
@@ -48,30 +51,6 @@ impl From<NoMemory> for Refusal {
     }
 }
 
-// The line of an image's fault.
-#[tactic(auto, unfolding(crate::specs::Refusals::image_line))]
-fn image_line(alloc: Global, fault: &ImageFault) -> Result<String, AllocError>
-    ensures { IfOk result (λ line. string_bytes line ≡ image_line fault.now) }
-{
-    match fault {
-        ImageFault::Short { have } => format!(in alloc; "input image Short {have}\n"),
-        ImageFault::TooLarge { words } => format!(in alloc; "input image TooLarge {words}\n"),
-        ImageFault::Magic => format!(in alloc; "input image Magic\n"),
-        ImageFault::Version { found } => format!(in alloc; "input image Version {found}\n"),
-        ImageFault::Generations { g1, g2 } => {
-            format!(in alloc; "input image Generations {g1} {g2}\n")
-        }
-        ImageFault::Section { kind } => format!(in alloc; "input image Section {kind}\n"),
-        ImageFault::Offset { at } => format!(in alloc; "input image Offset {at}\n"),
-        ImageFault::Name { at } => format!(in alloc; "input image Name {at}\n"),
-        ImageFault::Kind { at } => format!(in alloc; "input image Kind {at}\n"),
-        ImageFault::Reference { at } => format!(in alloc; "input image Reference {at}\n"),
-        ImageFault::Duplicate { at } => format!(in alloc; "input image Duplicate {at}\n"),
-        ImageFault::Serial { at } => format!(in alloc; "input image Serial {at}\n"),
-        ImageFault::NoMemory => Ok(String::new(alloc)),
-    }
-}
-
 impl Refusal {
     /// The exit status.
     pub fn status(&self) -> u8
@@ -81,7 +60,7 @@ impl Refusal {
             Refusal::Usage { .. } => 1,
             Refusal::LaterImage | Refusal::LaterDisk => 15,
             Refusal::NoMemory => 9,
-            Refusal::Image(_) => 2,
+            Refusal::Image(_) | Refusal::Line(_) => 2,
             Refusal::ReadFault => 3,
             Refusal::DiskFault => 5,
             Refusal::InputLimit => 7,
@@ -89,13 +68,23 @@ impl Refusal {
     }
 
     // The last line, where making it takes memory.
-    fn numbered_line(&self, alloc: Global) -> Result<Option<String>, AllocError>
-        ensures line { IfOk result (λ line. option_map string_bytes line ≡ numbered_line_of self.now) }
+    fn numbered_line(&self, alloc: Global) -> Result<Option<Bytes>, NoMemory>
+        ensures line { IfOk result (λ line. line ≡ numbered_line_of self.now) }
         ensures numbered { OnErr result (IsSome (numbered_line_of self.now)) }
     {
         match self {
-            Refusal::Usage { at } => Ok(Some(format!(in alloc; "usage {at}\n")?)),
-            Refusal::Image(fault) => Ok(Some(image_line(alloc, fault)?)),
+            Refusal::Usage { at } => {
+                let line = format!(in alloc; "usage {at}\n")?;
+                Ok(Some(List::from_vec(line.into_bytes())))
+            }
+            Refusal::Image(fault) => {
+                let line = image_fault_text(alloc, fault)?;
+                Ok(Some(line))
+            }
+            Refusal::Line(fault) => {
+                let line = line_fault_text(alloc, fault)?;
+                Ok(Some(line))
+            }
             _ => Ok(None),
         }
     }
@@ -123,7 +112,7 @@ impl Refusal {
     {
         let line = self.numbered_line(alloc)?;
         let bytes = match &line {
-            Some(text) => text.as_bytes(),
+            Some(text) => text.as_slice(),
             None => self.plain_line(),
         };
         let _ = write_all(out, bytes);

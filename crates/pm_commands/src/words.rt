@@ -11,6 +11,10 @@ use std::alloc::Global;
 pub enum Command {
     /// `once SEC USEC FILE`: log one result of an image.
     Once(OnceWords),
+    /// `mmv-make`: make the image of a layout text.
+    MmvMake,
+    /// `mmv-dump`: write the layout text of an image.
+    MmvDump,
 }
 
 /// When the result is logged, and the region's name: one component of a name, of at most 63 bytes.
@@ -118,8 +122,17 @@ pub fn read_words(alloc: Global, words: &[String]) -> Result<Command, WordsFault
     let [name, rest @ ..] = words else {
         return Err(WordsFault::Usage { at: 0 });
     };
-    match name.as_bytes() {
-        b"once" => once_words(alloc, rest),
-        _ => Err(WordsFault::Usage { at: 0 }),
+    let name = name.as_bytes();
+    if name == b"once".as_slice() {
+        return once_words(alloc, rest);
     }
+    if name == b"mmv-make".as_slice() {
+        end_at(rest, 1)?;
+        return Ok(Command::MmvMake);
+    }
+    if name == b"mmv-dump".as_slice() {
+        end_at(rest, 1)?;
+        return Ok(Command::MmvDump);
+    }
+    Err(WordsFault::Usage { at: 0 })
 }

@@ -1,20 +1,20 @@
 -- Each fact on the status follows from how the call ends.
 use Rattle.std.proofs.Common.{map, string_bytes, Global}
 use Rattle.pcp_outside.proofs.Crash.{weaker}
-use Rattle.pm_commands.specs.Ends.{MayLeaveAny}
+use Rattle.pm_commands.specs.Ends.{SourceSide, MayLeaveAny}
 use Rattle.pm_commands.specs.Facts.{LeavesNoneOrOne}
 use Rattle.pm_commands.proofs.Moments.{leaves, keeps}
-use Rattle.pm_commands.proofs.Facts.{usage_is_exact, read_fault_rose, write_fault_rose, disk_fault_rose, limit_is_exact, image_fault_is_exact, later_is_exact, files_kept, completes, done_files, settles}
+use Rattle.pm_commands.proofs.Facts.{usage_is_exact, read_fault_rose, write_fault_rose, disk_fault_rose, limit_is_exact, input_fault_is_exact, later_is_exact, files_kept, completes, is_done, settles}
 use Rattle.pm_commands.proofs.top.offline.Goals as goal
 
 pub returns-clause-done : goal.returns-clause-done
-returns-clause-done g c = done_files _ _ _ _ c.answer.result c.answer.ensures.ends
+returns-clause-done g c = is_done _ _ _ _ c.answer.result c.answer.ensures.ends
 
 pub returns-clause-usage : goal.returns-clause-usage
 returns-clause-usage g c = usage_is_exact _ _ _ _ c.answer.result c.answer.ensures.ends
 
-pub returns-clause-image_fault : goal.returns-clause-image_fault
-returns-clause-image_fault g c = image_fault_is_exact _ _ _ _ c.answer.result c.answer.ensures.ends
+pub returns-clause-input_fault : goal.returns-clause-input_fault
+returns-clause-input_fault g c = input_fault_is_exact _ _ _ _ c.answer.result c.answer.ensures.ends
 
 pub returns-clause-read_fault : goal.returns-clause-read_fault
 returns-clause-read_fault g c = read_fault_rose _ _ _ _ c.answer.result c.answer.ensures.ends
@@ -43,11 +43,12 @@ returns-clause-settled g c = settles _ _ _ _ c.answer.result c.answer.ensures.en
 pub returns-clause-any_moment : goal.returns-clause-any_moment
 returns-clause-any_moment g c = λ reads tells empty.
     let d = g.D.Disk in
+    let i = g.I.Source in
     let words = map (string_bytes {Z = Global}) c.args.words.now in
-    let input = g.I.Source.left c.args.input.now in
+    let s : SourceSide = record { tells = i.tells; left = i.left c.args.input.now; after = i.left c.answer.new.input; faults = i.faults c.args.input.now; faults_after = i.faults c.answer.new.input } in
     weaker d.moment d.left_since d.held c.args.disk.now c.answer.new.disk
-    (MayLeaveAny words g.I.Source.tells input (d.held c.args.disk.now)) (LeavesNoneOrOne words input)
-    (c.answer.ensures.any_moment tells) (leaves words g.I.Source.tells input (d.held c.args.disk.now) reads empty)
+    (MayLeaveAny words s (d.held c.args.disk.now)) (LeavesNoneOrOne words s.left)
+    (c.answer.ensures.any_moment tells) (leaves words s (d.held c.args.disk.now) reads empty)
 
 pub returns-clause-kept : goal.returns-clause-kept
 returns-clause-kept g c = keeps _ _ _ _ c.answer.result c.answer.ensures.ends
