@@ -1,8 +1,8 @@
 -- The bytes so far are hexadecimal digits, and with the number so far the others have the same value.
 use Rattle.std.proofs.Common.{◌≡◌, ◌≤◌, ◌+◌, ◌^◌, drop}
 use Rattle.std.specs.List.{list_all}
-use Rattle.layout_text.specs.Numbers.{is_hex, hex_value}
-use Rattle.layout_text.proofs.numbers.hex_number.Given as goal
+use Rattle.line_parts.specs.Numbers.{is_hex, hex_value}
+use Rattle.line_parts.proofs.numbers.hex_number.Given as goal
 
 abbrev pub invariant-loop-digit : goal.invariant-loop-digit
 invariant-loop-digit l = record {

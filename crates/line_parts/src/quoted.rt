@@ -1,8 +1,18 @@
 //! Quoted texts of a line.
 ghost use Rattle.std.specs.Prelude.{◌≡◌, ◌<◌, ◌≢◌, length, IfSome, MatchOption, Some, None};
-ghost use Rattle.layout_text.specs.Words.{is_plain, hex_byte, escaped_byte, text_byte};
+ghost use Rattle.line_parts.specs.Words.{starts_quoted, is_plain, hex_byte, escaped_byte, text_byte};
 
 use crate::numbers::{hex_digit, is_low_hex};
+
+/// Whether the bytes begin with a quote.
+pub fn starts_quoted(bytes: &[u8]) -> bool
+    ensures { result ≡ starts_quoted bytes.now }
+{
+    let [first, ..] = bytes else {
+        return false;
+    };
+    *first == b'"'
+}
 
 /// Whether a byte stands for itself in a quoted text.
 pub fn is_plain(byte: u8) -> bool

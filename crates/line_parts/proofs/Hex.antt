@@ -1,6 +1,6 @@
 -- Hexadecimal digits, the last one by itself.
 use Rattle.std.proofs.Common.{◌≡◌, ℕ, zero, suc, ◌-◌, ◌/◌, ◌%◌, [], ◌∷◌, ◌++◌, ap, arith, refl}
-use Rattle.layout_text.specs.Spelling.{hex_glyph, hex_text}
+use Rattle.line_parts.specs.Spelling.{hex_glyph, hex_text}
 
 pub hex_last : (count n : ℕ) → (count ≡ 0 → ⊥) → hex_text (count - 1) (n / 16) ++ hex_glyph (n % 16) ∷ [] ≡ hex_text count n
 unfolding hex_text

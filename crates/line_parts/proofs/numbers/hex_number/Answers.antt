@@ -1,7 +1,7 @@
 -- A number of fewer than 16 digits has room for one more.
 use Rattle.std.proofs.Common.{◌≤◌, ◌^◌, arith, lit<}
 use Rattle.std.proofs.Math.Nat.{pow-le-pow_right}
-use Rattle.layout_text.proofs.numbers.hex_number.Goals as goal
+use Rattle.line_parts.proofs.numbers.hex_number.Goals as goal
 
 pub overflow_mul-number : goal.overflow_mul-number
 overflow_mul-number c =

@@ -1,9 +1,9 @@
 -- The text so far, and behind it what is left.
 use Rattle.std.proofs.Common.{◌≡◌, ◌-◌}
 use Rattle.pcp_base.specs.Texts.{IsText}
-use Rattle.layout_text.specs.Words.{text_within}
-use Rattle.layout_text.proofs.Quoting.{behind}
-use Rattle.layout_text.proofs.rest.Rest.unquoted.Given as goal
+use Rattle.line_parts.specs.Words.{text_within}
+use Rattle.line_parts.proofs.Quoting.{behind}
+use Rattle.line_parts.proofs.rest.Rest.unquoted.Given as goal
 
 abbrev pub invariant-loop : goal.invariant-loop
 invariant-loop l = record {

@@ -1,7 +1,7 @@
 -- The text ends, stops or goes on.
 use Rattle.std.proofs.Common.{sym, ◌∙◌, arith}
-use Rattle.layout_text.proofs.Quoting.{ends_text, stops_text, goes_on, runs_out, text_more}
-use Rattle.layout_text.proofs.rest.Rest.unquoted.Goals as goal
+use Rattle.line_parts.proofs.Quoting.{ends_text, stops_text, goes_on, runs_out, text_more}
+use Rattle.line_parts.proofs.rest.Rest.unquoted.Goals as goal
 
 pub returns-then-starts_quoted-clause-text : goal.returns-then-starts_quoted-clause-text
 returns-then-starts_quoted-clause-text c = ends_text _ c.loop.text c.args.limit c.loop.counter c.loop.rest.now c.loop.invariant.text _ (omega arith) (sym c.starts_quoted.ensures ∙ c.if-starts_quoted.true) c.behind_first-self-inside.ensures

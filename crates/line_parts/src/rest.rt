@@ -1,14 +1,12 @@
 //! What is left of a line, from which its parts are taken.
 ghost use Rattle.std.specs.Prelude.{◌≡◌, ◌≤◌, length, drop, MatchResult, Some, IfOk};
-ghost use Rattle.layout_text.specs.Numbers.{number32, number64, int32, hex_number};
+ghost use Rattle.line_parts.specs.Numbers.{number32, number64, int32, hex_number};
 ghost use Rattle.pcp_base.specs.Texts.{IsText};
-ghost use Rattle.layout_text.specs.Lines.{ended};
-ghost use Rattle.layout_text.specs.Words.{Taken, Read, text_within, quoted, take_text, starts_missing, take_help, IsStopped, take_space, word_length, first_word, behind_word, take_word, take_as, optional, name_of, kind_of, semantics_of};
+ghost use Rattle.line_parts.specs.Words.{Taken, Read, text_within, quoted, take_text, starts_missing, take_help, IsStopped, take_space, word_length, first_word, behind_word, take_word, take_as, optional, ended};
 
-use crate::quoted::text_byte;
-use crate::words::starts_quoted;
-use crate::{numbers, words};
-use pcp_base::{Bytes, Kind, NoMemory, Semantics, Text, TextError, Units};
+use crate::numbers;
+use crate::quoted::{starts_quoted, text_byte};
+use pcp_base::{Bytes, NoMemory, Text, TextError};
 use std::alloc::{AllocError, Global};
 use std::marker::Model;
 
@@ -20,7 +18,7 @@ pub enum Stop {
 }
 
 impl From<NoMemory> for Stop {
-    ghost use Rattle.layout_text.specs.declared.rest.Stop.TheVariants.{NoMemory as Refused};
+    ghost use Rattle.line_parts.specs.declared.rest.Stop.TheVariants.{NoMemory as Refused};
 
     ghost from_gives = { λ _ e. e ≡ Refused };
 
@@ -30,7 +28,7 @@ impl From<NoMemory> for Stop {
 }
 
 impl From<AllocError> for Stop {
-    ghost use Rattle.layout_text.specs.declared.rest.Stop.TheVariants.{NoMemory as Refused};
+    ghost use Rattle.line_parts.specs.declared.rest.Stop.TheVariants.{NoMemory as Refused};
 
     ghost from_gives = { λ _ e. e ≡ Refused };
 
@@ -181,46 +179,6 @@ impl<'a> Rest<'a> {
         }
         let number = numbers::int32(word).ok_or(Stop::NoLine)?;
         Ok(Some(number))
-    }
-
-    /// A kind's word.
-    #[tactic(auto, unfolding(crate::specs::Words::take_as))]
-    pub fn kind(&mut self) -> Result<Kind, Stop>
-        ensures { Taken (take_as kind_of self.old) result self.new }
-    {
-        let word = self.word()?;
-        let kind = words::kind_of(word).ok_or(Stop::NoLine)?;
-        Ok(kind)
-    }
-
-    /// The word of semantics.
-    #[tactic(auto, unfolding(crate::specs::Words::take_as))]
-    pub fn semantics(&mut self) -> Result<Semantics, Stop>
-        ensures { Taken (take_as semantics_of self.old) result self.new }
-    {
-        let word = self.word()?;
-        let semantics = words::semantics_of(word).ok_or(Stop::NoLine)?;
-        Ok(semantics)
-    }
-
-    /// Units in 8 hexadecimal digits.
-    #[tactic(auto, unfolding(crate::specs::Words::take_as))]
-    pub fn units(&mut self) -> Result<Units, Stop>
-        ensures { Taken (take_as (hex_number 8) self.old) result self.new }
-    {
-        let word = self.word()?;
-        let number = numbers::hex_number(8, word).ok_or(Stop::NoLine)?;
-        Ok(Units::of_word(number as u32))
-    }
-
-    /// A metric's name.
-    #[tactic(auto, unfolding(crate::specs::Words::take_as))]
-    pub fn name(&mut self, alloc: Global) -> Result<Text, Stop>
-        ensures { Taken (take_as name_of self.old) result self.new }
-    {
-        let word = self.word()?;
-        let name = words::name_of(alloc, word)?;
-        Ok(name)
     }
 
     /// A number in 16 hexadecimal digits.

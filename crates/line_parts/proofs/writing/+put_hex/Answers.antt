@@ -1,7 +1,7 @@
 use Rattle.std.proofs.Common.{◌++◌, ◌%◌, ◌-◌, ◌/◌, [], ◌∷◌, ap, ◌∙◌, append_assoc}
-use Rattle.layout_text.specs.Spelling.{hex_glyph, hex_text}
-use Rattle.layout_text.proofs.Hex.{hex_last}
-use Rattle.layout_text.proofs.parts.+put_hex.Goals as goal
+use Rattle.line_parts.specs.Spelling.{hex_glyph, hex_text}
+use Rattle.line_parts.proofs.Hex.{hex_last}
+use Rattle.line_parts.proofs.writing.+put_hex.Goals as goal
 
 pub returns : goal.returns
 returns _ c =

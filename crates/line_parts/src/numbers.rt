@@ -1,7 +1,7 @@
 //! Numbers as words of a line.
 ghost use Rattle.std.specs.Prelude.{◌≡◌, ◌≤◌, ◌<◌, length, true, IfSome, ◌^◌, Option, Some, None, if◌then◌else◌};
 ghost use Rattle.std.specs.List.{list_all};
-ghost use Rattle.layout_text.specs.Numbers.{is_digit, number_of, digits_number, number32, number64, signed_number, int_of, int32, is_low_hex, is_hex, hex_digit, hex_number};
+ghost use Rattle.line_parts.specs.Numbers.{is_digit, number_of, digits_number, number32, number64, signed_number, int_of, int32, is_low_hex, is_hex, hex_digit, hex_number};
 
 fn is_decimal_digit(byte: u8) -> bool
     ensures { result ≡ is_digit byte }

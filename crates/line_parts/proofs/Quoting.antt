@@ -2,8 +2,8 @@
 use Rattle.std.proofs.Common.{rules, ◌≡◌, ℕ, suc, ◌+◌, ◌-◌, ◌<◌, ◌≤◌, true, false, cond, List, [], ◌∷◌, ◌++◌, drop, refl, sym, ap, ◌∙◌, arith, append_assoc, append-nil, subst, Option, Some, None}
 use Rattle.std.proofs.lemmas.Grind.{common_steps}
 use Rattle.pcp_base.specs.Texts.{IsText}
-use Rattle.layout_text.specs.Numbers.{◌>>=◌}
-use Rattle.layout_text.specs.Words.{text_byte, text_within, starts_quoted}
+use Rattle.line_parts.specs.Numbers.{◌>>=◌}
+use Rattle.line_parts.specs.Words.{text_byte, text_within, starts_quoted}
 
 -- what stands behind bytes read before
 abbrev pub behind : List ℕ → Option (List ℕ × List ℕ) → Option (List ℕ × List ℕ)

@@ -1,7 +1,7 @@
 -- The bytes so far have no space among them.
 use Rattle.std.proofs.Common.{◌≡◌, ◌+◌, drop}
-use Rattle.layout_text.specs.Words.{word_length}
-use Rattle.layout_text.proofs.rest.word_length.Given as goal
+use Rattle.line_parts.specs.Words.{word_length}
+use Rattle.line_parts.proofs.rest.word_length.Given as goal
 
 abbrev pub invariant-loop-byte : goal.invariant-loop-byte
 invariant-loop-byte l = record {
