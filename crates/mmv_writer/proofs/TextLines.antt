@@ -1,7 +1,7 @@
 -- The lines of bytes, one by one.
-use Rattle.std.proofs.Common.{◌≡◌, ℕ, zero, suc, ◌+◌, ◌<◌, ◌≤◌, Bool, true, false, cond, nat_eq, List, [], ◌∷◌, ◌++◌, length, take, drop, refl, sym, ap, subst, ◌∙◌, arith, ⊎_elim, inl, inr, ◌⊎◌, Option, Some, None, option_map}
+use Rattle.std.proofs.Common.{◌≡◌, ℕ, zero, suc, ◌+◌, ◌<◌, ◌≤◌, Bool, true, false, cond, nat_eq, List, [], ◌∷◌, ◌++◌, length, take, drop, refl, sym, ap, subst, ◌∙◌, arith, length-drop, ◌-◌, ⊎_elim, inl, inr, ◌⊎◌, Option, Some, None, option_map}
 use Rattle.std.proofs.lemmas.Bool.{eqb-true}
-use Rattle.std.proofs.lemmas.Bool.Decides.{nat_tests}
+use Rattle.std.proofs.lemmas.List.{take_all, length-take-le}
 use Rattle.layout_text.specs.Lines.{line_of}
 use Rattle.mmv_writer.specs.Reading.{prepend, lines_of, line_length, ended, full_line_of, said_by, IsUnended, IsSplit}
 
@@ -9,17 +9,12 @@ either : (q : Bool) → (q ≡ true) ⊎ (q ≡ false)
 either true = inl refl
 either false = inr refl
 
-not_empty : (text : List ℕ) → nat_eq (length (text ++ 10 ∷ [])) 0 ≡ false
-not_empty [] = refl
-not_empty (b ∷ text) = grind (arith, nat_tests)
-
 -- bytes behind which a line feed stands
 pub ended_text : (text : List ℕ) → ended (text ++ 10 ∷ []) ≡ Some text
 unfolding ended
 ended_text [] = refl
-ended_text (b ∷ text) =
-    ap (λ e. cond e (cond (nat_eq b 10) (Some []) None) (option_map (λ t. b ∷ t) (ended (text ++ 10 ∷ [])))) (not_empty text)
-    ∙ ap (option_map (λ t. b ∷ t)) (ended_text text)
+ended_text (b ∷ []) = refl
+ended_text (b ∷ c ∷ text) = ap (option_map (λ t. b ∷ t)) (ended_text (c ∷ text))
 
 pub full_line : (text : List ℕ) → full_line_of (text ++ 10 ∷ []) ≡ line_of text
 unfolding full_line_of
@@ -76,13 +71,21 @@ last_lines (b ∷ c ∷ bs) h p =
             (other_lines b (c ∷ bs) q ∙ ap (prepend b) more.0, ap (option_map (λ t. b ∷ t)) more.1))
         (either (nat_eq b 10))
 
+drop_one : (n : ℕ) (bytes : List ℕ) → drop 1 (drop n bytes) ≡ drop (suc n) bytes
+drop_one zero bytes = refl
+drop_one (suc n) [] = refl
+drop_one (suc n) (b ∷ bs) = drop_one n bs
+
 pub unended : (bytes : List ℕ) → length bytes ≤ line_length bytes → IsUnended bytes
 unfolding full_line_of
 unended bytes h p = let l = last_lines bytes h p in (l.0, ap said_by l.1)
 
-pub split : (bytes line rest : List ℕ) (n : ℕ) → n ≡ line_length bytes → n < length bytes → line ≡ take n bytes → rest ≡ drop (suc n) bytes → IsSplit bytes line rest
-split bytes line rest n e h l r = record {
-  lines = first_lines bytes n e h ∙ ap (λ t. (t ++ 10 ∷ []) ∷ lines_of (drop (suc n) bytes)) (sym l) ∙ ap (λ t. (line ++ 10 ∷ []) ∷ lines_of t) (sym r);
-  first = full_line line;
-  long = ?;
-}
+pub split : (bytes line behind rest : List ℕ) (n : ℕ) → n ≡ line_length bytes → line ≡ take n bytes → behind ≡ drop n bytes → 1 ≤ length behind → rest ≡ take (length behind - 1) (drop 1 behind) → IsSplit bytes line rest
+split bytes line behind rest n e l d h r =
+    let there : n < length bytes = omega (arith, length-drop n bytes, ap length d) in
+    let rests : rest ≡ drop (suc n) bytes = r ∙ take_all (length behind - 1) (drop 1 behind) (omega (arith, length-drop 1 behind)) ∙ ap (drop 1) d ∙ drop_one n bytes in
+    record {
+        lines = first_lines bytes n e there ∙ ap (λ t. (t ++ 10 ∷ []) ∷ lines_of (drop (suc n) bytes)) (sym l) ∙ ap (λ t. (line ++ 10 ∷ []) ∷ lines_of t) (sym rests);
+        first = full_line line;
+        long = omega (arith, ap length l, length-take-le n bytes (omega arith), ap length rests, length-drop (suc n) bytes);
+    }

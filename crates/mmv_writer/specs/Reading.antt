@@ -43,8 +43,8 @@ line_length (b ∷ bs) = if b == 10 then 0 else 1 + line_length bs
 -- a line without the line feed at its end, if it has one
 unfoldable pub ended : List ℕ → Option (List ℕ)
 ended [] = None
-ended (b ∷ bs) =
-    if length bs == 0 then (if b == 10 then Some [] else None) else option_map (λ text. b ∷ text) (ended bs)
+ended (b ∷ []) = if b == 10 then Some [] else None
+ended (b ∷ c ∷ bs) = option_map (λ text. b ∷ text) (ended (c ∷ bs))
 
 -- what bytes with a line feed behind them say; bytes without one say nothing
 abbrev pub said_by : Option (List ℕ) → Option Line
