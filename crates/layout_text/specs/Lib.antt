@@ -1,6 +1,6 @@
 pub mod Contents
+pub mod Laws
 pub mod Lines
-pub mod Numbers
 pub mod Spelling
 pub mod Whole
 pub mod Words

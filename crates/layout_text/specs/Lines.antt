@@ -4,12 +4,9 @@ use Rattle.layout_text.specs.declared.line.Line.{Line}
 use Rattle.layout_text.specs.declared.line.Line.TheVariants as lines
 use Rattle.layout_text.specs.declared.line.Written.{Written}
 use Rattle.layout_text.specs.declared.line.Written.TheVariants as written
-use Rattle.layout_text.specs.Numbers.{◌>>=◌, number32, number64, int32, signed_number, hex_number}
-use Rattle.layout_text.specs.Words.{first_word, behind_word, take_space, take_as, optional, name_of, kind_of, semantics_of, starts_quoted, quoted, take_text, take_help}
-
--- Nothing stands behind the last part.
-abbrev pub ended : {X : Type 0} → List ℕ → X → Option X
-ended left x = if length left == 0 then Some x else None
+use Rattle.line_parts.specs.Numbers.{◌>>=◌, number32, number64, int32, signed_number, hex_number}
+use Rattle.line_parts.specs.Words.{first_word, behind_word, take_space, take_as, optional, starts_quoted, quoted, take_text, take_help, ended}
+use Rattle.layout_text.specs.Words.{name_of, kind_of, semantics_of}
 
 unfoldable pub mmv_line : List ℕ → Option Line
 mmv_line bytes = do

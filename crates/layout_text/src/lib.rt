@@ -4,11 +4,8 @@
 
 mod content;
 mod line;
-mod numbers;
 mod parts;
-mod quoted;
 mod reading;
-mod rest;
 mod whole;
 mod words;
 mod writing;

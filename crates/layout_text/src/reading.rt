@@ -1,12 +1,11 @@
 //! Each line from the bytes behind its first word.
 ghost use Rattle.std.specs.Prelude.{◌≡◌, IfOk};
-ghost use Rattle.layout_text.specs.Words.{Read};
+ghost use Rattle.line_parts.specs.Words.{Read};
 ghost use Rattle.layout_text.specs.Lines.{mmv_line, string_line, indom_line, instance_line, metric_line, number_content, raw_content, quoted_content, words_content, last_content, value_line, line_of};
 
 use crate::line::{Line, Written};
-use crate::numbers::{hex_number, signed_number};
-use crate::rest::{Rest, Stop, split_word};
-use crate::words::starts_quoted;
+use crate::words::{take_kind, take_name, take_semantics, take_units};
+use line_parts::{Rest, Stop, hex_number, signed_number, split_word, starts_quoted};
 use mmv_layout::MetricRow;
 use pcp_base::NoMemory;
 use std::alloc::Global;
@@ -74,11 +73,11 @@ fn metric_line(alloc: Global, bytes: &[u8]) -> Result<Line, Stop>
     ensures { Read (metric_line bytes.now) result }
 {
     let mut rest = Rest::new(bytes);
-    let name = rest.name(alloc)?;
+    let name = take_name(alloc, &mut rest)?;
     let item = rest.number32()?;
-    let kind = rest.kind()?;
-    let semantics = rest.semantics()?;
-    let units = rest.units()?;
+    let kind = take_kind(&mut rest)?;
+    let semantics = take_semantics(&mut rest)?;
+    let units = take_units(&mut rest)?;
     let serial = rest.optional_number()?;
     let short = rest.help(alloc)?;
     let long = rest.help(alloc)?;

@@ -1,15 +1,17 @@
-//! What single words of a line mean.
+//! The words of a metric's line, and what they mean.
 ghost use Rattle.std.specs.Prelude.{◌≡◌, IfOk};
 ghost use Rattle.pcp_base.specs.Texts.{IsText};
-ghost use Rattle.layout_text.specs.Words.{Read, name_of, kind_of, other_kind_of, semantics_of, starts_quoted};
+ghost use Rattle.line_parts.specs.Numbers.{hex_number};
+ghost use Rattle.line_parts.specs.Words.{Read, Taken, take_as};
+ghost use Rattle.layout_text.specs.Words.{name_of, kind_of, other_kind_of, semantics_of};
 
-use crate::rest::Stop;
-use pcp_base::{Kind, Semantics, Text, TextError};
+use line_parts::{Rest, Stop, hex_number, starts_quoted};
+use pcp_base::{Kind, Semantics, Text, TextError, Units};
 use std::alloc::Global;
 
-/// A kind's word.
+// The kind of a word.
 #[tactic(auto, unfolding(crate::specs::Words::kind_of))]
-pub fn kind_of(word: &[u8]) -> Option<Kind>
+fn kind_of(word: &[u8]) -> Option<Kind>
     ensures { result ≡ kind_of word.now }
 {
     if word == b"i32".as_slice() {
@@ -47,9 +49,9 @@ fn other_kind_of(word: &[u8]) -> Option<Kind>
     None
 }
 
-/// The word of semantics.
+// The semantics of a word.
 #[tactic(auto, unfolding(crate::specs::Words::semantics_of))]
-pub fn semantics_of(word: &[u8]) -> Option<Semantics>
+fn semantics_of(word: &[u8]) -> Option<Semantics>
     ensures { result ≡ semantics_of word.now }
 {
     if word == b"counter".as_slice() {
@@ -64,19 +66,9 @@ pub fn semantics_of(word: &[u8]) -> Option<Semantics>
     None
 }
 
-/// Whether the bytes begin with a quote.
-pub fn starts_quoted(bytes: &[u8]) -> bool
-    ensures { result ≡ starts_quoted bytes.now }
-{
-    let [first, ..] = bytes else {
-        return false;
-    };
-    *first == b'"'
-}
-
-/// A metric's name: a word that isn't quoted, without a zero byte.
+// A metric's name: a word that isn't quoted, without a zero byte.
 #[tactic(auto, using(crate::proofs::Zeros::no_zero, crate::proofs::Zeros::has_zero), unfolding(crate::specs::Words::name_of))]
-pub fn name_of(alloc: Global, word: &[u8]) -> Result<Text, Stop>
+fn name_of(alloc: Global, word: &[u8]) -> Result<Text, Stop>
     ensures { Read (name_of word.now) result }
 {
     if word.is_empty() {
@@ -90,4 +82,44 @@ pub fn name_of(alloc: Global, word: &[u8]) -> Result<Text, Stop>
         Err(TextError::Zero(_)) => Err(Stop::NoLine),
         Err(TextError::NoMemory) => Err(Stop::NoMemory),
     }
+}
+
+/// A kind's word, behind one space.
+#[tactic(auto, unfolding(line_parts::specs::Words::take_as))]
+pub fn take_kind(rest: &mut Rest) -> Result<Kind, Stop>
+    ensures { Taken (take_as kind_of rest.old) result rest.new }
+{
+    let word = rest.word()?;
+    let kind = kind_of(word).ok_or(Stop::NoLine)?;
+    Ok(kind)
+}
+
+/// The word of semantics, behind one space.
+#[tactic(auto, unfolding(line_parts::specs::Words::take_as))]
+pub fn take_semantics(rest: &mut Rest) -> Result<Semantics, Stop>
+    ensures { Taken (take_as semantics_of rest.old) result rest.new }
+{
+    let word = rest.word()?;
+    let semantics = semantics_of(word).ok_or(Stop::NoLine)?;
+    Ok(semantics)
+}
+
+/// Units in 8 hexadecimal digits, behind one space.
+#[tactic(auto, unfolding(line_parts::specs::Words::take_as))]
+pub fn take_units(rest: &mut Rest) -> Result<Units, Stop>
+    ensures { Taken (take_as (hex_number 8) rest.old) result rest.new }
+{
+    let word = rest.word()?;
+    let number = hex_number(8, word).ok_or(Stop::NoLine)?;
+    Ok(Units::of_word(number as u32))
+}
+
+/// A metric's name, behind one space.
+#[tactic(auto, unfolding(line_parts::specs::Words::take_as))]
+pub fn take_name(alloc: Global, rest: &mut Rest) -> Result<Text, Stop>
+    ensures { Taken (take_as name_of rest.old) result rest.new }
+{
+    let word = rest.word()?;
+    let name = name_of(alloc, word)?;
+    Ok(name)
 }

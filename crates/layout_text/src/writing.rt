@@ -4,9 +4,9 @@ ghost use Rattle.layout_text.specs.Spelling.{codes_parts, links_parts, full_line
 ghost use Rattle.layout_text.specs.declared.line.Line.TheVariants.{Mmv as mmv_of, String as string_of, Indom as indom_of, Instance as instance_of, Metric as metric_of, Value as value_of};
 
 use crate::line::{Line, Written};
-use crate::parts::{
-    put_content, put_help, put_hex_part, put_int, put_kind, put_number, put_optional_int,
-    put_optional_number, put_semantics, put_text,
+use crate::parts::{put_content, put_kind, put_semantics};
+use line_parts::{
+    put_help, put_hex_part, put_int, put_number, put_optional_int, put_optional_number, put_text,
 };
 use mmv_layout::MetricRow;
 use pcp_base::{NoMemory, Text};

@@ -2,6 +2,7 @@ ghost use Rattle.std.specs.Prelude.{◌≡◌, ◌≤◌, length, None, Some, Ma
 ghost use Rattle.mmv_writer.specs.Rules.{header_fault, indom_fault, instance_fault, metric_fault, value_fault, text_fault};
 ghost use Rattle.mmv_writer.specs.Spelling.{image_words};
 ghost use Rattle.mmv_writer.specs.Refusals.{IsTooLarge};
+ghost use Rattle.mmv_writer.specs.Reading.{kind_in};
 ghost use Rattle.mmv_writer.specs.Draft.{IsDraft, IsRefusal, empty_draft, new_domain, with_domain, add_instance, with_instance, with_metric, with_value, with_string};
 
 use crate::fault::BuildFault;
@@ -10,7 +11,7 @@ use crate::rules::{
 };
 use crate::spelling::words_of_draft;
 use mmv_layout::{Image, ImageFault, IndomRow, Layout, MetricRow, ValueRow};
-use pcp_base::{List, NoMemory, Text};
+use pcp_base::{Kind, List, NoMemory, Text};
 use std::alloc::Global;
 use std::marker::Model;
 
@@ -76,6 +77,18 @@ fn image_of(alloc: Global, draft: &Layout) -> Result<Image, BuildFault>
         Err(ImageFault::NoMemory) => Err(BuildFault::NoMemory),
         Err(_) => unreachable!(),
     }
+}
+
+/// The kind of the metric with an item, if there is one.
+fn kind_in(metrics: &[MetricRow], item: u32) -> Option<Kind>
+    ensures { result ≡ kind_in metrics.now item }
+{
+    for row in metrics {
+        if row.item == item {
+            return Some(row.kind);
+        }
+    }
+    None
 }
 
 impl Builder {
@@ -170,6 +183,13 @@ impl Builder {
         }
         self.layout.metrics.push(row)?;
         Ok(())
+    }
+
+    /// The kind of the metric with an item, if there is one.
+    pub fn kind_of(&self, item: u32) -> Option<Kind>
+        ensures { result ≡ kind_in self.now.metrics item }
+    {
+        kind_in(self.layout.metrics.as_slice(), item)
     }
 
     /// Adds a value of a metric that is there. After a refusal nothing is changed.

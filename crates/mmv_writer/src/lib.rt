@@ -5,7 +5,9 @@
 mod builder;
 mod fault;
 mod laws;
+mod line_fault;
 mod places;
+mod reading;
 mod references;
 mod rules;
 mod spelling;
@@ -15,3 +17,5 @@ mod words;
 pub use builder::Builder;
 pub use fault::BuildFault;
 pub use laws::{drafts_are_images, drafts_are_said};
+pub use line_fault::{LineError, LineFault, ReadTextError, TextFault};
+pub use reading::{add_line, read_text, take_head, take_line};

@@ -1,0 +1,17 @@
+//! The parts of a line of a text: words behind single spaces, decimal, signed and hexadecimal numbers, quoted texts
+//! with their escapes, and `-` for a missing part. Takes each part from what is left of a line, exactly, and writes
+//! each in its one spelling.
+#![tactic(auto)]
+
+mod numbers;
+mod quoted;
+mod rest;
+mod writing;
+
+pub use numbers::{hex_number, int32, number32, number64, signed_number};
+pub use quoted::starts_quoted;
+pub use rest::{Rest, Stop, split_word};
+pub use writing::{
+    put_help, put_hex_part, put_int, put_number, put_optional_int, put_optional_number, put_signed,
+    put_text,
+};
