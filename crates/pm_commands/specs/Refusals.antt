@@ -21,7 +21,7 @@ status_of NoMemory = 9
 abbrev pub numbered_line_of : Refusal → Option (List ℕ)
 numbered_line_of (Usage at) = Some (codes "usage " ++ (decimal at ++ 10 ∷ []))
 numbered_line_of (Image fault) = Some (image_line fault)
-numbered_line_of (Line fault) = Some (text_line fault)
+numbered_line_of (Line fault) = Some (text_line fault.line fault.fault)
 numbered_line_of LaterImage = None
 numbered_line_of ReadFault = None
 numbered_line_of DiskFault = None

@@ -6,7 +6,7 @@ ghost use Rattle.pm_commands.specs.Inputs.{refusal_of, output_of, Refuses};
 
 use crate::refusal::Refusal;
 use mmv_layout::{Image, ImageFault};
-use mmv_writer::{TextError, read_text};
+use mmv_writer::{ReadTextError, read_text};
 use pcp_base::Bytes;
 use pcp_outside::{ReadFault, Source, read_to_limit};
 use pm_print::{image_bytes, image_text};
@@ -60,8 +60,8 @@ pub(crate) fn make(alloc: Global, input: &[u8]) -> Result<Bytes, Refusal>
             let bytes = image_bytes(alloc, &image)?;
             Ok(bytes)
         }
-        Err(TextError::Fault(fault)) => Err(Refusal::Line(fault)),
-        Err(TextError::NoMemory) => Err(Refusal::NoMemory),
+        Err(ReadTextError::Fault(fault)) => Err(Refusal::Line(fault)),
+        Err(ReadTextError::NoMemory) => Err(Refusal::NoMemory),
     }
 }
 

@@ -82,7 +82,7 @@ impl Refusal {
                 Ok(Some(line))
             }
             Refusal::Line(fault) => {
-                let line = line_fault_text(alloc, fault)?;
+                let line = line_fault_text(alloc, fault.line, &fault.fault)?;
                 Ok(Some(line))
             }
             _ => Ok(None),

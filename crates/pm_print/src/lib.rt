@@ -6,6 +6,6 @@ mod faults;
 mod images;
 mod laws;
 
-pub use faults::image_fault_text;
+pub use faults::{image_fault_text, line_fault_text};
 pub use images::{image_bytes, image_text};
 pub use laws::bytes_are_the_image;
