@@ -6,7 +6,7 @@ use Rattle.pcp_model.specs.Words.{word, signed_word, length-word, zeros, padded}
 use Rattle.pcp_model.specs.Frame.{frame}
 use Rattle.pcp_model.specs.LabelFields.{LabelFields, FitsLabel}
 use Rattle.pcp_model.specs.Labels.{label, label_head}
-use Rattle.archive_frame.proofs.Widths.{length-label_head, length-padded}
+use Rattle.pcp_model.proofs.Lengths.{length-label_head, length-padded}
 use Rattle.archive_frame.specs.Places.{over}
 
 pub word_of_signed : (z : ℤ) → word (cast_unsigned w32 z) ≡ signed_word z

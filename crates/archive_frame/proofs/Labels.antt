@@ -13,7 +13,7 @@ use Rattle.pcp_model.specs.Labels.{label_head, HasText, IsLabel}
 use Rattle.archive_frame.specs.Misfits.{IsFirstMisfit}
 use Rattle.archive_frame.specs.Labels.{IsSomeLabel, IsUpTo, IsTextField}
 use Rattle.archive_frame.proofs.Misfits.{Then, then_is, same_misfit, Passed}
-use Rattle.archive_frame.proofs.Widths.{length-label_head}
+use Rattle.pcp_model.proofs.Lengths.{length-label_head}
 use Rattle.archive_frame.proofs.Filling.{word_of_signed}
 
 -- a text has no zero byte

@@ -7,4 +7,3 @@ pub mod Misfits
 pub mod Only
 pub mod Records
 pub mod Unique
-pub mod Widths

@@ -16,7 +16,7 @@ use Rattle.archive_frame.specs.declared.fault.FrameFault.{FrameFault}
 use Rattle.archive_frame.specs.declared.fault.FrameFault.TheVariants.{Torn, Size, Lengths, Label, NoMemory}
 use Rattle.archive_frame.specs.Labels.{IsSomeLabel, IsLabelFault, IsRead}
 use Rattle.archive_frame.specs.Misfits.{IsFirstMisfit}
-use Rattle.archive_frame.proofs.Widths.{length-label_head}
+use Rattle.pcp_model.proofs.Lengths.{length-label_head}
 use Rattle.archive_frame.proofs.Filling.{word_of_signed}
 
 -- texts of one length in front

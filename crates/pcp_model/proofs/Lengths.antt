@@ -15,10 +15,12 @@ length-frame payload =
 length-zeros : (n : ℕ) → length (zeros n) ≡ n
 length-zeros n = length-replicate n 0
 
-length-padded : (width : ℕ) (text : List ℕ) → length text ≤ width → length (padded width text) ≡ width
+-- a padded text of at most the width takes the width
+pub length-padded : (width : ℕ) (text : List ℕ) → length text ≤ width → length (padded width text) ≡ width
 length-padded width text h = omega (arith, length-append text (zeros (width - length text)), length-zeros (width - length text))
 
-length-label_head : (l : LabelFields) (number : ℤ) → length (label_head l number) ≡ 20
+-- the words of a label take 20 bytes
+pub length-label_head : (l : LabelFields) (number : ℤ) → length (label_head l number) ≡ 20
 length-label_head l number =
     omega (
       arith,

@@ -1,4 +1,4 @@
-ghost use Rattle.std.specs.Prelude.{◌≡◌, ◌<◌, ◌≤◌, ◌⊎◌, IfSome, IsErr, OnOk, None as Nothing};
+ghost use Rattle.std.specs.Prelude.{◌≡◌, ◌<◌, ◌≤◌, ◌⊎◌, IfOk, IfSome, IsErr, OnOk, None as Nothing};
 ghost use Rattle.pcp_model.specs.Disk.{empty_disk, CrashImage};
 ghost use Rattle.pcp_outside.specs.Causes.{HasCause, capped};
 ghost use Rattle.pcp_outside.specs.Devices.{IsNumbered};
@@ -57,13 +57,9 @@ impl<'a, R: Files> FileDisk<'a, R> {
 
     // The names in the folder, each ended by a zero byte.
     fn names(&self) -> io::Result<Vec<u8>> {
-        let mut names = Vec::new(self.alloc);
         match self.files.open_dir(self.place()?.0.as_str()) {
-            Ok(mut folder) => {
-                folder.read_to_end(&mut names)?;
-                Ok(names)
-            }
-            Err(error) if error.kind() == ErrorKind::NotFound => Ok(names),
+            Ok(mut folder) => read_names(self.alloc, &mut folder),
+            Err(error) if error.kind() == ErrorKind::NotFound => Ok(Vec::new(self.alloc)),
             Err(error) => Err(error),
         }
     }
@@ -158,6 +154,24 @@ impl<'a, R: Files> FileDisk<'a, R> {
         opened.set_len(len)?;
         opened.sync_all()
     }
+}
+
+// All that a folder tells. Each read asks for 4,096 bytes: one that has no room for the next name fails, and
+// so many have room for any.
+fn read_names<D: Read>(alloc: Global, folder: &mut D) -> io::Result<Vec<u8>>
+    ensures all { IfOk result (λ names. IfSome (D.remaining folder.old) (λ told. names.items ≡ told)) }
+{
+    let mut names = Vec::new(alloc);
+    let mut piece = [0u8; 4096];
+    for _ in 0..u64::MAX {
+        match folder.read(&mut piece) {
+            Ok(0) => return Ok(names),
+            Ok(count) => names.extend_from_slice(&piece[..count])?,
+            Err(error) if error.kind() == ErrorKind::Interrupted => {}
+            Err(error) => return Err(error),
+        }
+    }
+    Err(io::Error::from(ErrorKind::Other))
 }
 
 // Counts a call's error.

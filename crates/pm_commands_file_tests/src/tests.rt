@@ -1,7 +1,9 @@
-use pcp_outside::{Failed, FileDisk, Sink, Source};
+use pcp_base::FileId;
+use pcp_outside::{Disk, Failed, FileDisk, Sink, Source};
 use pm_commands::offline;
 use std::alloc::Global;
 use std::fs;
+use std::fs::Files;
 use std::test::Fail;
 
 /// The image of one counter `hits` with the value 7: generation 5, cluster 1, item 2.
@@ -134,17 +136,36 @@ fn words(alloc: Global) -> Result<Vec<String>, Fail> {
     Ok(words)
 }
 
+fn hits(alloc: Global) -> Result<Drops, Fail> {
+    Ok(Drops {
+        content: HITS.to_vec(alloc)?,
+        at: 0,
+    })
+}
+
+fn no_output(alloc: Global) -> Sips {
+    Sips {
+        written: Vec::new(alloc),
+        faults: 0,
+    }
+}
+
+// A new folder with 300 files.
+fn fill_folder<R: Files>(alloc: Global, rt: &R, folder: &str) -> Result<(), Fail> {
+    let _missing = rt.remove_dir_all(alloc, folder);
+    rt.create_dir(folder)?;
+    for number in 0..300u32 {
+        let path = format!(in alloc; "{folder}/other.{number}")?;
+        fs::write(rt, path.as_str(), "x")?;
+    }
+    Ok(())
+}
+
 #[test]
 fn one_byte_a_call_logs_the_same_files(rt: HostRuntime) -> Result<(), Fail> {
     let alloc = rt.alloc();
-    let mut source = Drops {
-        content: HITS.to_vec(alloc)?,
-        at: 0,
-    };
-    let mut sink = Sips {
-        written: Vec::new(alloc),
-        faults: 0,
-    };
+    let mut source = hits(alloc)?;
+    let mut sink = no_output(alloc);
     let mut disk = FileDisk::new(alloc, &rt, "slow".to_string(alloc)?);
     let status = offline(alloc, &words(alloc)?, &mut source, &mut sink, &mut disk);
     assert_eq!(rt; status, 0);
@@ -152,5 +173,23 @@ fn one_byte_a_call_logs_the_same_files(rt: HostRuntime) -> Result<(), Fail> {
     assert_eq!(rt; fs::read(&rt, "slow.meta")?.as_slice(), META.as_slice());
     assert_eq!(rt; fs::read(&rt, "slow.index")?.as_slice(), INDEX.as_slice());
     assert_eq!(rt; fs::read(&rt, "slow.0")?.as_slice(), VOLUME.as_slice());
+    Ok(())
+}
+
+#[test]
+fn three_hundred_files_beside_the_archive(rt: HostRuntime) -> Result<(), Fail> {
+    let alloc = rt.alloc();
+    fill_folder(alloc, &rt, "many")?;
+    let mut source = hits(alloc)?;
+    let mut sink = no_output(alloc);
+    let mut disk = FileDisk::new(alloc, &rt, "many/app".to_string(alloc)?);
+    let status = offline(alloc, &words(alloc)?, &mut source, &mut sink, &mut disk);
+    assert_eq!(rt; status, 0);
+    assert_eq!(rt; sink.written.as_slice(), b"logged 1\n".as_slice());
+    assert_eq!(rt; fs::read(&rt, "many/app.0")?.as_slice(), VOLUME.as_slice());
+    assert_eq!(rt; disk.volumes(), Ok(1));
+    assert_eq!(rt; disk.wrapped(), Ok(None));
+    fs::write(&rt, "many/app.7.xz", "x")?;
+    assert_eq!(rt; disk.wrapped(), Ok(Some(FileId::Volume(7))));
     Ok(())
 }
