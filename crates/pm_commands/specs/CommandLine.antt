@@ -52,13 +52,16 @@ once_of words = do
   file ← word_then file_of 3 usec.1
   end_then (Once record { stamp = record { sec = sec.0; usec = usec.0 }; file = file.0 }) 4 file.1
 
+-- the commands over images and their texts, without a further word
+abbrev pub image_command_of : List ℕ → List (List ℕ) → Result Command ℕ
+image_command_of word words =
+    if bytes_eq word (codes "mmv-make") then end_then MmvMake 1 words else
+    if bytes_eq word (codes "mmv-dump") then end_then MmvDump 1 words else Err 0
+
 -- The command, or the index of the first word that is bad or missing. A command that isn't known is bad at 0.
 abbrev pub command_of : List (List ℕ) → Result Command ℕ
 command_of [] = Err 0
-command_of (word ∷ words) =
-    if bytes_eq word (codes "once") then once_of words else
-    if bytes_eq word (codes "mmv-make") then end_then MmvMake 1 words else
-    if bytes_eq word (codes "mmv-dump") then end_then MmvDump 1 words else Err 0
+command_of (word ∷ words) = if bytes_eq word (codes "once") then once_of words else image_command_of word words
 
 -- what a function over words answered, seen by view, is what the definition says
 abbrev pub Gives : {X Y : Type 0} → (X → Y) → Result X ℕ → Result Y ℕ → Type 0

@@ -1,5 +1,5 @@
 -- What each command makes of its input, the whole of it: an output, or the refusal of an input that it doesn't read.
-use Rattle.std.specs.Prelude.{◌≡◌, ◌⊎◌, ℕ, Bool, true, false, if◌then◌else◌, List, [], Option, Some, None, Result, Ok, Err, codes}
+use Rattle.std.specs.Prelude.{◌≡◌, ℕ, Bool, true, false, if◌then◌else◌, List, [], Option, Some, None, Result, Ok, Err, codes}
 use Rattle.mmv_entries.specs.declared.fault.ImageFault.{ImageFault}
 use Rattle.mmv_entries.specs.Faults.{image_of}
 use Rattle.mmv_layout.specs.FirstForm.{is_first_form}
@@ -8,7 +8,7 @@ use Rattle.mmv_writer.specs.Reading.{text_image}
 use Rattle.pm_print.specs.Bytes.{bytes_of}
 use Rattle.pm_print.specs.Dumps.{dump_of}
 use Rattle.pm_commands.specs.declared.refusal.Refusal.{Refusal}
-use Rattle.pm_commands.specs.declared.refusal.Refusal.TheVariants.{Image, Line, LaterImage, NoMemory}
+use Rattle.pm_commands.specs.declared.refusal.Refusal.TheVariants.{Usage, ReadFault, InputLimit, Image, Line, LaterImage, LaterDisk, DiskFault, NoMemory}
 use Rattle.pm_commands.specs.declared.words.Command.{Command}
 use Rattle.pm_commands.specs.declared.words.Command.TheVariants.{Once, MmvMake, MmvDump}
 
@@ -17,17 +17,17 @@ abbrev pub input_limit : ℕ
 input_limit = 16777216
 
 -- `once` reads images of the first form
-unfoldable pub first_form_refusal : Result (List ℕ) ImageFault → Option Refusal
+abbrev pub first_form_refusal : Result (List ℕ) ImageFault → Option Refusal
 first_form_refusal (Ok words) = if is_first_form words then None else Some LaterImage
 first_form_refusal (Err fault) = Some (Image fault)
 
 -- `mmv-dump` reads images
-unfoldable pub image_refusal : Result (List ℕ) ImageFault → Option Refusal
+abbrev pub image_refusal : Result (List ℕ) ImageFault → Option Refusal
 image_refusal (Ok words) = None
 image_refusal (Err fault) = Some (Image fault)
 
 -- `mmv-make` reads layout texts
-unfoldable pub text_refusal : Result (List ℕ) TextFault → Option Refusal
+abbrev pub text_refusal : Result (List ℕ) TextFault → Option Refusal
 text_refusal (Ok words) = None
 text_refusal (Err fault) = Some (Line fault)
 
@@ -54,6 +54,14 @@ uses_disk (Once asked) = true
 uses_disk MmvMake = false
 uses_disk MmvDump = false
 
--- what is answered of an input that isn't read: its refusal, or that memory ran out
+-- what may be answered of an input that isn't run: its refusal, or that memory ran out
 abbrev pub Refuses : Command → List ℕ → Refusal → Type 0
-Refuses command input e = (e ≡ NoMemory) ⊎ (refusal_of command input ≡ Some e)
+Refuses command input NoMemory = Unit {0}
+Refuses command input (Image fault) = refusal_of command input ≡ Some (Image fault)
+Refuses command input (Line fault) = refusal_of command input ≡ Some (Line fault)
+Refuses command input LaterImage = refusal_of command input ≡ Some LaterImage
+Refuses command input (Usage at) = ⊥
+Refuses command input ReadFault = ⊥
+Refuses command input InputLimit = ⊥
+Refuses command input LaterDisk = ⊥
+Refuses command input DiskFault = ⊥

@@ -82,6 +82,7 @@ fn write_plan<D: Disk>(disk: &mut D, plan: &Plan) -> Result<(), Refusal>
 }
 
 /// Logs one result of an input, an image of the first form, over an empty disk.
+#[tactic(auto, using(crate::proofs::Served::refused_serves))]
 pub(crate) fn once<D: Disk>(
     alloc: Global,
     asked: &OnceWords,

@@ -16,6 +16,7 @@ use pcp_outside::{Disk, Sink, Source, write_all};
 use std::alloc::Global;
 
 // Does what a command asks for with its input.
+#[tactic(auto, using(crate::proofs::Served::refused_serves))]
 fn serve<D: Disk>(
     alloc: Global,
     command: &Command,
@@ -53,6 +54,7 @@ fn serve<D: Disk>(
 }
 
 // Runs the command that the words are.
+#[tactic(auto, using(crate::proofs::Served::served_cause, crate::proofs::Served::unread_cause))]
 fn run<I: Source, D: Disk>(
     alloc: Global,
     words: &[String],

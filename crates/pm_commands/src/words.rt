@@ -1,6 +1,6 @@
 ghost use Rattle.std.specs.Prelude.{◌≡◌, ◌<◌, ◌≤◌, length, map, string_bytes, IfOk};
 ghost use Rattle.pcp_base.specs.Texts.{IsText};
-ghost use Rattle.pm_commands.specs.CommandLine.{Reads, Gives, FitsCommand, command_of, end_then, once_of, second_of, microsecond_of, file_of, word_then};
+ghost use Rattle.pm_commands.specs.CommandLine.{Reads, Gives, FitsCommand, command_of, end_then, once_of, image_command_of, second_of, microsecond_of, file_of, word_then};
 
 use crate::numbers::read_number;
 use pcp_base::{Stamp, Text, TextError, is_component};
@@ -113,6 +113,22 @@ fn once_words(alloc: Global, words: &[String]) -> Result<Command, WordsFault>
     }
 }
 
+// A command over images and their texts, which has no further word.
+fn image_words(name: &[u8], words: &[String]) -> Result<Command, usize>
+    ensures command { Gives (λ command. command) result (image_command_of name.now (map string_bytes words.now)) }
+    ensures fits { IfOk result FitsCommand }
+{
+    if name == b"mmv-make".as_slice() {
+        end_at(words, 1)?;
+        return Ok(Command::MmvMake);
+    }
+    if name == b"mmv-dump".as_slice() {
+        end_at(words, 1)?;
+        return Ok(Command::MmvDump);
+    }
+    Err(0)
+}
+
 /// The command that the words are, or the index of the first word that is bad or missing. A command that
 /// isn't known is bad at 0.
 pub fn read_words(alloc: Global, words: &[String]) -> Result<Command, WordsFault>
@@ -122,17 +138,9 @@ pub fn read_words(alloc: Global, words: &[String]) -> Result<Command, WordsFault
     let [name, rest @ ..] = words else {
         return Err(WordsFault::Usage { at: 0 });
     };
-    let name = name.as_bytes();
-    if name == b"once".as_slice() {
+    if name.as_bytes() == b"once".as_slice() {
         return once_words(alloc, rest);
     }
-    if name == b"mmv-make".as_slice() {
-        end_at(rest, 1)?;
-        return Ok(Command::MmvMake);
-    }
-    if name == b"mmv-dump".as_slice() {
-        end_at(rest, 1)?;
-        return Ok(Command::MmvDump);
-    }
-    Err(WordsFault::Usage { at: 0 })
+    let command = image_words(name.as_bytes(), rest)?;
+    Ok(command)
 }

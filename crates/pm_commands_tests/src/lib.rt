@@ -7,4 +7,6 @@ mod refusals;
 #[cfg(test)]
 mod samples;
 #[cfg(test)]
+mod texts;
+#[cfg(test)]
 mod worked;

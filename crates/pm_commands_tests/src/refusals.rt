@@ -1,6 +1,6 @@
 use crate::samples::{HITS, INDEX, META, VOLUME, disk_failing, run, run_failing};
 use pcp_outside::{FileId, MemDisk};
-use std::alloc::{AllocError, Global};
+use std::alloc::Global;
 use std::test::Fail;
 
 fn is_empty(disk: &MemDisk) -> bool {
@@ -41,39 +41,50 @@ fn a_short_image_is_refused(rt: HostRuntime) -> Result<(), Fail> {
     Ok(())
 }
 
-/// The sample with one byte changed and further bytes behind it.
-fn changed(alloc: Global, at: usize, byte: u8, more: &[u8]) -> Result<Vec<u8>, AllocError> {
-    let mut image = Vec::from_slice(alloc, &HITS)?;
-    if at < image.len() {
-        image[at] = byte;
+/// The output where the sample, with one byte changed and further bytes behind it, is refused with status 2.
+fn refused(alloc: Global, at: usize, byte: u8, more: &[u8]) -> Result<Vec<u8>, Fail> {
+    let mut image = HITS.to_vec(alloc)?;
+    if let Some(old) = image.get_mut(at) {
+        *old = byte;
     }
     image.extend_from_slice(more)?;
-    Ok(image)
+    let mut disk = disk_failing(alloc, &[])?;
+    let ended = run(alloc, "once 100 0 app", &image, &mut disk)?;
+    if ended.status != 2 || !is_empty(&disk) {
+        return Ok(Vec::new(alloc));
+    }
+    Ok(ended.output)
+}
+
+// The contents entries of the sample stand at 40 and 56, the metric at 72 and the value at 176.
+
+#[test]
+fn each_fault_of_a_header_and_a_section_has_its_line(rt: HostRuntime) -> Result<(), Fail> {
+    let alloc = rt.alloc();
+    let magic = refused(alloc, 0, 0, &[])?;
+    assert_eq!(rt; magic.as_slice(), b"input image Magic\n".as_slice());
+    let version = refused(alloc, 4, 2, &[])?;
+    assert_eq!(rt; version.as_slice(), b"input image Version 2\n".as_slice());
+    let section = refused(alloc, 40, 6, &[])?;
+    assert_eq!(rt; section.as_slice(), b"input image Section 6\n".as_slice());
+    let offset = refused(alloc, 64, 0xb1, &HITS[..8])?;
+    assert_eq!(rt; offset.as_slice(), b"input image Offset 64\n".as_slice());
+    Ok(())
 }
 
 #[test]
-fn each_fault_of_an_image_has_its_line(rt: HostRuntime) -> Result<(), Fail> {
+fn each_fault_of_an_entry_has_its_line(rt: HostRuntime) -> Result<(), Fail> {
     let alloc = rt.alloc();
-    // The contents entries stand at 40 and 56, the metric at 72 and the value at 176.
-    let cases = [
-        (0, 0, HITS.get(..0), "input image Magic\n"),
-        (4, 2, HITS.get(..0), "input image Version 2\n"),
-        (40, 6, HITS.get(..0), "input image Section 6\n"),
-        (64, 0xb1, HITS.get(..8), "input image Offset 64\n"),
-        (72, b'1', HITS.get(..0), "input image Name 72\n"),
-        (140, 7, HITS.get(..0), "input image Kind 140\n"),
-        (192, 0x49, HITS.get(..0), "input image Reference 192\n"),
-        (60, 2, HITS.get(176..), "input image Duplicate 208\n"),
-        (137, 4, HITS.get(..0), "input image Serial 136\n"),
-    ];
-    for (at, byte, more, line) in cases {
-        let image = changed(alloc, at, byte, more.unwrap_or(&[]))?;
-        let mut disk = disk_failing(alloc, &[])?;
-        let ended = run(alloc, "once 100 0 app", &image, &mut disk)?;
-        assert_eq!(rt; ended.status, 2, "at {at}");
-        assert_eq!(rt; ended.output.as_slice(), line.as_bytes(), "at {at}");
-        assert!(rt; is_empty(&disk), "at {at}");
-    }
+    let name = refused(alloc, 72, b'1', &[])?;
+    assert_eq!(rt; name.as_slice(), b"input image Name 72\n".as_slice());
+    let kind = refused(alloc, 140, 7, &[])?;
+    assert_eq!(rt; kind.as_slice(), b"input image Kind 140\n".as_slice());
+    let reference = refused(alloc, 192, 0x49, &[])?;
+    assert_eq!(rt; reference.as_slice(), b"input image Reference 192\n".as_slice());
+    let duplicate = refused(alloc, 60, 2, &HITS[176..])?;
+    assert_eq!(rt; duplicate.as_slice(), b"input image Duplicate 208\n".as_slice());
+    let serial = refused(alloc, 137, 4, &[])?;
+    assert_eq!(rt; serial.as_slice(), b"input image Serial 136\n".as_slice());
     Ok(())
 }
 
@@ -109,6 +120,9 @@ fn bad_words_are_told_by_their_index(rt: HostRuntime) -> Result<(), Fail> {
         ("once 100 1000000 app", "usage 2\n"),
         ("once 100 x app", "usage 2\n"),
         ("once 100 0 app.hits", "usage 3\n"),
+        ("mmv-make 1", "usage 1\n"),
+        ("mmv-dump -x", "usage 1\n"),
+        ("mmv-mak", "usage 0\n"),
         ("once 100 0 7app", "usage 3\n"),
         (long, "usage 3\n"),
     ];
