@@ -6,9 +6,8 @@ ghost use Rattle.mmv_layout.specs.Rows.{signed32, help_of, instance_row, instanc
 
 use crate::rows::{Content, IndomRow, Layout, MetricRow, ValueRow};
 use mmv_entries::{
-    NAME_SIZE, STRING_SIZE, indom_at, indom_count, is_no_domain, metric_at,
-    metric_count, metric_of, number32, number64, run_at, string_at, string_count, text_at, value_at,
-    value_count,
+    NAME_SIZE, STRING_SIZE, indom_at, indom_count, is_no_domain, metric_at, metric_count,
+    metric_of, number32, number64, run_at, string_at, string_count, text_at, value_at, value_count,
 };
 use pcp_base::{Kind, List, NoMemory, Semantics, Text, TextError, Units};
 use std::alloc::Global;
