@@ -5,7 +5,7 @@ use Rattle.pcp_base.specs.Codes.{kind_of_code}
 use Rattle.pcp_base.specs.declared.kind.Kind.TheVariants.{I32, U32}
 use Rattle.pcp_base.proofs.Spelling.{spelt}
 use Rattle.mmv_entries.specs.Fields.{number32, text_at}
-use Rattle.mmv_entries.specs.Entries.{metric_at, metric_count, value_count, has_name, has_good_fields, is_good_metric, metrics_are_good}
+use Rattle.mmv_entries.specs.Entries.{metric_at, metric_count, has_name, has_good_fields, is_good_metric, metrics_are_good}
 use Rattle.mmv_entries.specs.Images.{is_image}
 use Rattle.mmv_entries.proofs.Texts.{text_short}
 use Rattle.mmv_entries.proofs.Below.{all_at, both_left, both_right}
@@ -19,10 +19,6 @@ image words h = both_left _ _ (both_left _ _ (both_left _ _ (both_left _ _ h)))
 one_metric : (words : List ℕ) → is_first_form words ≡ true → nat_eq (metric_count words) 1 ≡ true
 unfolding is_first_form
 one_metric words h = both_right _ _ (both_left _ _ (both_left _ _ h))
-
-one_value : (words : List ℕ) → is_first_form words ≡ true → nat_eq (value_count words) 1 ≡ true
-unfolding is_first_form
-one_value words h = both_right _ _ (both_left _ _ h)
 
 plain : (words : List ℕ) → is_first_form words ≡ true → is_plain_metric words (metric_at words 0) ≡ true
 unfolding is_first_form
