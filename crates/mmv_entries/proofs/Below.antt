@@ -30,10 +30,6 @@ pub some_more : (n : ℕ) (test : ℕ → Bool) → some_below (n + 1) test ≡ 
 unfolding some_below
 some_more n test = rw add-one
 
-pub all_one : (test : ℕ → Bool) → all_below 1 test ≡ test 0
-unfolding all_below
-all_one test = refl
-
 below_suc : (k n : ℕ) → k < suc n → (k < n) ⊎ (k ≡ n)
 below_suc k n h = grind arith
 

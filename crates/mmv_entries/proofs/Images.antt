@@ -26,10 +26,6 @@ header : (words : List ℕ) → is_image words ≡ true → has_good_header word
 unfolding is_image
 header words h = both_left _ _ (both_left _ _ (both_left _ _ (both_left _ _ (both_left _ _ (both_left _ _ (both_left _ _ h))))))
 
-pub sections : (words : List ℕ) → is_image words ≡ true → sections_are_good words ≡ true
-unfolding is_image
-sections words h = both_right _ _ (both_left _ _ (both_left _ _ (both_left _ _ (both_left _ _ (both_left _ _ (both_left _ _ h))))))
-
 not_true : (b : Bool) → not b ≡ true → b ≡ false
 not_true true h = cc
 not_true false h = refl

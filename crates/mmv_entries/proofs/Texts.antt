@@ -1,7 +1,7 @@
 -- Texts up to a zero byte, one byte after the other, and words of bytes.
-use Rattle.std.proofs.Common.{◌≡◌, ◌≢◌, ℕ, zero, suc, ◌+◌, ◌-◌, ◌<◌, ◌≤◌, Bool, true, false, ◌&&◌, List, [], ◌∷◌, ◌++◌, length, take, drop, ap, ap₂, sym, ◌∙◌, refl, arith, append_assoc, append-nil, cond, bytes_eq, nat_eq, true≢false, get_or, add-zero, ◌⊎◌, ⊎_elim, subst}
+use Rattle.std.proofs.Common.{◌≡◌, ◌≢◌, ℕ, zero, suc, ◌+◌, ◌-◌, ◌<◌, ◌≤◌, Bool, true, false, List, [], ◌∷◌, ◌++◌, length, take, drop, ap, sym, ◌∙◌, refl, arith, append_assoc, append-nil, cond, nat_eq, true≢false, get_or, add-zero, ◌⊎◌, ⊎_elim, subst}
 use Rattle.pcp_base.specs.Texts.{IsFirstZero}
-use Rattle.std.proofs.lemmas.Bool.{eqb-true, eqb-false, eq-eqb}
+use Rattle.std.proofs.lemmas.Bool.{eqb-false}
 use Rattle.std.proofs.lemmas.Bool.Decides.{nat_tests}
 use Rattle.std.specs.Int.{w64, from_le_bytes}
 use Rattle.mmv_entries.specs.Fields.{byte_at, text_at, has_zero, first_words}
@@ -34,32 +34,6 @@ text_grows words made whole at next n m byte e f is z h =
   where
     isnt_zero : (a b : ℕ) → a ≡ b → a ≢ 0 → nat_eq b 0 ≡ false
     isnt_zero a b e n = grind (arith, nat_tests)
-
-differ_at : (tx ty : Bool) (x y : ℕ) (xs ys : List ℕ) → nat_eq x 0 ≡ tx → nat_eq y 0 ≡ ty → nat_eq x y ≡ false → bytes_eq (cond tx [] (x ∷ xs)) (cond ty [] (y ∷ ys)) ≡ false
-differ_at true true x y xs ys ex ey d = absurd (true≢false (sym (eq-eqb x y (eqb-true x 0 ex ∙ sym (eqb-true y 0 ey))) ∙ d))
-differ_at true false x y xs ys ex ey d = refl
-differ_at false true x y xs ys ex ey d = refl
-differ_at false false x y xs ys ex ey d = ap (λ t. t && bytes_eq xs ys) d
-
--- texts whose bytes here differ
-pub texts_differ : (words : List ℕ) (a b n : ℕ) → 0 < n → nat_eq (byte_at words a) (byte_at words b) ≡ false → bytes_eq (text_at words a n) (text_at words b n) ≡ false
-texts_differ words a b n h d =
-    ap₂ bytes_eq (text_more words a (a + 1) n (n - 1) (omega arith) refl) (text_more words b (b + 1) n (n - 1) (omega arith) refl)
-    ∙ differ_at _ _ _ _ _ _ refl refl d
-
--- texts that end here alike
-pub texts_end : (words : List ℕ) (a b n : ℕ) → (0 < n → byte_at words a ≡ 0) → (0 < n → byte_at words b ≡ 0) → bytes_eq (text_at words a n) (text_at words b n) ≡ true
-texts_end words a b zero x y = ap₂ bytes_eq (text_none words a 0 refl) (text_none words b 0 refl)
-texts_end words a b (suc n) x y = ap₂ bytes_eq (text_stops words a (suc n) (omega arith) (x (omega arith))) (text_stops words b (suc n) (omega arith) (y (omega arith)))
-
--- texts that go on alike
-pub texts_go : (words : List ℕ) (a b next_a next_b n m : ℕ) → n ≡ suc m → next_a ≡ a + 1 → next_b ≡ b + 1 → byte_at words a ≡ byte_at words b → byte_at words a ≢ 0 → bytes_eq (text_at words next_a m) (text_at words next_b m) ≡ bytes_eq (text_at words a n) (text_at words b n)
-texts_go words a b next_a next_b n m e fa fb same z =
-    sym (ap₂ bytes_eq (text_goes words a next_a n m e fa (isnt_zero _ z)) (text_goes words b next_b n m e fb (isnt_zero _ (λ q. z (same ∙ q))))
-    ∙ ap (λ t. t && bytes_eq (text_at words next_a m) (text_at words next_b m)) (eq-eqb _ _ same))
-  where
-    isnt_zero : (a : ℕ) → a ≢ 0 → nat_eq a 0 ≡ false
-    isnt_zero a n = grind (arith, nat_tests)
 
 -- no words are left
 pub words_end : (made whole bytes : List ℕ) (n : ℕ) → n ≡ 0 → made ++ first_words n bytes ≡ whole → made ≡ whole

@@ -1,4 +1,5 @@
-ghost use Rattle.std.specs.Prelude.{◌≡◌, ◌<◌, ◌^◌};
+ghost use Rattle.std.specs.Prelude.{◌≡◌, ◌+◌, ◌*◌, ◌<◌, ◌^◌};
+ghost use Rattle.mmv_entries.specs.Fields.{number64};
 ghost use Rattle.mmv_entries.specs.Entries.{leads, leads_to_indom, leads_to_instance, leads_to_metric, leads_to_string, indom_at, instance_at, metric_at, value_at, string_at, help_leads};
 
 use crate::contents::{
@@ -69,6 +70,15 @@ pub fn instance_at(words: &[u64], i: u32) -> u128
     ensures bound { result < 2 ^ 80 }
 {
     section_of(words, INSTANCES).place as u128 + INSTANCE_SIZE as u128 * i as u128
+}
+
+/// The place of an instance of the run of the domain at a place.
+pub fn run_at(words: &[u64], domain: u128, k: u32) -> u128
+    requires { domain < 2 ^ 80 }
+    ensures place { result ≡ number64 words.now (domain + 8) + 80 * k }
+    ensures bound { result < 2 ^ 80 }
+{
+    number64(words, domain + 8) as u128 + INSTANCE_SIZE as u128 * k as u128
 }
 
 /// The place of a metric.

@@ -3,8 +3,8 @@ ghost use Rattle.mmv_entries.specs.Keys.{HasSerials};
 ghost use Rattle.mmv_entries.specs.Entries.{is_instance_of, has_good_run, indom_count};
 ghost use Rattle.mmv_entries.specs.Faults.{HasSections, help_fault, indom_reference_fault, indoms_reference_fault, indoms_duplicate_fault, indoms_serial_fault};
 
-use crate::contents::{INDOMS, INSTANCE_SIZE, section_of};
-use crate::entries::{help_leads, indom_at, leads_to_instance};
+use crate::contents::{INDOMS, section_of};
+use crate::entries::{help_leads, indom_at, leads_to_instance, run_at};
 use crate::fields::{number32, number64};
 use crate::keys::{Key, first_again};
 use crate::places::indom_place;
@@ -25,9 +25,8 @@ fn has_good_run(words: &[u64], domain: u128) -> bool
     requires { domain < 2 ^ 80 }
     ensures { result ≡ has_good_run words.now domain }
 {
-    let first = number64(words, domain + 8) as u128;
     for k in 0..number32(words, domain + 4) {
-        if !is_instance_of(words, domain, first + INSTANCE_SIZE as u128 * k as u128) {
+        if !is_instance_of(words, domain, run_at(words, domain, k)) {
             return false;
         }
     }

@@ -15,8 +15,8 @@ mod metrics;
 mod places;
 mod values;
 
-pub use contents::{INSTANCE_SIZE, STRING_SIZE};
-pub use entries::{indom_at, instance_at, metric_at, string_at, value_at};
+pub use contents::STRING_SIZE;
+pub use entries::{indom_at, metric_at, run_at, string_at, value_at};
 pub use fault::ImageFault;
 pub use fields::{NAME_SIZE, number32, number64, text_at, words_of};
 pub use first_fault::image_fault;

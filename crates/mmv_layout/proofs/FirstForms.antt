@@ -1,18 +1,16 @@
 -- What is known of a first-form image.
-use Rattle.std.proofs.Common.{◌≡◌, ◌≢◌, ℕ, ◌+◌, ◌<◌, ◌≤◌, true, ◌⊎◌, inl, inr, List, length, ap, sym, subst, refl, arith, nat_eq, unwrap_or, ⊎_elim, slice_index}
+use Rattle.std.proofs.Common.{◌≡◌, ℕ, ◌+◌, ◌<◌, ◌≤◌, true, ◌⊎◌, inl, inr, List, length, ap, sym, subst, arith, nat_eq, unwrap_or, ⊎_elim}
 use Rattle.pcp_base.specs.Names.{IsName, spells}
 use Rattle.pcp_base.specs.Codes.{kind_of_code}
 use Rattle.pcp_base.specs.declared.kind.Kind.TheVariants.{I32, U32}
-use Rattle.mmv_entries.specs.Fields.{number32, number64, text_at}
-use Rattle.mmv_entries.specs.Contents.{bytes_in, section_bytes, section_of}
-use Rattle.mmv_entries.specs.Entries.{metric_at, metric_count, value_count, has_name, has_good_fields, is_good_metric, metrics_are_good}
-use Rattle.mmv_entries.specs.Images.{is_image}
-use Rattle.mmv_layout.specs.FirstForm.{is_plain_metric, is_first_form, only_name, only_item, only_kind, only_value}
 use Rattle.pcp_base.proofs.Spelling.{spelt}
+use Rattle.mmv_entries.specs.Fields.{number32, text_at}
+use Rattle.mmv_entries.specs.Entries.{metric_at, metric_count, has_name, has_good_fields, is_good_metric, metrics_are_good}
+use Rattle.mmv_entries.specs.Images.{is_image}
 use Rattle.mmv_entries.proofs.Texts.{text_short}
 use Rattle.mmv_entries.proofs.Below.{all_at, both_left, both_right}
-use Rattle.mmv_entries.proofs.Lies.{le_of, eq_of, section_ends}
-use Rattle.mmv_entries.proofs.Images.{sections}
+use Rattle.mmv_entries.proofs.Lies.{le_of, eq_of}
+use Rattle.mmv_layout.specs.FirstForm.{is_plain_metric, is_first_form, only_name, only_item, only_kind}
 
 pub image : (words : List ℕ) → is_first_form words ≡ true → is_image words ≡ true
 unfolding is_first_form
@@ -21,10 +19,6 @@ image words h = both_left _ _ (both_left _ _ (both_left _ _ (both_left _ _ h)))
 one_metric : (words : List ℕ) → is_first_form words ≡ true → nat_eq (metric_count words) 1 ≡ true
 unfolding is_first_form
 one_metric words h = both_right _ _ (both_left _ _ (both_left _ _ h))
-
-one_value : (words : List ℕ) → is_first_form words ≡ true → nat_eq (value_count words) 1 ≡ true
-unfolding is_first_form
-one_value words h = both_right _ _ (both_left _ _ h)
 
 plain : (words : List ℕ) → is_first_form words ≡ true → is_plain_metric words (metric_at words 0) ≡ true
 unfolding is_first_form

@@ -3,8 +3,8 @@
 use Rattle.std.specs.Prelude.{◌≡◌, ℕ, ◌^◌, ◌<◌, ◌≤◌, List, ◌++◌, length, All, Contains, slice_index, slice_set, map, negsuc, unwrap_or}
 use Rattle.pcp_base.specs.declared.kind.Kind.{Kind}
 use Rattle.pcp_base.specs.declared.kind.Kind.TheVariants as kinds
-use Rattle.mmv_layout.specs.declared.rows.Slot.{Slot}
 use Rattle.mmv_entries.specs.Images.{IsImage}
+use Rattle.mmv_layout.specs.declared.rows.Slot.{Slot}
 use Rattle.mmv_layout.specs.declared.rows.ValueRow.{ValueRow}
 use Rattle.mmv_layout.specs.declared.rows.Content.{Content}
 use Rattle.mmv_layout.specs.declared.rows.Content.TheVariants.{Number, Choice}

@@ -4,10 +4,10 @@ ghost use Rattle.pcp_base.specs.Names.{IsName};
 ghost use Rattle.mmv_entries.specs.Contents.{cluster_in, is_short};
 ghost use Rattle.mmv_entries.specs.Fields.{words_of};
 ghost use Rattle.mmv_entries.specs.Faults.{image_in, image_of};
+ghost use Rattle.mmv_entries.specs.Images.{IsImage};
 ghost use Rattle.mmv_layout.specs.Form.{slots_of, texts_of, IsSlotOf, IsOther};
 ghost use Rattle.mmv_layout.specs.Rows.{layout_of};
 ghost use Rattle.mmv_layout.specs.Says.{Says};
-ghost use Rattle.mmv_entries.specs.Images.{IsImage};
 ghost use Rattle.mmv_layout.specs.FirstForm.{is_plain_metric, is_first_form, IsFirstForm, only_item, only_kind, only_semantics, only_units, only_name, only_metric, only_value};
 
 use crate::layout::layout;

@@ -1,14 +1,13 @@
 ghost use Rattle.std.specs.Prelude.{◌≡◌, ◌<◌, ◌^◌, IfOk};
 ghost use Rattle.mmv_entries.specs.Images.{IsImage};
-ghost use Rattle.mmv_layout.specs.Says.{Says};
 ghost use Rattle.mmv_entries.specs.Fields.{text_at};
+ghost use Rattle.mmv_layout.specs.Says.{Says};
 ghost use Rattle.mmv_layout.specs.Rows.{signed32, help_of, instance_row, instances_of, indom_row, serial_of, metric_row, instance_of, content_of, value_row, indoms_of, metrics_of, values_of, strings_of, layout_of};
 
 use crate::rows::{Content, IndomRow, Layout, MetricRow, ValueRow};
 use mmv_entries::{
-    INSTANCE_SIZE, NAME_SIZE, STRING_SIZE, indom_at, indom_count, is_no_domain, metric_at,
-    metric_count, metric_of, number32, number64, string_at, string_count, text_at, value_at,
-    value_count,
+    NAME_SIZE, STRING_SIZE, indom_at, indom_count, is_no_domain, metric_at, metric_count,
+    metric_of, number32, number64, run_at, string_at, string_count, text_at, value_at, value_count,
 };
 use pcp_base::{Kind, List, NoMemory, Semantics, Text, TextError, Units};
 use std::alloc::Global;
@@ -70,10 +69,9 @@ fn instances_of(alloc: Global, words: &[u64], domain: u128) -> Result<List<(i32,
     requires { domain < 2 ^ 80 }
     ensures { IfOk result (λ rows. rows ≡ instances_of words.now domain) }
 {
-    let first = number64(words, domain + 8) as u128;
     let mut rows = List::empty(alloc);
     for k in 0..number32(words, domain + 4) {
-        let row = instance_row(alloc, words, first + INSTANCE_SIZE as u128 * k as u128)?;
+        let row = instance_row(alloc, words, run_at(words, domain, k))?;
         rows.push(row)?;
     }
     Ok(rows)
