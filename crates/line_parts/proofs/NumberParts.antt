@@ -11,17 +11,17 @@ use Rattle.line_parts.proofs.Decimals.{number32-decimal, number64-decimal, decim
 use Rattle.line_parts.proofs.Hexes.{hex_number-text, hex_is, glyph_is}
 use Rattle.line_parts.proofs.Splitting.{IsWord, take_as_of}
 
-word-decimal : (n : ℕ) → n < 18446744073709551616 → IsWord (decimal n)
+pub word-decimal : (n : ℕ) → n < 18446744073709551616 → IsWord (decimal n)
 word-decimal n h = decimal_is (λ b. b ≢ 32) (λ b low high e. omega arith) n h
 
-word-minus : (n : ℕ) → n < 18446744073709551616 → IsWord (45 ∷ decimal n)
+pub word-minus : (n : ℕ) → n < 18446744073709551616 → IsWord (45 ∷ decimal n)
 word-minus n h = All-cons (λ b. b ≢ 32) 45 (decimal n) (λ e. omega arith) (word-decimal n h)
 
 word-signed : (n : ℤ) → mag n < 2147483648 → IsWord (signed_decimal n)
 word-signed (pos n) h = word-decimal n (omega arith)
 word-signed (negsuc n) h = word-minus (suc n) (omega arith)
 
-word-hex : (count n : ℕ) → IsWord (hex_text count n)
+pub word-hex : (count n : ℕ) → IsWord (hex_text count n)
 word-hex count n = hex_is (λ b. b ≢ 32) (λ d h e. omega (arith, glyph_is d h)) count n
 
 word-missing : IsWord (codes "-")

@@ -1,7 +1,9 @@
 -- A word that is written behind a space is taken again.
-use Rattle.std.proofs.Common.{◌≡◌, ◌≢◌, ℕ, ◌+◌, one-add, cond, List, [], ◌∷◌, ◌++◌, length, take, drop, refl, ap, ◌∙◌, eq-eqb, ne_eqb, Option, Some, All}
+use Rattle.std.proofs.Common.{not, true, ◌==◌, ◌≡◌, ◌≢◌, ℕ, ◌+◌, one-add, cond, List, [], ◌∷◌, ◌++◌, length, take, drop, refl, ap, ◌∙◌, eq-eqb, ne_eqb, Option, Some, All}
+use Rattle.std.specs.List.{list_all}
+use Rattle.std.proofs.lemmas.Bool.{and_parts, not-true, eqb-false}
 use Rattle.std.proofs.Math.Seq.{take-append_seam, drop-append_seam}
-use Rattle.std.proofs.lemmas.List.Elements.{All-head, All-tail}
+use Rattle.std.proofs.lemmas.List.Elements.{All-nil, All-cons, All-head, All-tail}
 use Rattle.line_parts.specs.Laws.{EndsWord}
 use Rattle.line_parts.specs.Numbers.{◌>>=◌}
 use Rattle.line_parts.specs.Words.{word_length, first_word, behind_word, take_word, take_as}
@@ -9,6 +11,13 @@ use Rattle.line_parts.specs.Words.{word_length, first_word, behind_word, take_wo
 -- no byte is a space
 abbrev pub IsWord : List ℕ → Type 0
 IsWord word = All (λ b. b ≢ 32) word
+
+-- which a written word shows by computing
+pub plain_word : (word : List ℕ) → list_all (λ b. not (b == 32)) word ≡ true → IsWord word
+plain_word [] h = All-nil (λ b. b ≢ 32)
+plain_word (b ∷ word) h =
+    let tests = and_parts (not (b == 32)) (list_all (λ c. not (c == 32)) word) h in
+    All-cons (λ c. c ≢ 32) b word (eqb-false b 32 (not-true (b == 32) tests.0)) (plain_word word tests.1)
 
 -- the word ends where it was written to
 word_length_of : (word more : List ℕ) → IsWord word → EndsWord more → word_length (word ++ more) ≡ length word
