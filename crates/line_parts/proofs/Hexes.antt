@@ -21,7 +21,7 @@ glyph_value d h = eqb-true _ _ (agree_below_at (λ x. hex_digit (hex_glyph x) ==
 pub glyph_is : (d : ℕ) → d < 16 → (48 ≤ hex_glyph d) × (hex_glyph d ≤ 102)
 glyph_is d h = (leb-true _ _ (agree_below_at (λ x. nat_le 48 (hex_glyph x)) (λ x. true) 16 d refl h), leb-true _ _ (agree_below_at (λ x. nat_le (hex_glyph x) 102) (λ x. true) 16 d refl h))
 
-length-hex : (count n : ℕ) → length (hex_text count n) ≡ count
+pub length-hex : (count n : ℕ) → length (hex_text count n) ≡ count
 unfolding hex_text
 length-hex zero n = refl
 length-hex (suc k) n = length-append (hex_text k (n / 16)) (hex_glyph (n % 16) ∷ []) ∙ ap (λ m. m + 1) (length-hex k (n / 16)) ∙ omega arith

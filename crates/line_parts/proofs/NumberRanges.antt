@@ -36,7 +36,7 @@ plain_range word negative n e =
     let low : m < 18446744073709551616 = number64_range word m reads in
     (omega (arith, same.1), λ h. let f : false ≡ true = same.0 ∙ h in absurd cc)
 
-signed_range : (word : List ℕ) (negative : Bool) (n : ℕ) → signed_number word ≡ Some (negative, n) → IsSigned negative n
+pub signed_range : (word : List ℕ) (negative : Bool) (n : ℕ) → signed_number word ≡ Some (negative, n) → IsSigned negative n
 unfolding signed_number
 signed_range [] negative n e = cc
 signed_range (b ∷ bs) negative n e =
@@ -72,7 +72,7 @@ hex_value_range before (b ∷ bs) h =
     let same : (16 * (before + 1)) * 16 ^ length bs ≡ (before + 1) * 16 ^ suc (length bs) = scaled (before + 1) (16 ^ length bs) (16 ^ suc (length bs)) (omega arith) in
     omega arith
 
-hex_range : (count : ℕ) (word : List ℕ) (n : ℕ) → hex_number count word ≡ Some n → n < 16 ^ count
+pub hex_range : (count : ℕ) (word : List ℕ) (n : ℕ) → hex_number count word ≡ Some n → n < 16 ^ count
 unfolding hex_number
 hex_range count word n e =
     let t = passed (length word == count && list_all is_hex word) (hex_value 0 word) n e in

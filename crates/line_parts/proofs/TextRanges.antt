@@ -94,7 +94,7 @@ quoted_takes bytes left text h e =
     (either (starts_quoted bytes) (text_within (length bytes) (drop 1 bytes)) None (Some (text, left)) e)
 
 -- what stands behind the space of a line's part
-behind_space : (bytes left : List ℕ) (u : Unit {0}) → take_space bytes ≡ Some (u, left) → All IsLineByte bytes → All IsLineByte left
+pub behind_space : (bytes left : List ℕ) (u : Unit {0}) → take_space bytes ≡ Some (u, left) → All IsLineByte bytes → All IsLineByte left
 behind_space bytes left u e h = subst (All IsLineByte) (sym (space_taken bytes left u e)) (All-drop IsLineByte 1 bytes h)
 
 pub takes_texts : TakesTexts
