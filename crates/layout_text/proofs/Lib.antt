@@ -1,3 +1,4 @@
+pub mod ContentRanges
 pub mod ContentReads
 pub mod LineBytes
 pub mod LineReads
