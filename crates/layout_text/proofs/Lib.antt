@@ -1,1 +1,7 @@
+pub mod ContentRanges
+pub mod ContentReads
+pub mod LineBytes
+pub mod LineReads
+pub mod MetricWords
+pub mod ReadRanges
 pub mod Zeros

@@ -1,11 +1,16 @@
--- What a line may carry, and that exactly such lines are written and read.
-use Rattle.std.specs.Prelude.{◌≡◌, ◌≢◌, ℕ, ◌<◌, List, length, slice_index, Some, IfSome, All}
+-- What a line and a value may carry, and that exactly such lines and values are written and read.
+use Rattle.std.specs.Prelude.{◌≡◌, ◌≢◌, ◌⊎◌, ℕ, ◌<◌, ◌≤◌, List, length, slice_index, Some, IfSome, All}
+use Rattle.pcp_base.specs.declared.kind.Kind.{Kind}
+use Rattle.pcp_base.specs.declared.kind.Kind.TheVariants as kinds
+use Rattle.mmv_layout.specs.declared.rows.Content.{Content}
+use Rattle.mmv_layout.specs.declared.rows.Content.TheVariants as contents
 use Rattle.mmv_layout.specs.declared.rows.MetricRow.{MetricRow}
 use Rattle.line_parts.specs.Laws.{IsLineByte, IsTextByte, IsInt32, IsSigned}
 use Rattle.layout_text.specs.declared.line.Line.{Line}
 use Rattle.layout_text.specs.declared.line.Line.TheVariants as lines
 use Rattle.layout_text.specs.declared.line.Written.{Written}
 use Rattle.layout_text.specs.declared.line.Written.TheVariants as written
+use Rattle.layout_text.specs.Contents.{content_of, written_of}
 use Rattle.layout_text.specs.Lines.{line_of}
 use Rattle.layout_text.specs.Spelling.{line_text}
 
@@ -59,3 +64,34 @@ WrittenLineIsOne = (line : Line) → IsLine line → All IsLineByte (line_text l
 -- what is read of a line's bytes may be written
 abbrev pub ReadLineIsLine : Type 0
 ReadLineIsLine = (bytes : List ℕ) (line : Line) → All IsLineByte bytes → line_of bytes ≡ Some line → IsLine line
+
+-- What the fields of a value may hold: numbers of 64 bits, a text without a zero byte.
+abbrev pub IsField : Content → Type 0
+IsField (contents.Number n) = IsNumber64 n
+IsField (contents.Choice text) = All IsTextByte text
+IsField (contents.Raw value extra) = IsNumber64 value × IsNumber64 extra
+
+-- The content that a value of this kind may have: a number of the kind's range as 64 bits of two's complement, a text,
+-- or two fields of any bits. A value field of 32 bits whose high half is other than this number's isn't printed whole.
+abbrev pub IsContent : Kind → Content → Type 0
+IsContent kinds.I32 (contents.Number n) = (n < 2147483648) ⊎ ((18446744071562067968 ≤ n) × IsNumber64 n)
+IsContent kinds.U32 (contents.Number n) = IsNumber32 n
+IsContent kinds.I64 (contents.Number n) = IsNumber64 n
+IsContent kinds.U64 (contents.Number n) = IsNumber64 n
+IsContent kinds.Text (contents.Choice text) = Unit {0}
+IsContent kinds.Float (contents.Raw value extra) = Unit {0}
+IsContent kinds.Double (contents.Raw value extra) = Unit {0}
+IsContent kinds.Elapsed (contents.Raw value extra) = Unit {0}
+IsContent _ _ = ⊥
+
+-- What is written of a value's content is read as that content,
+abbrev pub WrittenContentIsRead : Type 0
+WrittenContentIsRead = (kind : Kind) (content : Content) → IsContent kind content → content_of kind (written_of kind content) ≡ Some content
+
+-- of no other content,
+abbrev pub ReadContentIsContent : Type 0
+ReadContentIsContent = (kind : Kind) (is : Written) (content : Content) → content_of kind is ≡ Some content → IsContent kind content
+
+-- and it may stand in a line.
+abbrev pub WrittenContentIsWritten : Type 0
+WrittenContentIsWritten = (kind : Kind) (content : Content) → IsField content → IsWritten (written_of kind content)
