@@ -1,7 +1,5 @@
 pub mod Draft
 pub mod Laws
-pub mod Places
 pub mod Refusals
 pub mod Rules
 pub mod Saying
-pub mod Spelling

@@ -5,12 +5,8 @@
 mod builder;
 mod fault;
 mod laws;
-mod places;
-mod references;
 mod rules;
 mod spelling;
-mod strings;
-mod words;
 
 pub use builder::Builder;
 pub use fault::BuildFault;
