@@ -1,5 +1,5 @@
 -- A draft with one row more is a draft, where no rule forbids the row.
-use Rattle.std.proofs.Common.{◌≡◌, ◌≢◌, ℕ, zero, suc, ◌+◌, ◌<◌, ◌≤◌, ◌^◌, ℤ, pos, negsuc, Bool, true, false, not, ◌&&◌, ◌||◌, ◌⊎◌, inl, inr, List, [], ◌∷◌, ◌++◌, length, get_or, set, take, drop, ap, ap₂, sym, subst, ◌∙◌, refl, arith, ⊎_elim, true≢false, cond, nat_eq, nat_le, add-one, Option, Some, None}
+use Rattle.std.proofs.Common.{◌≡◌, ◌≢◌, ℕ, zero, suc, ◌+◌, ◌<◌, ◌≤◌, ◌^◌, ℤ, pos, negsuc, Bool, true, false, not, ◌&&◌, ◌||◌, ◌⊎◌, inl, inr, List, [], ◌∷◌, ◌++◌, length, get_or, set, take, drop, ap, ap₂, sym, subst, ◌∙◌, refl, arith, ⊎_elim, cond, nat_eq, nat_le, add-one, Option, Some, None}
 use Rattle.std.specs.List.{list_any, slice_get}
 use Rattle.std.specs.Int.{w32, is_negative}
 use Rattle.std.specs.Int.RustNames.{FitsSigned}
@@ -10,12 +10,11 @@ use Rattle.mmv_layout.specs.declared.rows.IndomRow.{IndomRow}
 use Rattle.mmv_layout.specs.declared.rows.MetricRow.{MetricRow}
 use Rattle.mmv_layout.specs.declared.rows.ValueRow.{ValueRow}
 use Rattle.mmv_layout.specs.declared.rows.Layout.{Layout}
-use Rattle.mmv_layout.proofs.Below.{both_left, both_right}
 use Rattle.mmv_writer.specs.declared.fault.BuildFault.{BuildFault}
 use Rattle.mmv_writer.specs.declared.fault.BuildFault.TheVariants.{Name, Duplicate, Unknown, Serial, Item}
 use Rattle.mmv_writer.specs.Rules.{is_long, is_long_help, has_domain, is_serial, indom_fault, is_instance_name, is_same_instance, has_same_instance, instance_fault, is_metric_name, is_same_metric, lacks_domain, unknown_or, metric_fault, has_instance, fits_instance, fits_kind, fits_metric, fits_some_metric, is_same_value, is_long_content, value_fault, text_fault}
 use Rattle.mmv_writer.specs.Draft.{Each, Apart, IsStored, IsString, IsHelp, IsNumber, IsInstance, IsDomain, HasDomain, IsMetric, IsContent, IsValue, is_same_serial, IsDraft, empty_draft, with_domain, add_instance, with_instance, with_metric, with_value, with_string}
-use Rattle.mmv_writer.proofs.Rows.{get_snoc, any_at, each_snoc, apart_snoc, any_longer, any_wider}
+use Rattle.mmv_writer.proofs.Rows.{any_at, each_snoc, apart_snoc, any_longer, any_wider}
 
 -- What a row that no rule forbids is
 

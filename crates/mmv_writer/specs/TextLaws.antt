@@ -6,7 +6,7 @@ use Rattle.mmv_layout.specs.Rows.{layout_of}
 use Rattle.layout_text.specs.Contents.{content_of, written_of}
 use Rattle.layout_text.specs.Whole.{kind_of_item, layout_text}
 use Rattle.mmv_writer.specs.Draft.{Each, IsDraft}
-use Rattle.mmv_writer.specs.Spelling.{image_words}
+use Rattle.mmv_spelling.specs.Spelling.{image_words}
 use Rattle.mmv_writer.specs.Saying.{with_all_strings}
 use Rattle.mmv_writer.specs.Reading.{text_draft, text_image}
 

@@ -6,13 +6,9 @@ mod builder;
 mod fault;
 mod laws;
 mod line_fault;
-mod places;
 mod reading;
-mod references;
 mod rules;
 mod spelling;
-mod strings;
-mod words;
 
 pub use builder::Builder;
 pub use fault::BuildFault;
