@@ -25,6 +25,6 @@ IsWritable draft row = content_of (kind_of_item row.item draft.metrics) (written
 
 -- a draft that a text can say: its generation has 64 bits, and so have the fields of its values, in the range of their kind
 pub record IsWrittenDraft (draft : Layout) : Type 0 where
-  pub draft : IsDraft draft
+  pub rows : IsDraft draft
   pub generation : draft.generation < 2 ^ 64
   pub values : Each (IsWritable draft) draft.values
