@@ -1,1 +1,6 @@
+pub mod ContentReads
+pub mod LineBytes
+pub mod LineReads
+pub mod MetricWords
+pub mod ReadRanges
 pub mod Zeros

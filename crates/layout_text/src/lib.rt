@@ -3,6 +3,7 @@
 #![tactic(auto)]
 
 mod content;
+mod laws;
 mod line;
 mod parts;
 mod reading;
@@ -11,6 +12,7 @@ mod words;
 mod writing;
 
 pub use content::{content_of, written_of};
+pub use laws::{read_line_is_line, written_line_is_read};
 pub use line::{Line, Written};
 pub use reading::read_line;
 pub use whole::layout_text;

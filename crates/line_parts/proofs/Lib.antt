@@ -1,2 +1,11 @@
+pub mod Decimals
+pub mod Escapes
 pub mod Hex
+pub mod Hexes
+pub mod LineBytes
+pub mod NumberParts
+pub mod NumberRanges
 pub mod Quoting
+pub mod Splitting
+pub mod Taking
+pub mod TextRanges

@@ -22,11 +22,11 @@ behind_more : (text : List ℕ) (b : ℕ) (found : Option (List ℕ × List ℕ)
 behind_more text b None = refl
 behind_more text b (Some t) = ap (λ x. Some (x, t.1)) (sym (append_assoc text (b ∷ []) t.0))
 
-within_quote : (n : ℕ) (bytes : List ℕ) → starts_quoted bytes ≡ true → text_within (suc n) bytes ≡ Some ([], drop 1 bytes)
+pub within_quote : (n : ℕ) (bytes : List ℕ) → starts_quoted bytes ≡ true → text_within (suc n) bytes ≡ Some ([], drop 1 bytes)
 unfolding text_within
 within_quote n bytes h = ap (λ q. cond q (Some ([], drop 1 bytes)) (text_byte bytes >>= (λ b. before b.0 (text_within n b.1)))) h
 
-within_byte : (n : ℕ) (bytes : List ℕ) (found : Option (ℕ × List ℕ)) → starts_quoted bytes ≡ false → text_byte bytes ≡ found → text_within (suc n) bytes ≡ found >>= (λ b. before b.0 (text_within n b.1))
+pub within_byte : (n : ℕ) (bytes : List ℕ) (found : Option (ℕ × List ℕ)) → starts_quoted bytes ≡ false → text_byte bytes ≡ found → text_within (suc n) bytes ≡ found >>= (λ b. before b.0 (text_within n b.1))
 unfolding text_within
 within_byte n bytes found h k =
     ap (λ q. cond q (Some ([], drop 1 bytes)) (text_byte bytes >>= (λ b. before b.0 (text_within n b.1)))) h

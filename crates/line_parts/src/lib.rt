@@ -3,11 +3,13 @@
 //! each in its one spelling.
 #![tactic(auto)]
 
+mod laws;
 mod numbers;
 mod quoted;
 mod rest;
 mod writing;
 
+pub use laws::{written_number_is_read, written_text_is_read};
 pub use numbers::{hex_number, int32, number32, number64, signed_number};
 pub use quoted::starts_quoted;
 pub use rest::{Rest, Stop, split_word};
