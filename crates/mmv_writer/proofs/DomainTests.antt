@@ -1,27 +1,25 @@
 -- The domains and the instances of a spelled image are good.
-use Rattle.std.proofs.Common.{◌≡◌, ◌≢◌, ℕ, zero, suc, ◌+◌, ◌-◌, ◌*◌, ◌<◌, ◌≤◌, ℤ, pos, Bool, true, false, not, ◌&&◌, ◌||◌, List, [], ◌∷◌, ◌++◌, length, take, ap, ap₂, sym, subst, ◌∙◌, refl, arith, cond, nat_eq, nat_le, nat_lt, Option, Some, None, bytes_eq, slice_index, ◌⊎◌, ⊎_elim}
-use Rattle.std.specs.List.{list_any, slice_get, flat_map, position_or_len}
+use Rattle.std.proofs.Common.{◌≡◌, ◌≢◌, ℕ, ◌+◌, ◌*◌, ◌<◌, ◌≤◌, ℤ, pos, Bool, true, false, not, ◌&&◌, ◌||◌, List, [], ◌∷◌, length, take, ap, ap₂, sym, subst, ◌∙◌, refl, arith, nat_eq, nat_le, nat_lt, Some, bytes_eq, slice_index}
+use Rattle.std.specs.List.{slice_get}
 use Rattle.std.specs.Int.{w32, cast_unsigned}
 use Rattle.std.specs.Ordering.{int_eq}
-use Rattle.std.proofs.lemmas.Bool.{eq-eqb, eqb-true, eqb-false, cases_lt}
+use Rattle.std.proofs.lemmas.Bool.{eq-eqb, eqb-true, eqb-false}
 use Rattle.std.proofs.lemmas.Bool.Decides.{nat_tests}
-use Rattle.mmv_entries.specs.Below.{all_below}
-use Rattle.mmv_entries.specs.Fields.{number32, number64, byte_at, text_at, has_zero, same_name, first_words}
-use Rattle.mmv_entries.specs.Contents.{section_of}
-use Rattle.mmv_entries.specs.Entries.{leads, indom_at, instance_at, indom_count, instance_count, leads_to_indom, leads_to_instance, help_leads, is_instance_of, has_good_run, has_serial, is_new_indom, is_serial, is_good_indom, has_text, lies_in_run, is_same_instance, is_new_instance, is_instance_number, is_good_instance, indoms_are_good, instances_are_good}
+use Rattle.mmv_entries.specs.Fields.{number32, number64, byte_at, text_at, same_name, first_words}
+use Rattle.mmv_entries.specs.Entries.{indom_at, instance_at, indom_count, instance_count, leads_to_instance, help_leads, is_instance_of, has_good_run, has_serial, is_new_indom, is_serial, is_good_indom, has_text, lies_in_run, is_same_instance, is_new_instance, is_instance_number, is_good_instance, indoms_are_good, instances_are_good}
 use Rattle.mmv_layout.specs.declared.rows.IndomRow.{IndomRow}
 use Rattle.mmv_layout.specs.declared.rows.Layout.{Layout}
 use Rattle.mmv_entries.proofs.Below.{both_left, both_right}
-use Rattle.mmv_writer.specs.Draft.{Each, Apart, IsDomain, IsInstance, IsNumber, IsStored, is_same_serial, IsDraft}
-use Rattle.mmv_writer.specs.Places.{instances_in, counts_of, sections_in, places_of, words_in}
-use Rattle.mmv_writer.specs.Spelling.{halves, help_place, domain_of, domain_place, domain_words, instance_words, spelled, first_instance}
+use Rattle.mmv_writer.specs.Draft.{Each, IsInstance, IsDraft}
+use Rattle.mmv_spelling.specs.Places.{instances_in, counts_of, words_in}
+use Rattle.mmv_spelling.specs.Spelling.{halves, domain_place, domain_words, instance_words, spelled, first_instance}
 use Rattle.mmv_writer.proofs.Rows.{either_left, either_right}
 use Rattle.mmv_writer.proofs.Sections.{all_hold}
-use Rattle.mmv_writer.proofs.Standing.{Stands, stands_right, word_read, low_read, high_read, byte_read, text_read, zero_read}
+use Rattle.mmv_writer.proofs.Standing.{Stands, stands_right, word_read, high_read, byte_read, text_read, zero_read}
 use Rattle.mmv_writer.proofs.Wanted.{HasHelp}
-use Rattle.mmv_writer.proofs.Positions.{get_below, get_some, same_row, before_this, Member, member}
-use Rattle.mmv_writer.proofs.Spelt.{domains_from, instances_from, places, Finds, find_indoms, find_instances}
-use Rattle.mmv_writer.proofs.Marks.{indom_is, instance_is, leads_there, indom_leads, instance_leads_to, help_good, stand_domain, stand_instance, domain_first, serial_fits, serial_read, run_read, first_read, first_is, owner_read}
+use Rattle.mmv_spelling.proofs.Positions.{get_below, get_some, same_row, before_this, Member, member}
+use Rattle.mmv_writer.proofs.Spelt.{domains_from, instances_from, places, find_indoms, find_instances}
+use Rattle.mmv_writer.proofs.Marks.{indom_is, instance_is, leads_there, indom_leads, instance_leads_to, help_good, stand_domain, stand_instance, serial_read, run_read, first_read, first_is, owner_read}
 
 back : (draft : Layout) (s : List (List ℕ)) (at i : ℕ) → at ≡ 8 * (domains_from draft s + 4 * i) → (places draft s).indoms + 32 * i ≡ at
 back draft s at i e = omega arith

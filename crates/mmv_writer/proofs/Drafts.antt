@@ -1,5 +1,5 @@
 -- A draft with one row more is a draft, where no rule forbids the row.
-use Rattle.std.proofs.Common.{◌≡◌, ◌≢◌, ℕ, zero, suc, ◌+◌, ◌<◌, ◌≤◌, ◌^◌, ℤ, pos, negsuc, Bool, true, false, not, ◌&&◌, ◌||◌, ◌⊎◌, inl, inr, List, [], ◌∷◌, ◌++◌, length, get_or, set, take, drop, ap, ap₂, sym, subst, ◌∙◌, refl, arith, ⊎_elim, true≢false, cond, nat_eq, nat_le, add-one, Option, Some, None}
+use Rattle.std.proofs.Common.{◌≡◌, ◌≢◌, ℕ, zero, suc, ◌+◌, ◌<◌, ◌≤◌, ◌^◌, ℤ, pos, negsuc, Bool, true, false, not, ◌&&◌, ◌||◌, ◌⊎◌, inl, inr, List, [], ◌∷◌, ◌++◌, length, get_or, set, take, drop, ap, ap₂, sym, subst, ◌∙◌, refl, arith, ⊎_elim, cond, nat_eq, nat_le, add-one, Option, Some, None}
 use Rattle.std.specs.List.{list_any, slice_get}
 use Rattle.std.specs.Int.{w32, is_negative}
 use Rattle.std.specs.Int.RustNames.{FitsSigned}
@@ -10,12 +10,11 @@ use Rattle.mmv_layout.specs.declared.rows.IndomRow.{IndomRow}
 use Rattle.mmv_layout.specs.declared.rows.MetricRow.{MetricRow}
 use Rattle.mmv_layout.specs.declared.rows.ValueRow.{ValueRow}
 use Rattle.mmv_layout.specs.declared.rows.Layout.{Layout}
-use Rattle.mmv_entries.proofs.Below.{both_left, both_right}
 use Rattle.mmv_writer.specs.declared.fault.BuildFault.{BuildFault}
 use Rattle.mmv_writer.specs.declared.fault.BuildFault.TheVariants.{Name, Duplicate, Unknown, Serial, Item}
 use Rattle.mmv_writer.specs.Rules.{is_long, is_long_help, has_domain, is_serial, indom_fault, is_instance_name, is_same_instance, has_same_instance, instance_fault, is_metric_name, is_same_metric, lacks_domain, unknown_or, metric_fault, has_instance, fits_instance, fits_kind, fits_metric, fits_some_metric, is_same_value, is_long_content, value_fault, text_fault}
 use Rattle.mmv_writer.specs.Draft.{Each, Apart, IsStored, IsString, IsHelp, IsNumber, IsInstance, IsDomain, HasDomain, IsMetric, IsContent, IsValue, is_same_serial, IsDraft, empty_draft, with_domain, add_instance, with_instance, with_metric, with_value, with_string}
-use Rattle.mmv_writer.proofs.Rows.{get_snoc, any_at, each_snoc, apart_snoc, any_longer, any_wider}
+use Rattle.mmv_writer.proofs.Rows.{any_at, each_snoc, apart_snoc, any_longer, any_wider}
 
 -- What a row that no rule forbids is
 
@@ -29,11 +28,11 @@ three false true c f g k h = cc
 three false false true f g k h = (refl, refl, refl)
 three false false false f g k h = cc
 
-indom_rules : (draft : Layout) (row : IndomRow) → indom_fault draft row ≡ None → ((is_long_help row.short || is_long_help row.long) ≡ false) × (has_domain draft.indoms row.serial ≡ false) × (is_serial row.serial ≡ true)
+pub indom_rules : (draft : Layout) (row : IndomRow) → indom_fault draft row ≡ None → ((is_long_help row.short || is_long_help row.long) ≡ false) × (has_domain draft.indoms row.serial ≡ false) × (is_serial row.serial ≡ true)
 unfolding indom_fault
 indom_rules draft row h = three (is_long_help row.short || is_long_help row.long) (has_domain draft.indoms row.serial) (is_serial row.serial) Name Duplicate Serial h
 
-value_rules : (draft : Layout) (row : ValueRow) → value_fault draft row ≡ None → (is_long_content row.content ≡ false) × (list_any (λ other. is_same_value other row) draft.values ≡ false) × (fits_some_metric draft.indoms draft.metrics row ≡ true)
+pub value_rules : (draft : Layout) (row : ValueRow) → value_fault draft row ≡ None → (is_long_content row.content ≡ false) × (list_any (λ other. is_same_value other row) draft.values ≡ false) × (fits_some_metric draft.indoms draft.metrics row ≡ true)
 unfolding value_fault
 value_rules draft row h = three (is_long_content row.content) (list_any (λ other. is_same_value other row) draft.values) (fits_some_metric draft.indoms draft.metrics row) Name Duplicate Item h
 
@@ -44,7 +43,7 @@ four true false false e f g k l h = cc
 four true false true true f g k l h = cc
 four true false true false f g k l h = (refl, refl, refl, refl)
 
-instance_rules : (draft : Layout) (serial : ℕ) (id : ℤ) (name : List ℕ) → instance_fault draft serial id name ≡ None → (is_instance_name name ≡ true) × (has_same_instance draft.indoms serial (id, name) ≡ false) × (has_domain draft.indoms serial ≡ true) × (is_negative id ≡ false)
+pub instance_rules : (draft : Layout) (serial : ℕ) (id : ℤ) (name : List ℕ) → instance_fault draft serial id name ≡ None → (is_instance_name name ≡ true) × (has_same_instance draft.indoms serial (id, name) ≡ false) × (has_domain draft.indoms serial ≡ true) × (is_negative id ≡ false)
 unfolding instance_fault
 instance_rules draft serial id name h = four (is_instance_name name) (has_same_instance draft.indoms serial (id, name)) (has_domain draft.indoms serial) (is_negative id) Name Duplicate (Unknown serial) Serial h
 
@@ -61,7 +60,7 @@ unfolding metric_fault
 metric_rules draft row h =
     metric_three (is_metric_name row.name) (is_long_help row.short || is_long_help row.long) (list_any (λ other. is_same_metric other row) draft.metrics) (lacks_domain draft.indoms row.serial) (nat_le row.item 1023) Name Duplicate Item h
 
-string_rule : (text : List ℕ) → text_fault text ≡ None → is_long text ≡ false
+pub string_rule : (text : List ℕ) → text_fault text ≡ None → is_long text ≡ false
 unfolding text_fault
 string_rule text h = one (is_long text) h
   where

@@ -1,21 +1,19 @@
 -- The spelling of a draft is an image.
-use Rattle.std.proofs.Common.{◌≡◌, ℕ, ◌+◌, ◌*◌, ◌%◌, ◌<◌, ◌≤◌, Bool, true, false, not, ◌&&◌, List, length, ap, ap₂, sym, ◌∙◌, refl, arith, nat_eq, nat_le}
+use Rattle.std.proofs.Common.{◌≡◌, ℕ, ◌*◌, ◌%◌, ◌<◌, ◌≤◌, true, false, not, ◌&&◌, List, length, ap, ap₂, sym, ◌∙◌, refl, arith, nat_eq, nat_le}
 use Rattle.std.proofs.lemmas.Bool.{eq-eqb}
 use Rattle.std.proofs.lemmas.Bool.Decides.{nat_tests}
 use Rattle.std.proofs.Math.Nat.{mul-mod_right}
 use Rattle.mmv_entries.specs.Fields.{number32, number64}
-use Rattle.mmv_entries.specs.Contents.{bytes_in, is_short, has_magic, version_in, first_generation, second_generation, cluster_in, sections_are_good, sections_are_aligned}
-use Rattle.mmv_entries.specs.Entries.{indoms_are_good, instances_are_good, metrics_are_good, values_are_good, strings_are_good}
-use Rattle.mmv_entries.specs.Images.{is_too_large, is_cluster, has_good_header, is_image}
+use Rattle.mmv_entries.specs.Images.{is_cluster, has_good_header, is_image}
 use Rattle.std.specs.Prelude.{Option, Some, None, is_none, Ok}
 use Rattle.mmv_entries.specs.Faults.{image_fault, unless_fault, image_in}
 use Rattle.mmv_entries.proofs.Images.{images_same}
 use Rattle.mmv_layout.specs.declared.rows.Layout.{Layout}
 use Rattle.mmv_writer.specs.Draft.{IsDraft}
-use Rattle.mmv_writer.specs.Places.{counts_of, sections_in, words_in}
-use Rattle.mmv_writer.specs.Spelling.{header_words, spelled, all_strings, image_words}
+use Rattle.mmv_spelling.specs.Places.{counts_of, sections_in, words_in}
+use Rattle.mmv_spelling.specs.Spelling.{header_words, spelled, all_strings, image_words}
 use Rattle.mmv_writer.specs.Laws.{DraftsAreImages}
-use Rattle.mmv_writer.proofs.Lengths.{length_spelled}
+use Rattle.mmv_spelling.proofs.Lengths.{length_spelled}
 use Rattle.mmv_writer.proofs.Standing.{low_read, high_read, word_read}
 use Rattle.mmv_writer.proofs.Spelt.{stand_header, spelt_sections, spelt_aligned}
 use Rattle.mmv_writer.proofs.DomainTests.{good_indoms, good_instances}

@@ -1,26 +1,24 @@
 -- What a reader of a spelled image reads of each entry, and that its references lead where they are to.
-use Rattle.std.proofs.Common.{◌≡◌, ◌≢◌, ℕ, zero, suc, ◌+◌, ◌-◌, ◌*◌, ◌<◌, ◌≤◌, ℤ, pos, Bool, true, false, not, ◌&&◌, ◌||◌, List, [], ◌∷◌, ◌++◌, length, take, ap, ap₂, sym, subst, ◌∙◌, refl, arith, cond, nat_eq, nat_le, Option, Some, None, bytes_eq}
-use Rattle.std.specs.List.{list_any, slice_get, flat_map, position_or_len}
-use Rattle.std.specs.Int.{w32, cast_unsigned}
-use Rattle.std.proofs.lemmas.Bool.{eq-eqb, eqb-true}
+use Rattle.std.proofs.Common.{◌≡◌, ℕ, ◌+◌, ◌*◌, ◌<◌, ◌≤◌, ℤ, Bool, true, false, ◌||◌, List, length, take, ap, sym, ◌∙◌, refl, arith, cond, nat_eq, nat_le, Option, Some, None, bytes_eq}
+use Rattle.std.specs.List.{slice_get, flat_map, position_or_len}
+use Rattle.std.proofs.lemmas.Bool.{eq-eqb}
 use Rattle.std.proofs.lemmas.Bool.Decides.{nat_tests}
-use Rattle.pcp_base.specs.Codes.{code_of_kind, code_of_semantics}
 use Rattle.mmv_entries.specs.Fields.{number32, number64, first_words}
 use Rattle.mmv_entries.specs.Contents.{section_of}
 use Rattle.mmv_entries.specs.Entries.{leads, indom_at, instance_at, metric_at, value_at, string_at, leads_to_indom, leads_to_instance, leads_to_metric, leads_to_string, help_leads}
-use Rattle.mmv_entries.proofs.Below.{some_holds, both_left, both_right}
+use Rattle.mmv_entries.proofs.Below.{some_holds, both_right}
 use Rattle.mmv_entries.specs.declared.contents.Section.{Section}
 use Rattle.mmv_layout.specs.declared.rows.IndomRow.{IndomRow}
 use Rattle.mmv_layout.specs.declared.rows.MetricRow.{MetricRow}
 use Rattle.mmv_layout.specs.declared.rows.ValueRow.{ValueRow}
 use Rattle.mmv_layout.specs.declared.rows.Layout.{Layout}
-use Rattle.mmv_writer.specs.Draft.{Each, Apart, IsDomain, is_same_serial, IsDraft}
-use Rattle.mmv_writer.specs.Places.{instances_in, counts_of, sections_in, places_of, words_in}
-use Rattle.mmv_writer.specs.Spelling.{halves, string_place, help_place, domain_of, domain_place, instance_place, metric_place, domain_words, instance_words, metric_words, value_words, domain_section, instance_section, metric_section, value_section, string_section, spelled, first_instance}
-use Rattle.mmv_writer.proofs.Lengths.{length_domain, length_instance, length_metric, length_value, length_even}
-use Rattle.mmv_writer.proofs.Standing.{Stands, stands_right, stands_entry, stands_group, word_read, low_read, high_read, length_text}
+use Rattle.mmv_writer.specs.Draft.{IsDraft}
+use Rattle.mmv_spelling.specs.Places.{instances_in, counts_of, words_in}
+use Rattle.mmv_spelling.specs.Spelling.{string_place, help_place, domain_of, domain_place, instance_place, domain_words, instance_words, metric_words, value_words, domain_section, instance_section, metric_section, value_section, string_section, spelled, first_instance}
+use Rattle.mmv_spelling.proofs.Lengths.{length_domain, length_instance, length_metric, length_value, length_even}
+use Rattle.mmv_writer.proofs.Standing.{Stands, stands_entry, stands_group, word_read, low_read, high_read, length_text}
 use Rattle.mmv_writer.proofs.Wanted.{Has, HasHelp}
-use Rattle.mmv_writer.proofs.Positions.{Passes, first_passes, position_is, get_below, before_this}
+use Rattle.mmv_spelling.proofs.Positions.{Passes, first_passes, position_is, get_below, before_this}
 use Rattle.mmv_writer.proofs.Spelt.{domains_from, instances_from, metrics_from, values_from, strings_from, places, stand_domains, stand_instances, stand_metrics, stand_values, stand_strings, Finds, find_indoms, find_instances, find_metrics, find_values, find_strings}
 
 -- Places of entries

@@ -1,33 +1,28 @@
 -- The metrics, the values and the strings of a spelled image are good.
-use Rattle.std.proofs.Common.{◌≡◌, ◌≢◌, ℕ, zero, suc, ◌+◌, ◌-◌, ◌*◌, ◌<◌, ◌≤◌, ℤ, pos, Bool, true, false, not, ◌&&◌, ◌||◌, List, [], ◌∷◌, ◌++◌, length, take, ap, ap₂, sym, subst, ◌∙◌, refl, arith, cond, nat_eq, nat_le, nat_lt, Option, Some, None, bytes_eq, slice_index, ◌⊎◌, ⊎_elim, find, true≢false, is_some}
-use Rattle.std.specs.List.{list_any, slice_get, flat_map, position_or_len}
-use Rattle.std.specs.Ordering.{int_eq}
-use Rattle.std.proofs.lemmas.Bool.{eq-eqb, eqb-true, eqb-false, cases_lt}
+use Rattle.std.proofs.Common.{◌≡◌, ℕ, ◌+◌, ◌*◌, ◌<◌, ◌≤◌, Bool, true, false, not, ◌&&◌, ◌||◌, List, [], ◌∷◌, length, ap, ap₂, sym, subst, ◌∙◌, refl, arith, nat_eq, nat_le, nat_lt, Option, Some, None, bytes_eq}
+use Rattle.std.specs.List.{slice_get}
+use Rattle.std.proofs.lemmas.Bool.{eqb-true}
 use Rattle.std.proofs.lemmas.Bool.Decides.{nat_tests}
-use Rattle.pcp_base.specs.Codes.{kind_of_code, code_of_kind, semantics_of_code, code_of_semantics}
+use Rattle.pcp_base.specs.Codes.{code_of_kind, code_of_semantics}
 use Rattle.pcp_base.specs.Names.{spells}
 use Rattle.pcp_base.specs.declared.kind.Kind.{Kind}
 use Rattle.pcp_base.specs.declared.kind.Kind.TheVariants as kinds
 use Rattle.pcp_base.specs.declared.kind.Semantics.{Semantics}
 use Rattle.pcp_base.specs.declared.kind.Semantics.TheVariants as meanings
-use Rattle.mmv_entries.specs.Below.{all_below, some_below}
-use Rattle.mmv_entries.specs.Fields.{number32, number64, text_at, has_zero, same_name, first_words}
-use Rattle.mmv_entries.specs.Contents.{section_of}
+use Rattle.mmv_entries.specs.Fields.{number32, text_at, same_name, first_words}
 use Rattle.mmv_entries.specs.Entries.{indom_at, indom_count, metric_at, metric_count, string_at, string_count, help_leads, has_serial, has_name, is_kind, is_semantics, is_no_domain, is_indom_serial, serial_leads, is_same_metric, is_new_metric, is_item, has_good_fields, is_good_metric, is_good_string, metrics_are_good, strings_are_good}
-use Rattle.mmv_layout.specs.declared.rows.IndomRow.{IndomRow}
 use Rattle.mmv_layout.specs.declared.rows.MetricRow.{MetricRow}
 use Rattle.mmv_layout.specs.declared.rows.Layout.{Layout}
 use Rattle.mmv_entries.proofs.Below.{both_left, both_right, some_holds}
 use Rattle.mmv_writer.specs.Rules.{has_domain}
-use Rattle.mmv_writer.specs.Draft.{Each, Apart, IsDomain, HasDomain, IsMetric, IsString, IsDraft}
-use Rattle.mmv_writer.specs.Places.{instances_in, counts_of, sections_in, places_of, words_in}
-use Rattle.mmv_writer.specs.Spelling.{halves, help_place, domain_of, serial_word, metric_words, spelled}
-use Rattle.mmv_writer.proofs.Rows.{either_left, either_right}
+use Rattle.mmv_writer.specs.Draft.{Each, HasDomain, IsMetric, IsString, IsDraft}
+use Rattle.mmv_spelling.specs.Places.{counts_of, words_in}
+use Rattle.mmv_spelling.specs.Spelling.{halves, help_place, domain_of, serial_word, metric_words, spelled}
 use Rattle.mmv_writer.proofs.Sections.{all_hold}
 use Rattle.mmv_writer.proofs.Standing.{Stands, stands_left, stands_right, word_read, low_read, high_read, text_read, zero_read, length_text}
 use Rattle.mmv_writer.proofs.Wanted.{HasHelp}
-use Rattle.mmv_writer.proofs.Positions.{Passes, first_passes, get_below, get_some}
-use Rattle.mmv_writer.proofs.Spelt.{domains_from, metrics_from, strings_from, places, Finds, find_indoms, find_metrics, find_strings}
+use Rattle.mmv_spelling.proofs.Positions.{Passes, first_passes, get_below, get_some}
+use Rattle.mmv_writer.proofs.Spelt.{metrics_from, strings_from, places, find_indoms, find_metrics, find_strings}
 use Rattle.mmv_writer.proofs.Marks.{indom_is, metric_is, string_is, help_good, stand_metric, stand_string, serial_fits, serial_read}
 
 -- The words of a metric behind its name

@@ -1,5 +1,5 @@
 -- What a spelled image says: its draft, with all its strings.
-use Rattle.std.proofs.Common.{◌≡◌, ◌≢◌, ℕ, zero, suc, ◌+◌, ◌-◌, ◌*◌, ◌<◌, ◌≤◌, ℤ, pos, Bool, true, false, not, ◌&&◌, ◌||◌, ◌⊎◌, inl, inr, List, [], ◌∷◌, ◌++◌, length, take, ap, ap₂, sym, subst, ◌∙◌, refl, arith, cond, nat_eq, nat_le, Option, Some, None, bytes_eq}
+use Rattle.std.proofs.Common.{◌≡◌, ℕ, suc, ◌+◌, ◌*◌, ◌<◌, ◌≤◌, ℤ, pos, true, not, ◌&&◌, ◌||◌, ◌⊎◌, inl, inr, List, [], ◌∷◌, length, take, ap, sym, subst, ◌∙◌, refl, arith, nat_eq, nat_le, Option, Some, None, bytes_eq}
 use Rattle.std.specs.List.{list_any, slice_get, position_or_len}
 use Rattle.std.specs.Int.{w32, cast_signed}
 use Rattle.std.specs.Ordering.{int_eq}
@@ -9,10 +9,10 @@ use Rattle.std.proofs.lemmas.Bool.Decides.{nat_tests}
 use Rattle.pcp_base.specs.Codes.{code_of_kind, code_of_semantics}
 use Rattle.pcp_base.specs.declared.kind.Kind.{Kind}
 use Rattle.pcp_base.specs.declared.kind.Kind.TheVariants as kinds
-use Rattle.mmv_entries.specs.Fields.{number32, number64, text_at, first_words}
+use Rattle.mmv_entries.specs.Fields.{number32, number64}
 use Rattle.mmv_entries.specs.Contents.{section_of}
-use Rattle.mmv_entries.specs.Entries.{indom_at, instance_count, instance_at, metric_count, metric_at, value_at, string_count, string_at, metric_of}
-use Rattle.mmv_layout.specs.Says.{EachAt, InSection, LeadsTo, StringAt, HelpAt, InstanceAt, IndomAt, IsNull, IsNamed, SerialIs, MetricAt, InstanceOf, ContentAt, ValueAt, TextAt, Says}
+use Rattle.mmv_entries.specs.Entries.{instance_at, metric_at, string_at, metric_of}
+use Rattle.mmv_layout.specs.Says.{EachAt, InSection, StringAt, HelpAt, InstanceAt, IndomAt, SerialIs, MetricAt, InstanceOf, ContentAt, ValueAt, TextAt, Says}
 use Rattle.mmv_layout.specs.Rows as rows
 use Rattle.mmv_entries.specs.declared.contents.Section.{Section}
 use Rattle.mmv_layout.specs.declared.rows.IndomRow.{IndomRow}
@@ -23,16 +23,16 @@ use Rattle.mmv_layout.specs.declared.rows.Content.TheVariants.{Number, Choice, R
 use Rattle.mmv_layout.specs.declared.rows.Layout.{Layout}
 use Rattle.mmv_entries.proofs.Below.{both_left, both_right}
 use Rattle.mmv_writer.specs.Rules.{fits_instance, fits_kind, fits_metric}
-use Rattle.mmv_writer.specs.Draft.{Each, IsString, IsDomain, IsInstance, HasDomain, IsMetric, IsDraft}
-use Rattle.mmv_writer.specs.Places.{instances_in, counts_of, sections_in, words_in}
-use Rattle.mmv_writer.specs.Spelling.{halves, string_place, help_place, domain_of, serial_word, header_words, domain_words, metric_words, value_words, value_field, extra_field, instance_field, spelled, all_strings, image_words}
+use Rattle.mmv_writer.specs.Draft.{Each, IsString, IsInstance, HasDomain, IsMetric, IsDraft}
+use Rattle.mmv_spelling.specs.Places.{instances_in, counts_of, sections_in, words_in}
+use Rattle.mmv_spelling.specs.Spelling.{string_place, help_place, domain_of, serial_word, header_words, domain_words, value_words, value_field, extra_field, instance_field, spelled, all_strings, image_words}
 use Rattle.mmv_writer.specs.Saying.{DraftsAreSaid, with_all_strings}
-use Rattle.mmv_writer.proofs.Lengths.{length_spelled, sections_most}
-use Rattle.mmv_writer.proofs.Standing.{Stands, word_read, low_read, high_read, text_read}
+use Rattle.mmv_spelling.proofs.Lengths.{length_spelled, sections_most}
+use Rattle.mmv_writer.proofs.Standing.{word_read, low_read, high_read, text_read}
 use Rattle.mmv_writer.proofs.Wanted.{Has, HasHelp, HasContent, same_bytes, domain_helps, metric_helps, value_texts, strings_short}
-use Rattle.mmv_writer.proofs.Positions.{Passes, first_passes, get_below, get_some, before_this}
+use Rattle.mmv_spelling.proofs.Positions.{Passes, first_passes, get_below, before_this}
 use Rattle.mmv_writer.proofs.Spelt.{domains_from, instances_from, metrics_from, values_from, strings_from, places, stand_header, Finds, find_indoms, find_instances, find_metrics, find_values, find_strings}
-use Rattle.mmv_writer.proofs.Marks.{indom_is, instance_is, metric_is, value_is, string_is, stand_domain, stand_value, stand_string, serial_fits, serial_read, run_read, first_read, first_is, owner_read}
+use Rattle.mmv_writer.proofs.Marks.{instance_is, metric_is, string_is, stand_domain, stand_value, stand_string, serial_fits, serial_read, run_read, first_read, first_is}
 use Rattle.mmv_writer.proofs.DomainTests.{name_from, number_read, short_name}
 use Rattle.mmv_writer.proofs.MetricTests.{fields_of, stand_fields, meaning_fits, item_read, kind_read, meaning_read, metric_serial_read, name_read, fits_string}
 use Rattle.mmv_writer.proofs.ValueTests.{metric_index, metric_found, domain_found, index_in, member_found, metric_field, extra_read, instance_read, one_at_least, same_int}

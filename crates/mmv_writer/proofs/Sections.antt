@@ -1,15 +1,13 @@
 -- The contents of a spelled image: which section a reader finds for each type.
-use Rattle.std.proofs.Common.{◌≡◌, ◌≢◌, ℕ, zero, suc, ◌+◌, ◌-◌, ◌*◌, ◌/◌, ◌%◌, ◌<◌, ◌≤◌, Bool, true, false, not, ◌&&◌, ◌||◌, List, [], ◌∷◌, ◌++◌, length, ap, ap₂, sym, subst, ◌∙◌, refl, arith, cond, nat_eq, nat_le, nat_lt, Option, Some, None, ◌⊎◌, inl, inr, ⊎_elim, length-append}
-use Rattle.std.specs.List.{slice_get, flat_map}
+use Rattle.std.proofs.Common.{◌≡◌, ◌≢◌, ℕ, zero, suc, ◌+◌, ◌*◌, ◌%◌, ◌<◌, ◌≤◌, Bool, true, false, not, ◌&&◌, ◌||◌, List, [], ◌∷◌, ◌++◌, length, ap, ap₂, sym, subst, ◌∙◌, refl, arith, cond, nat_eq, nat_le, Some, ◌⊎◌, inl, inr, ⊎_elim}
+use Rattle.std.specs.List.{slice_get}
 use Rattle.std.proofs.lemmas.Bool.{eq-eqb, eqb-true, eqb-false, cases_lt}
 use Rattle.std.proofs.lemmas.Bool.Decides.{nat_tests}
-use Rattle.mmv_entries.specs.Below.{all_below, some_below}
-use Rattle.mmv_entries.specs.Fields.{number32, number64}
-use Rattle.mmv_entries.specs.Contents.{bytes_in, contents_in, type_in, count_in, place_in, section_bytes, end_in, entry_lies, is_type, section_lies, are_apart, is_first_of_type, has_good_section, is_aligned, sections_are_good, sections_are_aligned, find_section, section_of}
+use Rattle.mmv_entries.specs.Below.{all_below}
+use Rattle.mmv_entries.specs.Contents.{bytes_in, contents_in, type_in, count_in, place_in, section_bytes, end_in, is_type, section_lies, are_apart, is_first_of_type, has_good_section, is_aligned, sections_are_good, sections_are_aligned, find_section, section_of}
 use Rattle.mmv_entries.specs.declared.contents.Section.{Section}
-use Rattle.mmv_writer.specs.Spelling.{halves, entry_words}
+use Rattle.mmv_spelling.specs.Spelling.{halves}
 use Rattle.mmv_writer.proofs.Rows.{get_below}
-use Rattle.mmv_writer.proofs.Standing.{Stands, stands_left, stands_right, stands_entry, word_read, low_read, high_read}
 
 -- a contents entry: type, count and place
 pub record Entry : Type 0 where

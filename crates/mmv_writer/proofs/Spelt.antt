@@ -1,19 +1,18 @@
 -- Where the parts of a spelled image stand, and which sections a reader finds in it.
-use Rattle.std.proofs.Common.{◌≡◌, ◌≢◌, ℕ, zero, suc, ◌+◌, ◌-◌, ◌*◌, ◌/◌, ◌%◌, ◌<◌, ◌≤◌, Bool, true, false, not, ◌&&◌, ◌||◌, List, [], ◌∷◌, ◌++◌, length, ap, ap₂, sym, subst, ◌∙◌, refl, arith, cond, nat_eq, Option, Some, None, append-nil, length-append}
+use Rattle.std.proofs.Common.{◌≡◌, ℕ, ◌+◌, ◌*◌, ◌<◌, ◌≤◌, Bool, true, false, List, [], ◌∷◌, ◌++◌, length, ap, ap₂, sym, subst, ◌∙◌, refl, arith, cond, nat_eq, Some, append-nil}
 use Rattle.std.specs.List.{slice_get, flat_map}
 use Rattle.std.proofs.lemmas.List.Concat.{flat_map-append}
 use Rattle.std.proofs.lemmas.Bool.{eqb-true}
-use Rattle.std.proofs.lemmas.Bool.Decides.{nat_tests}
-use Rattle.mmv_entries.specs.Contents.{bytes_in, contents_in, type_in, count_in, place_in, section_bytes, section_of, sections_are_good, sections_are_aligned}
+use Rattle.mmv_entries.specs.Contents.{section_bytes, section_of, sections_are_good, sections_are_aligned}
 use Rattle.mmv_entries.specs.declared.contents.Section.{Section}
 use Rattle.mmv_layout.specs.declared.rows.Layout.{Layout}
-use Rattle.mmv_writer.specs.declared.places.Counts.{Counts}
-use Rattle.mmv_writer.specs.declared.places.Places.{Places}
-use Rattle.mmv_writer.specs.Places.{instances_in, counts_of, one_if_some, sections_in, places_of, words_in}
-use Rattle.mmv_writer.specs.Spelling.{halves, header_words, entry_words, contents_words, domain_section, instance_section, metric_section, value_section, string_section, sections_words, spelled}
-use Rattle.mmv_writer.proofs.Lengths.{length_header, length_contents, length_domains, length_instances, length_metrics, length_values, length_spelled, sections_most}
+use Rattle.mmv_spelling.specs.declared.places.Counts.{Counts}
+use Rattle.mmv_spelling.specs.declared.places.Places.{Places}
+use Rattle.mmv_spelling.specs.Places.{instances_in, counts_of, one_if_some, sections_in, places_of, words_in}
+use Rattle.mmv_spelling.specs.Spelling.{halves, header_words, entry_words, contents_words, domain_section, instance_section, metric_section, value_section, string_section, sections_words, spelled}
+use Rattle.mmv_spelling.proofs.Lengths.{length_header, length_contents, length_domains, length_instances, length_metrics, length_values, length_spelled, sections_most}
 use Rattle.mmv_writer.proofs.Standing.{Stands, stands_whole, stands_left, stands_right, stands_entry, word_read, low_read, high_read}
-use Rattle.mmv_writer.proofs.Sections.{Entry, kept, words_of_entry, IsEntry, end_of, Laid, laid_kept, laid_at, Reads, pick, pick_skip, pick_hit, section_is, good_sections, aligned_sections}
+use Rattle.mmv_writer.proofs.Sections.{Entry, kept, words_of_entry, IsEntry, Laid, laid_kept, laid_at, Reads, pick, pick_skip, pick_hit, section_is, good_sections, aligned_sections}
 
 -- The words at which the sections begin
 

@@ -1,15 +1,15 @@
 -- Words that stand from a word on in an image, and the numbers and texts that are read there.
-use Rattle.std.proofs.Common.{◌≡◌, ◌≢◌, ℕ, zero, suc, ◌+◌, ◌-◌, ◌*◌, ◌/◌, ◌%◌, ◌^◌, ◌<◌, ◌≤◌, Bool, true, false, List, [], ◌∷◌, ◌++◌, length, take, drop, get_or, slice_index, ap, ap₂, sym, subst, ◌∙◌, refl, arith, add-zero, cond, nat_eq, length-append, Option, Some, None, ◌⊎◌, ⊎_elim, sum_by}
+use Rattle.std.proofs.Common.{◌≡◌, ◌≢◌, ℕ, zero, suc, ◌+◌, ◌*◌, ◌/◌, ◌%◌, ◌^◌, ◌<◌, ◌≤◌, true, false, List, [], ◌∷◌, ◌++◌, length, take, drop, slice_index, ap, ap₂, sym, subst, ◌∙◌, refl, arith, add-zero, cond, nat_eq, length-append, Some, sum_by}
 use Rattle.std.specs.List.{slice_get, flat_map}
 use Rattle.std.specs.Int.{w64, from_le_bytes}
-use Rattle.std.proofs.lemmas.Bool.{eq-eqb, eqb-false}
+use Rattle.std.proofs.lemmas.Bool.{eq-eqb}
 use Rattle.std.proofs.lemmas.Bool.Decides.{nat_tests}
 use Rattle.std.proofs.lemmas.List.{drop-drop, get_or-take, get_or-drop}
 use Rattle.std.proofs.lemmas.List.Sums.{sum_by-cons}
 use Rattle.mmv_entries.specs.Fields.{number32, number64, byte_at, text_at, has_zero, first_words}
 use Rattle.mmv_entries.proofs.Below.{some_holds}
 use Rattle.mmv_writer.specs.Draft.{IsStored}
-use Rattle.mmv_writer.specs.Spelling.{halves}
+use Rattle.mmv_spelling.specs.Spelling.{halves}
 
 -- from word n on
 pub record Stands (words : List ℕ) (n : ℕ) (part : List ℕ) : Type 0 where

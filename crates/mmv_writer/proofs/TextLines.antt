@@ -5,7 +5,7 @@ use Rattle.std.proofs.lemmas.List.{take_all, length-take-le}
 use Rattle.layout_text.specs.Lines.{line_of}
 use Rattle.mmv_writer.specs.Reading.{prepend, lines_of, line_length, ended, full_line_of, said_by, IsUnended, IsSplit}
 
-either : (q : Bool) → (q ≡ true) ⊎ (q ≡ false)
+pub either : (q : Bool) → (q ≡ true) ⊎ (q ≡ false)
 either true = inl refl
 either false = inr refl
 

@@ -1,16 +1,13 @@
 -- The values of a spelled image are good.
-use Rattle.std.proofs.Common.{◌≡◌, ◌≢◌, ℕ, zero, suc, ◌+◌, ◌-◌, ◌*◌, ◌<◌, ◌≤◌, ℤ, pos, Bool, true, false, not, ◌&&◌, ◌||◌, List, [], ◌∷◌, ◌++◌, length, take, ap, ap₂, sym, subst, ◌∙◌, refl, arith, cond, nat_eq, nat_le, nat_lt, Option, Some, None, bytes_eq, ◌⊎◌, ⊎_elim, find, true≢false, if◌then◌else◌}
-use Rattle.std.specs.List.{list_any, slice_get, flat_map, position_or_len}
+use Rattle.std.proofs.Common.{◌≡◌, ◌≢◌, ℕ, ◌+◌, ◌*◌, ◌<◌, ◌≤◌, ℤ, Bool, true, false, not, ◌&&◌, ◌||◌, List, length, take, ap, ap₂, sym, subst, ◌∙◌, refl, arith, cond, nat_eq, nat_le, Option, Some, None, bytes_eq, true≢false}
+use Rattle.std.specs.List.{list_any, slice_get, position_or_len}
 use Rattle.std.specs.Ordering.{int_eq}
-use Rattle.std.specs.Bool.{Decides}
-use Rattle.std.proofs.lemmas.Bool.{eq-eqb, eqb-true, eqb-false, cases_lt}
+use Rattle.std.proofs.lemmas.Bool.{eq-eqb, eqb-true, eqb-false}
 use Rattle.std.proofs.lemmas.Bool.Decides.{nat_tests, Decides-int_eq}
 use Rattle.pcp_base.specs.Codes.{code_of_kind}
 use Rattle.pcp_base.specs.declared.kind.Kind.{Kind}
-use Rattle.mmv_entries.specs.Below.{all_below}
 use Rattle.mmv_entries.specs.Fields.{number32, number64}
-use Rattle.mmv_entries.specs.Contents.{section_of}
-use Rattle.mmv_entries.specs.Entries.{value_at, value_count, leads_to_metric, leads_to_instance, leads_to_string, metric_of, is_no_domain, instance_leads, choice_leads, is_same_value, is_new_value, is_good_value, values_are_good}
+use Rattle.mmv_entries.specs.Entries.{value_at, value_count, leads_to_instance, leads_to_string, metric_of, is_no_domain, instance_leads, choice_leads, is_same_value, is_new_value, is_good_value, values_are_good}
 use Rattle.mmv_layout.specs.declared.rows.IndomRow.{IndomRow}
 use Rattle.mmv_layout.specs.declared.rows.MetricRow.{MetricRow}
 use Rattle.mmv_layout.specs.declared.rows.ValueRow.{ValueRow}
@@ -20,15 +17,15 @@ use Rattle.mmv_layout.specs.declared.rows.Layout.{Layout}
 use Rattle.mmv_entries.proofs.Below.{both_left, both_right}
 use Rattle.mmv_writer.specs.Rules.{is_same_metric, has_instance, fits_instance, fits_kind, fits_metric, is_same_number}
 use Rattle.mmv_writer.specs.Rules as rules
-use Rattle.mmv_writer.specs.Draft.{Each, Apart, IsDomain, HasDomain, is_same_serial, IsValue, IsDraft}
-use Rattle.mmv_writer.specs.Places.{instances_in, counts_of, sections_in, places_of, words_in}
-use Rattle.mmv_writer.specs.Spelling.{string_place, domain_of, instance_place, metric_place, serial_word, value_words, extra_field, serial_in, serial_of, members_in, member_of, instance_field, spelled}
-use Rattle.mmv_writer.proofs.Rows.{either_left, either_right}
+use Rattle.mmv_writer.specs.Draft.{Each, IsDraft}
+use Rattle.mmv_spelling.specs.Places.{instances_in, counts_of, words_in}
+use Rattle.mmv_spelling.specs.Spelling.{domain_of, instance_place, serial_word, value_words, extra_field, serial_in, serial_of, members_in, member_of, instance_field, spelled}
+use Rattle.mmv_writer.proofs.Rows.{either_left}
 use Rattle.mmv_writer.proofs.Sections.{all_hold}
-use Rattle.mmv_writer.proofs.Standing.{Stands, word_read}
-use Rattle.mmv_writer.proofs.Wanted.{Has, HasContent}
-use Rattle.mmv_writer.proofs.Positions.{Passes, first_passes, position_is, find_at, get_below, get_some, same_row, before_this}
-use Rattle.mmv_writer.proofs.Spelt.{domains_from, instances_from, metrics_from, values_from, places, Finds, find_values}
+use Rattle.mmv_writer.proofs.Standing.{word_read}
+use Rattle.mmv_writer.proofs.Wanted.{HasContent}
+use Rattle.mmv_spelling.proofs.Positions.{Passes, first_passes, position_is, find_at, get_below, get_some, same_row, before_this}
+use Rattle.mmv_writer.proofs.Spelt.{values_from, places, find_values}
 use Rattle.mmv_writer.proofs.Marks.{value_is, instance_leads_to, metric_leads, string_leads, stand_value, serial_fits, serial_read, owner_read}
 use Rattle.mmv_writer.proofs.MetricTests.{kind_read, metric_serial_read}
 

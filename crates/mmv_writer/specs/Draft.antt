@@ -1,6 +1,5 @@
 -- What a builder has been given: a layout of which all rules for rows hold, and what each row adds to it.
-use Rattle.std.specs.Prelude.{◌≡◌, ℕ, ◌<◌, ◌≤◌, ◌^◌, ℤ, pos, Bool, true, false, ◌&&◌, ◌==◌, if◌then◌else◌, IsTrue, List, [], ◌∷◌, ◌++◌, length, Option, Some, None, slice_get, slice_index, ◌⊎◌}
-use Rattle.std.specs.List.{list_any}
+use Rattle.std.specs.Prelude.{◌≡◌, ℕ, ◌<◌, ◌≤◌, ◌^◌, ℤ, pos, Bool, true, false, ◌==◌, if◌then◌else◌, List, [], ◌∷◌, ◌++◌, Option, Some, None, slice_get, slice_index, ◌⊎◌}
 use Rattle.pcp_base.specs.Texts.{IsText}
 use Rattle.mmv_layout.specs.declared.rows.IndomRow.{IndomRow}
 use Rattle.mmv_layout.specs.declared.rows.MetricRow.{MetricRow}

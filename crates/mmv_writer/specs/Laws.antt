@@ -3,7 +3,7 @@ use Rattle.std.specs.Prelude.{◌≡◌, ◌≤◌, true, length}
 use Rattle.mmv_entries.specs.Images.{is_image}
 use Rattle.mmv_layout.specs.declared.rows.Layout.{Layout}
 use Rattle.mmv_writer.specs.Draft.{IsDraft}
-use Rattle.mmv_writer.specs.Spelling.{image_words}
+use Rattle.mmv_spelling.specs.Spelling.{image_words}
 
 -- the spelling of a draft that has at most 65,536 words is an image
 abbrev pub DraftsAreImages : Type 0

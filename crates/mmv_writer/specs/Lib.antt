@@ -1,8 +1,7 @@
 pub mod Draft
 pub mod Laws
-pub mod Places
 pub mod Reading
 pub mod Refusals
 pub mod Rules
 pub mod Saying
-pub mod Spelling
+pub mod TextLaws

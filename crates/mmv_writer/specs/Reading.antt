@@ -22,7 +22,7 @@ use Rattle.mmv_writer.specs.declared.line_fault.ReadTextError.{ReadTextError}
 use Rattle.mmv_writer.specs.declared.line_fault.ReadTextError.TheVariants as ends
 use Rattle.mmv_writer.specs.Rules.{header_fault, indom_fault, instance_fault, metric_fault, value_fault, text_fault}
 use Rattle.mmv_writer.specs.Draft.{empty_draft, new_domain, with_domain, with_instance, with_metric, with_value, with_string}
-use Rattle.mmv_writer.specs.Spelling.{image_words}
+use Rattle.mmv_spelling.specs.Spelling.{image_words}
 
 -- Lines
 

@@ -3,7 +3,7 @@ use Rattle.std.specs.Prelude.{◌≤◌, length}
 use Rattle.mmv_layout.specs.Says.{Says}
 use Rattle.mmv_layout.specs.declared.rows.Layout.{Layout}
 use Rattle.mmv_writer.specs.Draft.{IsDraft}
-use Rattle.mmv_writer.specs.Spelling.{all_strings, image_words}
+use Rattle.mmv_spelling.specs.Spelling.{all_strings, image_words}
 
 -- a draft with the strings that it lacked
 abbrev pub with_all_strings : Layout → Layout

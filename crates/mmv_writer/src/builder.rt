@@ -1,6 +1,6 @@
 ghost use Rattle.std.specs.Prelude.{◌≡◌, ◌≤◌, length, None, Some, MatchResult, OnOk, OnErr, IfOk, IfErr};
 ghost use Rattle.mmv_writer.specs.Rules.{header_fault, indom_fault, instance_fault, metric_fault, value_fault, text_fault};
-ghost use Rattle.mmv_writer.specs.Spelling.{image_words};
+ghost use Rattle.mmv_spelling.specs.Spelling.{image_words};
 ghost use Rattle.mmv_writer.specs.Refusals.{IsTooLarge};
 ghost use Rattle.mmv_writer.specs.Reading.{kind_in};
 ghost use Rattle.mmv_writer.specs.Draft.{IsDraft, IsRefusal, empty_draft, new_domain, with_domain, add_instance, with_instance, with_metric, with_value, with_string};

@@ -6,6 +6,7 @@ ghost use Rattle.mmv_writer.specs.Draft.{IsStored, IsHelp, IsContent, IsString};
 
 use crate::fault::BuildFault;
 use mmv_layout::{Content, IndomRow, Layout, MetricRow, ValueRow};
+use mmv_spelling::same_text;
 use pcp_base::{Kind, Text, is_name};
 
 /// The longest text of a string, in bytes.
@@ -93,13 +94,6 @@ fn is_instance_name(name: &Text) -> bool
     let length = name.as_slice().len();
     let is_short = !is_long(name);
     is_short && length >= 1 && length <= MOST_NAME
-}
-
-/// Whether two texts are the same.
-pub fn same_text(a: &Text, b: &Text) -> bool
-    ensures { result ≡ bytes_eq a.now b.now }
-{
-    a.as_slice() == b.as_slice()
 }
 
 /// Whether a row has an instance of this number or name.

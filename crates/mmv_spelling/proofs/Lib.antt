@@ -1,0 +1,4 @@
+pub mod Lengths
+pub mod Members
+pub mod Missing
+pub mod Positions

@@ -1,0 +1,55 @@
+-- Where the sections of a spelled image stand: behind the header and the contents, in the order of their types and
+-- without gaps. Places are bytes from the image's start.
+use Rattle.std.specs.Prelude.{ℕ, ◌+◌, ◌*◌, ◌≤◌, ◌==◌, if◌then◌else◌, List, length, sum_by}
+use Rattle.mmv_layout.specs.declared.rows.IndomRow.{IndomRow}
+use Rattle.mmv_layout.specs.declared.rows.Layout.{Layout}
+use Rattle.mmv_spelling.specs.declared.places.Counts.{Counts}
+use Rattle.mmv_spelling.specs.declared.places.Places.{Places}
+
+-- how many instances domains have together
+abbrev pub instances_in : List IndomRow → ℕ
+instances_in rows = sum_by (λ row. length row.instances) rows
+
+-- how many entries each section of a draft with these strings has
+abbrev pub counts_of : Layout → List (List ℕ) → Counts
+counts_of draft strings = record {
+  indoms = length draft.indoms;
+  instances = instances_in draft.indoms;
+  metrics = length draft.metrics;
+  values = length draft.values;
+  strings = length strings;
+}
+
+abbrev pub one_if_some : ℕ → ℕ
+one_if_some count = if count == 0 then 0 else 1
+
+-- how many sections aren't empty
+unfoldable pub sections_in : Counts → ℕ
+sections_in counts =
+    one_if_some counts.indoms + one_if_some counts.instances + one_if_some counts.metrics + one_if_some counts.values + one_if_some counts.strings
+
+-- the place behind the contents
+abbrev pub contents_end : Counts → ℕ
+contents_end counts = 40 + 16 * sections_in counts
+
+abbrev pub places_of : Counts → Places
+places_of counts = record {
+  indoms = contents_end counts;
+  instances = contents_end counts + 32 * counts.indoms;
+  metrics = contents_end counts + 32 * counts.indoms + 80 * counts.instances;
+  values = contents_end counts + 32 * counts.indoms + 80 * counts.instances + 104 * counts.metrics;
+  strings = contents_end counts + 32 * counts.indoms + 80 * counts.instances + 104 * counts.metrics + 32 * counts.values;
+}
+
+-- how many words an image with these counts has
+abbrev pub words_in : Counts → ℕ
+words_in counts =
+    5 + 2 * sections_in counts + 4 * counts.indoms + 10 * counts.instances + 13 * counts.metrics + 4 * counts.values + 32 * counts.strings
+
+-- places of an image of at most 65,536 words, and what its references count
+pub record AreSmall (places : Places) : Type 0 where
+  pub indoms : places.indoms ≤ 1048576
+  pub instances : places.instances ≤ 1048576
+  pub metrics : places.metrics ≤ 1048576
+  pub values : places.values ≤ 1048576
+  pub strings : places.strings ≤ 1048576

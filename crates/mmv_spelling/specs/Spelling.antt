@@ -1,0 +1,177 @@
+-- The one spelling of a draft as words (mmv(5), version 1): the header, the contents, then the entries of each section
+-- in the order in which the rows were given. Word i is the bytes 8i to 8i + 7, the low byte first.
+use Rattle.std.specs.Prelude.{ℕ, ℤ, ◌+◌, ◌*◌, ◌==◌, if◌then◌else◌, List, [], ◌∷◌, ◌++◌, take, length, Option, Some, None, find, bytes_eq}
+use Rattle.std.specs.List.{list_any, position_or_len, flat_map}
+use Rattle.std.specs.Int.{w32, cast_unsigned}
+use Rattle.std.specs.Ordering.{int_eq}
+use Rattle.pcp_base.specs.Codes.{code_of_kind, code_of_semantics}
+use Rattle.mmv_entries.specs.Fields.{first_words}
+use Rattle.mmv_layout.specs.declared.rows.IndomRow.{IndomRow}
+use Rattle.mmv_layout.specs.declared.rows.MetricRow.{MetricRow}
+use Rattle.mmv_layout.specs.declared.rows.ValueRow.{ValueRow}
+use Rattle.mmv_layout.specs.declared.rows.Content.{Content}
+use Rattle.mmv_layout.specs.declared.rows.Content.TheVariants.{Number, Choice, Raw}
+use Rattle.mmv_layout.specs.declared.rows.Layout.{Layout}
+use Rattle.mmv_spelling.specs.declared.places.Counts.{Counts}
+use Rattle.mmv_spelling.specs.declared.places.Places.{Places}
+use Rattle.mmv_spelling.specs.Places.{instances_in, counts_of, sections_in, places_of}
+
+-- Strings
+
+abbrev pub texts_of : Option (List ℕ) → List (List ℕ)
+texts_of None = []
+texts_of (Some text) = text ∷ []
+
+abbrev pub texts_in : Content → List (List ℕ)
+texts_in (Number n) = []
+texts_in (Choice text) = text ∷ []
+texts_in (Raw value extra) = []
+
+-- the texts that references lead to: the helps of the domains, those of the metrics, and the string values
+abbrev pub wanted : Layout → List (List ℕ)
+wanted draft =
+    flat_map (λ row. texts_of row.short ++ texts_of row.long) draft.indoms
+    ++ (flat_map (λ row. texts_of row.short ++ texts_of row.long) draft.metrics ++ flat_map (λ row. texts_in row.content) draft.values)
+
+-- strings, and behind them each text that isn't among those before it
+unfoldable pub with_missing : List (List ℕ) → List (List ℕ) → List (List ℕ)
+with_missing strings [] = strings
+with_missing strings (text ∷ texts) =
+    with_missing (if list_any (λ other. bytes_eq other text) strings then strings else strings ++ text ∷ []) texts
+
+-- the strings of an image: those given, and the missing ones
+unfoldable pub all_strings : Layout → List (List ℕ)
+all_strings draft = with_missing draft.strings (wanted draft)
+
+-- References, each to the place of the first entry that is meant
+
+abbrev pub string_place : Places → List (List ℕ) → List ℕ → ℕ
+string_place places strings text = places.strings + 256 * position_or_len (λ other. bytes_eq other text) strings
+
+abbrev pub help_place : Places → List (List ℕ) → Option (List ℕ) → ℕ
+help_place places strings None = 0
+help_place places strings (Some text) = string_place places strings text
+
+-- the number of the domain with a serial
+abbrev pub domain_of : List IndomRow → ℕ → ℕ
+domain_of indoms serial = position_or_len (λ row. row.serial == serial) indoms
+
+abbrev pub domain_place : Places → List IndomRow → ℕ → ℕ
+domain_place places indoms serial = places.indoms + 32 * domain_of indoms serial
+
+-- the place of instance k of the domain with a serial: behind the instances of all earlier domains
+abbrev pub instance_place : Places → List IndomRow → ℕ → ℕ → ℕ
+instance_place places indoms serial k = places.instances + 80 * (instances_in (take (domain_of indoms serial) indoms) + k)
+
+abbrev pub metric_place : Places → List MetricRow → ℕ → ℕ
+metric_place places metrics item = places.metrics + 104 * position_or_len (λ metric. metric.item == item) metrics
+
+-- Entries
+
+-- a word of two numbers of four bytes
+abbrev pub halves : ℕ → ℕ → ℕ
+halves low high = low + 4294967296 * high
+
+-- `MMV` and a zero byte, the version, the generation twice, the number of contents entries, the flags, the process and
+-- the cluster
+unfoldable pub header_words : Layout → ℕ → List ℕ
+header_words draft sections =
+    halves 5655885 draft.version ∷ draft.generation ∷ draft.generation ∷ halves sections draft.flags ∷ halves draft.pid draft.cluster ∷ []
+
+-- the contents entry of a section that isn't empty
+abbrev pub entry_words : ℕ → ℕ → ℕ → List ℕ
+entry_words type count place = if count == 0 then [] else halves type count ∷ place ∷ []
+
+unfoldable pub contents_words : Counts → Places → List ℕ
+contents_words counts places =
+    entry_words 1 counts.indoms places.indoms ++ (entry_words 2 counts.instances places.instances
+    ++ (entry_words 3 counts.metrics places.metrics ++ (entry_words 4 counts.values places.values ++ entry_words 5 counts.strings places.strings)))
+
+-- the first instance of a domain, 0 where it has none
+abbrev pub first_instance : Places → List IndomRow → IndomRow → ℕ
+first_instance places indoms row = if length row.instances == 0 then 0 else instance_place places indoms row.serial 0
+
+unfoldable pub domain_words : Places → List (List ℕ) → List IndomRow → IndomRow → List ℕ
+domain_words places strings indoms row =
+    halves row.serial (length row.instances) ∷ first_instance places indoms row ∷ help_place places strings row.short ∷ help_place places strings row.long ∷ []
+
+-- an instance: its domain, a zero, its number and its name filled up with zeros
+unfoldable pub instance_words : ℕ → ℤ × List ℕ → List ℕ
+instance_words domain instance = domain ∷ halves 0 (cast_unsigned w32 instance.0) ∷ first_words 8 instance.1
+
+abbrev pub serial_word : Option ℕ → ℕ
+serial_word None = 4294967295
+serial_word (Some serial) = serial
+
+unfoldable pub metric_words : Places → List (List ℕ) → MetricRow → List ℕ
+metric_words places strings row =
+    first_words 8 row.name ++ (halves row.item (code_of_kind row.kind) ∷ halves (code_of_semantics row.semantics) row.units ∷ serial_word row.serial
+    ∷ help_place places strings row.short ∷ help_place places strings row.long ∷ [])
+
+abbrev pub value_field : Content → ℕ
+value_field (Number n) = n
+value_field (Choice text) = 0
+value_field (Raw value extra) = value
+
+abbrev pub extra_field : Places → List (List ℕ) → Content → ℕ
+extra_field places strings (Number n) = 0
+extra_field places strings (Choice text) = string_place places strings text
+extra_field places strings (Raw value extra) = extra
+
+-- the domain's serial of the metric with an item, if there is one
+abbrev pub serial_in : Option MetricRow → Option ℕ
+serial_in None = None
+serial_in (Some metric) = metric.serial
+
+abbrev pub serial_of : List MetricRow → ℕ → Option ℕ
+serial_of metrics item = serial_in (find (λ metric. metric.item == item) metrics)
+
+abbrev pub members_in : Option IndomRow → List (ℤ × List ℕ)
+members_in None = []
+members_in (Some row) = row.instances
+
+-- which of its domain's instances has a number
+abbrev pub member_of : List IndomRow → ℕ → ℤ → ℕ
+member_of indoms serial id = position_or_len (λ other. int_eq other.0 id) (members_in (find (λ row. row.serial == serial) indoms))
+
+abbrev pub instance_field : Places → List IndomRow → Option ℕ → Option ℤ → ℕ
+instance_field places indoms None number = 0
+instance_field places indoms (Some serial) None = 0
+instance_field places indoms (Some serial) (Some id) = instance_place places indoms serial (member_of indoms serial id)
+
+unfoldable pub value_words : Places → List (List ℕ) → List IndomRow → List MetricRow → ValueRow → List ℕ
+value_words places strings indoms metrics row =
+    value_field row.content ∷ extra_field places strings row.content ∷ metric_place places metrics row.item
+    ∷ instance_field places indoms (serial_of metrics row.item) row.instance ∷ []
+
+-- Sections
+
+unfoldable pub domain_section : Places → List (List ℕ) → List IndomRow → List ℕ
+domain_section places strings indoms = flat_map (λ row. domain_words places strings indoms row) indoms
+
+unfoldable pub instance_section : Places → List IndomRow → List ℕ
+instance_section places indoms = flat_map (λ row. flat_map (λ instance. instance_words (domain_place places indoms row.serial) instance) row.instances) indoms
+
+unfoldable pub metric_section : Places → List (List ℕ) → List MetricRow → List ℕ
+metric_section places strings metrics = flat_map (λ row. metric_words places strings row) metrics
+
+unfoldable pub value_section : Places → List (List ℕ) → List IndomRow → List MetricRow → List ValueRow → List ℕ
+value_section places strings indoms metrics values = flat_map (λ row. value_words places strings indoms metrics row) values
+
+unfoldable pub string_section : List (List ℕ) → List ℕ
+string_section strings = flat_map (λ text. first_words 32 text) strings
+
+-- the sections of a draft, in the order of their types
+unfoldable pub sections_words : Layout → List (List ℕ) → Places → List ℕ
+sections_words draft strings places =
+    domain_section places strings draft.indoms ++ (instance_section places draft.indoms ++ (metric_section places strings draft.metrics
+    ++ (value_section places strings draft.indoms draft.metrics draft.values ++ string_section strings)))
+
+-- an image of a draft with these strings
+unfoldable pub spelled : Layout → List (List ℕ) → List ℕ
+spelled draft strings =
+    header_words draft (sections_in (counts_of draft strings))
+    ++ (contents_words (counts_of draft strings) (places_of (counts_of draft strings)) ++ sections_words draft strings (places_of (counts_of draft strings)))
+
+unfoldable pub image_words : Layout → List ℕ
+image_words draft = spelled draft (all_strings draft)

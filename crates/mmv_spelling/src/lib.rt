@@ -1,0 +1,12 @@
+//! The one spelling of the rows of an image of memory mapped values, version 1 (mmv(5)): which strings the image has,
+//! how many words it needs, where its sections stand, and the words themselves.
+#![tactic(auto)]
+
+mod places;
+mod references;
+mod spelling;
+mod strings;
+mod words;
+
+pub use spelling::{spelled, words_needed};
+pub use strings::{all_strings, same_text};

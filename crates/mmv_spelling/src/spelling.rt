@@ -1,0 +1,76 @@
+ghost use Rattle.std.specs.Prelude.{◌≡◌, ◌≤◌, ◌++◌, length, min, OnOk, IfOk};
+ghost use Rattle.mmv_spelling.specs.Places.{instances_in, counts_of, words_in, places_of, AreSmall};
+ghost use Rattle.mmv_spelling.specs.Spelling.{sections_words, spelled};
+
+use crate::places::{Counts, Places, counts_of, places_of, sections_in, words_in};
+use crate::words::{
+    push_contents, push_domains, push_header, push_instances, push_metrics, push_strings,
+    push_values,
+};
+use mmv_layout::Layout;
+use pcp_base::{NoMemory, Text};
+use std::alloc::Global;
+
+/// Writes the sections of a draft with these strings.
+#[tactic(auto, unfolding(crate::specs::Spelling::sections_words))]
+fn push_sections(
+    out: &mut Vec<u64>,
+    draft: &Layout,
+    strings: &[Text],
+    places: &Places,
+) -> Result<(), NoMemory>
+    requires small { AreSmall places.now }
+    requires indoms { length draft.now.indoms ≤ 65536 }
+    requires instances { instances_in draft.now.indoms ≤ 65536 }
+    requires metrics { length draft.now.metrics ≤ 65536 }
+    requires strings { length strings.now ≤ 65536 }
+    ensures { OnOk result (out.new.items ≡ out.old.items ++ sections_words draft.now strings.now places.now) }
+{
+    let indoms = draft.indoms.as_slice();
+    let metrics = draft.metrics.as_slice();
+    push_domains(out, places, strings, indoms)?;
+    push_instances(out, places, indoms)?;
+    push_metrics(out, places, strings, metrics)?;
+    push_values(
+        out,
+        places,
+        strings,
+        indoms,
+        metrics,
+        draft.values.as_slice(),
+    )?;
+    push_strings(out, strings)?;
+    Ok(())
+}
+
+/// How many words the image of a draft with these strings has, 2^64 - 1 at most.
+#[tactic(auto, using(crate::proofs::Lengths::counted_words))]
+pub fn words_needed(draft: &Layout, strings: &[Text]) -> u64
+    ensures { result ≡ min (words_in (counts_of draft.now strings.now)) 18446744073709551615 }
+{
+    words_in(&counts_of(draft, strings))
+}
+
+/// How many entries the sections have where the image isn't too large.
+#[tactic(auto, using(crate::proofs::Lengths::counted_exactly))]
+fn counted(draft: &Layout, strings: &[Text]) -> Counts
+    requires { words_in (counts_of draft.now strings.now) ≤ 65536 }
+    ensures { result ≡ counts_of draft.now strings.now }
+{
+    counts_of(draft, strings)
+}
+
+/// The words of a draft with these strings.
+#[tactic(auto, using(crate::proofs::Lengths::small_places), unfolding(crate::specs::Spelling::spelled))]
+pub fn spelled(alloc: Global, draft: &Layout, strings: &[Text]) -> Result<Vec<u64>, NoMemory>
+    requires { words_in (counts_of draft.now strings.now) ≤ 65536 }
+    ensures { IfOk result (λ words. words.items ≡ spelled draft.now strings.now) }
+{
+    let counts = counted(draft, strings);
+    let places = places_of(&counts);
+    let mut out = Vec::new(alloc);
+    push_header(&mut out, draft, sections_in(&counts) as u32)?;
+    push_contents(&mut out, &counts, &places)?;
+    push_sections(&mut out, draft, strings, &places)?;
+    Ok(out)
+}
