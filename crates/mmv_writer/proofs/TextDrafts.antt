@@ -43,7 +43,7 @@ use Rattle.mmv_writer.proofs.TextLines.{either, feed_lines, other_lines}
 
 -- Texts
 
-tail_all : {X : Type 0} (P : X → Type 0) (x : X) (xs : List X) → All P (x ∷ xs) → All P xs
+pub tail_all : {X : Type 0} (P : X → Type 0) (x : X) (xs : List X) → All P (x ∷ xs) → All P xs
 tail_all P x xs h k d less = h (suc k) d (omega arith)
 
 all_bytes : (text : List ℕ) → All IsTextByte text → (j : ℕ) → slice_index text j < 256
@@ -210,11 +210,11 @@ lines_are (line ∷ lines) draft said h = next (with_head (full_line_of line)) r
 
 -- Bytes
 
-cons_all : {X : Type 0} (P : X → Type 0) (x : X) (xs : List X) → P x → All P xs → All P (x ∷ xs)
+pub cons_all : {X : Type 0} (P : X → Type 0) (x : X) (xs : List X) → P x → All P xs → All P (x ∷ xs)
 cons_all P x xs here more zero d less = here
 cons_all P x xs here more (suc k) d less = more k d (omega arith)
 
-no_all : {X : Type 0} (P : X → Type 0) → All P []
+pub no_all : {X : Type 0} (P : X → Type 0) → All P []
 no_all P k d less = absurd (omega arith)
 
 -- no line feed stands before the one at the end
