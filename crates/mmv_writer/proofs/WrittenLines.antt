@@ -13,7 +13,7 @@ use Rattle.mmv_layout.specs.declared.rows.MetricRow.{MetricRow}
 use Rattle.mmv_layout.specs.declared.rows.ValueRow.{ValueRow}
 use Rattle.mmv_layout.specs.declared.rows.Content.{Content}
 use Rattle.mmv_layout.specs.declared.rows.Content.TheVariants as contents
-use Rattle.mmv_layout.proofs.Below.{both_left, both_right}
+use Rattle.mmv_entries.proofs.Below.{both_left, both_right}
 use Rattle.line_parts.specs.Laws.{IsTextByte, IsInt32, IsSigned}
 use Rattle.layout_text.specs.declared.line.Line.{Line}
 use Rattle.layout_text.specs.declared.line.Line.TheVariants as lines

@@ -13,7 +13,7 @@ use Rattle.mmv_layout.specs.declared.rows.Content.{Content}
 use Rattle.mmv_layout.specs.declared.rows.Content.TheVariants as contents
 use Rattle.mmv_layout.specs.declared.rows.Layout.{Layout}
 use Rattle.mmv_layout.specs.Rows.{layout_of}
-use Rattle.mmv_layout.proofs.Below.{both_left, both_right}
+use Rattle.mmv_entries.proofs.Below.{both_left, both_right}
 use Rattle.mmv_layout.proofs.Saying.{says_layout}
 use Rattle.line_parts.specs.Laws.{IsLineByte, IsTextByte}
 use Rattle.layout_text.specs.declared.line.Line.{Line}
