@@ -54,16 +54,19 @@ may_leave_any words s held command input are read crash leaves = inr (command, a
 -- the end of a run whose output wasn't written whole
 pub untold_ends : (words : List (List ℕ)) (s : SourceSide) (k : SinkSide) (d : DiskSide) (output : Output) (bytes : List ℕ) → HasRun words s d output → bytes ≡ shown output → Rose k.faults k.faults_after
     → (k.tells → (n : ℕ) × (k.after ≡ k.written ++ take n bytes)) → Ends words s k d 4
-untold_ends words s k d output bytes run are rose told = inr (inl (refl, record {
-  command = run.command;
-  words_are = run.words_are;
-  input = run.input;
-  read = run.read;
-  good = run.good;
-  done = run.done;
-  rose = rose;
-  told = λ tells. ((told tells).0, (told tells).1 ∙ ap (λ t. k.written ++ take (told tells).0 t) (are ∙ run.output_is));
-}))
+untold_ends words s k d output bytes run are rose told = inr (inl (
+  refl,
+  record {
+    command = run.command;
+    words_are = run.words_are;
+    input = run.input;
+    read = run.read;
+    good = run.good;
+    done = run.done;
+    rose = rose;
+    told = λ tells. ((told tells).0, (told tells).1 ∙ ap (λ t. k.written ++ take (told tells).0 t) (are ∙ run.output_is));
+  },
+))
 
 -- the end of a refusal whose line was written, or a front of it
 pub refused_ends : (words : List (List ℕ)) (s : SourceSide) (k : SinkSide) (d : DiskSide) (status : ℕ) (e : Refusal) → status ≡ status_of e → Cause words s d e → Told k (line_of e) → Ends words s k d status

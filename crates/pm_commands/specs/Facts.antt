@@ -12,7 +12,7 @@ use Rattle.pm_commands.specs.declared.words.OnceWords.{OnceWords}
 use Rattle.pm_commands.specs.declared.refusal.Refusal.{Refusal}
 use Rattle.pm_commands.specs.declared.refusal.Refusal.TheVariants.{LaterImage}
 use Rattle.pm_commands.specs.CommandLine.{command_of}
-use Rattle.pm_commands.specs.Ends.{SourceSide, SinkSide, DiskSide, IsCommand, IsOnce, IsImageInput, WasRead, Finds, GoesOn, HasByte, item_of}
+use Rattle.pm_commands.specs.Ends.{SourceSide, SinkSide, DiskSide, IsCommand, IsImageInput, Finds, GoesOn, HasByte, item_of}
 use Rattle.pm_commands.specs.Inputs.{input_limit, refusal_of, uses_disk}
 use Rattle.pm_commands.specs.Pieces.{HasItem}
 use Rattle.pm_commands.specs.Refusals.{status_of}
@@ -31,16 +31,16 @@ pub record LimitIsExact (words : List (List ℕ)) (s : SourceSide) (status : ℕ
 pub record InputFaultIsExact (words : List (List ℕ)) (s : SourceSide) (status : ℕ) : Type 0 where
   pub only : status ≡ 2 → (refusal : Refusal) × (status_of refusal ≡ 2) × Finds words s (Some refusal)
   pub always : (command : Command) → command_of words ≡ Ok command → s.tells → length s.left ≤ input_limit
-    → (refusal : Refusal) → status_of refusal ≡ 2 → refusal_of command s.left ≡ Some refusal → (status ≡ 2) ⊎ ((status ≡ 9) ⊎ (status ≡ 3))
+      → (refusal : Refusal) → status_of refusal ≡ 2 → refusal_of command s.left ≡ Some refusal → (status ≡ 2) ⊎ ((status ≡ 9) ⊎ (status ≡ 3))
 
 -- 15 exactly where `once` is given an image that is not of the first form, or a file of the disk isn't empty; a disk that
 -- fails comes before the second
 pub record LaterIsExact (words : List (List ℕ)) (s : SourceSide) (d : DiskSide) (status : ℕ) : Type 0 where
   pub only : status ≡ 15 → Finds words s (Some LaterImage) ⊎ (GoesOn words s × (d.tells → HasByte (contents_of d.held)))
   pub image : (command : Command) → command_of words ≡ Ok command → s.tells → length s.left ≤ input_limit
-    → refusal_of command s.left ≡ Some LaterImage → (status ≡ 15) ⊎ ((status ≡ 9) ⊎ (status ≡ 3))
+      → refusal_of command s.left ≡ Some LaterImage → (status ≡ 15) ⊎ ((status ≡ 9) ⊎ (status ≡ 3))
   pub disk : (command : Command) → command_of words ≡ Ok command → uses_disk command ≡ true → s.tells → d.tells → length s.left ≤ input_limit
-    → refusal_of command s.left ≡ None → HasByte (contents_of d.held) → (status ≡ 15) ⊎ ((status ≡ 9) ⊎ ((status ≡ 3) ⊎ (status ≡ 5)))
+      → refusal_of command s.left ≡ None → HasByte (contents_of d.held) → (status ≡ 15) ⊎ ((status ≡ 9) ⊎ ((status ≡ 3) ⊎ (status ≡ 5)))
 
 -- before the first write, and where it is refused there, the files hold what they held
 abbrev pub IsBeforeWrites : ℕ → Type 0

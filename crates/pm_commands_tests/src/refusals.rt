@@ -80,9 +80,15 @@ fn each_fault_of_an_entry_has_its_line(rt: HostRuntime) -> Result<(), Fail> {
     let kind = refused(alloc, 140, 7, &[])?;
     assert_eq!(rt; kind.as_slice(), b"input image Kind 140\n".as_slice());
     let reference = refused(alloc, 192, 0x49, &[])?;
-    assert_eq!(rt; reference.as_slice(), b"input image Reference 192\n".as_slice());
+    assert_eq!(rt;
+        reference.as_slice(),
+        b"input image Reference 192\n".as_slice()
+    );
     let duplicate = refused(alloc, 60, 2, &HITS[176..])?;
-    assert_eq!(rt; duplicate.as_slice(), b"input image Duplicate 208\n".as_slice());
+    assert_eq!(rt;
+        duplicate.as_slice(),
+        b"input image Duplicate 208\n".as_slice()
+    );
     let serial = refused(alloc, 137, 4, &[])?;
     assert_eq!(rt; serial.as_slice(), b"input image Serial 136\n".as_slice());
     Ok(())

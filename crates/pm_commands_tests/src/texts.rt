@@ -5,11 +5,11 @@ use std::alloc::Global;
 use std::test::Fail;
 
 /// The text of the sample.
-const HITS_TEXT: &[u8] =
-    b"mmv 1 5 0 0 1\nmetric hits 2 i32 counter 00100000 - - -\nvalue 2 - 7\n";
+const HITS_TEXT: &[u8] = b"mmv 1 5 0 0 1\nmetric hits 2 i32 counter 00100000 - - -\nvalue 2 - 7\n";
 
 /// Two metrics without a domain, of a signed and of an unsigned kind, with the least and the greatest number.
-const TWO_TEXT: &[u8] = b"mmv 1 1 0 0 1\nmetric low 2 i32 instant 00000000 - - -\nmetric big 3 u64 counter 00100000 - - -\nvalue 2 - -1\nvalue 3 - 18446744073709551615\n";
+const TWO_TEXT: &[u8] =
+    b"mmv 1 1 0 0 1\nmetric low 2 i32 instant 00000000 - - -\nmetric big 3 u64 counter 00100000 - - -\nvalue 2 - -1\nvalue 3 - 18446744073709551615\n";
 
 /// The output of a command that ends with a status over an empty disk, each of whose changing calls would fail; with
 /// another status nothing.

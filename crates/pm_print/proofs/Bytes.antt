@@ -1,8 +1,7 @@
 -- The bytes of words make these words again.
-use Rattle.std.proofs.Common.{◌≡◌, ℕ, ◌*◌, ◌/◌, ◌^◌, ◌<◌, ◌≤◌, List, [], ◌∷◌, ◌++◌, length, ap, ap₂, sym, subst, ◌∙◌, refl, arith, Ok, Err, true, false, Option, None, Some, if◌then◌else◌}
+use Rattle.std.proofs.Common.{◌≡◌, ℕ, ◌*◌, ◌/◌, ◌^◌, ◌<◌, ◌≤◌, List, [], ◌∷◌, length, ap, ap₂, sym, ◌∙◌, refl, arith, Ok, Err, true, false, Option, None, Some, if◌then◌else◌}
 use Rattle.std.specs.Prelude.{is_none, nat_lt}
-use Rattle.std.specs.Int.{w64, to_le_bytes}
-use Rattle.std.specs.List.{flat_map, AllByRecursion}
+use Rattle.std.specs.List.{AllByRecursion}
 use Rattle.std.proofs.lemmas.List.Elements.{recursion_from_All}
 use Rattle.std.proofs.lemmas.Nat.{from_le_bytes-to_le_bytes_8}
 use Rattle.mmv_entries.specs.declared.fault.ImageFault.{ImageFault}
@@ -10,7 +9,6 @@ use Rattle.mmv_entries.specs.declared.fault.ImageFault.TheVariants.{Short}
 use Rattle.mmv_entries.specs.Fields.{first_words, words_of}
 use Rattle.mmv_entries.specs.Faults.{image_of, image_in, image_fault, unless_fault}
 use Rattle.mmv_entries.specs.Contents.{is_short}
-use Rattle.mmv_entries.specs.Images.{IsImage}
 use Rattle.mmv_entries.proofs.Images.{images_same, at_least_five, short_words}
 use Rattle.pm_print.specs.Bytes.{bytes_of}
 use Rattle.pm_print.specs.Laws.{BytesAreTheImage}
@@ -39,6 +37,6 @@ bytes_are words image fits =
     let whole : is_short (length (bytes_of words)) ≡ false = ap is_short l ∙ short_words words ∙ not_short (length words) (at_least_five words image) in
     let count : length (bytes_of words) / 8 ≡ length words = omega (arith, l) in
     let same : first_words (length (bytes_of words) / 8) (bytes_of words) ≡ words =
-        ap (λ n. first_words n (bytes_of words)) count ∙ again words (recursion_from_All (λ word. word < 2 ^ 64) words fits) in
+    ap (λ n. first_words n (bytes_of words)) count ∙ again words (recursion_from_All (λ word. word < 2 ^ 64) words fits) in
     ap (λ b. if b then Err (Short (length (bytes_of words))) else image_in (first_words (length (bytes_of words) / 8) (bytes_of words))) whole
     ∙ ap image_in same ∙ no_fault words (image_fault words) (sym (images_same words) ∙ image)

@@ -1,5 +1,5 @@
 -- Each append, made sure, leaves only files that are cut in order.
-use Rattle.std.proofs.Common.{◌≡◌, ◌∙◌, ap}
+use Rattle.std.proofs.Common.{◌≡◌, ap}
 use Rattle.pcp_base.specs.declared.file.FileId.TheVariants.{Meta, Index, Volume}
 use Rattle.pcp_model.specs.Disk.{nothing_held, CrashImage}
 use Rattle.pcp_outside.specs.Devices.{LeavesOnly, grown}
