@@ -1,3 +1,4 @@
+pub mod Firsts
 pub mod Lengths
 pub mod Members
 pub mod Missing

@@ -1,13 +1,32 @@
 -- Strings and the texts that they lacked.
-use Rattle.std.proofs.Common.{◌≡◌, ℕ, ◌+◌, ◌<◌, length, take, get_or, ap, sym, ◌∙◌, append-nil, append_assoc, List, [], ◌∷◌, ◌++◌, refl, bytes_eq, if◌then◌else◌}
-use Rattle.std.specs.List.{list_any, flat_map}
+use Rattle.std.proofs.Common.{◌≡◌, ℕ, ◌+◌, ◌<◌, length, take, get_or, ap, sym, ◌∙◌, append-nil, append_assoc, List, [], ◌∷◌, ◌++◌, refl, bytes_eq, if◌then◌else◌, Bool, true, false, is_some}
+use Rattle.std.specs.List.{list_any, flat_map, position}
 use Rattle.std.proofs.lemmas.List.{take_more}
 use Rattle.std.proofs.lemmas.List.Concat.{flat_map-append}
 use Rattle.mmv_spelling.specs.Spelling.{with_missing}
+use Rattle.mmv_spelling.proofs.Firsts.{position_some}
 
 pub missing_none : (strings : List (List ℕ)) → with_missing strings [] ≡ strings
 unfolding with_missing
 missing_none strings = refl
+
+-- a text that is there adds nothing, and another stands at the end
+
+pub missing_there : (strings : List (List ℕ)) (text : List ℕ) → is_some (position (λ other. bytes_eq other text) strings) ≡ true → strings ≡ with_missing strings (text ∷ [])
+unfolding with_missing
+missing_there strings text h = here (list_any (λ other. bytes_eq other text) strings) refl
+  where
+    here : (b : Bool) → list_any (λ other. bytes_eq other text) strings ≡ b → strings ≡ (if b then strings else strings ++ text ∷ [])
+    here true e = refl
+    here false e = let some : list_any (λ other. bytes_eq other text) strings ≡ true = sym (position_some (λ other. bytes_eq other text) strings) ∙ h in cc
+
+pub missing_new : (strings : List (List ℕ)) (text : List ℕ) → is_some (position (λ other. bytes_eq other text) strings) ≡ false → strings ++ text ∷ [] ≡ with_missing strings (text ∷ [])
+unfolding with_missing
+missing_new strings text h = here (list_any (λ other. bytes_eq other text) strings) refl
+  where
+    here : (b : Bool) → list_any (λ other. bytes_eq other text) strings ≡ b → strings ++ text ∷ [] ≡ (if b then strings else strings ++ text ∷ [])
+    here true e = let none : list_any (λ other. bytes_eq other text) strings ≡ false = sym (position_some (λ other. bytes_eq other text) strings) ∙ h in cc
+    here false e = refl
 
 -- texts after texts
 pub missing_joined : (strings xs bs : List (List ℕ)) → with_missing (with_missing strings xs) bs ≡ with_missing strings (xs ++ bs)

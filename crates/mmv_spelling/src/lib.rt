@@ -6,7 +6,9 @@ mod places;
 mod references;
 mod spelling;
 mod strings;
+mod tables;
 mod words;
 
 pub use spelling::{spelled, words_needed};
-pub use strings::{all_strings, same_text};
+pub use strings::all_strings;
+pub use tables::StringTable;

@@ -6,28 +6,21 @@ ghost use Rattle.mmv_spelling.specs.Places.{instances_in, AreSmall};
 ghost use Rattle.mmv_spelling.specs.Spelling.{string_place, help_place, domain_of, domain_place, instance_place, metric_place, first_instance, extra_field, serial_of, member_of, instance_field};
 
 use crate::places::{Places, instances_in};
-use crate::strings::same_text;
+use crate::tables::StringTable;
 use mmv_layout::{Content, IndomRow, MetricRow};
 use pcp_base::Text;
 
-/// Which string is the first that is equal to a text, if there is one.
-fn text_position(strings: &[Text], text: &Text) -> Option<usize>
-    ensures { result ≡ position (λ other. bytes_eq other text.now) strings.now }
-{
-    strings.iter().position(|other| same_text(other, text))
-}
-
-/// The same, or the number of strings.
+/// Which string is the first that is equal to a text, or the number of strings.
 #[tactic(auto, using(crate::proofs::Members::first_or_len, crate::proofs::Members::first_fits))]
-fn text_index(strings: &[Text], text: &Text) -> usize
+fn text_index(strings: &StringTable, text: &Text) -> usize
     ensures value { result ≡ position_or_len (λ other. bytes_eq other text.now) strings.now }
     ensures bound { result ≤ length strings.now }
 {
-    text_position(strings, text).unwrap_or(strings.len())
+    strings.position(text).unwrap_or(strings.as_slice().len())
 }
 
 /// The place of the first string that is equal to a text.
-fn string_place(places: &Places, strings: &[Text], text: &Text) -> u64
+fn string_place(places: &Places, strings: &StringTable, text: &Text) -> u64
     requires small { AreSmall places.now }
     requires count { length strings.now ≤ 65536 }
     ensures { result ≡ string_place places.now strings.now text.now }
@@ -36,7 +29,7 @@ fn string_place(places: &Places, strings: &[Text], text: &Text) -> u64
 }
 
 /// The place of a help's string, 0 without a help.
-pub fn help_place(places: &Places, strings: &[Text], help: &Option<Text>) -> u64
+pub fn help_place(places: &Places, strings: &StringTable, help: &Option<Text>) -> u64
     requires small { AreSmall places.now }
     requires count { length strings.now ≤ 65536 }
     ensures { result ≡ help_place places.now strings.now help.now }
@@ -131,7 +124,7 @@ pub fn metric_place(places: &Places, metrics: &[MetricRow], item: u32) -> u64
 }
 
 /// The extra field of a content.
-pub fn extra_field(places: &Places, strings: &[Text], content: &Content) -> u64
+pub fn extra_field(places: &Places, strings: &StringTable, content: &Content) -> u64
     requires small { AreSmall places.now }
     requires count { length strings.now ≤ 65536 }
     ensures { result ≡ extra_field places.now strings.now content.now }

@@ -3,6 +3,7 @@ ghost use Rattle.mmv_spelling.specs.Places.{instances_in, counts_of, words_in, p
 ghost use Rattle.mmv_spelling.specs.Spelling.{sections_words, spelled};
 
 use crate::places::{Counts, Places, counts_of, places_of, sections_in, words_in};
+use crate::tables::StringTable;
 use crate::words::{
     push_contents, push_domains, push_header, push_instances, push_metrics, push_strings,
     push_values,
@@ -16,7 +17,7 @@ use std::alloc::Global;
 fn push_sections(
     out: &mut Vec<u64>,
     draft: &Layout,
-    strings: &[Text],
+    strings: &StringTable,
     places: &Places,
 ) -> Result<(), NoMemory>
     requires small { AreSmall places.now }
@@ -39,7 +40,7 @@ fn push_sections(
         metrics,
         draft.values.as_slice(),
     )?;
-    push_strings(out, strings)?;
+    push_strings(out, strings.as_slice())?;
     Ok(())
 }
 
@@ -62,11 +63,11 @@ fn counted(draft: &Layout, strings: &[Text]) -> Counts
 
 /// The words of a draft with these strings.
 #[tactic(auto, using(crate::proofs::Lengths::small_places), unfolding(crate::specs::Spelling::spelled))]
-pub fn spelled(alloc: Global, draft: &Layout, strings: &[Text]) -> Result<Vec<u64>, NoMemory>
+pub fn spelled(alloc: Global, draft: &Layout, strings: &StringTable) -> Result<Vec<u64>, NoMemory>
     requires { words_in (counts_of draft.now strings.now) ≤ 65536 }
     ensures { IfOk result (λ words. words.items ≡ spelled draft.now strings.now) }
 {
-    let counts = counted(draft, strings);
+    let counts = counted(draft, strings.as_slice());
     let places = places_of(&counts);
     let mut out = Vec::new(alloc);
     push_header(&mut out, draft, sections_in(&counts) as u32)?;

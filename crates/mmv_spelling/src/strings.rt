@@ -1,46 +1,20 @@
-ghost use Rattle.std.specs.Prelude.{◌≡◌, ◌++◌, OnOk, IfOk, [], ◌∷◌, bytes_eq};
-ghost use Rattle.std.specs.List.{list_any, flat_map};
+ghost use Rattle.std.specs.Prelude.{◌≡◌, ◌++◌, OnOk, IfOk};
+ghost use Rattle.std.specs.List.{flat_map};
 ghost use Rattle.mmv_spelling.specs.Spelling.{texts_of, texts_in, with_missing, all_strings};
 
+use crate::tables::StringTable;
 use mmv_layout::{Content, IndomRow, Layout, MetricRow, ValueRow};
-use pcp_base::{Duplicate, List, NoMemory, Text};
+use pcp_base::{NoMemory, Text};
 use std::alloc::Global;
-
-/// Whether two texts are the same.
-pub fn same_text(a: &Text, b: &Text) -> bool
-    ensures { result ≡ bytes_eq a.now b.now }
-{
-    a.as_slice() == b.as_slice()
-}
-
-/// Whether an equal text is among strings.
-fn has_text(strings: &[Text], text: &Text) -> bool
-    ensures { result ≡ list_any (λ other. bytes_eq other text.now) strings.now }
-{
-    strings.iter().any(|other| same_text(other, text))
-}
-
-/// Adds a text behind strings that lack it.
-#[tactic(auto, unfolding(crate::specs::Spelling::with_missing))]
-fn add_text(alloc: Global, strings: &mut List<Text>, text: &Text) -> Result<(), NoMemory>
-    ensures { OnOk result (strings.new ≡ with_missing strings.old (text.now ∷ [])) }
-{
-    if has_text(strings.as_slice(), text) {
-        return Ok(());
-    }
-    let copy = text.copy(alloc)?;
-    strings.push(copy)?;
-    Ok(())
-}
 
 /// Adds a help, if there is one.
 #[tactic(auto, unfolding(crate::specs::Spelling::with_missing))]
-fn add_help(alloc: Global, strings: &mut List<Text>, help: &Option<Text>) -> Result<(), NoMemory>
+fn add_help(alloc: Global, strings: &mut StringTable, help: &Option<Text>) -> Result<(), NoMemory>
     ensures { OnOk result (strings.new ≡ with_missing strings.old (texts_of help.now)) }
 {
     match help {
         None => {}
-        Some(text) => add_text(alloc, strings, text)?,
+        Some(text) => strings.add(alloc, text)?,
     }
     Ok(())
 }
@@ -49,7 +23,7 @@ fn add_help(alloc: Global, strings: &mut List<Text>, help: &Option<Text>) -> Res
 #[tactic(auto, using(crate::proofs::Missing::missing_joined))]
 fn add_helps(
     alloc: Global,
-    strings: &mut List<Text>,
+    strings: &mut StringTable,
     short: &Option<Text>,
     long: &Option<Text>,
 ) -> Result<(), NoMemory>
@@ -64,7 +38,7 @@ fn add_helps(
 #[tactic(auto, using(crate::proofs::Missing::missing_joined, crate::proofs::Missing::missing_none))]
 fn add_of_domains(
     alloc: Global,
-    strings: &mut List<Text>,
+    strings: &mut StringTable,
     rows: &[IndomRow],
 ) -> Result<(), NoMemory>
     ensures { OnOk result (strings.new ≡ with_missing strings.old (flat_map (λ row. texts_of row.short ++ texts_of row.long) rows.now)) }
@@ -79,7 +53,7 @@ fn add_of_domains(
 #[tactic(auto, using(crate::proofs::Missing::missing_joined, crate::proofs::Missing::missing_none))]
 fn add_of_metrics(
     alloc: Global,
-    strings: &mut List<Text>,
+    strings: &mut StringTable,
     rows: &[MetricRow],
 ) -> Result<(), NoMemory>
     ensures { OnOk result (strings.new ≡ with_missing strings.old (flat_map (λ row. texts_of row.short ++ texts_of row.long) rows.now)) }
@@ -92,12 +66,12 @@ fn add_of_metrics(
 
 /// Adds the text of a content, if it is one.
 #[tactic(auto, unfolding(crate::specs::Spelling::with_missing))]
-fn add_content(alloc: Global, strings: &mut List<Text>, content: &Content) -> Result<(), NoMemory>
+fn add_content(alloc: Global, strings: &mut StringTable, content: &Content) -> Result<(), NoMemory>
     ensures { OnOk result (strings.new ≡ with_missing strings.old (texts_in content.now)) }
 {
     match content {
         Content::Number(_) => {}
-        Content::Choice(text) => add_text(alloc, strings, text)?,
+        Content::Choice(text) => strings.add(alloc, text)?,
         Content::Raw(_, _) => {}
     }
     Ok(())
@@ -105,7 +79,11 @@ fn add_content(alloc: Global, strings: &mut List<Text>, content: &Content) -> Re
 
 /// Adds the texts of values.
 #[tactic(auto, using(crate::proofs::Missing::missing_joined, crate::proofs::Missing::missing_none))]
-fn add_of_values(alloc: Global, strings: &mut List<Text>, rows: &[ValueRow]) -> Result<(), NoMemory>
+fn add_of_values(
+    alloc: Global,
+    strings: &mut StringTable,
+    rows: &[ValueRow],
+) -> Result<(), NoMemory>
     ensures { OnOk result (strings.new ≡ with_missing strings.old (flat_map (λ row. texts_in row.content) rows.now)) }
 {
     for row in rows {
@@ -116,10 +94,10 @@ fn add_of_values(alloc: Global, strings: &mut List<Text>, rows: &[ValueRow]) -> 
 
 /// The strings of the image of a draft.
 #[tactic(auto, using(crate::proofs::Missing::missing_joined), unfolding(crate::specs::Spelling::all_strings))]
-pub fn all_strings(alloc: Global, draft: &Layout) -> Result<List<Text>, NoMemory>
+pub fn all_strings(alloc: Global, draft: &Layout) -> Result<StringTable, NoMemory>
     ensures { IfOk result (λ strings. strings ≡ all_strings draft.now) }
 {
-    let mut strings = draft.strings.copy(alloc)?;
+    let mut strings = StringTable::of(alloc, draft.strings.as_slice())?;
     add_of_domains(alloc, &mut strings, draft.indoms.as_slice())?;
     add_of_metrics(alloc, &mut strings, draft.metrics.as_slice())?;
     add_of_values(alloc, &mut strings, draft.values.as_slice())?;

@@ -9,6 +9,7 @@ use crate::places::{Counts, Places};
 use crate::references::{
     domain_place, extra_field, first_instance, help_place, instance_field, metric_place, serial_of,
 };
+use crate::tables::StringTable;
 use mmv_layout::{Content, IndomRow, Layout, MetricRow, ValueRow};
 use pcp_base::{NoMemory, Text};
 
@@ -110,7 +111,7 @@ pub fn push_contents(out: &mut Vec<u64>, counts: &Counts, places: &Places) -> Re
 fn push_domain(
     out: &mut Vec<u64>,
     places: &Places,
-    strings: &[Text],
+    strings: &StringTable,
     indoms: &[IndomRow],
     row: &IndomRow,
 ) -> Result<(), NoMemory>
@@ -134,7 +135,7 @@ fn push_domain(
 pub fn push_domains(
     out: &mut Vec<u64>,
     places: &Places,
-    strings: &[Text],
+    strings: &StringTable,
     indoms: &[IndomRow],
 ) -> Result<(), NoMemory>
     requires small { AreSmall places.now }
@@ -216,7 +217,7 @@ fn serial_word(serial: Option<u32>) -> u64
 fn push_metric(
     out: &mut Vec<u64>,
     places: &Places,
-    strings: &[Text],
+    strings: &StringTable,
     row: &MetricRow,
 ) -> Result<(), NoMemory>
     requires small { AreSmall places.now }
@@ -239,7 +240,7 @@ fn push_metric(
 pub fn push_metrics(
     out: &mut Vec<u64>,
     places: &Places,
-    strings: &[Text],
+    strings: &StringTable,
     metrics: &[MetricRow],
 ) -> Result<(), NoMemory>
     requires small { AreSmall places.now }
@@ -268,7 +269,7 @@ fn value_field(content: &Content) -> u64
 fn push_value(
     out: &mut Vec<u64>,
     places: &Places,
-    strings: &[Text],
+    strings: &StringTable,
     indoms: &[IndomRow],
     metrics: &[MetricRow],
     row: &ValueRow,
@@ -294,7 +295,7 @@ fn push_value(
 pub fn push_values(
     out: &mut Vec<u64>,
     places: &Places,
-    strings: &[Text],
+    strings: &StringTable,
     indoms: &[IndomRow],
     metrics: &[MetricRow],
     values: &[ValueRow],

@@ -1,5 +1,5 @@
 -- A draft with one row more is a draft, where no rule forbids the row.
-use Rattle.std.proofs.Common.{◌≡◌, ◌≢◌, ℕ, zero, suc, ◌+◌, ◌<◌, ◌≤◌, ◌^◌, ℤ, pos, negsuc, Bool, true, false, not, ◌&&◌, ◌||◌, ◌⊎◌, inl, inr, List, [], ◌∷◌, ◌++◌, length, get_or, set, take, drop, ap, ap₂, sym, subst, ◌∙◌, refl, arith, ⊎_elim, cond, nat_eq, nat_le, add-one, Option, Some, None}
+use Rattle.std.proofs.Common.{◌≡◌, ℕ, zero, suc, ◌<◌, ◌≤◌, ◌^◌, ℤ, pos, negsuc, Bool, true, false, not, ◌&&◌, ◌||◌, ◌⊎◌, inl, inr, List, [], ◌∷◌, ◌++◌, ap, ap₂, sym, subst, ◌∙◌, refl, arith, ⊎_elim, cond, nat_eq, nat_le, Option, Some, None}
 use Rattle.std.specs.List.{list_any, slice_get}
 use Rattle.std.specs.Int.{w32, is_negative}
 use Rattle.std.specs.Int.RustNames.{FitsSigned}
@@ -55,7 +55,7 @@ metric_three true false false None true f g k h = (refl, refl, refl, refl)
 metric_three true false false None false f g k h = cc
 metric_three true false false (Some s) e f g k h = cc
 
-metric_rules : (draft : Layout) (row : MetricRow) → metric_fault draft row ≡ None → (is_metric_name row.name ≡ true) × (list_any (λ other. is_same_metric other row) draft.metrics ≡ false) × (lacks_domain draft.indoms row.serial ≡ None) × (nat_le row.item 1023 ≡ true)
+pub metric_rules : (draft : Layout) (row : MetricRow) → metric_fault draft row ≡ None → (is_metric_name row.name ≡ true) × (list_any (λ other. is_same_metric other row) draft.metrics ≡ false) × (lacks_domain draft.indoms row.serial ≡ None) × (nat_le row.item 1023 ≡ true)
 unfolding metric_fault
 metric_rules draft row h =
     metric_three (is_metric_name row.name) (is_long_help row.short || is_long_help row.long) (list_any (λ other. is_same_metric other row) draft.metrics) (lacks_domain draft.indoms row.serial) (nat_le row.item 1023) Name Duplicate Item h
@@ -319,23 +319,3 @@ nothing_added version generation flags pid cluster one f p c = record {
   places = λ i j a b less at more. cc;
   strings = λ i x at. cc;
 }
-
--- the row that was found first takes the instance
-pub row_found : (rows : List IndomRow) (serial : ℕ) (instance : ℤ × List ℕ) (i : ℕ) (d : IndomRow) → i < length rows → (get_or rows i d).serial ≡ serial → set rows i (record (get_or rows i d) { instances = (get_or rows i d).instances ++ instance ∷ [] }) ≡ take i rows ++ add_instance (drop i rows) serial instance
-unfolding add_instance
-row_found [] serial instance i d below h = absurd (omega arith)
-row_found (row ∷ rows) serial instance zero d below h = ap (λ b. cond b (record row { instances = row.instances ++ instance ∷ [] } ∷ rows) (row ∷ add_instance rows serial instance)) (sym (eq-eqb row.serial serial h))
-row_found (row ∷ rows) serial instance (suc i) d below h = ap (λ r. row ∷ r) (row_found rows serial instance i d (omega arith) h)
-
--- a row that has another serial is passed over
-passed_over : (rows : List IndomRow) (serial : ℕ) (instance : ℤ × List ℕ) (i : ℕ) (d : IndomRow) → i < length rows → (get_or rows i d).serial ≢ serial → take i rows ++ add_instance (drop i rows) serial instance ≡ take (suc i) rows ++ add_instance (drop (suc i) rows) serial instance
-unfolding add_instance
-passed_over [] serial instance i d below h = absurd (omega arith)
-passed_over (row ∷ rows) serial instance zero d below h = ap (λ b. cond b (record row { instances = row.instances ++ instance ∷ [] } ∷ rows) (row ∷ add_instance rows serial instance)) (isnt row.serial serial h)
-  where
-    isnt : (a b : ℕ) → a ≢ b → nat_eq a b ≡ false
-    isnt a b n = grind (arith, nat_tests)
-passed_over (row ∷ rows) serial instance (suc i) d below h = ap (λ r. row ∷ r) (passed_over rows serial instance i d (omega arith) h)
-
-pub row_passed : (rows : List IndomRow) (serial : ℕ) (instance : ℤ × List ℕ) (i : ℕ) (d : IndomRow) → i < length rows → (get_or rows i d).serial ≢ serial → take i rows ++ add_instance (drop i rows) serial instance ≡ take (i + 1) rows ++ add_instance (drop (i + 1) rows) serial instance
-row_passed rows serial instance i d below h = rw add-one (passed_over rows serial instance i d below h)

@@ -1,4 +1,5 @@
 pub mod Draft
+pub mod Keys
 pub mod Laws
 pub mod Reading
 pub mod Refusals

@@ -1,13 +1,17 @@
 ghost use Rattle.std.specs.Prelude.{◌≡◌, ◌≤◌, length, None, Some, MatchResult, OnOk, OnErr, IfOk, IfErr};
-ghost use Rattle.mmv_writer.specs.Rules.{header_fault, indom_fault, instance_fault, metric_fault, value_fault, text_fault};
+ghost use Rattle.std.specs.List.{list_any};
+ghost use Rattle.mmv_writer.specs.Rules.{header_fault, indom_fault, has_domain, has_same_instance, instance_fault, metric_fault, fits_some_metric, is_same_value, value_fault, text_fault};
 ghost use Rattle.mmv_spelling.specs.Spelling.{image_words};
 ghost use Rattle.mmv_writer.specs.Refusals.{IsTooLarge};
 ghost use Rattle.mmv_writer.specs.Reading.{kind_in};
-ghost use Rattle.mmv_writer.specs.Draft.{IsDraft, IsRefusal, empty_draft, new_domain, with_domain, add_instance, with_instance, with_metric, with_value, with_string};
+ghost use Rattle.mmv_writer.specs.Draft.{IsStored, IsContent, IsDraft, IsRefusal, empty_draft, new_domain, with_domain, with_instance, with_metric, with_value, with_string};
 
+use crate::adding::{add_domain, add_instance, add_metric, add_value};
 use crate::fault::BuildFault;
+use crate::keys::{RowKeys, has_domain, has_either};
 use crate::rules::{
-    header_fault, indom_fault, instance_fault, metric_fault, text_fault, value_fault,
+    fits_metric, header_fault, indom_fault, is_instance_name, is_long_content, metric_fault,
+    text_fault,
 };
 use crate::spelling::words_of_draft;
 use mmv_layout::{Image, ImageFault, IndomRow, Layout, MetricRow, ValueRow};
@@ -20,48 +24,19 @@ use std::marker::Model;
 #[derive(Drop)]
 pub struct Builder {
     layout: Layout,
+    keys: RowKeys,
 }
 
 impl Model for Builder {
     ghost use Rattle.mmv_layout.specs.declared.rows.Layout.{Layout};
     ghost use Rattle.mmv_writer.specs.Draft.{IsDraft};
+    ghost use Rattle.mmv_writer.specs.Keys.{HasKeys};
 
     ghost Value = { Layout };
 
     ghost view = { λ a. a.layout };
 
-    ghost invariant = { λ a. IsDraft a.layout };
-}
-
-/// Adds an instance at the end of the first domain of this serial; without one there is nothing to do.
-#[tactic(auto, unfolding(crate::specs::Draft::add_instance))]
-fn add_instance(rows: &mut [IndomRow], serial: u32, instance: (i32, Text)) -> Result<(), NoMemory>
-    ensures ok { OnOk result (rows.new ≡ add_instance rows.old serial instance) }
-    ensures err { OnErr result (rows.new ≡ rows.old) }
-{
-    for row in rows.iter_mut() {
-        if row.serial == serial {
-            row.instances.push(instance)?;
-            return Ok(());
-        }
-    }
-    Ok(())
-}
-
-/// The same where the rows are a list.
-fn grow(
-    alloc: Global,
-    rows: &mut List<IndomRow>,
-    serial: u32,
-    instance: (i32, Text),
-) -> Result<(), NoMemory>
-    ensures ok { OnOk result (rows.new ≡ add_instance rows.old serial instance) }
-    ensures err { OnErr result (rows.new ≡ rows.old) }
-{
-    let mut items = std::mem::replace(rows, List::empty(alloc)).into_vec();
-    let added = add_instance(items.as_mut_slice(), serial, instance);
-    *rows = List::from_vec(items);
-    added
+    ghost invariant = { λ a. IsDraft a.layout × HasKeys a.keys a.layout };
 }
 
 /// The image of a draft.
@@ -79,19 +54,82 @@ fn image_of(alloc: Global, draft: &Layout) -> Result<Image, BuildFault>
     }
 }
 
-/// The kind of the metric with an item, if there is one.
-fn kind_in(metrics: &[MetricRow], item: u32) -> Option<Kind>
-    ensures { result ≡ kind_in metrics.now item }
-{
-    for row in metrics {
-        if row.item == item {
-            return Some(row.kind);
+impl Builder {
+    /// Whether some domain has a serial.
+    fn has_domain(&self, serial: u32) -> bool
+        ensures { result ≡ has_domain self.now.indoms serial }
+    {
+        has_domain(&self.keys.domains, serial)
+    }
+
+    /// Whether the domain of this serial has an instance of this number or name.
+    fn has_same_instance(&self, serial: u32, id: &i32, name: &Text) -> bool
+        ensures { result ≡ has_same_instance self.now.indoms serial (id.now, name.now) }
+    {
+        has_either(&self.keys.domains, serial, id, name)
+    }
+
+    /// Why an instance isn't taken.
+    #[tactic(auto, unfolding(crate::specs::Rules::instance_fault))]
+    fn instance_fault(&self, serial: u32, id: &i32, name: &Text) -> Option<BuildFault>
+        ensures value { result ≡ instance_fault self.now serial id.now name.now }
+        ensures stored { IsStored name.now }
+    {
+        if !is_instance_name(name) {
+            return Some(BuildFault::Name);
+        }
+        if self.has_same_instance(serial, id, name) {
+            return Some(BuildFault::Duplicate);
+        }
+        if !self.has_domain(serial) {
+            return Some(BuildFault::Unknown { serial });
+        }
+        if *id < 0 {
+            Some(BuildFault::Serial)
+        } else {
+            None
         }
     }
-    None
-}
 
-impl Builder {
+    /// Whether some value has the metric and the instance of this one.
+    fn has_same_value(&self, row: &ValueRow) -> bool
+        ensures { result ≡ list_any (λ other. is_same_value other row.now) self.now.values }
+    {
+        self.keys.values.contains(&(row.item, row.instance))
+    }
+
+    /// Whether a value is one of the metric with its item.
+    fn fits_some_metric(&self, row: &ValueRow) -> bool
+        ensures { result ≡ fits_some_metric self.now.indoms self.now.metrics row.now }
+    {
+        let Some(at) = self.keys.items.get(&row.item) else {
+            return false;
+        };
+        match self.layout.metrics.get(*at) {
+            None => false,
+            Some(metric) => fits_metric(&self.keys.domains, row, metric),
+        }
+    }
+
+    /// Why a value isn't taken.
+    #[tactic(auto, unfolding(crate::specs::Rules::value_fault))]
+    fn value_fault(&self, row: &ValueRow) -> Option<BuildFault>
+        ensures value { result ≡ value_fault self.now row.now }
+        ensures content { result ≡ None → IsContent row.now.content }
+    {
+        if is_long_content(&row.content) {
+            return Some(BuildFault::Name);
+        }
+        if self.has_same_value(row) {
+            return Some(BuildFault::Duplicate);
+        }
+        if self.fits_some_metric(row) {
+            None
+        } else {
+            Some(BuildFault::Item)
+        }
+    }
+
     /// The builder of an image of version 1 without a row; `Serial` exactly for another version or a cluster
     /// above 4095.
     #[tactic(auto, using(crate::proofs::Drafts::nothing_added), unfolding(crate::specs::Draft::empty_draft))]
@@ -122,6 +160,7 @@ impl Builder {
                 values: List::empty(alloc),
                 strings: List::empty(alloc),
             },
+            keys: RowKeys::empty(alloc),
         })
     }
 
@@ -147,7 +186,7 @@ impl Builder {
         if let Some(fault) = indom_fault(&self.layout, &row) {
             return Err(fault);
         }
-        self.layout.indoms.push(row)?;
+        add_domain(alloc, &mut self.layout.indoms, &mut self.keys.domains, row)?;
         Ok(())
     }
 
@@ -164,10 +203,16 @@ impl Builder {
             (λ _. (instance_fault self.old serial id name ≡ None) × (self.new ≡ with_instance self.old serial id name))
             (λ fault. IsRefusal (instance_fault self.old serial id name) fault × (self.new ≡ self.old)) }
     {
-        if let Some(fault) = instance_fault(&self.layout, serial, id, &name) {
+        if let Some(fault) = self.instance_fault(serial, &id, &name) {
             return Err(fault);
         }
-        grow(alloc, &mut self.layout.indoms, serial, (id, name))?;
+        add_instance(
+            alloc,
+            &mut self.layout.indoms,
+            &mut self.keys.domains,
+            serial,
+            (id, name),
+        )?;
         Ok(())
     }
 
@@ -181,7 +226,7 @@ impl Builder {
         if let Some(fault) = metric_fault(&self.layout, &row) {
             return Err(fault);
         }
-        self.layout.metrics.push(row)?;
+        add_metric(&mut self.layout.metrics, &mut self.keys.items, row)?;
         Ok(())
     }
 
@@ -189,7 +234,13 @@ impl Builder {
     pub fn kind_of(&self, item: u32) -> Option<Kind>
         ensures { result ≡ kind_in self.now.metrics item }
     {
-        kind_in(self.layout.metrics.as_slice(), item)
+        let Some(at) = self.keys.items.get(&item) else {
+            return None;
+        };
+        match self.layout.metrics.get(*at) {
+            None => None,
+            Some(metric) => Some(metric.kind),
+        }
     }
 
     /// Adds a value of a metric that is there. After a refusal nothing is changed.
@@ -199,10 +250,10 @@ impl Builder {
             (λ _. (value_fault self.old row ≡ None) × (self.new ≡ with_value self.old row))
             (λ fault. IsRefusal (value_fault self.old row) fault × (self.new ≡ self.old)) }
     {
-        if let Some(fault) = value_fault(&self.layout, &row) {
+        if let Some(fault) = self.value_fault(&row) {
             return Err(fault);
         }
-        self.layout.values.push(row)?;
+        add_value(&mut self.layout.values, &mut self.keys.values, row)?;
         Ok(())
     }
 

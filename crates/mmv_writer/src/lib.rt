@@ -2,8 +2,10 @@
 //! refuses a row that would break the format; what was built is then spelled in one way alone, without gaps.
 #![tactic(auto)]
 
+mod adding;
 mod builder;
 mod fault;
+mod keys;
 mod laws;
 mod line_fault;
 mod reading;

@@ -22,6 +22,6 @@ pub fn words_of_draft(alloc: Global, draft: &Layout) -> Result<Vec<u64>, BuildFa
     if words > MOST_WORDS {
         return Err(BuildFault::TooLarge { words });
     }
-    let made = spelled(alloc, draft, strings.as_slice())?;
+    let made = spelled(alloc, draft, &strings)?;
     Ok(made)
 }

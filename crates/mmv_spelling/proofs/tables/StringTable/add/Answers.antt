@@ -1,0 +1,1 @@
+-- A text that is missing is added, and no other.
