@@ -1,10 +1,7 @@
 -- What a text says is a draft.
-use Rattle.std.proofs.Common.{◌≡◌, ◌≢◌, ℕ, zero, suc, ◌+◌, ◌<◌, ◌≤◌, ◌^◌, ℤ, Bool, true, false, not, ◌&&◌, ◌||◌, cond, nat_eq, nat_le, List, [], ◌∷◌, ◌++◌, length, refl, sym, ap, subst, ◌∙◌, arith, ⊎_elim, true≢false, Option, Some, None, option_map, Result, Ok, Err, All, IfSome, slice_index, get_or}
+use Rattle.std.proofs.Common.{◌≡◌, ℕ, zero, suc, ◌+◌, ◌<◌, ℤ, Bool, true, false, not, ◌&&◌, ◌||◌, cond, nat_eq, nat_le, List, [], ◌∷◌, refl, sym, ap, subst, ◌∙◌, arith, ⊎_elim, true≢false, Option, Some, None, option_map, Result, Ok, Err, All, IfSome, slice_index, get_or}
 use Rattle.std.specs.List.{list_any}
-use Rattle.std.specs.Int.{w32}
-use Rattle.std.specs.Int.RustNames.{FitsSigned}
 use Rattle.std.proofs.lemmas.Bool.{eqb-true, leb-true, eq-eqb}
-use Rattle.std.proofs.lemmas.Bool.Decides.{nat_tests}
 use Rattle.pcp_base.specs.declared.kind.Kind.{Kind}
 use Rattle.pcp_base.specs.declared.kind.Kind.TheVariants as kinds
 use Rattle.mmv_layout.specs.declared.rows.IndomRow.{IndomRow}
@@ -15,24 +12,22 @@ use Rattle.mmv_layout.specs.declared.rows.Content.TheVariants as contents
 use Rattle.mmv_layout.specs.declared.rows.Layout.{Layout}
 use Rattle.mmv_layout.specs.Rows.{layout_of}
 use Rattle.mmv_layout.proofs.Saying.{says_layout}
-use Rattle.line_parts.specs.Laws.{IsLineByte, IsTextByte, IsInt32}
+use Rattle.line_parts.specs.Laws.{IsLineByte, IsTextByte}
 use Rattle.layout_text.specs.declared.line.Line.{Line}
 use Rattle.layout_text.specs.declared.line.Line.TheVariants as lines
 use Rattle.layout_text.specs.declared.line.Written.{Written}
 use Rattle.layout_text.specs.declared.line.Written.TheVariants as written
-use Rattle.layout_text.specs.Contents.{ranged, number_as, text_as, raw_as, content_of}
+use Rattle.layout_text.specs.Contents.{number_as, text_as, raw_as, content_of}
 use Rattle.layout_text.specs.Laws.{IsLine, IsWritten}
-use Rattle.layout_text.specs.Lines.{line_of}
 use Rattle.layout_text.specs.Whole.{layout_text}
 use Rattle.layout_text.proofs.ReadRanges.{line_range}
 use Rattle.mmv_spelling.specs.Spelling.{image_words}
 use Rattle.mmv_writer.specs.declared.fault.BuildFault.{BuildFault}
 use Rattle.mmv_writer.specs.declared.fault.BuildFault.TheVariants.{Name, Duplicate, Serial, Item}
 use Rattle.mmv_writer.specs.declared.line_fault.LineFault.{LineFault}
-use Rattle.mmv_writer.specs.declared.line_fault.LineFault.TheVariants.{Grammar, Build}
 use Rattle.mmv_writer.specs.declared.line_fault.TextFault.{TextFault}
-use Rattle.mmv_writer.specs.Rules.{is_long, is_long_help, header_fault, indom_fault, instance_fault, metric_fault, is_metric_name, is_same_metric, lacks_domain, unknown_or, value_fault, is_long_content, text_fault}
-use Rattle.mmv_writer.specs.Draft.{IsStored, IsString, IsHelp, IsContent, IsDraft, empty_draft, new_domain, with_domain, with_instance, with_metric, with_value, with_string}
+use Rattle.mmv_writer.specs.Rules.{is_long_help, header_fault, indom_fault, instance_fault, metric_fault, is_metric_name, is_same_metric, lacks_domain, unknown_or, value_fault, is_long_content, text_fault}
+use Rattle.mmv_writer.specs.Draft.{IsStored, IsHelp, IsContent, IsDraft, empty_draft, new_domain, with_domain, with_instance, with_metric, with_value, with_string}
 use Rattle.mmv_writer.specs.Saying.{with_all_strings}
 use Rattle.mmv_writer.specs.Reading.{prepend, lines_of, ended, said_by, full_line_of, unless, kind_in, with_content, with_written, with_line, with_said, with_head, and_then, with_lines, draft_of, text_draft}
 use Rattle.mmv_writer.specs.TextLaws.{IsByte, MadeTextIsDumped}
@@ -252,9 +247,9 @@ unfolding lines_of
 ones [] h = no_all IsOneLine
 ones (b ∷ bs) h =
     ⊎_elim
-        (λ (q : nat_eq b 10 ≡ true). subst (All IsOneLine) (sym (feed_lines b bs q)) (cons_all IsOneLine (10 ∷ []) (lines_of bs) feed_is_one (ones bs (tail_all IsByte b bs h))))
-        (λ (q : nat_eq b 10 ≡ false). subst (All IsOneLine) (sym (other_lines b bs q)) (prepend_one b (h 0 0 (omega arith)) q (lines_of bs) (ones bs (tail_all IsByte b bs h))))
-        (either (nat_eq b 10))
+    (λ (q : nat_eq b 10 ≡ true). subst (All IsOneLine) (sym (feed_lines b bs q)) (cons_all IsOneLine (10 ∷ []) (lines_of bs) feed_is_one (ones bs (tail_all IsByte b bs h))))
+    (λ (q : nat_eq b 10 ≡ false). subst (All IsOneLine) (sym (other_lines b bs q)) (prepend_one b (h 0 0 (omega arith)) q (lines_of bs) (ones bs (tail_all IsByte b bs h))))
+    (either (nat_eq b 10))
 
 one_is_said : (line : List ℕ) → IsOneLine line → IsSaid line
 unfolding full_line_of

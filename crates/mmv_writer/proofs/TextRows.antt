@@ -1,16 +1,13 @@
 -- What each line of a text makes of the draft of the lines before it.
-use Rattle.std.proofs.Common.{◌≡◌, ℕ, nat_eq, false, ◌+◌, ◌<◌, ◌≤◌, List, [], ◌∷◌, ◌++◌, length, refl, sym, ap, subst, ◌∙◌, arith, Option, Some, None, Result, Ok, Err}
+use Rattle.std.proofs.Common.{◌≡◌, ℕ, nat_eq, false, ◌+◌, ◌<◌, List, [], ◌∷◌, length, refl, ap, ◌∙◌, arith, Ok, Err}
 use Rattle.mmv_layout.specs.declared.rows.Layout.{Layout}
 use Rattle.layout_text.specs.Lines.{line_of}
 use Rattle.mmv_writer.specs.declared.line_fault.LineFault.{LineFault}
-use Rattle.mmv_writer.specs.declared.line_fault.LineFault.TheVariants.{Grammar, Build}
+use Rattle.mmv_writer.specs.declared.line_fault.LineFault.TheVariants.{Grammar}
 use Rattle.mmv_writer.specs.declared.line_fault.TextFault.{TextFault}
 use Rattle.mmv_writer.specs.declared.line_fault.LineError.{LineError}
 use Rattle.mmv_writer.specs.declared.line_fault.LineError.TheVariants as stops
-use Rattle.mmv_writer.specs.declared.line_fault.ReadTextError.{ReadTextError}
-use Rattle.mmv_writer.specs.declared.line_fault.ReadTextError.TheVariants as ends
-use Rattle.line_parts.specs.Words.{first_word}
-use Rattle.mmv_writer.specs.Reading.{lines_of, full_line_of, IsUnended, IsSplit, with_said, with_head, and_then, with_lines, draft_of, text_draft, sized, image_of, text_image, on_line, Takes, Begins, Answers, Adds}
+use Rattle.mmv_writer.specs.Reading.{lines_of, IsUnended, IsSplit, with_said, with_head, and_then, with_lines, draft_of, text_draft, image_of, text_image, on_line, Takes, Adds}
 
 -- no line is left
 pub no_lines : (bytes : List ℕ) → length bytes ≡ 0 → lines_of bytes ≡ []
@@ -63,39 +60,7 @@ unended_text (b ∷ bs) u =
     let p : 0 < length (b ∷ bs) = omega arith in
     ap draft_of (u p).0 ∙ ap (λ said. and_then (with_head said) 1 (λ draft. with_lines [] 2 draft)) (u p).1
 
-module _ (bytes line rest : List ℕ) (s : IsSplit bytes line rest) where
-  first : text_draft bytes ≡ and_then (with_head (line_of line)) 1 (λ draft. with_lines (lines_of rest) 2 draft)
-  unfolding text_draft draft_of
-  first = ap draft_of s.lines ∙ ap (λ said. and_then (with_head said) 1 (λ draft. with_lines (lines_of rest) 2 draft)) s.first
-
-  pub head_goes_on : (draft : Layout) → with_head (line_of line) ≡ Ok draft → text_draft bytes ≡ with_lines (lines_of rest) 2 draft
-  head_goes_on draft h = first ∙ ap (λ found. and_then found 1 (λ d. with_lines (lines_of rest) 2 d)) h
-
-  pub head_fault : (fault : LineFault) → with_head (line_of line) ≡ Err fault → text_draft bytes ≡ Err (record { line = 1; fault = fault })
-  head_fault fault h = first ∙ ap (λ found. and_then found 1 (λ d. with_lines (lines_of rest) 2 d)) h
-
--- no header has no byte
-pub head_has_bytes : (line : List ℕ) (draft : Layout) → with_head (line_of line) ≡ Ok draft → 0 < length line
-unfolding line_of first_word with_head
-head_has_bytes [] draft h = cc
-head_has_bytes (b ∷ bs) draft h = omega arith
-
--- Texts
-
+-- a text's first fault
 pub text_fault_told : (bytes : List ℕ) (fault : TextFault) → text_draft bytes ≡ Err fault → text_image bytes ≡ Err fault
 unfolding text_image
 text_fault_told bytes fault h = ap (λ d. image_of d (length (lines_of bytes) + 1)) h
-
-pub head_refused : (bytes line rest : List ℕ) (error : LineError) → IsSplit bytes line rest → Begins (with_head (line_of line)) (Err error) → Answers {X = List ℕ} (text_image bytes) (Err (on_line error 1))
-head_refused bytes line rest (stops.Fault fault) s h = text_fault_told bytes (record { line = 1; fault = fault }) (head_fault bytes line rest s fault h)
-head_refused bytes line rest stops.NoMemory s h = tt
-
-pub lines_refused : (bytes line rest : List ℕ) (before after : Layout) (error : ReadTextError) → IsSplit bytes line rest → with_head (line_of line) ≡ Ok before → Adds (lines_of rest) 2 before after (Err error) → Answers {X = List ℕ} (text_image bytes) (Err error)
-lines_refused bytes line rest before after (ends.Fault fault) s h a = text_fault_told bytes fault (head_goes_on bytes line rest s before h ∙ a)
-lines_refused bytes line rest before after ends.NoMemory s h a = tt
-
-pub text_ends : (bytes line rest : List ℕ) (before after : Layout) (number : ℕ) → IsSplit bytes line rest → with_head (line_of line) ≡ Ok before → Adds (lines_of rest) 2 before after (Ok number) → text_image bytes ≡ sized after number
-unfolding text_image
-text_ends bytes line rest before after number s h a =
-    let next : length (lines_of bytes) + 1 ≡ number = omega (arith, ap length s.lines, a.1) in
-    ap (λ d. image_of d (length (lines_of bytes) + 1)) (head_goes_on bytes line rest s before h ∙ a.0) ∙ ap (sized after) next

@@ -1,32 +1,25 @@
 -- The rows of a draft may stand in lines.
-use Rattle.std.proofs.Common.{◌≡◌, ◌≢◌, ℕ, zero, suc, ◌+◌, ◌-◌, ◌*◌, ◌%◌, ◌<◌, ◌≤◌, ℤ, pos, negsuc, Bool, true, false, not, ◌&&◌, ◌||◌, ◌⊎◌, inl, inr, cond, nat_eq, nat_le, nat_lt, List, [], ◌∷◌, ◌++◌, length, refl, sym, ap, subst, ◌∙◌, arith, ⊎_elim, true≢false, Option, Some, None, All, IfSome, slice_index, get_or}
+use Rattle.std.proofs.Common.{◌≡◌, ◌≢◌, ℕ, zero, suc, ◌-◌, ◌*◌, ◌%◌, ◌<◌, ◌≤◌, ℤ, Bool, true, false, ◌&&◌, ◌||◌, ◌⊎◌, inl, inr, cond, nat_eq, nat_le, nat_lt, List, [], ◌∷◌, length, refl, sym, subst, arith, ⊎_elim, true≢false, Option, Some, None, All, IfSome, slice_index}
 use Rattle.std.specs.List.{list_any}
 use Rattle.std.specs.Ordering.{int_eq}
 use Rattle.std.proofs.lemmas.Bool.{eqb-true, leb-true, ltb-false}
-use Rattle.std.proofs.lemmas.Bool.Decides.{nat_tests, Decides-int_eq}
+use Rattle.std.proofs.lemmas.Bool.Decides.{Decides-int_eq}
 use Rattle.pcp_base.specs.Names.{is_letter, is_name_byte, spells}
 use Rattle.pcp_base.specs.Texts.{IsText}
 use Rattle.pcp_base.specs.declared.kind.Kind.{Kind}
 use Rattle.pcp_base.specs.declared.kind.Kind.TheVariants as kinds
 use Rattle.mmv_layout.specs.declared.rows.IndomRow.{IndomRow}
-use Rattle.mmv_layout.specs.declared.rows.MetricRow.{MetricRow}
-use Rattle.mmv_layout.specs.declared.rows.ValueRow.{ValueRow}
 use Rattle.mmv_layout.specs.declared.rows.Content.{Content}
 use Rattle.mmv_layout.specs.declared.rows.Content.TheVariants as contents
 use Rattle.mmv_entries.proofs.Below.{both_left, both_right}
-use Rattle.line_parts.specs.Laws.{IsTextByte, IsInt32, IsSigned}
-use Rattle.layout_text.specs.declared.line.Line.{Line}
-use Rattle.layout_text.specs.declared.line.Line.TheVariants as lines
-use Rattle.layout_text.specs.declared.line.Written.{Written}
+use Rattle.line_parts.specs.Laws.{IsTextByte, IsInt32}
 use Rattle.layout_text.specs.declared.line.Written.TheVariants as written
-use Rattle.layout_text.specs.Contents.{negated, ranged, number_as, content_of, turned, written_number, written_of}
-use Rattle.layout_text.specs.Laws.{IsNameByte, IsLineName, IsWritten, IsLine}
-use Rattle.layout_text.specs.Whole.{kind_of_item}
-use Rattle.mmv_spelling.proofs.Positions.{Passes, first_passes}
-use Rattle.mmv_writer.specs.Rules.{is_serial, has_domain, is_metric_name, has_instance, fits_instance, fits_kind, fits_metric, fits_some_metric}
-use Rattle.mmv_writer.specs.Draft.{Each, IsStored, IsString, IsHelp, IsNumber, IsInstance, IsDomain, HasDomain, IsMetric, IsContent, IsValue}
+use Rattle.layout_text.specs.Contents.{turned, written_number, written_of}
+use Rattle.layout_text.specs.Laws.{IsNameByte, IsLineName, IsWritten}
+use Rattle.mmv_spelling.proofs.Positions.{first_passes}
+use Rattle.mmv_writer.specs.Rules.{is_serial, is_metric_name, fits_instance}
+use Rattle.mmv_writer.specs.Draft.{Each, IsStored, IsHelp, IsNumber, IsDomain, HasDomain, IsContent}
 use Rattle.mmv_writer.specs.TextLaws.{HasFields}
-use Rattle.mmv_writer.proofs.TextLines.{either}
 use Rattle.mmv_writer.proofs.TextDrafts.{tail_all, cons_all, no_all}
 
 -- Texts
@@ -62,20 +55,20 @@ between low high b h = (leb-true low b (both_left (nat_le low b) (nat_le b high)
 letter_between : (b : ℕ) → is_letter b ≡ true → Between 65 122 b
 letter_between b h =
     ⊎_elim
-        (λ (l : (nat_le 65 b && nat_le b 90) ≡ true). let r : Between 65 90 b = between 65 90 b l in (r.0, omega arith))
-        (λ (l : (nat_le 97 b && nat_le b 122) ≡ true). let r : Between 97 122 b = between 97 122 b l in (omega arith, r.1))
-        (or_cases (nat_le 65 b && nat_le b 90) (nat_le 97 b && nat_le b 122) h)
+    (λ (l : (nat_le 65 b && nat_le b 90) ≡ true). let r : Between 65 90 b = between 65 90 b l in (r.0, omega arith))
+    (λ (l : (nat_le 97 b && nat_le b 122) ≡ true). let r : Between 97 122 b = between 97 122 b l in (omega arith, r.1))
+    (or_cases (nat_le 65 b && nat_le b 90) (nat_le 97 b && nat_le b 122) h)
 
 name_between : (b : ℕ) → is_name_byte b ≡ true → Between 46 122 b
 name_between b h =
     ⊎_elim
-        (λ (l : is_letter b ≡ true). let r : Between 65 122 b = letter_between b l in (omega arith, r.1))
-        (λ (l : ((nat_le 48 b && nat_le b 57) || nat_eq b 95) ≡ true).
-            ⊎_elim
-                (λ (m : (nat_le 48 b && nat_le b 57) ≡ true). let r : Between 48 57 b = between 48 57 b m in (omega arith, omega arith))
-                (λ (m : nat_eq b 95 ≡ true). let r : b ≡ 95 = eqb-true b 95 m in (omega arith, omega arith))
-                (or_cases (nat_le 48 b && nat_le b 57) (nat_eq b 95) l))
-        (or_cases (is_letter b) ((nat_le 48 b && nat_le b 57) || nat_eq b 95) h)
+    (λ (l : is_letter b ≡ true). let r : Between 65 122 b = letter_between b l in (omega arith, r.1))
+    (λ (l : ((nat_le 48 b && nat_le b 57) || nat_eq b 95) ≡ true).
+    ⊎_elim
+    (λ (m : (nat_le 48 b && nat_le b 57) ≡ true). let r : Between 48 57 b = between 48 57 b m in (omega arith, omega arith))
+    (λ (m : nat_eq b 95 ≡ true). let r : b ≡ 95 = eqb-true b 95 m in (omega arith, omega arith))
+    (or_cases (nat_le 48 b && nat_le b 57) (nat_eq b 95) l))
+    (or_cases (is_letter b) ((nat_le 48 b && nat_le b 57) || nat_eq b 95) h)
 
 name_byte : (b : ℕ) → Between 46 122 b → IsNameByte b
 name_byte b r = ((omega arith, omega arith), λ e. absurd (omega arith), λ e. absurd (omega arith))

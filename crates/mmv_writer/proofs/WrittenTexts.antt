@@ -1,8 +1,7 @@
 -- The text of a draft is read as that draft.
-use Rattle.std.proofs.Common.{◌≡◌, ◌≢◌, min, ℕ, zero, suc, ◌+◌, ◌<◌, ◌≤◌, ℤ, pos, Bool, true, false, not, ◌&&◌, ◌||◌, cond, nat_eq, nat_le, List, [], ◌∷◌, ◌++◌, length, append_assoc, append-nil, refl, sym, ap, subst, ◌∙◌, arith, ⊎_elim, Option, Some, None, Result, Ok, Err, All}
+use Rattle.std.proofs.Common.{◌≡◌, ◌≢◌, min, ℕ, zero, suc, ◌+◌, ◌≤◌, ℤ, pos, Bool, true, false, not, ◌&&◌, ◌||◌, cond, nat_eq, nat_le, List, [], ◌∷◌, ◌++◌, length, append_assoc, append-nil, refl, sym, ap, subst, ◌∙◌, arith, ⊎_elim, Option, Some, None, Ok, Err, All}
 use Rattle.std.specs.List.{list_any, slice_get}
 use Rattle.std.specs.Int.{is_negative}
-use Rattle.std.specs.Ordering.{int_eq}
 use Rattle.std.proofs.lemmas.Bool.{eqb-true, eq-eqb, le-leb}
 use Rattle.std.proofs.lemmas.Bool.Decides.{nat_tests}
 use Rattle.pcp_base.specs.declared.kind.Kind.{Kind}
@@ -15,26 +14,22 @@ use Rattle.mmv_layout.specs.declared.rows.Layout.{Layout}
 use Rattle.mmv_layout.specs.Rows.{layout_of}
 use Rattle.mmv_entries.proofs.Below.{both_left, both_right}
 use Rattle.mmv_layout.proofs.Saying.{says_layout}
-use Rattle.line_parts.specs.Laws.{IsLineByte, IsTextByte}
+use Rattle.line_parts.specs.Laws.{IsLineByte}
 use Rattle.layout_text.specs.declared.line.Line.{Line}
 use Rattle.layout_text.specs.declared.line.Line.TheVariants as lines
-use Rattle.layout_text.specs.declared.line.Written.{Written}
-use Rattle.layout_text.specs.Contents.{content_of, written_of}
+use Rattle.layout_text.specs.Contents.{written_of}
 use Rattle.layout_text.specs.Laws.{IsLine}
-use Rattle.layout_text.specs.Lines.{line_of}
 use Rattle.layout_text.specs.Spelling.{line_text, full_line}
 use Rattle.layout_text.specs.Whole.{strings_text, instances_text, indom_text, indoms_text, metrics_text, kind_of_item, value_text, values_text, layout_text}
 use Rattle.layout_text.proofs.LineBytes.{line_in_line}
 use Rattle.layout_text.proofs.LineReads.{line_is_read}
 use Rattle.mmv_spelling.specs.Spelling.{image_words}
-use Rattle.mmv_spelling.proofs.Positions.{Passes, first_passes}
+use Rattle.mmv_spelling.proofs.Positions.{first_passes}
 use Rattle.mmv_writer.specs.declared.fault.BuildFault.{BuildFault}
 use Rattle.mmv_writer.specs.declared.fault.BuildFault.TheVariants.{Name, Duplicate, Unknown, Serial, Item, TooLarge}
-use Rattle.mmv_writer.specs.declared.line_fault.LineFault.{LineFault}
 use Rattle.mmv_writer.specs.declared.line_fault.LineFault.TheVariants.{Build}
-use Rattle.mmv_writer.specs.declared.line_fault.TextFault.{TextFault}
-use Rattle.mmv_writer.specs.Rules.{is_long, is_long_help, is_serial, has_domain, header_fault, indom_fault, is_instance_name, is_same_instance, has_same_instance, instance_fault, is_metric_name, is_same_metric, lacks_domain, unknown_or, metric_fault, fits_instance, fits_kind, fits_metric, fits_some_metric, is_same_value, is_long_content, value_fault, text_fault}
-use Rattle.mmv_writer.specs.Draft.{Each, Apart, IsStored, IsString, IsHelp, IsNumber, IsInstance, IsDomain, HasDomain, IsMetric, IsContent, IsValue, is_same_serial, IsDraft, empty_draft, new_domain, with_domain, add_instance, with_instance, with_metric, with_value, with_string}
+use Rattle.mmv_writer.specs.Rules.{is_long_help, is_serial, has_domain, header_fault, indom_fault, is_instance_name, is_same_instance, has_same_instance, instance_fault, is_metric_name, is_same_metric, lacks_domain, unknown_or, metric_fault, fits_instance, fits_kind, fits_metric, fits_some_metric, is_same_value, is_long_content, value_fault, text_fault}
+use Rattle.mmv_writer.specs.Draft.{Apart, IsString, IsHelp, IsInstance, IsDomain, HasDomain, IsMetric, IsContent, IsValue, is_same_serial, empty_draft, new_domain, with_domain, add_instance, with_instance, with_metric, with_value, with_string}
 use Rattle.mmv_writer.specs.Saying.{with_all_strings}
 use Rattle.mmv_writer.specs.Reading.{prepend, lines_of, full_line_of, unless, kind_in, with_content, with_written, with_line, with_said, with_head, and_then, with_lines, draft_of, text_draft, sized, image_of, text_image}
 use Rattle.mmv_writer.specs.TextLaws.{IsInRange, IsWrittenDraft, WrittenTextIsRead, TextComesBack}
@@ -70,11 +65,12 @@ Goes bytes before after = (rest : List ℕ) (n : ℕ) → (m : ℕ) × (with_lin
 
 line_goes : (l : Line) (before after : Layout) → IsLine l → with_line before l ≡ Ok after → Goes (full_line l) before after
 unfolding with_lines with_said
-line_goes l before after is h rest n =
-    (n + 1,
-    ap (λ ls. with_lines ls n before) (line_first l rest is)
-    ∙ ap (λ said. and_then (with_said before said) n (λ later. with_lines (lines_of rest) (n + 1) later)) (line_says l is)
-    ∙ ap (λ found. and_then found n (λ later. with_lines (lines_of rest) (n + 1) later)) h)
+line_goes l before after is h rest n = (
+  n + 1,
+  ap (λ ls. with_lines ls n before) (line_first l rest is)
+      ∙ ap (λ said. and_then (with_said before said) n (λ later. with_lines (lines_of rest) (n + 1) later)) (line_says l is)
+      ∙ ap (λ found. and_then found n (λ later. with_lines (lines_of rest) (n + 1) later)) h,
+)
 
 joined : (a b : List ℕ) (d e f : Layout) → Goes a d e → Goes b e f → Goes (a ++ b) d f
 joined a b d e f p q rest n =
@@ -93,9 +89,9 @@ rows_go text line at all none more step before [] e =
     subst (λ t. Goes t (at before) (at (before ++ []))) (sym none) (subst (λ b. Goes [] (at before) (at b)) (sym (append-nil before)) (nothing_goes (at before)))
 rows_go text line at all none more step before (x ∷ xs) e =
     subst (λ t. Goes t (at before) (at (before ++ x ∷ xs))) (sym (more x xs))
-        (joined (line x) (text xs) (at before) (at (before ++ x ∷ [])) (at (before ++ x ∷ xs)) (step before x xs e)
-            (subst (λ b. Goes (text xs) (at (before ++ x ∷ [])) (at b)) (append_assoc before (x ∷ []) xs)
-                (rows_go text line at all none more step (before ++ x ∷ []) xs (append_assoc before (x ∷ []) xs ∙ e))))
+    (joined (line x) (text xs) (at before) (at (before ++ x ∷ [])) (at (before ++ x ∷ xs)) (step before x xs e)
+    (subst (λ b. Goes (text xs) (at (before ++ x ∷ [])) (at b)) (append_assoc before (x ∷ []) xs)
+    (rows_go text line at all none more step (before ++ x ∷ []) xs (append_assoc before (x ∷ []) xs ∙ e))))
 
 get_mid : {T : Type 0} (before : List T) (x : T) (xs : List T) → slice_get (before ++ x ∷ xs) (length before) ≡ Some x
 get_mid [] x xs = refl
@@ -118,7 +114,7 @@ module _ {T : Type 0} (all before : List T) (x : T) (xs : List T) (e : before ++
   none_same : (same : T → T → Bool) → Apart same all → list_any (λ other. same other x) before ≡ false
   none_same same apart =
       none_of (λ other. same other x) before
-          (λ i y at. apart i (length before) y x (get_below before y i at) (subst (λ rows. slice_get rows i ≡ Some y) e (get_front before (x ∷ xs) y i at)) row_there)
+      (λ i y at. apart i (length before) y x (get_below before y i at) (subst (λ rows. slice_get rows i ≡ Some y) e (get_front before (x ∷ xs) y i at)) row_there)
 
 -- Rules that aren't broken
 
@@ -210,7 +206,7 @@ module _ (draft : Layout) (w : IsWrittenDraft draft) where
   string_step before text texts e =
       let is : IsString text = w.rows.strings (length before) text (row_there draft.strings before text texts e) in
       line_goes (lines.String text) (stage draft before [] [] []) (stage draft (before ++ text ∷ []) [] [] []) (text_of text is.stored)
-          (added (text_fault text) (with_string (stage draft before [] [] []) text) (ap (λ b. cond b (Some Name) None) is.short))
+      (added (text_fault text) (with_string (stage draft before [] [] []) text) (ap (λ b. cond b (Some Name) None) is.short))
 
   module _ (before : List IndomRow) (row : IndomRow) (rows : List IndomRow) (e : before ++ row ∷ rows ≡ draft.indoms) where
     fine : IsDomain row
@@ -230,41 +226,41 @@ module _ (draft : Layout) (w : IsWrittenDraft draft) where
     unfolding instance_fault
     instance_none members x xs f is =
         four_none (is_instance_name x.1) (has_same_instance (before ++ domain_of members ∷ []) row.serial x) (has_domain (before ++ domain_of members ∷ []) row.serial) (is_negative x.0) Name Duplicate (Unknown row.serial) Serial
-            is.name
-            (any_snoc (λ r. nat_eq r.serial row.serial && list_any (λ other. is_same_instance other x) r.instances) before (domain_of members)
-                (none_of (λ r. nat_eq r.serial row.serial && list_any (λ other. is_same_instance other x) r.instances) before
-                    (λ i y there. ap (λ b. b && list_any (λ other. is_same_instance other x) y.instances) (any_at (λ r. nat_eq r.serial row.serial) before y i no_other there)))
-                (and_false (nat_eq row.serial row.serial) (list_any (λ other. is_same_instance other x) members) (none_same row.instances members x xs f is_same_instance fine.apart)))
-            (any_last (λ r. nat_eq r.serial row.serial) before (domain_of members) (eq-eqb row.serial row.serial refl))
-            (ap is_negative is.number.1 ∙ not_negative is.number.0)
+        is.name
+        (any_snoc (λ r. nat_eq r.serial row.serial && list_any (λ other. is_same_instance other x) r.instances) before (domain_of members)
+        (none_of (λ r. nat_eq r.serial row.serial && list_any (λ other. is_same_instance other x) r.instances) before
+        (λ i y there. ap (λ b. b && list_any (λ other. is_same_instance other x) y.instances) (any_at (λ r. nat_eq r.serial row.serial) before y i no_other there)))
+        (and_false (nat_eq row.serial row.serial) (list_any (λ other. is_same_instance other x) members) (none_same row.instances members x xs f is_same_instance fine.apart)))
+        (any_last (λ r. nat_eq r.serial row.serial) before (domain_of members) (eq-eqb row.serial row.serial refl))
+        (ap is_negative is.number.1 ∙ not_negative is.number.0)
 
     instance_step : (members : List (ℤ × List ℕ)) (x : ℤ × List ℕ) (xs : List (ℤ × List ℕ)) → members ++ x ∷ xs ≡ row.instances → Goes (full_line (lines.Instance row.serial x.0 x.1)) (at members) (at (members ++ x ∷ []))
     unfolding with_line with_instance
     instance_step members x xs f =
         let is : IsInstance x = fine.instances (length members) x (row_there row.instances members x xs f) in
         line_goes (lines.Instance row.serial x.0 x.1) (at members) (at (members ++ x ∷ []))
-            (domain_in_line draft.indoms w.rows.domains row fine, id_in_line x.0 is.number, text_of x.1 is.stored)
-            (added (instance_fault (at members) row.serial x.0 x.1) (with_instance (at members) row.serial x.0 x.1) (instance_none members x xs f is)
-            ∙ ap (λ indoms. Ok (stage draft draft.strings indoms [] [])) (add_last before (domain_of members) row.serial x no_other (eq-eqb row.serial row.serial refl)))
+        (domain_in_line draft.indoms w.rows.domains row fine, id_in_line x.0 is.number, text_of x.1 is.stored)
+        (added (instance_fault (at members) row.serial x.0 x.1) (with_instance (at members) row.serial x.0 x.1) (instance_none members x xs f is)
+        ∙ ap (λ indoms. Ok (stage draft draft.strings indoms [] [])) (add_last before (domain_of members) row.serial x no_other (eq-eqb row.serial row.serial refl)))
 
     domain_none : indom_fault (stage draft draft.strings before [] []) (new_domain row.serial row.short row.long) ≡ None
     unfolding indom_fault
     domain_none =
         three_none (is_long_help row.short || is_long_help row.long) (has_domain before row.serial) (is_serial row.serial) Name Duplicate Serial
-            (short_helps row.short row.long fine.short fine.long) no_other fine.serial
+        (short_helps row.short row.long fine.short fine.long) no_other fine.serial
 
     domain_line : Goes (full_line (lines.Indom row.serial row.short row.long)) (stage draft draft.strings before [] []) (at [])
     unfolding with_line with_domain
     domain_line =
         line_goes (lines.Indom row.serial row.short row.long) (stage draft draft.strings before [] []) (at [])
-            (domain_in_line draft.indoms w.rows.domains row fine, help_in_line row.short fine.short, help_in_line row.long fine.long)
-            (added (indom_fault (stage draft draft.strings before [] []) (new_domain row.serial row.short row.long)) (with_domain (stage draft draft.strings before [] []) (new_domain row.serial row.short row.long)) domain_none)
+        (domain_in_line draft.indoms w.rows.domains row fine, help_in_line row.short fine.short, help_in_line row.long fine.long)
+        (added (indom_fault (stage draft draft.strings before [] []) (new_domain row.serial row.short row.long)) (with_domain (stage draft draft.strings before [] []) (new_domain row.serial row.short row.long)) domain_none)
 
     domain_step : Goes (indom_text row) (stage draft draft.strings before [] []) (stage draft draft.strings (before ++ row ∷ []) [] [])
     unfolding indom_text
     domain_step =
         joined (full_line (lines.Indom row.serial row.short row.long)) (instances_text row.serial row.instances) (stage draft draft.strings before [] []) (at []) (at row.instances) domain_line
-            (rows_go (instances_text row.serial) (λ x. full_line (lines.Instance row.serial x.0 x.1)) at row.instances refl (λ x xs. refl) instance_step [] row.instances refl)
+        (rows_go (instances_text row.serial) (λ x. full_line (lines.Instance row.serial x.0 x.1)) at row.instances refl (λ x xs. refl) instance_step [] row.instances refl)
 
   module _ (before : List MetricRow) (row : MetricRow) (rows : List MetricRow) (e : before ++ row ∷ rows ≡ draft.metrics) where
     metric_is : IsMetric draft.indoms row
@@ -274,23 +270,23 @@ module _ (draft : Layout) (w : IsWrittenDraft draft) where
     unfolding metric_fault
     none_fault =
         metric_none (is_metric_name row.name) (is_long_help row.short || is_long_help row.long) (list_any (λ other. is_same_metric other row) before) (lacks_domain draft.indoms row.serial) (nat_le row.item 1023)
-            metric_is.name (short_helps row.short row.long metric_is.short metric_is.long) (none_same draft.metrics before row rows e is_same_metric w.rows.items)
-            (lacks_none draft.indoms row.serial metric_is.domain) (le-leb row.item 1023 metric_is.item)
+        metric_is.name (short_helps row.short row.long metric_is.short metric_is.long) (none_same draft.metrics before row rows e is_same_metric w.rows.items)
+        (lacks_none draft.indoms row.serial metric_is.domain) (le-leb row.item 1023 metric_is.item)
 
     metric_step : Goes (full_line (lines.Metric row)) (stage draft draft.strings draft.indoms before []) (stage draft draft.strings draft.indoms (before ++ row ∷ []) [])
     unfolding with_line with_metric
     metric_step =
         let small : row.item ≤ 1023 = metric_is.item in
         line_goes (lines.Metric row) (stage draft draft.strings draft.indoms before []) (stage draft draft.strings draft.indoms (before ++ row ∷ []) [])
-            (record {
-              name = name_in_line row.name metric_is.name;
-              item = omega arith;
-              units = metric_is.units;
-              serial = serial_in_line draft.indoms w.rows.domains row.serial metric_is.domain;
-              short = help_in_line row.short metric_is.short;
-              long = help_in_line row.long metric_is.long;
-            })
-            (added (metric_fault (stage draft draft.strings draft.indoms before []) row) (with_metric (stage draft draft.strings draft.indoms before []) row) none_fault)
+        (record {
+          name = name_in_line row.name metric_is.name;
+          item = omega arith;
+          units = metric_is.units;
+          serial = serial_in_line draft.indoms w.rows.domains row.serial metric_is.domain;
+          short = help_in_line row.short metric_is.short;
+          long = help_in_line row.long metric_is.long;
+        })
+        (added (metric_fault (stage draft draft.strings draft.indoms before []) row) (with_metric (stage draft draft.strings draft.indoms before []) row) none_fault)
 
   module _ (before : List ValueRow) (row : ValueRow) (rows : List ValueRow) (e : before ++ row ∷ rows ≡ draft.values) where
     abbrev earlier : Layout
@@ -309,12 +305,12 @@ module _ (draft : Layout) (w : IsWrittenDraft draft) where
     unfolding value_fault
     no_fault =
         three_none (is_long_content row.content) (list_any (λ other. is_same_value other row) before) (fits_some_metric draft.indoms draft.metrics row) Name Duplicate Item
-            (no_long_content row.content value_is.content) (none_same draft.values before row rows e is_same_value w.rows.places) value_is.metric
+        (no_long_content row.content value_is.content) (none_same draft.values before row rows e is_same_value w.rows.places) value_is.metric
 
     found : kind_in draft.metrics row.item ≡ Some kind
     found =
         kind_found draft.metrics row.item
-            (any_wider (λ m. fits_metric draft.indoms row m) (λ m. nat_eq m.item row.item) draft.metrics (λ m h. both_left (nat_eq m.item row.item) (fits_instance draft.indoms m.serial row.instance && fits_kind m.kind row.content) h) value_is.metric)
+        (any_wider (λ m. fits_metric draft.indoms row m) (λ m. nat_eq m.item row.item) draft.metrics (λ m h. both_left (nat_eq m.item row.item) (fits_instance draft.indoms m.serial row.instance && fits_kind m.kind row.content) h) value_is.metric)
 
     value_line : IsLine (lines.Value row.item row.instance (written_of kind row.content))
     value_line =
@@ -322,18 +318,19 @@ module _ (draft : Layout) (w : IsWrittenDraft draft) where
         let same : p.row.item ≡ row.item = eqb-true p.row.item row.item (both_left (nat_eq p.row.item row.item) (fits_instance draft.indoms p.row.serial row.instance && fits_kind p.row.kind row.content) p.is) in
         let rest : (fits_instance draft.indoms p.row.serial row.instance && fits_kind p.row.kind row.content) ≡ true = both_right (nat_eq p.row.item row.item) (fits_instance draft.indoms p.row.serial row.instance && fits_kind p.row.kind row.content) p.is in
         let metric : IsMetric draft.indoms p.row = w.rows.metrics _ p.row p.at in
-        let small : p.row.item ≤ 1023 = metric.item in
-        (omega arith,
-        number_in_line draft.indoms w.rows.domains p.row.serial row.instance (both_left (fits_instance draft.indoms p.row.serial row.instance) (fits_kind p.row.kind row.content) rest),
-        content_in_line kind row.content in_range.fields value_is.content)
+        let small : p.row.item ≤ 1023 = metric.item in (
+          omega arith,
+          number_in_line draft.indoms w.rows.domains p.row.serial row.instance (both_left (fits_instance draft.indoms p.row.serial row.instance) (fits_kind p.row.kind row.content) rest),
+          content_in_line kind row.content in_range.fields value_is.content,
+        )
 
     value_step : Goes (value_text draft.metrics row) earlier (stage draft draft.strings draft.indoms draft.metrics (before ++ row ∷ []))
     unfolding value_text with_line with_value
     value_step =
         line_goes (lines.Value row.item row.instance (written_of kind row.content)) earlier (stage draft draft.strings draft.indoms draft.metrics (before ++ row ∷ [])) value_line
-            (ap (with_written earlier row.item row.instance (written_of kind row.content)) found
-            ∙ ap (with_content earlier row.item row.instance) in_range.read
-            ∙ added (value_fault earlier row) (with_value earlier row) no_fault)
+        (ap (with_written earlier row.item row.instance (written_of kind row.content)) found
+        ∙ ap (with_content earlier row.item row.instance) in_range.read
+        ∙ added (value_fault earlier row) (with_value earlier row) no_fault)
 
   abbrev body : List ℕ
   body = strings_text draft.strings ++ (indoms_text draft.indoms ++ (metrics_text draft.metrics ++ values_text draft.metrics draft.values))
@@ -341,12 +338,12 @@ module _ (draft : Layout) (w : IsWrittenDraft draft) where
   body_goes : Goes body (stage draft [] [] [] []) draft
   body_goes =
       joined (strings_text draft.strings) (indoms_text draft.indoms ++ (metrics_text draft.metrics ++ values_text draft.metrics draft.values)) (stage draft [] [] [] []) (stage draft draft.strings [] [] []) draft
-          (rows_go strings_text (λ text. full_line (lines.String text)) (λ strings. stage draft strings [] [] []) draft.strings refl (λ x xs. refl) string_step [] draft.strings refl)
-          (joined (indoms_text draft.indoms) (metrics_text draft.metrics ++ values_text draft.metrics draft.values) (stage draft draft.strings [] [] []) (stage draft draft.strings draft.indoms [] []) draft
-              (rows_go indoms_text indom_text (λ indoms. stage draft draft.strings indoms [] []) draft.indoms refl (λ x xs. refl) domain_step [] draft.indoms refl)
-              (joined (metrics_text draft.metrics) (values_text draft.metrics draft.values) (stage draft draft.strings draft.indoms [] []) (stage draft draft.strings draft.indoms draft.metrics []) draft
-                  (rows_go metrics_text (λ row. full_line (lines.Metric row)) (λ metrics. stage draft draft.strings draft.indoms metrics []) draft.metrics refl (λ x xs. refl) metric_step [] draft.metrics refl)
-                  (rows_go (values_text draft.metrics) (value_text draft.metrics) (λ values. stage draft draft.strings draft.indoms draft.metrics values) draft.values refl (λ x xs. refl) value_step [] draft.values refl)))
+      (rows_go strings_text (λ text. full_line (lines.String text)) (λ strings. stage draft strings [] [] []) draft.strings refl (λ x xs. refl) string_step [] draft.strings refl)
+      (joined (indoms_text draft.indoms) (metrics_text draft.metrics ++ values_text draft.metrics draft.values) (stage draft draft.strings [] [] []) (stage draft draft.strings draft.indoms [] []) draft
+      (rows_go indoms_text indom_text (λ indoms. stage draft draft.strings indoms [] []) draft.indoms refl (λ x xs. refl) domain_step [] draft.indoms refl)
+      (joined (metrics_text draft.metrics) (values_text draft.metrics draft.values) (stage draft draft.strings draft.indoms [] []) (stage draft draft.strings draft.indoms draft.metrics []) draft
+      (rows_go metrics_text (λ row. full_line (lines.Metric row)) (λ metrics. stage draft draft.strings draft.indoms metrics []) draft.metrics refl (λ x xs. refl) metric_step [] draft.metrics refl)
+      (rows_go (values_text draft.metrics) (value_text draft.metrics) (λ values. stage draft draft.strings draft.indoms draft.metrics values) draft.values refl (λ x xs. refl) value_step [] draft.values refl)))
 
   body_read : with_lines (lines_of body) 2 (stage draft [] [] [] []) ≡ Ok draft
   unfolding lines_of with_lines
@@ -382,7 +379,8 @@ written_text_is_read draft w = text_read draft w
 pub text_comes_back : TextComesBack
 unfolding text_image sized
 text_comes_back draft w all few =
-    let same : with_all_strings draft ≡ layout_of (image_words draft) = says_layout (image_words draft) (with_all_strings draft) (drafts_are_said draft w.rows few) in
-    (ap (λ d. image_of d (length (lines_of (layout_text draft)) + 1)) (written_text_is_read draft w)
-    ∙ ap (λ b. cond b (Ok (image_words draft)) (Err (record { line = length (lines_of (layout_text draft)) + 1; fault = Build (TooLarge (min (length (image_words draft)) 18446744073709551615)) }))) (le-leb (length (image_words draft)) 65536 few),
-    ap layout_text (sym same ∙ all))
+    let same : with_all_strings draft ≡ layout_of (image_words draft) = says_layout (image_words draft) (with_all_strings draft) (drafts_are_said draft w.rows few) in (
+      ap (λ d. image_of d (length (lines_of (layout_text draft)) + 1)) (written_text_is_read draft w)
+          ∙ ap (λ b. cond b (Ok (image_words draft)) (Err (record { line = length (lines_of (layout_text draft)) + 1; fault = Build (TooLarge (min (length (image_words draft)) 18446744073709551615)) }))) (le-leb (length (image_words draft)) 65536 few),
+      ap layout_text (sym same ∙ all),
+    )

@@ -3,7 +3,6 @@
 use Rattle.std.specs.Prelude.{◌≡◌, ℕ, ℤ, ◌+◌, ◌<◌, ◌==◌, nat_le, if◌then◌else◌, min, List, [], ◌∷◌, ◌++◌, length, option_map, Option, Some, None, Result, Ok, Err}
 use Rattle.pcp_base.specs.declared.kind.Kind.{Kind}
 use Rattle.mmv_layout.specs.declared.rows.MetricRow.{MetricRow}
-use Rattle.mmv_layout.specs.declared.rows.ValueRow.{ValueRow}
 use Rattle.mmv_layout.specs.declared.rows.Content.{Content}
 use Rattle.mmv_layout.specs.declared.rows.Layout.{Layout}
 use Rattle.layout_text.specs.declared.line.Line.{Line}
@@ -81,7 +80,7 @@ abbrev pub with_content : Layout → ℕ → Option ℤ → Option Content → R
 with_content draft item instance None = Err Grammar
 with_content draft item instance (Some content) =
     unless (value_fault draft (record { item = item; instance = instance; content = content }))
-        (with_value draft (record { item = item; instance = instance; content = content }))
+    (with_value draft (record { item = item; instance = instance; content = content }))
 
 -- a value of a metric of this kind, or of an item that no metric has
 abbrev pub with_written : Layout → ℕ → Option ℤ → Written → Option Kind → Result Layout LineFault

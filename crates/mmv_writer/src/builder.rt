@@ -54,18 +54,6 @@ fn image_of(alloc: Global, draft: &Layout) -> Result<Image, BuildFault>
     }
 }
 
-/// The kind of the metric with an item, if there is one.
-fn kind_in(metrics: &[MetricRow], item: u32) -> Option<Kind>
-    ensures { result ≡ kind_in metrics.now item }
-{
-    for row in metrics {
-        if row.item == item {
-            return Some(row.kind);
-        }
-    }
-    None
-}
-
 impl Builder {
     /// Whether some domain has a serial.
     fn has_domain(&self, serial: u32) -> bool
@@ -246,7 +234,13 @@ impl Builder {
     pub fn kind_of(&self, item: u32) -> Option<Kind>
         ensures { result ≡ kind_in self.now.metrics item }
     {
-        kind_in(self.layout.metrics.as_slice(), item)
+        let Some(at) = self.keys.items.get(&item) else {
+            return None;
+        };
+        match self.layout.metrics.get(*at) {
+            None => None,
+            Some(metric) => Some(metric.kind),
+        }
     }
 
     /// Adds a value of a metric that is there. After a refusal nothing is changed.

@@ -18,4 +18,6 @@ pub use fault::BuildFault;
 pub use laws::{drafts_are_images, drafts_are_said};
 pub use line_fault::{LineError, LineFault, ReadTextError, TextFault};
 pub use reading::{add_line, read_text, take_head, take_line};
-pub use text_laws::{made_text_is_dumped, make_then_dump_gives_the_text_again, written_text_is_read};
+pub use text_laws::{
+    made_text_is_dumped, make_then_dump_gives_the_text_again, written_text_is_read,
+};

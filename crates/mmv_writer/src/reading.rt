@@ -74,13 +74,15 @@ pub fn take_head(alloc: Global, line: &[u8]) -> Result<Builder, LineError>
     ensures { Begins (with_head (line_of line.now)) result }
 {
     match read_line(alloc, line)? {
-        Some(Line::Mmv {
-            version,
-            generation,
-            flags,
-            pid,
-            cluster,
-        }) => {
+        Some(
+            Line::Mmv {
+                version,
+                generation,
+                flags,
+                pid,
+                cluster,
+            },
+        ) => {
             let builder = Builder::new(alloc, version, generation, flags, pid, cluster)?;
             Ok(builder)
         }
@@ -116,7 +118,6 @@ fn split_line(bytes: &[u8]) -> Option<(&[u8], &[u8])>
 
 // Adds lines, of which the first is line 2, and gives the number of the line after the last.
 fn take_lines(alloc: Global, builder: &mut Builder, bytes: &[u8]) -> Result<u64, ReadTextError>
-    requires { length bytes.now < 18446744073709551613 }
     ensures { Adds (lines_of bytes.now) 2 builder.old builder.new result }
 {
     let mut rest = bytes;

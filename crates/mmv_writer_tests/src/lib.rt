@@ -1,4 +1,5 @@
-//! Tests of the writer of images (mmv(5)): worked images word by word, each refusal, and the greatest image.
+//! Tests of the writer of images (mmv(5)): worked images word by word, each refusal, the greatest image, and images
+//! and faults of layout text.
 #![tactic(auto)]
 
 #[cfg(test)]
@@ -9,3 +10,5 @@ mod refusals;
 mod rows;
 #[cfg(test)]
 mod sizes;
+#[cfg(test)]
+mod texts;

@@ -1,5 +1,5 @@
 -- The first line is refused or begins the builder, which the other lines go through.
-use Rattle.std.proofs.Common.{Err, subst, sym, ◌∙◌}
+use Rattle.std.proofs.Common.{Err, subst, sym}
 use Rattle.mmv_writer.specs.Reading.{text_image, Answers}
 use Rattle.mmv_writer.proofs.TextRows.{unended_text, text_fault_told}
 use Rattle.mmv_writer.proofs.reading.read_text.Goals as goal

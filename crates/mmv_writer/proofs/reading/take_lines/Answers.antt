@@ -8,12 +8,12 @@ use Rattle.mmv_writer.proofs.reading.take_lines.Goals as goal
 pub returns-in_default : goal.returns-in_default
 returns-in_default c =
     subst (λ e. Adds (lines_of c.args.bytes.now) 2 c.args.builder.now c.loop-rest.builder (Err e)) (sym c.on.ensures)
-        (c.loop-rest.invariant.draft ∙ unended_fault c.loop-rest.rest.now c.loop-rest.number c.loop-rest.builder c.in_default.ensures (some_bytes c.loop-rest.rest.now (sym c.is_empty.ensures ∙ c.loop-rest-test.true)))
+    (c.loop-rest.invariant.draft ∙ unended_fault c.loop-rest.rest.now c.loop-rest.number c.loop-rest.builder c.in_default.ensures (some_bytes c.loop-rest.rest.now (sym c.is_empty.ensures ∙ c.loop-rest-test.true)))
 
 pub returns-in-Err : goal.returns-in-Err
 returns-in-Err c =
     subst (λ e. Adds (lines_of c.args.bytes.now) 2 c.args.builder.now c.take_line.new.builder (Err e)) (sym c.on-in-Err.ensures)
-        (refused (lines_of c.args.bytes.now) c.args.builder.now c.loop-rest.builder c.take_line.new.builder c.loop-rest.rest.now c.in-Some.line.now c.in-Some.behind.now c.loop-rest.number c.in-Err.error c.loop-rest.invariant.draft c.in-Some.ensures c.in-Err.ensures)
+    (refused (lines_of c.args.bytes.now) c.args.builder.now c.loop-rest.builder c.take_line.new.builder c.loop-rest.rest.now c.in-Some.line.now c.in-Some.behind.now c.loop-rest.number c.in-Err.error c.loop-rest.invariant.draft c.in-Some.ensures c.in-Err.ensures)
 
 pub loop-rest-preserved : goal.loop-rest-preserved
 loop-rest-preserved c = record {
@@ -23,6 +23,7 @@ loop-rest-preserved c = record {
 }
 
 pub returns : goal.returns
-returns c =
-    (c.loop-rest.invariant.draft ∙ lines_end c.loop-rest.rest.now c.loop-rest.number c.loop-rest.builder (eqb-true (length c.loop-rest.rest.now) 0 (sym c.is_empty.ensures ∙ c.loop-rest-test.false)),
-    omega (arith, ap length (no_lines c.loop-rest.rest.now (eqb-true (length c.loop-rest.rest.now) 0 (sym c.is_empty.ensures ∙ c.loop-rest-test.false)))))
+returns c = (
+  c.loop-rest.invariant.draft ∙ lines_end c.loop-rest.rest.now c.loop-rest.number c.loop-rest.builder (eqb-true (length c.loop-rest.rest.now) 0 (sym c.is_empty.ensures ∙ c.loop-rest-test.false)),
+  omega (arith, ap length (no_lines c.loop-rest.rest.now (eqb-true (length c.loop-rest.rest.now) 0 (sym c.is_empty.ensures ∙ c.loop-rest-test.false)))),
+)
