@@ -1,0 +1,31 @@
+//! The one spelling of an entry.
+ghost use Rattle.std.specs.Prelude.{◌≡◌, ◌+◌, ◌≤◌, List, ◌++◌, length, take, drop};
+ghost use Rattle.pcp_model.specs.Words.{word};
+ghost use Rattle.pcp_model.specs.Records.{entry as spelled};
+
+use pcp_model::Entry;
+
+/// The number of bytes in an entry.
+pub const ENTRY: usize = 20;
+
+/// Writes a word of 4 bytes, big-endian, over those from a place on.
+#[tactic(auto, unfolding(pcp_model::specs::Words::word))]
+fn put_word(out: &mut [u8; ENTRY], at: usize, number: u32)
+    requires { at + 4 ≤ 20 }
+    ensures { out.new ≡ take at out.old ++ (word number ++ drop (at + 4) out.old) }
+{
+    out[at..at + 4].copy_from_slice(&number.to_be_bytes());
+}
+
+/// The bytes of an entry. They are read again as this entry where its volume and both offsets are below 2^31.
+pub fn entry_bytes(entry: &Entry) -> [u8; ENTRY]
+    ensures { result ≡ spelled entry.now }
+{
+    let mut out = [0; ENTRY];
+    put_word(&mut out, 0, entry.stamp.sec());
+    put_word(&mut out, 4, entry.stamp.usec());
+    put_word(&mut out, 8, entry.volume);
+    put_word(&mut out, 12, entry.meta);
+    put_word(&mut out, 16, entry.offset);
+    out
+}
