@@ -1,5 +1,4 @@
-//! Tests of the writer of images (mmv(5)): worked images word by word, each refusal, the greatest image, and images
-//! and faults of layout text.
+//! Tests of the writer of images (mmv(5)): worked images word by word, each refusal, and the greatest image.
 #![tactic(auto)]
 
 #[cfg(test)]
@@ -10,5 +9,3 @@ mod refusals;
 mod rows;
 #[cfg(test)]
 mod sizes;
-#[cfg(test)]
-mod texts;

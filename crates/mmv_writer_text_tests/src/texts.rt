@@ -1,55 +1,88 @@
-use crate::rows::{are_words, finished};
 use mmv_writer::{
-    BuildFault, LineError, LineFault, ReadTextError, TextFault, read_text, take_head, take_line,
+    BuildFault, Builder, LineError, LineFault, ReadTextError, TextFault, read_text, take_head,
+    take_line,
 };
 use std::alloc::Global;
 use std::test::Fail;
 
 const COUNTER: &[u8] = b"mmv 1 5 0 0 1\nmetric hits 2 i32 counter 00100000 - - -\nvalue 2 - 7\n";
 
-const COUNTER_WORDS: &[(usize, u64)] = &[
-    (0, 0x1_0056_4d4d),
-    (1, 5),
-    (2, 5),
-    (3, 2),
-    (4, 0x1_0000_0000),
-    (5, 0x1_0000_0003),
-    (6, 0x48),
-    (7, 0x1_0000_0004),
-    (8, 0xb0),
-    (9, 0x7374_6968),
-    (17, 2),
-    (18, 0x10_0000_0000_0001),
-    (19, 0xffff_ffff),
-    (22, 7),
-    (24, 0x48),
+const COUNTER_WORDS: &[u64] = &[
+    0x1_0056_4d4d,
+    5,
+    5,
+    2,
+    0x1_0000_0000,
+    0x1_0000_0003,
+    0x48,
+    0x1_0000_0004,
+    0xb0,
+    0x7374_6968,
+    0,
+    0,
+    0,
+    0,
+    0,
+    0,
+    0,
+    2,
+    0x10_0000_0000_0001,
+    0xffff_ffff,
+    0,
+    0,
+    7,
+    0,
+    0x48,
+    0,
 ];
 
 const NUMBERS: &[u8] =
     b"mmv 1 1 0 0 1\nmetric low 2 i32 instant 00000000 - - -\nmetric big 3 u64 counter 00100000 - - -\nvalue 2 - -1\nvalue 3 - 18446744073709551615\n";
 
-const NUMBERS_WORDS: &[(usize, u64)] = &[
-    (0, 0x1_0056_4d4d),
-    (1, 1),
-    (2, 1),
-    (3, 2),
-    (4, 0x1_0000_0000),
-    (5, 0x2_0000_0003),
-    (6, 72),
-    (7, 0x2_0000_0004),
-    (8, 280),
-    (9, 0x77_6f6c),
-    (17, 2),
-    (18, 3),
-    (19, 0xffff_ffff),
-    (22, 0x67_6962),
-    (30, 0x3_0000_0003),
-    (31, 0x10_0000_0000_0001),
-    (32, 0xffff_ffff),
-    (35, 0xffff_ffff_ffff_ffff),
-    (37, 72),
-    (39, 0xffff_ffff_ffff_ffff),
-    (41, 176),
+const NUMBERS_WORDS: &[u64] = &[
+    0x1_0056_4d4d,
+    1,
+    1,
+    2,
+    0x1_0000_0000,
+    0x2_0000_0003,
+    72,
+    0x2_0000_0004,
+    280,
+    0x77_6f6c,
+    0,
+    0,
+    0,
+    0,
+    0,
+    0,
+    0,
+    2,
+    3,
+    0xffff_ffff,
+    0,
+    0,
+    0x67_6962,
+    0,
+    0,
+    0,
+    0,
+    0,
+    0,
+    0,
+    0x3_0000_0003,
+    0x10_0000_0000_0001,
+    0xffff_ffff,
+    0,
+    0,
+    0xffff_ffff_ffff_ffff,
+    0,
+    72,
+    0,
+    0xffff_ffff_ffff_ffff,
+    0,
+    176,
+    0,
 ];
 
 const EMPTY: &[u8] = b"";
@@ -91,7 +124,7 @@ const INSTANCE_BELOW_0: &[u8] = b"mmv 1 5 0 0 1\nindom 1 - -\ninstance 1 -1 \"a\
 const SAME_VALUE: &[u8] =
     b"mmv 1 5 0 0 1\nmetric hits 2 i32 counter 00100000 - - -\nvalue 2 - 7\nvalue 2 - 8\n";
 
-const HEADER: &[u8] = b"mmv 1 1 0 0 1";
+const HEADER: &[u8] = b"mmv 1 5 0 0 1";
 
 const HEADER_LINE: &[u8] = b"mmv 1 1 0 0 1\n";
 
@@ -103,10 +136,18 @@ const VALUE: &[u8] = b"value 2 - 7";
 
 const NO_VALUE: &[u8] = b"value 2 -";
 
-/// Whether a text makes an image of so many words, these at their indexes and 0 elsewhere.
-fn makes(alloc: Global, text: &[u8], size: usize, expected: &[(usize, u64)]) -> bool {
+/// Whether a text makes an image of these words.
+fn makes(alloc: Global, text: &[u8], words: &[u64]) -> bool {
     match read_text(alloc, text) {
-        Ok(image) => are_words(image.words(), size, expected),
+        Ok(image) => image.words() == words,
+        Err(_) => false,
+    }
+}
+
+/// Whether a builder ends with an image of these words.
+fn ends(alloc: Global, builder: Builder, words: &[u64]) -> bool {
+    match builder.finish(alloc) {
+        Ok(image) => image.words() == words,
         Err(_) => false,
     }
 }
@@ -131,8 +172,8 @@ fn is_refused(alloc: Global, text: &[u8], line: u64, fault: BuildFault) -> bool 
 
 #[test]
 fn images_are_made_of_their_texts(rt: HostRuntime) {
-    assert!(rt; makes(rt.alloc(), COUNTER, 26, COUNTER_WORDS));
-    assert!(rt; makes(rt.alloc(), NUMBERS, 43, NUMBERS_WORDS));
+    assert!(rt; makes(rt.alloc(), COUNTER, COUNTER_WORDS));
+    assert!(rt; makes(rt.alloc(), NUMBERS, NUMBERS_WORDS));
 }
 
 #[test]
@@ -192,7 +233,6 @@ fn a_refused_line_changes_nothing(rt: HostRuntime) -> Result<(), Fail> {
     let grammar = LineError::Fault(LineFault::Grammar);
     assert_eq!(rt; take_line(alloc, &mut builder, NO_VALUE), Err(grammar));
     take_line(alloc, &mut builder, VALUE)?;
-    let image = finished(alloc, builder)?;
-    assert_eq!(rt; image.words().len(), 26);
+    assert!(rt; ends(alloc, builder, COUNTER_WORDS));
     Ok(())
 }
