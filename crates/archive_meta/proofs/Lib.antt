@@ -1,0 +1,5 @@
+pub mod Consistent
+pub mod Entries
+pub mod Frames
+pub mod Outcomes
+pub mod Places

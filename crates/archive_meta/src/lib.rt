@@ -1,0 +1,18 @@
+//! What the records of an archive's Meta file say (LOGARCHIVE(5)): the descriptions of metrics, each with its names,
+//! and the instances of a domain, each list from a moment on. Records are read whole or not at all, and looked up by
+//! metric and by domain.
+#![tactic(auto)]
+
+mod adding;
+mod descriptions;
+mod fault;
+mod framed;
+mod keeping;
+mod laws;
+mod moments;
+mod state;
+
+pub use fault::MetaFault;
+pub use laws::records_go_on;
+pub use meta_records::domain_stamp;
+pub use state::MetaState;
