@@ -4,10 +4,10 @@ use mathlib.Core.Logic.{inl, inr, ⊎_elim}
 use Rattle.std.proofs.lemmas.Bool.{cond_both, eqb-false, cases_lt}
 use Rattle.pcp_base.specs.declared.kind.Kind.{Kind}
 use Rattle.pcp_base.specs.declared.kind.Kind.TheVariants as kinds
-use Rattle.mmv_layout.specs.declared.rows.Content.{Content}
-use Rattle.mmv_layout.specs.declared.rows.Content.TheVariants as contents
+use Rattle.mmv_format.specs.declared.rows.Content.{Content}
+use Rattle.mmv_format.specs.declared.rows.Content.TheVariants as contents
 use Rattle.layout_text.specs.declared.line.Written.TheVariants as written
-use Rattle.line_parts.proofs.Taking.{passed, same_some}
+use Rattle.text_lines.proofs.Taking.{passed, same_some}
 use Rattle.layout_text.specs.Contents.{negated, ranged, content_of, turned, written_number, number_as, text_as, raw_as}
 use Rattle.layout_text.specs.Laws.{IsContent, IsWritten, WrittenContentIsRead, ReadContentIsContent, WrittenContentIsWritten}
 

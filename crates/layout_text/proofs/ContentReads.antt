@@ -4,15 +4,15 @@ use Rattle.std.proofs.lemmas.Fmt.{decimal_nonempty}
 use Rattle.std.proofs.lemmas.List.Elements.{All-head, All-cons}
 use Rattle.layout_text.specs.declared.line.Written.{Written}
 use Rattle.layout_text.specs.declared.line.Written.TheVariants as written
-use Rattle.line_parts.specs.Laws.{EndsWord, IsTextByte}
-use Rattle.line_parts.specs.Numbers.{signed_number, hex_number}
-use Rattle.line_parts.specs.Words.{first_word, behind_word, take_as, starts_quoted, quoted}
-use Rattle.line_parts.specs.Spelling.{hex_text, quoted_text, number_part, text_part, hex_part}
-use Rattle.line_parts.proofs.Decimals.{decimal_is, signed-decimal, signed-minus}
-use Rattle.line_parts.proofs.Escapes.{quoted_of}
-use Rattle.line_parts.proofs.Hexes.{length-hex, hex_is, glyph_is, hex_number-text}
-use Rattle.line_parts.proofs.NumberParts.{word-decimal, word-minus, word-hex, hex_is_read}
-use Rattle.line_parts.proofs.Splitting.{IsWord, first_word_of, behind_word_of}
+use Rattle.text_lines.specs.Laws.{EndsWord, IsTextByte}
+use Rattle.text_lines.specs.Numbers.{signed_number, hex_number}
+use Rattle.text_lines.specs.Words.{first_word, behind_word, take_as, starts_quoted, quoted}
+use Rattle.text_lines.specs.Spelling.{hex_text, quoted_text, number_part, text_part, hex_part}
+use Rattle.text_lines.proofs.Decimals.{decimal_is, signed-decimal, signed-minus}
+use Rattle.text_lines.proofs.Escapes.{quoted_of}
+use Rattle.text_lines.proofs.Hexes.{length-hex, hex_is, glyph_is, hex_number-text}
+use Rattle.text_lines.proofs.NumberParts.{word-decimal, word-minus, word-hex, hex_is_read}
+use Rattle.text_lines.proofs.Splitting.{IsWord, first_word_of, behind_word_of}
 use Rattle.layout_text.specs.Laws.{IsWritten}
 use Rattle.layout_text.specs.Lines.{number_content, raw_content, quoted_content, words_content, last_content}
 use Rattle.layout_text.specs.Spelling.{content_part}

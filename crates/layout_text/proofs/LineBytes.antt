@@ -1,13 +1,13 @@
 -- No line feed stands in a line that is written.
 use Rattle.std.proofs.Common.{ℕ, ◌<◌, List, ◌++◌, codes, refl, arith, All}
 use Rattle.std.proofs.lemmas.List.Elements.{All-append}
-use Rattle.mmv_layout.specs.declared.rows.MetricRow.{MetricRow}
+use Rattle.mmv_format.specs.declared.rows.MetricRow.{MetricRow}
 use Rattle.layout_text.specs.declared.line.Line.TheVariants as lines
 use Rattle.layout_text.specs.declared.line.Written.{Written}
 use Rattle.layout_text.specs.declared.line.Written.TheVariants as written
-use Rattle.line_parts.specs.Laws.{IsLineByte}
-use Rattle.line_parts.specs.Spelling.{number_part, int_part, text_part, hex_part, optional_number_part, optional_int_part, help_part}
-use Rattle.line_parts.proofs.LineBytes.{behind_byte, plain_bytes, number_in_line, int_in_line, signed_in_line, hex_in_line, optional_number_in_line, optional_int_in_line, text_in_line, help_in_line}
+use Rattle.text_lines.specs.Laws.{IsLineByte}
+use Rattle.text_lines.specs.Spelling.{number_part, int_part, text_part, hex_part, optional_number_part, optional_int_part, help_part}
+use Rattle.text_lines.proofs.LineBytes.{behind_byte, plain_bytes, number_in_line, int_in_line, signed_in_line, hex_in_line, optional_number_in_line, optional_int_in_line, text_in_line, help_in_line}
 use Rattle.layout_text.specs.Laws.{IsMetric, IsWritten, WrittenLineIsOne}
 use Rattle.layout_text.specs.Spelling.{line_text, codes_parts, links_parts, kind_part, semantics_part, content_part}
 use Rattle.layout_text.proofs.MetricWords.{kind_in_line, semantics_in_line, name_in_line}

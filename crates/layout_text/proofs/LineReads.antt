@@ -1,16 +1,16 @@
 -- A line that is written is read again, part by part.
 use Rattle.std.proofs.Common.{◌≡◌, ℕ, ℤ, ◌<◌, cond, List, [], ◌∷◌, ◌++◌, codes, bytes_eq, refl, sym, ap, ap₂, ◌∙◌, append_assoc, append-nil, Option, Some, None, IfSome, All}
-use Rattle.mmv_layout.specs.declared.rows.MetricRow.{MetricRow}
+use Rattle.mmv_format.specs.declared.rows.MetricRow.{MetricRow}
 use Rattle.layout_text.specs.declared.line.Line.{Line}
 use Rattle.layout_text.specs.declared.line.Line.TheVariants as lines
 use Rattle.layout_text.specs.declared.line.Written.{Written}
-use Rattle.line_parts.specs.Laws.{EndsWord, IsTextByte}
-use Rattle.line_parts.specs.Numbers.{number32}
-use Rattle.line_parts.specs.Words.{take_as, take_text, take_help}
-use Rattle.line_parts.specs.Spelling.{number_part, int_part, text_part, hex_part, optional_number_part, optional_int_part, help_part}
-use Rattle.line_parts.proofs.Escapes.{text_is_read, help_is_read}
-use Rattle.line_parts.proofs.NumberParts.{number_is_read, wide_number_is_read, int_is_read, hex_is_read, optional_number_is_read, optional_int_is_read}
-use Rattle.line_parts.proofs.Splitting.{IsWord, plain_word, first_word_of, behind_word_of}
+use Rattle.text_lines.specs.Laws.{EndsWord, IsTextByte}
+use Rattle.text_lines.specs.Numbers.{number32}
+use Rattle.text_lines.specs.Words.{take_as, take_text, take_help}
+use Rattle.text_lines.specs.Spelling.{number_part, int_part, text_part, hex_part, optional_number_part, optional_int_part, help_part}
+use Rattle.text_lines.proofs.Escapes.{text_is_read, help_is_read}
+use Rattle.text_lines.proofs.NumberParts.{number_is_read, wide_number_is_read, int_is_read, hex_is_read, optional_number_is_read, optional_int_is_read}
+use Rattle.text_lines.proofs.Splitting.{IsWord, plain_word, first_word_of, behind_word_of}
 use Rattle.layout_text.specs.Laws.{IsLine, IsMetric, WrittenLineIsRead}
 use Rattle.layout_text.specs.Lines.{mmv_line, string_line, indom_line, instance_line, metric_line, value_line, line_of}
 use Rattle.layout_text.specs.Spelling.{line_text, codes_parts, links_parts, kind_part, semantics_part, content_part}

@@ -5,18 +5,18 @@ use mathlib.Core.Logic.{⊎_elim}
 use Rattle.std.proofs.lemmas.Bool.{eqb-false, eq-eqb, both_ways}
 use Rattle.std.proofs.lemmas.List.Folds.{list_any_at}
 use Rattle.std.proofs.lemmas.List.Elements.{All-drop}
-use Rattle.mmv_layout.specs.declared.rows.MetricRow.{MetricRow}
+use Rattle.mmv_format.specs.declared.rows.MetricRow.{MetricRow}
 use Rattle.layout_text.specs.declared.line.Line.{Line}
 use Rattle.layout_text.specs.declared.line.Line.TheVariants as lines
 use Rattle.layout_text.specs.declared.line.Written.{Written}
 use Rattle.layout_text.specs.declared.line.Written.TheVariants as written
-use Rattle.line_parts.specs.Laws.{IsLineByte, TakesOnly}
-use Rattle.line_parts.specs.Numbers.{◌>>=◌, signed_number, hex_number}
-use Rattle.line_parts.specs.Words.{first_word, behind_word, word_length, take_space, take_as, starts_quoted, quoted, ended}
-use Rattle.line_parts.proofs.NumberRanges.{signed_range, hex_range, takes_numbers, takes_wide_numbers, takes_ints, takes_hex, takes_optional_numbers, takes_optional_ints}
-use Rattle.line_parts.proofs.Taking.{word_taken, word_inside, both_steps, passed, either, same_some, none_some, takes_as}
-use Rattle.line_parts.proofs.Splitting.{IsWord}
-use Rattle.line_parts.proofs.TextRanges.{behind_space, quoted_takes, takes_texts, takes_helps}
+use Rattle.text_lines.specs.Laws.{IsLineByte, TakesOnly}
+use Rattle.text_lines.specs.Numbers.{◌>>=◌, signed_number, hex_number}
+use Rattle.text_lines.specs.Words.{first_word, behind_word, word_length, take_space, take_as, starts_quoted, quoted, ended}
+use Rattle.text_lines.proofs.NumberRanges.{signed_range, hex_range, takes_numbers, takes_wide_numbers, takes_ints, takes_hex, takes_optional_numbers, takes_optional_ints}
+use Rattle.text_lines.proofs.Taking.{word_taken, word_inside, both_steps, passed, either, same_some, none_some, takes_as}
+use Rattle.text_lines.proofs.Splitting.{IsWord}
+use Rattle.text_lines.proofs.TextRanges.{behind_space, quoted_takes, takes_texts, takes_helps}
 use Rattle.layout_text.specs.Laws.{IsNameByte, IsLineName, IsMetric, IsWritten, IsLine, ReadLineIsLine}
 use Rattle.layout_text.specs.Lines.{mmv_line, string_line, indom_line, instance_line, metric_line, number_content, raw_content, quoted_content, words_content, last_content, value_line, line_of}
 use Rattle.layout_text.specs.Words.{name_of, kind_of, semantics_of}

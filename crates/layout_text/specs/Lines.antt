@@ -4,8 +4,8 @@ use Rattle.layout_text.specs.declared.line.Line.{Line}
 use Rattle.layout_text.specs.declared.line.Line.TheVariants as lines
 use Rattle.layout_text.specs.declared.line.Written.{Written}
 use Rattle.layout_text.specs.declared.line.Written.TheVariants as written
-use Rattle.line_parts.specs.Numbers.{◌>>=◌, number32, number64, int32, signed_number, hex_number}
-use Rattle.line_parts.specs.Words.{first_word, behind_word, take_space, take_as, optional, starts_quoted, quoted, take_text, take_help, ended}
+use Rattle.text_lines.specs.Numbers.{◌>>=◌, number32, number64, int32, signed_number, hex_number}
+use Rattle.text_lines.specs.Words.{first_word, behind_word, take_space, take_as, optional, starts_quoted, quoted, take_text, take_help, ended}
 use Rattle.layout_text.specs.Words.{name_of, kind_of, semantics_of}
 
 unfoldable pub mmv_line : List ℕ → Option Line

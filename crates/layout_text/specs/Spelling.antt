@@ -4,12 +4,12 @@ use Rattle.pcp_base.specs.declared.kind.Kind.{Kind}
 use Rattle.pcp_base.specs.declared.kind.Kind.TheVariants as kinds
 use Rattle.pcp_base.specs.declared.kind.Semantics.{Semantics}
 use Rattle.pcp_base.specs.declared.kind.Semantics.TheVariants as meanings
-use Rattle.mmv_layout.specs.declared.rows.MetricRow.{MetricRow}
+use Rattle.mmv_format.specs.declared.rows.MetricRow.{MetricRow}
 use Rattle.layout_text.specs.declared.line.Line.{Line}
 use Rattle.layout_text.specs.declared.line.Line.TheVariants as lines
 use Rattle.layout_text.specs.declared.line.Written.{Written}
 use Rattle.layout_text.specs.declared.line.Written.TheVariants as written
-use Rattle.line_parts.specs.Spelling.{number_part, int_part, text_part, hex_part, optional_number_part, optional_int_part, help_part, signed_part}
+use Rattle.text_lines.specs.Spelling.{number_part, int_part, text_part, hex_part, optional_number_part, optional_int_part, help_part, signed_part}
 
 abbrev pub kind_part : Kind → List ℕ
 kind_part kinds.I32 = codes " i32"

@@ -3,7 +3,7 @@ ghost use Rattle.std.specs.Prelude.{◌≡◌, ◌≤◌, ◌<◌, ◌*◌, IfOk
 ghost use Rattle.layout_text.specs.Contents.{negated, ranged, number_as, text_as, raw_as, content_of, turned, written_number, written_of};
 
 use crate::line::Written;
-use mmv_layout::Content;
+use mmv_format::Content;
 use pcp_base::{Duplicate, Kind, NoMemory, Text};
 use std::alloc::Global;
 

@@ -1,4 +1,4 @@
-use mmv_layout::MetricRow;
+use mmv_format::MetricRow;
 use pcp_base::Text;
 
 /// A line of layout text: what an image says, a row at a time (mmv(5)).

@@ -3,8 +3,8 @@ ghost use Rattle.std.specs.Prelude.{◌≡◌, ◌++◌, OnOk};
 ghost use Rattle.layout_text.specs.Spelling.{kind_part, semantics_part, content_part};
 
 use crate::line::Written;
-use line_parts::{put_hex_part, put_signed, put_text};
 use pcp_base::{Kind, NoMemory, Semantics};
+use text_lines::{put_hex_part, put_signed, put_text};
 
 /// A kind's word.
 pub fn put_kind(out: &mut Vec<u8>, kind: Kind) -> Result<(), NoMemory>

@@ -1,14 +1,14 @@
 //! Each line from the bytes behind its first word.
 ghost use Rattle.std.specs.Prelude.{◌≡◌, IfOk};
-ghost use Rattle.line_parts.specs.Words.{Read};
+ghost use Rattle.text_lines.specs.Words.{Read};
 ghost use Rattle.layout_text.specs.Lines.{mmv_line, string_line, indom_line, instance_line, metric_line, number_content, raw_content, quoted_content, words_content, last_content, value_line, line_of};
 
 use crate::line::{Line, Written};
 use crate::words::{take_kind, take_name, take_semantics, take_units};
-use line_parts::{Rest, Stop, hex_number, signed_number, split_word, starts_quoted};
-use mmv_layout::MetricRow;
+use mmv_format::MetricRow;
 use pcp_base::NoMemory;
 use std::alloc::Global;
+use text_lines::{Rest, Stop, hex_number, signed_number, split_word, starts_quoted};
 
 #[tactic(auto, unfolding(crate::specs::Lines::mmv_line))]
 fn mmv_line(bytes: &[u8]) -> Result<Line, Stop>

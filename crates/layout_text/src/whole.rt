@@ -4,7 +4,7 @@ ghost use Rattle.layout_text.specs.Whole.{strings_text, instances_text, indom_te
 
 use crate::content::written_of;
 use crate::writing::{Head, put_head, put_indom, put_instance, put_metric, put_string, put_value};
-use mmv_layout::{IndomRow, Layout, MetricRow, ValueRow};
+use mmv_format::{IndomRow, Layout, MetricRow, ValueRow};
 use pcp_base::{Bytes, Kind, List, NoMemory, Text};
 use std::alloc::Global;
 

@@ -1,13 +1,13 @@
 //! The words of a metric's line, and what they mean.
 ghost use Rattle.std.specs.Prelude.{◌≡◌, IfOk};
 ghost use Rattle.pcp_base.specs.Texts.{IsText};
-ghost use Rattle.line_parts.specs.Numbers.{hex_number};
-ghost use Rattle.line_parts.specs.Words.{Read, Taken, take_as};
+ghost use Rattle.text_lines.specs.Numbers.{hex_number};
+ghost use Rattle.text_lines.specs.Words.{Read, Taken, take_as};
 ghost use Rattle.layout_text.specs.Words.{name_of, kind_of, other_kind_of, semantics_of};
 
-use line_parts::{Rest, Stop, hex_number, starts_quoted};
 use pcp_base::{Kind, Semantics, Text, TextError, Units};
 use std::alloc::Global;
+use text_lines::{Rest, Stop, hex_number, starts_quoted};
 
 // The kind of a word.
 #[tactic(auto, unfolding(crate::specs::Words::kind_of))]
@@ -85,7 +85,7 @@ fn name_of(alloc: Global, word: &[u8]) -> Result<Text, Stop>
 }
 
 /// A kind's word, behind one space.
-#[tactic(auto, unfolding(line_parts::specs::Words::take_as))]
+#[tactic(auto, unfolding(text_lines::specs::Words::take_as))]
 pub fn take_kind(rest: &mut Rest) -> Result<Kind, Stop>
     ensures { Taken (take_as kind_of rest.old) result rest.new }
 {
@@ -95,7 +95,7 @@ pub fn take_kind(rest: &mut Rest) -> Result<Kind, Stop>
 }
 
 /// The word of semantics, behind one space.
-#[tactic(auto, unfolding(line_parts::specs::Words::take_as))]
+#[tactic(auto, unfolding(text_lines::specs::Words::take_as))]
 pub fn take_semantics(rest: &mut Rest) -> Result<Semantics, Stop>
     ensures { Taken (take_as semantics_of rest.old) result rest.new }
 {
@@ -105,7 +105,7 @@ pub fn take_semantics(rest: &mut Rest) -> Result<Semantics, Stop>
 }
 
 /// Units in 8 hexadecimal digits, behind one space.
-#[tactic(auto, unfolding(line_parts::specs::Words::take_as))]
+#[tactic(auto, unfolding(text_lines::specs::Words::take_as))]
 pub fn take_units(rest: &mut Rest) -> Result<Units, Stop>
     ensures { Taken (take_as (hex_number 8) rest.old) result rest.new }
 {
@@ -115,7 +115,7 @@ pub fn take_units(rest: &mut Rest) -> Result<Units, Stop>
 }
 
 /// A metric's name, behind one space.
-#[tactic(auto, unfolding(line_parts::specs::Words::take_as))]
+#[tactic(auto, unfolding(text_lines::specs::Words::take_as))]
 pub fn take_name(alloc: Global, rest: &mut Rest) -> Result<Text, Stop>
     ensures { Taken (take_as name_of rest.old) result rest.new }
 {

@@ -5,11 +5,11 @@ ghost use Rattle.layout_text.specs.declared.line.Line.TheVariants.{Mmv as mmv_of
 
 use crate::line::{Line, Written};
 use crate::parts::{put_content, put_kind, put_semantics};
-use line_parts::{
+use mmv_format::MetricRow;
+use pcp_base::{NoMemory, Text};
+use text_lines::{
     put_help, put_hex_part, put_int, put_number, put_optional_int, put_optional_number, put_text,
 };
-use mmv_layout::MetricRow;
-use pcp_base::{NoMemory, Text};
 
 /// The header's numbers, as its line has them.
 #[derive(Clone, Copy)]

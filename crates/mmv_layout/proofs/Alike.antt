@@ -1,13 +1,13 @@
 -- Words that agree with an image wherever its tests look are an image too: each test has the same answer.
 use Rattle.std.proofs.Common.{◌≡◌, ℕ, zero, suc, ◌+◌, ◌*◌, ◌/◌, ◌%◌, ◌^◌, ◌<◌, ◌≤◌, Bool, true, false, not, ◌&&◌, ◌||◌, ◌⊎◌, inr, List, [], ◌∷◌, length, ap, ap₂, sym, subst, ◌∙◌, refl, arith, add-zero, nat_eq, nat_le, cond, bytes_eq, ⊎_elim}
 use Rattle.std.proofs.lemmas.Bool.Decides.{nat_tests}
-use Rattle.mmv_entries.specs.declared.contents.Section.{Section}
-use Rattle.mmv_entries.specs.Below.{all_below, some_below}
-use Rattle.mmv_entries.specs.Fields.{number32, number64, byte_at, text_at, has_zero, same_name}
-use Rattle.mmv_entries.specs.Contents.{contents_in, type_in, count_in, place_in, section_bytes, end_in, section_lies, are_apart, is_first_of_type, has_good_section, find_section, section_of}
-use Rattle.mmv_entries.specs.Entries.{leads_to_string, indom_count, indom_at, instance_count, instance_at, metric_count, metric_at, value_count, value_at, string_count, string_at, help_leads, is_instance_of, has_good_run, has_serial, is_new_indom, is_good_indom, has_text, lies_in_run, is_same_instance, is_new_instance, is_good_instance, has_name, is_no_domain, is_indom_serial, serial_leads, is_same_metric, is_new_metric, has_good_fields, is_good_metric, metric_of, instance_leads, choice_leads, is_same_value, is_new_value, is_good_value, is_good_string}
-use Rattle.mmv_entries.specs.Images.{is_image}
-use Rattle.mmv_entries.proofs.Below.{all_at, both_left, both_right}
+use Rattle.mmv_format.specs.declared.contents.Section.{Section}
+use Rattle.mmv_format.specs.Below.{all_below, some_below}
+use Rattle.mmv_format.specs.Fields.{number32, number64, byte_at, text_at, has_zero, same_name}
+use Rattle.mmv_format.specs.Contents.{contents_in, type_in, count_in, place_in, section_bytes, end_in, section_lies, are_apart, is_first_of_type, has_good_section, find_section, section_of}
+use Rattle.mmv_format.specs.Entries.{leads_to_string, indom_count, indom_at, instance_count, instance_at, metric_count, metric_at, value_count, value_at, string_count, string_at, help_leads, is_instance_of, has_good_run, has_serial, is_new_indom, is_good_indom, has_text, lies_in_run, is_same_instance, is_new_instance, is_good_instance, has_name, is_no_domain, is_indom_serial, serial_leads, is_same_metric, is_new_metric, has_good_fields, is_good_metric, metric_of, instance_leads, choice_leads, is_same_value, is_new_value, is_good_value, is_good_string}
+use Rattle.mmv_format.specs.Images.{is_image}
+use Rattle.mmv_format.proofs.Below.{all_at, both_left, both_right}
 use Rattle.mmv_layout.specs.Rows.{domain_of}
 use Rattle.mmv_layout.specs.Says.{LeadsTo}
 use Rattle.mmv_layout.proofs.Goods.{eq_of, either, leads_there, good_indom, good_instance, good_value}

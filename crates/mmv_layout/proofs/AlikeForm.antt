@@ -4,17 +4,17 @@ use Rattle.std.specs.Int.{cast_signed}
 use Rattle.std.specs.List.{filter_map}
 use Rattle.std.proofs.lemmas.Bool.Decides.{nat_tests}
 use Rattle.std.proofs.lemmas.Bool.{eq-eqb}
-use Rattle.mmv_entries.specs.Below.{all_below}
-use Rattle.mmv_entries.specs.Fields.{number32, number64}
-use Rattle.mmv_entries.specs.Contents.{bytes_in, is_short, contents_in, has_good_section, is_aligned, sections_are_good, sections_are_aligned, section_of}
-use Rattle.mmv_entries.specs.Entries.{leads_to_string, indom_count, indom_at, instance_count, instance_at, metric_count, metric_at, value_count, value_at, string_count, string_at, help_leads, is_good_indom, is_good_instance, is_no_domain, has_good_fields, is_good_metric, is_good_value, is_good_string, indoms_are_good, instances_are_good, metrics_are_good, values_are_good, strings_are_good}
-use Rattle.mmv_entries.specs.Images.{has_good_header, is_image}
-use Rattle.mmv_entries.proofs.Below.{all_at, both_left, both_right}
-use Rattle.mmv_entries.proofs.Images.{short_words}
-use Rattle.mmv_layout.specs.declared.rows.IndomRow.{IndomRow}
-use Rattle.mmv_layout.specs.declared.rows.MetricRow.{MetricRow}
-use Rattle.mmv_layout.specs.declared.rows.Slot.{Slot}
-use Rattle.mmv_layout.specs.declared.rows.Content.TheVariants.{Number, Choice, Raw}
+use Rattle.mmv_format.specs.Below.{all_below}
+use Rattle.mmv_format.specs.Fields.{number32, number64}
+use Rattle.mmv_format.specs.Contents.{bytes_in, is_short, contents_in, has_good_section, is_aligned, sections_are_good, sections_are_aligned, section_of}
+use Rattle.mmv_format.specs.Entries.{leads_to_string, indom_count, indom_at, instance_count, instance_at, metric_count, metric_at, value_count, value_at, string_count, string_at, help_leads, is_good_indom, is_good_instance, is_no_domain, has_good_fields, is_good_metric, is_good_value, is_good_string, indoms_are_good, instances_are_good, metrics_are_good, values_are_good, strings_are_good}
+use Rattle.mmv_format.specs.Images.{has_good_header, is_image}
+use Rattle.mmv_format.proofs.Below.{all_at, both_left, both_right}
+use Rattle.mmv_format.proofs.Images.{short_words}
+use Rattle.mmv_format.specs.declared.rows.IndomRow.{IndomRow}
+use Rattle.mmv_format.specs.declared.rows.MetricRow.{MetricRow}
+use Rattle.mmv_format.specs.declared.rows.Slot.{Slot}
+use Rattle.mmv_format.specs.declared.rows.Content.TheVariants.{Number, Choice, Raw}
 use Rattle.mmv_layout.specs.Rows.{list_below, string_text, help_of, instance_row, instances_of, indom_row, metric_row, item_of, type_of, domain_of, instance_of, content_of, value_row, indoms_of, metrics_of, values_of, strings_of, layout_of}
 use Rattle.mmv_layout.specs.Form.{slot_at, slots_of, offsets_of, subjects_of, Form, form_of}
 use Rattle.mmv_layout.specs.Says.{LeadsTo}

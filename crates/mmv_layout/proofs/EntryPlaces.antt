@@ -1,10 +1,10 @@
 -- Where the sections of an image lie.
 use Rattle.std.proofs.Common.{◌≡◌, ◌≢◌, ℕ, zero, suc, ◌+◌, ◌*◌, ◌%◌, ◌^◌, ◌<◌, ◌≤◌, Bool, true, false, not, List, length, ap₂, sym, subst, ◌∙◌, refl, arith, nat_eq, nat_le, if◌then◌else◌}
 use Rattle.std.proofs.lemmas.Bool.Decides.{nat_tests}
-use Rattle.mmv_entries.specs.Contents.{bytes_in, contents_in, type_in, count_in, place_in, section_bytes, end_in, section_lies, has_good_section, is_aligned, sections_are_good, sections_are_aligned, find_section, section_of}
-use Rattle.mmv_entries.specs.Entries.{value_count, value_at, string_count, string_at}
-use Rattle.mmv_entries.specs.Images.{has_good_header, is_image}
-use Rattle.mmv_entries.proofs.Below.{all_at, both_left, both_right}
+use Rattle.mmv_format.specs.Contents.{bytes_in, contents_in, type_in, count_in, place_in, section_bytes, end_in, section_lies, has_good_section, is_aligned, sections_are_good, sections_are_aligned, find_section, section_of}
+use Rattle.mmv_format.specs.Entries.{value_count, value_at, string_count, string_at}
+use Rattle.mmv_format.specs.Images.{has_good_header, is_image}
+use Rattle.mmv_format.proofs.Below.{all_at, both_left, both_right}
 use Rattle.mmv_layout.proofs.Goods.{le_of, eq_of, or_right, header, sections, aligned}
 
 -- a contents entry of a type, with the section's place and number of entries

@@ -4,12 +4,12 @@ use Rattle.pcp_base.specs.Names.{IsName, spells}
 use Rattle.pcp_base.specs.Codes.{kind_of_code}
 use Rattle.pcp_base.specs.declared.kind.Kind.TheVariants.{I32, U32}
 use Rattle.pcp_base.proofs.Spelling.{spelt}
-use Rattle.mmv_entries.specs.Fields.{number32, text_at}
-use Rattle.mmv_entries.specs.Entries.{metric_at, metric_count, has_name, has_good_fields, is_good_metric, metrics_are_good}
-use Rattle.mmv_entries.specs.Images.{is_image}
-use Rattle.mmv_entries.proofs.Texts.{text_short}
-use Rattle.mmv_entries.proofs.Below.{all_at, both_left, both_right}
-use Rattle.mmv_entries.proofs.Lies.{le_of, eq_of}
+use Rattle.mmv_format.specs.Fields.{number32, text_at}
+use Rattle.mmv_format.specs.Entries.{metric_at, metric_count, has_name, has_good_fields, is_good_metric, metrics_are_good}
+use Rattle.mmv_format.specs.Images.{is_image}
+use Rattle.mmv_format.proofs.Texts.{text_short}
+use Rattle.mmv_format.proofs.Below.{all_at, both_left, both_right}
+use Rattle.mmv_format.proofs.Lies.{le_of, eq_of}
 use Rattle.mmv_layout.specs.FirstForm.{is_plain_metric, is_first_form, only_name, only_item, only_kind}
 
 pub image : (words : List ℕ) → is_first_form words ≡ true → is_image words ≡ true

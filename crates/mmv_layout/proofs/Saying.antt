@@ -7,17 +7,17 @@ use Rattle.pcp_base.specs.declared.kind.Kind.{Kind}
 use Rattle.pcp_base.specs.declared.kind.Kind.TheVariants as kinds
 use Rattle.pcp_base.specs.declared.kind.Semantics.{Semantics}
 use Rattle.pcp_base.specs.declared.kind.Semantics.TheVariants as meanings
-use Rattle.mmv_entries.specs.Fields.{number32, number64}
-use Rattle.mmv_entries.specs.Contents.{section_of, first_generation, second_generation}
-use Rattle.mmv_entries.specs.Entries.{indom_at, metric_count, metric_at, value_count, value_at, help_leads, is_good_indom, is_good_metric, has_good_fields, is_good_value, metric_of, instance_leads, choice_leads, is_no_domain, is_kind, is_semantics}
-use Rattle.mmv_entries.specs.Images.{has_good_header, is_image}
-use Rattle.mmv_entries.proofs.Below.{both_left, both_right}
-use Rattle.mmv_layout.specs.declared.rows.IndomRow.{IndomRow}
-use Rattle.mmv_layout.specs.declared.rows.MetricRow.{MetricRow}
-use Rattle.mmv_layout.specs.declared.rows.ValueRow.{ValueRow}
-use Rattle.mmv_layout.specs.declared.rows.Content.{Content}
-use Rattle.mmv_layout.specs.declared.rows.Content.TheVariants.{Number, Choice, Raw}
-use Rattle.mmv_layout.specs.declared.rows.Layout.{Layout}
+use Rattle.mmv_format.specs.Fields.{number32, number64}
+use Rattle.mmv_format.specs.Contents.{section_of, first_generation, second_generation}
+use Rattle.mmv_format.specs.Entries.{indom_at, metric_count, metric_at, value_count, value_at, help_leads, is_good_indom, is_good_metric, has_good_fields, is_good_value, metric_of, instance_leads, choice_leads, is_no_domain, is_kind, is_semantics}
+use Rattle.mmv_format.specs.Images.{has_good_header, is_image}
+use Rattle.mmv_format.proofs.Below.{both_left, both_right}
+use Rattle.mmv_format.specs.declared.rows.IndomRow.{IndomRow}
+use Rattle.mmv_format.specs.declared.rows.MetricRow.{MetricRow}
+use Rattle.mmv_format.specs.declared.rows.ValueRow.{ValueRow}
+use Rattle.mmv_format.specs.declared.rows.Content.{Content}
+use Rattle.mmv_format.specs.declared.rows.Content.TheVariants.{Number, Choice, Raw}
+use Rattle.mmv_format.specs.declared.rows.Layout.{Layout}
 use Rattle.mmv_layout.specs.Rows.{list_below, signed32, string_text, help_of, instance_row, instances_of, indom_row, serial_of, metric_row, type_of, domain_of, instance_of, content_of, value_row, indoms_of, metrics_of, values_of, strings_of, layout_of}
 use Rattle.mmv_layout.specs.Says.{EachAt, InSection, LeadsTo, HelpAt, InstanceAt, IndomAt, IsNull, IsNamed, SerialIs, MetricAt, InstanceOf, ContentAt, ValueAt, TextAt, Says, SaysOneLayout}
 use Rattle.mmv_layout.proofs.RowLists.{rows_length, each_only, each_there}

@@ -6,12 +6,12 @@ use Rattle.std.proofs.lemmas.Bool.{cases_eq, eq-eqb}
 use Rattle.pcp_base.specs.Codes.{kind_of_code}
 use Rattle.pcp_base.specs.declared.kind.Kind.{Kind}
 use Rattle.pcp_base.specs.declared.kind.Kind.TheVariants as kinds
-use Rattle.mmv_entries.specs.Fields.{number64}
-use Rattle.mmv_entries.specs.Contents.{section_bytes, section_of}
-use Rattle.mmv_entries.specs.Entries.{leads, leads_to_string, value_count, value_at, string_count, string_at, choice_leads, is_good_value}
-use Rattle.mmv_entries.specs.Images.{has_good_header, is_image}
-use Rattle.mmv_entries.proofs.Below.{both_left, both_right, some_holds}
-use Rattle.mmv_layout.specs.declared.rows.Slot.{Slot}
+use Rattle.mmv_format.specs.Fields.{number64}
+use Rattle.mmv_format.specs.Contents.{section_bytes, section_of}
+use Rattle.mmv_format.specs.Entries.{leads, leads_to_string, value_count, value_at, string_count, string_at, choice_leads, is_good_value}
+use Rattle.mmv_format.specs.Images.{has_good_header, is_image}
+use Rattle.mmv_format.proofs.Below.{both_left, both_right, some_holds}
+use Rattle.mmv_format.specs.declared.rows.Slot.{Slot}
 use Rattle.mmv_layout.specs.Rows.{type_of}
 use Rattle.mmv_layout.specs.Form.{slot_in, slot_at, slots_of, offsets_of, form_of}
 use Rattle.mmv_layout.specs.ShapeLaws.{TakesAs, IsAlike, HasGenerationTwice, GenerationIsNoValue, ValueKeepsTheForm, LengthKeepsTheForm, GenerationKeepsTheForm}

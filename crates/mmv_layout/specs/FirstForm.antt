@@ -5,11 +5,11 @@ use Rattle.pcp_base.specs.declared.kind.Kind.{Kind}
 use Rattle.pcp_base.specs.declared.kind.Kind.TheVariants.{I32}
 use Rattle.pcp_base.specs.declared.kind.Semantics.{Semantics}
 use Rattle.pcp_base.specs.declared.kind.Semantics.TheVariants.{Counter}
-use Rattle.mmv_entries.specs.Fields.{number32, number64, text_at}
-use Rattle.mmv_entries.specs.Contents.{flags_in}
-use Rattle.mmv_entries.specs.Entries.{metric_count, metric_at, value_count, value_at, is_no_domain}
-use Rattle.mmv_entries.specs.Images.{is_image}
-use Rattle.mmv_layout.specs.declared.rows.MetricRow.{MetricRow}
+use Rattle.mmv_format.specs.Fields.{number32, number64, text_at}
+use Rattle.mmv_format.specs.Contents.{flags_in}
+use Rattle.mmv_format.specs.Entries.{metric_count, metric_at, value_count, value_at, is_no_domain}
+use Rattle.mmv_format.specs.Images.{is_image}
+use Rattle.mmv_format.specs.declared.rows.MetricRow.{MetricRow}
 
 -- the metric at a place has the type of I32 or U32, no domain and no help
 unfoldable pub is_plain_metric : List ℕ → ℕ → Bool

@@ -2,17 +2,17 @@
 -- section order, with the fields of that entry.
 use Rattle.std.specs.Prelude.{◌≡◌, ◌≢◌, ℕ, ℤ, ◌+◌, ◌<◌, ◌≤◌, ◌⊎◌, List, [], ◌∷◌, length, Option, None, Some}
 use Rattle.pcp_base.specs.Codes.{code_of_kind, code_of_semantics}
-use Rattle.mmv_entries.specs.declared.contents.Section.{Section}
-use Rattle.mmv_entries.specs.Fields.{number32, number64, text_at}
-use Rattle.mmv_entries.specs.Contents.{version_in, first_generation, second_generation, flags_in, cluster_in, section_of}
-use Rattle.mmv_entries.specs.Entries.{instance_count, instance_at, metric_count, metric_at, string_count, string_at, metric_of}
-use Rattle.mmv_entries.specs.Images.{IsImage}
-use Rattle.mmv_layout.specs.declared.rows.IndomRow.{IndomRow}
-use Rattle.mmv_layout.specs.declared.rows.MetricRow.{MetricRow}
-use Rattle.mmv_layout.specs.declared.rows.ValueRow.{ValueRow}
-use Rattle.mmv_layout.specs.declared.rows.Content.{Content}
-use Rattle.mmv_layout.specs.declared.rows.Content.TheVariants.{Number, Choice, Raw}
-use Rattle.mmv_layout.specs.declared.rows.Layout.{Layout}
+use Rattle.mmv_format.specs.declared.contents.Section.{Section}
+use Rattle.mmv_format.specs.Fields.{number32, number64, text_at}
+use Rattle.mmv_format.specs.Contents.{version_in, first_generation, second_generation, flags_in, cluster_in, section_of}
+use Rattle.mmv_format.specs.Entries.{instance_count, instance_at, metric_count, metric_at, string_count, string_at, metric_of}
+use Rattle.mmv_format.specs.Images.{IsImage}
+use Rattle.mmv_format.specs.declared.rows.IndomRow.{IndomRow}
+use Rattle.mmv_format.specs.declared.rows.MetricRow.{MetricRow}
+use Rattle.mmv_format.specs.declared.rows.ValueRow.{ValueRow}
+use Rattle.mmv_format.specs.declared.rows.Content.{Content}
+use Rattle.mmv_format.specs.declared.rows.Content.TheVariants.{Number, Choice, Raw}
+use Rattle.mmv_format.specs.declared.rows.Layout.{Layout}
 use Rattle.mmv_layout.specs.Rows.{process_in, signed32, item_of, type_of, domain_of}
 
 -- row k of a list stands at a place and k times the size of a row

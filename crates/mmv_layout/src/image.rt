@@ -1,21 +1,20 @@
 ghost use Rattle.std.specs.Prelude.{◌≡◌, ◌≢◌, ◌<◌, ◌≤◌, ◌^◌, ◌⊎◌, negsuc, length, All, Contains, IfOk, IfSome, OnOk, Err, None, MatchOption};
 ghost use Rattle.pcp_base.specs.declared.kind.Kind.TheVariants.{I32, U32};
 ghost use Rattle.pcp_base.specs.Names.{IsName};
-ghost use Rattle.mmv_entries.specs.Contents.{cluster_in, is_short};
-ghost use Rattle.mmv_entries.specs.Fields.{words_of};
-ghost use Rattle.mmv_entries.specs.Faults.{image_in, image_of};
-ghost use Rattle.mmv_entries.specs.Images.{IsImage};
+ghost use Rattle.mmv_format.specs.Contents.{cluster_in, is_short};
+ghost use Rattle.mmv_format.specs.Fields.{words_of};
+ghost use Rattle.mmv_format.specs.Faults.{image_in, image_of};
+ghost use Rattle.mmv_format.specs.Images.{IsImage};
 ghost use Rattle.mmv_layout.specs.Form.{slots_of, texts_of, IsSlotOf, IsOther};
 ghost use Rattle.mmv_layout.specs.Rows.{layout_of};
 ghost use Rattle.mmv_layout.specs.Says.{Says};
 ghost use Rattle.mmv_layout.specs.FirstForm.{is_plain_metric, is_first_form, IsFirstForm, only_item, only_kind, only_semantics, only_units, only_name, only_metric, only_value};
 
 use crate::layout::layout;
-use crate::rows::{Layout, MetricRow, Slot};
 use crate::slots::{slot_of, slots, texts};
-use mmv_entries::{
-    ImageFault, NAME_SIZE, image_fault, is_no_domain, metric_at, metric_count, number32, number64,
-    text_at, value_at, value_count, words_of,
+use mmv_format::{
+    ImageFault, Layout, MetricRow, NAME_SIZE, Slot, image_fault, is_no_domain, metric_at,
+    metric_count, number32, number64, text_at, value_at, value_count, words_of,
 };
 use pcp_base::{Kind, List, NoMemory, Semantics, Text, TextError, Units};
 use std::alloc::Global;
@@ -93,7 +92,7 @@ pub struct Image {
 
 impl Model for Image {
     ghost use Rattle.std.specs.Prelude.{List as Sequence, ℕ};
-    ghost use Rattle.mmv_entries.specs.Images.{IsImage};
+    ghost use Rattle.mmv_format.specs.Images.{IsImage};
 
     ghost Value = { Sequence ℕ };
 
@@ -104,7 +103,7 @@ impl Model for Image {
 
 impl Image {
     /// The image that words are, or their first fault. Further words may follow the sections, up to 65,536 in all.
-    #[tactic(auto, using(mmv_entries::proofs::Images::is_image_where), unfolding(mmv_entries::specs::Faults::image_in))]
+    #[tactic(auto, using(mmv_format::proofs::Images::is_image_where), unfolding(mmv_format::specs::Faults::image_in))]
     pub fn parse(alloc: Global, words: Vec<u64>) -> Result<Image, ImageFault>
         ensures image { (result ≡ Err ImageFault.NoMemory) ⊎ (result ≡ image_in words.items) }
         ensures words { IfOk result (λ image. image ≡ words.items) }
@@ -117,7 +116,7 @@ impl Image {
     }
 
     /// The image that bytes are, or their first fault: `Short` also where they are no whole number of words.
-    #[tactic(auto, using(mmv_entries::proofs::Images::large_bytes), unfolding(mmv_entries::specs::Faults::image_of))]
+    #[tactic(auto, using(mmv_format::proofs::Images::large_bytes), unfolding(mmv_format::specs::Faults::image_of))]
     pub fn from_bytes(alloc: Global, bytes: &[u8]) -> Result<Image, ImageFault>
         ensures image { (result ≡ Err ImageFault.NoMemory) ⊎ (result ≡ image_of bytes.now) }
         ensures words { IfOk result (λ image. image ≡ words_of bytes.now) }
@@ -143,7 +142,7 @@ impl Image {
     }
 
     /// The words, in order; at least 5 and at most 65,536.
-    #[tactic(auto, using(mmv_entries::proofs::Images::at_least_five, mmv_entries::proofs::Images::at_most))]
+    #[tactic(auto, using(mmv_format::proofs::Images::at_least_five, mmv_format::proofs::Images::at_most))]
     pub fn words(&self) -> &[u64]
         ensures value { result.now ≡ self.now }
         ensures image { IsImage self.now }
@@ -154,7 +153,7 @@ impl Image {
     }
 
     /// The cluster that the metric is served in, at most 4095.
-    #[tactic(auto, using(mmv_entries::proofs::Images::cluster_fits))]
+    #[tactic(auto, using(mmv_format::proofs::Images::cluster_fits))]
     pub fn cluster(&self) -> u32
         ensures value { result ≡ cluster_in self.now }
         ensures bound { result ≤ 4095 }

@@ -1,13 +1,13 @@
 ghost use Rattle.std.specs.Prelude.{◌≡◌, ◌<◌, ◌^◌, IfOk};
-ghost use Rattle.mmv_entries.specs.Images.{IsImage};
-ghost use Rattle.mmv_entries.specs.Fields.{text_at};
+ghost use Rattle.mmv_format.specs.Images.{IsImage};
+ghost use Rattle.mmv_format.specs.Fields.{text_at};
 ghost use Rattle.mmv_layout.specs.Says.{Says};
 ghost use Rattle.mmv_layout.specs.Rows.{signed32, help_of, instance_row, instances_of, indom_row, serial_of, metric_row, instance_of, content_of, value_row, indoms_of, metrics_of, values_of, strings_of, layout_of};
 
-use crate::rows::{Content, IndomRow, Layout, MetricRow, ValueRow};
-use mmv_entries::{
-    NAME_SIZE, STRING_SIZE, indom_at, indom_count, is_no_domain, metric_at, metric_count,
-    metric_of, number32, number64, run_at, string_at, string_count, text_at, value_at, value_count,
+use mmv_format::{
+    Content, IndomRow, Layout, MetricRow, NAME_SIZE, STRING_SIZE, ValueRow, indom_at, indom_count,
+    is_no_domain, metric_at, metric_count, metric_of, number32, number64, run_at, string_at,
+    string_count, text_at, value_at, value_count,
 };
 use pcp_base::{Kind, List, NoMemory, Semantics, Text, TextError, Units};
 use std::alloc::Global;

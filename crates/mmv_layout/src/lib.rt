@@ -6,7 +6,6 @@
 mod image;
 mod laws;
 mod layout;
-mod rows;
 mod slots;
 
 pub use image::Image;
@@ -15,8 +14,7 @@ pub use laws::{
     length_keeps_the_form, length_keeps_the_layout, one_slot_each, says_one_layout,
     slot_holds_the_content, texts_are_the_forms, value_keeps_the_form,
 };
-pub use mmv_entries::{
-    ImageFault, images_are_good, lowest_place, number_holds_bytes, number_holds_halves,
-    words_hold_bytes,
+pub use mmv_format::{
+    Content, ImageFault, IndomRow, Layout, MetricRow, Slot, ValueRow, images_are_good,
+    lowest_place, number_holds_bytes, number_holds_halves, words_hold_bytes,
 };
-pub use rows::{Content, IndomRow, Layout, MetricRow, Slot, ValueRow};

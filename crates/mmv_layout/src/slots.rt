@@ -1,12 +1,11 @@
 ghost use Rattle.std.specs.Prelude.{◌≡◌, ◌≢◌, ◌<◌, ◌≤◌, ◌^◌, ◌⊎◌, length, None, IfOk, IfSome, MatchOption, All, Contains};
 ghost use Rattle.std.specs.List.{find};
-ghost use Rattle.mmv_entries.specs.Images.{IsImage};
+ghost use Rattle.mmv_format.specs.Images.{IsImage};
 ghost use Rattle.mmv_layout.specs.Rows.{item_of, type_of};
 ghost use Rattle.mmv_layout.specs.Form.{slot_in, slot_at, slots_of, is_slot_of, texts_of, IsSlotOf, IsOther};
 
 use crate::layout::{instance_of, string_text};
-use crate::rows::Slot;
-use mmv_entries::{metric_of, number32, string_at, string_count, value_at, value_count};
+use mmv_format::{Slot, metric_of, number32, string_at, string_count, value_at, value_count};
 use pcp_base::{Kind, List, NoMemory, Text};
 use std::alloc::Global;
 

@@ -1,8 +1,8 @@
 -- Where the sections of a spelled image stand: behind the header and the contents, in the order of their types and
 -- without gaps. Places are bytes from the image's start.
 use Rattle.std.specs.Prelude.{ℕ, ◌+◌, ◌*◌, ◌≤◌, ◌==◌, if◌then◌else◌, List, length, sum_by}
-use Rattle.mmv_layout.specs.declared.rows.IndomRow.{IndomRow}
-use Rattle.mmv_layout.specs.declared.rows.Layout.{Layout}
+use Rattle.mmv_format.specs.declared.rows.IndomRow.{IndomRow}
+use Rattle.mmv_format.specs.declared.rows.Layout.{Layout}
 use Rattle.mmv_spelling.specs.declared.places.Counts.{Counts}
 use Rattle.mmv_spelling.specs.declared.places.Places.{Places}
 

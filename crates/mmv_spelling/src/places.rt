@@ -1,7 +1,7 @@
 ghost use Rattle.std.specs.Prelude.{◌≡◌, ◌≤◌, min};
 ghost use Rattle.mmv_spelling.specs.Places.{instances_in, counts_of, one_if_some, sections_in, places_of, words_in};
 
-use mmv_layout::{IndomRow, Layout};
+use mmv_format::{IndomRow, Layout};
 use pcp_base::Text;
 
 /// How many entries each section has.

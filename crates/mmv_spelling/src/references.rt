@@ -7,7 +7,7 @@ ghost use Rattle.mmv_spelling.specs.Spelling.{string_place, help_place, domain_o
 
 use crate::places::{Places, instances_in};
 use crate::tables::StringTable;
-use mmv_layout::{Content, IndomRow, MetricRow};
+use mmv_format::{Content, IndomRow, MetricRow};
 use pcp_base::Text;
 
 /// Which string is the first that is equal to a text, or the number of strings.

@@ -8,7 +8,7 @@ use crate::words::{
     push_contents, push_domains, push_header, push_instances, push_metrics, push_strings,
     push_values,
 };
-use mmv_layout::Layout;
+use mmv_format::Layout;
 use pcp_base::{NoMemory, Text};
 use std::alloc::Global;
 

@@ -3,7 +3,7 @@ ghost use Rattle.std.specs.List.{flat_map};
 ghost use Rattle.mmv_spelling.specs.Spelling.{texts_of, texts_in, with_missing, all_strings};
 
 use crate::tables::StringTable;
-use mmv_layout::{Content, IndomRow, Layout, MetricRow, ValueRow};
+use mmv_format::{Content, IndomRow, Layout, MetricRow, ValueRow};
 use pcp_base::{NoMemory, Text};
 use std::alloc::Global;
 

@@ -1,7 +1,7 @@
 ghost use Rattle.std.specs.Prelude.{◌≡◌, ◌+◌, ◌<◌, ◌≤◌, ◌^◌, ◌++◌, length, take, drop, OnOk, slice_index};
 ghost use Rattle.std.specs.List.{flat_map};
 ghost use Rattle.std.specs.Int.{w64, from_le_bytes};
-ghost use Rattle.mmv_entries.specs.Fields.{first_words};
+ghost use Rattle.mmv_format.specs.Fields.{first_words};
 ghost use Rattle.mmv_spelling.specs.Places.{instances_in, words_in, AreSmall};
 ghost use Rattle.mmv_spelling.specs.Spelling.{halves, header_words, entry_words, contents_words, domain_place, domain_words, instance_words, serial_word, metric_words, value_field, value_words, domain_section, instance_section, metric_section, value_section, string_section};
 
@@ -10,7 +10,7 @@ use crate::references::{
     domain_place, extra_field, first_instance, help_place, instance_field, metric_place, serial_of,
 };
 use crate::tables::StringTable;
-use mmv_layout::{Content, IndomRow, Layout, MetricRow, ValueRow};
+use mmv_format::{Content, IndomRow, Layout, MetricRow, ValueRow};
 use pcp_base::{NoMemory, Text};
 
 /// `MMV` and a zero byte, the low byte first.

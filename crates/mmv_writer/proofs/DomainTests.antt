@@ -5,11 +5,11 @@ use Rattle.std.specs.Int.{w32, cast_unsigned}
 use Rattle.std.specs.Ordering.{int_eq}
 use Rattle.std.proofs.lemmas.Bool.{eq-eqb, eqb-true, eqb-false}
 use Rattle.std.proofs.lemmas.Bool.Decides.{nat_tests}
-use Rattle.mmv_entries.specs.Fields.{number32, number64, byte_at, text_at, same_name, first_words}
-use Rattle.mmv_entries.specs.Entries.{indom_at, instance_at, indom_count, instance_count, leads_to_instance, help_leads, is_instance_of, has_good_run, has_serial, is_new_indom, is_serial, is_good_indom, has_text, lies_in_run, is_same_instance, is_new_instance, is_instance_number, is_good_instance, indoms_are_good, instances_are_good}
-use Rattle.mmv_layout.specs.declared.rows.IndomRow.{IndomRow}
-use Rattle.mmv_layout.specs.declared.rows.Layout.{Layout}
-use Rattle.mmv_entries.proofs.Below.{both_left, both_right}
+use Rattle.mmv_format.specs.Fields.{number32, number64, byte_at, text_at, same_name, first_words}
+use Rattle.mmv_format.specs.Entries.{indom_at, instance_at, indom_count, instance_count, leads_to_instance, help_leads, is_instance_of, has_good_run, has_serial, is_new_indom, is_serial, is_good_indom, has_text, lies_in_run, is_same_instance, is_new_instance, is_instance_number, is_good_instance, indoms_are_good, instances_are_good}
+use Rattle.mmv_format.specs.declared.rows.IndomRow.{IndomRow}
+use Rattle.mmv_format.specs.declared.rows.Layout.{Layout}
+use Rattle.mmv_format.proofs.Below.{both_left, both_right}
 use Rattle.mmv_writer.specs.Draft.{Each, IsInstance, IsDraft}
 use Rattle.mmv_spelling.specs.Places.{instances_in, counts_of, words_in}
 use Rattle.mmv_spelling.specs.Spelling.{halves, domain_place, domain_words, instance_words, spelled, first_instance}

@@ -3,12 +3,12 @@ use Rattle.std.proofs.Common.{◌≡◌, ℕ, ◌*◌, ◌%◌, ◌<◌, ◌≤�
 use Rattle.std.proofs.lemmas.Bool.{eq-eqb}
 use Rattle.std.proofs.lemmas.Bool.Decides.{nat_tests}
 use Rattle.std.proofs.Math.Nat.{mul-mod_right}
-use Rattle.mmv_entries.specs.Fields.{number32, number64}
-use Rattle.mmv_entries.specs.Images.{is_cluster, has_good_header, is_image}
+use Rattle.mmv_format.specs.Fields.{number32, number64}
+use Rattle.mmv_format.specs.Images.{is_cluster, has_good_header, is_image}
 use Rattle.std.specs.Prelude.{Option, Some, None, is_none, Ok}
-use Rattle.mmv_entries.specs.Faults.{image_fault, unless_fault, image_in}
-use Rattle.mmv_entries.proofs.Images.{images_same}
-use Rattle.mmv_layout.specs.declared.rows.Layout.{Layout}
+use Rattle.mmv_format.specs.Faults.{image_fault, unless_fault, image_in}
+use Rattle.mmv_format.proofs.Images.{images_same}
+use Rattle.mmv_format.specs.declared.rows.Layout.{Layout}
 use Rattle.mmv_writer.specs.Draft.{IsDraft}
 use Rattle.mmv_spelling.specs.Places.{counts_of, sections_in, words_in}
 use Rattle.mmv_spelling.specs.Spelling.{header_words, spelled, all_strings, image_words}

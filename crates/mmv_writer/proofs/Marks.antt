@@ -3,15 +3,15 @@ use Rattle.std.proofs.Common.{◌≡◌, ℕ, ◌+◌, ◌*◌, ◌<◌, ◌≤�
 use Rattle.std.specs.List.{slice_get, flat_map, position_or_len}
 use Rattle.std.proofs.lemmas.Bool.{eq-eqb}
 use Rattle.std.proofs.lemmas.Bool.Decides.{nat_tests}
-use Rattle.mmv_entries.specs.Fields.{number32, number64, first_words}
-use Rattle.mmv_entries.specs.Contents.{section_of}
-use Rattle.mmv_entries.specs.Entries.{leads, indom_at, instance_at, metric_at, value_at, string_at, leads_to_indom, leads_to_instance, leads_to_metric, leads_to_string, help_leads}
-use Rattle.mmv_entries.proofs.Below.{some_holds, both_right}
-use Rattle.mmv_entries.specs.declared.contents.Section.{Section}
-use Rattle.mmv_layout.specs.declared.rows.IndomRow.{IndomRow}
-use Rattle.mmv_layout.specs.declared.rows.MetricRow.{MetricRow}
-use Rattle.mmv_layout.specs.declared.rows.ValueRow.{ValueRow}
-use Rattle.mmv_layout.specs.declared.rows.Layout.{Layout}
+use Rattle.mmv_format.specs.Fields.{number32, number64, first_words}
+use Rattle.mmv_format.specs.Contents.{section_of}
+use Rattle.mmv_format.specs.Entries.{leads, indom_at, instance_at, metric_at, value_at, string_at, leads_to_indom, leads_to_instance, leads_to_metric, leads_to_string, help_leads}
+use Rattle.mmv_format.proofs.Below.{some_holds, both_right}
+use Rattle.mmv_format.specs.declared.contents.Section.{Section}
+use Rattle.mmv_format.specs.declared.rows.IndomRow.{IndomRow}
+use Rattle.mmv_format.specs.declared.rows.MetricRow.{MetricRow}
+use Rattle.mmv_format.specs.declared.rows.ValueRow.{ValueRow}
+use Rattle.mmv_format.specs.declared.rows.Layout.{Layout}
 use Rattle.mmv_writer.specs.Draft.{IsDraft}
 use Rattle.mmv_spelling.specs.Places.{instances_in, counts_of, words_in}
 use Rattle.mmv_spelling.specs.Spelling.{string_place, help_place, domain_of, domain_place, instance_place, domain_words, instance_words, metric_words, value_words, domain_section, instance_section, metric_section, value_section, string_section, spelled, first_instance}

@@ -9,19 +9,19 @@ use Rattle.std.proofs.lemmas.Bool.Decides.{nat_tests}
 use Rattle.pcp_base.specs.Codes.{code_of_kind, code_of_semantics}
 use Rattle.pcp_base.specs.declared.kind.Kind.{Kind}
 use Rattle.pcp_base.specs.declared.kind.Kind.TheVariants as kinds
-use Rattle.mmv_entries.specs.Fields.{number32, number64}
-use Rattle.mmv_entries.specs.Contents.{section_of}
-use Rattle.mmv_entries.specs.Entries.{instance_at, metric_at, string_at, metric_of}
+use Rattle.mmv_format.specs.Fields.{number32, number64}
+use Rattle.mmv_format.specs.Contents.{section_of}
+use Rattle.mmv_format.specs.Entries.{instance_at, metric_at, string_at, metric_of}
 use Rattle.mmv_layout.specs.Says.{EachAt, InSection, StringAt, HelpAt, InstanceAt, IndomAt, SerialIs, MetricAt, InstanceOf, ContentAt, ValueAt, TextAt, Says}
 use Rattle.mmv_layout.specs.Rows as rows
-use Rattle.mmv_entries.specs.declared.contents.Section.{Section}
-use Rattle.mmv_layout.specs.declared.rows.IndomRow.{IndomRow}
-use Rattle.mmv_layout.specs.declared.rows.MetricRow.{MetricRow}
-use Rattle.mmv_layout.specs.declared.rows.ValueRow.{ValueRow}
-use Rattle.mmv_layout.specs.declared.rows.Content.{Content}
-use Rattle.mmv_layout.specs.declared.rows.Content.TheVariants.{Number, Choice, Raw}
-use Rattle.mmv_layout.specs.declared.rows.Layout.{Layout}
-use Rattle.mmv_entries.proofs.Below.{both_left, both_right}
+use Rattle.mmv_format.specs.declared.contents.Section.{Section}
+use Rattle.mmv_format.specs.declared.rows.IndomRow.{IndomRow}
+use Rattle.mmv_format.specs.declared.rows.MetricRow.{MetricRow}
+use Rattle.mmv_format.specs.declared.rows.ValueRow.{ValueRow}
+use Rattle.mmv_format.specs.declared.rows.Content.{Content}
+use Rattle.mmv_format.specs.declared.rows.Content.TheVariants.{Number, Choice, Raw}
+use Rattle.mmv_format.specs.declared.rows.Layout.{Layout}
+use Rattle.mmv_format.proofs.Below.{both_left, both_right}
 use Rattle.mmv_writer.specs.Rules.{fits_instance, fits_kind, fits_metric}
 use Rattle.mmv_writer.specs.Draft.{Each, IsString, IsInstance, HasDomain, IsMetric, IsDraft}
 use Rattle.mmv_spelling.specs.Places.{instances_in, counts_of, sections_in, words_in}

@@ -3,9 +3,9 @@ use Rattle.std.proofs.Common.{◌≡◌, ◌≢◌, ℕ, zero, suc, ◌+◌, ◌
 use Rattle.std.specs.List.{slice_get}
 use Rattle.std.proofs.lemmas.Bool.{eq-eqb, eqb-true, eqb-false, cases_lt}
 use Rattle.std.proofs.lemmas.Bool.Decides.{nat_tests}
-use Rattle.mmv_entries.specs.Below.{all_below}
-use Rattle.mmv_entries.specs.Contents.{bytes_in, contents_in, type_in, count_in, place_in, section_bytes, end_in, is_type, section_lies, are_apart, is_first_of_type, has_good_section, is_aligned, sections_are_good, sections_are_aligned, find_section, section_of}
-use Rattle.mmv_entries.specs.declared.contents.Section.{Section}
+use Rattle.mmv_format.specs.Below.{all_below}
+use Rattle.mmv_format.specs.Contents.{bytes_in, contents_in, type_in, count_in, place_in, section_bytes, end_in, is_type, section_lies, are_apart, is_first_of_type, has_good_section, is_aligned, sections_are_good, sections_are_aligned, find_section, section_of}
+use Rattle.mmv_format.specs.declared.contents.Section.{Section}
 use Rattle.mmv_spelling.specs.Spelling.{halves}
 use Rattle.mmv_writer.proofs.Rows.{get_below}
 

@@ -3,9 +3,9 @@ use Rattle.std.proofs.Common.{◌≡◌, ℕ, ◌+◌, ◌*◌, ◌<◌, ◌≤�
 use Rattle.std.specs.List.{slice_get, flat_map}
 use Rattle.std.proofs.lemmas.List.Concat.{flat_map-append}
 use Rattle.std.proofs.lemmas.Bool.{eqb-true}
-use Rattle.mmv_entries.specs.Contents.{section_bytes, section_of, sections_are_good, sections_are_aligned}
-use Rattle.mmv_entries.specs.declared.contents.Section.{Section}
-use Rattle.mmv_layout.specs.declared.rows.Layout.{Layout}
+use Rattle.mmv_format.specs.Contents.{section_bytes, section_of, sections_are_good, sections_are_aligned}
+use Rattle.mmv_format.specs.declared.contents.Section.{Section}
+use Rattle.mmv_format.specs.declared.rows.Layout.{Layout}
 use Rattle.mmv_spelling.specs.declared.places.Counts.{Counts}
 use Rattle.mmv_spelling.specs.declared.places.Places.{Places}
 use Rattle.mmv_spelling.specs.Places.{instances_in, counts_of, one_if_some, sections_in, places_of, words_in}

@@ -6,8 +6,8 @@ use Rattle.std.proofs.lemmas.Bool.{eq-eqb}
 use Rattle.std.proofs.lemmas.Bool.Decides.{nat_tests}
 use Rattle.std.proofs.lemmas.List.{drop-drop, get_or-take, get_or-drop}
 use Rattle.std.proofs.lemmas.List.Sums.{sum_by-cons}
-use Rattle.mmv_entries.specs.Fields.{number32, number64, byte_at, text_at, has_zero, first_words}
-use Rattle.mmv_entries.proofs.Below.{some_holds}
+use Rattle.mmv_format.specs.Fields.{number32, number64, byte_at, text_at, has_zero, first_words}
+use Rattle.mmv_format.proofs.Below.{some_holds}
 use Rattle.mmv_writer.specs.Draft.{IsStored}
 use Rattle.mmv_spelling.specs.Spelling.{halves}
 

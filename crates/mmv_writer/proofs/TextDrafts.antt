@@ -4,15 +4,15 @@ use Rattle.std.specs.List.{list_any}
 use Rattle.std.proofs.lemmas.Bool.{eqb-true, leb-true, eq-eqb}
 use Rattle.pcp_base.specs.declared.kind.Kind.{Kind}
 use Rattle.pcp_base.specs.declared.kind.Kind.TheVariants as kinds
-use Rattle.mmv_layout.specs.declared.rows.IndomRow.{IndomRow}
-use Rattle.mmv_layout.specs.declared.rows.MetricRow.{MetricRow}
-use Rattle.mmv_layout.specs.declared.rows.ValueRow.{ValueRow}
-use Rattle.mmv_layout.specs.declared.rows.Content.{Content}
-use Rattle.mmv_layout.specs.declared.rows.Content.TheVariants as contents
-use Rattle.mmv_layout.specs.declared.rows.Layout.{Layout}
+use Rattle.mmv_format.specs.declared.rows.IndomRow.{IndomRow}
+use Rattle.mmv_format.specs.declared.rows.MetricRow.{MetricRow}
+use Rattle.mmv_format.specs.declared.rows.ValueRow.{ValueRow}
+use Rattle.mmv_format.specs.declared.rows.Content.{Content}
+use Rattle.mmv_format.specs.declared.rows.Content.TheVariants as contents
+use Rattle.mmv_format.specs.declared.rows.Layout.{Layout}
 use Rattle.mmv_layout.specs.Rows.{layout_of}
 use Rattle.mmv_layout.proofs.Saying.{says_layout}
-use Rattle.line_parts.specs.Laws.{IsLineByte, IsTextByte}
+use Rattle.text_lines.specs.Laws.{IsLineByte, IsTextByte}
 use Rattle.layout_text.specs.declared.line.Line.{Line}
 use Rattle.layout_text.specs.declared.line.Line.TheVariants as lines
 use Rattle.layout_text.specs.declared.line.Written.{Written}

@@ -6,15 +6,15 @@ use Rattle.std.proofs.lemmas.Bool.{eq-eqb, eqb-true, eqb-false}
 use Rattle.std.proofs.lemmas.Bool.Decides.{nat_tests, Decides-int_eq}
 use Rattle.pcp_base.specs.Codes.{code_of_kind}
 use Rattle.pcp_base.specs.declared.kind.Kind.{Kind}
-use Rattle.mmv_entries.specs.Fields.{number32, number64}
-use Rattle.mmv_entries.specs.Entries.{value_at, value_count, leads_to_instance, leads_to_string, metric_of, is_no_domain, instance_leads, choice_leads, is_same_value, is_new_value, is_good_value, values_are_good}
-use Rattle.mmv_layout.specs.declared.rows.IndomRow.{IndomRow}
-use Rattle.mmv_layout.specs.declared.rows.MetricRow.{MetricRow}
-use Rattle.mmv_layout.specs.declared.rows.ValueRow.{ValueRow}
-use Rattle.mmv_layout.specs.declared.rows.Content.{Content}
-use Rattle.mmv_layout.specs.declared.rows.Content.TheVariants.{Number, Choice, Raw}
-use Rattle.mmv_layout.specs.declared.rows.Layout.{Layout}
-use Rattle.mmv_entries.proofs.Below.{both_left, both_right}
+use Rattle.mmv_format.specs.Fields.{number32, number64}
+use Rattle.mmv_format.specs.Entries.{value_at, value_count, leads_to_instance, leads_to_string, metric_of, is_no_domain, instance_leads, choice_leads, is_same_value, is_new_value, is_good_value, values_are_good}
+use Rattle.mmv_format.specs.declared.rows.IndomRow.{IndomRow}
+use Rattle.mmv_format.specs.declared.rows.MetricRow.{MetricRow}
+use Rattle.mmv_format.specs.declared.rows.ValueRow.{ValueRow}
+use Rattle.mmv_format.specs.declared.rows.Content.{Content}
+use Rattle.mmv_format.specs.declared.rows.Content.TheVariants.{Number, Choice, Raw}
+use Rattle.mmv_format.specs.declared.rows.Layout.{Layout}
+use Rattle.mmv_format.proofs.Below.{both_left, both_right}
 use Rattle.mmv_writer.specs.Rules.{is_same_metric, has_instance, fits_instance, fits_kind, fits_metric, is_same_number}
 use Rattle.mmv_writer.specs.Rules as rules
 use Rattle.mmv_writer.specs.Draft.{Each, IsDraft}

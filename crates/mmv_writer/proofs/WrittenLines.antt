@@ -8,11 +8,11 @@ use Rattle.pcp_base.specs.Names.{is_letter, is_name_byte, spells}
 use Rattle.pcp_base.specs.Texts.{IsText}
 use Rattle.pcp_base.specs.declared.kind.Kind.{Kind}
 use Rattle.pcp_base.specs.declared.kind.Kind.TheVariants as kinds
-use Rattle.mmv_layout.specs.declared.rows.IndomRow.{IndomRow}
-use Rattle.mmv_layout.specs.declared.rows.Content.{Content}
-use Rattle.mmv_layout.specs.declared.rows.Content.TheVariants as contents
-use Rattle.mmv_entries.proofs.Below.{both_left, both_right}
-use Rattle.line_parts.specs.Laws.{IsTextByte, IsInt32}
+use Rattle.mmv_format.specs.declared.rows.IndomRow.{IndomRow}
+use Rattle.mmv_format.specs.declared.rows.Content.{Content}
+use Rattle.mmv_format.specs.declared.rows.Content.TheVariants as contents
+use Rattle.mmv_format.proofs.Below.{both_left, both_right}
+use Rattle.text_lines.specs.Laws.{IsTextByte, IsInt32}
 use Rattle.layout_text.specs.declared.line.Written.TheVariants as written
 use Rattle.layout_text.specs.Contents.{turned, written_number, written_of}
 use Rattle.layout_text.specs.Laws.{IsNameByte, IsLineName, IsWritten}

@@ -5,16 +5,16 @@ use Rattle.std.specs.Int.{is_negative}
 use Rattle.std.proofs.lemmas.Bool.{eqb-true, eq-eqb, le-leb}
 use Rattle.std.proofs.lemmas.Bool.Decides.{nat_tests}
 use Rattle.pcp_base.specs.declared.kind.Kind.{Kind}
-use Rattle.mmv_layout.specs.declared.rows.IndomRow.{IndomRow}
-use Rattle.mmv_layout.specs.declared.rows.MetricRow.{MetricRow}
-use Rattle.mmv_layout.specs.declared.rows.ValueRow.{ValueRow}
-use Rattle.mmv_layout.specs.declared.rows.Content.{Content}
-use Rattle.mmv_layout.specs.declared.rows.Content.TheVariants as contents
-use Rattle.mmv_layout.specs.declared.rows.Layout.{Layout}
+use Rattle.mmv_format.specs.declared.rows.IndomRow.{IndomRow}
+use Rattle.mmv_format.specs.declared.rows.MetricRow.{MetricRow}
+use Rattle.mmv_format.specs.declared.rows.ValueRow.{ValueRow}
+use Rattle.mmv_format.specs.declared.rows.Content.{Content}
+use Rattle.mmv_format.specs.declared.rows.Content.TheVariants as contents
+use Rattle.mmv_format.specs.declared.rows.Layout.{Layout}
 use Rattle.mmv_layout.specs.Rows.{layout_of}
-use Rattle.mmv_entries.proofs.Below.{both_left, both_right}
+use Rattle.mmv_format.proofs.Below.{both_left, both_right}
 use Rattle.mmv_layout.proofs.Saying.{says_layout}
-use Rattle.line_parts.specs.Laws.{IsLineByte}
+use Rattle.text_lines.specs.Laws.{IsLineByte}
 use Rattle.layout_text.specs.declared.line.Line.{Line}
 use Rattle.layout_text.specs.declared.line.Line.TheVariants as lines
 use Rattle.layout_text.specs.Contents.{written_of}

@@ -1,7 +1,7 @@
 -- What the definitions of this crate say together.
 use Rattle.std.specs.Prelude.{◌≡◌, ◌≤◌, true, length}
-use Rattle.mmv_entries.specs.Images.{is_image}
-use Rattle.mmv_layout.specs.declared.rows.Layout.{Layout}
+use Rattle.mmv_format.specs.Images.{is_image}
+use Rattle.mmv_format.specs.declared.rows.Layout.{Layout}
 use Rattle.mmv_writer.specs.Draft.{IsDraft}
 use Rattle.mmv_spelling.specs.Spelling.{image_words}
 

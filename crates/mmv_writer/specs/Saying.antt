@@ -1,7 +1,7 @@
 -- What the spelling of a draft says.
 use Rattle.std.specs.Prelude.{◌≤◌, length}
 use Rattle.mmv_layout.specs.Says.{Says}
-use Rattle.mmv_layout.specs.declared.rows.Layout.{Layout}
+use Rattle.mmv_format.specs.declared.rows.Layout.{Layout}
 use Rattle.mmv_writer.specs.Draft.{IsDraft}
 use Rattle.mmv_spelling.specs.Spelling.{all_strings, image_words}
 

@@ -1,9 +1,9 @@
 -- What texts, drafts and images say of each other.
 use Rattle.std.specs.Prelude.{◌≡◌, ℕ, ◌<◌, ◌≤◌, List, length, All, Some, Ok}
-use Rattle.mmv_layout.specs.declared.rows.ValueRow.{ValueRow}
-use Rattle.mmv_layout.specs.declared.rows.Content.{Content}
-use Rattle.mmv_layout.specs.declared.rows.Content.TheVariants.{Number, Choice, Raw}
-use Rattle.mmv_layout.specs.declared.rows.Layout.{Layout}
+use Rattle.mmv_format.specs.declared.rows.ValueRow.{ValueRow}
+use Rattle.mmv_format.specs.declared.rows.Content.{Content}
+use Rattle.mmv_format.specs.declared.rows.Content.TheVariants.{Number, Choice, Raw}
+use Rattle.mmv_format.specs.declared.rows.Layout.{Layout}
 use Rattle.mmv_layout.specs.Rows.{layout_of}
 use Rattle.layout_text.specs.Contents.{content_of, written_of}
 use Rattle.layout_text.specs.Whole.{kind_of_item, layout_text}

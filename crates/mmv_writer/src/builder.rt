@@ -28,7 +28,7 @@ pub struct Builder {
 }
 
 impl Model for Builder {
-    ghost use Rattle.mmv_layout.specs.declared.rows.Layout.{Layout};
+    ghost use Rattle.mmv_format.specs.declared.rows.Layout.{Layout};
     ghost use Rattle.mmv_writer.specs.Draft.{IsDraft};
     ghost use Rattle.mmv_writer.specs.Keys.{HasKeys};
 

@@ -5,7 +5,7 @@ use Rattle.pcp_base.specs.declared.file.FileId.{FileId}
 use Rattle.pcp_base.specs.declared.result.Item.{Item}
 use Rattle.pcp_base.specs.declared.result.Item.TheVariants.{Sample}
 use Rattle.pcp_model.specs.Disk.{Files, Holdings, contents_of, CrashImage, IsEmpty, IsSettled}
-use Rattle.mmv_entries.specs.Faults.{image_of}
+use Rattle.mmv_format.specs.Faults.{image_of}
 use Rattle.mmv_layout.specs.FirstForm.{is_first_form}
 use Rattle.pcp_outside.specs.Causes.{Rose}
 use Rattle.pm_commands.specs.declared.words.Command.{Command}

@@ -1,7 +1,7 @@
 -- What each command makes of its input, the whole of it: an output, or the refusal of an input that it doesn't read.
 use Rattle.std.specs.Prelude.{◌≡◌, ℕ, Bool, true, false, if◌then◌else◌, List, [], Option, Some, None, Result, Ok, Err, codes}
-use Rattle.mmv_entries.specs.declared.fault.ImageFault.{ImageFault}
-use Rattle.mmv_entries.specs.Faults.{image_of}
+use Rattle.mmv_format.specs.declared.fault.ImageFault.{ImageFault}
+use Rattle.mmv_format.specs.Faults.{image_of}
 use Rattle.mmv_layout.specs.FirstForm.{is_first_form}
 use Rattle.mmv_writer.specs.declared.line_fault.TextFault.{TextFault}
 use Rattle.mmv_writer.specs.Reading.{text_image}

@@ -3,8 +3,8 @@ use Rattle.std.specs.Prelude.{ℕ, List}
 use Rattle.pcp_base.specs.Codes.{code_of_kind, code_of_semantics}
 use Rattle.pcp_base.specs.Ids.{null_indom}
 use Rattle.pcp_base.specs.declared.desc.Desc.{Desc}
-use Rattle.mmv_layout.specs.declared.rows.MetricRow.{MetricRow}
-use Rattle.mmv_entries.specs.Contents.{cluster_in}
+use Rattle.mmv_format.specs.declared.rows.MetricRow.{MetricRow}
+use Rattle.mmv_format.specs.Contents.{cluster_in}
 use Rattle.mmv_layout.specs.FirstForm.{only_item, only_name, only_kind, only_semantics, only_units, only_value}
 use Rattle.pm_commands.specs.Once.{Shot}
 

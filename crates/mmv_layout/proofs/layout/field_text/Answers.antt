@@ -1,6 +1,6 @@
 -- The bytes of a text are no zeros.
 use Rattle.std.proofs.Common.{◌∙◌}
-use Rattle.mmv_entries.proofs.Texts.{text_whole}
+use Rattle.mmv_format.proofs.Texts.{text_whole}
 use Rattle.mmv_layout.proofs.layout.field_text.Goals as goal
 
 pub unreachable-requires : goal.unreachable-requires

@@ -1,6 +1,6 @@
 -- The rows so far.
 use Rattle.std.proofs.Common.{◌≡◌, ◌+◌, ◌*◌}
-use Rattle.mmv_entries.specs.Fields.{number64}
+use Rattle.mmv_format.specs.Fields.{number64}
 use Rattle.mmv_layout.specs.Rows.{list_below, instance_row}
 use Rattle.mmv_layout.proofs.layout.instances_of.Given as goal
 

@@ -1,7 +1,7 @@
 -- The entries of the rows that the loop has passed are written.
 use Rattle.std.proofs.Common.{◌≡◌, ◌++◌, take}
 use Rattle.std.specs.List.{flat_map}
-use Rattle.mmv_entries.specs.Fields.{first_words}
+use Rattle.mmv_format.specs.Fields.{first_words}
 use Rattle.mmv_spelling.proofs.words.push_strings.Given as goal
 
 abbrev pub invariant-loop-text : goal.invariant-loop-text

@@ -1,8 +1,8 @@
 -- One word after the other.
 use Rattle.std.proofs.Common.{◌≡◌, ℕ, List, ◌+◌, ◌-◌, ◌*◌, ◌++◌, drop, ap, sym, ◌∙◌, arith}
 use Rattle.std.proofs.lemmas.List.{drop-drop}
-use Rattle.mmv_entries.specs.Fields.{first_words}
-use Rattle.mmv_entries.proofs.Texts.{words_end, words_grow}
+use Rattle.mmv_format.specs.Fields.{first_words}
+use Rattle.mmv_format.proofs.Texts.{words_end, words_grow}
 use Rattle.mmv_spelling.proofs.words.push_text.Goals as goal
 
 drop_more : (i : ℕ) (bytes : List ℕ) → drop (8 * (i + 1)) bytes ≡ drop 8 (drop (8 * i) bytes)

@@ -1,6 +1,6 @@
 -- The words so far and those of the bytes behind are all.
 use Rattle.std.proofs.Common.{◌≡◌, ◌*◌, ◌-◌, ◌++◌, drop}
-use Rattle.mmv_entries.specs.Fields.{first_words}
+use Rattle.mmv_format.specs.Fields.{first_words}
 use Rattle.mmv_spelling.proofs.words.push_text.Given as goal
 
 abbrev pub invariant-loop-k : goal.invariant-loop-k

@@ -1,5 +1,0 @@
--- One digit fewer is left to write.
-use Rattle.line_parts.proofs.writing.+put_hex.Given as goal
-
-abbrev pub decreases-put_hex : goal.decreases-put_hex
-decreases-put_hex l = l.count

@@ -1,7 +1,0 @@
--- What is written and the escapes of what is left are the whole.
-use Rattle.std.proofs.Common.{◌≡◌, ◌++◌, drop}
-use Rattle.line_parts.specs.Spelling.{escapes}
-use Rattle.line_parts.proofs.writing.put_escapes.Given as goal
-
-abbrev pub invariant-loop-byte : goal.invariant-loop-byte
-invariant-loop-byte l = l.initial.out.items ++ escapes l.text ≡ l.out.items ++ escapes (drop l.byte-index l.text)

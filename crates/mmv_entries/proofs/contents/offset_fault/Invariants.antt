@@ -1,9 +1,0 @@
--- Nothing was found so far.
-use Rattle.std.proofs.Common.{◌≡◌, ◌+◌, ◌*◌}
-use Rattle.std.specs.Prelude.{None}
-use Rattle.mmv_entries.specs.Contents.{is_aligned}
-use Rattle.mmv_entries.specs.Faults.{unless, first_below}
-use Rattle.mmv_entries.proofs.contents.offset_fault.Given as goal
-
-abbrev pub invariant-loop-i : goal.invariant-loop-i
-invariant-loop-i l = first_below l.i (λ i. unless (is_aligned l.words i) (48 + 16 * i)) ≡ None

@@ -1,0 +1,105 @@
+-- The header and the contents of an image (mmv(5)): which sections it has and where they lie.
+-- The header has the magic number at 0, the version at 4, the generations at 8 and 16, the number of contents
+-- entries at 24, the flags at 28, the process at 32 and the cluster at 36. A contents entry has its section's type
+-- at 0, the section's number of entries at 4 and its place at 8.
+use Rattle.std.specs.Prelude.{ℕ, zero, suc, ◌+◌, ◌*◌, ◌%◌, Bool, not, ◌&&◌, ◌||◌, ◌==◌, nat_le, if◌then◌else◌, List, length}
+use Rattle.mmv_format.specs.declared.contents.Section.{Section}
+use Rattle.mmv_format.specs.Below.{all_below}
+use Rattle.mmv_format.specs.Fields.{number32, number64}
+
+abbrev pub bytes_in : List ℕ → ℕ
+bytes_in words = 8 * length words
+
+-- `MMV` and a zero byte
+abbrev pub has_magic : List ℕ → Bool
+has_magic words = number32 words 0 == 5655885
+
+abbrev pub version_in : List ℕ → ℕ
+version_in words = number32 words 4
+
+abbrev pub first_generation : List ℕ → ℕ
+first_generation words = number64 words 8
+
+abbrev pub second_generation : List ℕ → ℕ
+second_generation words = number64 words 16
+
+abbrev pub contents_in : List ℕ → ℕ
+contents_in words = number32 words 24
+
+abbrev pub flags_in : List ℕ → ℕ
+flags_in words = number32 words 28
+
+abbrev pub cluster_in : List ℕ → ℕ
+cluster_in words = number32 words 36
+
+-- fewer than 40 bytes, or no whole number of words
+abbrev pub is_short : ℕ → Bool
+is_short bytes = not (nat_le 40 bytes && bytes % 8 == 0)
+
+abbrev pub type_in : List ℕ → ℕ → ℕ
+type_in words i = number32 words (40 + 16 * i)
+
+abbrev pub count_in : List ℕ → ℕ → ℕ
+count_in words i = number32 words (44 + 16 * i)
+
+abbrev pub place_in : List ℕ → ℕ → ℕ
+place_in words i = number64 words (48 + 16 * i)
+
+-- how many bytes so many entries of a type take: 1 instance domains, 2 instances, 3 metrics, 4 values, 5 strings
+unfoldable pub section_bytes : ℕ → ℕ → ℕ
+section_bytes type count =
+    if type == 1 then 32 * count else
+    if type == 2 then 80 * count else
+    if type == 3 then 104 * count else
+    if type == 4 then 32 * count else
+    if type == 5 then 256 * count else 0
+
+-- the place behind the section of contents entry i
+unfoldable pub end_in : List ℕ → ℕ → ℕ
+end_in words i = place_in words i + section_bytes (type_in words i) (count_in words i)
+
+-- contents entry i lies in the words
+abbrev pub entry_lies : List ℕ → ℕ → Bool
+entry_lies words i = nat_le (56 + 16 * i) (bytes_in words)
+
+abbrev pub is_type : ℕ → Bool
+is_type type = nat_le 1 type && nat_le type 5
+
+-- entry i has no section, or one that lies in the words behind the contents
+unfoldable pub section_lies : List ℕ → ℕ → Bool
+section_lies words i =
+    count_in words i == 0 || (nat_le (40 + 16 * contents_in words) (place_in words i) && nat_le (end_in words i) (bytes_in words))
+
+-- entries j and i have different types, and their sections no byte in common
+unfoldable pub are_apart : List ℕ → ℕ → ℕ → Bool
+are_apart words j i =
+    not (type_in words j == type_in words i)
+    && (count_in words j == 0 || count_in words i == 0 || nat_le (end_in words j) (place_in words i) || nat_le (end_in words i) (place_in words j))
+
+-- entry i's type stood in no earlier entry, and its section overlaps no earlier one
+unfoldable pub is_first_of_type : List ℕ → ℕ → Bool
+is_first_of_type words i = all_below i (λ j. are_apart words j i)
+
+-- contents entry i is good. Where it isn't is the fault Section, of its type, or of 0 where it doesn't lie in the words
+unfoldable pub has_good_section : List ℕ → ℕ → Bool
+has_good_section words i = entry_lies words i && is_type (type_in words i) && section_lies words i && is_first_of_type words i
+
+-- entry i has no section, or one at a multiple of 8. Where it isn't is the fault Offset
+unfoldable pub is_aligned : List ℕ → ℕ → Bool
+is_aligned words i = count_in words i == 0 || place_in words i % 8 == 0
+
+unfoldable pub sections_are_good : List ℕ → Bool
+sections_are_good words = all_below (contents_in words) (has_good_section words)
+
+unfoldable pub sections_are_aligned : List ℕ → Bool
+sections_are_aligned words = all_below (contents_in words) (is_aligned words)
+
+-- the section of a type among the first n contents entries
+unfoldable pub find_section : List ℕ → ℕ → ℕ → Section
+find_section words type zero = record { place = 0; count = 0 }
+find_section words type (suc n) =
+    if type_in words n == type then record { place = place_in words n; count = count_in words n } else find_section words type n
+
+-- the section of a type, without entries where the contents have none
+unfoldable pub section_of : List ℕ → ℕ → Section
+section_of words type = find_section words type (contents_in words)

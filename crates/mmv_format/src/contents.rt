@@ -1,0 +1,205 @@
+ghost use Rattle.std.specs.Prelude.{◌≡◌};
+ghost use Rattle.mmv_format.specs.Contents.{bytes_in, contents_in, type_in, count_in, place_in, section_bytes, end_in, section_lies, are_apart, is_first_of_type, entry_lies, has_good_section, is_aligned, section_of};
+ghost use Rattle.mmv_format.specs.Faults.{bad_type, section_fault, offset_fault};
+
+use crate::fields::{number32, number64};
+
+/// The type of the section of instance domains, and how many bytes an entry takes; so of the other sections.
+pub const INDOMS: u32 = 1;
+
+pub const INDOM_SIZE: u64 = 32;
+
+pub const INSTANCES: u32 = 2;
+
+pub const INSTANCE_SIZE: u64 = 80;
+
+pub const METRICS: u32 = 3;
+
+pub const METRIC_SIZE: u64 = 104;
+
+pub const VALUES: u32 = 4;
+
+pub const VALUE_SIZE: u64 = 32;
+
+pub const STRINGS: u32 = 5;
+
+pub const STRING_SIZE: u64 = 256;
+
+/// Where a section's entries begin, and how many there are.
+#[derive(Clone, Copy, Debug, PartialEq, Eq)]
+pub struct Section {
+    pub place: u64,
+    pub count: u32,
+}
+
+/// The number of bytes of the image.
+pub fn bytes_in(words: &[u64]) -> u128
+    ensures { result ≡ bytes_in words.now }
+{
+    8 * words.len() as u128
+}
+
+/// The number of contents entries.
+pub fn contents_in(words: &[u64]) -> u32
+    ensures { result ≡ contents_in words.now }
+{
+    number32(words, 24)
+}
+
+fn type_in(words: &[u64], i: u32) -> u32
+    ensures { result ≡ type_in words.now i }
+{
+    number32(words, 40 + 16 * i as u128)
+}
+
+fn count_in(words: &[u64], i: u32) -> u32
+    ensures { result ≡ count_in words.now i }
+{
+    number32(words, 44 + 16 * i as u128)
+}
+
+fn place_in(words: &[u64], i: u32) -> u64
+    ensures { result ≡ place_in words.now i }
+{
+    number64(words, 48 + 16 * i as u128)
+}
+
+/// How many bytes `count` entries of a type take.
+#[tactic(auto, unfolding(crate::specs::Contents::section_bytes))]
+fn section_bytes(kind: u32, count: u32) -> u64
+    ensures { result ≡ section_bytes kind count }
+{
+    let count = count as u64;
+    match kind {
+        INDOMS => INDOM_SIZE * count,
+        INSTANCES => INSTANCE_SIZE * count,
+        METRICS => METRIC_SIZE * count,
+        VALUES => VALUE_SIZE * count,
+        STRINGS => STRING_SIZE * count,
+        _ => 0,
+    }
+}
+
+/// The place behind the section of a contents entry.
+#[tactic(auto, unfolding(crate::specs::Contents::end_in))]
+fn end_in(words: &[u64], i: u32) -> u128
+    ensures { result ≡ end_in words.now i }
+{
+    place_in(words, i) as u128 + section_bytes(type_in(words, i), count_in(words, i)) as u128
+}
+
+/// Whether an entry's section, if it has one, lies in the words behind the contents.
+#[tactic(auto, unfolding(crate::specs::Contents::section_lies))]
+fn section_lies(words: &[u64], i: u32) -> bool
+    ensures { result ≡ section_lies words.now i }
+{
+    count_in(words, i) == 0
+        || 40 + 16 * contents_in(words) as u128 <= place_in(words, i) as u128
+            && end_in(words, i) <= bytes_in(words)
+}
+
+/// Whether two entries have different types, and their sections no byte in common.
+#[tactic(auto, unfolding(crate::specs::Contents::are_apart))]
+fn are_apart(words: &[u64], j: u32, i: u32) -> bool
+    ensures { result ≡ are_apart words.now j i }
+{
+    type_in(words, j) != type_in(words, i)
+        && (count_in(words, j) == 0
+            || count_in(words, i) == 0
+            || end_in(words, j) <= place_in(words, i) as u128
+            || end_in(words, i) <= place_in(words, j) as u128)
+}
+
+/// Whether no earlier entry has the type of this one, or a section that overlaps its.
+#[tactic(auto, using(crate::proofs::Below::all_none, crate::proofs::Below::all_more), unfolding(crate::specs::Contents::is_first_of_type))]
+fn is_first_of_type(words: &[u64], i: u32) -> bool
+    ensures { result ≡ is_first_of_type words.now i }
+{
+    for j in 0..i {
+        if !are_apart(words, j, i) {
+            return false;
+        }
+    }
+    true
+}
+
+/// Whether a contents entry lies in the words.
+fn entry_lies(words: &[u64], i: u32) -> bool
+    ensures { result ≡ entry_lies words.now i }
+{
+    56 + 16 * i as u128 <= bytes_in(words)
+}
+
+/// Whether a contents entry and its section are good.
+#[tactic(auto, unfolding(crate::specs::Contents::has_good_section))]
+fn has_good_section(words: &[u64], i: u32) -> bool
+    ensures { result ≡ has_good_section words.now i }
+{
+    entry_lies(words, i)
+        && (INDOMS <= type_in(words, i) && type_in(words, i) <= STRINGS)
+        && section_lies(words, i)
+        && is_first_of_type(words, i)
+}
+
+/// Whether an entry's section, if it has one, begins at a multiple of 8.
+#[tactic(auto, unfolding(crate::specs::Contents::is_aligned))]
+fn is_aligned(words: &[u64], i: u32) -> bool
+    ensures { result ≡ is_aligned words.now i }
+{
+    count_in(words, i) == 0 || place_in(words, i) % 8 == 0
+}
+
+/// The type of a contents entry, and 0 where it doesn't lie in the words.
+#[tactic(auto, unfolding(crate::specs::Faults::bad_type))]
+fn bad_type(words: &[u64], i: u32) -> u32
+    ensures { result ≡ bad_type words.now i }
+{
+    if entry_lies(words, i) {
+        type_in(words, i)
+    } else {
+        0
+    }
+}
+
+/// The type of the first contents entry that isn't good.
+#[tactic(auto, using(crate::proofs::Below::first_none, crate::proofs::Below::first_goes), unfolding(crate::specs::Faults::section_fault, crate::specs::Faults::unless))]
+pub fn section_fault(words: &[u64]) -> Option<u32>
+    ensures { result ≡ section_fault words.now }
+{
+    for i in 0..contents_in(words) {
+        if !has_good_section(words, i) {
+            return Some(bad_type(words, i));
+        }
+    }
+    None
+}
+
+/// The place of the first section place that is no multiple of 8.
+#[tactic(auto, using(crate::proofs::Below::first_none, crate::proofs::Below::first_goes), unfolding(crate::specs::Faults::offset_fault, crate::specs::Faults::unless))]
+pub fn offset_fault(words: &[u64]) -> Option<u64>
+    ensures { result ≡ offset_fault words.now }
+{
+    for i in 0..contents_in(words) {
+        if !is_aligned(words, i) {
+            return Some(48 + 16 * i as u64);
+        }
+    }
+    None
+}
+
+/// The section of a type, without entries where the contents have none.
+#[tactic(auto, using(crate::proofs::Sections::find_none, crate::proofs::Sections::find_more), unfolding(crate::specs::Contents::section_of))]
+pub fn section_of(words: &[u64], kind: u32) -> Section
+    ensures { result ≡ section_of words.now kind }
+{
+    let mut found = Section { place: 0, count: 0 };
+    for i in 0..contents_in(words) {
+        if type_in(words, i) == kind {
+            found = Section {
+                place: place_in(words, i),
+                count: count_in(words, i),
+            };
+        }
+    }
+    found
+}

@@ -1,0 +1,89 @@
+ghost use Rattle.std.specs.Prelude.{◌≡◌, ◌+◌, ◌<◌, ◌≤◌, ◌^◌, IfOk, length, take, drop};
+ghost use Rattle.std.specs.Int.{w64, from_le_bytes};
+ghost use Rattle.mmv_format.specs.Fields.{number32, number64, byte_at, text_at, has_zero, words_of};
+
+use std::alloc::{AllocError, Global};
+
+/// How many bytes a name field has.
+pub const NAME_SIZE: u32 = 64;
+
+/// The number of eight bytes at a place that is a multiple of 8, and 0 past the words. Places have 128 bits, so that
+/// no sum of numbers from an image wraps.
+#[tactic(auto, unfolding(crate::specs::Fields::number64))]
+pub fn number64(words: &[u64], at: u128) -> u64
+    ensures { result ≡ number64 words.now at }
+{
+    let index = at / 8;
+    if index < words.len() as u128 {
+        words[index as usize]
+    } else {
+        0
+    }
+}
+
+/// The number of four bytes at a place that is a multiple of 4.
+#[tactic(auto, unfolding(crate::specs::Fields::number32))]
+pub fn number32(words: &[u64], at: u128) -> u32
+    ensures { result ≡ number32 words.now at }
+{
+    ((number64(words, at) >> (8 * (at % 8) as u32)) % 4294967296) as u32
+}
+
+/// The byte at a place.
+#[tactic(auto, unfolding(crate::specs::Fields::byte_at))]
+pub fn byte_at(words: &[u64], at: u128) -> u8
+    ensures { result ≡ byte_at words.now at }
+{
+    ((number64(words, at) >> (8 * (at % 8) as u32)) % 256) as u8
+}
+
+/// Whether one of the `n` bytes at a place is zero.
+#[tactic(auto, using(crate::proofs::Below::some_none, crate::proofs::Below::some_more), unfolding(crate::specs::Fields::has_zero))]
+pub fn has_zero(words: &[u64], at: u128, n: u32) -> bool
+    requires { at < 2 ^ 100 }
+    ensures { result ≡ has_zero words.now at n }
+{
+    for k in 0..n {
+        if byte_at(words, at + k as u128) == 0 {
+            return true;
+        }
+    }
+    false
+}
+
+/// The bytes at a place before the first zero byte, `n` at most.
+pub fn text_at(alloc: Global, words: &[u64], at: u128, n: u32) -> Result<Vec<u8>, AllocError>
+    requires { at < 2 ^ 100 }
+    ensures { IfOk result (λ text. text.items ≡ text_at words.now at n) }
+{
+    let mut text = Vec::with_capacity(alloc, n as usize)?;
+    for k in 0..n {
+        let byte = byte_at(words, at + k as u128);
+        if byte == 0 {
+            return Ok(text);
+        }
+        text.push(byte)?;
+    }
+    Ok(text)
+}
+
+/// The word that eight bytes make, the low byte first.
+fn word_of(bytes: &[u8], at: usize) -> u64
+    requires { at + 8 ≤ length bytes.now }
+    ensures { result ≡ from_le_bytes w64 (take 8 (drop at bytes.now)) }
+{
+    let b = &bytes[at..at + 8];
+    u64::from_le_bytes([b[0], b[1], b[2], b[3], b[4], b[5], b[6], b[7]])
+}
+
+/// The words that whole groups of eight bytes make.
+pub fn words_of(alloc: Global, bytes: &[u8]) -> Result<Vec<u64>, AllocError>
+    ensures { IfOk result (λ words. words.items ≡ words_of bytes.now) }
+{
+    let count = bytes.len() / 8;
+    let mut words = Vec::with_capacity(alloc, count)?;
+    for i in 0..count {
+        words.push(word_of(bytes, 8 * i))?;
+    }
+    Ok(words)
+}

@@ -1,0 +1,163 @@
+ghost use Rattle.std.specs.Prelude.{◌≡◌, ◌<◌, ◌^◌, IfOk};
+ghost use Rattle.mmv_format.specs.Entries.{has_name, is_no_domain, serial_leads, metric_count};
+ghost use Rattle.mmv_format.specs.Keys.{HasSerials};
+ghost use Rattle.mmv_format.specs.Faults.{HasSections, metric_name_fault, code_fault, kind_fault, metric_reference_fault, metrics_reference_fault, metrics_duplicate_fault, metrics_serial_fault};
+
+use crate::contents::{METRICS, section_of};
+use crate::fields::{NAME_SIZE, has_zero, number32, text_at};
+use crate::indoms::{help_fault, indom_serials};
+use crate::keys::{Key, first_again};
+use crate::places::metric_place;
+use pcp_base::{Kind, Semantics, is_name};
+use std::alloc::{AllocError, Global};
+use std::collections::BTreeSet;
+
+/// Whether the name field at a place holds a name.
+#[tactic(auto, unfolding(crate::specs::Entries::has_name))]
+fn has_name(alloc: Global, words: &[u64], field: u128) -> Result<bool, AllocError>
+    requires { field < 2 ^ 80 }
+    ensures { IfOk result (λ named. named ≡ has_name words.now field) }
+{
+    if !has_zero(words, field, NAME_SIZE) {
+        return Ok(false);
+    }
+    let name = text_at(alloc, words, field, NAME_SIZE)?;
+    Ok(is_name(name.as_slice()))
+}
+
+/// Whether a metric's serial says that it has no domain.
+pub fn is_no_domain(serial: u32) -> bool
+    ensures { result ≡ is_no_domain serial }
+{
+    serial == 0 || serial == u32::MAX
+}
+
+/// Whether a metric's serial is none or that of a domain.
+#[tactic(auto, unfolding(crate::specs::Entries::serial_leads))]
+fn serial_leads(words: &[u64], serials: &BTreeSet<u32>, serial: u32) -> bool
+    requires { HasSerials words.now serials.now }
+    ensures { result ≡ serial_leads words.now serial }
+{
+    is_no_domain(serial) || serials.contains(&serial)
+}
+
+/// How many metrics there are.
+pub fn metric_count(words: &[u64]) -> u32
+    ensures { result ≡ metric_count words.now }
+{
+    section_of(words, METRICS).count
+}
+
+/// The place of the first name of a metric that is none.
+#[tactic(auto, using(crate::proofs::Below::first_none, crate::proofs::Below::first_goes), unfolding(crate::specs::Faults::metric_name_fault, crate::specs::Faults::unless))]
+pub fn metric_name_fault(alloc: Global, words: &[u64]) -> Result<Option<u64>, AllocError>
+    requires { HasSections words.now }
+    ensures { IfOk result (λ at. at ≡ metric_name_fault words.now) }
+{
+    for i in 0..metric_count(words) {
+        let name = metric_place(words, i);
+        let named = has_name(alloc, words, name as u128)?;
+        if !named {
+            return Ok(Some(name));
+        }
+    }
+    Ok(None)
+}
+
+/// The place of the first code of the metric at a place that has no meaning: its type, its semantics.
+#[tactic(auto, unfolding(crate::specs::Faults::code_fault, crate::specs::Faults::unless, crate::specs::Faults::or_else))]
+fn code_fault(words: &[u64], metric: u64) -> Option<u64>
+    requires { metric < 524288 }
+    ensures { result ≡ code_fault words.now metric }
+{
+    if Kind::of_code(number32(words, metric as u128 + 68)).is_none() {
+        return Some(metric + 68);
+    }
+    if Semantics::of_code(number32(words, metric as u128 + 72)).is_none() {
+        return Some(metric + 72);
+    }
+    None
+}
+
+/// The place of the first code of a metric that has no meaning.
+#[tactic(auto, using(crate::proofs::Below::first_none, crate::proofs::Below::first_goes), unfolding(crate::specs::Faults::kind_fault, crate::specs::Faults::unless))]
+pub fn kind_fault(words: &[u64]) -> Option<u64>
+    requires { HasSections words.now }
+    ensures { result ≡ kind_fault words.now }
+{
+    for i in 0..metric_count(words) {
+        if let Some(at) = code_fault(words, metric_place(words, i)) {
+            return Some(at);
+        }
+    }
+    None
+}
+
+/// The place of the first reference of the metric at a place that leads nowhere: its serial, its helps.
+#[tactic(auto, unfolding(crate::specs::Faults::metric_reference_fault, crate::specs::Faults::unless, crate::specs::Faults::or_else))]
+fn metric_reference_fault(words: &[u64], serials: &BTreeSet<u32>, metric: u64) -> Option<u64>
+    requires serials { HasSerials words.now serials.now }
+    requires bound { metric < 524288 }
+    ensures { result ≡ metric_reference_fault words.now metric }
+{
+    if !serial_leads(words, serials, number32(words, metric as u128 + 80)) {
+        return Some(metric + 80);
+    }
+    if let Some(at) = help_fault(words, metric + 88) {
+        return Some(at);
+    }
+    help_fault(words, metric + 96)
+}
+
+/// The place of the first reference of a metric that leads nowhere, as the domains have these serials.
+#[tactic(auto, using(crate::proofs::Below::first_none, crate::proofs::Below::first_goes), unfolding(crate::specs::Faults::metrics_reference_fault, crate::specs::Faults::unless))]
+fn references_fault(words: &[u64], serials: &BTreeSet<u32>) -> Option<u64>
+    requires serials { HasSerials words.now serials.now }
+    requires sections { HasSections words.now }
+    ensures { result ≡ metrics_reference_fault words.now }
+{
+    for i in 0..metric_count(words) {
+        if let Some(at) = metric_reference_fault(words, serials, metric_place(words, i)) {
+            return Some(at);
+        }
+    }
+    None
+}
+
+/// The place of the first reference of a metric that leads nowhere.
+pub fn metrics_reference_fault(alloc: Global, words: &[u64]) -> Result<Option<u64>, AllocError>
+    requires { HasSections words.now }
+    ensures { IfOk result (λ at. at ≡ metrics_reference_fault words.now) }
+{
+    let serials = indom_serials(alloc, words)?;
+    Ok(references_fault(words, &serials))
+}
+
+/// The place of the first metric whose item or name stood before.
+pub fn metrics_duplicate_fault(alloc: Global, words: &[u64]) -> Result<Option<u64>, AllocError>
+    requires { HasSections words.now }
+    ensures { IfOk result (λ at. at ≡ metrics_duplicate_fault words.now) }
+{
+    let count = metric_count(words);
+    let before = first_again(alloc, words, Key::Item, count)?;
+    let first = first_again(alloc, words, Key::MetricName, before)?;
+    if first == count {
+        return Ok(None);
+    }
+    Ok(Some(metric_place(words, first)))
+}
+
+/// The place of the first item above 1023.
+#[tactic(auto, using(crate::proofs::Below::first_none, crate::proofs::Below::first_goes), unfolding(crate::specs::Faults::metrics_serial_fault, crate::specs::Faults::unless))]
+pub fn metrics_serial_fault(words: &[u64]) -> Option<u64>
+    requires { HasSections words.now }
+    ensures { result ≡ metrics_serial_fault words.now }
+{
+    for i in 0..metric_count(words) {
+        let item = metric_place(words, i) + 64;
+        if 1023 < number32(words, item as u128) {
+            return Some(item);
+        }
+    }
+    None
+}

@@ -1,0 +1,98 @@
+ghost use Rattle.std.specs.Prelude.{◌≡◌, ◌<◌, ◌^◌, IfOk};
+ghost use Rattle.mmv_format.specs.Entries.{metric_of, instance_leads, choice_leads, value_count};
+ghost use Rattle.mmv_format.specs.Faults.{HasSections, value_reference_fault, values_reference_fault, values_duplicate_fault};
+
+use crate::contents::{VALUES, section_of};
+use crate::entries::{leads_to_instance, leads_to_metric, leads_to_string};
+use crate::fields::{number32, number64};
+use crate::keys::{Key, first_again};
+use crate::metrics::is_no_domain;
+use crate::places::value_place;
+use std::alloc::{AllocError, Global};
+
+/// The place of the metric of the value at a place.
+#[tactic(auto, unfolding(crate::specs::Entries::metric_of))]
+pub fn metric_of(words: &[u64], value: u128) -> u64
+    requires { value < 2 ^ 80 }
+    ensures { result ≡ metric_of words.now value }
+{
+    number64(words, value + 16)
+}
+
+/// Whether the value at a place has the instance 0, or an instance of its metric's domain where that has one.
+#[tactic(auto, unfolding(crate::specs::Entries::instance_leads))]
+fn instance_leads(words: &[u64], value: u128) -> bool
+    requires { value < 2 ^ 80 }
+    ensures { result ≡ instance_leads words.now value }
+{
+    let serial = number32(words, metric_of(words, value) as u128 + 80);
+    let instance = number64(words, value + 24);
+    if is_no_domain(serial) {
+        return instance == 0;
+    }
+    let instance = instance as u128;
+    leads_to_instance(words, instance)
+        && number32(words, number64(words, instance) as u128) == serial
+}
+
+/// Whether the value at a place leads to a string, where its metric's kind is text.
+#[tactic(auto, unfolding(crate::specs::Entries::choice_leads))]
+fn choice_leads(words: &[u64], value: u128) -> bool
+    requires { value < 2 ^ 80 }
+    ensures { result ≡ choice_leads words.now value }
+{
+    number32(words, metric_of(words, value) as u128 + 68) != 6
+        || leads_to_string(words, number64(words, value + 8) as u128)
+}
+
+/// How many values there are.
+pub fn value_count(words: &[u64]) -> u32
+    ensures { result ≡ value_count words.now }
+{
+    section_of(words, VALUES).count
+}
+
+/// The place of the first reference of the value at a place that leads nowhere: its string, its metric, its instance.
+#[tactic(auto, unfolding(crate::specs::Faults::value_reference_fault, crate::specs::Faults::unless, crate::specs::Faults::or_else))]
+fn value_reference_fault(words: &[u64], value: u64) -> Option<u64>
+    requires { value < 524288 }
+    ensures { result ≡ value_reference_fault words.now value }
+{
+    if !leads_to_metric(words, metric_of(words, value as u128) as u128) {
+        return Some(value + 16);
+    }
+    if !choice_leads(words, value as u128) {
+        return Some(value + 8);
+    }
+    if !instance_leads(words, value as u128) {
+        return Some(value + 24);
+    }
+    None
+}
+
+/// The place of the first reference of a value that leads nowhere.
+#[tactic(auto, using(crate::proofs::Below::first_none, crate::proofs::Below::first_goes), unfolding(crate::specs::Faults::values_reference_fault, crate::specs::Faults::unless))]
+pub fn values_reference_fault(words: &[u64]) -> Option<u64>
+    requires { HasSections words.now }
+    ensures { result ≡ values_reference_fault words.now }
+{
+    for i in 0..value_count(words) {
+        if let Some(at) = value_reference_fault(words, value_place(words, i)) {
+            return Some(at);
+        }
+    }
+    None
+}
+
+/// The place of the first value whose metric and instance stood before.
+pub fn values_duplicate_fault(alloc: Global, words: &[u64]) -> Result<Option<u64>, AllocError>
+    requires { HasSections words.now }
+    ensures { IfOk result (λ at. at ≡ values_duplicate_fault words.now) }
+{
+    let count = value_count(words);
+    let first = first_again(alloc, words, Key::Place, count)?;
+    if first == count {
+        return Ok(None);
+    }
+    Ok(Some(value_place(words, first)))
+}

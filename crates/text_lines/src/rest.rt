@@ -1,0 +1,286 @@
+//! What is left of a line, from which its parts are taken.
+ghost use Rattle.std.specs.Prelude.{◌≡◌, ◌≤◌, length, drop, MatchResult, Some, IfOk};
+ghost use Rattle.text_lines.specs.Numbers.{number32, number64, int32, hex_number};
+ghost use Rattle.pcp_base.specs.Texts.{IsText};
+ghost use Rattle.text_lines.specs.Words.{Taken, Read, text_within, quoted, take_text, starts_missing, take_help, IsStopped, take_space, word_length, first_word, behind_word, take_word, take_as, optional, ended};
+
+use crate::numbers;
+use crate::quoted::{starts_quoted, text_byte};
+use pcp_base::{Bytes, NoMemory, Text, TextError};
+use std::alloc::{AllocError, Global};
+use std::marker::Model;
+
+/// Why nothing was taken: the bytes are no line, or memory was refused.
+#[derive(Clone, Copy, Debug, PartialEq, Eq)]
+pub enum Stop {
+    NoLine,
+    NoMemory,
+}
+
+impl From<NoMemory> for Stop {
+    ghost use Rattle.text_lines.specs.declared.rest.Stop.TheVariants.{NoMemory as Refused};
+
+    ghost from_gives = { λ _ e. e ≡ Refused };
+
+    fn from(_error: NoMemory) -> Stop {
+        Stop::NoMemory
+    }
+}
+
+impl From<AllocError> for Stop {
+    ghost use Rattle.text_lines.specs.declared.rest.Stop.TheVariants.{NoMemory as Refused};
+
+    ghost from_gives = { λ _ e. e ≡ Refused };
+
+    fn from(_error: AllocError) -> Stop {
+        Stop::NoMemory
+    }
+}
+
+/// The bytes of a line that are left.
+#[derive(Drop)]
+pub struct Rest<'a> {
+    bytes: &'a [u8],
+}
+
+impl<'a> Model for Rest<'a> {
+    ghost use Rattle.std.specs.Prelude.{List, ℕ};
+
+    ghost Value = { List ℕ };
+
+    ghost view = { λ a. a.bytes.now };
+}
+
+// How many bytes stand before the first space.
+fn word_length(bytes: &[u8]) -> usize
+    ensures value { result ≡ word_length bytes.now }
+    ensures range { result ≤ length bytes.now }
+{
+    let mut count = 0;
+    for byte in bytes {
+        if *byte == b' ' {
+            return count;
+        }
+        count += 1;
+    }
+    count
+}
+
+// The bytes behind the first.
+fn behind_first(bytes: &[u8]) -> &[u8]
+    ensures { result.now ≡ drop 1 bytes.now }
+{
+    match bytes {
+        [_, rest @ ..] => rest,
+        [] => bytes,
+    }
+}
+
+/// The bytes before the first space, and the others.
+#[tactic(auto, unfolding(crate::specs::Words::first_word, crate::specs::Words::behind_word))]
+pub fn split_word(bytes: &[u8]) -> (&[u8], &[u8])
+    ensures word { result.0.now ≡ first_word bytes.now }
+    ensures behind { result.1.now ≡ behind_word bytes.now }
+{
+    bytes.split_at(word_length(bytes))
+}
+
+impl<'a> Rest<'a> {
+    /// All of a line behind its first word.
+    pub fn new(bytes: &'a [u8]) -> Rest<'a>
+        ensures { result ≡ bytes.now }
+    {
+        Rest { bytes }
+    }
+
+    /// The bytes that are left.
+    pub fn bytes(&self) -> &'a [u8]
+        ensures { result.now ≡ self.now }
+    {
+        self.bytes
+    }
+
+    /// One space.
+    pub fn space(&mut self) -> Result<(), Stop>
+        ensures { Taken (take_space self.old) result self.new }
+    {
+        let [first, rest @ ..] = self.bytes else {
+            return Err(Stop::NoLine);
+        };
+        if *first != b' ' {
+            return Err(Stop::NoLine);
+        }
+        self.bytes = rest;
+        Ok(())
+    }
+
+    /// The bytes up to the next space, behind one space.
+    #[tactic(auto, unfolding(crate::specs::Words::take_word))]
+    pub fn word(&mut self) -> Result<&'a [u8], Stop>
+        ensures { MatchResult result (λ word. take_word self.old ≡ Some (word.now, self.new)) (IsStopped (take_word self.old)) }
+    {
+        self.space()?;
+        let (word, rest) = split_word(self.bytes);
+        self.bytes = rest;
+        Ok(word)
+    }
+
+    /// A number of 32 bits.
+    #[tactic(auto, unfolding(crate::specs::Words::take_as))]
+    pub fn number32(&mut self) -> Result<u32, Stop>
+        ensures { Taken (take_as number32 self.old) result self.new }
+    {
+        let word = self.word()?;
+        let number = numbers::number32(word).ok_or(Stop::NoLine)?;
+        Ok(number)
+    }
+
+    /// A number of 64 bits.
+    #[tactic(auto, unfolding(crate::specs::Words::take_as))]
+    pub fn number64(&mut self) -> Result<u64, Stop>
+        ensures { Taken (take_as number64 self.old) result self.new }
+    {
+        let word = self.word()?;
+        let number = numbers::number64(word).ok_or(Stop::NoLine)?;
+        Ok(number)
+    }
+
+    /// A signed number of 32 bits.
+    #[tactic(auto, unfolding(crate::specs::Words::take_as))]
+    pub fn int32(&mut self) -> Result<i32, Stop>
+        ensures { Taken (take_as int32 self.old) result self.new }
+    {
+        let word = self.word()?;
+        let number = numbers::int32(word).ok_or(Stop::NoLine)?;
+        Ok(number)
+    }
+
+    /// A number of 32 bits, or `-` for none.
+    #[tactic(auto, unfolding(crate::specs::Words::take_as, crate::specs::Words::optional))]
+    pub fn optional_number(&mut self) -> Result<Option<u32>, Stop>
+        ensures { Taken (take_as (optional number32) self.old) result self.new }
+    {
+        let word = self.word()?;
+        if word == b"-".as_slice() {
+            return Ok(None);
+        }
+        let number = numbers::number32(word).ok_or(Stop::NoLine)?;
+        Ok(Some(number))
+    }
+
+    /// A signed number of 32 bits, or `-` for none.
+    #[tactic(auto, unfolding(crate::specs::Words::take_as, crate::specs::Words::optional))]
+    pub fn optional_int(&mut self) -> Result<Option<i32>, Stop>
+        ensures { Taken (take_as (optional int32) self.old) result self.new }
+    {
+        let word = self.word()?;
+        if word == b"-".as_slice() {
+            return Ok(None);
+        }
+        let number = numbers::int32(word).ok_or(Stop::NoLine)?;
+        Ok(Some(number))
+    }
+
+    /// A number in 16 hexadecimal digits.
+    #[tactic(auto, unfolding(crate::specs::Words::take_as))]
+    pub fn wide_hex(&mut self) -> Result<u64, Stop>
+        ensures { Taken (take_as (hex_number 16) self.old) result self.new }
+    {
+        let word = self.word()?;
+        let number = numbers::hex_number(16, word).ok_or(Stop::NoLine)?;
+        Ok(number)
+    }
+
+    // The bytes of a text up to its closing quote, fewer than `limit`.
+    #[tactic(auto, using(crate::proofs::Quoting::behind_nothing))]
+    fn unquoted(&mut self, alloc: Global, limit: usize) -> Result<Bytes, Stop>
+        ensures text { Taken (text_within limit self.old) result self.new }
+        ensures zero { IfOk result IsText }
+    {
+        let mut rest = self.bytes;
+        let mut text = Bytes::empty(alloc);
+        for _ in 0..limit {
+            if starts_quoted(rest) {
+                self.bytes = behind_first(rest);
+                return Ok(text);
+            }
+            let Some((byte, behind)) = text_byte(rest) else {
+                return Err(Stop::NoLine);
+            };
+            text.push(byte)?;
+            rest = behind;
+        }
+        Err(Stop::NoLine)
+    }
+
+    /// A text between quotes.
+    #[tactic(auto, unfolding(crate::specs::Words::quoted))]
+    pub fn quoted(&mut self, alloc: Global) -> Result<Text, Stop>
+        ensures { Taken (quoted self.old) result self.new }
+    {
+        if !starts_quoted(self.bytes) {
+            return Err(Stop::NoLine);
+        }
+        let limit = self.bytes.len();
+        self.bytes = &self.bytes[1..];
+        let bytes = self.unquoted(alloc, limit)?;
+        let text = text_of(alloc, bytes.as_slice())?;
+        Ok(text)
+    }
+
+    /// A text between quotes, behind one space.
+    #[tactic(auto, unfolding(crate::specs::Words::take_text))]
+    pub fn text(&mut self, alloc: Global) -> Result<Text, Stop>
+        ensures { Taken (take_text self.old) result self.new }
+    {
+        self.space()?;
+        let text = self.quoted(alloc)?;
+        Ok(text)
+    }
+
+    /// A text between quotes or the `-` of none, behind one space.
+    #[tactic(auto, unfolding(crate::specs::Words::take_help))]
+    pub fn help(&mut self, alloc: Global) -> Result<Option<Text>, Stop>
+        ensures { Taken (take_help self.old) result self.new }
+    {
+        self.space()?;
+        if starts_missing(self.bytes) {
+            self.bytes = &self.bytes[1..];
+            return Ok(None);
+        }
+        let text = self.quoted(alloc)?;
+        Ok(Some(text))
+    }
+
+    /// That nothing is left.
+    pub fn end(&self) -> Result<(), Stop>
+        ensures { Read (ended self.now tt) result }
+    {
+        if !self.bytes.is_empty() {
+            return Err(Stop::NoLine);
+        }
+        Ok(())
+    }
+}
+
+/// A text of bytes without a zero byte.
+fn text_of(alloc: Global, bytes: &[u8]) -> Result<Text, NoMemory>
+    requires { IsText bytes.now }
+    ensures { IfOk result (λ text. text ≡ bytes.now) }
+{
+    match Text::build(alloc, bytes) {
+        Ok(text) => Ok(text),
+        Err(TextError::NoMemory) => Err(NoMemory),
+        Err(TextError::Zero(_)) => unreachable!(),
+    }
+}
+
+// Whether the bytes begin with `-`.
+fn starts_missing(bytes: &[u8]) -> bool
+    ensures { result ≡ starts_missing bytes.now }
+{
+    let [first, ..] = bytes else {
+        return false;
+    };
+    *first == b'-'
+}
