@@ -2,7 +2,7 @@
 use Rattle.std.specs.Prelude.{ℕ, ◌+◌, List, length, take, drop, Option, Some, None, if◌then◌else◌, nat_lt}
 use Rattle.std.specs.Int.{Width, byte_len, from_be_bytes, from_le_bytes}
 
--- the number that stands at a place, where it lies in the bytes
+-- the number that stands at an offset, where it lies whole in the bytes
 abbrev pub be_field : Width → ℕ → List ℕ → Option ℕ
 be_field w at bytes =
     if nat_lt (length bytes) (at + byte_len w) then None else Some (from_be_bytes w (take (byte_len w) (drop at bytes)))

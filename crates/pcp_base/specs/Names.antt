@@ -15,6 +15,7 @@ abbrev pub IsComponent : List ℕ → Type 0
 IsComponent [] = ⊥
 IsComponent (b ∷ bs) = IsTrue (is_letter b) × IsTrue (list_all is_name_byte bs)
 
+-- each of them is a component
 abbrev pub AreComponents : List (List ℕ) → Type 0
 AreComponents [] = Unit {0}
 AreComponents (part ∷ parts) = IsComponent part × AreComponents parts

@@ -10,5 +10,6 @@ HasContent (InPlace pairs) = 0 < length pairs
 HasContent (Blocks pairs) = 0 < length pairs
 HasContent (Status n) = n ≤ℤ pos 0
 
+-- the set can be written
 abbrev pub Fits : ValueSet → Type 0
 Fits set = HasContent set.body

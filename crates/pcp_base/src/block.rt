@@ -1,3 +1,5 @@
+//! Values that are kept outside their set, each with a type code (pmFetch(3)).
+
 ghost use Rattle.std.specs.Prelude.{◌≡◌, ◌≤◌, ◌<◌, length, MatchOption};
 
 use crate::duplicate::Duplicate;

@@ -1,3 +1,5 @@
+//! Descriptions of metrics (pmLookupDesc(3)).
+
 use crate::duplicate::Duplicate;
 use crate::ids::{InDom, Pmid, Units};
 use crate::memory::NoMemory;

@@ -1,3 +1,5 @@
+//! Copies into fresh memory, of the values of this crate and of lists of them.
+
 ghost use Rattle.std.specs.Prelude.{◌≡◌, IfOk};
 
 use crate::list::List;

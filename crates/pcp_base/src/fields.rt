@@ -1,8 +1,10 @@
+//! Readers of words of 4 and 8 bytes at an offset: archives and PDUs are big-endian, images little-endian.
+
 ghost use Rattle.std.specs.Prelude.{◌≡◌};
 ghost use Rattle.std.specs.Int.{w32, w64};
 ghost use Rattle.pcp_base.specs.Fields.{be_field, le_field};
 
-/// The big-endian word of 4 bytes from `at` on; `None` exactly where it doesn't lie in the bytes.
+/// The big-endian word of 4 bytes at the offset `at`; `None` exactly where it doesn't lie in the bytes.
 pub fn be32(bytes: &[u8], at: usize) -> Option<u32>
     ensures { result ≡ be_field w32 at bytes.now }
 {
@@ -13,7 +15,7 @@ pub fn be32(bytes: &[u8], at: usize) -> Option<u32>
     Some(u32::from_be_bytes([f[0], f[1], f[2], f[3]]))
 }
 
-/// The big-endian word of 8 bytes from `at` on; `None` exactly where it doesn't lie in the bytes.
+/// The big-endian word of 8 bytes at the offset `at`; `None` exactly where it doesn't lie in the bytes.
 pub fn be64(bytes: &[u8], at: usize) -> Option<u64>
     ensures { result ≡ be_field w64 at bytes.now }
 {
@@ -24,7 +26,7 @@ pub fn be64(bytes: &[u8], at: usize) -> Option<u64>
     Some(u64::from_be_bytes([f[0], f[1], f[2], f[3], f[4], f[5], f[6], f[7]]))
 }
 
-/// The little-endian word of 4 bytes from `at` on; `None` exactly where it doesn't lie in the bytes.
+/// The little-endian word of 4 bytes at the offset `at`; `None` exactly where it doesn't lie in the bytes.
 pub fn le32(bytes: &[u8], at: usize) -> Option<u32>
     ensures { result ≡ le_field w32 at bytes.now }
 {
@@ -35,7 +37,7 @@ pub fn le32(bytes: &[u8], at: usize) -> Option<u32>
     Some(u32::from_le_bytes([f[0], f[1], f[2], f[3]]))
 }
 
-/// The little-endian word of 8 bytes from `at` on; `None` exactly where it doesn't lie in the bytes.
+/// The little-endian word of 8 bytes at the offset `at`; `None` exactly where it doesn't lie in the bytes.
 pub fn le64(bytes: &[u8], at: usize) -> Option<u64>
     ensures { result ≡ le_field w64 at bytes.now }
 {

@@ -1,3 +1,5 @@
+//! Identifiers of metrics and of instance domains, and units, as the words that formats have for them (pmLookupDesc(3)).
+
 ghost use Rattle.std.specs.Prelude.{◌≡◌, ◌≤◌, ◌<◌, ◌+◌, ◌*◌, ◌/◌, ◌%◌, ◌⊎◌, MatchOption};
 ghost use Rattle.pcp_base.specs.Ids.{pmid_word, indom_word, domain_of, cluster_of, item_of, serial_of};
 

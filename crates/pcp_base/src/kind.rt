@@ -1,3 +1,5 @@
+//! The type and the semantics of a metric's values, and their codes (pmLookupDesc(3), mmv(5)).
+
 ghost use Rattle.std.specs.Prelude.{◌≡◌};
 ghost use Rattle.pcp_base.specs.Codes.{kind_of_code, code_of_kind, semantics_of_code, code_of_semantics};
 

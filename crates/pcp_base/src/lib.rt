@@ -30,6 +30,3 @@ pub use names::{is_component, is_name};
 pub use result::{Body, Item, PmResult, ValueSet};
 pub use stamp::Stamp;
 pub use text::{Text, TextError, Zero};
-
-#[cfg(test)]
-mod tests;

@@ -1,3 +1,5 @@
+//! The list that all crates hand to one another; contracts see its items.
+
 ghost use Rattle.std.specs.Prelude.{◌≡◌, ◌==◌, ◌-◌, [], ◌∷◌, ◌++◌, length, take, slice_get, OnOk, OnErr, MatchOption};
 ghost use Rattle.std.specs.Option.{option_copied};
 

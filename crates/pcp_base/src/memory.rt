@@ -1,3 +1,5 @@
+//! The one error of a call that is refused memory.
+
 ghost use Rattle.std.specs.Prelude.{◌≡◌};
 
 use std::alloc::{AllocError, AllocFailed};

@@ -1,3 +1,5 @@
+//! The rule for names of metrics (PCPIntro(1)).
+
 ghost use Rattle.std.specs.Prelude.{◌≡◌, ◌↔◌, IsTrue, true};
 ghost use Rattle.pcp_base.specs.Names.{is_letter, is_name_byte, IsComponent, IsName, spells};
 

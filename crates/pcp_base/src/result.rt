@@ -1,3 +1,5 @@
+//! What a fetch answers and what a record of an archive's volume holds (pmFetch(3), LOGARCHIVE(5)).
+
 ghost use Rattle.std.specs.Prelude.{◌≡◌, ◌↔◌, IsTrue};
 
 use crate::block::Block;

@@ -1,3 +1,5 @@
+//! Moments, to the microsecond.
+
 ghost use Rattle.std.specs.Prelude.{◌≡◌, ◌≤◌, ◌<◌, ◌⊎◌, MatchOption};
 ghost use Rattle.pcp_base.specs.Time.{IsMoment};
 

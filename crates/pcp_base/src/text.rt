@@ -1,3 +1,5 @@
+//! Texts without a zero byte, by which formats end them.
+
 ghost use Rattle.std.specs.Prelude.{◌≡◌, MatchResult};
 ghost use Rattle.pcp_base.specs.Texts.{IsText, IsTextError};
 ghost use Rattle.pcp_base.specs.declared.text.TextError.TheVariants.{NoMemory as Refused};
@@ -14,7 +16,7 @@ pub struct Text {
     bytes: Bytes,
 }
 
-/// Byte `at` is the first zero.
+/// The first zero byte stands at the offset `at`.
 #[derive(Clone, Copy, Debug, PartialEq, Eq)]
 pub struct Zero {
     pub at: usize,
