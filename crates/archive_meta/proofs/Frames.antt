@@ -17,8 +17,8 @@ use Rattle.archive_frame.specs.declared.steps.Step.TheVariants.{End, Payload}
 use Rattle.archive_frame.specs.Steps.{Stands}
 use Rattle.archive_frame.proofs.Records.{Ends, stood}
 use Rattle.archive_frame.proofs.Unique.{both_frames}
-use Rattle.meta_records.specs.Reading.{record_in}
-use Rattle.meta_records.proofs.Whole.{all_only}
+use Rattle.archive_meta.specs.Decoding.{record_in}
+use Rattle.archive_meta.proofs.RecordsRead.{all_only}
 use Rattle.archive_meta.specs.declared.fault.MetaFault.{MetaFault}
 use Rattle.archive_meta.specs.declared.fault.MetaFault.TheVariants.{Record, NoMemory}
 use Rattle.archive_meta.specs.Laws.{RecordsGoOn}

@@ -1,5 +1,11 @@
 pub mod Consistent
+pub mod DescriptionsRead
+pub mod DomainsRead
 pub mod Entries
+pub mod Fields
+pub mod FirstSeen
 pub mod Frames
+pub mod Loops
 pub mod Outcomes
-pub mod Places
+pub mod RecordsRead
+pub mod ZeroBytes

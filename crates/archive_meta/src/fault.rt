@@ -1,3 +1,4 @@
+//! The faults of records.
 ghost use Rattle.std.specs.Prelude.{◌≡◌};
 ghost use Rattle.archive_meta.specs.declared.fault.MetaFault.TheVariants.{NoMemory as Refused};
 

@@ -3,8 +3,8 @@ ghost use Rattle.std.specs.Prelude.{◌≡◌, ◌<◌, length, IfOk, IfErr};
 ghost use Rattle.archive_meta.specs.Records.{RecordStands, IsRecordFault};
 
 use crate::fault::MetaFault;
+use crate::reading::read_record;
 use archive_frame::{Step, step_forward};
-use meta_records::read_record;
 use pcp_model::MetaRecord;
 use std::alloc::Global;
 

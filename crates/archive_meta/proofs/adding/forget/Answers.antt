@@ -1,7 +1,7 @@
 use Rattle.std.proofs.Common.{◌∷◌, [], ◌++◌, refl, subst}
 use Rattle.pcp_model.specs.declared.records.MetaRecord.TheVariants.{Description, Domain, Other}
 use Rattle.archive_meta.specs.Kept.{HasDescriptions, HasMoments}
-use Rattle.archive_meta.proofs.Places.{dropped, other_less}
+use Rattle.archive_meta.proofs.FirstSeen.{dropped, other_less}
 use Rattle.archive_meta.proofs.Entries.{moments_less, moments_other_less}
 use Rattle.archive_meta.proofs.adding.forget.Goals as goal
 

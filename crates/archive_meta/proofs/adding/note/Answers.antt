@@ -1,7 +1,7 @@
 use Rattle.std.proofs.Common.{◌∷◌, [], ◌++◌, refl, sym, subst}
 use Rattle.pcp_model.specs.declared.records.MetaRecord.TheVariants.{Description, Domain, Other}
 use Rattle.archive_meta.specs.Kept.{HasDescriptions, HasMoments}
-use Rattle.archive_meta.proofs.Places.{noted, other_more}
+use Rattle.archive_meta.proofs.FirstSeen.{noted, other_more}
 use Rattle.archive_meta.proofs.Entries.{moments_more, moments_other}
 use Rattle.archive_meta.proofs.Outcomes.{on_ok, on_any}
 use Rattle.archive_meta.proofs.adding.note.Goals as goal

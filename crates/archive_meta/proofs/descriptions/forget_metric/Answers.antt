@@ -1,5 +1,5 @@
 use Rattle.std.proofs.Common.{refl, sym, ap, ◌∙◌, Some}
-use Rattle.archive_meta.proofs.Places.{drops_none, drops_last, popped, apart, nowhere}
+use Rattle.archive_meta.proofs.FirstSeen.{drops_none, drops_last, popped, apart, nowhere}
 use Rattle.archive_meta.proofs.descriptions.forget_metric.Goals as goal
 
 pub returns-then-place-at : goal.returns-then-place-at

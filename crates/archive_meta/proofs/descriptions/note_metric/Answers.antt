@@ -1,7 +1,7 @@
 use Rattle.std.proofs.Common.{◌≡◌, None, refl, sym, subst, ◌∙◌, nat_eq}
 use Rattle.indexmap.specs.IndexMap.{get}
 use Rattle.archive_meta.specs.Kept.{NotesMetric}
-use Rattle.archive_meta.proofs.Places.{notes_new, notes_none}
+use Rattle.archive_meta.proofs.FirstSeen.{notes_new, notes_none}
 use Rattle.archive_meta.proofs.descriptions.note_metric.Goals as goal
 
 pub returns-in-Some-clause-ok : goal.returns-in-Some-clause-ok

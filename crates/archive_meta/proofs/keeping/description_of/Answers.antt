@@ -1,5 +1,5 @@
 use Rattle.std.proofs.Common.{sym, ◌∙◌}
-use Rattle.archive_meta.proofs.Places.{found_at, found_none}
+use Rattle.archive_meta.proofs.FirstSeen.{found_at, found_none}
 use Rattle.archive_meta.proofs.keeping.description_of.Goals as goal
 
 pub returns-in-Some : goal.returns-in-Some

@@ -1,8 +1,0 @@
--- The instances read so far and those that are left are all of them.
-use Rattle.std.proofs.Common.{◌≡◌, ◌-◌, ◌*◌, drop}
-use Rattle.meta_records.specs.Reading.{pairs_from}
-use Rattle.meta_records.proofs.Loops.{with_front}
-use Rattle.meta_records.proofs.pairs.pairs_from.Given as goal
-
-abbrev pub invariant-loop-i : goal.invariant-loop-i
-invariant-loop-i l = with_front l.pairs (pairs_from l.table (l.count - l.i) (drop (4 * l.i) l.numbers) (drop (4 * l.i) l.offsets)) ≡ pairs_from l.table l.count l.numbers l.offsets
