@@ -61,6 +61,14 @@ impl Text {
         })
     }
 
+    /// The text of bytes that are known to have no zero byte.
+    pub fn of_clean(bytes: Bytes) -> Text
+        requires { IsText bytes }
+        ensures { result ≡ bytes }
+    {
+        Text { bytes }
+    }
+
     /// The bytes, none of them zero.
     pub fn as_slice(&self) -> &[u8]
         ensures value { result.now ≡ self.now }
