@@ -3,7 +3,7 @@
 use Rattle.std.proofs.Common.{◌≡◌, ℕ, ◌+◌, ◌-◌, ◌*◌, ◌≤◌, Bool, IsTrue, ◌⊎◌, inl, inr, List, [], ◌∷◌, ◌++◌, Option, Some, None, refl, sym, ap, ◌∙◌, subst, append_assoc, codes}
 use Rattle.std.proofs.lemmas.List.{append-nil}
 use Rattle.std.specs.List.{AllByRecursion}
-use Rattle.log_schedule.specs.Names.{is_letter, is_digit, is_name_byte, Each, IsComponent, dotted, IsName}
+use Rattle.log_schedule.specs.Names.{is_letter, is_digit, is_name_byte, Each, IsComponent, with_points, IsName}
 use Rattle.log_schedule.specs.Configuration.{is_blank, is_between, number_from, IsUnit, IsEvery, IsInterval, MoreNames, IsConfiguration}
 use Rattle.log_schedule.specs.declared.config.Group.{Group}
 
@@ -41,10 +41,10 @@ pub record InName (groups : List Group) (interval : Option ℕ) (names : List (L
   pub tail : List ℕ
   pub parts : List (List ℕ)
   pub rest : List ℕ
-  pub spelled : bytes ≡ tail ++ (dotted parts ++ rest)
+  pub spelled : bytes ≡ tail ++ (with_points parts ++ rest)
   pub each : Each is_name_byte tail
   pub components : AllByRecursion IsComponent parts
-  pub closes : Closes groups interval (names ++ (name ++ (tail ++ dotted parts)) ∷ []) rest out
+  pub closes : Closes groups interval (names ++ (name ++ (tail ++ with_points parts)) ∷ []) rest out
 
 -- after a `.` of a name
 pub record InDot (groups : List Group) (interval : Option ℕ) (names : List (List ℕ)) (name : List ℕ) (bytes : List ℕ) (out : List Group) : Type 0 where
@@ -183,9 +183,9 @@ module _ (groups : List Group) (interval : Option ℕ) (names : List (List ℕ))
   pub next_letter : (test : ℕ → Bool) (b : ℕ) (bytes : List ℕ) → IsTrue (is_letter b) → InName groups interval names (b ∷ []) bytes out → NextName test groups interval names (b ∷ bytes) out
   next_letter test b bytes letter n = record {
     between = [];
-    name = b ∷ (n.tail ++ dotted n.parts);
+    name = b ∷ (n.tail ++ with_points n.parts);
     rest = n.rest;
-    spelled = ap (λ bs. b ∷ bs) (n.spelled ∙ sym (append_assoc n.tail (dotted n.parts) n.rest));
+    spelled = ap (λ bs. b ∷ bs) (n.spelled ∙ sym (append_assoc n.tail (with_points n.parts) n.rest));
     each = tt;
     is_name = record { first = b ∷ n.tail; more = n.parts; spelled = refl; component = (letter, n.each); components = n.components };
     closes = n.closes;
@@ -240,13 +240,13 @@ module _ (groups : List Group) (interval : Option ℕ) (names : List (List ℕ))
     spelled = ap (λ bs. b ∷ bs) n.spelled;
     each = (passes, n.each);
     components = n.components;
-    closes = subst (λ (whole : List ℕ). Closes groups interval (names ++ whole ∷ []) n.rest out) (append_assoc name (b ∷ []) (n.tail ++ dotted n.parts)) n.closes;
+    closes = subst (λ (whole : List ℕ). Closes groups interval (names ++ whole ∷ []) n.rest out) (append_assoc name (b ∷ []) (n.tail ++ with_points n.parts)) n.closes;
   }
 
   pub dot_before : (bytes : List ℕ) → InDot groups interval names (name ++ 46 ∷ []) bytes out → InName groups interval names name (46 ∷ bytes) out
   dot_before bytes n =
       let is = n.is_name in
-      let dots : 46 ∷ n.part ≡ dotted (is.first ∷ is.more) = ap (λ bs. 46 ∷ bs) is.spelled in
+      let dots : 46 ∷ n.part ≡ with_points (is.first ∷ is.more) = ap (λ bs. 46 ∷ bs) is.spelled in
       record {
         tail = [];
         parts = is.first ∷ is.more;
@@ -259,11 +259,11 @@ module _ (groups : List Group) (interval : Option ℕ) (names : List (List ℕ))
 
   pub part_before : (b : ℕ) (bytes : List ℕ) → IsTrue (is_letter b) → InName groups interval names (name ++ b ∷ []) bytes out → InDot groups interval names name (b ∷ bytes) out
   part_before b bytes letter n = record {
-    part = b ∷ (n.tail ++ dotted n.parts);
+    part = b ∷ (n.tail ++ with_points n.parts);
     rest = n.rest;
-    spelled = ap (λ bs. b ∷ bs) (n.spelled ∙ sym (append_assoc n.tail (dotted n.parts) n.rest));
+    spelled = ap (λ bs. b ∷ bs) (n.spelled ∙ sym (append_assoc n.tail (with_points n.parts) n.rest));
     is_name = record { first = b ∷ n.tail; more = n.parts; spelled = refl; component = (letter, n.each); components = n.components };
-    closes = subst (λ (whole : List ℕ). Closes groups interval (names ++ whole ∷ []) n.rest out) (append_assoc name (b ∷ []) (n.tail ++ dotted n.parts)) n.closes;
+    closes = subst (λ (whole : List ℕ). Closes groups interval (names ++ whole ∷ []) n.rest out) (append_assoc name (b ∷ []) (n.tail ++ with_points n.parts)) n.closes;
   }
 
   -- the end of a name

@@ -92,7 +92,7 @@ IsConfiguration bytes (group ∷ groups) = (blanks : List ℕ) × (statement : L
     × (bytes ≡ blanks ++ (statement ++ rest)) × Each is_blank blanks × IsStatement statement group × IsConfiguration rest groups
 
 -- some configuration begins with these bytes
-pub record Begins (bytes : List ℕ) : Type 0 where
+pub record IsBeginning (bytes : List ℕ) : Type 0 where
   pub more : List ℕ
   pub groups : List Group
   pub whole : IsConfiguration (bytes ++ more) groups
@@ -101,6 +101,6 @@ pub record Begins (bytes : List ℕ) : Type 0 where
 -- last byte the text is too short
 pub record IsFault (text : List ℕ) (at : ℕ) : Type 0 where
   pub within : at ≤ length text
-  pub good : Begins (take at text)
-  pub bad : at < length text → Begins (take (at + 1) text) → ⊥
+  pub good : IsBeginning (take at text)
+  pub bad : at < length text → IsBeginning (take (at + 1) text) → ⊥
   pub short : at ≡ length text → (groups : List Group) → IsConfiguration text groups → ⊥

@@ -51,5 +51,5 @@ abbrev pub Due : Timetable → Moment → Type 0
 Due t now = (m : Moment) × (t.next ≡ Some m) × (micros m ≤ micros now)
 
 -- the timetable of a group that starts now
-abbrev pub starts : Moment → Group → Timetable
-starts now group = record { start = now; interval = group.interval; next = Some now }
+abbrev pub timetable_from : Moment → Group → Timetable
+timetable_from now group = record { start = now; interval = group.interval; next = Some now }

@@ -1,6 +1,6 @@
 pub mod Configuration
 pub mod Instants
 pub mod Names
-pub mod Reading
+pub mod Scanning
 pub mod Refusals
 pub mod Steps

@@ -22,13 +22,13 @@ IsComponent [] = ⊥
 IsComponent (b ∷ bytes) = IsTrue (is_letter b) × Each is_name_byte bytes
 
 -- components, each after a `.`
-abbrev pub dotted : List (List ℕ) → List ℕ
-dotted [] = []
-dotted (c ∷ more) = 46 ∷ (c ++ dotted more)
+abbrev pub with_points : List (List ℕ) → List ℕ
+with_points [] = []
+with_points (c ∷ more) = 46 ∷ (c ++ with_points more)
 
 pub record IsName (name : List ℕ) : Type 0 where
   pub first : List ℕ
   pub more : List (List ℕ)
-  pub spelled : name ≡ first ++ dotted more
+  pub spelled : name ≡ first ++ with_points more
   pub component : IsComponent first
   pub components : AllByRecursion IsComponent more

@@ -1,3 +1,5 @@
+//! The configuration of a logger as its groups, and the call that reads it (pmlogger(1)).
+
 ghost use Rattle.std.specs.Prelude.{◌≡◌, ℕ, ◌↔◌, ◌<◌, ◌≤◌, List as Sequence, IfOk, IfErr, IsTrue};
 ghost use Rattle.log_schedule.specs.Configuration.{IsConfiguration, IsFault};
 ghost use Rattle.log_schedule.specs.Refusals.{IsReadAs, IsRefusal};
@@ -5,7 +7,7 @@ ghost use Rattle.log_schedule.specs.declared.config.ConfigError.TheVariants.{NoM
 ghost use Rattle.log_schedule.specs.declared.config.Group.{Group as Grouped};
 
 use crate::found::Found;
-use crate::place::Place;
+use crate::stage::Stage;
 use pcp_base::{List, NoMemory, Text};
 use std::alloc::Global;
 
@@ -23,8 +25,8 @@ pub struct Group {
     pub names: List<Text>,
 }
 
-/// Byte `at`, from 0, is the first that no statement has there; it is past the last byte of a text that
-/// ends too early.
+/// The byte at the offset `at` is the first that no statement has there; `at` is the text's length where
+/// the text ends too early.
 #[derive(Clone, Copy, Debug, PartialEq, Eq)]
 pub struct ConfigFault {
     pub at: u64,
@@ -57,15 +59,15 @@ impl Config {
         ensures fault { IfErr result (IsRefusal text.now) }
     {
         let mut found = Found::empty(alloc);
-        let mut place = Place::Between;
+        let mut stage = Stage::Between;
         for (at, byte) in text.iter().enumerate() {
-            let Some((next, act)) = place.take(*byte) else {
+            let Some((next, act)) = stage.take(*byte) else {
                 return Err(fault(at));
             };
             found.change(act, *byte)?;
-            place = next;
+            stage = next;
         }
-        if !place.is_between() {
+        if !stage.is_between() {
             return Err(fault(text.len()));
         }
         Ok(Config {
@@ -74,6 +76,7 @@ impl Config {
     }
 }
 
+// The fault at this offset.
 fn fault(at: usize) -> ConfigError
     ensures { result ≡ Faulty record { at = at } }
 {

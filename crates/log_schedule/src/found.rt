@@ -1,9 +1,11 @@
+//! What has been read so far of a configuration.
+
 ghost use Rattle.std.specs.Prelude.{◌≡◌, ◌<◌, [], ◌∷◌, ◌++◌, IfOk, OnOk, None};
 ghost use Rattle.pcp_base.specs.Texts.{IsText};
-ghost use Rattle.log_schedule.specs.Reading.{changed, closed, named};
+ghost use Rattle.log_schedule.specs.Scanning.{after_act, with_statement, with_name};
 
 use crate::config::Group;
-use crate::place::Act;
+use crate::stage::Act;
 use pcp_base::{Bytes, List, NoMemory, Text, TextError};
 use std::alloc::Global;
 use std::marker::Model;
@@ -21,7 +23,7 @@ pub struct Found {
 }
 
 impl Model for Found {
-    ghost use Rattle.log_schedule.specs.Reading.{Found as Content};
+    ghost use Rattle.log_schedule.specs.Scanning.{Found as Content};
     ghost use Rattle.pcp_base.specs.Texts.{IsText};
 
     ghost Value = { Content };
@@ -32,6 +34,7 @@ impl Model for Found {
 }
 
 impl Found {
+    /// What has been read before the first byte: nothing.
     pub fn empty(alloc: Global) -> Found
         ensures { result ≡ record { groups = []; interval = None; names = []; name = [] } }
     {
@@ -44,16 +47,17 @@ impl Found {
         }
     }
 
+    /// The whole groups.
     pub fn into_groups(self) -> List<Group>
         ensures { result ≡ self.groups }
     {
         self.groups
     }
 
-    /// Makes the change that a byte makes.
+    /// Does what a byte does at its stage: `act`, with this byte.
     pub fn change(&mut self, act: Act, byte: u8) -> Result<(), NoMemory>
         requires { 0 < byte }
-        ensures { OnOk result (self.new ≡ changed act byte self.old) }
+        ensures { OnOk result (self.new ≡ after_act act byte self.old) }
     {
         match act {
             Act::Keep => Ok(()),
@@ -72,6 +76,7 @@ impl Found {
         }
     }
 
+    // Begins a name with the byte.
     fn begin(&mut self, byte: u8) -> Result<(), NoMemory>
         requires { 0 < byte }
         ensures { OnOk result (self.new ≡ record self.old { name = byte ∷ [] }) }
@@ -80,6 +85,7 @@ impl Found {
         self.add(byte)
     }
 
+    // Adds the byte to the name begun.
     fn add(&mut self, byte: u8) -> Result<(), NoMemory>
         requires { 0 < byte }
         ensures { OnOk result (self.new ≡ record self.old { name = self.old.name ++ byte ∷ [] }) }
@@ -87,15 +93,17 @@ impl Found {
         self.name.push(byte)
     }
 
+    // Puts the name begun behind the whole names.
     fn end_name(&mut self) -> Result<(), NoMemory>
-        ensures { OnOk result (self.new ≡ named self.old) }
+        ensures { OnOk result (self.new ≡ with_name self.old) }
     {
         let name = text_of(self.alloc, self.name.as_slice())?;
         self.names.push(name)
     }
 
+    // Makes a group of the interval and the whole names, and leaves no name.
     fn end_statement(&mut self) -> Result<(), NoMemory>
-        ensures { OnOk result (self.new ≡ closed self.old) }
+        ensures { OnOk result (self.new ≡ with_statement self.old) }
     {
         let names = mem::replace(&mut self.names, List::empty(self.alloc));
         self.groups.push(Group {
@@ -105,6 +113,7 @@ impl Found {
     }
 }
 
+// The text of bytes of which none is zero.
 fn text_of(alloc: Global, bytes: &[u8]) -> Result<Text, NoMemory>
     requires { IsText bytes.now }
     ensures { IfOk result (λ text. text ≡ bytes.now) }

@@ -1,5 +1,7 @@
+//! When each group of a configuration is due.
+
 ghost use Rattle.std.specs.Prelude.{◌≡◌, ◌<◌, ◌↔◌, map, length, slice_get, IfSome, IfOk, IsTrue};
-ghost use Rattle.log_schedule.specs.Instants.{Due, EachPasses, Follows, Passes, starts};
+ghost use Rattle.log_schedule.specs.Instants.{Due, EachPasses, Follows, Passes, timetable_from};
 
 use crate::config::{Config, Group};
 use crate::instants::{first_from, micros_of, stamp_of};
@@ -26,8 +28,9 @@ impl Model for Plan {
 }
 
 impl Plan {
+    // The plan of a group that is first due now.
     fn start(group: &Group, now: Stamp) -> Plan
-        ensures { result ≡ starts now group.now }
+        ensures { result ≡ timetable_from now group.now }
     {
         Plan {
             start: now,
@@ -36,6 +39,7 @@ impl Plan {
         }
     }
 
+    // Whether the next instant is not after now.
     fn is_due(&self, now: Stamp) -> bool
         ensures { IsTrue result ↔ Due self.now now }
     {
@@ -45,6 +49,7 @@ impl Plan {
         }
     }
 
+    // The plan once now has passed.
     fn pass(&self, now: Stamp) -> Plan
         ensures { Passes now self.now result }
     {
@@ -87,7 +92,7 @@ impl Model for Groups {
 impl Groups {
     /// Each group of the configuration, first due now.
     pub fn start(alloc: Global, config: &Config, now: Stamp) -> Result<Groups, NoMemory>
-        ensures { IfOk result (λ groups. groups ≡ map (starts now) config.now.groups) }
+        ensures { IfOk result (λ groups. groups ≡ map (timetable_from now) config.now.groups) }
     {
         let mut plans = Vec::new(alloc);
         for group in config.groups.as_slice() {
@@ -121,6 +126,7 @@ impl Groups {
     }
 }
 
+// Moves each plan on by itself.
 fn pass_all(plans: &mut [Plan], now: Stamp)
     ensures { EachPasses now plans.old plans.new }
 {

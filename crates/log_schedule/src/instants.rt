@@ -1,3 +1,5 @@
+//! Moments as microseconds, and the first of a row of equally distant ones.
+
 ghost use Rattle.std.specs.Prelude.{◌≡◌, ℕ, ◌+◌, ◌*◌, ◌<◌, ◌≤◌, MatchOption};
 ghost use Rattle.pcp_base.specs.Time.{Moment, IsMoment};
 ghost use Rattle.log_schedule.specs.Instants.{micros};
@@ -28,7 +30,7 @@ pub fn stamp_of(count: u64) -> Stamp
 /// microseconds, where the period is `interval` milliseconds; `None` where it is past the last stamp or
 /// there is none.
 pub fn first_from(start: u64, interval: u64, from: u64) -> Option<u64>
-    requires starts { start < 2147483648000000 }
+    requires since { start < 2147483648000000 }
     requires asked { from ≤ 2147483648000000 }
     ensures { MatchOption result
         ((k : ℕ) → from ≤ start + k * (interval * 1000) → 2147483648000000 ≤ start + k * (interval * 1000))

@@ -7,7 +7,7 @@ mod config;
 mod found;
 mod groups;
 mod instants;
-mod place;
+mod stage;
 
 pub use config::{Config, ConfigError, ConfigFault, Group};
 pub use groups::Groups;

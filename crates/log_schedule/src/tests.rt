@@ -1,3 +1,5 @@
+//! What no clause of the schedule says: worked configurations and instants.
+
 use super::*;
 use pcp_base::{List, Stamp};
 use std::alloc::Global;

@@ -1,6 +1,9 @@
+//! The grammar of a configuration, byte by byte: a stage is where in a statement the next byte stands. To add to
+//! the grammar, add a stage, say in `take_other` which bytes it takes, and say the same in specs/Scanning.antt.
+
 ghost use Rattle.std.specs.Prelude.{◌≡◌, ◌+◌, ◌<◌, ◌≤◌, length, IfSome};
-ghost use Rattle.log_schedule.specs.Reading.{is_between as between_lem};
-ghost use Rattle.log_schedule.specs.Reading.{
+ghost use Rattle.log_schedule.specs.Scanning.{is_between as between_lem};
+ghost use Rattle.log_schedule.specs.Scanning.{
   after_byte,
   after_word,
   blank_of,
@@ -23,7 +26,7 @@ ghost use Rattle.log_schedule.specs.Reading.{
   word_byte,
   word_text,
   millis,
-  IsPlace,
+  IsStage,
   IsWord,
 };
 
@@ -58,9 +61,9 @@ pub enum Next {
     Number,
 }
 
-/// Where the next byte of a configuration stands.
+/// The stage of a statement at which the next byte stands.
 #[derive(Clone, Copy)]
-pub enum Place {
+pub enum Stage {
     /// Before a statement, or past the last.
     Between,
     /// In a word of which so many bytes are read.
@@ -146,27 +149,28 @@ impl Word {
         }
     }
 
-    fn after(self) -> (Place, Act)
+    // The stage after the whole word, and what the word's last byte changes.
+    fn after(self) -> (Stage, Act)
         requires { IsWord self }
         ensures value { result ≡ after_word self }
-        ensures place { IsPlace result.0 }
+        ensures stage { IsStage result.0 }
     {
         match self {
-            Word::Log => (Place::Gap(Next::Mandatory), Act::Keep),
-            Word::Mandatory => (Place::Gap(Next::On), Act::Keep),
-            Word::On => (Place::Gap(Next::Interval), Act::Keep),
-            Word::Every => (Place::Gap(Next::Number), Act::Keep),
-            Word::Once => (Place::Brace, Act::Interval(None)),
-            Word::Unit(unit, number) => (Place::Brace, Act::Interval(Some(number * unit.millis()))),
+            Word::Log => (Stage::Gap(Next::Mandatory), Act::Keep),
+            Word::Mandatory => (Stage::Gap(Next::On), Act::Keep),
+            Word::On => (Stage::Gap(Next::Interval), Act::Keep),
+            Word::Every => (Stage::Gap(Next::Number), Act::Keep),
+            Word::Once => (Stage::Brace, Act::Interval(None)),
+            Word::Unit(unit, number) => (Stage::Brace, Act::Interval(Some(number * unit.millis()))),
         }
     }
 
     // The word of which so many bytes are read takes the byte.
-    fn take(self, seen: usize, byte: u8) -> Option<(Place, Act)>
+    fn take(self, seen: usize, byte: u8) -> Option<(Stage, Act)>
         requires word { IsWord self }
         requires seen { «seen» < length (word_text self) }
         ensures value { result ≡ word_byte self seen byte }
-        ensures place { IfSome result (λ step. IsPlace step.0) }
+        ensures stage { IfSome result (λ step. IsStage step.0) }
     {
         let text = self.text();
         if byte != text[seen] {
@@ -175,15 +179,15 @@ impl Word {
         if seen + 1 == text.len() {
             return Some(self.after());
         }
-        Some((Place::Word(self, seen + 1), Act::Keep))
+        Some((Stage::Word(self, seen + 1), Act::Keep))
     }
 }
 
 // A further digit of a number.
-fn take_digit(number: u64, byte: u8) -> Option<(Place, Act)>
+fn take_digit(number: u64, byte: u8) -> Option<(Stage, Act)>
     requires { number ≤ 1000000000 }
     ensures value { result ≡ digit_byte number byte }
-    ensures place { IfSome result (λ step. IsPlace step.0) }
+    ensures stage { IfSome result (λ step. IsStage step.0) }
 {
     if !is_digit(byte) {
         return None;
@@ -192,13 +196,13 @@ fn take_digit(number: u64, byte: u8) -> Option<(Place, Act)>
     if longer > 1_000_000_000 {
         return None;
     }
-    Some((Place::Number(longer), Act::Keep))
+    Some((Stage::Number(longer), Act::Keep))
 }
 
 // The first digit of a number.
-fn take_number(byte: u8) -> Option<(Place, Act)>
+fn take_number(byte: u8) -> Option<(Stage, Act)>
     ensures value { result ≡ number_byte byte }
-    ensures place { IfSome result (λ step. IsPlace step.0) }
+    ensures stage { IfSome result (λ step. IsStage step.0) }
 {
     if byte == b'0' {
         return None;
@@ -206,21 +210,23 @@ fn take_number(byte: u8) -> Option<(Place, Act)>
     take_digit(0, byte)
 }
 
-fn take_interval(byte: u8) -> Option<(Place, Act)>
+// The first byte of an interval.
+fn take_interval(byte: u8) -> Option<(Stage, Act)>
     ensures value { result ≡ interval_byte byte }
-    ensures place { IfSome result (λ step. IsPlace step.0) }
+    ensures stage { IfSome result (λ step. IsStage step.0) }
 {
     match byte {
-        b'o' => Some((Place::Word(Word::Once, 1), Act::Keep)),
-        b'e' => Some((Place::Word(Word::Every, 1), Act::Keep)),
+        b'o' => Some((Stage::Word(Word::Once, 1), Act::Keep)),
+        b'e' => Some((Stage::Word(Word::Every, 1), Act::Keep)),
         _ => take_number(byte),
     }
 }
 
 impl Next {
-    fn take(self, byte: u8) -> Option<(Place, Act)>
+    // The first byte of what comes after the gap.
+    fn take(self, byte: u8) -> Option<(Stage, Act)>
         ensures value { result ≡ first_byte self byte }
-        ensures place { IfSome result (λ step. IsPlace step.0) }
+        ensures stage { IfSome result (λ step. IsStage step.0) }
     {
         match self {
             Next::Mandatory => Word::Mandatory.take(0, byte),
@@ -231,117 +237,123 @@ impl Next {
     }
 }
 
-fn take_unit(number: u64, byte: u8) -> Option<(Place, Act)>
+// The first byte of a number's unit.
+fn take_unit(number: u64, byte: u8) -> Option<(Stage, Act)>
     requires { number ≤ 1000000000 }
     ensures value { result ≡ unit_byte number byte }
-    ensures place { IfSome result (λ step. IsPlace step.0) }
+    ensures stage { IfSome result (λ step. IsStage step.0) }
 {
     match byte {
-        b'm' => Some((Place::Minute(number), Act::Keep)),
-        b's' => Some((Place::Word(Word::Unit(Unit::Sec, number), 1), Act::Keep)),
-        b'h' => Some((Place::Word(Word::Unit(Unit::Hour, number), 1), Act::Keep)),
+        b'm' => Some((Stage::Minute(number), Act::Keep)),
+        b's' => Some((Stage::Word(Word::Unit(Unit::Sec, number), 1), Act::Keep)),
+        b'h' => Some((Stage::Word(Word::Unit(Unit::Hour, number), 1), Act::Keep)),
         _ => None,
     }
 }
 
-fn take_minute(number: u64, byte: u8) -> Option<(Place, Act)>
+// The byte after the m of `msec` or `min`.
+fn take_minute(number: u64, byte: u8) -> Option<(Stage, Act)>
     requires { number ≤ 1000000000 }
     ensures value { result ≡ minute_byte number byte }
-    ensures place { IfSome result (λ step. IsPlace step.0) }
+    ensures stage { IfSome result (λ step. IsStage step.0) }
 {
     match byte {
-        b's' => Some((Place::Word(Word::Unit(Unit::Msec, number), 2), Act::Keep)),
-        b'i' => Some((Place::Word(Word::Unit(Unit::Min, number), 2), Act::Keep)),
+        b's' => Some((Stage::Word(Word::Unit(Unit::Msec, number), 2), Act::Keep)),
+        b'i' => Some((Stage::Word(Word::Unit(Unit::Min, number), 2), Act::Keep)),
         _ => None,
     }
 }
 
-fn take_letter(byte: u8) -> Option<(Place, Act)>
+// The first byte of a name.
+fn take_letter(byte: u8) -> Option<(Stage, Act)>
     ensures { result ≡ letter_byte byte }
 {
     if is_letter(byte) {
-        Some((Place::Name, Act::Begin))
+        Some((Stage::Name, Act::Begin))
     } else {
         None
     }
 }
 
 // A byte after a letter, a digit or `_` of a name.
-fn take_name(byte: u8) -> Option<(Place, Act)>
+fn take_name(byte: u8) -> Option<(Stage, Act)>
     ensures { result ≡ name_byte byte }
 {
     if is_name_byte(byte) {
-        return Some((Place::Name, Act::Add));
+        return Some((Stage::Name, Act::Add));
     }
     if byte == b'.' {
-        return Some((Place::Dot, Act::Add));
+        return Some((Stage::Dot, Act::Add));
     }
     end_name(byte)
 }
 
-fn end_name(byte: u8) -> Option<(Place, Act)>
+// A byte that ends a name.
+fn end_name(byte: u8) -> Option<(Stage, Act)>
     ensures { result ≡ name_end byte }
 {
     match byte {
-        b' ' | b'\n' => Some((Place::After, Act::Name)),
-        b',' => Some((Place::Comma, Act::Name)),
-        b'}' => Some((Place::Between, Act::Last)),
+        b' ' | b'\n' => Some((Stage::After, Act::Name)),
+        b',' => Some((Stage::Comma, Act::Name)),
+        b'}' => Some((Stage::Between, Act::Last)),
         _ => None,
     }
 }
 
 // A byte that is no blank after a name and blanks.
-fn take_after(byte: u8) -> Option<(Place, Act)>
+fn take_after(byte: u8) -> Option<(Stage, Act)>
     ensures { result ≡ after_byte byte }
 {
     match byte {
-        b',' => Some((Place::Comma, Act::Keep)),
-        b'}' => Some((Place::Between, Act::Statement)),
+        b',' => Some((Stage::Comma, Act::Keep)),
+        b'}' => Some((Stage::Between, Act::Statement)),
         _ => take_letter(byte),
     }
 }
 
-fn take_brace(byte: u8) -> Option<(Place, Act)>
+// The brace before the names.
+fn take_brace(byte: u8) -> Option<(Stage, Act)>
     ensures { result ≡ brace_byte byte }
 {
     if byte != b'{' {
         return None;
     }
-    Some((Place::First, Act::Keep))
+    Some((Stage::First, Act::Keep))
 }
 
 // The first letter of a further component of a name.
-fn take_part(byte: u8) -> Option<(Place, Act)>
+fn take_part(byte: u8) -> Option<(Stage, Act)>
     ensures { result ≡ part_byte byte }
 {
     if !is_letter(byte) {
         return None;
     }
-    Some((Place::Name, Act::Add))
+    Some((Stage::Name, Act::Add))
 }
 
-fn take_comma(byte: u8) -> Option<(Place, Act)>
+// A byte that is no blank after a comma.
+fn take_comma(byte: u8) -> Option<(Stage, Act)>
     ensures { result ≡ comma_byte byte }
 {
     if byte == b',' {
-        return Some((Place::Comma, Act::Keep));
+        return Some((Stage::Comma, Act::Keep));
     }
     take_letter(byte)
 }
 
-impl Place {
+impl Stage {
     /// Whether a configuration may end here.
     pub fn is_between(self) -> bool
         ensures { result ≡ between_lem self }
     {
-        matches!(self, Place::Between)
+        matches!(self, Stage::Between)
     }
 
-    /// The place after the byte, and what the byte changes; `None` where no statement has the byte here.
-    pub fn take(self, byte: u8) -> Option<(Place, Act)>
-        requires { IsPlace self }
+    /// The stage after the byte, and what the byte changes; `None` where no statement has the byte here.
+    pub fn take(self, byte: u8) -> Option<(Stage, Act)>
+        requires { IsStage self }
         ensures value { result ≡ next_of self byte }
-        ensures place { IfSome result (λ step. IsPlace step.0) }
+        ensures stage { IfSome result (λ step. IsStage step.0) }
     {
         if is_blank(byte)
             && let Some(after) = self.after_blank()
@@ -351,37 +363,37 @@ impl Place {
         self.take_other(byte)
     }
 
-    // The same of a byte that is no blank, or stands where blanks have no place of their own.
-    fn take_other(self, byte: u8) -> Option<(Place, Act)>
-        requires { IsPlace self }
+    // The same of a byte that is no blank, or that stands where a blank leads to no stage of its own.
+    fn take_other(self, byte: u8) -> Option<(Stage, Act)>
+        requires { IsStage self }
         ensures value { result ≡ other_of self byte }
-        ensures place { IfSome result (λ step. IsPlace step.0) }
+        ensures stage { IfSome result (λ step. IsStage step.0) }
     {
         match self {
-            Place::Between => Word::Log.take(0, byte),
-            Place::Word(word, seen) => word.take(seen, byte),
-            Place::Gap(_) => None,
-            Place::Spaced(next) => next.take(byte),
-            Place::Number(number) => take_digit(number, byte),
-            Place::Unit(number) => take_unit(number, byte),
-            Place::Minute(number) => take_minute(number, byte),
-            Place::Brace => take_brace(byte),
-            Place::First => take_letter(byte),
-            Place::Name => take_name(byte),
-            Place::Dot => take_part(byte),
-            Place::Comma => take_comma(byte),
-            Place::After => take_after(byte),
+            Stage::Between => Word::Log.take(0, byte),
+            Stage::Word(word, seen) => word.take(seen, byte),
+            Stage::Gap(_) => None,
+            Stage::Spaced(next) => next.take(byte),
+            Stage::Number(number) => take_digit(number, byte),
+            Stage::Unit(number) => take_unit(number, byte),
+            Stage::Minute(number) => take_minute(number, byte),
+            Stage::Brace => take_brace(byte),
+            Stage::First => take_letter(byte),
+            Stage::Name => take_name(byte),
+            Stage::Dot => take_part(byte),
+            Stage::Comma => take_comma(byte),
+            Stage::After => take_after(byte),
         }
     }
 
-    // The place after a blank that stands here and means nothing else.
-    fn after_blank(self) -> Option<Place>
+    // The stage after a blank that stands here and means nothing else.
+    fn after_blank(self) -> Option<Stage>
         ensures { result ≡ blank_of self }
     {
         match self {
-            Place::Gap(next) => Some(Place::Spaced(next)),
-            Place::Number(number) => Some(Place::Unit(number)),
-            Place::Word(..) | Place::Minute(_) | Place::Name | Place::Dot => None,
+            Stage::Gap(next) => Some(Stage::Spaced(next)),
+            Stage::Number(number) => Some(Stage::Unit(number)),
+            Stage::Word(..) | Stage::Minute(_) | Stage::Name | Stage::Dot => None,
             _ => Some(self),
         }
     }
