@@ -1,5 +1,5 @@
 pub mod Bytes
 pub mod Tables
-pub mod Places
+pub mod Slots
 pub mod Ranges
 pub mod Parts

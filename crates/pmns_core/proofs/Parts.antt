@@ -8,7 +8,7 @@ use Rattle.std.specs.List.{filter}
 use Rattle.std.specs.BTreeMap.{insert_entry}
 use Rattle.pcp_base.specs.Texts.{IsText}
 use Rattle.pmns_core.specs.Order.{byte_order}
-use Rattle.pmns_core.specs.Shown.{AreTextParts}
+use Rattle.pmns_core.specs.Tables.{AreTextParts}
 
 abbrev pub part : Vec ℕ × Bool → List ℕ × Bool
 part e = (e.0.items, e.1)
@@ -20,10 +20,10 @@ insert_parts (e ∷ es) key leaf = by (byte_order key.items e.0.items) (insert_p
     rest : List (Vec ℕ × Bool)
     rest = insert_entry (λ (a b : Vec ℕ). byte_order a.items b.items) es key leaf
 
-    shown : List (List ℕ × Bool)
-    shown = insert_entry byte_order (map part es) key.items leaf
+    pairs_of : List (List ℕ × Bool)
+    pairs_of = insert_entry byte_order (map part es) key.items leaf
 
-    by : (o : Ordering) → map part rest ≡ shown → map part (match_ordering o ((key, leaf) ∷ e ∷ es) ((e.0, leaf) ∷ es) (e ∷ rest)) ≡ match_ordering o ((key.items, leaf) ∷ part e ∷ map part es) ((e.0.items, leaf) ∷ map part es) (part e ∷ shown)
+    by : (o : Ordering) → map part rest ≡ pairs_of → map part (match_ordering o ((key, leaf) ∷ e ∷ es) ((e.0, leaf) ∷ es) (e ∷ rest)) ≡ match_ordering o ((key.items, leaf) ∷ part e ∷ map part es) ((e.0.items, leaf) ∷ map part es) (part e ∷ pairs_of)
     by Less again = refl
     by Equal again = refl
     by Greater again = ap (λ (ps : List (List ℕ × Bool)). part e ∷ ps) again

@@ -96,10 +96,10 @@ below_parts (p ∷ pairs) name (all, text, order) = by (is_same name p.0) refl (
     those : List Pair
     those = filter (λ (p : Pair). continues p.0 name) pairs
 
-    own : List Pair
-    own = option_to_list (option_map (λ (m : ℕ). (name, m)) (pmid_of pairs name))
+    pair_of_name : List Pair
+    pair_of_name = option_to_list (option_map (λ (m : ℕ). (name, m)) (pmid_of pairs name))
 
-    by : (t : Bool) → is_same name p.0 ≡ t → (u : Bool) → continues p.0 name ≡ u → own ++ those ≡ below pairs name
+    by : (t : Bool) → is_same name p.0 ≡ t → (u : Bool) → continues p.0 name ≡ u → pair_of_name ++ those ≡ below pairs name
         → option_to_list (option_map (λ (m : ℕ). (name, m)) (if t then Some p.1 else pmid_of pairs name)) ++ cond u (p ∷ those) those ≡ cond (t || u) (p ∷ below pairs name) (below pairs name)
     by true s u e again =
         let same : name ≡ p.0 = same_name name p.0 s in

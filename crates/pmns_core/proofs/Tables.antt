@@ -14,8 +14,8 @@ use Rattle.std.specs.Map.{lookup}
 use Rattle.std.specs.Global.{Vec}
 use Rattle.std.specs.BTreeMap.{is_at}
 use Rattle.pmns_core.specs.Order.{byte_order, is_same, is_before, continues}
-use Rattle.pmns_core.specs.Pairs.{Pair, pmid_of, placed, without, least_name, lesser, noted, IsInOrder}
-use Rattle.pmns_core.specs.Adding.{is_there, is_under, is_above, misfit, unless_fault, added, Adds, AddsOne}
+use Rattle.pmns_core.specs.Pairs.{Pair, pmid_of, with_pair, pairs_without, least_name, lesser, least_with, IsInOrder}
+use Rattle.pmns_core.specs.Adding.{is_there, is_under, is_above, misfit, unless_fault, after_adding, Adds, AddsOne}
 use Rattle.pmns_core.specs.declared.fault.NamesFault.{NamesFault}
 use Rattle.pmns_core.specs.declared.fault.NamesFault.TheVariants as faults
 
@@ -96,47 +96,47 @@ front_seen front (e ∷ es) (all, text, order) = by (is_le (byte_order front e.0
         ap (λ b. b || any) no ∙ again
 
 -- a new name takes its place
-pub insert_shown : (es : List (Vec ℕ × ℕ)) (key : Vec ℕ) (pmid : ℕ) → is_there (map pair es) key.items ≡ false → map pair (insert_entry (λ (a b : Vec ℕ). byte_order a.items b.items) es key pmid) ≡ placed (map pair es) key.items pmid
-insert_shown [] key pmid absent = refl
-insert_shown (e ∷ es) key pmid absent = by (byte_order key.items e.0.items) absent (λ later. insert_shown es key pmid later)
+pub insert_is_with_pair : (es : List (Vec ℕ × ℕ)) (key : Vec ℕ) (pmid : ℕ) → is_there (map pair es) key.items ≡ false → map pair (insert_entry (λ (a b : Vec ℕ). byte_order a.items b.items) es key pmid) ≡ with_pair (map pair es) key.items pmid
+insert_is_with_pair [] key pmid absent = refl
+insert_is_with_pair (e ∷ es) key pmid absent = by (byte_order key.items e.0.items) absent (λ later. insert_is_with_pair es key pmid later)
   where
     rest : List (Vec ℕ × ℕ)
     rest = insert_entry (λ (a b : Vec ℕ). byte_order a.items b.items) es key pmid
 
-    by : (o : Ordering) → (is_eq o || is_there (map pair es) key.items) ≡ false → (is_there (map pair es) key.items ≡ false → map pair rest ≡ placed (map pair es) key.items pmid)
-        → map pair (match_ordering o ((key, pmid) ∷ e ∷ es) ((e.0, pmid) ∷ es) (e ∷ rest)) ≡ (if is_lt o then (key.items, pmid) ∷ pair e ∷ map pair es else pair e ∷ placed (map pair es) key.items pmid)
+    by : (o : Ordering) → (is_eq o || is_there (map pair es) key.items) ≡ false → (is_there (map pair es) key.items ≡ false → map pair rest ≡ with_pair (map pair es) key.items pmid)
+        → map pair (match_ordering o ((key, pmid) ∷ e ∷ es) ((e.0, pmid) ∷ es) (e ∷ rest)) ≡ (if is_lt o then (key.items, pmid) ∷ pair e ∷ map pair es else pair e ∷ with_pair (map pair es) key.items pmid)
     by Less absent again = refl
     by Equal absent again = cc absent
     by Greater absent again = ap (λ ps. pair e ∷ ps) (again absent)
 
 -- a new name taken out leaves what was there
-pub remove_shown : (es : List (Vec ℕ × ℕ)) (name : List ℕ) → map pair (remove_entry (is_at (λ (k : Vec ℕ). byte_order name k.items)) es) ≡ without (map pair es) name
+pub remove_shown : (es : List (Vec ℕ × ℕ)) (name : List ℕ) → map pair (remove_entry (is_at (λ (k : Vec ℕ). byte_order name k.items)) es) ≡ pairs_without (map pair es) name
 remove_shown [] name = refl
 remove_shown (e ∷ es) name = by (is_same name e.0.items) (remove_shown es name)
   where
     rest : List (Vec ℕ × ℕ)
     rest = remove_entry (is_at (λ (k : Vec ℕ). byte_order name k.items)) es
 
-    by : (t : Bool) → map pair rest ≡ without (map pair es) name → map pair (cond t es (e ∷ rest)) ≡ (if t then map pair es else pair e ∷ without (map pair es) name)
+    by : (t : Bool) → map pair rest ≡ pairs_without (map pair es) name → map pair (cond t es (e ∷ rest)) ≡ (if t then map pair es else pair e ∷ pairs_without (map pair es) name)
     by true again = refl
     by false again = ap (λ ps. pair e ∷ ps) again
 
-pub without_placed : (pairs : List Pair) (name : List ℕ) (pmid : ℕ) → is_there pairs name ≡ false → without (placed pairs name pmid) name ≡ pairs
+pub without_placed : (pairs : List Pair) (name : List ℕ) (pmid : ℕ) → is_there pairs name ≡ false → pairs_without (with_pair pairs name pmid) name ≡ pairs
 without_placed [] name pmid absent = ap (λ t. if t then [] else (name, pmid) ∷ []) (ap is_eq (same_itself name))
 without_placed (p ∷ pairs) name pmid absent = by (byte_order name p.0) refl absent (λ later. without_placed pairs name pmid later)
   where
-    by : (o : Ordering) → byte_order name p.0 ≡ o → (is_eq o || is_there pairs name) ≡ false → (is_there pairs name ≡ false → without (placed pairs name pmid) name ≡ pairs)
-        → without (if is_lt o then (name, pmid) ∷ p ∷ pairs else p ∷ placed pairs name pmid) name ≡ p ∷ pairs
-    by Less e absent again = ap (λ t. if t then p ∷ pairs else (name, pmid) ∷ without (p ∷ pairs) name) (ap is_eq (same_itself name))
+    by : (o : Ordering) → byte_order name p.0 ≡ o → (is_eq o || is_there pairs name) ≡ false → (is_there pairs name ≡ false → pairs_without (with_pair pairs name pmid) name ≡ pairs)
+        → pairs_without (if is_lt o then (name, pmid) ∷ p ∷ pairs else p ∷ with_pair pairs name pmid) name ≡ p ∷ pairs
+    by Less e absent again = ap (λ t. if t then p ∷ pairs else (name, pmid) ∷ pairs_without (p ∷ pairs) name) (ap is_eq (same_itself name))
     by Equal e absent again = cc absent
-    by Greater e absent again = ap (λ o. if is_eq o then placed pairs name pmid else p ∷ without (placed pairs name pmid) name) e ∙ ap (λ ps. p ∷ ps) (again absent)
+    by Greater e absent again = ap (λ o. if is_eq o then with_pair pairs name pmid else p ∷ pairs_without (with_pair pairs name pmid) name) e ∙ ap (λ ps. p ∷ ps) (again absent)
 
 -- a new name keeps the order
-all_placed : (x name : List ℕ) (pmid : ℕ) (pairs : List Pair) → is_before x name ≡ true → AllByRecursion (λ (q : Pair). is_before x q.0 ≡ true) pairs → AllByRecursion (λ (q : Pair). is_before x q.0 ≡ true) (placed pairs name pmid)
-all_placed x name pmid [] here all = (here, tt)
-all_placed x name pmid (q ∷ pairs) here (before, all) = by (is_before name q.0) (all_placed x name pmid pairs here all)
+all_with_pair : (x name : List ℕ) (pmid : ℕ) (pairs : List Pair) → is_before x name ≡ true → AllByRecursion (λ (q : Pair). is_before x q.0 ≡ true) pairs → AllByRecursion (λ (q : Pair). is_before x q.0 ≡ true) (with_pair pairs name pmid)
+all_with_pair x name pmid [] here all = (here, tt)
+all_with_pair x name pmid (q ∷ pairs) here (before, all) = by (is_before name q.0) (all_with_pair x name pmid pairs here all)
   where
-    by : (t : Bool) → AllByRecursion (λ (q : Pair). is_before x q.0 ≡ true) (placed pairs name pmid) → AllByRecursion (λ (q : Pair). is_before x q.0 ≡ true) (if t then (name, pmid) ∷ q ∷ pairs else q ∷ placed pairs name pmid)
+    by : (t : Bool) → AllByRecursion (λ (q : Pair). is_before x q.0 ≡ true) (with_pair pairs name pmid) → AllByRecursion (λ (q : Pair). is_before x q.0 ≡ true) (if t then (name, pmid) ∷ q ∷ pairs else q ∷ with_pair pairs name pmid)
     by true again = (here, (before, all))
     by false again = (before, again)
 
@@ -144,15 +144,15 @@ all_before : (name x : List ℕ) (pairs : List Pair) → is_before name x ≡ tr
 all_before name x [] here all = tt
 all_before name x (q ∷ pairs) here (before, all) = (before_trans name x q.0 here before, all_before name x pairs here all)
 
-pub placed_in_order : (pairs : List Pair) (name : List ℕ) (pmid : ℕ) → IsText name → is_there pairs name ≡ false → IsInOrder pairs → IsInOrder (placed pairs name pmid)
-placed_in_order [] name pmid text absent order = (tt, text, tt)
-placed_in_order (p ∷ pairs) name pmid text absent (all, text_p, order) = by (byte_order name p.0) refl absent (λ later. placed_in_order pairs name pmid text later order)
+pub pair_put_in_order : (pairs : List Pair) (name : List ℕ) (pmid : ℕ) → IsText name → is_there pairs name ≡ false → IsInOrder pairs → IsInOrder (with_pair pairs name pmid)
+pair_put_in_order [] name pmid text absent order = (tt, text, tt)
+pair_put_in_order (p ∷ pairs) name pmid text absent (all, text_p, order) = by (byte_order name p.0) refl absent (λ later. pair_put_in_order pairs name pmid text later order)
   where
-    by : (o : Ordering) → byte_order name p.0 ≡ o → (is_eq o || is_there pairs name) ≡ false → (is_there pairs name ≡ false → IsInOrder (placed pairs name pmid))
-        → IsInOrder (if is_lt o then (name, pmid) ∷ p ∷ pairs else p ∷ placed pairs name pmid)
+    by : (o : Ordering) → byte_order name p.0 ≡ o → (is_eq o || is_there pairs name) ≡ false → (is_there pairs name ≡ false → IsInOrder (with_pair pairs name pmid))
+        → IsInOrder (if is_lt o then (name, pmid) ∷ p ∷ pairs else p ∷ with_pair pairs name pmid)
     by Less e absent again = ((ap is_lt e, all_before name p.0 pairs (ap is_lt e) all), text, (all, text_p, order))
     by Equal e absent again = cc absent
-    by Greater e absent again = (all_placed p.0 name pmid pairs (before_other name p.0 (ap is_lt e) (ap is_eq e)) all, text_p, again absent)
+    by Greater e absent again = (all_with_pair p.0 name pmid pairs (before_other name p.0 (ap is_lt e) (ap is_eq e)) all, text_p, again absent)
 
 -- a name that is not there, under nothing and above nothing fits
 pub fits_in : (pairs : List Pair) (name : List ℕ) → is_there pairs name ≡ false → is_under pairs name ≡ false → is_above pairs name ≡ false → misfit pairs name ≡ None
@@ -162,37 +162,37 @@ fits_in pairs name there under above =
     ∙ ap (λ t. if t then Some (faults.LeafAndNode name) else None) above
 
 -- pairs added after others
-pub added-append : (xs ys before es : List Pair) → added xs before ≡ Ok es → added (xs ++ ys) before ≡ added ys es
-added-append [] ys before es e = let same : before ≡ es = cc e in ap (added ys) same
-added-append (x ∷ xs) ys before es e = by (misfit before x.0) e (λ later. added-append xs ys (placed before x.0 x.1) es later)
+pub after_adding-append : (xs ys before es : List Pair) → after_adding xs before ≡ Ok es → after_adding (xs ++ ys) before ≡ after_adding ys es
+after_adding-append [] ys before es e = let same : before ≡ es = cc e in ap (after_adding ys) same
+after_adding-append (x ∷ xs) ys before es e = by (misfit before x.0) e (λ later. after_adding-append xs ys (with_pair before x.0 x.1) es later)
   where
     placed' : List Pair
-    placed' = placed before x.0 x.1
+    placed' = with_pair before x.0 x.1
 
-    by : (o : Option NamesFault) → unless_fault o (added xs placed') ≡ Ok es → (added xs placed' ≡ Ok es → added (xs ++ ys) placed' ≡ added ys es) → unless_fault o (added (xs ++ ys) placed') ≡ added ys es
+    by : (o : Option NamesFault) → unless_fault o (after_adding xs placed') ≡ Ok es → (after_adding xs placed' ≡ Ok es → after_adding (xs ++ ys) placed' ≡ after_adding ys es) → unless_fault o (after_adding (xs ++ ys) placed') ≡ after_adding ys es
     by None e again = again e
     by (Some fault) e again = cc e
 
 -- the last of pairs that were added fitted in
 pub record LastOf (xs : List Pair) (p : Pair) (before after : List Pair) : Type 0 where
   pub middle : List Pair
-  pub first : added xs before ≡ Ok middle
+  pub first : after_adding xs before ≡ Ok middle
   pub fitted : misfit middle p.0 ≡ None
-  pub last : after ≡ placed middle p.0 p.1
+  pub last : after ≡ with_pair middle p.0 p.1
 
-pub added_last : (xs : List Pair) (p : Pair) (before after : List Pair) → added (xs ++ p ∷ []) before ≡ Ok after → LastOf xs p before after
+pub added_last : (xs : List Pair) (p : Pair) (before after : List Pair) → after_adding (xs ++ p ∷ []) before ≡ Ok after → LastOf xs p before after
 added_last [] p before after e = by (misfit before p.0) refl e
   where
-    by : (o : Option NamesFault) → misfit before p.0 ≡ o → unless_fault o (Ok (placed before p.0 p.1)) ≡ Ok after → LastOf [] p before after
-    by None fitted e = record { middle = before; first = refl; fitted = fitted; last = let same : placed before p.0 p.1 ≡ after = cc e in sym same }
+    by : (o : Option NamesFault) → misfit before p.0 ≡ o → unless_fault o (Ok (with_pair before p.0 p.1)) ≡ Ok after → LastOf [] p before after
+    by None fitted e = record { middle = before; first = refl; fitted = fitted; last = let same : with_pair before p.0 p.1 ≡ after = cc e in sym same }
     by (Some fault) fitted e = cc e
-added_last (x ∷ xs) p before after e = by (misfit before x.0) refl e (λ later. added_last xs p (placed before x.0 x.1) after later)
+added_last (x ∷ xs) p before after e = by (misfit before x.0) refl e (λ later. added_last xs p (with_pair before x.0 x.1) after later)
   where
     placed' : List Pair
-    placed' = placed before x.0 x.1
+    placed' = with_pair before x.0 x.1
 
-    by : (o : Option NamesFault) → misfit before x.0 ≡ o → unless_fault o (added (xs ++ p ∷ []) placed') ≡ Ok after → (added (xs ++ p ∷ []) placed' ≡ Ok after → LastOf xs p placed' after) → LastOf (x ∷ xs) p before after
-    by None fitted e again = let r = again e in record { middle = r.middle; first = ap (λ o. unless_fault o (added xs placed')) fitted ∙ r.first; fitted = r.fitted; last = r.last }
+    by : (o : Option NamesFault) → misfit before x.0 ≡ o → unless_fault o (after_adding (xs ++ p ∷ []) placed') ≡ Ok after → (after_adding (xs ++ p ∷ []) placed' ≡ Ok after → LastOf xs p placed' after) → LastOf (x ∷ xs) p before after
+    by None fitted e again = let r = again e in record { middle = r.middle; first = ap (λ o. unless_fault o (after_adding xs placed')) fitted ∙ r.first; fitted = r.fitted; last = r.last }
     by (Some fault) fitted e again = cc e
 
 pub fitted_absent : (pairs : List Pair) (name : List ℕ) → misfit pairs name ≡ None → is_there pairs name ≡ false
@@ -203,22 +203,22 @@ fitted_absent pairs name e = by (is_there pairs name) e
     by false e = refl
 
 -- the first pair that doesn't fit is the fault, and what was added before it is taken out
-pub refused : (fault : NamesFault) (xs rest pairs : List Pair) (p : Pair) (before es new back : List Pair) → pairs ≡ xs ++ p ∷ rest → added xs before ≡ Ok es → AddsOne (Err fault) es new p.0 p.1
-    → ((b : List Pair) → added xs b ≡ Ok new → back ≡ b) → Adds (Err fault) pairs before back
+pub refused : (fault : NamesFault) (xs rest pairs : List Pair) (p : Pair) (before es new back : List Pair) → pairs ≡ xs ++ p ∷ rest → after_adding xs before ≡ Ok es → AddsOne (Err fault) es new p.0 p.1
+    → ((b : List Pair) → after_adding xs b ≡ Ok new → back ≡ b) → Adds (Err fault) pairs before back
 refused faults.NoMemory xs rest pairs p before es new back split first same undo = undo before (first ∙ ap (λ (ps : List Pair). Ok ps) (sym same))
 refused (faults.Duplicate name) xs rest pairs p before es new back split first one undo = (
-  ap (λ (ps : List Pair). added ps before) split ∙ added-append xs (p ∷ rest) before es first ∙ ap (λ o. unless_fault o (added rest (placed es p.0 p.1))) one.0,
+  ap (λ (ps : List Pair). after_adding ps before) split ∙ after_adding-append xs (p ∷ rest) before es first ∙ ap (λ o. unless_fault o (after_adding rest (with_pair es p.0 p.1))) one.0,
   undo before (first ∙ ap (λ (ps : List Pair). Ok ps) (sym one.1)),
 )
 refused (faults.LeafAndNode name) xs rest pairs p before es new back split first one undo = (
-  ap (λ (ps : List Pair). added ps before) split ∙ added-append xs (p ∷ rest) before es first ∙ ap (λ o. unless_fault o (added rest (placed es p.0 p.1))) one.0,
+  ap (λ (ps : List Pair). after_adding ps before) split ∙ after_adding-append xs (p ∷ rest) before es first ∙ ap (λ o. unless_fault o (after_adding rest (with_pair es p.0 p.1))) one.0,
   undo before (first ∙ ap (λ (ps : List Pair). Ok ps) (sym one.1)),
 )
 
 -- one more pair fits
-pub one_more : (xs ys : List Pair) (p : Pair) (before es new : List Pair) → ys ≡ xs ++ p ∷ [] → added xs before ≡ Ok es → AddsOne (Ok tt) es new p.0 p.1 → added ys before ≡ Ok new
+pub one_more : (xs ys : List Pair) (p : Pair) (before es new : List Pair) → ys ≡ xs ++ p ∷ [] → after_adding xs before ≡ Ok es → AddsOne (Ok tt) es new p.0 p.1 → after_adding ys before ≡ Ok new
 one_more xs ys p before es new split first one =
-    ap (λ (ps : List Pair). added ps before) split ∙ added-append xs (p ∷ []) before es first ∙ ap (λ o. unless_fault o (Ok (placed es p.0 p.1))) one.0 ∙ ap (λ (ps : List Pair). Ok ps) (sym one.1)
+    ap (λ (ps : List Pair). after_adding ps before) split ∙ after_adding-append xs (p ∷ []) before es first ∙ ap (λ o. unless_fault o (Ok (with_pair es p.0 p.1))) one.0 ∙ ap (λ (ps : List Pair). Ok ps) (sym one.1)
 
 -- a name before all others is less than the least of them
 lesser_of : (name : List ℕ) (pairs : List Pair) (q : ℕ) → AllByRecursion (λ (p : Pair). is_before name p.0 ≡ true) pairs → lesser name (least_name pairs q) ≡ name
@@ -230,15 +230,15 @@ lesser_of name (p ∷ pairs) q (before, all) = by (nat_eq p.1 q) (lesser_of name
     by false again = again
 
 -- the least name once a pair is in its place
-pub least_placed : (pairs : List Pair) (name : List ℕ) (pmid q : ℕ) → is_there pairs name ≡ false → IsInOrder pairs → least_name (placed pairs name pmid) q ≡ noted q (least_name pairs q) (name, pmid)
-least_placed [] name pmid q absent order = refl
-least_placed (p ∷ pairs) name pmid q absent (all, text, order) = by (byte_order name p.0) refl absent (λ later. least_placed pairs name pmid q later order)
+pub least_with_pair : (pairs : List Pair) (name : List ℕ) (pmid q : ℕ) → is_there pairs name ≡ false → IsInOrder pairs → least_name (with_pair pairs name pmid) q ≡ least_with q (least_name pairs q) (name, pmid)
+least_with_pair [] name pmid q absent order = refl
+least_with_pair (p ∷ pairs) name pmid q absent (all, text, order) = by (byte_order name p.0) refl absent (λ later. least_with_pair pairs name pmid q later order)
   where
     first : Option (List ℕ)
     first = least_name (p ∷ pairs) q
 
-    by_pmid : (o : Ordering) → o ≡ Greater → byte_order name p.0 ≡ o → (t : Bool) → least_name (placed pairs name pmid) q ≡ noted q (least_name pairs q) (name, pmid)
-        → (if t then Some p.0 else least_name (placed pairs name pmid) q) ≡ noted q (if t then Some p.0 else least_name pairs q) (name, pmid)
+    by_pmid : (o : Ordering) → o ≡ Greater → byte_order name p.0 ≡ o → (t : Bool) → least_name (with_pair pairs name pmid) q ≡ least_with q (least_name pairs q) (name, pmid)
+        → (if t then Some p.0 else least_name (with_pair pairs name pmid) q) ≡ least_with q (if t then Some p.0 else least_name pairs q) (name, pmid)
     by_pmid o is e true again = stays (nat_eq pmid q)
       where
         stays : (t : Bool) → Some p.0 ≡ (if t then Some (if is_lt (byte_order name p.0) then name else p.0) else Some p.0)
@@ -246,8 +246,8 @@ least_placed (p ∷ pairs) name pmid q absent (all, text, order) = by (byte_orde
         stays false = refl
     by_pmid o is e false again = again
 
-    by : (o : Ordering) → byte_order name p.0 ≡ o → (is_eq o || is_there pairs name) ≡ false → (is_there pairs name ≡ false → least_name (placed pairs name pmid) q ≡ noted q (least_name pairs q) (name, pmid))
-        → least_name (if is_lt o then (name, pmid) ∷ p ∷ pairs else p ∷ placed pairs name pmid) q ≡ noted q first (name, pmid)
+    by : (o : Ordering) → byte_order name p.0 ≡ o → (is_eq o || is_there pairs name) ≡ false → (is_there pairs name ≡ false → least_name (with_pair pairs name pmid) q ≡ least_with q (least_name pairs q) (name, pmid))
+        → least_name (if is_lt o then (name, pmid) ∷ p ∷ pairs else p ∷ with_pair pairs name pmid) q ≡ least_with q first (name, pmid)
     by Less e absent again =
         let less : lesser name first ≡ name = lesser_of name (p ∷ pairs) q (ap is_lt e, all_before name p.0 pairs (ap is_lt e) all) in
         ap (λ n. if nat_eq pmid q then Some n else first) (sym less)

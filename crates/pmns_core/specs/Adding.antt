@@ -2,10 +2,11 @@
 use Rattle.std.specs.Prelude.{◌≡◌, ℕ, Bool, if◌then◌else◌, List, [], ◌∷◌, Option, Some, None, Result, Ok, Err}
 use Rattle.std.specs.List.{list_any}
 use Rattle.pmns_core.specs.Order.{is_same, continues}
-use Rattle.pmns_core.specs.Pairs.{Pair, placed}
+use Rattle.pmns_core.specs.Pairs.{Pair, with_pair}
 use Rattle.pmns_core.specs.declared.fault.NamesFault.{NamesFault}
 use Rattle.pmns_core.specs.declared.fault.NamesFault.TheVariants as faults
 
+-- the name is there
 abbrev pub is_there : List Pair → List ℕ → Bool
 is_there pairs name = list_any (λ p. is_same name p.0) pairs
 
@@ -29,19 +30,19 @@ abbrev pub unless_fault : Option NamesFault → Result (List Pair) NamesFault �
 unless_fault None result = result
 unless_fault (Some fault) result = Err fault
 
--- the pairs added one after another
-abbrev pub added : List Pair → List Pair → Result (List Pair) NamesFault
-added [] pairs = Ok pairs
-added (p ∷ more) pairs = unless_fault (misfit pairs p.0) (added more (placed pairs p.0 p.1))
+-- what is there once pairs were added one after another, or the first one's fault
+abbrev pub after_adding : List Pair → List Pair → Result (List Pair) NamesFault
+after_adding [] pairs = Ok pairs
+after_adding (p ∷ more) pairs = unless_fault (misfit pairs p.0) (after_adding more (with_pair pairs p.0 p.1))
 
 -- all are added, or nothing is changed and the fault is that of the first that doesn't fit
 abbrev pub Adds : Result (Unit {0}) NamesFault → List Pair → List Pair → List Pair → Type 0
-Adds (Ok done) more old new = added more old ≡ Ok new
+Adds (Ok done) more old new = after_adding more old ≡ Ok new
 Adds (Err faults.NoMemory) more old new = new ≡ old
-Adds (Err fault) more old new = (added more old ≡ Err fault) × (new ≡ old)
+Adds (Err fault) more old new = (after_adding more old ≡ Err fault) × (new ≡ old)
 
 -- the same of one pair
 abbrev pub AddsOne : Result (Unit {0}) NamesFault → List Pair → List Pair → List ℕ → ℕ → Type 0
-AddsOne (Ok done) old new name pmid = (misfit old name ≡ None) × (new ≡ placed old name pmid)
+AddsOne (Ok done) old new name pmid = (misfit old name ≡ None) × (new ≡ with_pair old name pmid)
 AddsOne (Err faults.NoMemory) old new name pmid = new ≡ old
 AddsOne (Err fault) old new name pmid = (misfit old name ≡ Some fault) × (new ≡ old)

@@ -7,17 +7,18 @@ use Rattle.pmns_core.specs.Pairs.{Pair, pmid_of}
 use Rattle.pmns_core.specs.Adding.{is_there, is_above}
 
 -- the pairs whose names begin with a front
-abbrev pub fronted : List Pair → List ℕ → List Pair
-fronted pairs front = filter (λ p. starts_with nat_eq p.0 front) pairs
+abbrev pub pairs_with_front : List Pair → List ℕ → List Pair
+pairs_with_front pairs front = filter (λ p. starts_with nat_eq p.0 front) pairs
 
--- the pair of a name, if it is there
-abbrev pub own : List Pair → List ℕ → List Pair
-own pairs name = option_to_list (option_map (λ pmid. (name, pmid)) (pmid_of pairs name))
+-- the pair of a name, if the name is there
+abbrev pub pair_of_name : List Pair → List ℕ → List Pair
+pair_of_name pairs name = option_to_list (option_map (λ pmid. (name, pmid)) (pmid_of pairs name))
 
 -- the pairs whose names are the name or continue it
 abbrev pub below : List Pair → List ℕ → List Pair
 below pairs name = filter (λ p. is_same name p.0 || continues p.0 name) pairs
 
+-- the byte `.`
 abbrev pub is_point : ℕ → Bool
 is_point b = nat_eq b 46
 
@@ -35,8 +36,8 @@ with_child front list p = insert_entry byte_order list (component (drop (length 
 
 -- the next components of the names that continue a name, true for a leaf
 abbrev pub children : List Pair → List ℕ → List (List ℕ × Bool)
-children pairs front = fold (with_child front) [] (fronted pairs front)
+children pairs front = fold (with_child front) [] (pairs_with_front pairs front)
 
--- none where no name is the name or continues it
+-- the next components below a name; none where no name is the name or continues it
 abbrev pub children_of : List Pair → List ℕ → Option (List (List ℕ × Bool))
 children_of pairs name = if is_there pairs name || is_above pairs name then Some (children pairs (name ++ 46 ∷ [])) else None

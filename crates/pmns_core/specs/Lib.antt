@@ -2,4 +2,4 @@ pub mod Adding
 pub mod Below
 pub mod Order
 pub mod Pairs
-pub mod Shown
+pub mod Tables

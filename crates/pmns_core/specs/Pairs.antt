@@ -18,15 +18,15 @@ abbrev pub least_name : List Pair → ℕ → Option (List ℕ)
 least_name [] pmid = None
 least_name (p ∷ pairs) pmid = if nat_eq p.1 pmid then Some p.0 else least_name pairs pmid
 
--- a pair in its place
-abbrev pub placed : List Pair → List ℕ → ℕ → List Pair
-placed [] name pmid = (name, pmid) ∷ []
-placed (p ∷ pairs) name pmid = if is_before name p.0 then (name, pmid) ∷ p ∷ pairs else p ∷ placed pairs name pmid
+-- the pairs with one more, which stands where the order has it
+abbrev pub with_pair : List Pair → List ℕ → ℕ → List Pair
+with_pair [] name pmid = (name, pmid) ∷ []
+with_pair (p ∷ pairs) name pmid = if is_before name p.0 then (name, pmid) ∷ p ∷ pairs else p ∷ with_pair pairs name pmid
 
 -- the pairs but the one of a name
-abbrev pub without : List Pair → List ℕ → List Pair
-without [] name = []
-without (p ∷ pairs) name = if is_same name p.0 then pairs else p ∷ without pairs name
+abbrev pub pairs_without : List Pair → List ℕ → List Pair
+pairs_without [] name = []
+pairs_without (p ∷ pairs) name = if is_same name p.0 then pairs else p ∷ pairs_without pairs name
 
 -- the names rise, and none has a zero byte
 abbrev pub IsInOrder : List Pair → Type 0
@@ -38,6 +38,6 @@ abbrev pub lesser : List ℕ → Option (List ℕ) → List ℕ
 lesser name None = name
 lesser name (Some other) = if is_before name other then name else other
 
--- the least name of a PMID once one more pair is there
-abbrev pub noted : ℕ → Option (List ℕ) → Pair → Option (List ℕ)
-noted pmid least p = if nat_eq p.1 pmid then Some (lesser p.0 least) else least
+-- the least name of a PMID, given the one before, once one more pair is there
+abbrev pub least_with : ℕ → Option (List ℕ) → Pair → Option (List ℕ)
+least_with pmid least p = if nat_eq p.1 pmid then Some (lesser p.0 least) else least

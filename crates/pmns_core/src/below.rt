@@ -1,10 +1,13 @@
+//! What lies below a name: the pairs that continue it, and their next components (pmTraversePMNS(3),
+//! pmGetChildren(3)).
+
 ghost use Rattle.std.specs.Prelude.{◌≡◌, ◌<◌, ◌++◌, length, position, IfOk, IfSome, OnOk};
 ghost use Rattle.std.specs.BTreeMap.{insert_entry};
 ghost use Rattle.pcp_base.specs.Texts.{IsText};
-ghost use Rattle.pmns_core.specs.Below.{below, children, children_of, component, fronted, is_leaf, is_point, own};
+ghost use Rattle.pmns_core.specs.Below.{below, children, children_of, component, pairs_with_front, is_leaf, is_point, pair_of_name};
 ghost use Rattle.pmns_core.specs.Order.{byte_order};
 ghost use Rattle.pmns_core.specs.Pairs.{IsInOrder};
-ghost use Rattle.pmns_core.specs.Shown.{shown, shown_parts, AreTextParts};
+ghost use Rattle.pmns_core.specs.Tables.{pairs_of, parts_of, AreTextParts};
 
 use crate::table::{Table, front_of, has, is_continued, pmid_at};
 use pcp_base::{Duplicate, List, NoMemory, Pmid, Text, TextError};
@@ -13,8 +16,8 @@ use std::collections::BTreeMap;
 
 /// The pairs whose names are the name or continue it, in byte order.
 pub fn all_below(alloc: Global, table: &Table, name: &Text) -> Result<List<(Text, Pmid)>, NoMemory>
-    requires { IsInOrder (shown table.now) }
-    ensures { IfOk result (λ found. found ≡ below (shown table.now) name.now) }
+    requires { IsInOrder (pairs_of table.now) }
+    ensures { IfOk result (λ found. found ≡ below (pairs_of table.now) name.now) }
 {
     let mut found = own_pair(alloc, table, name)?;
     let front = front_of(alloc, name.as_slice())?;
@@ -24,7 +27,7 @@ pub fn all_below(alloc: Global, table: &Table, name: &Text) -> Result<List<(Text
 
 // The pair of the name itself, if it is there.
 fn own_pair(alloc: Global, table: &Table, name: &Text) -> Result<List<(Text, Pmid)>, NoMemory>
-    ensures { IfOk result (λ found. found ≡ own (shown table.now) name.now) }
+    ensures { IfOk result (λ found. found ≡ pair_of_name (pairs_of table.now) name.now) }
 {
     let mut found = List::empty(alloc);
     match pmid_at(table, name.as_slice()) {
@@ -43,8 +46,8 @@ fn push_all(
     table: &Table,
     front: &Vec<u8>,
 ) -> Result<(), NoMemory>
-    requires { IsInOrder (shown table.now) }
-    ensures { OnOk result (found.new ≡ found.old ++ fronted (shown table.now) front.now.items) }
+    requires { IsInOrder (pairs_of table.now) }
+    ensures { OnOk result (found.new ≡ found.old ++ pairs_with_front (pairs_of table.now) front.now.items) }
 {
     let mut rest = table.range(front..);
     while let Some((key, pmid)) = rest.next() {
@@ -63,8 +66,8 @@ pub fn children_below(
     table: &Table,
     name: &Text,
 ) -> Result<Option<List<(Text, bool)>>, NoMemory>
-    requires { IsInOrder (shown table.now) }
-    ensures { IfOk result (λ found. found ≡ children_of (shown table.now) name.now) }
+    requires { IsInOrder (pairs_of table.now) }
+    ensures { IfOk result (λ found. found ≡ children_of (pairs_of table.now) name.now) }
 {
     let front = front_of(alloc, name.as_slice())?;
     if !has(table, name.as_slice()) && !is_continued(alloc, table, name.as_slice())? {
@@ -75,13 +78,14 @@ pub fn children_below(
     Ok(Some(found))
 }
 
+// Next components, and whether the name ends with them.
 type Parts = BTreeMap<Vec<u8>, bool>;
 
 // The components after a front.
 fn parts_below(alloc: Global, table: &Table, front: &Vec<u8>) -> Result<Parts, NoMemory>
-    requires { IsInOrder (shown table.now) }
-    ensures parts { IfOk result (λ parts. shown_parts parts ≡ children (shown table.now) front.now.items) }
-    ensures texts { IfOk result (λ parts. AreTextParts (shown_parts parts)) }
+    requires { IsInOrder (pairs_of table.now) }
+    ensures parts { IfOk result (λ parts. parts_of parts ≡ children (pairs_of table.now) front.now.items) }
+    ensures texts { IfOk result (λ parts. AreTextParts (parts_of parts)) }
 {
     let mut parts = BTreeMap::new(alloc);
     let mut rest = table.range(front..);
@@ -94,11 +98,12 @@ fn parts_below(alloc: Global, table: &Table, front: &Vec<u8>) -> Result<Parts, N
     Ok(parts)
 }
 
+// Adds the next component of a name, given the rest of that name behind the front.
 fn add_part(alloc: Global, parts: &mut Parts, rest: &[u8]) -> Result<(), NoMemory>
     requires text { IsText rest.now }
-    requires texts { AreTextParts (shown_parts parts.old) }
-    ensures part { OnOk result (shown_parts parts.new ≡ insert_entry byte_order (shown_parts parts.old) (component rest.now) (is_leaf rest.now)) }
-    ensures texts { OnOk result (AreTextParts (shown_parts parts.new)) }
+    requires texts { AreTextParts (parts_of parts.old) }
+    ensures part { OnOk result (parts_of parts.new ≡ insert_entry byte_order (parts_of parts.old) (component rest.now) (is_leaf rest.now)) }
+    ensures texts { OnOk result (AreTextParts (parts_of parts.new)) }
 {
     let (part, is_leaf) = part_of(rest);
     let key = Vec::from_slice(alloc, part)?;
@@ -106,7 +111,7 @@ fn add_part(alloc: Global, parts: &mut Parts, rest: &[u8]) -> Result<(), NoMemor
     Ok(())
 }
 
-// A name's next component, and whether the name ends with it.
+// The next component of a rest of a name, and whether the rest ends with it.
 fn part_of(rest: &[u8]) -> (&[u8], bool)
     ensures part { result.0.now ≡ component rest.now }
     ensures leaf { result.1 ≡ is_leaf rest.now }
@@ -117,6 +122,7 @@ fn part_of(rest: &[u8]) -> (&[u8], bool)
     }
 }
 
+// The offset of the first `.`.
 fn point_in(rest: &[u8]) -> Option<usize>
     ensures value { result ≡ position is_point rest.now }
     ensures within { IfSome result (λ at. at < length rest.now) }
@@ -124,9 +130,10 @@ fn point_in(rest: &[u8]) -> Option<usize>
     rest.iter().position(|byte| *byte == b'.')
 }
 
+// The components as texts.
 fn texts_of(alloc: Global, parts: &Parts) -> Result<List<(Text, bool)>, NoMemory>
-    requires { AreTextParts (shown_parts parts.now) }
-    ensures { IfOk result (λ found. found ≡ shown_parts parts.now) }
+    requires { AreTextParts (parts_of parts.now) }
+    ensures { IfOk result (λ found. found ≡ parts_of parts.now) }
 {
     let mut found = List::empty(alloc);
     let mut rest = parts.range(..);

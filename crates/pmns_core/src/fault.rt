@@ -1,3 +1,5 @@
+//! Why pairs are not added to a name space.
+
 ghost use Rattle.std.specs.Prelude.{◌≡◌};
 ghost use Rattle.pmns_core.specs.declared.fault.NamesFault.TheVariants.{NoMemory as Refused};
 

@@ -1,16 +1,19 @@
+//! The least name of each PMID, in a map beside the table. A slot for each PMID is made before the first
+//! name is added, so that whatever can be refused is refused while nothing has changed.
+
 ghost use Rattle.std.specs.Prelude.{◌≡◌, ℕ, ◌<◌, fold, length, slice_index_or, IsSome, OnOk, IfOk};
 ghost use Rattle.std.specs.Option.{option_copied};
 ghost use Rattle.std.specs.Ordering.{nat_cmp};
 ghost use Rattle.std.specs.BTreeMap.{get};
 ghost use Rattle.pmns_core.specs.Order.{is_before as before_lem};
-ghost use Rattle.pmns_core.specs.Pairs.{Pair, noted};
-ghost use Rattle.pmns_core.specs.Shown.{least_at, HasPlaces};
+ghost use Rattle.pmns_core.specs.Pairs.{Pair, least_with};
+ghost use Rattle.pmns_core.specs.Tables.{least_at, HasSlots};
 
 use pcp_base::{List, NoMemory, Pmid, Text};
 use std::cmp::Ordering;
 use std::collections::BTreeMap;
 
-/// The least name of each PMID, and places for PMIDs that may get one.
+/// The least name of each PMID; a slot without a name is of a PMID that may get one.
 pub type Least = BTreeMap<Pmid, Option<Text>>;
 
 /// The least name of a PMID.
@@ -23,20 +26,20 @@ pub fn name_at(least: &Least, pmid: Pmid) -> Option<&Text>
     }
 }
 
-/// Makes a place for each PMID.
-pub fn make_places(least: &mut Least, pairs: &[(Text, Pmid)]) -> Result<(), NoMemory>
+/// Makes a slot for the PMID of each pair, where there is none yet. No name changes, also where memory is refused.
+pub fn make_slots(least: &mut Least, pairs: &[(Text, Pmid)]) -> Result<(), NoMemory>
     ensures same { (q : ℕ) → least_at least.new q ≡ least_at least.old q }
-    ensures places { OnOk result (HasPlaces least.new pairs.now) }
+    ensures slots { OnOk result (HasSlots least.new pairs.now) }
 {
     for pair in pairs {
-        make_place(least, pair.1)?;
+        make_slot(least, pair.1)?;
     }
     Ok(())
 }
 
-fn make_place(least: &mut Least, pmid: Pmid) -> Result<(), NoMemory>
+fn make_slot(least: &mut Least, pmid: Pmid) -> Result<(), NoMemory>
     ensures same { (q : ℕ) → least_at least.new q ≡ least_at least.old q }
-    ensures place { OnOk result (IsSome (get nat_cmp least.new pmid)) }
+    ensures slot { OnOk result (IsSome (get nat_cmp least.new pmid)) }
     ensures keeps { (q : ℕ) → IsSome (get nat_cmp least.old q) → IsSome (get nat_cmp least.new q) }
 {
     if least.contains_key(&pmid) {
@@ -52,11 +55,11 @@ fn is_before(name: &Text, other: &Text) -> bool
     name.as_slice().cmp(&other.as_slice()) == Ordering::Less
 }
 
-// Notes that a PMID has a name, where that is the least.
+// Puts a name into its PMID's slot, where it is less than the one that is there.
 fn note(least: &mut Least, name: Text, pmid: Pmid)
     requires { IsSome (get nat_cmp least.old pmid) }
-    ensures noted { (q : ℕ) → least_at least.new q ≡ noted q (least_at least.old q) (name, pmid) }
-    ensures places { (q : ℕ) → IsSome (get nat_cmp least.old q) → IsSome (get nat_cmp least.new q) }
+    ensures least { (q : ℕ) → least_at least.new q ≡ least_with q (least_at least.old q) (name, pmid) }
+    ensures slots { (q : ℕ) → IsSome (get nat_cmp least.old q) → IsSome (get nat_cmp least.new q) }
 {
     let Some(slot) = least.get_mut(&pmid) else {
         return;
@@ -70,10 +73,10 @@ fn note(least: &mut Least, name: Text, pmid: Pmid)
     }
 }
 
-/// Notes the names of pairs that were added; each PMID has its place.
+/// Puts the names of pairs that were added into the slots of their PMIDs. It takes no memory.
 pub fn note_all(least: &mut Least, pairs: List<(Text, Pmid)>)
-    requires { HasPlaces least.old pairs }
-    ensures { (q : ℕ) → least_at least.new q ≡ fold (noted q) (least_at least.old q) pairs }
+    requires { HasSlots least.old pairs }
+    ensures { (q : ℕ) → least_at least.new q ≡ fold (least_with q) (least_at least.old q) pairs }
 {
     let mut left = pairs.into_vec();
     left.reverse();

@@ -1,3 +1,5 @@
+//! The name space that callers see, over its two tables.
+
 ghost use Rattle.std.specs.Prelude.{◌≡◌, [], IfOk};
 ghost use Rattle.std.specs.Option.{option_copied};
 ghost use Rattle.pmns_core.specs.Adding.{Adds};
@@ -6,7 +8,7 @@ ghost use Rattle.pmns_core.specs.Pairs.{least_name, pmid_of, IsInOrder};
 
 use crate::below::{all_below, children_below};
 use crate::fault::NamesFault;
-use crate::least::{Least, make_places, name_at, note_all};
+use crate::least::{Least, make_slots, name_at, note_all};
 use crate::table::{Table, add_all, pmid_at};
 use pcp_base::{Duplicate, List, NoMemory, Pmid, Text};
 use std::alloc::Global;
@@ -25,11 +27,11 @@ pub struct Names {
 impl Model for Names {
     ghost use Rattle.std.specs.Prelude.{List as Sequence};
     ghost use Rattle.pmns_core.specs.Pairs.{Pair};
-    ghost use Rattle.pmns_core.specs.Shown.{shown, Agree};
+    ghost use Rattle.pmns_core.specs.Tables.{pairs_of, Agree};
 
     ghost Value = { Sequence Pair };
 
-    ghost view = { λ a. shown a.table };
+    ghost view = { λ a. pairs_of a.table };
 
     ghost invariant = { λ a. Agree a.table a.least };
 }
@@ -51,7 +53,7 @@ impl Names {
         ensures { Adds result pairs.now self.old self.new }
     {
         let copies = pairs.copy(alloc)?;
-        make_places(&mut self.least, pairs.as_slice())?;
+        make_slots(&mut self.least, pairs.as_slice())?;
         add_all(alloc, &mut self.table, pairs.as_slice())?;
         note_all(&mut self.least, copies);
         Ok(())

@@ -1,3 +1,5 @@
+//! What no clause of the name space says: worked name spaces and their answers.
+
 use super::*;
 use pcp_base::{List, Pmid, Text};
 use std::alloc::Global;

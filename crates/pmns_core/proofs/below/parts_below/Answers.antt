@@ -7,7 +7,7 @@ use Rattle.pmns_core.proofs.Parts.{part}
 use Rattle.pmns_core.proofs.Tables.{pair, from_front}
 use Rattle.pmns_core.specs.Pairs.{IsInOrder}
 use Rattle.pmns_core.specs.Below.{with_child, children}
-use Rattle.pmns_core.specs.Shown.{shown_parts, AreTextParts}
+use Rattle.pmns_core.specs.Tables.{parts_of, AreTextParts}
 use Rattle.pmns_core.proofs.Ranges.{taken, taken_all, AreTexts, texts_from_front}
 use Rattle.pmns_core.proofs.below.parts_below.Goals as goal
 
@@ -29,10 +29,10 @@ returns-then-not-starts_with-clause-parts c =
     ∙ sym c.if-not-starts_with.ensures.value in
     let ends : taken front c.loop-key.rest ≡ [] =
     ap (taken front) c.in-Some.ensures.steps ∙ ap (λ t. if t then (c.in-Some.key.now.items, c.in-Some._pmid.now) ∷ taken front c.next.new.self else []) begins in
-    ap (fold (with_child front) (shown_parts c.loop-key.parts)) (sym ends) ∙ c.loop-key.invariant.4 ∙ all c.args.front.now.items c.new-parts.result.entries c.args.table.now.entries c.range-rest.result c.new-parts.ensures.empty (c.range-rest.ensures.between tt) c.requires
+    ap (fold (with_child front) (parts_of c.loop-key.parts)) (sym ends) ∙ c.loop-key.invariant.4 ∙ all c.args.front.now.items c.new-parts.result.entries c.args.table.now.entries c.range-rest.result c.new-parts.ensures.empty (c.range-rest.ensures.between tt) c.requires
 
 pub returns-clause-parts : goal.returns-clause-parts
 returns-clause-parts c =
     let front = c.args.front.now.items in
     let ends : taken front c.loop-key.rest ≡ [] = ap (taken front) c.in_default.ensures.steps.0 in
-    ap (fold (with_child front) (shown_parts c.loop-key.parts)) (sym ends) ∙ c.loop-key.invariant.4 ∙ all c.args.front.now.items c.new-parts.result.entries c.args.table.now.entries c.range-rest.result c.new-parts.ensures.empty (c.range-rest.ensures.between tt) c.requires
+    ap (fold (with_child front) (parts_of c.loop-key.parts)) (sym ends) ∙ c.loop-key.invariant.4 ∙ all c.args.front.now.items c.new-parts.result.entries c.args.table.now.entries c.range-rest.result c.new-parts.ensures.empty (c.range-rest.ensures.between tt) c.requires

@@ -2,7 +2,7 @@
 use Rattle.std.proofs.Common.{◌≡◌, ℕ, Bool, List, ◌++◌, map, sym, ap, ◌∙◌, subst}
 use Rattle.std.proofs.lemmas.List.{append-nil}
 use Rattle.std.specs.Global.{Vec}
-use Rattle.pmns_core.specs.Shown.{AreTextParts}
+use Rattle.pmns_core.specs.Tables.{AreTextParts}
 use Rattle.pmns_core.proofs.Parts.{part, unbounded}
 use Rattle.pmns_core.proofs.below.texts_of.Goals as goal
 

@@ -1,6 +1,6 @@
 -- What is found and what is left are all components.
 use Rattle.std.proofs.Common.{◌≡◌, ◌++◌, map}
-use Rattle.pmns_core.specs.Shown.{AreTextParts}
+use Rattle.pmns_core.specs.Tables.{AreTextParts}
 use Rattle.pmns_core.proofs.Parts.{part}
 use Rattle.pmns_core.proofs.below.texts_of.Given as goal
 

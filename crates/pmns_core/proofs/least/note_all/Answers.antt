@@ -1,9 +1,9 @@
 -- The pair that is taken is the first of those that are left.
 use Rattle.std.proofs.Common.{◌≡◌, List, [], ◌∷◌, reverse, fold, sym, ap, ◌∙◌, subst}
 use Rattle.std.proofs.lemmas.List.{reverse-append}
-use Rattle.pmns_core.specs.Pairs.{Pair, noted}
-use Rattle.pmns_core.specs.Shown.{least_at, HasPlaces}
-use Rattle.pmns_core.proofs.Places.{keeps_places}
+use Rattle.pmns_core.specs.Pairs.{Pair, least_with}
+use Rattle.pmns_core.specs.Tables.{least_at, HasSlots}
+use Rattle.pmns_core.proofs.Slots.{keeps_slots}
 use Rattle.pmns_core.proofs.least.note_all.Goals as goal
 
 pub loop-name-preserved : goal.loop-name-preserved
@@ -11,10 +11,10 @@ loop-name-preserved c =
     let p : Pair = (c.in-Some.name, c.in-Some.pmid) in
     let rest : List Pair = reverse c.pop.new.self.items in
     let front : reverse c.loop-name.left.items ≡ p ∷ rest = ap reverse c.in-Some.ensures.items ∙ reverse-append c.pop.new.self.items (p ∷ []) in
-    let places : HasPlaces c.loop-name.least (p ∷ rest) = subst (HasPlaces c.loop-name.least) front c.loop-name.invariant.places in
+    let slots : HasSlots c.loop-name.least (p ∷ rest) = subst (HasSlots c.loop-name.least) front c.loop-name.invariant.slots in
     record {
-      places = keeps_places c.loop-name.least c.note.new.least c.note.ensures.places rest places.1;
-      rest = λ q. ap (λ o. fold (noted q) o rest) (c.note.ensures.noted q)
-          ∙ ap (fold (noted q) (least_at c.loop-name.least q)) (sym front)
+      slots = keeps_slots c.loop-name.least c.note.new.least c.note.ensures.slots rest slots.1;
+      rest = λ q. ap (λ o. fold (least_with q) o rest) (c.note.ensures.least q)
+          ∙ ap (fold (least_with q) (least_at c.loop-name.least q)) (sym front)
           ∙ c.loop-name.invariant.rest q;
     }

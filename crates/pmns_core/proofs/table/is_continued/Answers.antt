@@ -3,7 +3,7 @@ use Rattle.std.proofs.Common.{ℕ, List, sym, ap, ◌∙◌}
 use Rattle.std.specs.Prelude.{nat_eq}
 use Rattle.std.specs.List.{list_any, starts_with}
 use Rattle.pmns_core.specs.Pairs.{Pair}
-use Rattle.pmns_core.specs.Shown.{shown}
+use Rattle.pmns_core.specs.Tables.{pairs_of}
 use Rattle.pmns_core.proofs.Tables.{front_seen, head_begins}
 use Rattle.pmns_core.proofs.table.is_continued.Goals as goal
 
@@ -16,7 +16,7 @@ returns-in-Some c =
     ∙ ap (head_begins front) (sym c.in-Some.ensures.steps)
     ∙ ap (head_begins front) (c.range.ensures.between tt)
     ∙ sym (front_seen front c.args.table.now.entries c.requires)
-    ∙ ap (λ (bs : List ℕ). list_any (λ (p : Pair). starts_with nat_eq p.0 bs) (shown c.args.table.now)) c.in_ok-front.ensures
+    ∙ ap (λ (bs : List ℕ). list_any (λ (p : Pair). starts_with nat_eq p.0 bs) (pairs_of c.args.table.now)) c.in_ok-front.ensures
 
 pub returns : goal.returns
 returns c =
@@ -24,4 +24,4 @@ returns c =
     ap (head_begins front) (sym c.in-None.ensures.steps.0)
     ∙ ap (head_begins front) (c.range.ensures.between tt)
     ∙ sym (front_seen front c.args.table.now.entries c.requires)
-    ∙ ap (λ (bs : List ℕ). list_any (λ (p : Pair). starts_with nat_eq p.0 bs) (shown c.args.table.now)) c.in_ok-front.ensures
+    ∙ ap (λ (bs : List ℕ). list_any (λ (p : Pair). starts_with nat_eq p.0 bs) (pairs_of c.args.table.now)) c.in_ok-front.ensures

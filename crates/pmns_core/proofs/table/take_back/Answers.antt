@@ -1,9 +1,9 @@
 -- What was added last is taken out.
 use Rattle.std.proofs.Common.{◌≡◌, ℕ, ◌-◌, ◌<◌, suc, length, take, get_or, List, [], ◌∷◌, ◌++◌, map, Ok, arith, sym, ap, ◌∙◌}
 use Rattle.std.proofs.Math.Seq.{take-suc}
-use Rattle.pmns_core.specs.Pairs.{Pair, without}
-use Rattle.pmns_core.specs.Adding.{added}
-use Rattle.pmns_core.specs.Shown.{shown}
+use Rattle.pmns_core.specs.Pairs.{Pair, pairs_without}
+use Rattle.pmns_core.specs.Adding.{after_adding}
+use Rattle.pmns_core.specs.Tables.{pairs_of}
 use Rattle.pmns_core.proofs.Tables.{pair, remove_shown, without_placed, added_last, fitted_absent}
 use Rattle.pmns_core.proofs.table.take_back.Goals as goal
 
@@ -16,11 +16,11 @@ loop-left-preserved c =
     let p : Pair = get_or pairs at c.index-pairs-left.result in
     record {
       within = omega (arith, c.loop-left.invariant.within);
-      left = λ (before : List Pair) (e : added pairs before ≡ Ok (shown c.args.table.now)).
+      left = λ (before : List Pair) (e : after_adding pairs before ≡ Ok (pairs_of c.args.table.now)).
           let front : take c.loop-left.left pairs ≡ take at pairs ++ p ∷ [] = ap (λ n. take n pairs) (sym next) ∙ take-suc pairs at c.index-pairs-left.result within in
-          let r = added_last (take at pairs) p before (shown c.loop-left.table) (ap (λ (ps : List Pair). added ps before) (sym front) ∙ c.loop-left.invariant.left before e) in
-          let gone : shown c.remove.new.self ≡ without (shown c.loop-left.table) p.0 =
-          ap (map pair) c.remove.ensures.entries ∙ remove_shown c.loop-left.table.entries c.as_slice.result.now ∙ ap (without (shown c.loop-left.table)) c.as_slice.ensures.value in
-          let back : without (shown c.loop-left.table) p.0 ≡ r.middle = ap (λ (ps : List Pair). without ps p.0) r.last ∙ without_placed r.middle p.0 p.1 (fitted_absent r.middle p.0 r.fitted) in
+          let r = added_last (take at pairs) p before (pairs_of c.loop-left.table) (ap (λ (ps : List Pair). after_adding ps before) (sym front) ∙ c.loop-left.invariant.left before e) in
+          let gone : pairs_of c.remove.new.self ≡ pairs_without (pairs_of c.loop-left.table) p.0 =
+          ap (map pair) c.remove.ensures.entries ∙ remove_shown c.loop-left.table.entries c.as_slice.result.now ∙ ap (pairs_without (pairs_of c.loop-left.table)) c.as_slice.ensures.value in
+          let back : pairs_without (pairs_of c.loop-left.table) p.0 ≡ r.middle = ap (λ (ps : List Pair). pairs_without ps p.0) r.last ∙ without_placed r.middle p.0 p.1 (fitted_absent r.middle p.0 r.fitted) in
           r.first ∙ ap (λ (ps : List Pair). Ok ps) (sym (gone ∙ back));
     }
