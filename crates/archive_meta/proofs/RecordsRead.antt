@@ -8,7 +8,7 @@ use Rattle.pcp_base.specs.Time.{Moment}
 use Rattle.pcp_model.specs.Words.{word}
 use Rattle.pcp_model.specs.declared.records.MetaRecord.{MetaRecord}
 use Rattle.pcp_model.specs.declared.records.MetaRecord.TheVariants.{Description, Domain, Other}
-use Rattle.pcp_model.specs.Records.{IsRecord, description, domain_head, words, instance_words}
+use Rattle.pcp_model.specs.Records.{IsRecord, description, domain_head, word_bytes, instance_words}
 use Rattle.archive_meta.specs.Decoding.{◌>>=◌, description_in, domain_in, record_in, stamp_in, stamped_in}
 use Rattle.archive_meta.specs.Stamped.{IsStamped}
 use Rattle.archive_meta.proofs.ZeroBytes.{bind_some, some_is, past, only}
@@ -58,7 +58,7 @@ unfolding record_in description
 record_again bytes (Description d names) few is =
     ap (λ o. o >>= by_first bytes) (field_again bytes 0 1 _ (omega arith) is.1) ∙ ap (λ o. o >>= λ y. Some (Description y.0 y.1)) (description_again bytes d names is.0 is.1)
 record_again bytes (Domain t indom pairs) few is =
-    let rest : List ℕ = word t.sec ++ (word t.usec ++ (word indom ++ (word (length pairs) ++ (instance_words pairs ++ (words is.offsets ++ is.table))))) in
+    let rest : List ℕ = word t.sec ++ (word t.usec ++ (word indom ++ (word (length pairs) ++ (instance_words pairs ++ (word_bytes is.offsets ++ is.table))))) in
     let cut : drop 0 bytes ≡ word 2 ++ rest = is.is ∙ (let e : domain_head t indom pairs is.offsets ++ is.table ≡ word 2 ++ rest = simp append_assoc in e) in
     ap (λ o. o >>= by_first bytes) (field_again bytes 0 2 rest (omega arith) cut) ∙ ap (λ o. o >>= λ y. Some (Domain y.0 y.1 y.2)) (domain_again bytes t indom pairs few is)
 record_again bytes Other few is =

@@ -5,7 +5,7 @@ use Rattle.std.proofs.lemmas.Bool.{cases_lt}
 use Rattle.std.proofs.lemmas.List.{map-append, get_or_read}
 use Rattle.std.proofs.lemmas.List.Elements.{Contains-append_left, Contains-push}
 use Rattle.pcp_base.specs.declared.result.Item.{Item}
-use Rattle.pcp_model.specs.Archive.{Holds, AreVolumes, IsLastVolume}
+use Rattle.pcp_model.specs.Archive.{LabelledFile, AreVolumes, IsLastVolume}
 use Rattle.pcp_model.specs.LabelFields.{LabelFields}
 use Rattle.pcp_model.specs.Payload.{IsItem}
 use Rattle.archive_plain.specs.Plain.{AreAll, AreWhole, IsFilled, files_of, numbers}
@@ -26,7 +26,7 @@ skip_empty volumes l n vs none whole = record {
   told = told_next {P = λ m. (slice_index_or volumes m [] ≡ []) ⊎ Contains (numbers vs) m} n whole.told (inl none);
 }
 
-pub add_whole : (volumes : List (List ℕ)) (l : LabelFields) (n : ℕ) (vs : List (ℕ × List Item)) (items : List Item) → Holds IsItem (slice_index_or volumes n []) l (pos n) items []
+pub add_whole : (volumes : List (List ℕ)) (l : LabelFields) (n : ℕ) (vs : List (ℕ × List Item)) (items : List Item) → LabelledFile IsItem (slice_index_or volumes n []) l (pos n) items []
     → AreWhole volumes l n vs → AreWhole volumes l (n + 1) (vs ++ (n, items) ∷ [])
 add_whole volumes l n vs items holds whole = record {
   followed = λ meta index v more le are.

@@ -5,7 +5,7 @@ use Rattle.pcp_base.specs.declared.desc.Desc.{Desc}
 use Rattle.pcp_base.specs.declared.file.FileId.TheVariants.{Meta, Index, Volume}
 use Rattle.pcp_base.specs.declared.result.Item.{Item}
 use Rattle.pcp_model.specs.declared.records.Entry.{Entry}
-use Rattle.pcp_model.specs.Archive.{Contents, Reading, AreVolumes}
+use Rattle.pcp_model.specs.Archive.{ArchiveContents, ArchiveReading, AreVolumes}
 use Rattle.pcp_model.specs.Disk.{Files}
 use Rattle.pcp_model.specs.Frame.{frames}
 use Rattle.pcp_model.specs.LabelFields.{LabelFields}
@@ -66,9 +66,9 @@ pub record HasName (pairs : List (ℤ × List ℕ)) (instance : ℤ) : Type 0 wh
   pub among : Contains pairs (instance, name)
 
 -- the values that the definitions speak of
-abbrev pub contents_of : PlainContents → Contents
+abbrev pub contents_of : PlainContents → ArchiveContents
 contents_of c = record { label = c.label; records = c.records; entries = c.entries; volumes = c.volumes }
 
-abbrev pub reading_of : PlainReading → Reading
-reading_of Nothing = Reading.nothing
-reading_of (Archive c) = Reading.archive (contents_of c)
+abbrev pub reading_of : PlainReading → ArchiveReading
+reading_of Nothing = ArchiveReading.nothing
+reading_of (Archive c) = ArchiveReading.archive (contents_of c)

@@ -3,7 +3,7 @@ ghost use Rattle.std.specs.Prelude.{◌≡◌, ◌<◌, ◌≤◌, ◌++◌, len
 ghost use Rattle.std.specs.Int.{w32};
 ghost use Rattle.pcp_base.specs.Time.{IsMoment};
 ghost use Rattle.std.specs.List.{AllByRecursion};
-ghost use Rattle.pcp_model.specs.Records.{IsDomain, IsRecord, NameStands, NamesStand, domain_head, instance_words, words};
+ghost use Rattle.pcp_model.specs.Records.{IsDomain, IsRecord, NameStands, NamesStand, domain_head, instance_words, word_bytes};
 
 use crate::label::are_same;
 use crate::records::text_of;
@@ -70,7 +70,7 @@ fn put_numbers(out: &mut Vec<u8>, pairs: &[(i32, Text)]) -> Result<(), NoMemory>
 }
 
 fn put_words(out: &mut Vec<u8>, numbers: &[u32]) -> Result<(), NoMemory>
-    ensures { OnOk result (out.new.items ≡ out.old.items ++ words numbers.now) }
+    ensures { OnOk result (out.new.items ≡ out.old.items ++ word_bytes numbers.now) }
 {
     for number in numbers {
         put_word(out, *number)?;

@@ -5,7 +5,7 @@ ghost use Rattle.std.specs.List.{AllByRecursion};
 ghost use Rattle.pcp_base.specs.declared.result.Item.{Item as Kept};
 ghost use Rattle.pcp_model.specs.declared.records.Entry.{Entry as Place};
 ghost use Rattle.pcp_model.specs.declared.records.MetaRecord.{MetaRecord as Known};
-ghost use Rattle.pcp_model.specs.Archive.{Holds, IsMeta, IsIndex, IsLastVolume};
+ghost use Rattle.pcp_model.specs.Archive.{LabelledFile, IsMeta, IsIndex, IsLastVolume};
 ghost use Rattle.pcp_model.specs.Frame.{frames, IsFrameable};
 ghost use Rattle.pcp_model.specs.Labels.{IsLabel};
 ghost use Rattle.pcp_model.specs.Payload.{IsItem};
@@ -106,7 +106,7 @@ fn read_volume(
     number: u32,
 ) -> Result<Option<VolumeFile>, NoMemory>
     requires { number < 2147483648 }
-    ensures { IfOk result (λ found. IfSome found (λ v. Holds IsItem bytes.now label.now (pos number) v.items v.rest)) }
+    ensures { IfOk result (λ found. IfSome found (λ v. LabelledFile IsItem bytes.now label.now (pos number) v.items v.rest)) }
 {
     let Some(headed) = read_headed(alloc, bytes, number as i32)? else {
         return Ok(None);
@@ -133,7 +133,7 @@ pub fn read_whole_volume(
     number: u32,
 ) -> Result<Option<List<Item>>, NoMemory>
     requires { number < 2147483648 }
-    ensures { IfOk result (λ found. IfSome found (λ items. Holds IsItem bytes.now label.now (pos number) items [])) }
+    ensures { IfOk result (λ found. IfSome found (λ items. LabelledFile IsItem bytes.now label.now (pos number) items [])) }
 {
     let Some(VolumeFile { items, rest }) = read_volume(alloc, bytes, label, number)? else {
         return Ok(None);

@@ -14,7 +14,7 @@ use Rattle.pcp_base.specs.Time.{IsMoment}
 use Rattle.pcp_base.specs.declared.result.Item.{Item}
 use Rattle.pcp_model.specs.declared.records.Entry.{Entry}
 use Rattle.pcp_model.specs.declared.records.MetaRecord.{MetaRecord}
-use Rattle.pcp_model.specs.Archive.{AreRead, Holds, HasEntries}
+use Rattle.pcp_model.specs.Archive.{AreRead, LabelledFile, HasEntries}
 use Rattle.pcp_model.specs.Records.{entry, entries, FitsEntry}
 use Rattle.pcp_model.specs.Words.{word, signed_word, length-word, length-signed_word, padded, zeros}
 use Rattle.pcp_model.specs.Frame.{frame, frames, IsFrameable, IsTorn}
@@ -198,7 +198,7 @@ pub record CutFile {X : Type 0} (R : List ℕ → X → Type 0) (bytes : List �
   pub k : ℕ
   pub torn : List ℕ
   pub is_torn : IsTorn torn
-  pub holds : Holds R (take n bytes) l number (take k values) torn
+  pub holds : LabelledFile R (take n bytes) l number (take k values) torn
   pub whole : length bytes ≤ n → length values ≤ k
   pub behind : (k ≡ 0) ⊎ (132 < n)
 
@@ -214,7 +214,7 @@ behind_label bytes head rest n long is h =
     ap (take n) is ∙ ap (λ m. take m (head ++ rest)) (let e : n ≡ length head + (n - 132) = omega arith in e) ∙ take-append-add head rest (n - 132)
 
 module _ {X : Type 0} (R : List ℕ → X → Type 0) (bytes : List ℕ) (l : LabelFields) (number : ℤ) (values : List X) (n : ℕ) where
-  cut_of : (h : Holds R bytes l number values []) → 132 ≤ n → CutFrames h.payloads (n - 132) → CutFile R bytes l number values n
+  cut_of : (h : LabelledFile R bytes l number values []) → 132 ≤ n → CutFrames h.payloads (n - 132) → CutFile R bytes l number values n
   cut_of h long c =
       let head : length h.head ≡ 132 = length_of_label h.head l number h.label in
       let is : bytes ≡ h.head ++ frames h.payloads = h.is ∙ ap (λ t. h.head ++ t) (append-nil (frames h.payloads)) in
@@ -237,7 +237,7 @@ module _ {X : Type 0} (R : List ℕ → X → Type 0) (bytes : List ℕ) (l : La
         behind = some_behind h.payloads c.k n c.few (omega arith);
       }
 
-  pub cut_file : Holds R bytes l number values [] → 132 ≤ n → CutFile R bytes l number values n
+  pub cut_file : LabelledFile R bytes l number values [] → 132 ≤ n → CutFile R bytes l number values n
   cut_file h long = cut_of h long (cut_frames h.payloads (n - 132) (frameable R h.payloads values h.read))
 
 -- an entry has 20 bytes
@@ -316,7 +316,7 @@ first_fit (suc k) (e ∷ es) fit = (fit.0, first_fit k es fit.1)
 
 -- a written file: its label, and framed records that are read as these values
 pub written_file : {X : Type 0} (R : List ℕ → X → Type 0) (l : LabelFields) (number : ℤ) (payloads : List (List ℕ)) (values : List X) → SpelledLabel l → FitsSigned w32 number → AreRead R payloads values
-    → Holds R (label l number ++ frames payloads) l number values []
+    → LabelledFile R (label l number ++ frames payloads) l number values []
 written_file R l number payloads values s fits read = record {
   head = label l number;
   label = is_label l number s fits;
@@ -357,7 +357,7 @@ read-append R (payload ∷ first) more (x ∷ xs) others read next = (read.0, re
 
 -- a framed record behind a whole file is one value more
 pub added_record : {X : Type 0} (R : List ℕ → X → Type 0) (bytes : List ℕ) (l : LabelFields) (number : ℤ) (values : List X) (payload : List ℕ) (x : X)
-    → Holds R bytes l number values [] → IsFrameable payload → R payload x → Holds R (bytes ++ frame payload) l number (values ++ x ∷ []) []
+    → LabelledFile R bytes l number values [] → IsFrameable payload → R payload x → LabelledFile R (bytes ++ frame payload) l number (values ++ x ∷ []) []
 added_record R bytes l number values payload x h fits read = record {
   head = h.head;
   label = h.label;
@@ -369,7 +369,7 @@ added_record R bytes l number values payload x h fits read = record {
 
 -- without its torn end a file is whole
 pub without_end : {X : Type 0} (R : List ℕ → X → Type 0) (bytes : List ℕ) (l : LabelFields) (number : ℤ) (values : List X) (torn : List ℕ)
-    → Holds R bytes l number values torn → Holds R (take (length bytes - length torn) bytes) l number values []
+    → LabelledFile R bytes l number values torn → LabelledFile R (take (length bytes - length torn) bytes) l number values []
 without_end R bytes l number values torn h =
     let is : bytes ≡ (h.head ++ frames h.payloads) ++ torn = h.is ∙ sym (append_assoc h.head (frames h.payloads) torn) in
     let size : length bytes ≡ length (h.head ++ frames h.payloads) + length torn = ap length is ∙ length-append (h.head ++ frames h.payloads) torn in

@@ -17,7 +17,7 @@ use Rattle.pcp_base.specs.declared.result.Item.TheVariants.{Sample, Mark}
 use Rattle.pcp_model.specs.declared.records.MetaRecord.TheVariants.{Description, Domain}
 use Rattle.pcp_model.specs.Words.{word, signed_word, length-word, length-signed_word, zeros}
 use Rattle.pcp_model.specs.Payload.{filling, block, block_head, block_length, blocks_length, blocks_bytes, blocks_in, blocks_of, pair_blocks, places_from, place_pairs, place_byte, value_pairs, body_words, set_words, body_length, sets_length, head_length, payload_length, result_head, payload, reach, BlockStands, BlocksStand, ResultInRange, IsPayload, IsItem}
-use Rattle.pcp_model.specs.Records.{description, DescriptionInRange, IsRecord, counted_name, counted_names, names_length, domain, domain_head, instance_words, words, name_table, name_offsets, NameStands, NamesStand}
+use Rattle.pcp_model.specs.Records.{description, DescriptionInRange, IsRecord, counted_name, counted_names, names_length, domain, domain_head, instance_words, word_bytes, name_table, name_offsets, NameStands, NamesStand}
 use Rattle.pcp_model.proofs.Payloads.{set_words-cons}
 
 pub is_description : (d : Desc) (names : List (List ℕ)) → DescriptionInRange d names → IsRecord (description d names) (Description d names)
@@ -238,17 +238,17 @@ length-instance_words : (pairs : List (ℤ × List ℕ)) → length (instance_wo
 length-instance_words [] = refl
 length-instance_words (p ∷ pairs) = omega (arith, length-append (signed_word p.0) (instance_words pairs), length-signed_word p.0, length-instance_words pairs)
 
-length-offset_words : (at : ℕ) (pairs : List (ℤ × List ℕ)) → length (words (name_offsets at pairs)) ≡ 4 * length pairs
+length-offset_words : (at : ℕ) (pairs : List (ℤ × List ℕ)) → length (word_bytes (name_offsets at pairs)) ≡ 4 * length pairs
 length-offset_words at [] = refl
 length-offset_words at (p ∷ pairs) =
     let next : ℕ = at + length p.1 + 1 in
-    omega (arith, length-append (word at) (words (name_offsets next pairs)), length-word at, length-offset_words next pairs)
+    omega (arith, length-append (word at) (word_bytes (name_offsets next pairs)), length-word at, length-offset_words next pairs)
 
 -- how many bytes it has
 pub length-domain : (t : Moment) (indom : ℕ) (pairs : List (ℤ × List ℕ)) → length (domain t indom pairs) ≡ 20 + 8 * length pairs + length (name_table pairs)
 unfolding domain
 length-domain t indom pairs =
-    let offsets : List ℕ = words (name_offsets 0 pairs) in
+    let offsets : List ℕ = word_bytes (name_offsets 0 pairs) in
     let after : List ℕ = word (length pairs) ++ (instance_words pairs ++ offsets) in
     omega (
       arith,

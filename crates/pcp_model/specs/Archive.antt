@@ -14,7 +14,7 @@ use Rattle.pcp_model.specs.Records.{IsRecord, AreConsistent, FitsEntry, entries}
 
 -- What a whole archive holds: the label, Meta's records, the index's entries, and for each volume that isn't
 -- empty, by ascending number, its items.
-pub record Contents : Type 0 where
+pub record ArchiveContents : Type 0 where
   pub label : LabelFields
   pub records : List MetaRecord
   pub entries : List Entry
@@ -27,7 +27,7 @@ AreRead R (payload ∷ payloads) (x ∷ xs) = IsFrameable payload × R payload x
 AreRead R payloads xs = Unit {0} → ⊥
 
 -- a file is its label, the whole framed records of these values, and then an end
-pub record Holds {X : Type 0} (R : List ℕ → X → Type 0) (bytes : List ℕ) (l : LabelFields) (number : ℤ) (values : List X) (rest : List ℕ) : Type 0 where
+pub record LabelledFile {X : Type 0} (R : List ℕ → X → Type 0) (bytes : List ℕ) (l : LabelFields) (number : ℤ) (values : List X) (rest : List ℕ) : Type 0 where
   pub head : List ℕ
   pub label : IsLabel head l number
   pub payloads : List (List ℕ)
@@ -35,14 +35,14 @@ pub record Holds {X : Type 0} (R : List ℕ → X → Type 0) (bytes : List ℕ)
   pub is : bytes ≡ head ++ (frames payloads ++ rest)
 
 -- Meta: its records, of which no two describe one metric in two ways, and at most one torn frame
-pub record IsMeta (bytes : List ℕ) (c : Contents) : Type 0 where
+pub record IsMeta (bytes : List ℕ) (c : ArchiveContents) : Type 0 where
   pub torn : List ℕ
   pub is_torn : IsTorn torn
-  pub holds : Holds IsRecord bytes c.label (negsuc 0) c.records torn
+  pub holds : LabelledFile IsRecord bytes c.label (negsuc 0) c.records torn
   pub consistent : AreConsistent c.records
 
 -- the index: its label, whole entries, and fewer bytes than one more
-pub record HasEntries (bytes : List ℕ) (c : Contents) : Type 0 where
+pub record HasEntries (bytes : List ℕ) (c : ArchiveContents) : Type 0 where
   pub head : List ℕ
   pub label : IsLabel head c.label (negsuc 1)
   pub fit : AllByRecursion FitsEntry c.entries
@@ -51,22 +51,22 @@ pub record HasEntries (bytes : List ℕ) (c : Contents) : Type 0 where
   pub is : bytes ≡ head ++ (entries c.entries ++ rest)
 
 -- or less than its label, and no entry
-abbrev pub IsIndex : List ℕ → Contents → Type 0
+abbrev pub IsIndex : List ℕ → ArchiveContents → Type 0
 IsIndex bytes c = ((c.entries ≡ []) × BeginsLabel bytes c.label (negsuc 1)) ⊎ HasEntries bytes c
 
 -- the last volume may end in one torn frame, or be less than its label
 abbrev pub IsLastVolume : List ℕ → LabelFields → ℕ → List Item → Type 0
 IsLastVolume bytes l n items =
-    ((0 < length bytes) × (items ≡ []) × BeginsLabel bytes l (pos n)) ⊎ ((torn : List ℕ) × IsTorn torn × Holds IsItem bytes l (pos n) items torn)
+    ((0 < length bytes) × (items ≡ []) × BeginsLabel bytes l (pos n)) ⊎ ((torn : List ℕ) × IsTorn torn × LabelledFile IsItem bytes l (pos n) items torn)
 
 -- the volumes that aren't empty, by ascending number; each but the last is whole
 abbrev pub AreVolumes : Files → LabelFields → List (ℕ × List Item) → Type 0
 AreVolumes files l [] = Unit {0}
 AreVolumes files l (v ∷ []) = IsLastVolume (files (Volume v.0)) l v.0 v.1
-AreVolumes files l (v ∷ w ∷ vs) = Holds IsItem (files (Volume v.0)) l (pos v.0) v.1 [] × (v.0 < w.0) × AreVolumes files l (w ∷ vs)
+AreVolumes files l (v ∷ w ∷ vs) = LabelledFile IsItem (files (Volume v.0)) l (pos v.0) v.1 [] × (v.0 < w.0) × AreVolumes files l (w ∷ vs)
 
 -- The files are a whole archive. All labels agree, and an entry stands only beside a volume with its label.
-pub record IsArchive (files : Files) (c : Contents) : Type 0 where
+pub record IsArchive (files : Files) (c : ArchiveContents) : Type 0 where
   pub meta : IsMeta (files Meta) c
   pub index : IsIndex (files Index) c
   pub volumes : AreVolumes files c.label c.volumes
@@ -80,16 +80,16 @@ pub record IsStoppedCreation (files : Files) : Type 0 where
   pub volumes : (n : ℕ) → files (Volume n) ≡ []
 
 -- what files are read as
-pub data Reading : Type 0 where
-  nothing : Reading
-  archive : Contents → Reading
+pub data ArchiveReading : Type 0 where
+  nothing : ArchiveReading
+  archive : ArchiveContents → ArchiveReading
 
-abbrev pub Reads : Files → Reading → Type 0
-Reads files Reading.nothing = IsStoppedCreation files
-Reads files (Reading.archive c) = IsArchive files c
+abbrev pub Reads : Files → ArchiveReading → Type 0
+Reads files ArchiveReading.nothing = IsStoppedCreation files
+Reads files (ArchiveReading.archive c) = IsArchive files c
 
 abbrev pub Readable : Files → Type 0
-Readable files = (r : Reading) × Reads files r
+Readable files = (r : ArchiveReading) × Reads files r
 
 -- the items of volumes, one volume behind another
 abbrev pub items_of : List (ℕ × List Item) → List Item
@@ -97,10 +97,10 @@ items_of [] = []
 items_of (v ∷ vs) = v.1 ++ items_of vs
 
 -- the items of the whole records, by ascending volume
-abbrev pub scan : Reading → List Item
-scan Reading.nothing = []
-scan (Reading.archive c) = items_of c.volumes
+abbrev pub scan : ArchiveReading → List Item
+scan ArchiveReading.nothing = []
+scan (ArchiveReading.archive c) = items_of c.volumes
 
-abbrev pub records_in : Reading → List MetaRecord
-records_in Reading.nothing = []
-records_in (Reading.archive c) = c.records
+abbrev pub records_in : ArchiveReading → List MetaRecord
+records_in ArchiveReading.nothing = []
+records_in (ArchiveReading.archive c) = c.records

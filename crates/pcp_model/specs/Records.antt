@@ -34,9 +34,9 @@ abbrev pub instance_words : List (ℤ × List ℕ) → List ℕ
 instance_words [] = []
 instance_words (p ∷ pairs) = signed_word p.0 ++ instance_words pairs
 
-abbrev pub words : List ℕ → List ℕ
-words [] = []
-words (n ∷ ns) = word n ++ words ns
+abbrev pub word_bytes : List ℕ → List ℕ
+word_bytes [] = []
+word_bytes (n ∷ ns) = word n ++ word_bytes ns
 
 -- names ended by zero bytes, without gaps
 abbrev pub name_table : List (ℤ × List ℕ) → List ℕ
@@ -52,7 +52,7 @@ name_offsets at (p ∷ pairs) = at ∷ name_offsets (at + length p.1 + 1) pairs
 -- the table, and the table.
 abbrev pub domain_head : Moment → ℕ → List (ℤ × List ℕ) → List ℕ → List ℕ
 domain_head t indom pairs offsets =
-    word 2 ++ (word t.sec ++ (word t.usec ++ (word indom ++ (word (length pairs) ++ (instance_words pairs ++ words offsets)))))
+    word 2 ++ (word t.sec ++ (word t.usec ++ (word indom ++ (word (length pairs) ++ (instance_words pairs ++ word_bytes offsets)))))
 
 -- the writer's spelling: the table has the names in the order of the pairs
 unfoldable pub domain : Moment → ℕ → List (ℤ × List ℕ) → List ℕ

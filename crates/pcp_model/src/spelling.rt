@@ -6,7 +6,7 @@ ghost use Rattle.pcp_model.specs.Words.{word, signed_word, padded};
 ghost use Rattle.pcp_model.specs.Frame.{frame};
 ghost use Rattle.pcp_model.specs.LabelFields.{FitsLabel};
 ghost use Rattle.pcp_model.specs.Labels.{label_head, label};
-ghost use Rattle.pcp_model.specs.Records.{counted_name, counted_names, names_length, description, entry, instance_words, name_offsets, name_table, words, domain};
+ghost use Rattle.pcp_model.specs.Records.{counted_name, counted_names, names_length, description, entry, instance_words, name_offsets, name_table, word_bytes, domain};
 ghost use Rattle.pcp_model.specs.Payload.{value_pairs, place_pairs, pair_blocks, places_from, blocks_length, blocks_in, blocks_of, body_words, set_words, body_length, sets_length, head_length, result_head, payload, payload_length, block_head, block, blocks_bytes};
 
 use crate::label::Label;
@@ -144,7 +144,7 @@ fn put_numbers(out: &mut Vec<u8>, pairs: &[(i32, Text)]) -> Result<(), NoMemory>
 // Where each name begins in the table.
 fn put_offsets(out: &mut Vec<u8>, pairs: &[(i32, Text)]) -> Result<(), NoMemory>
     requires { length (name_table pairs.now) < 4294967296 }
-    ensures bytes { OnOk result (out.new.items ≡ out.old.items ++ words (name_offsets 0 pairs.now)) }
+    ensures bytes { OnOk result (out.new.items ≡ out.old.items ++ word_bytes (name_offsets 0 pairs.now)) }
     ensures grows { OnOk result (length out.new.items ≡ length out.old.items + 4 * length pairs.now) }
 {
     let mut at: u32 = 0;

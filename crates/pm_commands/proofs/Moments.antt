@@ -2,7 +2,7 @@
 use Rattle.std.proofs.Common.{◌≡◌, inl, inr, ⊎_elim, ℕ, List, [], ◌∷◌, ◌++◌, take, refl, sym, ap, ◌∙◌, subst, arith, Ok}
 use Rattle.std.proofs.lemmas.List.{take_all}
 use Rattle.pcp_base.specs.declared.file.FileId.TheVariants.{Meta, Index, Volume}
-use Rattle.pcp_model.specs.Archive.{Reading, scan, records_in}
+use Rattle.pcp_model.specs.Archive.{ArchiveReading, scan, records_in}
 use Rattle.pcp_model.specs.Described.{Described}
 use Rattle.pcp_model.specs.Disk.{Files, Held, Holdings, CrashImage, IsEmpty, contents_of}
 use Rattle.pm_commands.specs.declared.words.Command.{Command}
@@ -21,7 +21,7 @@ left_empty held image empty left file =
 
 nothing_left : (words : List (List ℕ)) (input : List ℕ) (image : Files) → IsEmpty image → LeavesNoneOrOne words input image
 nothing_left words input image empty = record {
-  reading = Reading.nothing;
+  reading = ArchiveReading.nothing;
   reads = record { meta = inl (empty Meta); index = empty Index; volumes = λ n. empty (Volume n) };
   found = inl refl;
 }

@@ -16,7 +16,7 @@ use Rattle.pcp_base.specs.declared.result.Item.{Item}
 use Rattle.pcp_model.specs.declared.records.Entry.{Entry}
 use Rattle.pcp_model.specs.declared.records.MetaRecord.{MetaRecord}
 use Rattle.pcp_model.specs.declared.records.MetaRecord.TheVariants.{Description, Domain, Other}
-use Rattle.pcp_model.specs.Archive.{Holds, IsMeta, HasEntries, IsIndex, AreVolumes, Reading, Reads, items_of, scan, records_in}
+use Rattle.pcp_model.specs.Archive.{LabelledFile, IsMeta, HasEntries, IsIndex, AreVolumes, ArchiveReading, Reads, items_of, scan, records_in}
 use Rattle.pcp_model.specs.Described.{Described}
 use Rattle.pcp_model.specs.Disk.{Files, Held, Holdings, CrashImage, IsEmpty}
 use Rattle.pcp_model.specs.Frame.{frame, frames, IsFrameable}
@@ -83,12 +83,12 @@ module _ (p : Pieces) (l : LabelFields) (r : MetaRecord) (item : Item) (e : Entr
   index_text : index_file p ≡ label l (negsuc 1) ++ entries (e ∷ [])
   index_text = ap (λ t. t ++ p.entry) s.index_label ∙ ap (λ t. label l (negsuc 1) ++ t) (s.last ∙ sym (append-nil (entry e)))
 
-  meta_holds : Holds IsRecord (meta_file p) l (negsuc 0) (r ∷ []) []
-  meta_holds = subst (λ t. Holds IsRecord t l (negsuc 0) (r ∷ []) []) (sym meta_text)
+  meta_holds : LabelledFile IsRecord (meta_file p) l (negsuc 0) (r ∷ []) []
+  meta_holds = subst (λ t. LabelledFile IsRecord t l (negsuc 0) (r ∷ []) []) (sym meta_text)
       (written_file IsRecord l (negsuc 0) (s.says_record ∷ []) (r ∷ []) s.spelled meta_fits (s.is_record.0, s.is_record.1, tt))
 
-  volume_holds : Holds IsItem (volume_file p) l (pos 0) (item ∷ []) []
-  volume_holds = subst (λ t. Holds IsItem t l (pos 0) (item ∷ []) []) (sym volume_text)
+  volume_holds : LabelledFile IsItem (volume_file p) l (pos 0) (item ∷ []) []
+  volume_holds = subst (λ t. LabelledFile IsItem t l (pos 0) (item ∷ []) []) (sym volume_text)
       (written_file IsItem l (pos 0) (s.says_item ∷ []) (item ∷ []) s.spelled volume_fits (s.is_item.0, s.is_item.1, tt))
 
   meta_long : length p.meta_label ≡ 132
@@ -121,7 +121,7 @@ module _ (p : Pieces) (l : LabelFields) (r : MetaRecord) (item : Item) (e : Entr
     is = λ es volumes. record {
       torn = c.torn;
       is_torn = c.is_torn;
-      holds = subst (λ t. Holds IsRecord t l (negsuc 0) (take c.k (r ∷ [])) c.torn) (sym cut.meta) c.holds;
+      holds = subst (λ t. LabelledFile IsRecord t l (negsuc 0) (take c.k (r ∷ [])) c.torn) (sym cut.meta) c.holds;
       consistent = consistent c.k;
     };
     whole = λ h. all_of_one c.k r (c.whole h);
@@ -205,7 +205,7 @@ module _ (p : Pieces) (l : LabelFields) (r : MetaRecord) (item : Item) (e : Entr
   volume_of : CutFile IsItem (volume_file p) l (pos 0) (item ∷ []) cut.v → VolumeSide
   volume_of c = record {
     volumes = (0, take c.k (item ∷ [])) ∷ [];
-    are = inr (c.torn, c.is_torn, subst (λ t. Holds IsItem t l (pos 0) (take c.k (item ∷ [])) c.torn) (sym cut.volume) c.holds);
+    are = inr (c.torn, c.is_torn, subst (λ t. LabelledFile IsItem t l (pos 0) (take c.k (item ∷ [])) c.torn) (sym cut.volume) c.holds);
     others = only_first (take c.k (item ∷ []));
     found = some_item c.k c.behind;
     whole = λ le. ap (λ t. t ++ []) (all_of_one c.k item (c.whole le));
@@ -219,7 +219,7 @@ module _ (p : Pieces) (l : LabelFields) (r : MetaRecord) (item : Item) (e : Entr
 
   -- what is left is read as this
   record Left : Type 0 where
-    pub reading : Reading
+    pub reading : ArchiveReading
     pub reads : Reads image reading
     pub found : (scan reading ≡ []) ⊎ ((scan reading ≡ item ∷ []) × (132 < cut.v))
     pub whole : length (volume_file p) ≤ cut.v → scan reading ≡ item ∷ []
@@ -230,7 +230,7 @@ module _ (p : Pieces) (l : LabelFields) (r : MetaRecord) (item : Item) (e : Entr
       let index : cut.i ≡ 0 = ⊎_elim (λ (none : cut.i ≡ 0). none) (λ (some : length p.meta_label ≤ cut.m). absurd (omega (arith, meta_long))) cut.order.index_after in
       let volume : cut.v ≡ 0 = ⊎_elim (λ (none : cut.v ≡ 0). none) (λ (some : (length p.meta_label ≤ cut.m) × (length p.index_label ≤ cut.i)). absurd (omega (arith, meta_long, some.0))) cut.order.volume_after in
       record {
-        reading = Reading.nothing;
+        reading = ArchiveReading.nothing;
         reads = record {
           meta = inr (l, subst (λ t. BeginsLabel t l (negsuc 0)) (sym (cut.meta ∙ ap (take cut.m) meta_text)) (cut_in_label l (negsuc 0) (frames (s.says_record ∷ [])) cut.m s.spelled meta_fits h));
           index = cut.index ∙ ap (λ n. take n (index_file p)) index;
@@ -249,7 +249,7 @@ module _ (p : Pieces) (l : LabelFields) (r : MetaRecord) (item : Item) (e : Entr
 
   archived : MetaSide → IndexSide → VolumeSide → Left
   archived m i v = record {
-    reading = Reading.archive (record { label = l; records = m.records; entries = i.found; volumes = v.volumes });
+    reading = ArchiveReading.archive (record { label = l; records = m.records; entries = i.found; volumes = v.volumes });
     reads = record {
       meta = m.is i.found v.volumes;
       index = i.is m.records v.volumes;
@@ -464,7 +464,7 @@ has_item asked s once shot held final image left =
 -- empty files are a stopped creation
 pub none_of_nothing : (image : Files) → IsEmpty image → (item : Item) → NoneOrOne image item
 none_of_nothing image empty item = record {
-  reading = Reading.nothing;
+  reading = ArchiveReading.nothing;
   reads = record { meta = inl (empty Meta); index = empty Index; volumes = λ n. empty (Volume n) };
   found = inl refl;
 }

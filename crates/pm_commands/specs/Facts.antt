@@ -2,7 +2,7 @@
 -- clause can foresee.
 use Rattle.std.specs.Prelude.{◌≡◌, ◌⊎◌, ℕ, ◌<◌, ◌≤◌, List, [], ◌∷◌, length, drop, true, Some, None, Ok, Err}
 use Rattle.pcp_base.specs.declared.result.Item.{Item}
-use Rattle.pcp_model.specs.Archive.{Reading, Reads, scan, records_in}
+use Rattle.pcp_model.specs.Archive.{ArchiveReading, Reads, scan, records_in}
 use Rattle.pcp_model.specs.Described.{Described}
 use Rattle.pcp_model.specs.Disk.{Files, Holdings, contents_of, CrashImage, IsEmpty}
 use Rattle.pcp_outside.specs.Causes.{Rose}
@@ -73,7 +73,7 @@ pub record IsItemAsked (words : List (List ℕ)) (input : List ℕ) (item : Item
 
 -- The files that a crash leaves are readable. Their scan is empty, or the one item, which their metadata describes.
 pub record LeavesNoneOrOne (words : List (List ℕ)) (input : List ℕ) (image : Files) : Type 0 where
-  pub reading : Reading
+  pub reading : ArchiveReading
   pub reads : Reads image reading
   pub found : (scan reading ≡ []) ⊎ ((item : Item) × IsItemAsked words input item × (scan reading ≡ item ∷ []) × Described (records_in reading) item)
 

@@ -3,7 +3,7 @@ use Rattle.std.specs.Prelude.{◌≡◌, ◌≢◌, ◌⊎◌, ℕ, ◌≤◌, n
 use Rattle.pcp_base.specs.Time.{Moment}
 use Rattle.pcp_base.specs.declared.file.FileId.TheVariants.{Meta, Index, Volume}
 use Rattle.pcp_base.specs.declared.result.Item.{Item}
-use Rattle.pcp_model.specs.Archive.{Reading, Reads, scan, records_in}
+use Rattle.pcp_model.specs.Archive.{ArchiveReading, Reads, scan, records_in}
 use Rattle.pcp_model.specs.Described.{Described}
 use Rattle.pcp_model.specs.Disk.{Files, Held, Holdings, nothing_held}
 use Rattle.pcp_model.specs.Frame.{frame}
@@ -61,13 +61,13 @@ pub record IsCut (p : Pieces) (image : Files) : Type 0 where
 
 -- The files are readable, their scan is empty or the one item, and what it has is described.
 pub record NoneOrOne (image : Files) (item : Item) : Type 0 where
-  pub reading : Reading
+  pub reading : ArchiveReading
   pub reads : Reads image reading
   pub found : (scan reading ≡ []) ⊎ ((scan reading ≡ item ∷ []) × Described (records_in reading) item)
 
 -- and the item is there
 pub record HasItem (image : Files) (item : Item) : Type 0 where
-  pub reading : Reading
+  pub reading : ArchiveReading
   pub reads : Reads image reading
   pub found : scan reading ≡ item ∷ []
   pub described : Described (records_in reading) item
