@@ -6,5 +6,6 @@ pub mod LabelFields
 pub mod Labels
 pub mod Payload
 pub mod Records
+pub mod Sound
 pub mod Words
 pub mod Written
