@@ -27,7 +27,7 @@ pub number_of_word : (n : ℕ) → n < 4294967296 → from_be_bytes w32 (word n)
 unfolding word
 number_of_word n h = from_be_bytes-to_be_bytes_4 n h
 
-front_of_frame : (payload : List ℕ) → take 4 (frame payload) ≡ word (length payload + 8)
+pub front_of_frame : (payload : List ℕ) → take 4 (frame payload) ≡ word (length payload + 8)
 unfolding frame
 front_of_frame payload = take_at (word (length payload + 8)) (payload ++ word (length payload + 8)) 4 (length-word (length payload + 8))
 
@@ -209,7 +209,7 @@ some_behind (payload ∷ payloads) (suc k) n few h =
     inr (omega (arith, length-append (frame payload) (frames (take k payloads)), length-frame payload))
 
 -- the cut of what follows a beginning of 132 bytes
-behind_label : (bytes head rest : List ℕ) (n : ℕ) → length head ≡ 132 → bytes ≡ head ++ rest → 132 ≤ n → take n bytes ≡ head ++ take (n - 132) rest
+pub behind_label : (bytes head rest : List ℕ) (n : ℕ) → length head ≡ 132 → bytes ≡ head ++ rest → 132 ≤ n → take n bytes ≡ head ++ take (n - 132) rest
 behind_label bytes head rest n long is h =
     ap (take n) is ∙ ap (λ m. take m (head ++ rest)) (let e : n ≡ length head + (n - 132) = omega arith in e) ∙ take-append-add head rest (n - 132)
 
@@ -239,6 +239,12 @@ module _ {X : Type 0} (R : List ℕ → X → Type 0) (bytes : List ℕ) (l : La
 
   pub cut_file : LabelledFile R bytes l number values [] → 132 ≤ n → CutFile R bytes l number values n
   cut_file h long = cut_of h long (cut_frames h.payloads (n - 132) (frameable R h.payloads values h.read))
+
+  -- each record that ends within the cut is among them
+  pub cut_every : (h : LabelledFile R bytes l number values []) (long : 132 ≤ n) (j : ℕ) → j ≤ length values → 132 + length (frames (take j h.payloads)) ≤ n → j ≤ (cut_file h long).k
+  unfolding cut_file cut_frames cut_of
+  cut_every h long j few within =
+      (cut_frames h.payloads (n - 132) (frameable R h.payloads values h.read)).every j (omega (arith, as_many R h.payloads values h.read)) (omega arith)
 
 -- an entry has 20 bytes
 pub length-entry : (e : Entry) → length (entry e) ≡ 20
@@ -349,7 +355,7 @@ pub frames-append : (first more : List (List ℕ)) → frames (first ++ more) �
 frames-append [] more = refl
 frames-append (payload ∷ first) more = ap (λ t. frame payload ++ t) (frames-append first more) ∙ sym (append_assoc (frame payload) (frames first) (frames more))
 
-read-append : {X : Type 0} (R : List ℕ → X → Type 0) (first more : List (List ℕ)) (values others : List X) → AreRead R first values → AreRead R more others → AreRead R (first ++ more) (values ++ others)
+pub read-append : {X : Type 0} (R : List ℕ → X → Type 0) (first more : List (List ℕ)) (values others : List X) → AreRead R first values → AreRead R more others → AreRead R (first ++ more) (values ++ others)
 read-append R [] more [] others read next = next
 read-append R [] more (x ∷ xs) others read next = absurd (read tt)
 read-append R (payload ∷ first) more [] others read next = absurd (read tt)

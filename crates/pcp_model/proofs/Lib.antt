@@ -1,6 +1,13 @@
+pub mod Added
+pub mod Boundaries
 pub mod Cuts
+pub mod CutsOfAny
 pub mod Lengths
 pub mod Lists
+pub mod OneItem
+pub mod OneReading
+pub mod OneRecord
 pub mod Payloads
 pub mod Sound
 pub mod Spelled
+pub mod Unique

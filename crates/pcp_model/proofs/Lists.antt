@@ -20,3 +20,7 @@ each-first P (suc k) (x ∷ xs) all = (all.0, each-first P k xs all.1)
 pub each-map : {X : Type 0} (P Q : X → Type 0) → ((x : X) → P x → Q x) → (xs : List X) → AllByRecursion P xs → AllByRecursion Q xs
 each-map P Q f [] all = tt
 each-map P Q f (x ∷ xs) all = (f x all.0, each-map P Q f xs all.1)
+
+pub each-all : {X : Type 0} (P : X → Type 0) → ((x : X) → P x) → (xs : List X) → AllByRecursion P xs
+each-all P f [] = tt
+each-all P f (x ∷ xs) = (f x, each-all P f xs)

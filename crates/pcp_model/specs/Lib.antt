@@ -4,6 +4,7 @@ pub mod Disk
 pub mod Frame
 pub mod LabelFields
 pub mod Labels
+pub mod Laws
 pub mod Payload
 pub mod Records
 pub mod Sound

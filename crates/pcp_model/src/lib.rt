@@ -4,11 +4,15 @@
 #![tactic(auto)]
 
 mod label;
+mod laws;
 mod payload;
 mod records;
 mod spelling;
 
 pub use label::Label;
+pub use laws::{
+    entry_is_added, files_are_read_once, item_is_added, records_are_added, volume_is_added,
+};
 pub use payload::spell_payload;
 pub use records::{Entry, MetaRecord};
 pub use spelling::{

@@ -1,0 +1,57 @@
+-- What holds of whole files: in how many ways they are read, and what they are read as when one piece is added behind.
+use Rattle.std.specs.Prelude.{◌≡◌, ℕ, ◌<◌, ◌≤◌, pos, negsuc, List, [], ◌∷◌, ◌++◌, length}
+use Rattle.pcp_base.specs.declared.file.FileId.TheVariants.{Meta, Index, Volume}
+use Rattle.pcp_base.specs.declared.result.Item.{Item}
+use Rattle.pcp_model.specs.declared.records.MetaRecord.{MetaRecord}
+use Rattle.pcp_model.specs.declared.records.Entry.{Entry}
+use Rattle.pcp_model.specs.Archive.{ArchiveContents, ArchiveReading, AreRead, LabelledFile, HasEntries, IsArchive, Reads, items_of}
+use Rattle.pcp_model.specs.Disk.{Files}
+use Rattle.pcp_model.specs.Frame.{IsFrameable, frame, frames}
+use Rattle.pcp_model.specs.Labels.{IsLabel}
+use Rattle.pcp_model.specs.Payload.{IsItem}
+use Rattle.pcp_model.specs.Records.{IsRecord, AreConsistent, FitsEntry, entry}
+use Rattle.pcp_model.specs.Written.{with_added}
+
+-- files are read in at most one way
+abbrev pub FilesAreReadOnce : Type 0
+FilesAreReadOnce = (files : Files) (a b : ArchiveReading) → Reads files a → Reads files b → a ≡ b
+
+-- an archive is another one with these records, entries and items behind its own
+pub record IsLonger (old new : ArchiveContents) (more_records : List MetaRecord) (more_entries : List Entry) (more_items : List Item) : Type 0 where
+  pub label : new.label ≡ old.label
+  pub records : new.records ≡ old.records ++ more_records
+  pub entries : new.entries ≡ old.entries ++ more_entries
+  pub items : items_of new.volumes ≡ items_of old.volumes ++ more_items
+
+-- the files are an archive that is longer by these
+pub record GrowsTo (files : Files) (c : ArchiveContents) (more_records : List MetaRecord) (more_entries : List Entry) (more_items : List Item) : Type 0 where
+  pub new : ArchiveContents
+  pub is : IsArchive files new
+  pub longer : IsLonger c new more_records more_entries more_items
+
+-- the last volume that isn't empty has this number, and ends with a whole record or its label
+pub record EndsWhole (files : Files) (c : ArchiveContents) (number : ℕ) : Type 0 where
+  pub before : List (ℕ × List Item)
+  pub items : List Item
+  pub are : c.volumes ≡ before ++ (number, items) ∷ []
+  pub whole : LabelledFile IsItem (files (Volume number)) c.label (pos number) items []
+
+-- an item's record behind the last volume is one item more
+abbrev pub ItemIsAdded : Type 0
+ItemIsAdded = (files : Files) (c : ArchiveContents) (number : ℕ) (payload : List ℕ) (x : Item) → IsArchive files c → EndsWhole files c number → IsFrameable payload → IsItem payload x
+    → GrowsTo (with_added (Volume number) (frame payload) files) c [] [] (x ∷ [])
+
+-- records behind Meta, which no description of it contradicts, are as many records more
+abbrev pub RecordsAreAdded : Type 0
+RecordsAreAdded = (files : Files) (c : ArchiveContents) (payloads : List (List ℕ)) (records : List MetaRecord) → IsArchive files c → LabelledFile IsRecord (files Meta) c.label (negsuc 0) c.records []
+    → AreRead IsRecord payloads records → AreConsistent (c.records ++ records) → GrowsTo (with_added Meta (frames payloads) files) c records [] []
+
+-- an entry behind the index's last whole one is one entry more
+abbrev pub EntryIsAdded : Type 0
+EntryIsAdded = (files : Files) (c : ArchiveContents) (e : Entry) → IsArchive files c → (index : HasEntries (files Index) c) → index.rest ≡ [] → (n : ℕ) → 132 ≤ length (files (Volume n)) → FitsEntry e
+    → GrowsTo (with_added Index (entry e) files) c [] (e ∷ []) []
+
+-- the label of a volume above the last changes nothing else
+abbrev pub VolumeIsAdded : Type 0
+VolumeIsAdded = (files : Files) (c : ArchiveContents) (number next : ℕ) (head : List ℕ) → IsArchive files c → EndsWhole files c number → number < next → IsLabel head c.label (pos next)
+    → GrowsTo (with_added (Volume next) head files) c [] [] []

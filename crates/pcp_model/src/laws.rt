@@ -1,0 +1,28 @@
+//! What holds of whole files. Each is the contract of a function without parameters, which does nothing.
+ghost use Rattle.pcp_model.specs.Laws.{FilesAreReadOnce, ItemIsAdded, RecordsAreAdded, EntryIsAdded, VolumeIsAdded};
+
+/// Files are read in at most one way: as a stopped creation, or as an archive with this label, these records,
+/// entries and items.
+pub fn files_are_read_once()
+    ensures { FilesAreReadOnce }
+{}
+
+/// An item's framed record behind the last volume, which ends with a whole record, is one item more in the scan.
+pub fn item_is_added()
+    ensures { ItemIsAdded }
+{}
+
+/// Framed records behind Meta, which ends with a whole record, are records more.
+pub fn records_are_added()
+    ensures { RecordsAreAdded }
+{}
+
+/// An entry behind the index, which ends with a whole entry, is one entry more.
+pub fn entry_is_added()
+    ensures { EntryIsAdded }
+{}
+
+/// The label of a volume above the last, which ends with a whole record, changes neither scan nor metadata.
+pub fn volume_is_added()
+    ensures { VolumeIsAdded }
+{}
