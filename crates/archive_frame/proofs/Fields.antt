@@ -8,7 +8,7 @@ use Rattle.std.proofs.lemmas.Nat.{be_bytes_4}
 use Rattle.pcp_base.specs.Texts.{IsText, IsFirstZero}
 use Rattle.pcp_model.specs.Words.{word, length-word, zeros}
 use Rattle.pcp_model.specs.Labels.{HasText}
-use Rattle.archive_frame.specs.Misfits.{Begins, IsFirstMisfit}
+use Rattle.archive_frame.specs.Misfits.{BeginsOne, IsFirstMisfit}
 use Rattle.archive_frame.specs.Labels.{IsUpTo, IsTextField, IsFieldFault}
 use Rattle.archive_frame.proofs.Misfits.{HasWidth, none_so_long}
 use Rattle.archive_frame.specs.Steps.{number_at}
@@ -20,7 +20,7 @@ use Rattle.archive_frame.proofs.Records.{IsBytes, word_at}
 pub wanted_wide : (wanted : List ℕ) → HasWidth (λ t. t ≡ wanted) (length wanted)
 wanted_wide wanted t e = ap length e
 
-wanted_longest : (wanted f : List ℕ) (k : ℕ) → (length f ≤ k) ⊎ ((k < length f) × (get_or f k 0 ≢ get_or wanted k 0)) → (n : ℕ) → n ≤ length f → Begins (λ t. t ≡ wanted) (take n f) → n ≤ k
+wanted_longest : (wanted f : List ℕ) (k : ℕ) → (length f ≤ k) ⊎ ((k < length f) × (get_or f k 0 ≢ get_or wanted k 0)) → (n : ℕ) → n ≤ length f → BeginsOne (λ t. t ≡ wanted) (take n f) → n ≤ k
 wanted_longest wanted f k (inl short) n h b = omega arith
 wanted_longest wanted f k (inr differs) n h b =
     elim (cases_lt k n) [
@@ -76,7 +76,7 @@ least_of_word (suc (suc (suc zero))) n h few = omega arith
 least_of_word (suc (suc (suc (suc zero)))) n h few = omega arith
 least_of_word (suc (suc (suc (suc (suc k))))) n h few = absurd (omega arith)
 
-word_longest : (most : ℕ) (f : List ℕ) (k : ℕ) → most < 4294967296 → k < 4 → (length f ≤ k) ⊎ ((k < length f) × (most < least (k + 1) f)) → (n : ℕ) → n ≤ length f → Begins (IsUpTo most) (take n f) → n ≤ k
+word_longest : (most : ℕ) (f : List ℕ) (k : ℕ) → most < 4294967296 → k < 4 → (length f ≤ k) ⊎ ((k < length f) × (most < least (k + 1) f)) → (n : ℕ) → n ≤ length f → BeginsOne (IsUpTo most) (take n f) → n ≤ k
 word_longest most f k low few (inl short) n h b = omega arith
 word_longest most f k low few (inr over) n h b =
     elim (cases_lt k n) [
@@ -221,7 +221,7 @@ ends_so width x y long = let t = zero_in x y in (t.0, record { wide = long; clea
 -- too few bytes
 pub text_short : (width : ℕ) (f : List ℕ) → length f < width → IsFirstMisfit (IsTextField width) f (length f)
 text_short width f short =
-    let longest : (n : ℕ) → n ≤ length f → Begins (IsTextField width) (take n f) → n ≤ length f = λ n h b. h in
+    let longest : (n : ℕ) → n ≤ length f → BeginsOne (IsTextField width) (take n f) → n ≤ length f = λ n h b. h in
     record {
       none = none_so_long (IsTextField width) width f (length f) (text_wide width) short longest;
       within = omega arith;
@@ -244,7 +244,7 @@ no_text width f more long clean t =
 
 pub text_endless : (width : ℕ) (f : List ℕ) → 0 < width → length f ≡ width → IsText f → IsFirstMisfit (IsTextField width) f (width - 1)
 text_endless width f some long clean =
-    let longest : (n : ℕ) → n ≤ length f → Begins (IsTextField width) (take n f) → n ≤ width - 1 = λ n h b.
+    let longest : (n : ℕ) → n ≤ length f → BeginsOne (IsTextField width) (take n f) → n ≤ width - 1 = λ n h b.
     elim (cases_lt n width) [
       | inl lt ↦ omega arith
       | inr le ↦ let all : take n f ≡ f = take_all n f (omega arith) in absurd (no_text width f b.0 long clean (subst (λ x. IsTextField width (x ++ b.0)) all b.1))

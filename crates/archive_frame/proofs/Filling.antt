@@ -7,7 +7,7 @@ use Rattle.pcp_model.specs.Frame.{frame}
 use Rattle.pcp_model.specs.LabelFields.{LabelFields, FitsLabel}
 use Rattle.pcp_model.specs.Labels.{label, label_head}
 use Rattle.pcp_model.proofs.Lengths.{length-label_head, length-padded}
-use Rattle.archive_frame.specs.Places.{over}
+use Rattle.archive_frame.specs.Overwritten.{over}
 
 pub word_of_signed : (z : ℤ) → word (cast_unsigned w32 z) ≡ signed_word z
 unfolding word signed_word

@@ -5,7 +5,7 @@ use Rattle.std.proofs.lemmas.List.{take_at, drop_at, drop-drop, drop-take, take_
 use Rattle.std.proofs.Math.Seq.{take-append-add}
 use Rattle.archive_frame.specs.declared.fault.FrameFault.{FrameFault}
 use Rattle.archive_frame.specs.declared.fault.FrameFault.TheVariants.{Torn, Size, Lengths, Label, NoMemory}
-use Rattle.archive_frame.specs.Misfits.{Begins, IsFirstMisfit}
+use Rattle.archive_frame.specs.Misfits.{BeginsOne, IsFirstMisfit}
 use Rattle.archive_frame.specs.Labels.{IsFieldFault, IsMisfit}
 
 -- a field of this width, and what follows it
@@ -23,7 +23,7 @@ then_is Field width Rest field rest text one long two is = (
 )
 
 -- bytes whose longest beginning stops before the width are no field
-pub none_so_long : (Field : List ℕ → Type 0) (width : ℕ) (bytes : List ℕ) (at : ℕ) → HasWidth Field width → at < width → ((n : ℕ) → n ≤ length bytes → Begins Field (take n bytes) → n ≤ at) → Field bytes → ⊥
+pub none_so_long : (Field : List ℕ → Type 0) (width : ℕ) (bytes : List ℕ) (at : ℕ) → HasWidth Field width → at < width → ((n : ℕ) → n ≤ length bytes → BeginsOne Field (take n bytes) → n ≤ at) → Field bytes → ⊥
 none_so_long Field width bytes at wide short longest field =
     let long : length bytes ≡ width = wide bytes field in
     let whole : bytes ≡ take (length bytes) bytes ++ [] = sym (append-nil (take (length bytes) bytes) ∙ take_all (length bytes) bytes (omega arith)) in
@@ -32,7 +32,7 @@ none_so_long Field width bytes at wide short longest field =
 
 -- the first misfit of the first field
 first_longest : (Field : List ℕ → Type 0) (width : ℕ) (Rest : List ℕ → Type 0) (bytes : List ℕ) (at : ℕ) → IsFirstMisfit Field (take width bytes) at
-    → (n : ℕ) → n ≤ length bytes → Begins (Then Field width Rest) (take n bytes) → n ≤ at
+    → (n : ℕ) → n ≤ length bytes → BeginsOne (Then Field width Rest) (take n bytes) → n ≤ at
 first_longest Field width Rest bytes at m n h b =
     elim (cases_lt width n) [
       | inl lt ↦ absurd
@@ -65,7 +65,7 @@ first_misfit Field width Rest bytes at wide some m =
 
 -- the first misfit behind a field that fits
 later_longest : (Field : List ℕ → Type 0) (width : ℕ) (Rest : List ℕ → Type 0) (bytes : List ℕ) (at : ℕ) → width ≤ length bytes → IsFirstMisfit Rest (drop width bytes) at
-    → (n : ℕ) → n ≤ length bytes → Begins (Then Field width Rest) (take n bytes) → n ≤ width + at
+    → (n : ℕ) → n ≤ length bytes → BeginsOne (Then Field width Rest) (take n bytes) → n ≤ width + at
 later_longest Field width Rest bytes at long m n h b =
     elim (cases_lt n width) [
       | inl lt ↦ omega arith

@@ -1,12 +1,24 @@
 -- Reading a label (LOGARCHIVE(5)): its fields stand one behind another.
-use Rattle.std.specs.Prelude.{◌≡◌, ℕ, ℤ, ◌+◌, ◌≤◌, List, take, drop, Result, Ok, Err}
+use Rattle.std.specs.Prelude.{◌≡◌, ℕ, ℤ, ◌+◌, ◌<◌, ◌≤◌, List, take, drop, Result, Ok, Err, FitsSigned}
+use Rattle.std.specs.Int.{w32}
+use Rattle.pcp_base.specs.Texts.{IsText}
+use Rattle.pcp_base.specs.Time.{IsMoment}
 use Rattle.pcp_model.specs.Words.{word}
-use Rattle.pcp_model.specs.LabelFields.{LabelFields}
+use Rattle.pcp_model.specs.LabelFields.{LabelFields, FitsLabel}
 use Rattle.pcp_model.specs.Labels.{HasText, IsLabel}
 use Rattle.archive_frame.specs.Misfits.{IsFirstMisfit}
 use Rattle.archive_frame.specs.declared.fault.FrameFault.{FrameFault}
 use Rattle.archive_frame.specs.declared.fault.FrameFault.TheVariants.{Torn, Size, Lengths, Label, NoMemory}
 use Rattle.archive_frame.specs.declared.reading.Said.{Said}
+
+-- what a label can say: each number fits its word, and the texts their fields
+pub record LabelInRange (l : LabelFields) (number : ℤ) : Type 0 where
+  pub pid : l.pid < 4294967296
+  pub start : IsMoment l.start
+  pub host : IsText l.host
+  pub zone : IsText l.zone
+  pub fits : FitsLabel l
+  pub signed : FitsSigned w32 number
 
 -- some label
 abbrev pub IsSomeLabel : List ℕ → Type 0

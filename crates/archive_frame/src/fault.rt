@@ -1,3 +1,4 @@
+//! Why bytes are no label, or no framed record.
 ghost use Rattle.std.specs.Prelude.{◌≡◌};
 ghost use Rattle.archive_frame.specs.declared.fault.FrameFault.TheVariants.{NoMemory as Refused};
 
@@ -12,16 +13,16 @@ use thiserror::Error;
 pub enum FrameFault {
     /// Fewer bytes are there than a length word has or says.
     #[error("the framed record at byte {at} is torn")]
-    Torn { at: usize },
+    Torn { at: u64 },
     /// A length word below 12 or above 16,777,216.
     #[error("the framed record at byte {at} has the length {found}")]
-    Size { at: usize, found: u64 },
+    Size { at: u64, found: u64 },
     /// The length words in front of the payload and behind it differ.
     #[error("the framed record at byte {at} has the lengths {head} and {tail}")]
-    Lengths { at: usize, head: u64, tail: u64 },
+    Lengths { at: u64, head: u64, tail: u64 },
     /// The first byte that fits no label.
     #[error("the label is wrong at byte {at}")]
-    Label { at: usize },
+    Label { at: u64 },
     /// Memory was refused.
     #[error("out of memory")]
     NoMemory,

@@ -4,12 +4,14 @@
 #![tactic(auto)]
 
 mod fault;
+mod framing;
 mod laws;
 mod reading;
 mod steps;
 mod writing;
 
 pub use fault::FrameFault;
+pub use framing::{put_frame, put_label};
 pub use laws::{
     each_frame_stands, label_says_one_thing, label_stops_once, no_frame_begins_another,
     written_label_is_read,

@@ -38,7 +38,9 @@ fn wanted_at(bytes: &[u8], at: usize, wanted: &[u8]) -> Result<(), FrameFault>
     let rest = &bytes[at..];
     for (i, byte) in wanted.iter().enumerate() {
         if i >= rest.len() || rest[i] != *byte {
-            return Err(FrameFault::Label { at: at + i });
+            return Err(FrameFault::Label {
+                at: (at + i) as u64,
+            });
         }
     }
     Ok(())
@@ -52,11 +54,11 @@ fn with_byte(bytes: &[u8], at: usize, before: u32, most: u32) -> Result<u32, Fra
         (λ e. (e ≡ Misfit at) × ((length bytes.now ≤ at) ⊎ ((at < length bytes.now) × (most < before * 256 + slice_index bytes.now at)))) }
 {
     if at >= bytes.len() {
-        return Err(FrameFault::Label { at });
+        return Err(FrameFault::Label { at: at as u64 });
     }
     let number = before * 256 + u32::from(bytes[at]);
     if number > most {
-        return Err(FrameFault::Label { at });
+        return Err(FrameFault::Label { at: at as u64 });
     }
     Ok(number)
 }
@@ -89,12 +91,16 @@ fn text_at(bytes: &[u8], at: usize, width: usize) -> Result<usize, FrameFault>
     ensures fault { IfErr result (IsFieldFault (IsTextField width) width bytes.now at) }
 {
     if bytes.len() - at < width {
-        return Err(FrameFault::Label { at: bytes.len() });
+        return Err(FrameFault::Label {
+            at: bytes.len() as u64,
+        });
     }
     let field = &bytes[at..at + width];
     match first_zero(field) {
         Some(size) => Ok(size),
-        None => Err(FrameFault::Label { at: at + width - 1 }),
+        None => Err(FrameFault::Label {
+            at: (at + width - 1) as u64,
+        }),
     }
 }
 
@@ -112,7 +118,7 @@ fn look(bytes: &[u8]) -> Result<Said, FrameFault>
     let zone = text_at(bytes, 88, 40)?;
     wanted_at(bytes, 128, &BACK)?;
     if bytes.len() > LABEL {
-        return Err(FrameFault::Label { at: LABEL });
+        return Err(FrameFault::Label { at: LABEL as u64 });
     }
     let Some(start) = Stamp::build(sec, usec) else {
         unreachable!()

@@ -29,7 +29,7 @@ fn size_of(word: u32, at: usize) -> Result<usize, FrameFault>
 {
     if word < 12 || word > 16_777_216 {
         return Err(FrameFault::Size {
-            at,
+            at: at as u64,
             found: u64::from(word),
         });
     }
@@ -46,18 +46,18 @@ fn forward(bytes: &[u8], at: usize) -> Result<Step, FrameFault>
         return Ok(Step::End);
     }
     let Some(head) = word_at(bytes, at) else {
-        return Err(FrameFault::Torn { at });
+        return Err(FrameFault::Torn { at: at as u64 });
     };
     let size = size_of(head, at)?;
     if bytes.len() - at < size {
-        return Err(FrameFault::Torn { at });
+        return Err(FrameFault::Torn { at: at as u64 });
     }
     let Some(tail) = word_at(bytes, at + size - 4) else {
-        return Err(FrameFault::Torn { at });
+        return Err(FrameFault::Torn { at: at as u64 });
     };
     if head != tail {
         return Err(FrameFault::Lengths {
-            at,
+            at: at as u64,
             head: u64::from(head),
             tail: u64::from(tail),
         });
@@ -79,21 +79,21 @@ fn back(bytes: &[u8], at: usize) -> Result<Step, FrameFault>
         return Ok(Step::End);
     }
     if at < 4 {
-        return Err(FrameFault::Torn { at });
+        return Err(FrameFault::Torn { at: at as u64 });
     }
     let Some(tail) = word_at(bytes, at - 4) else {
-        return Err(FrameFault::Torn { at });
+        return Err(FrameFault::Torn { at: at as u64 });
     };
     let size = size_of(tail, at)?;
     if at < size {
-        return Err(FrameFault::Torn { at });
+        return Err(FrameFault::Torn { at: at as u64 });
     }
     let Some(head) = word_at(bytes, at - size) else {
-        return Err(FrameFault::Torn { at });
+        return Err(FrameFault::Torn { at: at as u64 });
     };
     if head != tail {
         return Err(FrameFault::Lengths {
-            at,
+            at: at as u64,
             head: u64::from(head),
             tail: u64::from(tail),
         });

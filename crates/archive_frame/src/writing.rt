@@ -3,7 +3,8 @@ ghost use Rattle.std.specs.Prelude.{◌≡◌, ◌+◌, ◌≤◌, ◌≤ℤ◌,
 ghost use Rattle.pcp_base.specs.Time.{IsMoment};
 ghost use Rattle.pcp_model.specs.Words.{word};
 ghost use Rattle.pcp_model.specs.Labels.{label as spelled};
-ghost use Rattle.archive_frame.specs.Places.{over};
+ghost use Rattle.archive_frame.specs.Labels.{LabelInRange};
+ghost use Rattle.archive_frame.specs.Overwritten.{over};
 
 use pcp_model::Label;
 
@@ -31,6 +32,8 @@ pub fn label_bytes(label: &Label, volume: i32) -> [u8; LABEL]
     requires { negsuc 1 ≤ℤ volume }
     ensures bytes { result ≡ spelled label.now volume }
     ensures moment { IsMoment label.now.start }
+    // What was written is read again: each number fits its word, and the texts their fields.
+    ensures range { LabelInRange label.now volume }
 {
     let mut out = [0; LABEL];
     put_word(&mut out, 0, 132);

@@ -110,7 +110,7 @@ fn lengths_and_the_magic_number_stop_at_the_first_other_byte(rt: HostRuntime) ->
     ] {
         assert_eq!(rt;
             fault_with(alloc, at, &[byte])?,
-            Some(FrameFault::Label { at })
+            Some(FrameFault::Label { at: at as u64 })
         );
     }
     Ok(())
@@ -166,7 +166,7 @@ fn bytes_of_another_length_stop_where_they_or_the_label_ends(rt: HostRuntime) ->
         let front = bytes.as_slice().get(..size).ok_or("shorter")?;
         assert_eq!(rt;
             fault_of(alloc, front),
-            Some(FrameFault::Label { at: size })
+            Some(FrameFault::Label { at: size as u64 })
         );
     }
     bytes.push(0)?;

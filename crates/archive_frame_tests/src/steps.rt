@@ -92,11 +92,11 @@ fn fewer_than_4_bytes_are_torn(rt: HostRuntime) -> Result<(), Fail> {
     for at in 0..3 {
         assert_eq!(rt;
             step_forward(&bytes, at).err(),
-            Some(FrameFault::Torn { at })
+            Some(FrameFault::Torn { at: at as u64 })
         );
         assert_eq!(rt;
             step_back(&bytes, at + 1).err(),
-            Some(FrameFault::Torn { at: at + 1 })
+            Some(FrameFault::Torn { at: at as u64 + 1 })
         );
     }
     Ok(())

@@ -1,6 +1,7 @@
 -- Reading one behind the other, as a loop does.
 use Rattle.std.proofs.Common.{◌≡◌, ℕ, ℤ, suc, ◌-◌, ◌+◌, ◌*◌, ◌<◌, ◌≤◌, List, [], ◌∷◌, ◌++◌, length, drop, Option, Some, None, refl, sym, ap, ◌∙◌, append_assoc, arith}
 use Rattle.std.proofs.lemmas.List.{drop-drop, drop_all, length-drop, append-nil}
+use Rattle.archive_meta.specs.Room.{memory_of}
 use Rattle.archive_meta.specs.Decoding.{◌>>=◌, first_name, names_from, pair_at, pairs_from}
 
 -- what was read before, and what is still read
@@ -69,3 +70,8 @@ no_pair front table numbers offsets count i total lt h so_far =
     let k : count - i ≡ suc (count - (i + 1)) = omega arith in
     let one : with_front front (pairs_from table (count - i) numbers offsets) ≡ None = rw (k, h) refl in
     sym so_far ∙ one
+
+-- what instances take, one more at a time
+pub memory_more : (pairs : List (ℤ × List ℕ)) (p : ℤ × List ℕ) → memory_of (pairs ++ p ∷ []) ≡ memory_of pairs + (64 + length p.1)
+memory_more [] p = omega arith
+memory_more (x ∷ pairs) p = omega (arith, memory_more pairs p)

@@ -2,6 +2,8 @@ pub mod Decoding
 pub mod Kept
 pub mod Laws
 pub mod Order
+pub mod Ranges
 pub mod Records
+pub mod Room
 pub mod Said
 pub mod Stamped

@@ -3,14 +3,17 @@ ghost use Rattle.std.specs.Prelude.{◌≡◌};
 ghost use Rattle.archive_meta.specs.declared.fault.MetaFault.TheVariants.{NoMemory as Refused};
 
 use pcp_base::NoMemory;
+use thiserror::Error;
 
 /// Why bytes are no records of Meta.
-#[derive(Clone, Copy, Debug, PartialEq, Eq)]
+#[derive(Clone, Copy, Debug, PartialEq, Eq, Error)]
 pub enum MetaFault {
     /// The first record that is none: its frame isn't whole, its payload is refused, or it is a second description
     /// of a metric that differs from the first. Its first byte is counted from the start of the bytes handed in.
-    Record { at: usize },
+    #[error("the record of Meta at byte {at} is wrong")]
+    Record { at: u64 },
     /// Memory was refused.
+    #[error("out of memory")]
     NoMemory,
 }
 

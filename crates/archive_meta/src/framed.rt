@@ -17,9 +17,9 @@ pub fn record_at(alloc: Global, bytes: &[u8], at: usize) -> Result<(MetaRecord, 
     match step_forward(bytes, at) {
         Ok(Step::Payload { from, to, next }) => match read_record(alloc, &bytes[from..to])? {
             Some(record) => Ok((record, next)),
-            None => Err(MetaFault::Record { at }),
+            None => Err(MetaFault::Record { at: at as u64 }),
         },
-        Ok(Step::End) => Err(MetaFault::Record { at }),
-        Err(_) => Err(MetaFault::Record { at }),
+        Ok(Step::End) => Err(MetaFault::Record { at: at as u64 }),
+        Err(_) => Err(MetaFault::Record { at: at as u64 }),
     }
 }

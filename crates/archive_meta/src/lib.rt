@@ -15,8 +15,10 @@ mod pairs;
 mod reading;
 mod state;
 mod texts;
+mod writing;
 
 pub use fault::MetaFault;
 pub use laws::records_go_on;
 pub use reading::domain_stamp;
 pub use state::MetaState;
+pub use writing::{put_description, put_domain};

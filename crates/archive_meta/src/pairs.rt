@@ -1,10 +1,14 @@
 //! The instances of a domain.
-ghost use Rattle.std.specs.Prelude.{◌≡◌, ◌+◌, ◌*◌, ◌≤◌, drop, length, IfOk};
+ghost use Rattle.std.specs.Prelude.{◌≡◌, ◌+◌, ◌*◌, ◌≤◌, drop, length, IfOk, IfSome};
 ghost use Rattle.archive_meta.specs.Decoding.{stamp_in, pair_at, pairs_from, instances_in, domain_in};
+ghost use Rattle.archive_meta.specs.Room.{memory_of};
 
 use crate::texts::name_at;
 use pcp_base::{InDom, List, NoMemory, Stamp, Text, be32};
 use std::alloc::Global;
+
+/// The most memory that the instances of one record may take, in bytes, counting 64 for each beside its name.
+const MOST: usize = 1 << 28;
 
 /// The instance whose number and offset these bytes begin with, and its name in the table.
 #[tactic(auto, unfolding(crate::specs::Decoding::pair_at))]
@@ -25,7 +29,22 @@ fn pair_at(
     }
 }
 
-/// So many instances: their numbers stand one behind another, and so do their offsets into the table.
+/// What instances take with one more, unless it is more than they may.
+fn kept_with(kept: usize, name: &Text) -> Result<usize, NoMemory>
+    ensures sum { IfOk result (λ total. total ≡ kept + (64 + length name.now)) }
+    ensures few { IfOk result (λ total. total ≤ 268435456) }
+{
+    let total = kept
+        .saturating_add(64)
+        .saturating_add(name.as_slice().len());
+    if total > MOST {
+        return Err(NoMemory);
+    }
+    Ok(total)
+}
+
+/// So many instances: their numbers stand one behind another, and so do their offsets into the table. Offsets may
+/// repeat, so that a short record spells many long names: memory is refused before these take more than 256 MiB.
 #[tactic(auto, unfolding(crate::specs::Decoding::pairs_from))]
 fn pairs_from(
     alloc: Global,
@@ -36,13 +55,18 @@ fn pairs_from(
 ) -> Result<Option<List<(i32, Text)>>, NoMemory>
     requires numbers { 4 * count ≤ length numbers.now }
     requires offsets { 4 * count ≤ length offsets.now }
-    ensures { IfOk result (λ found. found ≡ pairs_from table.now count numbers.now offsets.now) }
+    ensures pairs { IfOk result (λ found. found ≡ pairs_from table.now count numbers.now offsets.now) }
+    ensures room { IfOk result (λ found. IfSome found (λ pairs. memory_of pairs ≤ 268435456)) }
 {
     let mut pairs = List::empty(alloc);
+    let mut kept: usize = 0;
     for i in 0..count {
         let at = 4 * i as usize;
         match pair_at(alloc, &numbers[at..], &offsets[at..], table)? {
-            Some(pair) => pairs.push(pair)?,
+            Some(pair) => {
+                kept = kept_with(kept, &pair.1)?;
+                pairs.push(pair)?;
+            }
             None => return Ok(None),
         }
     }

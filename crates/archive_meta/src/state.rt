@@ -124,7 +124,7 @@ impl MetaState {
         ensures consistent { OnOk result (AreConsistent (self.old ++ one ∷ [])) }
     {
         if !self.agrees(&one) {
-            return Err(MetaFault::Record { at });
+            return Err(MetaFault::Record { at: at as u64 });
         }
         self.push(one)?;
         Ok(())

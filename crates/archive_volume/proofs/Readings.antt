@@ -10,7 +10,7 @@ use Rattle.pcp_base.specs.declared.result.Item.TheVariants.{Sample, Mark}
 use Rattle.pcp_model.specs.Words.{word, length-word}
 use Rattle.pcp_model.specs.Payload.{reach, IsPayload, IsItem}
 use Rattle.result_form.specs.declared.fault.FormFault.{FormFault}
-use Rattle.result_form.specs.Reading.{Gives}
+use Rattle.result_form.specs.Decoding.{Gives}
 use Rattle.archive_volume.specs.Items.{item_of, as_item}
 
 -- a result without a set

@@ -9,7 +9,7 @@ use Rattle.pcp_base.specs.declared.result.Item.TheVariants.{Sample, Mark}
 use Rattle.pcp_model.specs.Words.{word}
 use Rattle.pcp_model.specs.Payload.{payload, payload_length, ResultInRange}
 use Rattle.result_form.specs.declared.fault.FormFault.{FormFault}
-use Rattle.result_form.specs.Reading.{decoded}
+use Rattle.result_form.specs.Decoding.{decoded}
 
 -- A sample is spelled as its result, and a mark is its stamp and no set.
 abbrev pub item_payload : Item → List ℕ

@@ -9,4 +9,4 @@ mod writing;
 
 pub use laws::written_item_is_read;
 pub use reading::decode_item;
-pub use writing::encode_item;
+pub use writing::{encode_item, encode_sample, put_mark, put_sample};

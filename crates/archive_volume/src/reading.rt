@@ -1,7 +1,7 @@
 //! The item of a record.
 ghost use Rattle.std.specs.Prelude.{◌≡◌, IfOk, Ok};
 ghost use Rattle.pcp_model.specs.Payload.{IsItem};
-ghost use Rattle.result_form.specs.Reading.{Gives};
+ghost use Rattle.result_form.specs.Decoding.{Gives};
 ghost use Rattle.archive_volume.specs.Items.{item_of, item_read};
 
 use pcp_base::{Item, PmResult};

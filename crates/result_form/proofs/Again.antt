@@ -16,11 +16,11 @@ use Rattle.pcp_model.specs.Words.{word, signed_word}
 use Rattle.pcp_model.specs.Payload.{blocks_in, blocks_of, value_pairs, place_pairs, body_words, set_words, body_length, sets_length, head_length, result_head, reach, BlocksStand, BodyInRange, SetInRange, IsPayload}
 use Rattle.result_form.specs.declared.fault.FormFault.{FormFault}
 use Rattle.result_form.specs.declared.fault.FormFault.TheVariants.{Short, Stamp, Count, Mode, Trailing}
-use Rattle.result_form.specs.declared.words.Run.{Run}
-use Rattle.result_form.specs.declared.words.Counted.{Counted}
-use Rattle.result_form.specs.declared.words.Counted.TheVariants as counted
-use Rattle.result_form.specs.Reading.{◌>>=◌, word_at, word_below, stamp_of, run_at, counted_at, run_end, end_of, set_end, sets_end, body_of, set_at, sets_from, decoded}
-use Rattle.result_form.proofs.Fields.{IsBytes, word_again, behind_word, unsigned_fits, signed_back, word_of_signed, status_word}
+use Rattle.result_form.specs.declared.fields.Run.{Run}
+use Rattle.result_form.specs.declared.fields.Counted.{Counted}
+use Rattle.result_form.specs.declared.fields.Counted.TheVariants as counted
+use Rattle.result_form.specs.Decoding.{◌>>=◌, word_at, word_below, stamp_of, run_at, counted_at, run_end, end_of, set_end, sets_end, body_of, set_at, sets_from, decoded}
+use Rattle.result_form.proofs.Spans.{IsBytes, word_again, behind_word, unsigned_fits, signed_back, word_of_signed, status_word}
 use Rattle.result_form.proofs.Pairs.{values_again, blocks_again}
 use Rattle.result_form.proofs.Whole.{least_reach}
 
@@ -41,11 +41,11 @@ neither_holds : (a b : Bool) → a ≡ false → b ≡ false → (a || b) ≡ fa
 neither_holds true b e f = absurd cc
 neither_holds false b e f = f
 
-low_test : (n : ℕ) → (n ≡ 0) ⊎ (2147483648 ≤ n) → (eqb n 0 || leb 2147483648 n) ≡ true
+pub low_test : (n : ℕ) → (n ≡ 0) ⊎ (2147483648 ≤ n) → (eqb n 0 || leb 2147483648 n) ≡ true
 low_test n (inl e) = either_holds (eqb n 0) (leb 2147483648 n) (inl (eq-eqb n 0 e))
 low_test n (inr h) = either_holds (eqb n 0) (leb 2147483648 n) (inr (le-leb 2147483648 n h))
 
-high_test : (n : ℕ) → 0 < n → n < 2147483648 → (eqb n 0 || leb 2147483648 n) ≡ false
+pub high_test : (n : ℕ) → 0 < n → n < 2147483648 → (eqb n 0 || leb 2147483648 n) ≡ false
 high_test n some few = neither_holds (eqb n 0) (leb 2147483648 n) (ne_eqb n 0 (λ (e : n ≡ 0). omega arith)) (lt-leb 2147483648 n few)
 
 three : (x y z rest : List ℕ) → (x ++ (y ++ z)) ++ rest ≡ x ++ (y ++ (z ++ rest))

@@ -1,6 +1,8 @@
 pub mod Again
-pub mod Fields
 pub mod Loops
 pub mod Pairs
+pub mod Ranged
+pub mod Rooms
 pub mod Sets
+pub mod Spans
 pub mod Whole

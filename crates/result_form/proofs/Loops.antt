@@ -4,7 +4,7 @@ use Rattle.std.specs.Prelude.{max}
 use Rattle.pcp_base.specs.Typed.{TypedBytes}
 use Rattle.pcp_base.specs.declared.result.ValueSet.{ValueSet}
 use Rattle.result_form.specs.declared.fault.FormFault.{FormFault}
-use Rattle.result_form.specs.Reading.{◌>>=◌, pair_at, values_from, placed_pair, blocks_from, set_at, set_end, sets_end, sets_from}
+use Rattle.result_form.specs.Decoding.{◌>>=◌, pair_at, values_from, placed_pair, blocks_from, set_at, set_end, sets_end, sets_from}
 
 -- what was read before, and what is still read
 abbrev pub with_front : {A : Type 0} → List A → Result (List A) FormFault → Result (List A) FormFault

@@ -12,11 +12,11 @@ use Rattle.pcp_base.specs.declared.result.ValueSet.{ValueSet}
 use Rattle.pcp_model.specs.Words.{word, signed_word}
 use Rattle.pcp_model.specs.Payload.{blocks_in, blocks_of, value_pairs, place_pairs, body_words, set_words, body_length, sets_length, reach, BlocksStand, BodyInRange, SetInRange}
 use Rattle.result_form.specs.declared.fault.FormFault.TheVariants.{Short, Mode}
-use Rattle.result_form.specs.declared.words.Run.{Run}
-use Rattle.result_form.specs.declared.words.Counted.{Counted}
-use Rattle.result_form.specs.declared.words.Counted.TheVariants as counted
-use Rattle.result_form.specs.Reading.{◌>>=◌, word_at, run_at, counted_at, run_end, end_of, set_end, sets_end, values_from, blocks_from, body_of, set_at, sets_from}
-use Rattle.result_form.proofs.Fields.{IsBytes, bind_ok, guard_ok, only_ok, ok_is, neither, Spans, nothing, joined, word_takes, signed_is, signed_fits, status_low}
+use Rattle.result_form.specs.declared.fields.Run.{Run}
+use Rattle.result_form.specs.declared.fields.Counted.{Counted}
+use Rattle.result_form.specs.declared.fields.Counted.TheVariants as counted
+use Rattle.result_form.specs.Decoding.{◌>>=◌, word_at, run_at, counted_at, run_end, end_of, set_end, sets_end, values_from, blocks_from, body_of, set_at, sets_from}
+use Rattle.result_form.proofs.Spans.{IsBytes, bind_ok, guard_ok, only_ok, ok_is, neither, Spans, nothing, joined, word_takes, signed_is, signed_fits, status_low}
 use Rattle.result_form.proofs.Pairs.{moved, values_takes, blocks_takes}
 
 either_way : {A : Type 0} (b : Bool) (x y z : A) → cond b x y ≡ z → ((b ≡ true) × (x ≡ z)) ⊎ ((b ≡ false) × (y ≡ z))

@@ -11,8 +11,8 @@ use Rattle.pcp_model.specs.Words.{word}
 use Rattle.pcp_model.specs.Payload.{place_byte, block_length, blocks_of, set_words, sets_length, head_length, result_head, reach, BlocksStand, IsPayload}
 use Rattle.result_form.specs.declared.fault.FormFault.{FormFault}
 use Rattle.result_form.specs.declared.fault.FormFault.TheVariants.{Stamp, Count, Trailing}
-use Rattle.result_form.specs.Reading.{◌>>=◌, Gives, word_at, word_below, stamp_of, sets_end, sets_from, decoded}
-use Rattle.result_form.proofs.Fields.{IsBytes, bind_ok, guard_ok, only_ok, ok_is, Spans, joined, word_takes}
+use Rattle.result_form.specs.Decoding.{◌>>=◌, Gives, word_at, word_below, stamp_of, sets_end, sets_from, decoded}
+use Rattle.result_form.proofs.Spans.{IsBytes, bind_ok, guard_ok, only_ok, ok_is, Spans, joined, word_takes}
 use Rattle.result_form.proofs.Sets.{sets_takes, sets_grow}
 
 below_ok : (bytes : List ℕ) (at bound n : ℕ) (fault : FormFault) → word_below bytes at bound fault ≡ Ok n → (word_at bytes at ≡ Ok n) × (n < bound)

@@ -1,15 +1,17 @@
 //! The pairs of a set: values in place, and blocks.
-ghost use Rattle.std.specs.Prelude.{◌≡◌, ◌+◌, ◌*◌, ◌%◌, ◌≤◌, length, OnOk};
-ghost use Rattle.pcp_model.specs.Payload.{filling};
-ghost use Rattle.result_form.specs.Reading.{Gives, padded_size, values_from, block_at, placed_block, placed_pair, blocks_from, body_of};
+ghost use Rattle.std.specs.Prelude.{◌≡◌, ◌+◌, ◌*◌, ◌%◌, ◌≤◌, length, OnOk, IfOk};
+ghost use Rattle.pcp_model.specs.Payload.{filling, pair_blocks, blocks_in};
+ghost use Rattle.result_form.specs.Decoding.{Gives, padded_size, values_from, block_at, placed_block, placed_pair, blocks_from, body_of};
+ghost use Rattle.result_form.specs.Room.{memory_of};
 
 use crate::fault::FormFault;
-use crate::words::{Counted, Run, pair_at, word_at};
+use crate::fields::{Counted, Run, pair_at, word_at};
+use crate::room::{Room, take_room};
 use pcp_base::{Block, Body, List};
 use std::alloc::Global;
 
 /// The pairs of a set whose values stand in it.
-#[tactic(auto, unfolding(crate::specs::Reading::values_from))]
+#[tactic(auto, unfolding(crate::specs::Decoding::values_from))]
 fn values_from(alloc: Global, payload: &[u8], run: Run) -> Result<List<(i32, u32)>, FormFault>
     ensures { Gives result (values_from payload.now run.count run.from) }
 {
@@ -32,73 +34,87 @@ fn padded_size(head: u32) -> usize
 }
 
 /// The block that begins at a byte, and the byte behind its padding.
-#[tactic(auto, unfolding(crate::specs::Reading::block_at))]
-fn block_at(alloc: Global, payload: &[u8], at: usize) -> Result<(Block, usize), FormFault>
-    ensures { Gives result (block_at payload.now at) }
+#[tactic(auto, unfolding(crate::specs::Decoding::block_at))]
+fn block_at(
+    alloc: Global,
+    payload: &[u8],
+    at: usize,
+    room: &mut Room,
+) -> Result<(Block, usize), FormFault>
+    ensures block { Gives result (block_at payload.now at) }
+    ensures room { IfOk result (λ found. room.new.left + (64 + length found.0.bytes) ≡ room.old.left) }
 {
     let head = word_at(payload, at)?;
     let size = (head % 16_777_216) as usize;
     let end = at + padded_size(head);
     if size < 4 || payload.len() < end {
-        return Err(FormFault::Block { at });
+        return Err(FormFault::Block { at: at as u64 });
     }
-    let kept = Vec::from_slice(alloc, &payload[at + 4..at + size])?;
+    let bytes = &payload[at + 4..at + size];
+    take_room(room, bytes.len())?;
+    let kept = Vec::from_slice(alloc, bytes)?;
     match Block::build((head / 16_777_216) as u8, List::from_vec(kept)) {
         Some(block) => Ok((block, end)),
-        None => Err(FormFault::Block { at }),
+        None => Err(FormFault::Block { at: at as u64 }),
     }
 }
 
 /// The block at a place, the place's word being at a byte, and the byte behind the block.
-#[tactic(auto, unfolding(crate::specs::Reading::placed_block))]
+#[tactic(auto, unfolding(crate::specs::Decoding::placed_block))]
 fn placed_block(
     alloc: Global,
     payload: &[u8],
     sets_end: usize,
     at: usize,
     place: u32,
+    room: &mut Room,
 ) -> Result<(Block, usize), FormFault>
-    ensures { Gives result (placed_block payload.now sets_end at place) }
+    ensures block { Gives result (placed_block payload.now sets_end at place) }
+    ensures room { IfOk result (λ found. room.new.left + (64 + length found.0.bytes) ≡ room.old.left) }
 {
     let begin = place.saturating_sub(3) as usize * 4;
     if begin < sets_end || payload.len() < begin + 4 {
-        return Err(FormFault::Place { at });
+        return Err(FormFault::Place { at: at as u64 });
     }
-    block_at(alloc, payload, begin)
+    block_at(alloc, payload, begin, room)
 }
 
 /// The pair at a byte whose word is the place of its block, and the byte behind this block.
-#[tactic(auto, unfolding(crate::specs::Reading::placed_pair))]
+#[tactic(auto, unfolding(crate::specs::Decoding::placed_pair))]
 fn placed_pair(
     alloc: Global,
     payload: &[u8],
     sets_end: usize,
     at: usize,
+    room: &mut Room,
 ) -> Result<((i32, Block), usize), FormFault>
     ensures pair { Gives result (placed_pair payload.now sets_end at) }
     ensures within { OnOk result (at + 8 ≤ length payload.now) }
+    ensures room { IfOk result (λ found. room.new.left + (64 + length found.0.1.bytes) ≡ room.old.left) }
 {
     let pair = pair_at(payload, at)?;
-    let (block, end) = placed_block(alloc, payload, sets_end, at + 4, pair.1)?;
+    let (block, end) = placed_block(alloc, payload, sets_end, at + 4, pair.1, room)?;
     Ok(((pair.0, block), end))
 }
 
 /// The pairs of a set whose values stand in blocks, and the greater of an end reached before and of their ends.
-#[tactic(auto, unfolding(crate::specs::Reading::blocks_from))]
+#[tactic(auto, unfolding(crate::specs::Decoding::blocks_from))]
 fn blocks_from(
     alloc: Global,
     payload: &[u8],
     sets_end: usize,
     reached: usize,
     run: Run,
+    room: &mut Room,
 ) -> Result<(List<(i32, Block)>, usize), FormFault>
-    ensures { Gives result (blocks_from payload.now sets_end reached run.count run.from) }
+    ensures pairs { Gives result (blocks_from payload.now sets_end reached run.count run.from) }
+    ensures room { IfOk result (λ found. room.new.left + memory_of (pair_blocks found.0) ≡ room.old.left) }
 {
     let mut at = run.from;
     let mut reach = reached;
     let mut pairs = List::empty(alloc);
     for _ in 0..run.count {
-        let (pair, end) = placed_pair(alloc, payload, sets_end, at)?;
+        let (pair, end) = placed_pair(alloc, payload, sets_end, at, room)?;
         pairs.push(pair)?;
         reach = reach.max(end);
         at += 8;
@@ -107,15 +123,17 @@ fn blocks_from(
 }
 
 /// What a set holds, and the greatest end with those of its blocks.
-#[tactic(auto, unfolding(crate::specs::Reading::body_of))]
+#[tactic(auto, unfolding(crate::specs::Decoding::body_of))]
 pub fn body_of(
     alloc: Global,
     payload: &[u8],
     sets_end: usize,
     reached: usize,
     body: Counted,
+    room: &mut Room,
 ) -> Result<(Body, usize), FormFault>
-    ensures { Gives result (body_of payload.now sets_end reached body) }
+    ensures body { Gives result (body_of payload.now sets_end reached body) }
+    ensures room { IfOk result (λ found. room.new.left + memory_of (blocks_in found.0) ≡ room.old.left) }
 {
     match body {
         Counted::Status(status) => Ok((Body::Status(status), reached)),
@@ -124,7 +142,7 @@ pub fn body_of(
             Ok((Body::InPlace(pairs), reached))
         }
         Counted::Blocks(run) => {
-            let (pairs, reach) = blocks_from(alloc, payload, sets_end, reached, run)?;
+            let (pairs, reach) = blocks_from(alloc, payload, sets_end, reached, run, room)?;
             Ok((Body::Blocks(pairs), reach))
         }
     }

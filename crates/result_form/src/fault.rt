@@ -1,3 +1,4 @@
+//! Why bytes are no payload.
 ghost use Rattle.std.specs.Prelude.{◌≡◌};
 ghost use Rattle.result_form.specs.declared.fault.FormFault.TheVariants.{NoMemory as Refused};
 
@@ -13,25 +14,25 @@ use thiserror::Error;
 pub enum FormFault {
     /// The payload ends inside this word.
     #[error("the payload ends inside the word at byte {at}")]
-    Short { at: usize },
+    Short { at: u64 },
     /// Seconds of 2^31 or more, or microseconds of 1,000,000 or more.
     #[error("the time stamp's word at byte {at} is out of range")]
-    Stamp { at: usize },
+    Stamp { at: u64 },
     /// A negative number of sets.
     #[error("the number of sets at byte {at} is negative")]
-    Count { at: usize },
+    Count { at: u64 },
     /// A storage mode other than 0, in place, and 1, in blocks.
     #[error("the storage mode at byte {at} is neither 0 nor 1")]
-    Mode { at: usize },
+    Mode { at: u64 },
     /// A place whose first word doesn't lie between the end of the last set and the end of the payload.
     #[error("the place at byte {at} leads to no block")]
-    Place { at: usize },
+    Place { at: u64 },
     /// A block whose length is below 4, or that leaves the payload with its padding.
     #[error("the block at byte {at} leaves the payload")]
-    Block { at: usize },
+    Block { at: u64 },
     /// The payload goes on behind the sets and all blocks.
     #[error("the payload goes on behind its end at byte {at}")]
-    Trailing { at: usize },
+    Trailing { at: u64 },
     /// Memory was refused.
     #[error("out of memory")]
     NoMemory,

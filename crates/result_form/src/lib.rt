@@ -5,16 +5,19 @@
 
 mod blocks;
 mod fault;
+mod fields;
 mod laws;
 mod reading;
+mod room;
 mod sizes;
-mod words;
+mod spelling;
 mod writing;
 
 pub use fault::FormFault;
 pub use laws::written_is_read;
 pub use reading::decode;
 pub use sizes::length;
+pub use spelling::put_payload;
 pub use writing::{encode, fits};
 
 #[cfg(test)]

@@ -1,11 +1,13 @@
 //! How many bytes a payload has, without writing it.
-ghost use Rattle.std.specs.Prelude.{◌≡◌, ◌+◌, ◌*◌, ◌≤◌, min};
+ghost use Rattle.std.specs.Prelude.{◌≡◌, ◌+◌, ◌*◌, ◌≤◌, length, min};
 ghost use Rattle.pcp_model.specs.Payload.{block_length, blocks_length, blocks_in, body_length, pair_blocks, payload_length};
 
 use pcp_base::{Block, Body, PmResult};
 
-fn block_length(block: &Block) -> u64
-    ensures { result ≡ block_length block.now }
+/// How many bytes a block takes with its first word and its padding.
+pub fn block_length(block: &Block) -> u64
+    ensures value { result ≡ block_length block.now }
+    ensures fits { length block.now.bytes ≤ 16777211 }
 {
     let bytes = block.bytes().len() as u64;
     4 + bytes + (4 - bytes % 4) % 4

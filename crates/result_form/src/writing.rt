@@ -1,12 +1,12 @@
-//! The one spelling of a payload: the words, and behind them the blocks in the order of the pairs.
-ghost use Rattle.std.specs.Prelude.{◌≡◌, ◌≤◌, length, IfOk, IsTrue, ◌↔◌};
+//! Which results can be written, and their payloads as bytes of their own.
+ghost use Rattle.std.specs.Prelude.{◌≡◌, ◌≤◌, length, IfOk, OnOk, IsTrue, ◌↔◌};
 ghost use Rattle.std.specs.List.{AllByRecursion};
 ghost use Rattle.pcp_base.specs.Results.{Fits};
-ghost use Rattle.pcp_model.specs.Payload.{payload, payload_length};
+ghost use Rattle.pcp_model.specs.Payload.{payload, payload_length, ResultInRange};
 
 use crate::sizes::length;
+use crate::spelling::put_payload;
 use pcp_base::{Bytes, List, NoMemory, PmResult, ValueSet};
-use pcp_model::spell_payload;
 use std::alloc::Global;
 
 /// Whether each set holds what can be written.
@@ -38,7 +38,10 @@ pub fn encode(alloc: Global, answer: &PmResult) -> Result<Bytes, NoMemory>
     requires room { payload_length answer.now ≤ 16777216 }
     ensures bytes { IfOk result (λ bytes. bytes ≡ payload answer.now) }
     ensures length { IfOk result (λ bytes. length bytes ≡ payload_length answer.now) }
+    // What was written is read again: each number is in its range.
+    ensures range { OnOk result (ResultInRange answer.now) }
 {
-    let bytes = spell_payload(alloc, answer)?;
-    Ok(List::from_vec(bytes))
+    let mut out = Vec::with_capacity(alloc, length(answer) as usize)?;
+    put_payload(&mut out, answer)?;
+    Ok(List::from_vec(out))
 }

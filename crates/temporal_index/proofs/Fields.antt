@@ -8,7 +8,7 @@ use Rattle.pcp_base.specs.Fields.{be_field}
 use Rattle.pcp_model.specs.Words.{word}
 use Rattle.pcp_model.specs.declared.records.Entry.{Entry}
 use Rattle.pcp_model.specs.Records.{entry, FitsEntry}
-use Rattle.temporal_index.specs.Reading.{◌>>=◌, below, entry_at}
+use Rattle.temporal_index.specs.Entries.{◌>>=◌, below, entry_at}
 
 abbrev pub IsBytes : List ℕ → Type 0
 IsBytes bytes = (i : ℕ) → get_or bytes i 0 < 256

@@ -5,7 +5,7 @@ use Rattle.std.proofs.lemmas.List.{drop_at, length-append, append-nil}
 use Rattle.pcp_model.specs.declared.records.Entry.{Entry}
 use Rattle.pcp_model.specs.Records.{entry, entries, FitsEntry}
 use Rattle.pcp_model.proofs.Cuts.{length-entry}
-use Rattle.temporal_index.specs.Reading.{AreEntries, IsFirstFault}
+use Rattle.temporal_index.specs.Entries.{AreEntries, IsFirstFault}
 
 -- no fitting entry stands in front of these bytes
 abbrev None : List ℕ → Type 0

@@ -8,7 +8,7 @@ use Rattle.pcp_model.specs.Records.{entry, entries, FitsEntry}
 use Rattle.pcp_model.proofs.Cuts.{length-entry}
 use Rattle.temporal_index.specs.declared.fault.IndexFault.{IndexFault}
 use Rattle.temporal_index.specs.declared.fault.IndexFault.TheVariants.{Entry as NoEntry, NoMemory}
-use Rattle.temporal_index.specs.Reading.{entry_at, followed, entries_from, begun, index_of, Gives, AreEntries, IsFirstFault, IsIndexFault}
+use Rattle.temporal_index.specs.Entries.{entry_at, followed, entries_from, begun, index_of, Gives, AreEntries, IsFirstFault, IsIndexFault}
 use Rattle.temporal_index.proofs.Fields.{IsBytes, Taken, entry_takes, entry_again}
 
 abbrev read : List Entry → Result (List Entry) ℕ

@@ -3,7 +3,7 @@ use Rattle.std.specs.Prelude.{◌≡◌, ℕ, List, Ok}
 use Rattle.std.specs.List.{AllByRecursion}
 use Rattle.pcp_model.specs.declared.records.Entry.{Entry}
 use Rattle.pcp_model.specs.Records.{entries, FitsEntry}
-use Rattle.temporal_index.specs.Reading.{index_of, AreEntries, IsFirstFault}
+use Rattle.temporal_index.specs.Entries.{index_of, AreEntries, IsFirstFault}
 
 -- what is written is read again
 abbrev pub WrittenIndexIsRead : Type 0

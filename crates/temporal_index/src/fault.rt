@@ -1,3 +1,4 @@
+//! Why bytes are no index.
 ghost use Rattle.std.specs.Prelude.{◌≡◌};
 ghost use Rattle.temporal_index.specs.declared.fault.IndexFault.TheVariants.{NoMemory as Refused};
 

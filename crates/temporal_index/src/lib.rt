@@ -13,4 +13,4 @@ pub use fault::IndexFault;
 pub use index::Index;
 pub use laws::{index_stops_once, written_index_is_read};
 pub use pcp_model::Entry;
-pub use writing::entry_bytes;
+pub use writing::{entry_bytes, put_entry};

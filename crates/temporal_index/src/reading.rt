@@ -1,12 +1,12 @@
 //! The entries that bytes are.
-ghost use Rattle.std.specs.Prelude.{◌≡◌};
+ghost use Rattle.std.specs.Prelude.{◌≡◌, [], IfOk};
 ghost use Rattle.std.specs.Int.{w32};
 ghost use Rattle.pcp_base.specs.Fields.{be_field};
-ghost use Rattle.temporal_index.specs.Reading.{below, entry_at, Gives, index_of};
+ghost use Rattle.temporal_index.specs.Entries.{below, entry_at, Gives, index_of};
 
 use crate::fault::IndexFault;
 use crate::writing::ENTRY;
-use pcp_base::{List, Stamp, be32};
+use pcp_base::{List, NoMemory, Stamp, be32};
 use pcp_model::Entry;
 use std::alloc::Global;
 
@@ -19,7 +19,7 @@ fn word_below(bytes: &[u8], at: usize, bound: u32) -> Option<u32>
 }
 
 /// The entry at a byte.
-#[tactic(auto, unfolding(crate::specs::Reading::entry_at))]
+#[tactic(auto, unfolding(crate::specs::Entries::entry_at))]
 fn entry_at(bytes: &[u8], at: usize) -> Option<Entry>
     ensures { result ≡ entry_at bytes.now at }
 {
@@ -37,12 +37,20 @@ fn entry_at(bytes: &[u8], at: usize) -> Option<Entry>
     })
 }
 
+/// The list without an entry, with room for so many.
+fn with_room(alloc: Global, count: usize) -> Result<List<Entry>, NoMemory>
+    ensures { IfOk result (λ entries. entries ≡ []) }
+{
+    let room = Vec::with_capacity(alloc, count)?;
+    Ok(List::from_vec(room))
+}
+
 /// All entries that the bytes are, or the first place where none is.
 pub fn entries_of(alloc: Global, bytes: &[u8]) -> Result<List<Entry>, IndexFault>
     ensures { Gives result (index_of bytes.now) }
 {
     let mut at = 0;
-    let mut entries = List::empty(alloc);
+    let mut entries = with_room(alloc, bytes.len() / ENTRY)?;
     while at < bytes.len() {
         match entry_at(bytes, at) {
             Some(entry) => entries.push(entry)?,

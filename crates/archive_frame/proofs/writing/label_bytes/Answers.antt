@@ -1,4 +1,6 @@
-use Rattle.std.proofs.Common.{◌∙◌, ap}
+use Rattle.std.proofs.Common.{◌∙◌, ap, subst, arith}
+use Rattle.pcp_base.specs.Texts.{IsText}
+use Rattle.pcp_base.specs.Time.{IsMoment}
 use Rattle.std.specs.Int.{w32, cast_unsigned}
 use Rattle.std.proofs.lemmas.Int.{to_z-of_z}
 use Rattle.archive_frame.proofs.Filling.{label_written}
@@ -22,3 +24,13 @@ returns-clause-bytes c =
     c.put.ensures
     c.put-2.ensures
     c.put_word-7.ensures
+
+pub returns-clause-range : goal.returns-clause-range
+returns-clause-range c = record {
+  pid = omega (arith, c.pid.ensures);
+  start = subst (λ t. IsMoment t) c.start.ensures c.sec.ensures.range;
+  host = subst IsText c.host.ensures.value c.as_slice.ensures.text;
+  zone = subst IsText c.zone.ensures.value c.as_slice-2.ensures.text;
+  fits = c.host.ensures.fits;
+  signed = c.ranges.volume;
+}

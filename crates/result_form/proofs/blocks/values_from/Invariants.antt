@@ -1,6 +1,6 @@
 -- The pairs read so far and those that are left are all of them.
 use Rattle.std.proofs.Common.{◌≡◌, ◌-◌}
-use Rattle.result_form.specs.Reading.{values_from}
+use Rattle.result_form.specs.Decoding.{values_from}
 use Rattle.result_form.proofs.Loops.{with_front}
 use Rattle.result_form.proofs.blocks.values_from.Given as goal
 

@@ -4,7 +4,7 @@ use Rattle.temporal_index.proofs.Loops.{starts, goes_on, stops, ends}
 use Rattle.temporal_index.proofs.reading.entries_of.Goals as goal
 
 pub loop-at-init : goal.loop-at-init
-loop-at-init c = rw c.empty-entries.ensures (record { within = omega arith; all = starts c.args.bytes.now })
+loop-at-init c = rw c.in_ok-entries.ensures (record { within = omega arith; all = starts c.args.bytes.now })
 
 pub returns-in-None : goal.returns-in-None
 returns-in-None c = stops c.args.bytes.now c.loop-at.entries c.loop-at.at _ c.loop-at-test.true (sym c.in-None.ensures) c.loop-at.invariant.all

@@ -1,6 +1,6 @@
 -- The entries read so far and those that are left are all of them.
 use Rattle.std.proofs.Common.{◌≡◌, ◌-◌, ◌≤◌, length}
-use Rattle.temporal_index.specs.Reading.{entries_from, begun, index_of}
+use Rattle.temporal_index.specs.Entries.{entries_from, begun, index_of}
 use Rattle.temporal_index.proofs.Loops.{ahead}
 use Rattle.temporal_index.proofs.reading.entries_of.Given as goal
 

@@ -1,6 +1,6 @@
 use Rattle.std.proofs.Common.{sym}
 use Rattle.result_form.proofs.Loops.{ends_on}
-use Rattle.result_form.proofs.words.sets_end.Goals as goal
+use Rattle.result_form.proofs.fields.sets_end.Goals as goal
 
 pub loop-preserved : goal.loop-preserved
 loop-preserved c = record {

@@ -1,6 +1,6 @@
 //! The words of a payload: its stamp, the number of sets, and what each set counts.
 ghost use Rattle.std.specs.Prelude.{◌≡◌, ◌+◌, ◌≤◌, length, OnOk, IfOk};
-ghost use Rattle.result_form.specs.Reading.{word_at, word_below, stamp_of, counted_at, run_at, run_end, end_of, set_end, sets_end, pair_at, LiesIn};
+ghost use Rattle.result_form.specs.Decoding.{word_at, word_below, stamp_of, counted_at, run_at, run_end, end_of, set_end, sets_end, pair_at, LiesIn};
 
 use crate::fault::FormFault;
 use pcp_base::{Stamp, be32};
@@ -27,7 +27,7 @@ pub fn word_at(payload: &[u8], at: usize) -> Result<u32, FormFault>
 {
     match be32(payload, at) {
         Some(word) => Ok(word),
-        None => Err(FormFault::Short { at }),
+        None => Err(FormFault::Short { at: at as u64 }),
     }
 }
 
@@ -40,7 +40,7 @@ pub fn word_below(payload: &[u8], at: usize, bound: u32, fault: FormFault) -> Re
 }
 
 /// The time stamp at the payload's front.
-#[tactic(auto, unfolding(crate::specs::Reading::stamp_of))]
+#[tactic(auto, unfolding(crate::specs::Decoding::stamp_of))]
 pub fn stamp_of(payload: &[u8]) -> Result<Stamp, FormFault>
     ensures { result ≡ stamp_of payload.now }
 {
@@ -53,7 +53,7 @@ pub fn stamp_of(payload: &[u8]) -> Result<Stamp, FormFault>
 }
 
 /// How the values stand, whose storage mode is at a byte.
-#[tactic(auto, unfolding(crate::specs::Reading::run_at))]
+#[tactic(auto, unfolding(crate::specs::Decoding::run_at))]
 fn run_at(payload: &[u8], at: usize, count: u32) -> Result<Counted, FormFault>
     ensures run { result ≡ run_at payload.now at count }
     ensures within { IfOk result (λ body. LiesIn (length payload.now) body) }
@@ -66,12 +66,12 @@ fn run_at(payload: &[u8], at: usize, count: u32) -> Result<Counted, FormFault>
     match mode {
         0 => Ok(Counted::InPlace(run)),
         1 => Ok(Counted::Blocks(run)),
-        _ => Err(FormFault::Mode { at }),
+        _ => Err(FormFault::Mode { at: at as u64 }),
     }
 }
 
 /// What stands behind a set's metric: a status of 0 or below, or how many values and how they are kept.
-#[tactic(auto, unfolding(crate::specs::Reading::counted_at))]
+#[tactic(auto, unfolding(crate::specs::Decoding::counted_at))]
 pub fn counted_at(payload: &[u8], at: usize) -> Result<Counted, FormFault>
     ensures counted { result ≡ counted_at payload.now at }
     ensures within { IfOk result (λ body. LiesIn (length payload.now) body) }
@@ -93,7 +93,7 @@ fn run_end(payload: &[u8], run: Run) -> Result<usize, FormFault>
     let rest = payload.len() - run.from;
     if rest / 8 < run.count as usize {
         return Err(FormFault::Short {
-            at: run.from + rest / 4 * 4,
+            at: (run.from + rest / 4 * 4) as u64,
         });
     }
     Ok(run.from + 8 * run.count as usize)
@@ -114,7 +114,7 @@ pub fn end_of(payload: &[u8], at: usize, body: Counted) -> Result<usize, FormFau
 }
 
 /// The byte behind a set that begins at a byte.
-#[tactic(auto, unfolding(crate::specs::Reading::set_end))]
+#[tactic(auto, unfolding(crate::specs::Decoding::set_end))]
 pub fn set_end(payload: &[u8], at: usize) -> Result<usize, FormFault>
     ensures end { result ≡ set_end payload.now at }
     ensures within { IfOk result (λ end. end ≤ length payload.now) }
@@ -125,7 +125,7 @@ pub fn set_end(payload: &[u8], at: usize) -> Result<usize, FormFault>
 }
 
 /// The byte behind so many sets, the first of which begins at a byte.
-#[tactic(auto, unfolding(crate::specs::Reading::sets_end))]
+#[tactic(auto, unfolding(crate::specs::Decoding::sets_end))]
 pub fn sets_end(payload: &[u8], count: u32, from: usize) -> Result<usize, FormFault>
     requires { from ≤ length payload.now }
     ensures end { result ≡ sets_end payload.now count from }
@@ -139,7 +139,7 @@ pub fn sets_end(payload: &[u8], count: u32, from: usize) -> Result<usize, FormFa
 }
 
 /// The pair of an instance and a word at a byte of the payload.
-#[tactic(auto, unfolding(crate::specs::Reading::pair_at))]
+#[tactic(auto, unfolding(crate::specs::Decoding::pair_at))]
 pub fn pair_at(payload: &[u8], at: usize) -> Result<(i32, u32), FormFault>
     ensures pair { result ≡ pair_at payload.now at }
     ensures within { OnOk result (at + 8 ≤ length payload.now) }

@@ -1,4 +1,4 @@
--- Reading the entries of an index (LOGARCHIVE(5)) from left to right.
+-- The entries of an index (LOGARCHIVE(5)), read from left to right.
 use Rattle.std.specs.Prelude.{◌≡◌, ℕ, zero, suc, ◌+◌, ◌/◌, ◌<◌, List, [], ◌∷◌, ◌++◌, length, Option, Some, None, Result, Ok, Err, nat_lt, if◌then◌else◌}
 use Rattle.std.specs.Int.{w32}
 use Rattle.std.specs.List.{AllByRecursion}

@@ -1,4 +1,4 @@
--- Reading the payload of a result (pmFetch(3), LOGARCHIVE(5)) from left to right: its words, then the blocks of
+-- What the payload of a result says (pmFetch(3), LOGARCHIVE(5)), read from left to right: its words, then the blocks of
 -- its pairs in order, then its end. The answer is the result, or the first fault and its place.
 use Rattle.std.specs.Prelude.{◌≡◌, ◌⊎◌, ℕ, zero, suc, ℤ, ◌+◌, ◌-◌, ◌*◌, ◌/◌, ◌%◌, ◌≤◌, List, [], ◌∷◌, length, take, drop, max, Option, Some, None, Result, Ok, Err, nat_lt, nat_le, ◌==◌, ◌||◌, if◌then◌else◌}
 use Rattle.std.specs.Int.{w32, cast_signed}
@@ -12,9 +12,9 @@ use Rattle.pcp_base.specs.declared.result.PmResult.{PmResult}
 use Rattle.pcp_model.specs.Payload.{filling, place_byte}
 use Rattle.result_form.specs.declared.fault.FormFault.{FormFault}
 use Rattle.result_form.specs.declared.fault.FormFault.TheVariants.{Short, Stamp, Count, Mode, Place, Block, Trailing, NoMemory}
-use Rattle.result_form.specs.declared.words.Run.{Run}
-use Rattle.result_form.specs.declared.words.Counted.{Counted}
-use Rattle.result_form.specs.declared.words.Counted.TheVariants as counted
+use Rattle.result_form.specs.declared.fields.Run.{Run}
+use Rattle.result_form.specs.declared.fields.Counted.{Counted}
+use Rattle.result_form.specs.declared.fields.Counted.TheVariants as counted
 
 infixl 10 ◌>>=◌
 abbrev pub ◌>>=◌ : {A B : Type 0} → Result A FormFault → (A → Result B FormFault) → Result B FormFault

@@ -1,7 +1,7 @@
 -- What is left of the sets ends where all of them do.
 use Rattle.std.proofs.Common.{◌≡◌, ◌-◌, ◌≤◌, length}
-use Rattle.result_form.specs.Reading.{sets_end}
-use Rattle.result_form.proofs.words.sets_end.Given as goal
+use Rattle.result_form.specs.Decoding.{sets_end}
+use Rattle.result_form.proofs.fields.sets_end.Given as goal
 
 abbrev pub invariant-loop : goal.invariant-loop
 invariant-loop l = record {
