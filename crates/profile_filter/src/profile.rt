@@ -1,3 +1,5 @@
+//! Profiles, and which instances they keep (pmAddProfile(3), pmFetch(3)).
+
 ghost use Rattle.std.specs.Prelude.{◌≡◌, ◌==◌, ◌≤◌, ◌<◌, [], true, min, find, MatchResult};
 ghost use Rattle.profile_filter.specs.Kept.{Settings, is_kept, is_kept_by};
 ghost use Rattle.std.specs.Option.{option_copied};
@@ -58,7 +60,7 @@ impl Profile {
             (λ _. (size_of parts ≤ 1024) × (self.new ≡ record { global = global; parts = parts }))
             (λ e. (1024 < size_of parts) × (e.count ≡ min (size_of parts) 18446744073709551615) × (self.new ≡ self.old)) }
     {
-        let count = counted(parts.as_slice());
+        let count = count_of(parts.as_slice());
         if count > LIMIT {
             return Err(TooMany { count });
         }
@@ -98,8 +100,8 @@ fn part_of(parts: &[DomainPart], indom: InDom) -> Option<&DomainPart>
     parts.iter().find(|part| part.indom == indom)
 }
 
-// The parts and the instances that they list, or 2^64 - 1 where they are more.
-fn counted(parts: &[DomainPart]) -> u64
+// How many parts and listed instances there are, or 2^64 - 1 where there are more.
+fn count_of(parts: &[DomainPart]) -> u64
     ensures { result ≡ min (size_of parts.now) 18446744073709551615 }
 {
     let mut count = parts.len() as u64;

@@ -1,3 +1,5 @@
+//! What no clause of profiles says: a worked profile and its answers.
+
 use super::*;
 use pcp_base::{InDom, List, NoMemory};
 use std::alloc::Global;

@@ -5,25 +5,25 @@ use mathlib.Core.Option.{some, some-injective, some-ne-none}
 use lib.ListN.{get_elem?}
 
 module _ {A : Type 0} where
-  -- what stands at a place is there
+  -- what stands at a position is there
   pub at_below : (l : List A) (i : ℕ) (a : A) → get_elem? l i ≡ some a → i < length l
   at_below [] i a e = absurd (some-ne-none a (sym e))
   at_below (x ∷ xs) zero a e = omega arith
   at_below (x ∷ xs) (suc i) a e = let h = at_below xs i a e in omega arith
 
-  -- something stands at each place below the length
+  -- something stands at each position below the length
   pub at_some : (l : List A) (i : ℕ) → i < length l → (a : A) × (get_elem? l i ≡ some a)
   at_some [] i h = absurd (omega arith)
   at_some (x ∷ xs) zero h = (x, refl)
   at_some (x ∷ xs) (suc i) h = at_some xs i (omega arith)
 
-  -- what was put at a place stands there
+  -- what was put at a position stands there
   pub set_here : (l : List A) (i : ℕ) (a : A) → i < length l → get_elem? (set l i a) i ≡ some a
   set_here [] i a h = absurd (omega arith)
   set_here (x ∷ xs) zero a h = refl
   set_here (x ∷ xs) (suc i) a h = set_here xs i a (omega arith)
 
-  -- and the other places are as before
+  -- and the other positions are as before
   pub set_else : (l : List A) (i j : ℕ) (a : A) → j ≢ i → get_elem? (set l i a) j ≡ get_elem? l j
   set_else [] i j a n = refl
   set_else (x ∷ xs) zero zero a n = absurd (n refl)
@@ -31,24 +31,24 @@ module _ {A : Type 0} where
   set_else (x ∷ xs) (suc i) zero a n = refl
   set_else (x ∷ xs) (suc i) (suc j) a n = set_else xs i j a (λ e. n (ap suc e))
 
-  -- a place of a longer list
+  -- a position of a longer list
   pub at_longer : (l m : List A) (i : ℕ) (a : A) → get_elem? l i ≡ some a → get_elem? (l ++ m) i ≡ some a
   at_longer [] m i a e = absurd (some-ne-none a (sym e))
   at_longer (x ∷ xs) m zero a e = e
   at_longer (x ∷ xs) m (suc i) a e = at_longer xs m i a e
 
-  -- the place after a list's last
+  -- the position after a list's last
   pub at_seam : (l m : List A) (a : A) → get_elem? (l ++ a ∷ m) (length l) ≡ some a
   at_seam [] m a = refl
   at_seam (x ∷ xs) m a = at_seam xs m a
 
-  -- the items from a place on
+  -- the items from a position on
   pub drop_at : (l : List A) (i : ℕ) (a : A) → get_elem? l i ≡ some a → drop i l ≡ a ∷ drop (suc i) l
   drop_at [] i a e = absurd (some-ne-none a (sym e))
   drop_at (x ∷ xs) zero a e = λ k. some-injective x a e k ∷ xs
   drop_at (x ∷ xs) (suc i) a e = drop_at xs i a e
 
-  -- each place of copies holds the copy
+  -- each position of copies holds the copy
   pub at_copies : (n : ℕ) (x : A) (i : ℕ) (a : A) → get_elem? (replicate n x) i ≡ some a → x ≡ a
   at_copies zero x i a e = absurd (some-ne-none a (sym e))
   at_copies (suc n) x zero a e = some-injective x a e
@@ -67,7 +67,7 @@ module _ {A : Type 0} where
   take_next (x ∷ xs) zero a e = λ k. some-injective x a e k ∷ []
   take_next (x ∷ xs) (suc p) a e = ap (λ (r : List A). x ∷ r) (take_next xs p a e)
 
-  -- the two words for an item at a place
+  -- the two words for an item at a position
   pub at_get : (l : List A) (i : ℕ) (a : A) → slice_get l i ≡ Some a → get_elem? l i ≡ some a
   at_get [] i a e = absurd (cc)
   at_get (x ∷ xs) zero a e = let same : x ≡ a = cc in ap some same

@@ -65,11 +65,11 @@ module _ (S : Shaping) where
       let same : patched words found n ≡ found = ext_get_or 0 (patched words found n) found (long ∙ sym wide) (λ i below. patched_here words found n i (omega arith) (omega arith)) in
       subst (λ (xs : List ℕ). IsLike S words xs) same (patched_like laws words found n image (omega arith) patch)
 
--- what a reading found at a place of its list
+-- what a reading found at a position of its list
 found_at : (S : Shaping) (start : State) (log : List Entry) (k p q : ℕ) (found : List (ℕ × ℕ)) (i : ℕ) (x : ℕ × ℕ) → All (IsFoundBetween S start log k p q) found → slice_get found i ≡ Some x → IsFoundBetween S start log k p q x
 found_at S start log k p q found i x all there =
-    let place : get_elem? found i ≡ some x = at_get found i x there in
-    subst (λ (y : ℕ × ℕ). IsFoundBetween S start log k p q y) (get_or_at found i x place) (all i x (at_below found i x place))
+    let position : get_elem? found i ≡ some x = at_get found i x there in
+    subst (λ (y : ℕ × ℕ). IsFoundBetween S start log k p q y) (get_or_at found i x position) (all i x (at_below found i x position))
 
 module _ (S : Shaping) (laws : IsShape S) (words : List ℕ) (passes : ℕ) (log : List Entry) (journal : IsJournal S words passes log) where
   abbrev start : State
@@ -148,9 +148,9 @@ module _ (S : Shaping) (laws : IsShape S) (words : List ℕ) (passes : ℕ) (log
       let long : length (at p).words ≡ length words = wide_run start (take p log) in
       patch_like S laws (at p).words found still.image (wide ∙ sym long)
       (λ w below.
-      let place = each w (omega arith) in
-      let here = still_at p place.0 q place.1 place.2 same in
-      subst (λ (v : ℕ). (v ≡ slice_index (at p).words w) ⊎ (IsWord v × S.Takes (S.form (at p).words) w v)) (sym place.3) (here.each w))
+      let position = each w (omega arith) in
+      let here = still_at p position.0 q position.1 position.2 same in
+      subst (λ (v : ℕ). (v ≡ slice_index (at p).words w) ⊎ (IsWord v × S.Takes (S.form (at p).words) w v)) (sym position.3) (here.each w))
 
   one_form_ahead : (p q generation : ℕ) (form other : S.Form) → p ≤ q → HasLayout S (at p) generation form → HasLayout S (at q) generation other → form ≡ other
   one_form_ahead p q generation form other h first second =
@@ -171,7 +171,7 @@ module _ (S : Shaping) (laws : IsShape S) (words : List ℕ) (passes : ℕ) (log
       let last = shown.stretch q (omega (arith, shown.order)) (omega arith) in
       let like : IsLike S (at p).words found = mixed_at p q found (omega (arith, shown.order)) (first.second ∙ sym last.first) wide
       (λ w below.
-      let place = each w below in
-      let load = found_at S start log k p q reading.found place.0 (w, slice_index found w) shown.each place.1 in
+      let position = each w below in
+      let load = found_at S start log k p q reading.found position.0 (w, slice_index found w) shown.each position.1 in
       (load.0, omega (arith, load.1), omega (arith, load.2), load.4)) in
       (like.image, like.form ∙ first.form_is)

@@ -15,7 +15,7 @@ use Rattle.region_core.specs.Shape.{Shaping, IsShape}
 use Rattle.region_core.specs.State.{State, plus, word, after, next_mode, after_take, entry_mode, IsIn, IsOpen, IsAllowed}
 use Rattle.region_core.specs.Journal.{state, own, own_then, IsLegal}
 use Rattle.region_core.specs.Events.{event_by}
-use Rattle.region_core.specs.Gate.{inside, bounced, changing, IsGated}
+use Rattle.region_core.specs.Gate.{one_if_inside, one_if_bounced, one_if_changing, IsGated}
 use Rattle.region_core.proofs.Lists.{at_below, set_here, set_else}
 use Rattle.region_core.proofs.Totals.{le_total, two_le_total}
 use Rattle.region_core.proofs.Gates.{at_most}
@@ -24,11 +24,11 @@ use Rattle.region_core.proofs.Stretch.{IsStill, still_refl, still_trans, quiet_a
 
 -- who is inside is counted, and the gate isn't taken
 pub gate_inside : (gate : ℕ) (ms : List Mode) (k : ℕ) → IsGated gate ms → get_elem? ms k ≡ some Attached → (1 ≤ gate) × (gate < 2 ^ 63)
-gate_inside gate ms k g e = let one = le_total inside ms k Attached e in let none = inside_shut gate ms k g e in let h = at_most ms in (omega arith, omega arith)
+gate_inside gate ms k g e = let one = le_total one_if_inside ms k Attached e in let none = inside_shut gate ms k g e in let h = at_most ms in (omega arith, omega arith)
 
 -- who was bounced is counted
 pub gate_bounced : (gate : ℕ) (ms : List Mode) (k : ℕ) → IsGated gate ms → get_elem? ms k ≡ some Bounced → 1 ≤ gate
-gate_bounced gate ms k g e = let one = le_total bounced ms k Bounced e in omega arith
+gate_bounced gate ms k g e = let one = le_total one_if_bounced ms k Bounced e in omega arith
 
 -- who is changing has taken the gate
 pub gate_changing : (gate : ℕ) (ms : List Mode) (k : ℕ) → IsGated gate ms → get_elem? ms k ≡ some Changing → 2 ^ 63 ≤ gate
@@ -36,7 +36,7 @@ gate_changing gate ms k g e = let one = changing_one ms k e in omega arith
 
 -- two passes are not changing at once
 pub one_changes : (gate : ℕ) (ms : List Mode) (j k : ℕ) → IsGated gate ms → get_elem? ms j ≡ some Changing → get_elem? ms k ≡ some Changing → j ≡ k
-one_changes gate ms j k g d e = dite (ℕ_discrete j k) (λ (same : j ≡ k). same) (λ (n : j ≢ k). let two = two_le_total changing ms j k Changing Changing n d e in absurd (omega arith))
+one_changes gate ms j k g d e = dite (ℕ_discrete j k) (λ (same : j ≡ k). same) (λ (n : j ≢ k). let two = two_le_total one_if_changing ms j k Changing Changing n d e in absurd (omega arith))
 
 -- nobody is inside while a pass is changing
 pub none_inside : (gate : ℕ) (ms : List Mode) (j k : ℕ) → IsGated gate ms → get_elem? ms j ≡ some Attached → get_elem? ms k ≡ some Changing → ⊥

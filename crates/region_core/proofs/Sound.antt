@@ -10,7 +10,7 @@ use Rattle.region_core.specs.declared.act.Entry.{Entry}
 use Rattle.region_core.specs.Shape.{Shaping, IsShape, IsWord, IsLike}
 use Rattle.region_core.specs.State.{State, word, g1, g2, plus, after, entry_mode, after_take, with_word, opening, IsIn, IsOpen, IsAllowed}
 use Rattle.region_core.specs.Journal.{state, IsLegal}
-use Rattle.region_core.specs.Gate.{total, inside, changing, IsGated}
+use Rattle.region_core.specs.Gate.{total, one_if_inside, one_if_changing, IsGated}
 use Rattle.region_core.proofs.Totals.{total-set, le_total}
 use Rattle.region_core.proofs.Gates.{gated_after, gated_opening}
 
@@ -19,16 +19,16 @@ pub plus_word : (n d : ℕ) → IsWord (plus n d)
 plus_word n d = mod-lt (n + d) (lit< tt)
 
 -- a pass that is changing is counted
-pub changing_one : (ms : List Mode) (k : ℕ) → get_elem? ms k ≡ some Changing → 1 ≤ total changing ms
-changing_one ms k e = le_total changing ms k Changing e
+pub changing_one : (ms : List Mode) (k : ℕ) → get_elem? ms k ≡ some Changing → 1 ≤ total one_if_changing ms
+changing_one ms k e = le_total one_if_changing ms k Changing e
 
 -- where a pass is inside, none is changing
-pub inside_shut : (gate : ℕ) (ms : List Mode) (k : ℕ) → IsGated gate ms → get_elem? ms k ≡ some Attached → total changing ms ≡ 0
-inside_shut gate ms k g e = let one = le_total inside ms k Attached e in ⊎_elim (λ (z : total changing ms ≡ 0). z) (λ (z : total inside ms ≡ 0). absurd (omega arith)) g.apart
+pub inside_shut : (gate : ℕ) (ms : List Mode) (k : ℕ) → IsGated gate ms → get_elem? ms k ≡ some Attached → total one_if_changing ms ≡ 0
+inside_shut gate ms k g e = let one = le_total one_if_inside ms k Attached e in ⊎_elim (λ (z : total one_if_changing ms ≡ 0). z) (λ (z : total one_if_inside ms ≡ 0). absurd (omega arith)) g.apart
 
 -- a mode that is replaced by another leaves nobody changing only where nobody was
-none_before : (ms : List Mode) (k : ℕ) (m n : Mode) → get_elem? ms k ≡ some m → changing m ≡ 0 → total changing (set ms k n) ≡ 0 → total changing ms ≡ 0
-none_before ms k m n e z h = let c = total-set changing ms k m n e in omega arith
+none_before : (ms : List Mode) (k : ℕ) (m n : Mode) → get_elem? ms k ≡ some m → one_if_changing m ≡ 0 → total one_if_changing (set ms k n) ≡ 0 → total one_if_changing ms ≡ 0
+none_before ms k m n e z h = let c = total-set one_if_changing ms k m n e in omega arith
 
 module _ (S : Shaping) where
   pub record IsSound (s : State) : Type 0 where
@@ -36,7 +36,7 @@ module _ (S : Shaping) where
     pub wide : 2 < length s.words
     pub ordered : g2 s ≤ g1 s
     pub image : g1 s ≡ g2 s → S.IsImage s.words
-    pub shut : total changing s.modes ≡ 0 → g1 s ≡ g2 s
+    pub shut : total one_if_changing s.modes ≡ 0 → g1 s ≡ g2 s
 
   -- a value word is neither of the two generations
   pub not_first : IsShape S → (words : List ℕ) (w v : ℕ) → S.IsImage words → S.Takes (S.form words) w v → 1 ≢ w
@@ -58,11 +58,11 @@ module _ (S : Shaping) where
       record { gated = sound.gated; wide = omega arith; ordered = omega arith; image = λ _. like.image; shut = λ _. first ∙ both ∙ sym second }
 
   -- other modes and another gate keep it, where the generations agree or somebody is changing
-  remoded : (s : State) (gate : ℕ) (modes : List Mode) → IsSound s → IsGated gate modes → (total changing modes ≡ 0 → g1 s ≡ g2 s) → IsSound (record { words = s.words; gate = gate; modes = modes })
+  remoded : (s : State) (gate : ℕ) (modes : List Mode) → IsSound s → IsGated gate modes → (total one_if_changing modes ≡ 0 → g1 s ≡ g2 s) → IsSound (record { words = s.words; gate = gate; modes = modes })
   remoded s gate modes sound gated shut = record { gated = gated; wide = sound.wide; ordered = sound.ordered; image = sound.image; shut = shut }
 
   takes_sound : (s : State) (k : ℕ) (b : Bool) → IsSound s → IsGated (after_take s k b).gate (after_take s k b).modes → IsIn Idle s k → IsSound (after_take s k b)
-  takes_sound s k true sound gated e = remoded s (2 ^ 63) (set s.modes k Changing) sound gated (λ h. let c = total-set changing s.modes k Idle Changing e in absurd (omega arith))
+  takes_sound s k true sound gated e = remoded s (2 ^ 63) (set s.modes k Changing) sound gated (λ h. let c = total-set one_if_changing s.modes k Idle Changing e in absurd (omega arith))
   takes_sound s k false sound gated e = remoded s s.gate s.modes sound gated sound.shut
 
   begun : (s : State) (k n : ℕ) → IsSound s → IsOpen s k (Begin n) → IsSound (with_word s 1 n)
@@ -73,7 +73,7 @@ module _ (S : Shaping) where
       let same : length (set s.words 1 n) ≡ length s.words = length-set s.words 1 n in
       let stable : slice_index s.words 1 ≡ slice_index s.words 2 = o.1 in
       let above : slice_index s.words 1 < n = o.2 in
-      let one : 1 ≤ total changing s.modes = changing_one s.modes k o.0 in
+      let one : 1 ≤ total one_if_changing s.modes = changing_one s.modes k o.0 in
       record { gated = sound.gated; wide = omega arith; ordered = omega arith; image = λ e. absurd (omega arith); shut = λ e. absurd (omega arith) }
 
   put : (s : State) (k w v : ℕ) → IsSound s → IsOpen s k (Put w v) → IsSound (with_word s w v)
@@ -83,7 +83,7 @@ module _ (S : Shaping) where
       let second : slice_index (set s.words w v) 2 ≡ slice_index s.words 2 = get_or-set_other s.words w 2 v 0 (λ (e : 2 ≡ w). o.3 (sym e)) in
       let same : length (set s.words w v) ≡ length s.words = length-set s.words w v in
       let ordered : slice_index s.words 2 ≤ slice_index s.words 1 = sound.ordered in
-      let one : 1 ≤ total changing s.modes = changing_one s.modes k o.0 in
+      let one : 1 ≤ total one_if_changing s.modes = changing_one s.modes k o.0 in
       record { gated = sound.gated; wide = omega arith; ordered = omega arith; image = λ e. absurd (o.1 (sym first ∙ e ∙ second)); shut = λ e. absurd (omega arith) }
 
   ended : (s : State) (k n : ℕ) → IsSound s → IsOpen s k (End n) → S.IsImage (set s.words 2 n) → IsSound (with_word s 2 n)

@@ -8,7 +8,7 @@ use Rattle.region_core.specs.declared.act.Entry.{Entry}
 use Rattle.region_core.specs.Shape.{Shaping, IsShape, IsWord, IsLike}
 use Rattle.region_core.specs.State.{State, word, g1, g2, plus, after, IsAllowed}
 use Rattle.region_core.specs.Journal.{state, IsLegal}
-use Rattle.region_core.specs.Gate.{total, changing}
+use Rattle.region_core.specs.Gate.{total, one_if_changing}
 use Rattle.region_core.proofs.Sound.{IsSound, sound_after, plus_word, changing_one, inside_shut, not_first, not_second}
 
 -- neither generation falls
@@ -84,7 +84,7 @@ module _ (S : Shaping) where
   still_act laws s k Free sound a stable same = still_refl s.words (sound.image stable)
 
   -- an act while nobody is changing: the words are still
-  pub quiet_act : IsShape S → (s : State) (k : ℕ) (act : Act) → IsSound S s → IsAllowed S s k act → total changing s.modes ≡ 0 → IsStill s.words (after s k act).words
+  pub quiet_act : IsShape S → (s : State) (k : ℕ) (act : Act) → IsSound S s → IsAllowed S s k act → total one_if_changing s.modes ≡ 0 → IsStill s.words (after s k act).words
   quiet_act laws s k (Load w) sound a none = still_refl s.words (sound.image (sound.shut none))
   quiet_act laws s k (Swap w v) sound a none = still_value laws s.words w v (sound.image (sound.shut none)) a.ready.1 a.ready.2 a.suits
   quiet_act laws s k (Add w d) sound a none = let fits = plus_word (word s w) d in still_value laws s.words w (plus (word s w) d) (sound.image (sound.shut none)) a.ready.1 fits (a.suits (plus (word s w) d) fits)

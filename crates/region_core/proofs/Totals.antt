@@ -17,7 +17,7 @@ module _ {X : Type 0} (f : X → ℕ) where
   le_total (z ∷ zs) zero x e = let q : f z ≡ f x = ap f (some-injective z x e) in omega arith
   le_total (z ∷ zs) (suc i) x e = let h = le_total zs i x e in omega arith
 
-  -- nor are two at different places
+  -- nor are two at different positions
   pub two_le_total : (l : List X) (i j : ℕ) (x y : X) → i ≢ j → get_elem? l i ≡ some x → get_elem? l j ≡ some y → f x + f y ≤ total f l
   two_le_total [] i j x y n e d = absurd (some-ne-none x (sym e))
   two_le_total (z ∷ zs) zero zero x y n e d = absurd (n refl)

@@ -92,7 +92,7 @@ module _ (S : Shaping) where
 
   -- and one with an entry that modes, generations or the capacity don't allow is not legal
   abbrev pub StoppedIsIllegal : Type 0
-  StoppedIsIllegal = (words : List ℕ) (passes : ℕ) (log : List Entry) (place : ℕ) → IsFirstShut (opening words passes) log place → IsJournal S words passes log → ⊥
+  StoppedIsIllegal = (words : List ℕ) (passes : ℕ) (log : List Entry) (position : ℕ) → IsFirstShut (opening words passes) log position → IsJournal S words passes log → ⊥
 
 -- the words of a state are the replay of the events before it over the opening words
 abbrev pub WordsAreReplayed : Type 0

@@ -6,5 +6,3 @@ pub mod Events
 pub mod Replay
 pub mod Readings
 pub mod Laws
-pub mod Slate
-pub mod SlateJournals

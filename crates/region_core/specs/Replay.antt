@@ -18,14 +18,14 @@ pub record EndsIn (s : State) (log : List Entry) (last : State) : Type 0 where
   pub runs : IsRunnable s log
   pub is : last ≡ state s log
 
--- the first entry that is not open stands at this place
-pub record IsFirstShut (s : State) (log : List Entry) (place : ℕ) : Type 0 where
+-- the first entry that is not open stands at this position
+pub record IsFirstShut (s : State) (log : List Entry) (position : ℕ) : Type 0 where
   pub entry : Entry
-  pub there : get_elem? log place ≡ some entry
-  pub before : IsRunnable s (take place log)
-  pub shut : IsOpen (state_at s log place) entry.by entry.act → ⊥
+  pub there : get_elem? log position ≡ some entry
+  pub before : IsRunnable s (take position log)
+  pub shut : IsOpen (state_at s log position) entry.by entry.act → ⊥
 
 -- why a replay stopped; want of memory may come at any time
 abbrev pub StopsFor : State → List Entry → Stop → Type 0
 StopsFor s log NoMemory = Unit {0}
-StopsFor s log (NotOpen place) = IsFirstShut s log place
+StopsFor s log (NotOpen position) = IsFirstShut s log position

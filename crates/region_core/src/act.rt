@@ -1,3 +1,5 @@
+//! The ten acts, and the entries of a journal.
+
 use crate::event::Event;
 
 /// One atomic step of a pass. A word is named by its index in the image, and stays below the region's capacity.

@@ -1,3 +1,5 @@
+//! The acts that store an image word, as what they do to the words alone.
+
 ghost use Rattle.std.specs.Prelude.{◌≡◌, slice_index, slice_set};
 ghost use Rattle.region_core.specs.State.{plus};
 
@@ -37,6 +39,7 @@ impl Event {
     }
 }
 
+// Stores the value in a word; a word past the end is let be.
 fn store(words: &mut [u64], at: usize, value: u64)
     ensures { words.new ≡ slice_set words.old at value }
 {
@@ -45,6 +48,7 @@ fn store(words: &mut [u64], at: usize, value: u64)
     }
 }
 
+// Adds the number to a word, modulo 2^64.
 fn add(words: &mut [u64], at: usize, number: u64)
     ensures { words.new ≡ slice_set words.old at (plus (slice_index words.old at) number) }
 {

@@ -8,10 +8,7 @@ mod event;
 mod laws;
 mod mode;
 mod shape;
-pub mod slate;
 mod state;
-#[cfg(test)]
-mod tests;
 
 pub use act::{Act, Entry};
 pub use event::Event;

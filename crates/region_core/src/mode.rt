@@ -1,4 +1,6 @@
-/// What a pass is doing.
+//! What a pass may be doing.
+
+/// What a pass is doing; each pass is in one mode at a time.
 #[derive(Clone, Copy, Debug, PartialEq, Eq)]
 pub enum Mode {
     /// Neither attached nor changing: it may read.

@@ -33,7 +33,8 @@ impl Model for State {
 pub enum Stop {
     /// There was no memory left.
     NoMemory,
-    /// The entry at this place, counted from 0, is the first one that modes, generations or the capacity don't allow.
+    /// The entry at this position of the journal, counted from 0, is the first one that modes, generations or the capacity
+    /// don't allow.
     NotOpen(usize),
 }
 
@@ -48,7 +49,7 @@ impl From<AllocError> for Stop {
 }
 
 /// Runs a journal over a new region of these words, up to the capacity, and so many passes. `Ok` is the state after the last
-/// entry. `Err(NotOpen(place))` names the first entry that modes, generations or the capacity don't allow, and comes exactly
+/// entry. `Err(NotOpen(position))` names the first entry that modes, generations or the capacity don't allow, and comes exactly
 /// where there is one; no layout makes such a journal legal.
 pub fn replay(alloc: Global, words: &[u64], passes: u32, log: &[Entry]) -> Result<State, Stop>
     ensures { MatchResult
@@ -57,9 +58,9 @@ pub fn replay(alloc: Global, words: &[u64], passes: u32, log: &[Entry]) -> Resul
         (StopsFor (opening_of words.now passes) log.now) }
 {
     let mut state = State::opening(alloc, words, passes)?;
-    for (place, entry) in log.iter().enumerate() {
+    for (position, entry) in log.iter().enumerate() {
         if !state.is_open(*entry) {
-            return Err(Stop::NotOpen(place));
+            return Err(Stop::NotOpen(position));
         }
         state.step(*entry);
     }
@@ -106,6 +107,7 @@ impl State {
         self.modes.get(by as usize).copied()
     }
 
+    // An image word, and 0 past the capacity.
     fn word(&self, at: usize) -> u64
         ensures { result ≡ word self.now at }
     {
@@ -115,6 +117,7 @@ impl State {
         }
     }
 
+    // Whether pass `by` is there, and in this mode.
     fn is_in(&self, by: u32, mode: Mode) -> bool
         ensures { IsTrue result ↔ IsIn mode self.now by }
     {
@@ -124,12 +127,14 @@ impl State {
         }
     }
 
+    // Whether the two generations agree.
     fn is_stable(&self) -> bool
         ensures { IsTrue result ↔ IsStable self.now }
     {
         self.word(1) == self.word(2)
     }
 
+    // Stores the value in a word; a word past the capacity is let be.
     fn store(&mut self, at: usize, value: u64)
         ensures { self.new ≡ with_word self.old at value }
     {
@@ -138,6 +143,7 @@ impl State {
         }
     }
 
+    // Adds 1 to the gate: the pass is inside, or bounced where another is changing.
     fn enter(&mut self, by: u32)
         requires { IsIn Mode.Idle self.old by }
         ensures { self.new ≡ after self.old by Act.Enter }
@@ -151,6 +157,7 @@ impl State {
         self.modes[by as usize] = mode;
     }
 
+    // Takes the pass's 1 from the gate.
     fn leave(&mut self, by: u32)
         requires { IsOpen self.old by Act.Leave }
         ensures { self.new ≡ after self.old by Act.Leave }
@@ -159,6 +166,7 @@ impl State {
         self.modes[by as usize] = Mode::Idle;
     }
 
+    // Sets the change bit where the gate is 0.
     fn take(&mut self, by: u32)
         requires { IsIn Mode.Idle self.old by }
         ensures { self.new ≡ after self.old by Act.Take }
@@ -169,6 +177,7 @@ impl State {
         }
     }
 
+    // Clears the change bit.
     fn free(&mut self, by: u32)
         requires { IsIn Mode.Changing self.old by }
         ensures { self.new ≡ after self.old by Act.Free }
@@ -177,30 +186,35 @@ impl State {
         self.modes[by as usize] = Mode::Idle;
     }
 
+    // Whether a load of this word may come next.
     fn may_load(&self, by: u32, at: u32) -> bool
         ensures { IsTrue result ↔ IsOpen self.now by (Act.Load at) }
     {
         (by as usize) < self.modes.len() && (at as usize) < self.words.len()
     }
 
+    // Whether a swap of this word, or an add to it, may come next.
     fn may_swap(&self, by: u32, at: u32) -> bool
         ensures { IsTrue result ↔ (IsIn Mode.Attached self.now by × (at < length self.now.words)) }
     {
         self.is_in(by, Mode::Attached) && (at as usize) < self.words.len()
     }
 
+    // Whether a leave may come next.
     fn may_leave(&self, by: u32) -> bool
         ensures { IsTrue result ↔ IsOpen self.now by Act.Leave }
     {
         self.is_in(by, Mode::Attached) || self.is_in(by, Mode::Bounced)
     }
 
+    // Whether a begin with this generation may come next.
     fn may_begin(&self, by: u32, generation: u64) -> bool
         ensures { IsTrue result ↔ IsOpen self.now by (Act.Begin generation) }
     {
         self.is_in(by, Mode::Changing) && self.is_stable() && self.word(1) < generation
     }
 
+    // Whether a store of this word may come next.
     fn may_put(&self, by: u32, at: u32) -> bool
         ensures { IsTrue result ↔ (IsIn Mode.Changing self.now by × (g1 self.now ≢ g2 self.now) × (at ≢ 1) × (at ≢ 2) × (at < length self.now.words)) }
     {
@@ -211,12 +225,14 @@ impl State {
             && (at as usize) < self.words.len()
     }
 
+    // Whether an end with this generation may come next.
     fn may_end(&self, by: u32, generation: u64) -> bool
         ensures { IsTrue result ↔ IsOpen self.now by (Act.End generation) }
     {
         self.is_in(by, Mode::Changing) && self.word(1) == generation && self.word(2) != generation
     }
 
+    // Whether a free may come next.
     fn may_free(&self, by: u32) -> bool
         ensures { IsTrue result ↔ IsOpen self.now by Act.Free }
     {

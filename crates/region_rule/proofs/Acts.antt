@@ -18,13 +18,13 @@ use Rattle.region_core.proofs.Stretch.{IsStill}
 use Rattle.region_core.proofs.Runs.{gate_inside, gate_bounced, gate_changing, wide_run, inside_run, changing_run}
 use Rattle.region_rule.specs.declared.view.View.{View}
 use Rattle.region_rule.specs.declared.view.Role.TheVariants.{Numbered}
-use Rattle.region_rule.specs.Views.{table_words, opened, now, Kept}
+use Rattle.region_rule.specs.Views.{table_words, opening_of, now, IsOneJournal}
 use Rattle.region_rule.specs.Steps.{Extends}
 use Rattle.region_rule.proofs.Keeps.{Ahead, Fitting, Steady, allows}
 
 -- a region has as many words as at its making
 wide_ahead : (v : View) (rest : List Entry) → length (state (now v) rest).words ≡ length v.start
-wide_ahead v rest = wide_run (now v) rest ∙ wide_run (opened v) v.seen
+wide_ahead v rest = wide_run (now v) rest ∙ wide_run (opening_of v) v.seen
 
 taken_words : (t : State) (k : ℕ) (b : Bool) → either b (2 ^ 63) t.gate ∷ t.words ≡ table_words (after_take t k b)
 taken_words t k true = refl
@@ -34,22 +34,22 @@ module _ (S : Shaping) (laws : IsShape S) where
   -- the step on an image word
   pub at_word : (words : List ℕ) (passes : ℕ) (v : View) (c : List (ℕ × Unit {0})) (act : ℕ → Act) (w : ℕ) (f tell : ℕ → ℕ) (slots id : ℕ) → v.start ≡ words → v.passes ≡ passes → v.role ≡ Numbered
       → Steady S v (Fitting S v (act w) (suc w) f tell)
-      → Allows (λ (s : Table (Unit {0}) View). Kept S words passes s.words s.views) slots id (v, c) (w + 1) f (λ n me. Extends S v (act ((w + 1) - 1)) (tell n) me.0 × (me.1 ≡ c))
+      → Allows (λ (s : Table (Unit {0}) View). IsOneJournal S words passes s.words s.views) slots id (v, c) (w + 1) f (λ n me. Extends S v (act ((w + 1) - 1)) (tell n) me.0 × (me.1 ≡ c))
   at_word words passes v c act w f tell slots id start count is steady =
       let back : w ≡ (w + 1) - 1 = omega arith in
-      subst (λ (ws : List ℕ). Allows (λ (s : Table (Unit {0}) View). Kept S ws passes s.words s.views) slots id (v, c) (w + 1) f (λ n me. Extends S v (act ((w + 1) - 1)) (tell n) me.0 × (me.1 ≡ c))) start
-      (subst (λ (p : ℕ). Allows (λ (s : Table (Unit {0}) View). Kept S v.start p s.words s.views) slots id (v, c) (w + 1) f (λ n me. Extends S v (act ((w + 1) - 1)) (tell n) me.0 × (me.1 ≡ c))) count
-      (subst (λ (u : ℕ). Allows (λ (s : Table (Unit {0}) View). Kept S v.start v.passes s.words s.views) slots id (v, c) (w + 1) f (λ n me. Extends S v (act u) (tell n) me.0 × (me.1 ≡ c))) back
-      (subst (λ (i : ℕ). Allows (λ (s : Table (Unit {0}) View). Kept S v.start v.passes s.words s.views) slots id (v, c) i f (λ n me. Extends S v (act w) (tell n) me.0 × (me.1 ≡ c))) (sym (add-one w))
+      subst (λ (ws : List ℕ). Allows (λ (s : Table (Unit {0}) View). IsOneJournal S ws passes s.words s.views) slots id (v, c) (w + 1) f (λ n me. Extends S v (act ((w + 1) - 1)) (tell n) me.0 × (me.1 ≡ c))) start
+      (subst (λ (p : ℕ). Allows (λ (s : Table (Unit {0}) View). IsOneJournal S v.start p s.words s.views) slots id (v, c) (w + 1) f (λ n me. Extends S v (act ((w + 1) - 1)) (tell n) me.0 × (me.1 ≡ c))) count
+      (subst (λ (u : ℕ). Allows (λ (s : Table (Unit {0}) View). IsOneJournal S v.start v.passes s.words s.views) slots id (v, c) (w + 1) f (λ n me. Extends S v (act u) (tell n) me.0 × (me.1 ≡ c))) back
+      (subst (λ (i : ℕ). Allows (λ (s : Table (Unit {0}) View). IsOneJournal S v.start v.passes s.words s.views) slots id (v, c) i f (λ n me. Extends S v (act w) (tell n) me.0 × (me.1 ≡ c))) (sym (add-one w))
       (allows S laws v c (act w) (suc w) f tell slots id is steady))))
 
   -- the step on a word that has its number in the table
-  pub at_place : (words : List ℕ) (passes : ℕ) (v : View) (c : List (ℕ × Unit {0})) (act : Act) (i : ℕ) (f tell : ℕ → ℕ) (slots id : ℕ) → v.start ≡ words → v.passes ≡ passes → v.role ≡ Numbered
+  pub at_cell : (words : List ℕ) (passes : ℕ) (v : View) (c : List (ℕ × Unit {0})) (act : Act) (i : ℕ) (f tell : ℕ → ℕ) (slots id : ℕ) → v.start ≡ words → v.passes ≡ passes → v.role ≡ Numbered
       → Steady S v (Fitting S v act i f tell)
-      → Allows (λ (s : Table (Unit {0}) View). Kept S words passes s.words s.views) slots id (v, c) i f (λ n me. Extends S v act (tell n) me.0 × (me.1 ≡ c))
-  at_place words passes v c act i f tell slots id start count is steady =
-      subst (λ (ws : List ℕ). Allows (λ (s : Table (Unit {0}) View). Kept S ws passes s.words s.views) slots id (v, c) i f (λ n me. Extends S v act (tell n) me.0 × (me.1 ≡ c))) start
-      (subst (λ (p : ℕ). Allows (λ (s : Table (Unit {0}) View). Kept S v.start p s.words s.views) slots id (v, c) i f (λ n me. Extends S v act (tell n) me.0 × (me.1 ≡ c))) count
+      → Allows (λ (s : Table (Unit {0}) View). IsOneJournal S words passes s.words s.views) slots id (v, c) i f (λ n me. Extends S v act (tell n) me.0 × (me.1 ≡ c))
+  at_cell words passes v c act i f tell slots id start count is steady =
+      subst (λ (ws : List ℕ). Allows (λ (s : Table (Unit {0}) View). IsOneJournal S ws passes s.words s.views) slots id (v, c) i f (λ n me. Extends S v act (tell n) me.0 × (me.1 ≡ c))) start
+      (subst (λ (p : ℕ). Allows (λ (s : Table (Unit {0}) View). IsOneJournal S v.start p s.words s.views) slots id (v, c) i f (λ n me. Extends S v act (tell n) me.0 × (me.1 ≡ c))) count
       (allows S laws v c act i f tell slots id is steady))
 
   -- the pass's mode wherever the journal went on

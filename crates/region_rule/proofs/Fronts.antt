@@ -6,9 +6,9 @@ use Rattle.region_core.specs.Journal.{own}
 use Rattle.region_core.proofs.Journals.{state-append, own-append}
 use Rattle.region_core.proofs.Runs.{mode_run}
 use Rattle.region_rule.specs.declared.view.View.{View}
-use Rattle.region_rule.specs.Views.{opened, now, Begins, Agrees, Owns, count}
+use Rattle.region_rule.specs.Views.{opening_of, now, IsFront, Agrees, Owns, count}
 use Rattle.region_core.specs.Shape.{Shaping}
-use Rattle.region_rule.specs.Tokens.{HasLists, Knows, informed, longer, shorter}
+use Rattle.region_rule.specs.Tokens.{HasLists, Knows, after_learning, longer, shorter}
 use Rattle.region_rule.specs.Calls.{Learns}
 
 pub record Front (a b ra rb : List Entry) : Type 0 where
@@ -69,18 +69,18 @@ owns_further words passes log mid rest v o =
       sees = record { start = o.sees.start; passes_are = o.sees.passes_are; is = o.sees.is ∙ sym (append_assoc v.seen mid rest); told = (mid, refl) };
       had = own_same v.number v.seen mid none ∙ o.had;
       none = own_back v.number mid rest o.none;
-      mode = subst (λ (s : State). IsIn v.mode s v.number) (sym (state-append (opened v) v.seen mid)) (mode_run (now v) v.number v.mode mid none o.mode);
+      mode = subst (λ (s : State). IsIn v.mode s v.number) (sym (state-append (opening_of v) v.seen mid)) (mode_run (now v) v.number v.mode mid none o.mode);
       kept = agrees_further v.seen mid rest v.kept o.kept;
     }
 
 -- of two lists the longer begins with both, if it begins with the shorter
-both_begin : (b : Bool) (xs ys : List Entry) → Begins (cond b xs ys) (cond b ys xs) → Begins xs (cond b ys xs) × Begins ys (cond b ys xs)
+both_begin : (b : Bool) (xs ys : List Entry) → IsFront (cond b xs ys) (cond b ys xs) → IsFront xs (cond b ys xs) × IsFront ys (cond b ys xs)
 both_begin true xs ys h = (h, ([], sym (append-nil ys)))
 both_begin false xs ys h = (([], sym (append-nil xs)), h)
 
 -- what a join tells, once the rule has confirmed it
-pub learned : (S : Shaping) (v w new : View) → new ≡ informed v w → Knows S new → Learns S v w new
+pub learned : (S : Shaping) (v w new : View) → new ≡ after_learning v w → Knows S new → Learns S v w new
 learned S v w new is knows =
-    let told : Begins (shorter v.seen w.seen) (longer v.seen w.seen) = subst (λ (x : View). Begins x.told x.seen) is knows.told in
+    let told : IsFront (shorter v.seen w.seen) (longer v.seen w.seen) = subst (λ (x : View). IsFront x.told x.seen) is knows.told in
     let both = both_begin (ltb (length v.seen) (length w.seen)) v.seen w.seen told in
-    record { is = is; mine = subst (λ (x : View). Begins v.seen x.seen) (sym is) both.0; theirs = subst (λ (x : View). Begins w.seen x.seen) (sym is) both.1; knows = knows }
+    record { is = is; mine = subst (λ (x : View). IsFront v.seen x.seen) (sym is) both.0; theirs = subst (λ (x : View). IsFront w.seen x.seen) (sym is) both.1; knows = knows }

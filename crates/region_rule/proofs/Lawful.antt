@@ -15,7 +15,7 @@ use Rattle.region_core.proofs.Sound.{IsSound, sound_run, sound_opening, inside_s
 use Rattle.region_core.proofs.Stretch.{IsStill, quiet_act}
 use Rattle.region_core.proofs.Runs.{mode_run, count_run, none_past, other_first}
 use Rattle.region_rule.specs.declared.view.View.{View}
-use Rattle.region_rule.specs.Views.{opened, now, HasNone, one_if, count}
+use Rattle.region_rule.specs.Views.{opening_of, now, HasNone, one_if, count}
 use Rattle.region_rule.specs.Steps.{entry, Extends}
 use Rattle.region_rule.specs.Tokens.{IsLast}
 use Rattle.region_rule.specs.Calls.{Closes, Learns}
@@ -42,30 +42,30 @@ module _ (S : Shaping) where
   nobody v (e ∷ es) l mine kept last = dite (ℕ_discrete e.by v.number)
       (λ (same : e.by ≡ v.number). absurd (has_first e es (subst (λ (k : ℕ). own k (e ∷ es) ≡ []) (sym same) mine)))
       (λ (other : e.by ≢ v.number). dite (dec_le v.passes e.by)
-      (λ (past : v.passes ≤ e.by). let many : length (now v).modes ≡ v.passes = count_run (opened v) v.seen ∙ length-replicate v.passes Idle in
+      (λ (past : v.passes ≤ e.by). let many : length (now v).modes ≡ v.passes = count_run (opening_of v) v.seen ∙ length-replicate v.passes Idle in
       absurd (has_first e es (none_past S (now v) e.by (e ∷ es) l (omega arith))))
       (λ (below : ¬ (v.passes ≤ e.by)). absurd (has_first e es (none_of e.by (e ∷ es) v.kept kept (last e.by (omega arith) other)))))
 
   pub sees_all : (v w : View) (act : Act) (n : ℕ) (e : Extends S v act n w) → IsLast v → e.between ≡ []
   sees_all v w act n e last = nobody v e.between
-      (legal-back S (opened v) v.seen e.between (legal-front S (opened v) (v.seen ++ e.between) (entry v.number act ∷ []) e.journal.legal)) e.others e.gathered last
+      (legal-back S (opening_of v) v.seen e.between (legal-front S (opening_of v) (v.seen ++ e.between) (entry v.number act ∷ []) e.journal.legal)) e.others e.gathered last
 
   pub closes_all : (v : View) (words : List ℕ) (c : Closes S v words) → IsLast v → c.rest ≡ []
-  closes_all v words c last = nobody v c.rest (legal-back S (opened v) v.seen c.rest c.journal.legal) c.others c.gathered_none last
+  closes_all v words c last = nobody v c.rest (legal-back S (opening_of v) v.seen c.rest c.journal.legal) c.others c.gathered_none last
 
   module _ (laws : IsShape S) where
     pub stays_inside : (v : View) (rest : List Entry) → IsJournal S v.start v.passes (v.seen ++ rest) → own v.number rest ≡ [] → v.mode ≡ Attached → IsIn v.mode (now v) v.number
-        → S.form (state (opened v) (v.seen ++ rest)).words ≡ S.form (now v).words
+        → S.form (state (opening_of v) (v.seen ++ rest)).words ≡ S.form (now v).words
     stays_inside v rest journal none mode there =
-        ap (λ (s : State). S.form s.words) (state-append (opened v) v.seen rest) ∙ form_inside S laws v rest mode (ahead S laws v rest journal none there)
+        ap (λ (s : State). S.form s.words) (state-append (opening_of v) v.seen rest) ∙ form_inside S laws v rest mode (ahead S laws v rest journal none there)
 
     pub steps_inside : (v w : View) (act : Act) (n : ℕ) → Extends S v act n w → v.mode ≡ Attached → IsIn v.mode (now v) v.number → S.form (now w).words ≡ S.form (now v).words
     steps_inside v w act n e mode there =
-        let t : State = state (opened v) (v.seen ++ e.between) in
-        let legal : IsLegal S (opened v) (v.seen ++ e.between) = legal-front S (opened v) (v.seen ++ e.between) (entry v.number act ∷ []) e.journal.legal in
-        let allowed : IsAllowed S t v.number act = (legal-back S (opened v) (v.seen ++ e.between) (entry v.number act ∷ []) e.journal.legal).0 in
-        let sound : IsSound S t = sound_run S laws (opened v) (v.seen ++ e.between) (sound_opening S laws v.start v.passes e.journal.image e.journal.few) legal in
-        let here : IsIn Attached t v.number = subst (λ (s : State). IsIn Attached s v.number) (sym (state-append (opened v) v.seen e.between))
+        let t : State = state (opening_of v) (v.seen ++ e.between) in
+        let legal : IsLegal S (opening_of v) (v.seen ++ e.between) = legal-front S (opening_of v) (v.seen ++ e.between) (entry v.number act ∷ []) e.journal.legal in
+        let allowed : IsAllowed S t v.number act = (legal-back S (opening_of v) (v.seen ++ e.between) (entry v.number act ∷ []) e.journal.legal).0 in
+        let sound : IsSound S t = sound_run S laws (opening_of v) (v.seen ++ e.between) (sound_opening S laws v.start v.passes e.journal.image e.journal.few) legal in
+        let here : IsIn Attached t v.number = subst (λ (s : State). IsIn Attached s v.number) (sym (state-append (opening_of v) v.seen e.between))
         (mode_run (now v) v.number Attached e.between e.others (subst (λ (m : Mode). IsIn m (now v) v.number) mode there)) in
         let still : IsStill S t.words (after t v.number act).words = quiet_act S laws t v.number act sound allowed (inside_shut t.gate t.modes v.number sound.gated here) in
         let before : IsJournal S v.start v.passes (v.seen ++ e.between) = record { image = e.journal.image; wide = e.journal.wide; few = e.journal.few; legal = legal } in

@@ -13,12 +13,12 @@ use Rattle.region_core.specs.declared.act.Entry.{Entry}
 use Rattle.region_core.specs.Shape.{Shaping, IsShape, IsWord, IsLike, with_generation}
 use Rattle.region_core.specs.State.{State, word, g1, g2, plus, after, after_take, IsIn, IsStable, IsAllowed}
 use Rattle.region_core.specs.Journal.{state, own, IsLegal, IsJournal}
-use Rattle.region_core.specs.Gate.{total, changing}
+use Rattle.region_core.specs.Gate.{total, one_if_changing}
 use Rattle.region_core.proofs.Journals.{state-append, state-snoc, own-append, legal-front, legal-back}
 use Rattle.region_core.proofs.Sound.{IsSound, sound_run, sound_opening, plus_word}
 use Rattle.region_core.proofs.Runs.{wide_run, changing_run}
 use Rattle.region_rule.specs.declared.view.View.{View}
-use Rattle.region_rule.specs.Views.{opened, now}
+use Rattle.region_rule.specs.Views.{opening_of, now}
 use Rattle.region_rule.specs.Steps.{entry, Extends}
 use Rattle.region_rule.specs.Calls.{Learns}
 use Rattle.region_rule.specs.Changes.{next_after, left_from, UnderWay}
@@ -90,33 +90,33 @@ module _ (S : Shaping) where
   fit_run s (e ∷ es) all l = fit_run (after s e.by e.act) es (fit_after s e.by e.act all l.0) l.1
 
   -- the state after a step of a pass
-  pub now_after : (v w : View) (act : Act) (n : ℕ) (e : Extends S v act n w) → now w ≡ after (state (opened v) (v.seen ++ e.between)) v.number act
-  now_after v w act n e = ap (λ (u : View). now u) e.is ∙ state-snoc (opened v) (v.seen ++ e.between) (entry v.number act)
+  pub now_after : (v w : View) (act : Act) (n : ℕ) (e : Extends S v act n w) → now w ≡ after (state (opening_of v) (v.seen ++ e.between)) v.number act
+  now_after v w act n e = ap (λ (u : View). now u) e.is ∙ state-snoc (opening_of v) (v.seen ++ e.between) (entry v.number act)
 
   module _ (laws : IsShape S) where
-    legal_before : (v w : View) (act : Act) (n : ℕ) (e : Extends S v act n w) → IsLegal S (opened v) (v.seen ++ e.between)
-    legal_before v w act n e = legal-front S (opened v) (v.seen ++ e.between) (entry v.number act ∷ []) e.journal.legal
+    legal_before : (v w : View) (act : Act) (n : ℕ) (e : Extends S v act n w) → IsLegal S (opening_of v) (v.seen ++ e.between)
+    legal_before v w act n e = legal-front S (opening_of v) (v.seen ++ e.between) (entry v.number act ∷ []) e.journal.legal
 
     -- the state that a step found meets the invariant
-    sound_before : (v w : View) (act : Act) (n : ℕ) (e : Extends S v act n w) → IsSound S (state (opened v) (v.seen ++ e.between))
-    sound_before v w act n e = sound_run S laws (opened v) (v.seen ++ e.between) (sound_opening S laws v.start v.passes e.journal.image e.journal.few) (legal_before v w act n e)
+    sound_before : (v w : View) (act : Act) (n : ℕ) (e : Extends S v act n w) → IsSound S (state (opening_of v) (v.seen ++ e.between))
+    sound_before v w act n e = sound_run S laws (opening_of v) (v.seen ++ e.between) (sound_opening S laws v.start v.passes e.journal.image e.journal.few) (legal_before v w act n e)
 
     -- while a pass is changing, its step finds the words that it has seen last
-    pub words_before : (v w : View) (act : Act) (n : ℕ) (e : Extends S v act n w) → v.mode ≡ Changing → IsIn v.mode (now v) v.number → (state (opened v) (v.seen ++ e.between)).words ≡ (now v).words
+    pub words_before : (v w : View) (act : Act) (n : ℕ) (e : Extends S v act n w) → v.mode ≡ Changing → IsIn v.mode (now v) v.number → (state (opening_of v) (v.seen ++ e.between)).words ≡ (now v).words
     words_before v w act n e mode there =
         let legal = legal_before v w act n e in
-        let sound : IsSound S (now v) = sound_run S laws (opened v) v.seen (sound_opening S laws v.start v.passes e.journal.image e.journal.few) (legal-front S (opened v) v.seen e.between legal) in
-        ap (λ (s : State). s.words) (state-append (opened v) v.seen e.between)
-        ∙ changing_run S laws (now v) v.number e.between sound (legal-back S (opened v) v.seen e.between legal) e.others (subst (λ (m : Mode). IsIn m (now v) v.number) mode there)
+        let sound : IsSound S (now v) = sound_run S laws (opening_of v) v.seen (sound_opening S laws v.start v.passes e.journal.image e.journal.few) (legal-front S (opening_of v) v.seen e.between legal) in
+        ap (λ (s : State). s.words) (state-append (opening_of v) v.seen e.between)
+        ∙ changing_run S laws (now v) v.number e.between sound (legal-back S (opening_of v) v.seen e.between legal) e.others (subst (λ (m : Mode). IsIn m (now v) v.number) mode there)
 
     -- who took a free gate is changing, and the generations agree
     pub taken : (v u : View) → Extends S v Take 0 u → v.mode ≡ Idle → (u.mode ≡ Changing) × IsStable (now u)
     taken v u e mode =
-        let t : State = state (opened v) (v.seen ++ e.between) in
+        let t : State = state (opening_of v) (v.seen ++ e.between) in
         let free : t.gate ≡ 0 = sym e.found in
         let sound = sound_before v u Take 0 e in
         let counts = sound.gated.counts in
-        let none : total changing t.modes ≡ 0 = omega arith in
+        let none : total one_if_changing t.modes ≡ 0 = omega arith in
         let stable : g1 t ≡ g2 t = sound.shut none in
         let words : (now u).words ≡ t.words = ap (λ (s : State). s.words) (now_after v u Take 0 e) ∙ after_take_words t v.number (eqb t.gate 0) in
         (ap (λ (x : View). x.mode) e.is, subst (λ (ws : List ℕ). slice_index ws 1 ≡ slice_index ws 2) (sym words) stable)
@@ -132,7 +132,7 @@ module _ (S : Shaping) where
         )
 
     wide_now : (v : View) → length (now v).words ≡ length v.start
-    wide_now v = wide_run (opened v) v.seen
+    wide_now v = wide_run (opening_of v) v.seen
 
     -- a change that has just begun
     pub begun_under : (x w : View) (image : List ℕ) (old n : ℕ) → Extends S x (Begin n) n w → x.mode ≡ Changing → IsIn x.mode (now x) x.number → IsStable (now x) → g1 (now x) ≡ old → old < n → IsWord n
@@ -158,7 +158,7 @@ module _ (S : Shaping) where
           room = subst (λ (ws : List ℕ). length image ≤ length ws) (sym same_start) room;
           first = ap (λ (ws : List ℕ). slice_index ws 1) words ∙ first;
           second = λ q. let q' : slice_index (set (now x).words 1 n) 2 ≡ n = ap (λ (ws : List ℕ). slice_index ws 2) (sym words) ∙ q in omega arith;
-          place = inl refl;
+          next_is = inl refl;
           most = omega arith;
           written = λ i h. absurd (omega arith);
         }
@@ -166,9 +166,9 @@ module _ (S : Shaping) where
     next_suc : (k : ℕ) → next_after (suc k) ≡ suc k + 1
     next_suc k = ap (λ (b : Bool). cond b 3 (suc k + 1)) (ne_eqb (suc k) 0 (λ (e : suc k ≡ 0). omega arith))
 
-    next_place : (next : ℕ) → (next ≡ 0) ⊎ (3 ≤ next) → (3 ≤ next_after next) × ((i : ℕ) → i < next_after next → i ≢ 1 → i ≢ 2 → (i ≡ next) ⊎ (i < next))
-    next_place zero p = (omega arith, λ i h n m. inl (omega arith))
-    next_place (suc k) p = let e = next_suc k in (⊎_elim (λ (e : suc k ≡ 0). absurd (omega arith)) (λ (q : 3 ≤ suc k). omega arith) p, λ i h n m. dite (ℕ_discrete i (suc k)) (λ (e : i ≡ suc k). inl e) (λ (ne : i ≢ suc k). inr (omega arith)))
+    next_index : (next : ℕ) → (next ≡ 0) ⊎ (3 ≤ next) → (3 ≤ next_after next) × ((i : ℕ) → i < next_after next → i ≢ 1 → i ≢ 2 → (i ≡ next) ⊎ (i < next))
+    next_index zero p = (omega arith, λ i h n m. inl (omega arith))
+    next_index (suc k) p = let e = next_suc k in (⊎_elim (λ (e : suc k ≡ 0). absurd (omega arith)) (λ (q : 3 ≤ suc k). omega arith) p, λ i h n m. dite (ℕ_discrete i (suc k)) (λ (e : i ≡ suc k). inl e) (λ (ne : i ≢ suc k). inr (omega arith)))
 
     next_most : (next : ℕ) (image : List ℕ) → next < length image → 2 < length image → next_after next ≤ length image
     next_most zero image h wide = omega arith
@@ -183,9 +183,9 @@ module _ (S : Shaping) where
         let long = wide_now v in
         let room = u.room in
         let there : next < length (now v).words = omega arith in
-        let at = next_place next u.place in
-        let not_first : 1 ≢ next = ⊎_elim (λ (p : next ≡ 0). λ (q : 1 ≡ next). omega arith) (λ (p : 3 ≤ next). λ (q : 1 ≡ next). omega arith) u.place in
-        let not_second : 2 ≢ next = ⊎_elim (λ (p : next ≡ 0). λ (q : 2 ≡ next). omega arith) (λ (p : 3 ≤ next). λ (q : 2 ≡ next). omega arith) u.place in
+        let at = next_index next u.next_is in
+        let not_first : 1 ≢ next = ⊎_elim (λ (p : next ≡ 0). λ (q : 1 ≡ next). omega arith) (λ (p : 3 ≤ next). λ (q : 1 ≡ next). omega arith) u.next_is in
+        let not_second : 2 ≢ next = ⊎_elim (λ (p : next ≡ 0). λ (q : 2 ≡ next). omega arith) (λ (p : 3 ≤ next). λ (q : 2 ≡ next). omega arith) u.next_is in
         let first : slice_index (set (now v).words next x) 1 ≡ slice_index (now v).words 1 = get_or-set_other (now v).words next 1 x 0 not_first in
         let second : slice_index (set (now v).words next x) 2 ≡ slice_index (now v).words 2 = get_or-set_other (now v).words next 2 x 0 not_second in
         let same_start : w.start ≡ v.start = ap (λ (z : View). z.start) e.is in
@@ -201,7 +201,7 @@ module _ (S : Shaping) where
           room = subst (λ (ws : List ℕ). length image ≤ length ws) (sym same_start) u.room;
           first = ap (λ (ws : List ℕ). slice_index ws 1) words ∙ first ∙ u.first;
           second = λ q. u.second (sym second ∙ ap (λ (ws : List ℕ). slice_index ws 2) (sym words) ∙ q);
-          place = inr at.0;
+          next_is = inr at.0;
           most = next_most next image below both.0;
           written = λ i h one two. ap (λ (ws : List ℕ). slice_index ws i) words ∙ ⊎_elim
               (λ (q : i ≡ next). subst (λ (j : ℕ). slice_index (set (now v).words next x) j ≡ slice_index image j) (sym q) (get_or-set_same (now v).words next x 0 there))
@@ -214,7 +214,7 @@ module _ (S : Shaping) where
     end_image v image n u =
         let ws : List ℕ = (now v).words in
         let more : List ℕ = drop (length image) ws in
-        let all : All IsWord ws = fit_run (opened v) v.seen u.fit u.journal.legal in
+        let all : All IsWord ws = fit_run (opening_of v) v.seen u.fit u.journal.legal in
         let long = wide_now v in
         let room = u.room in
         let wide = u.journal.wide in
@@ -239,13 +239,13 @@ module _ (S : Shaping) where
         let start : new.start ≡ v.start = ap (λ (x : View). x.start) l.is in
         let mode : new.mode ≡ v.mode = ap (λ (x : View). x.mode) l.is in
         let mine : new.own ≡ v.own = ap (λ (x : View). x.own) l.is in
-        let open_same : opened new ≡ opened v = ap (λ (x : View). opened x) l.is in
+        let open_same : opening_of new ≡ opening_of v = ap (λ (x : View). opening_of x) l.is in
         let had : own v.number (v.seen ++ mid) ≡ own v.number v.seen =
         ap (λ (es : List Entry). own v.number es) (sym seen) ∙ ap (λ (k : ℕ). own k new.seen) (sym number) ∙ l.knows.had ∙ mine ∙ sym u.had in
         let none : own v.number mid ≡ [] = none_added (own v.number v.seen) (own v.number mid) (sym (own-append v.number v.seen mid) ∙ had) in
-        let here : now new ≡ state (now v) mid = (λ i. state (open_same i) (seen i)) ∙ state-append (opened v) v.seen mid in
-        let legal : IsLegal S (now v) mid = legal-back S (opened v) v.seen mid (subst (λ (es : List Entry). IsLegal S (opened v) es) seen (subst (λ (s : State). IsLegal S s new.seen) open_same l.knows.journal.legal)) in
-        let sound : IsSound S (now v) = sound_run S laws (opened v) v.seen (sound_opening S laws v.start v.passes u.journal.image u.journal.few) u.journal.legal in
+        let here : now new ≡ state (now v) mid = (λ i. state (open_same i) (seen i)) ∙ state-append (opening_of v) v.seen mid in
+        let legal : IsLegal S (now v) mid = legal-back S (opening_of v) v.seen mid (subst (λ (es : List Entry). IsLegal S (opening_of v) es) seen (subst (λ (s : State). IsLegal S s new.seen) open_same l.knows.journal.legal)) in
+        let sound : IsSound S (now v) = sound_run S laws (opening_of v) v.seen (sound_opening S laws v.start v.passes u.journal.image u.journal.few) u.journal.legal in
         let words : (now new).words ≡ (now v).words = ap (λ (s : State). s.words) here
         ∙ changing_run S laws (now v) v.number mid sound legal none (subst (λ (m : Mode). IsIn m (now v) v.number) u.changing u.there) in
         record {
@@ -259,7 +259,7 @@ module _ (S : Shaping) where
           room = subst (λ (ws : List ℕ). length image ≤ length ws) (sym start) u.room;
           first = ap (λ (ws : List ℕ). slice_index ws 1) words ∙ u.first;
           second = λ q. u.second (ap (λ (ws : List ℕ). slice_index ws 2) (sym words) ∙ q);
-          place = u.place;
+          next_is = u.next_is;
           most = u.most;
           written = λ i h one two. ap (λ (ws : List ℕ). slice_index ws i) words ∙ u.written i h one two;
         }

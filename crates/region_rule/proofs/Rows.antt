@@ -12,12 +12,12 @@ use Rattle.region_core.specs.Journal.{state, IsJournal}
 use Rattle.region_core.proofs.Lists.{get_or_at}
 use Rattle.region_rule.specs.declared.view.View.{View}
 use Rattle.region_rule.specs.declared.view.Role.TheVariants.{Numbered}
-use Rattle.region_rule.specs.Views.{table_words, opened, Owns, Kept, fresh_view}
-use Rattle.region_rule.specs.Places.{Place, Token, token_of}
+use Rattle.region_rule.specs.Views.{table_words, opening_of, Owns, IsOneJournal, fresh_view}
+use Rattle.region_rule.specs.Seats.{MadeRegion, Token, token_of}
 use Rattle.region_rule.specs.Calls.{fresh_from, Closes}
 use Rattle.region_rule.proofs.Keeps.{numbered, none_kept}
 
--- what stands at a place is what an index finds
+-- what stands at a position is what an index finds
 index_at : (l : List ℕ) (i n : ℕ) → get_elem? l i ≡ some n → slice_index l i ≡ n
 index_at [] i n e = absurd (cc)
 index_at (x ∷ xs) zero n e = get_or_at (x ∷ xs) zero n e
@@ -39,23 +39,23 @@ whole cells words wide each = ext_get_or 0 cells (slice_index cells 0 ∷ words)
     same (suc i) h = ap (λ (j : ℕ). slice_index cells j) (sym (add-one i)) ∙ sym (each i (omega arith))
 
 -- one more fresh pass
-pub fresh_more : (place : Place) (k n m : ℕ) → m ≡ k + n → fresh_from place k n ++ record { place = place; view = fresh_view place.words place.passes m [] } ∷ [] ≡ fresh_from place k (suc n)
-fresh_more place k zero m e = ap (λ (j : ℕ). record { place = place; view = fresh_view place.words place.passes j [] } ∷ []) (e ∙ add-zero k)
-fresh_more place k (suc n) m e = ap (λ (ts : List Token). record { place = place; view = fresh_view place.words place.passes k [] } ∷ ts) (fresh_more place (suc k) n m (omega arith))
+pub fresh_more : (region : MadeRegion) (k n m : ℕ) → m ≡ k + n → fresh_from region k n ++ record { region = region; view = fresh_view region.words region.passes m [] } ∷ [] ≡ fresh_from region k (suc n)
+fresh_more region k zero m e = ap (λ (j : ℕ). record { region = region; view = fresh_view region.words region.passes j [] } ∷ []) (e ∙ add-zero k)
+fresh_more region k (suc n) m e = ap (λ (ts : List Token). record { region = region; view = fresh_view region.words region.passes k [] } ∷ ts) (fresh_more region (suc k) n m (omega arith))
 
-pub fresh_token : (seat : Seat (Unit {0}) View) (place : Place) (k : ℕ) → seat.table_id ≡ place.table → seat.me ≡ (fresh_view place.words place.passes k [], []) → token_of seat ≡ record { place = place; view = fresh_view place.words place.passes k [] }
-fresh_token seat place k e m = λ i. record { place = record { table = e i; words = (m i).0.start; passes = (m i).0.passes }; view = (m i).0 }
+pub fresh_token : (seat : Seat (Unit {0}) View) (region : MadeRegion) (k : ℕ) → seat.table_id ≡ region.table → seat.me ≡ (fresh_view region.words region.passes k [], []) → token_of seat ≡ record { region = region; view = fresh_view region.words region.passes k [] }
+fresh_token seat region k e m = λ i. record { region = record { table = e i; words = (m i).0.start; passes = (m i).0.passes }; view = (m i).0 }
 
 -- the words at a region's end, and what its closing pass may say of them
-pub closes : (S : Shaping) (words : List ℕ) (passes : ℕ) (cells : List ℕ) (views : List View) (id gate : ℕ) (v : View) (image : List ℕ) → Kept S words passes cells views → get_elem? views id ≡ some v → v.role ≡ Numbered
+pub closes : (S : Shaping) (words : List ℕ) (passes : ℕ) (cells : List ℕ) (views : List View) (id gate : ℕ) (v : View) (image : List ℕ) → IsOneJournal S words passes cells views → get_elem? views id ≡ some v → v.role ≡ Numbered
     → v.start ≡ words → v.passes ≡ passes → cells ≡ gate ∷ image → Closes S v image
 closes S words passes cells views id gate v image kept at is start count are =
     let own_rest = numbered words passes kept.log v is (kept.fits id v at) in
     let o : Owns words passes kept.log own_rest.0 v = own_rest.1 in
-    let last : State = state (opened v) (v.seen ++ own_rest.0) in
+    let last : State = state (opening_of v) (v.seen ++ own_rest.0) in
     let here : IsJournal S v.start v.passes (v.seen ++ own_rest.0) =
     subst (λ (p : ℕ). IsJournal S v.start p (v.seen ++ own_rest.0)) (sym count)
     (subst (λ (ws : List ℕ). IsJournal S ws passes (v.seen ++ own_rest.0)) (sym start) (subst (λ (es : List Entry). IsJournal S words passes es) o.sees.is kept.journal)) in
-    let same : state (opening words passes) kept.log ≡ last = (λ i. state (opening (sym start i) (sym count i)) kept.log) ∙ ap (λ (es : List Entry). state (opened v) es) o.sees.is in
+    let same : state (opening words passes) kept.log ≡ last = (λ i. state (opening (sym start i) (sym count i)) kept.log) ∙ ap (λ (es : List Entry). state (opening_of v) es) o.sees.is in
     let found : gate ∷ image ≡ table_words last = sym are ∙ kept.is ∙ ap (λ (s : State). table_words s) same in
     record { rest = own_rest.0; journal = here; is = cc; others = o.none; gathered_none = none_kept v.seen own_rest.0 v.kept o.kept }

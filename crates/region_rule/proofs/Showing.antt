@@ -21,12 +21,12 @@ use Rattle.region_core.proofs.Runs.{inside_run, wide_run}
 use Rattle.region_core.proofs.Positions.{layout_at, shown_image, patch_like}
 use Rattle.region_core.specs.Journal.{own, IsLegal}
 use Rattle.region_rule.specs.declared.view.View.{View}
-use Rattle.region_rule.specs.Views.{opened, now, Begins}
+use Rattle.region_rule.specs.Views.{opening_of, now, IsFront}
 use Rattle.region_rule.specs.Steps.{entry, Extends}
 use Rattle.region_rule.specs.Reads.{Reads, numbered_from, WholeReading, ShowsIn, RefusedIn, ReadsImage, ReadsInside}
 use Rattle.region_rule.proofs.Relaying.{now_after}
 
--- a load of word i by pass k stands in the log, at a place from here on, and found n
+-- a load of word i by pass k stands in the log, at a position from here on, and found n
 pub record Spot (start : State) (log : List Entry) (k from i n : ℕ) : Type 0 where
   pub at : ℕ
   pub since : from ≤ at
@@ -53,7 +53,7 @@ pub record Follows (v w : View) : Type 0 where
   pub number : w.number ≡ v.number
   pub start : w.start ≡ v.start
   pub passes : w.passes ≡ v.passes
-  pub seen : Begins v.seen w.seen
+  pub seen : IsFront v.seen w.seen
 
 pub follows_trans : (u v w : View) → Follows u v → Follows v w → Follows u w
 follows_trans u v w f h = record {
@@ -72,21 +72,21 @@ module _ (S : Shaping) where
     seen = (e.between ++ entry v.number act ∷ [], ap (λ (x : View). x.seen) e.is ∙ append_assoc v.seen e.between (entry v.number act ∷ []));
   }
 
-  -- the place of one load
-  pub spot_step : (v w : View) (i n : ℕ) → Extends S v (Load i) n w → Spot (opened v) w.seen v.number (length v.seen) i n
+  -- the position of one load
+  pub spot_step : (v w : View) (i n : ℕ) → Extends S v (Load i) n w → Spot (opening_of v) w.seen v.number (length v.seen) i n
   spot_step v w i n e =
       let front : List Entry = v.seen ++ e.between in
       let wide = length-append v.seen e.between in
       let log : List Entry = front ++ entry v.number (Load i) ∷ [] in
       let long = length-append front (entry v.number (Load i) ∷ []) in
-      let here : Spot (opened v) log v.number (length v.seen) i n = record {
+      let here : Spot (opening_of v) log v.number (length v.seen) i n = record {
         at = length front;
         since = omega arith;
         before = omega arith;
         loads = at_seam front [] (entry v.number (Load i));
-        found = e.found ∙ ap (λ (es : List Entry). word (state (opened v) es) i) (sym (take-append_seam front (entry v.number (Load i) ∷ [])));
+        found = e.found ∙ ap (λ (es : List Entry). word (state (opening_of v) es) i) (sym (take-append_seam front (entry v.number (Load i) ∷ [])));
       } in
-      subst (λ (x : View). Spot (opened v) x.seen v.number (length v.seen) i n) (sym e.is) here
+      subst (λ (x : View). Spot (opening_of v) x.seen v.number (length v.seen) i n) (sym e.is) here
 
   pub follows_reads : (v w : View) (found : List (ℕ × ℕ)) → Reads S v found w → Follows v w
   follows_reads v w [] r = record {
@@ -102,8 +102,8 @@ module _ (S : Shaping) where
   reads_more v u w [] i n r e = (w, subst (λ (x : View). Extends S x (Load i) n w) r e, refl)
   reads_more v u w (x ∷ xs) i n r e = (r.0, r.1, reads_more r.0 u w xs i n r.2 e)
 
--- the same place, told of the first view
-spot_since : (u v : View) (log : List Entry) (i n : ℕ) → Follows u v → Spot (opened v) log v.number (length v.seen) i n → Spot (opened u) log u.number (length u.seen) i n
+-- the same position, told of the first view
+spot_since : (u v : View) (log : List Entry) (i n : ℕ) → Follows u v → Spot (opening_of v) log v.number (length v.seen) i n → Spot (opening_of u) log u.number (length u.seen) i n
 spot_since u v log i n f s =
     let wide : length v.seen ≡ length u.seen + length f.seen.0 = ap length f.seen.1 ∙ length-append u.seen f.seen.0 in
     let since = s.since in
@@ -137,13 +137,13 @@ numbered_more first (y ∷ ys) x = ap (λ (r : List (ℕ × ℕ)). (first, y) �
     (numbered_more (suc first) ys x ∙ ap (λ (k : ℕ). numbered_from (suc first) ys ++ (k, x) ∷ []) (omega arith))
 
 module _ (S : Shaping) where
-  -- each load of a row has its place
-  each_found : (v w : View) (found : List (ℕ × ℕ)) → Reads S v found w → All (λ (x : ℕ × ℕ). Spot (opened v) w.seen v.number (length v.seen) x.0 x.1) found
+  -- each load of a row has its position
+  each_found : (v w : View) (found : List (ℕ × ℕ)) → Reads S v found w → All (λ (x : ℕ × ℕ). Spot (opening_of v) w.seen v.number (length v.seen) x.0 x.1) found
   each_found v w [] r k d h = absurd (omega arith)
   each_found v w (x ∷ xs) r zero d h =
       let f = follows_reads S r.0 w xs r.2 in
-      subst (λ (es : List Entry). Spot (opened v) es v.number (length v.seen) x.0 x.1) (sym f.seen.1)
-      (spot_longer (opened v) r.0.seen f.seen.0 v.number (length v.seen) x.0 x.1 (spot_step S v r.0 x.0 x.1 r.1))
+      subst (λ (es : List Entry). Spot (opening_of v) es v.number (length v.seen) x.0 x.1) (sym f.seen.1)
+      (spot_longer (opening_of v) r.0.seen f.seen.0 v.number (length v.seen) x.0 x.1 (spot_step S v r.0 x.0 x.1 r.1))
   each_found v w (x ∷ xs) r (suc k) d h =
       let below : k < length xs = omega arith in
       let y : ℕ × ℕ = get_or xs k d in
@@ -156,9 +156,9 @@ module _ (S : Shaping) where
     order : p < q
     opens : LoadsAt w.seen v.number p 2
     closes : LoadsAt w.seen v.number q 1
-    first_is : first ≡ g2 (state_at (opened v) w.seen p)
-    last_is : last ≡ g1 (state_at (opened v) w.seen q)
-    each : All (IsFoundBetween S (opened v) w.seen v.number p q) found
+    first_is : first ≡ g2 (state_at (opening_of v) w.seen p)
+    last_is : last ≡ g1 (state_at (opening_of v) w.seen q)
+    each : All (IsFoundBetween S (opening_of v) w.seen v.number p q) found
     journal : IsJournal S v.start v.passes w.seen
     follows : Follows v w
 
@@ -173,10 +173,10 @@ module _ (S : Shaping) where
       let fw : Follows b w = follows_step S b w (Load 1) last r.closes in
       let vb : Follows v b = follows_trans v a b fa fb in
       let aw : Follows a w = follows_trans a b w fb fw in
-      let opens : Spot (opened v) a.seen v.number (length v.seen) 2 first = spot_step S v a 2 first r.opens in
-      let opens' : Spot (opened v) w.seen v.number (length v.seen) 2 first = subst (λ (es : List Entry). Spot (opened v) es v.number (length v.seen) 2 first) (sym aw.seen.1) (spot_longer (opened v) a.seen aw.seen.0 v.number (length v.seen) 2 first opens) in
-      let closes : Spot (opened b) w.seen b.number (length b.seen) 1 last = spot_step S b w 1 last r.closes in
-      let closes' : Spot (opened v) w.seen v.number (length v.seen) 1 last = spot_since v b w.seen 1 last vb closes in
+      let opens : Spot (opening_of v) a.seen v.number (length v.seen) 2 first = spot_step S v a 2 first r.opens in
+      let opens' : Spot (opening_of v) w.seen v.number (length v.seen) 2 first = subst (λ (es : List Entry). Spot (opening_of v) es v.number (length v.seen) 2 first) (sym aw.seen.1) (spot_longer (opening_of v) a.seen aw.seen.0 v.number (length v.seen) 2 first opens) in
+      let closes : Spot (opening_of b) w.seen b.number (length b.seen) 1 last = spot_step S b w 1 last r.closes in
+      let closes' : Spot (opening_of v) w.seen v.number (length v.seen) 1 last = spot_since v b w.seen 1 last vb closes in
       let long : length b.seen ≡ length a.seen + length fb.seen.0 = ap length fb.seen.1 ∙ length-append a.seen fb.seen.0 in
       let before = opens.before in
       let behind = closes.since in
@@ -191,9 +191,9 @@ module _ (S : Shaping) where
         last_is = closes'.found;
         each = λ k d h.
             let x : ℕ × ℕ = get_or found k d in
-            let s : Spot (opened a) b.seen a.number (length a.seen) x.0 x.1 = each_found a b found r.each k d h in
-            let s' : Spot (opened v) w.seen v.number (length v.seen) x.0 x.1 = spot_since v a w.seen x.0 x.1 fa
-            (subst (λ (es : List Entry). Spot (opened a) es a.number (length a.seen) x.0 x.1) (sym fw.seen.1) (spot_longer (opened a) b.seen fw.seen.0 a.number (length a.seen) x.0 x.1 s)) in
+            let s : Spot (opening_of a) b.seen a.number (length a.seen) x.0 x.1 = each_found a b found r.each k d h in
+            let s' : Spot (opening_of v) w.seen v.number (length v.seen) x.0 x.1 = spot_since v a w.seen x.0 x.1 fa
+            (subst (λ (es : List Entry). Spot (opening_of a) es a.number (length a.seen) x.0 x.1) (sym fw.seen.1) (spot_longer (opening_of a) b.seen fw.seen.0 a.number (length a.seen) x.0 x.1 s)) in
             let low = s.since in
             let high = s.before in
             (s.at, omega arith, omega arith, s'.loads, s'.found);
@@ -213,8 +213,8 @@ module _ (S : Shaping) where
     pub agrees : (v w : View) (first last : ℕ) (found : List (ℕ × ℕ)) → WholeReading S v first found last w → first ≡ last → (form : S.Form) × ShowsIn S v (record { generation = first; form = form; found = found }) w
     agrees v w first last found r same =
         let t = placed v w first last found r in
-        let e : g2 (state_at (opened v) w.seen t.p) ≡ g1 (state_at (opened v) w.seen t.q) = sym t.first_is ∙ same ∙ t.last_is in
-        let form : S.Form = S.form (state_at (opened v) w.seen t.p).words in (
+        let e : g2 (state_at (opening_of v) w.seen t.p) ≡ g1 (state_at (opening_of v) w.seen t.q) = sym t.first_is ∙ same ∙ t.last_is in
+        let form : S.Form = S.form (state_at (opening_of v) w.seen t.p).words in (
           form,
           (
             t.p,
@@ -225,7 +225,7 @@ module _ (S : Shaping) where
               opens = t.opens;
               closes = t.closes;
               each = t.each;
-              stretch = λ k after before. subst (λ (n : ℕ). HasLayout S (state_at (opened v) w.seen k) n form) (sym t.first_is) (layout_at S laws v.start v.passes w.seen t.journal t.p k t.q after before e);
+              stretch = λ k after before. subst (λ (n : ℕ). HasLayout S (state_at (opening_of v) w.seen k) n form) (sym t.first_is) (layout_at S laws v.start v.passes w.seen t.journal t.p k t.q after before e);
             },
           ),
         )
@@ -256,18 +256,18 @@ module _ (S : Shaping) where
       there : IsIn u.mode (now u) u.number
 
     sound_of : (v : View) → IsJournal S v.start v.passes v.seen → IsSound S (now v)
-    sound_of v j = sound_run S laws (opened v) v.seen (sound_opening S laws v.start v.passes j.image j.few) j.legal
+    sound_of v j = sound_run S laws (opening_of v) v.seen (sound_opening S laws v.start v.passes j.image j.few) j.legal
 
     stays : (v u : View) (i n : ℕ) → Extends S v (Load i) n u → v.mode ≡ Attached → IsIn v.mode (now v) v.number → Stays v u i n
     stays v u i n e mode there =
-        let t : State = state (opened v) (v.seen ++ e.between) in
-        let legal : IsLegal S (opened v) (v.seen ++ e.between) = legal-front S (opened v) (v.seen ++ e.between) (entry v.number (Load i) ∷ []) e.journal.legal in
-        let sound : IsSound S (now v) = sound_run S laws (opened v) v.seen (sound_opening S laws v.start v.passes e.journal.image e.journal.few) (legal-front S (opened v) v.seen e.between legal) in
-        let still : IsStill S (now v).words (state (now v) e.between).words = inside_run S laws (now v) v.number e.between sound (legal-back S (opened v) v.seen e.between legal) e.others
+        let t : State = state (opening_of v) (v.seen ++ e.between) in
+        let legal : IsLegal S (opening_of v) (v.seen ++ e.between) = legal-front S (opening_of v) (v.seen ++ e.between) (entry v.number (Load i) ∷ []) e.journal.legal in
+        let sound : IsSound S (now v) = sound_run S laws (opening_of v) v.seen (sound_opening S laws v.start v.passes e.journal.image e.journal.few) (legal-front S (opening_of v) v.seen e.between legal) in
+        let still : IsStill S (now v).words (state (now v) e.between).words = inside_run S laws (now v) v.number e.between sound (legal-back S (opening_of v) v.seen e.between legal) e.others
         (subst (λ (m : Mode). IsIn m (now v) v.number) mode there) in
         let same : now u ≡ t = now_after S v u (Load i) n e in
         record {
-          still = subst (λ (s : State). IsStill S (now v).words s.words) (sym (same ∙ state-append (opened v) v.seen e.between)) still;
+          still = subst (λ (s : State). IsStill S (now v).words s.words) (sym (same ∙ state-append (opening_of v) v.seen e.between)) still;
           found = e.found ∙ ap (λ (s : State). slice_index s.words i) (sym same);
           mode = ap (λ (x : View). x.mode) e.is ∙ mode;
           there = e.mode;
@@ -309,7 +309,7 @@ module _ (S : Shaping) where
           image = j.image;
           wide = j.wide;
           few = j.few;
-          legal = legal-front S (opened v) v.seen e.between (legal-front S (opened v) (v.seen ++ e.between) (entry v.number (Load 0) ∷ []) j.legal);
+          legal = legal-front S (opening_of v) v.seen e.between (legal-front S (opening_of v) (v.seen ++ e.between) (entry v.number (Load 0) ∷ []) j.legal);
         }
 
     -- every word read while the pass is inside: an image of the form that stands
@@ -318,7 +318,7 @@ module _ (S : Shaping) where
         let journal : IsJournal S v.start v.passes v.seen = journal_of v w words r some_of in
         let here : IsStill S (now v).words (now v).words = inside_run S laws (now v) v.number [] (sound_of v journal) tt refl (subst (λ (m : Mode). IsIn m (now v) v.number) mode there) in
         let still : IsStill S (now v).words (now w).words = inside_still v w (numbered_from 0 words) r mode there here.image in
-        let long : length (now v).words ≡ length v.start = wide_run (opened v) v.seen in
+        let long : length (now v).words ≡ length v.start = wide_run (opening_of v) v.seen in
         let count = length-numbered 0 words in
         let like : IsLike S (now v).words words = patch_like S laws (now v).words words here.image (wide ∙ sym long)
         (λ i h. subst (λ (x : ℕ × ℕ). Fits (now v).words x) (numbered_or 0 words i (0, 0) (omega arith) ∙ ap (λ (k : ℕ). (k, slice_index words i)) (omega arith))

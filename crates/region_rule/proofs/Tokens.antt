@@ -21,8 +21,8 @@ use Rattle.region_core.proofs.Journals.{legal-front}
 use Rattle.region_rule.specs.declared.view.View.{View}
 use Rattle.region_rule.specs.declared.view.Role.{Role}
 use Rattle.region_rule.specs.declared.view.Role.TheVariants.{Copied, Numbered}
-use Rattle.region_rule.specs.Views.{Agrees, Owns, fits_as, Fits, one_if, count, held_as, held, Kept, waiting, fresh_view, first_view}
-use Rattle.region_rule.specs.Tokens.{without, next_pass, note_of, spent_view, informed, gathered, Knows}
+use Rattle.region_rule.specs.Views.{Agrees, Owns, fits_as, Fits, one_if, count, times_in_as, times_in, IsOneJournal, numbers_from, fresh_view, first_view}
+use Rattle.region_rule.specs.Tokens.{after_giving, next_pass, note_of, spent_view, after_learning, after_gathering, Knows}
 use Rattle.region_rule.proofs.Keeps.{numbered, counted}
 use Rattle.region_rule.proofs.Fronts.{Front, front, agrees_further, agrees_both, lists_of, count-append, owns_further}
 
@@ -61,22 +61,22 @@ next_below k i = dite (ℕ_discrete i k)
         decided false e = let h = ltb-false k i e in e ∙ sym (le-ltb k (suc i) (omega arith))
 
 -- the numbers that wait are those from the first on
-counts_waiting : (k i n : ℕ) → count k (waiting i n) + one_if (ltb k i) ≡ one_if (ltb k (i + n))
+counts_waiting : (k i n : ℕ) → count k (numbers_from i n) + one_if (ltb k i) ≡ one_if (ltb k (i + n))
 counts_waiting k i zero = let e : one_if (ltb k (i + 0)) ≡ one_if (ltb k i) = ap (λ (m : ℕ). one_if (ltb k m)) (add-zero i) in omega arith
 counts_waiting k i (suc n) =
-    let h : count k (waiting (suc i) n) + one_if (ltb k (suc i)) ≡ one_if (ltb k (suc i + n)) = counts_waiting k (suc i) n in
+    let h : count k (numbers_from (suc i) n) + one_if (ltb k (suc i)) ≡ one_if (ltb k (suc i + n)) = counts_waiting k (suc i) n in
     let e : one_if (ltb k (suc i + n)) ≡ one_if (ltb k (i + suc n)) = ap (λ (m : ℕ). one_if (ltb k m)) (omega arith) in
     let one = next_below k i in
     omega arith
 
-agrees_waiting : (i n : ℕ) → Agrees [] [] (waiting i n)
+agrees_waiting : (i n : ℕ) → Agrees [] [] (numbers_from i n)
 agrees_waiting i zero = tt
 agrees_waiting i (suc n) = (refl, refl, agrees_waiting (suc i) n)
 
 -- where a view with a number says that it keeps another one, that one is a pass's
-kept_below : (passes : ℕ) (views : List View) (id k : ℕ) (v : View) → total (held k) views ≡ one_if (ltb k passes) → get_elem? views id ≡ some v → 1 ≤ held k v → k < passes
+kept_below : (passes : ℕ) (views : List View) (id k : ℕ) (v : View) → total (times_in k) views ≡ one_if (ltb k passes) → get_elem? views id ≡ some v → 1 ≤ times_in k v → k < passes
 kept_below passes views id k v once at some_of =
-    let h : held k v ≤ total (held k) views = le_total (held k) views id v at in
+    let h : times_in k v ≤ total (times_in k) views = le_total (times_in k) views id v at in
     ltb-true k passes (some_true (ltb k passes) (omega arith))
 
 at_one : (v u : View) (id : ℕ) → get_elem? (v ∷ []) id ≡ some u → v ≡ u
@@ -128,11 +128,11 @@ keeping words passes log rest v kept o a = record {
 
 module _ (S : Shaping) (words : List ℕ) (passes : ℕ) where
   -- the rule of this region
-  abbrev pub Holds : Table (Unit {0}) View → Type 0
-  Holds s = Kept S words passes s.words s.views
+  abbrev pub IsRuled : Table (Unit {0}) View → Type 0
+  IsRuled s = IsOneJournal S words passes s.words s.views
 
   -- at the start there is one pass, which keeps all other numbers
-  pub starts : S.IsImage words → length words ≤ 65536 → passes < 2 ^ 32 → 0 < passes → Kept S words passes (0 ∷ words) (first_view words passes ∷ [])
+  pub starts : S.IsImage words → length words ≤ 65536 → passes < 2 ^ 32 → 0 < passes → IsOneJournal S words passes (0 ∷ words) (first_view words passes ∷ [])
   starts image wide few some_of =
       let v : View = first_view words passes in
       record {
@@ -151,15 +151,15 @@ module _ (S : Shaping) (words : List ℕ) (passes : ℕ) where
         );
         once = λ k.
             let first = next_below k 0 in
-            let others : count k (waiting 1 (passes - 1)) + one_if (ltb k 1) ≡ one_if (ltb k (1 + (passes - 1))) = counts_waiting k 1 (passes - 1) in
+            let others : count k (numbers_from 1 (passes - 1)) + one_if (ltb k 1) ≡ one_if (ltb k (1 + (passes - 1))) = counts_waiting k 1 (passes - 1) in
             let all : one_if (ltb k (1 + (passes - 1))) ≡ one_if (ltb k passes) = ap (λ (m : ℕ). one_if (ltb k m)) (omega arith) in
             let none : one_if (ltb k 0) ≡ 0 = ap (λ (b : Bool). one_if b) (le-ltb k 0 (omega arith)) in
             omega arith;
       }
 
-  -- a new view beside the others, and another one in its giver's place
-  split : (s : Table (Unit {0}) View) (id : ℕ) (v left right : View) (kept : Holds s) → get_elem? s.views id ≡ some v → Fits words passes kept.log left → Fits words passes kept.log right
-      → ((k : ℕ) → held k left + held k right ≡ held k v) → Kept S words passes s.words (set s.views id left ++ right ∷ [])
+  -- a new view beside the others, and another one for its giver
+  split : (s : Table (Unit {0}) View) (id : ℕ) (v left right : View) (kept : IsRuled s) → get_elem? s.views id ≡ some v → Fits words passes kept.log left → Fits words passes kept.log right
+      → ((k : ℕ) → times_in k left + times_in k right ≡ times_in k v) → IsOneJournal S words passes s.words (set s.views id left ++ right ∷ [])
   split s id v left right kept at fits_left fits_right sum = record {
     log = kept.log;
     journal = kept.journal;
@@ -172,15 +172,15 @@ module _ (S : Shaping) (words : List ℕ) (passes : ℕ) where
         (λ (e : right ≡ u). subst (λ (x : View). Fits words passes kept.log x) e fits_right)
         (at_snoc (set s.views id left) right u j there);
     once = λ k.
-        let snoc = total-snoc (held k) (set s.views id left) right in
-        let sums = total-set (held k) s.views id v left at in
+        let snoc = total-snoc (times_in k) (set s.views id left) right in
+        let sums = total-set (times_in k) s.views id v left at in
         let all = kept.once k in
         let both = sum k in
         omega arith;
   }
 
   -- a pass hands on the numbers that wait
-  pub gives : (id number : ℕ) (x : ℕ × List Entry) (xs : List (ℕ × List Entry)) → let v : View = fresh_view words passes number (x ∷ xs) in Splits Holds id v (without v) (next_pass v)
+  pub gives : (id number : ℕ) (x : ℕ × List Entry) (xs : List (ℕ × List Entry)) → let v : View = fresh_view words passes number (x ∷ xs) in Splits IsRuled id v (after_giving v) (next_pass v)
   gives id number x xs s kept at =
       let v : View = fresh_view words passes number (x ∷ xs) in
       let own_rest = numbered words passes kept.log v refl (kept.fits id v at) in
@@ -188,7 +188,7 @@ module _ (S : Shaping) (words : List ℕ) (passes : ℕ) where
       let o : Owns words passes kept.log rest v = own_rest.1 in
       let one : one_if (eqb x.0 x.0) ≡ 1 = counted x.0 in
       let below : x.0 < passes = kept_below passes s.views id x.0 v (kept.once x.0) at (omega arith) in
-      split s id v (without v) (next_pass v) kept at
+      split s id v (after_giving v) (next_pass v) kept at
       (rest, keeping words passes kept.log rest v [] o tt) (
         rest,
         record {
@@ -202,7 +202,7 @@ module _ (S : Shaping) (words : List ℕ) (passes : ℕ) where
       (λ k. omega arith)
 
   -- a note has seen what its pass has seen
-  pub notes : (id : ℕ) (v : View) → v.role ≡ Numbered → Splits Holds id v v (note_of v)
+  pub notes : (id : ℕ) (v : View) → v.role ≡ Numbered → Splits IsRuled id v v (note_of v)
   notes id v is s kept at =
       let own_rest = numbered words passes kept.log v is (kept.fits id v at) in
       let o : Owns words passes kept.log own_rest.0 v = own_rest.1 in
@@ -211,8 +211,8 @@ module _ (S : Shaping) (words : List ℕ) (passes : ℕ) where
       (λ k. omega arith)
 
   -- two views become one, and the other is spent
-  join : (s : Table (Unit {0}) View) (id other : ℕ) (v w both : View) (kept : Holds s) → get_elem? s.views id ≡ some v → other ≢ id → get_elem? (set s.views id both) other ≡ some w
-      → Fits words passes kept.log both → ((k : ℕ) → held k both ≡ held k v + held k w) → Kept S words passes s.words (set (set s.views id both) other spent_view)
+  join : (s : Table (Unit {0}) View) (id other : ℕ) (v w both : View) (kept : IsRuled s) → get_elem? s.views id ≡ some v → other ≢ id → get_elem? (set s.views id both) other ≡ some w
+      → Fits words passes kept.log both → ((k : ℕ) → times_in k both ≡ times_in k v + times_in k w) → IsOneJournal S words passes s.words (set (set s.views id both) other spent_view)
   join s id other v w both kept at differ there fits sum = record {
     log = kept.log;
     journal = kept.journal;
@@ -225,51 +225,51 @@ module _ (S : Shaping) (words : List ℕ) (passes : ℕ) where
         (at_set s.views id j both u b.1))
         (at_set (set s.views id both) other j spent_view u here);
     once = λ k.
-        let first = total-set (held k) s.views id v both at in
-        let second = total-set (held k) (set s.views id both) other w spent_view there in
+        let first = total-set (times_in k) s.views id v both at in
+        let second = total-set (times_in k) (set s.views id both) other w spent_view there in
         let all = kept.once k in
         let whole = sum k in
-        let none : held k spent_view ≡ 0 = refl in
+        let none : times_in k spent_view ≡ 0 = refl in
         omega arith;
   }
 
   -- a pass learns what a note has seen
-  pub learns : (id other : ℕ) (v w : View) → v.role ≡ Numbered → w.role ≡ Copied → Joins Holds id v other w (informed v w) spent_view
+  pub learns : (id other : ℕ) (v w : View) → v.role ≡ Numbered → w.role ≡ Copied → Joins IsRuled id v other w (after_learning v w) spent_view
   learns id other v w is copied s kept at differ there =
-      let there' : get_elem? s.views other ≡ some w = sym (set_else s.views id other (informed v w) differ) ∙ there in
+      let there' : get_elem? s.views other ≡ some w = sym (set_else s.views id other (after_learning v w) differ) ∙ there in
       let own_rest = numbered words passes kept.log v is (kept.fits id v at) in
       let sees = subst (λ (r : Role). fits_as r words passes kept.log w) copied (kept.fits other w there') in
       let j : Joined words passes kept.log sees.0 v w (ltb (length v.seen) (length w.seen)) =
       joined words passes kept.log own_rest.0 sees.0 v w (ltb (length v.seen) (length w.seen)) refl own_rest.1 sees.1.is in
-      join s id other v w (informed v w) kept at differ there
-      (subst (λ (r : Role). fits_as r words passes kept.log (informed v w)) (sym is) (j.rest, j.owns))
-      (λ k. let none : held k w ≡ 0 = ap (λ (r : Role). held_as r k w.number w.kept) copied in let same : held k (informed v w) ≡ held k v = refl in omega arith)
+      join s id other v w (after_learning v w) kept at differ there
+      (subst (λ (r : Role). fits_as r words passes kept.log (after_learning v w)) (sym is) (j.rest, j.owns))
+      (λ k. let none : times_in k w ≡ 0 = ap (λ (r : Role). times_in_as r k w.number w.kept) copied in let same : times_in k (after_learning v w) ≡ times_in k v = refl in omega arith)
 
   -- a pass ends another one, and keeps its entries
-  pub gathers : (id other : ℕ) (v w : View) → v.role ≡ Numbered → w.role ≡ Numbered → Joins Holds id v other w (gathered v w) spent_view
+  pub gathers : (id other : ℕ) (v w : View) → v.role ≡ Numbered → w.role ≡ Numbered → Joins IsRuled id v other w (after_gathering v w) spent_view
   gathers id other v w is ended s kept at differ there =
-      let there' : get_elem? s.views other ≡ some w = sym (set_else s.views id other (gathered v w) differ) ∙ there in
+      let there' : get_elem? s.views other ≡ some w = sym (set_else s.views id other (after_gathering v w) differ) ∙ there in
       let own_rest = numbered words passes kept.log v is (kept.fits id v at) in
       let its_rest = numbered words passes kept.log w ended (kept.fits other w there') in
       let o : Owns words passes kept.log its_rest.0 w = its_rest.1 in
       let b : Bool = ltb (length v.seen) (length w.seen) in
       let j : Joined words passes kept.log its_rest.0 v w b = joined words passes kept.log own_rest.0 its_rest.0 v w b refl own_rest.1 o.sees.is in
       let its : Agrees (cond b w.seen v.seen) j.rest ((w.number, w.own) ∷ w.kept) = j.others ((w.number, w.own) ∷ w.kept) (o.had, o.none, o.kept) in
-      join s id other v w (gathered v w) kept at differ there
-      (subst (λ (r : Role). fits_as r words passes kept.log (gathered v w)) (sym is) (
+      join s id other v w (after_gathering v w) kept at differ there
+      (subst (λ (r : Role). fits_as r words passes kept.log (after_gathering v w)) (sym is) (
         j.rest,
-        keeping words passes kept.log j.rest (informed v w) ((w.number, w.own) ∷ (w.kept ++ v.kept)) j.owns
+        keeping words passes kept.log j.rest (after_learning v w) ((w.number, w.own) ∷ (w.kept ++ v.kept)) j.owns
             (its.0, its.1, agrees_both (cond b w.seen v.seen) j.rest w.kept v.kept its.2 j.owns.kept),
       ))
       (λ k.
-      let mine : held k v ≡ one_if (eqb v.number k) + count k v.kept = ap (λ (r : Role). held_as r k v.number v.kept) is in
-      let theirs : held k w ≡ one_if (eqb w.number k) + count k w.kept = ap (λ (r : Role). held_as r k w.number w.kept) ended in
-      let whole : held k (gathered v w) ≡ one_if (eqb v.number k) + (one_if (eqb w.number k) + count k (w.kept ++ v.kept)) = ap (λ (r : Role). held_as r k v.number ((w.number, w.own) ∷ (w.kept ++ v.kept))) is in
+      let mine : times_in k v ≡ one_if (eqb v.number k) + count k v.kept = ap (λ (r : Role). times_in_as r k v.number v.kept) is in
+      let theirs : times_in k w ≡ one_if (eqb w.number k) + count k w.kept = ap (λ (r : Role). times_in_as r k w.number w.kept) ended in
+      let whole : times_in k (after_gathering v w) ≡ one_if (eqb v.number k) + (one_if (eqb w.number k) + count k (w.kept ++ v.kept)) = ap (λ (r : Role). times_in_as r k v.number ((w.number, w.own) ∷ (w.kept ++ v.kept))) is in
       let lists = count-append k w.kept v.kept in
       omega arith)
 
   -- a look at the table tells a pass what the rule says of its own view
-  pub looks : (slots id : ℕ) (v : View) (c : List (ℕ × Unit {0})) → v.role ≡ Numbered → Allows Holds slots id (v, c) 0 (λ n. n) (λ n me. (me ≡ (v, c)) × Knows S v)
+  pub looks : (slots id : ℕ) (v : View) (c : List (ℕ × Unit {0})) → v.role ≡ Numbered → Allows IsRuled slots id (v, c) 0 (λ n. n) (λ n me. (me ≡ (v, c)) × Knows S v)
   looks slots id v c is s kept wide at small =
       let own_rest = numbered words passes kept.log v is (kept.fits id v at) in
       let o : Owns words passes kept.log own_rest.0 v = own_rest.1 in
@@ -281,9 +281,9 @@ module _ (S : Shaping) (words : List ℕ) (passes : ℕ) where
         few = kept.journal.few;
         legal = legal-front S (opening words passes) v.seen own_rest.0 (subst (λ (es : List Entry). IsLegal S (opening words passes) es) o.sees.is kept.journal.legal);
       } in
-      let same : Kept S words passes (set s.words 0 (slice_index s.words 0)) (set s.views id v) =
-      subst (λ (xs : List ℕ). Kept S words passes xs (set s.views id v)) (sym (set-get_or s.words 0 0))
-      (subst (λ (us : List View). Kept S words passes s.words us) (sym (set_again s.views id v at)) kept) in (
+      let same : IsOneJournal S words passes (set s.words 0 (slice_index s.words 0)) (set s.views id v) =
+      subst (λ (xs : List ℕ). IsOneJournal S words passes xs (set s.views id v)) (sym (set-get_or s.words 0 0))
+      (subst (λ (us : List View). IsOneJournal S words passes s.words us) (sym (set_again s.views id v at)) kept) in (
         v,
         keeps,
         tt,
@@ -301,8 +301,8 @@ module _ (S : Shaping) (words : List ℕ) (passes : ℕ) where
       )
 
 -- the first of the numbers that wait, and those after it
-pub waiting_next : (k m p : ℕ) → m ≡ k + 1 → k < p → waiting k (p - k) ≡ (k, []) ∷ waiting m (p - m)
+pub waiting_next : (k m p : ℕ) → m ≡ k + 1 → k < p → numbers_from k (p - k) ≡ (k, []) ∷ numbers_from m (p - m)
 waiting_next k m p next below =
     let more : p - k ≡ suc (p - m) = omega arith in
     let after : suc k ≡ m = omega arith in
-    ap (λ (n : ℕ). waiting k n) more ∙ ap (λ (j : ℕ). (k, []) ∷ waiting j (p - m)) after
+    ap (λ (n : ℕ). numbers_from k n) more ∙ ap (λ (j : ℕ). (k, []) ∷ numbers_from j (p - m)) after

@@ -8,22 +8,22 @@ use Rattle.region_core.specs.Journal.{state, own, IsJournal}
 use Rattle.region_rule.specs.declared.view.View.{View}
 use Rattle.region_rule.specs.declared.fault.OpenFault.{OpenFault}
 use Rattle.region_rule.specs.declared.fault.OpenFault.TheVariants.{TooLarge, NoMemory}
-use Rattle.region_rule.specs.Views.{opened, now, Begins, HasNone, fresh_view}
+use Rattle.region_rule.specs.Views.{opening_of, now, IsFront, HasNone, fresh_view}
 use Rattle.region_rule.specs.Steps.{Extends}
-use Rattle.region_rule.specs.Tokens.{informed, gathered, Knows}
-use Rattle.region_rule.specs.Places.{Place, Token}
+use Rattle.region_rule.specs.Tokens.{after_learning, after_gathering, Knows}
+use Rattle.region_rule.specs.Seats.{MadeRegion, Token}
 
 -- the passes of a new region, from the k-th on, n of them: they have seen nothing
-abbrev pub fresh_from : Place → ℕ → ℕ → List Token
-fresh_from place k zero = []
-fresh_from place k (suc n) = record { place = place; view = fresh_view place.words place.passes k [] } ∷ fresh_from place (suc k) n
+abbrev pub fresh_from : MadeRegion → ℕ → ℕ → List Token
+fresh_from region k zero = []
+fresh_from region k (suc n) = record { region = region; view = fresh_view region.words region.passes k [] } ∷ fresh_from region (suc k) n
 
 -- the region of an image, with zeros behind it
-pub record Opens (image : List ℕ) (capacity passes : ℕ) (place : Place) (tokens : List Token) : Type 0 where
+pub record Opens (image : List ℕ) (capacity passes : ℕ) (region : MadeRegion) (tokens : List Token) : Type 0 where
   pub fits : length image ≤ capacity
-  pub words : place.words ≡ with_zeros image capacity
-  pub passes_are : place.passes ≡ passes
-  pub tokens_are : tokens ≡ fresh_from place 0 passes
+  pub words : region.words ≡ with_zeros image capacity
+  pub passes_are : region.passes ≡ passes
+  pub tokens_are : tokens ≡ fresh_from region 0 passes
 
 -- why there is no region
 abbrev pub OpensNot : List ℕ → ℕ → OpenFault → Type 0
@@ -62,15 +62,15 @@ TakesAll S v w = (x : ℕ) → IsWord x → S.Takes (S.form (now v).words) w x
 
 -- both lists are beginnings of what the pass has seen now, which the rule confirms
 pub record Learns (S : Shaping) (v w new : View) : Type 0 where
-  pub is : new ≡ informed v w
-  pub mine : Begins v.seen new.seen
-  pub theirs : Begins w.seen new.seen
+  pub is : new ≡ after_learning v w
+  pub mine : IsFront v.seen new.seen
+  pub theirs : IsFront w.seen new.seen
   pub knows : Knows S new
 
 pub record Gathers (S : Shaping) (v w new : View) : Type 0 where
-  pub is : new ≡ gathered v w
-  pub mine : Begins v.seen new.seen
-  pub theirs : Begins w.seen new.seen
+  pub is : new ≡ after_gathering v w
+  pub mine : IsFront v.seen new.seen
+  pub theirs : IsFront w.seen new.seen
   pub knows : Knows S new
 
 -- The words are those of the last state of a legal journal that begins with what the pass has seen, and in which neither it
@@ -78,7 +78,7 @@ pub record Gathers (S : Shaping) (v w new : View) : Type 0 where
 pub record Closes (S : Shaping) (v : View) (words : List ℕ) : Type 0 where
   pub rest : List Entry
   pub journal : IsJournal S v.start v.passes (v.seen ++ rest)
-  pub is : words ≡ (state (opened v) (v.seen ++ rest)).words
+  pub is : words ≡ (state (opening_of v) (v.seen ++ rest)).words
   pub others : own v.number rest ≡ []
   pub gathered_none : HasNone rest v.kept
 

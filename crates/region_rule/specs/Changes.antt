@@ -11,7 +11,7 @@ use Rattle.region_rule.specs.declared.fault.ChangeFault.{ChangeFault}
 use Rattle.region_rule.specs.declared.fault.ChangeFault.TheVariants.{TooLarge, Busy, Spent}
 use Rattle.region_rule.specs.Views.{now}
 use Rattle.region_rule.specs.Steps.{Extends}
-use Rattle.region_rule.specs.Places.{Token}
+use Rattle.region_rule.specs.Seats.{Token}
 
 -- a change: its pass, its generation, its image, and the next word that it stores
 pub record Relaying : Type 0 where
@@ -58,7 +58,7 @@ pub record UnderWay (S : Shaping) (v : View) (image : List ℕ) (next n : ℕ) :
   pub room : length image ≤ length v.start
   pub first : g1 (now v) ≡ n
   pub second : g2 (now v) ≢ n
-  pub place : (next ≡ 0) ⊎ (3 ≤ next)
+  pub next_is : (next ≡ 0) ⊎ (3 ≤ next)
   pub most : next ≤ length image
   pub written : (w : ℕ) → w < next → w ≢ 1 → w ≢ 2 → slice_index (now v).words w ≡ slice_index image w
 

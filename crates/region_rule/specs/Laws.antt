@@ -7,7 +7,7 @@ use Rattle.region_core.specs.Shape.{Shaping}
 use Rattle.region_core.specs.State.{IsIn}
 use Rattle.region_core.specs.Journal.{state, own, IsJournal}
 use Rattle.region_rule.specs.declared.view.View.{View}
-use Rattle.region_rule.specs.Views.{opened, now}
+use Rattle.region_rule.specs.Views.{opening_of, now}
 use Rattle.region_rule.specs.Steps.{Extends}
 use Rattle.region_rule.specs.Tokens.{IsLast}
 use Rattle.region_rule.specs.Calls.{Closes}
@@ -15,7 +15,7 @@ use Rattle.region_rule.specs.Calls.{Closes}
 -- while a pass is inside, the form of the journal's last state is that of what the pass has seen
 abbrev pub FormStaysInside : Shaping → Type 0
 FormStaysInside S = (v : View) (rest : List Entry) → IsJournal S v.start v.passes (v.seen ++ rest) → own v.number rest ≡ []
-    → v.mode ≡ Attached → IsIn v.mode (now v) v.number → S.form (state (opened v) (v.seen ++ rest)).words ≡ S.form (now v).words
+    → v.mode ≡ Attached → IsIn v.mode (now v) v.number → S.form (state (opening_of v) (v.seen ++ rest)).words ≡ S.form (now v).words
 
 -- and a step of its own keeps that form
 abbrev pub StepsKeepTheForm : Shaping → Type 0

@@ -1,7 +1,7 @@
 pub mod Views
 pub mod Steps
 pub mod Tokens
-pub mod Places
+pub mod Seats
 pub mod Calls
 pub mod Changes
 pub mod Reads

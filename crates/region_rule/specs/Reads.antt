@@ -6,7 +6,7 @@ use Rattle.region_core.specs.Readings.{Reading, Shown, IsAgain}
 use Rattle.region_rule.specs.declared.view.View.{View}
 use Rattle.region_rule.specs.declared.fault.ReadFault.{ReadFault}
 use Rattle.region_rule.specs.declared.fault.ReadFault.TheVariants.{Again, NoMemory}
-use Rattle.region_rule.specs.Views.{opened, now}
+use Rattle.region_rule.specs.Views.{opening_of, now}
 use Rattle.region_rule.specs.Steps.{Extends}
 
 -- loads of these words, one after the other, each with what it found
@@ -29,11 +29,11 @@ pub record WholeReading (S : Shaping) (v : View) (first : ℕ) (found : List (�
 
 -- one that found one number is shown, from the end of what the pass had seen
 abbrev pub ShowsIn : (S : Shaping) → View → Reading S → View → Type 0
-ShowsIn S v reading w = Shown S (opened v) w.seen (length v.seen) v.number reading
+ShowsIn S v reading w = Shown S (opening_of v) w.seen (length v.seen) v.number reading
 
 -- and one that found two is refused
 abbrev pub RefusedIn : View → ℕ → ℕ → View → Type 0
-RefusedIn v first last w = IsAgain (opened v) w.seen (length v.seen) v.number first last
+RefusedIn v first last w = IsAgain (opening_of v) w.seen (length v.seen) v.number first last
 
 -- what the loads of a whole reading say
 abbrev pub Agreement : Shaping → Type 0

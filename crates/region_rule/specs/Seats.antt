@@ -1,4 +1,4 @@
--- Which region a pass belongs to, and what contracts see of a pass.
+-- Seats of the table: which region a seat belongs to, and what contracts see of a pass.
 use Rattle.std.specs.Prelude.{◌≡◌, ℕ, List}
 use Rattle.atomic_table.specs.Table.{Me}
 use Rattle.atomic_table.specs.Seated.{TableId}
@@ -10,32 +10,33 @@ use Rattle.region_rule.specs.declared.view.Role.TheVariants.{Numbered}
 use Rattle.region_rule.specs.Steps.{Extends}
 use Rattle.region_rule.specs.Tokens.{Knows}
 
--- a region: its table, its words at its making, up to the capacity, and how many passes it has
-pub record Place : Type 0 where
+-- a region as it was made: its table, its words then, up to the capacity, and how many passes it has
+pub record MadeRegion : Type 0 where
   pub table : TableId
   pub words : List ℕ
   pub passes : ℕ
 
 -- a pass, a reading, a stint, a change or a note: its region, and what it has seen
 pub record Token : Type 0 where
-  pub place : Place
+  pub region : MadeRegion
   pub view : View
 
--- the region of a seat
-abbrev pub place_of : Seat (Unit {0}) View → Place
-place_of seat = record { table = seat.table_id; words = seat.me.0.start; passes = seat.me.0.passes }
+-- the region that a seat belongs to
+abbrev pub region_of : Seat (Unit {0}) View → MadeRegion
+region_of seat = record { table = seat.table_id; words = seat.me.0.start; passes = seat.me.0.passes }
 
+-- what contracts see of a seat
 abbrev pub token_of : Seat (Unit {0}) View → Token
-token_of seat = record { place = place_of seat; view = seat.me.0 }
+token_of seat = record { region = region_of seat; view = seat.me.0 }
 
 -- the region, its capacity and the pass's number stay
 pub record IsSame (old new : Token) : Type 0 where
-  pub place : new.place ≡ old.place
+  pub region : new.region ≡ old.region
   pub number : new.view.number ≡ old.view.number
 
 -- the seat of a pass of this region
-pub record IsSeatOf (place : Place) (seat : Seat (Unit {0}) View) : Type 0 where
-  pub is : place_of seat ≡ place
+pub record IsSeatOf (region : MadeRegion) (seat : Seat (Unit {0}) View) : Type 0 where
+  pub is : region_of seat ≡ region
   pub named : seat.me.0.role ≡ Numbered
 
 -- what a step tells the pass that takes it

@@ -7,7 +7,7 @@ use Rattle.region_core.specs.Shape.{Shaping}
 use Rattle.region_core.specs.State.{State, word, next_mode, IsIn}
 use Rattle.region_core.specs.Journal.{state, own, IsJournal}
 use Rattle.region_rule.specs.declared.view.View.{View}
-use Rattle.region_rule.specs.Views.{now, opened, HasNone}
+use Rattle.region_rule.specs.Views.{now, opening_of, HasNone}
 
 -- the entry of this act by this pass
 abbrev pub entry : ℕ → Act → Entry
@@ -27,8 +27,8 @@ found_by (End n) s = n
 found_by Free s = s.gate
 
 -- the view after an act that found n, with the entries of others that came before it
-abbrev pub acted : View → List Entry → Act → ℕ → View
-acted v between act n = record {
+abbrev pub view_after : View → List Entry → Act → ℕ → View
+view_after v between act n = record {
   role = v.role;
   start = v.start;
   passes = v.passes;
@@ -45,8 +45,8 @@ pub record Extends (S : Shaping) (v : View) (act : Act) (n : ℕ) (w : View) : T
   pub between : List Entry
   pub others : own v.number between ≡ []
   pub gathered : HasNone between v.kept
-  pub is : w ≡ acted v between act n
-  pub found : n ≡ found_by act (state (opened v) (v.seen ++ between))
+  pub is : w ≡ view_after v between act n
+  pub found : n ≡ found_by act (state (opening_of v) (v.seen ++ between))
   pub journal : IsJournal S v.start v.passes ((v.seen ++ between) ++ entry v.number act ∷ [])
   pub mode : IsIn w.mode (now w) w.number
   pub had : own w.number w.seen ≡ w.own

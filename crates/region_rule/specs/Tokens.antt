@@ -7,11 +7,11 @@ use Rattle.region_core.specs.State.{IsIn}
 use Rattle.region_core.specs.Journal.{own, IsJournal}
 use Rattle.region_rule.specs.declared.view.View.{View}
 use Rattle.region_rule.specs.declared.view.Role.TheVariants.{Spent, Copied}
-use Rattle.region_rule.specs.Views.{now, Begins, count, fresh_view}
+use Rattle.region_rule.specs.Views.{now, IsFront, count, fresh_view}
 
 -- a pass that keeps no other number any more
-abbrev pub without : View → View
-without v = record v { kept = [] }
+abbrev pub after_giving : View → View
+after_giving v = record v { kept = [] }
 
 -- the first of the numbers that wait, and the others
 abbrev pub number_first : List (ℕ × List Entry) → ℕ
@@ -42,12 +42,12 @@ abbrev pub shorter : List Entry → List Entry → List Entry
 shorter xs ys = if nat_lt (length xs) (length ys) then xs else ys
 
 -- a pass that has learned what a note or another pass has seen
-abbrev pub informed : View → View → View
-informed v w = record v { seen = longer v.seen w.seen; told = shorter v.seen w.seen }
+abbrev pub after_learning : View → View → View
+after_learning v w = record v { seen = longer v.seen w.seen; told = shorter v.seen w.seen }
 
 -- and one that has ended another pass besides: it keeps that one's entries, and those which that one kept
-abbrev pub gathered : View → View → View
-gathered v w = record v { seen = longer v.seen w.seen; told = shorter v.seen w.seen; kept = (w.number, w.own) ∷ (w.kept ++ v.kept) }
+abbrev pub after_gathering : View → View → View
+after_gathering v w = record v { seen = longer v.seen w.seen; told = shorter v.seen w.seen; kept = (w.number, w.own) ∷ (w.kept ++ v.kept) }
 
 -- the entries of each number in the list are those that are kept
 abbrev pub HasLists : List Entry → List (ℕ × List Entry) → Type 0
@@ -58,7 +58,7 @@ HasLists seen (x ∷ xs) = (own x.0 seen ≡ x.1) × HasLists seen xs
 -- last join at its front, with just these own entries, with just these entries of the passes that were gathered
 pub record Knows (S : Shaping) (v : View) : Type 0 where
   pub journal : IsJournal S v.start v.passes v.seen
-  pub told : Begins v.told v.seen
+  pub told : IsFront v.told v.seen
   pub had : own v.number v.seen ≡ v.own
   pub mode : IsIn v.mode (now v) v.number
   pub lists : HasLists v.seen v.kept

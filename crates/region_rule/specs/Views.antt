@@ -17,15 +17,15 @@ abbrev pub table_words : State → List ℕ
 table_words s = s.gate ∷ s.words
 
 -- the second list begins with the first
-abbrev pub Begins : List Entry → List Entry → Type 0
-Begins front log = (rest : List Entry) × (log ≡ front ++ rest)
+abbrev pub IsFront : List Entry → List Entry → Type 0
+IsFront front log = (rest : List Entry) × (log ≡ front ++ rest)
 
--- the state at the region's making, and the state at the end of what a view has seen
-abbrev pub opened : View → State
-opened v = opening v.start v.passes
+-- the state at the region's making, as a view knows it, and the state at the end of what the view has seen
+abbrev pub opening_of : View → State
+opening_of v = opening v.start v.passes
 
 abbrev pub now : View → State
-now v = state (opened v) v.seen
+now v = state (opening_of v) v.seen
 
 -- the entries of each number are those that are kept, and it has none in the rest of the journal
 abbrev pub Agrees : List Entry → List Entry → List (ℕ × List Entry) → Type 0
@@ -42,7 +42,7 @@ pub record Sees (words : List ℕ) (passes : ℕ) (log rest : List Entry) (v : V
   pub start : v.start ≡ words
   pub passes_are : v.passes ≡ passes
   pub is : log ≡ v.seen ++ rest
-  pub told : Begins v.told v.seen
+  pub told : IsFront v.told v.seen
 
 -- and that beginning has all entries of the view's number, and of each number that it keeps
 pub record Owns (words : List ℕ) (passes : ℕ) (log rest : List Entry) (v : View) : Type 0 where
@@ -72,27 +72,27 @@ count k [] = 0
 count k (x ∷ xs) = one_if (x.0 == k) + count k xs
 
 -- how often a view has a number, as its own or among those it keeps
-abbrev pub held_as : Role → ℕ → ℕ → List (ℕ × List Entry) → ℕ
-held_as Spent k number kept = 0
-held_as Copied k number kept = 0
-held_as Numbered k number kept = one_if (number == k) + count k kept
+abbrev pub times_in_as : Role → ℕ → ℕ → List (ℕ × List Entry) → ℕ
+times_in_as Spent k number kept = 0
+times_in_as Copied k number kept = 0
+times_in_as Numbered k number kept = one_if (number == k) + count k kept
 
-abbrev pub held : ℕ → View → ℕ
-held k v = held_as v.role k v.number v.kept
+abbrev pub times_in : ℕ → View → ℕ
+times_in k v = times_in_as v.role k v.number v.kept
 
 -- The rule: there is one journal, it is legal, and the words are those of its last state; each view fits it; and each number
 -- below the number of passes stands in one view alone, and no other number in any
-pub record Kept (S : Shaping) (words : List ℕ) (passes : ℕ) (found : List ℕ) (views : List View) : Type 0 where
+pub record IsOneJournal (S : Shaping) (words : List ℕ) (passes : ℕ) (found : List ℕ) (views : List View) : Type 0 where
   pub log : List Entry
   pub journal : IsJournal S words passes log
   pub is : found ≡ table_words (state (opening words passes) log)
   pub fits : (id : ℕ) (v : View) → get_elem? views id ≡ some v → Fits words passes log v
-  pub once : (k : ℕ) → total (held k) views ≡ one_if (nat_lt k passes)
+  pub once : (k : ℕ) → total (times_in k) views ≡ one_if (nat_lt k passes)
 
 -- the numbers from k on, n of them, which nobody has yet
-abbrev pub waiting : ℕ → ℕ → List (ℕ × List Entry)
-waiting k zero = []
-waiting k (suc n) = (k, []) ∷ waiting (suc k) n
+abbrev pub numbers_from : ℕ → ℕ → List (ℕ × List Entry)
+numbers_from k zero = []
+numbers_from k (suc n) = (k, []) ∷ numbers_from (suc k) n
 
 -- a pass that has made no entry and seen none
 abbrev pub fresh_view : List ℕ → ℕ → ℕ → List (ℕ × List Entry) → View
@@ -101,4 +101,4 @@ fresh_view words passes number kept =
 
 -- the first one, which keeps all other numbers
 abbrev pub first_view : List ℕ → ℕ → View
-first_view words passes = fresh_view words passes 0 (waiting 1 (passes - 1))
+first_view words passes = fresh_view words passes 0 (numbers_from 1 (passes - 1))

@@ -2,7 +2,7 @@
 //! generation 2 last (mmv(5)).
 ghost use Rattle.std.specs.Prelude.{◌≡◌, ◌+◌, ◌-◌, ◌^◌, ◌<◌, MatchResult, max, length, slice_index};
 ghost use Rattle.region_rule.specs.Tokens.{note_of};
-ghost use Rattle.region_rule.specs.Places.{IsSame};
+ghost use Rattle.region_rule.specs.Seats.{IsSame};
 ghost use Rattle.region_rule.specs.Calls.{Learns};
 ghost use Rattle.region_rule.specs.Changes.{next_after, left_from, left_of, Acts, Starts, Fails, Stores, last_acts};
 
@@ -28,7 +28,7 @@ pub struct Change<S: Shape> {
 impl<S: Shape> Model for Change<S> {
     ghost use Rattle.std.specs.Prelude.{◌≡◌, []};
     ghost use Rattle.region_rule.specs.declared.view.Role.TheVariants.{Numbered};
-    ghost use Rattle.region_rule.specs.Places.{token_of};
+    ghost use Rattle.region_rule.specs.Seats.{token_of};
     ghost use Rattle.region_rule.specs.Changes.{Relaying, UnderWay};
 
     ghost Value = { Relaying };
@@ -48,7 +48,7 @@ fn next_generation(moment: u64, old: u64) -> u64
 }
 
 /// The word that is stored after this one.
-fn place_after(next: u32) -> u32
+fn index_after(next: u32) -> u32
     requires { next < 65536 }
     ensures { result ≡ next_after next }
 {
@@ -85,7 +85,7 @@ impl<S: Shape> Region<S> {
         image: Vec<u64>,
         moment: u64,
     ) -> Result<Change<S>, (Pass, Vec<u64>, ChangeFault)>
-        requires here { pass.place ≡ self.now }
+        requires here { pass.region ≡ self.now }
         requires image { S.shaping.IsImage image.items }
         ensures begins { MatchResult
             result
@@ -142,7 +142,7 @@ impl<S: Shape> Change<S> {
 
     /// Stores the next word of the image, and answers how many are left. With none left it does nothing.
     pub fn step(&mut self, region: &Region<S>) -> u32
-        requires here { self.old.token.place ≡ region.now }
+        requires here { self.old.token.region ≡ region.now }
         ensures left { result ≡ left_of self.new }
         ensures stores { Stores S.shaping self.old self.new }
         ensures stays { IsSame self.old.token self.new.token }
@@ -152,13 +152,13 @@ impl<S: Shape> Change<S> {
         }
         let value = word_at(&self.image, self.next);
         region.put(&mut self.seat, self.next, value);
-        self.next = place_after(self.next);
+        self.next = index_after(self.next);
         self.left()
     }
 
     /// Stores the words that are left, stores generation 2, and clears the change bit.
     pub fn finish(self, region: &Region<S>) -> Pass
-        requires here { self.token.place ≡ region.now }
+        requires here { self.token.region ≡ region.now }
         ensures finishes { Acts S.shaping self.token.view (last_acts self) result.view }
         ensures stays { IsSame self.token result }
     {
@@ -171,7 +171,7 @@ impl<S: Shape> Change<S> {
 
     /// Stores generation 2, and clears the change bit.
     fn close(self, region: &Region<S>) -> Pass
-        requires here { self.token.place ≡ region.now }
+        requires here { self.token.region ≡ region.now }
         requires done { left_of self ≡ 0 }
         ensures finishes { Acts S.shaping self.token.view (last_acts self) result.view }
         ensures stays { IsSame self.token result }
@@ -191,9 +191,9 @@ impl<S: Shape> Change<S> {
 
     /// A note of what the change has seen.
     pub fn note(&mut self, region: &Region<S>) -> Note
-        requires here { self.old.token.place ≡ region.now }
+        requires here { self.old.token.region ≡ region.now }
         ensures same { self.new ≡ self.old }
-        ensures note { (result.place ≡ self.old.token.place) × (result.view ≡ note_of self.old.token.view) }
+        ensures note { (result.region ≡ self.old.token.region) × (result.view ≡ note_of self.old.token.view) }
     {
         Note {
             seat: region.note_seat(&mut self.seat),
@@ -202,8 +202,8 @@ impl<S: Shape> Change<S> {
 
     /// Takes the longer of what the change and the note have seen.
     pub fn learn(&mut self, region: &Region<S>, note: Note)
-        requires here { self.old.token.place ≡ region.now }
-        requires note { note.place ≡ region.now }
+        requires here { self.old.token.region ≡ region.now }
+        requires note { note.region ≡ region.now }
         ensures learns { Learns S.shaping self.old.token.view note.view self.new.token.view }
         ensures image { (self.new.generation ≡ self.old.generation) × (self.new.image ≡ self.old.image) × (self.new.next ≡ self.old.next) }
         ensures stays { IsSame self.old.token self.new.token }

@@ -1,3 +1,5 @@
+//! What the calls of a pass answer where they refuse, and what a reading comes to.
+
 use std::alloc::AllocError;
 
 /// Why a region was not made.

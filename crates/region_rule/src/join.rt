@@ -1,9 +1,9 @@
 //! How views are cut in two and joined.
 ghost use Rattle.std.specs.Prelude.{◌≡◌, ℕ, ◌+◌, ◌-◌, ◌<◌, []};
 ghost use Rattle.region_rule.specs.declared.view.Role.TheVariants.{Copied, Numbered};
-ghost use Rattle.region_rule.specs.Views.{fresh_view, waiting};
-ghost use Rattle.region_rule.specs.Tokens.{note_of, informed, gathered, Knows};
-ghost use Rattle.region_rule.specs.Places.{IsSeatOf, place_of};
+ghost use Rattle.region_rule.specs.Views.{fresh_view, numbers_from};
+ghost use Rattle.region_rule.specs.Tokens.{note_of, after_learning, after_gathering, Knows};
+ghost use Rattle.region_rule.specs.Seats.{IsSeatOf, region_of};
 
 use crate::region::Region;
 use crate::rule::{Gather, Give, Learn, Noting};
@@ -16,9 +16,9 @@ impl<S: Shape> Region<S> {
     pub(crate) fn hand_on(&self, seat: &mut Seat<(), View>, number: u32) -> Seat<(), View>
         requires more { number + 1 < self.now.passes }
         requires table { seat.old.table_id ≡ self.now.table }
-        requires fresh { seat.old.me ≡ (fresh_view self.now.words self.now.passes number (waiting (number + 1) (self.now.passes - (number + 1))), []) }
+        requires fresh { seat.old.me ≡ (fresh_view self.now.words self.now.passes number (numbers_from (number + 1) (self.now.passes - (number + 1))), []) }
         ensures given { (seat.new.table_id ≡ seat.old.table_id) × (seat.new.me ≡ (fresh_view self.now.words self.now.passes number [], [])) }
-        ensures next { (result.table_id ≡ seat.old.table_id) × (result.me ≡ (fresh_view self.now.words self.now.passes (number + 1) (waiting (number + 2) (self.now.passes - (number + 2))), [])) }
+        ensures next { (result.table_id ≡ seat.old.table_id) × (result.me ≡ (fresh_view self.now.words self.now.passes (number + 1) (numbers_from (number + 2) (self.now.passes - (number + 2))), [])) }
     {
         self.table.shared.split_seat::<Give>(seat)
     }
@@ -35,9 +35,9 @@ impl<S: Shape> Region<S> {
     /// Takes the longer of two lists.
     pub(crate) fn learn_seat(&self, seat: &mut Seat<(), View>, note: Seat<(), View>)
         requires here { IsSeatOf self.now seat.old }
-        requires note { (place_of note ≡ self.now) × (note.me.0.role ≡ Copied) × (note.me.1 ≡ []) }
+        requires note { (region_of note ≡ self.now) × (note.me.0.role ≡ Copied) × (note.me.1 ≡ []) }
         ensures table { seat.new.table_id ≡ seat.old.table_id }
-        ensures both { seat.new.me ≡ (informed seat.old.me.0 note.me.0, seat.old.me.1) }
+        ensures both { seat.new.me ≡ (after_learning seat.old.me.0 note.me.0, seat.old.me.1) }
         ensures knows { Knows S.shaping seat.new.me.0 }
     {
         self.table.shared.join_seat::<Learn>(seat, note);
@@ -49,7 +49,7 @@ impl<S: Shape> Region<S> {
         requires here { IsSeatOf self.now seat.old }
         requires ended { IsSeatOf self.now ended × (ended.me.1 ≡ []) }
         ensures table { seat.new.table_id ≡ seat.old.table_id }
-        ensures both { seat.new.me ≡ (gathered seat.old.me.0 ended.me.0, seat.old.me.1) }
+        ensures both { seat.new.me ≡ (after_gathering seat.old.me.0 ended.me.0, seat.old.me.1) }
         ensures knows { Knows S.shaping seat.new.me.0 }
     {
         self.table.shared.join_seat::<Gather>(seat, ended);

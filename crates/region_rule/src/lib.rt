@@ -14,10 +14,6 @@ mod region;
 mod rule;
 mod steps;
 mod stint;
-#[cfg(test)]
-mod tests;
-#[cfg(test)]
-mod thread_tests;
 mod view;
 mod waits;
 

@@ -1,7 +1,7 @@
 //! Passes, and notes of what they have seen.
 ghost use Rattle.std.specs.Prelude.{◌≡◌};
 ghost use Rattle.region_rule.specs.Tokens.{note_of};
-ghost use Rattle.region_rule.specs.Places.{IsSame};
+ghost use Rattle.region_rule.specs.Seats.{IsSame};
 ghost use Rattle.region_rule.specs.Calls.{Learns, Gathers};
 
 use crate::region::Region;
@@ -22,7 +22,7 @@ impl Model for Pass {
     ghost use Rattle.std.specs.Prelude.{◌≡◌, []};
     ghost use Rattle.region_core.specs.declared.mode.Mode.TheVariants.{Idle};
     ghost use Rattle.region_rule.specs.declared.view.Role.TheVariants.{Numbered};
-    ghost use Rattle.region_rule.specs.Places.{Token, token_of};
+    ghost use Rattle.region_rule.specs.Seats.{Token, token_of};
 
     ghost Value = { Token };
 
@@ -40,7 +40,7 @@ pub struct Note {
 impl Model for Note {
     ghost use Rattle.std.specs.Prelude.{◌≡◌, []};
     ghost use Rattle.region_rule.specs.declared.view.Role.TheVariants.{Copied};
-    ghost use Rattle.region_rule.specs.Places.{Token, token_of};
+    ghost use Rattle.region_rule.specs.Seats.{Token, token_of};
 
     ghost Value = { Token };
 
@@ -59,9 +59,9 @@ impl Pass {
 
     /// A note of what the pass has seen.
     pub fn note<S: Shape>(&mut self, region: &Region<S>) -> Note
-        requires here { self.old.place ≡ region.now }
+        requires here { self.old.region ≡ region.now }
         ensures same { self.new ≡ self.old }
-        ensures note { (result.place ≡ self.old.place) × (result.view ≡ note_of self.old.view) }
+        ensures note { (result.region ≡ self.old.region) × (result.view ≡ note_of self.old.view) }
     {
         Note {
             seat: region.note_seat(&mut self.seat),
@@ -70,8 +70,8 @@ impl Pass {
 
     /// Takes the longer of what the pass and the note have seen: both are beginnings of it.
     pub fn learn<S: Shape>(&mut self, region: &Region<S>, note: Note)
-        requires here { self.old.place ≡ region.now }
-        requires note { note.place ≡ region.now }
+        requires here { self.old.region ≡ region.now }
+        requires note { note.region ≡ region.now }
         ensures learns { Learns S.shaping self.old.view note.view self.new.view }
         ensures stays { IsSame self.old self.new }
     {
@@ -80,8 +80,8 @@ impl Pass {
 
     /// Ends another pass, and keeps the list of its entries, which are all it made, and the lists that it had kept.
     pub fn gather<S: Shape>(&mut self, region: &Region<S>, ended: Pass)
-        requires here { self.old.place ≡ region.now }
-        requires ended { ended.place ≡ region.now }
+        requires here { self.old.region ≡ region.now }
+        requires ended { ended.region ≡ region.now }
         ensures gathers { Gathers S.shaping self.old.view ended.view self.new.view }
         ensures stays { IsSame self.old self.new }
     {

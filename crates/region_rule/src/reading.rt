@@ -3,7 +3,7 @@ ghost use Rattle.std.specs.Prelude.{◌≡◌, ◌≢◌, ◌<◌, ℕ, List, Ma
 ghost use Rattle.region_core.specs.declared.act.Act.TheVariants.{Load};
 ghost use Rattle.region_rule.specs.Steps.{Extends};
 ghost use Rattle.region_rule.specs.Tokens.{note_of};
-ghost use Rattle.region_rule.specs.Places.{IsSame};
+ghost use Rattle.region_rule.specs.Seats.{IsSame};
 ghost use Rattle.region_rule.specs.declared.view.View.{View};
 ghost use Rattle.region_rule.specs.Calls.{Learns};
 ghost use Rattle.region_rule.specs.Reads.{Reads, ShowsIn, RefusedIn};
@@ -28,7 +28,7 @@ impl Model for Reading {
     ghost use Rattle.std.specs.Prelude.{◌≡◌, []};
     ghost use Rattle.region_core.specs.declared.mode.Mode.TheVariants.{Idle};
     ghost use Rattle.region_rule.specs.declared.view.Role.TheVariants.{Numbered};
-    ghost use Rattle.region_rule.specs.Places.{token_of};
+    ghost use Rattle.region_rule.specs.Seats.{token_of};
     ghost use Rattle.region_rule.specs.Calls.{Opened};
 
     ghost Value = { Opened };
@@ -41,7 +41,7 @@ impl Model for Reading {
 impl<S: Shape> Region<S> {
     /// Begins a reading: a load of generation 2.
     pub fn start_read(&self, pass: Pass) -> Reading
-        requires here { pass.place ≡ self.now }
+        requires here { pass.region ≡ self.now }
         ensures reads { Extends S.shaping pass.view (Load 2) result.first result.token.view }
         ensures stays { IsSame pass result.token }
     {
@@ -58,7 +58,7 @@ impl<S: Shape> Region<S> {
 impl Reading {
     /// Loads an image word.
     pub fn word<S: Shape>(&mut self, region: &Region<S>, index: u32) -> u64
-        requires here { self.old.token.place ≡ region.now }
+        requires here { self.old.token.region ≡ region.now }
         requires below { index < length region.now.words }
         ensures reads { Extends S.shaping self.old.token.view (Load index) result self.new.token.view }
         ensures first { self.new.first ≡ self.old.first }
@@ -70,7 +70,7 @@ impl Reading {
     /// Ends the reading by a load of generation 1. `Stable` comes exactly where the two loaded numbers are equal: the words
     /// loaded between are then of one layout. `Again` carries both where they differ.
     pub fn end<S: Shape>(self, region: &Region<S>) -> (Pass, Result<Stable, Again>)
-        requires here { self.token.place ≡ region.now }
+        requires here { self.token.region ≡ region.now }
         ensures reads { (last : ℕ) × Extends S.shaping self.token.view (Load 1) last result.0.view × MatchResult
             result.1
             (λ stable. (stable.generation ≡ self.first) × (last ≡ self.first))
@@ -96,9 +96,9 @@ impl Reading {
 
     /// A note of what the reading has seen.
     pub fn note<S: Shape>(&mut self, region: &Region<S>) -> Note
-        requires here { self.old.token.place ≡ region.now }
+        requires here { self.old.token.region ≡ region.now }
         ensures same { self.new ≡ self.old }
-        ensures note { (result.place ≡ self.old.token.place) × (result.view ≡ note_of self.old.token.view) }
+        ensures note { (result.region ≡ self.old.token.region) × (result.view ≡ note_of self.old.token.view) }
     {
         Note {
             seat: region.note_seat(&mut self.seat),
@@ -107,8 +107,8 @@ impl Reading {
 
     /// Takes the longer of what the reading and the note have seen.
     pub fn learn<S: Shape>(&mut self, region: &Region<S>, note: Note)
-        requires here { self.old.token.place ≡ region.now }
-        requires note { note.place ≡ region.now }
+        requires here { self.old.token.region ≡ region.now }
+        requires note { note.region ≡ region.now }
         ensures learns { Learns S.shaping self.old.token.view note.view self.new.token.view }
         ensures first { self.new.first ≡ self.old.first }
         ensures stays { IsSame self.old.token self.new.token }

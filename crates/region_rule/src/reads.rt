@@ -1,6 +1,6 @@
 //! Reads of all words.
 ghost use Rattle.std.specs.Prelude.{◌≡◌, MatchResult, length};
-ghost use Rattle.region_rule.specs.Places.{IsSeatOf, IsSame};
+ghost use Rattle.region_rule.specs.Seats.{IsSeatOf, IsSame};
 ghost use Rattle.region_rule.specs.Reads.{Reads, numbered_from, ReadsImage, ReadsNot, ReadsInside};
 
 use crate::fault::{NoMemory, ReadFault};
@@ -32,7 +32,7 @@ impl<S: Shape> Region<S> {
     /// Reads all words: generation 2, each word by rising index, and generation 1. `Ok` comes exactly where the two numbers
     /// are equal, and the words are then an image of one layout; `Again` carries both numbers where they differ.
     pub fn read_words(&self, alloc: Global, pass: &mut Pass) -> Result<Vec<u64>, ReadFault>
-        requires here { pass.old.place ≡ self.now }
+        requires here { pass.old.region ≡ self.now }
         ensures reads { MatchResult
             result
             (λ words. ReadsImage S.shaping pass.old.view words.items pass.new.view)
@@ -58,7 +58,7 @@ impl Stint {
         region: &Region<S>,
         alloc: Global,
     ) -> Result<Vec<u64>, NoMemory>
-        requires here { self.old.place ≡ region.now }
+        requires here { self.old.region ≡ region.now }
         ensures reads { MatchResult result (λ words. ReadsInside S.shaping self.old.view words.items self.new.view) (λ _. self.new ≡ self.old) }
         ensures stays { IsSame self.old self.new }
     {

@@ -2,7 +2,7 @@
 ghost use Rattle.std.specs.Prelude.{◌≡◌, ◌+◌, ◌-◌, ◌<◌, ◌≤◌, [], ◌∷◌, ◌++◌, length, slice_index, IfOk, MatchResult};
 ghost use Rattle.std.specs.Slots.{slots_items, slots_len, IsFull};
 ghost use Rattle.region_core.specs.State.{with_zeros};
-ghost use Rattle.region_rule.specs.Views.{fresh_view, waiting};
+ghost use Rattle.region_rule.specs.Views.{fresh_view, numbers_from};
 ghost use Rattle.region_rule.specs.Calls.{Opens, OpensNot, Closes, fresh_from};
 
 use crate::fault::{NoMemory, OpenFault};
@@ -23,9 +23,9 @@ pub struct Region<S: Shape> {
 impl<S: Shape> Model for Region<S> {
     ghost use Rattle.std.specs.Prelude.{◌≡◌, ◌+◌, ◌<◌, All, length};
     ghost use Rattle.region_core.specs.Shape.{IsWord};
-    ghost use Rattle.region_rule.specs.Places.{Place};
+    ghost use Rattle.region_rule.specs.Seats.{MadeRegion};
 
-    ghost Value = { Place };
+    ghost Value = { MadeRegion };
 
     ghost view = { λ r. record { table = r.table.shared.table_id; words = r.table.shared.key.words.items; passes = r.table.shared.key.passes } };
 
@@ -34,7 +34,7 @@ impl<S: Shape> Model for Region<S> {
 
 impl<S: Shape> Region<S> {
     fn into_table(self) -> Table<(), View, Opening, Rule<S>, Global>
-        ensures place { (result.shared.table_id ≡ self.table) × (result.shared.key.words.items ≡ self.words) × (result.shared.key.passes ≡ self.passes) }
+        ensures region { (result.shared.table_id ≡ self.table) × (result.shared.key.words.items ≡ self.words) × (result.shared.key.passes ≡ self.passes) }
         ensures counts { (result.shared.table_id.words ≡ length self.words + 1) × (result.shared.table_id.slots ≡ 0) }
     {
         let Self { table, capacity: _ } = self;
@@ -116,7 +116,7 @@ impl<S: Shape> Region<S> {
         requires image { S.shaping.IsImage image.now }
         requires fits { (length image.now ≤ capacity) × (capacity ≤ 65536) }
         requires passes { (0 < passes) × (passes ≤ 256) }
-        ensures { IfOk result (λ made. (made.0.words ≡ with_zeros image.now capacity) × (made.0.passes ≡ passes) × (made.1.table_id ≡ made.0.table) × (made.1.me ≡ (fresh_view made.0.words passes 0 (waiting 1 (passes - 1)), []))) }
+        ensures { IfOk result (λ made. (made.0.words ≡ with_zeros image.now capacity) × (made.0.passes ≡ passes) × (made.1.table_id ≡ made.0.table) × (made.1.me ≡ (fresh_view made.0.words passes 0 (numbers_from 1 (passes - 1)), []))) }
     {
         padding_keeps_the_form::<S>();
         let words = padded(alloc, image, capacity)?;
@@ -134,7 +134,7 @@ impl<S: Shape> Region<S> {
         passes: u32,
     ) -> Result<Vec<Pass>, AllocError>
         requires passes { (0 < passes) × (passes ≡ self.now.passes) }
-        requires first { (first.table_id ≡ self.now.table) × (first.me ≡ (fresh_view self.now.words passes 0 (waiting 1 (passes - 1)), [])) }
+        requires first { (first.table_id ≡ self.now.table) × (first.me ≡ (fresh_view self.now.words passes 0 (numbers_from 1 (passes - 1)), [])) }
         ensures { IfOk result (λ given. given.items ≡ fresh_from self.now 0 passes) }
     {
         let mut given = Vec::with_capacity(alloc, passes as usize)?;
@@ -160,7 +160,7 @@ impl<S: Shape> Region<S> {
     /// Ends the region, and gives its words: those of the last state of a legal journal that begins with all that the pass
     /// has seen, and in which neither the pass nor one that it gathered has a further entry.
     pub fn close(self, alloc: Global, pass: Pass) -> Result<Vec<u64>, (Region<S>, Pass, NoMemory)>
-        requires here { pass.place ≡ self }
+        requires here { pass.region ≡ self }
         ensures { MatchResult result (λ words. Closes S.shaping pass.view words.items) (λ kept. (kept.0 ≡ self) × (kept.1 ≡ pass)) }
     {
         let Ok(mut words) = Vec::from_elem(alloc, 0u64, self.capacity as usize) else {

@@ -1,8 +1,8 @@
 //! The rule over the table's words and all views, and what each kind of step tells the pass that takes it.
 ghost use Rattle.std.specs.Prelude.{◌-◌};
 ghost use Rattle.region_core.specs.declared.act.Act.TheVariants.{Load, Swap, Add, Enter, Leave, Take, Begin, Put, End, Free};
-ghost use Rattle.region_rule.specs.Tokens.{without, next_pass, note_of, spent_view, informed, gathered};
-ghost use Rattle.region_rule.specs.Places.{Tells, TellsView};
+ghost use Rattle.region_rule.specs.Tokens.{after_giving, next_pass, note_of, spent_view, after_learning, after_gathering};
+ghost use Rattle.region_rule.specs.Seats.{Tells, TellsView};
 
 use crate::view::{Opening, View};
 use atomic_table::{Join, Play, Split, TableRule};
@@ -15,9 +15,9 @@ pub struct Rule<S> {
 }
 
 impl<S: Shape> TableRule<(), View, Opening> for Rule<S> {
-    ghost use Rattle.region_rule.specs.Views.{Kept, first_view};
+    ghost use Rattle.region_rule.specs.Views.{IsOneJournal, first_view};
 
-    ghost holds = { λ key s. Kept S.shaping key.words.items key.passes s.words s.views };
+    ghost holds = { λ key s. IsOneJournal S.shaping key.words.items key.passes s.words s.views };
 
     ghost first = { λ key. first_view key.words.items key.passes };
 }
@@ -115,7 +115,7 @@ impl<S: Shape> Play<(), View> for Looks<S> {
 pub(crate) struct Give;
 
 impl Split<View> for Give {
-    ghost left = { without };
+    ghost left = { after_giving };
 
     ghost right = { next_pass };
 }
@@ -133,7 +133,7 @@ impl Split<View> for Noting {
 pub(crate) struct Learn;
 
 impl Join<View> for Learn {
-    ghost both = { informed };
+    ghost both = { after_learning };
 
     ghost spent = { spent_view };
 }
@@ -142,7 +142,7 @@ impl Join<View> for Learn {
 pub(crate) struct Gather;
 
 impl Join<View> for Gather {
-    ghost both = { gathered };
+    ghost both = { after_gathering };
 
     ghost spent = { spent_view };
 }

@@ -5,7 +5,7 @@ ghost use Rattle.region_core.specs.declared.act.Act.TheVariants.{Load, Swap, Add
 ghost use Rattle.region_core.specs.Shape.{IsWord};
 ghost use Rattle.region_core.specs.State.{g1, g2, IsStable};
 ghost use Rattle.region_rule.specs.Views.{now};
-ghost use Rattle.region_rule.specs.Places.{IsSeatOf, Tells, TellsView};
+ghost use Rattle.region_rule.specs.Seats.{IsSeatOf, Tells, TellsView};
 
 use crate::region::Region;
 use crate::rule::{Adds, Begins, Ends, Enters, Frees, Leaves, Loads, Looks, Puts, Swaps, Takes};

@@ -3,7 +3,7 @@ ghost use Rattle.std.specs.Prelude.{◌≡◌, ◌<◌, MatchResult, length};
 ghost use Rattle.region_core.specs.declared.act.Act.TheVariants.{Swap, Add};
 ghost use Rattle.region_rule.specs.Steps.{Extends};
 ghost use Rattle.region_rule.specs.Tokens.{note_of};
-ghost use Rattle.region_rule.specs.Places.{IsSame};
+ghost use Rattle.region_rule.specs.Seats.{IsSame};
 ghost use Rattle.region_rule.specs.Calls.{Attaches, Bounces, Detaches, KeepsForm, TakesValue, TakesAll, Learns};
 
 use crate::fault::Changing;
@@ -29,7 +29,7 @@ impl Model for Stint {
     ghost use Rattle.region_core.specs.State.{IsIn};
     ghost use Rattle.region_core.specs.Journal.{own};
     ghost use Rattle.region_rule.specs.Views.{now};
-    ghost use Rattle.region_rule.specs.Places.{Token, token_of};
+    ghost use Rattle.region_rule.specs.Seats.{Token, token_of};
 
     ghost Value = { Token };
 
@@ -41,7 +41,7 @@ impl Model for Stint {
 impl<S: Shape> Region<S> {
     /// Adds 1 to the gate. `Changing` comes exactly where the word before had the change bit; the 1 is then taken back.
     pub fn attach(&self, pass: Pass) -> Result<Stint, (Pass, Changing)>
-        requires here { pass.place ≡ self.now }
+        requires here { pass.region ≡ self.now }
         ensures attaches { MatchResult
             result
             (λ stint. Attaches S.shaping pass.view stint.view)
@@ -62,7 +62,7 @@ impl Stint {
     /// Swaps a value word, and answers the word before. The form of what the stint has seen must let the word take the value:
     /// while a stint lives it is the region's form.
     pub fn swap<S: Shape>(&mut self, region: &Region<S>, word: u32, value: u64) -> u64
-        requires here { self.old.place ≡ region.now }
+        requires here { self.old.region ≡ region.now }
         requires below { word < length region.now.words }
         requires takes { TakesValue S.shaping self.old.view word value }
         ensures swaps { Extends S.shaping self.old.view (Swap word value) result self.new.view }
@@ -74,7 +74,7 @@ impl Stint {
 
     /// Adds to a number word, modulo 2^64, and answers the word before.
     pub fn add<S: Shape>(&mut self, region: &Region<S>, word: u32, delta: u64) -> u64
-        requires here { self.old.place ≡ region.now }
+        requires here { self.old.region ≡ region.now }
         requires below { word < length region.now.words }
         requires takes { TakesAll S.shaping self.old.view word }
         ensures adds { Extends S.shaping self.old.view (Add word delta) result self.new.view }
@@ -86,7 +86,7 @@ impl Stint {
 
     /// Takes its 1 from the gate.
     pub fn detach<S: Shape>(self, region: &Region<S>) -> Pass
-        requires here { self.place ≡ region.now }
+        requires here { self.region ≡ region.now }
         ensures detaches { Detaches S.shaping self.view result.view }
         ensures stays { IsSame self result }
     {
@@ -97,9 +97,9 @@ impl Stint {
 
     /// A note of what the stint has seen.
     pub fn note<S: Shape>(&mut self, region: &Region<S>) -> Note
-        requires here { self.old.place ≡ region.now }
+        requires here { self.old.region ≡ region.now }
         ensures same { self.new ≡ self.old }
-        ensures note { (result.place ≡ self.old.place) × (result.view ≡ note_of self.old.view) }
+        ensures note { (result.region ≡ self.old.region) × (result.view ≡ note_of self.old.view) }
     {
         Note {
             seat: region.note_seat(&mut self.seat),
@@ -108,8 +108,8 @@ impl Stint {
 
     /// Takes the longer of what the stint and the note have seen.
     pub fn learn<S: Shape>(&mut self, region: &Region<S>, note: Note)
-        requires here { self.old.place ≡ region.now }
-        requires note { note.place ≡ region.now }
+        requires here { self.old.region ≡ region.now }
+        requires note { note.region ≡ region.now }
         ensures learns { Learns S.shaping self.old.view note.view self.new.view }
         ensures form { KeepsForm S.shaping self.old.view self.new.view }
         ensures stays { IsSame self.old self.new }

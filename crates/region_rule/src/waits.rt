@@ -1,6 +1,6 @@
 //! The calls that wait. Each ensures what it says if it returns.
 ghost use Rattle.std.specs.Prelude.{◌≡◌, MatchResult, length};
-ghost use Rattle.region_rule.specs.Places.{IsSame};
+ghost use Rattle.region_rule.specs.Seats.{IsSame};
 ghost use Rattle.region_rule.specs.Waits.{AttachesAtLast, StartsAtLast, FailsAtLast};
 
 use crate::change::Change;
@@ -15,7 +15,7 @@ use std::thread;
 impl<S: Shape> Region<S> {
     /// Attaches, and tries again while a pass is changing the layout.
     pub fn attach_wait<R: Wait>(&self, rt: &R, pass: Pass) -> Stint
-        requires here { pass.place ≡ self.now }
+        requires here { pass.region ≡ self.now }
         ensures attaches { AttachesAtLast S.shaping pass.view result.view }
         ensures stays { IsSame pass result }
     {
@@ -38,7 +38,7 @@ impl<S: Shape> Region<S> {
         image: Vec<u64>,
         moment: u64,
     ) -> Result<Change<S>, (Pass, Vec<u64>, ChangeFault)>
-        requires here { pass.place ≡ self.now }
+        requires here { pass.region ≡ self.now }
         requires image { S.shaping.IsImage image.items }
         ensures begins { MatchResult
             result

@@ -4,7 +4,7 @@ use Rattle.region_core.specs.declared.act.Act.{Act}
 use Rattle.region_core.specs.declared.act.Act.TheVariants.{Load, Swap, Add, Enter, Leave, Take, Begin, Put, End, Free}
 use Rattle.region_core.specs.declared.act.Entry.{Entry}
 use Rattle.region_core.specs.Journal.{IsJournal}
-use Rattle.region_core.specs.Slate.{slate}
+use Rattle.region_slate.specs.Slate.{slate}
 
 -- one counter at 7, generation 5, and the text word at the first string
 abbrev pub one_counter : List ℕ

@@ -1,25 +1,14 @@
-//! A toy layout, by which the laws are seen to be possible, and journals of it that are legal and that are not. A slate has its
-//! number of counters in word 0, the generation in words 1 and 2, the counters, and one text word, which holds the offset of
-//! one of two strings, 64 or 128. Each law about a journal is the contract of a function that does nothing.
+//! A toy layout for tests of regions: by it their laws are seen to be possible, and journals of it are legal or not. A slate has
+//! its number of counters in word 0, the generation in words 1 and 2, the counters, and one text word, which holds the offset of
+//! one of two strings, 64 or 128. Each law about a journal is the contract of a function that does nothing. That the layout keeps
+//! the laws of a shape is a lemma, which a crate above cites where it gives a type this layout.
+#![tactic(auto)]
 
 ghost use Rattle.std.specs.Prelude.{[], ◌∷◌};
-ghost use Rattle.region_core.specs.Slate.{slate};
+ghost use Rattle.region_slate.specs.Slate.{slate};
 ghost use Rattle.region_core.specs.State.{opening};
 ghost use Rattle.region_core.specs.Readings.{Shown, IsAgain, Missed};
-ghost use Rattle.region_core.specs.SlateJournals.{one_counter, IsLegalSlate, IsIllegalSlate, whole_day, busy_day, generation_kept, end_first, put_first, taken_over, text_added, text_lost, image_lost};
-
-use crate::shape::Shape;
-
-/// The toy layout.
-pub struct Slate;
-
-impl Shape for Slate {
-    ghost use Rattle.region_core.specs.Slate.{slate, slate_laws};
-
-    ghost shaping = { slate };
-
-    ghost laws = { slate_laws };
-}
+ghost use Rattle.region_slate.specs.Journals.{one_counter, IsLegalSlate, IsIllegalSlate, whole_day, busy_day, generation_kept, end_first, put_first, taken_over, text_added, text_lost, image_lost};
 
 /// A legal journal: a change with a bounced pass beside it, readings before, across and after it, an add and a swap.
 pub fn whole_day_is_legal()

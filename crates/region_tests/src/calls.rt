@@ -1,9 +1,11 @@
+//! The calls of passes, one after another: each answer, and the words that it leaves.
+
 ghost use Rattle.std.specs.Prelude.{◌≡◌, length};
 
-use crate::{
+use crate::Slate;
+use region_rule::{
     Again, ChangeFault, Changing, Note, OpenFault, Pass, ReadFault, Reading, Region, Stable, Stint,
 };
-use region_core::slate::Slate;
 use std::alloc::Global;
 use std::process::Abort;
 
@@ -13,7 +15,7 @@ const ONE_COUNTER: [u64; 5] = [1, 5, 5, 7, 64];
 // A region of the slate above and its three passes.
 fn make_three(rt: &impl Abort, alloc: Global) -> (Region<Slate>, Pass, Pass, Pass)
     ensures words { length result.0.words ≡ 5 }
-    ensures places { (result.1.place ≡ result.0) × (result.2.place ≡ result.0) × (result.3.place ≡ result.0) }
+    ensures regions { (result.1.region ≡ result.0) × (result.2.region ≡ result.0) × (result.3.region ≡ result.0) }
 {
     match Region::make(alloc, &ONE_COUNTER, 5, 3) {
         Ok((region, mut passes)) => {
@@ -34,9 +36,9 @@ fn add_to_counter(
     stint: &mut Stint,
     number: u64,
 ) -> u64
-    requires here { stint.old.place ≡ region.now }
+    requires here { stint.old.region ≡ region.now }
     requires words { length region.now.words ≡ 5 }
-    ensures { stint.new.place ≡ region.now }
+    ensures { stint.new.region ≡ region.now }
 {
     match stint.words(region, alloc) {
         Ok(words) => {

@@ -1,9 +1,8 @@
-use crate::act::{Act, Entry};
-use crate::event::Event;
-use crate::laws;
-use crate::mode::Mode;
-use crate::slate::{self, Slate};
-use crate::state::{Stop, replay};
+//! Journals as data: where a replay ends or stops, and the laws at the toy layout.
+
+use crate::Slate;
+use region_core::{self as laws, Act, Entry, Event, Mode, Stop, replay};
+use region_slate as slate;
 use std::alloc::Global;
 use std::process::Abort;
 use std::test::Fail;
@@ -38,11 +37,11 @@ fn check_end(
     }
 }
 
-// The journal stops at this place.
-fn check_stop(rt: &impl Abort, alloc: Global, words: &[u64], log: &[Entry], place: usize) {
+// The journal stops at this position.
+fn check_stop(rt: &impl Abort, alloc: Global, words: &[u64], log: &[Entry], position: usize) {
     match replay(alloc, words, 3, log) {
-        Ok(_) => assert_eq!(rt; place, log.len(), "no entry is refused"),
-        Err(stop) => assert_eq!(rt; stop, Stop::NotOpen(place)),
+        Ok(_) => assert_eq!(rt; position, log.len(), "no entry is refused"),
+        Err(stop) => assert_eq!(rt; stop, Stop::NotOpen(position)),
     }
 }
 

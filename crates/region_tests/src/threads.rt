@@ -1,8 +1,10 @@
+//! Threads that really run beside each other: two writers, one that changes the layout, and a reader.
+
 ghost use Rattle.std.specs.Prelude.{◌≡◌, length, slice_index};
 ghost use Rattle.region_rule.specs.Views.{now};
 
-use crate::{Pass, ReadFault, Region, Stint};
-use region_core::slate::Slate;
+use crate::Slate;
+use region_rule::{Pass, ReadFault, Region, Stint};
 use std::alloc::Global;
 use std::sync::Wait;
 use std::thread::{self, join};
@@ -31,10 +33,10 @@ struct Tally {
 
 // Adds 1 as often to the counter, and gives the sum of the words found.
 fn add_ones(region: &Region<Slate>, stint: &mut Stint, times: u64) -> u64
-    requires here { stint.old.place ≡ region.now }
+    requires here { stint.old.region ≡ region.now }
     requires words { length region.now.words ≡ 5 }
     requires counter { slice_index (now stint.old.view).words 0 ≡ 1 }
-    ensures { stint.new.place ≡ region.now }
+    ensures { stint.new.region ≡ region.now }
 {
     let mut sum = 0u64;
     for _ in 0..times {
@@ -45,7 +47,7 @@ fn add_ones(region: &Region<Slate>, stint: &mut Stint, times: u64) -> u64
 
 // Adds in many stints.
 fn write<R: Wait>(rt: &R, alloc: Global, region: &Region<Slate>, pass: Pass) -> Option<Tally>
-    requires here { pass.place ≡ region.now }
+    requires here { pass.region ≡ region.now }
     requires words { length region.now.words ≡ 5 }
 {
     let mut counts = Vec::from_elem(alloc, 0u64, LAYOUTS).ok()?;
@@ -72,7 +74,7 @@ fn write<R: Wait>(rt: &R, alloc: Global, region: &Region<Slate>, pass: Pass) -> 
 
 // Lays the region anew, with the counter at 0, once for each further generation.
 fn relay<R: Wait>(rt: &R, alloc: Global, region: &Region<Slate>, pass: Pass) -> Option<()>
-    requires here { pass.place ≡ region.now }
+    requires here { pass.region ≡ region.now }
     requires words { length region.now.words ≡ 5 }
 {
     let mut pass = pass;
@@ -93,7 +95,7 @@ fn relay<R: Wait>(rt: &R, alloc: Global, region: &Region<Slate>, pass: Pass) -> 
 
 // Reads the region, and says how many readings were stable; `None` where one of them was of two layouts.
 fn read(alloc: Global, region: &Region<Slate>, pass: Pass) -> Option<u64>
-    requires here { pass.place ≡ region.now }
+    requires here { pass.region ≡ region.now }
     requires words { length region.now.words ≡ 5 }
 {
     let mut pass = pass;
@@ -143,28 +145,28 @@ fn two_writers_a_changer_and_a_reader_lose_no_add(rt: HostRuntime) {
     let ((one, two), (laid, stable)) = join(
         &rt,
         || -> (Option<Tally>, Option<Tally>)
-            requires { (first.place ≡ region) × (second.place ≡ region) × (length region.words ≡ 5) }
+            requires { (first.region ≡ region) × (second.region ≡ region) × (length region.words ≡ 5) }
         {
             join(
                 &rt,
                 || -> Option<Tally>
-                    requires { (first.place ≡ region) × (length region.words ≡ 5) }
+                    requires { (first.region ≡ region) × (length region.words ≡ 5) }
                 { write(&rt, alloc, &region, first) },
                 || -> Option<Tally>
-                    requires { (second.place ≡ region) × (length region.words ≡ 5) }
+                    requires { (second.region ≡ region) × (length region.words ≡ 5) }
                 { write(&rt, alloc, &region, second) },
             )
         },
         || -> (Option<()>, Option<u64>)
-            requires { (third.place ≡ region) × (fourth.place ≡ region) × (length region.words ≡ 5) }
+            requires { (third.region ≡ region) × (fourth.region ≡ region) × (length region.words ≡ 5) }
         {
             join(
                 &rt,
                 || -> Option<()>
-                    requires { (third.place ≡ region) × (length region.words ≡ 5) }
+                    requires { (third.region ≡ region) × (length region.words ≡ 5) }
                 { relay(&rt, alloc, &region, third) },
                 || -> Option<u64>
-                    requires { (fourth.place ≡ region) × (length region.words ≡ 5) }
+                    requires { (fourth.region ≡ region) × (length region.words ≡ 5) }
                 { read(alloc, &region, fourth) },
             )
         },

@@ -1,10 +1,11 @@
 use Rattle.std.proofs.Common.{rules, zero, suc, [], ◌∷◌, All, refl, arith}
-use Rattle.region_core.specs.Slate.{slate, slate_laws}
-use Rattle.region_core.specs.SlateJournals.{one_counter, whole_day, IsLegalSlate}
+use Rattle.region_slate.specs.Slate.{slate}
+use Rattle.region_slate.proofs.SlateLaws.{slate_laws}
+use Rattle.region_slate.specs.Journals.{one_counter, whole_day, IsLegalSlate}
 use Rattle.region_core.specs.State.{opening}
 use Rattle.region_core.specs.Readings.{IsFoundBetween}
 use Rattle.region_core.proofs.Positions.{layout_at}
-use Rattle.region_core.proofs.slate.reading_after_is_shown.Goals as goal
+use Rattle.region_slate.proofs.reading_after_is_shown.Goals as goal
 
 legal : IsLegalSlate whole_day
 legal = search rules

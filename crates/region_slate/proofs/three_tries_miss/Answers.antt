@@ -1,8 +1,8 @@
 use Rattle.std.proofs.Common.{◌+◌, refl, arith}
 use Rattle.region_core.specs.State.{opening}
 use Rattle.region_core.specs.Readings.{IsAgainBetween}
-use Rattle.region_core.specs.SlateJournals.{one_counter, busy_day}
-use Rattle.region_core.proofs.slate.three_tries_miss.Goals as goal
+use Rattle.region_slate.specs.Journals.{one_counter, busy_day}
+use Rattle.region_slate.proofs.three_tries_miss.Goals as goal
 
 again_0 : IsAgainBetween (opening one_counter 3) busy_day 0 2 5 6 0 3
 again_0 = record { since = omega arith; order = omega arith; opens = refl; closes = refl; first_is = refl; last_is = refl; differ = λ e. omega arith }

@@ -1,5 +1,5 @@
 use Rattle.std.proofs.Common.{◌≡◌}
-use Rattle.region_rule.proofs.thread_tests.read.Given as goal
+use Rattle.region_tests.proofs.threads.read.Given as goal
 
 abbrev pub invariant-loop : goal.invariant-loop
-invariant-loop l = l.pass.place ≡ l.initial.pass.place
+invariant-loop l = l.pass.region ≡ l.initial.pass.region

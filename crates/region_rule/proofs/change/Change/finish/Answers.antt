@@ -10,7 +10,7 @@ loop-change-preserved g c =
     let i = c.loop-change.invariant in
     let e = c.step.ensures in
     let some_left : 0 < left_of old = omega (arith, c.loop-change-test.true, c.left.ensures) in (
-      e.stays.place ∙ i.0,
+      e.stays.region ∙ i.0,
       e.stays.number ∙ i.1,
       e.stores.generation ∙ i.2,
       continues_step g.S.Shape.shaping c.args.self old new some_left e.stores i.3,

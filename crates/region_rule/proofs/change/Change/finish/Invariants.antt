@@ -4,7 +4,7 @@ use Rattle.region_rule.proofs.Finishing.{Continues}
 use Rattle.region_rule.proofs.change.Change.finish.Given as goal
 
 abbrev pub invariant-loop-change : goal.invariant-loop-change
-invariant-loop-change g l = (l.change.token.place ≡ l.initial.change.token.place) × (l.change.token.view.number ≡ l.initial.change.token.view.number)
+invariant-loop-change g l = (l.change.token.region ≡ l.initial.change.token.region) × (l.change.token.view.number ≡ l.initial.change.token.view.number)
     × (l.change.generation ≡ l.initial.change.generation) × Continues g.S.Shape.shaping l.initial.change l.change
 
 abbrev pub decreases-loop-change : goal.decreases-loop-change

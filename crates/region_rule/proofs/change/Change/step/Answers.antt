@@ -21,5 +21,5 @@ invariant_of-self g c =
       tells.1 ∙ c.self.invariant.0,
       ap (λ (x : View). x.role) tells.0.is ∙ c.self.invariant.1,
       c.self.invariant.2 ∙ sym (ap (λ (x : View). x.number) tells.0.is),
-      subst (λ (k : ℕ). UnderWay S w r.image.items k r.generation) (sym c.place_after-self-inside.ensures) (put_under S laws v w r.image.items r.next r.generation c.word_at-value.result u e below),
+      subst (λ (k : ℕ). UnderWay S w r.image.items k r.generation) (sym c.index_after-self-inside.ensures) (put_under S laws v w r.image.items r.next r.generation c.word_at-value.result u e below),
     )

@@ -7,7 +7,7 @@ loop-preserved g c =
     let e = c.in-Err.ensures in (
       tt,
       tt,
-      e.stays.place ∙ i.2,
+      e.stays.region ∙ i.2,
       e.stays.number ∙ i.3,
       (suc i.4.0, (c.loop.waiting.view, _, i.4.1, e.attaches)),
     )

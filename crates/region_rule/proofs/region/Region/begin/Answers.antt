@@ -1,7 +1,7 @@
 use Rattle.std.proofs.Common.{◌≡◌, sym, ap, ◌∙◌, arith}
 use Rattle.region_core.specs.declared.act.Act.TheVariants.{Begin}
-use Rattle.region_rule.specs.Places.{Place, place_of}
-use Rattle.region_rule.proofs.Acts.{at_place, begins}
+use Rattle.region_rule.specs.Seats.{MadeRegion, region_of}
+use Rattle.region_rule.proofs.Acts.{at_cell, begins}
 use Rattle.region_rule.proofs.region.Region.begin.Goals as goal
 
 pub store-requires : goal.store-requires
@@ -10,14 +10,14 @@ store-requires g c =
     let laws = g.S.Shape.laws in
     let r = c.self.inside in
     let v = c.args.seat.now.me.0 in
-    let place : Place = record { table = r.table.shared.table_id; words = r.table.shared.key.words.items; passes = r.table.shared.key.passes } in
-    let is : place_of c.args.seat.now ≡ place = c.requires.here.is ∙ sym c.self.view_is in
-    let start : v.start ≡ place.words = ap (λ (p : Place). p.words) is in
+    let region : MadeRegion = record { table = r.table.shared.table_id; words = r.table.shared.key.words.items; passes = r.table.shared.key.passes } in
+    let is : region_of c.args.seat.now ≡ region = c.requires.here.is ∙ sym c.self.view_is in
+    let start : v.start ≡ region.words = ap (λ (p : MadeRegion). p.words) is in
     let count = c.self.invariant.0 in
     let capacity = c.self.invariant.1 in
     let some_of = c.self.invariant.2 in (
-      ap (λ (p : Place). p.table) is,
+      ap (λ (p : MadeRegion). p.table) is,
       omega arith,
-      at_place S laws place.words place.passes v c.args.seat.now.me.1 (Begin c.args.generation) 2 (λ _. c.args.generation) (λ _. c.args.generation) place.table.slots c.args.seat.now.id start (ap (λ (p : Place). p.passes) is) c.requires.here.named
+      at_cell S laws region.words region.passes v c.args.seat.now.me.1 (Begin c.args.generation) 2 (λ _. c.args.generation) (λ _. c.args.generation) region.table.slots c.args.seat.now.id start (ap (λ (p : MadeRegion). p.passes) is) c.requires.here.named
           (begins S laws v c.args.generation c.requires.changing c.requires.stable c.requires.above c.ranges.generation.fits),
     )

@@ -1,7 +1,7 @@
 use Rattle.std.proofs.Common.{◌≡◌, ◌<◌, ◌≤◌, ℕ, List, All, length, sym, ap, ◌∙◌, subst, arith}
 use Rattle.region_core.specs.Shape.{IsWord}
 use Rattle.region_rule.specs.declared.view.View.{View}
-use Rattle.region_rule.specs.Places.{Place, Token}
+use Rattle.region_rule.specs.Seats.{MadeRegion, Token}
 use Rattle.region_rule.proofs.Relaying.{loaded_stable, begun_under}
 use Rattle.region_rule.proofs.region.Region.begin_change.Goals as goal
 
@@ -32,8 +32,8 @@ invariant_of-result-2 g c =
     let begin = c.begin.ensures.tells in
     let l = loaded_stable g.S.Shape.shaping g.S.Shape.laws v u x c.take-gate.result c.load_first-generation.result c.if-gate-ne0.false take.0 c.pass.invariant.2 load.0 in
     let key : List ℕ = c.self.inside.table.shared.key.words.items in
-    let start : x.start ≡ key = ap (λ (z : View). z.start) load.0.is ∙ ap (λ (z : View). z.start) take.0.is ∙ ap (λ (t : Token). t.place.words) c.pass.view_is ∙ ap (λ (p : Place). p.words) c.requires.here
-    ∙ sym (ap (λ (p : Place). p.words) c.self.view_is) in
+    let start : x.start ≡ key = ap (λ (z : View). z.start) load.0.is ∙ ap (λ (z : View). z.start) take.0.is ∙ ap (λ (t : Token). t.region.words) c.pass.view_is ∙ ap (λ (p : MadeRegion). p.words) c.requires.here
+    ∙ sym (ap (λ (p : MadeRegion). p.words) c.self.view_is) in
     let count = c.self.invariant.1 in
     let room : length c.args.image.items ≤ length key = omega (arith, c.len.ensures, c.if-len-self.false) in (
       begin.1 ∙ load.1 ∙ take.1 ∙ c.pass.invariant.0,

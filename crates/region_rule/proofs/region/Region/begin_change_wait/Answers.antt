@@ -11,7 +11,7 @@ loop-preserved g c =
     let fails = subst (λ (fault : ChangeFault). Fails g.S.Shape.shaping c.loop.waiting.view (length c.args.self.now.words) c.loop.kept.items c.in-Err-default-default-Busy.back.view fault) c.in-Err-default-default-Busy.field-0-2-is begins in (
       tt,
       tt,
-      e.stays.0.place ∙ i.2,
+      e.stays.0.region ∙ i.2,
       e.stays.0.number ∙ i.3,
       e.stays.1 ∙ i.4,
       (suc i.5.0, (c.loop.waiting.view, c.in-Err-default-default-Busy.field-0-2-0, i.5.1, fails.1, fails.2)),

@@ -1,7 +1,7 @@
 use Rattle.std.proofs.Common.{◌≡◌, ◌+◌, ◌<◌, ℕ, List, [], ◌∷◌, ◌++◌, length, set, take, length-set, length-take, sym, ap, ◌∙◌, subst, arith}
 use Rattle.std.proofs.lemmas.List.{take_more_set}
 use Rattle.region_rule.specs.declared.view.View.{View}
-use Rattle.region_rule.specs.Places.{Place, place_of}
+use Rattle.region_rule.specs.Seats.{MadeRegion, region_of}
 use Rattle.region_rule.specs.Reads.{Reads, numbered_from}
 use Rattle.region_rule.proofs.Showing.{reads_more, numbered_more}
 use Rattle.region_rule.proofs.region.Region.load_all.Goals as goal
@@ -18,17 +18,17 @@ loop-index-preserved g c =
     let inv = c.loop-index.invariant in
     let e = c.load-found.ensures.tells in
     let capacity = c.self.invariant.1 in
-    let long : length words ≡ length c.self.inside.table.shared.key.words.items = inv.1 ∙ c.requires.wide ∙ sym (ap (λ (p : Place). length p.words) c.self.view_is) in
+    let long : length words ≡ length c.self.inside.table.shared.key.words.items = inv.1 ∙ c.requires.wide ∙ sym (ap (λ (p : MadeRegion). length p.words) c.self.view_is) in
     let below : i < length words = omega (arith, c.loop-index-test.true) in
     let wide = length-set words i x in
     let front : length (take i words) ≡ i = length-take i words ∙ omega arith in
     let numbers : numbered_from 0 (take (i + 1) (set words i x)) ≡ numbered_from 0 (take i words) ++ (i, x) ∷ [] =
     ap (λ (xs : List ℕ). numbered_from 0 xs) (take_more_set words i x below) ∙ numbered_more 0 (take i words) x ∙ ap (λ (k : ℕ). numbered_from 0 (take i words) ++ (k, x) ∷ []) (omega arith) in
-    let place : place_of new ≡ place_of old = (λ k. record { table = c.load-found.ensures.table k; words = (e.0.is k).start; passes = (e.0.is k).passes }) in (
+    let region : region_of new ≡ region_of old = (λ k. record { table = c.load-found.ensures.table k; words = (e.0.is k).start; passes = (e.0.is k).passes }) in (
       omega arith,
       wide ∙ inv.1,
       subst (λ (found : List (ℕ × ℕ)). Reads S first.me.0 found new.me.0) (sym numbers) (reads_more S first.me.0 old.me.0 new.me.0 (numbered_from 0 (take i words)) i x inv.2 e.0),
-      record { is = place ∙ inv.3.is; named = ap (λ (v : View). v.role) e.0.is ∙ inv.3.named },
+      record { is = region ∙ inv.3.is; named = ap (λ (v : View). v.role) e.0.is ∙ inv.3.named },
       e.1 ∙ inv.4,
       ap (λ (v : View). v.number) e.0.is ∙ inv.5,
       ap (λ (v : View). v.mode) e.0.is ∙ inv.6,

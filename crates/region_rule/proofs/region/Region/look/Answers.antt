@@ -1,5 +1,5 @@
 use Rattle.std.proofs.Common.{◌≡◌, sym, ap, ◌∙◌, arith}
-use Rattle.region_rule.specs.Places.{Place, place_of}
+use Rattle.region_rule.specs.Seats.{MadeRegion, region_of}
 use Rattle.region_rule.proofs.Tokens.{looks}
 use Rattle.region_rule.proofs.region.Region.look.Goals as goal
 
@@ -9,13 +9,13 @@ load-requires g c =
     let laws = g.S.Shape.laws in
     let r = c.self.inside in
     let v = c.args.seat.now.me.0 in
-    let place : Place = record { table = r.table.shared.table_id; words = r.table.shared.key.words.items; passes = r.table.shared.key.passes } in
-    let is : place_of c.args.seat.now ≡ place = c.requires.here.is ∙ sym c.self.view_is in
-    let start : v.start ≡ place.words = ap (λ (p : Place). p.words) is in
+    let region : MadeRegion = record { table = r.table.shared.table_id; words = r.table.shared.key.words.items; passes = r.table.shared.key.passes } in
+    let is : region_of c.args.seat.now ≡ region = c.requires.here.is ∙ sym c.self.view_is in
+    let start : v.start ≡ region.words = ap (λ (p : MadeRegion). p.words) is in
     let count = c.self.invariant.0 in
     let capacity = c.self.invariant.1 in
     let some_of = c.self.invariant.2 in (
-      ap (λ (p : Place). p.table) is,
+      ap (λ (p : MadeRegion). p.table) is,
       omega arith,
-      looks S place.words place.passes place.table.slots c.args.seat.now.id v c.args.seat.now.me.1 c.requires.here.named,
+      looks S region.words region.passes region.table.slots c.args.seat.now.id v c.args.seat.now.me.1 c.requires.here.named,
     )

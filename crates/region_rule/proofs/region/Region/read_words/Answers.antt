@@ -1,5 +1,5 @@
 use Rattle.std.proofs.Common.{◌≡◌, ℕ, List, length, sym, ap, ◌∙◌, subst, arith}
-use Rattle.region_rule.specs.Places.{Place, Token}
+use Rattle.region_rule.specs.Seats.{MadeRegion, Token}
 use Rattle.region_rule.specs.Reads.{WholeReading, numbered_from, ReadsImage, ReadsAgain}
 use Rattle.region_rule.proofs.Showing.{disagrees, reads_image}
 use Rattle.region_rule.proofs.region.Region.read_words.Goals as goal
@@ -11,7 +11,7 @@ returns-then-first-last-clause-reads g c =
     let w = c.load_first-last.new.seat.me.0 in
     let words : List ℕ = c.load_all.new.words.items in
     let made = c.in_ok-words.ensures in
-    let start : v.start ≡ c.self.inside.table.shared.key.words.items = ap (λ (t : Token). t.place.words) c.pass.view_is ∙ ap (λ (p : Place). p.words) c.requires.here ∙ sym (ap (λ (p : Place). p.words) c.self.view_is) in
+    let start : v.start ≡ c.self.inside.table.shared.key.words.items = ap (λ (t : Token). t.region.words) c.pass.view_is ∙ ap (λ (p : MadeRegion). p.words) c.requires.here ∙ sym (ap (λ (p : MadeRegion). p.words) c.self.view_is) in
     let many : length words ≡ c.self.inside.capacity = omega (arith, c.load_all.ensures.wide, made.len) in
     let whole : length words ≡ length v.start = many ∙ sym c.self.invariant.1 ∙ sym (ap length start) in
     let loads : WholeReading S v c.load_second-first.result (numbered_from 0 words) c.load_first-last.result w = record {
@@ -31,7 +31,7 @@ returns-clause-reads g c =
     let w = c.load_first-last.new.seat.me.0 in
     let words : List ℕ = c.load_all.new.words.items in
     let made = c.in_ok-words.ensures in
-    let start : v.start ≡ c.self.inside.table.shared.key.words.items = ap (λ (t : Token). t.place.words) c.pass.view_is ∙ ap (λ (p : Place). p.words) c.requires.here ∙ sym (ap (λ (p : Place). p.words) c.self.view_is) in
+    let start : v.start ≡ c.self.inside.table.shared.key.words.items = ap (λ (t : Token). t.region.words) c.pass.view_is ∙ ap (λ (p : MadeRegion). p.words) c.requires.here ∙ sym (ap (λ (p : MadeRegion). p.words) c.self.view_is) in
     let many : length words ≡ c.self.inside.capacity = omega (arith, c.load_all.ensures.wide, made.len) in
     let whole : length words ≡ length v.start = many ∙ sym c.self.invariant.1 ∙ sym (ap length start) in
     let loads : WholeReading S v c.load_second-first.result (numbered_from 0 words) c.load_first-last.result w = record {

@@ -1,5 +1,5 @@
 use Rattle.std.proofs.Common.{ap, subst}
-use Rattle.region_rule.specs.Places.{Token}
+use Rattle.region_rule.specs.Seats.{Token}
 use Rattle.region_rule.specs.Calls.{KeepsForm}
 use Rattle.region_rule.proofs.Fronts.{learned}
 use Rattle.region_rule.proofs.Lawful.{informed_inside}

@@ -1,6 +1,6 @@
 use Rattle.std.proofs.Common.{subst}
 use Rattle.region_core.specs.declared.act.Act.TheVariants.{Swap}
-use Rattle.region_rule.specs.Places.{Token}
+use Rattle.region_rule.specs.Seats.{Token}
 use Rattle.region_rule.specs.Calls.{KeepsForm}
 use Rattle.region_rule.proofs.Lawful.{steps_inside}
 use Rattle.region_rule.proofs.stint.Stint.swap.Goals as goal

@@ -1,5 +1,5 @@
 use Rattle.std.proofs.Common.{◌≡◌, ℕ, List, length, sym, ap, ◌∙◌, subst, arith}
-use Rattle.region_rule.specs.Places.{Place, Token}
+use Rattle.region_rule.specs.Seats.{MadeRegion, Token}
 use Rattle.region_rule.specs.Reads.{numbered_from, ReadsInside}
 use Rattle.region_rule.proofs.Showing.{reads_inside, reads_there, reads_had}
 use Rattle.region_rule.proofs.stint.Stint.words.Goals as goal
@@ -25,7 +25,7 @@ returns-clause-reads g c =
     let w = c.load_all.new.seat.me.0 in
     let words : List ℕ = c.load_all.new.words.items in
     let made = c.in-Ok.ensures in
-    let start : v.start ≡ c.region.inside.table.shared.key.words.items = ap (λ (t : Token). t.place.words) c.self.view_is ∙ ap (λ (p : Place). p.words) c.requires.here ∙ sym (ap (λ (p : Place). p.words) c.region.view_is) in
+    let start : v.start ≡ c.region.inside.table.shared.key.words.items = ap (λ (t : Token). t.region.words) c.self.view_is ∙ ap (λ (p : MadeRegion). p.words) c.requires.here ∙ sym (ap (λ (p : MadeRegion). p.words) c.region.view_is) in
     let many : length words ≡ c.region.inside.capacity = omega (arith, c.load_all.ensures.wide, made.len) in
     let whole : length words ≡ length v.start = many ∙ sym c.region.invariant.1 ∙ sym (ap length start) in
     let capacity = c.region.invariant.2 in

@@ -1,0 +1,2 @@
+pub mod Slate
+pub mod Journals
