@@ -1,9 +1,9 @@
 -- The first entry that stood before, by its keys.
-use Rattle.std.proofs.Common.{◌≡◌, ℕ, ◌+◌, ◌<◌, ◌≤◌, Bool, true, false, not, ◌&&◌, ◌||◌, ◌≢◌, ◌⊎◌, List, sym, subst, ◌∙◌, refl, arith, ⊎_elim, nat_eq, bytes_eq}
+use Rattle.std.proofs.Common.{◌≡◌, ℕ, ◌<◌, ◌≤◌, Bool, true, false, not, ◌&&◌, ◌||◌, ◌≢◌, ◌⊎◌, List, sym, subst, ◌∙◌, refl, arith, ⊎_elim, nat_eq, bytes_eq}
 use Rattle.std.specs.Prelude.{Option, Some, None, is_none}
 use Rattle.mmv_format.specs.declared.keys.Key.TheVariants.{Serial, Number, InstanceName, Item, MetricName, Place}
 use Rattle.mmv_format.specs.Below.{all_below}
-use Rattle.mmv_format.specs.Fields.{number32, number64, text_at, same_name}
+use Rattle.mmv_format.specs.EntryFields.{same_name, serial_in_indom, domain_in_instance, number_in_instance, name_in_instance, name_in_metric, item_in_metric, metric_in_value, instance_in_value}
 use Rattle.mmv_format.specs.Entries.{indom_at, instance_at, metric_at, value_at, has_serial, is_same_instance, is_same_metric, is_same_value, is_new_indom, is_new_instance, is_new_metric, is_new_value}
 use Rattle.mmv_format.specs.Faults.{unless, first_below}
 use Rattle.mmv_format.specs.Keys.{key_at, is_new_key, IsFirst}
@@ -60,7 +60,7 @@ found_none total count n test place h same end = sym (none_before total test pla
 
 pub indom_keys : (words : List ℕ) (i : ℕ) → is_new_key words Serial i ≡ is_new_indom words i
 unfolding is_new_key is_new_indom key_at has_serial
-indom_keys words i = all_same i _ _ (λ j. one (nat_eq (number32 words (indom_at words j)) (number32 words (indom_at words i))))
+indom_keys words i = all_same i _ _ (λ j. one (nat_eq (serial_in_indom words (indom_at words j)) (serial_in_indom words (indom_at words i))))
   where
     one : (a : Bool) → not (a && true) ≡ not a
     one true = refl
@@ -69,9 +69,9 @@ indom_keys words i = all_same i _ _ (λ j. one (nat_eq (number32 words (indom_at
 pub instance_keys : (words : List ℕ) (i : ℕ) → (is_new_key words Number i && is_new_key words InstanceName i) ≡ is_new_instance words i
 unfolding is_new_key is_new_instance key_at is_same_instance same_name
 instance_keys words i =
-    all_both i _ _ ∙ all_same i _ _ (λ j. one (nat_eq (number64 words (instance_at words j)) (number64 words (instance_at words i)))
-    (nat_eq (number32 words (instance_at words j + 12)) (number32 words (instance_at words i + 12)))
-    (bytes_eq (text_at words (instance_at words j + 16) 64) (text_at words (instance_at words i + 16) 64)))
+    all_both i _ _ ∙ all_same i _ _ (λ j. one (nat_eq (domain_in_instance words (instance_at words j)) (domain_in_instance words (instance_at words i)))
+    (nat_eq (number_in_instance words (instance_at words j)) (number_in_instance words (instance_at words i)))
+    (bytes_eq (name_in_instance words (instance_at words j)) (name_in_instance words (instance_at words i))))
   where
     one : (d n m : Bool) → (not (d && (n && true)) && not (d && m)) ≡ not (d && (n || m))
     one true true m = refl
@@ -81,8 +81,8 @@ instance_keys words i =
 pub metric_keys : (words : List ℕ) (i : ℕ) → (is_new_key words Item i && is_new_key words MetricName i) ≡ is_new_metric words i
 unfolding is_new_key is_new_metric key_at is_same_metric same_name
 metric_keys words i =
-    all_both i _ _ ∙ all_same i _ _ (λ j. one (nat_eq (number32 words (metric_at words j + 64)) (number32 words (metric_at words i + 64)))
-    (bytes_eq (text_at words (metric_at words j) 64) (text_at words (metric_at words i) 64)))
+    all_both i _ _ ∙ all_same i _ _ (λ j. one (nat_eq (item_in_metric words (metric_at words j)) (item_in_metric words (metric_at words i)))
+    (bytes_eq (name_in_metric words (metric_at words j)) (name_in_metric words (metric_at words i))))
   where
     one : (n m : Bool) → (not (n && true) && not m) ≡ not (n || m)
     one true m = refl
@@ -91,8 +91,8 @@ metric_keys words i =
 pub value_keys : (words : List ℕ) (i : ℕ) → is_new_key words Place i ≡ is_new_value words i
 unfolding is_new_key is_new_value key_at is_same_value
 value_keys words i =
-    all_same i _ _ (λ j. one (nat_eq (number64 words (value_at words j + 16)) (number64 words (value_at words i + 16)))
-    (nat_eq (number64 words (value_at words j + 24)) (number64 words (value_at words i + 24))))
+    all_same i _ _ (λ j. one (nat_eq (metric_in_value words (value_at words j)) (metric_in_value words (value_at words i)))
+    (nat_eq (instance_in_value words (value_at words j)) (instance_in_value words (value_at words i))))
   where
     one : (n m : Bool) → not (n && (m && true)) ≡ not (n && m)
     one true true = refl

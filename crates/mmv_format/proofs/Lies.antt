@@ -1,7 +1,8 @@
 -- Where sections end, and that their entries lie in the words.
-use Rattle.std.proofs.Common.{◌≡◌, ◌≢◌, ℕ, zero, suc, ◌+◌, ◌*◌, ◌<◌, ◌≤◌, Bool, true, false, not, ◌&&◌, ◌||◌, List, length, ap, sym, ◌∙◌, refl, arith, nat_eq, nat_le, if◌then◌else◌}
+use Rattle.std.proofs.Common.{◌≡◌, ◌≢◌, ℕ, zero, suc, ◌+◌, ◌<◌, ◌≤◌, Bool, true, false, not, ◌&&◌, ◌||◌, List, length, ap, sym, ◌∙◌, refl, arith, nat_eq, nat_le, if◌then◌else◌}
 use Rattle.std.proofs.lemmas.Bool.Decides.{nat_tests}
-use Rattle.mmv_format.specs.Contents.{bytes_in, contents_in, type_in, count_in, place_in, section_bytes, end_in, section_lies, has_good_section, sections_are_good, find_section, section_of}
+use Rattle.mmv_format.specs.Contents.{bytes_in, contents_in, type_in, count_in, place_in, section_bytes, end_in, section_lies, has_good_section, sections_are_good, find_section, section_of, entry_at}
+use Rattle.mmv_format.specs.Sizes.{indom_size, instance_size, metric_size, value_size, string_size}
 use Rattle.mmv_format.specs.Entries.{indom_at, indom_count, instance_at, instance_count, metric_at, metric_count, value_at, value_count, string_at, string_count}
 use Rattle.mmv_format.specs.Faults.{has_sections}
 use Rattle.mmv_format.proofs.Below.{all_at, both_left, both_right}
@@ -42,7 +43,7 @@ section_of_entry words i good = both_right _ _ (both_left _ _ good)
 entry_ends : (words : List ℕ) (i : ℕ) → section_lies words i ≡ true → count_in words i ≢ 0 → place_in words i + section_bytes (type_in words i) (count_in words i) ≤ bytes_in words
 unfolding section_lies end_in
 entry_ends words i lies some =
-    le_of (end_in words i) (bytes_in words) (lies_of (nat_eq (count_in words i) 0) (nat_le (40 + 16 * contents_in words) (place_in words i)) _ lies (isnt_zero (count_in words i) some))
+    le_of (end_in words i) (bytes_in words) (lies_of (nat_eq (count_in words i) 0) (nat_le (entry_at (contents_in words)) (place_in words i)) _ lies (isnt_zero (count_in words i) some))
 
 -- a section with entries ends in the words
 pub section_ends : (words : List ℕ) (type : ℕ) → sections_are_good words ≡ true → (section_of words type).count ≢ 0 → (section_of words type).place + section_bytes type (section_of words type).count ≤ bytes_in words
@@ -66,22 +67,22 @@ some_of : (i n : ℕ) → i < n → n ≢ 0
 some_of i n h = λ e. absurd (omega arith)
 
 -- each entry lies in the words
-pub indom_lies : (words : List ℕ) (i : ℕ) → has_sections words ≡ true → i < indom_count words → indom_at words i + 32 ≤ 524288
+pub indom_lies : (words : List ℕ) (i : ℕ) → has_sections words ≡ true → i < indom_count words → indom_at words i + indom_size ≤ 524288
 unfolding section_bytes
 indom_lies words i h below = let n = few words h in let ends = section_ends words 1 (sections words h) (some_of i _ below) in omega arith
 
-pub instance_lies : (words : List ℕ) (i : ℕ) → has_sections words ≡ true → i < instance_count words → instance_at words i + 80 ≤ 524288
+pub instance_lies : (words : List ℕ) (i : ℕ) → has_sections words ≡ true → i < instance_count words → instance_at words i + instance_size ≤ 524288
 unfolding section_bytes
 instance_lies words i h below = let n = few words h in let ends = section_ends words 2 (sections words h) (some_of i _ below) in omega arith
 
-pub metric_lies : (words : List ℕ) (i : ℕ) → has_sections words ≡ true → i < metric_count words → metric_at words i + 104 ≤ 524288
+pub metric_lies : (words : List ℕ) (i : ℕ) → has_sections words ≡ true → i < metric_count words → metric_at words i + metric_size ≤ 524288
 unfolding section_bytes
 metric_lies words i h below = let n = few words h in let ends = section_ends words 3 (sections words h) (some_of i _ below) in omega arith
 
-pub value_lies : (words : List ℕ) (i : ℕ) → has_sections words ≡ true → i < value_count words → value_at words i + 32 ≤ 524288
+pub value_lies : (words : List ℕ) (i : ℕ) → has_sections words ≡ true → i < value_count words → value_at words i + value_size ≤ 524288
 unfolding section_bytes
 value_lies words i h below = let n = few words h in let ends = section_ends words 4 (sections words h) (some_of i _ below) in omega arith
 
-pub string_lies : (words : List ℕ) (i : ℕ) → has_sections words ≡ true → i < string_count words → string_at words i + 256 ≤ 524288
+pub string_lies : (words : List ℕ) (i : ℕ) → has_sections words ≡ true → i < string_count words → string_at words i + string_size ≤ 524288
 unfolding section_bytes
 string_lies words i h below = let n = few words h in let ends = section_ends words 5 (sections words h) (some_of i _ below) in omega arith

@@ -3,8 +3,9 @@ use Rattle.std.proofs.Common.{◌≡◌, ℕ, zero, suc, ◌+◌, ◌*◌, ◌<�
 use Rattle.std.specs.Prelude.{Option, Some, None}
 use Rattle.std.proofs.Math.Nat.{mul-le-mul_left}
 use Rattle.std.proofs.lemmas.Bool.Decides.{nat_tests}
-use Rattle.mmv_format.specs.Fields.{number32}
-use Rattle.mmv_format.specs.Contents.{contents_in, cluster_in, is_aligned, section_of}
+use Rattle.mmv_format.specs.Sizes.{indom_size, instance_size, metric_size, value_size, string_size}
+use Rattle.mmv_format.specs.EntryFields.{serial_in_indom, first_offset_in_indom, short_offset_in_indom, long_offset_in_indom, number_offset_in_instance, number_in_instance, name_offset_in_instance, item_offset_in_metric, item_in_metric, type_offset_in_metric, type_in_metric, semantics_offset_in_metric, semantics_in_metric, serial_offset_in_metric, serial_in_metric, short_offset_in_metric, long_offset_in_metric}
+use Rattle.mmv_format.specs.Contents.{contents_in, cluster_in, is_aligned, section_of, place_offset_in}
 use Rattle.mmv_format.specs.Entries.{indom_count, indom_at, instance_count, instance_at, metric_count, metric_at, value_count, value_at, string_count, string_at, has_text, has_name, is_good_string, is_kind, is_semantics, has_good_run, help_leads, lies_in_run, serial_leads, leads_to_metric, metric_of, choice_leads, instance_leads, is_new_indom, is_new_instance, is_new_metric, is_new_value, is_serial, is_instance_number, is_item}
 use Rattle.mmv_format.specs.Images.{is_cluster}
 use Rattle.mmv_format.specs.Faults.{or_else, lower, unless, first_below, offset_fault, instance_name_fault, metric_name_fault, string_fault, name_fault, code_fault, kind_fault, help_fault, indom_reference_fault, metric_reference_fault, value_reference_fault, indoms_reference_fault, instances_reference_fault, metrics_reference_fault, values_reference_fault, reference_fault, indoms_duplicate_fault, instances_duplicate_fault, metrics_duplicate_fault, values_duplicate_fault, duplicate_fault, indoms_serial_fault, instances_serial_fault, metrics_serial_fault, cluster_fault, serial_fault}
@@ -198,7 +199,7 @@ value_instance false a b v h f = cc
 
 pub offsets_are_lowest : OffsetsAreLowest
 unfolding offset_fault
-offsets_are_lowest words at h = tests_lowest (contents_in words) at 48 16 (λ i. is_aligned words i) (λ i. 48 + 16 * i) (λ i. (omega arith, omega arith)) (λ x e. same_le at x (some_same at x (sym h ∙ e)))
+offsets_are_lowest words at h = tests_lowest (contents_in words) at 48 16 (λ i. is_aligned words i) (λ i. place_offset_in i) (λ i. (omega arith, omega arith)) (λ x e. same_le at x (some_same at x (sym h ∙ e)))
 
 pub names_are_lowest : NamesAreLowest
 unfolding name_fault instance_name_fault metric_name_fault string_fault
@@ -206,22 +207,22 @@ names_are_lowest words at h =
     let (ins, rest) = lower_parts _ _ at h in
     let (met, str) = lower_all _ _ at rest in
     record {
-      instances = tests_lowest (instance_count words) at (section_of words 2).place 80 (λ i. has_text words (instance_at words i + 16)) (λ i. instance_at words i + 16) (λ i. (omega arith, omega arith)) ins;
-      metrics = tests_lowest (metric_count words) at (section_of words 3).place 104 (λ i. has_name words (metric_at words i)) (λ i. metric_at words i) (λ i. (omega arith, omega arith)) met;
-      strings = tests_lowest (string_count words) at (section_of words 5).place 256 (λ i. is_good_string words i) (λ i. string_at words i) (λ i. (omega arith, omega arith)) str;
+      instances = tests_lowest (instance_count words) at (section_of words 2).place instance_size (λ i. has_text words (name_offset_in_instance (instance_at words i))) (λ i. name_offset_in_instance (instance_at words i)) (λ i. (omega arith, omega arith)) ins;
+      metrics = tests_lowest (metric_count words) at (section_of words 3).place metric_size (λ i. has_name words (metric_at words i)) (λ i. metric_at words i) (λ i. (omega arith, omega arith)) met;
+      strings = tests_lowest (string_count words) at (section_of words 5).place string_size (λ i. is_good_string words i) (λ i. string_at words i) (λ i. (omega arith, omega arith)) str;
     }
 
 pub kinds_are_lowest : KindsAreLowest
 unfolding kind_fault code_fault
 kinds_are_lowest words at h =
     let found : (ℕ → Option ℕ) = λ i. code_fault words (metric_at words i) in
-    let kind : (ℕ → Bool) = λ i. is_kind (number32 words (metric_at words i + 68)) in
-    let semantics : (ℕ → Bool) = λ i. is_semantics (number32 words (metric_at words i + 72)) in
-    let rising : Rising found = rises (section_of words 3).place 104 found (λ i x e. let (lo, hi) = pair_within (kind i) (semantics i) (metric_at words i + 68) (metric_at words i + 72) x (omega arith) e in (omega arith, omega arith)) in
+    let kind : (ℕ → Bool) = λ i. is_kind (type_in_metric words (metric_at words i)) in
+    let semantics : (ℕ → Bool) = λ i. is_semantics (semantics_in_metric words (metric_at words i)) in
+    let rising : Rising found = rises (section_of words 3).place metric_size found (λ i x e. let (lo, hi) = pair_within (kind i) (semantics i) (type_offset_in_metric (metric_at words i)) (semantics_offset_in_metric (metric_at words i)) x (omega arith) e in (omega arith, omega arith)) in
     let least : AtMost at (first_below (metric_count words) found) = λ x e. same_le at x (some_same at x (sym h ∙ e)) in
     record {
-      types = λ i below fails. entry_lowest (metric_count words) at i _ found rising least below (pair_first (kind i) (semantics i) (metric_at words i + 68) (metric_at words i + 72) fails);
-      semantics = λ i below fails. entry_lowest (metric_count words) at i _ found rising least below (pair_second (kind i) (semantics i) (metric_at words i + 68) (metric_at words i + 72) (omega arith) fails);
+      types = λ i below fails. entry_lowest (metric_count words) at i _ found rising least below (pair_first (kind i) (semantics i) (type_offset_in_metric (metric_at words i)) (semantics_offset_in_metric (metric_at words i)) fails);
+      semantics = λ i below fails. entry_lowest (metric_count words) at i _ found rising least below (pair_second (kind i) (semantics i) (type_offset_in_metric (metric_at words i)) (semantics_offset_in_metric (metric_at words i)) (omega arith) fails);
     }
 
 pub duplicates_are_lowest : DuplicatesAreLowest
@@ -231,10 +232,10 @@ duplicates_are_lowest words at h =
     let (ind, ins) = lower_all _ _ at front in
     let (met, val) = lower_all _ _ at back in
     record {
-      indoms = tests_lowest (indom_count words) at (section_of words 1).place 32 (λ i. is_new_indom words i) (λ i. indom_at words i) (λ i. (omega arith, omega arith)) ind;
-      instances = tests_lowest (instance_count words) at (section_of words 2).place 80 (λ i. is_new_instance words i) (λ i. instance_at words i) (λ i. (omega arith, omega arith)) ins;
-      metrics = tests_lowest (metric_count words) at (section_of words 3).place 104 (λ i. is_new_metric words i) (λ i. metric_at words i) (λ i. (omega arith, omega arith)) met;
-      values = tests_lowest (value_count words) at (section_of words 4).place 32 (λ i. is_new_value words i) (λ i. value_at words i) (λ i. (omega arith, omega arith)) val;
+      indoms = tests_lowest (indom_count words) at (section_of words 1).place indom_size (λ i. is_new_indom words i) (λ i. indom_at words i) (λ i. (omega arith, omega arith)) ind;
+      instances = tests_lowest (instance_count words) at (section_of words 2).place instance_size (λ i. is_new_instance words i) (λ i. instance_at words i) (λ i. (omega arith, omega arith)) ins;
+      metrics = tests_lowest (metric_count words) at (section_of words 3).place metric_size (λ i. is_new_metric words i) (λ i. metric_at words i) (λ i. (omega arith, omega arith)) met;
+      values = tests_lowest (value_count words) at (section_of words 4).place value_size (λ i. is_new_value words i) (λ i. value_at words i) (λ i. (omega arith, omega arith)) val;
     }
 
 pub serials_are_lowest : SerialsAreLowest
@@ -245,9 +246,9 @@ serials_are_lowest words at h =
     let (ins, met) = lower_all _ _ at more in
     record {
       cluster = λ fails. let (x, is, under) = unless_reaches (is_cluster (cluster_in words)) 36 fails in let low : at ≤ x = clu x is in omega arith;
-      indoms = tests_lowest (indom_count words) at (section_of words 1).place 32 (λ i. is_serial (number32 words (indom_at words i))) (λ i. indom_at words i) (λ i. (omega arith, omega arith)) ind;
-      instances = tests_lowest (instance_count words) at (section_of words 2).place 80 (λ i. is_instance_number (number32 words (instance_at words i + 12))) (λ i. instance_at words i + 12) (λ i. (omega arith, omega arith)) ins;
-      metrics = tests_lowest (metric_count words) at (section_of words 3).place 104 (λ i. is_item (number32 words (metric_at words i + 64))) (λ i. metric_at words i + 64) (λ i. (omega arith, omega arith)) met;
+      indoms = tests_lowest (indom_count words) at (section_of words 1).place indom_size (λ i. is_serial (serial_in_indom words (indom_at words i))) (λ i. indom_at words i) (λ i. (omega arith, omega arith)) ind;
+      instances = tests_lowest (instance_count words) at (section_of words 2).place instance_size (λ i. is_instance_number (number_in_instance words (instance_at words i))) (λ i. number_offset_in_instance (instance_at words i)) (λ i. (omega arith, omega arith)) ins;
+      metrics = tests_lowest (metric_count words) at (section_of words 3).place metric_size (λ i. is_item (item_in_metric words (metric_at words i))) (λ i. item_offset_in_metric (metric_at words i)) (λ i. (omega arith, omega arith)) met;
     }
 
 pub references_are_lowest : ReferencesAreLowest
@@ -259,25 +260,25 @@ references_are_lowest words at h =
     let in_indom : (ℕ → Option ℕ) = λ i. indom_reference_fault words (indom_at words i) in
     let run : (ℕ → Bool) = λ i. has_good_run words (indom_at words i) in
     let help : (ℕ → Bool) = λ at. help_leads words at in
-    let indoms : Rising in_indom = rises (section_of words 1).place 32 in_indom (λ i x e.
-    let (lo, hi) = chain_within (run i) (help (indom_at words i + 16)) (help (indom_at words i + 24)) (indom_at words i + 8) (indom_at words i + 16) (indom_at words i + 24) x (omega arith) (omega arith) e in (omega arith, omega arith)) in
+    let indoms : Rising in_indom = rises (section_of words 1).place indom_size in_indom (λ i x e.
+    let (lo, hi) = chain_within (run i) (help (short_offset_in_indom (indom_at words i))) (help (long_offset_in_indom (indom_at words i))) (first_offset_in_indom (indom_at words i)) (short_offset_in_indom (indom_at words i)) (long_offset_in_indom (indom_at words i)) x (omega arith) (omega arith) e in (omega arith, omega arith)) in
     let in_metric : (ℕ → Option ℕ) = λ i. metric_reference_fault words (metric_at words i) in
-    let serial : (ℕ → Bool) = λ i. serial_leads words (number32 words (metric_at words i + 80)) in
-    let metrics : Rising in_metric = rises (section_of words 3).place 104 in_metric (λ i x e.
-    let (lo, hi) = chain_within (serial i) (help (metric_at words i + 88)) (help (metric_at words i + 96)) (metric_at words i + 80) (metric_at words i + 88) (metric_at words i + 96) x (omega arith) (omega arith) e in (omega arith, omega arith)) in
+    let serial : (ℕ → Bool) = λ i. serial_leads words (serial_in_metric words (metric_at words i)) in
+    let metrics : Rising in_metric = rises (section_of words 3).place metric_size in_metric (λ i x e.
+    let (lo, hi) = chain_within (serial i) (help (short_offset_in_metric (metric_at words i))) (help (long_offset_in_metric (metric_at words i))) (serial_offset_in_metric (metric_at words i)) (short_offset_in_metric (metric_at words i)) (long_offset_in_metric (metric_at words i)) x (omega arith) (omega arith) e in (omega arith, omega arith)) in
     let in_value : (ℕ → Option ℕ) = λ i. value_reference_fault words (value_at words i) in
     let leads : (ℕ → Bool) = λ i. leads_to_metric words (metric_of words (value_at words i)) in
     let choice : (ℕ → Bool) = λ i. choice_leads words (value_at words i) in
     let instance : (ℕ → Bool) = λ i. instance_leads words (value_at words i) in
-    let values : Rising in_value = rises (section_of words 4).place 32 in_value (λ i x e. value_within (leads i) (choice i) (instance i) (value_at words i) x e) in
+    let values : Rising in_value = rises (section_of words 4).place value_size in_value (λ i x e. value_within (leads i) (choice i) (instance i) (value_at words i) x e) in
     record {
-      runs = λ i below fails. entry_lowest (indom_count words) at i _ in_indom indoms ind below (chain_first (run i) (help (indom_at words i + 16)) (help (indom_at words i + 24)) (indom_at words i + 8) (indom_at words i + 16) (indom_at words i + 24) fails);
-      indom_shorts = λ i below fails. entry_lowest (indom_count words) at i _ in_indom indoms ind below (chain_second (run i) (help (indom_at words i + 16)) (help (indom_at words i + 24)) (indom_at words i + 8) (indom_at words i + 16) (indom_at words i + 24) (omega arith) fails);
-      indom_longs = λ i below fails. entry_lowest (indom_count words) at i _ in_indom indoms ind below (chain_third (run i) (help (indom_at words i + 16)) (help (indom_at words i + 24)) (indom_at words i + 8) (indom_at words i + 16) (indom_at words i + 24) (omega arith) (omega arith) fails);
-      instances = tests_lowest (instance_count words) at (section_of words 2).place 80 (λ i. lies_in_run words (instance_at words i)) (λ i. instance_at words i) (λ i. (omega arith, omega arith)) ins;
-      serials = λ i below fails. entry_lowest (metric_count words) at i _ in_metric metrics met below (chain_first (serial i) (help (metric_at words i + 88)) (help (metric_at words i + 96)) (metric_at words i + 80) (metric_at words i + 88) (metric_at words i + 96) fails);
-      metric_shorts = λ i below fails. entry_lowest (metric_count words) at i _ in_metric metrics met below (chain_second (serial i) (help (metric_at words i + 88)) (help (metric_at words i + 96)) (metric_at words i + 80) (metric_at words i + 88) (metric_at words i + 96) (omega arith) fails);
-      metric_longs = λ i below fails. entry_lowest (metric_count words) at i _ in_metric metrics met below (chain_third (serial i) (help (metric_at words i + 88)) (help (metric_at words i + 96)) (metric_at words i + 80) (metric_at words i + 88) (metric_at words i + 96) (omega arith) (omega arith) fails);
+      runs = λ i below fails. entry_lowest (indom_count words) at i _ in_indom indoms ind below (chain_first (run i) (help (short_offset_in_indom (indom_at words i))) (help (long_offset_in_indom (indom_at words i))) (first_offset_in_indom (indom_at words i)) (short_offset_in_indom (indom_at words i)) (long_offset_in_indom (indom_at words i)) fails);
+      indom_shorts = λ i below fails. entry_lowest (indom_count words) at i _ in_indom indoms ind below (chain_second (run i) (help (short_offset_in_indom (indom_at words i))) (help (long_offset_in_indom (indom_at words i))) (first_offset_in_indom (indom_at words i)) (short_offset_in_indom (indom_at words i)) (long_offset_in_indom (indom_at words i)) (omega arith) fails);
+      indom_longs = λ i below fails. entry_lowest (indom_count words) at i _ in_indom indoms ind below (chain_third (run i) (help (short_offset_in_indom (indom_at words i))) (help (long_offset_in_indom (indom_at words i))) (first_offset_in_indom (indom_at words i)) (short_offset_in_indom (indom_at words i)) (long_offset_in_indom (indom_at words i)) (omega arith) (omega arith) fails);
+      instances = tests_lowest (instance_count words) at (section_of words 2).place instance_size (λ i. lies_in_run words (instance_at words i)) (λ i. instance_at words i) (λ i. (omega arith, omega arith)) ins;
+      serials = λ i below fails. entry_lowest (metric_count words) at i _ in_metric metrics met below (chain_first (serial i) (help (short_offset_in_metric (metric_at words i))) (help (long_offset_in_metric (metric_at words i))) (serial_offset_in_metric (metric_at words i)) (short_offset_in_metric (metric_at words i)) (long_offset_in_metric (metric_at words i)) fails);
+      metric_shorts = λ i below fails. entry_lowest (metric_count words) at i _ in_metric metrics met below (chain_second (serial i) (help (short_offset_in_metric (metric_at words i))) (help (long_offset_in_metric (metric_at words i))) (serial_offset_in_metric (metric_at words i)) (short_offset_in_metric (metric_at words i)) (long_offset_in_metric (metric_at words i)) (omega arith) fails);
+      metric_longs = λ i below fails. entry_lowest (metric_count words) at i _ in_metric metrics met below (chain_third (serial i) (help (short_offset_in_metric (metric_at words i))) (help (long_offset_in_metric (metric_at words i))) (serial_offset_in_metric (metric_at words i)) (short_offset_in_metric (metric_at words i)) (long_offset_in_metric (metric_at words i)) (omega arith) (omega arith) fails);
       metrics = λ i below fails. entry_lowest (value_count words) at i _ in_value values val below (value_metric (leads i) (choice i) (instance i) (value_at words i) fails);
       strings = λ i below there fails. entry_lowest (value_count words) at i _ in_value values val below (value_string (leads i) (choice i) (instance i) (value_at words i) there fails);
       value_instances = λ i below there fails. entry_lowest (value_count words) at i _ in_value values val below (value_instance (leads i) (choice i) (instance i) (value_at words i) there fails);

@@ -1,6 +1,6 @@
 -- Texts up to a zero byte, one byte after the other, and words of bytes.
-use Rattle.std.proofs.Common.{◌≡◌, ◌≢◌, ℕ, zero, suc, ◌+◌, ◌-◌, ◌<◌, ◌≤◌, Bool, true, false, List, [], ◌∷◌, ◌++◌, length, take, drop, ap, sym, ◌∙◌, refl, arith, append_assoc, append-nil, cond, nat_eq, true≢false, get_or, add-zero, ◌⊎◌, ⊎_elim, subst}
-use Rattle.pcp_base.specs.Texts.{IsFirstZero}
+use Rattle.std.proofs.Common.{◌≡◌, ◌≢◌, ℕ, zero, suc, ◌+◌, ◌-◌, ◌<◌, ◌≤◌, Bool, true, false, List, [], ◌∷◌, ◌++◌, length, take, drop, ap, sym, ◌∙◌, refl, arith, append_assoc, append-nil, cond, nat_eq, true≢false, get_or, add-zero, ◌⊎◌, ⊎_elim}
+use Rattle.pcp_base.specs.Texts.{IsText}
 use Rattle.std.proofs.lemmas.Bool.{eqb-false}
 use Rattle.std.proofs.lemmas.Bool.Decides.{nat_tests}
 use Rattle.std.specs.Int.{w64, from_le_bytes}
@@ -47,12 +47,12 @@ words_grow made whole bytes bytes' n m word e is rest h =
     append_assoc made (word ∷ []) (first_words m bytes') ∙ rw (is, rest) (rw e at h)
 
 -- no byte of a text is zero
-pub text_nonzero : (words : List ℕ) (at n k : ℕ) → k < length (text_at words at n) → get_or (text_at words at n) k 0 ≢ 0
+text_nonzero : (words : List ℕ) (at n k d : ℕ) → k < length (text_at words at n) → get_or (text_at words at n) k d ≢ 0
 unfolding text_at
-text_nonzero words at zero k h = absurd (omega arith)
-text_nonzero words at (suc n) k h = here (nat_eq (byte_at words at) 0) refl (text_nonzero words (at + 1) n) k h
+text_nonzero words at zero k d h = absurd (omega arith)
+text_nonzero words at (suc n) k d h = here (nat_eq (byte_at words at) 0) refl (λ k. text_nonzero words (at + 1) n k d) k h
   where
-    here : (t : Bool) → nat_eq (byte_at words at) 0 ≡ t → ((k : ℕ) → k < length (text_at words (at + 1) n) → get_or (text_at words (at + 1) n) k 0 ≢ 0) → (k : ℕ) → k < length (cond t [] (byte_at words at ∷ text_at words (at + 1) n)) → get_or (cond t [] (byte_at words at ∷ text_at words (at + 1) n)) k 0 ≢ 0
+    here : (t : Bool) → nat_eq (byte_at words at) 0 ≡ t → ((k : ℕ) → k < length (text_at words (at + 1) n) → get_or (text_at words (at + 1) n) k d ≢ 0) → (k : ℕ) → k < length (cond t [] (byte_at words at ∷ text_at words (at + 1) n)) → get_or (cond t [] (byte_at words at ∷ text_at words (at + 1) n)) k d ≢ 0
     here true e rest k h = absurd (omega arith)
     here false e rest zero h = λ z. eqb-false (byte_at words at) 0 e z
     here false e rest (suc k) h = rest k (omega arith)
@@ -86,8 +86,5 @@ text_short words at n h =
     absurd (true≢false (sym h ∙ some_absent n (λ k. nat_eq (byte_at words (at + k)) 0) (λ k below. isnt_zero (byte_at words (at + k)) (text_full words at n full k below)))))
     (less_or (length (text_at words at n)) n)
 
--- a text has no first zero byte
-pub text_whole : (words bytes : List ℕ) (at n k : ℕ) → bytes ≡ text_at words at n → IsFirstZero bytes k → ⊥
-text_whole words bytes at n k is first =
-    let stands : IsFirstZero (text_at words at n) k = subst (λ b. IsFirstZero b k) is first in
-    text_nonzero words at n k stands.within stands.zero
+pub text_clean : (words : List ℕ) (at n : ℕ) → IsText (text_at words at n)
+text_clean words at n = λ k d h. text_nonzero words at n k d h

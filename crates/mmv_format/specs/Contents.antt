@@ -1,11 +1,11 @@
 -- The header and the contents of an image (mmv(5)): which sections it has and where they lie.
--- The header has the magic number at 0, the version at 4, the generations at 8 and 16, the number of contents
--- entries at 24, the flags at 28, the process at 32 and the cluster at 36. A contents entry has its section's type
--- at 0, the section's number of entries at 4 and its place at 8.
+-- The header has the magic number, the version, the two generations, the number of contents entries, the flags, the
+-- process and the cluster. A contents entry has its section's type, the section's number of entries and its place.
 use Rattle.std.specs.Prelude.{ℕ, zero, suc, ◌+◌, ◌*◌, ◌%◌, Bool, not, ◌&&◌, ◌||◌, ◌==◌, nat_le, if◌then◌else◌, List, length}
 use Rattle.mmv_format.specs.declared.contents.Section.{Section}
 use Rattle.mmv_format.specs.Below.{all_below}
 use Rattle.mmv_format.specs.Fields.{number32, number64}
+use Rattle.mmv_format.specs.Sizes.{header_size, entry_size, indom_size, instance_size, metric_size, value_size, string_size}
 
 abbrev pub bytes_in : List ℕ → ℕ
 bytes_in words = 8 * length words
@@ -29,30 +29,43 @@ contents_in words = number32 words 24
 abbrev pub flags_in : List ℕ → ℕ
 flags_in words = number32 words 28
 
+abbrev pub process_in : List ℕ → ℕ
+process_in words = number32 words 32
+
+abbrev pub cluster_offset : ℕ
+cluster_offset = 36
+
 abbrev pub cluster_in : List ℕ → ℕ
-cluster_in words = number32 words 36
+cluster_in words = number32 words cluster_offset
 
 -- fewer than 40 bytes, or no whole number of words
 abbrev pub is_short : ℕ → Bool
-is_short bytes = not (nat_le 40 bytes && bytes % 8 == 0)
+is_short bytes = not (nat_le header_size bytes && bytes % 8 == 0)
+
+-- contents entry i, and its fields
+abbrev pub entry_at : ℕ → ℕ
+entry_at i = header_size + entry_size * i
 
 abbrev pub type_in : List ℕ → ℕ → ℕ
-type_in words i = number32 words (40 + 16 * i)
+type_in words i = number32 words (entry_at i)
 
 abbrev pub count_in : List ℕ → ℕ → ℕ
 count_in words i = number32 words (44 + 16 * i)
 
+abbrev pub place_offset_in : ℕ → ℕ
+place_offset_in i = 48 + 16 * i
+
 abbrev pub place_in : List ℕ → ℕ → ℕ
-place_in words i = number64 words (48 + 16 * i)
+place_in words i = number64 words (place_offset_in i)
 
 -- how many bytes so many entries of a type take: 1 instance domains, 2 instances, 3 metrics, 4 values, 5 strings
 unfoldable pub section_bytes : ℕ → ℕ → ℕ
 section_bytes type count =
-    if type == 1 then 32 * count else
-    if type == 2 then 80 * count else
-    if type == 3 then 104 * count else
-    if type == 4 then 32 * count else
-    if type == 5 then 256 * count else 0
+    if type == 1 then indom_size * count else
+    if type == 2 then instance_size * count else
+    if type == 3 then metric_size * count else
+    if type == 4 then value_size * count else
+    if type == 5 then string_size * count else 0
 
 -- the place behind the section of contents entry i
 unfoldable pub end_in : List ℕ → ℕ → ℕ
@@ -68,7 +81,7 @@ is_type type = nat_le 1 type && nat_le type 5
 -- entry i has no section, or one that lies in the words behind the contents
 unfoldable pub section_lies : List ℕ → ℕ → Bool
 section_lies words i =
-    count_in words i == 0 || (nat_le (40 + 16 * contents_in words) (place_in words i) && nat_le (end_in words i) (bytes_in words))
+    count_in words i == 0 || (nat_le (entry_at (contents_in words)) (place_in words i) && nat_le (end_in words i) (bytes_in words))
 
 -- entries j and i have different types, and their sections no byte in common
 unfoldable pub are_apart : List ℕ → ℕ → ℕ → Bool

@@ -4,65 +4,66 @@ use Rattle.std.specs.Prelude.{ℕ, ◌+◌, ◌*◌, Bool, true, not, ◌&&◌, 
 use Rattle.pcp_base.specs.Codes.{kind_of_code, semantics_of_code}
 use Rattle.pcp_base.specs.Names.{spells}
 use Rattle.mmv_format.specs.Below.{all_below, some_below}
-use Rattle.mmv_format.specs.Fields.{number32, number64, byte_at, text_at, has_zero, same_name}
+use Rattle.mmv_format.specs.Fields.{number32, number64, byte_at, text_at, has_zero}
+use Rattle.mmv_format.specs.Sizes.{name_width, indom_size, instance_size, metric_size, value_size, string_size}
+use Rattle.mmv_format.specs.EntryFields.{same_name, serial_in_indom, count_in_indom, first_in_indom, short_offset_in_indom, long_offset_in_indom, domain_in_instance, number_in_instance, name_offset_in_instance, item_in_metric, type_in_metric, semantics_in_metric, serial_in_metric, short_offset_in_metric, long_offset_in_metric, extra_in_value, metric_in_value, instance_in_value}
 use Rattle.mmv_format.specs.Contents.{section_of}
 
 -- a place is that of one of `count` entries of a size, the first of them at `first`
 unfoldable pub leads : ℕ → ℕ → ℕ → ℕ → Bool
 leads first count size place = some_below count (λ k. first + size * k == place)
 
--- Instance domains: the serial at 0, the number of instances at 4, the first instance at 8, the helps at 16 and 24
+-- Instance domains
 
 abbrev pub indom_count : List ℕ → ℕ
 indom_count words = (section_of words 1).count
 
 abbrev pub indom_at : List ℕ → ℕ → ℕ
-indom_at words i = (section_of words 1).place + 32 * i
+indom_at words i = (section_of words 1).place + indom_size * i
 
 abbrev pub leads_to_indom : List ℕ → ℕ → Bool
-leads_to_indom words place = leads (section_of words 1).place (section_of words 1).count 32 place
+leads_to_indom words place = leads (section_of words 1).place (section_of words 1).count indom_size place
 
--- Instances: the domain at 0, the number at 12, the name of 64 bytes at 16
+-- Instances
 
 abbrev pub instance_count : List ℕ → ℕ
 instance_count words = (section_of words 2).count
 
 abbrev pub instance_at : List ℕ → ℕ → ℕ
-instance_at words i = (section_of words 2).place + 80 * i
+instance_at words i = (section_of words 2).place + instance_size * i
 
 abbrev pub leads_to_instance : List ℕ → ℕ → Bool
-leads_to_instance words place = leads (section_of words 2).place (section_of words 2).count 80 place
+leads_to_instance words place = leads (section_of words 2).place (section_of words 2).count instance_size place
 
--- Metrics: the name of 64 bytes at 0, the item at 64, the type at 68, the semantics at 72, the units at 76, the serial
--- at 80, the helps at 88 and 96
+-- Metrics
 
 abbrev pub metric_count : List ℕ → ℕ
 metric_count words = (section_of words 3).count
 
 abbrev pub metric_at : List ℕ → ℕ → ℕ
-metric_at words i = (section_of words 3).place + 104 * i
+metric_at words i = (section_of words 3).place + metric_size * i
 
 abbrev pub leads_to_metric : List ℕ → ℕ → Bool
-leads_to_metric words place = leads (section_of words 3).place (section_of words 3).count 104 place
+leads_to_metric words place = leads (section_of words 3).place (section_of words 3).count metric_size place
 
--- Values: the value at 0, the extra field at 8, the metric at 16, the instance at 24
+-- Values
 
 abbrev pub value_count : List ℕ → ℕ
 value_count words = (section_of words 4).count
 
 abbrev pub value_at : List ℕ → ℕ → ℕ
-value_at words i = (section_of words 4).place + 32 * i
+value_at words i = (section_of words 4).place + value_size * i
 
--- Strings: 256 bytes
+-- Strings
 
 abbrev pub string_count : List ℕ → ℕ
 string_count words = (section_of words 5).count
 
 abbrev pub string_at : List ℕ → ℕ → ℕ
-string_at words i = (section_of words 5).place + 256 * i
+string_at words i = (section_of words 5).place + string_size * i
 
 abbrev pub leads_to_string : List ℕ → ℕ → Bool
-leads_to_string words place = leads (section_of words 5).place (section_of words 5).count 256 place
+leads_to_string words place = leads (section_of words 5).place (section_of words 5).count string_size place
 
 -- the help field at a place is 0 or leads to a string. Where it doesn't is the fault Reference, at the field
 unfoldable pub help_leads : List ℕ → ℕ → Bool
@@ -70,21 +71,21 @@ help_leads words field = number64 words field == 0 || leads_to_string words (num
 
 -- an instance stands at a place and leads to a domain
 unfoldable pub is_instance_of : List ℕ → ℕ → ℕ → Bool
-is_instance_of words domain instance = leads_to_instance words instance && number64 words instance == domain
+is_instance_of words domain instance = leads_to_instance words instance && domain_in_instance words instance == domain
 
 -- the run of the domain at a place: as many of its instances as it counts, from its first instance on. Where they
 -- aren't is the fault Reference, at the domain's first instance field
 unfoldable pub has_good_run : List ℕ → ℕ → Bool
 has_good_run words domain =
-    all_below (number32 words (domain + 4)) (λ k. is_instance_of words domain (number64 words (domain + 8) + 80 * k))
+    all_below (count_in_indom words domain) (λ k. is_instance_of words domain (first_in_indom words domain + instance_size * k))
 
 -- domain i has a serial
 unfoldable pub has_serial : List ℕ → ℕ → ℕ → Bool
-has_serial words serial i = number32 words (indom_at words i) == serial
+has_serial words serial i = serial_in_indom words (indom_at words i) == serial
 
 -- no earlier domain has the serial of domain i. Where one has is the fault Duplicate, at the entry
 unfoldable pub is_new_indom : List ℕ → ℕ → Bool
-is_new_indom words i = all_below i (λ j. not (has_serial words (number32 words (indom_at words i)) j))
+is_new_indom words i = all_below i (λ j. not (has_serial words (serial_in_indom words (indom_at words i)) j))
 
 -- a domain's serial is 1 to 1023. Where it isn't is the fault Serial, at the serial
 abbrev pub is_serial : ℕ → Bool
@@ -92,23 +93,24 @@ is_serial serial = nat_le 1 serial && nat_le serial 1023
 
 unfoldable pub is_good_indom : List ℕ → ℕ → Bool
 is_good_indom words i =
-    help_leads words (indom_at words i + 16) && help_leads words (indom_at words i + 24)
-    && has_good_run words (indom_at words i) && is_new_indom words i && is_serial (number32 words (indom_at words i))
+    help_leads words (short_offset_in_indom (indom_at words i)) && help_leads words (long_offset_in_indom (indom_at words i))
+    && has_good_run words (indom_at words i) && is_new_indom words i && is_serial (serial_in_indom words (indom_at words i))
 
 -- the name field at a place has a zero byte, and not as its first. Where it hasn't is the fault Name, at the field
 unfoldable pub has_text : List ℕ → ℕ → Bool
-has_text words field = has_zero words field 64 && not (byte_at words field == 0)
+has_text words field = has_zero words field name_width && not (byte_at words field == 0)
 
 -- the instance at a place leads to a domain, in whose run it lies. Where it doesn't is the fault Reference, at the entry's domain field
 unfoldable pub lies_in_run : List ℕ → ℕ → Bool
 lies_in_run words instance =
-    let domain = number64 words instance in
-    leads_to_indom words domain && leads (number64 words (domain + 8)) (number32 words (domain + 4)) 80 instance
+    let domain = domain_in_instance words instance in
+    leads_to_indom words domain && leads (first_in_indom words domain) (count_in_indom words domain) instance_size instance
 
 -- two instances of one domain have one number or one name
 unfoldable pub is_same_instance : List ℕ → ℕ → ℕ → Bool
 is_same_instance words a b =
-    number64 words a == number64 words b && (number32 words (a + 12) == number32 words (b + 12) || same_name words (a + 16) (b + 16))
+    domain_in_instance words a == domain_in_instance words b
+    && (number_in_instance words a == number_in_instance words b || same_name words (name_offset_in_instance a) (name_offset_in_instance b))
 
 -- no earlier instance of its domain has the number or the name of instance i. Where one has is the fault Duplicate, at the entry
 unfoldable pub is_new_instance : List ℕ → ℕ → Bool
@@ -120,12 +122,12 @@ is_instance_number number = nat_lt number 2147483648
 
 unfoldable pub is_good_instance : List ℕ → ℕ → Bool
 is_good_instance words i =
-    has_text words (instance_at words i + 16) && lies_in_run words (instance_at words i)
-    && is_new_instance words i && is_instance_number (number32 words (instance_at words i + 12))
+    has_text words (name_offset_in_instance (instance_at words i)) && lies_in_run words (instance_at words i)
+    && is_new_instance words i && is_instance_number (number_in_instance words (instance_at words i))
 
 -- the name field at a place has a zero byte, and before it a name. Where it hasn't is the fault Name, at the field
 unfoldable pub has_name : List ℕ → ℕ → Bool
-has_name words field = has_zero words field 64 && spells true (text_at words field 64)
+has_name words field = has_zero words field name_width && spells true (text_at words field name_width)
 
 -- the type and the semantics of the metric at a place have a meaning. Where one hasn't is the fault Kind, at the code
 abbrev pub is_kind : ℕ → Bool
@@ -148,7 +150,7 @@ serial_leads words serial = is_no_domain serial || is_indom_serial words serial
 
 -- two metrics have one item or one name
 unfoldable pub is_same_metric : List ℕ → ℕ → ℕ → Bool
-is_same_metric words a b = number32 words (a + 64) == number32 words (b + 64) || same_name words a b
+is_same_metric words a b = item_in_metric words a == item_in_metric words b || same_name words a b
 
 -- no earlier metric has the item or the name of metric i. Where one has is the fault Duplicate, at the entry
 unfoldable pub is_new_metric : List ℕ → ℕ → Bool
@@ -161,33 +163,33 @@ is_item item = nat_le item 1023
 -- the metric at a place has codes with a meaning, references that lead, and an item
 unfoldable pub has_good_fields : List ℕ → ℕ → Bool
 has_good_fields words metric =
-    is_kind (number32 words (metric + 68)) && is_semantics (number32 words (metric + 72))
-    && serial_leads words (number32 words (metric + 80)) && help_leads words (metric + 88) && help_leads words (metric + 96)
-    && is_item (number32 words (metric + 64))
+    is_kind (type_in_metric words metric) && is_semantics (semantics_in_metric words metric)
+    && serial_leads words (serial_in_metric words metric) && help_leads words (short_offset_in_metric metric) && help_leads words (long_offset_in_metric metric)
+    && is_item (item_in_metric words metric)
 
 unfoldable pub is_good_metric : List ℕ → ℕ → Bool
 is_good_metric words i = has_name words (metric_at words i) && has_good_fields words (metric_at words i) && is_new_metric words i
 
 -- the metric of the value at a place. Where the field leads to none is the fault Reference, at the field
 unfoldable pub metric_of : List ℕ → ℕ → ℕ
-metric_of words value = number64 words (value + 16)
+metric_of words value = metric_in_value words value
 
 -- the value at a place has the instance 0 where its metric has no domain, and else an instance of that domain. Where it
 -- hasn't is the fault Reference, at its instance field
 unfoldable pub instance_leads : List ℕ → ℕ → Bool
 instance_leads words value =
-    if is_no_domain (number32 words (metric_of words value + 80)) then number64 words (value + 24) == 0
-    else (leads_to_instance words (number64 words (value + 24))
-    && number32 words (number64 words (number64 words (value + 24))) == number32 words (metric_of words value + 80))
+    if is_no_domain (serial_in_metric words (metric_of words value)) then instance_in_value words value == 0
+    else (leads_to_instance words (instance_in_value words value)
+    && number32 words (number64 words (instance_in_value words value)) == serial_in_metric words (metric_of words value))
 
 -- a string value leads to a string. Where it doesn't is the fault Reference, at its extra field
 unfoldable pub choice_leads : List ℕ → ℕ → Bool
 choice_leads words value =
-    not (number32 words (metric_of words value + 68) == 6) || leads_to_string words (number64 words (value + 8))
+    not (type_in_metric words (metric_of words value) == 6) || leads_to_string words (extra_in_value words value)
 
 -- two values have one metric and one instance
 unfoldable pub is_same_value : List ℕ → ℕ → ℕ → Bool
-is_same_value words a b = number64 words (a + 16) == number64 words (b + 16) && number64 words (a + 24) == number64 words (b + 24)
+is_same_value words a b = metric_in_value words a == metric_in_value words b && instance_in_value words a == instance_in_value words b
 
 -- no earlier value has the metric and the instance of value i. Where one has is the fault Duplicate, at the entry
 unfoldable pub is_new_value : List ℕ → ℕ → Bool
@@ -200,7 +202,7 @@ is_good_value words i =
 
 -- string i has a zero byte. Where it hasn't is the fault Name, at the string
 unfoldable pub is_good_string : List ℕ → ℕ → Bool
-is_good_string words i = has_zero words (string_at words i) 256
+is_good_string words i = has_zero words (string_at words i) string_size
 
 -- all entries of each section are good
 

@@ -1,10 +1,12 @@
 -- Why words are no image of version 1 (mmv(5)): the first fault in the order of the kinds, and of one kind the one at the
 -- lowest place. A section's entries lie one behind another, so the first faulty entry of a section has its lowest place.
-use Rattle.std.specs.Prelude.{ℕ, zero, suc, ◌+◌, ◌*◌, Bool, not, ◌==◌, ◌&&◌, nat_le, if◌then◌else◌, IsTrue, List, length, Option, Some, None, Result, Ok, Err}
+use Rattle.std.specs.Prelude.{ℕ, zero, suc, Bool, not, ◌==◌, ◌&&◌, nat_le, if◌then◌else◌, IsTrue, List, length, Option, Some, None, Result, Ok, Err}
 use Rattle.mmv_format.specs.declared.fault.ImageFault.{ImageFault}
 use Rattle.mmv_format.specs.declared.fault.ImageFault.TheVariants.{Short, TooLarge, Magic, Version, Generations, Section, Offset, Name, Kind, Reference, Duplicate, Serial}
-use Rattle.mmv_format.specs.Fields.{number32, words_of}
-use Rattle.mmv_format.specs.Contents.{bytes_in, has_magic, version_in, first_generation, second_generation, contents_in, cluster_in, is_short, type_in, entry_lies, has_good_section, is_aligned, sections_are_good}
+use Rattle.mmv_format.specs.Fields.{words_of}
+use Rattle.mmv_format.specs.Sizes.{is_version}
+use Rattle.mmv_format.specs.EntryFields.{serial_in_indom, first_offset_in_indom, short_offset_in_indom, long_offset_in_indom, number_offset_in_instance, number_in_instance, name_offset_in_instance, item_offset_in_metric, item_in_metric, type_offset_in_metric, type_in_metric, semantics_offset_in_metric, semantics_in_metric, serial_offset_in_metric, serial_in_metric, short_offset_in_metric, long_offset_in_metric, extra_offset_in_value, metric_offset_in_value, instance_offset_in_value}
+use Rattle.mmv_format.specs.Contents.{bytes_in, has_magic, version_in, first_generation, second_generation, contents_in, cluster_in, is_short, type_in, entry_lies, has_good_section, is_aligned, sections_are_good, cluster_offset, place_offset_in}
 use Rattle.mmv_format.specs.Entries.{indom_count, indom_at, instance_count, instance_at, metric_count, metric_at, value_count, value_at, string_count, string_at, has_text, has_name, is_good_string, is_kind, is_semantics, has_good_run, help_leads, lies_in_run, serial_leads, leads_to_metric, metric_of, choice_leads, instance_leads, is_new_indom, is_new_instance, is_new_metric, is_new_value, is_serial, is_instance_number, is_item}
 use Rattle.mmv_format.specs.Images.{is_too_large, is_cluster}
 
@@ -44,11 +46,11 @@ section_fault words = first_below (contents_in words) (λ i. unless (has_good_se
 
 -- Offset: the place field of a section that doesn't begin at a multiple of 8
 unfoldable pub offset_fault : List ℕ → Option ℕ
-offset_fault words = first_below (contents_in words) (λ i. unless (is_aligned words i) (48 + 16 * i))
+offset_fault words = first_below (contents_in words) (λ i. unless (is_aligned words i) (place_offset_in i))
 
 -- Name: the name field of an instance or of a metric, or a string
 unfoldable pub instance_name_fault : List ℕ → Option ℕ
-instance_name_fault words = first_below (instance_count words) (λ i. unless (has_text words (instance_at words i + 16)) (instance_at words i + 16))
+instance_name_fault words = first_below (instance_count words) (λ i. unless (has_text words (name_offset_in_instance (instance_at words i))) (name_offset_in_instance (instance_at words i)))
 
 unfoldable pub metric_name_fault : List ℕ → Option ℕ
 metric_name_fault words = first_below (metric_count words) (λ i. unless (has_name words (metric_at words i)) (metric_at words i))
@@ -62,7 +64,7 @@ name_fault words = lower (instance_name_fault words) (lower (metric_name_fault w
 -- Kind: a metric's type, or its semantics
 unfoldable pub code_fault : List ℕ → ℕ → Option ℕ
 code_fault words metric =
-    or_else (unless (is_kind (number32 words (metric + 68))) (metric + 68)) (unless (is_semantics (number32 words (metric + 72))) (metric + 72))
+    or_else (unless (is_kind (type_in_metric words metric)) (type_offset_in_metric metric)) (unless (is_semantics (semantics_in_metric words metric)) (semantics_offset_in_metric metric))
 
 unfoldable pub kind_fault : List ℕ → Option ℕ
 kind_fault words = first_below (metric_count words) (λ i. code_fault words (metric_at words i))
@@ -73,18 +75,18 @@ help_fault words field = unless (help_leads words field) field
 
 unfoldable pub indom_reference_fault : List ℕ → ℕ → Option ℕ
 indom_reference_fault words domain =
-    or_else (unless (has_good_run words domain) (domain + 8)) (or_else (help_fault words (domain + 16)) (help_fault words (domain + 24)))
+    or_else (unless (has_good_run words domain) (first_offset_in_indom domain)) (or_else (help_fault words (short_offset_in_indom domain)) (help_fault words (long_offset_in_indom domain)))
 
 -- of a metric its serial, or a help
 unfoldable pub metric_reference_fault : List ℕ → ℕ → Option ℕ
 metric_reference_fault words metric =
-    or_else (unless (serial_leads words (number32 words (metric + 80))) (metric + 80)) (or_else (help_fault words (metric + 88)) (help_fault words (metric + 96)))
+    or_else (unless (serial_leads words (serial_in_metric words metric)) (serial_offset_in_metric metric)) (or_else (help_fault words (short_offset_in_metric metric)) (help_fault words (long_offset_in_metric metric)))
 
 -- of a value its metric; and where that is one, its string, or its instance
 unfoldable pub value_reference_fault : List ℕ → ℕ → Option ℕ
 value_reference_fault words value =
-    if leads_to_metric words (metric_of words value) then or_else (unless (choice_leads words value) (value + 8)) (unless (instance_leads words value) (value + 24))
-    else Some (value + 16)
+    if leads_to_metric words (metric_of words value) then or_else (unless (choice_leads words value) (extra_offset_in_value value)) (unless (instance_leads words value) (instance_offset_in_value value))
+    else Some (metric_offset_in_value value)
 
 unfoldable pub indoms_reference_fault : List ℕ → Option ℕ
 indoms_reference_fault words = first_below (indom_count words) (λ i. indom_reference_fault words (indom_at words i))
@@ -121,17 +123,17 @@ duplicate_fault words =
 
 -- Serial: the header's cluster, a domain's serial, an instance's number, a metric's item
 unfoldable pub indoms_serial_fault : List ℕ → Option ℕ
-indoms_serial_fault words = first_below (indom_count words) (λ i. unless (is_serial (number32 words (indom_at words i))) (indom_at words i))
+indoms_serial_fault words = first_below (indom_count words) (λ i. unless (is_serial (serial_in_indom words (indom_at words i))) (indom_at words i))
 
 unfoldable pub instances_serial_fault : List ℕ → Option ℕ
 instances_serial_fault words =
-    first_below (instance_count words) (λ i. unless (is_instance_number (number32 words (instance_at words i + 12))) (instance_at words i + 12))
+    first_below (instance_count words) (λ i. unless (is_instance_number (number_in_instance words (instance_at words i))) (number_offset_in_instance (instance_at words i)))
 
 unfoldable pub metrics_serial_fault : List ℕ → Option ℕ
-metrics_serial_fault words = first_below (metric_count words) (λ i. unless (is_item (number32 words (metric_at words i + 64))) (metric_at words i + 64))
+metrics_serial_fault words = first_below (metric_count words) (λ i. unless (is_item (item_in_metric words (metric_at words i))) (item_offset_in_metric (metric_at words i)))
 
 unfoldable pub cluster_fault : List ℕ → Option ℕ
-cluster_fault words = unless (is_cluster (cluster_in words)) 36
+cluster_fault words = unless (is_cluster (cluster_in words)) cluster_offset
 
 unfoldable pub serial_fault : List ℕ → Option ℕ
 serial_fault words =
@@ -153,7 +155,7 @@ entries_fault words =
 unfoldable pub header_fault : List ℕ → Option ImageFault
 header_fault words =
     if not (has_magic words) then Some Magic else
-    if not (version_in words == 1) then Some (Version (version_in words)) else
+    if not (is_version (version_in words)) then Some (Version (version_in words)) else
     if not (first_generation words == second_generation words) then Some (Generations (first_generation words) (second_generation words)) else None
 
 unfoldable pub image_fault : List ℕ → Option ImageFault

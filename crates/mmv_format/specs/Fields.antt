@@ -1,6 +1,6 @@
 -- Where numbers and texts stand in an image (mmv(5)). A place is a number of bytes from the image's start;
 -- word i is the bytes 8i to 8i + 7, the low byte first, and past the last word are zeros.
-use Rattle.std.specs.Prelude.{ℕ, zero, suc, ◌+◌, ◌*◌, ◌/◌, ◌%◌, ◌^◌, Bool, ◌==◌, if◌then◌else◌, List, [], ◌∷◌, take, drop, length, slice_index, bytes_eq}
+use Rattle.std.specs.Prelude.{ℕ, zero, suc, ◌+◌, ◌*◌, ◌/◌, ◌%◌, ◌^◌, Bool, ◌==◌, if◌then◌else◌, List, [], ◌∷◌, take, drop, length, slice_index}
 use Rattle.std.specs.Int.{w64, from_le_bytes}
 use Rattle.mmv_format.specs.Below.{some_below}
 
@@ -24,10 +24,6 @@ text_at words at (suc n) = if byte_at words at == 0 then [] else byte_at words a
 -- one of the n bytes at a place is zero
 unfoldable pub has_zero : List ℕ → ℕ → ℕ → Bool
 has_zero words at n = some_below n (λ k. byte_at words (at + k) == 0)
-
--- the name fields of 64 bytes at two places hold one text
-unfoldable pub same_name : List ℕ → ℕ → ℕ → Bool
-same_name words a b = bytes_eq (text_at words a 64) (text_at words b 64)
 
 -- the first n words that bytes make
 unfoldable pub first_words : ℕ → List ℕ → List ℕ

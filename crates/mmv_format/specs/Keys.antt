@@ -1,23 +1,23 @@
 -- What tells the entries of a section apart (mmv(5)), as a list of numbers, and which entry is the first with the key of
 -- an earlier one.
-use Rattle.std.specs.Prelude.{◌≡◌, ℕ, ◌+◌, ◌<◌, ◌≤◌, Bool, true, false, not, List, [], ◌∷◌, bytes_eq}
+use Rattle.std.specs.Prelude.{◌≡◌, ℕ, ◌<◌, ◌≤◌, Bool, true, false, not, List, [], ◌∷◌, bytes_eq}
 use Rattle.std.specs.BTreeSet.{BTreeSet, contains}
 use Rattle.std.specs.Ordering.{nat_cmp}
 use Rattle.mmv_format.specs.declared.keys.Key.{Key}
 use Rattle.mmv_format.specs.declared.keys.Key.TheVariants.{Serial, Number, InstanceName, Item, MetricName, Place}
 use Rattle.mmv_format.specs.Below.{all_below}
-use Rattle.mmv_format.specs.Fields.{number32, number64, text_at}
+use Rattle.mmv_format.specs.EntryFields.{serial_in_indom, domain_in_instance, number_in_instance, name_in_instance, name_in_metric, item_in_metric, metric_in_value, instance_in_value}
 use Rattle.mmv_format.specs.Entries.{indom_at, instance_at, metric_at, value_at, is_indom_serial}
 
 -- of a domain its serial; of an instance its domain, and its number or its name; of a metric its item or its name; of a
 -- value its metric and its instance
 unfoldable pub key_at : List ℕ → Key → ℕ → List ℕ
-key_at words Serial i = number32 words (indom_at words i) ∷ []
-key_at words Number i = number64 words (instance_at words i) ∷ number32 words (instance_at words i + 12) ∷ []
-key_at words InstanceName i = number64 words (instance_at words i) ∷ text_at words (instance_at words i + 16) 64
-key_at words Item i = number32 words (metric_at words i + 64) ∷ []
-key_at words MetricName i = text_at words (metric_at words i) 64
-key_at words Place i = number64 words (value_at words i + 16) ∷ number64 words (value_at words i + 24) ∷ []
+key_at words Serial i = serial_in_indom words (indom_at words i) ∷ []
+key_at words Number i = domain_in_instance words (instance_at words i) ∷ number_in_instance words (instance_at words i) ∷ []
+key_at words InstanceName i = domain_in_instance words (instance_at words i) ∷ name_in_instance words (instance_at words i)
+key_at words Item i = item_in_metric words (metric_at words i) ∷ []
+key_at words MetricName i = name_in_metric words (metric_at words i)
+key_at words Place i = metric_in_value words (value_at words i) ∷ instance_in_value words (value_at words i) ∷ []
 
 -- no earlier entry has the key of entry i
 unfoldable pub is_new_key : List ℕ → Key → ℕ → Bool

@@ -1,29 +1,24 @@
+//! The contents of an image: which sections it has, and where they lie.
 ghost use Rattle.std.specs.Prelude.{◌≡◌};
-ghost use Rattle.mmv_format.specs.Contents.{bytes_in, contents_in, type_in, count_in, place_in, section_bytes, end_in, section_lies, are_apart, is_first_of_type, entry_lies, has_good_section, is_aligned, section_of};
+ghost use Rattle.mmv_format.specs.Contents.{bytes_in, entry_at, type_in, count_in, place_in, section_bytes, end_in, section_lies, are_apart, is_first_of_type, entry_lies, has_good_section, is_aligned, section_of};
 ghost use Rattle.mmv_format.specs.Faults.{bad_type, section_fault, offset_fault};
 
 use crate::fields::{number32, number64};
+use crate::header::contents_in;
+use crate::sizes::{
+    ENTRY_SIZE, HEADER_SIZE, INDOM_SIZE, INSTANCE_SIZE, METRIC_SIZE, STRING_SIZE, VALUE_SIZE,
+};
 
-/// The type of the section of instance domains, and how many bytes an entry takes; so of the other sections.
+/// The type of the section of instance domains; so of the other sections.
 pub const INDOMS: u32 = 1;
-
-pub const INDOM_SIZE: u64 = 32;
 
 pub const INSTANCES: u32 = 2;
 
-pub const INSTANCE_SIZE: u64 = 80;
-
 pub const METRICS: u32 = 3;
-
-pub const METRIC_SIZE: u64 = 104;
 
 pub const VALUES: u32 = 4;
 
-pub const VALUE_SIZE: u64 = 32;
-
 pub const STRINGS: u32 = 5;
-
-pub const STRING_SIZE: u64 = 256;
 
 /// Where a section's entries begin, and how many there are.
 #[derive(Clone, Copy, Debug, PartialEq, Eq)]
@@ -39,29 +34,29 @@ pub fn bytes_in(words: &[u64]) -> u128
     8 * words.len() as u128
 }
 
-/// The number of contents entries.
-pub fn contents_in(words: &[u64]) -> u32
-    ensures { result ≡ contents_in words.now }
+/// The place of a contents entry.
+fn entry_at(i: u32) -> u128
+    ensures { result ≡ entry_at i }
 {
-    number32(words, 24)
+    HEADER_SIZE as u128 + ENTRY_SIZE as u128 * i as u128
 }
 
 fn type_in(words: &[u64], i: u32) -> u32
     ensures { result ≡ type_in words.now i }
 {
-    number32(words, 40 + 16 * i as u128)
+    number32(words, entry_at(i))
 }
 
 fn count_in(words: &[u64], i: u32) -> u32
     ensures { result ≡ count_in words.now i }
 {
-    number32(words, 44 + 16 * i as u128)
+    number32(words, entry_at(i) + 4)
 }
 
 fn place_in(words: &[u64], i: u32) -> u64
     ensures { result ≡ place_in words.now i }
 {
-    number64(words, 48 + 16 * i as u128)
+    number64(words, entry_at(i) + 8)
 }
 
 /// How many bytes `count` entries of a type take.
@@ -94,7 +89,7 @@ fn section_lies(words: &[u64], i: u32) -> bool
     ensures { result ≡ section_lies words.now i }
 {
     count_in(words, i) == 0
-        || 40 + 16 * contents_in(words) as u128 <= place_in(words, i) as u128
+        || entry_at(contents_in(words)) <= place_in(words, i) as u128
             && end_in(words, i) <= bytes_in(words)
 }
 
@@ -127,7 +122,7 @@ fn is_first_of_type(words: &[u64], i: u32) -> bool
 fn entry_lies(words: &[u64], i: u32) -> bool
     ensures { result ≡ entry_lies words.now i }
 {
-    56 + 16 * i as u128 <= bytes_in(words)
+    entry_at(i) + ENTRY_SIZE as u128 <= bytes_in(words)
 }
 
 /// Whether a contents entry and its section are good.
@@ -181,7 +176,7 @@ pub fn offset_fault(words: &[u64]) -> Option<u64>
 {
     for i in 0..contents_in(words) {
         if !is_aligned(words, i) {
-            return Some(48 + 16 * i as u64);
+            return Some(HEADER_SIZE + ENTRY_SIZE * i as u64 + 8);
         }
     }
     None

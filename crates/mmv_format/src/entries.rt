@@ -1,12 +1,13 @@
+//! The places of an image's entries, and which places are those of entries.
 ghost use Rattle.std.specs.Prelude.{◌≡◌, ◌+◌, ◌*◌, ◌<◌, ◌^◌};
-ghost use Rattle.mmv_format.specs.Fields.{number64};
+ghost use Rattle.mmv_format.specs.Sizes.{instance_size};
+ghost use Rattle.mmv_format.specs.EntryFields.{first_in_indom};
 ghost use Rattle.mmv_format.specs.Entries.{leads, leads_to_indom, leads_to_instance, leads_to_metric, leads_to_string, indom_at, instance_at, metric_at, value_at, string_at, help_leads};
 
-use crate::contents::{
-    INDOM_SIZE, INDOMS, INSTANCE_SIZE, INSTANCES, METRIC_SIZE, METRICS, STRING_SIZE, STRINGS,
-    VALUE_SIZE, VALUES, section_of,
-};
+use crate::contents::{INDOMS, INSTANCES, METRICS, STRINGS, VALUES, section_of};
+use crate::entry_fields::first_in_indom;
 use crate::fields::number64;
+use crate::sizes::{INDOM_SIZE, INSTANCE_SIZE, METRIC_SIZE, STRING_SIZE, VALUE_SIZE};
 
 /// Whether a place is that of one of `count` entries of a size, the first of them at `first`.
 pub fn leads(first: u64, count: u32, size: u64, place: u128) -> bool
@@ -75,10 +76,10 @@ pub fn instance_at(words: &[u64], i: u32) -> u128
 /// The place of an instance of the run of the domain at a place.
 pub fn run_at(words: &[u64], domain: u128, k: u32) -> u128
     requires { domain < 2 ^ 80 }
-    ensures place { result ≡ number64 words.now (domain + 8) + 80 * k }
+    ensures place { result ≡ first_in_indom words.now domain + instance_size * k }
     ensures bound { result < 2 ^ 80 }
 {
-    number64(words, domain + 8) as u128 + INSTANCE_SIZE as u128 * k as u128
+    first_in_indom(words, domain) as u128 + INSTANCE_SIZE as u128 * k as u128
 }
 
 /// The place of a metric.

@@ -1,3 +1,4 @@
+//! Why words are no image.
 ghost use Rattle.std.specs.Prelude.{◌≡◌};
 ghost use Rattle.mmv_format.specs.declared.fault.ImageFault.TheVariants.{NoMemory as Refused};
 

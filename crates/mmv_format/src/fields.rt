@@ -1,11 +1,10 @@
+//! Numbers and texts at places of an image, and the words of bytes.
 ghost use Rattle.std.specs.Prelude.{◌≡◌, ◌+◌, ◌<◌, ◌≤◌, ◌^◌, IfOk, length, take, drop};
 ghost use Rattle.std.specs.Int.{w64, from_le_bytes};
 ghost use Rattle.mmv_format.specs.Fields.{number32, number64, byte_at, text_at, has_zero, words_of};
 
+use pcp_base::{List, Text};
 use std::alloc::{AllocError, Global};
-
-/// How many bytes a name field has.
-pub const NAME_SIZE: u32 = 64;
 
 /// The number of eight bytes at a place that is a multiple of 8, and 0 past the words. Places have 128 bits, so that
 /// no sum of numbers from an image wraps.
@@ -52,7 +51,7 @@ pub fn has_zero(words: &[u64], at: u128, n: u32) -> bool
 }
 
 /// The bytes at a place before the first zero byte, `n` at most.
-pub fn text_at(alloc: Global, words: &[u64], at: u128, n: u32) -> Result<Vec<u8>, AllocError>
+fn bytes_at(alloc: Global, words: &[u64], at: u128, n: u32) -> Result<Vec<u8>, AllocError>
     requires { at < 2 ^ 100 }
     ensures { IfOk result (λ text. text.items ≡ text_at words.now at n) }
 {
@@ -65,6 +64,16 @@ pub fn text_at(alloc: Global, words: &[u64], at: u128, n: u32) -> Result<Vec<u8>
         text.push(byte)?;
     }
     Ok(text)
+}
+
+/// The text at a place: its bytes before the first zero byte, `n` at most.
+#[tactic(auto, using(crate::proofs::Texts::text_clean))]
+pub fn text_at(alloc: Global, words: &[u64], at: u128, n: u32) -> Result<Text, AllocError>
+    requires { at < 2 ^ 100 }
+    ensures { IfOk result (λ text. text ≡ text_at words.now at n) }
+{
+    let bytes = bytes_at(alloc, words, at, n)?;
+    Ok(Text::of_clean(List::from_vec(bytes)))
 }
 
 /// The word that eight bytes make, the low byte first.

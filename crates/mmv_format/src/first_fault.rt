@@ -1,9 +1,12 @@
+//! The first fault of words: the kinds in their order, and of one kind the lowest place.
 ghost use Rattle.std.specs.Prelude.{◌≡◌, ◌≤◌, length, IfOk};
 ghost use Rattle.mmv_format.specs.Faults.{HasSections, lower, name_fault, reference_fault, duplicate_fault, cluster_fault, serial_fault, header_fault, entries_fault, image_fault};
 
 use crate::contents::{bytes_in, offset_fault, section_fault};
 use crate::fault::ImageFault;
-use crate::fields::{number32, number64};
+use crate::header::{
+    CLUSTER_OFFSET, cluster_in, first_generation, has_magic, second_generation, version_in,
+};
 use crate::indoms::{indoms_duplicate_fault, indoms_reference_fault, indoms_serial_fault};
 use crate::instances::{
     instance_name_fault, instances_duplicate_fault, instances_reference_fault,
@@ -13,11 +16,9 @@ use crate::metrics::{
     kind_fault, metric_name_fault, metrics_duplicate_fault, metrics_reference_fault,
     metrics_serial_fault,
 };
+use crate::sizes::is_version;
 use crate::values::{values_duplicate_fault, values_reference_fault};
 use std::alloc::{AllocError, Global};
-
-/// `MMV` and a zero byte, the low byte first.
-const MAGIC: u32 = 0x0056_4d4d;
 
 /// The lower of two places.
 #[tactic(auto, unfolding(crate::specs::Faults::lower))]
@@ -78,10 +79,10 @@ fn duplicate_fault(alloc: Global, words: &[u64]) -> Result<Option<u64>, AllocErr
 fn cluster_fault(words: &[u64]) -> Option<u64>
     ensures { result ≡ cluster_fault words.now }
 {
-    if number32(words, 36) <= 4095 {
+    if cluster_in(words) <= 4095 {
         None
     } else {
-        Some(36)
+        Some(CLUSTER_OFFSET)
     }
 }
 
@@ -105,14 +106,14 @@ fn serial_fault(words: &[u64]) -> Option<u64>
 fn header_fault(words: &[u64]) -> Option<ImageFault>
     ensures { result ≡ header_fault words.now }
 {
-    if number32(words, 0) != MAGIC {
+    if !has_magic(words) {
         return Some(ImageFault::Magic);
     }
-    let found = number32(words, 4);
-    if found != 1 {
+    let found = version_in(words);
+    if !is_version(found) {
         return Some(ImageFault::Version { found });
     }
-    let (g1, g2) = (number64(words, 8), number64(words, 16));
+    let (g1, g2) = (first_generation(words), second_generation(words));
     if g1 != g2 {
         return Some(ImageFault::Generations { g1, g2 });
     }

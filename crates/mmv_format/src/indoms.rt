@@ -1,3 +1,4 @@
+//! What of the instance domains of an image is at fault.
 ghost use Rattle.std.specs.Prelude.{◌≡◌, ◌<◌, ◌^◌, IfOk};
 ghost use Rattle.mmv_format.specs.Keys.{HasSerials};
 ghost use Rattle.mmv_format.specs.Entries.{is_instance_of, has_good_run, indom_count};
@@ -5,7 +6,10 @@ ghost use Rattle.mmv_format.specs.Faults.{HasSections, help_fault, indom_referen
 
 use crate::contents::{INDOMS, section_of};
 use crate::entries::{help_leads, indom_at, leads_to_instance, run_at};
-use crate::fields::{number32, number64};
+use crate::entry_fields::{
+    FIRST_OFFSET, count_in_indom, domain_in_instance, long_offset_in_indom, serial_in_indom,
+    short_offset_in_indom,
+};
 use crate::keys::{Key, first_again};
 use crate::places::indom_place;
 use std::alloc::{AllocError, Global};
@@ -16,7 +20,7 @@ use std::collections::BTreeSet;
 fn is_instance_of(words: &[u64], domain: u128, instance: u128) -> bool
     ensures { result ≡ is_instance_of words.now domain instance }
 {
-    leads_to_instance(words, instance) && number64(words, instance) as u128 == domain
+    leads_to_instance(words, instance) && domain_in_instance(words, instance) as u128 == domain
 }
 
 /// Whether the run of the domain at a place consists of its own instances.
@@ -25,7 +29,7 @@ fn has_good_run(words: &[u64], domain: u128) -> bool
     requires { domain < 2 ^ 80 }
     ensures { result ≡ has_good_run words.now domain }
 {
-    for k in 0..number32(words, domain + 4) {
+    for k in 0..count_in_indom(words, domain) {
         if !is_instance_of(words, domain, run_at(words, domain, k)) {
             return false;
         }
@@ -59,12 +63,12 @@ fn indom_reference_fault(words: &[u64], domain: u64) -> Option<u64>
     ensures { result ≡ indom_reference_fault words.now domain }
 {
     if !has_good_run(words, domain as u128) {
-        return Some(domain + 8);
+        return Some(domain + FIRST_OFFSET);
     }
-    if let Some(at) = help_fault(words, domain + 16) {
+    if let Some(at) = help_fault(words, short_offset_in_indom(domain as u128) as u64) {
         return Some(at);
     }
-    help_fault(words, domain + 24)
+    help_fault(words, long_offset_in_indom(domain as u128) as u64)
 }
 
 /// The place of the first reference of a domain that leads nowhere.
@@ -102,7 +106,7 @@ pub fn indoms_serial_fault(words: &[u64]) -> Option<u64>
 {
     for i in 0..indom_count(words) {
         let domain = indom_place(words, i);
-        let serial = number32(words, domain as u128);
+        let serial = serial_in_indom(words, domain as u128);
         if serial < 1 || 1023 < serial {
             return Some(domain);
         }
@@ -116,7 +120,7 @@ pub fn indom_serials(alloc: Global, words: &[u64]) -> Result<BTreeSet<u32>, Allo
 {
     let mut serials: BTreeSet<u32> = BTreeSet::new(alloc);
     for i in 0..indom_count(words) {
-        serials.insert(number32(words, indom_at(words, i)))?;
+        serials.insert(serial_in_indom(words, indom_at(words, i)))?;
     }
     Ok(serials)
 }

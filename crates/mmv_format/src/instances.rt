@@ -1,12 +1,18 @@
+//! What of the instances and the strings of an image is at fault.
 ghost use Rattle.std.specs.Prelude.{◌≡◌, ◌<◌, ◌^◌, IfOk};
 ghost use Rattle.mmv_format.specs.Entries.{has_text, lies_in_run, instance_count, is_good_string, string_count};
 ghost use Rattle.mmv_format.specs.Faults.{HasSections, instance_name_fault, instances_reference_fault, instances_duplicate_fault, instances_serial_fault, string_fault};
 
-use crate::contents::{INSTANCE_SIZE, INSTANCES, STRING_SIZE, STRINGS, section_of};
+use crate::contents::{INSTANCES, STRINGS, section_of};
 use crate::entries::{instance_at, leads, leads_to_indom, string_at};
-use crate::fields::{NAME_SIZE, byte_at, has_zero, number32, number64};
+use crate::entry_fields::{
+    NAME_OFFSET, NUMBER_OFFSET, count_in_indom, domain_in_instance, first_in_indom,
+    number_in_instance,
+};
+use crate::fields::{byte_at, has_zero};
 use crate::keys::{Key, first_again};
 use crate::places::{instance_place, string_place};
+use crate::sizes::{INSTANCE_SIZE, NAME_WIDTH, STRING_SIZE};
 use std::alloc::{AllocError, Global};
 
 /// Whether the name field at a place holds a text that isn't empty.
@@ -15,7 +21,7 @@ fn has_text(words: &[u64], field: u128) -> bool
     requires { field < 2 ^ 100 }
     ensures { result ≡ has_text words.now field }
 {
-    has_zero(words, field, NAME_SIZE) && byte_at(words, field) != 0
+    has_zero(words, field, NAME_WIDTH) && byte_at(words, field) != 0
 }
 
 /// Whether the instance at a place leads to a domain, in whose run it lies.
@@ -23,11 +29,11 @@ fn has_text(words: &[u64], field: u128) -> bool
 fn lies_in_run(words: &[u64], instance: u128) -> bool
     ensures { result ≡ lies_in_run words.now instance }
 {
-    let domain = number64(words, instance) as u128;
+    let domain = domain_in_instance(words, instance) as u128;
     leads_to_indom(words, domain)
         && leads(
-            number64(words, domain + 8),
-            number32(words, domain + 4),
+            first_in_indom(words, domain),
+            count_in_indom(words, domain),
             INSTANCE_SIZE,
             instance,
         )
@@ -46,7 +52,7 @@ pub fn instance_name_fault(words: &[u64]) -> Option<u64>
     ensures { result ≡ instance_name_fault words.now }
 {
     for i in 0..instance_count(words) {
-        let name = instance_place(words, i) + 16;
+        let name = instance_place(words, i) + NAME_OFFSET;
         if !has_text(words, name as u128) {
             return Some(name);
         }
@@ -90,9 +96,9 @@ pub fn instances_serial_fault(words: &[u64]) -> Option<u64>
     ensures { result ≡ instances_serial_fault words.now }
 {
     for i in 0..instance_count(words) {
-        let number = instance_place(words, i) + 12;
-        if number32(words, number as u128) >= 2147483648 {
-            return Some(number);
+        let instance = instance_place(words, i);
+        if number_in_instance(words, instance as u128) >= 2147483648 {
+            return Some(instance + NUMBER_OFFSET);
         }
     }
     None

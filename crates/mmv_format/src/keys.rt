@@ -1,9 +1,16 @@
+//! What tells the entries of a section apart, and the first that has the key of an earlier one.
 ghost use Rattle.std.specs.Prelude.{◌≡◌, ◌<◌, ◌^◌, ◌++◌, IfOk};
+ghost use Rattle.mmv_format.specs.Sizes.{name_width};
 ghost use Rattle.mmv_format.specs.Fields.{text_at};
 ghost use Rattle.mmv_format.specs.Keys.{key_at, is_new_key, IsFirst};
 
 use crate::entries::{indom_at, instance_at, metric_at, value_at};
-use crate::fields::{NAME_SIZE, byte_at, number32, number64};
+use crate::entry_fields::{
+    NAME_OFFSET, domain_in_instance, instance_in_value, item_in_metric, metric_in_value,
+    number_in_instance, serial_in_indom,
+};
+use crate::fields::byte_at;
+use crate::sizes::NAME_WIDTH;
 use std::alloc::{AllocError, Global};
 use std::collections::BTreeSet;
 
@@ -22,10 +29,10 @@ pub enum Key {
 /// Numbers, and behind them the bytes of the name field at a place.
 fn with_name(numbers: Vec<u64>, words: &[u64], at: u128) -> Result<Vec<u64>, AllocError>
     requires { at < 2 ^ 100 }
-    ensures { IfOk result (λ key. key.items ≡ numbers.items ++ text_at words.now at 64) }
+    ensures { IfOk result (λ key. key.items ≡ numbers.items ++ text_at words.now at name_width) }
 {
     let mut key = numbers;
-    for k in 0..NAME_SIZE {
+    for k in 0..NAME_WIDTH {
         let byte = byte_at(words, at + k as u128);
         if byte == 0 {
             return Ok(key);
@@ -41,22 +48,25 @@ fn key_at(alloc: Global, words: &[u64], key: Key, i: u32) -> Result<Vec<u64>, Al
     ensures { IfOk result (λ numbers. numbers.items ≡ key_at words.now key i) }
 {
     match key {
-        Key::Serial => Vec::from_slice(alloc, &[number32(words, indom_at(words, i)) as u64]),
+        Key::Serial => Vec::from_slice(alloc, &[serial_in_indom(words, indom_at(words, i)) as u64]),
         Key::Number => {
             let at = instance_at(words, i);
-            let number = number32(words, at + 12) as u64;
-            Vec::from_slice(alloc, &[number64(words, at), number])
+            let number = number_in_instance(words, at) as u64;
+            Vec::from_slice(alloc, &[domain_in_instance(words, at), number])
         }
         Key::InstanceName => {
             let at = instance_at(words, i);
-            let domain = Vec::from_slice(alloc, &[number64(words, at)])?;
-            with_name(domain, words, at + 16)
+            let domain = Vec::from_slice(alloc, &[domain_in_instance(words, at)])?;
+            with_name(domain, words, at + NAME_OFFSET as u128)
         }
-        Key::Item => Vec::from_slice(alloc, &[number32(words, metric_at(words, i) + 64) as u64]),
+        Key::Item => Vec::from_slice(alloc, &[item_in_metric(words, metric_at(words, i)) as u64]),
         Key::MetricName => with_name(Vec::new(alloc), words, metric_at(words, i)),
         Key::Place => {
             let at = value_at(words, i);
-            Vec::from_slice(alloc, &[number64(words, at + 16), number64(words, at + 24)])
+            Vec::from_slice(
+                alloc,
+                &[metric_in_value(words, at), instance_in_value(words, at)],
+            )
         }
     }
 }

@@ -1,3 +1,4 @@
+//! The laws of this crate's definitions.
 ghost use Rattle.mmv_format.specs.Laws.{WordsHoldBytes, NumberHoldsBytes, NumberHoldsHalves, ImagesAreGood};
 ghost use Rattle.mmv_format.specs.Lowest.{OffsetsAreLowest, NamesAreLowest, KindsAreLowest, ReferencesAreLowest, DuplicatesAreLowest, SerialsAreLowest};
 

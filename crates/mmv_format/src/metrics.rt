@@ -1,13 +1,20 @@
+//! What of the metrics of an image is at fault.
 ghost use Rattle.std.specs.Prelude.{◌≡◌, ◌<◌, ◌^◌, IfOk};
 ghost use Rattle.mmv_format.specs.Entries.{has_name, is_no_domain, serial_leads, metric_count};
 ghost use Rattle.mmv_format.specs.Keys.{HasSerials};
 ghost use Rattle.mmv_format.specs.Faults.{HasSections, metric_name_fault, code_fault, kind_fault, metric_reference_fault, metrics_reference_fault, metrics_duplicate_fault, metrics_serial_fault};
 
 use crate::contents::{METRICS, section_of};
-use crate::fields::{NAME_SIZE, has_zero, number32, text_at};
+use crate::entry_fields::{
+    ITEM_OFFSET, SEMANTICS_OFFSET, SERIAL_OFFSET, TYPE_OFFSET, item_in_metric,
+    long_offset_in_metric, semantics_in_metric, serial_in_metric, short_offset_in_metric,
+    type_in_metric,
+};
+use crate::fields::{has_zero, text_at};
 use crate::indoms::{help_fault, indom_serials};
 use crate::keys::{Key, first_again};
 use crate::places::metric_place;
+use crate::sizes::NAME_WIDTH;
 use pcp_base::{Kind, Semantics, is_name};
 use std::alloc::{AllocError, Global};
 use std::collections::BTreeSet;
@@ -18,10 +25,10 @@ fn has_name(alloc: Global, words: &[u64], field: u128) -> Result<bool, AllocErro
     requires { field < 2 ^ 80 }
     ensures { IfOk result (λ named. named ≡ has_name words.now field) }
 {
-    if !has_zero(words, field, NAME_SIZE) {
+    if !has_zero(words, field, NAME_WIDTH) {
         return Ok(false);
     }
-    let name = text_at(alloc, words, field, NAME_SIZE)?;
+    let name = text_at(alloc, words, field, NAME_WIDTH)?;
     Ok(is_name(name.as_slice()))
 }
 
@@ -70,11 +77,11 @@ fn code_fault(words: &[u64], metric: u64) -> Option<u64>
     requires { metric < 524288 }
     ensures { result ≡ code_fault words.now metric }
 {
-    if Kind::of_code(number32(words, metric as u128 + 68)).is_none() {
-        return Some(metric + 68);
+    if Kind::of_code(type_in_metric(words, metric as u128)).is_none() {
+        return Some(metric + TYPE_OFFSET);
     }
-    if Semantics::of_code(number32(words, metric as u128 + 72)).is_none() {
-        return Some(metric + 72);
+    if Semantics::of_code(semantics_in_metric(words, metric as u128)).is_none() {
+        return Some(metric + SEMANTICS_OFFSET);
     }
     None
 }
@@ -100,13 +107,13 @@ fn metric_reference_fault(words: &[u64], serials: &BTreeSet<u32>, metric: u64) -
     requires bound { metric < 524288 }
     ensures { result ≡ metric_reference_fault words.now metric }
 {
-    if !serial_leads(words, serials, number32(words, metric as u128 + 80)) {
-        return Some(metric + 80);
+    if !serial_leads(words, serials, serial_in_metric(words, metric as u128)) {
+        return Some(metric + SERIAL_OFFSET);
     }
-    if let Some(at) = help_fault(words, metric + 88) {
+    if let Some(at) = help_fault(words, short_offset_in_metric(metric as u128) as u64) {
         return Some(at);
     }
-    help_fault(words, metric + 96)
+    help_fault(words, long_offset_in_metric(metric as u128) as u64)
 }
 
 /// The place of the first reference of a metric that leads nowhere, as the domains have these serials.
@@ -154,9 +161,9 @@ pub fn metrics_serial_fault(words: &[u64]) -> Option<u64>
     ensures { result ≡ metrics_serial_fault words.now }
 {
     for i in 0..metric_count(words) {
-        let item = metric_place(words, i) + 64;
-        if 1023 < number32(words, item as u128) {
-            return Some(item);
+        let metric = metric_place(words, i);
+        if 1023 < item_in_metric(words, metric as u128) {
+            return Some(metric + ITEM_OFFSET);
         }
     }
     None

@@ -1,3 +1,4 @@
+//! The places of entries that lie in the words, as they are told.
 ghost use Rattle.std.specs.Prelude.{◌≡◌, ◌<◌};
 ghost use Rattle.mmv_format.specs.Entries.{indom_count, indom_at, instance_count, instance_at, metric_count, metric_at, value_count, value_at, string_count, string_at};
 ghost use Rattle.mmv_format.specs.Faults.{HasSections};

@@ -1,3 +1,4 @@
+//! What an image says, row by row.
 use pcp_base::{Kind, List, Semantics, Text, Units};
 
 /// A word that holds a value: the item of its metric, its instance (-1 for a metric without a domain), the

@@ -1,10 +1,14 @@
+//! What of the values of an image is at fault.
 ghost use Rattle.std.specs.Prelude.{◌≡◌, ◌<◌, ◌^◌, IfOk};
 ghost use Rattle.mmv_format.specs.Entries.{metric_of, instance_leads, choice_leads, value_count};
 ghost use Rattle.mmv_format.specs.Faults.{HasSections, value_reference_fault, values_reference_fault, values_duplicate_fault};
 
 use crate::contents::{VALUES, section_of};
 use crate::entries::{leads_to_instance, leads_to_metric, leads_to_string};
-use crate::fields::{number32, number64};
+use crate::entry_fields::{
+    EXTRA_OFFSET, INSTANCE_OFFSET, METRIC_OFFSET, domain_in_instance, extra_in_value,
+    instance_in_value, metric_in_value, serial_in_indom, serial_in_metric, type_in_metric,
+};
 use crate::keys::{Key, first_again};
 use crate::metrics::is_no_domain;
 use crate::places::value_place;
@@ -16,7 +20,7 @@ pub fn metric_of(words: &[u64], value: u128) -> u64
     requires { value < 2 ^ 80 }
     ensures { result ≡ metric_of words.now value }
 {
-    number64(words, value + 16)
+    metric_in_value(words, value)
 }
 
 /// Whether the value at a place has the instance 0, or an instance of its metric's domain where that has one.
@@ -25,14 +29,14 @@ fn instance_leads(words: &[u64], value: u128) -> bool
     requires { value < 2 ^ 80 }
     ensures { result ≡ instance_leads words.now value }
 {
-    let serial = number32(words, metric_of(words, value) as u128 + 80);
-    let instance = number64(words, value + 24);
+    let serial = serial_in_metric(words, metric_of(words, value) as u128);
+    let instance = instance_in_value(words, value);
     if is_no_domain(serial) {
         return instance == 0;
     }
     let instance = instance as u128;
     leads_to_instance(words, instance)
-        && number32(words, number64(words, instance) as u128) == serial
+        && serial_in_indom(words, domain_in_instance(words, instance) as u128) == serial
 }
 
 /// Whether the value at a place leads to a string, where its metric's kind is text.
@@ -41,8 +45,8 @@ fn choice_leads(words: &[u64], value: u128) -> bool
     requires { value < 2 ^ 80 }
     ensures { result ≡ choice_leads words.now value }
 {
-    number32(words, metric_of(words, value) as u128 + 68) != 6
-        || leads_to_string(words, number64(words, value + 8) as u128)
+    type_in_metric(words, metric_of(words, value) as u128) != 6
+        || leads_to_string(words, extra_in_value(words, value) as u128)
 }
 
 /// How many values there are.
@@ -59,13 +63,13 @@ fn value_reference_fault(words: &[u64], value: u64) -> Option<u64>
     ensures { result ≡ value_reference_fault words.now value }
 {
     if !leads_to_metric(words, metric_of(words, value as u128) as u128) {
-        return Some(value + 16);
+        return Some(value + METRIC_OFFSET);
     }
     if !choice_leads(words, value as u128) {
-        return Some(value + 8);
+        return Some(value + EXTRA_OFFSET);
     }
     if !instance_leads(words, value as u128) {
-        return Some(value + 24);
+        return Some(value + INSTANCE_OFFSET);
     }
     None
 }

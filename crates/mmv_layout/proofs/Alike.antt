@@ -3,7 +3,9 @@ use Rattle.std.proofs.Common.{◌≡◌, ℕ, zero, suc, ◌+◌, ◌*◌, ◌/�
 use Rattle.std.proofs.lemmas.Bool.Decides.{nat_tests}
 use Rattle.mmv_format.specs.declared.contents.Section.{Section}
 use Rattle.mmv_format.specs.Below.{all_below, some_below}
-use Rattle.mmv_format.specs.Fields.{number32, number64, byte_at, text_at, has_zero, same_name}
+use Rattle.mmv_format.specs.Fields.{number32, number64, byte_at, text_at, has_zero}
+use Rattle.mmv_format.specs.Sizes.{name_width, header_size, indom_size, instance_size, metric_size, value_size, string_size}
+use Rattle.mmv_format.specs.EntryFields.{same_name, count_offset_in_indom, count_in_indom, first_offset_in_indom, first_in_indom, short_offset_in_indom, long_offset_in_indom, domain_in_instance, number_offset_in_instance, name_offset_in_instance, item_offset_in_metric, type_offset_in_metric, type_in_metric, semantics_offset_in_metric, serial_offset_in_metric, serial_in_metric, short_offset_in_metric, long_offset_in_metric, extra_in_value, metric_offset_in_value, instance_offset_in_value, instance_in_value}
 use Rattle.mmv_format.specs.Contents.{contents_in, type_in, count_in, place_in, section_bytes, end_in, section_lies, are_apart, is_first_of_type, has_good_section, find_section, section_of}
 use Rattle.mmv_format.specs.Entries.{leads_to_string, indom_count, indom_at, instance_count, instance_at, metric_count, metric_at, value_count, value_at, string_count, string_at, help_leads, is_instance_of, has_good_run, has_serial, is_new_indom, is_good_indom, has_text, lies_in_run, is_same_instance, is_new_instance, is_good_instance, has_name, is_no_domain, is_indom_serial, serial_leads, is_same_metric, is_new_metric, has_good_fields, is_good_metric, metric_of, instance_leads, choice_leads, is_same_value, is_new_value, is_good_value, is_good_string}
 use Rattle.mmv_format.specs.Images.{is_image}
@@ -20,7 +22,7 @@ pub record Agrees (a b : List ℕ) : Type 0 where
   pub few : length b ≤ 65536
   pub again : number64 b 8 ≡ number64 b 16
   pub same : (place : ℕ) → Looked a place → number64 b place ≡ number64 a place
-  pub choices : (i : ℕ) → i < value_count a → number32 a (metric_of a (value_at a i) + 68) ≡ 6 → leads_to_string a (number64 b (value_at a i + 8)) ≡ true
+  pub choices : (i : ℕ) → i < value_count a → type_in_metric a (metric_of a (value_at a i)) ≡ 6 → leads_to_string a (extra_in_value b (value_at a i)) ≡ true
 
 all_alike : (n : ℕ) (test other : ℕ → Bool) → ((k : ℕ) → k < n → other k ≡ test k) → all_below n other ≡ all_below n test
 unfolding all_below
@@ -76,13 +78,13 @@ module _ (a b : List ℕ) (h : is_image a ≡ true) (g : Agrees a b) where
   unfolding has_zero
   zero_same n at looked = some_alike n (λ k. nat_eq (byte_at a (at + k)) 0) (λ k. nat_eq (byte_at b (at + k)) 0) (λ k below. ap (λ c. nat_eq c 0) (same_byte (at + k) (looked k below)))
 
-  name_same : (x y : ℕ) → ((k : ℕ) → k < 64 → Looked a (x + k)) → ((k : ℕ) → k < 64 → Looked a (y + k)) → same_name b x y ≡ same_name a x y
+  name_same : (x y : ℕ) → ((k : ℕ) → k < name_width → Looked a (x + k)) → ((k : ℕ) → k < name_width → Looked a (y + k)) → same_name b x y ≡ same_name a x y
   unfolding same_name
-  name_same x y looked others = ap₂ bytes_eq (text_same 64 x looked) (text_same 64 y others)
+  name_same x y looked others = ap₂ bytes_eq (text_same name_width x looked) (text_same name_width y others)
 
   -- the header and the contents
 
-  pub head32 : (place : ℕ) → place < 40 → (place < 8) ⊎ (24 ≤ place) → number32 b place ≡ number32 a place
+  pub head32 : (place : ℕ) → place < header_size → (place < 8) ⊎ (24 ≤ place) → number32 b place ≡ number32 a place
   head32 place below outside = same32 place (looked_header a place h below outside)
 
   pub contents_same : contents_in b ≡ contents_in a
@@ -147,7 +149,7 @@ module _ (a b : List ℕ) (h : is_image a ≡ true) (g : Agrees a b) where
   -- domains
 
   pub indom_place : (i : ℕ) → indom_at b i ≡ indom_at a i
-  indom_place i = ap (λ s. s.place + 32 * i) (section_same 1)
+  indom_place i = ap (λ s. s.place + indom_size * i) (section_same 1)
 
   indom_serial : (i : ℕ) → i < indom_count a → number32 b (indom_at b i) ≡ number32 a (indom_at a i)
   indom_serial i below = ap (number32 b) (indom_place i) ∙ same32 (indom_at a i) (at_first (indom_at a i) (looked_indom a i 0 h below (omega arith)))
@@ -168,16 +170,16 @@ module _ (a b : List ℕ) (h : is_image a ≡ true) (g : Agrees a b) where
 
   member_leads : (domain instance : ℕ) → is_instance_of a domain instance ≡ true → LeadsTo (instance_count a) (instance_at a) instance
   unfolding is_instance_of
-  member_leads domain instance member = leads_there (section_of a 2).place (section_of a 2).count 80 instance (both_left _ _ member)
+  member_leads domain instance member = leads_there (section_of a 2).place (section_of a 2).count instance_size instance (both_left _ _ member)
 
   -- instance k of the run of a domain
-  pub run_leads : (i k : ℕ) → i < indom_count a → k < number32 a (indom_at a i + 4) → LeadsTo (instance_count a) (instance_at a) (number64 a (indom_at a i + 8) + 80 * k)
+  pub run_leads : (i k : ℕ) → i < indom_count a → k < count_in_indom a (indom_at a i) → LeadsTo (instance_count a) (instance_at a) (first_in_indom a (indom_at a i) + instance_size * k)
   unfolding has_good_run
   run_leads i k below within =
-      member_leads (indom_at a i) (number64 a (indom_at a i + 8) + 80 * k)
-      (all_at (number32 a (indom_at a i + 4)) k (λ k. is_instance_of a (indom_at a i) (number64 a (indom_at a i + 8) + 80 * k)) (good_run i (good_indom a i h below)) within)
+      member_leads (indom_at a i) (first_in_indom a (indom_at a i) + instance_size * k)
+      (all_at (count_in_indom a (indom_at a i)) k (λ k. is_instance_of a (indom_at a i) (first_in_indom a (indom_at a i) + instance_size * k)) (good_run i (good_indom a i h below)) within)
 
-  pub looked_run : (place o : ℕ) → LeadsTo (instance_count a) (instance_at a) place → o < 80 → Looked a (place + o)
+  pub looked_run : (place o : ℕ) → LeadsTo (instance_count a) (instance_at a) place → o < instance_size → Looked a (place + o)
   looked_run place o (k, below, stands) small = subst (λ p. Looked a (p + o)) (sym stands) (looked_instance a k o h below small)
 
   member_same : (domain instance : ℕ) → Looked a instance → is_instance_of b domain instance ≡ is_instance_of a domain instance
@@ -187,12 +189,12 @@ module _ (a b : List ℕ) (h : is_image a ≡ true) (g : Agrees a b) where
   run_same : (i : ℕ) → i < indom_count a → has_good_run b (indom_at a i) ≡ has_good_run a (indom_at a i)
   unfolding has_good_run
   run_same i below =
-      all_same (number32 a (indom_at a i + 4)) (number32 b (indom_at a i + 4)) (λ k. is_instance_of a (indom_at a i) (number64 a (indom_at a i + 8) + 80 * k))
-      (λ k. is_instance_of b (indom_at a i) (number64 b (indom_at a i + 8) + 80 * k))
-      (same32 (indom_at a i + 4) (looked_indom a i 4 h below (omega arith)))
-      (λ k within. ap (λ n. is_instance_of b (indom_at a i) (n + 80 * k)) (g.same (indom_at a i + 8) (looked_indom a i 8 h below (omega arith)))
-      ∙ member_same (indom_at a i) (number64 a (indom_at a i + 8) + 80 * k)
-      (at_first (number64 a (indom_at a i + 8) + 80 * k) (looked_run (number64 a (indom_at a i + 8) + 80 * k) 0 (run_leads i k below within) (omega arith))))
+      all_same (count_in_indom a (indom_at a i)) (count_in_indom b (indom_at a i)) (λ k. is_instance_of a (indom_at a i) (first_in_indom a (indom_at a i) + instance_size * k))
+      (λ k. is_instance_of b (indom_at a i) (first_in_indom b (indom_at a i) + instance_size * k))
+      (same32 (count_offset_in_indom (indom_at a i)) (looked_indom a i (count_offset_in_indom 0) h below (omega arith)))
+      (λ k within. ap (λ n. is_instance_of b (indom_at a i) (n + instance_size * k)) (g.same (first_offset_in_indom (indom_at a i)) (looked_indom a i (first_offset_in_indom 0) h below (omega arith)))
+      ∙ member_same (indom_at a i) (first_in_indom a (indom_at a i) + instance_size * k)
+      (at_first (first_in_indom a (indom_at a i) + instance_size * k) (looked_run (first_in_indom a (indom_at a i) + instance_size * k) 0 (run_leads i k below within) (omega arith))))
 
   pub indom_same : (i : ℕ) → i < indom_count a → is_good_indom b i ≡ is_good_indom a i
   unfolding is_good_indom
@@ -201,33 +203,33 @@ module _ (a b : List ℕ) (h : is_image a ≡ true) (g : Agrees a b) where
         indom_serial i below,
         new_indom_same i below,
         indom_place i,
-        help_same (indom_at a i + 16) (looked_indom a i 16 h below (omega arith)),
-        help_same (indom_at a i + 24) (looked_indom a i 24 h below (omega arith)),
+        help_same (short_offset_in_indom (indom_at a i)) (looked_indom a i (short_offset_in_indom 0) h below (omega arith)),
+        help_same (long_offset_in_indom (indom_at a i)) (looked_indom a i (long_offset_in_indom 0) h below (omega arith)),
         run_same i below,
       ) refl
 
   -- instances
 
   pub instance_place : (i : ℕ) → instance_at b i ≡ instance_at a i
-  instance_place i = ap (λ s. s.place + 80 * i) (section_same 2)
+  instance_place i = ap (λ s. s.place + instance_size * i) (section_same 2)
 
-  text_field_same : (field : ℕ) → ((k : ℕ) → k < 64 → Looked a (field + k)) → has_text b field ≡ has_text a field
+  text_field_same : (field : ℕ) → ((k : ℕ) → k < name_width → Looked a (field + k)) → has_text b field ≡ has_text a field
   unfolding has_text
-  text_field_same field looked = rw (zero_same 64 field looked, same_byte field (at_first field (looked 0 (omega arith)))) refl
+  text_field_same field looked = rw (zero_same name_width field looked, same_byte field (at_first field (looked 0 (omega arith)))) refl
 
   good_lies : (i : ℕ) → is_good_instance a i ≡ true → lies_in_run a (instance_at a i) ≡ true
   unfolding is_good_instance
   good_lies i good = both_right _ _ (both_left _ _ (both_left _ _ good))
 
   -- an instance leads to a domain
-  pub domain_leads : (i : ℕ) → i < instance_count a → LeadsTo (indom_count a) (indom_at a) (number64 a (instance_at a i))
+  pub domain_leads : (i : ℕ) → i < instance_count a → LeadsTo (indom_count a) (indom_at a) (domain_in_instance a (instance_at a i))
   unfolding lies_in_run
-  domain_leads i below = leads_there (section_of a 1).place (section_of a 1).count 32 (number64 a (instance_at a i)) (both_left _ _ (good_lies i (good_instance a i h below)))
+  domain_leads i below = leads_there (section_of a 1).place (section_of a 1).count indom_size (domain_in_instance a (instance_at a i)) (both_left _ _ (good_lies i (good_instance a i h below)))
 
-  pub looked_domain : (place o : ℕ) → LeadsTo (indom_count a) (indom_at a) place → o < 32 → Looked a (place + o)
+  pub looked_domain : (place o : ℕ) → LeadsTo (indom_count a) (indom_at a) place → o < indom_size → Looked a (place + o)
   looked_domain place o (k, below, stands) small = subst (λ p. Looked a (p + o)) (sym stands) (looked_indom a k o h below small)
 
-  domain_same : (i : ℕ) → i < instance_count a → number64 b (instance_at a i) ≡ number64 a (instance_at a i)
+  domain_same : (i : ℕ) → i < instance_count a → domain_in_instance b (instance_at a i) ≡ domain_in_instance a (instance_at a i)
   domain_same i below = g.same (instance_at a i) (at_first (instance_at a i) (looked_instance a i 0 h below (omega arith)))
 
   lies_same : (i : ℕ) → i < instance_count a → lies_in_run b (instance_at a i) ≡ lies_in_run a (instance_at a i)
@@ -236,14 +238,14 @@ module _ (a b : List ℕ) (h : is_image a ≡ true) (g : Agrees a b) where
       rw (
         domain_same i below,
         section_same 1,
-        g.same (number64 a (instance_at a i) + 8) (looked_domain (number64 a (instance_at a i)) 8 (domain_leads i below) (omega arith)),
-        same32 (number64 a (instance_at a i) + 4) (looked_domain (number64 a (instance_at a i)) 4 (domain_leads i below) (omega arith)),
+        g.same (first_offset_in_indom (domain_in_instance a (instance_at a i))) (looked_domain (domain_in_instance a (instance_at a i)) (first_offset_in_indom 0) (domain_leads i below) (omega arith)),
+        same32 (count_offset_in_indom (domain_in_instance a (instance_at a i))) (looked_domain (domain_in_instance a (instance_at a i)) (count_offset_in_indom 0) (domain_leads i below) (omega arith)),
       ) refl
 
-  name_looked : (i : ℕ) → i < instance_count a → (k : ℕ) → k < 64 → Looked a ((instance_at a i + 16) + k)
-  name_looked i below k small = subst (Looked a) (moved (instance_at a i)) (looked_instance a i (16 + k) h below (omega arith))
+  name_looked : (i : ℕ) → i < instance_count a → (k : ℕ) → k < name_width → Looked a ((name_offset_in_instance (instance_at a i)) + k)
+  name_looked i below k small = subst (Looked a) (moved (instance_at a i)) (looked_instance a i (name_offset_in_instance 0 + k) h below (omega arith))
     where
-      moved : (p : ℕ) → p + (16 + k) ≡ (p + 16) + k
+      moved : (p : ℕ) → p + (name_offset_in_instance 0 + k) ≡ name_offset_in_instance p + k
       moved p = omega arith
 
   same_instance_same : (j i : ℕ) → j < instance_count a → i < instance_count a → is_same_instance b (instance_at a j) (instance_at a i) ≡ is_same_instance a (instance_at a j) (instance_at a i)
@@ -252,9 +254,9 @@ module _ (a b : List ℕ) (h : is_image a ≡ true) (g : Agrees a b) where
       rw (
         domain_same j x,
         domain_same i y,
-        same32 (instance_at a j + 12) (looked_instance a j 12 h x (omega arith)),
-        same32 (instance_at a i + 12) (looked_instance a i 12 h y (omega arith)),
-        name_same (instance_at a j + 16) (instance_at a i + 16) (name_looked j x) (name_looked i y),
+        same32 (number_offset_in_instance (instance_at a j)) (looked_instance a j (number_offset_in_instance 0) h x (omega arith)),
+        same32 (number_offset_in_instance (instance_at a i)) (looked_instance a i (number_offset_in_instance 0) h y (omega arith)),
+        name_same (name_offset_in_instance (instance_at a j)) (name_offset_in_instance (instance_at a i)) (name_looked j x) (name_looked i y),
       ) refl
 
   new_instance_same : (i : ℕ) → i < instance_count a → is_new_instance b i ≡ is_new_instance a i
@@ -269,19 +271,19 @@ module _ (a b : List ℕ) (h : is_image a ≡ true) (g : Agrees a b) where
       rw (
         new_instance_same i below,
         instance_place i,
-        text_field_same (instance_at a i + 16) (name_looked i below),
+        text_field_same (name_offset_in_instance (instance_at a i)) (name_looked i below),
         lies_same i below,
-        same32 (instance_at a i + 12) (looked_instance a i 12 h below (omega arith)),
+        same32 (number_offset_in_instance (instance_at a i)) (looked_instance a i (number_offset_in_instance 0) h below (omega arith)),
       ) refl
 
   -- metrics
 
   pub metric_place : (i : ℕ) → metric_at b i ≡ metric_at a i
-  metric_place i = ap (λ s. s.place + 104 * i) (section_same 3)
+  metric_place i = ap (λ s. s.place + metric_size * i) (section_same 3)
 
-  name_field_same : (field : ℕ) → ((k : ℕ) → k < 64 → Looked a (field + k)) → has_name b field ≡ has_name a field
+  name_field_same : (field : ℕ) → ((k : ℕ) → k < name_width → Looked a (field + k)) → has_name b field ≡ has_name a field
   unfolding has_name
-  name_field_same field looked = rw (zero_same 64 field looked, text_same 64 field looked) refl
+  name_field_same field looked = rw (zero_same name_width field looked, text_same name_width field looked) refl
 
   indom_serial_same : (serial : ℕ) → is_indom_serial b serial ≡ is_indom_serial a serial
   unfolding is_indom_serial
@@ -296,24 +298,24 @@ module _ (a b : List ℕ) (h : is_image a ≡ true) (g : Agrees a b) where
   unfolding has_good_fields
   fields_same i below =
       rw (
-        same32 (metric_at a i + 68) (looked_metric a i 68 h below (omega arith)),
-        same32 (metric_at a i + 72) (looked_metric a i 72 h below (omega arith)),
-        same32 (metric_at a i + 80) (looked_metric a i 80 h below (omega arith)),
-        serial_leads_same (number32 a (metric_at a i + 80)),
-        help_same (metric_at a i + 88) (looked_metric a i 88 h below (omega arith)),
-        help_same (metric_at a i + 96) (looked_metric a i 96 h below (omega arith)),
-        same32 (metric_at a i + 64) (looked_metric a i 64 h below (omega arith)),
+        same32 (type_offset_in_metric (metric_at a i)) (looked_metric a i (type_offset_in_metric 0) h below (omega arith)),
+        same32 (semantics_offset_in_metric (metric_at a i)) (looked_metric a i (semantics_offset_in_metric 0) h below (omega arith)),
+        same32 (serial_offset_in_metric (metric_at a i)) (looked_metric a i (serial_offset_in_metric 0) h below (omega arith)),
+        serial_leads_same (serial_in_metric a (metric_at a i)),
+        help_same (short_offset_in_metric (metric_at a i)) (looked_metric a i (short_offset_in_metric 0) h below (omega arith)),
+        help_same (long_offset_in_metric (metric_at a i)) (looked_metric a i (long_offset_in_metric 0) h below (omega arith)),
+        same32 (item_offset_in_metric (metric_at a i)) (looked_metric a i (item_offset_in_metric 0) h below (omega arith)),
       ) refl
 
-  pub metric_looked : (i : ℕ) → i < metric_count a → (k : ℕ) → k < 64 → Looked a (metric_at a i + k)
+  pub metric_looked : (i : ℕ) → i < metric_count a → (k : ℕ) → k < name_width → Looked a (metric_at a i + k)
   metric_looked i below k small = looked_metric a i k h below (omega arith)
 
   same_metric_same : (j i : ℕ) → j < metric_count a → i < metric_count a → is_same_metric b (metric_at a j) (metric_at a i) ≡ is_same_metric a (metric_at a j) (metric_at a i)
   unfolding is_same_metric
   same_metric_same j i x y =
       rw (
-        same32 (metric_at a j + 64) (looked_metric a j 64 h x (omega arith)),
-        same32 (metric_at a i + 64) (looked_metric a i 64 h y (omega arith)),
+        same32 (item_offset_in_metric (metric_at a j)) (looked_metric a j (item_offset_in_metric 0) h x (omega arith)),
+        same32 (item_offset_in_metric (metric_at a i)) (looked_metric a i (item_offset_in_metric 0) h y (omega arith)),
         name_same (metric_at a j) (metric_at a i) (metric_looked j x) (metric_looked i y),
       ) refl
 
@@ -330,23 +332,23 @@ module _ (a b : List ℕ) (h : is_image a ≡ true) (g : Agrees a b) where
   -- values
 
   pub value_place : (i : ℕ) → value_at b i ≡ value_at a i
-  value_place i = ap (λ s. s.place + 32 * i) (section_same 4)
+  value_place i = ap (λ s. s.place + value_size * i) (section_same 4)
 
   pub metric_of_same : (i : ℕ) → i < value_count a → metric_of b (value_at a i) ≡ metric_of a (value_at a i)
   unfolding metric_of
-  metric_of_same i below = g.same (value_at a i + 16) (looked_value a i 16 h below (omega arith) (omega arith))
+  metric_of_same i below = g.same (metric_offset_in_value (value_at a i)) (looked_value a i (metric_offset_in_value 0) h below (omega arith) (omega arith))
 
-  pub looked_of : (i o : ℕ) → i < value_count a → o < 104 → Looked a (metric_of a (value_at a i) + o)
+  pub looked_of : (i o : ℕ) → i < value_count a → o < metric_size → Looked a (metric_of a (value_at a i) + o)
   looked_of i o below small =
       let (k, within, stands) = value_metric a i (good_value a i h below) in
       subst (λ p. Looked a (p + o)) (sym stands) (looked_metric a k o h within small)
 
   -- a field of the value's metric
-  pub of_same : (i o : ℕ) → i < value_count a → o < 104 → number32 b (metric_of b (value_at a i) + o) ≡ number32 a (metric_of a (value_at a i) + o)
+  pub of_same : (i o : ℕ) → i < value_count a → o < metric_size → number32 b (metric_of b (value_at a i) + o) ≡ number32 a (metric_of a (value_at a i) + o)
   of_same i o below small = ap (λ m. number32 b (m + o)) (metric_of_same i below) ∙ same32 (metric_of a (value_at a i) + o) (looked_of i o below small)
 
-  pub field_same : (i : ℕ) → i < value_count a → number64 b (value_at a i + 24) ≡ number64 a (value_at a i + 24)
-  field_same i below = g.same (value_at a i + 24) (looked_value a i 24 h below (omega arith) (omega arith))
+  pub field_same : (i : ℕ) → i < value_count a → instance_in_value b (value_at a i) ≡ instance_in_value a (value_at a i)
+  field_same i below = g.same (instance_offset_in_value (value_at a i)) (looked_value a i (instance_offset_in_value 0) h below (omega arith) (omega arith))
 
   leads_good : (i : ℕ) → is_good_value a i ≡ true → instance_leads a (value_at a i) ≡ true
   unfolding is_good_value
@@ -357,10 +359,10 @@ module _ (a b : List ℕ) (h : is_image a ≡ true) (g : Agrees a b) where
   taken false x y p e = p
 
   -- the instance of a value whose metric has a domain
-  pub instance_there : (i : ℕ) → i < value_count a → is_no_domain (domain_of a (value_at a i)) ≡ false → LeadsTo (instance_count a) (instance_at a) (number64 a (value_at a i + 24))
+  pub instance_there : (i : ℕ) → i < value_count a → is_no_domain (domain_of a (value_at a i)) ≡ false → LeadsTo (instance_count a) (instance_at a) (instance_in_value a (value_at a i))
   unfolding instance_leads
   instance_there i below some =
-      leads_there (section_of a 2).place (section_of a 2).count 80 (number64 a (value_at a i + 24)) (both_left _ _ (taken _ _ _ (leads_good i (good_value a i h below)) some))
+      leads_there (section_of a 2).place (section_of a 2).count instance_size (instance_in_value a (value_at a i)) (both_left _ _ (taken _ _ _ (leads_good i (good_value a i h below)) some))
 
   instance_serial : (place : ℕ) → LeadsTo (instance_count a) (instance_at a) place → number32 b (number64 b place) ≡ number32 a (number64 a place)
   instance_serial place (k, below, stands) =
@@ -370,18 +372,18 @@ module _ (a b : List ℕ) (h : is_image a ≡ true) (g : Agrees a b) where
   instance_leads_same : (i : ℕ) → i < value_count a → instance_leads b (value_at a i) ≡ instance_leads a (value_at a i)
   unfolding instance_leads
   instance_leads_same i below =
-      rw (of_same i 80 below (omega arith), field_same i below, section_same 2)
+      rw (of_same i (serial_offset_in_metric 0) below (omega arith), field_same i below, section_same 2)
       (⊎_elim
       (λ (none : is_no_domain (domain_of a (value_at a i)) ≡ true). rw none refl)
-      (λ (some : is_no_domain (domain_of a (value_at a i)) ≡ false). rw (some, instance_serial (number64 a (value_at a i + 24)) (instance_there i below some)) refl)
+      (λ (some : is_no_domain (domain_of a (value_at a i)) ≡ false). rw (some, instance_serial (instance_in_value a (value_at a i)) (instance_there i below some)) refl)
       (either (is_no_domain (domain_of a (value_at a i)))))
 
   same_value_same : (j i : ℕ) → j < value_count a → i < value_count a → is_same_value b (value_at a j) (value_at a i) ≡ is_same_value a (value_at a j) (value_at a i)
   unfolding is_same_value
   same_value_same j i x y =
       rw (
-        g.same (value_at a j + 16) (looked_value a j 16 h x (omega arith) (omega arith)),
-        g.same (value_at a i + 16) (looked_value a i 16 h y (omega arith) (omega arith)),
+        g.same (metric_offset_in_value (value_at a j)) (looked_value a j (metric_offset_in_value 0) h x (omega arith) (omega arith)),
+        g.same (metric_offset_in_value (value_at a i)) (looked_value a i (metric_offset_in_value 0) h y (omega arith) (omega arith)),
         field_same j x,
         field_same i y,
       ) refl
@@ -396,12 +398,12 @@ module _ (a b : List ℕ) (h : is_image a ≡ true) (g : Agrees a b) where
   choice_still : (i : ℕ) → i < value_count a → choice_leads b (value_at a i) ≡ true
   unfolding choice_leads
   choice_still i below =
-      rw (of_same i 68 below (omega arith), section_same 5)
+      rw (of_same i (type_offset_in_metric 0) below (omega arith), section_same 5)
       (⊎_elim
-      (λ (choice : nat_eq (number32 a (metric_of a (value_at a i) + 68)) 6 ≡ true).
-      or_last _ _ (g.choices i below (eq_of (number32 a (metric_of a (value_at a i) + 68)) 6 choice)))
-      (λ (other : nat_eq (number32 a (metric_of a (value_at a i) + 68)) 6 ≡ false). rw other refl)
-      (either (nat_eq (number32 a (metric_of a (value_at a i) + 68)) 6)))
+      (λ (choice : nat_eq (type_in_metric a (metric_of a (value_at a i))) 6 ≡ true).
+      or_last _ _ (g.choices i below (eq_of (type_in_metric a (metric_of a (value_at a i))) 6 choice)))
+      (λ (other : nat_eq (type_in_metric a (metric_of a (value_at a i))) 6 ≡ false). rw other refl)
+      (either (nat_eq (type_in_metric a (metric_of a (value_at a i))) 6)))
     where
       or_last : (x y : Bool) → y ≡ true → (x || y) ≡ true
       or_last true y e = refl
@@ -419,8 +421,8 @@ module _ (a b : List ℕ) (h : is_image a ≡ true) (g : Agrees a b) where
   -- strings
 
   pub string_place : (i : ℕ) → string_at b i ≡ string_at a i
-  string_place i = ap (λ s. s.place + 256 * i) (section_same 5)
+  string_place i = ap (λ s. s.place + string_size * i) (section_same 5)
 
   pub string_same : (i : ℕ) → i < string_count a → is_good_string b i ≡ is_good_string a i
   unfolding is_good_string
-  string_same i below = ap (λ p. has_zero b p 256) (string_place i) ∙ zero_same 256 (string_at a i) (λ k small. looked_string a i k h below small)
+  string_same i below = ap (λ p. has_zero b p string_size) (string_place i) ∙ zero_same string_size (string_at a i) (λ k small. looked_string a i k h below small)

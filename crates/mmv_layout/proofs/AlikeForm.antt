@@ -5,8 +5,10 @@ use Rattle.std.specs.List.{filter_map}
 use Rattle.std.proofs.lemmas.Bool.Decides.{nat_tests}
 use Rattle.std.proofs.lemmas.Bool.{eq-eqb}
 use Rattle.mmv_format.specs.Below.{all_below}
-use Rattle.mmv_format.specs.Fields.{number32, number64}
-use Rattle.mmv_format.specs.Contents.{bytes_in, is_short, contents_in, has_good_section, is_aligned, sections_are_good, sections_are_aligned, section_of}
+use Rattle.mmv_format.specs.Fields.{number64}
+use Rattle.mmv_format.specs.Sizes.{name_width, instance_size, value_size, string_size}
+use Rattle.mmv_format.specs.EntryFields.{units_offset_in_metric, count_offset_in_indom, count_in_indom, first_offset_in_indom, first_in_indom, short_offset_in_indom, long_offset_in_indom, number_offset_in_instance, name_offset_in_instance, item_offset_in_metric, type_offset_in_metric, semantics_offset_in_metric, serial_offset_in_metric, short_offset_in_metric, long_offset_in_metric, extra_in_value, instance_in_value}
+use Rattle.mmv_format.specs.Contents.{bytes_in, is_short, contents_in, has_good_section, is_aligned, sections_are_good, sections_are_aligned, section_of, cluster_offset}
 use Rattle.mmv_format.specs.Entries.{leads_to_string, indom_count, indom_at, instance_count, instance_at, metric_count, metric_at, value_count, value_at, string_count, string_at, help_leads, is_good_indom, is_good_instance, is_no_domain, has_good_fields, is_good_metric, is_good_value, is_good_string, indoms_are_good, instances_are_good, metrics_are_good, values_are_good, strings_are_good}
 use Rattle.mmv_format.specs.Images.{has_good_header, is_image}
 use Rattle.mmv_format.proofs.Below.{all_at, both_left, both_right}
@@ -68,7 +70,7 @@ module _ (a b : List ℕ) (h : is_image a ≡ true) (g : Agrees a b) where
       (ap (λ n. nat_eq n 5655885) (head32 a b h g 0 (omega arith) (inl (omega arith))) ∙ both_right _ _ (both_left _ _ (both_left _ _ (both_left _ _ good))))
       (ap (λ n. nat_eq n 1) (head32 a b h g 4 (omega arith) (inl (omega arith))) ∙ both_right _ _ (both_left _ _ (both_left _ _ good)))
       (eq-eqb (number64 b 8) (number64 b 16) g.again)
-      (ap (λ n. nat_le n 4095) (head32 a b h g 36 (omega arith) (inr (omega arith))) ∙ both_right _ _ good)
+      (ap (λ n. nat_le n 4095) (head32 a b h g cluster_offset (omega arith) (inr (omega arith))) ∙ both_right _ _ good)
 
   sections_still : sections_are_good b ≡ true
   unfolding sections_are_good
@@ -103,7 +105,7 @@ module _ (a b : List ℕ) (h : is_image a ≡ true) (g : Agrees a b) where
 
   string_text_same : (place : ℕ) → LeadsTo (string_count a) (string_at a) place → string_text b place ≡ string_text a place
   string_text_same place (k, below, stands) =
-      text_same a b h g 256 place (λ o small. subst (λ p. Looked a (p + o)) (sym stands) (looked_string a k o h below small))
+      text_same a b h g string_size place (λ o small. subst (λ p. Looked a (p + o)) (sym stands) (looked_string a k o h below small))
 
   help_of_same : (field : ℕ) → Looked a field → help_leads a field ≡ true → help_of b field ≡ help_of a field
   unfolding help_of help_leads
@@ -112,31 +114,31 @@ module _ (a b : List ℕ) (h : is_image a ≡ true) (g : Agrees a b) where
       (⊎_elim
       (λ (null : nat_eq (number64 a field) 0 ≡ true). rw null refl)
       (λ (some : nat_eq (number64 a field) 0 ≡ false).
-      rw some (ap Some (string_text_same (number64 a field) (leads_there (section_of a 5).place (section_of a 5).count 256 (number64 a field) (or_right _ _ leads some)))))
+      rw some (ap Some (string_text_same (number64 a field) (leads_there (section_of a 5).place (section_of a 5).count string_size (number64 a field) (or_right _ _ leads some)))))
       (either (nat_eq (number64 a field) 0)))
 
   instance_row_same : (place : ℕ) → LeadsTo (instance_count a) (instance_at a) place → instance_row b place ≡ instance_row a place
   unfolding instance_row
   instance_row_same place leads =
-      ap₂ (λ n t. (cast_signed w32 n, t)) (same32 a b h g (place + 12) (looked_run a b h g place 12 leads (omega arith)))
-      (text_same a b h g 64 (place + 16) (λ k small. subst (Looked a) (moved place k) (looked_run a b h g place (16 + k) leads (omega arith))))
+      ap₂ (λ n t. (cast_signed w32 n, t)) (same32 a b h g (number_offset_in_instance place) (looked_run a b h g place (number_offset_in_instance 0) leads (omega arith)))
+      (text_same a b h g name_width (name_offset_in_instance place) (λ k small. subst (Looked a) (moved place k) (looked_run a b h g place (name_offset_in_instance 0 + k) leads (omega arith))))
     where
-      moved : (p k : ℕ) → p + (16 + k) ≡ (p + 16) + k
+      moved : (p k : ℕ) → p + (name_offset_in_instance 0 + k) ≡ name_offset_in_instance p + k
       moved p k = omega arith
 
   instances_of_same : (i : ℕ) → i < indom_count a → instances_of b (indom_at a i) ≡ instances_of a (indom_at a i)
   unfolding instances_of
   instances_of_same i below =
-      ap (λ n. list_below n (λ k. instance_row b (number64 b (indom_at a i + 8) + 80 * k))) (same32 a b h g (indom_at a i + 4) (looked_indom a i 4 h below (omega arith)))
-      ∙ rows_same (number32 a (indom_at a i + 4)) (λ k. instance_row b (number64 b (indom_at a i + 8) + 80 * k)) (λ k. instance_row a (number64 a (indom_at a i + 8) + 80 * k))
-      (λ k within. ap (λ n. instance_row b (n + 80 * k)) (g.same (indom_at a i + 8) (looked_indom a i 8 h below (omega arith)))
-      ∙ instance_row_same (number64 a (indom_at a i + 8) + 80 * k) (run_leads a b h g i k below within))
+      ap (λ n. list_below n (λ k. instance_row b (first_in_indom b (indom_at a i) + instance_size * k))) (same32 a b h g (count_offset_in_indom (indom_at a i)) (looked_indom a i (count_offset_in_indom 0) h below (omega arith)))
+      ∙ rows_same (count_in_indom a (indom_at a i)) (λ k. instance_row b (first_in_indom b (indom_at a i) + instance_size * k)) (λ k. instance_row a (first_in_indom a (indom_at a i) + instance_size * k))
+      (λ k within. ap (λ n. instance_row b (n + instance_size * k)) (g.same (first_offset_in_indom (indom_at a i)) (looked_indom a i (first_offset_in_indom 0) h below (omega arith)))
+      ∙ instance_row_same (first_in_indom a (indom_at a i) + instance_size * k) (run_leads a b h g i k below within))
 
-  short_leads : (i : ℕ) → is_good_indom a i ≡ true → help_leads a (indom_at a i + 16) ≡ true
+  short_leads : (i : ℕ) → is_good_indom a i ≡ true → help_leads a (short_offset_in_indom (indom_at a i)) ≡ true
   unfolding is_good_indom
   short_leads i good = both_left _ _ (both_left _ _ (both_left _ _ (both_left _ _ good)))
 
-  long_leads : (i : ℕ) → is_good_indom a i ≡ true → help_leads a (indom_at a i + 24) ≡ true
+  long_leads : (i : ℕ) → is_good_indom a i ≡ true → help_leads a (long_offset_in_indom (indom_at a i)) ≡ true
   unfolding is_good_indom
   long_leads i good = both_right _ _ (both_left _ _ (both_left _ _ (both_left _ _ good)))
 
@@ -146,8 +148,8 @@ module _ (a b : List ℕ) (h : is_image a ≡ true) (g : Agrees a b) where
       indom_rows_same (indom_row b (indom_at a i)) (indom_row a (indom_at a i))
       (same32 a b h g (indom_at a i) (subst (Looked a) (add-zero (indom_at a i)) (looked_indom a i 0 h below (omega arith))))
       (instances_of_same i below)
-      (help_of_same (indom_at a i + 16) (looked_indom a i 16 h below (omega arith)) (short_leads i (good_indom a i h below)))
-      (help_of_same (indom_at a i + 24) (looked_indom a i 24 h below (omega arith)) (long_leads i (good_indom a i h below)))
+      (help_of_same (short_offset_in_indom (indom_at a i)) (looked_indom a i (short_offset_in_indom 0) h below (omega arith)) (short_leads i (good_indom a i h below)))
+      (help_of_same (long_offset_in_indom (indom_at a i)) (looked_indom a i (long_offset_in_indom 0) h below (omega arith)) (long_leads i (good_indom a i h below)))
 
   indoms_same : indoms_of b ≡ indoms_of a
   unfolding indoms_of
@@ -155,11 +157,11 @@ module _ (a b : List ℕ) (h : is_image a ≡ true) (g : Agrees a b) where
       ap (λ n. list_below n (λ i. indom_row b (indom_at b i))) (count_of 1)
       ∙ rows_same (indom_count a) (λ i. indom_row b (indom_at b i)) (λ i. indom_row a (indom_at a i)) (λ i below. ap (indom_row b) (indom_place a b h g i) ∙ indom_row_same i below)
 
-  metric_short : (metric : ℕ) → has_good_fields a metric ≡ true → help_leads a (metric + 88) ≡ true
+  metric_short : (metric : ℕ) → has_good_fields a metric ≡ true → help_leads a (short_offset_in_metric metric) ≡ true
   unfolding has_good_fields
   metric_short metric good = both_right _ _ (both_left _ _ (both_left _ _ good))
 
-  metric_long : (metric : ℕ) → has_good_fields a metric ≡ true → help_leads a (metric + 96) ≡ true
+  metric_long : (metric : ℕ) → has_good_fields a metric ≡ true → help_leads a (long_offset_in_metric metric) ≡ true
   unfolding has_good_fields
   metric_long metric good = both_right _ _ (both_left _ _ good)
 
@@ -168,14 +170,14 @@ module _ (a b : List ℕ) (h : is_image a ≡ true) (g : Agrees a b) where
   metric_row_same i below =
       let good : has_good_fields a (metric_at a i) ≡ true = metric_fields a i (good_metric a i h below) in
       metric_rows_same (metric_row b (metric_at a i)) (metric_row a (metric_at a i))
-      (text_same a b h g 64 (metric_at a i) (metric_looked a b h g i below))
-      (same32 a b h g (metric_at a i + 64) (looked_metric a i 64 h below (omega arith)))
-      (rw (same32 a b h g (metric_at a i + 68) (looked_metric a i 68 h below (omega arith))) refl)
-      (rw (same32 a b h g (metric_at a i + 72) (looked_metric a i 72 h below (omega arith))) refl)
-      (same32 a b h g (metric_at a i + 76) (looked_metric a i 76 h below (omega arith)))
-      (rw (same32 a b h g (metric_at a i + 80) (looked_metric a i 80 h below (omega arith))) refl)
-      (help_of_same (metric_at a i + 88) (looked_metric a i 88 h below (omega arith)) (metric_short (metric_at a i) good))
-      (help_of_same (metric_at a i + 96) (looked_metric a i 96 h below (omega arith)) (metric_long (metric_at a i) good))
+      (text_same a b h g name_width (metric_at a i) (metric_looked a b h g i below))
+      (same32 a b h g (item_offset_in_metric (metric_at a i)) (looked_metric a i (item_offset_in_metric 0) h below (omega arith)))
+      (rw (same32 a b h g (type_offset_in_metric (metric_at a i)) (looked_metric a i (type_offset_in_metric 0) h below (omega arith))) refl)
+      (rw (same32 a b h g (semantics_offset_in_metric (metric_at a i)) (looked_metric a i (semantics_offset_in_metric 0) h below (omega arith))) refl)
+      (same32 a b h g (units_offset_in_metric (metric_at a i)) (looked_metric a i (units_offset_in_metric 0) h below (omega arith)))
+      (rw (same32 a b h g (serial_offset_in_metric (metric_at a i)) (looked_metric a i (serial_offset_in_metric 0) h below (omega arith))) refl)
+      (help_of_same (short_offset_in_metric (metric_at a i)) (looked_metric a i (short_offset_in_metric 0) h below (omega arith)) (metric_short (metric_at a i) good))
+      (help_of_same (long_offset_in_metric (metric_at a i)) (looked_metric a i (long_offset_in_metric 0) h below (omega arith)) (metric_long (metric_at a i) good))
 
   metrics_same : metrics_of b ≡ metrics_of a
   unfolding metrics_of
@@ -192,60 +194,60 @@ module _ (a b : List ℕ) (h : is_image a ≡ true) (g : Agrees a b) where
 
   offsets_same : offsets_of b ≡ offsets_of a
   unfolding offsets_of
-  offsets_same = ap (λ s. list_below s.count (λ i. s.place + 256 * i)) (section_same a b h g 5)
+  offsets_same = ap (λ s. list_below s.count (λ i. s.place + string_size * i)) (section_same a b h g 5)
 
   -- the values
 
   instance_of_same : (i : ℕ) → i < value_count a → instance_of b (value_at a i) ≡ instance_of a (value_at a i)
   unfolding instance_of
   instance_of_same i below =
-      rw (of_same a b h g i 80 below (omega arith), field_same a b h g i below)
+      rw (of_same a b h g i (serial_offset_in_metric 0) below (omega arith), field_same a b h g i below)
       (⊎_elim
       (λ (none : is_no_domain (domain_of a (value_at a i)) ≡ true). rw none refl)
       (λ (some : is_no_domain (domain_of a (value_at a i)) ≡ false).
-      rw some (ap (λ n. Some (cast_signed w32 n)) (same32 a b h g (number64 a (value_at a i + 24) + 12)
-      (looked_run a b h g (number64 a (value_at a i + 24)) 12 (instance_there a b h g i below some) (omega arith)))))
+      rw some (ap (λ n. Some (cast_signed w32 n)) (same32 a b h g (number_offset_in_instance (instance_in_value a (value_at a i)))
+      (looked_run a b h g (instance_in_value a (value_at a i)) (number_offset_in_instance 0) (instance_there a b h g i below some) (omega arith)))))
       (either (is_no_domain (domain_of a (value_at a i)))))
 
   slot_at_same : (i : ℕ) → i < value_count a → slot_at b (value_at a i) ≡ slot_at a (value_at a i)
   unfolding slot_at
   slot_at_same i below =
-      rw (of_same a b h g i 68 below (omega arith), of_same a b h g i 64 below (omega arith), instance_of_same i below) refl
+      rw (of_same a b h g i (type_offset_in_metric 0) below (omega arith), of_same a b h g i (item_offset_in_metric 0) below (omega arith), instance_of_same i below) refl
 
   slots_same : slots_of b ≡ slots_of a
   unfolding slots_of
   slots_same =
-      ap (λ s. filter_map (slot_at b) (list_below s.count (λ i. s.place + 32 * i))) (section_same a b h g 4)
+      ap (λ s. filter_map (slot_at b) (list_below s.count (λ i. s.place + value_size * i))) (section_same a b h g 4)
       ∙ gives_same (slot_at b) (slot_at a) (value_count a) (value_at a) slot_at_same
 
   subjects_same : subjects_of b ≡ subjects_of a
   unfolding subjects_of
   subjects_same =
-      ap (λ s. list_below s.count (λ i. (item_of b (s.place + 32 * i), instance_of b (s.place + 32 * i)))) (section_same a b h g 4)
+      ap (λ s. list_below s.count (λ i. (item_of b (s.place + value_size * i), instance_of b (s.place + value_size * i)))) (section_same a b h g 4)
       ∙ rows_same (value_count a) (λ i. (item_of b (value_at a i), instance_of b (value_at a i))) (λ i. (item_of a (value_at a i), instance_of a (value_at a i)))
-      (λ i below. ap₂ (λ n o. (n, o)) (of_same a b h g i 64 below (omega arith)) (instance_of_same i below))
+      (λ i below. ap₂ (λ n o. (n, o)) (of_same a b h g i (item_offset_in_metric 0) below (omega arith)) (instance_of_same i below))
 
   pub form_same : form_of b ≡ form_of a
   unfolding form_of
   form_same =
       forms_same (form_of b) (form_of a)
       (head32 a b h g 4 (omega arith) (inl (omega arith))) (head32 a b h g 28 (omega arith) (inr (omega arith)))
-      (head32 a b h g 32 (omega arith) (inr (omega arith))) (head32 a b h g 36 (omega arith) (inr (omega arith)))
+      (head32 a b h g 32 (omega arith) (inr (omega arith))) (head32 a b h g cluster_offset (omega arith) (inr (omega arith)))
       indoms_same metrics_same subjects_same strings_same slots_same offsets_same
 
   -- what they say, where they agree in the contents and the generation too
 
   module _ (numbers : (i : ℕ) → i < value_count a → number64 b (value_at a i) ≡ number64 a (value_at a i))
-      (extras : (i : ℕ) → i < value_count a → number64 b (value_at a i + 8) ≡ number64 a (value_at a i + 8))
+      (extras : (i : ℕ) → i < value_count a → extra_in_value b (value_at a i) ≡ extra_in_value a (value_at a i))
       (generation : number64 b 8 ≡ number64 a 8) where
     content_same : (i : ℕ) → i < value_count a → content_of b (value_at a i) ≡ content_of a (value_at a i)
     unfolding content_of
     content_same i below =
-        rw (of_same a b h g i 68 below (omega arith), numbers i below, extras i below)
+        rw (of_same a b h g i (type_offset_in_metric 0) below (omega arith), numbers i below, extras i below)
         (⊎_elim
         (λ (choice : nat_eq (type_of a (value_at a i)) 6 ≡ true).
-        ap (λ t. cond (nat_le (type_of a (value_at a i)) 3) (Number (number64 a (value_at a i))) (cond (nat_eq (type_of a (value_at a i)) 6) (Choice t) (Raw (number64 a (value_at a i)) (number64 a (value_at a i + 8)))))
-        (string_text_same (number64 a (value_at a i + 8)) (leads_there (section_of a 5).place (section_of a 5).count 256 (number64 a (value_at a i + 8))
+        ap (λ t. cond (nat_le (type_of a (value_at a i)) 3) (Number (number64 a (value_at a i))) (cond (nat_eq (type_of a (value_at a i)) 6) (Choice t) (Raw (number64 a (value_at a i)) (extra_in_value a (value_at a i)))))
+        (string_text_same (extra_in_value a (value_at a i)) (leads_there (section_of a 5).place (section_of a 5).count string_size (extra_in_value a (value_at a i))
         (ap (leads_to_string a) (sym (extras i below)) ∙ g.choices i below (eq_of (type_of a (value_at a i)) 6 choice)))))
         (λ (other : nat_eq (type_of a (value_at a i)) 6 ≡ false). rw other refl)
         (either (nat_eq (type_of a (value_at a i)) 6)))
@@ -253,12 +255,12 @@ module _ (a b : List ℕ) (h : is_image a ≡ true) (g : Agrees a b) where
     value_row_same : (i : ℕ) → i < value_count a → value_row b (value_at a i) ≡ value_row a (value_at a i)
     unfolding value_row
     value_row_same i below =
-        value_rows_same (value_row b (value_at a i)) (value_row a (value_at a i)) (of_same a b h g i 64 below (omega arith)) (instance_of_same i below) (content_same i below)
+        value_rows_same (value_row b (value_at a i)) (value_row a (value_at a i)) (of_same a b h g i (item_offset_in_metric 0) below (omega arith)) (instance_of_same i below) (content_same i below)
 
     values_same : values_of b ≡ values_of a
     unfolding values_of
     values_same =
-        ap (λ s. list_below s.count (λ i. value_row b (s.place + 32 * i))) (section_same a b h g 4)
+        ap (λ s. list_below s.count (λ i. value_row b (s.place + value_size * i))) (section_same a b h g 4)
         ∙ rows_same (value_count a) (λ i. value_row b (value_at a i)) (λ i. value_row a (value_at a i)) value_row_same
 
     pub layout_same : layout_of b ≡ layout_of a
@@ -266,5 +268,5 @@ module _ (a b : List ℕ) (h : is_image a ≡ true) (g : Agrees a b) where
     layout_same =
         layouts_same (layout_of b) (layout_of a)
         (head32 a b h g 4 (omega arith) (inl (omega arith))) generation (head32 a b h g 28 (omega arith) (inr (omega arith)))
-        (head32 a b h g 32 (omega arith) (inr (omega arith))) (head32 a b h g 36 (omega arith) (inr (omega arith)))
+        (head32 a b h g 32 (omega arith) (inr (omega arith))) (head32 a b h g cluster_offset (omega arith) (inr (omega arith)))
         indoms_same metrics_same values_same strings_same

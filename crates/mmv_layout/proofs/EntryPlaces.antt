@@ -1,7 +1,8 @@
 -- Where the sections of an image lie.
 use Rattle.std.proofs.Common.{◌≡◌, ◌≢◌, ℕ, zero, suc, ◌+◌, ◌*◌, ◌%◌, ◌^◌, ◌<◌, ◌≤◌, Bool, true, false, not, List, length, ap₂, sym, subst, ◌∙◌, refl, arith, nat_eq, nat_le, if◌then◌else◌}
 use Rattle.std.proofs.lemmas.Bool.Decides.{nat_tests}
-use Rattle.mmv_format.specs.Contents.{bytes_in, contents_in, type_in, count_in, place_in, section_bytes, end_in, section_lies, has_good_section, is_aligned, sections_are_good, sections_are_aligned, find_section, section_of}
+use Rattle.mmv_format.specs.Contents.{bytes_in, contents_in, type_in, count_in, place_in, section_bytes, end_in, section_lies, has_good_section, is_aligned, sections_are_good, sections_are_aligned, find_section, section_of, entry_at}
+use Rattle.mmv_format.specs.Sizes.{header_size, value_size, string_size}
 use Rattle.mmv_format.specs.Entries.{value_count, value_at, string_count, string_at}
 use Rattle.mmv_format.specs.Images.{has_good_header, is_image}
 use Rattle.mmv_format.proofs.Below.{all_at, both_left, both_right}
@@ -30,7 +31,7 @@ isnt_zero n h = grind (arith, nat_tests)
 
 -- a section with entries lies in the words behind the contents, at a multiple of 8
 pub record Lies (words : List ℕ) (place bytes : ℕ) : Type 0 where
-  pub behind : 40 + 16 * contents_in words ≤ place
+  pub behind : entry_at (contents_in words) ≤ place
   pub within : place + bytes ≤ bytes_in words
   pub whole : place % 8 ≡ 0
 
@@ -40,7 +41,7 @@ unfolding has_good_section section_lies end_in is_aligned
 entry_lies words i good straight some =
     let none : nat_eq (count_in words i) 0 ≡ false = isnt_zero (count_in words i) some in
     let lies = or_right (nat_eq (count_in words i) 0) _ (both_right _ _ (both_left _ _ good)) none in record {
-      behind = le_of (40 + 16 * contents_in words) (place_in words i) (both_left _ _ lies);
+      behind = le_of (entry_at (contents_in words)) (place_in words i) (both_left _ _ lies);
       within = le_of (place_in words i + section_bytes (type_in words i) (count_in words i)) (bytes_in words) (both_right _ _ lies);
       whole = eq_of (place_in words i % 8) 0 (or_right (nat_eq (count_in words i) 0) _ straight none);
     }
@@ -68,25 +69,25 @@ few_words words h = not_above (length words) (both_right _ _ (both_left _ _ (bot
 
 -- a value lies in the words behind the header
 pub record Stands (words : List ℕ) (place bytes : ℕ) : Type 0 where
-  pub behind : 40 ≤ place
+  pub behind : header_size ≤ place
   pub within : place + bytes ≤ 8 * length words
   pub whole : place % 8 ≡ 0
 
-pub value_stands : (words : List ℕ) (i : ℕ) → is_image words ≡ true → i < value_count words → Stands words (value_at words i) 32
+pub value_stands : (words : List ℕ) (i : ℕ) → is_image words ≡ true → i < value_count words → Stands words (value_at words i) value_size
 unfolding section_bytes
 value_stands words i h below =
-    let lies : Lies words (section_of words 4).place (32 * (section_of words 4).count) = section_stands words 4 h (some_of i (value_count words) below) in
+    let lies : Lies words (section_of words 4).place (value_size * (section_of words 4).count) = section_stands words 4 h (some_of i (value_count words) below) in
     record { behind = omega arith; within = omega arith; whole = omega arith }
 
 -- so its words have small numbers
 pub value_near : (words : List ℕ) (i : ℕ) → is_image words ≡ true → i < value_count words → value_at words i < 2 ^ 20
 value_near words i h below =
-    let stands : Stands words (value_at words i) 32 = value_stands words i h below in
+    let stands : Stands words (value_at words i) value_size = value_stands words i h below in
     let few : length words ≤ 65536 = few_words words h in omega arith
 
 pub string_near : (words : List ℕ) (i : ℕ) → is_image words ≡ true → i < string_count words → string_at words i < 2 ^ 20
 unfolding section_bytes
 string_near words i h below =
-    let lies : Lies words (section_of words 5).place (256 * (section_of words 5).count) = section_stands words 5 h (some_of i (string_count words) below) in
+    let lies : Lies words (section_of words 5).place (string_size * (section_of words 5).count) = section_stands words 5 h (some_of i (string_count words) below) in
     let few : length words ≤ 65536 = few_words words h in
-    let inside : (section_of words 5).place + 256 * (section_of words 5).count ≤ 8 * length words = lies.within in omega arith
+    let inside : (section_of words 5).place + string_size * (section_of words 5).count ≤ 8 * length words = lies.within in omega arith

@@ -4,7 +4,8 @@ use Rattle.pcp_base.specs.Names.{IsName, spells}
 use Rattle.pcp_base.specs.Codes.{kind_of_code}
 use Rattle.pcp_base.specs.declared.kind.Kind.TheVariants.{I32, U32}
 use Rattle.pcp_base.proofs.Spelling.{spelt}
-use Rattle.mmv_format.specs.Fields.{number32, text_at}
+use Rattle.mmv_format.specs.Sizes.{name_width}
+use Rattle.mmv_format.specs.EntryFields.{name_in_metric, type_in_metric}
 use Rattle.mmv_format.specs.Entries.{metric_at, metric_count, has_name, has_good_fields, is_good_metric, metrics_are_good}
 use Rattle.mmv_format.specs.Images.{is_image}
 use Rattle.mmv_format.proofs.Texts.{text_short}
@@ -49,7 +50,7 @@ code_is code h = grind arith
 pub kind_is : (words : List ℕ) → is_first_form words ≡ true → (only_kind words ≡ I32) ⊎ (only_kind words ≡ U32)
 unfolding is_plain_metric only_kind
 kind_is words h =
-    let code : ℕ = number32 words (metric_at words 0 + 68) in
+    let code : ℕ = type_in_metric words (metric_at words 0) in
     ⊎_elim (λ (zero_is : code ≡ 0). inl (ap (λ n. unwrap_or (kind_of_code n) I32) zero_is)) (λ (one_is : code ≡ 1). inr (ap (λ n. unwrap_or (kind_of_code n) I32) one_is))
     (code_is code (le_of _ _ (both_left _ _ (both_left _ _ (both_left _ _ (plain words h))))))
 
@@ -63,5 +64,5 @@ name_is words h = spelt true (only_name words) (name_spelt words h)
 pub name_short : (words : List ℕ) → is_first_form words ≡ true → length (only_name words) ≤ 63
 unfolding has_name only_name
 name_short words h =
-    let less : length (text_at words (metric_at words 0) 64) < 64 = text_short words (metric_at words 0) 64 (both_left _ _ (named words h)) in
+    let less : length (name_in_metric words (metric_at words 0)) < name_width = text_short words (metric_at words 0) name_width (both_left _ _ (named words h)) in
     omega arith

@@ -4,6 +4,8 @@ use Rattle.std.proofs.lemmas.Bool.Decides.{nat_tests}
 use Rattle.pcp_base.specs.Codes.{kind_of_code}
 use Rattle.pcp_base.specs.declared.kind.Kind.TheVariants as kinds
 use Rattle.mmv_format.specs.Fields.{number64}
+use Rattle.mmv_format.specs.Sizes.{value_size}
+use Rattle.mmv_format.specs.EntryFields.{extra_offset_in_value, extra_in_value}
 use Rattle.mmv_format.specs.Entries.{value_count, value_at, string_count, string_at}
 use Rattle.mmv_format.specs.declared.rows.Slot.{Slot}
 use Rattle.mmv_format.specs.declared.rows.ValueRow.{ValueRow}
@@ -26,17 +28,17 @@ layout_kept words more layout h few says =
     let five : 5 ≤ length words = five_words words h in
     let same : layout_of (words ++ more) ≡ layout_of words = layout_same words (words ++ more) h (longer_agrees words more h few)
     (λ i below. number_before words more (value_at words i) (first (value_at words i) (length words) (place_within i below)))
-    (λ i below. number_before words more (value_at words i + 8) (second (value_at words i) (length words) (place_within i below)))
+    (λ i below. number_before words more (extra_offset_in_value (value_at words i)) (second (value_at words i) (length words) (place_within i below)))
     (number_before words more 8 (omega arith)) in
     subst (Says (words ++ more)) (same ∙ sym (says_layout words layout says)) (layout_says (words ++ more) (image_still words (words ++ more) h (longer_agrees words more h few)))
   where
-    place_within : (i : ℕ) → i < value_count words → value_at words i + 32 ≤ 8 * length words
-    place_within i below = let stands : Stands words (value_at words i) 32 = value_stands words i h below in stands.within
+    place_within : (i : ℕ) → i < value_count words → value_at words i + value_size ≤ 8 * length words
+    place_within i below = let stands : Stands words (value_at words i) value_size = value_stands words i h below in stands.within
 
-    first : (v n : ℕ) → v + 32 ≤ 8 * n → v < 8 * n
+    first : (v n : ℕ) → v + value_size ≤ 8 * n → v < 8 * n
     first v n b = omega arith
 
-    second : (v n : ℕ) → v + 32 ≤ 8 * n → v + 8 < 8 * n
+    second : (v n : ℕ) → v + value_size ≤ 8 * n → v + 8 < 8 * n
     second v n b = omega arith
 
 subjects_mapped : (words : List ℕ) → subjects_of words ≡ map (λ row. (row.item, row.instance)) (values_of words)
@@ -83,7 +85,7 @@ content_number : (words : List ℕ) (value : ℕ) → type_of words value ≤ 3 
 unfolding content_of
 content_number words value h = rw (is_number (type_of words value) h) refl
 
-content_choice : (words : List ℕ) (value : ℕ) → type_of words value ≡ 6 → content_of words value ≡ Choice (string_text words (number64 words (value + 8)))
+content_choice : (words : List ℕ) (value : ℕ) → type_of words value ≡ 6 → content_of words value ≡ Choice (string_text words (extra_in_value words value))
 unfolding content_of
 content_choice words value h = rw h refl
 
@@ -91,7 +93,7 @@ word_first : (words : List ℕ) (value : ℕ) → number64 words value ≡ slice
 unfolding number64
 word_first words value = refl
 
-word_second : (words : List ℕ) (value : ℕ) → value % 8 ≡ 0 → number64 words (value + 8) ≡ slice_index words (value / 8 + 1)
+word_second : (words : List ℕ) (value : ℕ) → value % 8 ≡ 0 → extra_in_value words value ≡ slice_index words (value / 8 + 1)
 unfolding number64
 word_second words value whole = ap (slice_index words) (omega arith)
 
@@ -117,6 +119,6 @@ row_facts words value slot whole is = (sym (ap (λ s. s.item) is.is), sym (ap (�
 pub slot_holds : SlotHoldsTheContent
 slot_holds words slot h among =
     let given : GivenBy (slot_at words) (value_count words) (value_at words) slot = slot_value words slot among in
-    let stands : Stands words (value_at words given.index) 32 = value_stands words given.index h given.below in
+    let stands : Stands words (value_at words given.index) value_size = value_stands words given.index h given.below in
     let facts = row_facts words (value_at words given.index) slot stands.whole (slot_is words (value_at words given.index) slot given.gives) in
     (value_row words (value_at words given.index), row_in words given.index given.below, facts.0, facts.1, facts.2)

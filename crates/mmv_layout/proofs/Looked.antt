@@ -2,7 +2,9 @@
 use Rattle.std.proofs.Common.{◌≡◌, ◌≢◌, ℕ, ◌+◌, ◌*◌, ◌<◌, ◌≤◌, Bool, true, false, not, ◌||◌, ◌⊎◌, inl, inr, List, length, ap, ap₂, sym, subst, ◌∙◌, refl, arith, nat_eq, nat_le, nat_lt, ⊎_elim}
 use Rattle.std.proofs.lemmas.Bool.Decides.{nat_tests}
 use Rattle.std.proofs.lemmas.Bool.{cases_order}
-use Rattle.mmv_format.specs.Contents.{bytes_in, is_short, contents_in, type_in, count_in, place_in, section_bytes, end_in, are_apart, is_first_of_type, has_good_section, sections_are_good, find_section, section_of}
+use Rattle.mmv_format.specs.Contents.{bytes_in, is_short, contents_in, type_in, count_in, place_in, section_bytes, end_in, are_apart, is_first_of_type, has_good_section, sections_are_good, find_section, section_of, entry_at}
+use Rattle.mmv_format.specs.Sizes.{header_size, indom_size, instance_size, metric_size, value_size, string_size}
+use Rattle.mmv_format.specs.EntryFields.{metric_offset_in_value}
 use Rattle.mmv_format.specs.Entries.{indom_count, indom_at, instance_count, instance_at, metric_count, metric_at, value_count, value_at, string_count, string_at}
 use Rattle.mmv_format.specs.Images.{has_good_header, is_image}
 use Rattle.mmv_format.proofs.Below.{all_at, both_left, both_right}
@@ -10,11 +12,11 @@ use Rattle.mmv_format.proofs.Images.{short_words}
 use Rattle.mmv_layout.proofs.Goods.{le_of, header, sections}
 use Rattle.mmv_layout.proofs.EntryPlaces.{Entry, entry_of, Lies, section_stands, some_of, Stands, value_stands}
 
--- a place in the words, outside of the generation and of the first 16 bytes of each value
+-- a place in the words, outside of the generation and of the first two fields of each value
 pub record Looked (words : List ℕ) (place : ℕ) : Type 0 where
   pub within : place < 8 * length words
   pub outside : (place < 8) ⊎ (24 ≤ place)
-  pub apart : (i : ℕ) → i < value_count words → (place < value_at words i) ⊎ (value_at words i + 16 ≤ place)
+  pub apart : (i : ℕ) → i < value_count words → (place < value_at words i) ⊎ (metric_offset_in_value (value_at words i) ≤ place)
 
 some_words : (short : Bool) (n : ℕ) → short ≡ nat_lt n 5 → not short ≡ true → 5 ≤ n
 some_words short n e h = grind (arith, nat_tests)
@@ -24,12 +26,12 @@ unfolding has_good_header
 five_words words h =
     some_words (is_short (bytes_in words)) (length words) (short_words words) (both_left _ _ (both_left _ _ (both_left _ _ (both_left _ _ (both_left _ _ (header words h))))))
 
-pub looked_header : (words : List ℕ) (place : ℕ) → is_image words ≡ true → place < 40 → (place < 8) ⊎ (24 ≤ place) → Looked words place
+pub looked_header : (words : List ℕ) (place : ℕ) → is_image words ≡ true → place < header_size → (place < 8) ⊎ (24 ≤ place) → Looked words place
 looked_header words place h below outside =
     let five : 5 ≤ length words = five_words words h in record {
       within = omega arith;
       outside = outside;
-      apart = λ i some. let stands : Stands words (value_at words i) 32 = value_stands words i h some in inl (before place (value_at words i) below stands.behind);
+      apart = λ i some. let stands : Stands words (value_at words i) value_size = value_stands words i h some in inl (before place (value_at words i) below stands.behind);
     }
   where
     before : (p v : ℕ) → p < 40 → 40 ≤ v → p < v
@@ -43,10 +45,10 @@ entry_within : (words : List ℕ) (i : ℕ) → has_good_section words i ≡ tru
 unfolding has_good_section
 entry_within words i good = le_of (56 + 16 * i) (bytes_in words) (both_left _ _ (both_left _ _ (both_left _ _ good)))
 
-pub values_behind : (words : List ℕ) (i : ℕ) → is_image words ≡ true → i < value_count words → 40 + 16 * contents_in words ≤ value_at words i
+pub values_behind : (words : List ℕ) (i : ℕ) → is_image words ≡ true → i < value_count words → entry_at (contents_in words) ≤ value_at words i
 values_behind words i h below =
     let lies : Lies words (section_of words 4).place (section_bytes 4 (section_of words 4).count) = section_stands words 4 h (some_of i (value_count words) below) in
-    let behind : 40 + 16 * contents_in words ≤ (section_of words 4).place = lies.behind in omega arith
+    let behind : entry_at (contents_in words) ≤ (section_of words 4).place = lies.behind in omega arith
 
 pub looked_contents : (words : List ℕ) (i o : ℕ) → is_image words ≡ true → i < contents_in words → o < 16 → Looked words (40 + 16 * i + o)
 looked_contents words i o h below small =
@@ -127,7 +129,7 @@ looked_in words type d h other some below =
       apart = λ j values. ⊎_elim
           (λ (a : (section_of words type).place + section_bytes type (section_of words type).count ≤ (section_of words 4).place).
           inl (first (section_of words type).place (section_bytes type (section_of words type).count) (section_of words 4).place j below a))
-          (λ (b : (section_of words 4).place + 32 * (section_of words 4).count ≤ (section_of words type).place).
+          (λ (b : (section_of words 4).place + value_size * (section_of words 4).count ≤ (section_of words type).place).
           inr (last (section_of words type).place (section_of words 4).place (section_of words 4).count j values b))
           (sections_apart words type 4 h other some (some_of j (value_count words) values));
     }
@@ -138,62 +140,62 @@ looked_in words type d h other some below =
     behind : (n p : ℕ) → 40 + 16 * n ≤ p → 24 ≤ p + d
     behind n p a = omega arith
 
-    first : (p n v j : ℕ) → d < n → p + n ≤ v → p + d < v + 32 * j
+    first : (p n v j : ℕ) → d < n → p + n ≤ v → p + d < v + value_size * j
     first p n v j a b = omega arith
 
-    last : (p v n j : ℕ) → j < n → v + 32 * n ≤ p → (v + 32 * j) + 16 ≤ p + d
+    last : (p v n j : ℕ) → j < n → v + value_size * n ≤ p → metric_offset_in_value (v + value_size * j) ≤ p + d
     last p v n j a b = omega arith
 
-pub looked_indom : (words : List ℕ) (i o : ℕ) → is_image words ≡ true → i < indom_count words → o < 32 → Looked words (indom_at words i + o)
+pub looked_indom : (words : List ℕ) (i o : ℕ) → is_image words ≡ true → i < indom_count words → o < indom_size → Looked words (indom_at words i + o)
 unfolding section_bytes
 looked_indom words i o h below small =
-    let place : (section_of words 1).place + (32 * i + o) ≡ indom_at words i + o = omega arith in
-    subst (Looked words) place (looked_in words 1 (32 * i + o) h (λ e. absurd (omega arith)) (some_of i (indom_count words) below) (inside (section_of words 1).count below))
+    let place : (section_of words 1).place + (indom_size * i + o) ≡ indom_at words i + o = omega arith in
+    subst (Looked words) place (looked_in words 1 (indom_size * i + o) h (λ e. absurd (omega arith)) (some_of i (indom_count words) below) (inside (section_of words 1).count below))
   where
-    inside : (n : ℕ) → i < n → 32 * i + o < 32 * n
+    inside : (n : ℕ) → i < n → indom_size * i + o < indom_size * n
     inside n a = omega arith
 
-pub looked_instance : (words : List ℕ) (i o : ℕ) → is_image words ≡ true → i < instance_count words → o < 80 → Looked words (instance_at words i + o)
+pub looked_instance : (words : List ℕ) (i o : ℕ) → is_image words ≡ true → i < instance_count words → o < instance_size → Looked words (instance_at words i + o)
 unfolding section_bytes
 looked_instance words i o h below small =
-    let place : (section_of words 2).place + (80 * i + o) ≡ instance_at words i + o = omega arith in
-    subst (Looked words) place (looked_in words 2 (80 * i + o) h (λ e. absurd (omega arith)) (some_of i (instance_count words) below) (inside (section_of words 2).count below))
+    let place : (section_of words 2).place + (instance_size * i + o) ≡ instance_at words i + o = omega arith in
+    subst (Looked words) place (looked_in words 2 (instance_size * i + o) h (λ e. absurd (omega arith)) (some_of i (instance_count words) below) (inside (section_of words 2).count below))
   where
-    inside : (n : ℕ) → i < n → 80 * i + o < 80 * n
+    inside : (n : ℕ) → i < n → instance_size * i + o < instance_size * n
     inside n a = omega arith
 
-pub looked_metric : (words : List ℕ) (i o : ℕ) → is_image words ≡ true → i < metric_count words → o < 104 → Looked words (metric_at words i + o)
+pub looked_metric : (words : List ℕ) (i o : ℕ) → is_image words ≡ true → i < metric_count words → o < metric_size → Looked words (metric_at words i + o)
 unfolding section_bytes
 looked_metric words i o h below small =
-    let place : (section_of words 3).place + (104 * i + o) ≡ metric_at words i + o = omega arith in
-    subst (Looked words) place (looked_in words 3 (104 * i + o) h (λ e. absurd (omega arith)) (some_of i (metric_count words) below) (inside (section_of words 3).count below))
+    let place : (section_of words 3).place + (metric_size * i + o) ≡ metric_at words i + o = omega arith in
+    subst (Looked words) place (looked_in words 3 (metric_size * i + o) h (λ e. absurd (omega arith)) (some_of i (metric_count words) below) (inside (section_of words 3).count below))
   where
-    inside : (n : ℕ) → i < n → 104 * i + o < 104 * n
+    inside : (n : ℕ) → i < n → metric_size * i + o < metric_size * n
     inside n a = omega arith
 
-pub looked_string : (words : List ℕ) (i o : ℕ) → is_image words ≡ true → i < string_count words → o < 256 → Looked words (string_at words i + o)
+pub looked_string : (words : List ℕ) (i o : ℕ) → is_image words ≡ true → i < string_count words → o < string_size → Looked words (string_at words i + o)
 unfolding section_bytes
 looked_string words i o h below small =
-    let place : (section_of words 5).place + (256 * i + o) ≡ string_at words i + o = omega arith in
-    subst (Looked words) place (looked_in words 5 (256 * i + o) h (λ e. absurd (omega arith)) (some_of i (string_count words) below) (inside (section_of words 5).count below))
+    let place : (section_of words 5).place + (string_size * i + o) ≡ string_at words i + o = omega arith in
+    subst (Looked words) place (looked_in words 5 (string_size * i + o) h (λ e. absurd (omega arith)) (some_of i (string_count words) below) (inside (section_of words 5).count below))
   where
-    inside : (n : ℕ) → i < n → 256 * i + o < 256 * n
+    inside : (n : ℕ) → i < n → string_size * i + o < string_size * n
     inside n a = omega arith
 
 -- the last two words of a value
-pub looked_value : (words : List ℕ) (i o : ℕ) → is_image words ≡ true → i < value_count words → 16 ≤ o → o < 32 → Looked words (value_at words i + o)
+pub looked_value : (words : List ℕ) (i o : ℕ) → is_image words ≡ true → i < value_count words → metric_offset_in_value 0 ≤ o → o < value_size → Looked words (value_at words i + o)
 looked_value words i o h below some small =
-    let stands : Stands words (value_at words i) 32 = value_stands words i h below in record {
+    let stands : Stands words (value_at words i) value_size = value_stands words i h below in record {
       within = inside (value_at words i) (length words) stands.within;
       outside = inr (behind (value_at words i) stands.behind);
       apart = λ j others. others_apart (section_of words 4).place j;
     }
   where
-    inside : (v n : ℕ) → v + 32 ≤ 8 * n → v + o < 8 * n
+    inside : (v n : ℕ) → v + value_size ≤ 8 * n → v + o < 8 * n
     inside v n a = omega arith
 
     behind : (v : ℕ) → 40 ≤ v → 24 ≤ v + o
     behind v a = omega arith
 
-    others_apart : (v j : ℕ) → ((v + 32 * i) + o < v + 32 * j) ⊎ ((v + 32 * j) + 16 ≤ (v + 32 * i) + o)
+    others_apart : (v j : ℕ) → ((v + value_size * i) + o < v + value_size * j) ⊎ (metric_offset_in_value (v + value_size * j) ≤ (v + value_size * i) + o)
     others_apart v j = grind arith

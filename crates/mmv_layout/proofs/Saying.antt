@@ -7,7 +7,9 @@ use Rattle.pcp_base.specs.declared.kind.Kind.{Kind}
 use Rattle.pcp_base.specs.declared.kind.Kind.TheVariants as kinds
 use Rattle.pcp_base.specs.declared.kind.Semantics.{Semantics}
 use Rattle.pcp_base.specs.declared.kind.Semantics.TheVariants as meanings
-use Rattle.mmv_format.specs.Fields.{number32, number64}
+use Rattle.mmv_format.specs.Fields.{number64}
+use Rattle.mmv_format.specs.Sizes.{indom_size, instance_size, metric_size, value_size, string_size}
+use Rattle.mmv_format.specs.EntryFields.{count_in_indom, first_in_indom, short_offset_in_indom, long_offset_in_indom, type_in_metric, semantics_in_metric, serial_in_metric, short_offset_in_metric, long_offset_in_metric, extra_in_value, instance_in_value}
 use Rattle.mmv_format.specs.Contents.{section_of, first_generation, second_generation}
 use Rattle.mmv_format.specs.Entries.{indom_at, metric_count, metric_at, value_count, value_at, help_leads, is_good_indom, is_good_metric, has_good_fields, is_good_value, metric_of, instance_leads, choice_leads, is_no_domain, is_kind, is_semantics}
 use Rattle.mmv_format.specs.Images.{has_good_header, is_image}
@@ -18,7 +20,7 @@ use Rattle.mmv_format.specs.declared.rows.ValueRow.{ValueRow}
 use Rattle.mmv_format.specs.declared.rows.Content.{Content}
 use Rattle.mmv_format.specs.declared.rows.Content.TheVariants.{Number, Choice, Raw}
 use Rattle.mmv_format.specs.declared.rows.Layout.{Layout}
-use Rattle.mmv_layout.specs.Rows.{list_below, signed32, string_text, help_of, instance_row, instances_of, indom_row, serial_of, metric_row, type_of, domain_of, instance_of, content_of, value_row, indoms_of, metrics_of, values_of, strings_of, layout_of}
+use Rattle.mmv_layout.specs.Rows.{list_below, number_of, string_text, help_of, instance_row, instances_of, indom_row, serial_of, metric_row, type_of, domain_of, instance_of, content_of, value_row, indoms_of, metrics_of, values_of, strings_of, layout_of}
 use Rattle.mmv_layout.specs.Says.{EachAt, InSection, LeadsTo, HelpAt, InstanceAt, IndomAt, IsNull, IsNamed, SerialIs, MetricAt, InstanceOf, ContentAt, ValueAt, TextAt, Says, SaysOneLayout}
 use Rattle.mmv_layout.proofs.RowLists.{rows_length, each_only, each_there}
 use Rattle.mmv_layout.proofs.Goods.{le_of, eq_of, ne_of, either, or_right, leads_there, header, good_indom, good_metric, good_value}
@@ -33,7 +35,7 @@ help_there words field h =
     (λ (null : nat_eq place 0 ≡ true). subst (λ b. HelpAt words field (cond b None (Some (string_text words place)))) (sym null) (eq_of place 0 null))
     (λ (some : nat_eq place 0 ≡ false).
     subst (λ b. HelpAt words field (cond b None (Some (string_text words place)))) (sym some)
-    (ne_of place 0 some, (leads_there (section_of words 5).place (section_of words 5).count 256 place (or_right _ _ h some), refl)))
+    (ne_of place 0 some, (leads_there (section_of words 5).place (section_of words 5).count string_size place (or_right _ _ h some), refl)))
     (either (nat_eq place 0))
 
 isnt : (a b : ℕ) → a ≢ b → nat_eq a b ≡ false
@@ -47,13 +49,13 @@ help_only words field (Some text) h =
 
 -- Domains
 
-instances_there : (words : List ℕ) (domain : ℕ) → EachAt (InstanceAt words) (number64 words (domain + 8)) 80 (instances_of words domain)
+instances_there : (words : List ℕ) (domain : ℕ) → EachAt (InstanceAt words) (first_in_indom words domain) instance_size (instances_of words domain)
 unfolding instances_of instance_row
-instances_there words domain = each_there (InstanceAt words) (instance_row words) 80 (number32 words (domain + 4)) (number64 words (domain + 8)) (λ k h. (refl, refl))
+instances_there words domain = each_there (InstanceAt words) (instance_row words) instance_size (count_in_indom words domain) (first_in_indom words domain) (λ k h. (refl, refl))
 
-instances_count : (words : List ℕ) (domain : ℕ) → length (instances_of words domain) ≡ number32 words (domain + 4)
+instances_count : (words : List ℕ) (domain : ℕ) → length (instances_of words domain) ≡ count_in_indom words domain
 unfolding instances_of
-instances_count words domain = rows_length (number32 words (domain + 4)) (λ k. instance_row words (number64 words (domain + 8) + 80 * k))
+instances_count words domain = rows_length (count_in_indom words domain) (λ k. instance_row words (first_in_indom words domain + instance_size * k))
 
 instance_only : (words : List ℕ) (instance : ℕ) (row : ℤ × List ℕ) → InstanceAt words instance row → row ≡ instance_row words instance
 unfolding instance_row
@@ -65,8 +67,8 @@ indom_there words i good = record {
   serial = refl;
   count = instances_count words (indom_at words i);
   instances = instances_there words (indom_at words i);
-  short = help_there words (indom_at words i + 16) (both_left _ _ (both_left _ _ (both_left _ _ (both_left _ _ good))));
-  long = help_there words (indom_at words i + 24) (both_right _ _ (both_left _ _ (both_left _ _ (both_left _ _ good))));
+  short = help_there words (short_offset_in_indom (indom_at words i)) (both_left _ _ (both_left _ _ (both_left _ _ (both_left _ _ good))));
+  long = help_there words (long_offset_in_indom (indom_at words i)) (both_right _ _ (both_left _ _ (both_left _ _ (both_left _ _ good))));
 }
 
 indom_with : ℕ → List (ℤ × List ℕ) → Option (List ℕ) → Option (List ℕ) → IndomRow
@@ -81,9 +83,9 @@ indom_only : (words : List ℕ) (domain : ℕ) (row : IndomRow) → IndomAt word
 unfolding indom_row instances_of
 indom_only words domain row h =
     indom_rows_same row (indom_row words domain) h.serial
-    (each_only (InstanceAt words) (instance_row words) 80 (instance_only words) (number64 words (domain + 8)) row.instances h.instances
-    ∙ ap (λ n. list_below n (λ k. instance_row words (number64 words (domain + 8) + 80 * k))) h.count)
-    (help_only words (domain + 16) row.short h.short) (help_only words (domain + 24) row.long h.long)
+    (each_only (InstanceAt words) (instance_row words) instance_size (instance_only words) (first_in_indom words domain) row.instances h.instances
+    ∙ ap (λ n. list_below n (λ k. instance_row words (first_in_indom words domain + instance_size * k))) h.count)
+    (help_only words (short_offset_in_indom domain) row.short h.short) (help_only words (long_offset_in_indom domain) row.long h.long)
 
 -- Metrics
 
@@ -152,34 +154,34 @@ unfolding has_good_fields metric_row
 metric_there words metric good = record {
   name = refl;
   item = refl;
-  kind = kind_there (number32 words (metric + 68)) (both_left _ _ (both_left _ _ (both_left _ _ (both_left _ _ (both_left _ _ good)))));
-  semantics = semantics_there (number32 words (metric + 72)) (both_right _ _ (both_left _ _ (both_left _ _ (both_left _ _ (both_left _ _ good)))));
+  kind = kind_there (type_in_metric words metric) (both_left _ _ (both_left _ _ (both_left _ _ (both_left _ _ (both_left _ _ good)))));
+  semantics = semantics_there (semantics_in_metric words metric) (both_right _ _ (both_left _ _ (both_left _ _ (both_left _ _ (both_left _ _ good)))));
   units = refl;
-  serial = serial_there (number32 words (metric + 80));
-  short = help_there words (metric + 88) (both_right _ _ (both_left _ _ (both_left _ _ good)));
-  long = help_there words (metric + 96) (both_right _ _ (both_left _ _ good));
+  serial = serial_there (serial_in_metric words metric);
+  short = help_there words (short_offset_in_metric metric) (both_right _ _ (both_left _ _ (both_left _ _ good)));
+  long = help_there words (long_offset_in_metric metric) (both_right _ _ (both_left _ _ good));
 }
 
 metric_only : (words : List ℕ) (metric : ℕ) (row : MetricRow) → MetricAt words metric row → row ≡ metric_row words metric
 unfolding metric_row
 metric_only words metric row h =
-    metric_rows_same row (metric_row words metric) h.name h.item (kind_only row.kind (number32 words (metric + 68)) h.kind)
-    (semantics_only row.semantics (number32 words (metric + 72)) h.semantics) h.units (serial_only (number32 words (metric + 80)) row.serial h.serial)
-    (help_only words (metric + 88) row.short h.short) (help_only words (metric + 96) row.long h.long)
+    metric_rows_same row (metric_row words metric) h.name h.item (kind_only row.kind (type_in_metric words metric) h.kind)
+    (semantics_only row.semantics (semantics_in_metric words metric) h.semantics) h.units (serial_only (serial_in_metric words metric) row.serial h.serial)
+    (help_only words (short_offset_in_metric metric) row.short h.short) (help_only words (long_offset_in_metric metric) row.long h.long)
 
 -- Values
 
 instance_there : (words : List ℕ) (value : ℕ) → instance_leads words value ≡ true → InstanceOf words value (instance_of words value)
 unfolding instance_leads instance_of
 instance_there words value h =
-    let place : ℕ = number64 words (value + 24) in
+    let place : ℕ = instance_in_value words value in
     ⊎_elim
     (λ (none : is_no_domain (domain_of words value) ≡ true).
-    subst (λ b. InstanceOf words value (cond b None (Some (signed32 words (number64 words (value + 24) + 12))))) (sym none) (null_of (domain_of words value) none))
+    subst (λ b. InstanceOf words value (cond b None (Some (number_of words (instance_in_value words value))))) (sym none) (null_of (domain_of words value) none))
     (λ (some : is_no_domain (domain_of words value) ≡ false).
-    subst (λ b. InstanceOf words value (cond b None (Some (signed32 words (number64 words (value + 24) + 12))))) (sym some) (
+    subst (λ b. InstanceOf words value (cond b None (Some (number_of words (instance_in_value words value))))) (sym some) (
       named_of (domain_of words value) some,
-      leads_there (section_of words 2).place (section_of words 2).count 80 place (both_left _ _ (taken _ _ _ h some)),
+      leads_there (section_of words 2).place (section_of words 2).count instance_size place (both_left _ _ (taken _ _ _ h some)),
       refl,
     ))
     (either (is_no_domain (domain_of words value)))
@@ -190,8 +192,8 @@ instance_there words value h =
 
 instance_of_only : (words : List ℕ) (value : ℕ) (instance : Option ℤ) → InstanceOf words value instance → instance ≡ instance_of words value
 unfolding instance_of
-instance_of_only words value None h = sym (ap (λ b. cond b None (Some (signed32 words (number64 words (value + 24) + 12)))) (of_null (domain_of words value) h))
-instance_of_only words value (Some number) h = ap Some h.2 ∙ sym (ap (λ b. cond b None (Some (signed32 words (number64 words (value + 24) + 12)))) (of_named (domain_of words value) h.0))
+instance_of_only words value None h = sym (ap (λ b. cond b None (Some (number_of words (instance_in_value words value)))) (of_null (domain_of words value) h))
+instance_of_only words value (Some number) h = ap Some h.2 ∙ sym (ap (λ b. cond b None (Some (number_of words (instance_in_value words value)))) (of_named (domain_of words value) h.0))
 
 -- a type that is neither 0 to 3 nor 6 is 4, 5 or 9
 raw_types : (code : ℕ) → is_kind code ≡ true → nat_le code 3 ≡ false → nat_eq code 6 ≡ false → (code ≡ 4) ⊎ (code ≡ 5) ⊎ (code ≡ 9)
@@ -203,12 +205,12 @@ choice_taken false leads h e = cc
 
 content_in : List ℕ → ℕ → Bool → Bool → Content
 content_in words value number choice = cond number (Number (number64 words value))
-    (cond choice (Choice (string_text words (number64 words (value + 8)))) (Raw (number64 words value) (number64 words (value + 8))))
+    (cond choice (Choice (string_text words (extra_in_value words value))) (Raw (number64 words value) (extra_in_value words value)))
 
 content_there : (words : List ℕ) (value : ℕ) → is_kind (type_of words value) ≡ true → choice_leads words value ≡ true → ContentAt words value (content_of words value)
 unfolding choice_leads content_of content_in
 content_there words value known h =
-    let extra : ℕ = number64 words (value + 8) in
+    let extra : ℕ = extra_in_value words value in
     let code : ℕ = type_of words value in
     ⊎_elim
     (λ (number : nat_le code 3 ≡ true). subst (λ b. ContentAt words value (content_in words value b (nat_eq code 6))) (sym number) (le_of code 3 number, refl))
@@ -217,7 +219,7 @@ content_there words value known h =
     (⊎_elim
     (λ (choice : nat_eq code 6 ≡ true).
     subst (λ b. ContentAt words value (content_in words value false b)) (sym choice)
-    (eq_of code 6 choice, (leads_there (section_of words 5).place (section_of words 5).count 256 extra (choice_taken (nat_eq code 6) _ h choice), refl)))
+    (eq_of code 6 choice, (leads_there (section_of words 5).place (section_of words 5).count string_size extra (choice_taken (nat_eq code 6) _ h choice), refl)))
     (λ (raw : nat_eq code 6 ≡ false). subst (λ b. ContentAt words value (content_in words value false b)) (sym raw) (raw_types code known other raw, refl, refl))
     (either (nat_eq code 6))))
     (either (nat_le code 3))
@@ -252,16 +254,16 @@ value_rows_same row other a b c =
 pub value_metric : (words : List ℕ) (i : ℕ) → is_good_value words i ≡ true → LeadsTo (metric_count words) (metric_at words) (metric_of words (value_at words i))
 unfolding is_good_value
 value_metric words i good =
-    leads_there (section_of words 3).place (section_of words 3).count 104 (metric_of words (value_at words i)) (both_left _ _ (both_left _ _ (both_left _ _ good)))
+    leads_there (section_of words 3).place (section_of words 3).count metric_size (metric_of words (value_at words i)) (both_left _ _ (both_left _ _ (both_left _ _ good)))
 
-metric_kind : (words : List ℕ) (metric : ℕ) → has_good_fields words metric ≡ true → is_kind (number32 words (metric + 68)) ≡ true
+metric_kind : (words : List ℕ) (metric : ℕ) → has_good_fields words metric ≡ true → is_kind (type_in_metric words metric) ≡ true
 unfolding has_good_fields
 metric_kind words metric good = both_left _ _ (both_left _ _ (both_left _ _ (both_left _ _ (both_left _ _ good))))
 
 pub value_kind : (words : List ℕ) (i : ℕ) → is_image words ≡ true → i < value_count words → is_kind (type_of words (value_at words i)) ≡ true
 value_kind words i h below =
     let (k, within, stands) = value_metric words i (good_value words i h below) in
-    subst (λ metric. is_kind (number32 words (metric + 68)) ≡ true) (sym stands)
+    subst (λ metric. is_kind (type_in_metric words metric) ≡ true) (sym stands)
     (metric_kind words (metric_at words k) (metric_fields words k (good_metric words k h within)))
 
 value_there : (words : List ℕ) (i : ℕ) → is_image words ≡ true → i < value_count words → ValueAt words (value_at words i) (value_row words (value_at words i))
@@ -314,21 +316,21 @@ layout_says words h = record {
   flags = refl;
   pid = refl;
   cluster = refl;
-  indoms = in_section (IndomAt words) (indom_row words) 32 (section_of words 1).place (section_of words 1).count (λ i below. indom_there words i (good_indom words i h below));
-  metrics = in_section (MetricAt words) (metric_row words) 104 (section_of words 3).place (section_of words 3).count
+  indoms = in_section (IndomAt words) (indom_row words) indom_size (section_of words 1).place (section_of words 1).count (λ i below. indom_there words i (good_indom words i h below));
+  metrics = in_section (MetricAt words) (metric_row words) metric_size (section_of words 3).place (section_of words 3).count
       (λ i below. metric_there words (metric_at words i) (metric_fields words i (good_metric words i h below)));
-  values = in_section (ValueAt words) (value_row words) 32 (section_of words 4).place (section_of words 4).count (λ i below. value_there words i h below);
-  strings = in_section (TextAt words) (string_text words) 256 (section_of words 5).place (section_of words 5).count (λ i below. refl);
+  values = in_section (ValueAt words) (value_row words) value_size (section_of words 4).place (section_of words 4).count (λ i below. value_there words i h below);
+  strings = in_section (TextAt words) (string_text words) string_size (section_of words 5).place (section_of words 5).count (λ i below. refl);
 }
 
 pub says_layout : (words : List ℕ) (other : Layout) → Says words other → other ≡ layout_of words
 unfolding layout_of indoms_of metrics_of values_of strings_of
 says_layout words other h =
     layouts_same other (layout_of words) h.version h.generation h.flags h.pid h.cluster
-    (only_section (IndomAt words) (indom_row words) 32 (section_of words 1).place (section_of words 1).count other.indoms (indom_only words) h.indoms)
-    (only_section (MetricAt words) (metric_row words) 104 (section_of words 3).place (section_of words 3).count other.metrics (metric_only words) h.metrics)
-    (only_section (ValueAt words) (value_row words) 32 (section_of words 4).place (section_of words 4).count other.values (value_only words) h.values)
-    (only_section (TextAt words) (string_text words) 256 (section_of words 5).place (section_of words 5).count other.strings (λ p text stands. stands) h.strings)
+    (only_section (IndomAt words) (indom_row words) indom_size (section_of words 1).place (section_of words 1).count other.indoms (indom_only words) h.indoms)
+    (only_section (MetricAt words) (metric_row words) metric_size (section_of words 3).place (section_of words 3).count other.metrics (metric_only words) h.metrics)
+    (only_section (ValueAt words) (value_row words) value_size (section_of words 4).place (section_of words 4).count other.values (value_only words) h.values)
+    (only_section (TextAt words) (string_text words) string_size (section_of words 5).place (section_of words 5).count other.strings (λ p text stands. stands) h.strings)
 
 pub says_one : SaysOneLayout
 says_one words h = (layout_of words, layout_says words h, says_layout words)

@@ -7,6 +7,8 @@ use Rattle.pcp_base.specs.Codes.{kind_of_code}
 use Rattle.pcp_base.specs.declared.kind.Kind.{Kind}
 use Rattle.pcp_base.specs.declared.kind.Kind.TheVariants as kinds
 use Rattle.mmv_format.specs.Fields.{number64}
+use Rattle.mmv_format.specs.Sizes.{value_size}
+use Rattle.mmv_format.specs.EntryFields.{extra_offset_in_value, extra_in_value}
 use Rattle.mmv_format.specs.Contents.{section_bytes, section_of}
 use Rattle.mmv_format.specs.Entries.{leads, leads_to_string, value_count, value_at, string_count, string_at, choice_leads, is_good_value}
 use Rattle.mmv_format.specs.Images.{has_good_header, is_image}
@@ -58,7 +60,7 @@ choice_good : (words : List ℕ) (i : ℕ) → is_good_value words i ≡ true �
 unfolding is_good_value
 choice_good words i good = both_right _ _ (both_left _ _ good)
 
-chosen : (words : List ℕ) (i : ℕ) → is_image words ≡ true → i < value_count words → type_of words (value_at words i) ≡ 6 → leads_to_string words (number64 words (value_at words i + 8)) ≡ true
+chosen : (words : List ℕ) (i : ℕ) → is_image words ≡ true → i < value_count words → type_of words (value_at words i) ≡ 6 → leads_to_string words (extra_in_value words (value_at words i)) ≡ true
 unfolding choice_leads
 chosen words i h below six =
     leads_of (nat_eq (type_of words (value_at words i)) 6) _ (choice_good words i (good_value words i h below)) (eq-eqb (type_of words (value_at words i)) 6 six)
@@ -77,11 +79,11 @@ longer_agrees a more h few =
       few = few;
       again = number_before a more 8 (omega arith) ∙ twice a h ∙ sym (number_before a more 16 (omega arith));
       same = λ place looked. number_before a more place looked.within;
-      choices = λ i below six. let stands : Stands a (value_at a i) 32 = value_stands a i h below in
-          ap (leads_to_string a) (number_before a more (value_at a i + 8) (inside (value_at a i) stands.within)) ∙ chosen a i h below six;
+      choices = λ i below six. let stands : Stands a (value_at a i) value_size = value_stands a i h below in
+          ap (leads_to_string a) (number_before a more (extra_offset_in_value (value_at a i)) (inside (value_at a i) stands.within)) ∙ chosen a i h below six;
     }
   where
-    inside : (v : ℕ) → v + 32 ≤ 8 * length a → v + 8 < 8 * length a
+    inside : (v : ℕ) → v + value_size ≤ 8 * length a → v + 8 < 8 * length a
     inside v b = omega arith
 
 pub length_keeps : LengthKeepsTheForm
@@ -124,8 +126,8 @@ twice_agrees a n h =
       few = omega arith;
       again = first_is a n five ∙ sym (second_is a n five);
       same = λ place looked. number_beside a n place looked.outside;
-      choices = λ i below six. let stands : Stands a (value_at a i) 32 = value_stands a i h below in
-          ap (leads_to_string a) (number_beside a n (value_at a i + 8) (inr (behind (value_at a i) stands.behind))) ∙ chosen a i h below six;
+      choices = λ i below six. let stands : Stands a (value_at a i) value_size = value_stands a i h below in
+          ap (leads_to_string a) (number_beside a n (extra_offset_in_value (value_at a i)) (inr (behind (value_at a i) stands.behind))) ∙ chosen a i h below six;
     }
   where
     behind : (v : ℕ) → 40 ≤ v → 24 ≤ v + 8
@@ -145,7 +147,7 @@ number_there : (a : List ℕ) (w v place : ℕ) → w < length a → place / 8 �
 unfolding number64
 number_there a w v place below here = ap (slice_index (slice_set a w v)) here ∙ get_or-set_same a w v 0 below
 
--- places outside of a value's first 16 bytes lie in other words
+-- places outside of a value's first two fields lie in other words
 off_first : (value place : ℕ) → value % 8 ≡ 0 → (place < value) ⊎ (value + 16 ≤ place) → place / 8 ≢ value / 8
 off_first value place whole outside e = ⊎_elim (λ (x : place < value). absurd (omega arith)) (λ (y : value + 16 ≤ place). absurd (omega arith)) outside
 
@@ -153,7 +155,7 @@ off_second : (value place : ℕ) → value % 8 ≡ 0 → (place < value) ⊎ (va
 off_second value place whole outside e = ⊎_elim (λ (x : place < value). absurd (omega arith)) (λ (y : value + 16 ≤ place). absurd (omega arith)) outside
 
 -- the extra field of a value is not the value field of one
-extra_apart : (first i j : ℕ) → first % 8 ≡ 0 → ((first + 32 * i) + 8) / 8 ≡ (first + 32 * j) / 8 → ⊥
+extra_apart : (first i j : ℕ) → first % 8 ≡ 0 → ((first + value_size * i) + 8) / 8 ≡ (first + value_size * j) / 8 → ⊥
 extra_apart first i j whole e = omega arith
 
 string_leads : (words : List ℕ) (value : ℕ) → Contains (offsets_of words) value → leads_to_string words value ≡ true
@@ -182,7 +184,7 @@ slot_place words value slot place whole is outside e =
 
 -- where the extra field of a string value is the word of a slot, that takes offsets of strings alone
 extra_takes : (words : List ℕ) (i j v : ℕ) (slot : Slot) → is_image words ≡ true → i < value_count words → SlotIs words (value_at words j) slot
-    → (value_at words i + 8) / 8 ≡ slot.word → TakesAs slot.kind (form_of words).offsets v → leads_to_string words v ≡ true
+    → (extra_offset_in_value (value_at words i)) / 8 ≡ slot.word → TakesAs slot.kind (form_of words).offsets v → leads_to_string words v ≡ true
 extra_takes words i j v slot h below is here takes =
     ⊎_elim
     (λ (x : (type_of words (value_at words j) ≤ 3) × (slot.word ≡ value_at words j / 8)).
@@ -199,17 +201,17 @@ slot_agrees a v slot h among takes =
     let long : length (slice_set a slot.word v) ≡ length a = length-set a slot.word v in
     let lies : (5 ≤ slot.word) × (slot.word < length a) = slot_lies a slot h among in
     let given : GivenBy (slot_at a) (value_count a) (value_at a) slot = slot_value a slot among in
-    let stands : Stands a (value_at a given.index) 32 = value_stands a given.index h given.below in
+    let stands : Stands a (value_at a given.index) value_size = value_stands a given.index h given.below in
     let is : SlotIs a (value_at a given.index) slot = slot_is a (value_at a given.index) slot given.gives in record {
       longer = omega arith;
       few = omega arith;
       again = number_other a slot.word v 8 (far_from slot.word 1 lies.0 (omega arith)) ∙ twice a h ∙ sym (number_other a slot.word v 16 (far_from slot.word 2 lies.0 (omega arith)));
       same = λ place looked. number_other a slot.word v place (slot_place a (value_at a given.index) slot place stands.whole is (looked.apart given.index given.below));
       choices = λ i below six. ⊎_elim
-          (λ (here : (value_at a i + 8) / 8 ≡ slot.word).
-          ap (leads_to_string a) (number_there a slot.word v (value_at a i + 8) lies.1 here) ∙ extra_takes a i given.index v slot h below is here takes)
-          (λ (other : (value_at a i + 8) / 8 ≡ slot.word → ⊥). ap (leads_to_string a) (number_other a slot.word v (value_at a i + 8) other) ∙ chosen a i h below six)
-          (cases_eq ((value_at a i + 8) / 8) slot.word);
+          (λ (here : (extra_offset_in_value (value_at a i)) / 8 ≡ slot.word).
+          ap (leads_to_string a) (number_there a slot.word v (extra_offset_in_value (value_at a i)) lies.1 here) ∙ extra_takes a i given.index v slot h below is here takes)
+          (λ (other : (extra_offset_in_value (value_at a i)) / 8 ≡ slot.word → ⊥). ap (leads_to_string a) (number_other a slot.word v (extra_offset_in_value (value_at a i)) other) ∙ chosen a i h below six)
+          (cases_eq ((extra_offset_in_value (value_at a i)) / 8) slot.word);
     }
 
 pub value_keeps : ValueKeepsTheForm

@@ -3,7 +3,8 @@ use Rattle.std.proofs.Common.{◌≡◌, ◌≢◌, ℕ, ℤ, ◌+◌, ◌*◌, 
 use Rattle.std.specs.List.{find}
 use Rattle.std.specs.Ordering.{int_eq}
 use Rattle.std.proofs.lemmas.Bool.Decides.{nat_tests, Decides-int_eq, not_from_Decides}
-use Rattle.mmv_format.specs.Fields.{number32}
+use Rattle.mmv_format.specs.EntryFields.{item_in_metric}
+use Rattle.mmv_format.specs.Sizes.{value_size}
 use Rattle.mmv_format.specs.Entries.{value_count, value_at, metric_at, is_good_metric, has_good_fields}
 use Rattle.mmv_format.specs.Images.{is_image}
 use Rattle.mmv_format.proofs.Below.{both_left, both_right}
@@ -46,29 +47,29 @@ pub slot_value : (words : List ℕ) (slot : Slot) → Contains (slots_of words) 
 unfolding slots_of
 slot_value words slot h = given_of (slot_at words) (value_count words) (value_at words) slot h
 
-near : (value word n : ℕ) → 40 ≤ value → value + 32 ≤ 8 * n → (word ≡ value / 8) ⊎ (word ≡ value / 8 + 1) → (5 ≤ word) × (word < n)
+near : (value word n : ℕ) → 40 ≤ value → value + value_size ≤ 8 * n → (word ≡ value / 8) ⊎ (word ≡ value / 8 + 1) → (5 ≤ word) × (word < n)
 near value word n a b h = (grind arith, grind arith)
 
 -- a value word is one of the words, behind the header
 pub slot_lies : (words : List ℕ) (slot : Slot) → is_image words ≡ true → Contains (slots_of words) slot → (5 ≤ slot.word) × (slot.word < length words)
 slot_lies words slot h among =
     let given : GivenBy (slot_at words) (value_count words) (value_at words) slot = slot_value words slot among in
-    let stands : Stands words (value_at words given.index) 32 = value_stands words given.index h given.below in
+    let stands : Stands words (value_at words given.index) value_size = value_stands words given.index h given.below in
     let is : SlotIs words (value_at words given.index) slot = slot_is words (value_at words given.index) slot given.gives in
     near (value_at words given.index) slot.word (length words) stands.behind stands.within
     (⊎_elim (λ (a : (type_of words (value_at words given.index) ≤ 3) × (slot.word ≡ value_at words given.index / 8)). inl a.1)
     (λ (b : (type_of words (value_at words given.index) ≡ 6) × (slot.word ≡ value_at words given.index / 8 + 1)). inr b.1) is.word)
 
-metric_item : (words : List ℕ) (i : ℕ) → is_good_metric words i ≡ true → number32 words (metric_at words i + 64) ≤ 1023
+metric_item : (words : List ℕ) (i : ℕ) → is_good_metric words i ≡ true → item_in_metric words (metric_at words i) ≤ 1023
 unfolding is_good_metric has_good_fields
-metric_item words i good = le_of (number32 words (metric_at words i + 64)) 1023 (both_right _ _ (both_right _ _ (both_left _ _ good)))
+metric_item words i good = le_of (item_in_metric words (metric_at words i)) 1023 (both_right _ _ (both_right _ _ (both_left _ _ good)))
 
 pub slot_item : (words : List ℕ) (slot : Slot) → is_image words ≡ true → Contains (slots_of words) slot → slot.item ≤ 1023
 slot_item words slot h among =
     let given : GivenBy (slot_at words) (value_count words) (value_at words) slot = slot_value words slot among in
     let is : SlotIs words (value_at words given.index) slot = slot_is words (value_at words given.index) slot given.gives in
     let (k, below, stands) = value_metric words given.index (good_value words given.index h given.below) in
-    subst (λ item. item ≤ 1023) (sym (ap (λ metric. number32 words (metric + 64)) stands) ∙ sym (ap (λ s. s.item) is.is)) (metric_item words k (good_metric words k h below))
+    subst (λ item. item ≤ 1023) (sym (ap (λ metric. item_in_metric words metric) stands) ∙ sym (ap (λ s. s.item) is.is)) (metric_item words k (good_metric words k h below))
 
 passes_is : (item : ℕ) (instance : ℤ) (slot : Slot) → is_slot_of item instance slot ≡ true → IsSlotOf item instance slot
 passes_is item instance slot h = (eq_of slot.item item (both_left _ _ h), (Decides-int_eq slot.instance instance).0 (both_right _ _ h))

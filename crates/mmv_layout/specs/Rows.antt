@@ -5,8 +5,10 @@ use Rattle.std.specs.Int.{w32, cast_signed}
 use Rattle.pcp_base.specs.Codes.{kind_of_code, semantics_of_code}
 use Rattle.pcp_base.specs.declared.kind.Kind.TheVariants.{I32}
 use Rattle.pcp_base.specs.declared.kind.Semantics.TheVariants.{Counter}
-use Rattle.mmv_format.specs.Fields.{number32, number64, text_at}
-use Rattle.mmv_format.specs.Contents.{version_in, first_generation, flags_in, cluster_in}
+use Rattle.mmv_format.specs.Fields.{number64, text_at}
+use Rattle.mmv_format.specs.Sizes.{instance_size, string_size}
+use Rattle.mmv_format.specs.EntryFields.{serial_in_indom, count_in_indom, first_in_indom, short_offset_in_indom, long_offset_in_indom, number_in_instance, name_in_instance, name_in_metric, item_in_metric, type_in_metric, semantics_in_metric, units_in_metric, serial_in_metric, short_offset_in_metric, long_offset_in_metric, extra_in_value, instance_in_value}
+use Rattle.mmv_format.specs.Contents.{version_in, first_generation, flags_in, cluster_in, process_in}
 use Rattle.mmv_format.specs.Entries.{indom_count, indom_at, metric_count, metric_at, value_count, value_at, string_count, string_at, is_no_domain, metric_of}
 use Rattle.mmv_format.specs.declared.rows.IndomRow.{IndomRow}
 use Rattle.mmv_format.specs.declared.rows.MetricRow.{MetricRow}
@@ -20,16 +22,13 @@ unfoldable pub list_below : {X : Type 0} → ℕ → (ℕ → X) → List X
 list_below zero row = []
 list_below (suc n) row = list_below n row ++ row n ∷ []
 
-abbrev pub process_in : List ℕ → ℕ
-process_in words = number32 words 32
-
--- the number of four bytes at a place, with its sign
-abbrev pub signed32 : List ℕ → ℕ → ℤ
-signed32 words at = cast_signed w32 (number32 words at)
+-- the number of the instance at a place, with its sign
+abbrev pub number_of : List ℕ → ℕ → ℤ
+number_of words instance = cast_signed w32 (number_in_instance words instance)
 
 -- the text of the string at a place
 abbrev pub string_text : List ℕ → ℕ → List ℕ
-string_text words place = text_at words place 256
+string_text words place = text_at words place string_size
 
 -- the help to which a field leads, if it isn't 0
 unfoldable pub help_of : List ℕ → ℕ → Option (List ℕ)
@@ -37,18 +36,18 @@ help_of words field = if number64 words field == 0 then None else Some (string_t
 
 -- the instance at a place: its number and its name
 unfoldable pub instance_row : List ℕ → ℕ → ℤ × List ℕ
-instance_row words instance = (signed32 words (instance + 12), text_at words (instance + 16) 64)
+instance_row words instance = (number_of words instance, name_in_instance words instance)
 
 -- the instances of the domain at a place: as many as it counts, from its first instance on
 unfoldable pub instances_of : List ℕ → ℕ → List (ℤ × List ℕ)
-instances_of words domain = list_below (number32 words (domain + 4)) (λ k. instance_row words (number64 words (domain + 8) + 80 * k))
+instances_of words domain = list_below (count_in_indom words domain) (λ k. instance_row words (first_in_indom words domain + instance_size * k))
 
 unfoldable pub indom_row : List ℕ → ℕ → IndomRow
 indom_row words domain = record {
-  serial = number32 words domain;
+  serial = serial_in_indom words domain;
   instances = instances_of words domain;
-  short = help_of words (domain + 16);
-  long = help_of words (domain + 24);
+  short = help_of words (short_offset_in_indom domain);
+  long = help_of words (long_offset_in_indom domain);
 }
 
 -- the domain that a metric's serial names, if it has one
@@ -57,35 +56,35 @@ serial_of serial = if is_no_domain serial then None else Some serial
 
 unfoldable pub metric_row : List ℕ → ℕ → MetricRow
 metric_row words metric = record {
-  name = text_at words metric 64;
-  item = number32 words (metric + 64);
-  kind = unwrap_or (kind_of_code (number32 words (metric + 68))) I32;
-  semantics = unwrap_or (semantics_of_code (number32 words (metric + 72))) Counter;
-  units = number32 words (metric + 76);
-  serial = serial_of (number32 words (metric + 80));
-  short = help_of words (metric + 88);
-  long = help_of words (metric + 96);
+  name = name_in_metric words metric;
+  item = item_in_metric words metric;
+  kind = unwrap_or (kind_of_code (type_in_metric words metric)) I32;
+  semantics = unwrap_or (semantics_of_code (semantics_in_metric words metric)) Counter;
+  units = units_in_metric words metric;
+  serial = serial_of (serial_in_metric words metric);
+  short = help_of words (short_offset_in_metric metric);
+  long = help_of words (long_offset_in_metric metric);
 }
 
 -- the item, the type and the serial of the metric of the value at a place
 abbrev pub item_of : List ℕ → ℕ → ℕ
-item_of words value = number32 words (metric_of words value + 64)
+item_of words value = item_in_metric words (metric_of words value)
 
 abbrev pub type_of : List ℕ → ℕ → ℕ
-type_of words value = number32 words (metric_of words value + 68)
+type_of words value = type_in_metric words (metric_of words value)
 
 abbrev pub domain_of : List ℕ → ℕ → ℕ
-domain_of words value = number32 words (metric_of words value + 80)
+domain_of words value = serial_in_metric words (metric_of words value)
 
 -- the number of the value's instance, if its metric has a domain
 unfoldable pub instance_of : List ℕ → ℕ → Option ℤ
-instance_of words value = if is_no_domain (domain_of words value) then None else Some (signed32 words (number64 words (value + 24) + 12))
+instance_of words value = if is_no_domain (domain_of words value) then None else Some (number_of words (instance_in_value words value))
 
 unfoldable pub content_of : List ℕ → ℕ → Content
 content_of words value =
     if nat_le (type_of words value) 3 then Number (number64 words value) else
-    if type_of words value == 6 then Choice (string_text words (number64 words (value + 8))) else
-    Raw (number64 words value) (number64 words (value + 8))
+    if type_of words value == 6 then Choice (string_text words (extra_in_value words value)) else
+    Raw (number64 words value) (extra_in_value words value)
 
 unfoldable pub value_row : List ℕ → ℕ → ValueRow
 value_row words value = record { item = item_of words value; instance = instance_of words value; content = content_of words value }

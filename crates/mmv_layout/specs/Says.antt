@@ -3,8 +3,10 @@
 use Rattle.std.specs.Prelude.{◌≡◌, ◌≢◌, ℕ, ℤ, ◌+◌, ◌<◌, ◌≤◌, ◌⊎◌, List, [], ◌∷◌, length, Option, None, Some}
 use Rattle.pcp_base.specs.Codes.{code_of_kind, code_of_semantics}
 use Rattle.mmv_format.specs.declared.contents.Section.{Section}
-use Rattle.mmv_format.specs.Fields.{number32, number64, text_at}
-use Rattle.mmv_format.specs.Contents.{version_in, first_generation, second_generation, flags_in, cluster_in, section_of}
+use Rattle.mmv_format.specs.Fields.{number64, text_at}
+use Rattle.mmv_format.specs.Sizes.{indom_size, instance_size, metric_size, value_size, string_size}
+use Rattle.mmv_format.specs.EntryFields.{serial_in_indom, count_in_indom, first_in_indom, short_offset_in_indom, long_offset_in_indom, name_in_instance, name_in_metric, item_in_metric, type_in_metric, semantics_in_metric, units_in_metric, serial_in_metric, short_offset_in_metric, long_offset_in_metric, extra_in_value, instance_in_value}
+use Rattle.mmv_format.specs.Contents.{version_in, first_generation, second_generation, flags_in, process_in, cluster_in, section_of, process_in}
 use Rattle.mmv_format.specs.Entries.{instance_count, instance_at, metric_count, metric_at, string_count, string_at, metric_of}
 use Rattle.mmv_format.specs.Images.{IsImage}
 use Rattle.mmv_format.specs.declared.rows.IndomRow.{IndomRow}
@@ -13,7 +15,7 @@ use Rattle.mmv_format.specs.declared.rows.ValueRow.{ValueRow}
 use Rattle.mmv_format.specs.declared.rows.Content.{Content}
 use Rattle.mmv_format.specs.declared.rows.Content.TheVariants.{Number, Choice, Raw}
 use Rattle.mmv_format.specs.declared.rows.Layout.{Layout}
-use Rattle.mmv_layout.specs.Rows.{process_in, signed32, item_of, type_of, domain_of}
+use Rattle.mmv_layout.specs.Rows.{number_of, item_of, type_of, domain_of}
 
 -- row k of a list stands at a place and k times the size of a row
 unfoldable pub EachAt : {X : Type 0} → (ℕ → X → Type 0) → ℕ → ℕ → List X → Type 0
@@ -30,7 +32,7 @@ LeadsTo count entry place = (k : ℕ) × (k < count) × (place ≡ entry k)
 
 -- a string stands at a place, with this text
 abbrev pub StringAt : List ℕ → ℕ → List ℕ → Type 0
-StringAt words place text = LeadsTo (string_count words) (string_at words) place × (text ≡ text_at words place 256)
+StringAt words place text = LeadsTo (string_count words) (string_at words) place × (text ≡ text_at words place string_size)
 
 -- a help field is 0, or leads to a string with this text
 abbrev pub HelpAt : List ℕ → ℕ → Option (List ℕ) → Type 0
@@ -39,15 +41,15 @@ HelpAt words field (Some text) = (number64 words field ≢ 0) × StringAt words 
 
 -- an instance's number and its name
 abbrev pub InstanceAt : List ℕ → ℕ → ℤ × List ℕ → Type 0
-InstanceAt words instance row = (row.0 ≡ signed32 words (instance + 12)) × (row.1 ≡ text_at words (instance + 16) 64)
+InstanceAt words instance row = (row.0 ≡ number_of words instance) × (row.1 ≡ name_in_instance words instance)
 
 -- a domain has as many instances as it counts, the first where its field says, and the others behind it
 pub record IndomAt (words : List ℕ) (domain : ℕ) (row : IndomRow) : Type 0 where
-  pub serial : row.serial ≡ number32 words domain
-  pub count : length row.instances ≡ number32 words (domain + 4)
-  pub instances : EachAt (InstanceAt words) (number64 words (domain + 8)) 80 row.instances
-  pub short : HelpAt words (domain + 16) row.short
-  pub long : HelpAt words (domain + 24) row.long
+  pub serial : row.serial ≡ serial_in_indom words domain
+  pub count : length row.instances ≡ count_in_indom words domain
+  pub instances : EachAt (InstanceAt words) (first_in_indom words domain) instance_size row.instances
+  pub short : HelpAt words (short_offset_in_indom domain) row.short
+  pub long : HelpAt words (long_offset_in_indom domain) row.long
 
 -- a metric's serial: without a domain 0 or 4294967295, else that of its domain
 abbrev pub IsNull : ℕ → Type 0
@@ -61,30 +63,30 @@ SerialIs found None = IsNull found
 SerialIs found (Some serial) = IsNamed found × (serial ≡ found)
 
 pub record MetricAt (words : List ℕ) (metric : ℕ) (row : MetricRow) : Type 0 where
-  pub name : row.name ≡ text_at words metric 64
-  pub item : row.item ≡ number32 words (metric + 64)
-  pub kind : code_of_kind row.kind ≡ number32 words (metric + 68)
-  pub semantics : code_of_semantics row.semantics ≡ number32 words (metric + 72)
-  pub units : row.units ≡ number32 words (metric + 76)
-  pub serial : SerialIs (number32 words (metric + 80)) row.serial
-  pub short : HelpAt words (metric + 88) row.short
-  pub long : HelpAt words (metric + 96) row.long
+  pub name : row.name ≡ name_in_metric words metric
+  pub item : row.item ≡ item_in_metric words metric
+  pub kind : code_of_kind row.kind ≡ type_in_metric words metric
+  pub semantics : code_of_semantics row.semantics ≡ semantics_in_metric words metric
+  pub units : row.units ≡ units_in_metric words metric
+  pub serial : SerialIs (serial_in_metric words metric) row.serial
+  pub short : HelpAt words (short_offset_in_metric metric) row.short
+  pub long : HelpAt words (long_offset_in_metric metric) row.long
 
 -- a value's instance: none where its metric has no domain, else the number of the instance to which its field leads
 abbrev pub InstanceOf : List ℕ → ℕ → Option ℤ → Type 0
 InstanceOf words value None = IsNull (domain_of words value)
 InstanceOf words value (Some number) =
-    IsNamed (domain_of words value) × LeadsTo (instance_count words) (instance_at words) (number64 words (value + 24))
-    × (number ≡ signed32 words (number64 words (value + 24) + 12))
+    IsNamed (domain_of words value) × LeadsTo (instance_count words) (instance_at words) (instance_in_value words value)
+    × (number ≡ number_of words (instance_in_value words value))
 
 -- a value's content by its metric's type: 0 to 3 the whole value field, 6 the text of the string to which its extra
 -- field leads, 4, 5 and 9 both fields
 abbrev pub ContentAt : List ℕ → ℕ → Content → Type 0
 ContentAt words value (Number number) = (type_of words value ≤ 3) × (number ≡ number64 words value)
-ContentAt words value (Choice text) = (type_of words value ≡ 6) × StringAt words (number64 words (value + 8)) text
+ContentAt words value (Choice text) = (type_of words value ≡ 6) × StringAt words (extra_in_value words value) text
 ContentAt words value (Raw number extra) =
     ((type_of words value ≡ 4) ⊎ (type_of words value ≡ 5) ⊎ (type_of words value ≡ 9))
-    × (number ≡ number64 words value) × (extra ≡ number64 words (value + 8))
+    × (number ≡ number64 words value) × (extra ≡ extra_in_value words value)
 
 pub record ValueAt (words : List ℕ) (value : ℕ) (row : ValueRow) : Type 0 where
   pub metric : LeadsTo (metric_count words) (metric_at words) (metric_of words value)
@@ -94,7 +96,7 @@ pub record ValueAt (words : List ℕ) (value : ℕ) (row : ValueRow) : Type 0 wh
 
 -- the text of the string at a place
 abbrev pub TextAt : List ℕ → ℕ → List ℕ → Type 0
-TextAt words place text = text ≡ text_at words place 256
+TextAt words place text = text ≡ text_at words place string_size
 
 -- Words say a layout: the header's fields, of which the generation stands twice, and the rows of each section
 pub record Says (words : List ℕ) (layout : Layout) : Type 0 where
@@ -104,10 +106,10 @@ pub record Says (words : List ℕ) (layout : Layout) : Type 0 where
   pub flags : layout.flags ≡ flags_in words
   pub pid : layout.pid ≡ process_in words
   pub cluster : layout.cluster ≡ cluster_in words
-  pub indoms : InSection (IndomAt words) (section_of words 1) 32 layout.indoms
-  pub metrics : InSection (MetricAt words) (section_of words 3) 104 layout.metrics
-  pub values : InSection (ValueAt words) (section_of words 4) 32 layout.values
-  pub strings : InSection (TextAt words) (section_of words 5) 256 layout.strings
+  pub indoms : InSection (IndomAt words) (section_of words 1) indom_size layout.indoms
+  pub metrics : InSection (MetricAt words) (section_of words 3) metric_size layout.metrics
+  pub values : InSection (ValueAt words) (section_of words 4) value_size layout.values
+  pub strings : InSection (TextAt words) (section_of words 5) string_size layout.strings
 
 -- an image says exactly one layout
 abbrev pub SaysOneLayout : Type 0

@@ -1,3 +1,4 @@
+//! An image: words whose form is known.
 ghost use Rattle.std.specs.Prelude.{◌≡◌, ◌≢◌, ◌<◌, ◌≤◌, ◌^◌, ◌⊎◌, negsuc, length, All, Contains, IfOk, IfSome, OnOk, Err, None, MatchOption};
 ghost use Rattle.pcp_base.specs.declared.kind.Kind.TheVariants.{I32, U32};
 ghost use Rattle.pcp_base.specs.Names.{IsName};
@@ -13,10 +14,12 @@ ghost use Rattle.mmv_layout.specs.FirstForm.{is_plain_metric, is_first_form, IsF
 use crate::layout::layout;
 use crate::slots::{slot_of, slots, texts};
 use mmv_format::{
-    ImageFault, Layout, MetricRow, NAME_SIZE, Slot, image_fault, is_no_domain, metric_at,
-    metric_count, number32, number64, text_at, value_at, value_count, words_of,
+    HEADER_SIZE, ImageFault, Layout, MetricRow, Slot, cluster_in, flags_in, image_fault,
+    is_no_domain, item_in_metric, long_offset_in_metric, metric_at, metric_count, name_in_metric,
+    number64, semantics_in_metric, serial_in_metric, short_offset_in_metric, type_in_metric,
+    units_in_metric, value_at, value_count, value_in_value, words_of,
 };
-use pcp_base::{Kind, List, NoMemory, Semantics, Text, TextError, Units};
+use pcp_base::{Kind, List, NoMemory, Semantics, Text, Units};
 use std::alloc::Global;
 use std::marker::Model;
 
@@ -26,17 +29,17 @@ fn is_plain_metric(words: &[u64], metric: u128) -> bool
     requires { metric < 2 ^ 80 }
     ensures { result ≡ is_plain_metric words.now metric }
 {
-    number32(words, metric + 68) <= 1
-        && is_no_domain(number32(words, metric + 80))
-        && number64(words, metric + 88) == 0
-        && number64(words, metric + 96) == 0
+    type_in_metric(words, metric) <= 1
+        && is_no_domain(serial_in_metric(words, metric))
+        && number64(words, short_offset_in_metric(metric)) == 0
+        && number64(words, long_offset_in_metric(metric)) == 0
 }
 
 /// Whether so many bytes are fewer than a header, or no whole number of words.
 fn is_short(bytes: usize) -> bool
     ensures { result ≡ is_short bytes }
 {
-    bytes < 40 || bytes % 8 != 0
+    (bytes as u64) < HEADER_SIZE || bytes % 8 != 0
 }
 
 /// The one metric's item.
@@ -44,7 +47,7 @@ fn is_short(bytes: usize) -> bool
 fn only_item(words: &[u64]) -> u32
     ensures { result ≡ only_item words.now }
 {
-    number32(words, metric_at(words, 0) + 64)
+    item_in_metric(words, metric_at(words, 0))
 }
 
 /// The one metric's kind.
@@ -52,7 +55,7 @@ fn only_item(words: &[u64]) -> u32
 fn only_kind(words: &[u64]) -> Kind
     ensures { result ≡ only_kind words.now }
 {
-    Kind::of_code(number32(words, metric_at(words, 0) + 68)).unwrap_or(Kind::I32)
+    Kind::of_code(type_in_metric(words, metric_at(words, 0))).unwrap_or(Kind::I32)
 }
 
 /// The one metric's semantics.
@@ -60,7 +63,9 @@ fn only_kind(words: &[u64]) -> Kind
 fn only_semantics(words: &[u64]) -> Semantics
     ensures { result ≡ only_semantics words.now }
 {
-    Semantics::of_code(number32(words, metric_at(words, 0) + 72)).unwrap_or(Semantics::Counter)
+    Semantics::of_code(semantics_in_metric(words, metric_at(words, 0))).unwrap_or(
+        Semantics::Counter,
+    )
 }
 
 /// The one metric's units.
@@ -68,7 +73,7 @@ fn only_semantics(words: &[u64]) -> Semantics
 fn only_units(words: &[u64]) -> Units
     ensures { result ≡ only_units words.now }
 {
-    Units::of_word(number32(words, metric_at(words, 0) + 76))
+    Units::of_word(units_in_metric(words, metric_at(words, 0)))
 }
 
 /// The one metric's name.
@@ -76,12 +81,7 @@ fn only_units(words: &[u64]) -> Units
 fn only_name(alloc: Global, words: &[u64]) -> Result<Text, NoMemory>
     ensures { IfOk result (λ name. name ≡ only_name words.now) }
 {
-    let bytes = text_at(alloc, words, metric_at(words, 0), NAME_SIZE)?;
-    match Text::build(alloc, bytes.as_slice()) {
-        Ok(name) => Ok(name),
-        Err(TextError::NoMemory) => Err(NoMemory),
-        Err(TextError::Zero(_)) => unreachable!(),
-    }
+    Ok(name_in_metric(alloc, words, metric_at(words, 0))?)
 }
 
 /// An image of version 1 (mmv(5)). Contracts see it as the list of its words.
@@ -91,6 +91,7 @@ pub struct Image {
 }
 
 impl Model for Image {
+    //! An image: words whose form is known.
     ghost use Rattle.std.specs.Prelude.{List as Sequence, ℕ};
     ghost use Rattle.mmv_format.specs.Images.{IsImage};
 
@@ -158,7 +159,7 @@ impl Image {
         ensures value { result ≡ cluster_in self.now }
         ensures bound { result ≤ 4095 }
     {
-        number32(&self.words, 36)
+        cluster_in(&self.words)
     }
 
     /// Whether the image has the first form: exactly one metric and one value, the metric without an instance domain
@@ -168,7 +169,7 @@ impl Image {
         ensures { result ≡ is_first_form self.now }
     {
         let words = self.words.as_slice();
-        number32(words, 28) % 2 == 0
+        flags_in(words) % 2 == 0
             && metric_count(words) == 1
             && value_count(words) == 1
             && is_plain_metric(words, metric_at(words, 0))
@@ -179,7 +180,7 @@ impl Image {
     pub fn only_value(&self) -> u64
         ensures { result ≡ only_value self.now }
     {
-        number64(&self.words, value_at(&self.words, 0))
+        value_in_value(&self.words, value_at(&self.words, 0))
     }
 
     /// What the image says: each row by the addresses of its fields, each reference as the row to which it leads.

@@ -1,3 +1,4 @@
+//! The laws of this crate's definitions.
 ghost use Rattle.mmv_layout.specs.Form.{HasOneSlotEach};
 ghost use Rattle.mmv_layout.specs.Says.{SaysOneLayout};
 ghost use Rattle.mmv_layout.specs.ShapeLaws.{HasGenerationTwice, GenerationIsNoValue, ValueKeepsTheForm, LengthKeepsTheForm, GenerationKeepsTheForm, LengthKeepsTheLayout, FormIsSaid, TextsAreTheForms, SlotHoldsTheContent};

@@ -1,43 +1,37 @@
+//! What an image says, row by row.
 ghost use Rattle.std.specs.Prelude.{◌≡◌, ◌<◌, ◌^◌, IfOk};
 ghost use Rattle.mmv_format.specs.Images.{IsImage};
+ghost use Rattle.mmv_format.specs.Sizes.{string_size};
 ghost use Rattle.mmv_format.specs.Fields.{text_at};
 ghost use Rattle.mmv_layout.specs.Says.{Says};
-ghost use Rattle.mmv_layout.specs.Rows.{signed32, help_of, instance_row, instances_of, indom_row, serial_of, metric_row, instance_of, content_of, value_row, indoms_of, metrics_of, values_of, strings_of, layout_of};
+ghost use Rattle.mmv_layout.specs.Rows.{number_of, help_of, instance_row, instances_of, indom_row, serial_of, metric_row, instance_of, content_of, value_row, indoms_of, metrics_of, values_of, strings_of, layout_of};
 
 use mmv_format::{
-    Content, IndomRow, Layout, MetricRow, NAME_SIZE, STRING_SIZE, ValueRow, indom_at, indom_count,
-    is_no_domain, metric_at, metric_count, metric_of, number32, number64, run_at, string_at,
-    string_count, text_at, value_at, value_count,
+    Content, IndomRow, Layout, MetricRow, STRING_SIZE, ValueRow, cluster_in, count_in_indom,
+    extra_in_value, first_generation, flags_in, indom_at, indom_count, instance_in_value,
+    is_no_domain, item_in_metric, long_offset_in_indom, long_offset_in_metric, metric_at,
+    metric_count, metric_of, name_in_instance, name_in_metric, number_in_instance, number64,
+    process_in, run_at, semantics_in_metric, serial_in_indom, serial_in_metric,
+    short_offset_in_indom, short_offset_in_metric, string_at, string_count, text_at,
+    type_in_metric, units_in_metric, value_at, value_count, value_in_value, version_in,
 };
-use pcp_base::{Kind, List, NoMemory, Semantics, Text, TextError, Units};
+use pcp_base::{Kind, List, NoMemory, Semantics, Text, Units};
 use std::alloc::Global;
-
-/// The text of the `n` bytes at a place, up to the first zero byte.
-pub fn field_text(alloc: Global, words: &[u64], at: u128, n: u32) -> Result<Text, NoMemory>
-    requires { at < 2 ^ 100 }
-    ensures { IfOk result (λ text. text ≡ text_at words.now at n) }
-{
-    let bytes = text_at(alloc, words, at, n)?;
-    match Text::build(alloc, bytes.as_slice()) {
-        Ok(text) => Ok(text),
-        Err(TextError::NoMemory) => Err(NoMemory),
-        Err(TextError::Zero(_)) => unreachable!(),
-    }
-}
 
 /// The text of the string at a place.
 pub fn string_text(alloc: Global, words: &[u64], place: u128) -> Result<Text, NoMemory>
     requires { place < 2 ^ 100 }
-    ensures { IfOk result (λ text. text ≡ text_at words.now place 256) }
+    ensures { IfOk result (λ text. text ≡ text_at words.now place string_size) }
 {
-    field_text(alloc, words, place, STRING_SIZE as u32)
+    Ok(text_at(alloc, words, place, STRING_SIZE as u32)?)
 }
 
-/// The number of four bytes at a place, with its sign.
-fn signed32(words: &[u64], at: u128) -> i32
-    ensures { result ≡ signed32 words.now at }
+/// The number of the instance at a place.
+fn number_of(words: &[u64], instance: u128) -> i32
+    requires { instance < 2 ^ 80 }
+    ensures { result ≡ number_of words.now instance }
 {
-    number32(words, at).cast_signed()
+    number_in_instance(words, instance).cast_signed()
 }
 
 /// The help to which a field leads, if it isn't 0.
@@ -59,8 +53,8 @@ fn instance_row(alloc: Global, words: &[u64], instance: u128) -> Result<(i32, Te
     requires { instance < 2 ^ 80 }
     ensures { IfOk result (λ row. row ≡ instance_row words.now instance) }
 {
-    let name = field_text(alloc, words, instance + 16, NAME_SIZE)?;
-    Ok((signed32(words, instance + 12), name))
+    let name = name_in_instance(alloc, words, instance)?;
+    Ok((number_of(words, instance), name))
 }
 
 /// The instances of the domain at a place, in the order of its run.
@@ -70,7 +64,7 @@ fn instances_of(alloc: Global, words: &[u64], domain: u128) -> Result<List<(i32,
     ensures { IfOk result (λ rows. rows ≡ instances_of words.now domain) }
 {
     let mut rows = List::empty(alloc);
-    for k in 0..number32(words, domain + 4) {
+    for k in 0..count_in_indom(words, domain) {
         let row = instance_row(alloc, words, run_at(words, domain, k))?;
         rows.push(row)?;
     }
@@ -84,10 +78,10 @@ fn indom_row(alloc: Global, words: &[u64], domain: u128) -> Result<IndomRow, NoM
     ensures { IfOk result (λ row. row ≡ indom_row words.now domain) }
 {
     Ok(IndomRow {
-        serial: number32(words, domain),
+        serial: serial_in_indom(words, domain),
         instances: instances_of(alloc, words, domain)?,
-        short: help_of(alloc, words, domain + 16)?,
-        long: help_of(alloc, words, domain + 24)?,
+        short: help_of(alloc, words, short_offset_in_indom(domain))?,
+        long: help_of(alloc, words, long_offset_in_indom(domain))?,
     })
 }
 
@@ -109,14 +103,16 @@ fn metric_row(alloc: Global, words: &[u64], metric: u128) -> Result<MetricRow, N
     ensures { IfOk result (λ row. row ≡ metric_row words.now metric) }
 {
     Ok(MetricRow {
-        name: field_text(alloc, words, metric, NAME_SIZE)?,
-        item: number32(words, metric + 64),
-        kind: Kind::of_code(number32(words, metric + 68)).unwrap_or(Kind::I32),
-        semantics: Semantics::of_code(number32(words, metric + 72)).unwrap_or(Semantics::Counter),
-        units: Units::of_word(number32(words, metric + 76)),
-        serial: serial_of(number32(words, metric + 80)),
-        short: help_of(alloc, words, metric + 88)?,
-        long: help_of(alloc, words, metric + 96)?,
+        name: name_in_metric(alloc, words, metric)?,
+        item: item_in_metric(words, metric),
+        kind: Kind::of_code(type_in_metric(words, metric)).unwrap_or(Kind::I32),
+        semantics: Semantics::of_code(semantics_in_metric(words, metric)).unwrap_or(
+            Semantics::Counter,
+        ),
+        units: Units::of_word(units_in_metric(words, metric)),
+        serial: serial_of(serial_in_metric(words, metric)),
+        short: help_of(alloc, words, short_offset_in_metric(metric))?,
+        long: help_of(alloc, words, long_offset_in_metric(metric))?,
     })
 }
 
@@ -126,10 +122,10 @@ pub fn instance_of(words: &[u64], value: u128) -> Option<i32>
     requires { value < 2 ^ 80 }
     ensures { result ≡ instance_of words.now value }
 {
-    if is_no_domain(number32(words, metric_of(words, value) as u128 + 80)) {
+    if is_no_domain(serial_in_metric(words, metric_of(words, value) as u128)) {
         return None;
     }
-    Some(signed32(words, number64(words, value + 24) as u128 + 12))
+    Some(number_of(words, instance_in_value(words, value) as u128))
 }
 
 /// The content of the value at a place, by the type of its metric.
@@ -138,8 +134,8 @@ fn content_of(alloc: Global, words: &[u64], value: u128) -> Result<Content, NoMe
     requires { value < 2 ^ 80 }
     ensures { IfOk result (λ content. content ≡ content_of words.now value) }
 {
-    let code = number32(words, metric_of(words, value) as u128 + 68);
-    let (number, extra) = (number64(words, value), number64(words, value + 8));
+    let code = type_in_metric(words, metric_of(words, value) as u128);
+    let (number, extra) = (value_in_value(words, value), extra_in_value(words, value));
     if code <= 3 {
         return Ok(Content::Number(number));
     }
@@ -157,7 +153,7 @@ fn value_row(alloc: Global, words: &[u64], value: u128) -> Result<ValueRow, NoMe
     ensures { IfOk result (λ row. row ≡ value_row words.now value) }
 {
     Ok(ValueRow {
-        item: number32(words, metric_of(words, value) as u128 + 64),
+        item: item_in_metric(words, metric_of(words, value) as u128),
         instance: instance_of(words, value),
         content: content_of(alloc, words, value)?,
     })
@@ -221,11 +217,11 @@ pub fn layout_of(alloc: Global, words: &[u64]) -> Result<Layout, NoMemory>
     ensures { IfOk result (λ layout. layout ≡ layout_of words.now) }
 {
     Ok(Layout {
-        version: number32(words, 4),
-        generation: number64(words, 8),
-        flags: number32(words, 28),
-        pid: number32(words, 32),
-        cluster: number32(words, 36),
+        version: version_in(words),
+        generation: first_generation(words),
+        flags: flags_in(words),
+        pid: process_in(words),
+        cluster: cluster_in(words),
         indoms: indoms_of(alloc, words)?,
         metrics: metrics_of(alloc, words)?,
         values: values_of(alloc, words)?,

@@ -1,3 +1,4 @@
+//! The value words and the strings of an image.
 ghost use Rattle.std.specs.Prelude.{◌≡◌, ◌≢◌, ◌<◌, ◌≤◌, ◌^◌, ◌⊎◌, length, None, IfOk, IfSome, MatchOption, All, Contains};
 ghost use Rattle.std.specs.List.{find};
 ghost use Rattle.mmv_format.specs.Images.{IsImage};
@@ -5,7 +6,9 @@ ghost use Rattle.mmv_layout.specs.Rows.{item_of, type_of};
 ghost use Rattle.mmv_layout.specs.Form.{slot_in, slot_at, slots_of, is_slot_of, texts_of, IsSlotOf, IsOther};
 
 use crate::layout::{instance_of, string_text};
-use mmv_format::{Slot, metric_of, number32, string_at, string_count, value_at, value_count};
+use mmv_format::{
+    Slot, item_in_metric, metric_of, string_at, string_count, type_in_metric, value_at, value_count,
+};
 use pcp_base::{Kind, List, NoMemory, Text};
 use std::alloc::Global;
 
@@ -14,7 +17,7 @@ fn type_of(words: &[u64], value: u128) -> u32
     requires { value < 2 ^ 80 }
     ensures { result ≡ type_of words.now value }
 {
-    number32(words, metric_of(words, value) as u128 + 68)
+    type_in_metric(words, metric_of(words, value) as u128)
 }
 
 /// The slot of the value at a place, in a word.
@@ -23,7 +26,7 @@ fn slot_in(words: &[u64], value: u128, word: u32) -> Slot
     ensures { result ≡ slot_in words.now value word }
 {
     Slot {
-        item: number32(words, metric_of(words, value) as u128 + 64),
+        item: item_in_metric(words, metric_of(words, value) as u128),
         instance: instance_of(words, value).unwrap_or(-1),
         kind: Kind::of_code(type_of(words, value)).unwrap_or(Kind::I32),
         word,

@@ -5,7 +5,8 @@ use Rattle.std.specs.Int.{w32, cast_unsigned}
 use Rattle.std.specs.Ordering.{int_eq}
 use Rattle.std.proofs.lemmas.Bool.{eq-eqb, eqb-true, eqb-false}
 use Rattle.std.proofs.lemmas.Bool.Decides.{nat_tests}
-use Rattle.mmv_format.specs.Fields.{number32, number64, byte_at, text_at, same_name, first_words}
+use Rattle.mmv_format.specs.Fields.{number32, number64, byte_at, text_at, first_words}
+use Rattle.mmv_format.specs.EntryFields.{same_name}
 use Rattle.mmv_format.specs.Entries.{indom_at, instance_at, indom_count, instance_count, leads_to_instance, help_leads, is_instance_of, has_good_run, has_serial, is_new_indom, is_serial, is_good_indom, has_text, lies_in_run, is_same_instance, is_new_instance, is_instance_number, is_good_instance, indoms_are_good, instances_are_good}
 use Rattle.mmv_format.specs.declared.rows.IndomRow.{IndomRow}
 use Rattle.mmv_format.specs.declared.rows.Layout.{Layout}

@@ -9,7 +9,8 @@ use Rattle.pcp_base.specs.declared.kind.Kind.{Kind}
 use Rattle.pcp_base.specs.declared.kind.Kind.TheVariants as kinds
 use Rattle.pcp_base.specs.declared.kind.Semantics.{Semantics}
 use Rattle.pcp_base.specs.declared.kind.Semantics.TheVariants as meanings
-use Rattle.mmv_format.specs.Fields.{number32, text_at, same_name, first_words}
+use Rattle.mmv_format.specs.Fields.{number32, text_at, first_words}
+use Rattle.mmv_format.specs.EntryFields.{same_name}
 use Rattle.mmv_format.specs.Entries.{indom_at, indom_count, metric_at, metric_count, string_at, string_count, help_leads, has_serial, has_name, is_kind, is_semantics, is_no_domain, is_indom_serial, serial_leads, is_same_metric, is_new_metric, is_item, has_good_fields, is_good_metric, is_good_string, metrics_are_good, strings_are_good}
 use Rattle.mmv_format.specs.declared.rows.MetricRow.{MetricRow}
 use Rattle.mmv_format.specs.declared.rows.Layout.{Layout}

@@ -2,7 +2,7 @@
 use Rattle.std.proofs.Common.{◌+◌, ◌-◌, ◌++◌, ap, ◌∙◌, arith}
 use Rattle.mmv_format.specs.Fields.{text_at}
 use Rattle.mmv_format.proofs.Texts.{text_ends, text_grows}
-use Rattle.mmv_format.proofs.fields.text_at.Goals as goal
+use Rattle.mmv_format.proofs.fields.bytes_at.Goals as goal
 
 pub returns-then-byte-eq0 : goal.returns-then-byte-eq0
 returns-then-byte-eq0 c =
