@@ -91,7 +91,6 @@ pub struct Image {
 }
 
 impl Model for Image {
-    //! An image: words whose form is known.
     ghost use Rattle.std.specs.Prelude.{List as Sequence, ℕ};
     ghost use Rattle.mmv_format.specs.Images.{IsImage};
 
