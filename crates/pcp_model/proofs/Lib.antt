@@ -7,7 +7,9 @@ pub mod Lists
 pub mod OneItem
 pub mod OneReading
 pub mod OneRecord
+pub mod OneRecovery
 pub mod Payloads
+pub mod Recovered
 pub mod Sound
 pub mod Spelled
 pub mod Unique

@@ -122,7 +122,7 @@ one_list files l low (v ∷ vs) (w ∷ ws) p q a b c d =
 
 -- ---- the index
 
-entries_long : (bytes : List ℕ) (c : ArchiveContents) → HasEntries bytes c → 132 ≤ length bytes
+pub entries_long : (bytes : List ℕ) (c : ArchiveContents) → HasEntries bytes c → 132 ≤ length bytes
 entries_long bytes c h =
     let size : length bytes ≡ length h.head + length (entries c.entries ++ h.rest) = ap length h.is ∙ length-append h.head (entries c.entries ++ h.rest) in
     omega (arith, length_of_label h.head c.label (negsuc 1) h.label)

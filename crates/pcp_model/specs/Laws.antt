@@ -1,14 +1,17 @@
--- What holds of whole files: in how many ways they are read, and what they are read as when one piece is added behind.
+-- What holds of whole files: in how many ways they are read, what they are read as when one piece is added behind, and what
+-- recovery keeps.
 use Rattle.std.specs.Prelude.{◌≡◌, ℕ, ◌<◌, ◌≤◌, pos, negsuc, List, [], ◌∷◌, ◌++◌, length}
+use Rattle.pcp_base.specs.declared.file.FileId.{FileId}
 use Rattle.pcp_base.specs.declared.file.FileId.TheVariants.{Meta, Index, Volume}
 use Rattle.pcp_base.specs.declared.result.Item.{Item}
 use Rattle.pcp_model.specs.declared.records.MetaRecord.{MetaRecord}
 use Rattle.pcp_model.specs.declared.records.Entry.{Entry}
-use Rattle.pcp_model.specs.Archive.{ArchiveContents, ArchiveReading, AreRead, LabelledFile, HasEntries, IsArchive, Reads, items_of}
+use Rattle.pcp_model.specs.Archive.{ArchiveContents, ArchiveReading, AreRead, LabelledFile, HasEntries, IsArchive, Reads, items_of, scan, records_in}
 use Rattle.pcp_model.specs.Disk.{Files}
 use Rattle.pcp_model.specs.Frame.{IsFrameable, frame, frames}
 use Rattle.pcp_model.specs.Labels.{IsLabel}
 use Rattle.pcp_model.specs.Payload.{IsItem}
+use Rattle.pcp_model.specs.Recovered.{Recovers, recovered_reading}
 use Rattle.pcp_model.specs.Records.{IsRecord, AreConsistent, FitsEntry, entry}
 use Rattle.pcp_model.specs.Written.{with_added}
 
@@ -55,3 +58,16 @@ EntryIsAdded = (files : Files) (c : ArchiveContents) (e : Entry) → IsArchive f
 abbrev pub VolumeIsAdded : Type 0
 VolumeIsAdded = (files : Files) (c : ArchiveContents) (number next : ℕ) (head : List ℕ) → IsArchive files c → EndsWhole files c number → number < next → IsLabel head c.label (pos next)
     → GrowsTo (with_added (Volume next) head files) c [] [] []
+
+-- what recovery leaves is read with the same scan and the same records of Meta
+abbrev pub RecoveryKeepsTheScan : Type 0
+RecoveryKeepsTheScan = (files left : Files) (r : ArchiveReading) → Reads files r → Recovers files r left
+    → Reads left (recovered_reading files r) × (scan (recovered_reading files r) ≡ scan r) × (records_in (recovered_reading files r) ≡ records_in r)
+
+-- recovery of what recovery left changes nothing
+abbrev pub RecoveryStays : Type 0
+RecoveryStays = (files left : Files) (r : ArchiveReading) → Reads files r → Recovers files r left → Recovers left (recovered_reading files r) left
+
+-- it leaves one thing
+abbrev pub RecoveryIsOne : Type 0
+RecoveryIsOne = (files a b : Files) (r : ArchiveReading) → Recovers files r a → Recovers files r b → (file : FileId) → a file ≡ b file

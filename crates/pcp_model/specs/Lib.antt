@@ -7,6 +7,7 @@ pub mod Labels
 pub mod Laws
 pub mod Payload
 pub mod Records
+pub mod Recovered
 pub mod Sound
 pub mod Words
 pub mod Written

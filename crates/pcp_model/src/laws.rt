@@ -1,5 +1,5 @@
 //! What holds of whole files. Each is the contract of a function without parameters, which does nothing.
-ghost use Rattle.pcp_model.specs.Laws.{FilesAreReadOnce, ItemIsAdded, RecordsAreAdded, EntryIsAdded, VolumeIsAdded};
+ghost use Rattle.pcp_model.specs.Laws.{FilesAreReadOnce, ItemIsAdded, RecordsAreAdded, EntryIsAdded, VolumeIsAdded, RecoveryKeepsTheScan, RecoveryStays, RecoveryIsOne};
 
 /// Files are read in at most one way: as a stopped creation, or as an archive with this label, these records,
 /// entries and items.
@@ -25,4 +25,19 @@ pub fn entry_is_added()
 /// The label of a volume above the last, which ends with a whole record, changes neither scan nor metadata.
 pub fn volume_is_added()
     ensures { VolumeIsAdded }
+{}
+
+/// What recovery leaves is read with the same scan and the same records of Meta.
+pub fn recovery_keeps_the_scan()
+    ensures { RecoveryKeepsTheScan }
+{}
+
+/// Recovery of what recovery left changes nothing.
+pub fn recovery_stays()
+    ensures { RecoveryStays }
+{}
+
+/// Of files that are read in one way, recovery leaves one thing.
+pub fn recovery_is_one()
+    ensures { RecoveryIsOne }
 {}
