@@ -5,6 +5,7 @@ pub mod Entries
 pub mod Fields
 pub mod FirstSeen
 pub mod Frames
+pub mod LeadingOn
 pub mod Loops
 pub mod Outcomes
 pub mod RecordsRead

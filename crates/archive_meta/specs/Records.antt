@@ -1,8 +1,8 @@
 -- Framed records of Meta, one behind another (LOGARCHIVE(5)).
-use Rattle.std.specs.Prelude.{◌≡◌, ℕ, ◌<◌, List, [], ◌∷◌, ◌++◌, length, take, Result, Ok, Err}
+use Rattle.std.specs.Prelude.{◌≡◌, ◌⊎◌, ℕ, ◌<◌, ◌≤◌, List, [], ◌∷◌, ◌++◌, length, take, drop, Result, Ok, Err}
 use Rattle.pcp_model.specs.declared.records.MetaRecord.{MetaRecord}
 use Rattle.pcp_model.specs.Archive.{AreRead}
-use Rattle.pcp_model.specs.Frame.{frames}
+use Rattle.pcp_model.specs.Frame.{frames, IsTorn}
 use Rattle.pcp_model.specs.Records.{IsRecord, AreConsistent}
 use Rattle.archive_frame.specs.Steps.{Stands}
 use Rattle.archive_meta.specs.declared.fault.MetaFault.{MetaFault}
@@ -57,3 +57,8 @@ IsAddFault before r at NoMemory = Unit {0}
 abbrev pub AreFound : {X : Type 0} → (X → List MetaRecord → Type 0) → List MetaRecord → Result X MetaFault → Type 0
 AreFound Says records (Ok x) = Says x records
 AreFound Says records (Err e) = e ≡ NoMemory
+
+-- The records up to here may be whole: the bytes end, or a record begins that was not written whole.
+pub record IsWholeEnd (bytes : List ℕ) (at : ℕ) : Type 0 where
+  pub within : at ≤ length bytes
+  pub end : (at ≡ length bytes) ⊎ IsTorn (drop at bytes)

@@ -5,6 +5,7 @@
 
 mod adding;
 mod descriptions;
+mod ends;
 mod fault;
 mod framed;
 mod keeping;
