@@ -6,7 +6,7 @@ ghost use Rattle.log_schedule.specs.Scanning.{after_act, with_statement, with_na
 
 use crate::config::Group;
 use crate::stage::Act;
-use pcp_base::{Bytes, List, NoMemory, Text, TextError};
+use pcp_base::{Bytes, List, NoMemory, Text};
 use std::alloc::Global;
 use std::marker::Model;
 use std::mem;
@@ -118,9 +118,5 @@ fn text_of(alloc: Global, bytes: &[u8]) -> Result<Text, NoMemory>
     requires { IsText bytes.now }
     ensures { IfOk result (λ text. text ≡ bytes.now) }
 {
-    match Text::build(alloc, bytes) {
-        Ok(text) => Ok(text),
-        Err(TextError::NoMemory) => Err(NoMemory),
-        Err(TextError::Zero(_)) => unreachable!(),
-    }
+    Ok(Text::of_clean(List::from_vec(Vec::from_slice(alloc, bytes)?)))
 }

@@ -10,7 +10,7 @@ ghost use Rattle.pmns_core.specs.Pairs.{IsInOrder};
 ghost use Rattle.pmns_core.specs.Tables.{pairs_of, parts_of, AreTextParts};
 
 use crate::table::{Table, front_of, has, is_continued, pmid_at};
-use pcp_base::{Duplicate, List, NoMemory, Pmid, Text, TextError};
+use pcp_base::{Duplicate, List, NoMemory, Pmid, Text};
 use std::alloc::Global;
 use std::collections::BTreeMap;
 
@@ -148,9 +148,5 @@ pub fn text_of(alloc: Global, bytes: &[u8]) -> Result<Text, NoMemory>
     requires { IsText bytes.now }
     ensures { IfOk result (λ text. text ≡ bytes.now) }
 {
-    match Text::build(alloc, bytes) {
-        Ok(text) => Ok(text),
-        Err(TextError::NoMemory) => Err(NoMemory),
-        Err(TextError::Zero(_)) => unreachable!(),
-    }
+    Ok(Text::of_clean(List::from_vec(Vec::from_slice(alloc, bytes)?)))
 }

@@ -27,6 +27,7 @@ impl<S: Shape> Region<S> {
             }
             thread::yield_now();
         }
+        // The loop goes on for ever.
         unreachable!()
     }
 
@@ -58,6 +59,7 @@ impl<S: Shape> Region<S> {
             }
             thread::yield_now();
         }
+        // The loop goes on for ever.
         unreachable!()
     }
 }
