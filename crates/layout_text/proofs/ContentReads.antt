@@ -1,26 +1,25 @@
 -- The content of a value that is written is read again.
-use Rattle.std.proofs.Common.{◌≡◌, ◌≢◌, ℕ, ◌^◌, ◌<◌, ◌==◌, Bool, true, false, List, [], ◌∷◌, ◌++◌, length, refl, sym, ap, ◌∙◌, append-nil, arith, ne_eqb, decimal, Option, Some, All}
-use Rattle.std.proofs.lemmas.Fmt.{decimal_nonempty}
-use Rattle.std.proofs.lemmas.List.Elements.{All-head, All-cons}
+use Rattle.std.proofs.Common.{◌≡◌, ◌≢◌, ℕ, ℤ, pos, negsuc, ◌^◌, ◌<◌, ◌==◌, true, false, List, [], ◌∷◌, ◌++◌, length, refl, sym, ap, ◌∙◌, append-nil, arith, ne_eqb, decimal, Some, All}
+use Rattle.std.specs.Fmt.{signed_decimal}
+use Rattle.std.proofs.lemmas.List.Elements.{All-head}
 use Rattle.layout_text.specs.declared.line.Written.{Written}
 use Rattle.layout_text.specs.declared.line.Written.TheVariants as written
-use Rattle.text_lines.specs.Laws.{EndsWord, IsTextByte}
-use Rattle.text_lines.specs.Numbers.{signed_number, hex_number}
+use Rattle.text_lines.specs.Laws.{EndsWord, IsTextByte, IsWhole}
+use Rattle.text_lines.specs.Numbers.{whole_number, hex_number}
 use Rattle.text_lines.specs.Words.{first_word, behind_word, take_as, starts_quoted, quoted}
-use Rattle.text_lines.specs.Spelling.{hex_text, quoted_text, number_part, text_part, hex_part}
-use Rattle.text_lines.proofs.Decimals.{decimal_is, signed-decimal, signed-minus}
+use Rattle.text_lines.specs.Spelling.{hex_text, quoted_text, int_part, text_part, hex_part}
+use Rattle.text_lines.proofs.Decimals.{decimal_is, decimal_nonempty, whole-decimal}
 use Rattle.text_lines.proofs.Escapes.{quoted_of}
 use Rattle.text_lines.proofs.Hexes.{length-hex, hex_is, glyph_is, hex_number-text}
-use Rattle.text_lines.proofs.NumberParts.{word-decimal, word-minus, word-hex, hex_is_read}
+use Rattle.text_lines.proofs.NumberParts.{word-whole, word-hex, hex_is_read}
 use Rattle.text_lines.proofs.Splitting.{IsWord, first_word_of, behind_word_of}
 use Rattle.layout_text.specs.Laws.{IsWritten}
 use Rattle.layout_text.specs.Lines.{number_content, raw_content, quoted_content, words_content, last_content}
 use Rattle.layout_text.specs.Spelling.{content_part}
 
 pub content_ends : (content : Written) → EndsWord (content_part content)
-unfolding number_part text_part hex_part
-content_ends (written.Number false n) = refl
-content_ends (written.Number true n) = refl
+unfolding int_part text_part hex_part
+content_ends (written.Number n) = refl
 content_ends (written.Quoted text) = refl
 content_ends (written.Raw value extra) = refl
 
@@ -33,19 +32,20 @@ unquoted_word : (word : List ℕ) → 0 < length word → All (λ b. b ≢ 34) w
 unquoted_word word some h = ap starts_quoted (sym (append-nil word)) ∙ unquoted word [] some h
 
 -- no byte of a number is a quote
-unquoted-decimal : (n : ℕ) → n < 18446744073709551616 → All (λ b. b ≢ 34) (decimal n)
+unquoted-decimal : (n : ℕ) → n < 10 ^ 20 → All (λ b. b ≢ 34) (decimal n)
 unquoted-decimal n h = decimal_is (λ b. b ≢ 34) (λ b low high e. omega arith) n h
 
-unquoted-minus : (n : ℕ) → n < 18446744073709551616 → All (λ b. b ≢ 34) (45 ∷ decimal n)
-unquoted-minus n h = All-cons (λ b. b ≢ 34) 45 (decimal n) (λ e. omega arith) (unquoted-decimal n h)
+unquoted-whole : (n : ℤ) → IsWhole n → starts_quoted (signed_decimal n) ≡ false
+unquoted-whole (pos n) h = unquoted_word (decimal n) (decimal_nonempty n h) (unquoted-decimal n h)
+unquoted-whole (negsuc n) h = refl
 
 unquoted-hex : (count n : ℕ) → All (λ b. b ≢ 34) (hex_text count n)
 unquoted-hex count n = hex_is (λ b. b ≢ 34) (λ d h e. omega (arith, glyph_is d h)) count n
 
 -- A number is all that is left.
-one_word : (word : List ℕ) (negative : Bool) (n : ℕ) → IsWord word → starts_quoted word ≡ false → ◌≡◌ {A = Option (Bool × ℕ)} (signed_number word) (Some (negative, n)) → last_content (32 ∷ word) ≡ Some (written.Number negative n)
+one_word : (word : List ℕ) (n : ℤ) → IsWord word → starts_quoted word ≡ false → whole_number word ≡ Some n → last_content (32 ∷ word) ≡ Some (written.Number n)
 unfolding last_content words_content number_content
-one_word word negative n h q e =
+one_word word n h q e =
     let first : first_word word ≡ word = ap first_word (sym (append-nil word)) ∙ first_word_of word [] h tt in
     let behind : behind_word word ≡ [] = ap behind_word (sym (append-nil word)) ∙ behind_word_of word [] h tt in
     rw (q, behind, first, e)
@@ -75,8 +75,7 @@ last_quoted text h =
     rw (quote, found)
 
 pub content_is_read : (content : Written) → IsWritten content → last_content (content_part content) ≡ Some content
-unfolding number_part
-content_is_read (written.Number false n) h = one_word (decimal n) false n (word-decimal n h.0) (unquoted_word (decimal n) (decimal_nonempty n h.0) (unquoted-decimal n h.0)) (signed-decimal n h.0)
-content_is_read (written.Number true n) h = one_word (45 ∷ decimal n) true n (word-minus n h.0) refl (signed-minus n h.0 (h.1 refl))
+unfolding int_part
+content_is_read (written.Number n) h = one_word (signed_decimal n) n (word-whole n h) (unquoted-whole n h) (whole-decimal n h)
 content_is_read (written.Quoted text) h = last_quoted text h
 content_is_read (written.Raw value extra) h = two_words value extra h.0 h.1

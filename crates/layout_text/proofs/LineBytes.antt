@@ -7,7 +7,7 @@ use Rattle.layout_text.specs.declared.line.Written.{Written}
 use Rattle.layout_text.specs.declared.line.Written.TheVariants as written
 use Rattle.text_lines.specs.Laws.{IsLineByte}
 use Rattle.text_lines.specs.Spelling.{number_part, int_part, text_part, hex_part, optional_number_part, optional_int_part, help_part}
-use Rattle.text_lines.proofs.LineBytes.{behind_byte, plain_bytes, number_in_line, int_in_line, signed_in_line, hex_in_line, optional_number_in_line, optional_int_in_line, text_in_line, help_in_line}
+use Rattle.text_lines.proofs.LineBytes.{behind_byte, plain_bytes, number_in_line, int_in_line, whole_in_line, hex_in_line, optional_number_in_line, optional_int_in_line, text_in_line, help_in_line}
 use Rattle.layout_text.specs.Laws.{IsMetric, IsWritten, WrittenLineIsOne}
 use Rattle.layout_text.specs.Spelling.{line_text, codes_parts, links_parts, kind_part, semantics_part, content_part}
 use Rattle.layout_text.proofs.MetricWords.{kind_in_line, semantics_in_line, name_in_line}
@@ -21,7 +21,7 @@ narrow_in_line : (n : ℕ) → n < 4294967296 → All IsLineByte (number_part n)
 narrow_in_line n h = number_in_line n (omega arith)
 
 content_in_line : (content : Written) → IsWritten content → All IsLineByte (content_part content)
-content_in_line (written.Number negative n) h = signed_in_line negative n h
+content_in_line (written.Number n) h = whole_in_line n h
 content_in_line (written.Quoted text) h = text_in_line text h
 content_in_line (written.Raw value extra) h = joined (hex_part 16 value) (hex_part 16 extra) (hex_in_line 16 value) (hex_in_line 16 extra)
 

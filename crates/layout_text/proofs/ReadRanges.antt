@@ -11,9 +11,9 @@ use Rattle.layout_text.specs.declared.line.Line.TheVariants as lines
 use Rattle.layout_text.specs.declared.line.Written.{Written}
 use Rattle.layout_text.specs.declared.line.Written.TheVariants as written
 use Rattle.text_lines.specs.Laws.{IsLineByte, TakesOnly}
-use Rattle.text_lines.specs.Numbers.{◌>>=◌, signed_number, hex_number}
+use Rattle.text_lines.specs.Numbers.{◌>>=◌, whole_number, hex_number}
 use Rattle.text_lines.specs.Words.{first_word, behind_word, word_length, take_space, take_as, starts_quoted, quoted, ended}
-use Rattle.text_lines.proofs.NumberRanges.{signed_range, hex_range, takes_numbers, takes_wide_numbers, takes_ints, takes_hex, takes_optional_numbers, takes_optional_ints}
+use Rattle.text_lines.proofs.NumberRanges.{whole_range, hex_range, takes_numbers, takes_wide_numbers, takes_ints, takes_hex, takes_optional_numbers, takes_optional_ints}
 use Rattle.text_lines.proofs.Taking.{word_taken, word_inside, both_steps, passed, either, same_some, none_some, takes_as}
 use Rattle.text_lines.proofs.Splitting.{IsWord}
 use Rattle.text_lines.proofs.TextRanges.{behind_space, quoted_takes, takes_texts, takes_helps}
@@ -116,8 +116,8 @@ metric_range bytes line h e =
 number_range : (word : List ℕ) (content : Written) → number_content word ≡ Some content → IsWritten content
 unfolding number_content
 number_range word content e =
-    let (n, reads, is) = both_steps (signed_number word) (λ n. Some (written.Number n.0 n.1)) content e in
-    subst IsWritten (same_some (written.Number n.0 n.1) content is) (signed_range word n.0 n.1 reads)
+    let (n, reads, is) = both_steps (whole_number word) (λ n. Some (written.Number n)) content e in
+    subst IsWritten (same_some (written.Number n) content is) (whole_range word n reads)
 
 raw_range : (word left : List ℕ) (content : Written) → raw_content word left ≡ Some content → IsWritten content
 unfolding raw_content

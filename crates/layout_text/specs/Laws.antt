@@ -5,7 +5,7 @@ use Rattle.pcp_base.specs.declared.kind.Kind.TheVariants as kinds
 use Rattle.mmv_format.specs.declared.rows.Content.{Content}
 use Rattle.mmv_format.specs.declared.rows.Content.TheVariants as contents
 use Rattle.mmv_format.specs.declared.rows.MetricRow.{MetricRow}
-use Rattle.text_lines.specs.Laws.{IsLineByte, IsTextByte, IsInt32, IsSigned}
+use Rattle.text_lines.specs.Laws.{IsLineByte, IsTextByte, IsInt32, IsWhole}
 use Rattle.layout_text.specs.declared.line.Line.{Line}
 use Rattle.layout_text.specs.declared.line.Line.TheVariants as lines
 use Rattle.layout_text.specs.declared.line.Written.{Written}
@@ -40,7 +40,7 @@ pub record IsMetric (row : MetricRow) : Type 0 where
   pub long : IfSome row.long (All IsTextByte)
 
 abbrev pub IsWritten : Written → Type 0
-IsWritten (written.Number negative n) = IsSigned negative n
+IsWritten (written.Number n) = IsWhole n
 IsWritten (written.Quoted text) = All IsTextByte text
 IsWritten (written.Raw value extra) = IsNumber64 value × IsNumber64 extra
 

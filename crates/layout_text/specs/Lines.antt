@@ -4,7 +4,7 @@ use Rattle.layout_text.specs.declared.line.Line.{Line}
 use Rattle.layout_text.specs.declared.line.Line.TheVariants as lines
 use Rattle.layout_text.specs.declared.line.Written.{Written}
 use Rattle.layout_text.specs.declared.line.Written.TheVariants as written
-use Rattle.text_lines.specs.Numbers.{◌>>=◌, number32, number64, int32, signed_number, hex_number}
+use Rattle.text_lines.specs.Numbers.{◌>>=◌, number32, number64, int32, whole_number, hex_number}
 use Rattle.text_lines.specs.Words.{first_word, behind_word, take_space, take_as, optional, starts_quoted, quoted, take_text, take_help, ended}
 use Rattle.layout_text.specs.Words.{name_of, kind_of, semantics_of}
 
@@ -60,8 +60,8 @@ metric_line bytes = do
 -- The content of a value, the last part of its line: a quoted text, a number, or two words of 16 hexadecimal digits.
 unfoldable pub number_content : List ℕ → Option Written
 number_content word = do
-  n ← signed_number word
-  Some (written.Number n.0 n.1)
+  n ← whole_number word
+  Some (written.Number n)
 
 unfoldable pub raw_content : List ℕ → List ℕ → Option Written
 raw_content word left = do

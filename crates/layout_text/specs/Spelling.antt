@@ -9,7 +9,7 @@ use Rattle.layout_text.specs.declared.line.Line.{Line}
 use Rattle.layout_text.specs.declared.line.Line.TheVariants as lines
 use Rattle.layout_text.specs.declared.line.Written.{Written}
 use Rattle.layout_text.specs.declared.line.Written.TheVariants as written
-use Rattle.text_lines.specs.Spelling.{number_part, int_part, text_part, hex_part, optional_number_part, optional_int_part, help_part, signed_part}
+use Rattle.text_lines.specs.Spelling.{number_part, int_part, text_part, hex_part, optional_number_part, optional_int_part, help_part}
 
 abbrev pub kind_part : Kind → List ℕ
 kind_part kinds.I32 = codes " i32"
@@ -27,7 +27,7 @@ semantics_part meanings.Instant = codes " instant"
 semantics_part meanings.Discrete = codes " discrete"
 
 abbrev pub content_part : Written → List ℕ
-content_part (written.Number negative n) = signed_part negative n
+content_part (written.Number n) = int_part n
 content_part (written.Quoted text) = text_part text
 content_part (written.Raw value extra) = hex_part 16 value ++ hex_part 16 extra
 

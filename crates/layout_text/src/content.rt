@@ -1,51 +1,42 @@
 //! What written content means for a metric's kind.
 ghost use Rattle.std.specs.Prelude.{◌≡◌, ◌≤◌, ◌<◌, ◌*◌, IfOk};
-ghost use Rattle.layout_text.specs.Contents.{negated, ranged, number_as, text_as, raw_as, content_of, turned, written_number, written_of};
+ghost use Rattle.layout_text.specs.Contents.{ranged, number_as, text_as, raw_as, content_of, turned, written_number, written_of};
 
 use crate::line::Written;
 use mmv_format::Content;
 use pcp_base::{Duplicate, Kind, NoMemory, Text};
 use std::alloc::Global;
 
-// The bits of a negative number.
-fn negated(magnitude: u64) -> u64
-    ensures { result ≡ negated magnitude }
+// The value field of a number from `-low` to `high`: its 64 bits of two's complement.
+fn ranged(low: u64, high: u64, number: i128) -> Option<Content>
+    ensures { result ≡ ranged low high number }
 {
-    if magnitude == 0 {
-        return 0;
-    }
-    u64::MAX - magnitude + 1
-}
-
-// The value field of a number from `-low` to `high`.
-fn ranged(low: u64, high: u64, negative: bool, magnitude: u64) -> Option<Content>
-    ensures { result ≡ ranged low high negative magnitude }
-{
-    if negative {
-        if magnitude > low {
+    if number < 0 {
+        let past = (-1 - number) as u128;
+        if past >= low as u128 {
             return None;
         }
-        return Some(Content::Number(negated(magnitude)));
+        return Some(Content::Number(u64::MAX - past as u64));
     }
-    if magnitude > high {
+    let magnitude = number as u128;
+    if magnitude > high as u128 {
         return None;
     }
-    Some(Content::Number(magnitude))
+    Some(Content::Number(magnitude as u64))
 }
 
-fn number_as(kind: Kind, negative: bool, magnitude: u64) -> Option<Content>
-    ensures { result ≡ number_as kind negative magnitude }
+fn number_as(kind: Kind, number: i128) -> Option<Content>
+    ensures { result ≡ number_as kind number }
 {
     match kind {
-        Kind::I32 => ranged(2_147_483_648, 2_147_483_647, negative, magnitude),
-        Kind::U32 => ranged(0, 4_294_967_295, negative, magnitude),
+        Kind::I32 => ranged(2_147_483_648, 2_147_483_647, number),
+        Kind::U32 => ranged(0, 4_294_967_295, number),
         Kind::I64 => ranged(
             9_223_372_036_854_775_808,
             9_223_372_036_854_775_807,
-            negative,
-            magnitude,
+            number,
         ),
-        Kind::U64 => ranged(0, 18_446_744_073_709_551_615, negative, magnitude),
+        Kind::U64 => ranged(0, 18_446_744_073_709_551_615, number),
         Kind::Float => None,
         Kind::Double => None,
         Kind::Text => None,
@@ -80,10 +71,7 @@ pub fn content_of(kind: Kind, written: Written) -> Option<Content>
     ensures { result ≡ content_of kind written }
 {
     match written {
-        Written::Number {
-            negative,
-            magnitude,
-        } => number_as(kind, negative, magnitude),
+        Written::Number(number) => number_as(kind, number),
         Written::Quoted(text) => text_as(kind, text),
         Written::Raw(value, extra) => raw_as(kind, value, extra),
     }
@@ -95,15 +83,9 @@ fn turned(half: u64, number: u64) -> Written
     ensures { result ≡ turned half number }
 {
     if number < half {
-        return Written::Number {
-            negative: false,
-            magnitude: number,
-        };
+        return Written::Number(number as i128);
     }
-    Written::Number {
-        negative: true,
-        magnitude: half - (number - half),
-    }
+    Written::Number(number as i128 - 2 * half as i128)
 }
 
 fn written_number(kind: Kind, number: u64) -> Written
@@ -111,15 +93,9 @@ fn written_number(kind: Kind, number: u64) -> Written
 {
     match kind {
         Kind::I32 => turned(2_147_483_648, number % 4_294_967_296),
-        Kind::U32 => Written::Number {
-            negative: false,
-            magnitude: number % 4_294_967_296,
-        },
+        Kind::U32 => Written::Number((number % 4_294_967_296) as i128),
         Kind::I64 => turned(9_223_372_036_854_775_808, number),
-        _ => Written::Number {
-            negative: false,
-            magnitude: number,
-        },
+        _ => Written::Number(number as i128),
     }
 }
 

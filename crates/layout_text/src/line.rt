@@ -39,8 +39,8 @@ pub enum Line {
 /// The content of a value as a line has it; only the metric's kind says what it means.
 #[derive(Drop)]
 pub enum Written {
-    /// A number and its sign; what is read as `-0` isn't negative.
-    Number { negative: bool, magnitude: u64 },
+    /// A whole number of at most 20 digits; whether a kind has it shows later.
+    Number(i128),
     /// A quoted text.
     Quoted(Text),
     /// The value field and the extra field as they stand.

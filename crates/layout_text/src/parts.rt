@@ -4,7 +4,7 @@ ghost use Rattle.layout_text.specs.Spelling.{kind_part, semantics_part, content_
 
 use crate::line::Written;
 use pcp_base::{Kind, NoMemory, Semantics};
-use text_lines::{put_hex_part, put_signed, put_text};
+use text_lines::{put_hex_part, put_text, put_whole};
 
 /// A kind's word.
 pub fn put_kind(out: &mut Vec<u8>, kind: Kind) -> Result<(), NoMemory>
@@ -52,10 +52,7 @@ pub fn put_content(out: &mut Vec<u8>, content: &Written) -> Result<(), NoMemory>
     ensures { OnOk result (out.new.items ≡ out.old.items ++ content_part content.now) }
 {
     match content {
-        Written::Number {
-            negative,
-            magnitude,
-        } => put_signed(out, *negative, *magnitude)?,
+        Written::Number(number) => put_whole(out, *number)?,
         Written::Quoted(text) => put_text(out, text)?,
         Written::Raw(value, extra) => {
             put_hex_part(out, 16, *value)?;

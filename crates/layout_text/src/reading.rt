@@ -8,10 +8,10 @@ use crate::words::{take_kind, take_name, take_semantics, take_units};
 use mmv_format::MetricRow;
 use pcp_base::NoMemory;
 use std::alloc::Global;
-use text_lines::{Rest, Stop, hex_number, signed_number, split_word, starts_quoted};
+use text_lines::{Rest, TakeFault, hex_number, split_word, starts_quoted, whole_number};
 
 #[tactic(auto, unfolding(crate::specs::Lines::mmv_line))]
-fn mmv_line(bytes: &[u8]) -> Result<Line, Stop>
+fn mmv_line(bytes: &[u8]) -> Result<Line, TakeFault>
     ensures { Read (mmv_line bytes.now) result }
 {
     let mut rest = Rest::new(bytes);
@@ -31,7 +31,7 @@ fn mmv_line(bytes: &[u8]) -> Result<Line, Stop>
 }
 
 #[tactic(auto, unfolding(crate::specs::Lines::string_line))]
-fn string_line(alloc: Global, bytes: &[u8]) -> Result<Line, Stop>
+fn string_line(alloc: Global, bytes: &[u8]) -> Result<Line, TakeFault>
     ensures { Read (string_line bytes.now) result }
 {
     let mut rest = Rest::new(bytes);
@@ -41,7 +41,7 @@ fn string_line(alloc: Global, bytes: &[u8]) -> Result<Line, Stop>
 }
 
 #[tactic(auto, unfolding(crate::specs::Lines::indom_line))]
-fn indom_line(alloc: Global, bytes: &[u8]) -> Result<Line, Stop>
+fn indom_line(alloc: Global, bytes: &[u8]) -> Result<Line, TakeFault>
     ensures { Read (indom_line bytes.now) result }
 {
     let mut rest = Rest::new(bytes);
@@ -57,7 +57,7 @@ fn indom_line(alloc: Global, bytes: &[u8]) -> Result<Line, Stop>
 }
 
 #[tactic(auto, unfolding(crate::specs::Lines::instance_line))]
-fn instance_line(alloc: Global, bytes: &[u8]) -> Result<Line, Stop>
+fn instance_line(alloc: Global, bytes: &[u8]) -> Result<Line, TakeFault>
     ensures { Read (instance_line bytes.now) result }
 {
     let mut rest = Rest::new(bytes);
@@ -69,7 +69,7 @@ fn instance_line(alloc: Global, bytes: &[u8]) -> Result<Line, Stop>
 }
 
 #[tactic(auto, unfolding(crate::specs::Lines::metric_line))]
-fn metric_line(alloc: Global, bytes: &[u8]) -> Result<Line, Stop>
+fn metric_line(alloc: Global, bytes: &[u8]) -> Result<Line, TakeFault>
     ensures { Read (metric_line bytes.now) result }
 {
     let mut rest = Rest::new(bytes);
@@ -95,29 +95,26 @@ fn metric_line(alloc: Global, bytes: &[u8]) -> Result<Line, Stop>
 }
 
 #[tactic(auto, unfolding(crate::specs::Lines::number_content))]
-fn number_content(word: &[u8]) -> Result<Written, Stop>
+fn number_content(word: &[u8]) -> Result<Written, TakeFault>
     ensures { Read (number_content word.now) result }
 {
-    let (negative, magnitude) = signed_number(word).ok_or(Stop::NoLine)?;
-    Ok(Written::Number {
-        negative,
-        magnitude,
-    })
+    let number = whole_number(word).ok_or(TakeFault::NoLine)?;
+    Ok(Written::Number(number))
 }
 
 #[tactic(auto, unfolding(crate::specs::Lines::raw_content))]
-fn raw_content(word: &[u8], left: &[u8]) -> Result<Written, Stop>
+fn raw_content(word: &[u8], left: &[u8]) -> Result<Written, TakeFault>
     ensures { Read (raw_content word.now left.now) result }
 {
     let mut rest = Rest::new(left);
-    let value = hex_number(16, word).ok_or(Stop::NoLine)?;
+    let value = hex_number(16, word).ok_or(TakeFault::NoLine)?;
     let extra = rest.wide_hex()?;
     rest.end()?;
     Ok(Written::Raw(value, extra))
 }
 
 #[tactic(auto, unfolding(crate::specs::Lines::quoted_content))]
-fn quoted_content(alloc: Global, bytes: &[u8]) -> Result<Written, Stop>
+fn quoted_content(alloc: Global, bytes: &[u8]) -> Result<Written, TakeFault>
     ensures { Read (quoted_content bytes.now) result }
 {
     let mut rest = Rest::new(bytes);
@@ -127,7 +124,7 @@ fn quoted_content(alloc: Global, bytes: &[u8]) -> Result<Written, Stop>
 }
 
 #[tactic(auto, unfolding(crate::specs::Lines::words_content))]
-fn words_content(bytes: &[u8]) -> Result<Written, Stop>
+fn words_content(bytes: &[u8]) -> Result<Written, TakeFault>
     ensures { Read (words_content bytes.now) result }
 {
     let (word, left) = split_word(bytes);
@@ -138,7 +135,7 @@ fn words_content(bytes: &[u8]) -> Result<Written, Stop>
 }
 
 #[tactic(auto, unfolding(crate::specs::Lines::last_content))]
-fn last_content(alloc: Global, bytes: &[u8]) -> Result<Written, Stop>
+fn last_content(alloc: Global, bytes: &[u8]) -> Result<Written, TakeFault>
     ensures { Read (last_content bytes.now) result }
 {
     let mut rest = Rest::new(bytes);
@@ -150,7 +147,7 @@ fn last_content(alloc: Global, bytes: &[u8]) -> Result<Written, Stop>
 }
 
 #[tactic(auto, unfolding(crate::specs::Lines::value_line))]
-fn value_line(alloc: Global, bytes: &[u8]) -> Result<Line, Stop>
+fn value_line(alloc: Global, bytes: &[u8]) -> Result<Line, TakeFault>
     ensures { Read (value_line bytes.now) result }
 {
     let mut rest = Rest::new(bytes);
@@ -165,7 +162,7 @@ fn value_line(alloc: Global, bytes: &[u8]) -> Result<Line, Stop>
 }
 
 #[tactic(auto, unfolding(crate::specs::Lines::line_of))]
-fn line_of(alloc: Global, bytes: &[u8]) -> Result<Line, Stop>
+fn line_of(alloc: Global, bytes: &[u8]) -> Result<Line, TakeFault>
     ensures { Read (line_of bytes.now) result }
 {
     let (word, left) = split_word(bytes);
@@ -187,7 +184,7 @@ fn line_of(alloc: Global, bytes: &[u8]) -> Result<Line, Stop>
     if word == b"value".as_slice() {
         return value_line(alloc, left);
     }
-    Err(Stop::NoLine)
+    Err(TakeFault::NoLine)
 }
 
 /// The line of these bytes, which are without their line feed; `None` exactly where no line has them.
@@ -196,7 +193,7 @@ pub fn read_line(alloc: Global, line: &[u8]) -> Result<Option<Line>, NoMemory>
 {
     match line_of(alloc, line) {
         Ok(found) => Ok(Some(found)),
-        Err(Stop::NoLine) => Ok(None),
-        Err(Stop::NoMemory) => Err(NoMemory),
+        Err(TakeFault::NoLine) => Ok(None),
+        Err(TakeFault::NoMemory) => Err(NoMemory),
     }
 }

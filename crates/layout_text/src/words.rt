@@ -7,7 +7,7 @@ ghost use Rattle.layout_text.specs.Words.{name_of, kind_of, other_kind_of, seman
 
 use pcp_base::{Kind, Semantics, Text, TextError, Units};
 use std::alloc::Global;
-use text_lines::{Rest, Stop, hex_number, starts_quoted};
+use text_lines::{Rest, TakeFault, hex_number, starts_quoted};
 
 // The kind of a word.
 #[tactic(auto, unfolding(crate::specs::Words::kind_of))]
@@ -68,55 +68,55 @@ fn semantics_of(word: &[u8]) -> Option<Semantics>
 
 // A metric's name: a word that isn't quoted, without a zero byte.
 #[tactic(auto, using(crate::proofs::Zeros::no_zero, crate::proofs::Zeros::has_zero), unfolding(crate::specs::Words::name_of))]
-fn name_of(alloc: Global, word: &[u8]) -> Result<Text, Stop>
+fn name_of(alloc: Global, word: &[u8]) -> Result<Text, TakeFault>
     ensures { Read (name_of word.now) result }
 {
     if word.is_empty() {
-        return Err(Stop::NoLine);
+        return Err(TakeFault::NoLine);
     }
     if starts_quoted(word) {
-        return Err(Stop::NoLine);
+        return Err(TakeFault::NoLine);
     }
     match Text::build(alloc, word) {
         Ok(name) => Ok(name),
-        Err(TextError::Zero(_)) => Err(Stop::NoLine),
-        Err(TextError::NoMemory) => Err(Stop::NoMemory),
+        Err(TextError::Zero(_)) => Err(TakeFault::NoLine),
+        Err(TextError::NoMemory) => Err(TakeFault::NoMemory),
     }
 }
 
 /// A kind's word, behind one space.
 #[tactic(auto, unfolding(text_lines::specs::Words::take_as))]
-pub fn take_kind(rest: &mut Rest) -> Result<Kind, Stop>
+pub fn take_kind(rest: &mut Rest) -> Result<Kind, TakeFault>
     ensures { Taken (take_as kind_of rest.old) result rest.new }
 {
     let word = rest.word()?;
-    let kind = kind_of(word).ok_or(Stop::NoLine)?;
+    let kind = kind_of(word).ok_or(TakeFault::NoLine)?;
     Ok(kind)
 }
 
 /// The word of semantics, behind one space.
 #[tactic(auto, unfolding(text_lines::specs::Words::take_as))]
-pub fn take_semantics(rest: &mut Rest) -> Result<Semantics, Stop>
+pub fn take_semantics(rest: &mut Rest) -> Result<Semantics, TakeFault>
     ensures { Taken (take_as semantics_of rest.old) result rest.new }
 {
     let word = rest.word()?;
-    let semantics = semantics_of(word).ok_or(Stop::NoLine)?;
+    let semantics = semantics_of(word).ok_or(TakeFault::NoLine)?;
     Ok(semantics)
 }
 
 /// Units in 8 hexadecimal digits, behind one space.
 #[tactic(auto, unfolding(text_lines::specs::Words::take_as))]
-pub fn take_units(rest: &mut Rest) -> Result<Units, Stop>
+pub fn take_units(rest: &mut Rest) -> Result<Units, TakeFault>
     ensures { Taken (take_as (hex_number 8) rest.old) result rest.new }
 {
     let word = rest.word()?;
-    let number = hex_number(8, word).ok_or(Stop::NoLine)?;
+    let number = hex_number(8, word).ok_or(TakeFault::NoLine)?;
     Ok(Units::of_word(number as u32))
 }
 
 /// A metric's name, behind one space.
 #[tactic(auto, unfolding(text_lines::specs::Words::take_as))]
-pub fn take_name(alloc: Global, rest: &mut Rest) -> Result<Text, Stop>
+pub fn take_name(alloc: Global, rest: &mut Rest) -> Result<Text, TakeFault>
     ensures { Taken (take_as name_of rest.old) result rest.new }
 {
     let word = rest.word()?;

@@ -1,5 +1,6 @@
 pub mod Decimals
 pub mod Escapes
+pub mod Feeds
 pub mod Hex
 pub mod Hexes
 pub mod LineBytes

@@ -1,13 +1,13 @@
 -- No line feed stands in what is written.
-use Rattle.std.proofs.Common.{◌≡◌, ℕ, pos, negsuc, suc, ◌/◌, ◌%◌, ◌<◌, ◌≤◌, ◌==◌, ◌||◌, ◌&&◌, nat_le, cond, true, false, List, [], ◌∷◌, ◌++◌, arith, decimal, Some, None, All}
+use Rattle.std.proofs.Common.{◌≡◌, ℕ, pos, negsuc, suc, ◌/◌, ◌%◌, ◌^◌, ◌<◌, ◌≤◌, ◌==◌, ◌||◌, ◌&&◌, nat_le, cond, true, false, List, [], ◌∷◌, ◌++◌, arith, decimal, Some, None, All}
 use Rattle.std.specs.List.{list_all}
 use Rattle.std.proofs.lemmas.Bool.{cond_both, and_parts, leb-true, eqb-true, or_cases}
 use Rattle.std.proofs.lemmas.List.Elements.{All-nil, All-cons, All-append, All-head, All-tail}
 use mathlib.Core.Logic.{⊎_elim}
-use Rattle.text_lines.specs.Laws.{IsLineByte, IsTextByte, NumberIsInLine, IntIsInLine, SignedIsInLine, HexIsInLine, OptionalNumberIsInLine, OptionalIntIsInLine, TextIsInLine, HelpIsInLine}
+use Rattle.text_lines.specs.Laws.{IsLineByte, IsTextByte, NumberIsInLine, IntIsInLine, WholeIsInLine, HexIsInLine, OptionalNumberIsInLine, OptionalIntIsInLine, TextIsInLine, HelpIsInLine}
 use Rattle.text_lines.specs.Spelling.{hex_glyph, hex_text, escape, escapes, quoted_text, text_part, number_part, int_part, hex_part}
 use Rattle.text_lines.specs.Words.{is_plain}
-use Rattle.text_lines.proofs.Decimals.{decimal_is}
+use Rattle.text_lines.proofs.Decimals.{decimal_is, whole_of_int}
 use Rattle.text_lines.proofs.Hexes.{hex_is, glyph_is}
 
 -- a byte from the space on
@@ -26,7 +26,7 @@ plain_bytes (b ∷ bytes) h =
     let high : b ≤ 126 = leb-true b 126 range.1 in
     behind_byte b bytes (leb-true 32 b range.0) (omega arith) (plain_bytes bytes tests.1)
 
-in-decimal : (n : ℕ) → n < 18446744073709551616 → All IsLineByte (decimal n)
+in-decimal : (n : ℕ) → n < 10 ^ 20 → All IsLineByte (decimal n)
 in-decimal n h = decimal_is IsLineByte (λ b low high. above b (omega arith) (omega arith)) n h
 
 in-missing : All IsLineByte (32 ∷ 45 ∷ [])
@@ -37,19 +37,18 @@ in-glyph d h = above (hex_glyph d) (omega (arith, (glyph_is d h).0)) (omega (ari
 
 pub number_in_line : NumberIsInLine
 unfolding number_part
-number_in_line n h = behind_byte 32 (decimal n) (omega arith) (omega arith) (in-decimal n h)
+number_in_line n h = behind_byte 32 (decimal n) (omega arith) (omega arith) (in-decimal n (omega arith))
 
-negative_in_line : (n : ℕ) → n < 18446744073709551616 → All IsLineByte (32 ∷ 45 ∷ decimal n)
+negative_in_line : (n : ℕ) → n < 10 ^ 20 → All IsLineByte (32 ∷ 45 ∷ decimal n)
 negative_in_line n h = behind_byte 32 (45 ∷ decimal n) (omega arith) (omega arith) (behind_byte 45 (decimal n) (omega arith) (omega arith) (in-decimal n h))
 
-pub int_in_line : IntIsInLine
+pub whole_in_line : WholeIsInLine
 unfolding int_part
-int_in_line (pos n) h = behind_byte 32 (decimal n) (omega arith) (omega arith) (in-decimal n (omega arith))
-int_in_line (negsuc n) h = negative_in_line (suc n) (omega arith)
+whole_in_line (pos n) h = behind_byte 32 (decimal n) (omega arith) (omega arith) (in-decimal n h)
+whole_in_line (negsuc n) h = negative_in_line (suc n) h
 
-pub signed_in_line : SignedIsInLine
-signed_in_line false n h = number_in_line n h.0
-signed_in_line true n h = negative_in_line n h.0
+pub int_in_line : IntIsInLine
+int_in_line n h = whole_in_line n (whole_of_int n h)
 
 pub hex_in_line : HexIsInLine
 unfolding hex_part

@@ -1,25 +1,25 @@
 -- A part that is a number is read again.
-use Rattle.std.proofs.Common.{◌≡◌, ◌≢◌, ℕ, ℤ, pos, negsuc, suc, ◌<◌, cond, true, false, List, [], ◌∷◌, codes, bytes_eq, refl, ap, ◌∙◌, arith, decimal, Option, Some, None}
+use Rattle.std.proofs.Common.{◌≡◌, ◌≢◌, ℕ, ℤ, pos, negsuc, suc, ◌^◌, ◌<◌, cond, false, List, [], ◌∷◌, codes, bytes_eq, refl, ap, ◌∙◌, arith, decimal, Option, Some, None}
 use Rattle.std.specs.Fmt.{signed_decimal}
 use Rattle.std.proofs.lemmas.List.Elements.{All-nil, All-cons}
 use lib.Signed.{mag}
-use Rattle.text_lines.specs.Laws.{NumberIsRead, WideNumberIsRead, IntIsRead, SignedIsRead, HexIsRead, OptionalNumberIsRead, OptionalIntIsRead}
-use Rattle.text_lines.specs.Numbers.{◌>>=◌, number32, number64, signed_number, int32, hex_number}
+use Rattle.text_lines.specs.Laws.{NumberIsRead, WideNumberIsRead, IsWhole, IntIsRead, WholeIsRead, HexIsRead, OptionalNumberIsRead, OptionalIntIsRead}
+use Rattle.text_lines.specs.Numbers.{◌>>=◌, number32, number64, whole_number, int32, hex_number}
 use Rattle.text_lines.specs.Spelling.{hex_text, number_part, int_part, hex_part}
 use Rattle.text_lines.specs.Words.{optional}
-use Rattle.text_lines.proofs.Decimals.{number32-decimal, number64-decimal, decimal_is, signed-decimal, signed-minus, int32-decimal, is_there, is_there_signed}
+use Rattle.text_lines.proofs.Decimals.{number32-decimal, number64-decimal, decimal_is, whole-decimal, whole_of_int, int32-decimal, is_there, is_there_signed}
 use Rattle.text_lines.proofs.Hexes.{hex_number-text, hex_is, glyph_is}
 use Rattle.text_lines.proofs.Splitting.{IsWord, take_as_of}
 
-pub word-decimal : (n : ℕ) → n < 18446744073709551616 → IsWord (decimal n)
+pub word-decimal : (n : ℕ) → n < 10 ^ 20 → IsWord (decimal n)
 word-decimal n h = decimal_is (λ b. b ≢ 32) (λ b low high e. omega arith) n h
 
-pub word-minus : (n : ℕ) → n < 18446744073709551616 → IsWord (45 ∷ decimal n)
+word-minus : (n : ℕ) → n < 10 ^ 20 → IsWord (45 ∷ decimal n)
 word-minus n h = All-cons (λ b. b ≢ 32) 45 (decimal n) (λ e. omega arith) (word-decimal n h)
 
-word-signed : (n : ℤ) → mag n < 2147483648 → IsWord (signed_decimal n)
-word-signed (pos n) h = word-decimal n (omega arith)
-word-signed (negsuc n) h = word-minus (suc n) (omega arith)
+pub word-whole : (n : ℤ) → IsWhole n → IsWord (signed_decimal n)
+word-whole (pos n) h = word-decimal n h
+word-whole (negsuc n) h = word-minus (suc n) h
 
 pub word-hex : (count n : ℕ) → IsWord (hex_text count n)
 word-hex count n = hex_is (λ b. b ≢ 32) (λ d h e. omega (arith, glyph_is d h)) count n
@@ -42,16 +42,15 @@ number_is_read n more h e = take_as_of number32 (decimal n) more n (word-decimal
 
 pub wide_number_is_read : WideNumberIsRead
 unfolding number_part
-wide_number_is_read n more h e = take_as_of number64 (decimal n) more n (word-decimal n h) e (number64-decimal n h)
+wide_number_is_read n more h e = take_as_of number64 (decimal n) more n (word-decimal n (omega arith)) e (number64-decimal n h)
 
 pub int_is_read : IntIsRead
 unfolding int_part
-int_is_read n more h e = take_as_of int32 (signed_decimal n) more n (word-signed n h) e (int32-decimal n h)
+int_is_read n more h e = take_as_of int32 (signed_decimal n) more n (word-whole n (whole_of_int n h)) e (int32-decimal n h)
 
-pub signed_is_read : SignedIsRead
-unfolding number_part
-signed_is_read false n more h e = take_as_of signed_number (decimal n) more (false, n) (word-decimal n h.0) e (signed-decimal n h.0)
-signed_is_read true n more h e = take_as_of signed_number (45 ∷ decimal n) more (true, n) (word-minus n h.0) e (signed-minus n h.0 (h.1 refl))
+pub whole_is_read : WholeIsRead
+unfolding int_part
+whole_is_read n more h e = take_as_of whole_number (signed_decimal n) more n (word-whole n h) e (whole-decimal n h)
 
 pub hex_is_read : HexIsRead
 unfolding hex_part
@@ -67,4 +66,4 @@ pub optional_int_is_read : OptionalIntIsRead
 unfolding int_part
 optional_int_is_read None more h e = take_as_of (optional int32) (codes "-") more None word-missing e (missing_of int32)
 optional_int_is_read (Some n) more h e =
-    take_as_of (optional int32) (signed_decimal n) more (Some n) (word-signed n h) e (optional_of int32 (signed_decimal n) n (is_there_signed n h) (int32-decimal n h))
+    take_as_of (optional int32) (signed_decimal n) more (Some n) (word-whole n (whole_of_int n h)) e (optional_of int32 (signed_decimal n) n (is_there_signed n h) (int32-decimal n h))

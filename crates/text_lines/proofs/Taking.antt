@@ -18,6 +18,10 @@ pub passed : {A : Type 0} (test : Bool) (x y : A) → cond test (Some x) None �
 passed true x y e = (refl, cc)
 passed false x y e = cc
 
+pub passed_to : {A : Type 0} (test : Bool) (x : Option A) (y : A) → cond test x None ≡ Some y → (test ≡ true) × (x ≡ Some y)
+passed_to true x y e = (refl, e)
+passed_to false x y e = cc
+
 -- one of two ways
 pub either : {A : Type 0} (test : Bool) (x y z : A) → cond test x y ≡ z → ((test ≡ true) × (x ≡ z)) ⊎ ((test ≡ false) × (y ≡ z))
 either true x y z e = inl (refl, e)

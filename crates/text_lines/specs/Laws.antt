@@ -1,10 +1,10 @@
 -- What is written of a part is read again, with whatever stands behind it, and holds no line feed; what is read of one
 -- may be written.
-use Rattle.std.specs.Prelude.{◌≡◌, ◌≢◌, ℕ, ℤ, ◌<◌, ◌^◌, Bool, true, List, [], ◌∷◌, ◌++◌, Option, Some, IfSome, All}
+use Rattle.std.specs.Prelude.{◌≡◌, ◌≢◌, ℕ, ℤ, pos, negsuc, suc, ◌<◌, ◌^◌, List, [], ◌∷◌, ◌++◌, Option, Some, IfSome, All}
 use lib.Signed.{mag}
-use Rattle.text_lines.specs.Numbers.{number32, number64, signed_number, int32, hex_number}
+use Rattle.text_lines.specs.Numbers.{number32, number64, whole_number, int32, hex_number}
 use Rattle.text_lines.specs.Words.{take_as, optional, take_text, take_help}
-use Rattle.text_lines.specs.Spelling.{number_part, int_part, text_part, hex_part, optional_number_part, optional_int_part, help_part, signed_part}
+use Rattle.text_lines.specs.Spelling.{number_part, int_part, text_part, hex_part, optional_number_part, optional_int_part, help_part}
 
 -- a byte of a line, which isn't the line feed
 abbrev pub IsLineByte : ℕ → Type 0
@@ -18,9 +18,10 @@ IsTextByte b = (0 < b) × (b < 256)
 abbrev pub IsInt32 : ℤ → Type 0
 IsInt32 n = mag n < 2147483648
 
--- a number of 64 bits and its sign, which zero doesn't have
-abbrev pub IsSigned : Bool → ℕ → Type 0
-IsSigned negative n = (n < 18446744073709551616) × (negative ≡ true → 0 < n)
+-- a whole number of at most 20 digits
+abbrev pub IsWhole : ℤ → Type 0
+IsWhole (pos n) = n < 10 ^ 20
+IsWhole (negsuc n) = suc n < 10 ^ 20
 
 -- A word ends here: nothing is left, or a space comes.
 abbrev pub EndsWord : List ℕ → Type 0
@@ -36,8 +37,8 @@ WideNumberIsRead = (n : ℕ) (more : List ℕ) → n < 18446744073709551616 → 
 abbrev pub IntIsRead : Type 0
 IntIsRead = (n : ℤ) (more : List ℕ) → IsInt32 n → EndsWord more → take_as int32 (int_part n ++ more) ≡ Some (n, more)
 
-abbrev pub SignedIsRead : Type 0
-SignedIsRead = (negative : Bool) (n : ℕ) (more : List ℕ) → IsSigned negative n → EndsWord more → take_as signed_number (signed_part negative n ++ more) ≡ Some ((negative, n), more)
+abbrev pub WholeIsRead : Type 0
+WholeIsRead = (n : ℤ) (more : List ℕ) → IsWhole n → EndsWord more → take_as whole_number (int_part n ++ more) ≡ Some (n, more)
 
 abbrev pub HexIsRead : Type 0
 HexIsRead = (count n : ℕ) (more : List ℕ) → n < 16 ^ count → EndsWord more → take_as (hex_number count) (hex_part count n ++ more) ≡ Some (n, more)
@@ -62,8 +63,8 @@ NumberIsInLine = (n : ℕ) → n < 18446744073709551616 → All IsLineByte (numb
 abbrev pub IntIsInLine : Type 0
 IntIsInLine = (n : ℤ) → IsInt32 n → All IsLineByte (int_part n)
 
-abbrev pub SignedIsInLine : Type 0
-SignedIsInLine = (negative : Bool) (n : ℕ) → IsSigned negative n → All IsLineByte (signed_part negative n)
+abbrev pub WholeIsInLine : Type 0
+WholeIsInLine = (n : ℤ) → IsWhole n → All IsLineByte (int_part n)
 
 abbrev pub HexIsInLine : Type 0
 HexIsInLine = (count n : ℕ) → All IsLineByte (hex_part count n)
@@ -93,8 +94,8 @@ TakesWideNumbers = TakesOnly (λ n. n < 18446744073709551616) (take_as number64)
 abbrev pub TakesInts : Type 0
 TakesInts = TakesOnly IsInt32 (take_as int32)
 
-abbrev pub TakesSigned : Type 0
-TakesSigned = TakesOnly (λ n. IsSigned n.0 n.1) (take_as signed_number)
+abbrev pub TakesWhole : Type 0
+TakesWhole = TakesOnly IsWhole (take_as whole_number)
 
 abbrev pub TakesHex : Type 0
 TakesHex = (count : ℕ) → TakesOnly (λ n. n < 16 ^ count) (take_as (hex_number count))

@@ -1,4 +1,5 @@
 pub mod Laws
+pub mod Lines
 pub mod Numbers
 pub mod Spelling
 pub mod Words

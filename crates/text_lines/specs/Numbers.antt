@@ -1,6 +1,6 @@
 -- Numbers as words: decimal ones are `0`, or a digit from 1 to 9 and further digits, of at most 20; where negative
--- ones are allowed a `-` may stand before them. Hexadecimal ones have a fixed number of digits.
-use Rattle.std.specs.Prelude.{ℕ, ℤ, pos, neg_ℤ, ◌+◌, ◌-◌, ◌*◌, Bool, false, ◌&&◌, ◌||◌, ◌==◌, nat_le, nat_lt, if◌then◌else◌, List, [], ◌∷◌, length, Option, Some, None}
+-- ones are allowed a `-` may stand before them, and whoever knows what the number is for looks at its range. Hexadecimal ones have a fixed number of digits.
+use Rattle.std.specs.Prelude.{ℕ, ℤ, pos, neg_ℤ, ◌+◌, ◌-◌, ◌*◌, Bool, false, ◌&&◌, ◌||◌, ◌==◌, nat_le, nat_lt, int_lt, if◌then◌else◌, List, [], ◌∷◌, length, Option, Some, None}
 use Rattle.std.specs.List.{list_all}
 
 infixl 10 ◌>>=◌
@@ -37,20 +37,18 @@ number32 word = below 4294967296 (number_of word)
 unfoldable pub number64 : List ℕ → Option ℕ
 number64 word = below 18446744073709551616 (number_of word)
 
--- whether a number is negative, and its magnitude of 64 bits; `-0` is 0
-unfoldable pub signed_number : List ℕ → Option (Bool × ℕ)
-signed_number [] = None
-signed_number (b ∷ bs) =
-    if b == 45 then number64 bs >>= (λ n. Some (nat_lt 0 n, n)) else number64 (b ∷ bs) >>= (λ n. Some (false, n))
+-- a whole number, before whose digits a `-` may stand; `-0` is 0
+unfoldable pub whole_number : List ℕ → Option ℤ
+whole_number [] = None
+whole_number (b ∷ bs) =
+    if b == 45 then number_of bs >>= (λ n. Some (neg_ℤ (pos n))) else number_of (b ∷ bs) >>= (λ n. Some (pos n))
 
--- a signed number of 32 bits
-abbrev pub int_of : Bool × ℕ → Option ℤ
-int_of (negative, n) =
-    if negative then (if nat_le n 2147483648 then Some (neg_ℤ (pos n)) else None) else
-    (if nat_lt n 2147483648 then Some (pos n) else None)
+-- a whole number of 32 bits and its sign
+abbrev pub int_of : ℤ → Option ℤ
+int_of n = if int_lt n (pos 2147483648) then (if int_lt (neg_ℤ (pos 2147483649)) n then Some n else None) else None
 
 unfoldable pub int32 : List ℕ → Option ℤ
-int32 word = signed_number word >>= int_of
+int32 word = whole_number word >>= int_of
 
 -- hexadecimal digits, of lower case and of both cases
 abbrev pub is_low_hex : ℕ → Bool

@@ -1,6 +1,6 @@
 -- How each part is written: numbers in decimal, hexadecimal digits of lower case, and escapes only where they are
 -- needed.
-use Rattle.std.specs.Prelude.{ℕ, ℤ, zero, suc, ◌+◌, ◌/◌, ◌%◌, ◌==◌, ◌||◌, nat_lt, Bool, if◌then◌else◌, List, [], ◌∷◌, ◌++◌, Option, Some, None, decimal}
+use Rattle.std.specs.Prelude.{ℕ, ℤ, zero, suc, ◌+◌, ◌/◌, ◌%◌, ◌==◌, ◌||◌, nat_lt, if◌then◌else◌, List, [], ◌∷◌, ◌++◌, Option, Some, None, decimal}
 use Rattle.std.specs.Fmt.{signed_decimal}
 use Rattle.text_lines.specs.Words.{is_plain}
 
@@ -51,6 +51,3 @@ optional_int_part (Some n) = int_part n
 abbrev pub help_part : Option (List ℕ) → List ℕ
 help_part None = missing_part
 help_part (Some text) = text_part text
-
-abbrev pub signed_part : Bool → ℕ → List ℕ
-signed_part negative n = if negative then 32 ∷ 45 ∷ decimal n else number_part n

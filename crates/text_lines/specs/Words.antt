@@ -1,26 +1,26 @@
 -- The parts of a line. Each is taken from the bytes that are left of a line, with the one space before it; what is
 -- taken comes with the bytes behind it.
 use Rattle.std.specs.Prelude.{◌≡◌, ℕ, zero, suc, ◌+◌, ◌*◌, Bool, false, ◌&&◌, ◌||◌, ◌==◌, not, nat_le, if◌then◌else◌, List, [], ◌∷◌, length, take, drop, Option, Some, None, Result, Ok, Err, codes, bytes_eq}
-use Rattle.text_lines.specs.declared.rest.Stop.{Stop}
-use Rattle.text_lines.specs.declared.rest.Stop.TheVariants as stops
+use Rattle.text_lines.specs.declared.rest.TakeFault.{TakeFault}
+use Rattle.text_lines.specs.declared.rest.TakeFault.TheVariants as faults
 use Rattle.text_lines.specs.Numbers.{◌>>=◌, is_low_hex, hex_digit}
 
 -- What a function took and left of the bytes is what the taker says, unless memory ran out.
-abbrev pub Taken : {X : Type 0} → Option (X × List ℕ) → Result X Stop → List ℕ → Type 0
+abbrev pub Taken : {X : Type 0} → Option (X × List ℕ) → Result X TakeFault → List ℕ → Type 0
 Taken taken (Ok x) left = taken ≡ Some (x, left)
-Taken taken (Err stops.NoLine) left = taken ≡ None
-Taken taken (Err stops.NoMemory) left = Unit {0}
+Taken taken (Err faults.NoLine) left = taken ≡ None
+Taken taken (Err faults.NoMemory) left = Unit {0}
 
 -- nothing was taken
-abbrev pub IsStopped : {X : Type 0} → Option X → Stop → Type 0
-IsStopped taken stops.NoLine = taken ≡ None
-IsStopped taken stops.NoMemory = Unit {0}
+abbrev pub IsStopped : {X : Type 0} → Option X → TakeFault → Type 0
+IsStopped taken faults.NoLine = taken ≡ None
+IsStopped taken faults.NoMemory = Unit {0}
 
 -- What a function returned is what reading gives, unless memory ran out.
-abbrev pub Read : {X : Type 0} → Option X → Result X Stop → Type 0
+abbrev pub Read : {X : Type 0} → Option X → Result X TakeFault → Type 0
 Read read (Ok x) = read ≡ Some x
-Read read (Err stops.NoLine) = read ≡ None
-Read read (Err stops.NoMemory) = Unit {0}
+Read read (Err faults.NoLine) = read ≡ None
+Read read (Err faults.NoMemory) = Unit {0}
 
 abbrev pub take_space : List ℕ → Option (Unit {0} × List ℕ)
 take_space [] = None

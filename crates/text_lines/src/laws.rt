@@ -1,11 +1,11 @@
-ghost use Rattle.text_lines.specs.Laws.{NumberIsRead, WideNumberIsRead, IntIsRead, SignedIsRead, HexIsRead, OptionalNumberIsRead, OptionalIntIsRead, TextIsRead, HelpIsRead, NumberIsInLine, IntIsInLine, SignedIsInLine, HexIsInLine, OptionalNumberIsInLine, OptionalIntIsInLine, TextIsInLine, HelpIsInLine, TakesNumbers, TakesWideNumbers, TakesInts, TakesSigned, TakesHex, TakesOptionalNumbers, TakesOptionalInts, TakesTexts, TakesHelps};
+ghost use Rattle.text_lines.specs.Laws.{NumberIsRead, WideNumberIsRead, IntIsRead, WholeIsRead, HexIsRead, OptionalNumberIsRead, OptionalIntIsRead, TextIsRead, HelpIsRead, NumberIsInLine, IntIsInLine, WholeIsInLine, HexIsInLine, OptionalNumberIsInLine, OptionalIntIsInLine, TextIsInLine, HelpIsInLine, TakesNumbers, TakesWideNumbers, TakesInts, TakesWhole, TakesHex, TakesOptionalNumbers, TakesOptionalInts, TakesTexts, TakesHelps};
 
 /// What is written of a number is read as that number, with whatever stands behind its word.
 pub fn written_number_is_read()
     ensures decimal { NumberIsRead }
     ensures wide { WideNumberIsRead }
     ensures int { IntIsRead }
-    ensures signed { SignedIsRead }
+    ensures whole { WholeIsRead }
     ensures hex { HexIsRead }
     ensures optional { OptionalNumberIsRead }
     ensures optional_int { OptionalIntIsRead }
@@ -21,7 +21,7 @@ pub fn written_text_is_read()
 pub fn written_part_is_in_line()
     ensures decimal { NumberIsInLine }
     ensures int { IntIsInLine }
-    ensures signed { SignedIsInLine }
+    ensures whole { WholeIsInLine }
     ensures hex { HexIsInLine }
     ensures optional { OptionalNumberIsInLine }
     ensures optional_int { OptionalIntIsInLine }
@@ -34,7 +34,7 @@ pub fn read_number_is_in_range()
     ensures decimal { TakesNumbers }
     ensures wide { TakesWideNumbers }
     ensures int { TakesInts }
-    ensures signed { TakesSigned }
+    ensures whole { TakesWhole }
     ensures hex { TakesHex }
     ensures optional { TakesOptionalNumbers }
     ensures optional_int { TakesOptionalInts }

@@ -1,9 +1,10 @@
-//! The parts of a line of a text: words behind single spaces, decimal, signed and hexadecimal numbers, quoted texts
-//! with their escapes, and `-` for a missing part. Takes each part from what is left of a line, exactly, and writes
-//! each in its one spelling.
+//! The lines of a text, and the parts of a line: words behind single spaces, decimal, signed and hexadecimal numbers,
+//! quoted texts with their escapes, and `-` for a missing part. Takes each part from what is left of a line, exactly,
+//! and writes each in its one spelling.
 #![tactic(auto)]
 
 mod laws;
+mod lines;
 mod numbers;
 mod quoted;
 mod rest;
@@ -13,10 +14,11 @@ pub use laws::{
     read_number_is_in_range, read_text_is_text, written_number_is_read, written_part_is_in_line,
     written_text_is_read,
 };
-pub use numbers::{hex_number, int32, number32, number64, signed_number};
+pub use lines::split_line;
+pub use numbers::{hex_number, int32, number32, number64, read_number, whole_number};
 pub use quoted::starts_quoted;
-pub use rest::{Rest, Stop, split_word};
+pub use rest::{Rest, TakeFault, split_word};
 pub use writing::{
-    put_help, put_hex_part, put_int, put_number, put_optional_int, put_optional_number, put_signed,
-    put_text,
+    put_help, put_hex_part, put_int, put_number, put_optional_int, put_optional_number, put_text,
+    put_whole,
 };

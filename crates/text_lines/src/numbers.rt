@@ -1,7 +1,7 @@
 //! Numbers as words of a line.
 ghost use Rattle.std.specs.Prelude.{◌≡◌, ◌≤◌, ◌<◌, length, true, IfSome, ◌^◌, Option, Some, None, if◌then◌else◌};
 ghost use Rattle.std.specs.List.{list_all};
-ghost use Rattle.text_lines.specs.Numbers.{is_digit, number_of, digits_number, number32, number64, signed_number, int_of, int32, is_low_hex, is_hex, hex_digit, hex_number};
+ghost use Rattle.text_lines.specs.Numbers.{is_digit, number_of, digits_number, number32, number64, whole_number, int_of, int32, is_low_hex, is_hex, hex_digit, hex_number};
 
 fn is_decimal_digit(byte: u8) -> bool
     ensures { result ≡ is_digit byte }
@@ -12,7 +12,8 @@ fn is_decimal_digit(byte: u8) -> bool
 // The number that digits spell, if all are digits.
 fn read_digits(digits: &[u8]) -> Option<u128>
     requires { length digits.now ≤ 20 }
-    ensures { result ≡ digits_number digits.now }
+    ensures value { result ≡ digits_number digits.now }
+    ensures range { IfSome result (λ n. n < 10 ^ 20) }
 {
     let mut number = 0;
     for digit in digits {
@@ -24,9 +25,10 @@ fn read_digits(digits: &[u8]) -> Option<u128>
     Some(number)
 }
 
-// The number that a word spells: `0`, or a digit from 1 to 9 and further digits, of at most 20.
-fn read_number(word: &[u8]) -> Option<u128>
-    ensures { result ≡ number_of word.now }
+/// The number that a word spells: `0`, or a digit from 1 to 9 and further digits, of at most 20.
+pub fn read_number(word: &[u8]) -> Option<u128>
+    ensures value { result ≡ number_of word.now }
+    ensures range { IfSome result (λ n. n < 10 ^ 20) }
 {
     let [first, rest @ ..] = word else {
         return None;
@@ -64,45 +66,42 @@ pub fn number64(word: &[u8]) -> Option<u64>
     Some(number as u64)
 }
 
-/// Whether the number of a word is negative, and its magnitude below 2^64.
-#[tactic(auto, unfolding(crate::specs::Numbers::signed_number))]
-pub fn signed_number(word: &[u8]) -> Option<(bool, u64)>
-    ensures { result ≡ signed_number word.now }
+/// The whole number of a word, before whose digits a `-` may stand; `-0` is 0.
+#[tactic(auto, unfolding(crate::specs::Numbers::whole_number))]
+pub fn whole_number(word: &[u8]) -> Option<i128>
+    ensures { result ≡ whole_number word.now }
 {
     let [first, rest @ ..] = word else {
         return None;
     };
     if *first == b'-' {
-        let magnitude = number64(rest)?;
-        return Some((magnitude > 0, magnitude));
+        let magnitude = read_number(rest)?;
+        return Some(-(magnitude as i128));
     }
-    let magnitude = number64(word)?;
-    Some((false, magnitude))
+    let number = read_number(word)?;
+    Some(number as i128)
 }
 
-// A number with its sign, if 32 bits hold it.
-fn int_of(negative: bool, magnitude: u64) -> Option<i32>
-    ensures { result ≡ int_of (negative, magnitude) }
+// A whole number, if 32 bits hold it.
+fn int_of(number: i128) -> Option<i32>
+    ensures { result ≡ int_of number }
 {
-    if negative {
-        if magnitude > 1 << 31 {
-            return None;
-        }
-        return Some((-(magnitude as i64)) as i32);
-    }
-    if magnitude >= 1 << 31 {
+    if number >= 2147483648 {
         return None;
     }
-    Some(magnitude as i32)
+    if number <= -2147483649 {
+        return None;
+    }
+    Some(number as i32)
 }
 
-/// The signed number of a word, of 32 bits.
+/// The whole number of a word, of 32 bits and its sign.
 #[tactic(auto, unfolding(crate::specs::Numbers::int32))]
 pub fn int32(word: &[u8]) -> Option<i32>
     ensures { result ≡ int32 word.now }
 {
-    let (negative, magnitude) = signed_number(word)?;
-    int_of(negative, magnitude)
+    let number = whole_number(word)?;
+    int_of(number)
 }
 
 /// Whether the byte is a hexadecimal digit of lower case.

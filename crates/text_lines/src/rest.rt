@@ -12,28 +12,28 @@ use std::marker::Model;
 
 /// Why nothing was taken: the bytes are no line, or memory was refused.
 #[derive(Clone, Copy, Debug, PartialEq, Eq)]
-pub enum Stop {
+pub enum TakeFault {
     NoLine,
     NoMemory,
 }
 
-impl From<NoMemory> for Stop {
-    ghost use Rattle.text_lines.specs.declared.rest.Stop.TheVariants.{NoMemory as Refused};
+impl From<NoMemory> for TakeFault {
+    ghost use Rattle.text_lines.specs.declared.rest.TakeFault.TheVariants.{NoMemory as Refused};
 
     ghost from_gives = { λ _ e. e ≡ Refused };
 
-    fn from(_error: NoMemory) -> Stop {
-        Stop::NoMemory
+    fn from(_error: NoMemory) -> TakeFault {
+        TakeFault::NoMemory
     }
 }
 
-impl From<AllocError> for Stop {
-    ghost use Rattle.text_lines.specs.declared.rest.Stop.TheVariants.{NoMemory as Refused};
+impl From<AllocError> for TakeFault {
+    ghost use Rattle.text_lines.specs.declared.rest.TakeFault.TheVariants.{NoMemory as Refused};
 
     ghost from_gives = { λ _ e. e ≡ Refused };
 
-    fn from(_error: AllocError) -> Stop {
-        Stop::NoMemory
+    fn from(_error: AllocError) -> TakeFault {
+        TakeFault::NoMemory
     }
 }
 
@@ -101,14 +101,14 @@ impl<'a> Rest<'a> {
     }
 
     /// One space.
-    pub fn space(&mut self) -> Result<(), Stop>
+    pub fn space(&mut self) -> Result<(), TakeFault>
         ensures { Taken (take_space self.old) result self.new }
     {
         let [first, rest @ ..] = self.bytes else {
-            return Err(Stop::NoLine);
+            return Err(TakeFault::NoLine);
         };
         if *first != b' ' {
-            return Err(Stop::NoLine);
+            return Err(TakeFault::NoLine);
         }
         self.bytes = rest;
         Ok(())
@@ -116,7 +116,7 @@ impl<'a> Rest<'a> {
 
     /// The bytes up to the next space, behind one space.
     #[tactic(auto, unfolding(crate::specs::Words::take_word))]
-    pub fn word(&mut self) -> Result<&'a [u8], Stop>
+    pub fn word(&mut self) -> Result<&'a [u8], TakeFault>
         ensures { MatchResult result (λ word. take_word self.old ≡ Some (word.now, self.new)) (IsStopped (take_word self.old)) }
     {
         self.space()?;
@@ -127,73 +127,73 @@ impl<'a> Rest<'a> {
 
     /// A number of 32 bits.
     #[tactic(auto, unfolding(crate::specs::Words::take_as))]
-    pub fn number32(&mut self) -> Result<u32, Stop>
+    pub fn number32(&mut self) -> Result<u32, TakeFault>
         ensures { Taken (take_as number32 self.old) result self.new }
     {
         let word = self.word()?;
-        let number = numbers::number32(word).ok_or(Stop::NoLine)?;
+        let number = numbers::number32(word).ok_or(TakeFault::NoLine)?;
         Ok(number)
     }
 
     /// A number of 64 bits.
     #[tactic(auto, unfolding(crate::specs::Words::take_as))]
-    pub fn number64(&mut self) -> Result<u64, Stop>
+    pub fn number64(&mut self) -> Result<u64, TakeFault>
         ensures { Taken (take_as number64 self.old) result self.new }
     {
         let word = self.word()?;
-        let number = numbers::number64(word).ok_or(Stop::NoLine)?;
+        let number = numbers::number64(word).ok_or(TakeFault::NoLine)?;
         Ok(number)
     }
 
     /// A signed number of 32 bits.
     #[tactic(auto, unfolding(crate::specs::Words::take_as))]
-    pub fn int32(&mut self) -> Result<i32, Stop>
+    pub fn int32(&mut self) -> Result<i32, TakeFault>
         ensures { Taken (take_as int32 self.old) result self.new }
     {
         let word = self.word()?;
-        let number = numbers::int32(word).ok_or(Stop::NoLine)?;
+        let number = numbers::int32(word).ok_or(TakeFault::NoLine)?;
         Ok(number)
     }
 
     /// A number of 32 bits, or `-` for none.
     #[tactic(auto, unfolding(crate::specs::Words::take_as, crate::specs::Words::optional))]
-    pub fn optional_number(&mut self) -> Result<Option<u32>, Stop>
+    pub fn optional_number(&mut self) -> Result<Option<u32>, TakeFault>
         ensures { Taken (take_as (optional number32) self.old) result self.new }
     {
         let word = self.word()?;
         if word == b"-".as_slice() {
             return Ok(None);
         }
-        let number = numbers::number32(word).ok_or(Stop::NoLine)?;
+        let number = numbers::number32(word).ok_or(TakeFault::NoLine)?;
         Ok(Some(number))
     }
 
     /// A signed number of 32 bits, or `-` for none.
     #[tactic(auto, unfolding(crate::specs::Words::take_as, crate::specs::Words::optional))]
-    pub fn optional_int(&mut self) -> Result<Option<i32>, Stop>
+    pub fn optional_int(&mut self) -> Result<Option<i32>, TakeFault>
         ensures { Taken (take_as (optional int32) self.old) result self.new }
     {
         let word = self.word()?;
         if word == b"-".as_slice() {
             return Ok(None);
         }
-        let number = numbers::int32(word).ok_or(Stop::NoLine)?;
+        let number = numbers::int32(word).ok_or(TakeFault::NoLine)?;
         Ok(Some(number))
     }
 
     /// A number in 16 hexadecimal digits.
     #[tactic(auto, unfolding(crate::specs::Words::take_as))]
-    pub fn wide_hex(&mut self) -> Result<u64, Stop>
+    pub fn wide_hex(&mut self) -> Result<u64, TakeFault>
         ensures { Taken (take_as (hex_number 16) self.old) result self.new }
     {
         let word = self.word()?;
-        let number = numbers::hex_number(16, word).ok_or(Stop::NoLine)?;
+        let number = numbers::hex_number(16, word).ok_or(TakeFault::NoLine)?;
         Ok(number)
     }
 
     // The bytes of a text up to its closing quote, fewer than `limit`.
     #[tactic(auto, using(crate::proofs::Quoting::behind_nothing))]
-    fn unquoted(&mut self, alloc: Global, limit: usize) -> Result<Bytes, Stop>
+    fn unquoted(&mut self, alloc: Global, limit: usize) -> Result<Bytes, TakeFault>
         ensures text { Taken (text_within limit self.old) result self.new }
         ensures zero { IfOk result IsText }
     {
@@ -205,21 +205,21 @@ impl<'a> Rest<'a> {
                 return Ok(text);
             }
             let Some((byte, behind)) = text_byte(rest) else {
-                return Err(Stop::NoLine);
+                return Err(TakeFault::NoLine);
             };
             text.push(byte)?;
             rest = behind;
         }
-        Err(Stop::NoLine)
+        Err(TakeFault::NoLine)
     }
 
     /// A text between quotes.
     #[tactic(auto, unfolding(crate::specs::Words::quoted))]
-    pub fn quoted(&mut self, alloc: Global) -> Result<Text, Stop>
+    pub fn quoted(&mut self, alloc: Global) -> Result<Text, TakeFault>
         ensures { Taken (quoted self.old) result self.new }
     {
         if !starts_quoted(self.bytes) {
-            return Err(Stop::NoLine);
+            return Err(TakeFault::NoLine);
         }
         let limit = self.bytes.len();
         self.bytes = &self.bytes[1..];
@@ -230,7 +230,7 @@ impl<'a> Rest<'a> {
 
     /// A text between quotes, behind one space.
     #[tactic(auto, unfolding(crate::specs::Words::take_text))]
-    pub fn text(&mut self, alloc: Global) -> Result<Text, Stop>
+    pub fn text(&mut self, alloc: Global) -> Result<Text, TakeFault>
         ensures { Taken (take_text self.old) result self.new }
     {
         self.space()?;
@@ -240,7 +240,7 @@ impl<'a> Rest<'a> {
 
     /// A text between quotes or the `-` of none, behind one space.
     #[tactic(auto, unfolding(crate::specs::Words::take_help))]
-    pub fn help(&mut self, alloc: Global) -> Result<Option<Text>, Stop>
+    pub fn help(&mut self, alloc: Global) -> Result<Option<Text>, TakeFault>
         ensures { Taken (take_help self.old) result self.new }
     {
         self.space()?;
@@ -253,11 +253,11 @@ impl<'a> Rest<'a> {
     }
 
     /// That nothing is left.
-    pub fn end(&self) -> Result<(), Stop>
+    pub fn end(&self) -> Result<(), TakeFault>
         ensures { Read (ended self.now tt) result }
     {
         if !self.bytes.is_empty() {
-            return Err(Stop::NoLine);
+            return Err(TakeFault::NoLine);
         }
         Ok(())
     }

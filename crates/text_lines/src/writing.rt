@@ -1,6 +1,6 @@
 //! The parts of a line in their one spelling, each behind its space.
 ghost use Rattle.std.specs.Prelude.{◌≡◌, ◌++◌, ◌∷◌, [], ◌<◌, ◌≤◌, OnOk};
-ghost use Rattle.text_lines.specs.Spelling.{hex_glyph, hex_text, escape, escapes, quoted_text, number_part, int_part, text_part, hex_part, optional_number_part, optional_int_part, help_part, signed_part};
+ghost use Rattle.text_lines.specs.Spelling.{hex_glyph, hex_text, escape, escapes, quoted_text, number_part, int_part, text_part, hex_part, optional_number_part, optional_int_part, help_part};
 
 use crate::quoted::is_plain;
 use itoa::Buffer;
@@ -77,15 +77,22 @@ pub fn put_number(out: &mut Vec<u8>, number: u64) -> Result<(), NoMemory>
     Ok(())
 }
 
-/// A signed number in decimal.
+/// A whole number in decimal, with its sign.
 #[tactic(auto, unfolding(crate::specs::Spelling::int_part))]
-pub fn put_int(out: &mut Vec<u8>, number: i32) -> Result<(), NoMemory>
+pub fn put_whole(out: &mut Vec<u8>, number: i128) -> Result<(), NoMemory>
     ensures { OnOk result (out.new.items ≡ out.old.items ++ int_part number) }
 {
     let mut buffer = Buffer::new();
     out.push(b' ')?;
     out.extend_from_slice(buffer.format(number).as_bytes())?;
     Ok(())
+}
+
+/// The same of 32 bits.
+pub fn put_int(out: &mut Vec<u8>, number: i32) -> Result<(), NoMemory>
+    ensures { OnOk result (out.new.items ≡ out.old.items ++ int_part number) }
+{
+    put_whole(out, number as i128)
 }
 
 /// A number in so many hexadecimal digits.
@@ -128,19 +135,5 @@ pub fn put_help(out: &mut Vec<u8>, help: &Option<Text>) -> Result<(), NoMemory>
         Some(text) => put_text(out, text)?,
         None => out.extend_from_slice(b" -")?,
     }
-    Ok(())
-}
-
-/// A number and its sign.
-pub fn put_signed(out: &mut Vec<u8>, negative: bool, magnitude: u64) -> Result<(), NoMemory>
-    ensures { OnOk result (out.new.items ≡ out.old.items ++ signed_part negative magnitude) }
-{
-    if !negative {
-        put_number(out, magnitude)?;
-        return Ok(());
-    }
-    let mut buffer = Buffer::new();
-    out.extend_from_slice(b" -")?;
-    out.extend_from_slice(buffer.format(magnitude).as_bytes())?;
     Ok(())
 }

@@ -1,5 +1,5 @@
 -- Each number is tested against its bound.
-use Rattle.text_lines.proofs.NumberRanges.{takes_numbers, takes_wide_numbers, takes_ints, takes_signed, takes_hex, takes_optional_numbers, takes_optional_ints}
+use Rattle.text_lines.proofs.NumberRanges.{takes_numbers, takes_wide_numbers, takes_ints, takes_whole, takes_hex, takes_optional_numbers, takes_optional_ints}
 use Rattle.text_lines.proofs.laws.read_number_is_in_range.Goals as goal
 
 pub returns-clause-decimal : goal.returns-clause-decimal
@@ -11,8 +11,8 @@ returns-clause-wide c = takes_wide_numbers
 pub returns-clause-int : goal.returns-clause-int
 returns-clause-int c = takes_ints
 
-pub returns-clause-signed : goal.returns-clause-signed
-returns-clause-signed c = takes_signed
+pub returns-clause-whole : goal.returns-clause-whole
+returns-clause-whole c = takes_whole
 
 pub returns-clause-hex : goal.returns-clause-hex
 returns-clause-hex c = takes_hex

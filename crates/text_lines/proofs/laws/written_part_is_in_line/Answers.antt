@@ -1,5 +1,5 @@
 -- Each byte is a space or a byte above it.
-use Rattle.text_lines.proofs.LineBytes.{number_in_line, int_in_line, signed_in_line, hex_in_line, optional_number_in_line, optional_int_in_line, text_in_line, help_in_line}
+use Rattle.text_lines.proofs.LineBytes.{number_in_line, int_in_line, whole_in_line, hex_in_line, optional_number_in_line, optional_int_in_line, text_in_line, help_in_line}
 use Rattle.text_lines.proofs.laws.written_part_is_in_line.Goals as goal
 
 pub returns-clause-decimal : goal.returns-clause-decimal
@@ -8,8 +8,8 @@ returns-clause-decimal c = number_in_line
 pub returns-clause-int : goal.returns-clause-int
 returns-clause-int c = int_in_line
 
-pub returns-clause-signed : goal.returns-clause-signed
-returns-clause-signed c = signed_in_line
+pub returns-clause-whole : goal.returns-clause-whole
+returns-clause-whole c = whole_in_line
 
 pub returns-clause-hex : goal.returns-clause-hex
 returns-clause-hex c = hex_in_line
