@@ -1,5 +1,7 @@
 pub mod Firsts
+pub mod Keeping
 pub mod Lengths
 pub mod Members
 pub mod Missing
 pub mod Positions
+pub mod Told

@@ -1,10 +1,14 @@
--- Where the first string of a text stands, as an ordered map tells it.
-use Rattle.std.specs.Prelude.{◌≡◌, ℕ, List, Option, bytes_eq}
+-- Where the first string of a text and the first row of a key stand, as ordered maps tell it.
+use Rattle.std.specs.Prelude.{◌≡◌, ℕ, ℤ, ◌==◌, Bool, if◌then◌else◌, min, List, take, length, Option, Some, None, bytes_eq, slice_get}
 use Rattle.std.specs.Global.{Vec}
 use Rattle.std.specs.List.{position}
-use Rattle.std.specs.Ordering.{nat_cmp}
+use Rattle.std.specs.Ordering.{nat_cmp, int_cmp, int_eq}
 use Rattle.std.specs.Cmp.Lexicographic.{slice_cmp}
-use Rattle.std.specs.BTreeMap.{BTreeMap, get_by}
+use Rattle.std.specs.BTreeMap.{BTreeMap, get, get_by}
+use Rattle.mmv_format.specs.declared.rows.IndomRow.{IndomRow}
+use Rattle.mmv_format.specs.declared.rows.MetricRow.{MetricRow}
+use Rattle.mmv_spelling.specs.declared.lookups.DomainPlace.{DomainPlace}
+use Rattle.mmv_spelling.specs.Places.{instances_in}
 
 -- what a map has for a text
 abbrev pub first_of : BTreeMap (Vec ℕ) ℕ → List ℕ → Option ℕ
@@ -13,3 +17,35 @@ first_of firsts text = get_by (λ (key : Vec ℕ). slice_cmp nat_cmp text key.it
 -- a map has for each text the position of the first string that is equal to it, and none for another
 abbrev pub IsIndex : BTreeMap (Vec ℕ) ℕ → List (List ℕ) → Type 0
 IsIndex firsts strings = (text : List ℕ) → first_of firsts text ≡ position (λ other. bytes_eq other text) strings
+
+-- what is kept of a key, or else a new value where the key is its own
+abbrev pub kept_or : {X : Type 0} → Option X → Bool → X → Option X
+kept_or (Some x) here y = Some x
+kept_or None here y = if here then Some y else None
+
+-- a map has for each instance number the position of the first instance that has it
+abbrev pub IsMemberIndex : BTreeMap ℤ ℕ → List (ℤ × List ℕ) → Type 0
+IsMemberIndex members instances = (id : ℤ) → get int_cmp members id ≡ position (λ other. int_eq other.0 id) instances
+
+-- a map has for each item the position of the first metric that has it
+abbrev pub IsItemIndex : BTreeMap ℕ ℕ → List MetricRow → Type 0
+IsItemIndex items rows = (item : ℕ) → get nat_cmp items item ≡ position (λ metric. metric.item == item) rows
+
+-- what is kept of a domain whose row stands here, behind so many instances
+pub record IsPlace (row : IndomRow) (at before : ℕ) (place : DomainPlace) : Type 0 where
+  pub stands : place.at ≡ at
+  pub behind : place.before ≡ before
+  pub count : place.count ≡ length row.instances
+  pub members : IsMemberIndex place.members row.instances
+
+-- what is kept of a serial is its first domain's
+abbrev pub IsTold : List IndomRow → Option DomainPlace → Option ℕ → Type 0
+IsTold rows None None = Unit {0}
+IsTold rows None (Some at) = ⊥
+IsTold rows (Some place) None = ⊥
+IsTold rows (Some place) (Some at) =
+    (row : IndomRow) × (slice_get rows at ≡ Some row) × IsPlace row at (min (instances_in (take at rows)) 18446744073709551615) place
+
+-- a map has for each serial what is kept of the first domain that has it
+abbrev pub IsDomainIndex : BTreeMap ℕ DomainPlace → List IndomRow → Type 0
+IsDomainIndex places rows = (serial : ℕ) → IsTold rows (get nat_cmp places serial) (position (λ row. row.serial == serial) rows)

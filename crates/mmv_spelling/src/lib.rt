@@ -2,6 +2,7 @@
 //! how many words it needs, where its sections stand, and the words themselves.
 #![tactic(auto)]
 
+mod lookups;
 mod places;
 mod references;
 mod spelling;

@@ -3,6 +3,7 @@ ghost use Rattle.mmv_spelling.specs.Places.{instances_in, counts_of, words_in, p
 ghost use Rattle.mmv_spelling.specs.Spelling.{sections_words, spelled};
 
 use crate::places::{Counts, Places, counts_of, places_of, sections_in, words_in};
+use crate::lookups::{DomainTable, MetricTable};
 use crate::tables::StringTable;
 use crate::words::{
     push_contents, push_domains, push_header, push_instances, push_metrics, push_strings,
@@ -15,6 +16,7 @@ use std::alloc::Global;
 /// Writes the sections of a draft with these strings.
 #[tactic(auto, unfolding(crate::specs::Spelling::sections_words))]
 fn push_sections(
+    alloc: Global,
     out: &mut Vec<u64>,
     draft: &Layout,
     strings: &StringTable,
@@ -29,15 +31,17 @@ fn push_sections(
 {
     let indoms = draft.indoms.as_slice();
     let metrics = draft.metrics.as_slice();
-    push_domains(out, places, strings, indoms)?;
-    push_instances(out, places, indoms)?;
+    let domains = DomainTable::of(alloc, indoms)?;
+    let items = MetricTable::of(alloc, metrics)?;
+    push_domains(out, places, strings, &domains, indoms)?;
+    push_instances(out, places, &domains, indoms)?;
     push_metrics(out, places, strings, metrics)?;
     push_values(
         out,
         places,
         strings,
-        indoms,
-        metrics,
+        &domains,
+        &items,
         draft.values.as_slice(),
     )?;
     push_strings(out, strings.as_slice())?;
@@ -72,6 +76,6 @@ pub fn spelled(alloc: Global, draft: &Layout, strings: &StringTable) -> Result<V
     let mut out = Vec::new(alloc);
     push_header(&mut out, draft, sections_in(&counts) as u32)?;
     push_contents(&mut out, &counts, &places)?;
-    push_sections(&mut out, draft, strings, &places)?;
+    push_sections(alloc, &mut out, draft, strings, &places)?;
     Ok(out)
 }

@@ -1,3 +1,4 @@
+//! The words of each entry, and of each section.
 ghost use Rattle.std.specs.Prelude.{◌≡◌, ◌+◌, ◌<◌, ◌≤◌, ◌^◌, ◌++◌, length, take, drop, OnOk, slice_index};
 ghost use Rattle.std.specs.List.{flat_map};
 ghost use Rattle.std.specs.Int.{w64, from_le_bytes};
@@ -6,8 +7,9 @@ ghost use Rattle.mmv_spelling.specs.Places.{instances_in, words_in, AreSmall};
 ghost use Rattle.mmv_spelling.specs.Spelling.{halves, header_words, entry_words, contents_words, domain_place, domain_words, instance_words, serial_word, metric_words, value_field, value_words, domain_section, instance_section, metric_section, value_section, string_section};
 
 use crate::places::{Counts, Places};
+use crate::lookups::{DomainTable, MetricTable};
 use crate::references::{
-    domain_place, extra_field, first_instance, help_place, instance_field, metric_place, serial_of,
+    domain_place, extra_field, first_instance, help_place, instance_field, metric_place,
 };
 use crate::tables::StringTable;
 use mmv_format::{Content, IndomRow, Layout, MetricRow, ValueRow};
@@ -112,18 +114,18 @@ fn push_domain(
     out: &mut Vec<u64>,
     places: &Places,
     strings: &StringTable,
-    indoms: &[IndomRow],
+    domains: &DomainTable,
     row: &IndomRow,
 ) -> Result<(), NoMemory>
     requires small { AreSmall places.now }
     requires strings { length strings.now ≤ 65536 }
-    requires instances { instances_in indoms.now ≤ 65536 }
+    requires instances { instances_in domains.now ≤ 65536 }
     requires row { length row.now.instances ≤ 65536 }
-    ensures { OnOk result (out.new.items ≡ out.old.items ++ domain_words places.now strings.now indoms.now row.now) }
+    ensures { OnOk result (out.new.items ≡ out.old.items ++ domain_words places.now strings.now domains.now row.now) }
 {
     out.extend_from_slice(&[
         halves(row.serial, row.instances.len() as u32),
-        first_instance(places, indoms, row),
+        first_instance(places, domains, row),
         help_place(places, strings, &row.short),
         help_place(places, strings, &row.long),
     ])?;
@@ -136,15 +138,17 @@ pub fn push_domains(
     out: &mut Vec<u64>,
     places: &Places,
     strings: &StringTable,
+    domains: &DomainTable,
     indoms: &[IndomRow],
 ) -> Result<(), NoMemory>
     requires small { AreSmall places.now }
     requires strings { length strings.now ≤ 65536 }
+    requires same { domains.now ≡ indoms.now }
     requires instances { instances_in indoms.now ≤ 65536 }
     ensures { OnOk result (out.new.items ≡ out.old.items ++ domain_section places.now strings.now indoms.now) }
 {
     for row in indoms {
-        push_domain(out, places, strings, indoms, row)?;
+        push_domain(out, places, strings, domains, row)?;
     }
     Ok(())
 }
@@ -173,14 +177,14 @@ fn push_members(out: &mut Vec<u64>, domain: u64, instances: &[(i32, Text)]) -> R
 fn push_row(
     out: &mut Vec<u64>,
     places: &Places,
-    indoms: &[IndomRow],
+    domains: &DomainTable,
     row: &IndomRow,
 ) -> Result<(), NoMemory>
     requires small { AreSmall places.now }
-    requires count { length indoms.now ≤ 65536 }
-    ensures { OnOk result (out.new.items ≡ out.old.items ++ flat_map (λ instance. instance_words (domain_place places.now indoms.now row.now.serial) instance) row.now.instances) }
+    requires count { length domains.now ≤ 65536 }
+    ensures { OnOk result (out.new.items ≡ out.old.items ++ flat_map (λ instance. instance_words (domain_place places.now domains.now row.now.serial) instance) row.now.instances) }
 {
-    let domain = domain_place(places, indoms, row.serial);
+    let domain = domain_place(places, domains, row.serial);
     push_members(out, domain, row.instances.as_slice())?;
     Ok(())
 }
@@ -190,14 +194,16 @@ fn push_row(
 pub fn push_instances(
     out: &mut Vec<u64>,
     places: &Places,
+    domains: &DomainTable,
     indoms: &[IndomRow],
 ) -> Result<(), NoMemory>
     requires small { AreSmall places.now }
+    requires same { domains.now ≡ indoms.now }
     requires count { length indoms.now ≤ 65536 }
     ensures { OnOk result (out.new.items ≡ out.old.items ++ instance_section places.now indoms.now) }
 {
     for row in indoms {
-        push_row(out, places, indoms, row)?;
+        push_row(out, places, domains, row)?;
     }
     Ok(())
 }
@@ -270,22 +276,22 @@ fn push_value(
     out: &mut Vec<u64>,
     places: &Places,
     strings: &StringTable,
-    indoms: &[IndomRow],
-    metrics: &[MetricRow],
+    domains: &DomainTable,
+    metrics: &MetricTable,
     row: &ValueRow,
 ) -> Result<(), NoMemory>
     requires small { AreSmall places.now }
     requires strings { length strings.now ≤ 65536 }
-    requires instances { instances_in indoms.now ≤ 65536 }
+    requires instances { instances_in domains.now ≤ 65536 }
     requires metrics { length metrics.now ≤ 65536 }
-    ensures { OnOk result (out.new.items ≡ out.old.items ++ value_words places.now strings.now indoms.now metrics.now row.now) }
+    ensures { OnOk result (out.new.items ≡ out.old.items ++ value_words places.now strings.now domains.now metrics.now row.now) }
 {
-    let serial = serial_of(metrics, row.item);
+    let serial = metrics.serial_of(row.item);
     out.extend_from_slice(&[
         value_field(&row.content),
         extra_field(places, strings, &row.content),
         metric_place(places, metrics, row.item),
-        instance_field(places, indoms, serial, &row.instance),
+        instance_field(places, domains, serial, &row.instance),
     ])?;
     Ok(())
 }
@@ -296,18 +302,18 @@ pub fn push_values(
     out: &mut Vec<u64>,
     places: &Places,
     strings: &StringTable,
-    indoms: &[IndomRow],
-    metrics: &[MetricRow],
+    domains: &DomainTable,
+    metrics: &MetricTable,
     values: &[ValueRow],
 ) -> Result<(), NoMemory>
     requires small { AreSmall places.now }
     requires strings { length strings.now ≤ 65536 }
-    requires instances { instances_in indoms.now ≤ 65536 }
+    requires instances { instances_in domains.now ≤ 65536 }
     requires metrics { length metrics.now ≤ 65536 }
-    ensures { OnOk result (out.new.items ≡ out.old.items ++ value_section places.now strings.now indoms.now metrics.now values.now) }
+    ensures { OnOk result (out.new.items ≡ out.old.items ++ value_section places.now strings.now domains.now metrics.now values.now) }
 {
     for row in values {
-        push_value(out, places, strings, indoms, metrics, row)?;
+        push_value(out, places, strings, domains, metrics, row)?;
     }
     Ok(())
 }

@@ -1,5 +1,5 @@
 -- What a text says is a draft.
-use Rattle.std.proofs.Common.{◌≡◌, ℕ, zero, suc, ◌+◌, ◌<◌, ℤ, Bool, true, false, not, ◌&&◌, ◌||◌, cond, nat_eq, nat_le, List, [], ◌∷◌, refl, sym, ap, subst, ◌∙◌, arith, ⊎_elim, true≢false, Option, Some, None, option_map, Result, Ok, Err, All, IfSome, slice_index, get_or}
+use Rattle.std.proofs.Common.{◌≡◌, ℕ, zero, suc, ◌+◌, ◌-◌, ◌<◌, ℤ, pos, negsuc, Bool, true, false, not, ◌&&◌, ◌||◌, cond, nat_eq, nat_le, nat_lt, List, [], ◌∷◌, refl, sym, ap, subst, ◌∙◌, arith, ⊎_elim, true≢false, Option, Some, None, option_map, Result, Ok, Err, All, IfSome, slice_index, get_or}
 use Rattle.std.specs.List.{list_any}
 use Rattle.std.proofs.lemmas.Bool.{eqb-true, leb-true, eq-eqb}
 use Rattle.pcp_base.specs.declared.kind.Kind.{Kind}
@@ -17,7 +17,7 @@ use Rattle.layout_text.specs.declared.line.Line.{Line}
 use Rattle.layout_text.specs.declared.line.Line.TheVariants as lines
 use Rattle.layout_text.specs.declared.line.Written.{Written}
 use Rattle.layout_text.specs.declared.line.Written.TheVariants as written
-use Rattle.layout_text.specs.Contents.{number_as, text_as, raw_as, content_of}
+use Rattle.layout_text.specs.Contents.{ranged, number_as, text_as, raw_as, content_of}
 use Rattle.layout_text.specs.Laws.{IsLine, IsWritten}
 use Rattle.layout_text.specs.Whole.{layout_text}
 use Rattle.layout_text.proofs.ReadRanges.{line_range}
@@ -29,12 +29,13 @@ use Rattle.mmv_writer.specs.declared.line_fault.TextFault.{TextFault}
 use Rattle.mmv_writer.specs.Rules.{is_long_help, header_fault, indom_fault, instance_fault, metric_fault, is_metric_name, is_same_metric, lacks_domain, unknown_or, value_fault, is_long_content, text_fault}
 use Rattle.mmv_writer.specs.Draft.{IsStored, IsHelp, IsContent, IsDraft, empty_draft, new_domain, with_domain, with_instance, with_metric, with_value, with_string}
 use Rattle.mmv_writer.specs.Saying.{with_all_strings}
-use Rattle.mmv_writer.specs.Reading.{prepend, lines_of, ended, said_by, full_line_of, unless, kind_in, with_content, with_written, with_line, with_said, with_head, and_then, with_lines, draft_of, text_draft}
+use Rattle.mmv_writer.specs.Reading.{said_by, full_line_of, unless, kind_in, with_content, with_written, with_line, with_said, with_head, and_then, with_lines, draft_of, text_draft}
 use Rattle.mmv_writer.specs.TextLaws.{IsByte, MadeTextIsDumped}
 use Rattle.mmv_writer.proofs.Rows.{either_left, either_right}
 use Rattle.mmv_writer.proofs.Drafts.{indom_rules, value_rules, string_rule, domain_added, metric_added, value_added, string_added, instance_added, nothing_added}
 use Rattle.mmv_writer.proofs.Sayings.{drafts_are_said}
-use Rattle.mmv_writer.proofs.TextLines.{either, feed_lines, other_lines}
+use Rattle.text_lines.specs.Lines.{prepend, lines_of, without_feed}
+use Rattle.text_lines.proofs.Feeds.{either, feed_lines, other_lines}
 
 -- Texts
 
@@ -72,21 +73,23 @@ unfolding metric_fault
 metric_helps draft row h =
     metric_short (is_metric_name row.name) (is_long_help row.short || is_long_help row.long) (list_any (λ other. is_same_metric other row) draft.metrics) (lacks_domain draft.indoms row.serial) (nat_le row.item 1023) h
 
-ranged_number : (negative low high : Bool) (m n : ℕ) (text : List ℕ) → cond negative (cond low (Some (contents.Number m)) None) (cond high (Some (contents.Number n)) None) ≡ Some (contents.Choice text) → ⊥
-ranged_number true true high m n text h = cc
-ranged_number true false high m n text h = cc
-ranged_number false low true m n text h = cc
-ranged_number false low false m n text h = cc
+number_there : (here : Bool) (n : ℕ) (text : List ℕ) → cond here (Some (contents.Number n)) None ≡ Some (contents.Choice text) → ⊥
+number_there true n text h = cc
+number_there false n text h = cc
 
-number_no_text : (kind : Kind) (negative : Bool) (n : ℕ) (text : List ℕ) → number_as kind negative n ≡ Some (contents.Choice text) → ⊥
-number_no_text kinds.I32 negative n text h = ranged_number negative _ _ _ _ text h
-number_no_text kinds.U32 negative n text h = ranged_number negative _ _ _ _ text h
-number_no_text kinds.I64 negative n text h = ranged_number negative _ _ _ _ text h
-number_no_text kinds.U64 negative n text h = ranged_number negative _ _ _ _ text h
-number_no_text kinds.Float negative n text h = cc
-number_no_text kinds.Double negative n text h = cc
-number_no_text kinds.Text negative n text h = cc
-number_no_text kinds.Elapsed negative n text h = cc
+ranged_number : (low high : ℕ) (n : ℤ) (text : List ℕ) → ranged low high n ≡ Some (contents.Choice text) → ⊥
+ranged_number low high (pos n) text h = number_there (nat_le n high) n text h
+ranged_number low high (negsuc n) text h = number_there (nat_lt n low) (18446744073709551615 - n) text h
+
+number_no_text : (kind : Kind) (n : ℤ) (text : List ℕ) → number_as kind n ≡ Some (contents.Choice text) → ⊥
+number_no_text kinds.I32 n text h = ranged_number 2147483648 2147483647 n text h
+number_no_text kinds.U32 n text h = ranged_number 0 4294967295 n text h
+number_no_text kinds.I64 n text h = ranged_number 9223372036854775808 9223372036854775807 n text h
+number_no_text kinds.U64 n text h = ranged_number 0 18446744073709551615 n text h
+number_no_text kinds.Float n text h = cc
+number_no_text kinds.Double n text h = cc
+number_no_text kinds.Text n text h = cc
+number_no_text kinds.Elapsed n text h = cc
 
 raw_no_text : (kind : Kind) (value extra : ℕ) (text : List ℕ) → raw_as kind value extra ≡ Some (contents.Choice text) → ⊥
 raw_no_text kinds.I32 value extra text h = cc
@@ -111,7 +114,7 @@ text_same kinds.Elapsed found text h = cc
 content_is : (kind : Kind) (w : Written) (content : Content) → content_of kind w ≡ Some content → IsWritten w → is_long_content content ≡ false → IsContent content
 content_is kind w (contents.Number n) h is short = tt
 content_is kind w (contents.Raw value extra) h is short = tt
-content_is kind (written.Number negative n) (contents.Choice text) h is short = absurd (number_no_text kind negative n text h)
+content_is kind (written.Number n) (contents.Choice text) h is short = absurd (number_no_text kind n text h)
 content_is kind (written.Raw value extra) (contents.Choice text) h is short = absurd (raw_no_text kind value extra text h)
 content_is kind (written.Quoted found) (contents.Choice text) h is short =
     record { stored = stored_of text (subst (All IsTextByte) (text_same kind found text h) is); short = short }
@@ -214,10 +217,10 @@ no_all P k d less = absurd (omega arith)
 
 -- no line feed stands before the one at the end
 abbrev IsOneLine : List ℕ → Type 0
-IsOneLine line = (text : List ℕ) → ended line ≡ Some text → All IsLineByte text
+IsOneLine line = (text : List ℕ) → without_feed line ≡ Some text → All IsLineByte text
 
 feed_is_one : IsOneLine (10 ∷ [])
-unfolding ended
+unfolding without_feed
 feed_is_one text e = let same : [] ≡ text = cc in subst (All IsLineByte) same (no_all IsLineByte)
 
 module _ (b : ℕ) (byte : b < 256) (other : nat_eq b 10 ≡ false) where
@@ -225,13 +228,13 @@ module _ (b : ℕ) (byte : b < 256) (other : nat_eq b 10 ≡ false) where
   is_line_byte = (byte, λ e. true≢false (sym (eq-eqb b 10 e) ∙ other))
 
   alone_is_one : IsOneLine (b ∷ [])
-  unfolding ended
+  unfolding without_feed
   alone_is_one text e = let none : None ≡ Some text = sym (ap (λ q. cond q (Some []) None) other) ∙ e in cc
 
   longer_is_one : (line : List ℕ) → IsOneLine line → IsOneLine (b ∷ line)
-  unfolding ended
+  unfolding without_feed
   longer_is_one [] one text e = alone_is_one text e
-  longer_is_one (c ∷ cs) one text e = next (ended (c ∷ cs)) one e
+  longer_is_one (c ∷ cs) one text e = next (without_feed (c ∷ cs)) one e
     where
       next : (found : Option (List ℕ)) → ((t : List ℕ) → found ≡ Some t → All IsLineByte t) → option_map (λ t. b ∷ t) found ≡ Some text → All IsLineByte text
       next None one e = cc
@@ -253,7 +256,7 @@ ones (b ∷ bs) h =
 
 one_is_said : (line : List ℕ) → IsOneLine line → IsSaid line
 unfolding full_line_of
-one_is_said line one l h = next (ended line) one h
+one_is_said line one l h = next (without_feed line) one h
   where
     next : (found : Option (List ℕ)) → ((t : List ℕ) → found ≡ Some t → All IsLineByte t) → said_by found ≡ Some l → IsLine l
     next None one h = cc

@@ -7,7 +7,8 @@ use Rattle.mmv_writer.specs.declared.line_fault.LineFault.TheVariants.{Grammar}
 use Rattle.mmv_writer.specs.declared.line_fault.TextFault.{TextFault}
 use Rattle.mmv_writer.specs.declared.line_fault.LineError.{LineError}
 use Rattle.mmv_writer.specs.declared.line_fault.LineError.TheVariants as stops
-use Rattle.mmv_writer.specs.Reading.{lines_of, IsUnended, IsSplit, with_said, with_head, and_then, with_lines, draft_of, text_draft, image_of, text_image, on_line, Takes, Adds}
+use Rattle.text_lines.specs.Lines.{lines_of, IsUnended, IsSplit}
+use Rattle.mmv_writer.specs.Reading.{said_by, full_line_of, with_said, with_head, and_then, with_lines, draft_of, text_draft, image_of, text_image, on_line, Takes, Adds}
 
 -- no line is left
 pub no_lines : (bytes : List ℕ) → length bytes ≡ 0 → lines_of bytes ≡ []
@@ -26,17 +27,17 @@ module _ (bytes : List ℕ) (number : ℕ) (draft : Layout) where
 
   -- a last line without its line feed
   pub unended_fault : IsUnended bytes → 0 < length bytes → with_lines (lines_of bytes) number draft ≡ Err (record { line = number; fault = Grammar })
-  unfolding with_lines with_said
+  unfolding with_lines with_said full_line_of
   unended_fault u p =
-      ap (λ lines. with_lines lines number draft) (u p).0
-      ∙ ap (λ said. and_then (with_said draft said) number (λ later. with_lines [] (number + 1) later)) (u p).1
+      ap (λ lines. with_lines lines number draft) (u.lines p)
+      ∙ ap (λ text. and_then (with_said draft (said_by text)) number (λ later. with_lines [] (number + 1) later)) (u.first p)
 
   module _ (line rest : List ℕ) (s : IsSplit bytes line rest) where
     first_line : with_lines (lines_of bytes) number draft ≡ and_then (with_said draft (line_of line)) number (λ later. with_lines (lines_of rest) (number + 1) later)
-    unfolding with_lines
+    unfolding with_lines full_line_of
     first_line =
         ap (λ lines. with_lines lines number draft) s.lines
-        ∙ ap (λ said. and_then (with_said draft said) number (λ later. with_lines (lines_of rest) (number + 1) later)) s.first
+        ∙ ap (λ text. and_then (with_said draft (said_by text)) number (λ later. with_lines (lines_of rest) (number + 1) later)) s.first
 
     -- a line that is taken
     pub line_goes_on : (later : Layout) → with_said draft (line_of line) ≡ Ok later → with_lines (lines_of bytes) number draft ≡ with_lines (lines_of rest) (number + 1) later
@@ -54,11 +55,11 @@ refused whole before draft after bytes line rest number stops.NoMemory same s h 
 -- The first line
 
 pub unended_text : (bytes : List ℕ) → IsUnended bytes → text_draft bytes ≡ Err (record { line = 1; fault = Grammar })
-unfolding text_draft draft_of lines_of with_head
+unfolding text_draft draft_of lines_of with_head full_line_of
 unended_text [] u = refl
 unended_text (b ∷ bs) u =
     let p : 0 < length (b ∷ bs) = omega arith in
-    ap draft_of (u p).0 ∙ ap (λ said. and_then (with_head said) 1 (λ draft. with_lines [] 2 draft)) (u p).1
+    ap draft_of (u.lines p) ∙ ap (λ text. and_then (with_head (said_by text)) 1 (λ draft. with_lines [] 2 draft)) (u.first p)
 
 -- a text's first fault
 pub text_fault_told : (bytes : List ℕ) (fault : TextFault) → text_draft bytes ≡ Err fault → text_image bytes ≡ Err fault

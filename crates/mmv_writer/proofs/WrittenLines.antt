@@ -13,8 +13,8 @@ use Rattle.mmv_format.specs.declared.rows.Content.{Content}
 use Rattle.mmv_format.specs.declared.rows.Content.TheVariants as contents
 use Rattle.mmv_format.proofs.Below.{both_left, both_right}
 use Rattle.text_lines.specs.Laws.{IsTextByte, IsInt32}
-use Rattle.layout_text.specs.declared.line.Written.TheVariants as written
-use Rattle.layout_text.specs.Contents.{turned, written_number, written_of}
+use Rattle.layout_text.specs.Contents.{written_of}
+use Rattle.layout_text.proofs.ContentRanges.{content_stands}
 use Rattle.layout_text.specs.Laws.{IsNameByte, IsLineName, IsWritten}
 use Rattle.mmv_spelling.proofs.Positions.{first_passes}
 use Rattle.mmv_writer.specs.Rules.{is_serial, is_metric_name, fits_instance}
@@ -124,24 +124,7 @@ module _ (indoms : List IndomRow) (domains : Each IsDomain indoms) where
 
 -- Contents
 
-turned_in_line : (half n : ℕ) → half ≤ 9223372036854775808 → n < 2 * half → IsWritten (turned half n)
-turned_in_line half n small below = next (nat_lt n half) refl
-  where
-    next : (low : Bool) → nat_lt n half ≡ low → IsWritten (cond low (written.Number false n) (written.Number true (2 * half - n)))
-    next true e = (omega arith, λ e. absurd (true≢false (sym e)))
-    next false e = (let above : half ≤ n = ltb-false n half e in omega arith, λ e. omega arith)
-
-number_in : (kind : Kind) (n : ℕ) → n < 18446744073709551616 → IsWritten (written_number kind n)
-number_in kinds.I32 n small = turned_in_line 2147483648 (n % 4294967296) (omega arith) (omega arith)
-number_in kinds.U32 n small = (omega arith, λ e. absurd (true≢false (sym e)))
-number_in kinds.I64 n small = turned_in_line 9223372036854775808 n (omega arith) (omega arith)
-number_in kinds.U64 n small = (small, λ e. absurd (true≢false (sym e)))
-number_in kinds.Float n small = (small, λ e. absurd (true≢false (sym e)))
-number_in kinds.Double n small = (small, λ e. absurd (true≢false (sym e)))
-number_in kinds.Text n small = (small, λ e. absurd (true≢false (sym e)))
-number_in kinds.Elapsed n small = (small, λ e. absurd (true≢false (sym e)))
-
 pub content_in_line : (kind : Kind) (content : Content) → HasFields content → IsContent content → IsWritten (written_of kind content)
-content_in_line kind (contents.Number n) fields is = number_in kind n fields
+content_in_line kind (contents.Number n) fields is = content_stands kind (contents.Number n) fields
 content_in_line kind (contents.Choice text) fields is = text_of text is.stored
 content_in_line kind (contents.Raw value extra) fields is = fields

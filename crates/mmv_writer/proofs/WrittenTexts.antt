@@ -31,11 +31,13 @@ use Rattle.mmv_writer.specs.declared.line_fault.LineFault.TheVariants.{Build}
 use Rattle.mmv_writer.specs.Rules.{is_long_help, is_serial, has_domain, header_fault, indom_fault, is_instance_name, is_same_instance, has_same_instance, instance_fault, is_metric_name, is_same_metric, lacks_domain, unknown_or, metric_fault, fits_instance, fits_kind, fits_metric, fits_some_metric, is_same_value, is_long_content, value_fault, text_fault}
 use Rattle.mmv_writer.specs.Draft.{Apart, IsString, IsHelp, IsInstance, IsDomain, HasDomain, IsMetric, IsContent, IsValue, is_same_serial, empty_draft, new_domain, with_domain, add_instance, with_instance, with_metric, with_value, with_string}
 use Rattle.mmv_writer.specs.Saying.{with_all_strings}
-use Rattle.mmv_writer.specs.Reading.{prepend, lines_of, full_line_of, unless, kind_in, with_content, with_written, with_line, with_said, with_head, and_then, with_lines, draft_of, text_draft, sized, image_of, text_image}
+use Rattle.mmv_writer.specs.Reading.{full_line_of, unless, kind_in, with_content, with_written, with_line, with_said, with_head, and_then, with_lines, draft_of, text_draft, sized, image_of, text_image}
 use Rattle.mmv_writer.specs.TextLaws.{IsInRange, IsWrittenDraft, WrittenTextIsRead, TextComesBack}
 use Rattle.mmv_writer.proofs.Rows.{either_left, either_right, get_below, any_at, any_wider}
 use Rattle.mmv_writer.proofs.Sayings.{drafts_are_said}
-use Rattle.mmv_writer.proofs.TextLines.{either, full_line as line_behind_feed, feed_lines, other_lines}
+use Rattle.text_lines.specs.Lines.{prepend, lines_of}
+use Rattle.text_lines.proofs.Feeds.{either, feed_lines, other_lines}
+use Rattle.mmv_writer.proofs.TextLines.{full_line as line_behind_feed}
 use Rattle.mmv_writer.proofs.TextDrafts.{tail_all}
 use Rattle.mmv_writer.proofs.WrittenLines.{text_of, help_in_line, name_in_line, id_in_line, domain_in_line, serial_in_line, number_in_line, content_in_line}
 

@@ -1,6 +1,6 @@
 -- What a whole layout text says: the draft of its lines, each by the rule of its row, or the first fault in the order of
 -- the lines. A line's number counts from 1.
-use Rattle.std.specs.Prelude.{◌≡◌, ℕ, ℤ, ◌+◌, ◌<◌, ◌==◌, nat_le, if◌then◌else◌, min, List, [], ◌∷◌, ◌++◌, length, option_map, Option, Some, None, Result, Ok, Err}
+use Rattle.std.specs.Prelude.{◌≡◌, ℕ, ℤ, ◌+◌, ◌==◌, nat_le, if◌then◌else◌, min, List, [], ◌∷◌, length, Option, Some, None, Result, Ok, Err}
 use Rattle.pcp_base.specs.declared.kind.Kind.{Kind}
 use Rattle.mmv_format.specs.declared.rows.MetricRow.{MetricRow}
 use Rattle.mmv_format.specs.declared.rows.Content.{Content}
@@ -10,6 +10,7 @@ use Rattle.layout_text.specs.declared.line.Line.TheVariants as lines
 use Rattle.layout_text.specs.declared.line.Written.{Written}
 use Rattle.layout_text.specs.Contents.{content_of}
 use Rattle.layout_text.specs.Lines.{line_of}
+use Rattle.text_lines.specs.Lines.{lines_of, without_feed}
 use Rattle.mmv_writer.specs.declared.fault.BuildFault.{BuildFault}
 use Rattle.mmv_writer.specs.declared.fault.BuildFault.TheVariants as builds
 use Rattle.mmv_writer.specs.declared.line_fault.LineFault.{LineFault}
@@ -25,43 +26,13 @@ use Rattle.mmv_spelling.specs.Spelling.{image_words}
 
 -- Lines
 
-unfoldable pub prepend : ℕ → List (List ℕ) → List (List ℕ)
-prepend b [] = (b ∷ []) ∷ []
-prepend b (line ∷ lines) = (b ∷ line) ∷ lines
-
--- the lines of bytes, each with its line feed; the last may be without one
-unfoldable pub lines_of : List ℕ → List (List ℕ)
-lines_of [] = []
-lines_of (b ∷ bs) = if b == 10 then (10 ∷ []) ∷ lines_of bs else prepend b (lines_of bs)
-
--- the bytes before the first line feed
-abbrev pub line_length : List ℕ → ℕ
-line_length [] = 0
-line_length (b ∷ bs) = if b == 10 then 0 else 1 + line_length bs
-
--- a line without the line feed at its end, if it has one
-unfoldable pub ended : List ℕ → Option (List ℕ)
-ended [] = None
-ended (b ∷ []) = if b == 10 then Some [] else None
-ended (b ∷ c ∷ bs) = option_map (λ text. b ∷ text) (ended (c ∷ bs))
-
 -- what bytes with a line feed behind them say; bytes without one say nothing
 abbrev pub said_by : Option (List ℕ) → Option Line
 said_by None = None
 said_by (Some text) = line_of text
 
 unfoldable pub full_line_of : List ℕ → Option Line
-full_line_of line = said_by (ended line)
-
--- bytes without a line feed are one line, which says nothing
-abbrev pub IsUnended : List ℕ → Type 0
-IsUnended bytes = 0 < length bytes → (lines_of bytes ≡ bytes ∷ []) × (full_line_of bytes ≡ None)
-
--- the first line without its line feed, and the bytes behind it
-pub record IsSplit (bytes line rest : List ℕ) : Type 0 where
-  pub lines : lines_of bytes ≡ (line ++ 10 ∷ []) ∷ lines_of rest
-  pub first : full_line_of (line ++ 10 ∷ []) ≡ line_of line
-  pub long : length line + 1 + length rest ≡ length bytes
+full_line_of line = said_by (without_feed line)
 
 -- Rows
 

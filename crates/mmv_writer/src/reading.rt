@@ -1,7 +1,7 @@
 //! A whole layout text as an image, and its lines one by one.
-ghost use Rattle.std.specs.Prelude.{◌≡◌, ◌≤◌, ◌<◌, length, MatchOption};
 ghost use Rattle.layout_text.specs.Lines.{line_of};
-ghost use Rattle.mmv_writer.specs.Reading.{line_length, lines_of, kind_in, with_written, with_line, with_said, with_head, sized, text_image, Takes, Begins, Answers, Adds, IsUnended, IsSplit};
+ghost use Rattle.text_lines.specs.Lines.{lines_of};
+ghost use Rattle.mmv_writer.specs.Reading.{kind_in, with_written, with_line, with_said, with_head, sized, text_image, Takes, Begins, Answers, Adds};
 
 use crate::builder::Builder;
 use crate::fault::BuildFault;
@@ -9,6 +9,7 @@ use crate::line_fault::{LineError, LineFault, ReadTextError, TextFault};
 use layout_text::{Line, Written, content_of, read_line};
 use mmv_layout::{Image, ValueRow};
 use std::alloc::Global;
+use text_lines::split_line;
 
 // Adds a value of the metric with this item.
 fn take_value(
@@ -87,32 +88,6 @@ pub fn take_head(alloc: Global, line: &[u8]) -> Result<Builder, LineError>
             Ok(builder)
         }
         _ => Err(LineError::Fault(LineFault::Grammar)),
-    }
-}
-
-// How many bytes stand before the first line feed.
-fn line_length(bytes: &[u8]) -> usize
-    ensures value { result ≡ line_length bytes.now }
-    ensures range { result ≤ length bytes.now }
-{
-    let mut count = 0;
-    for byte in bytes {
-        if *byte == b'\n' {
-            return count;
-        }
-        count += 1;
-    }
-    count
-}
-
-// The first line without its line feed, and the bytes behind it; `None` where there is no line feed.
-fn split_line(bytes: &[u8]) -> Option<(&[u8], &[u8])>
-    ensures { MatchOption result (IsUnended bytes.now) (λ parts. IsSplit bytes.now parts.0.now parts.1.now) }
-{
-    let (line, rest) = bytes.split_at(line_length(bytes));
-    match rest {
-        [_, rest @ ..] => Some((line, rest)),
-        [] => None,
     }
 }
 

@@ -1,6 +1,5 @@
 -- Where the first line feed stands, the first line ends.
-use Rattle.std.proofs.Common.{◌≡◌, ℕ, zero, suc, ◌+◌, ◌-◌, ◌<◌, ◌≤◌, Bool, true, false, cond, nat_eq, List, [], ◌∷◌, ◌++◌, length, take, drop, refl, sym, ap, ◌∙◌, arith, length-drop, Some, None, option_map}
-use Rattle.std.specs.Prelude.{slice_index}
+use Rattle.std.proofs.Common.{◌≡◌, ℕ, zero, suc, ◌-◌, ◌<◌, Bool, true, false, cond, nat_eq, List, [], ◌∷◌, ◌++◌, length, take, drop, refl, sym, ap, ◌∙◌, arith, length-drop, Some, None, option_map}
 use Rattle.std.proofs.lemmas.List.{take_all, length-take-le}
 use mathlib.Core.Logic.{⊎_elim, inl, inr, ◌⊎◌}
 use Rattle.memchr.specs.Find.{Passes, is_byte, Nowhere}

@@ -1,5 +1,5 @@
 -- No line feed stands in what is written.
-use Rattle.std.proofs.Common.{◌≡◌, ℕ, pos, negsuc, suc, ◌/◌, ◌%◌, ◌^◌, ◌<◌, ◌≤◌, ◌==◌, ◌||◌, ◌&&◌, nat_le, cond, true, false, List, [], ◌∷◌, ◌++◌, arith, decimal, Some, None, All}
+use Rattle.std.proofs.Common.{◌≡◌, ℕ, pos, negsuc, suc, ◌/◌, ◌%◌, ◌^◌, ◌<◌, ◌≤◌, ◌==◌, ◌||◌, ◌&&◌, nat_le, cond, true, List, [], ◌∷◌, ◌++◌, arith, decimal, Some, None, All}
 use Rattle.std.specs.List.{list_all}
 use Rattle.std.proofs.lemmas.Bool.{cond_both, and_parts, leb-true, eqb-true, or_cases}
 use Rattle.std.proofs.lemmas.List.Elements.{All-nil, All-cons, All-append, All-head, All-tail}

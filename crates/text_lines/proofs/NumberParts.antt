@@ -2,7 +2,6 @@
 use Rattle.std.proofs.Common.{◌≡◌, ◌≢◌, ℕ, ℤ, pos, negsuc, suc, ◌^◌, ◌<◌, cond, false, List, [], ◌∷◌, codes, bytes_eq, refl, ap, ◌∙◌, arith, decimal, Option, Some, None}
 use Rattle.std.specs.Fmt.{signed_decimal}
 use Rattle.std.proofs.lemmas.List.Elements.{All-nil, All-cons}
-use lib.Signed.{mag}
 use Rattle.text_lines.specs.Laws.{NumberIsRead, WideNumberIsRead, IsWhole, IntIsRead, WholeIsRead, HexIsRead, OptionalNumberIsRead, OptionalIntIsRead}
 use Rattle.text_lines.specs.Numbers.{◌>>=◌, number32, number64, whole_number, int32, hex_number}
 use Rattle.text_lines.specs.Spelling.{hex_text, number_part, int_part, hex_part}

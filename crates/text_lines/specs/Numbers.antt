@@ -1,6 +1,6 @@
 -- Numbers as words: decimal ones are `0`, or a digit from 1 to 9 and further digits, of at most 20; where negative
 -- ones are allowed a `-` may stand before them, and whoever knows what the number is for looks at its range. Hexadecimal ones have a fixed number of digits.
-use Rattle.std.specs.Prelude.{ℕ, ℤ, pos, neg_ℤ, ◌+◌, ◌-◌, ◌*◌, Bool, false, ◌&&◌, ◌||◌, ◌==◌, nat_le, nat_lt, int_lt, if◌then◌else◌, List, [], ◌∷◌, length, Option, Some, None}
+use Rattle.std.specs.Prelude.{ℕ, ℤ, pos, neg_ℤ, ◌+◌, ◌-◌, ◌*◌, Bool, ◌&&◌, ◌||◌, ◌==◌, nat_le, nat_lt, int_lt, if◌then◌else◌, List, [], ◌∷◌, length, Option, Some, None}
 use Rattle.std.specs.List.{list_all}
 
 infixl 10 ◌>>=◌

@@ -1,7 +1,8 @@
 -- The lines end, stop or go on.
 use Rattle.std.proofs.Common.{Err, subst, sym, ap, ◌∙◌, length, arith}
 use Rattle.std.proofs.lemmas.Bool.{eqb-true}
-use Rattle.mmv_writer.specs.Reading.{lines_of, Adds}
+use Rattle.text_lines.specs.Lines.{lines_of}
+use Rattle.mmv_writer.specs.Reading.{Adds}
 use Rattle.mmv_writer.proofs.TextRows.{no_lines, some_bytes, lines_end, unended_fault, line_goes_on, refused}
 use Rattle.mmv_writer.proofs.reading.take_lines.Goals as goal
 

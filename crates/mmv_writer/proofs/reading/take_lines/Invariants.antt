@@ -1,6 +1,7 @@
 -- What is left of the lines makes of the draft so far what all lines make of the first one.
 use Rattle.std.proofs.Common.{◌≡◌, ◌+◌, ◌≤◌, length}
-use Rattle.mmv_writer.specs.Reading.{lines_of, with_lines}
+use Rattle.text_lines.specs.Lines.{lines_of}
+use Rattle.mmv_writer.specs.Reading.{with_lines}
 use Rattle.mmv_writer.proofs.reading.take_lines.Given as goal
 
 abbrev pub invariant-loop-rest : goal.invariant-loop-rest
