@@ -1,5 +1,6 @@
 pub mod ContentRanges
 pub mod ContentReads
+pub mod KindRows
 pub mod LineBytes
 pub mod LineReads
 pub mod MetricWords

@@ -1,5 +1,7 @@
 -- All lines of a layout: its header, the strings, each domain with its instances behind it, the metrics, the values.
-use Rattle.std.specs.Prelude.{ℕ, ℤ, ◌==◌, if◌then◌else◌, List, [], ◌∷◌, ◌++◌}
+use Rattle.std.specs.Prelude.{◌≡◌, ℕ, ℤ, ◌==◌, Bool, if◌then◌else◌, List, [], ◌∷◌, ◌++◌, Option, Some, None}
+use Rattle.std.specs.Ordering.{nat_cmp}
+use Rattle.std.specs.BTreeMap.{BTreeMap, get}
 use Rattle.pcp_base.specs.declared.kind.Kind.{Kind}
 use Rattle.pcp_base.specs.declared.kind.Kind.TheVariants as kinds
 use Rattle.mmv_format.specs.declared.rows.IndomRow.{IndomRow}
@@ -33,6 +35,20 @@ metrics_text (row ∷ rows) = full_line (lines.Metric row) ++ metrics_text rows
 abbrev pub kind_of_item : ℕ → List MetricRow → Kind
 kind_of_item item [] = kinds.U64
 kind_of_item item (row ∷ rows) = if row.item == item then row.kind else kind_of_item item rows
+
+-- the same, where there is one
+abbrev pub kind_in : ℕ → List MetricRow → Option Kind
+kind_in item [] = None
+kind_in item (row ∷ rows) = if row.item == item then Some row.kind else kind_in item rows
+
+-- a map has the kind of the first metric with each item
+abbrev pub AreKinds : BTreeMap ℕ Kind → List MetricRow → Type 0
+AreKinds found metrics = (item : ℕ) → get nat_cmp found item ≡ kind_in item metrics
+
+-- what is kept of a key, or else a new value where the key is its own
+abbrev pub kept_or : {X : Type 0} → Option X → Bool → X → Option X
+kept_or (Some x) here y = Some x
+kept_or None here y = if here then Some y else None
 
 unfoldable pub value_text : List MetricRow → ValueRow → List ℕ
 value_text metrics row = full_line (lines.Value row.item row.instance (written_of (kind_of_item row.item metrics) row.content))

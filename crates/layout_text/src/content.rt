@@ -31,11 +31,7 @@ fn number_as(kind: Kind, number: i128) -> Option<Content>
     match kind {
         Kind::I32 => ranged(2_147_483_648, 2_147_483_647, number),
         Kind::U32 => ranged(0, 4_294_967_295, number),
-        Kind::I64 => ranged(
-            9_223_372_036_854_775_808,
-            9_223_372_036_854_775_807,
-            number,
-        ),
+        Kind::I64 => ranged(9_223_372_036_854_775_808, 9_223_372_036_854_775_807, number),
         Kind::U64 => ranged(0, 18_446_744_073_709_551_615, number),
         Kind::Float => None,
         Kind::Double => None,

@@ -3,6 +3,7 @@
 #![tactic(auto)]
 
 mod content;
+mod kinds;
 mod laws;
 mod line;
 mod parts;

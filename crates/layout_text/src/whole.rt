@@ -1,11 +1,12 @@
 //! All lines of a layout.
 ghost use Rattle.std.specs.Prelude.{◌≡◌, ◌++◌, IfOk, OnOk};
-ghost use Rattle.layout_text.specs.Whole.{strings_text, instances_text, indom_text, indoms_text, metrics_text, kind_of_item, value_text, values_text, layout_text};
+ghost use Rattle.layout_text.specs.Whole.{strings_text, instances_text, indom_text, indoms_text, metrics_text, value_text, values_text, layout_text};
 
 use crate::content::written_of;
+use crate::kinds::KindTable;
 use crate::writing::{Head, put_head, put_indom, put_instance, put_metric, put_string, put_value};
 use mmv_format::{IndomRow, Layout, MetricRow, ValueRow};
-use pcp_base::{Bytes, Kind, List, NoMemory, Text};
+use pcp_base::{Bytes, List, NoMemory, Text};
 use std::alloc::Global;
 
 fn put_strings(out: &mut Vec<u8>, strings: &[Text]) -> Result<(), NoMemory>
@@ -54,28 +55,16 @@ fn put_metrics(out: &mut Vec<u8>, rows: &[MetricRow]) -> Result<(), NoMemory>
     Ok(())
 }
 
-// The kind of the first metric with this item; `U64` without one, as which a number is written as it stands.
-fn kind_of_item(item: u32, metrics: &[MetricRow]) -> Kind
-    ensures { result ≡ kind_of_item item metrics.now }
-{
-    for row in metrics {
-        if row.item == item {
-            return row.kind;
-        }
-    }
-    Kind::U64
-}
-
 #[tactic(auto, unfolding(crate::specs::Whole::value_text))]
 fn put_value_row(
     alloc: Global,
     out: &mut Vec<u8>,
-    metrics: &[MetricRow],
+    kinds: &KindTable,
     row: &ValueRow,
 ) -> Result<(), NoMemory>
-    ensures { OnOk result (out.new.items ≡ out.old.items ++ value_text metrics.now row.now) }
+    ensures { OnOk result (out.new.items ≡ out.old.items ++ value_text kinds.now row.now) }
 {
-    let written = written_of(alloc, kind_of_item(row.item, metrics), &row.content)?;
+    let written = written_of(alloc, kinds.kind_of_item(row.item), &row.content)?;
     put_value(out, row.item, row.instance, &written)?;
     Ok(())
 }
@@ -88,8 +77,9 @@ fn put_values(
 ) -> Result<(), NoMemory>
     ensures { OnOk result (out.new.items ≡ out.old.items ++ values_text metrics.now rows.now) }
 {
+    let kinds = KindTable::of(alloc, metrics)?;
     for row in rows {
-        put_value_row(alloc, out, metrics, row)?;
+        put_value_row(alloc, out, &kinds, row)?;
     }
     Ok(())
 }

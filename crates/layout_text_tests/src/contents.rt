@@ -28,23 +28,14 @@ fn each_kind_has_its_range(rt: HostRuntime) {
         Some(0xffff_ffff_8000_0000)
     );
     assert_eq!(rt; field_of(Kind::I32, -2_147_483_649), None);
-    assert_eq!(rt;
-        field_of(Kind::I32, 2_147_483_647),
-        Some(2_147_483_647)
-    );
+    assert_eq!(rt; field_of(Kind::I32, 2_147_483_647), Some(2_147_483_647));
     assert_eq!(rt; field_of(Kind::I32, 2_147_483_648), None);
-    assert_eq!(rt;
-        field_of(Kind::U32, 4_294_967_295),
-        Some(4_294_967_295)
-    );
+    assert_eq!(rt; field_of(Kind::U32, 4_294_967_295), Some(4_294_967_295));
     assert_eq!(rt; field_of(Kind::U32, 4_294_967_296), None);
     assert_eq!(rt; field_of(Kind::U32, -1), None);
     assert_eq!(rt; field_of(Kind::I64, -(1 << 63)), Some(1 << 63));
     assert_eq!(rt; field_of(Kind::I64, -(1 << 63) - 1), None);
-    assert_eq!(rt;
-        field_of(Kind::I64, (1 << 63) - 1),
-        Some((1 << 63) - 1)
-    );
+    assert_eq!(rt; field_of(Kind::I64, (1 << 63) - 1), Some((1 << 63) - 1));
     assert_eq!(rt; field_of(Kind::I64, 1 << 63), None);
     assert_eq!(rt; field_of(Kind::U64, u64::MAX as i128), Some(u64::MAX));
     assert_eq!(rt; field_of(Kind::U64, -1), None);
@@ -58,18 +49,12 @@ fn numbers_are_told_by_their_kind(rt: HostRuntime) {
         number_of(rt.alloc(), Kind::I32, 0xffff_ffff_ffff_fffe),
         Some(-2)
     );
-    assert_eq!(rt;
-        number_of(rt.alloc(), Kind::I32, 0x1_0000_0007),
-        Some(7)
-    );
+    assert_eq!(rt; number_of(rt.alloc(), Kind::I32, 0x1_0000_0007), Some(7));
     assert_eq!(rt;
         number_of(rt.alloc(), Kind::U32, 0x1_ffff_ffff),
         Some(0xffff_ffff)
     );
-    assert_eq!(rt;
-        number_of(rt.alloc(), Kind::I64, 1 << 63),
-        Some(-(1 << 63))
-    );
+    assert_eq!(rt; number_of(rt.alloc(), Kind::I64, 1 << 63), Some(-(1 << 63)));
     assert_eq!(rt;
         number_of(rt.alloc(), Kind::U64, u64::MAX),
         Some(u64::MAX as i128)

@@ -48,8 +48,8 @@ module _ {T X : Type 0} (R : Option X → Option ℕ → Type 0) (test : T → B
       → R old (position test (take i rows)) → later ≡ kept_or old (test x) y → R later (position test (take (i + 1) rows))
   first_more rows i x y old later below is one two none put was e =
       let grown : position test (take (i + 1) rows) ≡ cond (list_any test (take i rows)) (position test (take i rows)) (cond (test x) (Some i) None) =
-          ap (position test) (take_more rows i x below) ∙ ap (λ z. position test (take i rows ++ z ∷ [])) (sym is) ∙ position_snoc test (take i rows) x
-          ∙ ap (λ n. cond (list_any test (take i rows)) (position test (take i rows)) (cond (test x) (Some n) None)) (length-take-le i rows (omega arith)) in
+      ap (position test) (take_more rows i x below) ∙ ap (λ z. position test (take i rows ++ z ∷ [])) (sym is) ∙ position_snoc test (take i rows) x
+      ∙ ap (λ n. cond (list_any test (take i rows)) (position test (take i rows)) (cond (test x) (Some n) None)) (length-take-le i rows (omega arith)) in
       subst (R later) (sym grown) (subst (λ o. R o (cond (list_any test (take i rows)) (position test (take i rows)) (cond (test x) (Some i) None))) (sym e)
       (here old (position test (take i rows)) (list_any test (take i rows)) (test x) (sym (position_some test (take i rows))) was))
     where

@@ -19,9 +19,10 @@ get_at [] i x below is = absurd (omega arith)
 get_at (y ∷ xs) zero x below is = ap Some (sym is)
 get_at (y ∷ xs) (suc i) x below is = get_at xs i x (omega arith) is
 
-past_end : {T : Type 0} (xs : List T) → slice_get xs (length xs) ≡ None
-past_end [] = refl
-past_end (x ∷ xs) = past_end xs
+pub past : {T : Type 0} (xs : List T) (i : ℕ) → length xs ≤ i → slice_get xs i ≡ None
+past [] i h = refl
+past (x ∷ xs) zero h = absurd (omega arith)
+past (x ∷ xs) (suc i) h = past xs i (omega arith)
 
 -- No row has the key
 
@@ -29,7 +30,7 @@ pub first_none : {T : Type 0} (test : T → Bool) (rows : List T) → position t
 first_none test rows e = ap (λ o. unwrap_or o (length rows)) (sym e) ∙ first_or_len test rows
 
 find_none : {T : Type 0} (test : T → Bool) (rows : List T) → position test rows ≡ None → find test rows ≡ None
-find_none test rows e = find_at test rows ∙ ap (slice_get rows) (sym (first_none test rows e)) ∙ past_end rows
+find_none test rows e = find_at test rows ∙ ap (slice_get rows) (sym (first_none test rows e)) ∙ past rows (length rows) (omega arith)
 
 pub told_none : (rows : List IndomRow) (o : Option DomainPlace) (p : Option ℕ) → IsTold rows o p → None ≡ o → p ≡ None
 told_none rows None None t e = refl
@@ -79,7 +80,7 @@ member_told rows serial id place t =
 pub member_near : (rows : List IndomRow) (serial : ℕ) (id : ℤ) (place : DomainPlace) (n : ℕ) → Told rows serial place → n ≡ unwrap_or (get int_cmp place.members id) place.count → n ≤ instances_in rows
 member_near rows serial id place n t e =
     let is : n ≡ position_or_len (λ other. int_eq other.0 id) t.row.instances =
-        e ∙ member_told rows serial id place t ∙ ap (λ o. position_or_len (λ other. int_eq other.0 id) (members_in o)) t.found in
+    e ∙ member_told rows serial id place t ∙ ap (λ o. position_or_len (λ other. int_eq other.0 id) (members_in o)) t.found in
     let within : position_or_len (λ other. int_eq other.0 id) t.row.instances ≤ length t.row.instances = first_fits (λ other. int_eq other.0 id) t.row.instances in
     let all : length t.row.instances ≤ instances_in rows = found_fits rows serial t.row t.found in
     omega arith

@@ -145,10 +145,7 @@ fn place_of(alloc: Global, row: &IndomRow, at: usize, before: u64) -> Result<Dom
 }
 
 // What is kept of each serial's first domain.
-fn places_of(
-    alloc: Global,
-    rows: &[IndomRow],
-) -> Result<BTreeMap<u32, DomainPlace>, NoMemory>
+fn places_of(alloc: Global, rows: &[IndomRow]) -> Result<BTreeMap<u32, DomainPlace>, NoMemory>
     ensures { IfOk result (λ places. IsDomainIndex places rows.now) }
 {
     let mut places = BTreeMap::new(alloc);

@@ -4,8 +4,8 @@ ghost use Rattle.std.specs.List.{position_or_len};
 ghost use Rattle.mmv_spelling.specs.Places.{instances_in, AreSmall};
 ghost use Rattle.mmv_spelling.specs.Spelling.{string_place, help_place, domain_place, instance_place, metric_place, first_instance, extra_field, instance_field};
 
-use crate::places::Places;
 use crate::lookups::{DomainTable, MetricTable};
+use crate::places::Places;
 use crate::tables::StringTable;
 use mmv_format::{Content, IndomRow};
 use pcp_base::Text;

@@ -2,8 +2,8 @@ ghost use Rattle.std.specs.Prelude.{◌≡◌, ◌≤◌, ◌++◌, length, min,
 ghost use Rattle.mmv_spelling.specs.Places.{instances_in, counts_of, words_in, places_of, AreSmall};
 ghost use Rattle.mmv_spelling.specs.Spelling.{sections_words, spelled};
 
-use crate::places::{Counts, Places, counts_of, places_of, sections_in, words_in};
 use crate::lookups::{DomainTable, MetricTable};
+use crate::places::{Counts, Places, counts_of, places_of, sections_in, words_in};
 use crate::tables::StringTable;
 use crate::words::{
     push_contents, push_domains, push_header, push_instances, push_metrics, push_strings,

@@ -6,8 +6,8 @@ ghost use Rattle.mmv_format.specs.Fields.{first_words};
 ghost use Rattle.mmv_spelling.specs.Places.{instances_in, words_in, AreSmall};
 ghost use Rattle.mmv_spelling.specs.Spelling.{halves, header_words, entry_words, contents_words, domain_place, domain_words, instance_words, serial_word, metric_words, value_field, value_words, domain_section, instance_section, metric_section, value_section, string_section};
 
-use crate::places::{Counts, Places};
 use crate::lookups::{DomainTable, MetricTable};
+use crate::places::{Counts, Places};
 use crate::references::{
     domain_place, extra_field, first_instance, help_place, instance_field, metric_place,
 };

@@ -1,17 +1,17 @@
-ghost use Rattle.std.specs.Prelude.{◌≡◌, ◌≤◌, length, None, Some, MatchResult, OnOk, OnErr, IfOk, IfErr};
+ghost use Rattle.std.specs.Prelude.{◌≡◌, ◌≤◌, ◌<◌, ◌^◌, length, None, Some, MatchResult, OnOk, OnErr, IfOk, IfErr};
 ghost use Rattle.std.specs.List.{list_any};
-ghost use Rattle.mmv_writer.specs.Rules.{header_fault, indom_fault, has_domain, has_same_instance, instance_fault, metric_fault, fits_some_metric, is_same_value, value_fault, text_fault};
+ghost use Rattle.mmv_writer.specs.Rules.{header_fault, indom_fault, has_domain, has_same_instance, instance_fault, is_same_metric, lacks_domain, metric_fault, fits_some_metric, is_same_value, value_fault, text_fault};
 ghost use Rattle.mmv_spelling.specs.Spelling.{image_words};
 ghost use Rattle.mmv_writer.specs.Refusals.{IsTooLarge};
 ghost use Rattle.mmv_writer.specs.Reading.{kind_in};
-ghost use Rattle.mmv_writer.specs.Draft.{IsStored, IsContent, IsDraft, IsRefusal, empty_draft, new_domain, with_domain, with_instance, with_metric, with_value, with_string};
+ghost use Rattle.mmv_writer.specs.Draft.{IsStored, IsHelp, IsContent, IsDraft, IsRefusal, empty_draft, new_domain, with_domain, with_instance, with_metric, with_value, with_string};
 
 use crate::adding::{add_domain, add_instance, add_metric, add_value};
 use crate::fault::BuildFault;
 use crate::keys::{RowKeys, has_domain, has_either};
 use crate::rules::{
-    fits_metric, header_fault, indom_fault, is_instance_name, is_long_content, metric_fault,
-    text_fault,
+    fits_metric, has_same_metric, header_fault, is_instance_name, is_long_content, is_long_help,
+    is_metric_name, is_serial, text_fault,
 };
 use crate::spelling::words_of_draft;
 use mmv_layout::{Image, ImageFault, IndomRow, Layout, MetricRow, ValueRow};
@@ -69,6 +69,25 @@ impl Builder {
         has_either(&self.keys.domains, serial, id, name)
     }
 
+    /// Why a domain isn't taken.
+    #[tactic(auto, unfolding(crate::specs::Rules::indom_fault))]
+    fn indom_fault(&self, row: &IndomRow) -> Option<BuildFault>
+        ensures value { result ≡ indom_fault self.now row.now }
+        ensures helps { result ≡ None → IsHelp row.now.short × IsHelp row.now.long }
+    {
+        if is_long_help(&row.short) || is_long_help(&row.long) {
+            return Some(BuildFault::Name);
+        }
+        if self.has_domain(row.serial) {
+            return Some(BuildFault::Duplicate);
+        }
+        if is_serial(row.serial) {
+            None
+        } else {
+            Some(BuildFault::Serial)
+        }
+    }
+
     /// Why an instance isn't taken.
     #[tactic(auto, unfolding(crate::specs::Rules::instance_fault))]
     fn instance_fault(&self, serial: u32, id: &i32, name: &Text) -> Option<BuildFault>
@@ -88,6 +107,54 @@ impl Builder {
             Some(BuildFault::Serial)
         } else {
             None
+        }
+    }
+
+    /// The serial of which there is no domain.
+    fn lacks_domain(&self, serial: Option<u32>) -> Option<u32>
+        ensures { result ≡ lacks_domain self.now.indoms serial }
+    {
+        match serial {
+            None => None,
+            Some(serial) => {
+                if self.has_domain(serial) {
+                    None
+                } else {
+                    Some(serial)
+                }
+            }
+        }
+    }
+
+    /// Whether some metric has the item or the name of this one.
+    fn has_same_metric(&self, row: &MetricRow) -> bool
+        ensures { result ≡ list_any (λ other. is_same_metric other row.now) self.now.metrics }
+    {
+        has_same_metric(self.layout.metrics.as_slice(), row)
+    }
+
+    /// Why a metric isn't taken.
+    #[tactic(auto, unfolding(crate::specs::Rules::metric_fault))]
+    fn metric_fault(&self, row: &MetricRow) -> Option<BuildFault>
+        ensures value { result ≡ metric_fault self.now row.now }
+        ensures helps { result ≡ None → IsHelp row.now.short × IsHelp row.now.long }
+        ensures units { row.now.units < 2 ^ 32 }
+        ensures stored { IsStored row.now.name }
+    {
+        let _units = row.units.word();
+        if !is_metric_name(&row.name) || is_long_help(&row.short) || is_long_help(&row.long) {
+            return Some(BuildFault::Name);
+        }
+        if self.has_same_metric(row) {
+            return Some(BuildFault::Duplicate);
+        }
+        if let Some(serial) = self.lacks_domain(row.serial) {
+            return Some(BuildFault::Unknown { serial });
+        }
+        if row.item <= 1023 {
+            None
+        } else {
+            Some(BuildFault::Item)
         }
     }
 
@@ -183,7 +250,7 @@ impl Builder {
             short,
             long,
         };
-        if let Some(fault) = indom_fault(&self.layout, &row) {
+        if let Some(fault) = self.indom_fault(&row) {
             return Err(fault);
         }
         add_domain(alloc, &mut self.layout.indoms, &mut self.keys.domains, row)?;
@@ -223,7 +290,7 @@ impl Builder {
             (λ _. (metric_fault self.old row ≡ None) × (self.new ≡ with_metric self.old row))
             (λ fault. IsRefusal (metric_fault self.old row) fault × (self.new ≡ self.old)) }
     {
-        if let Some(fault) = metric_fault(&self.layout, &row) {
+        if let Some(fault) = self.metric_fault(&row) {
             return Err(fault);
         }
         add_metric(&mut self.layout.metrics, &mut self.keys.items, row)?;

@@ -123,7 +123,7 @@ fn image_of(alloc: Global, builder: Builder, after: u64) -> Result<Image, ReadTe
 
 /// Reads a whole layout text into the image that its rows have in their one spelling, or tells the first fault in the
 /// order of the lines.
-#[tactic(auto, unfolding(crate::specs::Reading::text_image, crate::specs::Reading::text_draft, crate::specs::Reading::draft_of))]
+#[tactic(auto, unfolding(crate::specs::Reading::text_image, crate::specs::Reading::text_draft, crate::specs::Reading::draft_of, crate::specs::Reading::full_line_of))]
 pub fn read_text(alloc: Global, bytes: &[u8]) -> Result<Image, ReadTextError>
     ensures { Answers (text_image bytes.now) result }
 {

@@ -1,12 +1,12 @@
-ghost use Rattle.std.specs.Prelude.{◌≡◌, ◌<◌, ◌^◌, ◌&&◌, ◌==◌, ℕ, false, None, bytes_eq, slice_index};
+ghost use Rattle.std.specs.Prelude.{◌≡◌, ◌<◌, ◌&&◌, ◌==◌, ℕ, false, None, bytes_eq, slice_index};
 ghost use Rattle.std.specs.List.{list_any};
-ghost use Rattle.mmv_writer.specs.Rules.{is_long, is_long_help, has_domain, is_serial, header_fault, indom_fault, is_instance_name, is_metric_name, is_same_metric, lacks_domain, metric_fault, fits_kind, is_long_content, text_fault};
+ghost use Rattle.mmv_writer.specs.Rules.{is_long, is_long_help, is_serial, header_fault, is_instance_name, is_metric_name, is_same_metric, fits_kind, is_long_content, text_fault};
 ghost use Rattle.mmv_writer.specs.Keys.{fits_domain};
 ghost use Rattle.mmv_writer.specs.Draft.{IsStored, IsHelp, IsContent, IsString};
 
 use crate::fault::BuildFault;
 use crate::keys::{DomainKeys, fits_domain};
-use mmv_layout::{Content, IndomRow, Layout, MetricRow, ValueRow};
+use mmv_layout::{Content, MetricRow, ValueRow};
 use pcp_base::{Kind, Text, is_name};
 use std::collections::BTreeMap;
 
@@ -33,7 +33,7 @@ fn is_long(text: &Text) -> bool
 }
 
 /// Whether there is a help that is too long for a string.
-fn is_long_help(help: &Option<Text>) -> bool
+pub fn is_long_help(help: &Option<Text>) -> bool
     ensures value { result ≡ is_long_help help.now }
     ensures help { result ≡ false → IsHelp help.now }
 {
@@ -43,15 +43,8 @@ fn is_long_help(help: &Option<Text>) -> bool
     }
 }
 
-/// Whether some domain has a serial.
-fn has_domain(indoms: &[IndomRow], serial: u32) -> bool
-    ensures { result ≡ has_domain indoms.now serial }
-{
-    indoms.iter().any(|row| row.serial == serial)
-}
-
 /// Whether a serial is one of a domain.
-fn is_serial(serial: u32) -> bool
+pub fn is_serial(serial: u32) -> bool
     ensures { result ≡ is_serial serial }
 {
     serial >= 1 && serial <= 1023
@@ -62,25 +55,6 @@ pub fn header_fault(version: u32, cluster: u32) -> Option<BuildFault>
     ensures { result ≡ header_fault version cluster }
 {
     if version == 1 && cluster <= 4095 {
-        None
-    } else {
-        Some(BuildFault::Serial)
-    }
-}
-
-/// Why a domain isn't taken.
-#[tactic(auto, unfolding(crate::specs::Rules::indom_fault))]
-pub fn indom_fault(draft: &Layout, row: &IndomRow) -> Option<BuildFault>
-    ensures value { result ≡ indom_fault draft.now row.now }
-    ensures helps { result ≡ None → IsHelp row.now.short × IsHelp row.now.long }
-{
-    if is_long_help(&row.short) || is_long_help(&row.long) {
-        return Some(BuildFault::Name);
-    }
-    if has_domain(draft.indoms.as_slice(), row.serial) {
-        return Some(BuildFault::Duplicate);
-    }
-    if is_serial(row.serial) {
         None
     } else {
         Some(BuildFault::Serial)
@@ -106,7 +80,7 @@ fn same_text(a: &Text, b: &Text) -> bool
 
 /// Whether a text can name a metric.
 #[tactic(auto, using(crate::proofs::Rows::too_long))]
-fn is_metric_name(name: &Text) -> bool
+pub fn is_metric_name(name: &Text) -> bool
     ensures value { result ≡ is_metric_name name.now }
     ensures stored { IsStored name.now }
 {
@@ -124,52 +98,11 @@ fn is_same_metric(a: &MetricRow, b: &MetricRow) -> bool
     a.item == b.item || same_text(&a.name, &b.name)
 }
 
-/// The serial of which there is no domain.
-fn lacks_domain(indoms: &[IndomRow], serial: Option<u32>) -> Option<u32>
-    ensures { result ≡ lacks_domain indoms.now serial }
-{
-    match serial {
-        None => None,
-        Some(serial) => {
-            if has_domain(indoms, serial) {
-                None
-            } else {
-                Some(serial)
-            }
-        }
-    }
-}
-
 /// Whether some metric has the item or the name of this one.
-fn has_same_metric(metrics: &[MetricRow], row: &MetricRow) -> bool
+pub fn has_same_metric(metrics: &[MetricRow], row: &MetricRow) -> bool
     ensures { result ≡ list_any (λ other. is_same_metric other row.now) metrics.now }
 {
     metrics.iter().any(|other| is_same_metric(other, row))
-}
-
-/// Why a metric isn't taken.
-#[tactic(auto, unfolding(crate::specs::Rules::metric_fault))]
-pub fn metric_fault(draft: &Layout, row: &MetricRow) -> Option<BuildFault>
-    ensures value { result ≡ metric_fault draft.now row.now }
-    ensures helps { result ≡ None → IsHelp row.now.short × IsHelp row.now.long }
-    ensures units { row.now.units < 2 ^ 32 }
-    ensures stored { IsStored row.now.name }
-{
-    let _units = row.units.word();
-    if !is_metric_name(&row.name) || is_long_help(&row.short) || is_long_help(&row.long) {
-        return Some(BuildFault::Name);
-    }
-    if has_same_metric(draft.metrics.as_slice(), row) {
-        return Some(BuildFault::Duplicate);
-    }
-    if let Some(serial) = lacks_domain(draft.indoms.as_slice(), row.serial) {
-        return Some(BuildFault::Unknown { serial });
-    }
-    if row.item <= 1023 {
-        None
-    } else {
-        Some(BuildFault::Item)
-    }
 }
 
 /// Whether a value of a metric of this kind has this content.

@@ -5,7 +5,7 @@ use mathlib.Core.Logic.{⊎_elim, inl, inr, ◌⊎◌}
 use Rattle.memchr.specs.Find.{Passes, is_byte, Nowhere}
 use Rattle.text_lines.specs.Lines.{prepend, lines_of, without_feed, IsUnended, IsSplit}
 
-either : (q : Bool) → (q ≡ true) ⊎ (q ≡ false)
+pub either : (q : Bool) → (q ≡ true) ⊎ (q ≡ false)
 either true = inl refl
 either false = inr refl
 

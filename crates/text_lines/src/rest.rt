@@ -6,7 +6,7 @@ ghost use Rattle.text_lines.specs.Words.{Taken, Read, text_within, quoted, take_
 
 use crate::numbers;
 use crate::quoted::{starts_quoted, text_byte};
-use pcp_base::{Bytes, NoMemory, Text, TextError};
+use pcp_base::{Bytes, NoMemory, Text};
 use std::alloc::{AllocError, Global};
 use std::marker::Model;
 
@@ -224,8 +224,7 @@ impl<'a> Rest<'a> {
         let limit = self.bytes.len();
         self.bytes = &self.bytes[1..];
         let bytes = self.unquoted(alloc, limit)?;
-        let text = text_of(alloc, bytes.as_slice())?;
-        Ok(text)
+        Ok(Text::of_clean(bytes))
     }
 
     /// A text between quotes, behind one space.
@@ -260,18 +259,6 @@ impl<'a> Rest<'a> {
             return Err(TakeFault::NoLine);
         }
         Ok(())
-    }
-}
-
-/// A text of bytes without a zero byte.
-fn text_of(alloc: Global, bytes: &[u8]) -> Result<Text, NoMemory>
-    requires { IsText bytes.now }
-    ensures { IfOk result (λ text. text ≡ bytes.now) }
-{
-    match Text::build(alloc, bytes) {
-        Ok(text) => Ok(text),
-        Err(TextError::NoMemory) => Err(NoMemory),
-        Err(TextError::Zero(_)) => unreachable!(),
     }
 }
 

@@ -10,5 +10,5 @@ use Rattle.mmv_spelling.proofs.lookups.DomainTable.domain_of.Goals as goal
 pub returns-in-None-clause-value : goal.returns-in-None-clause-value
 returns-in-None-clause-value c =
     let none : position (λ row. row.serial == c.args.serial) c.self.inside.rows.now ≡ None =
-        told_none c.self.inside.rows.now (get nat_cmp c.self.inside.places c.args.serial) (position (λ row. row.serial == c.args.serial) c.self.inside.rows.now) (c.self.invariant.0 c.args.serial) c.in-None.ensures.value in
+    told_none c.self.inside.rows.now (get nat_cmp c.self.inside.places c.args.serial) (position (λ row. row.serial == c.args.serial) c.self.inside.rows.now) (c.self.invariant.0 c.args.serial) c.in-None.ensures.value in
     first_none (λ row. row.serial == c.args.serial) c.self.inside.rows.now none ∙ ap (λ rows. domain_of rows c.args.serial) c.self.view_is
