@@ -1,3 +1,4 @@
+//! That lines and contents are read as they are written.
 ghost use Rattle.layout_text.specs.Laws.{WrittenLineIsRead, WrittenLineIsOne, ReadLineIsLine, WrittenContentIsRead, ReadContentIsContent, WrittenContentIsWritten};
 
 /// What is written of a line is read as that line, and it is one line.

@@ -1,3 +1,4 @@
+//! A line of layout text, and the content of a value as it stands there.
 use mmv_format::MetricRow;
 use pcp_base::Text;
 

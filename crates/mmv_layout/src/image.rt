@@ -115,6 +115,14 @@ impl Image {
         Ok(Image { words })
     }
 
+    /// The image of words that are known to be one.
+    pub fn of_words(words: Vec<u64>) -> Image
+        requires { IsImage words.items }
+        ensures { result ≡ words.items }
+    {
+        Image { words }
+    }
+
     /// The image that bytes are, or their first fault: `Short` also where they are no whole number of words.
     #[tactic(auto, using(mmv_format::proofs::Images::large_bytes), unfolding(mmv_format::specs::Faults::image_of))]
     pub fn from_bytes(alloc: Global, bytes: &[u8]) -> Result<Image, ImageFault>

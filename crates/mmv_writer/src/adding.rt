@@ -1,3 +1,4 @@
+//! Rows and their keys, added together.
 ghost use Rattle.std.specs.Prelude.{◌≡◌, ◌==◌, [], ◌∷◌, ◌++◌, false, true, is_some, Some, OnOk, OnErr};
 ghost use Rattle.std.specs.List.{list_any, position};
 ghost use Rattle.mmv_writer.specs.Rules.{has_domain, has_same_instance, is_same_metric};

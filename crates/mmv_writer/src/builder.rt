@@ -1,3 +1,4 @@
+//! The builder of an image, row by row.
 ghost use Rattle.std.specs.Prelude.{◌≡◌, ◌≤◌, ◌<◌, ◌^◌, length, None, Some, MatchResult, OnOk, OnErr, IfOk, IfErr};
 ghost use Rattle.std.specs.List.{list_any};
 ghost use Rattle.mmv_writer.specs.Rules.{header_fault, indom_fault, has_domain, has_same_instance, instance_fault, is_same_metric, lacks_domain, metric_fault, fits_some_metric, is_same_value, value_fault, text_fault};
@@ -14,7 +15,7 @@ use crate::rules::{
     is_metric_name, is_serial, text_fault,
 };
 use crate::spelling::words_of_draft;
-use mmv_layout::{Image, ImageFault, IndomRow, Layout, MetricRow, ValueRow};
+use mmv_layout::{Image, IndomRow, Layout, MetricRow, ValueRow};
 use pcp_base::{Kind, List, NoMemory, Text};
 use std::alloc::Global;
 use std::marker::Model;
@@ -40,18 +41,13 @@ impl Model for Builder {
 }
 
 /// The image of a draft.
-#[tactic(auto, using(crate::proofs::Images::draft_parses))]
 fn image_of(alloc: Global, draft: &Layout) -> Result<Image, BuildFault>
     requires { IsDraft draft.now }
     ensures ok { IfOk result (λ image. (image ≡ image_words draft.now) × (length (image_words draft.now) ≤ 65536)) }
     ensures err { IfErr result (λ fault. IsTooLarge draft.now fault) }
 {
     let words = words_of_draft(alloc, draft)?;
-    match Image::parse(alloc, words) {
-        Ok(image) => Ok(image),
-        Err(ImageFault::NoMemory) => Err(BuildFault::NoMemory),
-        Err(_) => unreachable!(),
-    }
+    Ok(Image::of_words(words))
 }
 
 impl Builder {

@@ -1,3 +1,4 @@
+//! Why a row is refused, or an image not made.
 ghost use Rattle.std.specs.Prelude.{◌≡◌};
 ghost use Rattle.mmv_writer.specs.declared.fault.BuildFault.TheVariants.{NoMemory as Refused};
 

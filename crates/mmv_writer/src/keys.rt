@@ -1,3 +1,4 @@
+//! What tells rows apart, kept in ordered maps and sets.
 ghost use Rattle.std.specs.Prelude.{◌≡◌, ◌||◌, ℤ, false, true, is_some, None, Some, OnOk, OnErr};
 ghost use Rattle.std.specs.Ordering.{nat_cmp};
 ghost use Rattle.std.specs.BTreeMap.{get};

@@ -1,3 +1,4 @@
+//! What drafts and their images say of each other.
 ghost use Rattle.mmv_writer.specs.Laws.{DraftsAreImages};
 ghost use Rattle.mmv_writer.specs.Saying.{DraftsAreSaid};
 

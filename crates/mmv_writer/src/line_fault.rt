@@ -1,3 +1,4 @@
+//! The faults of a line and of a text.
 ghost use Rattle.std.specs.Prelude.{◌≡◌, MatchResult};
 ghost use Rattle.mmv_writer.specs.declared.fault.BuildFault.TheVariants.{NoMemory as NoMemoryToBuild};
 ghost use Rattle.mmv_writer.specs.declared.line_fault.LineError.TheVariants.{Fault as LineStops, NoMemory as Refused};

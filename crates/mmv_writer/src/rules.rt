@@ -1,3 +1,4 @@
+//! The rules of single rows.
 ghost use Rattle.std.specs.Prelude.{◌≡◌, ◌<◌, ◌&&◌, ◌==◌, ℕ, false, None, bytes_eq, slice_index};
 ghost use Rattle.std.specs.List.{list_any};
 ghost use Rattle.mmv_writer.specs.Rules.{is_long, is_long_help, is_serial, header_fault, is_instance_name, is_metric_name, is_same_metric, fits_kind, is_long_content, text_fault};

@@ -1,3 +1,4 @@
+//! The words of a draft, unless they are too many.
 ghost use Rattle.std.specs.Prelude.{◌≡◌, ◌≤◌, length, MatchResult};
 ghost use Rattle.mmv_writer.specs.Refusals.{IsTooLarge};
 ghost use Rattle.mmv_spelling.specs.Spelling.{image_words};

@@ -1,3 +1,4 @@
+//! What texts, drafts and images say of each other.
 ghost use Rattle.mmv_writer.specs.TextLaws.{MadeTextIsDumped, WrittenTextIsRead, TextComesBack};
 
 /// The image of a text says what the text said, with all its strings.

@@ -1,3 +1,4 @@
+//! That parts of lines are read as they are written.
 ghost use Rattle.text_lines.specs.Laws.{NumberIsRead, WideNumberIsRead, IntIsRead, WholeIsRead, HexIsRead, OptionalNumberIsRead, OptionalIntIsRead, TextIsRead, HelpIsRead, NumberIsInLine, IntIsInLine, WholeIsInLine, HexIsInLine, OptionalNumberIsInLine, OptionalIntIsInLine, TextIsInLine, HelpIsInLine, TakesNumbers, TakesWideNumbers, TakesInts, TakesWhole, TakesHex, TakesOptionalNumbers, TakesOptionalInts, TakesTexts, TakesHelps};
 
 /// What is written of a number is read as that number, with whatever stands behind its word.
