@@ -12,6 +12,7 @@ use Rattle.mmv_spelling.specs.declared.places.Counts.{Counts}
 use Rattle.mmv_spelling.specs.declared.places.Places.{Places}
 use Rattle.mmv_spelling.specs.Places.{instances_in, counts_of, one_if_some, sections_in, places_of, words_in, AreSmall}
 use Rattle.mmv_spelling.specs.Spelling.{header_words, entry_words, contents_words, domain_place, domain_words, instance_words, metric_words, value_words, domain_section, instance_section, metric_section, value_section, string_section, sections_words, spelled}
+use Rattle.mmv_spelling.specs.Places.{name_length, indom_length, instance_length, metric_length, value_length, string_length}
 
 pub length_first : (n : ℕ) (bytes : List ℕ) → length (first_words n bytes) ≡ n
 unfolding first_words
@@ -40,43 +41,43 @@ length_groups f g size one (x ∷ xs) =
     spread : (s a b : ℕ) → s * a + s * b ≡ s * (a + b)
     spread s a b = grind arith
 
-pub length_domain : (p : Places) (s : List (List ℕ)) (ix : List IndomRow) (row : IndomRow) → length (domain_words p s ix row) ≡ 4
+pub length_domain : (p : Places) (s : List (List ℕ)) (ix : List IndomRow) (row : IndomRow) → length (domain_words p s ix row) ≡ indom_length
 unfolding domain_words
 length_domain p s ix row = refl
 
-pub length_instance : (d : ℕ) (i : ℤ × List ℕ) → length (instance_words d i) ≡ 10
+pub length_instance : (d : ℕ) (i : ℤ × List ℕ) → length (instance_words d i) ≡ instance_length
 unfolding instance_words
-length_instance d i = let n : length (first_words 8 i.1) ≡ 8 = length_first 8 i.1 in omega arith
+length_instance d i = let n : length (first_words name_length i.1) ≡ name_length = length_first name_length i.1 in omega arith
 
-pub length_metric : (p : Places) (s : List (List ℕ)) (row : MetricRow) → length (metric_words p s row) ≡ 13
+pub length_metric : (p : Places) (s : List (List ℕ)) (row : MetricRow) → length (metric_words p s row) ≡ metric_length
 unfolding metric_words
-length_metric p s row = length-append (first_words 8 row.name) _ ∙ ap (λ n. n + 5) (length_first 8 row.name)
+length_metric p s row = length-append (first_words name_length row.name) _ ∙ ap (λ n. n + 5) (length_first name_length row.name)
 
-pub length_value : (p : Places) (s : List (List ℕ)) (ix : List IndomRow) (ms : List MetricRow) (row : ValueRow) → length (value_words p s ix ms row) ≡ 4
+pub length_value : (p : Places) (s : List (List ℕ)) (ix : List IndomRow) (ms : List MetricRow) (row : ValueRow) → length (value_words p s ix ms row) ≡ value_length
 unfolding value_words
 length_value p s ix ms row = refl
 
-pub length_domains : (p : Places) (s : List (List ℕ)) (ix : List IndomRow) → length (domain_section p s ix) ≡ 4 * length ix
+pub length_domains : (p : Places) (s : List (List ℕ)) (ix : List IndomRow) → length (domain_section p s ix) ≡ indom_length * length ix
 unfolding domain_section
-length_domains p s ix = length_even (domain_words p s ix) 4 (length_domain p s ix) ix
+length_domains p s ix = length_even (domain_words p s ix) indom_length (length_domain p s ix) ix
 
-pub length_instances : (p : Places) (ix : List IndomRow) → length (instance_section p ix) ≡ 10 * instances_in ix
+pub length_instances : (p : Places) (ix : List IndomRow) → length (instance_section p ix) ≡ instance_length * instances_in ix
 unfolding instance_section
 length_instances p ix =
-    length_groups (λ row. flat_map (λ instance. instance_words (domain_place p ix row.serial) instance) row.instances) (λ row. length row.instances) 10
-    (λ row. length_even (instance_words (domain_place p ix row.serial)) 10 (length_instance (domain_place p ix row.serial)) row.instances) ix
+    length_groups (λ row. flat_map (λ instance. instance_words (domain_place p ix row.serial) instance) row.instances) (λ row. length row.instances) instance_length
+    (λ row. length_even (instance_words (domain_place p ix row.serial)) instance_length (length_instance (domain_place p ix row.serial)) row.instances) ix
 
-pub length_metrics : (p : Places) (s : List (List ℕ)) (ms : List MetricRow) → length (metric_section p s ms) ≡ 13 * length ms
+pub length_metrics : (p : Places) (s : List (List ℕ)) (ms : List MetricRow) → length (metric_section p s ms) ≡ metric_length * length ms
 unfolding metric_section
-length_metrics p s ms = length_even (metric_words p s) 13 (length_metric p s) ms
+length_metrics p s ms = length_even (metric_words p s) metric_length (length_metric p s) ms
 
-pub length_values : (p : Places) (s : List (List ℕ)) (ix : List IndomRow) (ms : List MetricRow) (vs : List ValueRow) → length (value_section p s ix ms vs) ≡ 4 * length vs
+pub length_values : (p : Places) (s : List (List ℕ)) (ix : List IndomRow) (ms : List MetricRow) (vs : List ValueRow) → length (value_section p s ix ms vs) ≡ value_length * length vs
 unfolding value_section
-length_values p s ix ms vs = length_even (value_words p s ix ms) 4 (length_value p s ix ms) vs
+length_values p s ix ms vs = length_even (value_words p s ix ms) value_length (length_value p s ix ms) vs
 
-pub length_strings : (s : List (List ℕ)) → length (string_section s) ≡ 32 * length s
+pub length_strings : (s : List (List ℕ)) → length (string_section s) ≡ string_length * length s
 unfolding string_section
-length_strings s = length_even (first_words 32) 32 (length_first 32) s
+length_strings s = length_even (first_words string_length) string_length (length_first string_length) s
 
 length_entry : (type count place : ℕ) → length (entry_words type count place) ≡ 2 * one_if_some count
 length_entry type count place = here (nat_eq count 0)
@@ -100,7 +101,7 @@ length_contents c p =
     spread : (a b c d e : ℕ) → 2 * a + (2 * b + (2 * c + (2 * d + 2 * e))) ≡ 2 * (a + b + c + d + e)
     spread a b c d e = omega arith
 
-pub length_sections : (draft : Layout) (s : List (List ℕ)) (p : Places) → length (sections_words draft s p) ≡ 4 * length draft.indoms + (10 * instances_in draft.indoms + (13 * length draft.metrics + (4 * length draft.values + 32 * length s)))
+pub length_sections : (draft : Layout) (s : List (List ℕ)) (p : Places) → length (sections_words draft s p) ≡ indom_length * length draft.indoms + (instance_length * instances_in draft.indoms + (metric_length * length draft.metrics + (value_length * length draft.values + string_length * length s)))
 unfolding sections_words
 length_sections draft s p =
     joined (domain_section p s draft.indoms) _ _ _ (length_domains p s draft.indoms)
@@ -120,7 +121,7 @@ length_spelled draft s =
     (joined (contents_words c (places_of c)) (sections_words draft s (places_of c)) _ _ (length_contents c (places_of c)) (length_sections draft s (places_of c)))
     ∙ spread (sections_in c) (length draft.indoms) (instances_in draft.indoms) (length draft.metrics) (length draft.values) (length s)
   where
-    spread : (n d i m v t : ℕ) → 5 + (2 * n + (4 * d + (10 * i + (13 * m + (4 * v + 32 * t))))) ≡ 5 + 2 * n + 4 * d + 10 * i + 13 * m + 4 * v + 32 * t
+    spread : (n d i m v t : ℕ) → 5 + (2 * n + (indom_length * d + (instance_length * i + (metric_length * m + (value_length * v + string_length * t))))) ≡ 5 + 2 * n + indom_length * d + instance_length * i + metric_length * m + value_length * v + string_length * t
     spread n d i m v t = omega arith
 
 -- Counts that stop at 2^64 - 1
@@ -149,10 +150,10 @@ sections_stopped c = ap (λ n. one_if_some c.indoms + n + one_if_some c.metrics 
 
 pub counted_words : (draft : Layout) (s : List (List ℕ)) → min (words_in (record (counts_of draft s) { instances = min (instances_in draft.indoms) 18446744073709551615 })) 18446744073709551615 ≡ min (words_in (counts_of draft s)) 18446744073709551615
 counted_words draft s =
-    ap (λ n. min (5 + 2 * n + 4 * length draft.indoms + 10 * min (instances_in draft.indoms) 18446744073709551615 + 13 * length draft.metrics + 4 * length draft.values + 32 * length s) 18446744073709551615) (sections_stopped (counts_of draft s))
-    ∙ stopped (5 + 2 * sections_in (counts_of draft s) + 4 * length draft.indoms) (instances_in draft.indoms) (length draft.metrics) (length draft.values) (length s)
+    ap (λ n. min (5 + 2 * n + indom_length * length draft.indoms + instance_length * min (instances_in draft.indoms) 18446744073709551615 + metric_length * length draft.metrics + value_length * length draft.values + string_length * length s) 18446744073709551615) (sections_stopped (counts_of draft s))
+    ∙ stopped (5 + 2 * sections_in (counts_of draft s) + indom_length * length draft.indoms) (instances_in draft.indoms) (length draft.metrics) (length draft.values) (length s)
   where
-    stopped : (a i m v t : ℕ) → min (a + 10 * min i 18446744073709551615 + 13 * m + 4 * v + 32 * t) 18446744073709551615 ≡ min (a + 10 * i + 13 * m + 4 * v + 32 * t) 18446744073709551615
+    stopped : (a i m v t : ℕ) → min (a + instance_length * min i 18446744073709551615 + metric_length * m + value_length * v + string_length * t) 18446744073709551615 ≡ min (a + instance_length * i + metric_length * m + value_length * v + string_length * t) 18446744073709551615
     stopped a i m v t = omega arith
 
 pub counted_exactly : (draft : Layout) (s : List (List ℕ)) → words_in (counts_of draft s) ≤ 65536 → record (counts_of draft s) { instances = min (instances_in draft.indoms) 18446744073709551615 } ≡ counts_of draft s

@@ -1,10 +1,36 @@
 -- Where the sections of a spelled image stand: behind the header and the contents, in the order of their types and
 -- without gaps. Places are bytes from the image's start.
-use Rattle.std.specs.Prelude.{ℕ, ◌+◌, ◌*◌, ◌≤◌, ◌==◌, if◌then◌else◌, List, length, sum_by}
+use Rattle.std.specs.Prelude.{ℕ, ◌+◌, ◌*◌, ◌/◌, ◌≤◌, ◌==◌, if◌then◌else◌, List, length, sum_by}
 use Rattle.mmv_format.specs.declared.rows.IndomRow.{IndomRow}
 use Rattle.mmv_format.specs.declared.rows.Layout.{Layout}
 use Rattle.mmv_spelling.specs.declared.places.Counts.{Counts}
 use Rattle.mmv_spelling.specs.declared.places.Places.{Places}
+use Rattle.mmv_format.specs.Sizes.{name_width, header_size, entry_size, indom_size, instance_size, metric_size, value_size, string_size}
+
+-- how many words a name and each part take
+abbrev pub name_length : ℕ
+name_length = name_width / 8
+
+abbrev pub header_length : ℕ
+header_length = header_size / 8
+
+abbrev pub entry_length : ℕ
+entry_length = entry_size / 8
+
+abbrev pub indom_length : ℕ
+indom_length = indom_size / 8
+
+abbrev pub instance_length : ℕ
+instance_length = instance_size / 8
+
+abbrev pub metric_length : ℕ
+metric_length = metric_size / 8
+
+abbrev pub value_length : ℕ
+value_length = value_size / 8
+
+abbrev pub string_length : ℕ
+string_length = string_size / 8
 
 -- how many instances domains have together
 abbrev pub instances_in : List IndomRow → ℕ
@@ -30,21 +56,21 @@ sections_in counts =
 
 -- the place behind the contents
 abbrev pub contents_end : Counts → ℕ
-contents_end counts = 40 + 16 * sections_in counts
+contents_end counts = header_size + entry_size * sections_in counts
 
 abbrev pub places_of : Counts → Places
 places_of counts = record {
   indoms = contents_end counts;
-  instances = contents_end counts + 32 * counts.indoms;
-  metrics = contents_end counts + 32 * counts.indoms + 80 * counts.instances;
-  values = contents_end counts + 32 * counts.indoms + 80 * counts.instances + 104 * counts.metrics;
-  strings = contents_end counts + 32 * counts.indoms + 80 * counts.instances + 104 * counts.metrics + 32 * counts.values;
+  instances = contents_end counts + indom_size * counts.indoms;
+  metrics = contents_end counts + indom_size * counts.indoms + instance_size * counts.instances;
+  values = contents_end counts + indom_size * counts.indoms + instance_size * counts.instances + metric_size * counts.metrics;
+  strings = contents_end counts + indom_size * counts.indoms + instance_size * counts.instances + metric_size * counts.metrics + value_size * counts.values;
 }
 
 -- how many words an image with these counts has
 abbrev pub words_in : Counts → ℕ
 words_in counts =
-    5 + 2 * sections_in counts + 4 * counts.indoms + 10 * counts.instances + 13 * counts.metrics + 4 * counts.values + 32 * counts.strings
+    header_length + entry_length * sections_in counts + indom_length * counts.indoms + instance_length * counts.instances + metric_length * counts.metrics + value_length * counts.values + string_length * counts.strings
 
 -- places of an image of at most 65,536 words, and what its references count
 pub record AreSmall (places : Places) : Type 0 where

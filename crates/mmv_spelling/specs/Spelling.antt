@@ -15,6 +15,8 @@ use Rattle.mmv_format.specs.declared.rows.Layout.{Layout}
 use Rattle.mmv_spelling.specs.declared.places.Counts.{Counts}
 use Rattle.mmv_spelling.specs.declared.places.Places.{Places}
 use Rattle.mmv_spelling.specs.Places.{instances_in, counts_of, sections_in, places_of}
+use Rattle.mmv_format.specs.Sizes.{indom_size, instance_size, metric_size, string_size}
+use Rattle.mmv_spelling.specs.Places.{name_length, string_length}
 
 -- Strings
 
@@ -46,7 +48,7 @@ all_strings draft = with_missing draft.strings (wanted draft)
 -- References, each to the place of the first entry that is meant
 
 abbrev pub string_place : Places → List (List ℕ) → List ℕ → ℕ
-string_place places strings text = places.strings + 256 * position_or_len (λ other. bytes_eq other text) strings
+string_place places strings text = places.strings + string_size * position_or_len (λ other. bytes_eq other text) strings
 
 abbrev pub help_place : Places → List (List ℕ) → Option (List ℕ) → ℕ
 help_place places strings None = 0
@@ -57,14 +59,14 @@ abbrev pub domain_of : List IndomRow → ℕ → ℕ
 domain_of indoms serial = position_or_len (λ row. row.serial == serial) indoms
 
 abbrev pub domain_place : Places → List IndomRow → ℕ → ℕ
-domain_place places indoms serial = places.indoms + 32 * domain_of indoms serial
+domain_place places indoms serial = places.indoms + indom_size * domain_of indoms serial
 
 -- the place of instance k of the domain with a serial: behind the instances of all earlier domains
 abbrev pub instance_place : Places → List IndomRow → ℕ → ℕ → ℕ
-instance_place places indoms serial k = places.instances + 80 * (instances_in (take (domain_of indoms serial) indoms) + k)
+instance_place places indoms serial k = places.instances + instance_size * (instances_in (take (domain_of indoms serial) indoms) + k)
 
 abbrev pub metric_place : Places → List MetricRow → ℕ → ℕ
-metric_place places metrics item = places.metrics + 104 * position_or_len (λ metric. metric.item == item) metrics
+metric_place places metrics item = places.metrics + metric_size * position_or_len (λ metric. metric.item == item) metrics
 
 -- Entries
 
@@ -97,7 +99,7 @@ domain_words places strings indoms row =
 
 -- an instance: its domain, a zero, its number and its name filled up with zeros
 unfoldable pub instance_words : ℕ → ℤ × List ℕ → List ℕ
-instance_words domain instance = domain ∷ halves 0 (cast_unsigned w32 instance.0) ∷ first_words 8 instance.1
+instance_words domain instance = domain ∷ halves 0 (cast_unsigned w32 instance.0) ∷ first_words name_length instance.1
 
 abbrev pub serial_word : Option ℕ → ℕ
 serial_word None = 4294967295
@@ -105,7 +107,7 @@ serial_word (Some serial) = serial
 
 unfoldable pub metric_words : Places → List (List ℕ) → MetricRow → List ℕ
 metric_words places strings row =
-    first_words 8 row.name ++ (halves row.item (code_of_kind row.kind) ∷ halves (code_of_semantics row.semantics) row.units ∷ serial_word row.serial
+    first_words name_length row.name ++ (halves row.item (code_of_kind row.kind) ∷ halves (code_of_semantics row.semantics) row.units ∷ serial_word row.serial
     ∷ help_place places strings row.short ∷ help_place places strings row.long ∷ [])
 
 abbrev pub value_field : Content → ℕ
@@ -159,7 +161,7 @@ unfoldable pub value_section : Places → List (List ℕ) → List IndomRow → 
 value_section places strings indoms metrics values = flat_map (λ row. value_words places strings indoms metrics row) values
 
 unfoldable pub string_section : List (List ℕ) → List ℕ
-string_section strings = flat_map (λ text. first_words 32 text) strings
+string_section strings = flat_map (λ text. first_words string_length text) strings
 
 -- the sections of a draft, in the order of their types
 unfoldable pub sections_words : Layout → List (List ℕ) → Places → List ℕ

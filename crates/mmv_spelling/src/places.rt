@@ -1,8 +1,26 @@
+//! How many entries and words an image has, and where its sections stand.
 ghost use Rattle.std.specs.Prelude.{◌≡◌, ◌≤◌, min};
 ghost use Rattle.mmv_spelling.specs.Places.{instances_in, counts_of, one_if_some, sections_in, places_of, words_in};
 
-use mmv_format::{IndomRow, Layout};
+use mmv_format::{
+    ENTRY_SIZE, HEADER_SIZE, INDOM_SIZE, INSTANCE_SIZE, IndomRow, Layout, METRIC_SIZE, STRING_SIZE,
+    VALUE_SIZE,
+};
 use pcp_base::Text;
+
+const HEADER_WORDS: u128 = HEADER_SIZE as u128 / 8;
+
+const ENTRY_WORDS: u128 = ENTRY_SIZE as u128 / 8;
+
+const INDOM_WORDS: u128 = INDOM_SIZE as u128 / 8;
+
+const INSTANCE_WORDS: u128 = INSTANCE_SIZE as u128 / 8;
+
+const METRIC_WORDS: u128 = METRIC_SIZE as u128 / 8;
+
+const VALUE_WORDS: u128 = VALUE_SIZE as u128 / 8;
+
+const STRING_WORDS: u128 = STRING_SIZE as u128 / 8;
 
 /// How many entries each section has.
 #[derive(Clone, Copy)]
@@ -73,13 +91,13 @@ pub fn counts_of(draft: &Layout, strings: &[Text]) -> Counts
 pub fn words_in(counts: &Counts) -> u64
     ensures { result ≡ min (words_in counts.now) 18446744073709551615 }
 {
-    let words = 5
-        + 2 * sections_in(counts) as u128
-        + 4 * counts.indoms as u128
-        + 10 * counts.instances as u128
-        + 13 * counts.metrics as u128
-        + 4 * counts.values as u128
-        + 32 * counts.strings as u128;
+    let words = HEADER_WORDS
+        + ENTRY_WORDS * sections_in(counts) as u128
+        + INDOM_WORDS * counts.indoms as u128
+        + INSTANCE_WORDS * counts.instances as u128
+        + METRIC_WORDS * counts.metrics as u128
+        + VALUE_WORDS * counts.values as u128
+        + STRING_WORDS * counts.strings as u128;
     if words < u64::MAX as u128 {
         words as u64
     } else {
@@ -92,11 +110,11 @@ pub fn places_of(counts: &Counts) -> Places
     requires { words_in counts.now ≤ 65536 }
     ensures { result ≡ places_of counts.now }
 {
-    let indoms = 40 + 16 * sections_in(counts);
-    let instances = indoms + 32 * counts.indoms;
-    let metrics = instances + 80 * counts.instances;
-    let values = metrics + 104 * counts.metrics;
-    let strings = values + 32 * counts.values;
+    let indoms = HEADER_SIZE + ENTRY_SIZE * sections_in(counts);
+    let instances = indoms + INDOM_SIZE * counts.indoms;
+    let metrics = instances + INSTANCE_SIZE * counts.instances;
+    let values = metrics + METRIC_SIZE * counts.metrics;
+    let strings = values + VALUE_SIZE * counts.values;
     Places {
         indoms,
         instances,

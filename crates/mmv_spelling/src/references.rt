@@ -7,7 +7,7 @@ ghost use Rattle.mmv_spelling.specs.Spelling.{string_place, help_place, domain_p
 use crate::lookups::{DomainTable, MetricTable};
 use crate::places::Places;
 use crate::tables::StringTable;
-use mmv_format::{Content, IndomRow};
+use mmv_format::{Content, INDOM_SIZE, INSTANCE_SIZE, IndomRow, METRIC_SIZE, STRING_SIZE};
 use pcp_base::Text;
 
 /// Which string is the first that is equal to a text, or the number of strings.
@@ -25,7 +25,7 @@ fn string_place(places: &Places, strings: &StringTable, text: &Text) -> u64
     requires count { length strings.now ≤ 65536 }
     ensures { result ≡ string_place places.now strings.now text.now }
 {
-    places.strings + 256 * text_index(strings, text) as u64
+    places.strings + STRING_SIZE * text_index(strings, text) as u64
 }
 
 /// The place of a help's string, 0 without a help.
@@ -46,7 +46,7 @@ pub fn domain_place(places: &Places, domains: &DomainTable, serial: u32) -> u64
     requires count { length domains.now ≤ 65536 }
     ensures { result ≡ domain_place places.now domains.now serial }
 {
-    places.indoms + 32 * domains.domain_of(serial) as u64
+    places.indoms + INDOM_SIZE * domains.domain_of(serial) as u64
 }
 
 /// The place of an instance of the domain with a serial.
@@ -56,7 +56,7 @@ fn instance_place(places: &Places, domains: &DomainTable, serial: u32, k: u64) -
     requires member { k ≤ 65536 }
     ensures { result ≡ instance_place places.now domains.now serial k }
 {
-    places.instances + 80 * (domains.instances_before(serial) + k)
+    places.instances + INSTANCE_SIZE * (domains.instances_before(serial) + k)
 }
 
 /// The place of a domain's first instance, 0 where it has none.
@@ -77,7 +77,7 @@ pub fn metric_place(places: &Places, metrics: &MetricTable, item: u32) -> u64
     requires count { length metrics.now ≤ 65536 }
     ensures { result ≡ metric_place places.now metrics.now item }
 {
-    places.metrics + 104 * metrics.metric_of(item) as u64
+    places.metrics + METRIC_SIZE * metrics.metric_of(item) as u64
 }
 
 /// The extra field of a content.

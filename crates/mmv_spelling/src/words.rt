@@ -12,17 +12,17 @@ use crate::references::{
     domain_place, extra_field, first_instance, help_place, instance_field, metric_place,
 };
 use crate::tables::StringTable;
-use mmv_format::{Content, IndomRow, Layout, MetricRow, ValueRow};
+use mmv_format::{Content, IndomRow, Layout, MetricRow, NAME_WIDTH, STRING_SIZE, ValueRow};
 use pcp_base::{NoMemory, Text};
 
 /// `MMV` and a zero byte, the low byte first.
 const MAGIC: u32 = 0x0056_4d4d;
 
 /// How many words a name has.
-const NAME_WORDS: usize = 8;
+const NAME_WORDS: usize = NAME_WIDTH as usize / 8;
 
 /// How many words a string has.
-const STRING_WORDS: usize = 32;
+const STRING_WORDS: usize = STRING_SIZE as usize / 8;
 
 /// The word of two numbers of four bytes.
 fn halves(low: u32, high: u32) -> u64

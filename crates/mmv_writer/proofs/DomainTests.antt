@@ -21,24 +21,26 @@ use Rattle.mmv_writer.proofs.Wanted.{HasHelp}
 use Rattle.mmv_spelling.proofs.Positions.{get_below, get_some, same_row, before_this, Member, member}
 use Rattle.mmv_writer.proofs.Spelt.{domains_from, instances_from, places, find_indoms, find_instances}
 use Rattle.mmv_writer.proofs.Marks.{indom_is, instance_is, leads_there, indom_leads, instance_leads_to, help_good, stand_domain, stand_instance, serial_read, run_read, first_read, first_is, owner_read}
+use Rattle.mmv_format.specs.Sizes.{indom_size, instance_size}
+use Rattle.mmv_spelling.specs.Places.{name_length, indom_length, instance_length}
 
-back : (draft : Layout) (s : List (List ℕ)) (at i : ℕ) → at ≡ 8 * (domains_from draft s + 4 * i) → (places draft s).indoms + 32 * i ≡ at
+back : (draft : Layout) (s : List (List ℕ)) (at i : ℕ) → at ≡ 8 * (domains_from draft s + indom_length * i) → (places draft s).indoms + indom_size * i ≡ at
 back draft s at i e = omega arith
 
-good_run : (draft : Layout) (s : List (List ℕ)) → words_in (counts_of draft s) ≤ 65536 → IsDraft draft → (i at : ℕ) (row : IndomRow) → slice_get draft.indoms i ≡ Some row → at ≡ 8 * (domains_from draft s + 4 * i) → has_good_run (spelled draft s) at ≡ true
+good_run : (draft : Layout) (s : List (List ℕ)) → words_in (counts_of draft s) ≤ 65536 → IsDraft draft → (i at : ℕ) (row : IndomRow) → slice_get draft.indoms i ≡ Some row → at ≡ 8 * (domains_from draft s + indom_length * i) → has_good_run (spelled draft s) at ≡ true
 unfolding has_good_run is_instance_of
 good_run draft s few d i at row here e =
     let words : List ℕ = spelled draft s in
     let run : number32 words (at + 4) ≡ length row.instances = run_read draft s few d i (at + 4) row here (ap (λ n. n + 4) e) in
     let all : instances_in (take i draft.indoms) + length row.instances ≤ instances_in draft.indoms = before_this draft.indoms i row here in
     let from : number64 words (at + 8) ≡ first_instance (places draft s) draft.indoms row = first_read draft s i (at + 8) row here (ap (λ n. n + 8) e) in
-    all_hold (number32 words (at + 4)) (λ k. leads_to_instance words (number64 words (at + 8) + 80 * k) && nat_eq (number64 words (number64 words (at + 8) + 80 * k)) at) (λ k below.
+    all_hold (number32 words (at + 4)) (λ k. leads_to_instance words (number64 words (at + 8) + instance_size * k) && nat_eq (number64 words (number64 words (at + 8) + instance_size * k)) at) (λ k below.
     let within : k < length row.instances = subst (λ n. k < n) run below in
     let (instance, inside) = get_some row.instances k within in
-    let first : number64 words (at + 8) ≡ (places draft s).instances + 80 * instances_in (take i draft.indoms) = from ∙ first_is draft s d i row here (omega arith) in
-    let place : number64 words (at + 8) + 80 * k ≡ (places draft s).instances + 80 * (instances_in (take i draft.indoms) + k) = omega arith in
-    let owner : number64 words (number64 words (at + 8) + 80 * k) ≡ at = owner_read draft s d i k (number64 words (at + 8) + 80 * k) row instance here inside (omega arith) ∙ back draft s at i e in
-    ap₂ (λ a b. a && b) (instance_leads_to draft s few (instances_in (take i draft.indoms) + k) (number64 words (at + 8) + 80 * k) (omega arith) place) (eq-eqb (number64 words (number64 words (at + 8) + 80 * k)) at owner))
+    let first : number64 words (at + 8) ≡ (places draft s).instances + instance_size * instances_in (take i draft.indoms) = from ∙ first_is draft s d i row here (omega arith) in
+    let place : number64 words (at + 8) + instance_size * k ≡ (places draft s).instances + instance_size * (instances_in (take i draft.indoms) + k) = omega arith in
+    let owner : number64 words (number64 words (at + 8) + instance_size * k) ≡ at = owner_read draft s d i k (number64 words (at + 8) + instance_size * k) row instance here inside (omega arith) ∙ back draft s at i e in
+    ap₂ (λ a b. a && b) (instance_leads_to draft s few (instances_in (take i draft.indoms) + k) (number64 words (at + 8) + instance_size * k) (omega arith) place) (eq-eqb (number64 words (number64 words (at + 8) + instance_size * k)) at owner))
 
 new_indom : (draft : Layout) (s : List (List ℕ)) → words_in (counts_of draft s) ≤ 65536 → IsDraft draft → (i : ℕ) (row : IndomRow) → slice_get draft.indoms i ≡ Some row → is_new_indom (spelled draft s) i ≡ true
 unfolding is_new_indom has_serial
@@ -54,10 +56,10 @@ unfolding is_good_indom domain_words
 good_indom draft s few d helps i below =
     let (row, here) = get_some draft.indoms i below in
     let words : List ℕ = spelled draft s in
-    let place : indom_at words i ≡ 8 * (domains_from draft s + 4 * i) = indom_is draft s few i below in
-    let stand : Stands words (domains_from draft s + 4 * i) (domain_words (places draft s) s draft.indoms row) = stand_domain draft s i row here in
-    let short : help_leads words (indom_at words i + 16) ≡ true = help_good draft s few row.short (indom_at words i + 16) (helps i row here).0 (word_read words (domains_from draft s + 4 * i) 2 (indom_at words i + 16) (domain_words (places draft s) s draft.indoms row) stand (omega arith) (omega arith)) in
-    let long : help_leads words (indom_at words i + 24) ≡ true = help_good draft s few row.long (indom_at words i + 24) (helps i row here).1 (word_read words (domains_from draft s + 4 * i) 3 (indom_at words i + 24) (domain_words (places draft s) s draft.indoms row) stand (omega arith) (omega arith)) in
+    let place : indom_at words i ≡ 8 * (domains_from draft s + indom_length * i) = indom_is draft s few i below in
+    let stand : Stands words (domains_from draft s + indom_length * i) (domain_words (places draft s) s draft.indoms row) = stand_domain draft s i row here in
+    let short : help_leads words (indom_at words i + 16) ≡ true = help_good draft s few row.short (indom_at words i + 16) (helps i row here).0 (word_read words (domains_from draft s + indom_length * i) 2 (indom_at words i + 16) (domain_words (places draft s) s draft.indoms row) stand (omega arith) (omega arith)) in
+    let long : help_leads words (indom_at words i + 24) ≡ true = help_good draft s few row.long (indom_at words i + 24) (helps i row here).1 (word_read words (domains_from draft s + indom_length * i) 3 (indom_at words i + 24) (domain_words (places draft s) s draft.indoms row) stand (omega arith) (omega arith)) in
     ap₂ (λ a b. a && b) (ap₂ (λ a b. a && b) (ap₂ (λ a b. a && b) (ap₂ (λ a b. a && b) short long) (good_run draft s few d i (indom_at words i) row here place)) (new_indom draft s few d i row here))
     (ap is_serial (serial_read draft s few d i (indom_at words i) row here place) ∙ (d.domains i row here).serial)
 
@@ -68,16 +70,16 @@ good_indoms draft s few d helps =
 
 -- Instances
 
-pub name_from : (draft : Layout) (s : List (List ℕ)) (i k : ℕ) (row : IndomRow) (instance : ℤ × List ℕ) → slice_get draft.indoms i ≡ Some row → slice_get row.instances k ≡ Some instance → Stands (spelled draft s) (instances_from draft s + 10 * (instances_in (take i draft.indoms) + k) + 2) (first_words 8 instance.1)
+pub name_from : (draft : Layout) (s : List (List ℕ)) (i k : ℕ) (row : IndomRow) (instance : ℤ × List ℕ) → slice_get draft.indoms i ≡ Some row → slice_get row.instances k ≡ Some instance → Stands (spelled draft s) (instances_from draft s + instance_length * (instances_in (take i draft.indoms) + k) + 2) (first_words name_length instance.1)
 unfolding instance_words
 name_from draft s i k row instance here within =
-    stands_right (spelled draft s) (instances_from draft s + 10 * (instances_in (take i draft.indoms) + k)) (instances_from draft s + 10 * (instances_in (take i draft.indoms) + k) + 2)
-    (domain_place (places draft s) draft.indoms row.serial ∷ halves 0 (cast_unsigned w32 instance.0) ∷ []) (first_words 8 instance.1) refl (stand_instance draft s i k row instance here within)
+    stands_right (spelled draft s) (instances_from draft s + instance_length * (instances_in (take i draft.indoms) + k)) (instances_from draft s + instance_length * (instances_in (take i draft.indoms) + k) + 2)
+    (domain_place (places draft s) draft.indoms row.serial ∷ halves 0 (cast_unsigned w32 instance.0) ∷ []) (first_words name_length instance.1) refl (stand_instance draft s i k row instance here within)
 
-pub number_read : (draft : Layout) (s : List (List ℕ)) → IsDraft draft → (i k at n : ℕ) (row : IndomRow) (instance : ℤ × List ℕ) → slice_get draft.indoms i ≡ Some row → slice_get row.instances k ≡ Some instance → instance.0 ≡ pos n → n < 2147483648 → at ≡ 8 * (instances_from draft s + 10 * (instances_in (take i draft.indoms) + k)) + 12 → number32 (spelled draft s) at ≡ n
+pub number_read : (draft : Layout) (s : List (List ℕ)) → IsDraft draft → (i k at n : ℕ) (row : IndomRow) (instance : ℤ × List ℕ) → slice_get draft.indoms i ≡ Some row → slice_get row.instances k ≡ Some instance → instance.0 ≡ pos n → n < 2147483648 → at ≡ 8 * (instances_from draft s + instance_length * (instances_in (take i draft.indoms) + k)) + 12 → number32 (spelled draft s) at ≡ n
 unfolding instance_words
 number_read draft s d i k at n row instance here within is fits e =
-    high_read (spelled draft s) (instances_from draft s + 10 * (instances_in (take i draft.indoms) + k)) 1 at (instance_words (domain_place (places draft s) draft.indoms row.serial) instance) 0 n (stand_instance draft s i k row instance here within) (omega arith) (omega arith)
+    high_read (spelled draft s) (instances_from draft s + instance_length * (instances_in (take i draft.indoms) + k)) 1 at (instance_words (domain_place (places draft s) draft.indoms row.serial) instance) 0 n (stand_instance draft s i k row instance here within) (omega arith) (omega arith)
     (ap (λ id. halves 0 (cast_unsigned w32 id)) is) (omega arith) (omega arith)
 
 pub short_name : (n : ℕ) → (nat_le 1 n && nat_le n 63) ≡ true → (0 < n) × (n < 64)
@@ -92,31 +94,31 @@ short_name n h = (one n (both_left (nat_le 1 n) (nat_le n 63) h), most n (both_r
 isnt_zero : (n : ℕ) → n ≢ 0 → not (nat_eq n 0) ≡ true
 isnt_zero n h = grind (arith, nat_tests)
 
-named : (draft : Layout) (s : List (List ℕ)) → IsDraft draft → (i k at : ℕ) (row : IndomRow) (instance : ℤ × List ℕ) → slice_get draft.indoms i ≡ Some row → slice_get row.instances k ≡ Some instance → at ≡ 8 * (instances_from draft s + 10 * (instances_in (take i draft.indoms) + k)) → has_text (spelled draft s) (at + 16) ≡ true
+named : (draft : Layout) (s : List (List ℕ)) → IsDraft draft → (i k at : ℕ) (row : IndomRow) (instance : ℤ × List ℕ) → slice_get draft.indoms i ≡ Some row → slice_get row.instances k ≡ Some instance → at ≡ 8 * (instances_from draft s + instance_length * (instances_in (take i draft.indoms) + k)) → has_text (spelled draft s) (at + 16) ≡ true
 unfolding has_text
 named draft s d i k at row instance here within e =
     let is : IsInstance instance = (d.domains i row here).instances k instance within in
     let short : (0 < length instance.1) × (length instance.1 < 64) = short_name (length instance.1) is.name in
-    let stand : Stands (spelled draft s) (instances_from draft s + 10 * (instances_in (take i draft.indoms) + k) + 2) (first_words 8 instance.1) = name_from draft s i k row instance here within in
+    let stand : Stands (spelled draft s) (instances_from draft s + instance_length * (instances_in (take i draft.indoms) + k) + 2) (first_words name_length instance.1) = name_from draft s i k row instance here within in
     let first : byte_at (spelled draft s) (at + 16) ≡ slice_index instance.1 0 =
-    ap (byte_at (spelled draft s)) (plus_none (at + 16)) ∙ byte_read (spelled draft s) (instances_from draft s + 10 * (instances_in (take i draft.indoms) + k) + 2) 8 (at + 16) 0 instance.1 stand is.stored.bytes (omega arith) (omega arith) in
-    ap₂ (λ a b. a && b) (zero_read (spelled draft s) (instances_from draft s + 10 * (instances_in (take i draft.indoms) + k) + 2) 8 (at + 16) instance.1 stand is.stored (omega arith) short.1)
+    ap (byte_at (spelled draft s)) (plus_none (at + 16)) ∙ byte_read (spelled draft s) (instances_from draft s + instance_length * (instances_in (take i draft.indoms) + k) + 2) name_length (at + 16) 0 instance.1 stand is.stored.bytes (omega arith) (omega arith) in
+    ap₂ (λ a b. a && b) (zero_read (spelled draft s) (instances_from draft s + instance_length * (instances_in (take i draft.indoms) + k) + 2) name_length (at + 16) instance.1 stand is.stored (omega arith) short.1)
     (isnt_zero (byte_at (spelled draft s) (at + 16)) (λ z. is.stored.nonzero 0 0 short.0 (sym first ∙ z)))
   where
     plus_none : (n : ℕ) → n ≡ n + 0
     plus_none n = omega arith
 
-in_run : (draft : Layout) (s : List (List ℕ)) → words_in (counts_of draft s) ≤ 65536 → IsDraft draft → (i k at : ℕ) (row : IndomRow) (instance : ℤ × List ℕ) → slice_get draft.indoms i ≡ Some row → slice_get row.instances k ≡ Some instance → at ≡ 8 * (instances_from draft s + 10 * (instances_in (take i draft.indoms) + k)) → lies_in_run (spelled draft s) at ≡ true
+in_run : (draft : Layout) (s : List (List ℕ)) → words_in (counts_of draft s) ≤ 65536 → IsDraft draft → (i k at : ℕ) (row : IndomRow) (instance : ℤ × List ℕ) → slice_get draft.indoms i ≡ Some row → slice_get row.instances k ≡ Some instance → at ≡ 8 * (instances_from draft s + instance_length * (instances_in (take i draft.indoms) + k)) → lies_in_run (spelled draft s) at ≡ true
 unfolding lies_in_run
 in_run draft s few d i k at row instance here within e =
     let words : List ℕ = spelled draft s in
     let inside : k < length row.instances = get_below row.instances k instance within in
     let below : i < length draft.indoms = get_below draft.indoms i row here in
-    let owner : number64 words at ≡ (places draft s).indoms + 32 * i = owner_read draft s d i k at row instance here within e in
+    let owner : number64 words at ≡ (places draft s).indoms + indom_size * i = owner_read draft s d i k at row instance here within e in
     let run : number32 words (number64 words at + 4) ≡ length row.instances = run_read draft s few d i (number64 words at + 4) row here (omega arith) in
-    let first : number64 words (number64 words at + 8) ≡ (places draft s).instances + 80 * instances_in (take i draft.indoms) = first_read draft s i (number64 words at + 8) row here (omega arith) ∙ first_is draft s d i row here (omega arith) in
+    let first : number64 words (number64 words at + 8) ≡ (places draft s).instances + instance_size * instances_in (take i draft.indoms) = first_read draft s i (number64 words at + 8) row here (omega arith) ∙ first_is draft s d i row here (omega arith) in
     ap₂ (λ a b. a && b) (indom_leads draft s few i (number64 words at) below owner)
-    (leads_there (number64 words (number64 words at + 8)) (number32 words (number64 words at + 4)) 80 at k (omega arith) (omega arith))
+    (leads_there (number64 words (number64 words at + 8)) (number32 words (number64 words at + 4)) instance_size at k (omega arith) (omega arith))
 
 -- another number and another name
 differs : (a b : ℤ × List ℕ) (m n : ℕ) → a.0 ≡ pos m → b.0 ≡ pos n → (int_eq a.0 b.0 || bytes_eq a.1 b.1) ≡ false → (nat_eq m n || bytes_eq a.1 b.1) ≡ false
@@ -129,15 +131,15 @@ and_false : (b : Bool) → (b && false) ≡ false
 and_false true = refl
 and_false false = refl
 
-apart_in : (draft : Layout) (s : List (List ℕ)) → IsDraft draft → (i k j : ℕ) (row : IndomRow) (a b : ℤ × List ℕ) (at_a at_b : ℕ) → slice_get draft.indoms i ≡ Some row → slice_get row.instances j ≡ Some a → slice_get row.instances k ≡ Some b → j < k → at_a ≡ 8 * (instances_from draft s + 10 * (instances_in (take i draft.indoms) + j)) → at_b ≡ 8 * (instances_from draft s + 10 * (instances_in (take i draft.indoms) + k)) → is_same_instance (spelled draft s) at_a at_b ≡ false
+apart_in : (draft : Layout) (s : List (List ℕ)) → IsDraft draft → (i k j : ℕ) (row : IndomRow) (a b : ℤ × List ℕ) (at_a at_b : ℕ) → slice_get draft.indoms i ≡ Some row → slice_get row.instances j ≡ Some a → slice_get row.instances k ≡ Some b → j < k → at_a ≡ 8 * (instances_from draft s + instance_length * (instances_in (take i draft.indoms) + j)) → at_b ≡ 8 * (instances_from draft s + instance_length * (instances_in (take i draft.indoms) + k)) → is_same_instance (spelled draft s) at_a at_b ≡ false
 unfolding is_same_instance same_name
 apart_in draft s d i k j row a b at_a at_b here in_a in_b less ea eb =
     let words : List ℕ = spelled draft s in
     let is_a : IsInstance a = (d.domains i row here).instances j a in_a in
     let is_b : IsInstance b = (d.domains i row here).instances k b in_b in
     let other : (int_eq a.0 b.0 || bytes_eq a.1 b.1) ≡ false = (d.domains i row here).apart j k a b less in_a in_b in
-    let text_a : text_at words (at_a + 16) 64 ≡ a.1 = text_read words (instances_from draft s + 10 * (instances_in (take i draft.indoms) + j) + 2) 8 (at_a + 16) a.1 (name_from draft s i j row a here in_a) is_a.stored (omega arith) (short_name (length a.1) is_a.name).1 in
-    let text_b : text_at words (at_b + 16) 64 ≡ b.1 = text_read words (instances_from draft s + 10 * (instances_in (take i draft.indoms) + k) + 2) 8 (at_b + 16) b.1 (name_from draft s i k row b here in_b) is_b.stored (omega arith) (short_name (length b.1) is_b.name).1 in
+    let text_a : text_at words (at_a + 16) 64 ≡ a.1 = text_read words (instances_from draft s + instance_length * (instances_in (take i draft.indoms) + j) + 2) name_length (at_a + 16) a.1 (name_from draft s i j row a here in_a) is_a.stored (omega arith) (short_name (length a.1) is_a.name).1 in
+    let text_b : text_at words (at_b + 16) 64 ≡ b.1 = text_read words (instances_from draft s + instance_length * (instances_in (take i draft.indoms) + k) + 2) name_length (at_b + 16) b.1 (name_from draft s i k row b here in_b) is_b.stored (omega arith) (short_name (length b.1) is_b.name).1 in
     let number_a : number32 words (at_a + 12) ≡ is_a.number.0 = number_read draft s d i j (at_a + 12) is_a.number.0 row a here in_a is_a.number.1 is_a.number.2 (ap (λ n. n + 12) ea) in
     let number_b : number32 words (at_b + 12) ≡ is_b.number.0 = number_read draft s d i k (at_b + 12) is_b.number.0 row b here in_b is_b.number.1 is_b.number.2 (ap (λ n. n + 12) eb) in
     ap (λ t. nat_eq (number64 words at_a) (number64 words at_b) && t) (ap₂ (λ x y. x || y) (ap₂ nat_eq number_a number_b) (ap₂ bytes_eq text_a text_b) ∙ differs a b is_a.number.0 is_b.number.0 is_a.number.1 is_b.number.1 other)
@@ -146,18 +148,18 @@ apart_in draft s d i k j row a b at_a at_b here in_a in_b less ea eb =
 isnt : (a b : ℕ) → a ≢ b → nat_eq a b ≡ false
 isnt a b h = grind (arith, nat_tests)
 
-other_instance : (draft : Layout) (s : List (List ℕ)) → IsDraft draft → (j q at_j at_q : ℕ) → (m : Member draft.indoms j) → (n : Member draft.indoms q) → j < q → at_j ≡ 8 * (instances_from draft s + 10 * j) → at_q ≡ 8 * (instances_from draft s + 10 * q) → is_same_instance (spelled draft s) at_j at_q ≡ false
+other_instance : (draft : Layout) (s : List (List ℕ)) → IsDraft draft → (j q at_j at_q : ℕ) → (m : Member draft.indoms j) → (n : Member draft.indoms q) → j < q → at_j ≡ 8 * (instances_from draft s + instance_length * j) → at_q ≡ 8 * (instances_from draft s + instance_length * q) → is_same_instance (spelled draft s) at_j at_q ≡ false
 unfolding is_same_instance
 other_instance draft s d j q at_j at_q m n less ej eq = here (nat_eq m.i n.i) refl
   where
-    owner_j : number64 (spelled draft s) at_j ≡ (places draft s).indoms + 32 * m.i
-    owner_j = owner_read draft s d m.i m.k at_j m.row m.instance m.at m.within (ej ∙ ap (λ x. 8 * (instances_from draft s + 10 * x)) m.is)
+    owner_j : number64 (spelled draft s) at_j ≡ (places draft s).indoms + indom_size * m.i
+    owner_j = owner_read draft s d m.i m.k at_j m.row m.instance m.at m.within (ej ∙ ap (λ x. 8 * (instances_from draft s + instance_length * x)) m.is)
 
-    owner_q : number64 (spelled draft s) at_q ≡ (places draft s).indoms + 32 * n.i
-    owner_q = owner_read draft s d n.i n.k at_q n.row n.instance n.at n.within (eq ∙ ap (λ x. 8 * (instances_from draft s + 10 * x)) n.is)
+    owner_q : number64 (spelled draft s) at_q ≡ (places draft s).indoms + indom_size * n.i
+    owner_q = owner_read draft s d n.i n.k at_q n.row n.instance n.at n.within (eq ∙ ap (λ x. 8 * (instances_from draft s + instance_length * x)) n.is)
 
-    apart : (p a b : ℕ) → a ≢ b → nat_eq (p + 32 * a) (p + 32 * b) ≡ false
-    apart p a b h = isnt (p + 32 * a) (p + 32 * b) (λ e. h (omega arith))
+    apart : (p a b : ℕ) → a ≢ b → nat_eq (p + indom_size * a) (p + indom_size * b) ≡ false
+    apart p a b h = isnt (p + indom_size * a) (p + indom_size * b) (λ e. h (omega arith))
 
     here : (b : Bool) → nat_eq m.i n.i ≡ b → (nat_eq (number64 (spelled draft s) at_j) (number64 (spelled draft s) at_q) && (nat_eq (number32 (spelled draft s) (at_j + 12)) (number32 (spelled draft s) (at_q + 12)) || same_name (spelled draft s) (at_j + 16) (at_q + 16))) ≡ false
     here true e =
@@ -180,8 +182,8 @@ unfolding is_good_instance is_new_instance
 good_instance draft s few d q below =
     let words : List ℕ = spelled draft s in
     let m : Member draft.indoms q = member draft.indoms q below in
-    let at : instance_at words q ≡ 8 * (instances_from draft s + 10 * q) = instance_is draft s few q below in
-    let place : instance_at words q ≡ 8 * (instances_from draft s + 10 * (instances_in (take m.i draft.indoms) + m.k)) = at ∙ ap (λ x. 8 * (instances_from draft s + 10 * x)) m.is in
+    let at : instance_at words q ≡ 8 * (instances_from draft s + instance_length * q) = instance_is draft s few q below in
+    let place : instance_at words q ≡ 8 * (instances_from draft s + instance_length * (instances_in (take m.i draft.indoms) + m.k)) = at ∙ ap (λ x. 8 * (instances_from draft s + instance_length * x)) m.is in
     let is : IsInstance m.instance = (d.domains m.i m.row m.at).instances m.k m.instance m.within in
     ap₂ (λ a b. a && b) (ap₂ (λ a b. a && b) (ap₂ (λ a b. a && b) (named draft s d m.i m.k (instance_at words q) m.row m.instance m.at m.within place) (in_run draft s few d m.i m.k (instance_at words q) m.row m.instance m.at m.within place))
     (all_hold q (λ j. not (is_same_instance words (instance_at words j) (instance_at words q))) (λ j less.

@@ -25,6 +25,8 @@ use Rattle.mmv_writer.proofs.Wanted.{HasHelp}
 use Rattle.mmv_spelling.proofs.Positions.{Passes, first_passes, get_below, get_some}
 use Rattle.mmv_writer.proofs.Spelt.{metrics_from, strings_from, places, find_indoms, find_metrics, find_strings}
 use Rattle.mmv_writer.proofs.Marks.{indom_is, metric_is, string_is, help_good, stand_metric, stand_string, serial_fits, serial_read}
+use Rattle.mmv_format.specs.EntryFields.{item_offset_in_metric, type_offset_in_metric, semantics_offset_in_metric, serial_offset_in_metric, short_offset_in_metric, long_offset_in_metric}
+use Rattle.mmv_spelling.specs.Places.{name_length, metric_length, string_length}
 
 -- The words of a metric behind its name
 
@@ -33,15 +35,15 @@ fields_of draft s row =
     halves row.item (code_of_kind row.kind) ∷ halves (code_of_semantics row.semantics) row.units ∷ serial_word row.serial
     ∷ help_place (places draft s) s row.short ∷ help_place (places draft s) s row.long ∷ []
 
-stand_name : (draft : Layout) (s : List (List ℕ)) (i : ℕ) (row : MetricRow) → slice_get draft.metrics i ≡ Some row → Stands (spelled draft s) (metrics_from draft s + 13 * i) (first_words 8 row.name)
+stand_name : (draft : Layout) (s : List (List ℕ)) (i : ℕ) (row : MetricRow) → slice_get draft.metrics i ≡ Some row → Stands (spelled draft s) (metrics_from draft s + metric_length * i) (first_words name_length row.name)
 unfolding metric_words
-stand_name draft s i row here = stands_left (spelled draft s) (metrics_from draft s + 13 * i) (first_words 8 row.name) (fields_of draft s row) (stand_metric draft s i row here)
+stand_name draft s i row here = stands_left (spelled draft s) (metrics_from draft s + metric_length * i) (first_words name_length row.name) (fields_of draft s row) (stand_metric draft s i row here)
 
-pub stand_fields : (draft : Layout) (s : List (List ℕ)) (i : ℕ) (row : MetricRow) → slice_get draft.metrics i ≡ Some row → Stands (spelled draft s) (metrics_from draft s + 13 * i + 8) (fields_of draft s row)
+pub stand_fields : (draft : Layout) (s : List (List ℕ)) (i : ℕ) (row : MetricRow) → slice_get draft.metrics i ≡ Some row → Stands (spelled draft s) (metrics_from draft s + metric_length * i + name_length) (fields_of draft s row)
 unfolding metric_words
 stand_fields draft s i row here =
-    stands_right (spelled draft s) (metrics_from draft s + 13 * i) (metrics_from draft s + 13 * i + 8) (first_words 8 row.name) (fields_of draft s row)
-    (ap (λ n. metrics_from draft s + 13 * i + n) (sym (length_text 8 row.name))) (stand_metric draft s i row here)
+    stands_right (spelled draft s) (metrics_from draft s + metric_length * i) (metrics_from draft s + metric_length * i + name_length) (first_words name_length row.name) (fields_of draft s row)
+    (ap (λ n. metrics_from draft s + metric_length * i + n) (sym (length_text name_length row.name))) (stand_metric draft s i row here)
 
 kind_fits : (k : Kind) → code_of_kind k < 10
 kind_fits kinds.I32 = omega arith
@@ -85,25 +87,25 @@ serial_small draft d (Some serial) h =
     let same : p.row.serial ≡ serial = eqb-true p.row.serial serial p.is in
     omega arith
 
-pub item_read : (draft : Layout) (s : List (List ℕ)) → IsDraft draft → (i at : ℕ) (row : MetricRow) → slice_get draft.metrics i ≡ Some row → at ≡ 8 * (metrics_from draft s + 13 * i) + 64 → number32 (spelled draft s) at ≡ row.item
+pub item_read : (draft : Layout) (s : List (List ℕ)) → IsDraft draft → (i at : ℕ) (row : MetricRow) → slice_get draft.metrics i ≡ Some row → at ≡ item_offset_in_metric (8 * (metrics_from draft s + metric_length * i)) → number32 (spelled draft s) at ≡ row.item
 item_read draft s d i at row here e =
     let few : row.item ≤ 1023 = (d.metrics i row here).item in
-    low_read (spelled draft s) (metrics_from draft s + 13 * i + 8) 0 at (fields_of draft s row) row.item (code_of_kind row.kind) (stand_fields draft s i row here) (omega arith) (omega arith) refl (omega arith)
+    low_read (spelled draft s) (metrics_from draft s + metric_length * i + name_length) 0 at (fields_of draft s row) row.item (code_of_kind row.kind) (stand_fields draft s i row here) (omega arith) (omega arith) refl (omega arith)
 
-pub kind_read : (draft : Layout) (s : List (List ℕ)) → IsDraft draft → (i at : ℕ) (row : MetricRow) → slice_get draft.metrics i ≡ Some row → at ≡ 8 * (metrics_from draft s + 13 * i) + 68 → number32 (spelled draft s) at ≡ code_of_kind row.kind
+pub kind_read : (draft : Layout) (s : List (List ℕ)) → IsDraft draft → (i at : ℕ) (row : MetricRow) → slice_get draft.metrics i ≡ Some row → at ≡ type_offset_in_metric (8 * (metrics_from draft s + metric_length * i)) → number32 (spelled draft s) at ≡ code_of_kind row.kind
 kind_read draft s d i at row here e =
     let few : row.item ≤ 1023 = (d.metrics i row here).item in
     let fits : code_of_kind row.kind < 10 = kind_fits row.kind in
-    high_read (spelled draft s) (metrics_from draft s + 13 * i + 8) 0 at (fields_of draft s row) row.item (code_of_kind row.kind) (stand_fields draft s i row here) (omega arith) (omega arith) refl (omega arith) (omega arith)
+    high_read (spelled draft s) (metrics_from draft s + metric_length * i + name_length) 0 at (fields_of draft s row) row.item (code_of_kind row.kind) (stand_fields draft s i row here) (omega arith) (omega arith) refl (omega arith) (omega arith)
 
-pub meaning_read : (draft : Layout) (s : List (List ℕ)) → IsDraft draft → (i at : ℕ) (row : MetricRow) → slice_get draft.metrics i ≡ Some row → at ≡ 8 * (metrics_from draft s + 13 * i) + 72 → number32 (spelled draft s) at ≡ code_of_semantics row.semantics
+pub meaning_read : (draft : Layout) (s : List (List ℕ)) → IsDraft draft → (i at : ℕ) (row : MetricRow) → slice_get draft.metrics i ≡ Some row → at ≡ semantics_offset_in_metric (8 * (metrics_from draft s + metric_length * i)) → number32 (spelled draft s) at ≡ code_of_semantics row.semantics
 meaning_read draft s d i at row here e =
     let fits : code_of_semantics row.semantics < 5 = meaning_fits row.semantics in
-    low_read (spelled draft s) (metrics_from draft s + 13 * i + 8) 1 at (fields_of draft s row) (code_of_semantics row.semantics) row.units (stand_fields draft s i row here) (omega arith) (omega arith) refl (omega arith)
+    low_read (spelled draft s) (metrics_from draft s + metric_length * i + name_length) 1 at (fields_of draft s row) (code_of_semantics row.semantics) row.units (stand_fields draft s i row here) (omega arith) (omega arith) refl (omega arith)
 
-pub metric_serial_read : (draft : Layout) (s : List (List ℕ)) → IsDraft draft → (i at : ℕ) (row : MetricRow) → slice_get draft.metrics i ≡ Some row → at ≡ 8 * (metrics_from draft s + 13 * i) + 80 → number32 (spelled draft s) at ≡ serial_word row.serial
+pub metric_serial_read : (draft : Layout) (s : List (List ℕ)) → IsDraft draft → (i at : ℕ) (row : MetricRow) → slice_get draft.metrics i ≡ Some row → at ≡ serial_offset_in_metric (8 * (metrics_from draft s + metric_length * i)) → number32 (spelled draft s) at ≡ serial_word row.serial
 metric_serial_read draft s d i at row here e =
-    low_read (spelled draft s) (metrics_from draft s + 13 * i + 8) 2 at (fields_of draft s row) (serial_word row.serial) 0 (stand_fields draft s i row here) (omega arith) (omega arith) (plain (serial_word row.serial)) (serial_small draft d row.serial (d.metrics i row here).domain)
+    low_read (spelled draft s) (metrics_from draft s + metric_length * i + name_length) 2 at (fields_of draft s row) (serial_word row.serial) 0 (stand_fields draft s i row here) (omega arith) (omega arith) (plain (serial_word row.serial)) (serial_small draft d row.serial (d.metrics i row here).domain)
   where
     plain : (n : ℕ) → n ≡ halves n 0
     plain n = omega arith
@@ -130,29 +132,29 @@ short_name n h = grind (arith, nat_tests)
 at_most : (n : ℕ) → n ≤ 1023 → nat_le n 1023 ≡ true
 at_most n h = grind (arith, nat_tests)
 
-pub name_read : (draft : Layout) (s : List (List ℕ)) → IsDraft draft → (i at : ℕ) (row : MetricRow) → slice_get draft.metrics i ≡ Some row → at ≡ 8 * (metrics_from draft s + 13 * i) → text_at (spelled draft s) at 64 ≡ row.name
+pub name_read : (draft : Layout) (s : List (List ℕ)) → IsDraft draft → (i at : ℕ) (row : MetricRow) → slice_get draft.metrics i ≡ Some row → at ≡ 8 * (metrics_from draft s + metric_length * i) → text_at (spelled draft s) at 64 ≡ row.name
 name_read draft s d i at row here e =
     let is : IsMetric draft.indoms row = d.metrics i row here in
-    text_read (spelled draft s) (metrics_from draft s + 13 * i) 8 at row.name (stand_name draft s i row here) is.stored e (short_name (length row.name) (both_right (spells true row.name) (nat_le (length row.name) 63) is.name))
+    text_read (spelled draft s) (metrics_from draft s + metric_length * i) name_length at row.name (stand_name draft s i row here) is.stored e (short_name (length row.name) (both_right (spells true row.name) (nat_le (length row.name) 63) is.name))
 
-good_name : (draft : Layout) (s : List (List ℕ)) → IsDraft draft → (i at : ℕ) (row : MetricRow) → slice_get draft.metrics i ≡ Some row → at ≡ 8 * (metrics_from draft s + 13 * i) → has_name (spelled draft s) at ≡ true
+good_name : (draft : Layout) (s : List (List ℕ)) → IsDraft draft → (i at : ℕ) (row : MetricRow) → slice_get draft.metrics i ≡ Some row → at ≡ 8 * (metrics_from draft s + metric_length * i) → has_name (spelled draft s) at ≡ true
 unfolding has_name
 good_name draft s d i at row here e =
     let is : IsMetric draft.indoms row = d.metrics i row here in
-    ap₂ (λ a b. a && b) (zero_read (spelled draft s) (metrics_from draft s + 13 * i) 8 at row.name (stand_name draft s i row here) is.stored e (short_name (length row.name) (both_right (spells true row.name) (nat_le (length row.name) 63) is.name)))
+    ap₂ (λ a b. a && b) (zero_read (spelled draft s) (metrics_from draft s + metric_length * i) name_length at row.name (stand_name draft s i row here) is.stored e (short_name (length row.name) (both_right (spells true row.name) (nat_le (length row.name) 63) is.name)))
     (ap (spells true) (name_read draft s d i at row here e) ∙ both_left (spells true row.name) (nat_le (length row.name) 63) is.name)
 
-good_fields : (draft : Layout) (s : List (List ℕ)) → words_in (counts_of draft s) ≤ 65536 → IsDraft draft → (i at : ℕ) (row : MetricRow) → slice_get draft.metrics i ≡ Some row → HasHelp s row.short × HasHelp s row.long → at ≡ 8 * (metrics_from draft s + 13 * i) → has_good_fields (spelled draft s) at ≡ true
+good_fields : (draft : Layout) (s : List (List ℕ)) → words_in (counts_of draft s) ≤ 65536 → IsDraft draft → (i at : ℕ) (row : MetricRow) → slice_get draft.metrics i ≡ Some row → HasHelp s row.short × HasHelp s row.long → at ≡ 8 * (metrics_from draft s + metric_length * i) → has_good_fields (spelled draft s) at ≡ true
 unfolding has_good_fields
 good_fields draft s few d i at row here helps e =
     let words : List ℕ = spelled draft s in
     let is : IsMetric draft.indoms row = d.metrics i row here in
-    let kind : is_kind (number32 words (at + 68)) ≡ true = ap is_kind (kind_read draft s d i (at + 68) row here (ap (λ n. n + 68) e)) ∙ kind_known row.kind in
-    let meaning : is_semantics (number32 words (at + 72)) ≡ true = ap is_semantics (meaning_read draft s d i (at + 72) row here (ap (λ n. n + 72) e)) ∙ meaning_known row.semantics in
-    let serial : serial_leads words (number32 words (at + 80)) ≡ true = ap (serial_leads words) (metric_serial_read draft s d i (at + 80) row here (ap (λ n. n + 80) e)) ∙ leads_serial draft s few d row.serial is.domain in
-    let short : help_leads words (at + 88) ≡ true = help_good draft s few row.short (at + 88) helps.0 (word_read words (metrics_from draft s + 13 * i + 8) 3 (at + 88) (fields_of draft s row) (stand_fields draft s i row here) (omega arith) (omega arith)) in
-    let long : help_leads words (at + 96) ≡ true = help_good draft s few row.long (at + 96) helps.1 (word_read words (metrics_from draft s + 13 * i + 8) 4 (at + 96) (fields_of draft s row) (stand_fields draft s i row here) (omega arith) (omega arith)) in
-    let item : is_item (number32 words (at + 64)) ≡ true = ap is_item (item_read draft s d i (at + 64) row here (ap (λ n. n + 64) e)) ∙ at_most row.item is.item in
+    let kind : is_kind (number32 words (type_offset_in_metric at)) ≡ true = ap is_kind (kind_read draft s d i (type_offset_in_metric at) row here (ap type_offset_in_metric e)) ∙ kind_known row.kind in
+    let meaning : is_semantics (number32 words (semantics_offset_in_metric at)) ≡ true = ap is_semantics (meaning_read draft s d i (semantics_offset_in_metric at) row here (ap semantics_offset_in_metric e)) ∙ meaning_known row.semantics in
+    let serial : serial_leads words (number32 words (serial_offset_in_metric at)) ≡ true = ap (serial_leads words) (metric_serial_read draft s d i (serial_offset_in_metric at) row here (ap serial_offset_in_metric e)) ∙ leads_serial draft s few d row.serial is.domain in
+    let short : help_leads words (short_offset_in_metric at) ≡ true = help_good draft s few row.short (short_offset_in_metric at) helps.0 (word_read words (metrics_from draft s + metric_length * i + name_length) 3 (short_offset_in_metric at) (fields_of draft s row) (stand_fields draft s i row here) (omega arith) (omega arith)) in
+    let long : help_leads words (long_offset_in_metric at) ≡ true = help_good draft s few row.long (long_offset_in_metric at) helps.1 (word_read words (metrics_from draft s + metric_length * i + name_length) 4 (long_offset_in_metric at) (fields_of draft s row) (stand_fields draft s i row here) (omega arith) (omega arith)) in
+    let item : is_item (number32 words (item_offset_in_metric at)) ≡ true = ap is_item (item_read draft s d i (item_offset_in_metric at) row here (ap item_offset_in_metric e)) ∙ at_most row.item is.item in
     ap₂ (λ a b. a && b) (ap₂ (λ a b. a && b) (ap₂ (λ a b. a && b) (ap₂ (λ a b. a && b) (ap₂ (λ a b. a && b) kind meaning) serial) short) long) item
 
 new_metric : (draft : Layout) (s : List (List ℕ)) → words_in (counts_of draft s) ≤ 65536 → IsDraft draft → (i : ℕ) (row : MetricRow) → slice_get draft.metrics i ≡ Some row → is_new_metric (spelled draft s) i ≡ true
@@ -160,18 +162,18 @@ unfolding is_new_metric is_same_metric same_name
 new_metric draft s few d i row here =
     let words : List ℕ = spelled draft s in
     let below : i < length draft.metrics = get_below draft.metrics i row here in
-    let place : metric_at words i ≡ 8 * (metrics_from draft s + 13 * i) = metric_is draft s few i below in
-    all_hold i (λ j. not (nat_eq (number32 words (metric_at words j + 64)) (number32 words (metric_at words i + 64)) || bytes_eq (text_at words (metric_at words j) 64) (text_at words (metric_at words i) 64))) (λ j less.
+    let place : metric_at words i ≡ 8 * (metrics_from draft s + metric_length * i) = metric_is draft s few i below in
+    all_hold i (λ j. not (nat_eq (number32 words (item_offset_in_metric (metric_at words j))) (number32 words (item_offset_in_metric (metric_at words i))) || bytes_eq (text_at words (metric_at words j) 64) (text_at words (metric_at words i) 64))) (λ j less.
     let (other, there) = get_some draft.metrics j (omega arith) in
-    let at : metric_at words j ≡ 8 * (metrics_from draft s + 13 * j) = metric_is draft s few j (omega arith) in
-    ap not (ap₂ (λ a b. a || b) (ap₂ nat_eq (item_read draft s d j (metric_at words j + 64) other there (ap (λ n. n + 64) at)) (item_read draft s d i (metric_at words i + 64) row here (ap (λ n. n + 64) place)))
+    let at : metric_at words j ≡ 8 * (metrics_from draft s + metric_length * j) = metric_is draft s few j (omega arith) in
+    ap not (ap₂ (λ a b. a || b) (ap₂ nat_eq (item_read draft s d j (item_offset_in_metric (metric_at words j)) other there (ap item_offset_in_metric at)) (item_read draft s d i (item_offset_in_metric (metric_at words i)) row here (ap item_offset_in_metric place)))
     (ap₂ bytes_eq (name_read draft s d j (metric_at words j) other there at) (name_read draft s d i (metric_at words i) row here place)) ∙ d.items j i other row less there here))
 
 good_metric : (draft : Layout) (s : List (List ℕ)) → words_in (counts_of draft s) ≤ 65536 → IsDraft draft → Each (λ row. HasHelp s row.short × HasHelp s row.long) draft.metrics → (i : ℕ) → i < length draft.metrics → is_good_metric (spelled draft s) i ≡ true
 unfolding is_good_metric
 good_metric draft s few d helps i below =
     let (row, here) = get_some draft.metrics i below in
-    let place : metric_at (spelled draft s) i ≡ 8 * (metrics_from draft s + 13 * i) = metric_is draft s few i below in
+    let place : metric_at (spelled draft s) i ≡ 8 * (metrics_from draft s + metric_length * i) = metric_is draft s few i below in
     ap₂ (λ a b. a && b) (ap₂ (λ a b. a && b) (good_name draft s d i (metric_at (spelled draft s) i) row here place) (good_fields draft s few d i (metric_at (spelled draft s) i) row here (helps i row here) place)) (new_metric draft s few d i row here)
 
 pub good_metrics : (draft : Layout) (s : List (List ℕ)) → words_in (counts_of draft s) ≤ 65536 → IsDraft draft → Each (λ row. HasHelp s row.short × HasHelp s row.long) draft.metrics → metrics_are_good (spelled draft s) ≡ true
@@ -189,7 +191,7 @@ unfolding is_good_string
 good_string draft s few short i below =
     let (text, here) = get_some s i below in
     let is : IsString text = short i text here in
-    zero_read (spelled draft s) (strings_from draft s + 32 * i) 32 (string_at (spelled draft s) i) text (stand_string draft s i text here) is.stored (string_is draft s few i below) (fits_string (length text) is.short)
+    zero_read (spelled draft s) (strings_from draft s + string_length * i) string_length (string_at (spelled draft s) i) text (stand_string draft s i text here) is.stored (string_is draft s few i below) (fits_string (length text) is.short)
 
 pub good_strings : (draft : Layout) (s : List (List ℕ)) → words_in (counts_of draft s) ≤ 65536 → Each IsString s → strings_are_good (spelled draft s) ≡ true
 unfolding strings_are_good

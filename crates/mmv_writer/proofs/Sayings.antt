@@ -36,6 +36,9 @@ use Rattle.mmv_writer.proofs.Marks.{instance_is, metric_is, string_is, stand_dom
 use Rattle.mmv_writer.proofs.DomainTests.{name_from, number_read, short_name}
 use Rattle.mmv_writer.proofs.MetricTests.{fields_of, stand_fields, meaning_fits, item_read, kind_read, meaning_read, metric_serial_read, name_read, fits_string}
 use Rattle.mmv_writer.proofs.ValueTests.{metric_index, metric_found, domain_found, index_in, member_found, metric_field, extra_read, instance_read, one_at_least, same_int}
+use Rattle.mmv_format.specs.Sizes.{indom_size, instance_size, metric_size, value_size, string_size}
+use Rattle.mmv_format.specs.EntryFields.{item_offset_in_metric, type_offset_in_metric, semantics_offset_in_metric, units_offset_in_metric, serial_offset_in_metric, short_offset_in_metric, long_offset_in_metric}
+use Rattle.mmv_spelling.specs.Places.{name_length, indom_length, instance_length, metric_length, value_length, string_length}
 
 -- Rows one after the other
 
@@ -65,9 +68,9 @@ string_said draft s few short text place has e =
     let below : position_or_len (λ other. bytes_eq other text) s < length s = get_below s (position_or_len (λ other. bytes_eq other text) s) p.row p.at in
     let same : p.row ≡ text = same_bytes p.row text p.is in
     let is : IsString p.row = short (position_or_len (λ other. bytes_eq other text) s) p.row p.at in
-    let at : string_at (spelled draft s) (position_or_len (λ other. bytes_eq other text) s) ≡ 8 * (strings_from draft s + 32 * position_or_len (λ other. bytes_eq other text) s) = string_is draft s few (position_or_len (λ other. bytes_eq other text) s) below in (
+    let at : string_at (spelled draft s) (position_or_len (λ other. bytes_eq other text) s) ≡ 8 * (strings_from draft s + string_length * position_or_len (λ other. bytes_eq other text) s) = string_is draft s few (position_or_len (λ other. bytes_eq other text) s) below in (
       (position_or_len (λ other. bytes_eq other text) s, subst (λ n. position_or_len (λ other. bytes_eq other text) s < n) (sym (find_strings draft s few).count) below, omega arith),
-      sym same ∙ sym (text_read (spelled draft s) (strings_from draft s + 32 * position_or_len (λ other. bytes_eq other text) s) 32 place p.row (stand_string draft s (position_or_len (λ other. bytes_eq other text) s) p.row p.at) is.stored (omega arith) (fits_string (length p.row) is.short)),
+      sym same ∙ sym (text_read (spelled draft s) (strings_from draft s + string_length * position_or_len (λ other. bytes_eq other text) s) string_length place p.row (stand_string draft s (position_or_len (λ other. bytes_eq other text) s) p.row p.at) is.stored (omega arith) (fits_string (length p.row) is.short)),
     )
 
 help_said : (draft : Layout) (s : List (List ℕ)) → words_in (counts_of draft s) ≤ 65536 → Each IsString s → (help : Option (List ℕ)) (field : ℕ) → HasHelp s help → number64 (spelled draft s) field ≡ help_place (places draft s) s help → HelpAt (spelled draft s) field help
@@ -80,24 +83,24 @@ help_said draft s few short (Some text) field has e =
 signed_small : (n : ℕ) → n < 2147483648 → cast_signed w32 n ≡ pos n
 signed_small n h = to_z-of_z w32 (pos n) (record { sfits = h })
 
-instance_said : (draft : Layout) (s : List (List ℕ)) → IsDraft draft → (i k at : ℕ) (row : IndomRow) (instance : ℤ × List ℕ) → slice_get draft.indoms i ≡ Some row → slice_get row.instances k ≡ Some instance → at ≡ 8 * (instances_from draft s + 10 * (instances_in (take i draft.indoms) + k)) → InstanceAt (spelled draft s) at instance
+instance_said : (draft : Layout) (s : List (List ℕ)) → IsDraft draft → (i k at : ℕ) (row : IndomRow) (instance : ℤ × List ℕ) → slice_get draft.indoms i ≡ Some row → slice_get row.instances k ≡ Some instance → at ≡ 8 * (instances_from draft s + instance_length * (instances_in (take i draft.indoms) + k)) → InstanceAt (spelled draft s) at instance
 instance_said draft s d i k at row instance here within e =
     let is : IsInstance instance = (d.domains i row here).instances k instance within in (
       is.number.1 ∙ sym (ap (cast_signed w32) (number_read draft s d i k (at + 12) is.number.0 row instance here within is.number.1 is.number.2 (ap (λ n. n + 12) e)) ∙ signed_small is.number.0 is.number.2),
-      sym (text_read (spelled draft s) (instances_from draft s + 10 * (instances_in (take i draft.indoms) + k) + 2) 8 (at + 16) instance.1 (name_from draft s i k row instance here within) is.stored (omega arith) (short_name (length instance.1) is.name).1),
+      sym (text_read (spelled draft s) (instances_from draft s + instance_length * (instances_in (take i draft.indoms) + k) + 2) name_length (at + 16) instance.1 (name_from draft s i k row instance here within) is.stored (omega arith) (short_name (length instance.1) is.name).1),
     )
 
-indom_said : (draft : Layout) (s : List (List ℕ)) → words_in (counts_of draft s) ≤ 65536 → IsDraft draft → Each IsString s → (i at : ℕ) (row : IndomRow) → slice_get draft.indoms i ≡ Some row → HasHelp s row.short × HasHelp s row.long → at ≡ 8 * (domains_from draft s + 4 * i) → IndomAt (spelled draft s) at row
+indom_said : (draft : Layout) (s : List (List ℕ)) → words_in (counts_of draft s) ≤ 65536 → IsDraft draft → Each IsString s → (i at : ℕ) (row : IndomRow) → slice_get draft.indoms i ≡ Some row → HasHelp s row.short × HasHelp s row.long → at ≡ 8 * (domains_from draft s + indom_length * i) → IndomAt (spelled draft s) at row
 unfolding domain_words
 indom_said draft s few d short i at row here helps e = record {
   serial = sym (serial_read draft s few d i at row here e);
   count = sym (run_read draft s few d i (at + 4) row here (ap (λ n. n + 4) e));
-  instances = each_at (InstanceAt (spelled draft s)) (number64 (spelled draft s) (at + 8)) 80 row.instances (λ k instance place within p.
+  instances = each_at (InstanceAt (spelled draft s)) (number64 (spelled draft s) (at + 8)) instance_size row.instances (λ k instance place within p.
       let inside : k < length row.instances = get_below row.instances k instance within in
-      let first : number64 (spelled draft s) (at + 8) ≡ (places draft s).instances + 80 * instances_in (take i draft.indoms) = first_read draft s i (at + 8) row here (ap (λ n. n + 8) e) ∙ first_is draft s d i row here (omega arith) in
+      let first : number64 (spelled draft s) (at + 8) ≡ (places draft s).instances + instance_size * instances_in (take i draft.indoms) = first_read draft s i (at + 8) row here (ap (λ n. n + 8) e) ∙ first_is draft s d i row here (omega arith) in
       instance_said draft s d i k place row instance here within (omega arith));
-  short = help_said draft s few short row.short (at + 16) helps.0 (word_read (spelled draft s) (domains_from draft s + 4 * i) 2 (at + 16) (domain_words (places draft s) s draft.indoms row) (stand_domain draft s i row here) (omega arith) (omega arith));
-  long = help_said draft s few short row.long (at + 24) helps.1 (word_read (spelled draft s) (domains_from draft s + 4 * i) 3 (at + 24) (domain_words (places draft s) s draft.indoms row) (stand_domain draft s i row here) (omega arith) (omega arith));
+  short = help_said draft s few short row.short (at + 16) helps.0 (word_read (spelled draft s) (domains_from draft s + indom_length * i) 2 (at + 16) (domain_words (places draft s) s draft.indoms row) (stand_domain draft s i row here) (omega arith) (omega arith));
+  long = help_said draft s few short row.long (at + 24) helps.1 (word_read (spelled draft s) (domains_from draft s + indom_length * i) 3 (at + 24) (domain_words (places draft s) s draft.indoms row) (stand_domain draft s i row here) (omega arith) (omega arith));
 }
 
 -- Metrics
@@ -111,20 +114,20 @@ serial_said draft d (Some serial) found there e =
     let same : p.row.serial ≡ serial = eqb-true p.row.serial serial p.is in
     ((λ z. let no : found ≡ 0 = z in absurd (omega arith), λ z. let no : found ≡ 4294967295 = z in absurd (omega arith)), sym e)
 
-metric_said : (draft : Layout) (s : List (List ℕ)) → words_in (counts_of draft s) ≤ 65536 → IsDraft draft → Each IsString s → (i at : ℕ) (row : MetricRow) → slice_get draft.metrics i ≡ Some row → HasHelp s row.short × HasHelp s row.long → at ≡ 8 * (metrics_from draft s + 13 * i) → MetricAt (spelled draft s) at row
+metric_said : (draft : Layout) (s : List (List ℕ)) → words_in (counts_of draft s) ≤ 65536 → IsDraft draft → Each IsString s → (i at : ℕ) (row : MetricRow) → slice_get draft.metrics i ≡ Some row → HasHelp s row.short × HasHelp s row.long → at ≡ 8 * (metrics_from draft s + metric_length * i) → MetricAt (spelled draft s) at row
 metric_said draft s few d short i at row here helps e =
     let is : IsMetric draft.indoms row = d.metrics i row here in
     let meaning : code_of_semantics row.semantics < 5 = meaning_fits row.semantics in
     let units : row.units < 4294967296 = is.units in
     record {
       name = sym (name_read draft s d i at row here e);
-      item = sym (item_read draft s d i (at + 64) row here (ap (λ n. n + 64) e));
-      kind = sym (kind_read draft s d i (at + 68) row here (ap (λ n. n + 68) e));
-      semantics = sym (meaning_read draft s d i (at + 72) row here (ap (λ n. n + 72) e));
-      units = sym (high_read (spelled draft s) (metrics_from draft s + 13 * i + 8) 1 (at + 76) (fields_of draft s row) (code_of_semantics row.semantics) row.units (stand_fields draft s i row here) (omega arith) (omega arith) refl (omega arith) units);
-      serial = serial_said draft d row.serial (number32 (spelled draft s) (at + 80)) is.domain (metric_serial_read draft s d i (at + 80) row here (ap (λ n. n + 80) e));
-      short = help_said draft s few short row.short (at + 88) helps.0 (word_read (spelled draft s) (metrics_from draft s + 13 * i + 8) 3 (at + 88) (fields_of draft s row) (stand_fields draft s i row here) (omega arith) (omega arith));
-      long = help_said draft s few short row.long (at + 96) helps.1 (word_read (spelled draft s) (metrics_from draft s + 13 * i + 8) 4 (at + 96) (fields_of draft s row) (stand_fields draft s i row here) (omega arith) (omega arith));
+      item = sym (item_read draft s d i (item_offset_in_metric at) row here (ap item_offset_in_metric e));
+      kind = sym (kind_read draft s d i (type_offset_in_metric at) row here (ap type_offset_in_metric e));
+      semantics = sym (meaning_read draft s d i (semantics_offset_in_metric at) row here (ap semantics_offset_in_metric e));
+      units = sym (high_read (spelled draft s) (metrics_from draft s + metric_length * i + name_length) 1 (units_offset_in_metric at) (fields_of draft s row) (code_of_semantics row.semantics) row.units (stand_fields draft s i row here) (omega arith) (omega arith) refl (omega arith) units);
+      serial = serial_said draft d row.serial (number32 (spelled draft s) (serial_offset_in_metric at)) is.domain (metric_serial_read draft s d i (serial_offset_in_metric at) row here (ap serial_offset_in_metric e));
+      short = help_said draft s few short row.short (short_offset_in_metric at) helps.0 (word_read (spelled draft s) (metrics_from draft s + metric_length * i + name_length) 3 (short_offset_in_metric at) (fields_of draft s row) (stand_fields draft s i row here) (omega arith) (omega arith));
+      long = help_said draft s few short row.long (long_offset_in_metric at) helps.1 (word_read (spelled draft s) (metrics_from draft s + metric_length * i + name_length) 4 (long_offset_in_metric at) (fields_of draft s row) (stand_fields draft s i row here) (omega arith) (omega arith));
     }
 
 -- Values
@@ -139,10 +142,10 @@ number_said draft s few d (Some serial) (Some id) value there fits word is =
     let q : Passes p.row.instances (index_in p.row id) (λ other. int_eq other.0 id) = first_passes (λ other. int_eq other.0 id) p.row.instances (both_right (nat_eq p.row.serial serial) (list_any (λ other. int_eq other.0 id) p.row.instances) p.is) in
     let inside : index_in p.row id < length p.row.instances = get_below p.row.instances (index_in p.row id) q.row q.at in
     let all : instances_in (take (domain_of draft.indoms serial) draft.indoms) + length p.row.instances ≤ instances_in draft.indoms = before_this draft.indoms (domain_of draft.indoms serial) p.row p.at in
-    let q_at : number64 words (value + 24) ≡ (places draft s).instances + 80 * (instances_in (take (domain_of draft.indoms serial) draft.indoms) + index_in p.row id) =
-    is ∙ ap (λ k. (places draft s).instances + 80 * (instances_in (take (domain_of draft.indoms serial) draft.indoms) + k)) (member_found draft serial id p.row p.at) in
+    let q_at : number64 words (value + 24) ≡ (places draft s).instances + instance_size * (instances_in (take (domain_of draft.indoms serial) draft.indoms) + index_in p.row id) =
+    is ∙ ap (λ k. (places draft s).instances + instance_size * (instances_in (take (domain_of draft.indoms serial) draft.indoms) + k)) (member_found draft serial id p.row p.at) in
     let index : ℕ = instances_in (take (domain_of draft.indoms serial) draft.indoms) + index_in p.row id in
-    let at : instance_at words (instances_in (take (domain_of draft.indoms serial) draft.indoms) + index_in p.row id) ≡ 8 * (instances_from draft s + 10 * (instances_in (take (domain_of draft.indoms serial) draft.indoms) + index_in p.row id)) =
+    let at : instance_at words (instances_in (take (domain_of draft.indoms serial) draft.indoms) + index_in p.row id) ≡ 8 * (instances_from draft s + instance_length * (instances_in (take (domain_of draft.indoms serial) draft.indoms) + index_in p.row id)) =
     instance_is draft s few (instances_in (take (domain_of draft.indoms serial) draft.indoms) + index_in p.row id) (omega arith) in
     let said : InstanceAt words (number64 words (value + 24)) q.row = instance_said draft s d (domain_of draft.indoms serial) (index_in p.row id) (number64 words (value + 24)) p.row q.row p.at q.at (omega arith) in (
       (serial_said draft d (Some serial) (rows.domain_of words value) there word).0,
@@ -169,7 +172,7 @@ content_said draft s few short (Choice text) kind value fits has code is more = 
 content_said draft s few short (Raw v e) kind value fits has code is more =
     (subst (λ c. (c ≡ 4) ⊎ (c ≡ 5) ⊎ (c ≡ 9)) (sym code) (raw_kind kind fits), sym is, sym more)
 
-value_said : (draft : Layout) (s : List (List ℕ)) → words_in (counts_of draft s) ≤ 65536 → IsDraft draft → Each IsString s → (i at : ℕ) (row : ValueRow) → slice_get draft.values i ≡ Some row → HasContent s row.content → at ≡ 8 * (values_from draft s + 4 * i) → ValueAt (spelled draft s) at row
+value_said : (draft : Layout) (s : List (List ℕ)) → words_in (counts_of draft s) ≤ 65536 → IsDraft draft → Each IsString s → (i at : ℕ) (row : ValueRow) → slice_get draft.values i ≡ Some row → HasContent s row.content → at ≡ 8 * (values_from draft s + value_length * i) → ValueAt (spelled draft s) at row
 unfolding metric_of value_words
 value_said draft s few d short i at row here has e =
     let words : List ℕ = spelled draft s in
@@ -177,23 +180,23 @@ value_said draft s few d short i at row here has e =
     let fits : (fits_instance draft.indoms p.row.serial row.instance && fits_kind p.row.kind row.content) ≡ true = both_right (nat_eq p.row.item row.item) (fits_instance draft.indoms p.row.serial row.instance && fits_kind p.row.kind row.content) p.is in
     let item : p.row.item ≡ row.item = eqb-true p.row.item row.item (both_left (nat_eq p.row.item row.item) (fits_instance draft.indoms p.row.serial row.instance && fits_kind p.row.kind row.content) p.is) in
     let inside : metric_index draft row.item < length draft.metrics = get_below draft.metrics (metric_index draft row.item) p.row p.at in
-    let metric : number64 words (at + 16) ≡ (places draft s).metrics + 104 * metric_index draft row.item = metric_field draft s i (at + 16) row here (ap (λ n. n + 16) e) in
-    let place : metric_at words (metric_index draft row.item) ≡ 8 * (metrics_from draft s + 13 * metric_index draft row.item) = metric_is draft s few (metric_index draft row.item) inside in
+    let metric : number64 words (at + 16) ≡ (places draft s).metrics + metric_size * metric_index draft row.item = metric_field draft s i (at + 16) row here (ap (λ n. n + 16) e) in
+    let place : metric_at words (metric_index draft row.item) ≡ 8 * (metrics_from draft s + metric_length * metric_index draft row.item) = metric_is draft s few (metric_index draft row.item) inside in
     record {
       metric = (metric_index draft row.item, subst (λ n. metric_index draft row.item < n) (sym (find_metrics draft s few).count) inside, omega arith);
-      item = sym item ∙ sym (item_read draft s d (metric_index draft row.item) (number64 words (at + 16) + 64) p.row p.at (omega arith));
+      item = sym item ∙ sym (item_read draft s d (metric_index draft row.item) (item_offset_in_metric (number64 words (at + 16))) p.row p.at (omega arith));
       instance = number_said draft s few d p.row.serial row.instance at (d.metrics (metric_index draft row.item) p.row p.at).domain (both_left (fits_instance draft.indoms p.row.serial row.instance) (fits_kind p.row.kind row.content) fits)
-          (metric_serial_read draft s d (metric_index draft row.item) (number64 words (at + 16) + 80) p.row p.at (omega arith)) (instance_read draft s i (at + 24) row p.row here p.at (ap (λ n. n + 24) e));
+          (metric_serial_read draft s d (metric_index draft row.item) (serial_offset_in_metric (number64 words (at + 16))) p.row p.at (omega arith)) (instance_read draft s i (at + 24) row p.row here p.at (ap (λ n. n + 24) e));
       content = content_said draft s few short row.content p.row.kind at (both_right (fits_instance draft.indoms p.row.serial row.instance) (fits_kind p.row.kind row.content) fits) has
-          (kind_read draft s d (metric_index draft row.item) (number64 words (at + 16) + 68) p.row p.at (omega arith))
-          (word_read words (values_from draft s + 4 * i) 0 at (value_words (places draft s) s draft.indoms draft.metrics row) (stand_value draft s i row here) (omega arith) (omega arith))
+          (kind_read draft s d (metric_index draft row.item) (type_offset_in_metric (number64 words (at + 16))) p.row p.at (omega arith))
+          (word_read words (values_from draft s + value_length * i) 0 at (value_words (places draft s) s draft.indoms draft.metrics row) (stand_value draft s i row here) (omega arith) (omega arith))
           (extra_read draft s i (at + 8) row here (ap (λ n. n + 8) e));
     }
 
-text_said : (draft : Layout) (s : List (List ℕ)) → Each IsString s → (i at : ℕ) (text : List ℕ) → slice_get s i ≡ Some text → at ≡ 8 * (strings_from draft s + 32 * i) → TextAt (spelled draft s) at text
+text_said : (draft : Layout) (s : List (List ℕ)) → Each IsString s → (i at : ℕ) (text : List ℕ) → slice_get s i ≡ Some text → at ≡ 8 * (strings_from draft s + string_length * i) → TextAt (spelled draft s) at text
 text_said draft s short i at text here e =
     let is : IsString text = short i text here in
-    sym (text_read (spelled draft s) (strings_from draft s + 32 * i) 32 at text (stand_string draft s i text here) is.stored e (fits_string (length text) is.short))
+    sym (text_read (spelled draft s) (strings_from draft s + string_length * i) string_length at text (stand_string draft s i text here) is.stored e (fits_string (length text) is.short))
 
 -- The whole
 
@@ -216,13 +219,13 @@ said draft d few =
       flags = sym (high_read words 0 3 28 (header_words draft (sections_in (counts_of draft (all_strings draft)))) (sections_in (counts_of draft (all_strings draft))) draft.flags (stand_header draft (all_strings draft)) (omega arith) refl refl (omega arith) flags);
       pid = sym (low_read words 0 4 32 (header_words draft (sections_in (counts_of draft (all_strings draft)))) draft.pid draft.cluster (stand_header draft (all_strings draft)) (omega arith) refl refl process);
       cluster = sym (high_read words 0 4 36 (header_words draft (sections_in (counts_of draft (all_strings draft)))) draft.pid draft.cluster (stand_header draft (all_strings draft)) (omega arith) refl refl process (omega arith));
-      indoms = in_section (IndomAt words) (section_of words 1) (length draft.indoms) (places draft (all_strings draft)).indoms 32 draft.indoms (find_indoms draft (all_strings draft) few) refl
+      indoms = in_section (IndomAt words) (section_of words 1) (length draft.indoms) (places draft (all_strings draft)).indoms indom_size draft.indoms (find_indoms draft (all_strings draft) few) refl
           (λ i row place here e. indom_said draft (all_strings draft) few d short i place row here (domain_helps draft i row here) (omega arith));
-      metrics = in_section (MetricAt words) (section_of words 3) (length draft.metrics) (places draft (all_strings draft)).metrics 104 draft.metrics (find_metrics draft (all_strings draft) few) refl
+      metrics = in_section (MetricAt words) (section_of words 3) (length draft.metrics) (places draft (all_strings draft)).metrics metric_size draft.metrics (find_metrics draft (all_strings draft) few) refl
           (λ i row place here e. metric_said draft (all_strings draft) few d short i place row here (metric_helps draft i row here) (omega arith));
-      values = in_section (ValueAt words) (section_of words 4) (length draft.values) (places draft (all_strings draft)).values 32 draft.values (find_values draft (all_strings draft) few) refl
+      values = in_section (ValueAt words) (section_of words 4) (length draft.values) (places draft (all_strings draft)).values value_size draft.values (find_values draft (all_strings draft) few) refl
           (λ i row place here e. value_said draft (all_strings draft) few d short i place row here (value_texts draft i row here) (omega arith));
-      strings = in_section (TextAt words) (section_of words 5) (length (all_strings draft)) (places draft (all_strings draft)).strings 256 (all_strings draft) (find_strings draft (all_strings draft) few) refl
+      strings = in_section (TextAt words) (section_of words 5) (length (all_strings draft)) (places draft (all_strings draft)).strings string_size (all_strings draft) (find_strings draft (all_strings draft) few) refl
           (λ i text place here e. text_said draft (all_strings draft) short i place text here (omega arith));
     }
 

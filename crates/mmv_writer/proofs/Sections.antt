@@ -8,6 +8,7 @@ use Rattle.mmv_format.specs.Contents.{bytes_in, contents_in, type_in, count_in, 
 use Rattle.mmv_format.specs.declared.contents.Section.{Section}
 use Rattle.mmv_spelling.specs.Spelling.{halves}
 use Rattle.mmv_writer.proofs.Rows.{get_below}
+use Rattle.mmv_format.specs.Sizes.{indom_size, instance_size, metric_size, value_size, string_size}
 
 -- a contents entry: type, count and place
 pub record Entry : Type 0 where
@@ -51,7 +52,7 @@ bytes_none : (t : ℕ) → section_bytes t 0 ≡ 0
 unfolding section_bytes
 bytes_none t = here (nat_eq t 1) (nat_eq t 2) (nat_eq t 3) (nat_eq t 4) (nat_eq t 5)
   where
-    here : (a b c d e : Bool) → cond a (32 * 0) (cond b (80 * 0) (cond c (104 * 0) (cond d (32 * 0) (cond e (256 * 0) 0)))) ≡ 0
+    here : (a b c d e : Bool) → cond a (indom_size * 0) (cond b (instance_size * 0) (cond c (metric_size * 0) (cond d (value_size * 0) (cond e (string_size * 0) 0)))) ≡ 0
     here true b c d e = refl
     here false true c d e = refl
     here false false true d e = refl

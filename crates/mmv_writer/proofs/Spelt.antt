@@ -13,6 +13,8 @@ use Rattle.mmv_spelling.specs.Spelling.{halves, header_words, entry_words, conte
 use Rattle.mmv_spelling.proofs.Lengths.{length_header, length_contents, length_domains, length_instances, length_metrics, length_values, length_spelled, sections_most}
 use Rattle.mmv_writer.proofs.Standing.{Stands, stands_whole, stands_left, stands_right, stands_entry, word_read, low_read, high_read}
 use Rattle.mmv_writer.proofs.Sections.{Entry, kept, words_of_entry, IsEntry, Laid, laid_kept, laid_at, Reads, pick, pick_skip, pick_hit, section_is, good_sections, aligned_sections}
+use Rattle.mmv_format.specs.Sizes.{string_size}
+use Rattle.mmv_spelling.specs.Places.{indom_length, instance_length, metric_length, value_length}
 
 -- The words at which the sections begin
 
@@ -20,16 +22,16 @@ abbrev pub domains_from : Layout → List (List ℕ) → ℕ
 domains_from draft s = 5 + 2 * sections_in (counts_of draft s)
 
 abbrev pub instances_from : Layout → List (List ℕ) → ℕ
-instances_from draft s = domains_from draft s + 4 * length draft.indoms
+instances_from draft s = domains_from draft s + indom_length * length draft.indoms
 
 abbrev pub metrics_from : Layout → List (List ℕ) → ℕ
-metrics_from draft s = instances_from draft s + 10 * instances_in draft.indoms
+metrics_from draft s = instances_from draft s + instance_length * instances_in draft.indoms
 
 abbrev pub values_from : Layout → List (List ℕ) → ℕ
-values_from draft s = metrics_from draft s + 13 * length draft.metrics
+values_from draft s = metrics_from draft s + metric_length * length draft.metrics
 
 abbrev pub strings_from : Layout → List (List ℕ) → ℕ
-strings_from draft s = values_from draft s + 4 * length draft.values
+strings_from draft s = values_from draft s + value_length * length draft.values
 
 abbrev pub places : Layout → List (List ℕ) → Places
 places draft s = places_of (counts_of draft s)
@@ -136,7 +138,7 @@ entries_laid c few =
     (laid_kept 2 (places_of c).instances (places_of c).metrics (8 * words_in c) c.instances _ (omega arith) (omega arith) (omega arith) refl
     (laid_kept 3 (places_of c).metrics (places_of c).values (8 * words_in c) c.metrics _ (omega arith) (omega arith) (omega arith) refl
     (laid_kept 4 (places_of c).values (places_of c).strings (8 * words_in c) c.values _ (omega arith) (omega arith) (omega arith) refl
-    (laid_kept 5 (places_of c).strings ((places_of c).strings + 256 * c.strings) (8 * words_in c) c.strings [] (omega arith) (omega arith) (omega arith) refl (omega arith)))))
+    (laid_kept 5 (places_of c).strings ((places_of c).strings + string_size * c.strings) (8 * words_in c) c.strings [] (omega arith) (omega arith) (omega arith) refl (omega arith)))))
 
 contents_stand : (draft : Layout) (s : List (List ℕ)) → Stands (spelled draft s) 5 (flat_map words_of_entry (entries (counts_of draft s) (places draft s)))
 contents_stand draft s = subst (λ part. Stands (spelled draft s) 5 part) (contents_are (counts_of draft s) (places draft s)) (stand_contents draft s)

@@ -28,6 +28,9 @@ use Rattle.mmv_spelling.proofs.Positions.{Passes, first_passes, position_is, fin
 use Rattle.mmv_writer.proofs.Spelt.{values_from, places, find_values}
 use Rattle.mmv_writer.proofs.Marks.{value_is, instance_leads_to, metric_leads, string_leads, stand_value, serial_fits, serial_read, owner_read}
 use Rattle.mmv_writer.proofs.MetricTests.{kind_read, metric_serial_read}
+use Rattle.mmv_format.specs.Sizes.{indom_size, instance_size, metric_size}
+use Rattle.mmv_format.specs.EntryFields.{type_offset_in_metric, serial_offset_in_metric}
+use Rattle.mmv_spelling.specs.Places.{value_length}
 
 -- where keys differ, the first row with a key is the one that some row with it is
 pub only_one : {T : Type 0} (key : T → ℕ) (rest : T → Bool) (n : ℕ) (xs : List T) → ((i j : ℕ) (a b : T) → i < j → slice_get xs i ≡ Some a → slice_get xs j ≡ Some b → nat_eq (key a) (key b) ≡ false) → list_any (λ x. nat_eq (key x) n && rest x) xs ≡ true → Passes xs (position_or_len (λ x. nat_eq (key x) n) xs) (λ x. nat_eq (key x) n && rest x)
@@ -92,9 +95,9 @@ instance_good draft s few d (Some serial) (Some id) field shown fits is word =
     let inside : index_in p.row id < length p.row.instances = get_below p.row.instances (index_in p.row id) q.row q.at in
     let below : domain_of draft.indoms serial < length draft.indoms = get_below draft.indoms (domain_of draft.indoms serial) p.row p.at in
     let all : instances_in (take (domain_of draft.indoms serial) draft.indoms) + length p.row.instances ≤ instances_in draft.indoms = before_this draft.indoms (domain_of draft.indoms serial) p.row p.at in
-    let place : field ≡ (places draft s).instances + 80 * (instances_in (take (domain_of draft.indoms serial) draft.indoms) + index_in p.row id) =
-    is ∙ ap (λ k. (places draft s).instances + 80 * (instances_in (take (domain_of draft.indoms serial) draft.indoms) + k)) (member_found draft serial id p.row p.at) in
-    let owner : number64 words field ≡ (places draft s).indoms + 32 * domain_of draft.indoms serial = owner_read draft s d (domain_of draft.indoms serial) (index_in p.row id) field p.row q.row p.at q.at (omega arith) in
+    let place : field ≡ (places draft s).instances + instance_size * (instances_in (take (domain_of draft.indoms serial) draft.indoms) + index_in p.row id) =
+    is ∙ ap (λ k. (places draft s).instances + instance_size * (instances_in (take (domain_of draft.indoms serial) draft.indoms) + k)) (member_found draft serial id p.row p.at) in
+    let owner : number64 words field ≡ (places draft s).indoms + indom_size * domain_of draft.indoms serial = owner_read draft s d (domain_of draft.indoms serial) (index_in p.row id) field p.row q.row p.at q.at (omega arith) in
     let read : number32 words (number64 words field) ≡ p.row.serial = serial_read draft s few d (domain_of draft.indoms serial) (number64 words field) p.row p.at (omega arith) in
     let fits_serial : p.row.serial ≤ 1023 = serial_fits draft d (domain_of draft.indoms serial) p.row p.at in
     let some : 0 < p.row.serial = one_at_least p.row.serial (d.domains (domain_of draft.indoms serial) p.row p.at).serial in
@@ -123,18 +126,18 @@ choice_good draft s few (Raw value extra) kind field code fits has is shown =
 
 -- Fields of a value
 
-pub metric_field : (draft : Layout) (s : List (List ℕ)) (i at : ℕ) (row : ValueRow) → slice_get draft.values i ≡ Some row → at ≡ 8 * (values_from draft s + 4 * i) + 16 → number64 (spelled draft s) at ≡ (places draft s).metrics + 104 * metric_index draft row.item
+pub metric_field : (draft : Layout) (s : List (List ℕ)) (i at : ℕ) (row : ValueRow) → slice_get draft.values i ≡ Some row → at ≡ 8 * (values_from draft s + value_length * i) + 16 → number64 (spelled draft s) at ≡ (places draft s).metrics + metric_size * metric_index draft row.item
 unfolding value_words
-metric_field draft s i at row here e = word_read (spelled draft s) (values_from draft s + 4 * i) 2 at (value_words (places draft s) s draft.indoms draft.metrics row) (stand_value draft s i row here) (omega arith) (omega arith)
+metric_field draft s i at row here e = word_read (spelled draft s) (values_from draft s + value_length * i) 2 at (value_words (places draft s) s draft.indoms draft.metrics row) (stand_value draft s i row here) (omega arith) (omega arith)
 
-pub extra_read : (draft : Layout) (s : List (List ℕ)) (i at : ℕ) (row : ValueRow) → slice_get draft.values i ≡ Some row → at ≡ 8 * (values_from draft s + 4 * i) + 8 → number64 (spelled draft s) at ≡ extra_field (places draft s) s row.content
+pub extra_read : (draft : Layout) (s : List (List ℕ)) (i at : ℕ) (row : ValueRow) → slice_get draft.values i ≡ Some row → at ≡ 8 * (values_from draft s + value_length * i) + 8 → number64 (spelled draft s) at ≡ extra_field (places draft s) s row.content
 unfolding value_words
-extra_read draft s i at row here e = word_read (spelled draft s) (values_from draft s + 4 * i) 1 at (value_words (places draft s) s draft.indoms draft.metrics row) (stand_value draft s i row here) (omega arith) (omega arith)
+extra_read draft s i at row here e = word_read (spelled draft s) (values_from draft s + value_length * i) 1 at (value_words (places draft s) s draft.indoms draft.metrics row) (stand_value draft s i row here) (omega arith) (omega arith)
 
-pub instance_read : (draft : Layout) (s : List (List ℕ)) (i at : ℕ) (row : ValueRow) (metric : MetricRow) → slice_get draft.values i ≡ Some row → slice_get draft.metrics (metric_index draft row.item) ≡ Some metric → at ≡ 8 * (values_from draft s + 4 * i) + 24 → number64 (spelled draft s) at ≡ instance_field (places draft s) draft.indoms metric.serial row.instance
+pub instance_read : (draft : Layout) (s : List (List ℕ)) (i at : ℕ) (row : ValueRow) (metric : MetricRow) → slice_get draft.values i ≡ Some row → slice_get draft.metrics (metric_index draft row.item) ≡ Some metric → at ≡ 8 * (values_from draft s + value_length * i) + 24 → number64 (spelled draft s) at ≡ instance_field (places draft s) draft.indoms metric.serial row.instance
 unfolding value_words
 instance_read draft s i at row metric here there e =
-    word_read (spelled draft s) (values_from draft s + 4 * i) 3 at (value_words (places draft s) s draft.indoms draft.metrics row) (stand_value draft s i row here) (omega arith) (omega arith)
+    word_read (spelled draft s) (values_from draft s + value_length * i) 3 at (value_words (places draft s) s draft.indoms draft.metrics row) (stand_value draft s i row here) (omega arith) (omega arith)
     ∙ ap (λ serial. instance_field (places draft s) draft.indoms serial row.instance) (serial_found draft row.item metric there)
 
 -- Two values
@@ -161,14 +164,14 @@ fields_differ draft s d (Some serial) (Some a) (Some b) fa fb other =
     ap₂ nat_eq (ap (λ k. instance_place (places draft s) draft.indoms serial k) (member_found draft serial a p.row p.at)) (ap (λ k. instance_place (places draft s) draft.indoms serial k) (member_found draft serial b q.row q.at))
     ∙ isnt _ _ (apart (places draft s).instances (instances_in (take (domain_of draft.indoms serial) draft.indoms)) (index_in p.row a) (index_in q.row b) places_differ)
   where
-    apart : (p t a b : ℕ) → a ≢ b → p + 80 * (t + a) ≢ p + 80 * (t + b)
+    apart : (p t a b : ℕ) → a ≢ b → p + instance_size * (t + a) ≢ p + instance_size * (t + b)
     apart p t a b h e = h (omega arith)
 
 and_false : (b : Bool) → (b && false) ≡ false
 and_false true = refl
 and_false false = refl
 
-other_value : (draft : Layout) (s : List (List ℕ)) → IsDraft draft → (j i at_a at_b : ℕ) (a b : ValueRow) → slice_get draft.values j ≡ Some a → slice_get draft.values i ≡ Some b → j < i → at_a ≡ 8 * (values_from draft s + 4 * j) → at_b ≡ 8 * (values_from draft s + 4 * i) → is_same_value (spelled draft s) at_a at_b ≡ false
+other_value : (draft : Layout) (s : List (List ℕ)) → IsDraft draft → (j i at_a at_b : ℕ) (a b : ValueRow) → slice_get draft.values j ≡ Some a → slice_get draft.values i ≡ Some b → j < i → at_a ≡ 8 * (values_from draft s + value_length * j) → at_b ≡ 8 * (values_from draft s + value_length * i) → is_same_value (spelled draft s) at_a at_b ≡ false
 unfolding is_same_value
 other_value draft s d j i at_a at_b a b here_a here_b less ea eb = here (nat_eq a.item b.item) refl (d.places j i a b less here_a here_b)
   where
@@ -190,7 +193,7 @@ other_value draft s d j i at_a at_b a b here_a here_b less ea eb = here (nat_eq 
     fits_q : fits_instance draft.indoms q.row.serial b.instance ≡ true
     fits_q = both_left (fits_instance draft.indoms q.row.serial b.instance) (fits_kind q.row.kind b.content) (both_right (nat_eq q.row.item b.item) (fits_instance draft.indoms q.row.serial b.instance && fits_kind q.row.kind b.content) q.is)
 
-    apart : (p a b : ℕ) → a ≢ b → p + 104 * a ≢ p + 104 * b
+    apart : (p a b : ℕ) → a ≢ b → p + metric_size * a ≢ p + metric_size * b
     apart p a b h e = h (omega arith)
 
     here : (t : Bool) → nat_eq a.item b.item ≡ t → (t && is_same_number a.instance b.instance) ≡ false → (nat_eq (number64 (spelled draft s) (at_a + 16)) (number64 (spelled draft s) (at_b + 16)) && nat_eq (number64 (spelled draft s) (at_a + 24)) (number64 (spelled draft s) (at_b + 24))) ≡ false
@@ -214,18 +217,18 @@ unfolding is_good_value instance_leads choice_leads is_new_value metric_of
 good_value draft s few d texts i below =
     let words : List ℕ = spelled draft s in
     let (row, here) = get_some draft.values i below in
-    let place : value_at words i ≡ 8 * (values_from draft s + 4 * i) = value_is draft s few i below in
+    let place : value_at words i ≡ 8 * (values_from draft s + value_length * i) = value_is draft s few i below in
     let p : Passes draft.metrics (metric_index draft row.item) (λ metric. fits_metric draft.indoms row metric) = metric_found draft d row (d.values i row here).metric in
     let fits : (fits_instance draft.indoms p.row.serial row.instance && fits_kind p.row.kind row.content) ≡ true = both_right (nat_eq p.row.item row.item) (fits_instance draft.indoms p.row.serial row.instance && fits_kind p.row.kind row.content) p.is in
     let inside : metric_index draft row.item < length draft.metrics = get_below draft.metrics (metric_index draft row.item) p.row p.at in
-    let metric : number64 words (value_at words i + 16) ≡ (places draft s).metrics + 104 * metric_index draft row.item = metric_field draft s i (value_at words i + 16) row here (ap (λ n. n + 16) place) in
-    let kind : number32 words (number64 words (value_at words i + 16) + 68) ≡ code_of_kind p.row.kind = kind_read draft s d (metric_index draft row.item) (number64 words (value_at words i + 16) + 68) p.row p.at (omega arith) in
-    let serial : number32 words (number64 words (value_at words i + 16) + 80) ≡ serial_word p.row.serial = metric_serial_read draft s d (metric_index draft row.item) (number64 words (value_at words i + 16) + 80) p.row p.at (omega arith) in
+    let metric : number64 words (value_at words i + 16) ≡ (places draft s).metrics + metric_size * metric_index draft row.item = metric_field draft s i (value_at words i + 16) row here (ap (λ n. n + 16) place) in
+    let kind : number32 words (type_offset_in_metric (number64 words (value_at words i + 16))) ≡ code_of_kind p.row.kind = kind_read draft s d (metric_index draft row.item) (type_offset_in_metric (number64 words (value_at words i + 16))) p.row p.at (omega arith) in
+    let serial : number32 words (serial_offset_in_metric (number64 words (value_at words i + 16))) ≡ serial_word p.row.serial = metric_serial_read draft s d (metric_index draft row.item) (serial_offset_in_metric (number64 words (value_at words i + 16))) p.row p.at (omega arith) in
     ap₂ (λ a b. a && b) (ap₂ (λ a b. a && b) (ap₂ (λ a b. a && b)
     (metric_leads draft s few (metric_index draft row.item) (number64 words (value_at words i + 16)) inside metric)
-    (instance_good draft s few d p.row.serial row.instance (number64 words (value_at words i + 24)) (number32 words (number64 words (value_at words i + 16) + 80)) (both_left (fits_instance draft.indoms p.row.serial row.instance) (fits_kind p.row.kind row.content) fits)
+    (instance_good draft s few d p.row.serial row.instance (number64 words (value_at words i + 24)) (number32 words (serial_offset_in_metric (number64 words (value_at words i + 16)))) (both_left (fits_instance draft.indoms p.row.serial row.instance) (fits_kind p.row.kind row.content) fits)
     (instance_read draft s i (value_at words i + 24) row p.row here p.at (ap (λ n. n + 24) place)) serial))
-    (choice_good draft s few row.content p.row.kind (number64 words (value_at words i + 8)) (number32 words (number64 words (value_at words i + 16) + 68)) (both_right (fits_instance draft.indoms p.row.serial row.instance) (fits_kind p.row.kind row.content) fits) (texts i row here)
+    (choice_good draft s few row.content p.row.kind (number64 words (value_at words i + 8)) (number32 words (type_offset_in_metric (number64 words (value_at words i + 16)))) (both_right (fits_instance draft.indoms p.row.serial row.instance) (fits_kind p.row.kind row.content) fits) (texts i row here)
     (extra_read draft s i (value_at words i + 8) row here (ap (λ n. n + 8) place)) kind))
     (all_hold i (λ j. not (is_same_value words (value_at words j) (value_at words i))) (λ j less.
     let (other, there) = get_some draft.values j (omega arith) in
