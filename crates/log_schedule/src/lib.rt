@@ -11,6 +11,3 @@ mod stage;
 
 pub use config::{Config, ConfigError, ConfigFault, Group};
 pub use groups::Groups;
-
-#[cfg(test)]
-mod tests;

@@ -55,21 +55,3 @@ pub fn is_name(bytes: &[u8]) -> bool
     }
     !is_first
 }
-
-#[cfg(test)]
-mod tests {
-    use super::*;
-
-    #[test]
-    fn names_have_components(rt: HostRuntime) {
-        assert!(rt; is_name(b"hits") && is_name(b"mmv.app.hits") && is_name(b"a_1.B"));
-        assert!(rt; !is_name(b"") && !is_name(b".a") && !is_name(b"a.") && !is_name(b"a..b"));
-        assert!(rt; !is_name(b"1a") && !is_name(b"a.1") && !is_name(b"_a") && !is_name(b"a-b"));
-    }
-
-    #[test]
-    fn a_component_has_no_dot(rt: HostRuntime) {
-        assert!(rt; is_component(b"hits") && is_component(b"Z9_z"));
-        assert!(rt; !is_component(b"") && !is_component(b"a.b") && !is_component(b"9z"));
-    }
-}

@@ -20,6 +20,3 @@ pub use memory_disk::{Asked, Call, MemDisk};
 pub use memory_streams::{MemSink, MemSource, SureSource};
 pub use pcp_base::FileId;
 pub use streams::{ReadFault, Sink, Source, read_to_limit, write_all};
-
-#[cfg(test)]
-mod tests;

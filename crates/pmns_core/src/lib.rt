@@ -11,6 +11,3 @@ mod table;
 
 pub use fault::NamesFault;
 pub use names::Names;
-
-#[cfg(test)]
-mod tests;

@@ -6,6 +6,3 @@
 mod profile;
 
 pub use profile::{DomainPart, Profile, TooMany};
-
-#[cfg(test)]
-mod tests;

@@ -19,6 +19,3 @@ pub use reading::decode;
 pub use sizes::length;
 pub use spelling::put_payload;
 pub use writing::{encode, fits};
-
-#[cfg(test)]
-mod tests;
