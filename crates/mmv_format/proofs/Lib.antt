@@ -9,3 +9,4 @@ pub mod Nones
 pub mod Sections
 pub mod Seen
 pub mod Texts
+pub mod Told

@@ -4,7 +4,7 @@ use Rattle.std.specs.Prelude.{ℕ, ◌+◌, ◌*◌, Bool, true, not, ◌&&◌, 
 use Rattle.pcp_base.specs.Codes.{kind_of_code, semantics_of_code}
 use Rattle.pcp_base.specs.Names.{spells}
 use Rattle.mmv_format.specs.Below.{all_below, some_below}
-use Rattle.mmv_format.specs.Fields.{number32, number64, byte_at, text_at, has_zero}
+use Rattle.mmv_format.specs.Fields.{number64, byte_at, text_at, has_zero}
 use Rattle.mmv_format.specs.Sizes.{name_width, indom_size, instance_size, metric_size, value_size, string_size}
 use Rattle.mmv_format.specs.EntryFields.{same_name, serial_in_indom, count_in_indom, first_in_indom, short_offset_in_indom, long_offset_in_indom, domain_in_instance, number_in_instance, name_offset_in_instance, item_in_metric, type_in_metric, semantics_in_metric, serial_in_metric, short_offset_in_metric, long_offset_in_metric, extra_in_value, metric_in_value, instance_in_value}
 use Rattle.mmv_format.specs.Contents.{section_of}
@@ -174,13 +174,14 @@ is_good_metric words i = has_name words (metric_at words i) && has_good_fields w
 unfoldable pub metric_of : List ℕ → ℕ → ℕ
 metric_of words value = metric_in_value words value
 
--- the value at a place has the instance 0 where its metric has no domain, and else an instance of that domain. Where it
--- hasn't is the fault Reference, at its instance field
+-- the value at a place has the instance 0 where its metric has no domain, and else an instance that leads to a domain
+-- with the metric's serial. Where it hasn't is the fault Reference, at its instance field
 unfoldable pub instance_leads : List ℕ → ℕ → Bool
 instance_leads words value =
     if is_no_domain (serial_in_metric words (metric_of words value)) then instance_in_value words value == 0
     else (leads_to_instance words (instance_in_value words value)
-    && number32 words (number64 words (instance_in_value words value)) == serial_in_metric words (metric_of words value))
+    && (leads_to_indom words (domain_in_instance words (instance_in_value words value))
+    && serial_in_indom words (domain_in_instance words (instance_in_value words value)) == serial_in_metric words (metric_of words value)))
 
 -- a string value leads to a string. Where it doesn't is the fault Reference, at its extra field
 unfoldable pub choice_leads : List ℕ → ℕ → Bool

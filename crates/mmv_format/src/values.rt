@@ -4,7 +4,7 @@ ghost use Rattle.mmv_format.specs.Entries.{metric_of, instance_leads, choice_lea
 ghost use Rattle.mmv_format.specs.Faults.{HasSections, value_reference_fault, values_reference_fault, values_duplicate_fault};
 
 use crate::contents::{VALUES, section_of};
-use crate::entries::{leads_to_instance, leads_to_metric, leads_to_string};
+use crate::entries::{leads_to_indom, leads_to_instance, leads_to_metric, leads_to_string};
 use crate::entry_fields::{
     EXTRA_OFFSET, INSTANCE_OFFSET, METRIC_OFFSET, domain_in_instance, extra_in_value,
     instance_in_value, metric_in_value, serial_in_indom, serial_in_metric, type_in_metric,
@@ -35,8 +35,11 @@ fn instance_leads(words: &[u64], value: u128) -> bool
         return instance == 0;
     }
     let instance = instance as u128;
-    leads_to_instance(words, instance)
-        && serial_in_indom(words, domain_in_instance(words, instance) as u128) == serial
+    if !leads_to_instance(words, instance) {
+        return false;
+    }
+    let domain = domain_in_instance(words, instance) as u128;
+    leads_to_indom(words, domain) && serial_in_indom(words, domain) == serial
 }
 
 /// Whether the value at a place leads to a string, where its metric's kind is text.

@@ -364,6 +364,9 @@ module _ (a b : List ℕ) (h : is_image a ≡ true) (g : Agrees a b) where
   instance_there i below some =
       leads_there (section_of a 2).place (section_of a 2).count instance_size (instance_in_value a (value_at a i)) (both_left _ _ (taken _ _ _ (leads_good i (good_value a i h below)) some))
 
+  instance_domain : (place : ℕ) → LeadsTo (instance_count a) (instance_at a) place → domain_in_instance b place ≡ domain_in_instance a place
+  instance_domain place there = g.same place (at_first place (looked_run place 0 there (omega arith)))
+
   instance_serial : (place : ℕ) → LeadsTo (instance_count a) (instance_at a) place → number32 b (number64 b place) ≡ number32 a (number64 a place)
   instance_serial place (k, below, stands) =
       ap (number32 b) (g.same place (at_first place (looked_run place 0 (k, below, stands) (omega arith))))
@@ -372,10 +375,10 @@ module _ (a b : List ℕ) (h : is_image a ≡ true) (g : Agrees a b) where
   instance_leads_same : (i : ℕ) → i < value_count a → instance_leads b (value_at a i) ≡ instance_leads a (value_at a i)
   unfolding instance_leads
   instance_leads_same i below =
-      rw (of_same i (serial_offset_in_metric 0) below (omega arith), field_same i below, section_same 2)
+      rw (of_same i (serial_offset_in_metric 0) below (omega arith), field_same i below, section_same 2, section_same 1)
       (⊎_elim
       (λ (none : is_no_domain (domain_of a (value_at a i)) ≡ true). rw none refl)
-      (λ (some : is_no_domain (domain_of a (value_at a i)) ≡ false). rw (some, instance_serial (instance_in_value a (value_at a i)) (instance_there i below some)) refl)
+      (λ (some : is_no_domain (domain_of a (value_at a i)) ≡ false). rw (some, instance_serial (instance_in_value a (value_at a i)) (instance_there i below some), instance_domain (instance_in_value a (value_at a i)) (instance_there i below some)) refl)
       (either (is_no_domain (domain_of a (value_at a i)))))
 
   same_value_same : (j i : ℕ) → j < value_count a → i < value_count a → is_same_value b (value_at a j) (value_at a i) ≡ is_same_value a (value_at a j) (value_at a i)

@@ -1,5 +1,5 @@
 -- What is known of a first-form image.
-use Rattle.std.proofs.Common.{◌≡◌, ℕ, ◌+◌, ◌<◌, ◌≤◌, true, ◌⊎◌, inl, inr, List, length, ap, sym, subst, arith, nat_eq, unwrap_or, ⊎_elim}
+use Rattle.std.proofs.Common.{◌≡◌, ℕ, ◌<◌, ◌≤◌, true, ◌⊎◌, inl, inr, List, length, ap, sym, subst, arith, nat_eq, unwrap_or, ⊎_elim}
 use Rattle.pcp_base.specs.Names.{IsName, spells}
 use Rattle.pcp_base.specs.Codes.{kind_of_code}
 use Rattle.pcp_base.specs.declared.kind.Kind.TheVariants.{I32, U32}

@@ -1,5 +1,5 @@
 -- What the form of an image and its value words have to do with what it says.
-use Rattle.std.proofs.Common.{◌≡◌, ℕ, zero, suc, negsuc, ◌+◌, ◌*◌, ◌/◌, ◌%◌, ◌<◌, ◌≤◌, true, List, ◌++◌, length, unwrap_or, ap, sym, subst, ◌∙◌, refl, arith, nat_le, slice_index, map, ⊎_elim, Contains}
+use Rattle.std.proofs.Common.{◌≡◌, ℕ, zero, suc, negsuc, ◌+◌, ◌*◌, ◌/◌, ◌%◌, ◌<◌, ◌≤◌, Bool, true, false, List, nat_eq, Some, ◌++◌, length, unwrap_or, ap, sym, subst, ◌∙◌, refl, arith, nat_le, slice_index, map, ⊎_elim, Contains}
 use Rattle.std.proofs.lemmas.Bool.Decides.{nat_tests}
 use Rattle.pcp_base.specs.Codes.{kind_of_code}
 use Rattle.pcp_base.specs.declared.kind.Kind.TheVariants as kinds
@@ -7,17 +7,18 @@ use Rattle.mmv_format.specs.Fields.{number64}
 use Rattle.mmv_format.specs.Sizes.{value_size}
 use Rattle.mmv_format.specs.EntryFields.{extra_offset_in_value, extra_in_value}
 use Rattle.mmv_format.specs.Entries.{value_count, value_at, string_count, string_at}
+use Rattle.mmv_format.specs.Images.{is_image}
 use Rattle.mmv_format.specs.declared.rows.Slot.{Slot}
 use Rattle.mmv_format.specs.declared.rows.ValueRow.{ValueRow}
-use Rattle.mmv_format.specs.declared.rows.Content.TheVariants.{Number, Choice}
+use Rattle.mmv_format.specs.declared.rows.Content.TheVariants.{Number, Choice, Raw}
 use Rattle.mmv_layout.specs.Rows.{string_text, type_of, content_of, value_row, values_of, strings_of, layout_of}
-use Rattle.mmv_layout.specs.Form.{slot_at, texts_of, offsets_of, subjects_of, form_of}
+use Rattle.mmv_layout.specs.Form.{slot_in, slot_at, slots_of, texts_of, offsets_of, subjects_of, form_of}
 use Rattle.mmv_layout.specs.Says.{Says}
-use Rattle.mmv_layout.specs.ShapeLaws.{IsFormOf, FormIsSaid, TextsAreTheForms, LengthKeepsTheLayout, held, SlotHoldsTheContent}
+use Rattle.mmv_layout.specs.ShapeLaws.{IsFormOf, FormIsSaid, TextsAreTheForms, LengthKeepsTheLayout, held, SlotHoldsTheContent, HasItsSlot, HasSlot, ValuesHaveSlots}
 use Rattle.mmv_layout.proofs.EntryPlaces.{Stands, value_stands}
-use Rattle.mmv_layout.proofs.RowLists.{row_among, rows_mapped}
+use Rattle.mmv_layout.proofs.RowLists.{among_rows, row_among, rows_mapped}
 use Rattle.mmv_layout.proofs.Saying.{layout_says, says_layout}
-use Rattle.mmv_layout.proofs.SlotLists.{GivenBy}
+use Rattle.mmv_layout.proofs.SlotLists.{GivenBy, given_among}
 use Rattle.mmv_layout.proofs.SlotFacts.{SlotIs, slot_is, slot_value}
 use Rattle.mmv_layout.proofs.Looked.{five_words}
 use Rattle.mmv_layout.proofs.AlikeForm.{image_still, layout_same}
@@ -122,3 +123,58 @@ slot_holds words slot h among =
     let stands : Stands words (value_at words given.index) value_size = value_stands words given.index h given.below in
     let facts = row_facts words (value_at words given.index) slot stands.whole (slot_is words (value_at words given.index) slot given.gives) in
     (value_row words (value_at words given.index), row_in words given.index given.below, facts.0, facts.1, facts.2)
+
+slot_first : (words : List ℕ) (value : ℕ) → nat_le (type_of words value) 3 ≡ true → slot_at words value ≡ Some (slot_in words value (value / 8))
+unfolding slot_at
+slot_first words value e = rw e refl
+
+slot_second : (words : List ℕ) (value : ℕ) → nat_le (type_of words value) 3 ≡ false → nat_eq (type_of words value) 6 ≡ true → slot_at words value ≡ Some (slot_in words value (value / 8 + 1))
+unfolding slot_at
+slot_second words value e f = rw (e, f) refl
+
+content_raw : (words : List ℕ) (value : ℕ) → nat_le (type_of words value) 3 ≡ false → nat_eq (type_of words value) 6 ≡ false
+    → content_of words value ≡ Raw (number64 words value) (extra_in_value words value)
+unfolding content_of
+content_raw words value e f = rw (e, f) refl
+
+le_three : (code : ℕ) → nat_le code 3 ≡ true → code ≤ 3
+le_three code h = grind (arith, nat_tests)
+
+eq_six : (code : ℕ) → nat_eq code 6 ≡ true → code ≡ 6
+eq_six code h = grind (arith, nat_tests)
+
+module _ (words : List ℕ) (i : ℕ) (h : is_image words ≡ true) (below : i < value_count words) where
+  made : (slot : Slot) → slot_at words (value_at words i) ≡ Some slot → HasItsSlot words (value_row words (value_at words i))
+  unfolding slots_of
+  made slot gives =
+      let stands : Stands words (value_at words i) value_size = value_stands words i h below in
+      let facts = row_facts words (value_at words i) slot stands.whole (slot_is words (value_at words i) slot gives) in record {
+        slot = slot;
+        among = given_among (slot_at words) (value_count words) i (value_at words) slot below gives;
+        item = sym facts.0;
+        instance = sym facts.1;
+        holds = facts.2;
+      }
+
+  of_value : HasSlot words (value_row words (value_at words i)) (content_of words (value_at words i))
+  of_value = here (nat_le (type_of words (value_at words i)) 3) refl (nat_eq (type_of words (value_at words i)) 6) refl
+    where
+      here : (a : Bool) → nat_le (type_of words (value_at words i)) 3 ≡ a → (b : Bool) → nat_eq (type_of words (value_at words i)) 6 ≡ b
+          → HasSlot words (value_row words (value_at words i)) (content_of words (value_at words i))
+      here true e b f =
+          subst (HasSlot words (value_row words (value_at words i))) (sym (content_number words (value_at words i) (le_three (type_of words (value_at words i)) e)))
+          (made (slot_in words (value_at words i) (value_at words i / 8)) (slot_first words (value_at words i) e))
+      here false e true f =
+          subst (HasSlot words (value_row words (value_at words i))) (sym (content_choice words (value_at words i) (eq_six (type_of words (value_at words i)) f)))
+          (made (slot_in words (value_at words i) (value_at words i / 8 + 1)) (slot_second words (value_at words i) e f))
+      here false e false f = subst (HasSlot words (value_row words (value_at words i))) (sym (content_raw words (value_at words i) e f)) tt
+
+row_has_slot : (words : List ℕ) (i : ℕ) → is_image words ≡ true → i < value_count words → HasSlot words (value_row words (value_at words i)) (value_row words (value_at words i)).content
+unfolding value_row
+row_has_slot words i h below = of_value words i h below
+
+pub have_slots : ValuesHaveSlots
+unfolding values_of
+have_slots words row h among =
+    let (i, below, is) = among_rows (value_count words) (λ i. value_row words (value_at words i)) row among in
+    subst (λ r. HasSlot words r r.content) (sym is) (row_has_slot words i h below)

@@ -10,4 +10,5 @@ pub mod Saying
 pub mod Shapes
 pub mod SlotFacts
 pub mod SlotLists
+pub mod SlotTables
 pub mod SlotsOnce

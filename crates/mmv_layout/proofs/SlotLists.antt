@@ -2,7 +2,7 @@
 use Rattle.std.proofs.Common.{◌≡◌, ℕ, zero, suc, ◌+◌, ◌<◌, Bool, true, false, ◌⊎◌, List, [], ◌∷◌, ◌++◌, append-nil, length, slice_index_or, Option, None, Some, ap, ap₂, sym, subst, ◌∙◌, refl, arith, cond, add-one, ⊎_elim}
 use Rattle.std.specs.List.{filter_map, find, cons_option, Contains}
 use Rattle.std.specs.Option.{option_to_list, option_or}
-use Rattle.std.proofs.lemmas.List.Elements.{filter_map-append, Contains-append_cases}
+use Rattle.std.proofs.lemmas.List.Elements.{filter_map-append, Contains-append_cases, Contains-append_left, Contains-append_right}
 use Rattle.std.proofs.lemmas.List.Folds.{find-append}
 use Rattle.mmv_layout.specs.Rows.{list_below}
 
@@ -76,6 +76,18 @@ given_of f (suc n) row y h =
     (λ (last : Contains (option_to_list (f (row n))) y). record { index = n; below = omega arith; gives = in_option (f (row n)) y last })
     (Contains-append_cases (filter_map f (list_below n row)) (option_to_list (f (row n))) y
     (subst (λ ys. Contains ys y) (gives_suc f n row (f (row n)) refl) h))
+
+-- what one of the numbers below n gives is among what all give
+pub given_among : {X Y : Type 0} (f : X → Option Y) (n k : ℕ) (row : ℕ → X) (y : Y) → k < n → f (row k) ≡ Some y → Contains (filter_map f (list_below n row)) y
+unfolding list_below
+given_among f zero k row y below e = absurd (omega arith)
+given_among f (suc n) k row y below e =
+    subst (λ ys. Contains ys y) (sym (gives_suc f n row (f (row n)) refl))
+    (⊎_elim
+    (λ (before : k < n). Contains-append_left (filter_map f (list_below n row)) (option_to_list (f (row n))) y (given_among f n k row y before e))
+    (λ (last : k ≡ n). Contains-append_right (filter_map f (list_below n row)) (option_to_list (f (row n))) y
+    (subst (λ o. Contains (option_to_list o) y) (sym (ap (λ k. f (row k)) (sym last) ∙ e)) (0, omega arith, refl)))
+    (below_suc k n below))
 
 none_some : {X : Type 0} (x : X) → None ≡ Some x → ⊥
 none_some x h = cc

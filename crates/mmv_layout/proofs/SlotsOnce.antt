@@ -1,5 +1,5 @@
 -- An image has at most one value word for an item and an instance.
-use Rattle.std.proofs.Common.{◌≡◌, ℕ, negsuc, ◌+◌, ◌^◌, ◌<◌, Bool, true, false, not, ◌||◌, ◌⊎◌, List, Some, unwrap_or, ap, sym, ◌∙◌, refl, arith, cond, w32, ⊎_elim, true≢false}
+use Rattle.std.proofs.Common.{◌≡◌, ℕ, negsuc, ◌^◌, ◌<◌, Bool, true, false, not, ◌||◌, ◌⊎◌, List, Some, unwrap_or, ap, sym, ◌∙◌, refl, arith, cond, w32, ⊎_elim, true≢false}
 use Rattle.std.specs.Int.{cast_signed, cast_unsigned}
 use Rattle.std.proofs.lemmas.Int.{of_z-to_z}
 use Rattle.std.proofs.lemmas.Bool.{eq-eqb, cases_order}
@@ -110,7 +110,7 @@ module _ (a : List ℕ) (h : is_image a ≡ true) where
 
   field_serial : (i : ℕ) → i < value_count a → is_no_domain (domain_of a (value_at a i)) ≡ false → number32 a (number64 a (instance_in_value a (value_at a i))) ≡ domain_of a (value_at a i)
   unfolding instance_leads
-  field_serial i below some = eq_of (number32 a (number64 a (instance_in_value a (value_at a i)))) (domain_of a (value_at a i)) (both_right _ _ (taken _ _ _ (value_leads i below) some))
+  field_serial i below some = eq_of (number32 a (number64 a (instance_in_value a (value_at a i)))) (domain_of a (value_at a i)) (both_right _ _ (both_right _ _ (taken _ _ _ (value_leads i below) some)))
     where
       taken : (t x y : Bool) → cond t x y ≡ true → t ≡ false → y ≡ true
       taken true x y p e = cc

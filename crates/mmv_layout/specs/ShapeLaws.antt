@@ -7,7 +7,7 @@ use Rattle.mmv_format.specs.Images.{IsImage}
 use Rattle.mmv_format.specs.declared.rows.Slot.{Slot}
 use Rattle.mmv_format.specs.declared.rows.ValueRow.{ValueRow}
 use Rattle.mmv_format.specs.declared.rows.Content.{Content}
-use Rattle.mmv_format.specs.declared.rows.Content.TheVariants.{Number, Choice}
+use Rattle.mmv_format.specs.declared.rows.Content.TheVariants.{Number, Choice, Raw}
 use Rattle.mmv_format.specs.declared.rows.Layout.{Layout}
 use Rattle.mmv_layout.specs.Rows.{string_text, values_of}
 use Rattle.mmv_layout.specs.Form.{slots_of, texts_of, Form, form_of}
@@ -85,3 +85,20 @@ abbrev pub SlotHoldsTheContent : Type 0
 SlotHoldsTheContent = (words : List ℕ) (slot : Slot) → IsImage words → Contains (slots_of words) slot
     → (row : ValueRow) × Contains (values_of words) row × (row.item ≡ slot.item) × (unwrap_or row.instance (negsuc 0) ≡ slot.instance)
     × (row.content ≡ held words slot.kind (slice_index words slot.word))
+
+-- a value word of an image is that of a value, and holds its content
+pub record HasItsSlot (words : List ℕ) (row : ValueRow) : Type 0 where
+  pub slot : Slot
+  pub among : Contains (slots_of words) slot
+  pub item : slot.item ≡ row.item
+  pub instance : slot.instance ≡ unwrap_or row.instance (negsuc 0)
+  pub holds : row.content ≡ held words slot.kind (slice_index words slot.word)
+
+abbrev pub HasSlot : List ℕ → ValueRow → Content → Type 0
+HasSlot words row (Number number) = HasItsSlot words row
+HasSlot words row (Choice text) = HasItsSlot words row
+HasSlot words row (Raw number extra) = Unit {0}
+
+-- each value of a kind that has a value word has its slot
+abbrev pub ValuesHaveSlots : Type 0
+ValuesHaveSlots = (words : List ℕ) (row : ValueRow) → IsImage words → Contains (values_of words) row → HasSlot words row row.content

@@ -8,10 +8,12 @@ ghost use Rattle.mmv_format.specs.Faults.{image_in, image_of};
 ghost use Rattle.mmv_format.specs.Images.{IsImage};
 ghost use Rattle.mmv_layout.specs.Form.{slots_of, texts_of, IsSlotOf, IsOther};
 ghost use Rattle.mmv_layout.specs.Rows.{layout_of};
+ghost use Rattle.mmv_layout.specs.SlotTables.{Finds};
 ghost use Rattle.mmv_layout.specs.Says.{Says};
 ghost use Rattle.mmv_layout.specs.FirstForm.{is_plain_metric, is_first_form, IsFirstForm, only_item, only_kind, only_semantics, only_units, only_name, only_metric, only_value};
 
 use crate::layout::layout;
+use crate::slot_table::SlotTable;
 use crate::slots::{slot_of, slots, texts};
 use mmv_format::{
     HEADER_SIZE, ImageFault, Layout, MetricRow, Slot, cluster_in, flags_in, image_fault,
@@ -141,6 +143,22 @@ impl Image {
         Image::parse(alloc, words_of(alloc, bytes)?)
     }
 
+    /// The image of words that are known to be one.
+    pub fn of_words(words: Vec<u64>) -> Image
+        requires { IsImage words.items }
+        ensures { result ≡ words.items }
+    {
+        Image { words }
+    }
+
+    /// The words.
+    pub fn into_words(self) -> Vec<u64>
+        ensures words { result.items ≡ self }
+        ensures image { IsImage self }
+    {
+        self.words
+    }
+
     /// An equal image; only want of memory refuses it.
     pub fn copy(&self, alloc: Global) -> Result<Image, NoMemory>
         ensures { IfOk result (λ made. made ≡ self.now) }
@@ -210,6 +228,13 @@ impl Image {
         ensures { IfOk result (λ texts. texts ≡ texts_of self.now) }
     {
         texts(alloc, &self.words)
+    }
+
+    /// The value words by item and instance, for many look-ups.
+    pub fn slot_table(&self, alloc: Global) -> Result<SlotTable, NoMemory>
+        ensures { IfOk result (λ table. Finds table.slots (slots_of self.now)) }
+    {
+        SlotTable::of_words(alloc, &self.words)
     }
 
     /// The word that holds the value of an item and an instance, which is -1 for a metric without a domain; `None`

@@ -1,7 +1,7 @@
 //! The laws of this crate's definitions.
 ghost use Rattle.mmv_layout.specs.Form.{HasOneSlotEach};
 ghost use Rattle.mmv_layout.specs.Says.{SaysOneLayout};
-ghost use Rattle.mmv_layout.specs.ShapeLaws.{HasGenerationTwice, GenerationIsNoValue, ValueKeepsTheForm, LengthKeepsTheForm, GenerationKeepsTheForm, LengthKeepsTheLayout, FormIsSaid, TextsAreTheForms, SlotHoldsTheContent};
+ghost use Rattle.mmv_layout.specs.ShapeLaws.{HasGenerationTwice, GenerationIsNoValue, ValueKeepsTheForm, LengthKeepsTheForm, GenerationKeepsTheForm, LengthKeepsTheLayout, FormIsSaid, TextsAreTheForms, SlotHoldsTheContent, ValuesHaveSlots};
 
 /// An image says exactly one layout.
 #[tactic(auto, using(crate::proofs::Saying::says_one))]
@@ -57,4 +57,9 @@ pub fn texts_are_the_forms()
 /// What a value word of an image holds is the content of its value.
 pub fn slot_holds_the_content()
     ensures { SlotHoldsTheContent }
+{}
+
+/// Each value of a kind that has a value word has its slot, which holds its content.
+pub fn values_have_slots()
+    ensures { ValuesHaveSlots }
 {}

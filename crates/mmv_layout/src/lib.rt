@@ -6,15 +6,17 @@
 mod image;
 mod laws;
 mod layout;
+mod slot_table;
 mod slots;
 
 pub use image::Image;
 pub use laws::{
     form_is_said, generation_is_no_value, generation_keeps_the_form, has_generation_twice,
     length_keeps_the_form, length_keeps_the_layout, one_slot_each, says_one_layout,
-    slot_holds_the_content, texts_are_the_forms, value_keeps_the_form,
+    slot_holds_the_content, texts_are_the_forms, value_keeps_the_form, values_have_slots,
 };
 pub use mmv_format::{
     Content, ImageFault, IndomRow, Layout, MetricRow, Slot, ValueRow, images_are_good,
     lowest_place, number_holds_bytes, number_holds_halves, words_hold_bytes,
 };
+pub use slot_table::SlotTable;

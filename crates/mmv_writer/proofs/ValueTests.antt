@@ -7,7 +7,7 @@ use Rattle.std.proofs.lemmas.Bool.Decides.{nat_tests, Decides-int_eq}
 use Rattle.pcp_base.specs.Codes.{code_of_kind}
 use Rattle.pcp_base.specs.declared.kind.Kind.{Kind}
 use Rattle.mmv_format.specs.Fields.{number32, number64}
-use Rattle.mmv_format.specs.Entries.{value_at, value_count, leads_to_instance, leads_to_string, metric_of, is_no_domain, instance_leads, choice_leads, is_same_value, is_new_value, is_good_value, values_are_good}
+use Rattle.mmv_format.specs.Entries.{value_at, value_count, leads_to_indom, leads_to_instance, leads_to_string, metric_of, is_no_domain, instance_leads, choice_leads, is_same_value, is_new_value, is_good_value, values_are_good}
 use Rattle.mmv_format.specs.declared.rows.IndomRow.{IndomRow}
 use Rattle.mmv_format.specs.declared.rows.MetricRow.{MetricRow}
 use Rattle.mmv_format.specs.declared.rows.ValueRow.{ValueRow}
@@ -26,7 +26,7 @@ use Rattle.mmv_writer.proofs.Standing.{word_read}
 use Rattle.mmv_writer.proofs.Wanted.{HasContent}
 use Rattle.mmv_spelling.proofs.Positions.{Passes, first_passes, position_is, find_at, get_below, get_some, same_row, before_this}
 use Rattle.mmv_writer.proofs.Spelt.{values_from, places, find_values}
-use Rattle.mmv_writer.proofs.Marks.{value_is, instance_leads_to, metric_leads, string_leads, stand_value, serial_fits, serial_read, owner_read}
+use Rattle.mmv_writer.proofs.Marks.{value_is, indom_leads, instance_leads_to, metric_leads, string_leads, stand_value, serial_fits, serial_read, owner_read}
 use Rattle.mmv_writer.proofs.MetricTests.{kind_read, metric_serial_read}
 use Rattle.mmv_format.specs.Sizes.{indom_size, instance_size, metric_size}
 use Rattle.mmv_format.specs.EntryFields.{type_offset_in_metric, serial_offset_in_metric}
@@ -81,9 +81,9 @@ one_at_least n h = least n (both_left (nat_le 1 n) (nat_le n 1023) h)
     least n h = grind (arith, nat_tests)
 
 instance_good : (draft : Layout) (s : List (List ℕ)) → words_in (counts_of draft s) ≤ 65536 → IsDraft draft → (serial : Option ℕ) (number : Option ℤ) (field shown : ℕ) → fits_instance draft.indoms serial number ≡ true → field ≡ instance_field (places draft s) draft.indoms serial number → shown ≡ serial_word serial
-    → cond (is_no_domain shown) (nat_eq field 0) (leads_to_instance (spelled draft s) field && nat_eq (number32 (spelled draft s) (number64 (spelled draft s) field)) shown) ≡ true
+    → cond (is_no_domain shown) (nat_eq field 0) (leads_to_instance (spelled draft s) field && (leads_to_indom (spelled draft s) (number64 (spelled draft s) field) && nat_eq (number32 (spelled draft s) (number64 (spelled draft s) field)) shown)) ≡ true
 instance_good draft s few d None None field shown fits is word =
-    ap (λ n. cond (is_no_domain n) (nat_eq field 0) (leads_to_instance (spelled draft s) field && nat_eq (number32 (spelled draft s) (number64 (spelled draft s) field)) n)) word ∙ eq-eqb field 0 is
+    ap (λ n. cond (is_no_domain n) (nat_eq field 0) (leads_to_instance (spelled draft s) field && (leads_to_indom (spelled draft s) (number64 (spelled draft s) field) && nat_eq (number32 (spelled draft s) (number64 (spelled draft s) field)) n))) word ∙ eq-eqb field 0 is
 instance_good draft s few d None (Some id) field shown fits is word = cc
 instance_good draft s few d (Some serial) None field shown fits is word = cc
 instance_good draft s few d (Some serial) (Some id) field shown fits is word =
@@ -101,8 +101,9 @@ instance_good draft s few d (Some serial) (Some id) field shown fits is word =
     let read : number32 words (number64 words field) ≡ p.row.serial = serial_read draft s few d (domain_of draft.indoms serial) (number64 words field) p.row p.at (omega arith) in
     let fits_serial : p.row.serial ≤ 1023 = serial_fits draft d (domain_of draft.indoms serial) p.row p.at in
     let some : 0 < p.row.serial = one_at_least p.row.serial (d.domains (domain_of draft.indoms serial) p.row p.at).serial in
-    ap (λ b. cond b (nat_eq field 0) (leads_to_instance words field && nat_eq (number32 words (number64 words field)) shown)) (no_domain shown (omega arith) (omega arith))
-    ∙ ap₂ (λ a b. a && b) (instance_leads_to draft s few (instances_in (take (domain_of draft.indoms serial) draft.indoms) + index_in p.row id) field (omega arith) place) (eq-eqb (number32 words (number64 words field)) shown (read ∙ keyed ∙ sym word))
+    ap (λ b. cond b (nat_eq field 0) (leads_to_instance words field && (leads_to_indom words (number64 words field) && nat_eq (number32 words (number64 words field)) shown))) (no_domain shown (omega arith) (omega arith))
+    ∙ ap₂ (λ a b. a && b) (instance_leads_to draft s few (instances_in (take (domain_of draft.indoms serial) draft.indoms) + index_in p.row id) field (omega arith) place)
+    (ap₂ (λ a b. a && b) (indom_leads draft s few (domain_of draft.indoms serial) (number64 words field) below owner) (eq-eqb (number32 words (number64 words field)) shown (read ∙ keyed ∙ sym word)))
 
 -- The string of a value
 
