@@ -143,14 +143,6 @@ impl Image {
         Image::parse(alloc, words_of(alloc, bytes)?)
     }
 
-    /// The image of words that are known to be one.
-    pub fn of_words(words: Vec<u64>) -> Image
-        requires { IsImage words.items }
-        ensures { result ≡ words.items }
-    {
-        Image { words }
-    }
-
     /// The words.
     pub fn into_words(self) -> Vec<u64>
         ensures words { result.items ≡ self }
