@@ -11,7 +11,7 @@ use Rattle.pcp_model.specs.Words.{word, length-word}
 use Rattle.pcp_model.specs.Payload.{reach, IsPayload, IsItem}
 use Rattle.result_form.specs.declared.fault.FormFault.{FormFault}
 use Rattle.result_form.specs.Decoding.{Gives}
-use Rattle.archive_volume.specs.Items.{item_of, as_item}
+use Rattle.archive_volume.specs.Items.{item_of}
 
 -- a result without a set
 abbrev no_sets : Moment → PmResult
@@ -61,6 +61,11 @@ item_is bytes r p = by r.stamp r.sets p
 item_from : (bytes : List ℕ) (item : Item) → IsItem bytes item → (r : PmResult) × IsPayload bytes r × (item_of r ≡ item)
 item_from bytes (Mark t) is = (no_sets t, mark_payload bytes t is, refl)
 item_from bytes (Sample r) is = (r, is.1, is_sample r is.0)
+
+-- what was read of a result, as an item
+abbrev pub as_item : Result PmResult FormFault → Result Item FormFault
+as_item (Ok r) = Ok (item_of r)
+as_item (Err fault) = Err fault
 
 as_given : (read : Result PmResult FormFault) (r : PmResult) → Gives read (Ok r) → Gives (as_item read) (Ok (item_of r))
 as_given (Ok x) r given = ap as_item given

@@ -1,5 +1,5 @@
 -- The records of volumes as items (LOGARCHIVE(5)).
-use Rattle.std.specs.Prelude.{ℕ, ◌<◌, List, ◌++◌, length, Result, Ok, Err, ◌==◌, if◌then◌else◌}
+use Rattle.std.specs.Prelude.{ℕ, ◌<◌, List, ◌++◌, length, ◌==◌, if◌then◌else◌}
 use Rattle.std.specs.List.{AllByRecursion}
 use Rattle.pcp_base.specs.Results.{Fits}
 use Rattle.pcp_base.specs.Time.{IsMoment}
@@ -8,8 +8,6 @@ use Rattle.pcp_base.specs.declared.result.Item.{Item}
 use Rattle.pcp_base.specs.declared.result.Item.TheVariants.{Sample, Mark}
 use Rattle.pcp_model.specs.Words.{word}
 use Rattle.pcp_model.specs.Payload.{payload, payload_length, ResultInRange}
-use Rattle.result_form.specs.declared.fault.FormFault.{FormFault}
-use Rattle.result_form.specs.Decoding.{decoded}
 
 -- A sample is spelled as its result, and a mark is its stamp and no set.
 abbrev pub item_payload : Item → List ℕ
@@ -34,11 +32,3 @@ ItemInRange (Mark t) = IsMoment t
 -- a result as an item
 abbrev pub item_of : PmResult → Item
 item_of r = if length r.sets == 0 then Mark r.stamp else Sample r
-
-abbrev pub as_item : Result PmResult FormFault → Result Item FormFault
-as_item (Ok r) = Ok (item_of r)
-as_item (Err fault) = Err fault
-
--- The item of a payload, or the first fault of its result.
-abbrev pub item_read : List ℕ → Result Item FormFault
-item_read bytes = as_item (decoded bytes)

@@ -1,8 +1,9 @@
 //! The item of a record.
-ghost use Rattle.std.specs.Prelude.{◌≡◌, IfOk, Ok};
+ghost use Rattle.std.specs.Prelude.{◌≡◌, IfOk, IfErr, Ok};
 ghost use Rattle.pcp_model.specs.Payload.{IsItem};
 ghost use Rattle.result_form.specs.Decoding.{Gives};
-ghost use Rattle.archive_volume.specs.Items.{item_of, item_read};
+ghost use Rattle.result_form.specs.Faults.{IsFormFault};
+ghost use Rattle.archive_volume.specs.Items.{item_of};
 
 use pcp_base::{Item, PmResult};
 use result_form::{FormFault, decode};
@@ -25,8 +26,8 @@ pub fn decode_item(alloc: Global, payload: &[u8]) -> Result<Item, FormFault>
     ensures found { IfOk result (IsItem payload.now) }
     // What the payload is is read, unless memory runs out.
     ensures only { (item : Item) → IsItem payload.now item → Gives result (Ok item) }
-    // Which item or fault it is.
-    ensures exact { Gives result (item_read payload.now) }
+    // Which fault it is.
+    ensures fault { IfErr result (IsFormFault payload.now) }
 {
     match decode(alloc, payload) {
         Ok(read) => Ok(item_of(read)),

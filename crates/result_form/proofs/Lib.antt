@@ -1,4 +1,7 @@
 pub mod Again
+pub mod FaultRules
+pub mod FaultsFound
+pub mod FaultsOnce
 pub mod Loops
 pub mod Pairs
 pub mod Ranged

@@ -1,3 +1,5 @@
 pub mod Decoding
+pub mod Faults
+pub mod Laws
 pub mod Ranges
 pub mod Room

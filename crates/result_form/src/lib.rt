@@ -14,7 +14,7 @@ mod spelling;
 mod writing;
 
 pub use fault::FormFault;
-pub use laws::written_is_read;
+pub use laws::{faults_come_once, written_is_read};
 pub use reading::decode;
 pub use sizes::length;
 pub use spelling::put_payload;

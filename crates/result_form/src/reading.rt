@@ -1,7 +1,8 @@
 //! The reader of a payload.
-ghost use Rattle.std.specs.Prelude.{◌≡◌, ◌+◌, ◌≤◌, IfOk, Ok};
+ghost use Rattle.std.specs.Prelude.{◌≡◌, ◌+◌, ◌≤◌, IfOk, IfErr, Ok};
 ghost use Rattle.pcp_model.specs.Payload.{IsPayload, blocks_in, blocks_of};
 ghost use Rattle.result_form.specs.Decoding.{Gives, set_at, sets_from, decoded};
+ghost use Rattle.result_form.specs.Faults.{IsFormFault};
 ghost use Rattle.result_form.specs.Room.{memory_of};
 
 use crate::blocks::body_of;
@@ -80,8 +81,8 @@ pub fn decode(alloc: Global, payload: &[u8]) -> Result<PmResult, FormFault>
     ensures found { IfOk result (λ r. IsPayload payload.now r) }
     // What the payload spells is read, unless memory runs out.
     ensures only { (r : PmResult) → IsPayload payload.now r → Gives result (Ok r) }
-    // Which result or fault it is.
-    ensures exact { Gives result (decoded payload.now) }
+    // Which fault it is: the first of the words in their order, of the blocks in the order of the pairs, or at the end.
+    ensures fault { IfErr result (IsFormFault payload.now) }
     // Its blocks take at most 256 MiB, however often the payload leads to one of them.
     ensures room { IfOk result (λ r. memory_of (blocks_of r.sets) ≤ 268435456) }
 {
