@@ -10,25 +10,25 @@ use Rattle.pcp_outside.specs.Devices.{appended, synced, cut_to}
 use Rattle.pcp_model.specs.Written.{same_file}
 use Rattle.pcp_outside.specs.Contents.{files_of}
 use Rattle.pcp_outside.specs.declared.contents.Contents.{Contents}
-use Rattle.pcp_outside.specs.declared.memory_disk.Call.{Call}
-use Rattle.pcp_outside.specs.declared.memory_disk.Call.TheVariants.{Append, Sync, Cut}
+use Rattle.pcp_outside.specs.declared.memory_disk.DiskChange.{DiskChange}
+use Rattle.pcp_outside.specs.declared.memory_disk.DiskChange.TheVariants.{Append, Sync, Cut}
 use Rattle.pcp_outside.specs.declared.memory_disk.Asked.{Asked}
 use Rattle.pcp_outside.specs.declared.memory_disk.Asked.TheVariants.{Append as AppendOf, Sync as SyncOf, Cut as CutOf}
 
 -- the file that a call is of
-abbrev pub file_of : Call → FileId
+abbrev pub file_of : DiskChange → FileId
 file_of (Append f _) = f
 file_of (Sync f) = f
 file_of (Cut f _) = f
 
 -- what that file holds after it
-abbrev pub effect : Call → Held → Held
+abbrev pub effect : DiskChange → Held → Held
 effect (Append _ bytes) h = appended h bytes
 effect (Sync _) h = synced h
 effect (Cut _ n) h = cut_to n h
 
 -- what a file holds after a call of it or of another file
-abbrev pub changed : FileId → Held → Call → Held
+abbrev pub changed : FileId → Held → DiskChange → Held
 changed file h c = if same_file (file_of c) file then effect c h else h
 
 -- this many bytes are sure, and these are all
@@ -37,26 +37,26 @@ pub record IsHeld (h : Held) (sure : ℕ) (bytes : List ℕ) : Type 0 where
   pub all_bytes : bytes ≡ bytes_of h
 
 -- what a file holds after these calls, in their order
-abbrev pub held_from : FileId → Held → List Call → Held
+abbrev pub held_from : FileId → Held → List DiskChange → Held
 held_from file h [] = h
 held_from file h (c ∷ calls) = held_from file (changed file h c) calls
 
 -- what the files of a disk that was empty hold after these calls
-abbrev pub held_after : List Call → Holdings
+abbrev pub held_after : List DiskChange → Holdings
 held_after calls = λ file. held_from file nothing_held calls
 
 -- the images of each moment since the t-th call
-abbrev pub LeftSince : List Call → ℕ → Files → Type 0
+abbrev pub LeftSince : List DiskChange → ℕ → Files → Type 0
 LeftSince calls t c = (k : ℕ) × (t ≤ k) × (k ≤ length calls) × CrashImage (held_after (take k calls)) c
 
 -- the files read as the calls made them
-abbrev pub IsKept : Contents → List Call → Type 0
+abbrev pub IsKept : Contents → List DiskChange → Type 0
 IsKept contents calls = (file : FileId) → files_of contents file ≡ bytes_of (held_after calls file)
 
 -- what a disk in memory shows: the calls that changed its files, all that were asked for, the numbers of those that
 -- are to fail, its faults, the volume bytes that reads took, and the file that stands wrapped
 pub record DiskState : Type 0 where
-  pub calls : List Call
+  pub calls : List DiskChange
   pub asked : List Asked
   pub fails : List ℕ
   pub faults : ℕ
@@ -93,9 +93,9 @@ first_wrapped None file = Some file
 first_wrapped (Some f) file = if comes_before file f then Some file else Some f
 
 -- this moment is one of those since an earlier one
-pub counts_now_of : (calls : List Call) (t : ℕ) (c : Files) → t ≤ length calls → CrashImage (held_after calls) c → LeftSince calls t c
-counts_now_of calls t c le image = (length calls, le, omega arith, subst (λ (l : List Call). CrashImage (held_after l) c) (sym (take_all (length calls) calls (omega arith))) image)
+pub counts_now_of : (calls : List DiskChange) (t : ℕ) (c : Files) → t ≤ length calls → CrashImage (held_after calls) c → LeftSince calls t c
+counts_now_of calls t c le image = (length calls, le, omega arith, subst (λ (l : List DiskChange). CrashImage (held_after l) c) (sym (take_all (length calls) calls (omega arith))) image)
 
 -- since this moment there is no other
-pub only_now_of : (calls : List Call) (c : Files) → LeftSince calls (length calls) c → CrashImage (held_after calls) c
-only_now_of calls c (k, past, within, image) = subst (λ (l : List Call). CrashImage (held_after l) c) (take_all k calls past) image
+pub only_now_of : (calls : List DiskChange) (c : Files) → LeftSince calls (length calls) c → CrashImage (held_after calls) c
+only_now_of calls c (k, past, within, image) = subst (λ (l : List DiskChange). CrashImage (held_after l) c) (take_all k calls past) image

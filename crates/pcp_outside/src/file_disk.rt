@@ -8,23 +8,30 @@ use crate::failed::Failed;
 use crate::memory_disk::is_before;
 use pcp_base::FileId;
 use std::alloc::{AllocError, Global};
-use std::fs::{File, Files, OpenFile, OpenOptions};
+use std::fs::{File, Files, OpenOptions};
 use std::io;
 use std::io::{ErrorKind, Read, Seek, SeekFrom, Write};
 
-/// The files `BASE.meta`, `BASE.index`, `BASE.0` and so on of the system. It tells no content. Each call opens
-/// the file by its name.
+/// The files `BASE.meta`, `BASE.index`, `BASE.0` and so on of the system. It tells no content. From an append
+/// of a file to its sync the file stays open, so that the sync is told of what couldn't be written. From its
+/// first change on the disk holds the lock on `BASE.meta` (flock(2)), which keeps other such disks from
+/// changing the archive; where another one holds it, the change fails.
 #[derive(Drop)]
-pub struct FileDisk<'a, R: Files> {
+pub struct FileDisk<'a, R: Files<File = File>> {
     alloc: Global,
     files: &'a R,
     base: String,
+    lock: Option<File>,
+    // Of what was appended to and not synced since: Meta, the index, and one volume with its number.
+    meta: Option<File>,
+    index: Option<File>,
+    volume: Option<(u32, File)>,
     // Whether the names of all files made by this disk are surely in their folder.
     has_sure_names: bool,
     faults: u64,
 }
 
-impl<'a, R: Files> FileDisk<'a, R> {
+impl<'a, R: Files<File = File>> FileDisk<'a, R> {
     /// The archive whose files' names begin with this path.
     pub fn new(alloc: Global, files: &'a R, base: String) -> Self
         ensures { ⟦<FileDisk<'a, R> as Disk>⟧.faults result ≡ 0 }
@@ -33,6 +40,10 @@ impl<'a, R: Files> FileDisk<'a, R> {
             alloc,
             files,
             base,
+            lock: None,
+            meta: None,
+            index: None,
+            volume: None,
             has_sure_names: false,
             faults: 0,
         }
@@ -73,7 +84,7 @@ impl<'a, R: Files> FileDisk<'a, R> {
     }
 
     // The file, or `None` where it is missing.
-    fn open_existing(&self, how: &OpenOptions, file: FileId) -> io::Result<Option<R::File>> {
+    fn open_existing(&self, how: &OpenOptions, file: FileId) -> io::Result<Option<File>> {
         match how.open(self.files, self.name_of(file)?.as_str()) {
             Ok(opened) => Ok(Some(opened)),
             Err(error) if error.kind() == ErrorKind::NotFound => Ok(None),
@@ -116,26 +127,90 @@ impl<'a, R: Files> FileDisk<'a, R> {
         opened.read_exact(buffer)
     }
 
-    fn write_behind(&mut self, file: FileId, bytes: &[u8]) -> io::Result<()>
+    // The file, opened for appends; made where it is missing.
+    fn open_or_make(&mut self, file: FileId) -> io::Result<File>
         ensures { self.new.faults ≡ self.old.faults }
     {
-        if let Some(mut opened) = self.open_existing(OpenOptions::new().append(true), file)? {
-            return opened.write_all(bytes);
+        if let Some(opened) = self.open_existing(OpenOptions::new().append(true), file)? {
+            return Ok(opened);
         }
         self.has_sure_names = false;
         let name = self.name_of(file)?;
-        let mut made = OpenOptions::new()
+        OpenOptions::new()
             .append(true)
-            .create(true)
-            .open(self.files, name.as_str())?;
-        made.write_all(bytes)
+            .create_new(true)
+            .open(self.files, name.as_str())
+    }
+
+    fn lock_archive(&mut self) -> io::Result<()>
+        ensures { self.new.faults ≡ self.old.faults }
+    {
+        if self.lock.is_some() {
+            return Ok(());
+        }
+        let opened = self.open_or_make(FileId::Meta)?;
+        opened.try_lock()?;
+        self.lock = Some(opened);
+        Ok(())
+    }
+
+    // Takes out what is kept open of a file.
+    fn take_kept(&mut self, file: FileId) -> Option<File>
+        ensures { self.new.faults ≡ self.old.faults }
+    {
+        match file {
+            FileId::Meta => self.meta.take(),
+            FileId::Index => self.index.take(),
+            FileId::Volume(number) => {
+                let (kept, opened) = self.volume.take()?;
+                if kept == number {
+                    return Some(opened);
+                }
+                self.volume = Some((kept, opened));
+                None
+            }
+        }
+    }
+
+    // Keeps a file open up to its sync. Of two volumes the earlier is synced now.
+    fn keep(&mut self, file: FileId, opened: File) -> io::Result<()>
+        ensures { self.new.faults ≡ self.old.faults }
+    {
+        match file {
+            FileId::Meta => self.meta = Some(opened),
+            FileId::Index => self.index = Some(opened),
+            FileId::Volume(number) => {
+                if let Some((_, before)) = self.volume.take() {
+                    before.sync_data()?;
+                }
+                self.volume = Some((number, opened));
+            }
+        }
+        Ok(())
+    }
+
+    fn write_behind(&mut self, file: FileId, bytes: &[u8]) -> io::Result<()>
+        ensures { self.new.faults ≡ self.old.faults }
+    {
+        self.lock_archive()?;
+        let mut opened = match self.take_kept(file) {
+            Some(kept) => kept,
+            None => self.open_or_make(file)?,
+        };
+        let answer = opened.write_all(bytes);
+        self.keep(file, opened)?;
+        answer
     }
 
     // Makes the bytes of a file sure, and its name where it may not be.
     fn make_sure(&mut self, file: FileId) -> io::Result<()>
         ensures { self.new.faults ≡ self.old.faults }
     {
-        let Some(opened) = self.open_existing(OpenOptions::new().append(true), file)? else {
+        let opened = match self.take_kept(file) {
+            Some(kept) => Some(kept),
+            None => self.open_existing(OpenOptions::new().append(true), file)?,
+        };
+        let Some(opened) = opened else {
             return Ok(());
         };
         opened.sync_data()?;
@@ -147,7 +222,10 @@ impl<'a, R: Files> FileDisk<'a, R> {
         Ok(())
     }
 
-    fn shorten(&self, file: FileId, len: u64) -> io::Result<()> {
+    fn shorten(&mut self, file: FileId, len: u64) -> io::Result<()>
+        ensures { self.new.faults ≡ self.old.faults }
+    {
+        self.lock_archive()?;
         let Some(opened) = self.open_existing(OpenOptions::new().write(true), file)? else {
             return Ok(());
         };
@@ -235,7 +313,7 @@ fn earlier(first: Option<FileId>, file: FileId) -> Option<FileId> {
     }
 }
 
-impl<'a, R: Files> Disk for FileDisk<'a, R> {
+impl<'a, R: Files<File = File>> Disk for FileDisk<'a, R> {
     ghost tells = { ⊥ };
 
     ghost held = { λ _. empty_disk };

@@ -16,7 +16,7 @@ pub use adapters::{ReaderSource, WriterSink};
 pub use disk::{Disk, append_synced};
 pub use failed::Failed;
 pub use file_disk::FileDisk;
-pub use memory_disk::{Asked, Call, MemDisk};
+pub use memory_disk::{Asked, DiskChange, MemDisk};
 pub use memory_streams::{MemSink, MemSource, SureSource};
 pub use pcp_base::FileId;
 pub use streams::{ReadFault, Sink, Source, read_to_limit, write_all};

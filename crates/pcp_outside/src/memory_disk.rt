@@ -15,9 +15,9 @@ use pcp_base::{Bytes, FileId, List, NoMemory};
 use std::alloc::Global;
 use std::marker::Model;
 
-/// A call that changed a disk in memory.
+/// A change of a disk in memory, by a call that was done.
 #[derive(Drop)]
-pub enum Call {
+pub enum DiskChange {
     Append(FileId, Bytes),
     Sync(FileId),
     Cut(FileId, u64),
@@ -36,7 +36,7 @@ pub enum Asked {
 pub struct MemDisk {
     alloc: Global,
     contents: Contents,
-    calls: List<Call>,
+    calls: List<DiskChange>,
     asked: List<Asked>,
     fails: List<u64>,
     faults: u64,
@@ -139,22 +139,27 @@ impl MemDisk {
 }
 
 // Does a call again to what one file held.
-fn replay(call: &Call, file: FileId, sure: usize, bytes: &mut Vec<u8>) -> Result<usize, NoMemory>
+fn replay(
+    call: &DiskChange,
+    file: FileId,
+    sure: usize,
+    bytes: &mut Vec<u8>,
+) -> Result<usize, NoMemory>
     ensures { (h : Held) → IsHeld h sure bytes.old.items → IfOk result (λ sure_then. IsHeld (changed file h call.now) sure_then bytes.new.items) }
 {
     match call {
-        Call::Append(found, more) => {
+        DiskChange::Append(found, more) => {
             if same(*found, file) {
                 bytes.extend_from_slice(more.as_slice())?;
             }
             Ok(sure)
         }
-        Call::Sync(found) => Ok(if same(*found, file) {
+        DiskChange::Sync(found) => Ok(if same(*found, file) {
             bytes.len()
         } else {
             sure
         }),
-        Call::Cut(found, len) => {
+        DiskChange::Cut(found, len) => {
             if !same(*found, file) {
                 return Ok(sure);
             }
@@ -228,7 +233,7 @@ impl Disk for MemDisk {
 
     fn append(&mut self, file: FileId, bytes: &[u8]) -> Result<(), Failed>
         requires { IsNumbered file }
-        ensures done { OnOk result (self.new ≡ record self.old { calls = self.old.calls ++ Call.Append file bytes.now ∷ []; asked = self.old.asked ++ Asked.Append file ∷ [] }) }
+        ensures done { OnOk result (self.new ≡ record self.old { calls = self.old.calls ++ DiskChange.Append file bytes.now ∷ []; asked = self.old.asked ++ Asked.Append file ∷ [] }) }
         ensures refused { OnErr result (Refuses (Asked.Append file) self.old self.new) }
         ensures listed { is_listed self.old.fails (length self.old.asked + 1) ≡ true → IsErr result }
         ensures held { Appends file bytes.now (held_after self.old.calls) (held_after self.new.calls) result }
@@ -248,7 +253,7 @@ impl Disk for MemDisk {
 
     fn sync(&mut self, file: FileId) -> Result<(), Failed>
         requires { IsNumbered file }
-        ensures done { OnOk result (self.new ≡ record self.old { calls = self.old.calls ++ Call.Sync file ∷ []; asked = self.old.asked ++ Asked.Sync file ∷ [] }) }
+        ensures done { OnOk result (self.new ≡ record self.old { calls = self.old.calls ++ DiskChange.Sync file ∷ []; asked = self.old.asked ++ Asked.Sync file ∷ [] }) }
         ensures refused { OnErr result (Refuses (Asked.Sync file) self.old self.new) }
         ensures listed { is_listed self.old.fails (length self.old.asked + 1) ≡ true → IsErr result }
         ensures held { Syncs file (held_after self.old.calls) (held_after self.new.calls) result }
@@ -269,7 +274,7 @@ impl Disk for MemDisk {
     fn cut(&mut self, file: FileId, len: u64) -> Result<(), Failed>
         requires numbered { IsNumbered file }
         requires within { len ≤ length_of (held_after self.old.calls file) }
-        ensures done { OnOk result (self.new ≡ record self.old { calls = self.old.calls ++ Call.Cut file len ∷ []; asked = self.old.asked ++ Asked.Cut file ∷ [] }) }
+        ensures done { OnOk result (self.new ≡ record self.old { calls = self.old.calls ++ DiskChange.Cut file len ∷ []; asked = self.old.asked ++ Asked.Cut file ∷ [] }) }
         ensures refused { OnErr result (Refuses (Asked.Cut file) self.old self.new) }
         ensures listed { is_listed self.old.fails (length self.old.asked + 1) ≡ true → IsErr result }
         ensures held { Cuts file len (held_after self.old.calls) (held_after self.new.calls) result }
@@ -357,18 +362,18 @@ fn admit(asked: &mut List<Asked>, fails: &List<u64>, call: Asked) -> Result<(), 
 fn do_append(
     alloc: Global,
     contents: &mut Contents,
-    calls: &mut List<Call>,
+    calls: &mut List<DiskChange>,
     file: FileId,
     bytes: &[u8],
 ) -> Result<(), NoMemory>
     requires numbered { IsNumbered file }
     requires kept { IsKept contents.old calls.old }
     ensures kept { IsKept contents.new calls.new }
-    ensures ok { OnOk result (calls.new ≡ calls.old ++ Call.Append file bytes.now ∷ []) }
+    ensures ok { OnOk result (calls.new ≡ calls.old ++ DiskChange.Append file bytes.now ∷ []) }
     ensures err { OnErr result (calls.new ≡ calls.old) }
 {
     let noted = List::from_vec(Vec::from_slice(alloc, bytes)?);
-    calls.push(Call::Append(file, noted))?;
+    calls.push(DiskChange::Append(file, noted))?;
     match contents.extend(alloc, file, bytes) {
         Ok(()) => Ok(()),
         Err(refused) => {
@@ -378,28 +383,28 @@ fn do_append(
     }
 }
 
-fn do_sync(contents: &Contents, calls: &mut List<Call>, file: FileId) -> Result<(), NoMemory>
+fn do_sync(contents: &Contents, calls: &mut List<DiskChange>, file: FileId) -> Result<(), NoMemory>
     requires kept { IsKept contents.now calls.old }
     ensures kept { IsKept contents.now calls.new }
-    ensures ok { OnOk result (calls.new ≡ calls.old ++ Call.Sync file ∷ []) }
+    ensures ok { OnOk result (calls.new ≡ calls.old ++ DiskChange.Sync file ∷ []) }
     ensures err { OnErr result (calls.new ≡ calls.old) }
 {
-    calls.push(Call::Sync(file))?;
+    calls.push(DiskChange::Sync(file))?;
     Ok(())
 }
 
 fn do_cut(
     contents: &mut Contents,
-    calls: &mut List<Call>,
+    calls: &mut List<DiskChange>,
     file: FileId,
     len: u64,
 ) -> Result<(), NoMemory>
     requires kept { IsKept contents.old calls.old }
     ensures kept { IsKept contents.new calls.new }
-    ensures ok { OnOk result (calls.new ≡ calls.old ++ Call.Cut file len ∷ []) }
+    ensures ok { OnOk result (calls.new ≡ calls.old ++ DiskChange.Cut file len ∷ []) }
     ensures err { OnErr result (calls.new ≡ calls.old) }
 {
-    calls.push(Call::Cut(file, len))?;
+    calls.push(DiskChange::Cut(file, len))?;
     contents.truncate(file, len as usize);
     Ok(())
 }

@@ -6,6 +6,7 @@ use crate::runs::log_hits;
 use pcp_outside::{Disk, FileDisk, FileId};
 use std::alloc::Global;
 use std::fs;
+use std::fs::File;
 use std::rt::Files;
 use std::test::Fail;
 
@@ -29,7 +30,7 @@ fn beginning(bytes: &[u8], end: usize) -> Result<&[u8], Fail> {
     Ok(bytes.get(..end).ok_or("past the end")?)
 }
 
-fn read_file<R: Files>(
+fn read_file<R: Files<File = File>>(
     alloc: Global,
     disk: &mut FileDisk<'_, R>,
     file: FileId,
@@ -43,7 +44,10 @@ fn read_file<R: Files>(
     Ok(bytes)
 }
 
-fn read_files<R: Files>(alloc: Global, disk: &mut FileDisk<'_, R>) -> Result<Written, Fail> {
+fn read_files<R: Files<File = File>>(
+    alloc: Global,
+    disk: &mut FileDisk<'_, R>,
+) -> Result<Written, Fail> {
     Ok(Written {
         meta: read_file(alloc, disk, FileId::Meta)?,
         index: read_file(alloc, disk, FileId::Index)?,
@@ -63,7 +67,7 @@ fn write_left<R: Files>(
 }
 
 // What the files are read as when this much of them is left.
-fn find_left<R: Files>(
+fn find_left<R: Files<File = File>>(
     alloc: Global,
     rt: &R,
     folder: &str,
@@ -97,7 +101,11 @@ fn find_left<R: Files>(
 }
 
 // The files of the program, in a folder that is new.
-fn write_files<R: Files>(alloc: Global, rt: &R, folder: &str) -> Result<Written, Fail> {
+fn write_files<R: Files<File = File>>(
+    alloc: Global,
+    rt: &R,
+    folder: &str,
+) -> Result<Written, Fail> {
     let _missing = rt.remove_dir_all(alloc, folder);
     rt.create_dir(folder)?;
     let mut disk = FileDisk::new(alloc, rt, format!(in alloc; "{folder}/whole")?);

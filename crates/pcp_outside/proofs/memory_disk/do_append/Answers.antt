@@ -1,6 +1,6 @@
 use Rattle.std.proofs.Common.{◌≡◌, ◌++◌, ◌∷◌, [], List, ℕ, rules, sym, ◌∙◌, ap}
 use Rattle.pcp_outside.specs.Record.{held_after}
-use Rattle.pcp_outside.specs.declared.memory_disk.Call.TheVariants.{Append}
+use Rattle.pcp_outside.specs.declared.memory_disk.DiskChange.TheVariants.{Append}
 use Rattle.pcp_outside.proofs.Images.{bytes-appended}
 use Rattle.pcp_outside.proofs.Moments.{kept_push}
 use Rattle.pcp_outside.proofs.memory_disk.do_append.Goals as goal

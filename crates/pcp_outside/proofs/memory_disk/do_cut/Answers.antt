@@ -1,6 +1,6 @@
 use Rattle.std.proofs.Common.{take, sym, ◌∙◌, ap}
 use Rattle.pcp_outside.specs.Record.{held_after}
-use Rattle.pcp_outside.specs.declared.memory_disk.Call.TheVariants.{Cut}
+use Rattle.pcp_outside.specs.declared.memory_disk.DiskChange.TheVariants.{Cut}
 use Rattle.pcp_outside.proofs.Images.{bytes-cut_to}
 use Rattle.pcp_outside.proofs.Moments.{kept_push}
 use Rattle.pcp_outside.proofs.memory_disk.do_cut.Goals as goal

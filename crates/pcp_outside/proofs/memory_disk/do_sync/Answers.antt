@@ -1,6 +1,6 @@
 use Rattle.std.proofs.Common.{sym, ◌∙◌, refl}
 use Rattle.pcp_outside.specs.Record.{held_after}
-use Rattle.pcp_outside.specs.declared.memory_disk.Call.TheVariants.{Sync}
+use Rattle.pcp_outside.specs.declared.memory_disk.DiskChange.TheVariants.{Sync}
 use Rattle.pcp_outside.proofs.Images.{bytes-synced}
 use Rattle.pcp_outside.proofs.Moments.{kept_push}
 use Rattle.pcp_outside.proofs.memory_disk.do_sync.Goals as goal

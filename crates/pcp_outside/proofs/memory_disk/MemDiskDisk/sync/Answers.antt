@@ -1,7 +1,7 @@
 use Rattle.std.proofs.Common.{◌≡◌, ◌++◌, ◌∷◌, [], List, ◌∙◌, ap}
 use Rattle.pcp_outside.specs.Record.{DiskState}
-use Rattle.pcp_outside.specs.declared.memory_disk.Call.{Call}
-use Rattle.pcp_outside.specs.declared.memory_disk.Call.TheVariants.{Sync}
+use Rattle.pcp_outside.specs.declared.memory_disk.DiskChange.{DiskChange}
+use Rattle.pcp_outside.specs.declared.memory_disk.DiskChange.TheVariants.{Sync}
 use Rattle.pcp_outside.proofs.Moments.{becomes_push, elapses_push, elapses_same}
 use Rattle.pcp_outside.proofs.memory_disk.MemDiskDisk.sync.Goals as goal
 use Rattle.pcp_outside.proofs.memory_disk.MemDiskDisk.sync.Goals.{then-admitted+in-Err, else-admitted}
@@ -9,12 +9,12 @@ use Rattle.pcp_outside.proofs.memory_disk.MemDiskDisk.sync.Goals.{then-admitted+
 pub returns-in-Ok-clause-held : goal.returns-in-Ok-clause-held
 returns-in-Ok-clause-held c =
     let same : c.self.inside.calls ≡ c.args.self.now.calls = ap (λ (d : DiskState). d.calls) c.self.view_is in
-    becomes_push c.args.self.now.calls c.do_sync.new.calls (Sync c.args.file) (c.in-Ok.ensures.ok ∙ ap (λ (l : List Call). l ++ (Sync c.args.file) ∷ []) same)
+    becomes_push c.args.self.now.calls c.do_sync.new.calls (Sync c.args.file) (c.in-Ok.ensures.ok ∙ ap (λ (l : List DiskChange). l ++ (Sync c.args.file) ∷ []) same)
 
 pub returns-in-Ok-clause-time : goal.returns-in-Ok-clause-time
 returns-in-Ok-clause-time c =
     let same : c.self.inside.calls ≡ c.args.self.now.calls = ap (λ (d : DiskState). d.calls) c.self.view_is in
-    elapses_push c.args.self.now.calls c.do_sync.new.calls (Sync c.args.file) (c.in-Ok.ensures.ok ∙ ap (λ (l : List Call). l ++ (Sync c.args.file) ∷ []) same)
+    elapses_push c.args.self.now.calls c.do_sync.new.calls (Sync c.args.file) (c.in-Ok.ensures.ok ∙ ap (λ (l : List DiskChange). l ++ (Sync c.args.file) ∷ []) same)
 
 pub returns-clause-time : goal.returns-clause-time
 returns-clause-time c =
