@@ -6,7 +6,7 @@ use Rattle.std.specs.Ordering.{int_eq}
 use Rattle.std.proofs.lemmas.Bool.{eq-eqb, eqb-true, eqb-false}
 use Rattle.std.proofs.lemmas.Bool.Decides.{nat_tests}
 use Rattle.mmv_format.specs.Fields.{number32, number64, byte_at, text_at, first_words}
-use Rattle.mmv_format.specs.EntryFields.{same_name}
+use Rattle.mmv_format.specs.EntryFields.{same_name, count_offset_in_indom, first_offset_in_indom, short_offset_in_indom, long_offset_in_indom, number_offset_in_instance, name_offset_in_instance}
 use Rattle.mmv_format.specs.Entries.{indom_at, instance_at, indom_count, instance_count, leads_to_instance, help_leads, is_instance_of, has_good_run, has_serial, is_new_indom, is_serial, is_good_indom, has_text, lies_in_run, is_same_instance, is_new_instance, is_instance_number, is_good_instance, indoms_are_good, instances_are_good}
 use Rattle.mmv_format.specs.declared.rows.IndomRow.{IndomRow}
 use Rattle.mmv_format.specs.declared.rows.Layout.{Layout}
@@ -31,16 +31,16 @@ good_run : (draft : Layout) (s : List (List ℕ)) → words_in (counts_of draft 
 unfolding has_good_run is_instance_of
 good_run draft s few d i at row here e =
     let words : List ℕ = spelled draft s in
-    let run : number32 words (at + 4) ≡ length row.instances = run_read draft s few d i (at + 4) row here (ap (λ n. n + 4) e) in
+    let run : number32 words (count_offset_in_indom at) ≡ length row.instances = run_read draft s few d i (count_offset_in_indom at) row here (ap count_offset_in_indom e) in
     let all : instances_in (take i draft.indoms) + length row.instances ≤ instances_in draft.indoms = before_this draft.indoms i row here in
-    let from : number64 words (at + 8) ≡ first_instance (places draft s) draft.indoms row = first_read draft s i (at + 8) row here (ap (λ n. n + 8) e) in
-    all_hold (number32 words (at + 4)) (λ k. leads_to_instance words (number64 words (at + 8) + instance_size * k) && nat_eq (number64 words (number64 words (at + 8) + instance_size * k)) at) (λ k below.
+    let from : number64 words (first_offset_in_indom at) ≡ first_instance (places draft s) draft.indoms row = first_read draft s i (first_offset_in_indom at) row here (ap first_offset_in_indom e) in
+    all_hold (number32 words (count_offset_in_indom at)) (λ k. leads_to_instance words (number64 words (first_offset_in_indom at) + instance_size * k) && nat_eq (number64 words (number64 words (first_offset_in_indom at) + instance_size * k)) at) (λ k below.
     let within : k < length row.instances = subst (λ n. k < n) run below in
     let (instance, inside) = get_some row.instances k within in
-    let first : number64 words (at + 8) ≡ (places draft s).instances + instance_size * instances_in (take i draft.indoms) = from ∙ first_is draft s d i row here (omega arith) in
-    let place : number64 words (at + 8) + instance_size * k ≡ (places draft s).instances + instance_size * (instances_in (take i draft.indoms) + k) = omega arith in
-    let owner : number64 words (number64 words (at + 8) + instance_size * k) ≡ at = owner_read draft s d i k (number64 words (at + 8) + instance_size * k) row instance here inside (omega arith) ∙ back draft s at i e in
-    ap₂ (λ a b. a && b) (instance_leads_to draft s few (instances_in (take i draft.indoms) + k) (number64 words (at + 8) + instance_size * k) (omega arith) place) (eq-eqb (number64 words (number64 words (at + 8) + instance_size * k)) at owner))
+    let first : number64 words (first_offset_in_indom at) ≡ (places draft s).instances + instance_size * instances_in (take i draft.indoms) = from ∙ first_is draft s d i row here (omega arith) in
+    let place : number64 words (first_offset_in_indom at) + instance_size * k ≡ (places draft s).instances + instance_size * (instances_in (take i draft.indoms) + k) = omega arith in
+    let owner : number64 words (number64 words (first_offset_in_indom at) + instance_size * k) ≡ at = owner_read draft s d i k (number64 words (first_offset_in_indom at) + instance_size * k) row instance here inside (omega arith) ∙ back draft s at i e in
+    ap₂ (λ a b. a && b) (instance_leads_to draft s few (instances_in (take i draft.indoms) + k) (number64 words (first_offset_in_indom at) + instance_size * k) (omega arith) place) (eq-eqb (number64 words (number64 words (first_offset_in_indom at) + instance_size * k)) at owner))
 
 new_indom : (draft : Layout) (s : List (List ℕ)) → words_in (counts_of draft s) ≤ 65536 → IsDraft draft → (i : ℕ) (row : IndomRow) → slice_get draft.indoms i ≡ Some row → is_new_indom (spelled draft s) i ≡ true
 unfolding is_new_indom has_serial
@@ -58,8 +58,8 @@ good_indom draft s few d helps i below =
     let words : List ℕ = spelled draft s in
     let place : indom_at words i ≡ 8 * (domains_from draft s + indom_length * i) = indom_is draft s few i below in
     let stand : Stands words (domains_from draft s + indom_length * i) (domain_words (places draft s) s draft.indoms row) = stand_domain draft s i row here in
-    let short : help_leads words (indom_at words i + 16) ≡ true = help_good draft s few row.short (indom_at words i + 16) (helps i row here).0 (word_read words (domains_from draft s + indom_length * i) 2 (indom_at words i + 16) (domain_words (places draft s) s draft.indoms row) stand (omega arith) (omega arith)) in
-    let long : help_leads words (indom_at words i + 24) ≡ true = help_good draft s few row.long (indom_at words i + 24) (helps i row here).1 (word_read words (domains_from draft s + indom_length * i) 3 (indom_at words i + 24) (domain_words (places draft s) s draft.indoms row) stand (omega arith) (omega arith)) in
+    let short : help_leads words (short_offset_in_indom (indom_at words i)) ≡ true = help_good draft s few row.short (short_offset_in_indom (indom_at words i)) (helps i row here).0 (word_read words (domains_from draft s + indom_length * i) 2 (short_offset_in_indom (indom_at words i)) (domain_words (places draft s) s draft.indoms row) stand (omega arith) (omega arith)) in
+    let long : help_leads words (long_offset_in_indom (indom_at words i)) ≡ true = help_good draft s few row.long (long_offset_in_indom (indom_at words i)) (helps i row here).1 (word_read words (domains_from draft s + indom_length * i) 3 (long_offset_in_indom (indom_at words i)) (domain_words (places draft s) s draft.indoms row) stand (omega arith) (omega arith)) in
     ap₂ (λ a b. a && b) (ap₂ (λ a b. a && b) (ap₂ (λ a b. a && b) (ap₂ (λ a b. a && b) short long) (good_run draft s few d i (indom_at words i) row here place)) (new_indom draft s few d i row here))
     (ap is_serial (serial_read draft s few d i (indom_at words i) row here place) ∙ (d.domains i row here).serial)
 
@@ -76,7 +76,7 @@ name_from draft s i k row instance here within =
     stands_right (spelled draft s) (instances_from draft s + instance_length * (instances_in (take i draft.indoms) + k)) (instances_from draft s + instance_length * (instances_in (take i draft.indoms) + k) + 2)
     (domain_place (places draft s) draft.indoms row.serial ∷ halves 0 (cast_unsigned w32 instance.0) ∷ []) (first_words name_length instance.1) refl (stand_instance draft s i k row instance here within)
 
-pub number_read : (draft : Layout) (s : List (List ℕ)) → IsDraft draft → (i k at n : ℕ) (row : IndomRow) (instance : ℤ × List ℕ) → slice_get draft.indoms i ≡ Some row → slice_get row.instances k ≡ Some instance → instance.0 ≡ pos n → n < 2147483648 → at ≡ 8 * (instances_from draft s + instance_length * (instances_in (take i draft.indoms) + k)) + 12 → number32 (spelled draft s) at ≡ n
+pub number_read : (draft : Layout) (s : List (List ℕ)) → IsDraft draft → (i k at n : ℕ) (row : IndomRow) (instance : ℤ × List ℕ) → slice_get draft.indoms i ≡ Some row → slice_get row.instances k ≡ Some instance → instance.0 ≡ pos n → n < 2147483648 → at ≡ number_offset_in_instance (8 * (instances_from draft s + instance_length * (instances_in (take i draft.indoms) + k))) → number32 (spelled draft s) at ≡ n
 unfolding instance_words
 number_read draft s d i k at n row instance here within is fits e =
     high_read (spelled draft s) (instances_from draft s + instance_length * (instances_in (take i draft.indoms) + k)) 1 at (instance_words (domain_place (places draft s) draft.indoms row.serial) instance) 0 n (stand_instance draft s i k row instance here within) (omega arith) (omega arith)
@@ -94,16 +94,16 @@ short_name n h = (one n (both_left (nat_le 1 n) (nat_le n 63) h), most n (both_r
 isnt_zero : (n : ℕ) → n ≢ 0 → not (nat_eq n 0) ≡ true
 isnt_zero n h = grind (arith, nat_tests)
 
-named : (draft : Layout) (s : List (List ℕ)) → IsDraft draft → (i k at : ℕ) (row : IndomRow) (instance : ℤ × List ℕ) → slice_get draft.indoms i ≡ Some row → slice_get row.instances k ≡ Some instance → at ≡ 8 * (instances_from draft s + instance_length * (instances_in (take i draft.indoms) + k)) → has_text (spelled draft s) (at + 16) ≡ true
+named : (draft : Layout) (s : List (List ℕ)) → IsDraft draft → (i k at : ℕ) (row : IndomRow) (instance : ℤ × List ℕ) → slice_get draft.indoms i ≡ Some row → slice_get row.instances k ≡ Some instance → at ≡ 8 * (instances_from draft s + instance_length * (instances_in (take i draft.indoms) + k)) → has_text (spelled draft s) (name_offset_in_instance at) ≡ true
 unfolding has_text
 named draft s d i k at row instance here within e =
     let is : IsInstance instance = (d.domains i row here).instances k instance within in
     let short : (0 < length instance.1) × (length instance.1 < 64) = short_name (length instance.1) is.name in
     let stand : Stands (spelled draft s) (instances_from draft s + instance_length * (instances_in (take i draft.indoms) + k) + 2) (first_words name_length instance.1) = name_from draft s i k row instance here within in
-    let first : byte_at (spelled draft s) (at + 16) ≡ slice_index instance.1 0 =
-    ap (byte_at (spelled draft s)) (plus_none (at + 16)) ∙ byte_read (spelled draft s) (instances_from draft s + instance_length * (instances_in (take i draft.indoms) + k) + 2) name_length (at + 16) 0 instance.1 stand is.stored.bytes (omega arith) (omega arith) in
-    ap₂ (λ a b. a && b) (zero_read (spelled draft s) (instances_from draft s + instance_length * (instances_in (take i draft.indoms) + k) + 2) name_length (at + 16) instance.1 stand is.stored (omega arith) short.1)
-    (isnt_zero (byte_at (spelled draft s) (at + 16)) (λ z. is.stored.nonzero 0 0 short.0 (sym first ∙ z)))
+    let first : byte_at (spelled draft s) (name_offset_in_instance at) ≡ slice_index instance.1 0 =
+    ap (byte_at (spelled draft s)) (plus_none (name_offset_in_instance at)) ∙ byte_read (spelled draft s) (instances_from draft s + instance_length * (instances_in (take i draft.indoms) + k) + 2) name_length (name_offset_in_instance at) 0 instance.1 stand is.stored.bytes (omega arith) (omega arith) in
+    ap₂ (λ a b. a && b) (zero_read (spelled draft s) (instances_from draft s + instance_length * (instances_in (take i draft.indoms) + k) + 2) name_length (name_offset_in_instance at) instance.1 stand is.stored (omega arith) short.1)
+    (isnt_zero (byte_at (spelled draft s) (name_offset_in_instance at)) (λ z. is.stored.nonzero 0 0 short.0 (sym first ∙ z)))
   where
     plus_none : (n : ℕ) → n ≡ n + 0
     plus_none n = omega arith
@@ -115,10 +115,10 @@ in_run draft s few d i k at row instance here within e =
     let inside : k < length row.instances = get_below row.instances k instance within in
     let below : i < length draft.indoms = get_below draft.indoms i row here in
     let owner : number64 words at ≡ (places draft s).indoms + indom_size * i = owner_read draft s d i k at row instance here within e in
-    let run : number32 words (number64 words at + 4) ≡ length row.instances = run_read draft s few d i (number64 words at + 4) row here (omega arith) in
-    let first : number64 words (number64 words at + 8) ≡ (places draft s).instances + instance_size * instances_in (take i draft.indoms) = first_read draft s i (number64 words at + 8) row here (omega arith) ∙ first_is draft s d i row here (omega arith) in
+    let run : number32 words (count_offset_in_indom (number64 words at)) ≡ length row.instances = run_read draft s few d i (count_offset_in_indom (number64 words at)) row here (omega arith) in
+    let first : number64 words (first_offset_in_indom (number64 words at)) ≡ (places draft s).instances + instance_size * instances_in (take i draft.indoms) = first_read draft s i (first_offset_in_indom (number64 words at)) row here (omega arith) ∙ first_is draft s d i row here (omega arith) in
     ap₂ (λ a b. a && b) (indom_leads draft s few i (number64 words at) below owner)
-    (leads_there (number64 words (number64 words at + 8)) (number32 words (number64 words at + 4)) instance_size at k (omega arith) (omega arith))
+    (leads_there (number64 words (first_offset_in_indom (number64 words at))) (number32 words (count_offset_in_indom (number64 words at))) instance_size at k (omega arith) (omega arith))
 
 -- another number and another name
 differs : (a b : ℤ × List ℕ) (m n : ℕ) → a.0 ≡ pos m → b.0 ≡ pos n → (int_eq a.0 b.0 || bytes_eq a.1 b.1) ≡ false → (nat_eq m n || bytes_eq a.1 b.1) ≡ false
@@ -138,10 +138,10 @@ apart_in draft s d i k j row a b at_a at_b here in_a in_b less ea eb =
     let is_a : IsInstance a = (d.domains i row here).instances j a in_a in
     let is_b : IsInstance b = (d.domains i row here).instances k b in_b in
     let other : (int_eq a.0 b.0 || bytes_eq a.1 b.1) ≡ false = (d.domains i row here).apart j k a b less in_a in_b in
-    let text_a : text_at words (at_a + 16) 64 ≡ a.1 = text_read words (instances_from draft s + instance_length * (instances_in (take i draft.indoms) + j) + 2) name_length (at_a + 16) a.1 (name_from draft s i j row a here in_a) is_a.stored (omega arith) (short_name (length a.1) is_a.name).1 in
-    let text_b : text_at words (at_b + 16) 64 ≡ b.1 = text_read words (instances_from draft s + instance_length * (instances_in (take i draft.indoms) + k) + 2) name_length (at_b + 16) b.1 (name_from draft s i k row b here in_b) is_b.stored (omega arith) (short_name (length b.1) is_b.name).1 in
-    let number_a : number32 words (at_a + 12) ≡ is_a.number.0 = number_read draft s d i j (at_a + 12) is_a.number.0 row a here in_a is_a.number.1 is_a.number.2 (ap (λ n. n + 12) ea) in
-    let number_b : number32 words (at_b + 12) ≡ is_b.number.0 = number_read draft s d i k (at_b + 12) is_b.number.0 row b here in_b is_b.number.1 is_b.number.2 (ap (λ n. n + 12) eb) in
+    let text_a : text_at words (name_offset_in_instance at_a) 64 ≡ a.1 = text_read words (instances_from draft s + instance_length * (instances_in (take i draft.indoms) + j) + 2) name_length (name_offset_in_instance at_a) a.1 (name_from draft s i j row a here in_a) is_a.stored (omega arith) (short_name (length a.1) is_a.name).1 in
+    let text_b : text_at words (name_offset_in_instance at_b) 64 ≡ b.1 = text_read words (instances_from draft s + instance_length * (instances_in (take i draft.indoms) + k) + 2) name_length (name_offset_in_instance at_b) b.1 (name_from draft s i k row b here in_b) is_b.stored (omega arith) (short_name (length b.1) is_b.name).1 in
+    let number_a : number32 words (number_offset_in_instance at_a) ≡ is_a.number.0 = number_read draft s d i j (number_offset_in_instance at_a) is_a.number.0 row a here in_a is_a.number.1 is_a.number.2 (ap number_offset_in_instance ea) in
+    let number_b : number32 words (number_offset_in_instance at_b) ≡ is_b.number.0 = number_read draft s d i k (number_offset_in_instance at_b) is_b.number.0 row b here in_b is_b.number.1 is_b.number.2 (ap number_offset_in_instance eb) in
     ap (λ t. nat_eq (number64 words at_a) (number64 words at_b) && t) (ap₂ (λ x y. x || y) (ap₂ nat_eq number_a number_b) (ap₂ bytes_eq text_a text_b) ∙ differs a b is_a.number.0 is_b.number.0 is_a.number.1 is_b.number.1 other)
     ∙ and_false (nat_eq (number64 words at_a) (number64 words at_b))
 
@@ -161,7 +161,7 @@ other_instance draft s d j q at_j at_q m n less ej eq = here (nat_eq m.i n.i) re
     apart : (p a b : ℕ) → a ≢ b → nat_eq (p + indom_size * a) (p + indom_size * b) ≡ false
     apart p a b h = isnt (p + indom_size * a) (p + indom_size * b) (λ e. h (omega arith))
 
-    here : (b : Bool) → nat_eq m.i n.i ≡ b → (nat_eq (number64 (spelled draft s) at_j) (number64 (spelled draft s) at_q) && (nat_eq (number32 (spelled draft s) (at_j + 12)) (number32 (spelled draft s) (at_q + 12)) || same_name (spelled draft s) (at_j + 16) (at_q + 16))) ≡ false
+    here : (b : Bool) → nat_eq m.i n.i ≡ b → (nat_eq (number64 (spelled draft s) at_j) (number64 (spelled draft s) at_q) && (nat_eq (number32 (spelled draft s) (number_offset_in_instance at_j)) (number32 (spelled draft s) (number_offset_in_instance at_q)) || same_name (spelled draft s) (name_offset_in_instance at_j) (name_offset_in_instance at_q))) ≡ false
     here true e =
         let same : m.i ≡ n.i = eqb-true m.i n.i e in
         let one : m.row ≡ n.row = same_row draft.indoms n.i m.row n.row (ap (slice_get draft.indoms) (sym same) ∙ m.at) n.at in
@@ -171,7 +171,7 @@ other_instance draft s d j q at_j at_q m n less ej eq = here (nat_eq m.i n.i) re
         let is_q : q ≡ instances_in (take n.i draft.indoms) + n.k = n.is in
         apart_in draft s d n.i n.k m.k n.row m.instance n.instance at_j at_q n.at inside n.within (omega arith) (omega arith) (omega arith)
     here false e =
-        ap (λ t. t && (nat_eq (number32 (spelled draft s) (at_j + 12)) (number32 (spelled draft s) (at_q + 12)) || same_name (spelled draft s) (at_j + 16) (at_q + 16)))
+        ap (λ t. t && (nat_eq (number32 (spelled draft s) (number_offset_in_instance at_j)) (number32 (spelled draft s) (number_offset_in_instance at_q)) || same_name (spelled draft s) (name_offset_in_instance at_j) (name_offset_in_instance at_q)))
         (ap₂ nat_eq owner_j owner_q ∙ apart (places draft s).indoms m.i n.i (λ x. eqb-false m.i n.i e x))
 
 small : (n : ℕ) → n < 2147483648 → nat_lt n 2147483648 ≡ true
@@ -188,7 +188,7 @@ good_instance draft s few d q below =
     ap₂ (λ a b. a && b) (ap₂ (λ a b. a && b) (ap₂ (λ a b. a && b) (named draft s d m.i m.k (instance_at words q) m.row m.instance m.at m.within place) (in_run draft s few d m.i m.k (instance_at words q) m.row m.instance m.at m.within place))
     (all_hold q (λ j. not (is_same_instance words (instance_at words j) (instance_at words q))) (λ j less.
     ap not (other_instance draft s d j q (instance_at words j) (instance_at words q) (member draft.indoms j (omega arith)) m less (instance_is draft s few j (omega arith)) at))))
-    (ap is_instance_number (number_read draft s d m.i m.k (instance_at words q + 12) is.number.0 m.row m.instance m.at m.within is.number.1 is.number.2 (ap (λ n. n + 12) place)) ∙ small is.number.0 is.number.2)
+    (ap is_instance_number (number_read draft s d m.i m.k (number_offset_in_instance (instance_at words q)) is.number.0 m.row m.instance m.at m.within is.number.1 is.number.2 (ap number_offset_in_instance place)) ∙ small is.number.0 is.number.2)
 
 pub good_instances : (draft : Layout) (s : List (List ℕ)) → words_in (counts_of draft s) ≤ 65536 → IsDraft draft → instances_are_good (spelled draft s) ≡ true
 unfolding instances_are_good

@@ -1,5 +1,5 @@
 -- The keys of rows hold what the rows say, also when a row more stands.
-use Rattle.std.proofs.Common.{◌≡◌, ℕ, zero, suc, ◌+◌, ◌<◌, ℤ, Bool, true, false, not, ◌&&◌, ◌||◌, ◌⊎◌, inl, inr, List, [], ◌∷◌, ◌++◌, length, get_or, set, ap, ap₂, sym, subst, ◌∙◌, refl, arith, cond, nat_eq, nat_lt, Option, Some, None, is_some, bytes_eq}
+use Rattle.std.proofs.Common.{◌≡◌, ℕ, zero, suc, ◌+◌, ◌<◌, ℤ, Bool, true, false, not, ◌&&◌, ◌||◌, ◌⊎◌, inl, inr, List, [], ◌∷◌, ◌++◌, length, get_or, set, ap, ap₂, sym, subst, ◌∙◌, refl, arith, cond, nat_eq, nat_lt, Option, Some, None, is_some, bytes_eq, Vec, Global}
 use Rattle.std.specs.List.{list_any, position, position_or_len, slice_get}
 use Rattle.std.specs.Ordering.{nat_cmp, int_cmp, int_eq, is_eq, ordering_then}
 use Rattle.std.specs.declared.cmp.Ordering.{Ordering}
@@ -18,7 +18,8 @@ use Rattle.mmv_writer.specs.declared.keys.DomainKeys.{DomainKeys}
 use Rattle.mmv_writer.specs.declared.keys.RowKeys.{RowKeys}
 use Rattle.mmv_writer.specs.Rules.{has_domain, has_same_instance, has_instance, is_same_metric, fits_instance, fits_kind, fits_metric, fits_some_metric, is_same_number}
 use Rattle.mmv_writer.specs.Draft.{Apart, add_instance, empty_draft}
-use Rattle.mmv_writer.specs.Keys.{domain_in, place_of, numbers_have, names_have, has_name, HasDomains, HasItems, HasValues, HasKeys, value_order, AddsMember, HoldsAll, fits_domain, IsEmptyDomain, AreNoKeys}
+use Rattle.mmv_writer.specs.Keys.{domain_in, place_of, numbers_have, names_have, has_name, is_named, HasDomains, HasItems, HasMetricNames, HasValues, HasKeys, value_order, AddsMember, HoldsAll, fits_domain, IsEmptyDomain, AreNoKeys}
+use Rattle.std.proofs.lemmas.Slice.Eq.{bytes_eq-Decides}
 use Rattle.mmv_writer.proofs.Lookups.{at_serial}
 
 -- Positions
@@ -270,6 +271,48 @@ metric_kept old new rows row keys apart after i =
     here true e = ap (λ b. cond b (position (λ m. nat_eq m.item i) rows) (Some (length rows))) (sym (none_there e))
     here false e = keys i ∙ kept (list_any (λ m. nat_eq m.item i) rows) refl
 
+-- what the keys say of an item and a name
+pub metric_said : (items : BTreeMap ℕ ℕ) (names : BTreeSet (Vec ℕ Global)) (rows : List MetricRow) (row : MetricRow) → HasItems items rows → HasMetricNames names rows → (is_some (get nat_cmp items row.item) || is_named names row.name) ≡ list_any (λ other. is_same_metric other row) rows
+metric_said items names rows row keys named =
+    ap₂ (λ a b. a || b) (ap is_some (keys row.item) ∙ position_some (λ m. nat_eq m.item row.item) rows) (named row.name)
+    ∙ sym (either_any (λ m. nat_eq m.item row.item) (λ m. bytes_eq m.name row.name) rows)
+
+-- an item that was put in and taken out
+pub item_back : (old mid new : BTreeMap ℕ ℕ) (rows : List MetricRow) (row : MetricRow) (n : ℕ) → HasItems old rows → list_any (λ other. is_same_metric other row) rows ≡ false
+    → ((i : ℕ) → get nat_cmp mid i ≡ cond (is_eq (nat_cmp row.item i)) (Some n) (get nat_cmp old i)) → ((i : ℕ) → get nat_cmp new i ≡ cond (is_eq (nat_cmp row.item i)) None (get nat_cmp mid i)) → HasItems new rows
+item_back old mid new rows row n keys apart put taken i =
+    taken i ∙ ap (cond (is_eq (nat_cmp row.item i)) None) (put i) ∙ ap (λ b. cond b None (cond b (Some n) (get nat_cmp old i))) (at_serial row.item i) ∙ here (nat_eq row.item i) refl
+  where
+    gone : (p : Option ℕ) → is_some p ≡ false → None ≡ p
+    gone None h = refl
+    gone (Some p) h = cc
+
+    here : (b : Bool) → nat_eq row.item i ≡ b → cond b None (cond b (Some n) (get nat_cmp old i)) ≡ position (λ m. nat_eq m.item i) rows
+    here true e =
+        gone (position (λ m. nat_eq m.item i) rows)
+        (position_some (λ m. nat_eq m.item i) rows ∙ ap (λ k. list_any (λ m. nat_eq m.item k) rows) (sym (eqb-true row.item i e)) ∙ item_apart rows row apart)
+    here false e = keys i
+
+-- one name more
+pub names_kept : (old new : BTreeSet (Vec ℕ Global)) (rows : List MetricRow) (row : MetricRow) → HasMetricNames old rows → ((q : List ℕ) → is_named new q ≡ (bytes_eq q row.name || is_named old q)) → HasMetricNames new (rows ++ row ∷ [])
+names_kept old new rows row keys after q =
+    after q ∙ ap₂ (λ a b. a || b) (turned q row.name) (keys q) ∙ swapped (bytes_eq row.name q) (list_any (λ m. bytes_eq m.name q) rows)
+    ∙ sym (any_snoc (λ m. bytes_eq m.name q) rows row)
+  where
+    swapped : (a b : Bool) → (a || b) ≡ (b || a)
+    swapped true true = refl
+    swapped true false = refl
+    swapped false true = refl
+    swapped false false = refl
+
+    turned : (xs ys : List ℕ) → bytes_eq xs ys ≡ bytes_eq ys xs
+    turned xs ys = either (bytes_eq xs ys) (bytes_eq ys xs) (λ e. (bytes_eq-Decides ys xs).1 (sym ((bytes_eq-Decides xs ys).0 e))) (λ e. (bytes_eq-Decides xs ys).1 (sym ((bytes_eq-Decides ys xs).0 e)))
+      where
+        either : (a b : Bool) → (a ≡ true → b ≡ true) → (b ≡ true → a ≡ true) → a ≡ b
+        either true b f g = sym (f refl)
+        either false true f g = g refl
+        either false false f g = refl
+
 -- One value more
 
 then_equal : (a b : Ordering) → is_eq (ordering_then a b) ≡ (is_eq a && is_eq b)
@@ -380,5 +423,6 @@ nothing_kept keys version generation flags pid cluster none = record {
     names = λ s q. ap (λ d. names_have d q) (none.domains s);
   };
   items = none.items;
+  names = none.names;
   values = none.values;
 }

@@ -37,7 +37,7 @@ use Rattle.mmv_writer.proofs.DomainTests.{name_from, number_read, short_name}
 use Rattle.mmv_writer.proofs.MetricTests.{fields_of, stand_fields, meaning_fits, item_read, kind_read, meaning_read, metric_serial_read, name_read, fits_string}
 use Rattle.mmv_writer.proofs.ValueTests.{metric_index, metric_found, domain_found, index_in, member_found, metric_field, extra_read, instance_read, one_at_least, same_int}
 use Rattle.mmv_format.specs.Sizes.{indom_size, instance_size, metric_size, value_size, string_size}
-use Rattle.mmv_format.specs.EntryFields.{item_offset_in_metric, type_offset_in_metric, semantics_offset_in_metric, units_offset_in_metric, serial_offset_in_metric, short_offset_in_metric, long_offset_in_metric}
+use Rattle.mmv_format.specs.EntryFields.{item_offset_in_metric, type_offset_in_metric, semantics_offset_in_metric, units_offset_in_metric, serial_offset_in_metric, short_offset_in_metric, long_offset_in_metric, count_offset_in_indom, first_offset_in_indom, short_offset_in_indom, long_offset_in_indom, number_offset_in_instance, name_offset_in_instance, extra_offset_in_value, metric_offset_in_value, instance_offset_in_value}
 use Rattle.mmv_spelling.specs.Places.{name_length, indom_length, instance_length, metric_length, value_length, string_length}
 
 -- Rows one after the other
@@ -86,21 +86,21 @@ signed_small n h = to_z-of_z w32 (pos n) (record { sfits = h })
 instance_said : (draft : Layout) (s : List (List ℕ)) → IsDraft draft → (i k at : ℕ) (row : IndomRow) (instance : ℤ × List ℕ) → slice_get draft.indoms i ≡ Some row → slice_get row.instances k ≡ Some instance → at ≡ 8 * (instances_from draft s + instance_length * (instances_in (take i draft.indoms) + k)) → InstanceAt (spelled draft s) at instance
 instance_said draft s d i k at row instance here within e =
     let is : IsInstance instance = (d.domains i row here).instances k instance within in (
-      is.number.1 ∙ sym (ap (cast_signed w32) (number_read draft s d i k (at + 12) is.number.0 row instance here within is.number.1 is.number.2 (ap (λ n. n + 12) e)) ∙ signed_small is.number.0 is.number.2),
-      sym (text_read (spelled draft s) (instances_from draft s + instance_length * (instances_in (take i draft.indoms) + k) + 2) name_length (at + 16) instance.1 (name_from draft s i k row instance here within) is.stored (omega arith) (short_name (length instance.1) is.name).1),
+      is.number.1 ∙ sym (ap (cast_signed w32) (number_read draft s d i k (number_offset_in_instance at) is.number.0 row instance here within is.number.1 is.number.2 (ap number_offset_in_instance e)) ∙ signed_small is.number.0 is.number.2),
+      sym (text_read (spelled draft s) (instances_from draft s + instance_length * (instances_in (take i draft.indoms) + k) + 2) name_length (name_offset_in_instance at) instance.1 (name_from draft s i k row instance here within) is.stored (omega arith) (short_name (length instance.1) is.name).1),
     )
 
 indom_said : (draft : Layout) (s : List (List ℕ)) → words_in (counts_of draft s) ≤ 65536 → IsDraft draft → Each IsString s → (i at : ℕ) (row : IndomRow) → slice_get draft.indoms i ≡ Some row → HasHelp s row.short × HasHelp s row.long → at ≡ 8 * (domains_from draft s + indom_length * i) → IndomAt (spelled draft s) at row
 unfolding domain_words
 indom_said draft s few d short i at row here helps e = record {
   serial = sym (serial_read draft s few d i at row here e);
-  count = sym (run_read draft s few d i (at + 4) row here (ap (λ n. n + 4) e));
-  instances = each_at (InstanceAt (spelled draft s)) (number64 (spelled draft s) (at + 8)) instance_size row.instances (λ k instance place within p.
+  count = sym (run_read draft s few d i (count_offset_in_indom at) row here (ap count_offset_in_indom e));
+  instances = each_at (InstanceAt (spelled draft s)) (number64 (spelled draft s) (first_offset_in_indom at)) instance_size row.instances (λ k instance place within p.
       let inside : k < length row.instances = get_below row.instances k instance within in
-      let first : number64 (spelled draft s) (at + 8) ≡ (places draft s).instances + instance_size * instances_in (take i draft.indoms) = first_read draft s i (at + 8) row here (ap (λ n. n + 8) e) ∙ first_is draft s d i row here (omega arith) in
+      let first : number64 (spelled draft s) (first_offset_in_indom at) ≡ (places draft s).instances + instance_size * instances_in (take i draft.indoms) = first_read draft s i (first_offset_in_indom at) row here (ap first_offset_in_indom e) ∙ first_is draft s d i row here (omega arith) in
       instance_said draft s d i k place row instance here within (omega arith));
-  short = help_said draft s few short row.short (at + 16) helps.0 (word_read (spelled draft s) (domains_from draft s + indom_length * i) 2 (at + 16) (domain_words (places draft s) s draft.indoms row) (stand_domain draft s i row here) (omega arith) (omega arith));
-  long = help_said draft s few short row.long (at + 24) helps.1 (word_read (spelled draft s) (domains_from draft s + indom_length * i) 3 (at + 24) (domain_words (places draft s) s draft.indoms row) (stand_domain draft s i row here) (omega arith) (omega arith));
+  short = help_said draft s few short row.short (short_offset_in_indom at) helps.0 (word_read (spelled draft s) (domains_from draft s + indom_length * i) 2 (short_offset_in_indom at) (domain_words (places draft s) s draft.indoms row) (stand_domain draft s i row here) (omega arith) (omega arith));
+  long = help_said draft s few short row.long (long_offset_in_indom at) helps.1 (word_read (spelled draft s) (domains_from draft s + indom_length * i) 3 (long_offset_in_indom at) (domain_words (places draft s) s draft.indoms row) (stand_domain draft s i row here) (omega arith) (omega arith));
 }
 
 -- Metrics
@@ -132,7 +132,7 @@ metric_said draft s few d short i at row here helps e =
 
 -- Values
 
-number_said : (draft : Layout) (s : List (List ℕ)) → words_in (counts_of draft s) ≤ 65536 → IsDraft draft → (serial : Option ℕ) (number : Option ℤ) (value : ℕ) → HasDomain draft.indoms serial → fits_instance draft.indoms serial number ≡ true → rows.domain_of (spelled draft s) value ≡ serial_word serial → number64 (spelled draft s) (value + 24) ≡ instance_field (places draft s) draft.indoms serial number → InstanceOf (spelled draft s) value number
+number_said : (draft : Layout) (s : List (List ℕ)) → words_in (counts_of draft s) ≤ 65536 → IsDraft draft → (serial : Option ℕ) (number : Option ℤ) (value : ℕ) → HasDomain draft.indoms serial → fits_instance draft.indoms serial number ≡ true → rows.domain_of (spelled draft s) value ≡ serial_word serial → number64 (spelled draft s) (instance_offset_in_value value) ≡ instance_field (places draft s) draft.indoms serial number → InstanceOf (spelled draft s) value number
 number_said draft s few d None None value there fits word is = inr word
 number_said draft s few d None (Some id) value there fits word is = cc
 number_said draft s few d (Some serial) None value there fits word is = cc
@@ -142,12 +142,12 @@ number_said draft s few d (Some serial) (Some id) value there fits word is =
     let q : Passes p.row.instances (index_in p.row id) (λ other. int_eq other.0 id) = first_passes (λ other. int_eq other.0 id) p.row.instances (both_right (nat_eq p.row.serial serial) (list_any (λ other. int_eq other.0 id) p.row.instances) p.is) in
     let inside : index_in p.row id < length p.row.instances = get_below p.row.instances (index_in p.row id) q.row q.at in
     let all : instances_in (take (domain_of draft.indoms serial) draft.indoms) + length p.row.instances ≤ instances_in draft.indoms = before_this draft.indoms (domain_of draft.indoms serial) p.row p.at in
-    let q_at : number64 words (value + 24) ≡ (places draft s).instances + instance_size * (instances_in (take (domain_of draft.indoms serial) draft.indoms) + index_in p.row id) =
+    let q_at : number64 words (instance_offset_in_value value) ≡ (places draft s).instances + instance_size * (instances_in (take (domain_of draft.indoms serial) draft.indoms) + index_in p.row id) =
     is ∙ ap (λ k. (places draft s).instances + instance_size * (instances_in (take (domain_of draft.indoms serial) draft.indoms) + k)) (member_found draft serial id p.row p.at) in
     let index : ℕ = instances_in (take (domain_of draft.indoms serial) draft.indoms) + index_in p.row id in
     let at : instance_at words (instances_in (take (domain_of draft.indoms serial) draft.indoms) + index_in p.row id) ≡ 8 * (instances_from draft s + instance_length * (instances_in (take (domain_of draft.indoms serial) draft.indoms) + index_in p.row id)) =
     instance_is draft s few (instances_in (take (domain_of draft.indoms serial) draft.indoms) + index_in p.row id) (omega arith) in
-    let said : InstanceAt words (number64 words (value + 24)) q.row = instance_said draft s d (domain_of draft.indoms serial) (index_in p.row id) (number64 words (value + 24)) p.row q.row p.at q.at (omega arith) in (
+    let said : InstanceAt words (number64 words (instance_offset_in_value value)) q.row = instance_said draft s d (domain_of draft.indoms serial) (index_in p.row id) (number64 words (instance_offset_in_value value)) p.row q.row p.at q.at (omega arith) in (
       (serial_said draft d (Some serial) (rows.domain_of words value) there word).0,
       (instances_in (take (domain_of draft.indoms serial) draft.indoms) + index_in p.row id, subst (λ n. instances_in (take (domain_of draft.indoms serial) draft.indoms) + index_in p.row id < n) (sym (find_instances draft s few).count) (omega arith), omega arith),
       sym (same_int q.row.0 id q.is) ∙ said.0,
@@ -166,9 +166,9 @@ raw_kind kinds.Double h = inr (inl refl)
 raw_kind kinds.Text h = cc
 raw_kind kinds.Elapsed h = inr (inr refl)
 
-content_said : (draft : Layout) (s : List (List ℕ)) → words_in (counts_of draft s) ≤ 65536 → Each IsString s → (content : Content) (kind : Kind) (value : ℕ) → fits_kind kind content ≡ true → HasContent s content → rows.type_of (spelled draft s) value ≡ code_of_kind kind → number64 (spelled draft s) value ≡ value_field content → number64 (spelled draft s) (value + 8) ≡ extra_field (places draft s) s content → ContentAt (spelled draft s) value content
+content_said : (draft : Layout) (s : List (List ℕ)) → words_in (counts_of draft s) ≤ 65536 → Each IsString s → (content : Content) (kind : Kind) (value : ℕ) → fits_kind kind content ≡ true → HasContent s content → rows.type_of (spelled draft s) value ≡ code_of_kind kind → number64 (spelled draft s) value ≡ value_field content → number64 (spelled draft s) (extra_offset_in_value value) ≡ extra_field (places draft s) s content → ContentAt (spelled draft s) value content
 content_said draft s few short (Number n) kind value fits has code is more = (subst (λ c. c ≤ 3) (sym code) (le_three (code_of_kind kind) fits), sym is)
-content_said draft s few short (Choice text) kind value fits has code is more = (code ∙ eqb-true (code_of_kind kind) 6 fits, string_said draft s few short text (number64 (spelled draft s) (value + 8)) has more)
+content_said draft s few short (Choice text) kind value fits has code is more = (code ∙ eqb-true (code_of_kind kind) 6 fits, string_said draft s few short text (number64 (spelled draft s) (extra_offset_in_value value)) has more)
 content_said draft s few short (Raw v e) kind value fits has code is more =
     (subst (λ c. (c ≡ 4) ⊎ (c ≡ 5) ⊎ (c ≡ 9)) (sym code) (raw_kind kind fits), sym is, sym more)
 
@@ -180,17 +180,17 @@ value_said draft s few d short i at row here has e =
     let fits : (fits_instance draft.indoms p.row.serial row.instance && fits_kind p.row.kind row.content) ≡ true = both_right (nat_eq p.row.item row.item) (fits_instance draft.indoms p.row.serial row.instance && fits_kind p.row.kind row.content) p.is in
     let item : p.row.item ≡ row.item = eqb-true p.row.item row.item (both_left (nat_eq p.row.item row.item) (fits_instance draft.indoms p.row.serial row.instance && fits_kind p.row.kind row.content) p.is) in
     let inside : metric_index draft row.item < length draft.metrics = get_below draft.metrics (metric_index draft row.item) p.row p.at in
-    let metric : number64 words (at + 16) ≡ (places draft s).metrics + metric_size * metric_index draft row.item = metric_field draft s i (at + 16) row here (ap (λ n. n + 16) e) in
+    let metric : number64 words (metric_offset_in_value at) ≡ (places draft s).metrics + metric_size * metric_index draft row.item = metric_field draft s i (metric_offset_in_value at) row here (ap metric_offset_in_value e) in
     let place : metric_at words (metric_index draft row.item) ≡ 8 * (metrics_from draft s + metric_length * metric_index draft row.item) = metric_is draft s few (metric_index draft row.item) inside in
     record {
       metric = (metric_index draft row.item, subst (λ n. metric_index draft row.item < n) (sym (find_metrics draft s few).count) inside, omega arith);
-      item = sym item ∙ sym (item_read draft s d (metric_index draft row.item) (item_offset_in_metric (number64 words (at + 16))) p.row p.at (omega arith));
+      item = sym item ∙ sym (item_read draft s d (metric_index draft row.item) (item_offset_in_metric (number64 words (metric_offset_in_value at))) p.row p.at (omega arith));
       instance = number_said draft s few d p.row.serial row.instance at (d.metrics (metric_index draft row.item) p.row p.at).domain (both_left (fits_instance draft.indoms p.row.serial row.instance) (fits_kind p.row.kind row.content) fits)
-          (metric_serial_read draft s d (metric_index draft row.item) (serial_offset_in_metric (number64 words (at + 16))) p.row p.at (omega arith)) (instance_read draft s i (at + 24) row p.row here p.at (ap (λ n. n + 24) e));
+          (metric_serial_read draft s d (metric_index draft row.item) (serial_offset_in_metric (number64 words (metric_offset_in_value at))) p.row p.at (omega arith)) (instance_read draft s i (instance_offset_in_value at) row p.row here p.at (ap instance_offset_in_value e));
       content = content_said draft s few short row.content p.row.kind at (both_right (fits_instance draft.indoms p.row.serial row.instance) (fits_kind p.row.kind row.content) fits) has
-          (kind_read draft s d (metric_index draft row.item) (type_offset_in_metric (number64 words (at + 16))) p.row p.at (omega arith))
+          (kind_read draft s d (metric_index draft row.item) (type_offset_in_metric (number64 words (metric_offset_in_value at))) p.row p.at (omega arith))
           (word_read words (values_from draft s + value_length * i) 0 at (value_words (places draft s) s draft.indoms draft.metrics row) (stand_value draft s i row here) (omega arith) (omega arith))
-          (extra_read draft s i (at + 8) row here (ap (λ n. n + 8) e));
+          (extra_read draft s i (extra_offset_in_value at) row here (ap extra_offset_in_value e));
     }
 
 text_said : (draft : Layout) (s : List (List ℕ)) → Each IsString s → (i at : ℕ) (text : List ℕ) → slice_get s i ≡ Some text → at ≡ 8 * (strings_from draft s + string_length * i) → TextAt (spelled draft s) at text

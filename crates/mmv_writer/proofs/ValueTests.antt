@@ -29,7 +29,7 @@ use Rattle.mmv_writer.proofs.Spelt.{values_from, places, find_values}
 use Rattle.mmv_writer.proofs.Marks.{value_is, indom_leads, instance_leads_to, metric_leads, string_leads, stand_value, serial_fits, serial_read, owner_read}
 use Rattle.mmv_writer.proofs.MetricTests.{kind_read, metric_serial_read}
 use Rattle.mmv_format.specs.Sizes.{indom_size, instance_size, metric_size}
-use Rattle.mmv_format.specs.EntryFields.{type_offset_in_metric, serial_offset_in_metric}
+use Rattle.mmv_format.specs.EntryFields.{type_offset_in_metric, serial_offset_in_metric, extra_offset_in_value, metric_offset_in_value, instance_offset_in_value}
 use Rattle.mmv_spelling.specs.Places.{value_length}
 
 -- where keys differ, the first row with a key is the one that some row with it is
@@ -127,15 +127,15 @@ choice_good draft s few (Raw value extra) kind field code fits has is shown =
 
 -- Fields of a value
 
-pub metric_field : (draft : Layout) (s : List (List ℕ)) (i at : ℕ) (row : ValueRow) → slice_get draft.values i ≡ Some row → at ≡ 8 * (values_from draft s + value_length * i) + 16 → number64 (spelled draft s) at ≡ (places draft s).metrics + metric_size * metric_index draft row.item
+pub metric_field : (draft : Layout) (s : List (List ℕ)) (i at : ℕ) (row : ValueRow) → slice_get draft.values i ≡ Some row → at ≡ metric_offset_in_value (8 * (values_from draft s + value_length * i)) → number64 (spelled draft s) at ≡ (places draft s).metrics + metric_size * metric_index draft row.item
 unfolding value_words
 metric_field draft s i at row here e = word_read (spelled draft s) (values_from draft s + value_length * i) 2 at (value_words (places draft s) s draft.indoms draft.metrics row) (stand_value draft s i row here) (omega arith) (omega arith)
 
-pub extra_read : (draft : Layout) (s : List (List ℕ)) (i at : ℕ) (row : ValueRow) → slice_get draft.values i ≡ Some row → at ≡ 8 * (values_from draft s + value_length * i) + 8 → number64 (spelled draft s) at ≡ extra_field (places draft s) s row.content
+pub extra_read : (draft : Layout) (s : List (List ℕ)) (i at : ℕ) (row : ValueRow) → slice_get draft.values i ≡ Some row → at ≡ extra_offset_in_value (8 * (values_from draft s + value_length * i)) → number64 (spelled draft s) at ≡ extra_field (places draft s) s row.content
 unfolding value_words
 extra_read draft s i at row here e = word_read (spelled draft s) (values_from draft s + value_length * i) 1 at (value_words (places draft s) s draft.indoms draft.metrics row) (stand_value draft s i row here) (omega arith) (omega arith)
 
-pub instance_read : (draft : Layout) (s : List (List ℕ)) (i at : ℕ) (row : ValueRow) (metric : MetricRow) → slice_get draft.values i ≡ Some row → slice_get draft.metrics (metric_index draft row.item) ≡ Some metric → at ≡ 8 * (values_from draft s + value_length * i) + 24 → number64 (spelled draft s) at ≡ instance_field (places draft s) draft.indoms metric.serial row.instance
+pub instance_read : (draft : Layout) (s : List (List ℕ)) (i at : ℕ) (row : ValueRow) (metric : MetricRow) → slice_get draft.values i ≡ Some row → slice_get draft.metrics (metric_index draft row.item) ≡ Some metric → at ≡ instance_offset_in_value (8 * (values_from draft s + value_length * i)) → number64 (spelled draft s) at ≡ instance_field (places draft s) draft.indoms metric.serial row.instance
 unfolding value_words
 instance_read draft s i at row metric here there e =
     word_read (spelled draft s) (values_from draft s + value_length * i) 3 at (value_words (places draft s) s draft.indoms draft.metrics row) (stand_value draft s i row here) (omega arith) (omega arith)
@@ -197,20 +197,20 @@ other_value draft s d j i at_a at_b a b here_a here_b less ea eb = here (nat_eq 
     apart : (p a b : ℕ) → a ≢ b → p + metric_size * a ≢ p + metric_size * b
     apart p a b h e = h (omega arith)
 
-    here : (t : Bool) → nat_eq a.item b.item ≡ t → (t && is_same_number a.instance b.instance) ≡ false → (nat_eq (number64 (spelled draft s) (at_a + 16)) (number64 (spelled draft s) (at_b + 16)) && nat_eq (number64 (spelled draft s) (at_a + 24)) (number64 (spelled draft s) (at_b + 24))) ≡ false
+    here : (t : Bool) → nat_eq a.item b.item ≡ t → (t && is_same_number a.instance b.instance) ≡ false → (nat_eq (number64 (spelled draft s) (metric_offset_in_value at_a)) (number64 (spelled draft s) (metric_offset_in_value at_b)) && nat_eq (number64 (spelled draft s) (instance_offset_in_value at_a)) (number64 (spelled draft s) (instance_offset_in_value at_b))) ≡ false
     here true e other =
         let items : a.item ≡ b.item = eqb-true a.item b.item e in
         let one : p.row ≡ q.row = same_row draft.metrics (metric_index draft b.item) p.row q.row (ap (λ n. slice_get draft.metrics (metric_index draft n)) (sym items) ∙ p.at) q.at in
-        ap (λ t. nat_eq (number64 (spelled draft s) (at_a + 16)) (number64 (spelled draft s) (at_b + 16)) && t)
-        (ap₂ nat_eq (instance_read draft s j (at_a + 24) a p.row here_a p.at (ap (λ n. n + 24) ea)) (instance_read draft s i (at_b + 24) b q.row here_b q.at (ap (λ n. n + 24) eb) ∙ ap (λ r. instance_field (places draft s) draft.indoms r.serial b.instance) (sym one))
+        ap (λ t. nat_eq (number64 (spelled draft s) (metric_offset_in_value at_a)) (number64 (spelled draft s) (metric_offset_in_value at_b)) && t)
+        (ap₂ nat_eq (instance_read draft s j (instance_offset_in_value at_a) a p.row here_a p.at (ap instance_offset_in_value ea)) (instance_read draft s i (instance_offset_in_value at_b) b q.row here_b q.at (ap instance_offset_in_value eb) ∙ ap (λ r. instance_field (places draft s) draft.indoms r.serial b.instance) (sym one))
         ∙ fields_differ draft s d p.row.serial a.instance b.instance fits_p (ap (λ r. fits_instance draft.indoms r.serial b.instance) one ∙ fits_q) other)
-        ∙ and_false (nat_eq (number64 (spelled draft s) (at_a + 16)) (number64 (spelled draft s) (at_b + 16)))
+        ∙ and_false (nat_eq (number64 (spelled draft s) (metric_offset_in_value at_a)) (number64 (spelled draft s) (metric_offset_in_value at_b)))
     here false e other =
         let indexes : metric_index draft a.item ≢ metric_index draft b.item = λ same.
         let one : p.row ≡ q.row = same_row draft.metrics (metric_index draft b.item) p.row q.row (ap (slice_get draft.metrics) (sym same) ∙ p.at) q.at in
         eqb-false a.item b.item e (sym item_p ∙ ap (λ r. r.item) one ∙ item_q) in
-        ap (λ t. t && nat_eq (number64 (spelled draft s) (at_a + 24)) (number64 (spelled draft s) (at_b + 24)))
-        (ap₂ nat_eq (metric_field draft s j (at_a + 16) a here_a (ap (λ n. n + 16) ea)) (metric_field draft s i (at_b + 16) b here_b (ap (λ n. n + 16) eb))
+        ap (λ t. t && nat_eq (number64 (spelled draft s) (instance_offset_in_value at_a)) (number64 (spelled draft s) (instance_offset_in_value at_b)))
+        (ap₂ nat_eq (metric_field draft s j (metric_offset_in_value at_a) a here_a (ap metric_offset_in_value ea)) (metric_field draft s i (metric_offset_in_value at_b) b here_b (ap metric_offset_in_value eb))
         ∙ isnt _ _ (apart (places draft s).metrics (metric_index draft a.item) (metric_index draft b.item) indexes))
 
 good_value : (draft : Layout) (s : List (List ℕ)) → words_in (counts_of draft s) ≤ 65536 → IsDraft draft → Each (λ row. HasContent s row.content) draft.values → (i : ℕ) → i < length draft.values → is_good_value (spelled draft s) i ≡ true
@@ -222,15 +222,15 @@ good_value draft s few d texts i below =
     let p : Passes draft.metrics (metric_index draft row.item) (λ metric. fits_metric draft.indoms row metric) = metric_found draft d row (d.values i row here).metric in
     let fits : (fits_instance draft.indoms p.row.serial row.instance && fits_kind p.row.kind row.content) ≡ true = both_right (nat_eq p.row.item row.item) (fits_instance draft.indoms p.row.serial row.instance && fits_kind p.row.kind row.content) p.is in
     let inside : metric_index draft row.item < length draft.metrics = get_below draft.metrics (metric_index draft row.item) p.row p.at in
-    let metric : number64 words (value_at words i + 16) ≡ (places draft s).metrics + metric_size * metric_index draft row.item = metric_field draft s i (value_at words i + 16) row here (ap (λ n. n + 16) place) in
-    let kind : number32 words (type_offset_in_metric (number64 words (value_at words i + 16))) ≡ code_of_kind p.row.kind = kind_read draft s d (metric_index draft row.item) (type_offset_in_metric (number64 words (value_at words i + 16))) p.row p.at (omega arith) in
-    let serial : number32 words (serial_offset_in_metric (number64 words (value_at words i + 16))) ≡ serial_word p.row.serial = metric_serial_read draft s d (metric_index draft row.item) (serial_offset_in_metric (number64 words (value_at words i + 16))) p.row p.at (omega arith) in
+    let metric : number64 words (metric_offset_in_value (value_at words i)) ≡ (places draft s).metrics + metric_size * metric_index draft row.item = metric_field draft s i (metric_offset_in_value (value_at words i)) row here (ap metric_offset_in_value place) in
+    let kind : number32 words (type_offset_in_metric (number64 words (metric_offset_in_value (value_at words i)))) ≡ code_of_kind p.row.kind = kind_read draft s d (metric_index draft row.item) (type_offset_in_metric (number64 words (metric_offset_in_value (value_at words i)))) p.row p.at (omega arith) in
+    let serial : number32 words (serial_offset_in_metric (number64 words (metric_offset_in_value (value_at words i)))) ≡ serial_word p.row.serial = metric_serial_read draft s d (metric_index draft row.item) (serial_offset_in_metric (number64 words (metric_offset_in_value (value_at words i)))) p.row p.at (omega arith) in
     ap₂ (λ a b. a && b) (ap₂ (λ a b. a && b) (ap₂ (λ a b. a && b)
-    (metric_leads draft s few (metric_index draft row.item) (number64 words (value_at words i + 16)) inside metric)
-    (instance_good draft s few d p.row.serial row.instance (number64 words (value_at words i + 24)) (number32 words (serial_offset_in_metric (number64 words (value_at words i + 16)))) (both_left (fits_instance draft.indoms p.row.serial row.instance) (fits_kind p.row.kind row.content) fits)
-    (instance_read draft s i (value_at words i + 24) row p.row here p.at (ap (λ n. n + 24) place)) serial))
-    (choice_good draft s few row.content p.row.kind (number64 words (value_at words i + 8)) (number32 words (type_offset_in_metric (number64 words (value_at words i + 16)))) (both_right (fits_instance draft.indoms p.row.serial row.instance) (fits_kind p.row.kind row.content) fits) (texts i row here)
-    (extra_read draft s i (value_at words i + 8) row here (ap (λ n. n + 8) place)) kind))
+    (metric_leads draft s few (metric_index draft row.item) (number64 words (metric_offset_in_value (value_at words i))) inside metric)
+    (instance_good draft s few d p.row.serial row.instance (number64 words (instance_offset_in_value (value_at words i))) (number32 words (serial_offset_in_metric (number64 words (metric_offset_in_value (value_at words i))))) (both_left (fits_instance draft.indoms p.row.serial row.instance) (fits_kind p.row.kind row.content) fits)
+    (instance_read draft s i (instance_offset_in_value (value_at words i)) row p.row here p.at (ap instance_offset_in_value place)) serial))
+    (choice_good draft s few row.content p.row.kind (number64 words (extra_offset_in_value (value_at words i))) (number32 words (type_offset_in_metric (number64 words (metric_offset_in_value (value_at words i))))) (both_right (fits_instance draft.indoms p.row.serial row.instance) (fits_kind p.row.kind row.content) fits) (texts i row here)
+    (extra_read draft s i (extra_offset_in_value (value_at words i)) row here (ap extra_offset_in_value place)) kind))
     (all_hold i (λ j. not (is_same_value words (value_at words j) (value_at words i))) (λ j less.
     let (other, there) = get_some draft.values j (omega arith) in
     ap not (other_value draft s d j i (value_at words j) (value_at words i) other row there here less (value_is draft s few j (omega arith)) place)))

@@ -50,6 +50,14 @@ pub record HasDomains (domains : BTreeMap ℕ DomainKeys) (indoms : List IndomRo
 abbrev pub HasItems : BTreeMap ℕ ℕ → List MetricRow → Type 0
 HasItems items metrics = (item : ℕ) → get nat_cmp items item ≡ position (λ metric. metric.item == item) metrics
 
+-- a name is one of those kept of metrics
+abbrev pub is_named : BTreeSet (Vec ℕ) → List ℕ → Bool
+is_named names name = contains_by (λ (key : Vec ℕ). slice_cmp nat_cmp name key.items) names
+
+-- the names kept are those of the metrics
+abbrev pub HasMetricNames : BTreeSet (Vec ℕ) → List MetricRow → Type 0
+HasMetricNames names metrics = (name : List ℕ) → is_named names name ≡ list_any (λ metric. bytes_eq metric.name name) metrics
+
 -- the order of values: by item, then by instance
 abbrev pub value_order : ℕ × Option ℤ → ℕ × Option ℤ → Ordering
 value_order a b = ordering_then (nat_cmp a.0 b.0) (option_cmp int_cmp a.1 b.1)
@@ -62,6 +70,7 @@ HasValues values rows =
 pub record HasKeys (keys : RowKeys) (draft : Layout) : Type 0 where
   pub domains : HasDomains keys.domains draft.indoms
   pub items : HasItems keys.items draft.metrics
+  pub names : HasMetricNames keys.names draft.metrics
   pub values : HasValues keys.values draft.values
 
 -- One instance more
@@ -109,4 +118,5 @@ pub record IsEmptyDomain (at : ℕ) (domain : DomainKeys) : Type 0 where
 pub record AreNoKeys (keys : RowKeys) : Type 0 where
   pub domains : (serial : ℕ) → domain_in keys.domains serial ≡ None
   pub items : (item : ℕ) → get nat_cmp keys.items item ≡ None
+  pub names : (name : List ℕ) → is_named keys.names name ≡ false
   pub values : (item : ℕ) (number : Option ℤ) → contains value_order keys.values (item, number) ≡ false

@@ -3,7 +3,7 @@ ghost use Rattle.std.specs.Prelude.{◌≡◌, ◌==◌, [], ◌∷◌, ◌++◌
 ghost use Rattle.std.specs.List.{list_any, position};
 ghost use Rattle.mmv_writer.specs.Rules.{has_domain, has_same_instance, is_same_metric};
 ghost use Rattle.mmv_writer.specs.Draft.{add_instance};
-ghost use Rattle.mmv_writer.specs.Keys.{domain_in, numbers_have, AddsMember, HoldsAll, HasDomains, HasItems, HasValues};
+ghost use Rattle.mmv_writer.specs.Keys.{domain_in, numbers_have, AddsMember, HoldsAll, HasDomains, HasItems, HasMetricNames, HasValues};
 
 use crate::keys::{DomainKeys, add_member, place_of};
 use mmv_layout::{IndomRow, MetricRow, ValueRow};
@@ -110,11 +110,16 @@ pub fn add_instance(
 pub fn add_metric(
     rows: &mut List<MetricRow>,
     items: &mut BTreeMap<u32, usize>,
+    names: &mut BTreeSet<Vec<u8>>,
     row: MetricRow,
+    name: Vec<u8>,
 ) -> Result<(), NoMemory>
     requires keys { HasItems items.now rows.now }
+    requires names { HasMetricNames names.now rows.now }
     requires new { list_any (λ other. is_same_metric other row) rows.now ≡ false }
+    requires name { name.items ≡ row.name }
     ensures keys { HasItems items.new rows.new }
+    ensures names { HasMetricNames names.new rows.new }
     ensures ok { OnOk result (rows.new ≡ rows.old ++ row ∷ []) }
     ensures err { OnErr result (rows.new ≡ rows.old) }
 {
@@ -122,6 +127,11 @@ pub fn add_metric(
     let at = rows.len();
     rows.push(row)?;
     if let Err(_) = items.insert(item, at) {
+        rows.pop();
+        return Err(NoMemory);
+    }
+    if let Err(_) = names.insert(name) {
+        items.remove(&item);
         rows.pop();
         return Err(NoMemory);
     }

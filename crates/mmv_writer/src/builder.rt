@@ -9,10 +9,10 @@ ghost use Rattle.mmv_writer.specs.Draft.{IsStored, IsHelp, IsContent, IsDraft, I
 
 use crate::adding::{add_domain, add_instance, add_metric, add_value};
 use crate::fault::BuildFault;
-use crate::keys::{RowKeys, has_domain, has_either};
+use crate::keys::{RowKeys, has_domain, has_either, has_metric};
 use crate::rules::{
-    fits_metric, has_same_metric, header_fault, is_instance_name, is_long_content, is_long_help,
-    is_metric_name, is_serial, text_fault,
+    fits_metric, header_fault, is_instance_name, is_long_content, is_long_help, is_metric_name,
+    is_serial, text_fault,
 };
 use crate::spelling::words_of_draft;
 use mmv_layout::{Image, IndomRow, Layout, MetricRow, ValueRow};
@@ -126,7 +126,7 @@ impl Builder {
     fn has_same_metric(&self, row: &MetricRow) -> bool
         ensures { result ≡ list_any (λ other. is_same_metric other row.now) self.now.metrics }
     {
-        has_same_metric(self.layout.metrics.as_slice(), row)
+        has_metric(&self.keys.items, &self.keys.names, row)
     }
 
     /// Why a metric isn't taken.
@@ -281,7 +281,7 @@ impl Builder {
 
     /// Adds a metric. After a refusal nothing is changed.
     #[tactic(auto, using(crate::proofs::Drafts::metric_added), unfolding(crate::specs::Draft::with_metric))]
-    pub fn metric(&mut self, row: MetricRow) -> Result<(), BuildFault>
+    pub fn metric(&mut self, alloc: Global, row: MetricRow) -> Result<(), BuildFault>
         ensures { MatchResult result
             (λ _. (metric_fault self.old row ≡ None) × (self.new ≡ with_metric self.old row))
             (λ fault. IsRefusal (metric_fault self.old row) fault × (self.new ≡ self.old)) }
@@ -289,7 +289,14 @@ impl Builder {
         if let Some(fault) = self.metric_fault(&row) {
             return Err(fault);
         }
-        add_metric(&mut self.layout.metrics, &mut self.keys.items, row)?;
+        let name = Vec::from_slice(alloc, row.name.as_slice())?;
+        add_metric(
+            &mut self.layout.metrics,
+            &mut self.keys.items,
+            &mut self.keys.names,
+            row,
+            name,
+        )?;
         Ok(())
     }
 

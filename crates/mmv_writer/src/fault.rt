@@ -3,6 +3,7 @@ ghost use Rattle.std.specs.Prelude.{◌≡◌};
 ghost use Rattle.mmv_writer.specs.declared.fault.BuildFault.TheVariants.{NoMemory as Refused};
 
 use pcp_base::NoMemory;
+use std::alloc::AllocError;
 use thiserror::Error;
 
 /// Why a row isn't taken or an image isn't made. The first reason in this order is told, and the builder is as it was.
@@ -35,6 +36,14 @@ impl From<NoMemory> for BuildFault {
     ghost from_gives = { λ _ e. e ≡ Refused };
 
     fn from(_error: NoMemory) -> BuildFault {
+        BuildFault::NoMemory
+    }
+}
+
+impl From<AllocError> for BuildFault {
+    ghost from_gives = { λ _ e. e ≡ Refused };
+
+    fn from(_error: AllocError) -> BuildFault {
         BuildFault::NoMemory
     }
 }

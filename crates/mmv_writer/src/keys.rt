@@ -3,8 +3,9 @@ ghost use Rattle.std.specs.Prelude.{◌≡◌, ◌||◌, ℤ, false, true, is_so
 ghost use Rattle.std.specs.Ordering.{nat_cmp};
 ghost use Rattle.std.specs.BTreeMap.{get};
 ghost use Rattle.std.specs.BTreeSet.{contains};
-ghost use Rattle.mmv_writer.specs.Keys.{domain_in, place_of, numbers_have, names_have, fits_domain, value_order, Adds, Holds, AddsMember, HoldsAll, IsEmptyDomain, AreNoKeys};
+ghost use Rattle.mmv_writer.specs.Keys.{is_named, domain_in, place_of, numbers_have, names_have, fits_domain, value_order, Adds, Holds, AddsMember, HoldsAll, IsEmptyDomain, AreNoKeys};
 
+use mmv_layout::MetricRow;
 use pcp_base::{NoMemory, Text};
 use std::alloc::Global;
 use std::collections::{BTreeMap, BTreeSet};
@@ -17,11 +18,13 @@ pub struct DomainKeys {
     pub names: BTreeSet<Vec<u8>>,
 }
 
-/// What is kept of all rows: domains by serial, the places of metrics by item, and the item and instance of values.
+/// What is kept of all rows: domains by serial, the places of metrics by item, their names, and the item and instance
+/// of values.
 #[derive(Drop)]
 pub struct RowKeys {
     pub domains: BTreeMap<u32, DomainKeys>,
     pub items: BTreeMap<u32, usize>,
+    pub names: BTreeSet<Vec<u8>>,
     pub values: BTreeSet<(u32, Option<i32>)>,
 }
 
@@ -73,9 +76,17 @@ impl RowKeys {
         RowKeys {
             domains: BTreeMap::new(alloc),
             items: BTreeMap::new(alloc),
+            names: BTreeSet::new(alloc),
             values: BTreeSet::new(alloc),
         }
     }
+}
+
+/// Whether a metric has the item or the name of this one.
+pub fn has_metric(items: &BTreeMap<u32, usize>, names: &BTreeSet<Vec<u8>>, row: &MetricRow) -> bool
+    ensures { result ≡ (is_some (get nat_cmp items.now row.now.item) || is_named names.now row.now.name) }
+{
+    items.contains_key(&row.item) || names.contains(row.name.as_slice())
 }
 
 /// Where the row of the domain with a serial stands.

@@ -48,7 +48,7 @@ pub fn add_line(alloc: Global, builder: &mut Builder, line: Line) -> Result<(), 
             long,
         } => builder.indom(alloc, serial, short, long)?,
         Line::Instance { serial, id, name } => builder.instance(alloc, serial, id, name)?,
-        Line::Metric(row) => builder.metric(row)?,
+        Line::Metric(row) => builder.metric(alloc, row)?,
         Line::Value {
             item,
             instance,

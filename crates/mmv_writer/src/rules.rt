@@ -1,7 +1,7 @@
 //! The rules of single rows.
 ghost use Rattle.std.specs.Prelude.{◌≡◌, ◌<◌, ◌&&◌, ◌==◌, ℕ, false, None, bytes_eq, slice_index};
 ghost use Rattle.std.specs.List.{list_any};
-ghost use Rattle.mmv_writer.specs.Rules.{is_long, is_long_help, is_serial, header_fault, is_instance_name, is_metric_name, is_same_metric, fits_kind, is_long_content, text_fault};
+ghost use Rattle.mmv_writer.specs.Rules.{is_long, is_long_help, is_serial, header_fault, is_instance_name, is_metric_name, fits_kind, is_long_content, text_fault};
 ghost use Rattle.mmv_writer.specs.Keys.{fits_domain};
 ghost use Rattle.mmv_writer.specs.Draft.{IsStored, IsHelp, IsContent, IsString};
 
@@ -72,13 +72,6 @@ pub fn is_instance_name(name: &Text) -> bool
     is_short && length >= 1 && length <= MOST_NAME
 }
 
-/// Whether two texts are the same.
-fn same_text(a: &Text, b: &Text) -> bool
-    ensures { result ≡ bytes_eq a.now b.now }
-{
-    a.as_slice() == b.as_slice()
-}
-
 /// Whether a text can name a metric.
 #[tactic(auto, using(crate::proofs::Rows::too_long))]
 pub fn is_metric_name(name: &Text) -> bool
@@ -90,20 +83,6 @@ pub fn is_metric_name(name: &Text) -> bool
     }
     let bytes = name.as_slice();
     is_name(bytes) && bytes.len() <= MOST_NAME
-}
-
-/// Whether two metrics have one item or one name.
-fn is_same_metric(a: &MetricRow, b: &MetricRow) -> bool
-    ensures { result ≡ is_same_metric a.now b.now }
-{
-    a.item == b.item || same_text(&a.name, &b.name)
-}
-
-/// Whether some metric has the item or the name of this one.
-pub fn has_same_metric(metrics: &[MetricRow], row: &MetricRow) -> bool
-    ensures { result ≡ list_any (λ other. is_same_metric other row.now) metrics.now }
-{
-    metrics.iter().any(|other| is_same_metric(other, row))
 }
 
 /// Whether a value of a metric of this kind has this content.

@@ -8,14 +8,17 @@ use std::test::Fail;
 fn one_counter_is_spelled_so(rt: HostRuntime) -> Result<(), Fail> {
     let alloc = rt.alloc();
     let mut builder = Builder::new(alloc, 1, 5, 0, 0, 1)?;
-    builder.metric(metric(
+    builder.metric(
         alloc,
-        b"hits",
-        2,
-        Kind::I32,
-        Semantics::Counter,
-        0x0010_0000,
-    )?)?;
+        metric(
+            alloc,
+            b"hits",
+            2,
+            Kind::I32,
+            Semantics::Counter,
+            0x0010_0000,
+        )?,
+    )?;
     builder.value(number(2, None, 7))?;
     let image = finished(alloc, builder)?;
     let words = [
@@ -44,9 +47,9 @@ fn two_metrics_have_344_bytes(rt: HostRuntime) -> Result<(), Fail> {
     let alloc = rt.alloc();
     let mut builder = Builder::new(alloc, 1, 1, 0, 0, 1)?;
     let low = metric(alloc, b"low", 2, Kind::I32, Semantics::Instant, 0)?;
-    builder.metric(low)?;
+    builder.metric(alloc, low)?;
     let big = metric(alloc, b"big", 3, Kind::U64, Semantics::Counter, 0x0010_0000)?;
-    builder.metric(big)?;
+    builder.metric(alloc, big)?;
     builder.value(number(2, None, 0xffff_ffff_ffff_ffff))?;
     builder.value(number(3, None, 0xffff_ffff_ffff_ffff))?;
     let image = finished(alloc, builder)?;
@@ -89,9 +92,9 @@ fn domains_and_strings_are_referred_to(rt: HostRuntime) -> Result<(), Fail> {
     let mut chosen = metric(alloc, b"m", 1, Kind::Text, Semantics::Discrete, 0)?;
     chosen.serial = Some(1);
     chosen.short = Some(text(alloc, b"y")?);
-    builder.metric(chosen)?;
+    builder.metric(alloc, chosen)?;
     let raw = metric(alloc, b"n", 2, Kind::Double, Semantics::Instant, 0)?;
-    builder.metric(raw)?;
+    builder.metric(alloc, raw)?;
     builder.value(choice(alloc, 1, Some(5), b"x")?)?;
     builder.value(ValueRow {
         item: 2,

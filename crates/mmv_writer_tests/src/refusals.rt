@@ -9,7 +9,7 @@ fn one_instance(alloc: Global) -> Result<Builder, Fail> {
     let mut builder = Builder::new(alloc, 1, 1, 0, 0, 1)?;
     builder.indom(alloc, 1, None, None)?;
     builder.instance(alloc, 1, 0, text(alloc, b"a")?)?;
-    builder.metric(metric_of(alloc, b"per", 4, Kind::U32, 1)?)?;
+    builder.metric(alloc, metric_of(alloc, b"per", 4, Kind::U32, 1)?)?;
     builder.value(number(4, Some(0), 3))?;
     Ok(builder)
 }
@@ -98,13 +98,13 @@ fn metrics_are_refused(rt: HostRuntime) -> Result<(), Fail> {
         ),
     ];
     for (row, fault) in refused {
-        assert_eq!(rt; builder.metric(row), Err(fault));
+        assert_eq!(rt; builder.metric(alloc, row), Err(fault));
     }
     let mut helped = metric_of(alloc, b"other", 5, Kind::U32, 1)?;
     helped.long = Some(text(alloc, &[0x61; 256])?);
-    assert_eq!(rt; builder.metric(helped), Err(BuildFault::Name));
+    assert_eq!(rt; builder.metric(alloc, helped), Err(BuildFault::Name));
     let most = metric(alloc, &[0x61; 63], 1023, Kind::U32, Semantics::Counter, 0)?;
-    assert_eq!(rt; builder.metric(most), Ok(()));
+    assert_eq!(rt; builder.metric(alloc, most), Ok(()));
     Ok(())
 }
 
@@ -141,7 +141,7 @@ fn a_builder_goes_on_after_a_refusal(rt: HostRuntime) -> Result<(), Fail> {
     assert!(rt; other.instance(alloc, 1, 0, text(alloc, b"b")?).is_err());
     assert!(rt;
         other
-            .metric(metric_of(alloc, b"per", 5, Kind::U32, 1)?)
+            .metric(alloc, metric_of(alloc, b"per", 5, Kind::U32, 1)?)
             .is_err()
     );
     assert!(rt; other.value(number(4, Some(0), 8)).is_err());

@@ -9,4 +9,4 @@ add_domain-requires-clause-new c =
     ap (λ l. has_domain l.indoms c.args.serial) c.self.view_is ∙ (indom_rules c.args.self.now _ (sym c.indom_fault.ensures.value ∙ c.in_default.is)).1
 
 pub invariant_of-self : goal.invariant_of-self
-invariant_of-self c = (rw c.in_err-add_domain.ensures.err c.self.invariant.0, record { domains = c.in_err-add_domain.ensures.keys; items = c.self.invariant.1.items; values = c.self.invariant.1.values })
+invariant_of-self c = (rw c.in_err-add_domain.ensures.err c.self.invariant.0, record { domains = c.in_err-add_domain.ensures.keys; items = c.self.invariant.1.items; names = c.self.invariant.1.names; values = c.self.invariant.1.values })

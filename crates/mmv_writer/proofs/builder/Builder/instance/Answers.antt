@@ -10,4 +10,4 @@ add_instance-requires-clause-new c =
     (ap (λ l. instance_fault l c.args.serial (to_z w32 (of_z w32 c.args.id)) c.args.name) c.self.view_is ∙ sym c.instance_fault.ensures.value ∙ c.in_default.is)).1
 
 pub invariant_of-self : goal.invariant_of-self
-invariant_of-self c = (rw c.in_err-add_instance.ensures.err c.self.invariant.0, record { domains = c.in_err-add_instance.ensures.keys; items = c.self.invariant.1.items; values = c.self.invariant.1.values })
+invariant_of-self c = (rw c.in_err-add_instance.ensures.err c.self.invariant.0, record { domains = c.in_err-add_instance.ensures.keys; items = c.self.invariant.1.items; names = c.self.invariant.1.names; values = c.self.invariant.1.values })
