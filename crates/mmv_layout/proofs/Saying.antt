@@ -89,7 +89,7 @@ indom_only words domain row h =
 
 -- Metrics
 
-kind_there : (code : ℕ) → is_kind code ≡ true → code_of_kind (unwrap_or (kind_of_code code) kinds.I32) ≡ code
+pub kind_there : (code : ℕ) → is_kind code ≡ true → code_of_kind (unwrap_or (kind_of_code code) kinds.I32) ≡ code
 kind_there code h = grind (arith, nat_tests)
 
 kind_only : (kind : Kind) (code : ℕ) → code_of_kind kind ≡ code → kind ≡ unwrap_or (kind_of_code code) kinds.I32

@@ -38,7 +38,7 @@ or_first true y e = refl
 or_first false y e = cc
 
 module _ (a : List ℕ) (h : is_image a ≡ true) where
-  metric_new : (i j : ℕ) → j < metric_count a → i < j → is_same_metric a (metric_at a i) (metric_at a j) ≡ false
+  pub metric_new : (i j : ℕ) → j < metric_count a → i < j → is_same_metric a (metric_at a i) (metric_at a j) ≡ false
   unfolding is_good_metric is_new_metric
   metric_new i j below less =
       not_false _ (all_at j i (λ i. not (is_same_metric a (metric_at a i) (metric_at a j))) (both_right _ _ (good_metric a j h below)) less)
@@ -51,7 +51,7 @@ module _ (a : List ℕ) (h : is_image a ≡ true) where
   metric_once i j x y e =
       one_of (λ i j. is_same_metric a (metric_at a i) (metric_at a j)) i j (metric_new i j y) (metric_new j i x) (metric_same i j e) (metric_same j i (sym e))
 
-  indom_new : (i j : ℕ) → j < indom_count a → i < j → has_serial a (number32 a (indom_at a j)) i ≡ false
+  pub indom_new : (i j : ℕ) → j < indom_count a → i < j → has_serial a (number32 a (indom_at a j)) i ≡ false
   unfolding is_good_indom is_new_indom
   indom_new i j below less =
       not_false _ (all_at j i (λ i. not (has_serial a (number32 a (indom_at a j)) i)) (both_right _ _ (both_left _ _ (good_indom a j h below))) less)
@@ -158,7 +158,7 @@ module _ (a : List ℕ) (h : is_image a ≡ true) where
   value_same i j e f =
       rw (eq-eqb (metric_in_value a (value_at a i)) (metric_in_value a (value_at a j)) e, eq-eqb (instance_in_value a (value_at a i)) (instance_in_value a (value_at a j)) f) refl
 
-  value_once : (i j : ℕ) → i < value_count a → j < value_count a → item_of a (value_at a i) ≡ item_of a (value_at a j)
+  pub value_once : (i j : ℕ) → i < value_count a → j < value_count a → item_of a (value_at a i) ≡ item_of a (value_at a j)
       → unwrap_or (instance_of a (value_at a i)) (negsuc 0) ≡ unwrap_or (instance_of a (value_at a j)) (negsuc 0) → i ≡ j
   value_once i j x y items instances =
       let same = values_same i j x y items instances in

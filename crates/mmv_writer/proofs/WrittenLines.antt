@@ -1,13 +1,12 @@
 -- The rows of a draft may stand in lines.
-use Rattle.std.proofs.Common.{◌≡◌, ◌≢◌, ℕ, zero, suc, ◌-◌, ◌*◌, ◌%◌, ◌<◌, ◌≤◌, ℤ, Bool, true, false, ◌&&◌, ◌||◌, ◌⊎◌, inl, inr, cond, nat_eq, nat_le, nat_lt, List, [], ◌∷◌, length, refl, sym, subst, arith, ⊎_elim, true≢false, Option, Some, None, All, IfSome, slice_index}
+use Rattle.std.proofs.Common.{◌≡◌, ◌≢◌, ℕ, zero, suc, ◌<◌, ◌≤◌, ℤ, Bool, true, false, ◌&&◌, ◌||◌, ◌⊎◌, inl, inr, cond, nat_eq, nat_le, List, [], ◌∷◌, length, refl, sym, subst, arith, ⊎_elim, Option, Some, None, All, IfSome, slice_index}
 use Rattle.std.specs.List.{list_any}
 use Rattle.std.specs.Ordering.{int_eq}
-use Rattle.std.proofs.lemmas.Bool.{eqb-true, leb-true, ltb-false}
+use Rattle.std.proofs.lemmas.Bool.{eqb-true, leb-true}
 use Rattle.std.proofs.lemmas.Bool.Decides.{Decides-int_eq}
 use Rattle.pcp_base.specs.Names.{is_letter, is_name_byte, spells}
 use Rattle.pcp_base.specs.Texts.{IsText}
 use Rattle.pcp_base.specs.declared.kind.Kind.{Kind}
-use Rattle.pcp_base.specs.declared.kind.Kind.TheVariants as kinds
 use Rattle.mmv_format.specs.declared.rows.IndomRow.{IndomRow}
 use Rattle.mmv_format.specs.declared.rows.Content.{Content}
 use Rattle.mmv_format.specs.declared.rows.Content.TheVariants as contents

@@ -1,5 +1,5 @@
 //! What drafts and their images say of each other.
-ghost use Rattle.mmv_writer.specs.Laws.{DraftsAreImages};
+ghost use Rattle.mmv_writer.specs.Laws.{DraftsAreImages, LayoutsAreDrafts};
 ghost use Rattle.mmv_writer.specs.Saying.{DraftsAreSaid};
 
 /// The spelling of a draft that has at most 65,536 words is an image.
@@ -11,4 +11,10 @@ pub fn drafts_are_images()
 /// The spelling of a draft that has at most 65,536 words says the draft, with all its strings.
 pub fn drafts_are_said()
     ensures { DraftsAreSaid }
+{}
+
+/// What an image says is a draft: its rows meet the rules for rows.
+#[tactic(auto, using(crate::proofs::ImageDrafts::layouts_are_drafts))]
+pub fn layouts_are_drafts()
+    ensures { LayoutsAreDrafts }
 {}

@@ -15,7 +15,7 @@ mod text_laws;
 
 pub use builder::Builder;
 pub use fault::BuildFault;
-pub use laws::{drafts_are_images, drafts_are_said};
+pub use laws::{drafts_are_images, drafts_are_said, layouts_are_drafts};
 pub use line_fault::{LineError, LineFault, ReadTextError, TextFault};
 pub use reading::{add_line, read_text, take_head, take_line};
 pub use text_laws::{
