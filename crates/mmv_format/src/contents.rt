@@ -1,5 +1,5 @@
 //! The contents of an image: which sections it has, and where they lie.
-ghost use Rattle.std.specs.Prelude.{◌≡◌};
+ghost use Rattle.std.specs.Prelude.{◌≡◌, ◌<◌};
 ghost use Rattle.mmv_format.specs.Contents.{bytes_in, entry_at, type_in, count_in, place_in, section_bytes, end_in, section_lies, are_apart, is_first_of_type, entry_lies, has_good_section, is_aligned, section_of};
 ghost use Rattle.mmv_format.specs.Faults.{bad_type, section_fault, offset_fault};
 
@@ -182,13 +182,18 @@ pub fn offset_fault(words: &[u64]) -> Option<u64>
     None
 }
 
-/// The section of a type, without entries where the contents have none.
-#[tactic(auto, using(crate::proofs::Sections::find_none, crate::proofs::Sections::find_more), unfolding(crate::specs::Contents::section_of))]
+/// The section of a type, without entries where the contents have none. Contents entries behind the words' end have no
+/// type, so that it looks at no more entries than the words have, whatever number the header says.
+#[tactic(auto, using(crate::proofs::Sections::find_none, crate::proofs::Sections::find_more, crate::proofs::Sections::find_past), unfolding(crate::specs::Contents::section_of))]
 pub fn section_of(words: &[u64], kind: u32) -> Section
+    requires { 0 < kind }
     ensures { result ≡ section_of words.now kind }
 {
     let mut found = Section { place: 0, count: 0 };
     for i in 0..contents_in(words) {
+        if bytes_in(words) <= entry_at(i) {
+            return found;
+        }
         if type_in(words, i) == kind {
             found = Section {
                 place: place_in(words, i),

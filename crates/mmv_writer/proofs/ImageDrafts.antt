@@ -230,7 +230,7 @@ module _ (words : List ℕ) (h : is_image words ≡ true) where
       differ (first_in_indom words (indom_at words i) + instance_size * k) (first_in_indom words (indom_at words i) + instance_size * l) (owner i k below (omega arith) ∙ sym (owner i l below within))
       (ap₂ (is_same_instance words) m_is n_is ∙ instance_new m n n_below (in_order (section_of words 2).place (first_in_indom words (indom_at words i)) k l m n less m_is n_is)))
     where
-      in_order : (start first k l m n : ℕ) → k < l → first + 80 * k ≡ start + 80 * m → first + 80 * l ≡ start + 80 * n → m < n
+      in_order : (start first k l m n : ℕ) → k < l → first + instance_size * k ≡ start + instance_size * m → first + instance_size * l ≡ start + instance_size * n → m < n
       in_order start first k l m n less e f = omega arith
 
   domain_is : (i : ℕ) → i < indom_count words → IsDomain (indom_row words (indom_at words i))
