@@ -65,7 +65,7 @@ volumes_same files gs l (v ∷ []) same are = subst (λ t. IsLastVolume t l v.0 
 volumes_same files gs l (v ∷ w ∷ vs) same are = (subst (λ t. LabelledFile IsItem t l (pos v.0) v.1 []) (sym same.0) are.0, are.1, volumes_same files gs l (w ∷ vs) same.1 are.2)
 
 module _ (files gs : Files) (l : LabelFields) (number : ℕ) (items : List Item) where
-  before_last : (before : List (ℕ × List Item)) → AreVolumes files l (before ++ (number, items) ∷ []) → AllByRecursion (λ (v : ℕ × List Item). v.0 < number) before
+  pub before_last : (before : List (ℕ × List Item)) → AreVolumes files l (before ++ (number, items) ∷ []) → AllByRecursion (λ (v : ℕ × List Item). v.0 < number) before
   before_last [] are = tt
   before_last (v ∷ []) are = (are.1, tt)
   before_last (v ∷ w ∷ vs) are =
@@ -73,7 +73,7 @@ module _ (files gs : Files) (l : LabelFields) (number : ℕ) (items : List Item)
       (omega (arith, are.1, rest.0), rest)
 
   -- the last volume holds other items now
-  last_replaced : (before : List (ℕ × List Item)) (more : List Item) → AreVolumes files l (before ++ (number, items) ∷ []) → ((n : ℕ) → n < number → gs (Volume n) ≡ files (Volume n)) → IsLastVolume (gs (Volume number)) l number more
+  pub last_replaced : (before : List (ℕ × List Item)) (more : List Item) → AreVolumes files l (before ++ (number, items) ∷ []) → ((n : ℕ) → n < number → gs (Volume n) ≡ files (Volume n)) → IsLastVolume (gs (Volume number)) l number more
       → AreVolumes gs l (before ++ (number, more) ∷ [])
   last_replaced [] more are same new = new
   last_replaced (v ∷ []) more are same new = (subst (λ t. LabelledFile IsItem t l (pos v.0) v.1 []) (sym (same v.0 are.1)) are.0, are.1, new)
@@ -93,11 +93,11 @@ module _ (files gs : Files) (l : LabelFields) (number : ℕ) (items : List Item)
       (subst (λ t. LabelledFile IsItem t l (pos v.0) v.1 []) (sym (same v.0 (omega arith))) are.0, are.1, next_listed next (w ∷ vs) are.2 whole above same new)
 
 -- which numbers are listed
-numbers_same : (before : List (ℕ × List Item)) (number : ℕ) (items more : List Item) → numbers (before ++ (number, items) ∷ []) ≡ numbers (before ++ (number, more) ∷ [])
+pub numbers_same : (before : List (ℕ × List Item)) (number : ℕ) (items more : List Item) → numbers (before ++ (number, items) ∷ []) ≡ numbers (before ++ (number, more) ∷ [])
 numbers_same [] number items more = refl
 numbers_same (v ∷ before) number items more = ap (λ ns. v.0 ∷ ns) (numbers_same before number items more)
 
-last_listed : (before : List (ℕ × List Item)) (number : ℕ) (items : List Item) → Contains (numbers (before ++ (number, items) ∷ [])) number
+pub last_listed : (before : List (ℕ × List Item)) (number : ℕ) (items : List Item) → Contains (numbers (before ++ (number, items) ∷ [])) number
 last_listed [] number items = (0, omega arith, refl)
 last_listed (v ∷ before) number items =
     let c : Contains (numbers (before ++ (number, items) ∷ [])) number = last_listed before number items in
@@ -115,7 +115,7 @@ above_listed n [] all k h is = omega arith
 above_listed n (v ∷ vs) all zero h is = let e : v.0 ≡ n = is in omega (arith, all.0)
 above_listed n (v ∷ vs) all (suc k) h is = above_listed n vs all.1 k (omega arith) is
 
-items_of-append : (vs ws : List (ℕ × List Item)) → items_of (vs ++ ws) ≡ items_of vs ++ items_of ws
+pub items_of-append : (vs ws : List (ℕ × List Item)) → items_of (vs ++ ws) ≡ items_of vs ++ items_of ws
 items_of-append [] ws = refl
 items_of-append (v ∷ vs) ws = ap (λ t. v.1 ++ t) (items_of-append vs ws) ∙ sym (append_assoc v.1 (items_of vs) (items_of ws))
 

@@ -127,7 +127,7 @@ pub record CutIndex (es : List Entry) (rest : List ℕ) (n : ℕ) : Type 0 where
   pub within : 20 * k ≤ n
   pub whole : 20 * length es ≤ n → length es ≤ k
 
-length-entries : (es : List Entry) → length (entries es) ≡ 20 * length es
+pub length-entries : (es : List Entry) → length (entries es) ≡ 20 * length es
 length-entries [] = refl
 length-entries (e ∷ es) = omega (arith, length-append (entry e) (entries es), length-entry e, length-entries es)
 

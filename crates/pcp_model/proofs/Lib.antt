@@ -1,5 +1,7 @@
 pub mod Added
 pub mod Boundaries
+pub mod CutArchive
+pub mod CutSound
 pub mod Cuts
 pub mod CutsOfAny
 pub mod Lengths

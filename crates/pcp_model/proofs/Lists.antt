@@ -1,5 +1,5 @@
 -- Facts that hold of each element of a list.
-use Rattle.std.proofs.Common.{zero, suc, ℕ, List, [], ◌∷◌, ◌++◌, take}
+use Rattle.std.proofs.Common.{zero, suc, ◌≡◌, ℕ, List, [], ◌∷◌, ◌++◌, take, ap, ◌∙◌}
 use Rattle.std.specs.List.{AllByRecursion}
 
 pub each-append : {X : Type 0} (P : X → Type 0) (xs ys : List X) → AllByRecursion P xs → AllByRecursion P ys → AllByRecursion P (xs ++ ys)
@@ -24,3 +24,6 @@ each-map P Q f (x ∷ xs) all = (f x all.0, each-map P Q f xs all.1)
 pub each-all : {X : Type 0} (P : X → Type 0) → ((x : X) → P x) → (xs : List X) → AllByRecursion P xs
 each-all P f [] = tt
 each-all P f (x ∷ xs) = (f x, each-all P f xs)
+
+pub same-cons : {X : Type 0} (x y : X) (xs ys : List X) → x ≡ y → xs ≡ ys → x ∷ xs ≡ y ∷ ys
+same-cons x y xs ys one more = ap (λ v. v ∷ xs) one ∙ ap (λ vs. y ∷ vs) more

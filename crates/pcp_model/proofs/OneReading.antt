@@ -12,7 +12,7 @@ use Rattle.pcp_model.specs.LabelFields.{LabelFields}
 use Rattle.pcp_model.specs.Payload.{IsItem}
 use Rattle.pcp_model.specs.Records.{IsRecord, entries}
 use Rattle.pcp_model.proofs.Cuts.{length_of_label}
-use Rattle.pcp_model.proofs.Lists.{each-map}
+use Rattle.pcp_model.proofs.Lists.{each-map, same-cons}
 use Rattle.pcp_model.proofs.OneItem.{one_item}
 use Rattle.pcp_model.proofs.OneRecord.{one_record}
 use Rattle.pcp_model.proofs.Sound.{labelled_long}
@@ -38,7 +38,7 @@ one_whole bytes l n xs ys p q =
 
 -- ---- which volumes are listed
 
-last_has_bytes : (bytes : List ℕ) (l : LabelFields) (n : ℕ) (items : List Item) → IsLastVolume bytes l n items → 0 < length bytes
+pub last_has_bytes : (bytes : List ℕ) (l : LabelFields) (n : ℕ) (items : List Item) → IsLastVolume bytes l n items → 0 < length bytes
 last_has_bytes bytes l n items (inl begins) = begins.0
 last_has_bytes bytes l n items (inr whole) = omega (arith, labelled_long IsItem bytes l (pos n) items whole.0 whole.2)
 
@@ -88,6 +88,9 @@ one_first : (files : Files) (l : LabelFields) (v w : ℕ × List Item) (vs : Lis
 one_first files l v w [] same p q = one_last (files (Volume v.0)) l v.0 v.1 w.1 p (subst (λ n. IsLastVolume (files (Volume n)) l n w.1) (sym same) q)
 one_first files l v w (x ∷ vs) same p q = one_whole (files (Volume v.0)) l v.0 v.1 w.1 p.0 (subst (λ n. LabelledFile IsItem (files (Volume n)) l (pos n) w.1 []) (sym same) q.0)
 
+same_volume : (v w : ℕ × List Item) → v.0 ≡ w.0 → v.1 ≡ w.1 → v ≡ w
+same_volume v w number items = ap (λ n. (n, v.1)) number ∙ ap (λ t. (w.0, t)) items
+
 abbrev From : ℕ → List (ℕ × List Item) → Type 0
 From low vs = AllByRecursion (λ v. low ≤ v.0) vs
 
@@ -117,8 +120,7 @@ one_list files l low (v ∷ vs) (w ∷ ws) p q a b c d =
     one_list files l (suc v.0) vs ws (others_are files l v vs p) (others_are files l w ws q) (from_next v.0 vs (others_above files l v vs p)) behind
     (later_cover files low (suc v.0) v vs c (omega arith) (omega arith)) (later_cover files low (suc v.0) w ws d (omega arith) (omega arith)) in
     let items : v.1 ≡ w.1 = one_first files l v w vs number p (subst (λ xs. AreVolumes files l (w ∷ xs)) (sym more) q) in
-    let one : v ≡ w = ap (λ n. (n, v.1)) number ∙ ap (λ t. (w.0, t)) items in
-    ap (λ x. x ∷ vs) one ∙ ap (λ xs. w ∷ xs) more
+    same-cons v w vs ws (same_volume v w number items) more
 
 -- ---- the index
 

@@ -1,6 +1,7 @@
 -- What holds of whole files: in how many ways they are read, what they are read as when one piece is added behind, and what
 -- recovery keeps.
-use Rattle.std.specs.Prelude.{◌≡◌, ℕ, ◌<◌, ◌≤◌, pos, negsuc, List, [], ◌∷◌, ◌++◌, length}
+use Rattle.std.specs.Prelude.{◌≡◌, ◌≢◌, ◌⊎◌, ℕ, ◌<◌, ◌≤◌, pos, negsuc, List, [], ◌∷◌, ◌++◌, length, take}
+use Rattle.std.specs.List.{AllByRecursion}
 use Rattle.pcp_base.specs.declared.file.FileId.{FileId}
 use Rattle.pcp_base.specs.declared.file.FileId.TheVariants.{Meta, Index, Volume}
 use Rattle.pcp_base.specs.declared.result.Item.{Item}
@@ -13,6 +14,7 @@ use Rattle.pcp_model.specs.Labels.{IsLabel}
 use Rattle.pcp_model.specs.Payload.{IsItem}
 use Rattle.pcp_model.specs.Recovered.{Recovers, recovered_reading}
 use Rattle.pcp_model.specs.Records.{IsRecord, AreConsistent, FitsEntry, entry}
+use Rattle.pcp_model.specs.Sound.{IsSound}
 use Rattle.pcp_model.specs.Written.{with_added}
 
 -- files are read in at most one way
@@ -58,6 +60,53 @@ EntryIsAdded = (files : Files) (c : ArchiveContents) (e : Entry) → IsArchive f
 abbrev pub VolumeIsAdded : Type 0
 VolumeIsAdded = (files : Files) (c : ArchiveContents) (number next : ℕ) (head : List ℕ) → IsArchive files c → EndsWhole files c number → number < next → IsLabel head c.label (pos next)
     → GrowsTo (with_added (Volume next) head files) c [] [] []
+
+-- the last volume that isn't empty
+pub record HasLast (c : ArchiveContents) : Type 0 where
+  pub before : List (ℕ × List Item)
+  pub number : ℕ
+  pub items : List Item
+  pub are : c.volumes ≡ before ++ (number, items) ∷ []
+
+-- Meta, the index and this volume are cut at these lengths, and the other volumes stand
+pub record IsCutOf (files image : Files) (number m i v : ℕ) : Type 0 where
+  pub meta : image Meta ≡ take m (files Meta)
+  pub index : image Index ≡ take i (files Index)
+  pub volume : image (Volume number) ≡ take v (files (Volume number))
+  pub others : (n : ℕ) → n ≢ number → image (Volume n) ≡ files (Volume n)
+
+-- The image is an archive of the first records, entries and items of another one: of all, where the file isn't cut.
+pub record FirstPart (files image : Files) (c : ArchiveContents) (last : HasLast c) (m i v : ℕ) : Type 0 where
+  pub new : ArchiveContents
+  pub is : IsArchive image new
+  pub label : new.label ≡ c.label
+  pub j : ℕ
+  pub records : new.records ≡ take j c.records
+  pub all_records : length (files Meta) ≤ m → length c.records ≤ j
+  pub k : ℕ
+  pub entries : new.entries ≡ take k c.entries
+  pub all_entries : length (files Index) ≤ i → length c.entries ≤ k
+  pub q : ℕ
+  pub items : items_of new.volumes ≡ take q (items_of c.volumes)
+  pub shape : (new.volumes ≡ last.before) ⊎ ((p : ℕ) × (new.volumes ≡ last.before ++ (last.number, take p last.items) ∷ []))
+  pub all_items : length (files (Volume last.number)) ≤ v → length (items_of c.volumes) ≤ q
+
+-- An archive that is cut, Meta behind its label, the index and the last volume anywhere, is an archive of what is whole in it;
+-- where the index keeps an entry, some volume keeps its label.
+abbrev pub CutsAreRead : Type 0
+CutsAreRead = (files image : Files) (c : ArchiveContents) (m i v : ℕ) → IsArchive files c → (last : HasLast c) → IsCutOf files image last.number m i v → 132 ≤ m
+    → (i < 152) ⊎ ((n : ℕ) × (132 ≤ length (image (Volume n)))) → FirstPart files image c last m i v
+
+-- an entry points into what is left of an archive that is cut
+pub record IsKeptBy (image : Files) (number m v : ℕ) (e : Entry) : Type 0 where
+  pub meta : e.meta ≤ m
+  pub offset : e.volume ≡ number → e.offset ≤ v
+  pub not_above : (n : ℕ) × (0 < length (image (Volume n))) × (e.volume ≤ n)
+
+-- a sound archive that is cut so is sound, where each entry that is left points into what is left
+abbrev pub CutsAreSound : Type 0
+CutsAreSound = (files image : Files) (c : ArchiveContents) (m i v : ℕ) → (last : HasLast c) → IsCutOf files image last.number m i v → (f : FirstPart files image c last m i v)
+    → IsSound files (ArchiveReading.archive c) → AllByRecursion (IsKeptBy image last.number m v) f.new.entries → IsSound image (ArchiveReading.archive f.new)
 
 -- what recovery leaves is read with the same scan and the same records of Meta
 abbrev pub RecoveryKeepsTheScan : Type 0

@@ -1,5 +1,5 @@
 //! What holds of whole files. Each is the contract of a function without parameters, which does nothing.
-ghost use Rattle.pcp_model.specs.Laws.{FilesAreReadOnce, ItemIsAdded, RecordsAreAdded, EntryIsAdded, VolumeIsAdded, RecoveryKeepsTheScan, RecoveryStays, RecoveryIsOne};
+ghost use Rattle.pcp_model.specs.Laws.{FilesAreReadOnce, ItemIsAdded, RecordsAreAdded, EntryIsAdded, VolumeIsAdded, CutsAreRead, CutsAreSound, RecoveryKeepsTheScan, RecoveryStays, RecoveryIsOne};
 
 /// Files are read in at most one way: as a stopped creation, or as an archive with this label, these records,
 /// entries and items.
@@ -25,6 +25,17 @@ pub fn entry_is_added()
 /// The label of a volume above the last, which ends with a whole record, changes neither scan nor metadata.
 pub fn volume_is_added()
     ensures { VolumeIsAdded }
+{}
+
+/// An archive whose Meta is cut behind its label, and its index and last volume anywhere, is an archive of the
+/// records, entries and items that are whole in it, so what a crash leaves of one can be read.
+pub fn cuts_are_read()
+    ensures { CutsAreRead }
+{}
+
+/// A sound archive that is cut so stays sound, where the entries that are left point into what is left.
+pub fn cuts_are_sound()
+    ensures { CutsAreSound }
 {}
 
 /// What recovery leaves is read with the same scan and the same records of Meta.

@@ -11,8 +11,8 @@ mod spelling;
 
 pub use label::Label;
 pub use laws::{
-    entry_is_added, files_are_read_once, item_is_added, records_are_added, recovery_is_one,
-    recovery_keeps_the_scan, recovery_stays, volume_is_added,
+    cuts_are_read, cuts_are_sound, entry_is_added, files_are_read_once, item_is_added,
+    records_are_added, recovery_is_one, recovery_keeps_the_scan, recovery_stays, volume_is_added,
 };
 pub use payload::spell_payload;
 pub use records::{Entry, MetaRecord};
