@@ -3,31 +3,55 @@
 #![tactic(auto)]
 
 use pcp_outside::{FileDisk, ReaderSource, Sink, WriterSink};
-use pm_commands::{Refusal, offline};
-use std::alloc::{Alloc, Global};
+use pm_commands::{Refusal, Stop, Usage, offline, read_words};
+use std::alloc::{Alloc, AllocError, Global};
 use std::env::Env;
 use std::io::ErrorKind;
 use std::process::ExitCode;
 use std::{env, io};
 
-// The place behind BASE of the first word that isn't UTF-8, where it can be told, else 0.
-fn bad_word(rt: &impl Env) -> usize {
-    let mut bytes = [0u8; 4096];
+// The words of the command that stand before the first word that isn't UTF-8. Linux passes none of more than 128 KiB.
+fn words_before_bad(rt: &(impl Env + Alloc<A = Global>)) -> Result<Vec<String>, AllocError> {
+    let alloc = rt.alloc();
+    let mut buffer = vec![in alloc; 0u8; 131_072]?;
+    let mut words = Vec::new(alloc);
     for at in 0..usize::MAX {
-        match rt.arg(at, &mut bytes) {
-            Ok(length) if str::from_utf8(&bytes[..length]).is_err() => return at.saturating_sub(2),
-            Ok(_) => {}
-            Err(_) => return 0,
+        let Ok(length) = rt.arg(at, &mut buffer) else {
+            return Ok(words);
+        };
+        let Ok(word) = str::from_utf8(&buffer[..length]) else {
+            return Ok(words);
+        };
+        if at > 1 {
+            words.push(word.to_string(alloc)?)?;
         }
     }
-    0
+    Ok(words)
+}
+
+// Which word is the first bad one, where some word isn't UTF-8.
+fn first_bad_word(rt: &(impl Env + Alloc<A = Global>)) -> Result<usize, AllocError> {
+    let words = words_before_bad(rt)?;
+    match read_words(rt.alloc(), &words) {
+        Ok(_) => Ok(words.len()),
+        Err(Stop::Refused(usage)) => Ok(usage.at),
+        Err(Stop::OutOfMemory) => Err(AllocError),
+    }
 }
 
 // The end of a faulty command line.
 fn usage(rt: &impl Alloc<A = Global>, out: &mut impl Sink, at: usize) -> ExitCode {
-    let refusal = Refusal::Usage { at };
+    let refusal = Refusal::Words(Usage { at });
     match refusal.tell(rt.alloc(), out) {
         Ok(()) => ExitCode::from(refusal.status()),
+        Err(_) => ExitCode::from(9),
+    }
+}
+
+// The end where some word isn't UTF-8.
+fn no_text(rt: &(impl Env + Alloc<A = Global>), out: &mut impl Sink) -> ExitCode {
+    match first_bad_word(rt) {
+        Ok(at) => usage(rt, out, at),
         Err(_) => ExitCode::from(9),
     }
 }
@@ -38,7 +62,7 @@ fn main(rt: HostRuntime) -> ExitCode {
     let words = match env::args(&rt) {
         Ok(words) => words,
         Err(error) if error.kind() == ErrorKind::OutOfMemory => return ExitCode::from(9),
-        Err(_) => return usage(&rt, &mut out, bad_word(&rt)),
+        Err(_) => return no_text(&rt, &mut out),
     };
     let all: Vec<String> = match words.collect(alloc) {
         Ok(all) => all,

@@ -1,16 +1,24 @@
 -- Each fact on a status follows from how the call ends, by cases on the refusal.
-use Rattle.std.proofs.Common.{◌≡◌, ◌⊎◌, inl, inr, ⊎_elim, ℕ, ◌<◌, ◌≤◌, List, length, drop, refl, sym, ap, ap₂, ◌∙◌, subst, arith, true, Option, Some, None, Ok, Err}
-use Rattle.pcp_model.specs.Disk.{contents_of, IsEmpty, IsSettled}
+use Rattle.std.proofs.Common.{◌≡◌, ◌⊎◌, inl, inr, ⊎_elim, ℕ, ◌<◌, ◌≤◌, List, [], length, drop, refl, sym, ap, ap₂, ◌∙◌, subst, arith, true, Option, Some, None, IsSome, Ok, Err}
+use Rattle.pcp_model.specs.Disk.{IsSettled}
 use Rattle.pcp_outside.specs.Causes.{Rose}
+use Rattle.pm_commands.specs.declared.stage.ReadRefusal.{ReadRefusal}
+use Rattle.pm_commands.specs.declared.stage.InputRefusal.{InputRefusal}
+use Rattle.pm_commands.specs.declared.stage.InputRefusal.TheVariants.{LaterImage}
+use Rattle.pm_commands.specs.declared.stage.FilesRefusal.{FilesRefusal}
+use Rattle.pm_commands.specs.declared.stage.FilesRefusal.TheVariants.{LaterDisk}
+use Rattle.pm_commands.specs.declared.stage.DiskRefusal.TheVariants.{Files as FilesAway, DiskFault}
 use Rattle.pm_commands.specs.declared.words.Command.{Command}
-use Rattle.pm_commands.specs.declared.words.Command.TheVariants.{Once, MmvMake, MmvDump}
 use Rattle.pm_commands.specs.declared.refusal.Refusal.{Refusal}
-use Rattle.pm_commands.specs.declared.refusal.Refusal.TheVariants.{Usage, ReadFault, InputLimit, Image, Line, LaterImage, LaterDisk, DiskFault, NoMemory}
+use Rattle.pm_commands.specs.declared.refusal.Refusal.TheVariants.{Words, Reading, Input, Disk, NoMemory}
 use Rattle.pm_commands.specs.CommandLine.{command_of}
-use Rattle.pm_commands.specs.Ends.{SourceSide, SinkSide, DiskSide, IsCommand, WasRead, Finds, GoesOn, HasByte, HasDone, Untouched, Cause, Ends, EndsDone, EndsUntold}
-use Rattle.pm_commands.specs.Facts.{UsageIsExact, LimitIsExact, InputFaultIsExact, LaterIsExact, IsBeforeWrites, IsGoodDisk, IsGoodRun}
-use Rattle.pm_commands.specs.Inputs.{input_limit, refusal_of, uses_disk}
-use Rattle.pm_commands.specs.Refusals.{status_of}
+use Rattle.pm_commands.specs.Causes.{Got, Asks, fault_of, IsReader, Finds, Left, Cause}
+use Rattle.pm_commands.specs.Ends.{Ends, EndsDone, EndsUntold, HasRun}
+use Rattle.pm_commands.specs.Facts.{UsageIsExact, LimitIsExact, InputFaultIsExact, LaterIsExact, Given, Meets, refused_of, TurnsAway, IsRefused, Unwritten, IsGoodDisk, IsGoodRun, Keeps}
+use Rattle.pm_commands.specs.Inputs.{input_limit, refusal_of}
+use Rattle.pm_commands.specs.Meanings.{meaning}
+use Rattle.pm_commands.specs.Refusals.{status_of, reading_status, input_status, files_status}
+use Rattle.pm_commands.specs.Sides.{SourceSide, SinkSide, DiskSide, found, Untouched}
 
 module _ (words : List (List ℕ)) (s : SourceSide) (k : SinkSide) (d : DiskSide) where
   -- a refusal that has this cause
@@ -25,12 +33,58 @@ module _ (words : List (List ℕ)) (s : SourceSide) (k : SinkSide) (d : DiskSide
   one : (a b : Command) → command_of words ≡ Ok a → command_of words ≡ Ok b → a ≡ b
   one a b is other = let e : Ok a ≡ Ok b = sym is ∙ other in cc
 
-  -- what was found of an input is what the command says of all that the source had
-  of_left : (a b : Command) (input : List ℕ) (found : Option Refusal) → command_of words ≡ Ok a → command_of words ≡ Ok b → WasRead s input → s.tells → refusal_of a input ≡ found → refusal_of b s.left ≡ found
-  of_left a b input found is other read tells says = ap₂ refusal_of (one b a other is) (sym (read.told tells).0) ∙ says
+  -- what was got is what was given
+  got_given : (reads : Option (List ℕ → Option InputRefusal)) (got given : List ℕ) → Got reads s got → Given reads s given → got ≡ given
+  got_given None got given g h = g.0 ∙ sym h
+  got_given (Some refuses) got given g h = (g.told h.0).0 ∙ sym h.1
 
-  within_left : (input : List ℕ) → WasRead s input → s.tells → length s.left ≤ input_limit
-  within_left input read tells = subst (λ bytes. length bytes ≤ input_limit) (read.told tells).0 read.within
+  same_command : (a : Asks words s) (b : Meets words s) → a.command ≡ b.command
+  same_command a b = one a.command b.command a.words_are b.words_are
+
+  same_input : (a : Asks words s) (b : Meets words s) → a.input ≡ b.input
+  same_input a b = got_given (meaning b.command).reads a.input b.input (subst (λ (c : Command). Got (meaning c).reads s a.input) (same_command a b) a.got) b.given
+
+  same_fault : (a : Asks words s) (b : Meets words s) → fault_of a ≡ refused_of b
+  same_fault a b = ap₂ (λ (c : Command) (i : List ℕ). refusal_of (meaning c).reads i) (same_command a b) (same_input a b)
+
+  not_both : (found : Option InputRefusal) (e : InputRefusal) → found ≡ None → found ≡ Some e → ⊥
+  not_both found e good bad = let f : None ≡ Some e = sym good ∙ bad in cc
+
+  says_one : (found : Option InputRefusal) (a b : InputRefusal) → found ≡ Some a → found ≡ Some b → a ≡ b
+  says_one found a b is other = let f : Some a ≡ Some b = sym is ∙ other in cc
+
+  -- an input that was found good is not refused, and one that is refused was not found good
+  found_good : (a : Asks words s) (b : Meets words s) (e : InputRefusal) → fault_of a ≡ None → refused_of b ≡ Some e → ⊥
+  found_good a b e good bad = not_both (refused_of b) e (sym (same_fault a b) ∙ good) bad
+
+  found_bad : (a : Asks words s) (b : Meets words s) (e : InputRefusal) → fault_of a ≡ Some e → refused_of b ≡ None → ⊥
+  found_bad a b e bad good = not_both (fault_of a) e (same_fault a b ∙ good) bad
+
+  found_same : (a : Asks words s) (b : Meets words s) (e f : InputRefusal) → fault_of a ≡ Some e → refused_of b ≡ Some f → e ≡ f
+  found_same a b e f is other = says_one (refused_of b) e f (sym (same_fault a b) ∙ is) other
+
+  -- what was got or given to a command that reads is within the limit
+  got_within : (reads : Option (List ℕ → Option InputRefusal)) (input : List ℕ) → IsSome reads → Got reads s input → s.tells → length s.left ≤ input_limit
+  got_within None input some got tells = cc
+  got_within (Some refuses) input some got tells = subst (λ bytes. length bytes ≤ input_limit) (got.told tells).0 got.within
+
+  given_within : (reads : Option (List ℕ → Option InputRefusal)) (input : List ℕ) → IsSome reads → Given reads s input → s.tells × (length s.left ≤ input_limit)
+  given_within None input some given = cc
+  given_within (Some refuses) input some given = (given.0, subst (λ bytes. length bytes ≤ input_limit) given.1 given.2)
+
+  within_not_above : length s.left ≤ input_limit → input_limit < length s.left → ⊥
+  within_not_above within above = omega arith
+
+  was_above : Asks words s → IsReader words → s.tells → input_limit < length s.left → ⊥
+  was_above a reader tells above =
+      let some : IsSome (meaning a.command).reads = subst (λ (c : Command). IsSome (meaning c).reads) (one reader.0 a.command reader.1 a.words_are) reader.2 in
+      within_not_above (got_within (meaning a.command).reads a.input some a.got tells) above
+
+  not_met : IsReader words → (s.tells → input_limit < length s.left) → Meets words s → ⊥
+  not_met reader above b =
+      let some : IsSome (meaning b.command).reads = subst (λ (c : Command). IsSome (meaning c).reads) (one reader.0 b.command reader.1 b.words_are) reader.2 in
+      let within : s.tells × (length s.left ≤ input_limit) = given_within (meaning b.command).reads b.input some b.given in
+      within_not_above within.1 (above within.0)
 
   -- from the end of a call to a fact on its status: done, untold, or refused
   by_end : (status : ℕ) (P : ℕ → Type 0) → Ends words s k d status → (EndsDone words s k d → P 0) → (EndsUntold words s k d → P 4) → ((e : Refusal) → Caused e → P (status_of e)) → P status
@@ -39,304 +93,170 @@ module _ (words : List (List ℕ)) (s : SourceSide) (k : SinkSide) (d : DiskSide
   by_end status P (inr (inr refused)) f g h = subst P (sym refused.status_is) (h refused.refusal refused.cause)
 
   usage_only : (e : Refusal) → Caused e → status_of e ≡ 1 → (at : ℕ) × (command_of words ≡ Err at)
-  usage_only (Usage at) c = λ h. (at, c.0)
-  usage_only ReadFault c = λ h. absurd (omega (arith, h))
-  usage_only InputLimit c = λ h. absurd (omega (arith, h))
-  usage_only (Image fault) c = λ h. absurd (omega (arith, h))
-  usage_only (Line fault) c = λ h. absurd (omega (arith, h))
-  usage_only LaterImage c = λ h. absurd (omega (arith, h))
-  usage_only LaterDisk c = λ h. absurd (omega (arith, h))
-  usage_only DiskFault c = λ h. absurd (omega (arith, h))
-  usage_only NoMemory c = λ h. absurd (omega (arith, h))
+  usage_only e c h = grind arith
 
   usage_found : (e : Refusal) → Caused e → (at : ℕ) → command_of words ≡ Err at → (status_of e ≡ 1) ⊎ (status_of e ≡ 9)
-  usage_found (Usage other) c at bad = inl refl
-  usage_found ReadFault c at bad = absurd (apart at bad c.0.0 c.0.1)
-  usage_found InputLimit c at bad = absurd (apart at bad c.0.0 c.0.1)
-  usage_found (Image fault) c at bad = absurd (apart at bad c.0.0 c.0.1)
-  usage_found (Line fault) c at bad = absurd (apart at bad c.0.0 c.0.1)
-  usage_found LaterImage c at bad = absurd (apart at bad c.0.0 c.0.1)
-  usage_found LaterDisk c at bad = absurd (apart at bad c.0.0 c.0.1)
-  usage_found DiskFault c at bad = absurd (apart at bad c.0.0 c.0.1)
-  usage_found NoMemory c at bad = inr refl
+  usage_found e c at bad = grind (arith, apart)
 
   pub usage_is_exact : (status : ℕ) → Ends words s k d status → UsageIsExact words status
   usage_is_exact status ends = record {
-    only = by_end status (λ n. n ≡ 1 → (at : ℕ) × (command_of words ≡ Err at)) ends (λ done h. absurd (omega (arith, h))) (λ untold h. absurd (omega (arith, h))) usage_only;
+    only = by_end status (λ n. n ≡ 1 → (at : ℕ) × (command_of words ≡ Err at)) ends (λ done h. cc) (λ untold h. cc) usage_only;
     always = by_end status (λ n. (at : ℕ) → command_of words ≡ Err at → (n ≡ 1) ⊎ (n ≡ 9)) ends
-        (λ done at bad. absurd (apart at bad done.command done.words_are)) (λ untold at bad. absurd (apart at bad untold.command untold.words_are)) usage_found;
+        (λ done at bad. absurd (apart at bad done.run.asks.command done.run.asks.words_are)) (λ untold at bad. absurd (apart at bad untold.run.asks.command untold.run.asks.words_are)) usage_found;
   }
 
   read_rose : (e : Refusal) → Caused e → status_of e ≡ 3 → Rose s.faults s.faults_after
-  read_rose (Usage at) c = λ h. absurd (omega (arith, h))
-  read_rose ReadFault c = λ h. c.1.0
-  read_rose InputLimit c = λ h. absurd (omega (arith, h))
-  read_rose (Image fault) c = λ h. absurd (omega (arith, h))
-  read_rose (Line fault) c = λ h. absurd (omega (arith, h))
-  read_rose LaterImage c = λ h. absurd (omega (arith, h))
-  read_rose LaterDisk c = λ h. absurd (omega (arith, h))
-  read_rose DiskFault c = λ h. absurd (omega (arith, h))
-  read_rose NoMemory c = λ h. absurd (omega (arith, h))
+  read_rose e c h = grind arith
 
   pub read_fault_rose : (status : ℕ) → Ends words s k d status → status ≡ 3 → Rose s.faults s.faults_after
-  read_fault_rose status ends = by_end status (λ n. n ≡ 3 → Rose s.faults s.faults_after) ends (λ done h. absurd (omega (arith, h))) (λ untold h. absurd (omega (arith, h))) read_rose
+  read_fault_rose status ends = by_end status (λ n. n ≡ 3 → Rose s.faults s.faults_after) ends (λ done h. cc) (λ untold h. cc) read_rose
 
   disk_rose : (e : Refusal) → Caused e → status_of e ≡ 5 → Rose d.faults d.faults_after
-  disk_rose (Usage at) c = λ h. absurd (omega (arith, h))
-  disk_rose ReadFault c = λ h. absurd (omega (arith, h))
-  disk_rose InputLimit c = λ h. absurd (omega (arith, h))
-  disk_rose (Image fault) c = λ h. absurd (omega (arith, h))
-  disk_rose (Line fault) c = λ h. absurd (omega (arith, h))
-  disk_rose LaterImage c = λ h. absurd (omega (arith, h))
-  disk_rose LaterDisk c = λ h. absurd (omega (arith, h))
-  disk_rose DiskFault c = λ h. c.1
-  disk_rose NoMemory c = λ h. absurd (omega (arith, h))
+  disk_rose e c h = grind arith
 
   pub disk_fault_rose : (status : ℕ) → Ends words s k d status → status ≡ 5 → Rose d.faults d.faults_after
-  disk_fault_rose status ends = by_end status (λ n. n ≡ 5 → Rose d.faults d.faults_after) ends (λ done h. absurd (omega (arith, h))) (λ untold h. absurd (omega (arith, h))) disk_rose
+  disk_fault_rose status ends = by_end status (λ n. n ≡ 5 → Rose d.faults d.faults_after) ends (λ done h. cc) (λ untold h. cc) disk_rose
 
   write_rose : (e : Refusal) → Caused e → status_of e ≡ 4 → Rose k.faults k.faults_after
-  write_rose (Usage at) c = λ h. absurd (omega (arith, h))
-  write_rose ReadFault c = λ h. absurd (omega (arith, h))
-  write_rose InputLimit c = λ h. absurd (omega (arith, h))
-  write_rose (Image fault) c = λ h. absurd (omega (arith, h))
-  write_rose (Line fault) c = λ h. absurd (omega (arith, h))
-  write_rose LaterImage c = λ h. absurd (omega (arith, h))
-  write_rose LaterDisk c = λ h. absurd (omega (arith, h))
-  write_rose DiskFault c = λ h. absurd (omega (arith, h))
-  write_rose NoMemory c = λ h. absurd (omega (arith, h))
+  write_rose e c h = grind arith
 
   pub write_fault_rose : (status : ℕ) → Ends words s k d status → status ≡ 4 → Rose k.faults k.faults_after
-  write_fault_rose status ends = by_end status (λ n. n ≡ 4 → Rose k.faults k.faults_after) ends (λ done h. absurd (omega (arith, h))) (λ untold h. untold.rose) write_rose
+  write_fault_rose status ends = by_end status (λ n. n ≡ 4 → Rose k.faults k.faults_after) ends (λ done h. cc) (λ untold h. untold.rose) write_rose
 
-  limit_only : (e : Refusal) → Caused e → status_of e ≡ 7 → IsCommand words × (s.tells → (input_limit < length s.left) × (s.after ≡ drop 16777217 s.left))
-  limit_only (Usage at) c = λ h. absurd (omega (arith, h))
-  limit_only ReadFault c = λ h. absurd (omega (arith, h))
-  limit_only InputLimit c = λ h. (c.0, c.1)
-  limit_only (Image fault) c = λ h. absurd (omega (arith, h))
-  limit_only (Line fault) c = λ h. absurd (omega (arith, h))
-  limit_only LaterImage c = λ h. absurd (omega (arith, h))
-  limit_only LaterDisk c = λ h. absurd (omega (arith, h))
-  limit_only DiskFault c = λ h. absurd (omega (arith, h))
-  limit_only NoMemory c = λ h. absurd (omega (arith, h))
+  limit_only : (e : Refusal) → Caused e → status_of e ≡ 7 → IsReader words × (s.tells → (input_limit < length s.left) × (s.after ≡ drop 16777217 s.left))
+  limit_only e c h = grind arith
 
-  within_not_above : length s.left ≤ input_limit → input_limit < length s.left → ⊥
-  within_not_above within above = omega arith
-
-  was_above : (input : List ℕ) → WasRead s input → s.tells → input_limit < length s.left → ⊥
-  was_above input read tells above = within_not_above (within_left input read tells) above
-
-  limit_found : (e : Refusal) → Caused e → IsCommand words → s.tells → input_limit < length s.left → (status_of e ≡ 7) ⊎ ((status_of e ≡ 9) ⊎ (status_of e ≡ 3))
-  limit_found (Usage at) c asked tells above = absurd (apart at c.0 asked.0 asked.1)
-  limit_found ReadFault c asked tells above = inr (inr refl)
-  limit_found InputLimit c asked tells above = inl refl
-  limit_found (Image fault) c asked tells above = absurd (was_above c.0.2 c.0.3 tells above)
-  limit_found (Line fault) c asked tells above = absurd (was_above c.0.2 c.0.3 tells above)
-  limit_found LaterImage c asked tells above = absurd (was_above c.0.2 c.0.3 tells above)
-  limit_found LaterDisk c asked tells above = absurd (was_above c.0.3 c.0.4 tells above)
-  limit_found DiskFault c asked tells above = absurd (was_above c.0.3 c.0.4 tells above)
-  limit_found NoMemory c asked tells above = inr (inl refl)
+  limit_found : (e : Refusal) → Caused e → IsReader words → s.tells → input_limit < length s.left → (status_of e ≡ 7) ⊎ ((status_of e ≡ 9) ⊎ (status_of e ≡ 3))
+  limit_found e c reader tells above = grind (arith, apart, was_above)
 
   pub limit_is_exact : (status : ℕ) → Ends words s k d status → LimitIsExact words s status
   limit_is_exact status ends = record {
-    only = by_end status (λ n. n ≡ 7 → IsCommand words × (s.tells → (input_limit < length s.left) × (s.after ≡ drop 16777217 s.left))) ends (λ done h. absurd (omega (arith, h))) (λ untold h. absurd (omega (arith, h))) limit_only;
-    always = by_end status (λ n. IsCommand words → s.tells → input_limit < length s.left → (n ≡ 7) ⊎ ((n ≡ 9) ⊎ (n ≡ 3))) ends
-        (λ done asked tells above. absurd (was_above done.input done.read tells above)) (λ untold asked tells above. absurd (was_above untold.input untold.read tells above)) limit_found;
+    only = by_end status (λ n. n ≡ 7 → IsReader words × (s.tells → (input_limit < length s.left) × (s.after ≡ drop 16777217 s.left))) ends (λ done h. cc) (λ untold h. cc) limit_only;
+    always = by_end status (λ n. IsReader words → s.tells → input_limit < length s.left → (n ≡ 7) ⊎ ((n ≡ 9) ⊎ (n ≡ 3))) ends
+        (λ done reader tells above. absurd (was_above done.run.asks reader tells above)) (λ untold reader tells above. absurd (was_above untold.run.asks reader tells above)) limit_found;
   }
 
-  input_only : (e : Refusal) → Caused e → status_of e ≡ 2 → (refusal : Refusal) × (status_of refusal ≡ 2) × Finds words s (Some refusal)
-  input_only (Usage at) c = λ h. absurd (omega (arith, h))
-  input_only ReadFault c = λ h. absurd (omega (arith, h))
-  input_only InputLimit c = λ h. absurd (omega (arith, h))
-  input_only (Image fault) c = λ h. (Image fault, refl, c.0)
-  input_only (Line fault) c = λ h. (Line fault, refl, c.0)
-  input_only LaterImage c = λ h. absurd (omega (arith, h))
-  input_only LaterDisk c = λ h. absurd (omega (arith, h))
-  input_only DiskFault c = λ h. absurd (omega (arith, h))
-  input_only NoMemory c = λ h. absurd (omega (arith, h))
+  input_only : (e : Refusal) → Caused e → status_of e ≡ 2 → (f : InputRefusal) × (input_status f ≡ 2) × Finds words s f
+  input_only e c h = grind arith
 
-  -- what a command says of an input it says alone
-  says_one : (command : Command) (a b : Refusal) → refusal_of command s.left ≡ Some a → refusal_of command s.left ≡ Some b → a ≡ b
-  says_one command a b is other = let e : Some a ≡ Some b = sym is ∙ other in cc
-
-  not_both : (command : Command) (e : Refusal) → refusal_of command s.left ≡ None → refusal_of command s.left ≡ Some e → ⊥
-  not_both command e good bad = let f : None ≡ Some e = sym good ∙ bad in cc
-
-  -- the refusal that was found is that of all that the source had
-  found_same : (found e : Refusal) (command : Command) → Finds words s (Some found) → command_of words ≡ Ok command → s.tells → refusal_of command s.left ≡ Some e → found ≡ e
-  found_same found e command finds are tells bad = says_one command found e (of_left finds.0 command finds.2 (Some found) finds.1 are finds.3 tells finds.4) bad
-
-  -- an input that was found good is not refused
-  found_good : (e : Refusal) (found command : Command) (input : List ℕ) → command_of words ≡ Ok found → WasRead s input → refusal_of found input ≡ None → command_of words ≡ Ok command → s.tells → refusal_of command s.left ≡ Some e → ⊥
-  found_good e found command input is read good are tells bad = not_both command e (of_left found command input None is are read tells good) bad
-
-  input_found : (e : Refusal) → Caused e → (command : Command) → command_of words ≡ Ok command → s.tells → length s.left ≤ input_limit
-      → (refusal : Refusal) → status_of refusal ≡ 2 → refusal_of command s.left ≡ Some refusal → (status_of e ≡ 2) ⊎ ((status_of e ≡ 9) ⊎ (status_of e ≡ 3))
-  input_found (Usage at) c command are tells within refusal two bad = absurd (apart at c.0 command are)
-  input_found ReadFault c command are tells within refusal two bad = inr (inr refl)
-  input_found InputLimit c command are tells within refusal two bad = absurd (within_not_above within (c.1 tells).0)
-  input_found (Image fault) c command are tells within refusal two bad = inl refl
-  input_found (Line fault) c command are tells within refusal two bad = inl refl
-  input_found LaterImage c command are tells within refusal two bad = inl (ap status_of (found_same LaterImage refusal command c.0 are tells bad) ∙ two)
-  input_found LaterDisk c command are tells within refusal two bad = absurd (found_good refusal c.0.0 command c.0.3 c.0.1 c.0.4 c.0.5 are tells bad)
-  input_found DiskFault c command are tells within refusal two bad = absurd (found_good refusal c.0.0 command c.0.3 c.0.1 c.0.4 c.0.5 are tells bad)
-  input_found NoMemory c command are tells within refusal two bad = inr (inl refl)
+  input_found : (e : Refusal) → Caused e → (b : Meets words s) → (f : InputRefusal) → input_status f ≡ 2 → refused_of b ≡ Some f → (status_of e ≡ 2) ⊎ ((status_of e ≡ 9) ⊎ (status_of e ≡ 3))
+  input_found e c b f two bad = grind (arith, apart, not_met, found_same, found_good)
 
   pub input_fault_is_exact : (status : ℕ) → Ends words s k d status → InputFaultIsExact words s status
   input_fault_is_exact status ends = record {
-    only = by_end status (λ n. n ≡ 2 → (refusal : Refusal) × (status_of refusal ≡ 2) × Finds words s (Some refusal)) ends (λ done h. absurd (omega (arith, h))) (λ untold h. absurd (omega (arith, h))) input_only;
-    always = by_end status
-        (λ n. (command : Command) → command_of words ≡ Ok command → s.tells → length s.left ≤ input_limit
-        → (refusal : Refusal) → status_of refusal ≡ 2 → refusal_of command s.left ≡ Some refusal → (n ≡ 2) ⊎ ((n ≡ 9) ⊎ (n ≡ 3))) ends
-        (λ done command are tells within refusal two bad. absurd (found_good refusal done.command command done.input done.words_are done.read done.good are tells bad))
-        (λ untold command are tells within refusal two bad. absurd (found_good refusal untold.command command untold.input untold.words_are untold.read untold.good are tells bad)) input_found;
+    only = by_end status (λ n. n ≡ 2 → (f : InputRefusal) × (input_status f ≡ 2) × Finds words s f) ends (λ done h. cc) (λ untold h. cc) input_only;
+    always = by_end status (λ n. (b : Meets words s) → (f : InputRefusal) → input_status f ≡ 2 → refused_of b ≡ Some f → (n ≡ 2) ⊎ ((n ≡ 9) ⊎ (n ≡ 3))) ends
+        (λ done b f two bad. absurd (found_good done.run.asks b f done.run.served.good bad)) (λ untold b f two bad. absurd (found_good untold.run.asks b f untold.run.served.good bad)) input_found;
   }
 
-  later_only : (e : Refusal) → Caused e → status_of e ≡ 15 → Finds words s (Some LaterImage) ⊎ (GoesOn words s × (d.tells → HasByte (contents_of d.held)))
-  later_only (Usage at) c = λ h. absurd (omega (arith, h))
-  later_only ReadFault c = λ h. absurd (omega (arith, h))
-  later_only InputLimit c = λ h. absurd (omega (arith, h))
-  later_only (Image fault) c = λ h. absurd (omega (arith, h))
-  later_only (Line fault) c = λ h. absurd (omega (arith, h))
-  later_only LaterImage c = λ h. inl c.0
-  later_only LaterDisk c = λ h. inr (c.0, c.1.1)
-  later_only DiskFault c = λ h. absurd (omega (arith, h))
-  later_only NoMemory c = λ h. absurd (omega (arith, h))
+  later_input : (e : InputRefusal) → input_status e ≡ 15 → e ≡ LaterImage
+  later_input e h = grind arith
 
-  later_image_found : (e : Refusal) → Caused e → (command : Command) → command_of words ≡ Ok command → s.tells → length s.left ≤ input_limit
-      → refusal_of command s.left ≡ Some LaterImage → (status_of e ≡ 15) ⊎ ((status_of e ≡ 9) ⊎ (status_of e ≡ 3))
-  later_image_found (Usage at) c command are tells within bad = absurd (apart at c.0 command are)
-  later_image_found ReadFault c command are tells within bad = inr (inr refl)
-  later_image_found InputLimit c command are tells within bad = absurd (within_not_above within (c.1 tells).0)
-  later_image_found (Image fault) c command are tells within bad = inl (ap status_of (found_same (Image fault) LaterImage command c.0 are tells bad))
-  later_image_found (Line fault) c command are tells within bad = inl (ap status_of (found_same (Line fault) LaterImage command c.0 are tells bad))
-  later_image_found LaterImage c command are tells within bad = inl refl
-  later_image_found LaterDisk c command are tells within bad = inl refl
-  later_image_found DiskFault c command are tells within bad = absurd (found_good LaterImage c.0.0 command c.0.3 c.0.1 c.0.4 c.0.5 are tells bad)
-  later_image_found NoMemory c command are tells within bad = inr (inl refl)
+  never_later : (e : ReadRefusal) → reading_status e ≡ 15 → ⊥
+  never_later e h = grind arith
 
-  has_no_byte : IsEmpty (contents_of d.held) → HasByte (contents_of d.held) → ⊥
-  has_no_byte empty (file, some) = let l : length (contents_of d.held file) ≡ 0 = ap length (empty file) in omega arith
+  later_only : (e : Refusal) → Caused e → status_of e ≡ 15 → Finds words s LaterImage ⊎ TurnsAway words s d LaterDisk
+  later_only (Input e) c h = inl (c.0.0, c.0.1 ∙ ap Some (later_input e h))
+  later_only (Disk (FilesAway LaterDisk)) c h = inr record { asks = c.0; good = c.1.0; uses = c.1.1; turned = c.2.1 }
+  later_only (Disk DiskFault) c h = cc
+  later_only (Words usage) c h = cc
+  later_only (Reading e) c h = absurd (never_later e h)
+  later_only NoMemory c h = cc
 
-  good_not_found : (e : Refusal) (command : Command) → Finds words s (Some e) → command_of words ≡ Ok command → s.tells → refusal_of command s.left ≡ None → ⊥
-  good_not_found e command finds are tells good = not_both command e good (of_left finds.0 command finds.2 (Some e) finds.1 are finds.3 tells finds.4)
+  later_image_found : (e : Refusal) → Caused e → (b : Meets words s) → refused_of b ≡ Some LaterImage → (status_of e ≡ 15) ⊎ ((status_of e ≡ 9) ⊎ (status_of e ≡ 3))
+  later_image_found e c b bad = grind (arith, apart, not_met, found_same, found_good)
 
-  later_disk_found : (e : Refusal) → Caused e → (command : Command) → command_of words ≡ Ok command → uses_disk command ≡ true → s.tells → d.tells → length s.left ≤ input_limit
-      → refusal_of command s.left ≡ None → HasByte (contents_of d.held) → (status_of e ≡ 15) ⊎ ((status_of e ≡ 9) ⊎ ((status_of e ≡ 3) ⊎ (status_of e ≡ 5)))
-  later_disk_found (Usage at) c command are uses tells keeps within good some = absurd (apart at c.0 command are)
-  later_disk_found ReadFault c command are uses tells keeps within good some = inr (inr (inl refl))
-  later_disk_found InputLimit c command are uses tells keeps within good some = absurd (within_not_above within (c.1 tells).0)
-  later_disk_found (Image fault) c command are uses tells keeps within good some = absurd (good_not_found (Image fault) command c.0 are tells good)
-  later_disk_found (Line fault) c command are uses tells keeps within good some = absurd (good_not_found (Line fault) command c.0 are tells good)
-  later_disk_found LaterImage c command are uses tells keeps within good some = inl refl
-  later_disk_found LaterDisk c command are uses tells keeps within good some = inl refl
-  later_disk_found DiskFault c command are uses tells keeps within good some = inr (inr (inr refl))
-  later_disk_found NoMemory c command are uses tells keeps within good some = inr (inl refl)
+  later_disk_found : (e : Refusal) → Caused e → (b : Meets words s) → refused_of b ≡ None → (status_of e ≡ 15) ⊎ ((status_of e ≡ 9) ⊎ ((status_of e ≡ 3) ⊎ (status_of e ≡ 5)))
+  later_disk_found e c b good = grind (arith, apart, not_met, found_bad)
 
-  -- what is done with a command that uses the disk began with an empty one
-  done_empty : (found command : Command) (input : List ℕ) → command_of words ≡ Ok found → command_of words ≡ Ok command → uses_disk command ≡ true → HasDone found input d → d.tells → IsEmpty (contents_of d.held)
-  done_empty found command input is are uses done keeps = began command input uses (subst (λ a. HasDone a input d) (one found command is are) done) keeps
-    where
-      began : (command : Command) (input : List ℕ) → uses_disk command ≡ true → HasDone command input d → d.tells → IsEmpty (contents_of d.held)
-      began (Once asked) input uses done keeps = done.empty keeps
-      began MmvMake input uses done keeps = cc
-      began MmvDump input uses done keeps = cc
+  -- what was done was over files that the command doesn't turn away
+  not_welcome : (text : List ℕ) → HasRun words s d text → (b : Meets words s) (e : FilesRefusal) → d.tells → (meaning b.command).turns_away b.input (found d) e → ⊥
+  not_welcome text run b e tells turned =
+      run.served.welcome tells e (subst (λ (i : List ℕ). (meaning run.asks.command).turns_away i (found d) e) (sym (same_input run.asks b))
+      (subst (λ (c : Command). (meaning c).turns_away b.input (found d) e) (sym (same_command run.asks b)) turned))
 
   pub later_is_exact : (status : ℕ) → Ends words s k d status → LaterIsExact words s d status
   later_is_exact status ends = record {
-    only = by_end status (λ n. n ≡ 15 → Finds words s (Some LaterImage) ⊎ (GoesOn words s × (d.tells → HasByte (contents_of d.held)))) ends
-        (λ done h. absurd (omega (arith, h))) (λ untold h. absurd (omega (arith, h))) later_only;
-    image = by_end status
-        (λ n. (command : Command) → command_of words ≡ Ok command → s.tells → length s.left ≤ input_limit → refusal_of command s.left ≡ Some LaterImage → (n ≡ 15) ⊎ ((n ≡ 9) ⊎ (n ≡ 3))) ends
-        (λ done command are tells within bad. absurd (found_good LaterImage done.command command done.input done.words_are done.read done.good are tells bad))
-        (λ untold command are tells within bad. absurd (found_good LaterImage untold.command command untold.input untold.words_are untold.read untold.good are tells bad)) later_image_found;
-    disk = by_end status
-        (λ n. (command : Command) → command_of words ≡ Ok command → uses_disk command ≡ true → s.tells → d.tells → length s.left ≤ input_limit
-        → refusal_of command s.left ≡ None → HasByte (contents_of d.held) → (n ≡ 15) ⊎ ((n ≡ 9) ⊎ ((n ≡ 3) ⊎ (n ≡ 5)))) ends
-        (λ done command are uses tells keeps within good some. absurd (has_no_byte (done_empty done.command command done.input done.words_are are uses done.done keeps) some))
-        (λ untold command are uses tells keeps within good some. absurd (has_no_byte (done_empty untold.command command untold.input untold.words_are are uses untold.done keeps) some)) later_disk_found;
+    only = by_end status (λ n. n ≡ 15 → Finds words s LaterImage ⊎ TurnsAway words s d LaterDisk) ends (λ done h. cc) (λ untold h. cc) later_only;
+    image = by_end status (λ n. (b : Meets words s) → refused_of b ≡ Some LaterImage → (n ≡ 15) ⊎ ((n ≡ 9) ⊎ (n ≡ 3))) ends
+        (λ done b bad. absurd (found_good done.run.asks b LaterImage done.run.served.good bad)) (λ untold b bad. absurd (found_good untold.run.asks b LaterImage untold.run.served.good bad)) later_image_found;
+    disk = by_end status (λ n. (b : Meets words s) → refused_of b ≡ None → d.tells → (meaning b.command).turns_away b.input (found d) LaterDisk → (n ≡ 15) ⊎ ((n ≡ 9) ⊎ ((n ≡ 3) ⊎ (n ≡ 5)))) ends
+        (λ done b good tells turned. absurd (not_welcome done.text done.run b LaterDisk tells turned)) (λ untold b good tells turned. absurd (not_welcome untold.text untold.run b LaterDisk tells turned))
+        (λ e c b good tells turned. later_disk_found e c b good);
   }
 
-  before : (n : ℕ) → IsBeforeWrites n → (n ≡ 0) ⊎ ((n ≡ 4) ⊎ (n ≡ 5)) → ⊥
-  before n b (inl z) = before_not n b (λ h. omega (arith, h, z)) (λ h. omega (arith, h, z)) (λ h. omega (arith, h, z)) (λ h. omega (arith, h, z)) (λ h. omega (arith, h, z)) (λ h. omega (arith, h, z))
-    where
-      before_not : (n : ℕ) → IsBeforeWrites n → (n ≡ 1 → ⊥) → (n ≡ 2 → ⊥) → (n ≡ 3 → ⊥) → (n ≡ 7 → ⊥) → (n ≡ 9 → ⊥) → (n ≡ 15 → ⊥) → ⊥
-      before_not n b f1 f2 f3 f7 f9 f15 = ⊎_elim f1 (⊎_elim f2 (⊎_elim f3 (⊎_elim f7 (⊎_elim f9 f15)))) b
-  before n b (inr (inl z)) = ⊎_elim (λ h. omega (arith, h, z)) (⊎_elim (λ h. omega (arith, h, z)) (⊎_elim (λ h. omega (arith, h, z)) (⊎_elim (λ h. omega (arith, h, z)) (⊎_elim (λ h. omega (arith, h, z)) (λ h. omega (arith, h, z)))))) b
-  before n b (inr (inr z)) = ⊎_elim (λ h. omega (arith, h, z)) (⊎_elim (λ h. omega (arith, h, z)) (⊎_elim (λ h. omega (arith, h, z)) (⊎_elim (λ h. omega (arith, h, z)) (⊎_elim (λ h. omega (arith, h, z)) (λ h. omega (arith, h, z)))))) b
+  left_unwritten : (status : ℕ) (a : Asks words s) → Left (meaning a.command) status a.input d → Unwritten words s d status
+  left_unwritten status a left = ⊎_elim (λ still. inl still) (λ begun. inr (a, begun)) left.files
 
-  kept : (e : Refusal) → Caused e → IsBeforeWrites (status_of e) → Untouched d
-  kept (Usage at) c = λ b. c.2
-  kept ReadFault c = λ b. c.2
-  kept InputLimit c = λ b. c.2
-  kept (Image fault) c = λ b. c.1
-  kept (Line fault) c = λ b. c.1
-  kept LaterImage c = λ b. c.1
-  kept LaterDisk c = λ b. c.1.0
-  kept DiskFault c = λ b. absurd (before 5 b (inr (inr refl)))
-  kept NoMemory c = λ b. c.1
+  refused_unwritten : (e : Refusal) → Caused e → Unwritten words s d (status_of e)
+  refused_unwritten (Words usage) c = inl c.2
+  refused_unwritten (Reading e) c = inl c.2
+  refused_unwritten (Input e) c = inl c.1
+  refused_unwritten (Disk (FilesAway e)) c = left_unwritten (files_status e) c.0 c.2.0
+  refused_unwritten (Disk DiskFault) c = left_unwritten 5 c.0 c.2.0
+  refused_unwritten NoMemory c = ⊎_elim (λ still. inl still) (λ left. left_unwritten 9 left.0 left.1) c.1
 
-  -- before the first write the files stay
-  pub files_kept : (status : ℕ) → Ends words s k d status → IsBeforeWrites status → Untouched d
-  files_kept status ends = by_end status (λ n. IsBeforeWrites n → Untouched d) ends (λ done b. absurd (before 0 b (inl refl))) (λ untold b. absurd (before 4 b (inr (inl refl)))) kept
+  -- what a refusal leaves
+  pub unwritten : (status : ℕ) → Ends words s k d status → IsRefused status → Unwritten words s d status
+  unwritten status ends = by_end status (λ n. IsRefused n → Unwritten words s d n) ends (λ done h. absurd (h.0 refl)) (λ untold h. absurd (h.1 refl)) (λ e c h. refused_unwritten e c)
 
-  -- a good disk of a command that uses it is empty, and doesn't fail
-  good_disk : (command : Command) → uses_disk command ≡ true → IsGoodDisk command d → d.tells × IsEmpty (contents_of d.held) × (Rose d.faults d.faults_after → ⊥)
-  good_disk (Once asked) uses good = good
-  good_disk MmvMake uses good = cc
-  good_disk MmvDump uses good = cc
+  -- in a good run no stage has a cause
+  good_apart : IsGoodRun words s k d → (at : ℕ) → command_of words ≡ Err at → ⊥
+  good_apart good at bad = apart at bad good.meets.command good.meets.words_are
 
-  good_here : GoesOn words s → IsGoodRun words s k d → d.tells × IsEmpty (contents_of d.held) × (Rose d.faults d.faults_after → ⊥)
-  good_here goes good = good_disk good.command (ap uses_disk (one good.command goes.0 good.words_are goes.1) ∙ goes.2) good.disk
+  good_within : IsGoodRun words s k d → IsReader words → (s.tells → (input_limit < length s.left) × (s.after ≡ drop 16777217 s.left)) → ⊥
+  good_within good reader above = not_met reader (λ tells. (above tells).0) good.meets
+
+  good_input : IsGoodRun words s k d → (a : Asks words s) (e : InputRefusal) → fault_of a ≡ Some e → ⊥
+  good_input good a e bad = found_bad a good.meets e bad good.good
+
+  good_disk : IsGoodRun words s k d → (a : Asks words s) → (meaning a.command).uses_disk ≡ true → IsGoodDisk (meaning a.command) a.input d
+  good_disk good a uses =
+      subst (λ (c : Command). IsGoodDisk (meaning c) a.input d) (sym (same_command a good.meets))
+      (subst (λ (i : List ℕ). IsGoodDisk (meaning good.meets.command) i d) (sym (same_input a good.meets))
+      (good.disk (ap (λ (c : Command). (meaning c).uses_disk) (sym (same_command a good.meets)) ∙ uses)))
+
+  good_files : IsGoodRun words s k d → (a : Asks words s) → (meaning a.command).uses_disk ≡ true → (e : FilesRefusal) → (d.tells → (meaning a.command).turns_away a.input (found d) e) → ⊥
+  good_files good a uses e turned = let disk : IsGoodDisk (meaning a.command) a.input d = good_disk good a uses in disk.welcome e (turned disk.tells)
+
+  good_faults : IsGoodRun words s k d → (a : Asks words s) → (meaning a.command).uses_disk ≡ true → Rose d.faults d.faults_after → ⊥
+  good_faults good a uses rose = (good_disk good a uses).kept rose
+
+  good_source : IsGoodRun words s k d → Rose s.faults s.faults_after → ⊥
+  good_source good rose = good.source_kept rose
 
   completed : (e : Refusal) → Caused e → IsGoodRun words s k d → (status_of e ≡ 0) ⊎ (status_of e ≡ 9)
-  completed (Usage at) c good = absurd (apart at c.0 good.command good.words_are)
-  completed ReadFault c good = absurd (good.source_kept c.1.0)
-  completed InputLimit c good = absurd (within_not_above good.within (c.1 good.tells).0)
-  completed (Image fault) c good = absurd (good_not_found (Image fault) good.command c.0 good.words_are good.tells good.good)
-  completed (Line fault) c good = absurd (good_not_found (Line fault) good.command c.0 good.words_are good.tells good.good)
-  completed LaterImage c good = absurd (good_not_found LaterImage good.command c.0 good.words_are good.tells good.good)
-  completed LaterDisk c good = absurd (has_no_byte (good_here c.0 good).1 (c.1.1 (good_here c.0 good).0))
-  completed DiskFault c good = absurd ((good_here c.0 good).2 c.1)
-  completed NoMemory c good = inr refl
+  completed e c good = grind (arith, good_apart, good_within, good_input, good_files, good_faults, good_source)
 
   -- good input succeeds
   pub completes : (status : ℕ) → Ends words s k d status → IsGoodRun words s k d → (status ≡ 0) ⊎ (status ≡ 9)
-  completes status ends = by_end status (λ n. IsGoodRun words s k d → (n ≡ 0) ⊎ (n ≡ 9)) ends
-      (λ done good. inl refl) (λ untold good. absurd (good.sink_kept untold.rose)) completed
+  completes status ends = by_end status (λ n. IsGoodRun words s k d → (n ≡ 0) ⊎ (n ≡ 9)) ends (λ done good. inl refl) (λ untold good. absurd (good.sink_kept untold.rose)) completed
 
   not_done : (e : Refusal) → Caused e → status_of e ≡ 0 → ⊥
-  not_done (Usage at) c = λ h. omega (arith, h)
-  not_done ReadFault c = λ h. omega (arith, h)
-  not_done InputLimit c = λ h. omega (arith, h)
-  not_done (Image fault) c = λ h. omega (arith, h)
-  not_done (Line fault) c = λ h. omega (arith, h)
-  not_done LaterImage c = λ h. omega (arith, h)
-  not_done LaterDisk c = λ h. omega (arith, h)
-  not_done DiskFault c = λ h. omega (arith, h)
-  not_done NoMemory c = λ h. omega (arith, h)
+  not_done e c h = grind arith
 
   -- where the status is 0
   pub is_done : (status : ℕ) → Ends words s k d status → status ≡ 0 → EndsDone words s k d
-  is_done status ends = by_end status (λ n. n ≡ 0 → EndsDone words s k d) ends (λ done h. done) (λ untold h. absurd (omega (arith, h))) (λ e c h. absurd (not_done e c h))
+  is_done status ends = by_end status (λ n. n ≡ 0 → EndsDone words s k d) ends (λ done h. done) (λ untold h. cc) (λ e c h. absurd (not_done e c h))
+
+  still_settled : Untouched d → d.tells → IsSettled d.held → IsSettled d.after
+  still_settled still tells settled = subst IsSettled (sym (still tells)) settled
 
   stays_settled : (e : Refusal) → Caused e → (status_of e ≡ 5 → ⊥) → d.tells → IsSettled d.held → IsSettled d.after
-  stays_settled (Usage at) c = λ h tells settled. subst IsSettled (sym (c.2 tells)) settled
-  stays_settled ReadFault c = λ h tells settled. subst IsSettled (sym (c.2 tells)) settled
-  stays_settled InputLimit c = λ h tells settled. subst IsSettled (sym (c.2 tells)) settled
-  stays_settled (Image fault) c = λ h tells settled. subst IsSettled (sym (c.1 tells)) settled
-  stays_settled (Line fault) c = λ h tells settled. subst IsSettled (sym (c.1 tells)) settled
-  stays_settled LaterImage c = λ h tells settled. subst IsSettled (sym (c.1 tells)) settled
-  stays_settled LaterDisk c = λ h tells settled. subst IsSettled (sym (c.1.0 tells)) settled
-  stays_settled DiskFault c = λ h. absurd (h refl)
-  stays_settled NoMemory c = λ h tells settled. subst IsSettled (sym (c.1 tells)) settled
-
-  done_settled : (command : Command) (input : List ℕ) → HasDone command input d → d.tells → IsSettled d.held → IsSettled d.after
-  done_settled (Once asked) input done tells settled = done.settled tells
-  done_settled MmvMake input done tells settled = subst IsSettled (sym (done tells)) settled
-  done_settled MmvDump input done tells settled = subst IsSettled (sym (done tells)) settled
+  stays_settled (Words usage) c h = still_settled c.2
+  stays_settled (Reading e) c h = still_settled c.2
+  stays_settled (Input e) c h = still_settled c.1
+  stays_settled (Disk (FilesAway e)) c h = c.2.0.settled h
+  stays_settled (Disk DiskFault) c h = c.2.0.settled h
+  stays_settled NoMemory c h = ⊎_elim still_settled (λ left. left.1.settled h) c.1
 
   -- a settled disk is settled after every status but 5
   pub settles : (status : ℕ) → Ends words s k d status → (status ≡ 5 → ⊥) → d.tells → IsSettled d.held → IsSettled d.after
   settles status ends = by_end status (λ n. (n ≡ 5 → ⊥) → d.tells → IsSettled d.held → IsSettled d.after) ends
-      (λ done h tells settled. done_settled done.command done.input done.done tells settled) (λ untold h tells settled. done_settled untold.command untold.input untold.done tells settled) stays_settled
+      (λ done h tells settled. done.run.served.settled tells settled) (λ untold h tells settled. untold.run.served.settled tells settled) stays_settled
+
+  -- each crash from then on leaves what the command keeps
+  pub keeps : (status : ℕ) → Ends words s k d status → status ≡ 0 → d.tells → Keeps words s d.after
+  keeps status ends zero tells =
+      let done : EndsDone words s k d = is_done status ends zero in
+      record { asks = done.run.asks; each = done.run.served.kept tells }

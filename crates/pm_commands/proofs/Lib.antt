@@ -7,5 +7,4 @@ pub mod Stages
 pub mod Texts
 pub mod Facts
 pub mod Wholes
-pub mod Moments
 pub mod Served

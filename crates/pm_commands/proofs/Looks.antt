@@ -5,7 +5,7 @@ use Rattle.pcp_model.specs.Disk.{Files, Held, Holdings, CrashImage, IsEmpty, con
 use Rattle.pcp_outside.specs.Causes.{capped}
 use Rattle.pcp_outside.specs.Devices.{Elapses, LeavesOnly, IsVolumes, length_of}
 use Rattle.pcp_outside.proofs.Crash.{started, after_look}
-use Rattle.pm_commands.specs.Ends.{HasByte}
+use Rattle.pm_commands.specs.commands.once.{HasByte}
 use Rattle.pm_commands.specs.Pieces.{Holds}
 
 module _ {D : Type 0} (moment : D → ℕ) (left_since : D → ℕ → Files → Type 0) (held : D → Holdings) where

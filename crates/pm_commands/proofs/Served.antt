@@ -1,70 +1,76 @@
 -- What a command does with its input, told of the words and the source.
-use Rattle.std.proofs.Common.{◌≡◌, inl, inr, ℕ, List, ◌++◌, take, Ok, refl, ap, ◌∙◌}
-use Rattle.pcp_model.specs.Disk.{Files, Holdings}
+use Rattle.std.proofs.Common.{◌≡◌, ◌⊎◌, inl, inr, ⊎_elim, ℕ, List, IsSome, ◌++◌, take, Result, Ok, Err, IfOk, IfErr, refl, ap, ◌∙◌, subst, sym}
+use Rattle.pcp_model.specs.Disk.{Files, Holdings, CrashImage, IsSettled}
 use Rattle.pcp_outside.specs.Causes.{Rose}
-use Rattle.pm_commands.specs.declared.inputs.Output.{Output}
-use Rattle.pm_commands.specs.declared.words.Command.{Command}
+use Rattle.pm_commands.specs.declared.stage.Stop.{Stop}
+use Rattle.pm_commands.specs.declared.stage.Stop.TheVariants.{OutOfMemory, Refused}
+use Rattle.pm_commands.specs.declared.stage.ReadRefusal.{ReadRefusal}
+use Rattle.pm_commands.specs.declared.stage.InputRefusal.{InputRefusal}
+use Rattle.pm_commands.specs.declared.output.Output.{Output}
 use Rattle.pm_commands.specs.declared.refusal.Refusal.{Refusal}
-use Rattle.pm_commands.specs.declared.refusal.Refusal.TheVariants.{Usage, ReadFault, InputLimit, Image, Line, LaterImage, LaterDisk, DiskFault, NoMemory}
+use Rattle.pm_commands.specs.declared.refusal.Refusal.TheVariants.{Words, Reading, Input, Disk, NoMemory}
+use Rattle.pm_commands.specs.declared.words.Command.{Command}
 use Rattle.pm_commands.specs.CommandLine.{command_of}
-use Rattle.pm_commands.specs.Ends.{SourceSide, SinkSide, DiskSide, WasRead, ReadCause, Untouched, ServeCause, Cause, Told, HasRun, Ends, MayLeave, MayLeaveAny, shown}
+use Rattle.pm_commands.specs.Causes.{Got, Asks, UnreadCause, Left, StopCause, Cause}
+use Rattle.pm_commands.specs.Ends.{HasServed, HasRun, Told, Ends, MayLeave, MayBeLeft, shown}
 use Rattle.pm_commands.specs.Inputs.{Refuses}
-use Rattle.pm_commands.specs.Refusals.{status_of, line_of}
-use Rattle.pm_commands.proofs.Memory.{took_all}
+use Rattle.pm_commands.specs.Meaning.{Meaning}
+use Rattle.pm_commands.specs.Meanings.{meaning}
+use Rattle.pm_commands.specs.Refusals.{status_of, line_of, stopped}
+use Rattle.pm_commands.specs.Sides.{SourceSide, SinkSide, DiskSide, Untouched}
+use Rattle.pm_commands.proofs.Memory.{took_some}
 
--- a refusal before the disk is looked at
-pub refused_serves : (command : Command) (input : List ℕ) (d : DiskSide) (e : Refusal) → Untouched d → Refuses command input e → ServeCause command input d e
-refused_serves command input d NoMemory still c = still
-refused_serves command input d (Image fault) still c = (c, still)
-refused_serves command input d (Line fault) still c = (c, still)
-refused_serves command input d LaterImage still c = (c, still)
-refused_serves command input d (Usage at) still c = absurd c
-refused_serves command input d ReadFault still c = absurd c
-refused_serves command input d InputLimit still c = absurd c
-refused_serves command input d LaterDisk still c = absurd c
-refused_serves command input d DiskFault still c = absurd c
+-- a disk that holds what it held is settled if it was
+pub still_settled : (d : DiskSide) → Untouched d → d.tells → IsSettled d.held → IsSettled d.after
+still_settled d still tells settled = subst IsSettled (sym (still tells)) settled
 
--- a refusal of what was read
-pub served_cause : (words : List (List ℕ)) (s : SourceSide) (d : DiskSide) (command : Command) (input : List ℕ) (e : Refusal) → command_of words ≡ Ok command → WasRead s input → ServeCause command input d e → Cause words s d e
-served_cause words s d command input NoMemory are read c = (took_all s input read, c)
-served_cause words s d command input (Image fault) are read c = ((command, are, input, read, c.0), c.1)
-served_cause words s d command input (Line fault) are read c = ((command, are, input, read, c.0), c.1)
-served_cause words s d command input LaterImage are read c = ((command, are, input, read, c.0), c.1)
-served_cause words s d command input LaterDisk are read c = ((command, are, c.0, input, read, c.1), c.2)
-served_cause words s d command input DiskFault are read c = ((command, are, c.0, input, read, c.1), c.2)
-served_cause words s d command input (Usage at) are read c = absurd c
-served_cause words s d command input ReadFault are read c = absurd c
-served_cause words s d command input InputLimit are read c = absurd c
+-- stopped before the first write
+pub left_alone : (m : Meaning) (status : ℕ) (input : List ℕ) (d : DiskSide) → Untouched d → Left m status input d
+left_alone m status input d still = record { files = inl still; settled = λ other. still_settled d still }
+
+-- a refusal of an input, before the disk is looked at
+pub refused_stops : (m : Meaning) (input : List ℕ) (d : DiskSide) (stop : Stop InputRefusal) → Untouched d → Refuses m.reads input stop → StopCause m input d (stopped Input stop)
+refused_stops m input d OutOfMemory still c = left_alone m 9 input d still
+refused_stops m input d (Refused e) still c = (c, still)
 
 -- a refusal of the reading
-pub unread_cause : (words : List (List ℕ)) (s : SourceSide) (d : DiskSide) (command : Command) (e : Refusal) → command_of words ≡ Ok command → Untouched d → ReadCause s e → Cause words s d e
-unread_cause words s d command ReadFault are still c = ((command, are), c, still)
-unread_cause words s d command InputLimit are still c = ((command, are), c, still)
-unread_cause words s d command NoMemory are still c = (c, still)
-unread_cause words s d command (Usage at) are still c = absurd c
-unread_cause words s d command (Image fault) are still c = absurd c
-unread_cause words s d command (Line fault) are still c = absurd c
-unread_cause words s d command LaterImage are still c = absurd c
-unread_cause words s d command LaterDisk are still c = absurd c
-unread_cause words s d command DiskFault are still c = absurd c
+pub unread_cause : (words : List (List ℕ)) (s : SourceSide) (d : DiskSide) (command : Command) (stop : Stop ReadRefusal)
+    → command_of words ≡ Ok command → IsSome (meaning command).reads → Untouched d → UnreadCause s stop → Cause words s d (stopped Reading stop)
+unread_cause words s d command OutOfMemory are some still c = (c, inl still)
+unread_cause words s d command (Refused e) are some still c = ((command, are, some), c, still)
 
-pub may_leave_any : (words : List (List ℕ)) (s : SourceSide) (held : Holdings) (command : Command) (input : List ℕ) → command_of words ≡ Ok command → WasRead s input → (crash : Files) → MayLeave command input held crash → MayLeaveAny words s held crash
-may_leave_any words s held command input are read crash leaves = inr (command, are, input, read, leaves)
+-- a refusal of what was got
+pub stop_cause : (words : List (List ℕ)) (s : SourceSide) (d : DiskSide) (a : Asks words s) (e : Refusal) → StopCause (meaning a.command) a.input d e → Cause words s d e
+stop_cause words s d a (Input e) c = ((a, c.0), c.1)
+stop_cause words s d a (Disk e) c = (a, c.0, c.1)
+stop_cause words s d a NoMemory c = (took_some s (meaning a.command).reads a.input a.got, inr (a, c))
+stop_cause words s d a (Words usage) c = absurd c
+stop_cause words s d a (Reading e) c = absurd c
+
+-- the same of what a command answered
+pub runs : (words : List (List ℕ)) (s : SourceSide) (d : DiskSide) (a : Asks words s) (result : Result Output Refusal)
+    → IfOk result (λ output. HasServed (meaning a.command) a.input d (shown output)) → IfOk result (λ output. HasRun words s d (shown output))
+runs words s d a (Ok output) served = record { asks = a; served = served }
+runs words s d a (Err e) served = tt
+
+pub causes : (words : List (List ℕ)) (s : SourceSide) (d : DiskSide) (a : Asks words s) (result : Result Output Refusal)
+    → IfErr result (StopCause (meaning a.command) a.input d) → IfErr result (Cause words s d)
+causes words s d a (Ok output) cause = tt
+causes words s d a (Err e) cause = stop_cause words s d a e cause
+
+pub may_be_left : (words : List (List ℕ)) (s : SourceSide) (held : Holdings) (a : Asks words s) (crash : Files) → MayLeave (meaning a.command) a.input held crash → MayBeLeft words s held crash
+may_be_left words s held a crash may = ⊎_elim (λ (was : CrashImage held crash). inl was) (λ (left : (meaning a.command).may_leave a.input held crash). inr (a, left)) may
 
 -- the end of a run whose output wasn't written whole
-pub untold_ends : (words : List (List ℕ)) (s : SourceSide) (k : SinkSide) (d : DiskSide) (output : Output) (bytes : List ℕ) → HasRun words s d output → bytes ≡ shown output → Rose k.faults k.faults_after
+pub untold_ends : (words : List (List ℕ)) (s : SourceSide) (k : SinkSide) (d : DiskSide) (text bytes : List ℕ) → HasRun words s d text → bytes ≡ text → Rose k.faults k.faults_after
     → (k.tells → (n : ℕ) × (k.after ≡ k.written ++ take n bytes)) → Ends words s k d 4
-untold_ends words s k d output bytes run are rose told = inr (inl (
+untold_ends words s k d text bytes run are rose told = inr (inl (
   refl,
   record {
-    command = run.command;
-    words_are = run.words_are;
-    input = run.input;
-    read = run.read;
-    good = run.good;
-    done = run.done;
+    text = text;
+    run = run;
     rose = rose;
-    told = λ tells. ((told tells).0, (told tells).1 ∙ ap (λ t. k.written ++ take (told tells).0 t) (are ∙ run.output_is));
+    told = λ tells. ((told tells).0, (told tells).1 ∙ ap (λ t. k.written ++ take (told tells).0 t) are);
   },
 ))
 

@@ -5,8 +5,9 @@ use Rattle.pcp_base.specs.Names.{is_letter, is_name_byte}
 use Rattle.pm_commands.specs.Numbers.{number_of}
 use Rattle.pm_commands.specs.declared.words.Command.{Command}
 use Rattle.pm_commands.specs.declared.words.Command.TheVariants.{Once, MmvMake, MmvDump}
-use Rattle.pm_commands.specs.declared.words.WordsFault.{WordsFault}
-use Rattle.pm_commands.specs.declared.words.WordsFault.TheVariants.{Usage, NoMemory}
+use Rattle.pm_commands.specs.declared.stage.Stop.{Stop}
+use Rattle.pm_commands.specs.declared.stage.Stop.TheVariants.{OutOfMemory, Refused}
+use Rattle.pm_commands.specs.declared.stage.Usage.{Usage}
 
 infixl 10 ◌>>=◌
 abbrev pub ◌>>=◌ : {A B : Type 0} → Result A ℕ → (A → Result B ℕ) → Result B ℕ
@@ -69,13 +70,12 @@ Gives view (Ok x) read = read ≡ Ok (view x)
 Gives view (Err at) read = read ≡ Err at
 
 -- what a parse of the words answered is what they say, unless memory ran out
-abbrev pub Reads : {A : Type 0} → Result A WordsFault → Result A ℕ → Type 0
+abbrev pub Reads : {A : Type 0} → Result A (Stop Usage) → Result A ℕ → Type 0
 Reads (Ok c) read = read ≡ Ok c
-Reads (Err (Usage at)) read = read ≡ Err at
-Reads (Err NoMemory) read = Unit {0}
+Reads (Err (Refused usage)) read = read ≡ Err usage.at
+Reads (Err OutOfMemory) read = Unit {0}
 
 -- what the words of a command promise of it
 abbrev pub FitsCommand : Command → Type 0
 FitsCommand (Once asked) = length asked.file ≤ 63
-FitsCommand MmvMake = Unit {0}
-FitsCommand MmvDump = Unit {0}
+FitsCommand _ = Unit {0}

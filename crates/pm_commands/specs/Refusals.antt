@@ -1,49 +1,98 @@
--- How a command that is refused ends: its status and its last line.
+-- How a command that is refused ends: its status and its last line, stage by stage.
 use Rattle.std.specs.Prelude.{◌≡◌, ◌⊎◌, ℕ, List, [], ◌∷◌, ◌++◌, take, Option, Some, None, unwrap_or, codes}
 use Rattle.std.specs.Fmt.{decimal}
 use Rattle.pcp_outside.specs.Causes.{Rose}
 use Rattle.pm_print.specs.FaultLines.{image_line, text_line}
+use Rattle.pm_commands.specs.declared.stage.Stop.{Stop}
+use Rattle.pm_commands.specs.declared.stage.Stop.TheVariants.{OutOfMemory, Refused}
+use Rattle.pm_commands.specs.declared.stage.Usage.{Usage}
+use Rattle.pm_commands.specs.declared.stage.ReadRefusal.{ReadRefusal}
+use Rattle.pm_commands.specs.declared.stage.ReadRefusal.TheVariants.{ReadFault, InputLimit}
+use Rattle.pm_commands.specs.declared.stage.InputRefusal.{InputRefusal}
+use Rattle.pm_commands.specs.declared.stage.InputRefusal.TheVariants.{Image, Line, LaterImage}
+use Rattle.pm_commands.specs.declared.stage.FilesRefusal.{FilesRefusal}
+use Rattle.pm_commands.specs.declared.stage.FilesRefusal.TheVariants.{LaterDisk}
+use Rattle.pm_commands.specs.declared.stage.DiskRefusal.{DiskRefusal}
+use Rattle.pm_commands.specs.declared.stage.DiskRefusal.TheVariants.{Files, DiskFault}
 use Rattle.pm_commands.specs.declared.refusal.Refusal.{Refusal}
-use Rattle.pm_commands.specs.declared.refusal.Refusal.TheVariants.{Usage, ReadFault, InputLimit, Image, Line, LaterImage, LaterDisk, DiskFault, NoMemory}
+use Rattle.pm_commands.specs.declared.refusal.Refusal.TheVariants.{Words, Reading, Input, Disk, NoMemory}
 
+-- the words
+abbrev pub usage_line : Usage → List ℕ
+usage_line usage = codes "usage " ++ (decimal usage.at ++ 10 ∷ [])
+
+-- the reading
+abbrev pub reading_status : ReadRefusal → ℕ
+reading_status ReadFault = 3
+reading_status InputLimit = 7
+
+abbrev pub reading_line : ReadRefusal → List ℕ
+reading_line ReadFault = codes "read fault\n"
+reading_line InputLimit = codes "limit input 16777217\n"
+
+-- the input
+abbrev pub input_status : InputRefusal → ℕ
+input_status (Image fault) = 2
+input_status (Line fault) = 2
+input_status LaterImage = 15
+
+-- the line where making it takes memory, and the line where it takes none
+abbrev pub numbered_input_line : InputRefusal → Option (List ℕ)
+numbered_input_line (Image fault) = Some (image_line fault)
+numbered_input_line (Line fault) = Some (text_line fault.line fault.fault)
+numbered_input_line LaterImage = None
+
+abbrev pub plain_input_line : InputRefusal → List ℕ
+plain_input_line (Image fault) = []
+plain_input_line (Line fault) = []
+plain_input_line LaterImage = codes "later image\n"
+
+-- the files, and the disk
+abbrev pub files_status : FilesRefusal → ℕ
+files_status LaterDisk = 15
+
+abbrev pub files_line : FilesRefusal → List ℕ
+files_line LaterDisk = codes "later disk\n"
+
+abbrev pub disk_status : DiskRefusal → ℕ
+disk_status (Files e) = files_status e
+disk_status DiskFault = 5
+
+abbrev pub disk_line : DiskRefusal → List ℕ
+disk_line (Files e) = files_line e
+disk_line DiskFault = codes "disk fault\n"
+
+-- all stages
 abbrev pub status_of : Refusal → ℕ
-status_of (Usage at) = 1
-status_of (Image fault) = 2
-status_of (Line fault) = 2
-status_of LaterImage = 15
-status_of ReadFault = 3
-status_of DiskFault = 5
-status_of InputLimit = 7
-status_of LaterDisk = 15
+status_of (Words usage) = 1
+status_of (Reading e) = reading_status e
+status_of (Input e) = input_status e
+status_of (Disk e) = disk_status e
 status_of NoMemory = 9
 
--- the line where making it takes memory
 abbrev pub numbered_line_of : Refusal → Option (List ℕ)
-numbered_line_of (Usage at) = Some (codes "usage " ++ (decimal at ++ 10 ∷ []))
-numbered_line_of (Image fault) = Some (image_line fault)
-numbered_line_of (Line fault) = Some (text_line fault.line fault.fault)
-numbered_line_of LaterImage = None
-numbered_line_of ReadFault = None
-numbered_line_of DiskFault = None
-numbered_line_of InputLimit = None
-numbered_line_of LaterDisk = None
+numbered_line_of (Words usage) = Some (usage_line usage)
+numbered_line_of (Reading e) = None
+numbered_line_of (Input e) = numbered_input_line e
+numbered_line_of (Disk e) = None
 numbered_line_of NoMemory = None
 
--- and where it has none; want of memory has no line
+-- want of memory has no line
 abbrev pub plain_line_of : Refusal → List ℕ
-plain_line_of (Usage at) = []
-plain_line_of (Image fault) = []
-plain_line_of (Line fault) = []
-plain_line_of LaterImage = codes "later image\n"
-plain_line_of ReadFault = codes "read fault\n"
-plain_line_of DiskFault = codes "disk fault\n"
-plain_line_of InputLimit = codes "limit input 16777217\n"
-plain_line_of LaterDisk = codes "later disk\n"
+plain_line_of (Words usage) = []
+plain_line_of (Reading e) = reading_line e
+plain_line_of (Input e) = plain_input_line e
+plain_line_of (Disk e) = disk_line e
 plain_line_of NoMemory = []
 
 -- the last line of a refusal
 abbrev pub line_of : Refusal → List ℕ
 line_of e = unwrap_or (numbered_line_of e) (plain_line_of e)
+
+-- a stage that stopped, as the refusal of the whole
+abbrev pub stopped : {E : Type 0} → (E → Refusal) → Stop E → Refusal
+stopped at OutOfMemory = NoMemory
+stopped at (Refused e) = at e
 
 -- the line is written, or a front of it where the sink failed
 abbrev pub Wrote : ℕ → ℕ → List ℕ → List ℕ → List ℕ → Type 0

@@ -3,15 +3,18 @@
 //! main makes.
 #![tactic(auto)]
 
+mod commands;
 mod inputs;
 mod numbers;
-mod once;
+mod output;
 mod plan;
 mod refusal;
+mod stage;
 mod top;
 mod words;
 mod writes;
 
 pub use refusal::Refusal;
+pub use stage::{DiskRefusal, FilesRefusal, InputRefusal, ReadRefusal, Stop, Usage};
 pub use top::offline;
-pub use words::{Command, OnceWords, WordsFault, read_words};
+pub use words::{Command, OnceWords, read_words};

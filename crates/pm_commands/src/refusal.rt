@@ -1,53 +1,75 @@
+//! The refusals of all stages as one, and how its last line is told.
 ghost use Rattle.std.specs.Prelude.{◌≡◌, IfOk, OnOk, OnErr, IsSome};
-ghost use Rattle.pcp_outside.specs.Causes.{Rose};
 ghost use Rattle.pm_commands.specs.Refusals.{status_of, numbered_line_of, plain_line_of, line_of, Wrote};
 
-use mmv_layout::ImageFault;
-use mmv_writer::TextFault;
-use pcp_base::{Bytes, List, NoMemory};
+use crate::stage::{DiskRefusal, InputRefusal, ReadRefusal, Stop, Usage};
+use pcp_base::{Bytes, NoMemory};
 use pcp_outside::{Sink, write_all};
-use pm_print::{image_fault_text, line_fault_text};
-use std::alloc::{AllocError, Global};
+use std::alloc::Global;
 
 /// Why a command ended before it was done.
 #[derive(Clone, Copy, Debug, PartialEq, Eq)]
 pub enum Refusal {
-    /// The word at this index is bad, or is missing.
-    Usage { at: usize },
-    /// The source failed.
-    ReadFault,
-    /// The source holds more than 16 MiB.
-    InputLimit,
-    /// The input is no image.
-    Image(ImageFault),
-    /// The input is no layout text.
-    Line(TextFault),
-    /// The image is not of the first form; such images are run later.
-    LaterImage,
-    /// The disk isn't empty; such an archive is gone on with later.
-    LaterDisk,
-    /// The disk failed.
-    DiskFault,
+    /// The words are no command.
+    Words(Usage),
+    /// The input isn't read to its end.
+    Reading(ReadRefusal),
+    /// The input isn't what the command reads.
+    Input(InputRefusal),
+    /// The files are turned away, or the disk failed.
+    Disk(DiskRefusal),
     NoMemory,
 }
 
-impl From<AllocError> for Refusal {
-    ghost use Rattle.pm_commands.specs.declared.refusal.Refusal.TheVariants.{NoMemory as Refused};
+impl From<Stop<Usage>> for Refusal {
+    ghost use Rattle.pm_commands.specs.Refusals.{stopped};
+    ghost use Rattle.pm_commands.specs.declared.refusal.Refusal.TheVariants.{Words as AtWords};
 
-    ghost from_gives = { λ _ e. e ≡ Refused };
+    ghost from_gives = { λ stop e. e ≡ stopped AtWords stop };
 
-    fn from(_error: AllocError) -> Refusal {
-        Refusal::NoMemory
+    fn from(stop: Stop<Usage>) -> Refusal {
+        match stop {
+            Stop::OutOfMemory => Refusal::NoMemory,
+            Stop::Refused(usage) => Refusal::Words(usage),
+        }
     }
 }
 
-impl From<NoMemory> for Refusal {
-    ghost use Rattle.pm_commands.specs.declared.refusal.Refusal.TheVariants.{NoMemory as Refused};
+impl From<Stop<ReadRefusal>> for Refusal {
+    ghost use Rattle.pm_commands.specs.Refusals.{stopped};
+    ghost use Rattle.pm_commands.specs.declared.refusal.Refusal.TheVariants.{Reading as AtReading};
 
-    ghost from_gives = { λ _ e. e ≡ Refused };
+    ghost from_gives = { λ stop e. e ≡ stopped AtReading stop };
 
-    fn from(_error: NoMemory) -> Refusal {
-        Refusal::NoMemory
+    fn from(stop: Stop<ReadRefusal>) -> Refusal {
+        match stop {
+            Stop::OutOfMemory => Refusal::NoMemory,
+            Stop::Refused(refusal) => Refusal::Reading(refusal),
+        }
+    }
+}
+
+impl From<Stop<InputRefusal>> for Refusal {
+    ghost use Rattle.pm_commands.specs.Refusals.{stopped};
+    ghost use Rattle.pm_commands.specs.declared.refusal.Refusal.TheVariants.{Input as AtInput};
+
+    ghost from_gives = { λ stop e. e ≡ stopped AtInput stop };
+
+    fn from(stop: Stop<InputRefusal>) -> Refusal {
+        match stop {
+            Stop::OutOfMemory => Refusal::NoMemory,
+            Stop::Refused(refusal) => Refusal::Input(refusal),
+        }
+    }
+}
+
+impl From<DiskRefusal> for Refusal {
+    ghost use Rattle.pm_commands.specs.declared.refusal.Refusal.TheVariants.{Disk as AtDisk};
+
+    ghost from_gives = { λ refusal e. e ≡ AtDisk refusal };
+
+    fn from(refusal: DiskRefusal) -> Refusal {
+        Refusal::Disk(refusal)
     }
 }
 
@@ -57,13 +79,11 @@ impl Refusal {
         ensures { result ≡ status_of self.now }
     {
         match self {
-            Refusal::Usage { .. } => 1,
-            Refusal::LaterImage | Refusal::LaterDisk => 15,
+            Refusal::Words(_) => 1,
+            Refusal::Reading(refusal) => refusal.status(),
+            Refusal::Input(refusal) => refusal.status(),
+            Refusal::Disk(refusal) => refusal.status(),
             Refusal::NoMemory => 9,
-            Refusal::Image(_) | Refusal::Line(_) => 2,
-            Refusal::ReadFault => 3,
-            Refusal::DiskFault => 5,
-            Refusal::InputLimit => 7,
         }
     }
 
@@ -73,19 +93,12 @@ impl Refusal {
         ensures numbered { OnErr result (IsSome (numbered_line_of self.now)) }
     {
         match self {
-            Refusal::Usage { at } => {
-                let line = format!(in alloc; "usage {at}\n")?;
-                Ok(Some(List::from_vec(line.into_bytes())))
-            }
-            Refusal::Image(fault) => {
-                let line = image_fault_text(alloc, fault)?;
+            Refusal::Words(usage) => {
+                let line = usage.line(alloc)?;
                 Ok(Some(line))
             }
-            Refusal::Line(fault) => {
-                let line = line_fault_text(alloc, fault.line, &fault.fault)?;
-                Ok(Some(line))
-            }
-            _ => Ok(None),
+            Refusal::Input(refusal) => refusal.numbered_line(alloc),
+            Refusal::Reading(_) | Refusal::Disk(_) | Refusal::NoMemory => Ok(None),
         }
     }
 
@@ -94,12 +107,10 @@ impl Refusal {
         ensures { result.now ≡ plain_line_of self.now }
     {
         match self {
-            Refusal::LaterImage => b"later image\n",
-            Refusal::ReadFault => b"read fault\n",
-            Refusal::DiskFault => b"disk fault\n",
-            Refusal::InputLimit => b"limit input 16777217\n",
-            Refusal::LaterDisk => b"later disk\n",
-            _ => b"",
+            Refusal::Reading(refusal) => refusal.line(),
+            Refusal::Input(refusal) => refusal.plain_line(),
+            Refusal::Disk(refusal) => refusal.line(),
+            Refusal::Words(_) | Refusal::NoMemory => b"",
         }
     }
 

@@ -1,22 +1,26 @@
 //! The call that main makes.
-ghost use Rattle.std.specs.Prelude.{◌≡◌, ◌⊎◌, ◌≤◌, length, map, string_bytes, IfOk, IfErr, OnOk, None, false};
-ghost use Rattle.pcp_model.specs.Disk.{IsSettled, IsEmpty, contents_of};
+ghost use Rattle.std.specs.Prelude.{◌≡◌, ◌⊎◌, ◌≤◌, length, map, string_bytes, IfOk, IfErr, false};
+ghost use Rattle.pcp_model.specs.Disk.{IsSettled};
 ghost use Rattle.pcp_outside.specs.Causes.{Rose};
-ghost use Rattle.pcp_outside.specs.Devices.{LeavesOnly};
+ghost use Rattle.pm_commands.specs.Causes.{Cause, StopCause};
 ghost use Rattle.pm_commands.specs.CommandLine.{FitsCommand};
-ghost use Rattle.pm_commands.specs.Ends.{IsOnce, IsAside, HasDone, HasRun, ServeCause, Cause, Ends, EndsDone, MayLeave, MayLeaveAny, shown};
-ghost use Rattle.pm_commands.specs.Facts.{UsageIsExact, LimitIsExact, InputFaultIsExact, LaterIsExact, IsBeforeWrites, IsGoodRun, LeavesNoneOrOne, Keeps};
-ghost use Rattle.pm_commands.specs.Inputs.{input_limit, refusal_of, output_of, uses_disk};
+ghost use Rattle.pm_commands.specs.Ends.{HasServed, HasRun, Ends, EndsDone, MayLeave, MayBeLeft, shown};
+ghost use Rattle.pm_commands.specs.Facts.{UsageIsExact, LimitIsExact, InputFaultIsExact, LaterIsExact, IsAside, IsInputless, IsRefused, Unwritten, IsGoodRun, Keeps};
+ghost use Rattle.pm_commands.specs.Inputs.{input_limit};
+ghost use Rattle.pm_commands.specs.Meanings.{meaning};
+ghost use Rattle.pm_commands.specs.Sides.{source_side, sink_side, disk_side, Leaves};
 
-use crate::inputs::{Output, dump, make, read_input};
-use crate::once::once;
+use crate::commands::mmv_dump::mmv_dump;
+use crate::commands::mmv_make::mmv_make;
+use crate::commands::once::once;
+use crate::inputs::get_input;
+use crate::output::Output;
 use crate::refusal::Refusal;
-use crate::words::{Command, WordsFault, read_words};
+use crate::words::{Command, read_words};
 use pcp_outside::{Disk, Sink, Source, write_all};
 use std::alloc::Global;
 
 // Does what a command asks for with its input.
-#[tactic(auto, using(crate::proofs::Served::refused_serves))]
 fn serve<D: Disk>(
     alloc: Global,
     command: &Command,
@@ -25,17 +29,10 @@ fn serve<D: Disk>(
 ) -> Result<Output, Refusal>
     requires fits { FitsCommand command.now }
     requires within { length input.now ≤ input_limit }
-
-    ensures done { OnOk result (HasDone command.now input.now
-        record { tells = D.tells; held = D.held disk.old; after = D.held disk.new; faults = D.faults disk.old; faults_after = D.faults disk.new }) }
-    ensures good { OnOk result (refusal_of command.now input.now ≡ None) }
-    ensures output { IfOk result (λ output. shown output ≡ output_of command.now input.now) }
-
-    ensures cause { IfErr result (ServeCause command.now input.now
-        record { tells = D.tells; held = D.held disk.old; after = D.held disk.new; faults = D.faults disk.old; faults_after = D.faults disk.new }) }
-
-    ensures aside { uses_disk command.now ≡ false → disk.new ≡ disk.old }
-    ensures any_moment { D.tells → LeavesOnly D.moment D.left_since disk.old disk.new (MayLeave command.now input.now (D.held disk.old)) }
+    ensures served { IfOk result (λ output. HasServed (meaning command.now) input.now (disk_side D.Disk disk.old disk.new) (shown output)) }
+    ensures cause { IfErr result (StopCause (meaning command.now) input.now (disk_side D.Disk disk.old disk.new)) }
+    ensures aside { (meaning command.now).uses_disk ≡ false → disk.new ≡ disk.old }
+    ensures any_moment { Leaves D.Disk disk.old disk.new (MayLeave (meaning command.now) input.now) }
 {
     match command {
         Command::Once(asked) => {
@@ -43,43 +40,31 @@ fn serve<D: Disk>(
             Ok(Output::Logged)
         }
         Command::MmvMake => {
-            let image = make(alloc, input)?;
+            let image = mmv_make(alloc, input)?;
             Ok(Output::Made(image))
         }
         Command::MmvDump => {
-            let text = dump(alloc, input)?;
+            let text = mmv_dump(alloc, input)?;
             Ok(Output::Made(text))
         }
     }
 }
 
 // Runs the command that the words are.
-#[tactic(auto, using(crate::proofs::Served::served_cause, crate::proofs::Served::unread_cause))]
 fn run<I: Source, D: Disk>(
     alloc: Global,
     words: &[String],
     input: &mut I,
     disk: &mut D,
 ) -> Result<Output, Refusal>
-    ensures done { IfOk result (HasRun (map string_bytes words.now)
-        record { tells = I.tells; left = I.left input.old; after = I.left input.new; faults = I.faults input.old; faults_after = I.faults input.new }
-        record { tells = D.tells; held = D.held disk.old; after = D.held disk.new; faults = D.faults disk.old; faults_after = D.faults disk.new }) }
-
-    ensures cause { IfErr result (Cause (map string_bytes words.now)
-        record { tells = I.tells; left = I.left input.old; after = I.left input.new; faults = I.faults input.old; faults_after = I.faults input.new }
-        record { tells = D.tells; held = D.held disk.old; after = D.held disk.new; faults = D.faults disk.old; faults_after = D.faults disk.new }) }
-
+    ensures done { IfOk result (λ output. HasRun (map string_bytes words.now) (source_side I.Source input.old input.new) (disk_side D.Disk disk.old disk.new) (shown output)) }
+    ensures cause { IfErr result (Cause (map string_bytes words.now) (source_side I.Source input.old input.new) (disk_side D.Disk disk.old disk.new)) }
     ensures aside { IsAside (map string_bytes words.now) → disk.new ≡ disk.old }
-    ensures any_moment { D.tells → LeavesOnly D.moment D.left_since disk.old disk.new (MayLeaveAny (map string_bytes words.now)
-        record { tells = I.tells; left = I.left input.old; after = I.left input.new; faults = I.faults input.old; faults_after = I.faults input.new }
-        (D.held disk.old)) }
+    ensures unasked { IsInputless (map string_bytes words.now) → input.new ≡ input.old }
+    ensures any_moment { Leaves D.Disk disk.old disk.new (MayBeLeft (map string_bytes words.now) (source_side I.Source input.old input.new)) }
 {
-    let command = match read_words(alloc, words) {
-        Ok(command) => command,
-        Err(WordsFault::Usage { at }) => return Err(Refusal::Usage { at }),
-        Err(WordsFault::NoMemory) => return Err(Refusal::NoMemory),
-    };
-    let bytes = read_input(alloc, input)?;
+    let command = read_words(alloc, words)?;
+    let bytes = get_input(alloc, &command, input)?;
     serve(alloc, &command, bytes.as_slice(), disk)
 }
 
@@ -91,16 +76,10 @@ fn answer<I: Source, O: Sink, D: Disk>(
     out: &mut O,
     disk: &mut D,
 ) -> u8
-    ensures ends { Ends (map string_bytes words.now)
-        record { tells = I.tells; left = I.left input.old; after = I.left input.new; faults = I.faults input.old; faults_after = I.faults input.new }
-        record { tells = O.tells; written = O.written out.old; after = O.written out.new; faults = O.faults out.old; faults_after = O.faults out.new }
-        record { tells = D.tells; held = D.held disk.old; after = D.held disk.new; faults = D.faults disk.old; faults_after = D.faults disk.new }
-        result }
-
+    ensures ends { Ends (map string_bytes words.now) (source_side I.Source input.old input.new) (sink_side O.Sink out.old out.new) (disk_side D.Disk disk.old disk.new) result }
     ensures aside { IsAside (map string_bytes words.now) → disk.new ≡ disk.old }
-    ensures any_moment { D.tells → LeavesOnly D.moment D.left_since disk.old disk.new (MayLeaveAny (map string_bytes words.now)
-        record { tells = I.tells; left = I.left input.old; after = I.left input.new; faults = I.faults input.old; faults_after = I.faults input.new }
-        (D.held disk.old)) }
+    ensures unasked { IsInputless (map string_bytes words.now) → input.new ≡ input.old }
+    ensures any_moment { Leaves D.Disk disk.old disk.new (MayBeLeft (map string_bytes words.now) (source_side I.Source input.old input.new)) }
 {
     match run(alloc, words, input, disk) {
         Ok(output) => match write_all(out, output.as_slice()) {
@@ -128,52 +107,39 @@ pub fn offline<I: Source, O: Sink, D: Disk>(
 ) -> u8
     // How it ends, whole: done, done but not told, or refused, with each refusal's cause, what was taken of the
     // input, what the files hold and which line was written.
-    ensures ends { Ends (map string_bytes words.now)
-        record { tells = I.tells; left = I.left input.old; after = I.left input.new; faults = I.faults input.old; faults_after = I.faults input.new }
-        record { tells = O.tells; written = O.written out.old; after = O.written out.new; faults = O.faults out.old; faults_after = O.faults out.new }
-        record { tells = D.tells; held = D.held disk.old; after = D.held disk.new; faults = D.faults disk.old; faults_after = D.faults disk.new }
-        result }
+    ensures ends { Ends (map string_bytes words.now) (source_side I.Source input.old input.new) (sink_side O.Sink out.old out.new) (disk_side D.Disk disk.old disk.new) result }
 
-    // Done: the input was read to its end, the output is exactly that of the definition, and so are the files.
-    ensures done { result ≡ 0 → EndsDone (map string_bytes words.now)
-        record { tells = I.tells; left = I.left input.old; after = I.left input.new; faults = I.faults input.old; faults_after = I.faults input.new }
-        record { tells = O.tells; written = O.written out.old; after = O.written out.new; faults = O.faults out.old; faults_after = O.faults out.new }
-        record { tells = D.tells; held = D.held disk.old; after = D.held disk.new; faults = D.faults disk.old; faults_after = D.faults disk.new } }
+    // Done: what the command reads was read to its end, the output is exactly what it says, and so are the files.
+    ensures done { result ≡ 0 → EndsDone (map string_bytes words.now) (source_side I.Source input.old input.new) (sink_side O.Sink out.old out.new) (disk_side D.Disk disk.old disk.new) }
 
     // Why each other status comes.
     ensures usage { UsageIsExact (map string_bytes words.now) result }
-    ensures input_fault { InputFaultIsExact (map string_bytes words.now)
-        record { tells = I.tells; left = I.left input.old; after = I.left input.new; faults = I.faults input.old; faults_after = I.faults input.new } result }
+    ensures input_fault { InputFaultIsExact (map string_bytes words.now) (source_side I.Source input.old input.new) result }
     ensures read_fault { result ≡ 3 → Rose (I.faults input.old) (I.faults input.new) }
     ensures write_fault { result ≡ 4 → Rose (O.faults out.old) (O.faults out.new) }
     ensures disk_fault { result ≡ 5 → Rose (D.faults disk.old) (D.faults disk.new) }
-    ensures input_limit { LimitIsExact (map string_bytes words.now)
-        record { tells = I.tells; left = I.left input.old; after = I.left input.new; faults = I.faults input.old; faults_after = I.faults input.new } result }
-    ensures later { LaterIsExact (map string_bytes words.now)
-        record { tells = I.tells; left = I.left input.old; after = I.left input.new; faults = I.faults input.old; faults_after = I.faults input.new }
-        record { tells = D.tells; held = D.held disk.old; after = D.held disk.new; faults = D.faults disk.old; faults_after = D.faults disk.new } result }
+    ensures input_limit { LimitIsExact (map string_bytes words.now) (source_side I.Source input.old input.new) result }
+    ensures later { LaterIsExact (map string_bytes words.now) (source_side I.Source input.old input.new) (disk_side D.Disk disk.old disk.new) result }
 
-    // Before the first write the files hold what they held.
-    ensures unwritten { IsBeforeWrites result → D.tells → D.held disk.new ≡ D.held disk.old }
+    // Refused: the files hold what they held, or what the command says of a stop after its first write.
+    ensures unwritten { IsRefused result → Unwritten (map string_bytes words.now) (source_side I.Source input.old input.new) (disk_side D.Disk disk.old disk.new) result }
 
-    // `mmv-make` and `mmv-dump` leave the disk alone.
+    // A command that has nothing to do with the disk leaves it alone, and one without input the source.
     ensures aside { IsAside (map string_bytes words.now) → disk.new ≡ disk.old }
+    ensures unasked { IsInputless (map string_bytes words.now) → input.new ≡ input.old }
 
     // Good input succeeds.
-    ensures completes { IsGoodRun (map string_bytes words.now)
-        record { tells = I.tells; left = I.left input.old; after = I.left input.new; faults = I.faults input.old; faults_after = I.faults input.new }
-        record { tells = O.tells; written = O.written out.old; after = O.written out.new; faults = O.faults out.old; faults_after = O.faults out.new }
-        record { tells = D.tells; held = D.held disk.old; after = D.held disk.new; faults = D.faults disk.old; faults_after = D.faults disk.new } → (result ≡ 0) ⊎ (result ≡ 9) }
+    ensures completes { IsGoodRun (map string_bytes words.now) (source_side I.Source input.old input.new) (sink_side O.Sink out.old out.new) (disk_side D.Disk disk.old disk.new) → (result ≡ 0) ⊎ (result ≡ 9) }
 
     // A settled disk is settled after every status but 5.
     ensures settled { (result ≡ 5 → ⊥) → D.tells → IsSettled (D.held disk.old) → IsSettled (D.held disk.new) }
 
-    // A crash at any moment of the call, over a disk that was empty at its start, leaves readable files with no item,
-    // or with the one item and its description.
-    ensures any_moment { I.tells → D.tells → IsEmpty (contents_of (D.held disk.old)) → LeavesOnly D.moment D.left_since disk.old disk.new (LeavesNoneOrOne (map string_bytes words.now) (I.left input.old)) }
+    // Nothing that was there is lost: a crash at any moment leaves what one at the start might have left, or what the
+    // command allows over what was there.
+    ensures any_moment { Leaves D.Disk disk.old disk.new (MayBeLeft (map string_bytes words.now) (source_side I.Source input.old input.new)) }
 
-    // Once `once` has ended with 0, each crash leaves the item, until something else touches the disk.
-    ensures kept { result ≡ 0 → IsOnce (map string_bytes words.now) → I.tells → D.tells → Keeps (map string_bytes words.now) (I.left input.old) (D.held disk.new) }
+    // Once it has ended with 0, each crash leaves what the command keeps, until something else touches the disk.
+    ensures kept { result ≡ 0 → D.tells → Keeps (map string_bytes words.now) (source_side I.Source input.old input.new) (D.held disk.new) }
 {
     answer(alloc, words, input, out, disk)
 }

@@ -1,8 +1,10 @@
+//! The words of a command line, read as the command that they ask for.
 ghost use Rattle.std.specs.Prelude.{◌≡◌, ◌<◌, ◌≤◌, length, map, string_bytes, IfOk};
 ghost use Rattle.pcp_base.specs.Texts.{IsText};
 ghost use Rattle.pm_commands.specs.CommandLine.{Reads, Gives, FitsCommand, command_of, end_then, once_of, image_command_of, second_of, microsecond_of, file_of, word_then};
 
 use crate::numbers::read_number;
+use crate::stage::{Stop, Usage};
 use pcp_base::{Stamp, Text, TextError, is_component};
 use std::alloc::Global;
 
@@ -24,21 +26,13 @@ pub struct OnceWords {
     pub file: Text,
 }
 
-/// Why words are no command.
-#[derive(Clone, Copy, Debug, PartialEq, Eq)]
-pub enum WordsFault {
-    /// The word at this index is bad, or is missing.
-    Usage { at: usize },
-    NoMemory,
-}
+impl From<usize> for Stop<Usage> {
+    ghost use Rattle.pm_commands.specs.declared.stage.Stop.TheVariants.{Refused};
 
-impl From<usize> for WordsFault {
-    ghost use Rattle.pm_commands.specs.declared.words.WordsFault.TheVariants.{Usage};
+    ghost from_gives = { λ at stop. stop ≡ Refused record { at = at } };
 
-    ghost from_gives = { λ at e. e ≡ Usage at };
-
-    fn from(at: usize) -> WordsFault {
-        WordsFault::Usage { at }
+    fn from(at: usize) -> Stop<Usage> {
+        Stop::Refused(Usage { at })
     }
 }
 
@@ -95,7 +89,7 @@ fn end_at(words: &[String], at: usize) -> Result<(), usize>
 }
 
 #[tactic(auto, unfolding(crate::specs::CommandLine::once_of))]
-fn once_words(alloc: Global, words: &[String]) -> Result<Command, WordsFault>
+fn once_words(alloc: Global, words: &[String]) -> Result<Command, Stop<Usage>>
     ensures command { Reads result (once_of (map string_bytes words.now)) }
     ensures fits { IfOk result FitsCommand }
 {
@@ -104,12 +98,12 @@ fn once_words(alloc: Global, words: &[String]) -> Result<Command, WordsFault>
     let (name, rest) = file_at(rest, 3)?;
     end_at(rest, 4)?;
     let Some(stamp) = Stamp::build(sec, usec) else {
-        return Err(WordsFault::Usage { at: 2 });
+        return Err(Stop::Refused(Usage { at: 2 }));
     };
     match Text::build(alloc, name) {
         Ok(file) => Ok(Command::Once(OnceWords { stamp, file })),
-        Err(TextError::NoMemory) => Err(WordsFault::NoMemory),
-        Err(TextError::Zero(_)) => Err(WordsFault::Usage { at: 3 }),
+        Err(TextError::NoMemory) => Err(Stop::OutOfMemory),
+        Err(TextError::Zero(_)) => Err(Stop::Refused(Usage { at: 3 })),
     }
 }
 
@@ -131,12 +125,12 @@ fn image_words(name: &[u8], words: &[String]) -> Result<Command, usize>
 
 /// The command that the words are, or the index of the first word that is bad or missing. A command that
 /// isn't known is bad at 0.
-pub fn read_words(alloc: Global, words: &[String]) -> Result<Command, WordsFault>
+pub fn read_words(alloc: Global, words: &[String]) -> Result<Command, Stop<Usage>>
     ensures command { Reads result (command_of (map string_bytes words.now)) }
     ensures fits { IfOk result FitsCommand }
 {
     let [name, rest @ ..] = words else {
-        return Err(WordsFault::Usage { at: 0 });
+        return Err(Stop::Refused(Usage { at: 0 }));
     };
     if name.as_bytes() == b"once".as_slice() {
         return once_words(alloc, rest);

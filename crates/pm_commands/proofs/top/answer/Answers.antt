@@ -6,7 +6,7 @@ use Rattle.pm_commands.proofs.top.answer.Goals as goal
 
 pub returns-in-Ok-clause-ends : goal.returns-in-Ok-clause-ends
 returns-in-Ok-clause-ends g c =
-    untold_ends _ _ _ _ c.in-Ok.output c.as_slice.result.now c.in-Ok.ensures.done c.as_slice.ensures (c.in-Err-write_all.ensures.cause.failed (search rules)) (λ tells. c.in-Err-write_all.ensures.bytes tells)
+    untold_ends _ _ _ _ _ c.as_slice.result.now c.in-Ok.ensures.done c.as_slice.ensures (c.in-Err-write_all.ensures.cause.failed (search rules)) (λ tells. c.in-Err-write_all.ensures.bytes tells)
 
 pub returns-in-Ok-tell-clause-ends : goal.returns-in-Ok-tell-clause-ends
 returns-in-Ok-tell-clause-ends g c =

@@ -3,7 +3,7 @@ use Rattle.std.proofs.Common.{◌≡◌, ◌∙◌, subst}
 use Rattle.pcp_model.specs.Disk.{Holdings}
 use Rattle.pcp_outside.specs.Devices.{IsVolumes}
 use Rattle.pm_commands.proofs.Looks.{first_look, next_look, looked_volume}
-use Rattle.pm_commands.proofs.once.is_disk_empty.Goals as goal
+use Rattle.pm_commands.proofs.commands.once.is_disk_empty.Goals as goal
 
 pub returns-in_err-len-clause-any_moment : goal.returns-in_err-len-clause-any_moment
 returns-in_err-len-clause-any_moment g c = λ tells.

@@ -1,9 +1,9 @@
 use Rattle.std.proofs.Common.{subst, sym, Bool, MatchBool}
 use Rattle.pcp_model.specs.Disk.{Files, Holdings, IsEmpty, contents_of, nothing_held}
-use Rattle.pm_commands.specs.Ends.{HasByte}
+use Rattle.pm_commands.specs.commands.once.{HasByte}
 use Rattle.pm_commands.specs.Pieces.{Holds}
 use Rattle.pm_commands.proofs.Looks.{empty_holds}
-use Rattle.pm_commands.proofs.once.write_plan.Goals as goal
+use Rattle.pm_commands.proofs.commands.once.write_plan.Goals as goal
 
 pub write_archive-requires : goal.write_archive-requires
 write_archive-requires g c = λ tells.

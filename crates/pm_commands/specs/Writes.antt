@@ -1,0 +1,19 @@
+-- What the writes of `once` may leave, and why they stop.
+use Rattle.std.specs.Prelude.{◌≡◌, ◌⊎◌}
+use Rattle.pcp_model.specs.Disk.{Files as WholeFiles, Holdings, CrashImage, IsEmpty, contents_of}
+use Rattle.pcp_outside.specs.Causes.{Rose}
+use Rattle.pm_commands.specs.declared.stage.FilesRefusal.TheVariants.{LaterDisk}
+use Rattle.pm_commands.specs.declared.stage.DiskRefusal.{DiskRefusal}
+use Rattle.pm_commands.specs.declared.stage.DiskRefusal.TheVariants.{Files, DiskFault}
+use Rattle.pm_commands.specs.Pieces.{Pieces, IsCut}
+use Rattle.pm_commands.specs.Sides.{DiskSide, Untouched}
+use Rattle.pm_commands.specs.commands.once.{HasByte}
+
+-- why the pieces aren't written; files that aren't empty stay as they were
+abbrev pub WriteCause : DiskSide → DiskRefusal → Type 0
+WriteCause d (Files e) = Untouched d × (d.tells → (e ≡ LaterDisk) × HasByte (contents_of d.held))
+WriteCause d DiskFault = (Untouched d ⊎ (d.tells → IsEmpty (contents_of d.held))) × Rose d.faults d.faults_after
+
+-- a crash may leave what was there, or over empty files the pieces cut in order
+abbrev pub MayWrite : Pieces → Holdings → WholeFiles → Type 0
+MayWrite p held crash = CrashImage held crash ⊎ (IsEmpty (contents_of held) × IsCut p crash)

@@ -1,0 +1,3 @@
+pub mod mmv_dump
+pub mod mmv_make
+pub mod once

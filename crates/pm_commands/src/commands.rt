@@ -1,0 +1,4 @@
+//! The commands, each in a file of its own.
+pub(crate) mod mmv_dump;
+pub(crate) mod mmv_make;
+pub(crate) mod once;
