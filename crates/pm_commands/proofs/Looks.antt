@@ -17,20 +17,6 @@ module _ {D : Type 0} (moment : D → ℕ) (left_since : D → ℕ → Files →
   pub first_look : ((disk : D) (c : Files) → left_since disk (moment disk) c → CrashImage (held disk) c) → (old new : D) → Elapses (moment old) (moment new) (left_since old) (left_since new) (held new) → held new ≡ held old → LeavesOnly moment left_since old new (CrashImage (held old))
   first_look only_now old new time still = next_look old old new (started moment left_since held only_now old (CrashImage (held old)) (λ c left. left)) refl time still
 
-no_bytes : (bytes : List ℕ) → capped (length bytes) ≡ 0 → bytes ≡ []
-no_bytes [] h = refl
-no_bytes (b ∷ bs) h = absurd (omega (arith, h))
-
-pub some_bytes : (bytes : List ℕ) → capped (length bytes) ≢ 0 → 0 < length bytes
-some_bytes [] h = absurd (h refl)
-some_bytes (b ∷ bs) h = omega arith
-
--- all three looks found nothing
-pub looked_empty : (held : Holdings) → capped (length_of (held Meta)) ≡ 0 → capped (length_of (held Index)) ≡ 0 → IsVolumes held 0 → IsEmpty (contents_of held)
-looked_empty held m i v Meta = no_bytes (bytes_of (held Meta)) m
-looked_empty held m i v Index = no_bytes (bytes_of (held Index)) i
-looked_empty held m i v (Volume k) = v.past k (omega arith)
-
 not_nil : (bytes : List ℕ) → (bytes ≡ [] → ⊥) → 0 < length bytes
 not_nil [] h = absurd (h refl)
 not_nil (b ∷ bs) h = omega arith

@@ -1,4 +1,4 @@
--- What a crash may leave of `once` is a readable archive, whose scan is empty or the one item, described.
+-- What a crash may leave of `once` is a readable and sound archive, whose scan is empty or the one item, described.
 use Rattle.std.proofs.Common.{zero, suc, ◌≡◌, ◌≢◌, ◌⊎◌, inl, inr, ⊎_elim, ℕ, ◌-◌, ◌*◌, ◌<◌, ◌≤◌, negsuc, pos, List, [], ◌∷◌, ◌++◌, length, take, map, refl, sym, ap, ◌∙◌, subst, arith, length-append, codes, Bool, true, false}
 use Rattle.std.specs.Prelude.{FitsSigned, Contains}
 use Rattle.std.specs.Int.{w32}
@@ -16,16 +16,18 @@ use Rattle.pcp_base.specs.declared.result.Item.{Item}
 use Rattle.pcp_model.specs.declared.records.Entry.{Entry}
 use Rattle.pcp_model.specs.declared.records.MetaRecord.{MetaRecord}
 use Rattle.pcp_model.specs.declared.records.MetaRecord.TheVariants.{Description, Domain, Other}
-use Rattle.pcp_model.specs.Archive.{LabelledFile, IsMeta, HasEntries, IsIndex, AreVolumes, ArchiveReading, Reads, items_of, scan, records_in}
+use Rattle.pcp_model.specs.Archive.{ArchiveContents, LabelledFile, IsMeta, HasEntries, IsIndex, AreVolumes, ArchiveReading, Reads, items_of, scan, records_in}
 use Rattle.pcp_model.specs.Described.{Described}
-use Rattle.pcp_model.specs.Disk.{Files, Held, Holdings, CrashImage, IsEmpty}
+use Rattle.pcp_model.specs.Disk.{Files, Held, Holdings, CrashImage}
 use Rattle.pcp_model.specs.Frame.{frame, frames, IsFrameable}
 use Rattle.pcp_model.specs.LabelFields.{LabelFields}
 use Rattle.pcp_model.specs.Labels.{label, BeginsLabel}
 use Rattle.pcp_model.specs.Payload.{payload, IsItem, ResultInRange}
 use Rattle.pcp_model.specs.Records.{description, entry, entries, FitsEntry, IsRecord, AreConsistent, DescriptionInRange}
+use Rattle.pcp_model.specs.Sound.{NeverFalls, NoItemAfter, NoDomainAfter, IsSoundEntry, IsSound}
 use Rattle.pcp_model.proofs.Lengths.{length-frame, length-label}
 use Rattle.pcp_model.proofs.Cuts.{SpelledLabel, CutFile, CutEntries, cut_file, cut_entries, cut_in_label, cut_index, written_file}
+use Rattle.pcp_model.proofs.Sound.{entry_at_ends, sound_without_entry, sound_with_one_entry, none_falls, one_never_falls}
 use Rattle.pcp_model.proofs.Spelled.{is_description, is_sample, length-description, length-payload}
 use Rattle.pcp_outside.specs.Devices.{appended}
 use Rattle.pm_commands.specs.declared.words.OnceWords.{OnceWords}
@@ -49,6 +51,11 @@ record Spells (p : Pieces) (l : LabelFields) (r : MetaRecord) (item : Item) (e :
   pub is_item : IsFrameable says_item × IsItem says_item item
   pub last : p.entry ≡ entry e
   pub fits : FitsEntry e
+  pub in_volume : e.volume ≡ 0
+  pub at_meta : e.meta ≡ length (meta_file p)
+  pub at_volume : e.offset ≡ length (volume_file p)
+  pub domains : NoDomainAfter e.stamp (r ∷ [])
+  pub by : NoItemAfter e.stamp (item ∷ [])
 
 meta_fits : FitsSigned w32 (negsuc 0)
 meta_fits = fits_signed_from_abs w32 (negsuc 0) (omega arith)
@@ -103,6 +110,9 @@ module _ (p : Pieces) (l : LabelFields) (r : MetaRecord) (item : Item) (e : Entr
   meta_least : 132 ≤ length (meta_file p)
   meta_least = omega (arith, length-append p.meta_label p.description, meta_long)
 
+  volume_more : length p.volume_label < length (volume_file p)
+  volume_more = let sample : length p.sample ≡ length (frame s.says_item) = ap length s.sample in omega (arith, length-append p.volume_label p.sample, length-frame s.says_item)
+
   volume_least : 132 ≤ length (volume_file p)
   volume_least = omega (arith, length-append p.volume_label p.sample, volume_long)
 
@@ -134,25 +144,25 @@ module _ (p : Pieces) (l : LabelFields) (r : MetaRecord) (item : Item) (e : Entr
   record IndexSide : Type 0 where
     pub found : List Entry
     pub is : (records : List MetaRecord) (volumes : List (ℕ × List Item)) → IsIndex (image Index) (record { label = l; records = records; entries = found; volumes = volumes })
-    pub behind : (found ≡ []) ⊎ (132 < cut.i)
+    pub one : (found ≡ []) ⊎ ((found ≡ e ∷ []) × (132 < cut.i))
 
   index_begins : cut.i < 132 → IndexSide
   index_begins h = record {
     found = [];
     is = λ records volumes. inl (refl, subst (λ t. BeginsLabel t l (negsuc 1)) (sym (cut.index ∙ ap (take cut.i) index_text)) (cut_in_label l (negsuc 1) (entries (e ∷ [])) cut.i s.spelled index_fits h));
-    behind = inl refl;
+    one = inl refl;
   }
 
-  some_entry : (k : ℕ) → 20 * k ≤ cut.i - 132 → (take k (e ∷ []) ≡ []) ⊎ (132 < cut.i)
+  some_entry : (k : ℕ) → 20 * k ≤ cut.i - 132 → (take k (e ∷ []) ≡ []) ⊎ ((take k (e ∷ []) ≡ e ∷ []) × (132 < cut.i))
   some_entry zero h = inl refl
-  some_entry (suc k) h = inr (omega arith)
+  some_entry (suc k) h = inr (all_of_one (suc k) e (omega arith), omega arith)
 
   index_of : 132 ≤ cut.i → CutEntries (e ∷ []) (cut.i - 132) → IndexSide
   index_of h c = record {
     found = take c.k (e ∷ []);
     is = λ records volumes. inr (subst (λ t. HasEntries t (record { label = l; records = records; entries = take c.k (e ∷ []); volumes = volumes })) (sym (cut.index ∙ ap (take cut.i) index_text))
         (cut_index l (e ∷ []) cut.i records volumes s.spelled (s.fits, tt) h c));
-    behind = some_entry c.k c.within;
+    one = some_entry c.k c.within;
   }
 
   index_side : IndexSide
@@ -221,6 +231,7 @@ module _ (p : Pieces) (l : LabelFields) (r : MetaRecord) (item : Item) (e : Entr
   record Left : Type 0 where
     pub reading : ArchiveReading
     pub reads : Reads image reading
+    pub sound : IsSound image reading
     pub found : (scan reading ≡ []) ⊎ ((scan reading ≡ item ∷ []) × (132 < cut.v))
     pub whole : length (volume_file p) ≤ cut.v → scan reading ≡ item ∷ []
     pub records : length (meta_file p) ≤ cut.m → records_in reading ≡ r ∷ []
@@ -236,16 +247,48 @@ module _ (p : Pieces) (l : LabelFields) (r : MetaRecord) (item : Item) (e : Entr
           index = cut.index ∙ ap (λ n. take n (index_file p)) index;
           volumes = each_empty volume;
         };
+        sound = tt;
         found = inl refl;
         whole = λ le. absurd (omega (arith, volume_least));
         records = λ le. absurd (omega (arith, meta_least));
       }
 
+  -- where the index has its entry, the volume and Meta are whole
+  whole_volume : 132 < cut.i → length (volume_file p) ≤ cut.v
+  whole_volume h = ⊎_elim (λ (few : cut.i ≤ length p.index_label). absurd (omega (arith, index_long))) (λ (all : length (volume_file p) ≤ cut.v). all) cut.order.indexed
+
+  whole_meta : 132 < cut.i → length (meta_file p) ≤ cut.m
+  whole_meta h = ⊎_elim (λ (few : cut.v ≤ length p.volume_label). absurd (omega (arith, whole_volume h, volume_more))) (λ (all : length (meta_file p) ≤ cut.m). all) cut.order.described
+
+  volume_is : 132 < cut.i → image (Volume 0) ≡ volume_file p
+  volume_is h = cut.volume ∙ take_all cut.v (volume_file p) (whole_volume h)
+
+  meta_is : 132 < cut.i → image Meta ≡ meta_file p
+  meta_is h = cut.meta ∙ take_all cut.m (meta_file p) (whole_meta h)
+
   has_label : 132 < cut.i → 132 ≤ length (image (Volume 0))
-  has_label h =
-      let whole : length (volume_file p) ≤ cut.v = ⊎_elim (λ (few : cut.i ≤ length p.index_label). absurd (omega (arith, index_long))) (λ (all : length (volume_file p) ≤ cut.v). all) cut.order.indexed in
-      let is : length (image (Volume 0)) ≡ length (volume_file p) = ap length (cut.volume ∙ take_all cut.v (volume_file p) whole) in
-      omega (arith, volume_least)
+  has_label h = let is : length (image (Volume 0)) ≡ length (volume_file p) = ap length (volume_is h) in omega (arith, volume_least)
+
+  -- and the entry points to their ends
+  entry_sound : (m : MetaSide) (v : VolumeSide) (es : List Entry) → 132 < cut.i → IsSoundEntry image (record { label = l; records = m.records; entries = es; volumes = v.volumes }) e
+  entry_sound m v es h =
+      entry_at_ends image (record { label = l; records = m.records; entries = es; volumes = v.volumes }) e l (negsuc 0) (pos 0) (item ∷ [])
+      (subst (λ rs. LabelledFile IsRecord (image Meta) l (negsuc 0) rs []) (sym (m.whole (whole_meta h))) (subst (λ t. LabelledFile IsRecord t l (negsuc 0) (r ∷ []) []) (sym (meta_is h)) meta_holds))
+      (subst (λ n. LabelledFile IsItem (image (Volume n)) l (pos 0) (item ∷ []) []) (sym s.in_volume) (subst (λ t. LabelledFile IsItem t l (pos 0) (item ∷ []) []) (sym (volume_is h)) volume_holds))
+      (s.at_meta ∙ ap length (sym (meta_is h)))
+      (s.at_volume ∙ ap length (sym (volume_is h)) ∙ ap (λ n. length (image (Volume n))) (sym s.in_volume))
+      (subst (NoDomainAfter e.stamp) (sym (m.whole (whole_meta h))) s.domains)
+      (subst (NoItemAfter e.stamp) (sym (v.whole (whole_volume h))) s.by)
+
+  items_rise : (v : VolumeSide) → NeverFalls (items_of v.volumes)
+  items_rise v = ⊎_elim (λ (none : items_of v.volumes ≡ []). none_falls (items_of v.volumes) none)
+      (λ (one : (items_of v.volumes ≡ item ∷ []) × (132 < cut.v)). one_never_falls (items_of v.volumes) item one.0) v.found
+
+  sound_archive : (m : MetaSide) (i : IndexSide) (v : VolumeSide) → IsSound image (ArchiveReading.archive (record { label = l; records = m.records; entries = i.found; volumes = v.volumes }))
+  sound_archive m i v =
+      let c : ArchiveContents = record { label = l; records = m.records; entries = i.found; volumes = v.volumes } in
+      ⊎_elim (λ (none : i.found ≡ []). sound_without_entry image c none (items_rise v))
+      (λ (one : (i.found ≡ e ∷ []) × (132 < cut.i)). sound_with_one_entry image c e one.0 (entry_sound m v i.found one.1) (items_rise v)) i.one
 
   archived : MetaSide → IndexSide → VolumeSide → Left
   archived m i v = record {
@@ -255,8 +298,9 @@ module _ (p : Pieces) (l : LabelFields) (r : MetaRecord) (item : Item) (e : Entr
       index = i.is m.records v.volumes;
       volumes = v.are;
       others = v.others;
-      labelled = ⊎_elim (λ (none : i.found ≡ []). inl none) (λ (some : 132 < cut.i). inr (0, has_label some)) i.behind;
+      labelled = ⊎_elim (λ (none : i.found ≡ []). inl none) (λ (one : (i.found ≡ e ∷ []) × (132 < cut.i)). inr (0, has_label one.1)) i.one;
     };
+    sound = sound_archive m i v;
     found = v.found;
     whole = v.whole;
     records = m.whole;
@@ -271,6 +315,7 @@ module _ (p : Pieces) (l : LabelFields) (r : MetaRecord) (item : Item) (e : Entr
       record {
         reading = f.reading;
         reads = f.reads;
+        sound = f.sound;
         found = ⊎_elim (λ (none : scan f.reading ≡ []). inl none)
             (λ (one : (scan f.reading ≡ item ∷ []) × (132 < cut.v)). inr (
               one.0,
@@ -286,6 +331,7 @@ module _ (p : Pieces) (l : LabelFields) (r : MetaRecord) (item : Item) (e : Entr
       record {
         reading = f.reading;
         reads = f.reads;
+        sound = f.sound;
         found = f.whole volume;
         described = subst (λ records. Described records item) (sym (f.records meta)) described;
       }
@@ -403,6 +449,11 @@ spells asked s once shot = record {
   is_item = (result_frames asked.stamp s, is_sample (shown_result asked.stamp s) (result_in_range asked.stamp s once.moment shot) (omega arith) (omega arith));
   last = refl;
   fits = entry_fits asked.stamp asked.file s once.moment once.short shot;
+  in_volume = refl;
+  at_meta = refl;
+  at_volume = refl;
+  domains = (tt, tt);
+  by = (omega arith, tt);
 }
 
 -- the description describes the result
@@ -460,11 +511,3 @@ has_item asked s once shot held final image left =
     final_cut (pieces asked.stamp asked.file s) held image final left in
     has_item_of (pieces asked.stamp asked.file s) (once_label asked.stamp) (Description (shown_desc s) (shown_name asked.file s ∷ [])) (Sample (shown_result asked.stamp s))
     (flush_entry asked.stamp (logged asked.stamp asked.file s)) (spells asked s once shot) image f.0 (described asked.stamp asked.file s) f.1 f.2
-
--- empty files are a stopped creation
-pub none_of_nothing : (image : Files) → IsEmpty image → (item : Item) → NoneOrOne image item
-none_of_nothing image empty item = record {
-  reading = ArchiveReading.nothing;
-  reads = record { meta = inl (empty Meta); index = empty Index; volumes = λ n. empty (Volume n) };
-  found = inl refl;
-}

@@ -28,24 +28,12 @@ still_settled d still tells settled = subst IsSettled (sym (still tells)) settle
 pub left_alone : (m : Meaning) (status : ℕ) (input : List ℕ) (d : DiskSide) → Untouched d → Left m status input d
 left_alone m status input d still = record { files = inl still; settled = λ other. still_settled d still }
 
--- a refusal of an input, before the disk is looked at
-pub refused_stops : (m : Meaning) (input : List ℕ) (d : DiskSide) (stop : Stop InputRefusal) → Untouched d → Refuses m.reads input stop → StopCause m input d (stopped Input stop)
-refused_stops m input d OutOfMemory still c = left_alone m 9 input d still
-refused_stops m input d (Refused e) still c = (c, still)
-
--- a refusal of the reading
-pub unread_cause : (words : List (List ℕ)) (s : SourceSide) (d : DiskSide) (command : Command) (stop : Stop ReadRefusal)
-    → command_of words ≡ Ok command → IsSome (meaning command).reads → Untouched d → UnreadCause s stop → Cause words s d (stopped Reading stop)
-unread_cause words s d command OutOfMemory are some still c = (c, inl still)
-unread_cause words s d command (Refused e) are some still c = ((command, are, some), c, still)
-
 -- a refusal of what was got
 pub stop_cause : (words : List (List ℕ)) (s : SourceSide) (d : DiskSide) (a : Asks words s) (e : Refusal) → StopCause (meaning a.command) a.input d e → Cause words s d e
 stop_cause words s d a (Input e) c = ((a, c.0), c.1)
 stop_cause words s d a (Disk e) c = (a, c.0, c.1)
 stop_cause words s d a NoMemory c = (took_some s (meaning a.command).reads a.input a.got, inr (a, c))
-stop_cause words s d a (Words usage) c = absurd c
-stop_cause words s d a (Reading e) c = absurd c
+stop_cause words s d a _ c = absurd c
 
 -- the same of what a command answered
 pub runs : (words : List (List ℕ)) (s : SourceSide) (d : DiskSide) (a : Asks words s) (result : Result Output Refusal)

@@ -79,8 +79,7 @@ abbrev pub StopCause : Meaning → List ℕ → DiskSide → Refusal → Type 0
 StopCause m input d (Input e) = (refusal_of m.reads input ≡ Some e) × Untouched d
 StopCause m input d (Disk e) = ((refusal_of m.reads input ≡ None) × (m.uses_disk ≡ true)) × DiskCause m input d e
 StopCause m input d NoMemory = Left m 9 input d
-StopCause m input d (Words usage) = ⊥
-StopCause m input d (Reading e) = ⊥
+StopCause m input d _ = ⊥
 
 -- Why a call is refused.
 abbrev pub Cause : List (List ℕ) → SourceSide → DiskSide → Refusal → Type 0

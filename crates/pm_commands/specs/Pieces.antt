@@ -10,6 +10,7 @@ use Rattle.pcp_model.specs.Frame.{frame}
 use Rattle.pcp_model.specs.Labels.{label}
 use Rattle.pcp_model.specs.Payload.{payload}
 use Rattle.pcp_model.specs.Records.{description, entry}
+use Rattle.pcp_model.specs.Sound.{IsSound}
 use Rattle.pm_commands.specs.Once.{Shot, once_label, shown_desc, shown_name, shown_result, logged, flush_entry}
 
 pub record Pieces : Type 0 where
@@ -59,16 +60,18 @@ pub record IsCut (p : Pieces) (image : Files) : Type 0 where
   pub others : (k : ℕ) → k ≢ 0 → image (Volume k) ≡ []
   pub order : InOrder p m i v
 
--- The files are readable, their scan is empty or the one item, and what it has is described.
+-- The files are readable and sound, their scan is empty or the one item, and what it has is described.
 pub record NoneOrOne (image : Files) (item : Item) : Type 0 where
   pub reading : ArchiveReading
   pub reads : Reads image reading
+  pub sound : IsSound image reading
   pub found : (scan reading ≡ []) ⊎ ((scan reading ≡ item ∷ []) × Described (records_in reading) item)
 
 -- and the item is there
 pub record HasItem (image : Files) (item : Item) : Type 0 where
   pub reading : ArchiveReading
   pub reads : Reads image reading
+  pub sound : IsSound image reading
   pub found : scan reading ≡ item ∷ []
   pub described : Described (records_in reading) item
 
