@@ -1,5 +1,5 @@
 -- Each fact on a status follows from how the call ends, by cases on the refusal.
-use Rattle.std.proofs.Common.{◌≡◌, ◌⊎◌, inl, inr, ⊎_elim, ℕ, ◌<◌, ◌≤◌, List, [], length, drop, refl, sym, ap, ap₂, ◌∙◌, subst, arith, true, Option, Some, None, IsSome, Ok, Err}
+use Rattle.std.proofs.Common.{◌≡◌, ◌⊎◌, inl, inr, ⊎_elim, ℕ, ◌<◌, ◌≤◌, List, length, drop, refl, sym, ap, ap₂, ◌∙◌, subst, arith, true, Option, Some, None, IsSome, Ok, Err}
 use Rattle.pcp_model.specs.Disk.{IsSettled}
 use Rattle.pcp_outside.specs.Causes.{Rose}
 use Rattle.pm_commands.specs.declared.stage.ReadRefusal.{ReadRefusal}

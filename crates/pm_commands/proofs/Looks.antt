@@ -2,8 +2,7 @@
 use Rattle.std.proofs.Common.{◌≡◌, ◌≢◌, ℕ, zero, suc, ◌+◌, ◌<◌, List, [], ◌∷◌, ◌++◌, length, refl, ap, ◌∙◌, subst, arith}
 use Rattle.pcp_base.specs.declared.file.FileId.TheVariants.{Meta, Index, Volume}
 use Rattle.pcp_model.specs.Disk.{Files, Held, Holdings, CrashImage, IsEmpty, contents_of, bytes_of, nothing_held}
-use Rattle.pcp_outside.specs.Causes.{capped}
-use Rattle.pcp_outside.specs.Devices.{Elapses, LeavesOnly, IsVolumes, length_of}
+use Rattle.pcp_outside.specs.Devices.{Elapses, LeavesOnly, IsVolumes}
 use Rattle.pcp_outside.proofs.Crash.{started, after_look}
 use Rattle.pm_commands.specs.commands.once.{HasByte}
 use Rattle.pm_commands.specs.Pieces.{Holds}

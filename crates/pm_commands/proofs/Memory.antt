@@ -4,7 +4,7 @@ use Rattle.std.proofs.lemmas.List.{drop_all}
 use Rattle.pm_commands.specs.declared.stage.InputRefusal.{InputRefusal}
 use Rattle.pm_commands.specs.declared.refusal.Refusal.{Refusal}
 use Rattle.pm_commands.specs.declared.refusal.Refusal.TheVariants.{Words, Reading, Input, Disk, NoMemory}
-use Rattle.pm_commands.specs.Causes.{WasRead, Got, Asks, Cause, TookSome}
+use Rattle.pm_commands.specs.Causes.{Got, Cause, TookSome}
 use Rattle.pm_commands.specs.Ends.{Ends}
 use Rattle.pm_commands.specs.Inputs.{input_limit}
 use Rattle.pm_commands.specs.Meanings.{meaning}

@@ -1,22 +1,15 @@
 -- What a command does with its input, told of the words and the source.
-use Rattle.std.proofs.Common.{◌≡◌, ◌⊎◌, inl, inr, ⊎_elim, ℕ, List, IsSome, ◌++◌, take, Result, Ok, Err, IfOk, IfErr, refl, ap, ◌∙◌, subst, sym}
+use Rattle.std.proofs.Common.{◌≡◌, inl, inr, ⊎_elim, ℕ, List, ◌++◌, take, Result, Ok, Err, IfOk, IfErr, refl, ap, ◌∙◌, subst, sym}
 use Rattle.pcp_model.specs.Disk.{Files, Holdings, CrashImage, IsSettled}
 use Rattle.pcp_outside.specs.Causes.{Rose}
-use Rattle.pm_commands.specs.declared.stage.Stop.{Stop}
-use Rattle.pm_commands.specs.declared.stage.Stop.TheVariants.{OutOfMemory, Refused}
-use Rattle.pm_commands.specs.declared.stage.ReadRefusal.{ReadRefusal}
-use Rattle.pm_commands.specs.declared.stage.InputRefusal.{InputRefusal}
 use Rattle.pm_commands.specs.declared.output.Output.{Output}
 use Rattle.pm_commands.specs.declared.refusal.Refusal.{Refusal}
-use Rattle.pm_commands.specs.declared.refusal.Refusal.TheVariants.{Words, Reading, Input, Disk, NoMemory}
-use Rattle.pm_commands.specs.declared.words.Command.{Command}
-use Rattle.pm_commands.specs.CommandLine.{command_of}
-use Rattle.pm_commands.specs.Causes.{Got, Asks, UnreadCause, Left, StopCause, Cause}
+use Rattle.pm_commands.specs.declared.refusal.Refusal.TheVariants.{Input, Disk, NoMemory}
+use Rattle.pm_commands.specs.Causes.{Asks, Left, StopCause, Cause}
 use Rattle.pm_commands.specs.Ends.{HasServed, HasRun, Told, Ends, MayLeave, MayBeLeft, shown}
-use Rattle.pm_commands.specs.Inputs.{Refuses}
 use Rattle.pm_commands.specs.Meaning.{Meaning}
 use Rattle.pm_commands.specs.Meanings.{meaning}
-use Rattle.pm_commands.specs.Refusals.{status_of, line_of, stopped}
+use Rattle.pm_commands.specs.Refusals.{status_of, line_of}
 use Rattle.pm_commands.specs.Sides.{SourceSide, SinkSide, DiskSide, Untouched}
 use Rattle.pm_commands.proofs.Memory.{took_some}
 

@@ -1,6 +1,6 @@
 -- What is read and written makes the whole.
-use Rattle.std.proofs.Common.{◌≡◌, ◌⊎◌, inl, inr, ⊎_elim, ℕ, List, length, codes, refl, ap, arith, subst, None}
-use Rattle.pcp_model.specs.Disk.{Files as WholeFiles, Holdings, CrashImage, IsEmpty, contents_of}
+use Rattle.std.proofs.Common.{◌≡◌, inl, inr, ⊎_elim, ℕ, List, length, codes, refl, ap, arith, subst, None}
+use Rattle.pcp_model.specs.Disk.{Files as WholeFiles, Holdings, IsEmpty, contents_of}
 use Rattle.pm_commands.specs.declared.stage.DiskRefusal.{DiskRefusal}
 use Rattle.pm_commands.specs.declared.stage.DiskRefusal.TheVariants.{Files, DiskFault}
 use Rattle.pm_commands.specs.declared.refusal.Refusal.TheVariants.{Disk}

@@ -1,7 +1,7 @@
 -- Why a command is refused, stage by stage. Causes are cumulative: each says also that all that is looked at before it
 -- was good. The words are looked at first, then the input, then the disk; want of memory may come at any place.
 use Rattle.std.specs.Prelude.{◌≡◌, ◌⊎◌, ℕ, ◌<◌, ◌≤◌, List, [], length, drop, true, Option, Some, None, IsSome, Ok, Err}
-use Rattle.pcp_model.specs.Disk.{Holdings, IsSettled}
+use Rattle.pcp_model.specs.Disk.{IsSettled}
 use Rattle.pcp_outside.specs.Causes.{Rose}
 use Rattle.pm_commands.specs.declared.stage.Stop.{Stop}
 use Rattle.pm_commands.specs.declared.stage.Stop.TheVariants.{OutOfMemory, Refused}
