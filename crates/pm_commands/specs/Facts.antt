@@ -34,11 +34,12 @@ pub record LimitIsExact (words : List (List ℕ)) (s : SourceSide) (status : ℕ
   pub only : status ≡ 7 → IsReader words × (s.tells → (input_limit < length s.left) × (s.after ≡ drop 16777217 s.left))
   pub always : IsReader words → s.tells → input_limit < length s.left → (status ≡ 7) ⊎ ((status ≡ 9) ⊎ (status ≡ 3))
 
--- the words are this command, to which the source gives this input: all that it has, within the limit, or nothing
+-- what the source gives: all that it has left, within the limit, or nothing to a command that takes no input
 abbrev pub Given : Option (List ℕ → Option InputRefusal) → SourceSide → List ℕ → Type 0
 Given None s input = input ≡ []
 Given (Some refuses) s input = s.tells × (input ≡ s.left) × (length input ≤ input_limit)
 
+-- the words are a command, and this is what the source gives it
 pub record Meets (words : List (List ℕ)) (s : SourceSide) : Type 0 where
   pub command : Command
   pub words_are : command_of words ≡ Ok command

@@ -5,7 +5,7 @@ use Rattle.pm_commands.specs.declared.stage.InputRefusal.{InputRefusal}
 use Rattle.pm_commands.specs.declared.stage.FilesRefusal.{FilesRefusal}
 use Rattle.pm_commands.specs.Sides.{DiskSide, Found, Untouched}
 
--- Where a part takes a list of bytes first, that is the input, which is empty for a command that takes none.
+-- The first list of bytes of a part is the input, which is empty for a command that takes none.
 pub record Meaning : Type 1 where
   -- what it reads: nothing, or an input, and why it doesn't read one
   pub reads : Option (List ℕ → Option InputRefusal)
