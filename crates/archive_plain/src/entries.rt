@@ -6,8 +6,9 @@ ghost use Rattle.archive_plain.specs.Plain.{AreEntries};
 
 use crate::label::are_same;
 use pcp_base::{List, NoMemory, Stamp, be32};
-use pcp_model::{Entry, spell_entry};
+use pcp_model::Entry;
 use std::alloc::Global;
+use temporal_index::entry_bytes;
 
 const ENTRY_LEN: usize = 20;
 
@@ -35,7 +36,7 @@ fn read_entry(alloc: Global, bytes: &[u8]) -> Result<Option<Entry>, NoMemory>
     if place.stamp.usec() >= 1_000_000 {
         return Ok(None);
     }
-    let spelled = spell_entry(alloc, &place)?;
+    let spelled = entry_bytes(&place);
     if !are_same(bytes, &spelled) {
         return Ok(None);
     }

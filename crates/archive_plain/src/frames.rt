@@ -4,8 +4,8 @@ ghost use Rattle.std.specs.List.{AllByRecursion};
 ghost use Rattle.pcp_model.specs.Frame.{frame, frames, IsFrameable, IsTorn};
 
 use crate::label::are_same;
+use archive_frame::put_frame;
 use pcp_base::{Bytes, List, NoMemory, be32};
-use pcp_model::spell_frame;
 use std::alloc::Global;
 
 /// The payloads of whole framed records, and the bytes behind the last of them.
@@ -29,7 +29,8 @@ fn first_payload(alloc: Global, bytes: &[u8]) -> Result<Option<Bytes>, NoMemory>
         return Ok(None);
     }
     let payload = &bytes[4..size - 4];
-    let spelled = spell_frame(alloc, payload)?;
+    let mut spelled = Vec::new(alloc);
+    put_frame(&mut spelled, payload)?;
     if !are_same(&bytes[..size], &spelled) {
         return Ok(None);
     }

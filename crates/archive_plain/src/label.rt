@@ -6,8 +6,9 @@ ghost use Rattle.pcp_model.specs.Frame.{frame};
 ghost use Rattle.pcp_model.specs.LabelFields.{LabelFields};
 ghost use Rattle.pcp_model.specs.Labels.{label_head, HasText, IsLabel, BeginsLabel};
 
+use archive_frame::{label_bytes, put_frame};
 use pcp_base::{NoMemory, Stamp, Text, TextError, be32};
-use pcp_model::{Label, put_signed, put_word, spell_frame, spell_label};
+use pcp_model::{Label, put_signed, put_word};
 use std::alloc::Global;
 
 const HOST: usize = 24;
@@ -66,7 +67,9 @@ fn spell_fields(
     put_signed(&mut payload, number)?;
     payload.extend_from_slice(host)?;
     payload.extend_from_slice(zone)?;
-    spell_frame(alloc, &payload)
+    let mut framed = Vec::new(alloc);
+    put_frame(&mut framed, &payload)?;
+    Ok(framed)
 }
 
 // What a label says before its texts, and these texts.
@@ -108,10 +111,10 @@ pub fn read_label(alloc: Global, bytes: &[u8], number: i32) -> Result<Option<Lab
 fn fill_up(alloc: Global, bytes: &[u8], end: &Label, number: i32) -> Result<Option<Label>, NoMemory>
     ensures { IfOk result (λ found. IfSome found (λ l. BeginsLabel bytes.now l number)) }
 {
-    if bytes.len() >= LABEL_LEN {
+    if bytes.len() >= LABEL_LEN || number < -2 {
         return Ok(None);
     }
-    let whole = spell_label(alloc, end, number)?;
+    let whole = label_bytes(end, number);
     let mut filled = Vec::from_slice(alloc, bytes)?;
     filled.extend_from_slice(&whole[bytes.len()..])?;
     read_label(alloc, &filled, number)

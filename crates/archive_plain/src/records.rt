@@ -9,8 +9,9 @@ ghost use Rattle.archive_plain.specs.Plain.{DescInRange};
 
 use crate::domains::read_domain;
 use crate::label::are_same;
+use archive_meta::put_description;
 use pcp_base::{Bytes, Desc, InDom, List, NoMemory, Pmid, Text, TextError, Units, be32};
-use pcp_model::{MetaRecord, spell_description};
+use pcp_model::MetaRecord;
 use std::alloc::Global;
 
 /// The text of bytes without a zero byte.
@@ -95,7 +96,8 @@ fn read_description(alloc: Global, payload: &[u8]) -> Result<Option<(Desc, List<
     if names.len() >= 1 << 32 || !fit_words(names.as_slice()) {
         return Ok(None);
     }
-    let spelled = spell_description(alloc, &desc, names.as_slice())?;
+    let mut spelled = Vec::new(alloc);
+    put_description(&mut spelled, &desc, names.as_slice())?;
     if !are_same(payload, &spelled) {
         return Ok(None);
     }

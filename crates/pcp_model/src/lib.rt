@@ -1,21 +1,17 @@
 //! What an archive is (LOGARCHIVE(5)), apart from any code that writes or reads it: the spelling of each
 //! record, which files are readable and what their scan is, what describes an item, and what a crash leaves
-//! of a disk. The crates above cite these definitions; the plain functions here compute them.
+//! of a disk. The crates above cite these definitions, and each record is written and read by one of them.
 #![tactic(auto)]
 
 mod label;
 mod laws;
-mod payload;
 mod records;
-mod spelling;
+mod words;
 
 pub use label::Label;
 pub use laws::{
     cuts_are_read, cuts_are_sound, entry_is_added, files_are_read_once, item_is_added,
     records_are_added, recovery_is_one, recovery_keeps_the_scan, recovery_stays, volume_is_added,
 };
-pub use payload::spell_payload;
 pub use records::{Entry, MetaRecord};
-pub use spelling::{
-    put_signed, put_word, spell_description, spell_domain, spell_entry, spell_frame, spell_label,
-};
+pub use words::{put_signed, put_word};

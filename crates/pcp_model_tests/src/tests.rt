@@ -1,12 +1,12 @@
 //! Each spelling of worked values: one counter `mmv.app.hits` with the value 7 at second 100, and more.
+use archive_frame::{label_bytes, put_frame};
+use archive_meta::{put_description, put_domain};
 use pcp_base::{Block, Body, Desc, InDom, List, PmResult, Pmid, Stamp, Text, Units, ValueSet};
-use pcp_model::{
-    Entry, Label, spell_description, spell_domain, spell_entry, spell_frame, spell_label,
-    spell_payload,
-};
-use result_form::fits;
+use pcp_model::{Entry, Label};
+use result_form::{encode, fits};
 use std::alloc::Global;
 use std::test::Fail;
+use temporal_index::entry_bytes;
 
 const HITS: u32 = 0x1180_0402;
 
@@ -35,7 +35,10 @@ fn each_file_has_its_label(rt: HostRuntime) -> Result<(), Fail> {
         want.extend_from_slice(b"UTC")?;
         want.resize(128, 0)?;
         want.extend_from_slice(&[0, 0, 0, 0x84])?;
-        let made = spell_label(alloc, &label, number)?;
+        if number < -2 {
+            panic!(rt; "no file has this number");
+        }
+        let made = label_bytes(&label, number);
         assert_eq!(rt; made.as_slice(), want.as_slice(), "number {number}");
     }
     assert_eq!(rt; (label.pid(), label.start()), (1, hundred()?));
@@ -72,9 +75,11 @@ fn a_description_is_a_framed_record(rt: HostRuntime) -> Result<(), Fail> {
     };
     let name = Text::build(alloc, b"mmv.app.hits")?;
     assert_eq!(rt; name.as_slice().len(), 12);
-    let payload = spell_description(alloc, &hits, &[name])?;
+    let mut payload = Vec::new(alloc);
+    put_description(&mut payload, &hits, &[name])?;
     assert!(rt; payload.len() < 100);
-    let framed = spell_frame(alloc, &payload)?;
+    let mut framed = Vec::new(alloc);
+    put_frame(&mut framed, &payload)?;
     let mut want = big_endian(
         alloc,
         &[0x34, 1, HITS, 0, 0xffff_ffff, 1, 0x0010_0000, 1, 12],
@@ -95,7 +100,7 @@ fn an_entry_has_five_words(rt: HostRuntime) -> Result<(), Fail> {
         offset: 172,
     };
     let want = big_endian(alloc, &[0x64, 0, 0, 0xb8, 0xac])?;
-    assert_eq!(rt; spell_entry(alloc, &place)?.as_slice(), want.as_slice());
+    assert_eq!(rt; entry_bytes(&place).as_slice(), want.as_slice());
     Ok(())
 }
 
@@ -105,7 +110,9 @@ fn domain(alloc: Global, first: Text, second: Text) -> Result<Vec<u8>, Fail> {
         return Err(Fail::new("long names"));
     }
     let indom = InDom::of_word(0x1180_0401);
-    Ok(spell_domain(alloc, hundred()?, indom, &[(0, first), (1, second)])?)
+    let mut out = Vec::new(alloc);
+    put_domain(&mut out, hundred()?, indom, &[(0, first), (1, second)])?;
+    Ok(out)
 }
 
 #[test]
@@ -146,7 +153,7 @@ fn a_payload_with_a_block_is_spelled(rt: HostRuntime) -> Result<(), Fail> {
     if !fits(&answer) {
         panic!(rt; "does not fit");
     }
-    let made = spell_payload(alloc, &answer)?;
+    let made = encode(alloc, &answer)?;
     let head = [0x64, 0, 2, 0x1180_0403, 1, 1, 0xffff_ffff, 16];
     let mut want = big_endian(alloc, &head)?;
     let rest = [

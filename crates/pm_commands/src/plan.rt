@@ -11,15 +11,17 @@ ghost use Rattle.pm_commands.specs.Pieces.{pieces};
 ghost use Rattle.pm_commands.specs.Shots.{shot_of, desc_of};
 
 use crate::words::OnceWords;
-use archive_frame::{Label, label_bytes};
+use archive_frame::{Label, label_bytes, put_frame};
+use archive_meta::put_description;
+use archive_volume::put_sample;
 use mmv_layout::{Image, MetricRow};
 use pcp_base::{
     Body, Desc, InDom, List, NoMemory, PmResult, Pmid, Stamp, Text, TextError, ValueSet,
 };
-use pcp_model::{Entry, spell_description, spell_entry, spell_frame};
-use result_form::encode;
+use pcp_model::Entry;
 use std::alloc::Global;
 use std::marker::Model;
+use temporal_index::put_entry;
 
 /// What `once` writes, piece by piece; made before the first write.
 #[derive(Drop)]
@@ -111,8 +113,10 @@ fn description_of(
         units: row.units,
     };
     let name = name_of(alloc, file, &row.name)?;
-    let description = spell_description(alloc, &desc, &[name])?;
-    let framed = spell_frame(alloc, &description)?;
+    let mut payload = Vec::new(alloc);
+    put_description(&mut payload, &desc, &[name])?;
+    let mut framed = Vec::new(alloc);
+    put_frame(&mut framed, &payload)?;
     Ok(framed)
 }
 
@@ -122,8 +126,8 @@ fn sample_of(alloc: Global, stamp: Stamp, pmid: Pmid, value: u64) -> Result<Vec<
     ensures length { IfOk result (λ v. length v.items ≡ 40) }
 {
     let answer = result_of(alloc, stamp, pmid, value)?;
-    let payload = encode(alloc, &answer)?;
-    let framed = spell_frame(alloc, payload.as_slice())?;
+    let mut framed = Vec::new(alloc);
+    put_sample(&mut framed, &answer)?;
     Ok(framed)
 }
 
@@ -152,7 +156,8 @@ pub(crate) fn plan_of(alloc: Global, asked: &OnceWords, image: &Image) -> Result
         meta: (meta_label.len() + description.len()) as u32,
         offset: (volume_label.len() + sample.len()) as u32,
     };
-    let entry = spell_entry(alloc, &place)?;
+    let mut entry = Vec::new(alloc);
+    put_entry(&mut entry, &place)?;
     Ok(Plan {
         meta_label,
         index_label,
