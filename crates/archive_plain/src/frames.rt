@@ -15,6 +15,17 @@ pub struct Frames {
     pub rest: Bytes,
 }
 
+/// A payload between its two length words.
+fn framed(alloc: Global, payload: &[u8]) -> Result<Vec<u8>, NoMemory>
+    requires { length payload.now ≤ 16777208 }
+    ensures bytes { IfOk result (λ v. v.items ≡ frame payload.now) }
+    ensures length { IfOk result (λ v. length v.items ≡ length payload.now + 8) }
+{
+    let mut out = Vec::new(alloc);
+    put_frame(&mut out, payload)?;
+    Ok(out)
+}
+
 // The payload of the frame with which the bytes begin.
 fn first_payload(alloc: Global, bytes: &[u8]) -> Result<Option<Bytes>, NoMemory>
     ensures frame { IfOk result (λ found. IfSome found (λ p. bytes.now ≡ frame p ++ drop (length p + 8) bytes.now)) }
@@ -29,8 +40,7 @@ fn first_payload(alloc: Global, bytes: &[u8]) -> Result<Option<Bytes>, NoMemory>
         return Ok(None);
     }
     let payload = &bytes[4..size - 4];
-    let mut spelled = Vec::new(alloc);
-    put_frame(&mut spelled, payload)?;
+    let spelled = framed(alloc, payload)?;
     if !are_same(&bytes[..size], &spelled) {
         return Ok(None);
     }
