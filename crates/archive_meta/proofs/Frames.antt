@@ -32,7 +32,7 @@ read_more (payload ∷ first) more [] ys read next = absurd (read tt)
 read_more (payload ∷ first) more (x ∷ xs) ys read next = (read.0, read.1, read_more first more xs ys read.2 next)
 
 -- a payload is one record
-one_record : (payload : List ℕ) (r s : MetaRecord) → IsFrameable payload → IsRecord payload r → IsRecord payload s → r ≡ s
+pub one_record : (payload : List ℕ) (r s : MetaRecord) → IsFrameable payload → IsRecord payload r → IsRecord payload s → r ≡ s
 one_record payload r s fits one two =
     let few : length payload < 4294967296 = (let h : length payload ≤ 16777208 = fits.most in omega arith) in
     let a : record_in payload ≡ Some r = all_only {E = MetaFault} payload (Ok (record_in payload)) r few one refl in

@@ -4,9 +4,14 @@ pub mod DomainsRead
 pub mod Entries
 pub mod Fields
 pub mod FirstSeen
+pub mod FramedRecords
 pub mod Frames
-pub mod LeadingOn
+pub mod Lacking
 pub mod Loops
+pub mod NowDescribed
 pub mod Outcomes
+pub mod Places
 pub mod RecordsRead
+pub mod Taken
+pub mod Torn
 pub mod ZeroBytes

@@ -1,6 +1,9 @@
 pub mod Decoding
+pub mod Enough
+pub mod Facts
 pub mod Kept
 pub mod Laws
+pub mod Missing
 pub mod Order
 pub mod Ranges
 pub mod Records

@@ -62,3 +62,16 @@ AreFound Says records (Err e) = e ≡ NoMemory
 pub record IsWholeEnd (bytes : List ℕ) (at : ℕ) : Type 0 where
   pub within : at ≤ length bytes
   pub end : (at ≡ length bytes) ⊎ IsTorn (drop at bytes)
+
+-- The bytes are these records up to here, of which no two describe one metric in two ways; behind them stands the
+-- beginning of a record at most that wasn't written whole.
+pub record HasFront (bytes : List ℕ) (records : List MetaRecord) (end : ℕ) : Type 0 where
+  pub within : end ≤ length bytes
+  pub read : AreRecords (take end bytes) records
+  pub consistent : AreConsistent records
+  pub torn : IsTorn (drop end bytes)
+
+-- the first bad record isn't a torn one at the end
+abbrev pub IsFrontFault : List MetaRecord → List ℕ → MetaFault → Type 0
+IsFrontFault before bytes (Record at) = IsFirstBad before bytes at × (IsTorn (drop at bytes) → ⊥)
+IsFrontFault before bytes NoMemory = Unit {0}

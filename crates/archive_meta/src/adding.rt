@@ -42,7 +42,8 @@ pub fn forget(descriptions: &mut Descriptions, moments: &mut Moments, one: &Meta
     }
 }
 
-fn is_same_text(a: &Text, b: &Text) -> bool
+/// Whether two texts are the same.
+pub fn is_same_text(a: &Text, b: &Text) -> bool
     ensures { IsTrue result ↔ (a.now ≡ b.now) }
 {
     a.as_slice() == b.as_slice()

@@ -5,12 +5,11 @@ ghost use Rattle.pcp_model.specs.declared.records.MetaRecord.{MetaRecord as Reco
 ghost use Rattle.pcp_model.specs.declared.records.MetaRecord.TheVariants.{Description};
 ghost use Rattle.pcp_model.specs.Described.{HoldsAt};
 ghost use Rattle.pcp_model.specs.Records.{AreConsistent};
-ghost use Rattle.archive_meta.specs.Records.{AreRecords, IsMetaFault, IsWholeEnd, Adds, AreFound, IsAddFault};
+ghost use Rattle.archive_meta.specs.Records.{AreRecords, IsMetaFault, Adds, AreFound, IsAddFault};
 ghost use Rattle.archive_meta.specs.Said.{description_of, desc_of, names_of, described};
 
 use crate::adding::{desc_in, is_description, names_in};
 use crate::descriptions::{Descriptions, all_metrics};
-use crate::ends::whole_end;
 use crate::fault::MetaFault;
 use crate::framed::record_at;
 use crate::keeping::{cut, description_of, domain_at, push};
@@ -63,7 +62,7 @@ impl MetaState {
     }
 
     /// The first record that describes a metric.
-    fn description_of(&self, pmid: Pmid) -> Option<&MetaRecord>
+    pub(crate) fn description_of(&self, pmid: Pmid) -> Option<&MetaRecord>
         ensures value { option_copied result ≡ description_of pmid self.now }
         ensures consistent { AreConsistent self.now }
     {
@@ -117,7 +116,7 @@ impl MetaState {
         );
     }
 
-    fn add(&mut self, one: MetaRecord, at: usize) -> Result<(), MetaFault>
+    pub(crate) fn add(&mut self, one: MetaRecord, at: usize) -> Result<(), MetaFault>
         requires { AreConsistent self.old }
         ensures ok { OnOk result (self.new ≡ self.old ++ one ∷ []) }
         ensures err { OnErr result (self.new ≡ self.old) }
@@ -182,25 +181,6 @@ impl MetaState {
         let mut meta = MetaState::empty(alloc);
         match meta.extend(alloc, bytes) {
             Ok(()) => Ok(meta),
-            Err(fault) => Err(fault),
-        }
-    }
-
-    /// The records of the bytes that follow Meta's label, up to the first that was not written whole, and where this
-    /// begins: the end of the bytes where all are whole. A stop of the logger leaves such an end.
-    pub fn read_whole(alloc: Global, bytes: &[u8]) -> Result<(MetaState, usize), MetaFault>
-        // What was read is what the bytes before it are.
-        ensures found { IfOk result (λ r. AreRecords (take r.1 bytes.now) r.0) }
-        // No two descriptions of one metric differ.
-        ensures consistent { IfOk result (λ r. AreConsistent r.0) }
-        // Where the whole records end.
-        ensures end { IfOk result (λ r. IsWholeEnd bytes.now r.1) }
-        // Which record it is.
-        ensures fault { IfErr result (λ e. (at : ℕ) × IsWholeEnd bytes.now at × IsMetaFault [] (take at bytes.now) e) }
-    {
-        let end = whole_end(bytes);
-        match MetaState::read(alloc, &bytes[..end]) {
-            Ok(meta) => Ok((meta, end)),
             Err(fault) => Err(fault),
         }
     }

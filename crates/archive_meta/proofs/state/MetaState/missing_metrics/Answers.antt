@@ -1,0 +1,17 @@
+use Rattle.std.proofs.Common.{◌≡◌, ℕ, List, map, ap, ap₂, ◌∙◌}
+use Rattle.archive_meta.specs.Facts.{metric_of, fact_of}
+use Rattle.archive_meta.specs.Missing.{taken, undescribed, place_from, at_places}
+use Rattle.archive_meta.proofs.FramedRecords.{ok_then}
+use Rattle.archive_meta.proofs.Places.{at_taken, found_first}
+use Rattle.archive_meta.proofs.state.MetaState.missing_metrics.Goals as goal
+
+pub returns : goal.returns
+returns c =
+    let metrics = c.args.metrics.now in
+    let wanted = undescribed c.args.self.now c.args.sets.now in
+    let table : c.as_slice.result.now ≡ map metric_of metrics = c.as_slice.ensures ∙ c.in_ok-table.ensures in
+    let keys : c.as_slice-2.result.now ≡ wanted = c.as_slice-2.ensures ∙ c.in_ok-keys.ensures in
+    ok_then c.take_places.result (λ places. places ≡ taken (place_from 0 c.as_slice.result.now) c.as_slice-2.result.now) (λ places. at_places metrics places ≡ taken (fact_of metrics) wanted) c.take_places.ensures
+    (λ places e.
+    ap (at_places metrics) (e ∙ ap₂ (λ (t k : List ℕ). taken (place_from 0 t) k) table keys)
+    ∙ at_taken metrics (place_from 0 (map metric_of metrics)) (fact_of metrics) wanted (found_first metric_of metrics))

@@ -1,0 +1,135 @@
+-- Which records of Meta a result still needs, and how they are framed (LOGARCHIVE(5)).
+use Rattle.std.specs.Prelude.{◌≡◌, ◌≢◌, ◌⊎◌, ◌<◌, ◌+◌, ℕ, suc, ℤ, Bool, true, false, min, slice_get, ◌&&◌, nat_eq, nat_lt, is_none, option_to_list, if◌then◌else◌, List, [], ◌∷◌, ◌++◌, length, map, Option, Some, None}
+use Rattle.pcp_base.specs.Time.{Moment}
+use Rattle.pcp_base.specs.declared.desc.Desc.{Desc}
+use Rattle.pcp_base.specs.declared.result.PmResult.{PmResult}
+use Rattle.pcp_base.specs.declared.result.ValueSet.{ValueSet}
+use Rattle.pcp_model.specs.declared.records.MetaRecord.{MetaRecord}
+use Rattle.pcp_model.specs.declared.records.MetaRecord.TheVariants.{Description, Domain, Other}
+use Rattle.pcp_model.specs.Described.{HoldsAt}
+use Rattle.pcp_model.specs.Frame.{frame}
+use Rattle.pcp_model.specs.Records.{description, domain}
+use Rattle.archive_meta.specs.declared.facts.Facts.{Facts}
+use Rattle.archive_meta.specs.declared.facts.RecordsFault.{RecordsFault}
+use Rattle.archive_meta.specs.declared.facts.RecordsFault.TheVariants.{Large, NoMemory}
+use Rattle.archive_meta.specs.Facts.{has_values, fact_of, listed_of, domain_of}
+use Rattle.archive_meta.specs.Said.{description_of}
+
+-- a key leads to nothing any more
+abbrev pub without : {V : Type 0} → ℕ → (ℕ → Option V) → ℕ → Option V
+without k leads q = if nat_eq k q then None else leads q
+
+-- what keys lead to, in their order, each once
+abbrev pub taken : {V : Type 0} → (ℕ → Option V) → List ℕ → List V
+taken leads [] = []
+taken leads (k ∷ ks) = option_to_list (leads k) ++ taken (without k leads) ks
+
+-- whether a set shows values of a metric that no record describes
+abbrev pub is_undescribed : List MetaRecord → ValueSet → Bool
+is_undescribed records set = has_values set.body && is_none (description_of set.pmid records)
+
+-- the metrics of such sets
+abbrev pub undescribed : List MetaRecord → List ValueSet → List ℕ
+undescribed records [] = []
+undescribed records (set ∷ sets) = if is_undescribed records set then set.pmid ∷ undescribed records sets else undescribed records sets
+
+abbrev pub described_by : Desc × List ℕ → MetaRecord
+described_by fact = Description fact.0 (fact.1 ∷ [])
+
+-- The descriptions that are missing: of the metrics with values that no record describes, in the order of the sets.
+abbrev pub missing_descriptions : List MetaRecord → List (Desc × List ℕ) → List ValueSet → List MetaRecord
+missing_descriptions records metrics sets = map described_by (taken (fact_of metrics) (undescribed records sets))
+
+-- the domain of a metric by its fact
+abbrev pub domain_in : Option (Desc × List ℕ) → List ℕ
+domain_in None = []
+domain_in (Some fact) = fact.0.indom ∷ []
+
+abbrev pub shown_domain : List (Desc × List ℕ) → ValueSet → List ℕ
+shown_domain metrics set = if has_values set.body then domain_in (fact_of metrics set.pmid) else []
+
+-- the domains of the sets with values
+abbrev pub shown_domains : List (Desc × List ℕ) → List ValueSet → List ℕ
+shown_domains metrics [] = []
+shown_domains metrics (set ∷ sets) = shown_domain metrics set ++ shown_domains metrics sets
+
+-- The domains of the facts, each once, in the order of the sets; behind them those of no set.
+abbrev pub domains_of : Facts → List ValueSet → List (ℕ × List (ℤ × List ℕ))
+domains_of facts sets = taken (listed_of facts.domains) (shown_domains facts.metrics sets ++ map domain_of facts.domains)
+
+-- no instances of a domain hold at a moment, or others
+abbrev pub Lacks : List MetaRecord → Moment → ℕ × List (ℤ × List ℕ) → Type 0
+Lacks records t listed =
+    ((pairs : List (ℤ × List ℕ)) → HoldsAt records listed.0 t pairs → ⊥)
+    ⊎ ((pairs : List (ℤ × List ℕ)) × HoldsAt records listed.0 t pairs × (pairs ≢ listed.1))
+
+-- what a test of it tells
+abbrev pub Tells : List MetaRecord → Moment → ℕ × List (ℤ × List ℕ) → Bool → Type 0
+Tells records t listed true = HoldsAt records listed.0 t listed.1
+Tells records t listed false = Lacks records t listed
+
+abbrev pub listed_from : Moment → ℕ × List (ℤ × List ℕ) → MetaRecord
+listed_from t listed = Domain t listed.0 listed.1
+
+-- The records of domains that are missing at a moment: of those for which none holds, or the one that holds lists
+-- other pairs.
+abbrev pub AreMissingDomains : List MetaRecord → Moment → List (ℕ × List (ℤ × List ℕ)) → List MetaRecord → Type 0
+AreMissingDomains records t [] missing = missing ≡ []
+AreMissingDomains records t (d ∷ ds) missing =
+    (HoldsAt records d.0 t d.1 × AreMissingDomains records t ds missing)
+    ⊎ (Lacks records t d × ((more : List MetaRecord) × (missing ≡ listed_from t d ∷ more) × AreMissingDomains records t ds more))
+
+-- The records that a result needs beside those that stand: descriptions first, then domains.
+pub record AreMissing (records : List MetaRecord) (facts : Facts) (answer : PmResult) (missing : List MetaRecord) : Type 0 where
+  pub domains : List MetaRecord
+  pub lacking : AreMissingDomains records answer.stamp (domains_of facts answer.sets) domains
+  pub is : missing ≡ missing_descriptions records facts.metrics answer.sets ++ domains
+
+-- a record in its one spelling, framed
+abbrev pub framed_record : MetaRecord → List ℕ
+framed_record (Description d names) = frame (description d names)
+framed_record (Domain t indom pairs) = frame (domain t indom pairs)
+framed_record Other = []
+
+abbrev pub framed_records : List MetaRecord → List ℕ
+framed_records [] = []
+framed_records (r ∷ records) = framed_record r ++ framed_records records
+
+-- the length of the first of them that is too long for a frame
+abbrev pub large_length : List MetaRecord → Option ℕ
+large_length [] = None
+large_length (r ∷ records) = if nat_lt 16777216 (length (framed_record r)) then Some (length (framed_record r)) else large_length records
+
+-- a length is too long for a frame
+abbrev pub IsLarge : ℕ → RecordsFault → Type 0
+IsLarge n (Large bytes) = (16777216 < n) × (bytes ≡ min n 18446744073709551615)
+IsLarge n NoMemory = Unit {0}
+
+-- the first of these records that is too long is so long
+abbrev pub IsLargeOf : List MetaRecord → RecordsFault → Type 0
+IsLargeOf records (Large bytes) = (n : ℕ) × (large_length records ≡ Some n) × (bytes ≡ min n 18446744073709551615)
+IsLargeOf records NoMemory = Unit {0}
+
+-- The bytes are the missing records, framed, and each of them fits a frame.
+pub record AreMade (records : List MetaRecord) (facts : Facts) (answer : PmResult) (bytes : List ℕ) : Type 0 where
+  pub missing : List MetaRecord
+  pub needed : AreMissing records facts answer missing
+  pub fit : large_length missing ≡ None
+  pub is : bytes ≡ framed_records missing
+
+-- one of them doesn't
+abbrev pub IsRecordsFault : List MetaRecord → Facts → PmResult → RecordsFault → Type 0
+IsRecordsFault records facts answer (Large bytes) = (missing : List MetaRecord) × AreMissing records facts answer missing × IsLargeOf missing (Large bytes)
+IsRecordsFault records facts answer NoMemory = Unit {0}
+
+-- ---- where keys stand in a table
+
+-- where the first of these keys stands, the table's front not counted
+abbrev pub place_from : ℕ → List ℕ → ℕ → Option ℕ
+place_from at [] q = None
+place_from at (k ∷ ks) q = if nat_eq k q then Some at else place_from (suc at) ks q
+
+-- what stands at places
+abbrev pub at_places : {V : Type 0} → List V → List ℕ → List V
+at_places vs [] = []
+at_places vs (p ∷ ps) = option_to_list (slice_get vs p) ++ at_places vs ps
