@@ -16,10 +16,6 @@ use Rattle.archive_frame.proofs.Misfits.{Then, then_is, same_misfit, Passed}
 use Rattle.pcp_model.proofs.Lengths.{length-label_head}
 use Rattle.archive_frame.proofs.Filling.{word_of_signed}
 
--- a text has no zero byte
-pub no_first_zero : (bytes : List ℕ) (at : ℕ) → IsText bytes → IsFirstZero bytes at → ⊥
-no_first_zero bytes at text zero = text at 0 zero.within zero.zero
-
 -- ---- what stands from each field on
 
 abbrev pub front_bytes : List ℕ

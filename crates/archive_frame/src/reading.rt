@@ -9,7 +9,7 @@ ghost use Rattle.archive_frame.specs.Labels.{IsSomeLabel, IsLabelFault, IsRead, 
 
 use crate::fault::FrameFault;
 use crate::writing::LABEL;
-use pcp_base::{NoMemory, Stamp, Text, TextError};
+use pcp_base::{List, NoMemory, Stamp, Text};
 use pcp_model::Label;
 use std::alloc::Global;
 
@@ -133,16 +133,12 @@ fn look(bytes: &[u8]) -> Result<Said, FrameFault>
 }
 
 /// A text of bytes that are known to have no zero byte.
-#[tactic(auto, using(crate::proofs::Labels::no_first_zero))]
 fn text_of(alloc: Global, bytes: &[u8]) -> Result<Text, NoMemory>
     requires { IsText bytes.now }
     ensures { IfOk result (λ t. t ≡ bytes.now) }
 {
-    match Text::build(alloc, bytes) {
-        Ok(text) => Ok(text),
-        Err(TextError::NoMemory) => Err(NoMemory),
-        Err(TextError::Zero(_)) => unreachable!(),
-    }
+    let copy = Vec::from_slice(alloc, bytes)?;
+    Ok(Text::of_clean(List::from_vec(copy)))
 }
 
 fn read(alloc: Global, bytes: &[u8]) -> Result<(Label, i32), FrameFault>
