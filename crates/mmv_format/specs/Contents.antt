@@ -46,11 +46,18 @@ is_short bytes = not (nat_le header_size bytes && bytes % 8 == 0)
 abbrev pub entry_at : ℕ → ℕ
 entry_at i = header_size + entry_size * i
 
+-- the place behind it
+abbrev pub entry_end : ℕ → ℕ
+entry_end i = 56 + 16 * i
+
 abbrev pub type_in : List ℕ → ℕ → ℕ
 type_in words i = number32 words (entry_at i)
 
+abbrev pub count_offset_in : ℕ → ℕ
+count_offset_in i = 44 + 16 * i
+
 abbrev pub count_in : List ℕ → ℕ → ℕ
-count_in words i = number32 words (44 + 16 * i)
+count_in words i = number32 words (count_offset_in i)
 
 abbrev pub place_offset_in : ℕ → ℕ
 place_offset_in i = 48 + 16 * i
@@ -73,7 +80,7 @@ end_in words i = place_in words i + section_bytes (type_in words i) (count_in wo
 
 -- contents entry i lies in the words
 abbrev pub entry_lies : List ℕ → ℕ → Bool
-entry_lies words i = nat_le (56 + 16 * i) (bytes_in words)
+entry_lies words i = nat_le (entry_end i) (bytes_in words)
 
 abbrev pub is_type : ℕ → Bool
 is_type type = nat_le 1 type && nat_le type 5

@@ -6,7 +6,7 @@ use Rattle.mmv_format.specs.Below.{all_below, some_below}
 use Rattle.mmv_format.specs.Fields.{number32, number64, byte_at, text_at, has_zero}
 use Rattle.mmv_format.specs.Sizes.{name_width, header_size, indom_size, instance_size, metric_size, value_size, string_size}
 use Rattle.mmv_format.specs.EntryFields.{same_name, count_offset_in_indom, count_in_indom, first_offset_in_indom, first_in_indom, short_offset_in_indom, long_offset_in_indom, domain_in_instance, number_offset_in_instance, name_offset_in_instance, item_offset_in_metric, type_offset_in_metric, type_in_metric, semantics_offset_in_metric, serial_offset_in_metric, serial_in_metric, short_offset_in_metric, long_offset_in_metric, extra_in_value, metric_offset_in_value, instance_offset_in_value, instance_in_value}
-use Rattle.mmv_format.specs.Contents.{contents_in, type_in, count_in, place_in, section_bytes, end_in, section_lies, are_apart, is_first_of_type, has_good_section, find_section, section_of}
+use Rattle.mmv_format.specs.Contents.{contents_in, type_in, count_in, place_in, section_bytes, end_in, section_lies, are_apart, is_first_of_type, has_good_section, find_section, section_of, entry_at, entry_end, count_offset_in, place_offset_in}
 use Rattle.mmv_format.specs.Entries.{leads_to_string, indom_count, indom_at, instance_count, instance_at, metric_count, metric_at, value_count, value_at, string_count, string_at, help_leads, is_instance_of, has_good_run, has_serial, is_new_indom, is_good_indom, has_text, lies_in_run, is_same_instance, is_new_instance, is_good_instance, has_name, is_no_domain, is_indom_serial, serial_leads, is_same_metric, is_new_metric, has_good_fields, is_good_metric, metric_of, instance_leads, choice_leads, is_same_value, is_new_value, is_good_value, is_good_string}
 use Rattle.mmv_format.specs.Images.{is_image}
 use Rattle.mmv_format.proofs.Below.{all_at, both_left, both_right}
@@ -46,7 +46,7 @@ section_with p c = record { place = p; count = c }
 pick_same : (type t u p q c d : ℕ) (s r : Section) → t ≡ u → p ≡ q → c ≡ d → s ≡ r → cond (nat_eq t type) (section_with p c) s ≡ cond (nat_eq u type) (section_with q d) r
 pick_same type t u p q c d s r e f m n = cc
 
-lies_still : (c n p e w v : ℕ) → w ≤ v → (nat_eq c 0 || (nat_le (40 + 16 * n) p && nat_le e (8 * w))) ≡ true → (nat_eq c 0 || (nat_le (40 + 16 * n) p && nat_le e (8 * v))) ≡ true
+lies_still : (c n p e w v : ℕ) → w ≤ v → (nat_eq c 0 || (nat_le (entry_at n) p && nat_le e (8 * w))) ≡ true → (nat_eq c 0 || (nat_le (entry_at n) p && nat_le e (8 * v))) ≡ true
 lies_still c n p e w v h l = grind (arith, nat_tests)
 
 fits_still : (n w v : ℕ) → w ≤ v → nat_le n (8 * w) ≡ true → nat_le n (8 * v) ≡ true
@@ -91,18 +91,18 @@ module _ (a b : List ℕ) (h : is_image a ≡ true) (g : Agrees a b) where
   contents_same = head32 24 (omega arith) (inr (omega arith))
 
   type_same : (i : ℕ) → i < contents_in a → type_in b i ≡ type_in a i
-  type_same i below = same32 (40 + 16 * i) (subst (Looked a) (add-zero (40 + 16 * i)) (looked_contents a i 0 h below (omega arith)))
+  type_same i below = same32 (entry_at i) (subst (Looked a) (add-zero (entry_at i)) (looked_contents a i 0 h below (omega arith)))
 
   pub count_same : (i : ℕ) → i < contents_in a → count_in b i ≡ count_in a i
-  count_same i below = same32 (44 + 16 * i) (subst (Looked a) (moved i) (looked_contents a i 4 h below (omega arith)))
+  count_same i below = same32 (count_offset_in i) (subst (Looked a) (moved i) (looked_contents a i 4 h below (omega arith)))
     where
-      moved : (i : ℕ) → (40 + 16 * i) + 4 ≡ 44 + 16 * i
+      moved : (i : ℕ) → entry_at i + 4 ≡ count_offset_in i
       moved i = omega arith
 
   pub place_same : (i : ℕ) → i < contents_in a → place_in b i ≡ place_in a i
-  place_same i below = g.same (48 + 16 * i) (subst (Looked a) (moved i) (looked_contents a i 8 h below (omega arith)))
+  place_same i below = g.same (place_offset_in i) (subst (Looked a) (moved i) (looked_contents a i 8 h below (omega arith)))
     where
-      moved : (i : ℕ) → (40 + 16 * i) + 8 ≡ 48 + 16 * i
+      moved : (i : ℕ) → entry_at i + 8 ≡ place_offset_in i
       moved i = omega arith
 
   end_same : (i : ℕ) → i < contents_in a → end_in b i ≡ end_in a i
@@ -132,7 +132,7 @@ module _ (a b : List ℕ) (h : is_image a ≡ true) (g : Agrees a b) where
   unfolding has_good_section section_lies
   section_still i below good =
       all_four _ _ _ _
-      (fits_still (56 + 16 * i) (length a) (length b) g.longer (both_left _ _ (both_left _ _ (both_left _ _ good))))
+      (fits_still (entry_end i) (length a) (length b) g.longer (both_left _ _ (both_left _ _ (both_left _ _ good))))
       (rw (type_same i below) (both_right _ _ (both_left _ _ (both_left _ _ good))))
       (rw (count_same i below, contents_same, place_same i below, end_same i below) (lies_still (count_in a i) (contents_in a) (place_in a i) (end_in a i) (length a) (length b) g.longer (both_right _ _ (both_left _ _ good))))
       (first_same i below ∙ both_right _ _ good)

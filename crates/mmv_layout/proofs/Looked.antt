@@ -2,8 +2,8 @@
 use Rattle.std.proofs.Common.{◌≡◌, ◌≢◌, ℕ, ◌+◌, ◌*◌, ◌<◌, ◌≤◌, Bool, true, false, not, ◌||◌, ◌⊎◌, inl, inr, List, length, ap, ap₂, sym, subst, ◌∙◌, refl, arith, nat_eq, nat_le, nat_lt, ⊎_elim}
 use Rattle.std.proofs.lemmas.Bool.Decides.{nat_tests}
 use Rattle.std.proofs.lemmas.Bool.{cases_order}
-use Rattle.mmv_format.specs.Contents.{bytes_in, is_short, contents_in, type_in, count_in, place_in, section_bytes, end_in, are_apart, is_first_of_type, has_good_section, sections_are_good, find_section, section_of, entry_at}
-use Rattle.mmv_format.specs.Sizes.{header_size, indom_size, instance_size, metric_size, value_size, string_size}
+use Rattle.mmv_format.specs.Contents.{bytes_in, is_short, contents_in, type_in, count_in, place_in, section_bytes, end_in, are_apart, is_first_of_type, has_good_section, sections_are_good, find_section, section_of, entry_at, entry_end}
+use Rattle.mmv_format.specs.Sizes.{header_size, entry_size, indom_size, instance_size, metric_size, value_size, string_size}
 use Rattle.mmv_format.specs.EntryFields.{metric_offset_in_value}
 use Rattle.mmv_format.specs.Entries.{indom_count, indom_at, instance_count, instance_at, metric_count, metric_at, value_count, value_at, string_count, string_at}
 use Rattle.mmv_format.specs.Images.{has_good_header, is_image}
@@ -34,31 +34,31 @@ looked_header words place h below outside =
       apart = λ i some. let stands : Stands words (value_at words i) value_size = value_stands words i h some in inl (before place (value_at words i) below stands.behind);
     }
   where
-    before : (p v : ℕ) → p < 40 → 40 ≤ v → p < v
+    before : (p v : ℕ) → p < header_size → header_size ≤ v → p < v
     before p v a b = omega arith
 
 good_section : (words : List ℕ) (i : ℕ) → is_image words ≡ true → i < contents_in words → has_good_section words i ≡ true
 unfolding sections_are_good
 good_section words i h below = all_at (contents_in words) i (has_good_section words) (sections words h) below
 
-entry_within : (words : List ℕ) (i : ℕ) → has_good_section words i ≡ true → 56 + 16 * i ≤ bytes_in words
+entry_within : (words : List ℕ) (i : ℕ) → has_good_section words i ≡ true → entry_end i ≤ bytes_in words
 unfolding has_good_section
-entry_within words i good = le_of (56 + 16 * i) (bytes_in words) (both_left _ _ (both_left _ _ (both_left _ _ good)))
+entry_within words i good = le_of (entry_end i) (bytes_in words) (both_left _ _ (both_left _ _ (both_left _ _ good)))
 
 pub values_behind : (words : List ℕ) (i : ℕ) → is_image words ≡ true → i < value_count words → entry_at (contents_in words) ≤ value_at words i
 values_behind words i h below =
     let lies : Lies words (section_of words 4).place (section_bytes 4 (section_of words 4).count) = section_stands words 4 h (some_of i (value_count words) below) in
     let behind : entry_at (contents_in words) ≤ (section_of words 4).place = lies.behind in omega arith
 
-pub looked_contents : (words : List ℕ) (i o : ℕ) → is_image words ≡ true → i < contents_in words → o < 16 → Looked words (40 + 16 * i + o)
+pub looked_contents : (words : List ℕ) (i o : ℕ) → is_image words ≡ true → i < contents_in words → o < entry_size → Looked words (entry_at i + o)
 looked_contents words i o h below small =
-    let inside : 56 + 16 * i ≤ 8 * length words = entry_within words i (good_section words i h below) in record {
+    let inside : entry_end i ≤ 8 * length words = entry_within words i (good_section words i h below) in record {
       within = omega arith;
       outside = inr (omega arith);
       apart = λ j some. inl (before (contents_in words) (value_at words j) below small (values_behind words j h some));
     }
   where
-    before : (n v : ℕ) → i < n → o < 16 → 40 + 16 * n ≤ v → 40 + 16 * i + o < v
+    before : (n v : ℕ) → i < n → o < entry_size → entry_at n ≤ v → entry_at i + o < v
     before n v a b c = omega arith
 
 first_of : (words : List ℕ) (i : ℕ) → has_good_section words i ≡ true → is_first_of_type words i ≡ true
@@ -83,9 +83,9 @@ entries_apart words j i first less some others =
     (either_end (nat_eq (count_in words j) 0) (nat_eq (count_in words i) 0) _ _
     (both_right _ _ (all_at i j (λ j. are_apart words j i) first less)) (isnt_zero (count_in words j) some) (isnt_zero (count_in words i) others))
 
-entry_end : (words : List ℕ) (type n place count : ℕ) (e : Entry words type n place count) → end_in words e.index ≡ place + section_bytes type count
+section_end : (words : List ℕ) (type n place count : ℕ) (e : Entry words type n place count) → end_in words e.index ≡ place + section_bytes type count
 unfolding end_in
-entry_end words type n place count e = ap₂ (λ p m. p + m) e.place_is (ap₂ section_bytes e.type_is e.count_is)
+section_end words type n place count e = ap₂ (λ p m. p + m) e.place_is (ap₂ section_bytes e.type_is e.count_is)
 
 turned : {A B : Type 0} → A ⊎ B → B ⊎ A
 turned (inl a) = inr a
@@ -95,8 +95,8 @@ both_entries : (words : List ℕ) (s t n p q c d : ℕ) (e : Entry words s n p c
     → (p + section_bytes s c ≤ q) ⊎ (q + section_bytes t d ≤ p)
 both_entries words s t n p q c d e f h =
     ⊎_elim
-    (λ (a : end_in words e.index ≤ place_in words f.index). inl (subst (λ m. m ≤ q) (entry_end words s n p c e) (subst (λ m. end_in words e.index ≤ m) f.place_is a)))
-    (λ (b : end_in words f.index ≤ place_in words e.index). inr (subst (λ m. m ≤ p) (entry_end words t n q d f) (subst (λ m. end_in words f.index ≤ m) e.place_is b))) h
+    (λ (a : end_in words e.index ≤ place_in words f.index). inl (subst (λ m. m ≤ q) (section_end words s n p c e) (subst (λ m. end_in words e.index ≤ m) f.place_is a)))
+    (λ (b : end_in words f.index ≤ place_in words e.index). inr (subst (λ m. m ≤ p) (section_end words t n q d f) (subst (λ m. end_in words f.index ≤ m) e.place_is b))) h
 
 -- two sections with entries lie apart
 pub sections_apart : (words : List ℕ) (s t : ℕ) → is_image words ≡ true → s ≢ t → (section_of words s).count ≢ 0 → (section_of words t).count ≢ 0
@@ -137,7 +137,7 @@ looked_in words type d h other some below =
     before : (p n w : ℕ) → d < n → p + n ≤ 8 * w → p + d < 8 * w
     before p n w a b = omega arith
 
-    behind : (n p : ℕ) → 40 + 16 * n ≤ p → 24 ≤ p + d
+    behind : (n p : ℕ) → entry_at n ≤ p → 24 ≤ p + d
     behind n p a = omega arith
 
     first : (p n v j : ℕ) → d < n → p + n ≤ v → p + d < v + value_size * j
@@ -194,7 +194,7 @@ looked_value words i o h below some small =
     inside : (v n : ℕ) → v + value_size ≤ 8 * n → v + o < 8 * n
     inside v n a = omega arith
 
-    behind : (v : ℕ) → 40 ≤ v → 24 ≤ v + o
+    behind : (v : ℕ) → header_size ≤ v → 24 ≤ v + o
     behind v a = omega arith
 
     others_apart : (v j : ℕ) → ((v + value_size * i) + o < v + value_size * j) ⊎ (metric_offset_in_value (v + value_size * j) ≤ (v + value_size * i) + o)

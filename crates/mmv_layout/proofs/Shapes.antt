@@ -7,8 +7,8 @@ use Rattle.pcp_base.specs.Codes.{kind_of_code}
 use Rattle.pcp_base.specs.declared.kind.Kind.{Kind}
 use Rattle.pcp_base.specs.declared.kind.Kind.TheVariants as kinds
 use Rattle.mmv_format.specs.Fields.{number64}
-use Rattle.mmv_format.specs.Sizes.{value_size}
-use Rattle.mmv_format.specs.EntryFields.{extra_offset_in_value, extra_in_value}
+use Rattle.mmv_format.specs.Sizes.{header_size, value_size}
+use Rattle.mmv_format.specs.EntryFields.{extra_offset_in_value, extra_in_value, metric_offset_in_value}
 use Rattle.mmv_format.specs.Contents.{section_bytes, section_of}
 use Rattle.mmv_format.specs.Entries.{leads, leads_to_string, value_count, value_at, string_count, string_at, choice_leads, is_good_value}
 use Rattle.mmv_format.specs.Images.{has_good_header, is_image}
@@ -130,7 +130,7 @@ twice_agrees a n h =
           ap (leads_to_string a) (number_beside a n (extra_offset_in_value (value_at a i)) (inr (behind (value_at a i) stands.behind))) ∙ chosen a i h below six;
     }
   where
-    behind : (v : ℕ) → 40 ≤ v → 24 ≤ v + 8
+    behind : (v : ℕ) → header_size ≤ v → 24 ≤ extra_offset_in_value v
     behind v b = omega arith
 
 pub generation_keeps : GenerationKeepsTheForm
@@ -148,11 +148,11 @@ unfolding number64
 number_there a w v place below here = ap (slice_index (slice_set a w v)) here ∙ get_or-set_same a w v 0 below
 
 -- places outside of a value's first two fields lie in other words
-off_first : (value place : ℕ) → value % 8 ≡ 0 → (place < value) ⊎ (value + 16 ≤ place) → place / 8 ≢ value / 8
-off_first value place whole outside e = ⊎_elim (λ (x : place < value). absurd (omega arith)) (λ (y : value + 16 ≤ place). absurd (omega arith)) outside
+off_first : (value place : ℕ) → value % 8 ≡ 0 → (place < value) ⊎ (metric_offset_in_value value ≤ place) → place / 8 ≢ value / 8
+off_first value place whole outside e = ⊎_elim (λ (x : place < value). absurd (omega arith)) (λ (y : metric_offset_in_value value ≤ place). absurd (omega arith)) outside
 
-off_second : (value place : ℕ) → value % 8 ≡ 0 → (place < value) ⊎ (value + 16 ≤ place) → place / 8 ≢ value / 8 + 1
-off_second value place whole outside e = ⊎_elim (λ (x : place < value). absurd (omega arith)) (λ (y : value + 16 ≤ place). absurd (omega arith)) outside
+off_second : (value place : ℕ) → value % 8 ≡ 0 → (place < value) ⊎ (metric_offset_in_value value ≤ place) → place / 8 ≢ value / 8 + 1
+off_second value place whole outside e = ⊎_elim (λ (x : place < value). absurd (omega arith)) (λ (y : metric_offset_in_value value ≤ place). absurd (omega arith)) outside
 
 -- the extra field of a value is not the value field of one
 extra_apart : (first i j : ℕ) → first % 8 ≡ 0 → ((first + value_size * i) + 8) / 8 ≡ (first + value_size * j) / 8 → ⊥
@@ -176,7 +176,7 @@ section_whole words i h below =
     let lies : Lies words (section_of words 4).place (section_bytes 4 (section_of words 4).count) = section_stands words 4 h (some_of i (value_count words) below) in lies.whole
 
 -- the word of a slot as the first or the second word of its value
-slot_place : (words : List ℕ) (value : ℕ) (slot : Slot) (place : ℕ) → value % 8 ≡ 0 → SlotIs words value slot → (place < value) ⊎ (value + 16 ≤ place) → place / 8 ≢ slot.word
+slot_place : (words : List ℕ) (value : ℕ) (slot : Slot) (place : ℕ) → value % 8 ≡ 0 → SlotIs words value slot → (place < value) ⊎ (metric_offset_in_value value ≤ place) → place / 8 ≢ slot.word
 slot_place words value slot place whole is outside e =
     ⊎_elim
     (λ (x : (type_of words value ≤ 3) × (slot.word ≡ value / 8)). off_first value place whole outside (e ∙ x.1))

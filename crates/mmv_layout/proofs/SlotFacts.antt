@@ -4,7 +4,7 @@ use Rattle.std.specs.List.{find}
 use Rattle.std.specs.Ordering.{int_eq}
 use Rattle.std.proofs.lemmas.Bool.Decides.{nat_tests, Decides-int_eq, not_from_Decides}
 use Rattle.mmv_format.specs.EntryFields.{item_in_metric}
-use Rattle.mmv_format.specs.Sizes.{value_size}
+use Rattle.mmv_format.specs.Sizes.{header_size, value_size}
 use Rattle.mmv_format.specs.Entries.{value_count, value_at, metric_at, is_good_metric, has_good_fields}
 use Rattle.mmv_format.specs.Images.{is_image}
 use Rattle.mmv_format.proofs.Below.{both_left, both_right}
@@ -47,7 +47,7 @@ pub slot_value : (words : List ℕ) (slot : Slot) → Contains (slots_of words) 
 unfolding slots_of
 slot_value words slot h = given_of (slot_at words) (value_count words) (value_at words) slot h
 
-near : (value word n : ℕ) → 40 ≤ value → value + value_size ≤ 8 * n → (word ≡ value / 8) ⊎ (word ≡ value / 8 + 1) → (5 ≤ word) × (word < n)
+near : (value word n : ℕ) → header_size ≤ value → value + value_size ≤ 8 * n → (word ≡ value / 8) ⊎ (word ≡ value / 8 + 1) → (5 ≤ word) × (word < n)
 near value word n a b h = (grind arith, grind arith)
 
 -- a value word is one of the words, behind the header
