@@ -101,6 +101,13 @@ impl Groups {
         Ok(Groups { plans })
     }
 
+    /// How many groups there are.
+    pub fn len(&self) -> usize
+        ensures { result ≡ length self.now }
+    {
+        self.plans.len()
+    }
+
     /// Whether the next instant of a group is not after now.
     pub fn is_due(&self, group: u32, now: Stamp) -> bool
         requires { group < length self.now }

@@ -1,0 +1,129 @@
+//! Calls of an image (mmv(5)), whose bytes are the input.
+use crate::hostile;
+use case_book::Answer;
+use layout_text::{Line as TextLine, write_line};
+use mmv_layout::{Image, Slot};
+use pcp_base::NoMemory;
+use pm_print::image_fault_text;
+use std::alloc::Global;
+
+fn write_slot(out: &mut String, slot: Slot) -> Result<(), NoMemory> {
+    let Slot {
+        item,
+        instance,
+        kind,
+        word,
+    } = slot;
+    write!(out, "{item} {instance} {kind:?} in word {word}\n")?;
+    Ok(())
+}
+
+// `slots`: all words that hold a value.
+fn tell_slots(alloc: Global, image: &Image) -> Result<String, NoMemory> {
+    let mut out = String::new(alloc);
+    for slot in image.slots(alloc)?.as_slice() {
+        write_slot(&mut out, *slot)?;
+    }
+    Ok(out)
+}
+
+// `slot ITEM INSTANCE`
+fn tell_slot(alloc: Global, image: &Image, rest: &str) -> Result<Option<String>, NoMemory> {
+    let (item, instance) = rest.split_once(' ').unwrap_or((rest, ""));
+    let (Ok(item), Ok(instance)) = (item.parse::<u32>(), instance.parse::<i32>()) else {
+        return Ok(None);
+    };
+    let mut out = String::new(alloc);
+    match image.slot_of(item, instance) {
+        Some(slot) => write_slot(&mut out, slot)?,
+        None => out.push_str("none\n")?,
+    }
+    Ok(Some(out))
+}
+
+// `texts`: the strings and their offsets.
+fn tell_texts(alloc: Global, image: &Image) -> Result<String, NoMemory> {
+    let mut out = String::new(alloc);
+    for (offset, text) in image.texts(alloc)?.as_slice() {
+        let offset = *offset;
+        write!(&mut out, "{offset} ")?;
+        case_book::write_text(&mut out, text.as_slice())?;
+        out.push('\n')?;
+    }
+    Ok(out)
+}
+
+// `form`: whether it is an image of one 32-bit value alone, and which.
+fn tell_form(alloc: Global, image: &Image) -> Result<String, NoMemory> {
+    let cluster = image.cluster();
+    if !image.is_first_form() {
+        return Ok(format!(in alloc; "cluster {cluster}, another form\n")?);
+    }
+    let value = image.only_value();
+    Ok(format!(in alloc; "cluster {cluster}, one value {value}\n")?)
+}
+
+// `metric`: the line of the metric of such an image.
+fn tell_metric(alloc: Global, image: &Image) -> Result<Vec<u8>, NoMemory> {
+    let mut out = Vec::new(alloc);
+    if image.is_first_form() {
+        write_line(&mut out, &TextLine::Metric(image.only_metric(alloc)?))?;
+    }
+    Ok(out)
+}
+
+// `copy`: the bytes of a copy.
+fn tell_copy(alloc: Global, image: &Image) -> Result<Vec<u8>, NoMemory> {
+    let copy = image.copy(alloc)?;
+    Ok(pm_print::image_bytes(alloc, &copy)?.into_vec())
+}
+
+fn tell(alloc: Global, image: &Image, rest: &str) -> Result<Option<Vec<u8>>, NoMemory> {
+    let text = match rest {
+        "" => String::from_str(alloc, "read\n")?,
+        "slots" => tell_slots(alloc, image)?,
+        "texts" => tell_texts(alloc, image)?,
+        "form" => tell_form(alloc, image)?,
+        "metric" => return Ok(Some(tell_metric(alloc, image)?)),
+        "copy" => return Ok(Some(tell_copy(alloc, image)?)),
+        _ => {
+            let Some(slot) = rest.strip_prefix("slot ") else {
+                return Ok(None);
+            };
+            match tell_slot(alloc, image, slot)? {
+                Some(told) => told,
+                None => return Ok(None),
+            }
+        }
+    };
+    Ok(Some(text.into_bytes()))
+}
+
+/// `image`, or `image` with one of `slots`, `slot ITEM INSTANCE`, `texts`, `form`, `metric`, `copy`, and those of
+/// `hostile`.
+pub fn tell_image(
+    alloc: Global,
+    answer: &mut Answer,
+    input: &[u8],
+    rest: &str,
+) -> Result<bool, NoMemory> {
+    if !answer.renew()? {
+        return Ok(false);
+    }
+    if let Some(told) = hostile::tell(alloc, input, rest)? {
+        answer.put("out", told.as_bytes())?;
+        return Ok(true);
+    }
+    let image = match Image::from_bytes(alloc, input) {
+        Ok(image) => image,
+        Err(fault) => {
+            answer.put("out", image_fault_text(alloc, &fault)?.as_slice())?;
+            return Ok(true);
+        }
+    };
+    let Some(told) = tell(alloc, &image, rest)? else {
+        return Ok(false);
+    };
+    answer.put("out", &told)?;
+    Ok(true)
+}

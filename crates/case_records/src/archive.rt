@@ -1,0 +1,235 @@
+//! Parts of an archive's files (LOGARCHIVE(5)): labels, framed records and the entries of the index.
+use archive_frame::{
+    FrameFault, Label, Step, label_bytes, put_frame, put_label, read_label, step_back, step_forward,
+};
+use case_book::{Words, text_of};
+use pcp_base::{Duplicate, NoMemory};
+use std::alloc::Global;
+use temporal_index::{Entry, Index, IndexFault, entry_bytes, put_entry};
+
+fn write_fault(out: &mut String, fault: FrameFault) -> Result<(), NoMemory> {
+    match fault {
+        FrameFault::Torn { at } => write!(out, "Torn {at}\n")?,
+        FrameFault::Size { at, found } => write!(out, "Size {at} {found}\n")?,
+        FrameFault::Lengths { at, head, tail } => write!(out, "Lengths {at} {head} {tail}\n")?,
+        FrameFault::Label { at } => write!(out, "Label {at}\n")?,
+        FrameFault::NoMemory => return Err(NoMemory),
+    }
+    Ok(())
+}
+
+// What bytes are as a label: `NUMBER PID SEC USEC HOST ZONE`.
+fn tell_label(alloc: Global, bytes: &[u8]) -> Result<String, NoMemory> {
+    let mut out = String::new(alloc);
+    match read_label(alloc, bytes) {
+        Ok((label, number)) => {
+            let (pid, sec, usec) = (label.pid(), label.start().sec(), label.start().usec());
+            write!(&mut out, "{number} {pid} {sec} {usec} ")?;
+            case_book::write_text(&mut out, label.host().as_slice())?;
+            out.push(' ')?;
+            case_book::write_text(&mut out, label.zone().as_slice())?;
+            out.push('\n')?;
+        }
+        Err(fault) => write_fault(&mut out, fault)?,
+    }
+    Ok(out)
+}
+
+// The label of `NUMBER PID SEC USEC HOST ZONE`, twice.
+fn make_label(alloc: Global, mut words: Words<'_>) -> Result<Option<Vec<u8>>, NoMemory> {
+    let (Some(number), Some(pid), Some(start)) = (words.signed(), words.number(), words.stamp())
+    else {
+        return Ok(None);
+    };
+    let host = text_of(alloc, words.next())?;
+    let zone = text_of(alloc, words.rest())?;
+    let Some(label) = Label::build(pid, start, host, zone) else {
+        return Ok(Some(b"none\n".to_vec(alloc)?));
+    };
+    if number < -2 {
+        return Ok(None);
+    }
+    let mut out = label_bytes(&label, number).to_vec(alloc)?;
+    put_label(&mut out, &label, number)?;
+    Ok(Some(out))
+}
+
+fn tell_step(alloc: Global, step: Result<Step, FrameFault>) -> Result<String, NoMemory> {
+    let mut out = String::new(alloc);
+    match step {
+        Ok(Step::Payload { from, to, next }) => write!(
+            &mut out,
+            "payload {from} {to} next {next}\n"
+        )?,
+        Ok(Step::End) => out.push_str("end\n")?,
+        Err(fault) => write_fault(&mut out, fault)?,
+    }
+    Ok(out)
+}
+
+// `forward OFFSET` or `back OFFSET` over the bytes.
+fn tell_frame(
+    alloc: Global,
+    form: &str,
+    offset: &str,
+    bytes: &[u8],
+) -> Result<Option<String>, NoMemory> {
+    let Ok(at) = offset.parse::<usize>() else {
+        return Ok(None);
+    };
+    if at > bytes.len() {
+        return Ok(None);
+    }
+    match form {
+        "forward" => Ok(Some(tell_step(alloc, step_forward(bytes, at))?)),
+        "back" => Ok(Some(tell_step(alloc, step_back(bytes, at))?)),
+        _ => Ok(None),
+    }
+}
+
+fn write_entry(out: &mut String, entry: Entry) -> Result<(), NoMemory> {
+    let Entry {
+        stamp,
+        volume,
+        meta,
+        offset,
+    } = entry;
+    let (sec, usec) = (stamp.sec(), stamp.usec());
+    write!(out, "{sec} {usec} {volume} {meta} {offset}\n")?;
+    Ok(())
+}
+
+fn write_found(out: &mut String, found: Option<(u64, Entry)>) -> Result<(), NoMemory> {
+    match found {
+        Some((at, entry)) => {
+            write!(out, "entry {at}: ")?;
+            write_entry(out, entry)
+        }
+        None => Ok(out.push_str("none\n")?),
+    }
+}
+
+// The entries of an index, one a line.
+fn write_entries(out: &mut String, index: &Index) -> Result<(), NoMemory> {
+    if index.is_empty() {
+        out.push_str("no entries\n")?;
+    }
+    for at in 0..index.len() {
+        if let Some(entry) = index.entry(at) {
+            write_entry(out, entry)?;
+        }
+    }
+    Ok(())
+}
+
+// What an index tells: `all`, `copy`, `entry N`, `at SEC USEC` and `before SEC USEC`.
+fn write_index(
+    alloc: Global,
+    out: &mut String,
+    index: &Index,
+    mut words: Words<'_>,
+) -> Result<bool, NoMemory> {
+    match words.next() {
+        "all" => write_entries(out, index)?,
+        "copy" => write_entries(out, &index.copy(alloc)?)?,
+        "entry" => {
+            let Some(at) = words.wide() else {
+                return Ok(false);
+            };
+            match index.entry(at) {
+                Some(entry) => write_entry(out, entry)?,
+                None => out.push_str("none\n")?,
+            }
+        }
+        "at" => match words.stamp() {
+            Some(moment) => write_found(out, index.seek_at(moment))?,
+            None => return Ok(false),
+        },
+        "before" => match words.stamp() {
+            Some(moment) => write_found(out, index.seek_before(moment))?,
+            None => return Ok(false),
+        },
+        _ => return Ok(false),
+    }
+    Ok(true)
+}
+
+fn tell_index(alloc: Global, words: Words<'_>, bytes: &[u8]) -> Result<Option<String>, NoMemory> {
+    let mut out = String::new(alloc);
+    match Index::read(alloc, bytes) {
+        Ok(index) => {
+            if !write_index(alloc, &mut out, &index, words)? {
+                return Ok(None);
+            }
+        }
+        Err(IndexFault::Entry { at }) => write!(&mut out, "Entry {at}\n")?,
+        Err(IndexFault::NoMemory) => return Err(NoMemory),
+    }
+    Ok(Some(out))
+}
+
+// The bytes of the entry `SEC USEC VOLUME META OFFSET`, twice.
+fn make_entry(alloc: Global, mut words: Words<'_>) -> Result<Option<Vec<u8>>, NoMemory> {
+    let (Some(stamp), Some(volume)) = (words.stamp(), words.number()) else {
+        return Ok(None);
+    };
+    let (Some(meta), Some(offset)) = (words.number(), words.number()) else {
+        return Ok(None);
+    };
+    let entry = Entry {
+        stamp,
+        volume,
+        meta,
+        offset,
+    };
+    if volume >= 1 << 31 {
+        return Ok(None);
+    }
+    if meta >= 1 << 31 {
+        return Ok(None);
+    }
+    if offset >= 1 << 31 {
+        return Ok(None);
+    }
+    let mut out = entry_bytes(&entry).to_vec(alloc)?;
+    put_entry(&mut out, &entry)?;
+    Ok(Some(out))
+}
+
+// A payload in its frame, behind two bytes.
+fn make_frame(alloc: Global, payload: &[u8]) -> Result<Option<Vec<u8>>, NoMemory> {
+    if payload.len() > 16_777_208 {
+        return Ok(None);
+    }
+    let mut out = b"> ".to_vec(alloc)?;
+    put_frame(&mut out, payload)?;
+    Ok(Some(out))
+}
+
+fn bytes_of(told: Option<String>) -> Option<Vec<u8>> {
+    match told {
+        Some(text) => Some(text.into_bytes()),
+        None => None,
+    }
+}
+
+/// Of the input's bytes `label read`, `frame forward OFFSET`, `frame back OFFSET`, `frame put` and `index ..` (above);
+/// of words `label write NUMBER PID SEC USEC HOST ZONE` and `index write SEC USEC VOLUME META OFFSET`.
+pub fn tell_record(
+    alloc: Global,
+    part: &str,
+    mut words: Words<'_>,
+    input: &[u8],
+) -> Result<Option<Vec<u8>>, NoMemory> {
+    let all = words;
+    let form = words.next();
+    match (part, form) {
+        ("label", "read") => Ok(Some(tell_label(alloc, input)?.into_bytes())),
+        ("label", "write") => make_label(alloc, words),
+        ("frame", "put") => make_frame(alloc, input),
+        ("frame", _) => Ok(bytes_of(tell_frame(alloc, form, words.rest(), input)?)),
+        ("index", "write") => make_entry(alloc, words),
+        ("index", _) => Ok(bytes_of(tell_index(alloc, all, input)?)),
+        _ => Ok(None),
+    }
+}

@@ -1,0 +1,183 @@
+//! The records of an archive's Meta file (LOGARCHIVE(5)), behind its label.
+use archive_meta::{MetaFault, MetaState, domain_stamp, put_description, put_domain};
+use case_book::{Words, text_of};
+use pcp_base::{Desc, Duplicate, InDom, List, NoMemory, Text, Units};
+use std::alloc::Global;
+
+fn tell_added(alloc: Global, added: Result<(), MetaFault>) -> Result<String, NoMemory> {
+    match added {
+        Ok(()) => Ok(String::from_str(alloc, "read\n")?),
+        Err(MetaFault::Record { at }) => Ok(format!(in alloc; "Record {at}\n")?),
+        Err(MetaFault::NoMemory) => Ok(String::from_str(alloc, "NoMemory\n")?),
+    }
+}
+
+// `read`: a new state of the input's records. After a refusal the old one stays.
+fn read(alloc: Global, state: &mut MetaState, input: &[u8]) -> Result<String, NoMemory> {
+    match MetaState::read(alloc, input) {
+        Ok(found) => {
+            *state = found;
+            tell_added(alloc, Ok(()))
+        }
+        Err(fault) => tell_added(alloc, Err(fault)),
+    }
+}
+
+// `desc WORD`: type code, domain, semantics' code and units.
+fn tell_desc(alloc: Global, found: Option<&Desc>) -> Result<String, NoMemory> {
+    let Some(desc) = found else {
+        return Ok(String::from_str(alloc, "none\n")?);
+    };
+    let (pmid, indom, units) = (desc.pmid.word(), desc.indom.word(), desc.units.word());
+    let (code, semantics) = (desc.code, desc.semantics);
+    Ok(format!(in alloc; "{pmid:08x} {code} {indom:08x} {semantics} {units:08x}\n")?)
+}
+
+fn tell_names(alloc: Global, found: Option<&List<Text>>) -> Result<String, NoMemory> {
+    let Some(names) = found else {
+        return Ok(String::from_str(alloc, "none\n")?);
+    };
+    let mut out = String::new(alloc);
+    for name in names.as_slice() {
+        case_book::write_text(&mut out, name.as_slice())?;
+        out.push('\n')?;
+    }
+    Ok(out)
+}
+
+fn tell_instances(alloc: Global, found: Option<&List<(i32, Text)>>) -> Result<String, NoMemory> {
+    let Some(pairs) = found else {
+        return Ok(String::from_str(alloc, "none\n")?);
+    };
+    let mut out = String::new(alloc);
+    for (number, name) in pairs.as_slice() {
+        let number = *number;
+        write!(&mut out, "{number} ")?;
+        case_book::write_text(&mut out, name.as_slice())?;
+        out.push('\n')?;
+    }
+    Ok(out)
+}
+
+fn tell_pmids(alloc: Global, state: &MetaState) -> Result<String, NoMemory> {
+    let mut out = String::new(alloc);
+    for pmid in state.pmids(alloc)?.as_slice() {
+        let word = pmid.word();
+        write!(&mut out, "{word:08x}\n")?;
+    }
+    Ok(out)
+}
+
+// `stamp`: the time of the domain record whose payload the input is.
+fn tell_stamp(alloc: Global, payload: &[u8]) -> Result<String, NoMemory> {
+    match domain_stamp(payload) {
+        Some(stamp) => {
+            let (sec, usec) = (stamp.sec(), stamp.usec());
+            Ok(format!(in alloc; "{sec} {usec}\n")?)
+        }
+        None => Ok(String::from_str(alloc, "none\n")?),
+    }
+}
+
+// The payload of a description: `PMID CODE DOMAIN SEMANTICS UNITS NAME`.
+fn make_description(alloc: Global, mut words: Words<'_>) -> Result<Option<Vec<u8>>, NoMemory> {
+    let (Some(pmid), Some(code), Some(indom)) = (words.pmid(), words.number(), words.hex()) else {
+        return Ok(None);
+    };
+    let (Some(semantics), Some(units)) = (words.number(), words.hex()) else {
+        return Ok(None);
+    };
+    let desc = Desc {
+        pmid,
+        code,
+        indom: InDom::of_word(indom),
+        semantics,
+        units: Units::of_word(units),
+    };
+    let name = text_of(alloc, words.rest())?;
+    if name.as_slice().len() > 63 {
+        return Ok(None);
+    }
+    let mut out = Vec::new(alloc);
+    put_description(&mut out, &desc.copy(alloc)?, &[name])?;
+    Ok(Some(out))
+}
+
+// The payload of a domain of two instances: `DOMAIN SEC USEC NUMBER NAME NUMBER NAME`.
+fn make_domain(alloc: Global, mut words: Words<'_>) -> Result<Option<Vec<u8>>, NoMemory> {
+    let (Some(indom), Some(stamp)) = (words.hex(), words.stamp()) else {
+        return Ok(None);
+    };
+    let Some(low) = words.signed() else {
+        return Ok(None);
+    };
+    let first = text_of(alloc, words.next())?;
+    let Some(high) = words.signed() else {
+        return Ok(None);
+    };
+    let second = text_of(alloc, words.next())?;
+    if first.as_slice().len() > 63 || second.as_slice().len() > 63 {
+        return Ok(None);
+    }
+    let mut out = Vec::new(alloc);
+    put_domain(
+        &mut out,
+        stamp,
+        InDom::of_word(indom),
+        &[(low, first), (high, second)],
+    )?;
+    Ok(Some(out))
+}
+
+fn bytes_of(told: Option<String>) -> Option<Vec<u8>> {
+    match told {
+        Some(text) => Some(text.into_bytes()),
+        None => None,
+    }
+}
+
+// What is told of a metric or of a domain at a moment.
+fn look(
+    alloc: Global,
+    state: &MetaState,
+    mut words: Words<'_>,
+) -> Result<Option<String>, NoMemory> {
+    let form = words.next();
+    if form == "domain" {
+        let (Some(indom), Some(moment)) = (words.hex(), words.stamp()) else {
+            return Ok(None);
+        };
+        let found = state.domain_at(InDom::of_word(indom), moment);
+        return Ok(Some(tell_instances(alloc, found)?));
+    }
+    let Some(pmid) = words.pmid() else {
+        return Ok(None);
+    };
+    match form {
+        "desc" => Ok(Some(tell_desc(alloc, state.desc(pmid))?)),
+        "names" => Ok(Some(tell_names(alloc, state.names(pmid))?)),
+        _ => Ok(None),
+    }
+}
+
+/// `meta read`, `meta extend` and `meta stamp` of the input's bytes; then `meta desc WORD`, `meta names WORD`,
+/// `meta domain WORD SEC USEC` and `meta pmids`, words in hexadecimal; and `meta put_description ..` and
+/// `meta put_domain ..` (above).
+pub fn tell_meta(
+    alloc: Global,
+    state: &mut MetaState,
+    words: Words<'_>,
+    input: &[u8],
+) -> Result<Option<Vec<u8>>, NoMemory> {
+    let mut rest = words;
+    let told = match rest.next() {
+        "read" => read(alloc, state, input)?,
+        "extend" => tell_added(alloc, state.extend(alloc, input))?,
+        "stamp" => tell_stamp(alloc, input)?,
+        "pmids" => tell_pmids(alloc, state)?,
+        "put_description" => return make_description(alloc, rest),
+        "put_domain" => return make_domain(alloc, rest),
+        _ => return Ok(bytes_of(look(alloc, state, words)?)),
+    };
+    Ok(Some(told.into_bytes()))
+}

@@ -1,0 +1,58 @@
+//! The sample's layout text, whose image `once` logs into memory and into a folder.
+use pcp_base::List;
+use pcp_outside::{Disk, FileDisk, FileId, MemDisk, MemSink, SureSource};
+use pm_commands::offline;
+use std::alloc::Global;
+use std::fs;
+use std::fs::Files;
+use std::test::Fail;
+
+const HITS: &[u8] = b"mmv 1 5 0 0 1\nmetric hits 2 i32 counter 00100000 - - -\nvalue 2 - 7\n";
+
+// Runs the words over an input, and gives the output of a run that ends with 0.
+fn run<D: Disk>(alloc: Global, line: &str, input: &[u8], disk: &mut D) -> Result<Vec<u8>, Fail> {
+    let mut words = Vec::new(alloc);
+    for word in line.split(' ') {
+        words.push(word.to_string(alloc)?)?;
+    }
+    let mut source = SureSource::new(List::from_vec(input.to_vec(alloc)?));
+    let mut sink = MemSink::new(alloc, List::empty(alloc));
+    match offline(alloc, &words, &mut source, &mut sink, disk) {
+        0 => Ok(sink.bytes().to_vec(alloc)?),
+        _ => Err(Fail::new("the run failed")),
+    }
+}
+
+// A new folder with 300 files.
+fn fill_folder<R: Files>(alloc: Global, rt: &R, folder: &str) -> Result<(), Fail> {
+    let _missing = rt.remove_dir_all(alloc, folder);
+    rt.create_dir(folder)?;
+    for number in 0..300u32 {
+        let path = format!(in alloc; "{folder}/other.{number}")?;
+        fs::write(rt, path.as_str(), "x")?;
+    }
+    Ok(())
+}
+
+#[test]
+fn a_run_writes_the_same_into_a_folder(rt: HostRuntime) -> Result<(), Fail> {
+    let alloc = rt.alloc();
+    fill_folder(alloc, &rt, "many")?;
+    let mut memory = MemDisk::new(alloc, List::empty(alloc));
+    let image = run(alloc, "mmv-make", HITS, &mut memory)?;
+    run(alloc, "once 100 0 app", &image, &mut memory)?;
+    let mut disk = FileDisk::new(alloc, &rt, "many/app".to_string(alloc)?);
+    run(alloc, "once 100 0 app", &image, &mut disk)?;
+    for (path, file) in [
+        ("many/app.meta", FileId::Meta),
+        ("many/app.index", FileId::Index),
+        ("many/app.0", FileId::Volume(0)),
+    ] {
+        assert_eq!(rt;
+            fs::read(&rt, path)?.as_slice(),
+            memory.bytes(file),
+            "{path}"
+        );
+    }
+    Ok(())
+}
