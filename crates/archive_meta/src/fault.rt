@@ -8,7 +8,7 @@ use thiserror::Error;
 /// Why bytes are no records of Meta.
 #[derive(Clone, Copy, Debug, PartialEq, Eq, Error)]
 pub enum MetaFault {
-    /// The first record that is none: its frame isn't whole, its payload is refused, or it is a second description
+    /// The first bytes that are no record: its frame isn't whole, its payload is refused, or it is a second description
     /// of a metric that differs from the first. Its first byte is counted from the start of the bytes handed in.
     #[error("the record of Meta at byte {at} is wrong")]
     Record { at: u64 },

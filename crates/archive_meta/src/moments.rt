@@ -28,7 +28,7 @@ pub fn note_moment(moments: &mut Moments, indom: InDom, t: Stamp, at: usize) -> 
     Ok(())
 }
 
-/// Forgets it.
+/// Takes the record at a position of Meta out of those of its domain, where it was added and the whole is refused.
 pub fn forget_moment(moments: &mut Moments, indom: InDom, t: Stamp, at: usize)
     ensures { (q : ℕ × ℕ × ℕ) → contains moment_order moments.new q ≡ if is_eq (moment_order (indom, microseconds t, at) q) then false else contains moment_order moments.old q }
 {

@@ -45,7 +45,7 @@ fn instance_count(words: &[u64]) -> u32
     section_of(words, INSTANCES).count
 }
 
-/// The place of the first name of an instance that is none.
+/// The offset of the first instance's name field that holds no name: it has no zero byte, or is empty.
 #[tactic(auto, using(crate::proofs::Below::first_none, crate::proofs::Below::first_goes), unfolding(crate::specs::Faults::instance_name_fault, crate::specs::Faults::unless))]
 pub fn instance_name_fault(words: &[u64]) -> Option<u64>
     requires { HasSections words.now }

@@ -55,7 +55,7 @@ pub fn metric_count(words: &[u64]) -> u32
     section_of(words, METRICS).count
 }
 
-/// The place of the first name of a metric that is none.
+/// The offset of the first metric's name field that holds no name: it has no zero byte, or breaks the rule for names.
 #[tactic(auto, using(crate::proofs::Below::first_none, crate::proofs::Below::first_goes), unfolding(crate::specs::Faults::metric_name_fault, crate::specs::Faults::unless))]
 pub fn metric_name_fault(alloc: Global, words: &[u64]) -> Result<Option<u64>, AllocError>
     requires { HasSections words.now }

@@ -1,3 +1,4 @@
+//! The words of whole rows: header, contents and each section in order.
 ghost use Rattle.std.specs.Prelude.{◌≡◌, ◌≤◌, ◌++◌, length, min, OnOk, IfOk};
 ghost use Rattle.mmv_spelling.specs.Places.{instances_in, counts_of, words_in, places_of, AreSmall};
 ghost use Rattle.mmv_spelling.specs.Spelling.{sections_words, spelled};

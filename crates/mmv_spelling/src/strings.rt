@@ -1,3 +1,4 @@
+//! Which strings an image of given rows has: those given, then each text that no earlier one equals.
 ghost use Rattle.std.specs.Prelude.{◌≡◌, ◌++◌, OnOk, IfOk};
 ghost use Rattle.std.specs.List.{flat_map};
 ghost use Rattle.mmv_spelling.specs.Spelling.{texts_of, texts_in, with_missing, all_strings};

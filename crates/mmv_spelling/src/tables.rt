@@ -1,3 +1,4 @@
+//! The strings of an image as they grow, with a map by which an equal text is found.
 ghost use Rattle.std.specs.Prelude.{◌≡◌, ◌++◌, [], ◌∷◌, OnOk, IfOk, None, is_some, true, bytes_eq};
 ghost use Rattle.std.specs.List.{position};
 ghost use Rattle.mmv_spelling.specs.Tables.{IsIndex};

@@ -1,3 +1,4 @@
+//! What an archive label says: process, start, host and time zone, each in its range.
 ghost use Rattle.std.specs.Prelude.{◌≡◌, ◌≤◌, ◌<◌, ◌⊎◌, length, MatchOption};
 ghost use Rattle.pcp_base.specs.Texts.{IsText};
 ghost use Rattle.pcp_model.specs.LabelFields.{FitsLabel};

@@ -1,3 +1,4 @@
+//! The records of Meta and the entries of the index, as values.
 use pcp_base::{Desc, InDom, List, Stamp, Text};
 
 /// A record of Meta (LOGARCHIVE(5)).

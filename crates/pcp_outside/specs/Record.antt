@@ -1,6 +1,7 @@
 -- The record of a disk in memory: the calls that changed its files, from which every moment's holdings follow.
 use Rattle.std.specs.Prelude.{◌≡◌, ◌⊎◌, ℕ, ◌+◌, ◌≤◌, List, [], ◌∷◌, ◌++◌, length, take, Bool, true, false, if◌then◌else◌, nat_lt, Option, Some, None}
-use Rattle.std.proofs.Common.{sym, subst, arith}
+use Rattle.std.proofs.Common.{sym, subst}
+use Rattle.std.proofs.Math.Nat.{le_refl}
 use Rattle.std.proofs.lemmas.List.{take_all}
 use Rattle.pcp_base.specs.declared.file.FileId.{FileId}
 use Rattle.pcp_base.specs.declared.file.FileId.TheVariants.{Meta, Index, Volume}
@@ -94,7 +95,7 @@ first_wrapped (Some f) file = if comes_before file f then Some file else Some f
 
 -- this moment is one of those since an earlier one
 pub counts_now_of : (calls : List DiskChange) (t : ℕ) (c : Files) → t ≤ length calls → CrashImage (held_after calls) c → LeftSince calls t c
-counts_now_of calls t c le image = (length calls, le, omega arith, subst (λ (l : List DiskChange). CrashImage (held_after l) c) (sym (take_all (length calls) calls (omega arith))) image)
+counts_now_of calls t c le image = (length calls, le, le_refl (length calls), subst (λ (l : List DiskChange). CrashImage (held_after l) c) (sym (take_all (length calls) calls (le_refl (length calls)))) image)
 
 -- since this moment there is no other
 pub only_now_of : (calls : List DiskChange) (c : Files) → LeftSince calls (length calls) c → CrashImage (held_after calls) c

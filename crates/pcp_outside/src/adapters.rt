@@ -1,3 +1,4 @@
+//! Sources and sinks over the system's readers and writers; they tell no content.
 ghost use Rattle.std.specs.Prelude.{◌≡◌, [], OnOk};
 ghost use Rattle.pcp_outside.specs.Causes.{HasCause};
 

@@ -1,3 +1,4 @@
+//! What the files of a disk in memory hold.
 ghost use Rattle.std.specs.Prelude.{◌≡◌, ◌++◌, ◌+◌, ◌≤◌, ℕ, [], take, length, OnOk, OnErr};
 ghost use Rattle.pcp_outside.specs.Volumes.{HasNumbers};
 

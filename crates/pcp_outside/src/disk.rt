@@ -1,3 +1,4 @@
+//! The trait `Disk`: what a disk may do, and what a crash leaves of each of its calls.
 ghost use Rattle.std.specs.Prelude.{◌≡◌, ◌≤◌, ◌+◌, ℕ, length, take, drop, IfOk, OnOk, Option};
 ghost use Rattle.pcp_model.specs.Disk.{CrashImage};
 ghost use Rattle.pcp_outside.specs.Causes.{HasCause};

@@ -1,3 +1,4 @@
+//! The one refusal of the outside.
 /// A call of the outside failed; the object's count of faults rose.
 #[derive(Clone, Copy, Debug, PartialEq, Eq)]
 pub struct Failed;

@@ -1,3 +1,4 @@
+//! A disk in memory, which keeps a record of its changes and so tells the images of every moment.
 ghost use Rattle.std.specs.Prelude.{◌≡◌, ◌≤◌, ◌+◌, ◌++◌, [], ◌∷◌, ℕ, true, length, take, drop, count_by, None, IfOk, IsOk, IsOkAnd, OnOk, OnErr, IsErr};
 ghost use Rattle.std.specs.Prelude.{◌⊎◌};
 ghost use Rattle.pcp_outside.specs.Causes.{HasCause, capped};

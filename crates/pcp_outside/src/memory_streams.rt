@@ -1,3 +1,4 @@
+//! Sources and sinks in memory, of which listed calls fail.
 ghost use Rattle.std.specs.Prelude.{◌≡◌, ◌≤◌, ◌<◌, ◌+◌, [], true, length, take, min, List as Sequence, IfOk, OnOk, IsErr, is_err};
 ghost use Rattle.pcp_outside.specs.Causes.{HasCause, capped};
 ghost use Rattle.pcp_outside.specs.Streams.{Takes, Puts};

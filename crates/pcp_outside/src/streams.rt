@@ -1,3 +1,4 @@
+//! The traits `Source` and `Sink`, and reading to a limit and writing whole pieces over them.
 ghost use Rattle.std.specs.Prelude.{◌≡◌, ◌≤◌, ◌<◌, ℕ, length, List as Sequence, IfOk, OnOk, IsErrOf};
 ghost use Rattle.pcp_outside.specs.Causes.{Rose, HasCause};
 ghost use Rattle.pcp_outside.specs.Streams.{Takes, Puts, PutsAll, ReadsTo};

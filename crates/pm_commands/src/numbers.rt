@@ -1,3 +1,4 @@
+//! Numbers of a command line.
 ghost use Rattle.std.specs.Prelude.{◌≡◌, ◌≤◌, length, Option, Some, None, if◌then◌else◌};
 ghost use Rattle.std.specs.List.{list_all};
 ghost use Rattle.pm_commands.specs.Numbers.{is_digit, number_of, digits_number};

@@ -1,3 +1,4 @@
+//! The line of each fault of an image or of a text.
 ghost use Rattle.std.specs.Prelude.{◌≡◌, IfOk, string_bytes};
 ghost use Rattle.pm_print.specs.FaultLines.{image_line, fault_words, text_line};
 

@@ -1,3 +1,4 @@
+//! An image as its layout text and as its bytes.
 ghost use Rattle.std.specs.Prelude.{◌≡◌, ◌++◌, IfOk, OnOk};
 ghost use Rattle.pm_print.specs.Bytes.{bytes_of};
 ghost use Rattle.pm_print.specs.Dumps.{dump_of};

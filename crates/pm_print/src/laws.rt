@@ -1,3 +1,4 @@
+//! Laws of printed images.
 ghost use Rattle.pm_print.specs.Laws.{BytesAreTheImage};
 
 /// The bytes of an image are read as this image.
