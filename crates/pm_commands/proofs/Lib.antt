@@ -4,7 +4,6 @@ pub mod Looks
 pub mod Memory
 pub mod NoneOrOne
 pub mod Stages
-pub mod Texts
 pub mod Facts
 pub mod Wholes
 pub mod Served

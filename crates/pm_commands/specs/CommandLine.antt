@@ -2,7 +2,7 @@
 use Rattle.std.specs.Prelude.{◌≡◌, ℕ, ◌≤◌, ◌&&◌, nat_le, nat_lt, if◌then◌else◌, List, [], ◌∷◌, length, Option, Some, None, Result, Ok, Err, codes, bytes_eq}
 use Rattle.std.specs.List.{list_all}
 use Rattle.pcp_base.specs.Names.{is_letter, is_name_byte}
-use Rattle.pm_commands.specs.Numbers.{number_of}
+use Rattle.text_lines.specs.Numbers.{number_of}
 use Rattle.pm_commands.specs.declared.words.Command.{Command}
 use Rattle.pm_commands.specs.declared.words.Command.TheVariants.{Once, MmvMake, MmvDump}
 use Rattle.pm_commands.specs.declared.stage.Stop.{Stop}

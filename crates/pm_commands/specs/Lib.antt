@@ -6,7 +6,6 @@ pub mod Fits
 pub mod Inputs
 pub mod Meaning
 pub mod Meanings
-pub mod Numbers
 pub mod Once
 pub mod Pieces
 pub mod Refusals

@@ -5,7 +5,6 @@
 
 mod commands;
 mod inputs;
-mod numbers;
 mod output;
 mod plan;
 mod refusal;

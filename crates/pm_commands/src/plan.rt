@@ -15,9 +15,7 @@ use archive_frame::{Label, label_bytes, put_frame};
 use archive_meta::put_description;
 use archive_volume::put_sample;
 use mmv_layout::{Image, MetricRow};
-use pcp_base::{
-    Body, Desc, InDom, List, NoMemory, PmResult, Pmid, Stamp, Text, TextError, ValueSet,
-};
+use pcp_base::{Body, Desc, InDom, List, NoMemory, PmResult, Pmid, Stamp, Text, ValueSet};
 use pcp_model::Entry;
 use std::alloc::Global;
 use std::marker::Model;
@@ -43,16 +41,12 @@ impl Model for Plan {
 }
 
 // A text of bytes that are known to have no zero byte.
-#[tactic(auto, using(crate::proofs::Texts::no_first_zero))]
 fn text_of(alloc: Global, bytes: &[u8]) -> Result<Text, NoMemory>
     requires { IsText bytes.now }
     ensures { IfOk result (λ t. t ≡ bytes.now) }
 {
-    match Text::build(alloc, bytes) {
-        Ok(text) => Ok(text),
-        Err(TextError::NoMemory) => Err(NoMemory),
-        Err(TextError::Zero(_)) => unreachable!(),
-    }
+    let copy = Vec::from_slice(alloc, bytes)?;
+    Ok(Text::of_clean(List::from_vec(copy)))
 }
 
 fn label_of(alloc: Global, stamp: Stamp) -> Result<Label, NoMemory>

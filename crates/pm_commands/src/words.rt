@@ -3,10 +3,10 @@ ghost use Rattle.std.specs.Prelude.{◌≡◌, ◌<◌, ◌≤◌, length, map, 
 ghost use Rattle.pcp_base.specs.Texts.{IsText};
 ghost use Rattle.pm_commands.specs.CommandLine.{Reads, Gives, FitsCommand, command_of, end_then, once_of, image_command_of, second_of, microsecond_of, file_of, word_then};
 
-use crate::numbers::read_number;
 use crate::stage::{Stop, Usage};
 use pcp_base::{Stamp, Text, TextError, is_component};
 use std::alloc::Global;
+use text_lines::read_number;
 
 /// What the words of a command line ask for.
 #[derive(Drop)]
