@@ -121,6 +121,7 @@ fn look(bytes: &[u8]) -> Result<Said, FrameFault>
         return Err(FrameFault::Label { at: LABEL as u64 });
     }
     let Some(start) = Stamp::build(sec, usec) else {
+        // `word_up_to` took no word above a stamp's limits.
         unreachable!()
     };
     Ok(Said {
@@ -149,6 +150,7 @@ fn read(alloc: Global, bytes: &[u8]) -> Result<(Label, i32), FrameFault>
     let host = text_of(alloc, &bytes[24..24 + said.host])?;
     let zone = text_of(alloc, &bytes[88..88 + said.zone])?;
     let Some(label) = Label::build(said.pid, said.start, host, zone) else {
+        // The texts come of fields of 64 and 40 bytes and end before a zero byte there.
         unreachable!()
     };
     Ok((label, said.number))

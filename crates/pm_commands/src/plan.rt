@@ -55,6 +55,7 @@ fn label_of(alloc: Global, stamp: Stamp) -> Result<Label, NoMemory>
     let host = text_of(alloc, b"localhost")?;
     let zone = text_of(alloc, b"UTC")?;
     let Some(label) = Label::build(1, stamp, host, zone) else {
+        // Both texts are shorter than their fields.
         unreachable!()
     };
     Ok(label)
@@ -136,6 +137,7 @@ pub(crate) fn plan_of(alloc: Global, asked: &OnceWords, image: &Image) -> Result
 {
     let row = image.only_metric(alloc)?;
     let Some(pmid) = Pmid::build(70, image.cluster(), row.item) else {
+        // An image has no cluster above 4095 and no item above 1023.
         unreachable!()
     };
     let label = label_of(alloc, asked.stamp)?;
