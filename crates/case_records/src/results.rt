@@ -1,7 +1,7 @@
 //! Results (pmFetch(3)) and the items of a volume as the bytes of their records.
 use crate::items::{write_item, write_result};
 use archive_volume::{decode_item, encode_item, encode_sample, put_mark, put_sample};
-use pcp_base::{Body, Duplicate, Item, NoMemory, PmResult};
+use pcp_base::{Body, Duplicate, Item, NoMemory, PmResult, Stamp};
 use result_form::{FormFault, decode, encode, fits, length, put_payload};
 use std::alloc::Global;
 
@@ -116,16 +116,21 @@ fn frame_sample(alloc: Global, answer: &PmResult) -> Result<Option<Vec<u8>>, NoM
     Ok(Some(out))
 }
 
+// A mark's framed record, and the same once more behind it.
+fn frame_mark(alloc: Global, stamp: &Stamp) -> Result<Option<Vec<u8>>, NoMemory> {
+    let mut out = Vec::new(alloc);
+    put_mark(&mut out, *stamp)?;
+    put_mark(&mut out, *stamp)?;
+    Ok(Some(out))
+}
+
 fn frame_twice(alloc: Global, payload: &[u8]) -> Result<Option<Vec<u8>>, NoMemory> {
-    match decode_item(alloc, payload) {
-        Ok(Item::Sample(answer)) => frame_sample(alloc, &answer),
-        Ok(Item::Mark(stamp)) => {
-            let mut out = Vec::new(alloc);
-            put_mark(&mut out, stamp)?;
-            put_mark(&mut out, stamp)?;
-            Ok(Some(out))
-        }
-        Err(_) => Ok(None),
+    let Ok(item) = decode_item(alloc, payload) else {
+        return Ok(None);
+    };
+    match &item {
+        Item::Sample(answer) => frame_sample(alloc, answer),
+        Item::Mark(stamp) => frame_mark(alloc, stamp),
     }
 }
 
