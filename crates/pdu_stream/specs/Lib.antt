@@ -1,0 +1,5 @@
+pub mod Front
+pub mod Laws
+pub mod Reading
+pub mod State
+pub mod Streams

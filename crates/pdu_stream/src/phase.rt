@@ -1,0 +1,12 @@
+//! How a stream goes on.
+
+/// How a stream goes on.
+#[derive(Clone, Copy, Debug, PartialEq, Eq)]
+pub enum Phase {
+    /// More bytes may come.
+    Open,
+    /// No PDU begins with the length word that stands behind the PDUs that were given.
+    Bad { found: u32 },
+    /// Memory was refused.
+    Lost,
+}
