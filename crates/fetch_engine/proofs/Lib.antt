@@ -1,1 +1,4 @@
+pub mod Blocks
 pub mod Bounds
+pub mod Indexes
+pub mod Steps

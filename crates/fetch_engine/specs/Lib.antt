@@ -1,3 +1,7 @@
+pub mod Answers
 pub mod Bounds
+pub mod Fetches
+pub mod Indexes
 pub mod Names
 pub mod Readings
+pub mod Values

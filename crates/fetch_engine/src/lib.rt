@@ -1,10 +1,18 @@
-//! What regions say together (pmns(5)): the name space of the metrics of images that were read, in which a region's
-//! names stand all or not at all. A region that was missed adds no name, and is told by its cluster.
+//! Answers over what was read of regions (pmFetch(3), pmLookupDesc(3)): the name space of their metrics, the sets of a
+//! fetch with the instances that a profile keeps, and the facts that describe them. A region that was missed shows the
+//! status -12389 for each of its metrics, and adds no name.
 #![tactic(auto)]
 
+mod facts;
+mod fetch;
+mod index;
 mod names;
 mod pairs;
+mod reading;
+mod sets;
 mod shot;
+mod values;
 
+pub use fetch::{FetchFault, Fetched, answer};
 pub use names::{Named, names_of};
 pub use shot::Shot;

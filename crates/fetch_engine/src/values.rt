@@ -1,0 +1,184 @@
+//! The values of a metric as a set shows them (pmFetch(3)).
+ghost use Rattle.std.specs.Prelude.{◌≡◌, ◌++◌, flat_map, All, IfOk, OnOk};
+ghost use Rattle.std.specs.Map.{values_of};
+ghost use Rattle.fetch_engine.specs.Bounds.{FitsContent};
+ghost use Rattle.fetch_engine.specs.Values.{block_of, bytes_of, blocks_of, keeps, shown_block, shown_word, stored, word_of, words_of};
+
+use crate::index::Values;
+use mmv_layout::Content;
+use pcp_base::{Block, Body, Bytes, InDom, Kind, List, NoMemory};
+use profile_filter::Profile;
+use std::alloc::Global;
+
+/// Whether the profile keeps an instance of a metric's domain; a metric without one ignores it.
+fn keeps(profile: &Profile, indom: &Option<InDom>, instance: i32) -> bool
+    ensures { result ≡ keeps profile.now indom.now instance }
+{
+    match indom {
+        Some(indom) => profile.includes(*indom, instance),
+        None => true,
+    }
+}
+
+/// The low 32 bits of a number.
+fn word_of(content: &Content) -> u32
+    ensures { result ≡ word_of content.now }
+{
+    match content {
+        Content::Number(number) => (*number % 4_294_967_296) as u32,
+        Content::Choice(_) | Content::Raw(_, _) => 0,
+    }
+}
+
+/// A number's 8 bytes, the highest first, or a text and a zero byte.
+fn bytes_of(alloc: Global, content: &Content) -> Result<Bytes, NoMemory>
+    ensures { IfOk result (λ bytes. bytes ≡ bytes_of content.now) }
+{
+    match content {
+        Content::Number(number) => {
+            let bytes = number.to_be_bytes();
+            Ok(List::from_vec(bytes.to_vec(alloc)?))
+        }
+        Content::Choice(text) => {
+            let mut bytes = text.as_slice().to_vec(alloc)?;
+            bytes.push(0)?;
+            Ok(List::from_vec(bytes))
+        }
+        Content::Raw(_, _) => Ok(List::empty(alloc)),
+    }
+}
+
+/// The block of a value.
+#[tactic(auto, using(crate::proofs::Blocks::short_bytes))]
+fn block_of(alloc: Global, code: u8, content: &Content) -> Result<Block, NoMemory>
+    requires { FitsContent content.now }
+    ensures { IfOk result (λ block. block ≡ block_of code content.now) }
+{
+    let bytes = bytes_of(alloc, content)?;
+    let Some(block) = Block::build(code, bytes) else {
+        unreachable!()
+    };
+    Ok(block)
+}
+
+/// Adds the word of a value, if the profile keeps it.
+fn push_word(
+    pairs: &mut List<(i32, u32)>,
+    profile: &Profile,
+    indom: &Option<InDom>,
+    instance: i32,
+    content: &Content,
+) -> Result<(), NoMemory>
+    ensures { OnOk result (pairs.new ≡ pairs.old ++ shown_word profile.now indom.now (instance, content.now)) }
+{
+    if !keeps(profile, indom, instance) {
+        return Ok(());
+    }
+    pairs.push((instance, word_of(content)))
+}
+
+/// Adds the block of a value, if the profile keeps it.
+fn push_block(
+    alloc: Global,
+    pairs: &mut List<(i32, Block)>,
+    profile: &Profile,
+    indom: &Option<InDom>,
+    code: u8,
+    instance: i32,
+    content: &Content,
+) -> Result<(), NoMemory>
+    requires { FitsContent content.now }
+    ensures { OnOk result (pairs.new ≡ pairs.old ++ shown_block profile.now indom.now code (instance, content.now)) }
+{
+    if !keeps(profile, indom, instance) {
+        return Ok(());
+    }
+    let block = block_of(alloc, code, content)?;
+    pairs.push((instance, block))
+}
+
+/// The words of the values that the profile keeps.
+fn shown_words(
+    alloc: Global,
+    profile: &Profile,
+    indom: &Option<InDom>,
+    values: &Values,
+) -> Result<List<(i32, u32)>, NoMemory>
+    ensures { IfOk result (λ pairs. pairs ≡ flat_map (shown_word profile.now indom.now) values.now.entries) }
+{
+    let mut pairs = List::empty(alloc);
+    for (instance, content) in values {
+        push_word(&mut pairs, profile, indom, *instance, content)?;
+    }
+    Ok(pairs)
+}
+
+/// The blocks of the values that the profile keeps.
+fn shown_blocks(
+    alloc: Global,
+    profile: &Profile,
+    indom: &Option<InDom>,
+    code: u8,
+    values: &Values,
+) -> Result<List<(i32, Block)>, NoMemory>
+    requires { All FitsContent (values_of values.now.entries) }
+    ensures { IfOk result (λ pairs. pairs ≡ flat_map (shown_block profile.now indom.now code) values.now.entries) }
+{
+    let mut pairs = List::empty(alloc);
+    for (instance, content) in values {
+        push_block(alloc, &mut pairs, profile, indom, code, *instance, content)?;
+    }
+    Ok(pairs)
+}
+
+fn words_of(
+    alloc: Global,
+    profile: &Profile,
+    indom: &Option<InDom>,
+    values: &Values,
+) -> Result<Body, NoMemory>
+    ensures { IfOk result (λ body. body ≡ words_of profile.now indom.now values.now.entries) }
+{
+    let pairs = shown_words(alloc, profile, indom, values)?;
+    if pairs.is_empty() {
+        return Ok(Body::Status(0));
+    }
+    Ok(Body::InPlace(pairs))
+}
+
+fn blocks_of(
+    alloc: Global,
+    profile: &Profile,
+    indom: &Option<InDom>,
+    code: u8,
+    values: &Values,
+) -> Result<Body, NoMemory>
+    requires { All FitsContent (values_of values.now.entries) }
+    ensures { IfOk result (λ body. body ≡ blocks_of profile.now indom.now code values.now.entries) }
+{
+    let pairs = shown_blocks(alloc, profile, indom, code, values)?;
+    if pairs.is_empty() {
+        return Ok(Body::Status(0));
+    }
+    Ok(Body::Blocks(pairs))
+}
+
+/// The set's body of a metric's kind.
+pub fn stored(
+    alloc: Global,
+    kind: Kind,
+    profile: &Profile,
+    indom: &Option<InDom>,
+    values: &Values,
+) -> Result<Body, NoMemory>
+    requires { All FitsContent (values_of values.now.entries) }
+    ensures { IfOk result (λ body. body ≡ stored kind profile.now indom.now values.now.entries) }
+{
+    match kind {
+        Kind::I32 | Kind::U32 => words_of(alloc, profile, indom, values),
+        Kind::I64 => blocks_of(alloc, profile, indom, 2, values),
+        Kind::U64 => blocks_of(alloc, profile, indom, 3, values),
+        Kind::Text => blocks_of(alloc, profile, indom, 6, values),
+        Kind::Float | Kind::Double | Kind::Elapsed => Ok(Body::Status(-12362)),
+    }
+}
