@@ -9,10 +9,10 @@ use Rattle.std.specs.BTreeSet.{BTreeSet, contains}
 use Rattle.std.proofs.lemmas.Cmp.{ranked}
 use Rattle.archive_meta.specs.Said.{pairs_of}
 use Rattle.std.proofs.lemmas.Bool.{cases_lt, eqb-true, eqb-false, eq-eqb}
-use Rattle.pcp_base.specs.Time.{Moment}
+use Rattle.pcp_base.specs.Time.{Moment, microseconds}
 use Rattle.pcp_model.specs.declared.records.MetaRecord.{MetaRecord}
 use Rattle.pcp_model.specs.declared.records.MetaRecord.TheVariants.{Description, Domain, Other}
-use Rattle.pcp_model.specs.Described.{microseconds, EachStamp, HoldsAt}
+use Rattle.pcp_model.specs.Described.{EachStamp, HoldsAt}
 use Rattle.archive_meta.specs.Order.{moment_order}
 use Rattle.archive_meta.specs.Kept.{is_stamped, stamped_at, HasMoments, IsLastEntry, HasNoEntry}
 

@@ -5,7 +5,7 @@ use Rattle.std.specs.BTreeSet.{BTreeSet, contains}
 use Rattle.indexmap.specs.IndexMap.{IndexMap, get, keys}
 use Rattle.pcp_model.specs.declared.records.MetaRecord.{MetaRecord}
 use Rattle.pcp_model.specs.declared.records.MetaRecord.TheVariants.{Description, Domain, Other}
-use Rattle.pcp_model.specs.Described.{microseconds}
+use Rattle.pcp_base.specs.Time.{microseconds}
 use Rattle.pcp_model.specs.Records.{AreConsistent}
 use Rattle.archive_meta.specs.Order.{moment_order}
 use Rattle.archive_meta.specs.Said.{describes, described}

@@ -2,7 +2,7 @@
 ghost use Rattle.std.specs.Prelude.{◌≡◌, ℕ, true, false, if◌then◌else◌, OnOk, OnErr, MatchOption};
 ghost use Rattle.std.specs.Ordering.{is_eq};
 ghost use Rattle.std.specs.BTreeSet.{contains, IsUnchanged};
-ghost use Rattle.pcp_model.specs.Described.{microseconds};
+ghost use Rattle.pcp_base.specs.Time.{microseconds};
 ghost use Rattle.archive_meta.specs.Order.{moment_order};
 ghost use Rattle.archive_meta.specs.Kept.{HasNoEntry, IsLastEntry};
 

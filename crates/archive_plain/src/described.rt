@@ -1,7 +1,8 @@
 //! Whether the records of Meta describe an item.
 ghost use Rattle.std.specs.Prelude.{◌≡◌, ◌≤◌, ◌<◌, length, IsTrue};
 ghost use Rattle.std.specs.List.{AllByRecursion};
-ghost use Rattle.pcp_model.specs.Described.{microseconds, EachStamp, HoldsAt, IsNamed, AreNamed, IsDescribedBy, IsDescribedSet, Described};
+ghost use Rattle.pcp_model.specs.Described.{EachStamp, HoldsAt, IsNamed, AreNamed, IsDescribedBy, IsDescribedSet, Described};
+ghost use Rattle.pcp_base.specs.Time.{microseconds};
 ghost use Rattle.archive_plain.specs.Plain.{HasName};
 
 use pcp_base::{Block, Body, InDom, Item, List, Stamp, Text, ValueSet};

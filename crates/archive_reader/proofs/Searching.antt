@@ -4,14 +4,13 @@ use Rattle.std.proofs.lemmas.Bool.{lt-ltb, le-ltb, ltb-false}
 use Rattle.std.proofs.lemmas.List.{take-append-drop}
 use Rattle.std.specs.List.{AllByRecursion}
 use Rattle.std.specs.Prelude.{if◌then◌else◌, nat_lt, nat_eq, IfSome}
-use Rattle.pcp_base.specs.Time.{Moment}
+use Rattle.pcp_base.specs.Time.{Moment, microseconds}
 use Rattle.pcp_base.specs.declared.file.FileId.TheVariants.{Volume}
 use Rattle.pcp_base.specs.declared.result.Item.{Item}
 use Rattle.pcp_model.proofs.Lists.{each-append, each-split, each-map}
 use Rattle.pcp_model.proofs.Sound.{label_boundary}
 use Rattle.pcp_model.specs.declared.records.Entry.{Entry}
 use Rattle.pcp_model.specs.Archive.{ArchiveContents, ArchiveReading, items_of}
-use Rattle.pcp_model.specs.Described.{microseconds}
 use Rattle.pcp_model.specs.Disk.{Files}
 use Rattle.pcp_model.specs.Payload.{stamp_of}
 use Rattle.pcp_model.specs.Sound.{NeverFalls, IsItemBy, NoItemAfter, PointsWell, IsSoundEntry, IsSound}

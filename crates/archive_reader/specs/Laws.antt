@@ -1,11 +1,10 @@
 -- What a search by time may leave unread.
 use Rattle.std.specs.Prelude.{◌≡◌, ℕ, ◌<◌, ◌≤◌, List, ◌∷◌, ◌++◌, Option, IfSome}
-use Rattle.pcp_base.specs.Time.{Moment}
+use Rattle.pcp_base.specs.Time.{Moment, microseconds}
 use Rattle.pcp_base.specs.declared.file.FileId.TheVariants.{Volume}
 use Rattle.pcp_base.specs.declared.result.Item.{Item}
 use Rattle.pcp_model.specs.declared.records.Entry.{Entry}
 use Rattle.pcp_model.specs.Archive.{ArchiveContents, ArchiveReading, items_of}
-use Rattle.pcp_model.specs.Described.{microseconds}
 use Rattle.pcp_model.specs.Disk.{Files}
 use Rattle.pcp_model.specs.Sound.{NeverFalls, IsBoundary, IsSound}
 use Rattle.archive_reader.specs.Searches.{or_else, last_of, at, between, segment, items_before, items_from, chosen_place}

@@ -1,12 +1,11 @@
 -- What is asked of an archive's items by time: the last one that isn't stamped after a moment, and those between two moments.
 -- A reader needn't look at all items for it: it goes from a place on up to the first item stamped after the later moment.
 use Rattle.std.specs.Prelude.{ℕ, Bool, ◌||◌, nat_lt, nat_eq, if◌then◌else◌, List, [], ◌∷◌, ◌++◌, length, take, drop, Option, Some, None}
-use Rattle.pcp_base.specs.Time.{Moment}
+use Rattle.pcp_base.specs.Time.{Moment, microseconds}
 use Rattle.pcp_base.specs.declared.file.FileId.TheVariants.{Volume}
 use Rattle.pcp_base.specs.declared.result.Item.{Item}
 use Rattle.pcp_model.specs.declared.records.Entry.{Entry}
 use Rattle.pcp_model.specs.Archive.{items_of}
-use Rattle.pcp_model.specs.Described.{microseconds}
 use Rattle.pcp_model.specs.Disk.{Files}
 use Rattle.pcp_model.specs.Payload.{stamp_of}
 

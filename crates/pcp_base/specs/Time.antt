@@ -1,5 +1,5 @@
 -- A time stamp of the archive and of results: seconds and microseconds since 1970.
-use Rattle.std.specs.Prelude.{ℕ, ◌<◌}
+use Rattle.std.specs.Prelude.{ℕ, ◌+◌, ◌*◌, ◌<◌}
 
 pub record Moment : Type 0 where
   pub sec : ℕ
@@ -9,3 +9,7 @@ pub record Moment : Type 0 where
 pub record IsMoment (t : Moment) : Type 0 where
   pub sec : t.sec < 2147483648
   pub usec : t.usec < 1000000
+
+-- a moment in microseconds since 1970
+abbrev pub microseconds : Moment → ℕ
+microseconds t = t.sec * 1000000 + t.usec

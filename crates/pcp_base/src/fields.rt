@@ -4,46 +4,48 @@ ghost use Rattle.std.specs.Prelude.{◌≡◌};
 ghost use Rattle.std.specs.Int.{w32, w64};
 ghost use Rattle.pcp_base.specs.Fields.{be_field, le_field};
 
+use byteorder::{BigEndian, ByteOrder, LittleEndian};
+
 /// The big-endian word of 4 bytes at the offset `at`; `None` exactly where it doesn't lie in the bytes.
+#[tactic(auto, using(crate::proofs::Orders::big_four))]
 pub fn be32(bytes: &[u8], at: usize) -> Option<u32>
     ensures { result ≡ be_field w32 at bytes.now }
 {
     if bytes.len() < 4 || bytes.len() - 4 < at {
         return None;
     }
-    let f = &bytes[at..at + 4];
-    Some(u32::from_be_bytes([f[0], f[1], f[2], f[3]]))
+    Some(BigEndian::read_u32(&bytes[at..at + 4]))
 }
 
 /// The big-endian word of 8 bytes at the offset `at`; `None` exactly where it doesn't lie in the bytes.
+#[tactic(auto, using(crate::proofs::Orders::big_eight))]
 pub fn be64(bytes: &[u8], at: usize) -> Option<u64>
     ensures { result ≡ be_field w64 at bytes.now }
 {
     if bytes.len() < 8 || bytes.len() - 8 < at {
         return None;
     }
-    let f = &bytes[at..at + 8];
-    Some(u64::from_be_bytes([f[0], f[1], f[2], f[3], f[4], f[5], f[6], f[7]]))
+    Some(BigEndian::read_u64(&bytes[at..at + 8]))
 }
 
 /// The little-endian word of 4 bytes at the offset `at`; `None` exactly where it doesn't lie in the bytes.
+#[tactic(auto, using(crate::proofs::Orders::little_four))]
 pub fn le32(bytes: &[u8], at: usize) -> Option<u32>
     ensures { result ≡ le_field w32 at bytes.now }
 {
     if bytes.len() < 4 || bytes.len() - 4 < at {
         return None;
     }
-    let f = &bytes[at..at + 4];
-    Some(u32::from_le_bytes([f[0], f[1], f[2], f[3]]))
+    Some(LittleEndian::read_u32(&bytes[at..at + 4]))
 }
 
 /// The little-endian word of 8 bytes at the offset `at`; `None` exactly where it doesn't lie in the bytes.
+#[tactic(auto, using(crate::proofs::Orders::little_eight))]
 pub fn le64(bytes: &[u8], at: usize) -> Option<u64>
     ensures { result ≡ le_field w64 at bytes.now }
 {
     if bytes.len() < 8 || bytes.len() - 8 < at {
         return None;
     }
-    let f = &bytes[at..at + 8];
-    Some(u64::from_le_bytes([f[0], f[1], f[2], f[3], f[4], f[5], f[6], f[7]]))
+    Some(LittleEndian::read_u64(&bytes[at..at + 8]))
 }

@@ -9,6 +9,7 @@ use crate::list::Bytes;
 use crate::memory::NoMemory;
 use std::alloc::{AllocError, Global};
 use std::marker::Model;
+use thiserror::Error;
 
 /// Bytes without a zero byte, as names and texts are in archives and images.
 #[derive(Drop)]
@@ -19,13 +20,15 @@ pub struct Text {
 /// The first zero byte stands at the offset `at`.
 #[derive(Clone, Copy, Debug, PartialEq, Eq)]
 pub struct Zero {
-    pub at: usize,
+    pub at: u64,
 }
 
 /// Why bytes made no text.
-#[derive(Clone, Copy, Debug, PartialEq, Eq)]
+#[derive(Clone, Copy, Debug, PartialEq, Eq, Error)]
 pub enum TextError {
+    #[error("a text has a zero byte")]
     Zero(Zero),
+    #[error("out of memory")]
     NoMemory,
 }
 
@@ -54,7 +57,7 @@ impl Text {
         ensures { MatchResult result (λ t. IsText bytes.now × (t ≡ bytes.now)) (IsTextError bytes.now) }
     {
         if let Some(at) = bytes.iter().position(|byte| *byte == 0) {
-            return Err(TextError::Zero(Zero { at }));
+            return Err(TextError::Zero(Zero { at: at as u64 }));
         }
         Ok(Text {
             bytes: Bytes::from_vec(Vec::from_slice(alloc, bytes)?),

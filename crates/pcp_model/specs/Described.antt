@@ -1,8 +1,8 @@
 -- When the metadata of an archive describes an item (LOGARCHIVE(5)).
-use Rattle.std.specs.Prelude.{◌≡◌, ◌⊎◌, ℕ, ℤ, ◌+◌, ◌*◌, ◌<◌, ◌≤◌, List, [], ◌∷◌, ◌++◌, Contains}
+use Rattle.std.specs.Prelude.{◌≡◌, ◌⊎◌, ℕ, ℤ, ◌<◌, ◌≤◌, List, [], ◌∷◌, ◌++◌, Contains}
 use Rattle.std.specs.List.{AllByRecursion}
 use Rattle.pcp_base.specs.Ids.{null_indom}
-use Rattle.pcp_base.specs.Time.{Moment}
+use Rattle.pcp_base.specs.Time.{Moment, microseconds}
 use Rattle.pcp_base.specs.declared.desc.Desc.{Desc}
 use Rattle.pcp_base.specs.declared.result.Body.{Body}
 use Rattle.pcp_base.specs.declared.result.Body.TheVariants.{InPlace, Blocks, Status}
@@ -11,10 +11,6 @@ use Rattle.pcp_base.specs.declared.result.Item.{Item}
 use Rattle.pcp_base.specs.declared.result.Item.TheVariants.{Sample, Mark}
 use Rattle.pcp_model.specs.declared.records.MetaRecord.{MetaRecord}
 use Rattle.pcp_model.specs.declared.records.MetaRecord.TheVariants.{Description, Domain, Other}
-
--- a moment in microseconds
-abbrev pub microseconds : Moment → ℕ
-microseconds t = t.sec * 1000000 + t.usec
 
 -- the stamps of a domain's records, by a test on each
 abbrev pub EachStamp : ℕ → (Moment → Type 0) → List MetaRecord → Type 0

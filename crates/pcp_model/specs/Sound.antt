@@ -1,14 +1,13 @@
 -- When an archive is sound: its items rise by stamp, and the index points where it says (LOGARCHIVE(5)).
 use Rattle.std.specs.Prelude.{◌≡◌, ℕ, ◌+◌, ◌<◌, ◌≤◌, List, [], ◌∷◌, ◌++◌, length, take, drop}
 use Rattle.std.specs.List.{AllByRecursion}
-use Rattle.pcp_base.specs.Time.{Moment}
+use Rattle.pcp_base.specs.Time.{Moment, microseconds}
 use Rattle.pcp_base.specs.declared.file.FileId.TheVariants.{Meta, Volume}
 use Rattle.pcp_base.specs.declared.result.Item.{Item}
 use Rattle.pcp_model.specs.declared.records.MetaRecord.{MetaRecord}
 use Rattle.pcp_model.specs.declared.records.MetaRecord.TheVariants.{Description, Domain, Other}
 use Rattle.pcp_model.specs.declared.records.Entry.{Entry}
 use Rattle.pcp_model.specs.Archive.{ArchiveContents, ArchiveReading, Reads, items_of}
-use Rattle.pcp_model.specs.Described.{microseconds}
 use Rattle.pcp_model.specs.Disk.{Files}
 use Rattle.pcp_model.specs.Frame.{IsFrameable, frames}
 use Rattle.pcp_model.specs.Payload.{stamp_of}

@@ -2,6 +2,7 @@
 ghost use Rattle.std.specs.Prelude.{◌≡◌, ◌+◌, ◌++◌, length, OnOk};
 ghost use Rattle.pcp_model.specs.Words.{word, signed_word};
 
+use byteorder::{BigEndian, ByteOrder};
 use pcp_base::NoMemory;
 
 /// Adds a word of 4 bytes, big-endian.
@@ -10,7 +11,9 @@ pub fn put_word(out: &mut Vec<u8>, number: u32) -> Result<(), NoMemory>
     ensures bytes { OnOk result (out.new.items ≡ out.old.items ++ word number) }
     ensures grows { OnOk result (length out.new.items ≡ length out.old.items + 4) }
 {
-    out.extend_from_slice(&number.to_be_bytes())?;
+    let mut word = [0; 4];
+    BigEndian::write_u32(&mut word, number);
+    out.extend_from_slice(&word)?;
     Ok(())
 }
 
@@ -20,6 +23,8 @@ pub fn put_signed(out: &mut Vec<u8>, number: i32) -> Result<(), NoMemory>
     ensures bytes { OnOk result (out.new.items ≡ out.old.items ++ signed_word number) }
     ensures grows { OnOk result (length out.new.items ≡ length out.old.items + 4) }
 {
-    out.extend_from_slice(&number.to_be_bytes())?;
+    let mut word = [0; 4];
+    BigEndian::write_i32(&mut word, number);
+    out.extend_from_slice(&word)?;
     Ok(())
 }

@@ -3,7 +3,7 @@ use Rattle.std.proofs.Common.{◌≡◌, ℕ, suc, ◌+◌, ◌-◌, ◌<◌, �
 use Rattle.std.specs.Prelude.{MatchOption}
 use Rattle.std.specs.List.{AllByRecursion}
 use Rattle.std.proofs.lemmas.List.{append-nil, drop_more, take-append-drop, length-take-le}
-use Rattle.pcp_model.specs.Described.{microseconds}
+use Rattle.pcp_base.specs.Time.{microseconds}
 use Rattle.pcp_model.specs.declared.records.Entry.{Entry}
 use Rattle.temporal_index.specs.Entries.{entry_at, followed, entries_from, begun, index_of}
 use Rattle.temporal_index.specs.Seeking.{IsLast}

@@ -1,8 +1,7 @@
 -- Which entry of an index is the last before a moment. Stamps need not rise.
 use Rattle.std.specs.Prelude.{◌≡◌, ℕ, ◌<◌, ◌≤◌, List, ◌∷◌, ◌++◌, length}
 use Rattle.std.specs.List.{AllByRecursion}
-use Rattle.pcp_base.specs.Time.{Moment}
-use Rattle.pcp_model.specs.Described.{microseconds}
+use Rattle.pcp_base.specs.Time.{Moment, microseconds}
 use Rattle.pcp_model.specs.declared.records.Entry.{Entry}
 
 abbrev pub IsAfter : Moment → Entry → Type 0

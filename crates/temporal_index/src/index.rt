@@ -2,7 +2,7 @@
 ghost use Rattle.std.specs.Prelude.{◌≡◌, ◌<◌, ◌≤◌, ◌+◌, length, ◌==◌, slice_get, IfOk, IfErr, Ok, MatchOption};
 ghost use Rattle.std.specs.Prelude.{List as Entries};
 ghost use Rattle.std.specs.List.{AllByRecursion};
-ghost use Rattle.pcp_model.specs.Described.{microseconds};
+ghost use Rattle.pcp_base.specs.Time.{microseconds};
 ghost use Rattle.pcp_model.specs.Records.{entries as spelled, FitsEntry};
 ghost use Rattle.temporal_index.specs.Entries.{Gives, index_of, AreEntries, IsIndexFault};
 ghost use Rattle.temporal_index.specs.Seeking.{IsLast, NotAfter, IsAfter, Before, NotBefore};

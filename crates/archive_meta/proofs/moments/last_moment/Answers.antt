@@ -1,5 +1,5 @@
 use Rattle.std.proofs.Common.{subst}
-use Rattle.pcp_model.specs.Described.{microseconds}
+use Rattle.pcp_base.specs.Time.{microseconds}
 use Rattle.archive_meta.specs.Kept.{IsLastEntry, HasNoEntry}
 use Rattle.archive_meta.proofs.Entries.{is_last, is_none, nothing_there}
 use Rattle.archive_meta.proofs.moments.last_moment.Goals as goal

@@ -1,6 +1,7 @@
 -- If it holds of the records left, it holds of all.
 use Rattle.std.proofs.Common.{◌≤◌, drop}
-use Rattle.pcp_model.specs.Described.{microseconds, EachStamp}
+use Rattle.pcp_model.specs.Described.{EachStamp}
+use Rattle.pcp_base.specs.Time.{microseconds}
 use Rattle.archive_plain.proofs.described.none_later.Given as goal
 
 abbrev pub invariant-loop-entry : goal.invariant-loop-entry

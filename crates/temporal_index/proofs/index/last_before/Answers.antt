@@ -1,6 +1,6 @@
 use Rattle.std.proofs.Common.{◌≤◌, ◌+◌, ◌-◌, ◌≡◌, drop, subst, arith}
 use Rattle.std.specs.List.{AllByRecursion}
-use Rattle.pcp_model.specs.Described.{microseconds}
+use Rattle.pcp_base.specs.Time.{microseconds}
 use Rattle.temporal_index.proofs.Loops.{last_is, passed}
 use Rattle.temporal_index.proofs.index.last_before.Goals as goal
 

@@ -1,7 +1,7 @@
 -- Each entry from here on is passed by.
 use Rattle.std.proofs.Common.{◌≤◌, length, drop}
 use Rattle.std.specs.List.{AllByRecursion}
-use Rattle.pcp_model.specs.Described.{microseconds}
+use Rattle.pcp_base.specs.Time.{microseconds}
 use Rattle.temporal_index.proofs.index.last_before.Given as goal
 
 abbrev pub invariant-loop-left : goal.invariant-loop-left
