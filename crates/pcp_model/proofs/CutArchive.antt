@@ -38,7 +38,7 @@ consistent_first (suc k) (r ∷ records) all = (agrees_first k r records all.0, 
 
 -- ---- the index
 
-record IndexPart (bytes : List ℕ) (c : ArchiveContents) (i : ℕ) (records : List MetaRecord) (volumes : List (ℕ × List Item)) : Type 0 where
+pub record IndexPart (bytes : List ℕ) (c : ArchiveContents) (i : ℕ) (records : List MetaRecord) (volumes : List (ℕ × List Item)) : Type 0 where
   pub k : ℕ
   pub is : IsIndex (take i bytes) (record { label = c.label; records = records; entries = take k c.entries; volumes = volumes })
   pub some : (take k c.entries ≡ []) ⊎ (152 ≤ i)
@@ -48,7 +48,7 @@ some_or_none : (k i : ℕ) (es : List Entry) → 20 * k ≤ i - 132 → 132 ≤ 
 some_or_none zero i es within low = inl refl
 some_or_none (suc k) i es within low = inr (omega arith)
 
-index_part : (bytes : List ℕ) (c : ArchiveContents) (i : ℕ) (records : List MetaRecord) (volumes : List (ℕ × List Item)) → IsIndex bytes c → IndexPart bytes c i records volumes
+pub index_part : (bytes : List ℕ) (c : ArchiveContents) (i : ℕ) (records : List MetaRecord) (volumes : List (ℕ × List Item)) → IsIndex bytes c → IndexPart bytes c i records volumes
 index_part bytes c i records volumes (inl begins) = record {
   k = 0;
   is = inl (refl, cut_beginning bytes c.label (negsuc 1) i begins.1);
@@ -77,7 +77,7 @@ index_part bytes c i records volumes (inr has) =
 
 module _ (files image : Files) (l : LabelFields) (number : ℕ) (items : List Item) where
   -- the others alone
-  without_last : (before : List (ℕ × List Item)) → AreVolumes files l (before ++ (number, items) ∷ []) → ((n : ℕ) → n < number → image (Volume n) ≡ files (Volume n)) → AreVolumes image l before
+  pub without_last : (before : List (ℕ × List Item)) → AreVolumes files l (before ++ (number, items) ∷ []) → ((n : ℕ) → n < number → image (Volume n) ≡ files (Volume n)) → AreVolumes image l before
   without_last [] are same = tt
   without_last (v ∷ []) are same = inr ([], inl (omega arith), subst (λ t. LabelledFile IsItem t l (pos v.0) v.1 []) (sym (same v.0 are.1)) are.0)
   without_last (v ∷ w ∷ vs) are same =
@@ -85,7 +85,7 @@ module _ (files image : Files) (l : LabelFields) (number : ℕ) (items : List It
       (subst (λ t. LabelledFile IsItem t l (pos v.0) v.1 []) (sym (same v.0 below)) are.0, are.1, without_last (w ∷ vs) are.2 same)
 
 -- a number that is neither the last nor before it isn't listed
-none_appended : (n number : ℕ) (items : List Item) (vs : List (ℕ × List Item)) → n ≢ number → (Contains (map (λ (w : ℕ × List Item). w.0) vs) n → ⊥)
+pub none_appended : (n number : ℕ) (items : List Item) (vs : List (ℕ × List Item)) → n ≢ number → (Contains (map (λ (w : ℕ × List Item). w.0) vs) n → ⊥)
     → (k : ℕ) → k < length (map (λ (w : ℕ × List Item). w.0) (vs ++ (number, items) ∷ [])) → slice_index_or (map (λ (w : ℕ × List Item). w.0) (vs ++ (number, items) ∷ [])) k n ≡ n → ⊥
 none_appended n number items [] other none zero h is = other (sym is)
 none_appended n number items [] other none (suc k) h is = omega arith
@@ -102,7 +102,7 @@ record VolumesPart (files image : Files) (c : ArchiveContents) (last : HasLast c
   pub shape : (volumes ≡ last.before) ⊎ ((p : ℕ) × (volumes ≡ last.before ++ (last.number, take p last.items) ∷ []))
   pub whole : length (files (Volume last.number)) ≤ v → length (items_of c.volumes) ≤ q
 
-last_of : (files : Files) (l : LabelFields) (number : ℕ) (items : List Item) (before : List (ℕ × List Item)) → AreVolumes files l (before ++ (number, items) ∷ []) → IsLastVolume (files (Volume number)) l number items
+pub last_of : (files : Files) (l : LabelFields) (number : ℕ) (items : List Item) (before : List (ℕ × List Item)) → AreVolumes files l (before ++ (number, items) ∷ []) → IsLastVolume (files (Volume number)) l number items
 last_of files l number items [] are = are
 last_of files l number items (v ∷ []) are = are.2
 last_of files l number items (v ∷ w ∷ vs) are = last_of files l number items (w ∷ vs) are.2

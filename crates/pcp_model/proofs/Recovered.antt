@@ -21,17 +21,17 @@ use Rattle.pcp_model.proofs.Lists.{each-map}
 use Rattle.pcp_model.proofs.OneReading.{others_above}
 use Rattle.pcp_model.proofs.Sound.{labelled_long}
 
-nothing_torn : IsTorn []
+pub nothing_torn : IsTorn []
 nothing_torn = inl (omega arith)
 
 -- ---- the label of an archive can be written
 
-text_is_short : (width : ℕ) (field text : List ℕ) → HasText (width + 1) field text → length text ≤ width
+pub text_is_short : (width : ℕ) (field text : List ℕ) → HasText (width + 1) field text → length text ≤ width
 text_is_short width field text has =
     let size : length field ≡ length text + length (0 ∷ has.ended.0) = ap length has.ended.1 ∙ length-append text (0 ∷ has.ended.0) in
     omega (arith, has.wide)
 
-spelled_of : (bytes : List ℕ) (l : LabelFields) (number : ℤ) → IsLabel bytes l number → SpelledLabel l
+pub spelled_of : (bytes : List ℕ) (l : LabelFields) (number : ℤ) → IsLabel bytes l number → SpelledLabel l
 spelled_of bytes l number is = record {
   pid = is.pid;
   start = is.start;
@@ -43,7 +43,7 @@ spelled_of bytes l number is = record {
 -- ---- volumes
 
 -- a property of each volume is one of each that is left
-each_left : (files : Files) (P : (ℕ × List Item) → Type 0) (vs : List (ℕ × List Item)) → AllByRecursion P vs → AllByRecursion P (labelled_volumes files vs)
+pub each_left : (files : Files) (P : (ℕ × List Item) → Type 0) (vs : List (ℕ × List Item)) → AllByRecursion P vs → AllByRecursion P (labelled_volumes files vs)
 each_left files P [] all = tt
 each_left files P (v ∷ []) all = by (nat_lt (length (files (Volume v.0))) 132)
   where
@@ -88,11 +88,11 @@ module _ (files left : Files) (l : LabelFields) where
   some_label (v ∷ vs) s mended = (v.0, labelled_long IsItem (left (Volume v.0)) l (pos v.0) v.1 [] mended.0.whole)
 
 -- a volume within its label has no item
-no_item : (bytes : List ℕ) (l : LabelFields) (n : ℕ) (items : List Item) → IsLastVolume bytes l n items → length bytes < 132 → items ≡ []
+pub no_item : (bytes : List ℕ) (l : LabelFields) (n : ℕ) (items : List Item) → IsLastVolume bytes l n items → length bytes < 132 → items ≡ []
 no_item bytes l n items (inl begins) short = begins.1
 no_item bytes l n items (inr whole) short = absurd (omega (arith, labelled_long IsItem bytes l (pos n) items whole.0 whole.2))
 
-same_items : (files : Files) (l : LabelFields) (vs : List (ℕ × List Item)) → AreVolumes files l vs → items_of (labelled_volumes files vs) ≡ items_of vs
+pub same_items : (files : Files) (l : LabelFields) (vs : List (ℕ × List Item)) → AreVolumes files l vs → items_of (labelled_volumes files vs) ≡ items_of vs
 same_items files l [] are = refl
 same_items files l (v ∷ []) are = by (nat_lt (length (files (Volume v.0))) 132) (λ e. ltb-true (length (files (Volume v.0))) 132 e)
   where
@@ -101,7 +101,7 @@ same_items files l (v ∷ []) are = by (nat_lt (length (files (Volume v.0))) 132
     by false short = refl
 same_items files l (v ∷ w ∷ vs) are = ap (λ xs. v.1 ++ xs) (same_items files l (w ∷ vs) are.2)
 
-first_has_none : (vs : List (ℕ × List Item)) → items_of (or_first_volume vs) ≡ items_of vs
+pub first_has_none : (vs : List (ℕ × List Item)) → items_of (or_first_volume vs) ≡ items_of vs
 first_has_none [] = refl
 first_has_none (v ∷ vs) = refl
 
@@ -114,14 +114,14 @@ each_long left l vs all =
     each-map (Mended left left l) (λ (v : ℕ × List Item). 132 ≤ length (left (Volume v.0))) (λ v mended. labelled_long IsItem (left (Volume v.0)) l (pos v.0) v.1 [] mended.whole) vs all
 
 -- where each volume has its label, all are left
-labelled_all : (files : Files) (vs : List (ℕ × List Item)) → AllByRecursion (λ (v : ℕ × List Item). 132 ≤ length (files (Volume v.0))) vs → labelled_volumes files vs ≡ vs
+pub labelled_all : (files : Files) (vs : List (ℕ × List Item)) → AllByRecursion (λ (v : ℕ × List Item). 132 ≤ length (files (Volume v.0))) vs → labelled_volumes files vs ≡ vs
 labelled_all files [] all = refl
 labelled_all files (v ∷ []) all = ap (λ (b : Bool). if b then [] else v ∷ []) (le-ltb (length (files (Volume v.0))) 132 all.0)
 labelled_all files (v ∷ w ∷ vs) all = ap (λ xs. v ∷ xs) (labelled_all files (w ∷ vs) all.1)
 
 -- ---- the index
 
-no_entry : (bytes : List ℕ) (c : ArchiveContents) → IsIndex bytes c → length bytes < 132 → c.entries ≡ []
+pub no_entry : (bytes : List ℕ) (c : ArchiveContents) → IsIndex bytes c → length bytes < 132 → c.entries ≡ []
 no_entry bytes c (inl begins) short = begins.0
 no_entry bytes c (inr has) short =
     let size : length bytes ≡ length has.head + length (entries c.entries ++ has.rest) = ap length has.is ∙ length-append has.head (entries c.entries ++ has.rest) in
