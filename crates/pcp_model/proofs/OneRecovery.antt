@@ -22,7 +22,7 @@ use Rattle.pcp_model.proofs.Unique.{both, one_file, IsReadOnce, SameFile}
 
 module _ {X : Type 0} (R : List ℕ → X → Type 0) (bytes : List ℕ) (l : LabelFields) (number : ℤ) (values : List X) where
   -- the file before it was mended
-  torn_file : (left : List ℕ) → (m : IsMended R bytes l number values left) → LabelledFile R bytes l number values m.torn
+  pub torn_file : (left : List ℕ) → (m : IsMended R bytes l number values left) → LabelledFile R bytes l number values m.torn
   torn_file left m = record {
     head = m.whole.head;
     label = m.whole.label;
@@ -31,7 +31,7 @@ module _ {X : Type 0} (R : List ℕ → X → Type 0) (bytes : List ℕ) (l : La
     is = m.is ∙ ap (λ t. t ++ m.torn) (m.whole.is ∙ ap (λ t. m.whole.head ++ t) (append-nil (frames m.whole.payloads))) ∙ append_assoc m.whole.head (frames m.whole.payloads) m.torn;
   }
 
-  one_mended : IsReadOnce R → (a b : List ℕ) → IsMended R bytes l number values a → IsMended R bytes l number values b → a ≡ b
+  pub one_mended : IsReadOnce R → (a b : List ℕ) → IsMended R bytes l number values a → IsMended R bytes l number values b → a ≡ b
   one_mended one a b p q =
       let same : SameFile l l number number values values p.torn q.torn = one_file R one bytes l l number number values values p.torn q.torn (torn_file a p) (torn_file b q) p.is_torn q.is_torn in
       let sizes : length a + length p.torn ≡ length b + length q.torn = sym (length-append a p.torn) ∙ ap length (sym p.is ∙ q.is) ∙ length-append b q.torn in

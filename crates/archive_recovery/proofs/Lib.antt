@@ -1,0 +1,5 @@
+pub mod Again
+pub mod Parts
+pub mod Read
+pub mod Settled
+pub mod Volumes

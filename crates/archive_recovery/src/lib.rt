@@ -1,0 +1,8 @@
+//! Recovery of an archive that was stopped anywhere: what is torn is cut away, and labels that are missing are given.
+#![tactic(auto)]
+
+mod laws;
+
+pub use laws::{
+    halfway_is_read, halfway_recovers_sound, halfway_recovers_the_same, settled_is_halfway,
+};
