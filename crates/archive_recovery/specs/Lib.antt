@@ -1,2 +1,4 @@
 pub mod Halfway
 pub mod Laws
+pub mod Mending
+pub mod Syncing
