@@ -2,16 +2,15 @@
 use Rattle.std.proofs.Common.{◌≡◌, ◌≢◌, ℕ, ℤ, ◌+◌, ◌<◌, ◌≤◌, List, [], ◌∷◌, ◌++◌, length, take, drop, refl, sym, ap, ◌∙◌, subst, append_assoc, arith}
 use Rattle.std.specs.Prelude.{FitsSigned}
 use Rattle.std.specs.Int.{w32, cast_signed, cast_unsigned}
-use Rattle.std.proofs.lemmas.Int.{ints, of_z-to_z}
+use Rattle.std.proofs.lemmas.Int.{ints, of_z-to_z, to_z-of_z}
 use Rattle.std.proofs.lemmas.List.{take-append-drop, drop-drop, drop_all, length-append, length-take, length-replicate, append-nil}
 use Rattle.std.proofs.lemmas.List.Elements.{All-nil}
-use Rattle.pcp_base.specs.Texts.{IsText, IsFirstZero}
 use Rattle.pcp_model.specs.Words.{word, signed_word, length-word, zeros}
 use Rattle.pcp_model.specs.Frame.{frame}
 use Rattle.pcp_model.specs.LabelFields.{LabelFields}
 use Rattle.pcp_model.specs.Labels.{label_head, HasText, IsLabel}
 use Rattle.archive_frame.specs.Misfits.{IsFirstMisfit}
-use Rattle.archive_frame.specs.Labels.{IsSomeLabel, IsUpTo, IsTextField}
+use Rattle.archive_frame.specs.Labels.{IsLabelOf, IsNumberField, IsUpTo, IsTextField}
 use Rattle.archive_frame.proofs.Misfits.{Then, then_is, same_misfit, Passed}
 use Rattle.pcp_model.proofs.Lengths.{length-label_head}
 use Rattle.archive_frame.proofs.Filling.{word_of_signed}
@@ -36,20 +35,21 @@ FromZone = Then (IsTextField 40) 40 FromBack
 abbrev pub FromHost : List ℕ → Type 0
 FromHost = Then (IsTextField 64) 64 FromZone
 
-abbrev pub FromNumber : List ℕ → Type 0
-FromNumber = Then (IsUpTo 4294967295) 4 FromHost
+module _ (Such : ℤ → Type 0) where
+  abbrev pub FromNumber : List ℕ → Type 0
+  FromNumber = Then (IsNumberField Such) 4 FromHost
 
-abbrev pub FromUsec : List ℕ → Type 0
-FromUsec = Then (IsUpTo 999999) 4 FromNumber
+  abbrev pub FromUsec : List ℕ → Type 0
+  FromUsec = Then (IsUpTo 999999) 4 FromNumber
 
-abbrev pub FromSec : List ℕ → Type 0
-FromSec = Then (IsUpTo 2147483647) 4 FromUsec
+  abbrev pub FromSec : List ℕ → Type 0
+  FromSec = Then (IsUpTo 2147483647) 4 FromUsec
 
-abbrev pub FromPid : List ℕ → Type 0
-FromPid = Then (IsUpTo 4294967295) 4 FromSec
+  abbrev pub FromPid : List ℕ → Type 0
+  FromPid = Then (IsUpTo 4294967295) 4 FromSec
 
-abbrev pub FromFront : List ℕ → Type 0
-FromFront = Then (λ t. t ≡ front_bytes) 8 FromPid
+  abbrev pub FromFront : List ℕ → Type 0
+  FromFront = Then (λ t. t ≡ front_bytes) 8 FromPid
 
 front_is : word 132 ++ word 1342514690 ≡ front_bytes
 unfolding word
@@ -81,10 +81,12 @@ unsigned_fits : (z : ℤ) → FitsSigned w32 z → cast_unsigned w32 z ≤ 42949
 unsigned_fits z fits = omega (arith, ints)
 
 -- a label has these fields
-pub has_fields : (t : List ℕ) → IsSomeLabel t → FromFront t
-has_fields t s =
+pub has_fields : (Such : ℤ → Type 0) (t : List ℕ) → IsLabelOf Such t → FromFront Such t
+has_fields Such t s =
     let l : LabelFields = s.0 in
-    let is : IsLabel t l s.1 = s.2 in
+    let is : IsLabel t l s.1 = s.3 in
+    let back : cast_signed w32 (cast_unsigned w32 s.1) ≡ s.1 = to_z-of_z w32 s.1 is.number_fits in
+    let such : Such (cast_signed w32 (cast_unsigned w32 s.1)) = subst Such (sym back) s.2 in
     let n : ℕ = cast_unsigned w32 s.1 in
     let pid : l.pid < 4294967296 = is.pid in
     let sec : l.start.sec < 2147483648 = is.start.sec in
@@ -98,11 +100,12 @@ has_fields t s =
     let e8 : FromBack back_bytes = then_is (λ x. x ≡ back_bytes) 4 FromEnd back_bytes [] back_bytes refl refl refl refl in
     let e7 : FromZone t7 = then_is (IsTextField 40) 40 FromBack is.zone back_bytes t7 (l.zone, is.has_zone) is.has_zone.wide e8 refl in
     let e6 : FromHost t6 = then_is (IsTextField 64) 64 FromZone is.host t7 t6 (l.host, is.has_host) is.has_host.wide e7 refl in
-    let e5 : FromNumber t5 = then_is (IsUpTo 4294967295) 4 FromHost (word n) t6 t5 (n, unsigned_fits s.1 is.number_fits, refl) (length-word n) e6 refl in
-    let e4 : FromUsec t4 = then_is (IsUpTo 999999) 4 FromNumber (word l.start.usec) t5 t4 (l.start.usec, omega arith, refl) (length-word l.start.usec) e5 refl in
-    let e3 : FromSec t3 = then_is (IsUpTo 2147483647) 4 FromUsec (word l.start.sec) t4 t3 (l.start.sec, omega arith, refl) (length-word l.start.sec) e4 refl in
-    let e2 : FromPid t2 = then_is (IsUpTo 4294967295) 4 FromSec (word l.pid) t3 t2 (l.pid, omega arith, refl) (length-word l.pid) e3 refl in
-    then_is (λ x. x ≡ front_bytes) 8 FromPid front_bytes t2 t refl refl e2 (is.is ∙ framed l s.1 is.host is.zone is.has_host.wide is.has_zone.wide)
+    let low : n ≤ 4294967295 = unsigned_fits s.1 is.number_fits in
+    let e5 : FromNumber Such t5 = then_is (IsNumberField Such) 4 FromHost (word n) t6 t5 (n, omega arith, such, refl) (length-word n) e6 refl in
+    let e4 : FromUsec Such t4 = then_is (IsUpTo 999999) 4 (FromNumber Such) (word l.start.usec) t5 t4 (l.start.usec, omega arith, refl) (length-word l.start.usec) e5 refl in
+    let e3 : FromSec Such t3 = then_is (IsUpTo 2147483647) 4 (FromUsec Such) (word l.start.sec) t4 t3 (l.start.sec, omega arith, refl) (length-word l.start.sec) e4 refl in
+    let e2 : FromPid Such t2 = then_is (IsUpTo 4294967295) 4 (FromSec Such) (word l.pid) t3 t2 (l.pid, omega arith, refl) (length-word l.pid) e3 refl in
+    then_is (λ x. x ≡ front_bytes) 8 (FromPid Such) front_bytes t2 t refl refl e2 (is.is ∙ framed l s.1 is.host is.zone is.has_host.wide is.has_zone.wide)
 
 -- and fields make a label
 signed_fits : (n : ℕ) → n ≤ 4294967295 → FitsSigned w32 (cast_signed w32 n)
@@ -128,8 +131,8 @@ is_label t pid sec usec number host zone host_text zone_text p s u n h z is =
 split : (width : ℕ) (t field rest : List ℕ) → take width t ≡ field → drop width t ≡ rest → t ≡ field ++ rest
 split width t field rest one two = sym (take-append-drop width t) ∙ ap (λ x. x ++ drop width t) one ∙ ap (λ x. field ++ x) two
 
-pub from_fields : (t : List ℕ) → FromFront t → IsSomeLabel t
-from_fields t h =
+pub from_fields : (Such : ℤ → Type 0) (t : List ℕ) → FromFront Such t → IsLabelOf Such t
+from_fields Such t h =
     let pid = h.1.0 in
     let sec = h.1.1.0 in
     let usec = h.1.1.1.0 in
@@ -147,14 +150,16 @@ from_fields t h =
     let s7 : t7 ≡ back_bytes = split 4 t7 back_bytes [] back.0 back.1 in
     let s6 : t6 ≡ take 40 t6 ++ back_bytes = split 40 t6 (take 40 t6) back_bytes refl s7 in
     let s5 = split 64 t5 (take 64 t5) (take 40 t6 ++ back_bytes) refl s6 in
-    let s4 = split 4 t4 (word number.0) (take 64 t5 ++ (take 40 t6 ++ back_bytes)) number.2 s5 in
+    let s4 = split 4 t4 (word number.0) (take 64 t5 ++ (take 40 t6 ++ back_bytes)) number.3 s5 in
+    let low : number.0 < 4294967296 = number.1 in
     let s3 = split 4 t3 (word usec.0) (word number.0 ++ (take 64 t5 ++ (take 40 t6 ++ back_bytes))) usec.2 s4 in
     let s2 = split 4 t2 (word sec.0) (word usec.0 ++ (word number.0 ++ (take 64 t5 ++ (take 40 t6 ++ back_bytes)))) sec.2 s3 in
     let s1 = split 4 t1 (word pid.0) (word sec.0 ++ (word usec.0 ++ (word number.0 ++ (take 64 t5 ++ (take 40 t6 ++ back_bytes))))) pid.2 s2 in
     let s0 = split 8 t front_bytes (word pid.0 ++ (word sec.0 ++ (word usec.0 ++ (word number.0 ++ (take 64 t5 ++ (take 40 t6 ++ back_bytes)))))) h.0 s1 in (
       record { pid = pid.0; start = record { sec = sec.0; usec = usec.0 }; host = host.0; zone = zone.0 },
       cast_signed w32 number.0,
-      is_label t pid.0 sec.0 usec.0 number.0 (take 64 t5) (take 40 t6) host.0 zone.0 pid.1 sec.1 usec.1 number.1 host.1 zone.1 s0,
+      number.2,
+      is_label t pid.0 sec.0 usec.0 number.0 (take 64 t5) (take 40 t6) host.0 zone.0 pid.1 sec.1 usec.1 (omega arith) host.1 zone.1 s0,
     )
 
 -- ---- what can follow
@@ -177,22 +182,27 @@ some_host = ((0 ∷ zeros 63) ++ some_zone.0, then_is (IsTextField 64) 64 FromZo
 some_word : (most : ℕ) (Rest : List ℕ → Type 0) → (t : List ℕ) × Rest t → (t : List ℕ) × Then (IsUpTo most) 4 Rest t
 some_word most Rest some = (word 0 ++ some.0, then_is (IsUpTo most) 4 Rest (word 0) some.0 (word 0 ++ some.0) (0, omega arith, refl) (length-word 0) some.1 refl)
 
-pub some_number : (t : List ℕ) × FromNumber t
-some_number = some_word 4294967295 FromHost some_host
+module _ (Such : ℤ → Type 0) (one : (n : ℕ) × (n < 4294967296) × Such (cast_signed w32 n)) where
+  pub some_number : (t : List ℕ) × FromNumber Such t
+  some_number = (
+    word one.0 ++ some_host.0,
+    then_is (IsNumberField Such) 4 FromHost (word one.0) some_host.0 (word one.0 ++ some_host.0) (one.0, one.1, one.2, refl) (length-word one.0) some_host.1 refl,
+  )
 
-pub some_usec : (t : List ℕ) × FromUsec t
-some_usec = some_word 999999 FromNumber some_number
+  pub some_usec : (t : List ℕ) × FromUsec Such t
+  some_usec = some_word 999999 (FromNumber Such) some_number
 
-pub some_sec : (t : List ℕ) × FromSec t
-some_sec = some_word 2147483647 FromUsec some_usec
+  pub some_sec : (t : List ℕ) × FromSec Such t
+  some_sec = some_word 2147483647 (FromUsec Such) some_usec
 
-pub some_pid : (t : List ℕ) × FromPid t
-some_pid = some_word 4294967295 FromSec some_sec
+  pub some_pid : (t : List ℕ) × FromPid Such t
+  some_pid = some_word 4294967295 (FromSec Such) some_sec
 
 -- ---- the fields that fit, one after another
 
-pub at_front : (bytes : List ℕ) → Passed IsSomeLabel bytes FromFront 0
-at_front bytes k m = subst (IsFirstMisfit IsSomeLabel bytes) (let e : k ≡ 0 + k = omega arith in e) (same_misfit FromFront IsSomeLabel bytes k from_fields has_fields m)
+pub at_front : (Such : ℤ → Type 0) (bytes : List ℕ) → Passed (IsLabelOf Such) bytes (FromFront Such) 0
+at_front Such bytes k m =
+    subst (IsFirstMisfit (IsLabelOf Such) bytes) (let e : k ≡ 0 + k = omega arith in e) (same_misfit (FromFront Such) (IsLabelOf Such) bytes k (from_fields Such) (has_fields Such) m)
 
 -- nothing follows a label
 pub end_misfit : (bytes : List ℕ) → 0 < length bytes → IsFirstMisfit FromEnd bytes 0

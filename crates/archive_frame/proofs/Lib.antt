@@ -1,9 +1,12 @@
+pub mod Beginnings
+pub mod Chains
 pub mod Exits
 pub mod Fields
 pub mod Filling
 pub mod Labels
 pub mod Looked
 pub mod Misfits
+pub mod Numbers
 pub mod Only
 pub mod Records
 pub mod Unique

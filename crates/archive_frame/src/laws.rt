@@ -2,7 +2,7 @@
 ghost use Rattle.archive_frame.specs.Laws.{NoFrameBeginsAnother, EachFrameStands, WrittenLabelIsRead, LabelSaysOneThing, LabelStopsOnce};
 
 /// No framed record is the beginning of another one.
-#[tactic(auto, using(crate::proofs::Unique::both_frames))]
+#[tactic(auto, using(pcp_model::proofs::Unique::both_frames))]
 pub fn no_frame_begins_another()
     ensures { NoFrameBeginsAnother }
 {}

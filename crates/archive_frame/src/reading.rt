@@ -1,13 +1,14 @@
 //! The reader of a label: its fields are looked at from the first byte to the last, and then its texts are taken.
-ghost use Rattle.std.specs.Prelude.{◌≡◌, ◌⊎◌, ℕ, ℤ, ◌+◌, ◌*◌, ◌<◌, ◌≤◌, length, take, drop, slice_index, IfOk, IfErr, OnOk, MatchResult, MatchOption};
-ghost use Rattle.pcp_base.specs.Texts.{IsText, IsFirstZero};
-ghost use Rattle.pcp_model.specs.Words.{word};
+ghost use Rattle.std.specs.Prelude.{◌≡◌, ◌⊎◌, ℕ, ℤ, ◌+◌, ◌<◌, ◌≤◌, negsuc, length, take, drop, Result, Ok, Err, Option, Some, None, IfOk, IfErr};
+ghost use Rattle.pcp_base.specs.Texts.{IsText};
 ghost use Rattle.pcp_model.specs.LabelFields.{LabelFields};
-ghost use Rattle.pcp_model.specs.Labels.{HasText, IsLabel};
-ghost use Rattle.archive_frame.specs.declared.fault.FrameFault.TheVariants.{Label as Misfit};
-ghost use Rattle.archive_frame.specs.Labels.{IsSomeLabel, IsLabelFault, IsRead, IsUpTo, IsTextField, IsFieldFault, IsMisfit, fields_said};
+ghost use Rattle.pcp_model.specs.Labels.{IsLabel, BeginsLabel};
+ghost use Rattle.archive_frame.specs.declared.fault.FrameFault.TheVariants.{NoMemory as Refused};
+ghost use Rattle.archive_frame.specs.Heads.{IsMetaHead, IsMetaHeadFault, ends_early as ends_early_lem};
+ghost use Rattle.archive_frame.specs.Labels.{IsLabelOf, IsWanted, IsFileNumber, IsMetaNumber, IsLabelFault, IsRead, IsMisfit, fields_said};
 
 use crate::fault::FrameFault;
+use crate::parts::{Wanted, misfit, number_at, text_at, wanted_at, word_up_to};
 use crate::writing::LABEL;
 use pcp_base::{List, NoMemory, Stamp, Text};
 use pcp_model::Label;
@@ -29,96 +30,22 @@ pub struct Said {
     pub zone: usize,
 }
 
-/// Bytes that have to stand at a place.
-fn wanted_at(bytes: &[u8], at: usize, wanted: &[u8]) -> Result<(), FrameFault>
-    requires { at ≤ length bytes.now }
-    ensures there { OnOk result ((at + length wanted.now ≤ length bytes.now) × (take (length wanted.now) (drop at bytes.now) ≡ wanted.now)) }
-    ensures fault { IfErr result (IsFieldFault (λ t. t ≡ wanted.now) (length wanted.now) bytes.now at) }
-{
-    let rest = &bytes[at..];
-    for (i, byte) in wanted.iter().enumerate() {
-        if i >= rest.len() || rest[i] != *byte {
-            return Err(FrameFault::Label {
-                at: (at + i) as u64,
-            });
-        }
-    }
-    Ok(())
-}
-
-/// A number with one byte more, where it is at most `most`.
-fn with_byte(bytes: &[u8], at: usize, before: u32, most: u32) -> Result<u32, FrameFault>
-    requires { before < 16777216 }
-    ensures { MatchResult result
-        (λ n. (at < length bytes.now) × (n ≡ before * 256 + slice_index bytes.now at) × (n ≤ most))
-        (λ e. (e ≡ Misfit at) × ((length bytes.now ≤ at) ⊎ ((at < length bytes.now) × (most < before * 256 + slice_index bytes.now at)))) }
-{
-    if at >= bytes.len() {
-        return Err(FrameFault::Label { at: at as u64 });
-    }
-    let number = before * 256 + u32::from(bytes[at]);
-    if number > most {
-        return Err(FrameFault::Label { at: at as u64 });
-    }
-    Ok(number)
-}
-
-/// The word at a place, where it is at most `most`.
-fn word_up_to(bytes: &[u8], at: usize, most: u32) -> Result<u32, FrameFault>
-    requires { at ≤ length bytes.now }
-    ensures word { IfOk result (λ n. (at + 4 ≤ length bytes.now) × (n ≤ most) × (take 4 (drop at bytes.now) ≡ word n)) }
-    ensures fault { IfErr result (IsFieldFault (IsUpTo most) 4 bytes.now at) }
-{
-    let first = with_byte(bytes, at, 0, most / 16_777_216)?;
-    let second = with_byte(bytes, at + 1, first, most / 65_536)?;
-    let third = with_byte(bytes, at + 2, second, most / 256)?;
-    let number = with_byte(bytes, at + 3, third, most)?;
-    Ok(number)
-}
-
-/// The first zero byte.
-fn first_zero(bytes: &[u8]) -> Option<usize>
-    ensures { MatchOption result (IsText bytes.now) (IsFirstZero bytes.now) }
-{
-    bytes.iter().position(|byte| *byte == 0)
-}
-
-/// How long the text is whose field stands at a place.
-fn text_at(bytes: &[u8], at: usize, width: usize) -> Result<usize, FrameFault>
-    requires within { at ≤ length bytes.now }
-    requires wide { 0 < width }
-    ensures text { IfOk result (λ n. (at + width ≤ length bytes.now) × (n < width) × HasText width (take width (drop at bytes.now)) (take n (drop at bytes.now))) }
-    ensures fault { IfErr result (IsFieldFault (IsTextField width) width bytes.now at) }
-{
-    if bytes.len() - at < width {
-        return Err(FrameFault::Label {
-            at: bytes.len() as u64,
-        });
-    }
-    let field = &bytes[at..at + width];
-    match first_zero(field) {
-        Some(size) => Ok(size),
-        None => Err(FrameFault::Label {
-            at: (at + width - 1) as u64,
-        }),
-    }
-}
-
-/// What a label says, or the first byte that fits none.
-fn look(bytes: &[u8]) -> Result<Said, FrameFault>
+/// What a label says, where it is one that is wanted, or the first byte that fits none.
+fn look(bytes: &[u8], wanted: Wanted) -> Result<Said, FrameFault>
     ensures label { IfOk result (λ s. (s.host < 64) × (s.zone < 40) × (length bytes.now ≡ 132) × IsLabel bytes.now (fields_said bytes.now s) s.number) }
-    ensures fault { IfErr result (IsMisfit IsSomeLabel bytes.now) }
+    ensures number { IfOk result (λ s. IsWanted wanted s.number) }
+    ensures fault { IfErr result (IsMisfit (IsLabelOf (IsWanted wanted)) bytes.now) }
 {
     wanted_at(bytes, 0, &FRONT)?;
     let pid = word_up_to(bytes, 8, u32::MAX)?;
     let sec = word_up_to(bytes, 12, 0x7fff_ffff)?;
     let usec = word_up_to(bytes, 16, 999_999)?;
-    let number = word_up_to(bytes, 20, u32::MAX)?;
+    let number = number_at(bytes, wanted)?;
     let host = text_at(bytes, 24, 64)?;
     let zone = text_at(bytes, 88, 40)?;
     wanted_at(bytes, 128, &BACK)?;
     if bytes.len() > LABEL {
-        return Err(FrameFault::Label { at: LABEL as u64 });
+        return Err(misfit(LABEL));
     }
     let Some(start) = Stamp::build(sec, usec) else {
         // `word_up_to` took no word above a stamp's limits.
@@ -142,11 +69,12 @@ fn text_of(alloc: Global, bytes: &[u8]) -> Result<Text, NoMemory>
     Ok(Text::of_clean(List::from_vec(copy)))
 }
 
-fn read(alloc: Global, bytes: &[u8]) -> Result<(Label, i32), FrameFault>
-    ensures found { IfOk result (λ read. IsLabel bytes.now read.0 read.1) }
-    ensures fault { IfErr result (IsLabelFault bytes.now) }
+/// The label that is wanted, and its number.
+fn read(alloc: Global, bytes: &[u8], wanted: Wanted) -> Result<(Label, i32), FrameFault>
+    ensures found { IfOk result (λ read. IsLabel bytes.now read.0 read.1 × IsWanted wanted read.1) }
+    ensures fault { IfErr result (IsLabelFault (IsLabelOf (IsWanted wanted)) bytes.now) }
 {
-    let said = look(bytes)?;
+    let said = look(bytes, wanted)?;
     let host = text_of(alloc, &bytes[24..24 + said.host])?;
     let zone = text_of(alloc, &bytes[88..88 + said.zone])?;
     let Some(label) = Label::build(said.pid, said.start, host, zone) else {
@@ -156,16 +84,71 @@ fn read(alloc: Global, bytes: &[u8]) -> Result<(Label, i32), FrameFault>
     Ok((label, said.number))
 }
 
+fn read_any(alloc: Global, bytes: &[u8]) -> Result<(Label, i32), FrameFault>
+    ensures found { IfOk result (λ read. IsLabel bytes.now read.0 read.1 × IsFileNumber read.1) }
+    ensures fault { IfErr result (IsLabelFault (IsLabelOf IsFileNumber) bytes.now) }
+{
+    read(alloc, bytes, Wanted::Any)
+}
+
 /// The label that these bytes are, and its number: -1 Meta's, -2 the index's, else the volume's. A refusal tells the
 /// first byte that fits no label, which is where the bytes end if they are only a label's beginning, or for a label that
 /// memory was refused. What follows a text's first zero byte isn't looked at.
 pub fn read_label(alloc: Global, bytes: &[u8]) -> Result<(Label, i32), FrameFault>
     // What is read is what the bytes say.
-    ensures found { IfOk result (λ read. IsLabel bytes.now read.0 read.1) }
+    ensures found { IfOk result (λ read. IsLabel bytes.now read.0 read.1 × IsFileNumber read.1) }
     // What the bytes say is read, unless memory runs out.
-    ensures only { (l : LabelFields) (number : ℤ) → IsLabel bytes.now l number → IsRead l number result }
+    ensures only { (l : LabelFields) (number : ℤ) → IsFileNumber number → IsLabel bytes.now l number → IsRead l number result }
     // Which fault it is.
-    ensures fault { IfErr result (IsLabelFault bytes.now) }
+    ensures fault { IfErr result (IsLabelFault (IsLabelOf IsFileNumber) bytes.now) }
 {
-    read(alloc, bytes)
+    read_any(alloc, bytes)
+}
+
+/// Whether this refusal says that the bytes end too early.
+fn ends_early(bytes: &[u8], fault: FrameFault) -> bool
+    ensures { result ≡ ends_early_lem (length bytes.now) fault }
+{
+    match fault {
+        FrameFault::Label { at } => at == bytes.len() as u64,
+        _ => false,
+    }
+}
+
+/// What the refusal of a label of Meta says.
+fn refused(bytes: &[u8], fault: FrameFault) -> Result<Option<Label>, FrameFault>
+    requires { IsLabelFault (IsLabelOf IsMetaNumber) bytes.now fault }
+    ensures found { IfOk result (IsMetaHead bytes.now) }
+    ensures fault { IfErr result (IsMetaHeadFault bytes.now) }
+{
+    if ends_early(bytes, fault) {
+        return Ok(None);
+    }
+    Err(fault)
+}
+
+fn meta_head(alloc: Global, bytes: &[u8]) -> Result<Option<Label>, FrameFault>
+    ensures found { IfOk result (IsMetaHead bytes.now) }
+    ensures fault { IfErr result (IsMetaHeadFault bytes.now) }
+{
+    match read(alloc, bytes, Wanted::Meta) {
+        Ok((label, _number)) => Ok(Some(label)),
+        Err(fault) => refused(bytes, fault),
+    }
+}
+
+/// The label of Meta, with which those of the other files agree, where `bytes` are the file's first 132 bytes, or all
+/// of a shorter file; `None` where they are fewer, and Meta's label may begin so. A refusal tells the first byte that
+/// fits no label of Meta, or for a label that memory was refused.
+pub fn read_meta_label(alloc: Global, bytes: &[u8]) -> Result<Option<Label>, FrameFault>
+    // What is told is so.
+    ensures found { IfOk result (IsMetaHead bytes.now) }
+    // A label is read, unless memory runs out.
+    ensures whole { (l : LabelFields) → IsLabel bytes.now l (negsuc 0) → (result ≡ Ok (Some l)) ⊎ (result ≡ Err Refused) }
+    // A beginning of one is told.
+    ensures part { (l : LabelFields) → BeginsLabel bytes.now l (negsuc 0) → result ≡ Ok None }
+    // Which fault it is.
+    ensures fault { IfErr result (IsMetaHeadFault bytes.now) }
+{
+    meta_head(alloc, bytes)
 }

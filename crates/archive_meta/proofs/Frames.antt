@@ -16,7 +16,7 @@ use Rattle.archive_frame.specs.declared.steps.Step.{Step}
 use Rattle.archive_frame.specs.declared.steps.Step.TheVariants.{End, Payload}
 use Rattle.archive_frame.specs.Steps.{Stands}
 use Rattle.archive_frame.proofs.Records.{Ends, stood}
-use Rattle.archive_frame.proofs.Unique.{both_frames}
+use Rattle.pcp_model.proofs.Unique.{both_frames}
 use Rattle.archive_meta.specs.Decoding.{record_in}
 use Rattle.archive_meta.proofs.RecordsRead.{all_only}
 use Rattle.archive_meta.specs.declared.fault.MetaFault.{MetaFault}

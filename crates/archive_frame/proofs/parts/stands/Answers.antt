@@ -1,8 +1,8 @@
 use Rattle.std.proofs.Common.{◌≡◌, inl, inr, ◌-◌, ◌≤◌, length, get_or, take, drop, refl, arith, ap, sym, ◌∙◌}
 use Rattle.std.proofs.lemmas.List.{length-take, length-drop, take-take, take_rest, get_or-take}
 use Rattle.archive_frame.proofs.Fields.{wanted_misfit}
-use Rattle.archive_reader.proofs.heads.stands.Goals as goal
-use Rattle.archive_reader.proofs.heads.stands.Goals.{then-i-rest-via-then-i-rest, then-i-rest-via-else-i-rest+then-rest-i}
+use Rattle.archive_frame.proofs.parts.stands.Goals as goal
+use Rattle.archive_frame.proofs.parts.stands.Goals.{then-i-rest-via-then-i-rest, then-i-rest-via-else-i-rest+then-rest-i}
 
 pub returns-then-i-rest-clause-stop : goal.returns-then-i-rest-clause-stop
 returns-then-i-rest-clause-stop c =

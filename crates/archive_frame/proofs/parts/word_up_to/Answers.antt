@@ -2,7 +2,7 @@ use Rattle.std.proofs.Common.{arith}
 use Rattle.archive_frame.specs.Labels.{IsUpTo, IsFieldFault}
 use Rattle.archive_frame.proofs.Exits.{handed_on}
 use Rattle.archive_frame.proofs.Fields.{first_exit, second_exit, third_exit, last_exit, word_there}
-use Rattle.archive_frame.proofs.reading.word_up_to.Goals as goal
+use Rattle.archive_frame.proofs.parts.word_up_to.Goals as goal
 
 pub returns-in_err-first-clause-fault : goal.returns-in_err-first-clause-fault
 returns-in_err-first-clause-fault c =

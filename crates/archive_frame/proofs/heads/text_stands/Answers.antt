@@ -1,6 +1,6 @@
 use Rattle.std.proofs.Common.{◌+◌, ◌<◌, ◌≤◌, length, arith}
-use Rattle.archive_reader.proofs.Chains.{text_stops, zero_stops, end_stops, text_there}
-use Rattle.archive_reader.proofs.heads.text_stands.Goals as goal
+use Rattle.archive_frame.proofs.Chains.{text_stops, zero_stops, end_stops, text_there}
+use Rattle.archive_frame.proofs.heads.text_stands.Goals as goal
 
 pub returns-in-Err-clause-stop : goal.returns-in-Err-clause-stop
 returns-in-Err-clause-stop c = text_stops c.args.width c.args.text.now c.args.bytes.now c.args.at c.requires.fits c.requires.clean c.in-Err.stop c.in-Err.ensures.stop

@@ -1,7 +1,7 @@
 -- The fields of a label one behind another, and the first misfit among them.
 use Rattle.std.proofs.Common.{◌≡◌, ℕ, ℤ, ◌+◌, ◌-◌, ◌<◌, ◌≤◌, List, [], ◌∷◌, ◌++◌, length, take, drop, refl, sym, ap, ◌∙◌, subst, append_assoc, arith}
-use Rattle.std.specs.Prelude.{Result, Ok, Err, OnOk, IfErr}
-use Rattle.std.proofs.lemmas.List.{take_at, take_all, take-append-drop, take-take, drop-drop, drop-take, drop_all, length-append, length-take, length-drop, length-replicate, append-nil}
+use Rattle.std.specs.Prelude.{Result, Ok, Err, OnOk, IfOk, IfErr}
+use Rattle.std.proofs.lemmas.List.{take_at, take-append-drop, take-take, drop-drop, drop-take, drop_all, length-append, length-take, length-drop, length-replicate}
 use Rattle.pcp_base.specs.Texts.{IsText}
 use Rattle.pcp_model.specs.Words.{word, length-word, zeros, padded}
 use Rattle.pcp_model.specs.Frame.{frame}
@@ -13,7 +13,7 @@ use Rattle.archive_frame.specs.Misfits.{IsFirstMisfit}
 use Rattle.archive_frame.proofs.Fields.{wanted_wide}
 use Rattle.archive_frame.proofs.Labels.{back_bytes, FromEnd, FromBack, some_end, some_back}
 use Rattle.archive_frame.proofs.Misfits.{HasWidth, Then, then_is, first_misfit, same_misfit, Passed, pass}
-use Rattle.archive_reader.specs.Heads.{Stands, StopsIn}
+use Rattle.archive_frame.specs.Heads.{FieldStands, StopsIn}
 
 -- the misfit of a field that begins where those before it fit
 pub stop_at : (Whole : List ℕ → Type 0) (f : List ℕ) (Field : List ℕ → Type 0) (width : ℕ) (Rest : List ℕ → Type 0) (at : ℕ) → HasWidth Field width → (rest : List ℕ) × Rest rest
@@ -94,14 +94,14 @@ module _ (width : ℕ) (text bytes : List ℕ) (at : ℕ) (fits : length text < 
   long_field : (n : ℕ) → n ≤ width → at + n ≤ length bytes → n ≤ length field
   long_field n low here = omega (arith, length-take width (drop at bytes), length-drop at bytes)
 
-  to_zero : Stands (λ t. t ≡ text) (length text) bytes at → Passed Whole field (FromZero (width - length text - 1)) (length text)
+  to_zero : FieldStands (λ t. t ≡ text) (length text) bytes at → Passed Whole field (FromZero (width - length text - 1)) (length text)
   to_zero there =
       let long : length text ≤ length field = long_field (length text) (omega arith) there.0 in
       subst (Passed Whole field (FromZero (width - length text - 1))) (let e : 0 + length text ≡ length text = omega arith in e)
       (pass Whole field (λ t. t ≡ text) (length text) (FromZero (width - length text - 1)) 0 (let low : 0 + length text ≤ length field = omega arith in low)
       (take-take (length text) width (drop at bytes) (omega arith) ∙ there.1) at_text)
 
-  pub zero_stops : Stands (λ t. t ≡ text) (length text) bytes at → (place : ℕ) → StopsIn (λ t. t ≡ 0 ∷ []) 1 bytes (at + length text) place → StopsIn Whole width bytes at place
+  pub zero_stops : FieldStands (λ t. t ≡ text) (length text) bytes at → (place : ℕ) → StopsIn (λ t. t ≡ 0 ∷ []) 1 bytes (at + length text) place → StopsIn Whole width bytes at place
   zero_stops there place s = (
     length text + s.0,
     omega (arith, s.1),
@@ -109,7 +109,7 @@ module _ (width : ℕ) (text bytes : List ℕ) (at : ℕ) (fits : length text < 
         (subst (λ f. IsFirstMisfit (λ t. t ≡ 0 ∷ []) f s.0) (sym (cut_out at (length text) width 1 bytes (omega arith))) s.2),
   )
 
-  pub end_stops : Stands (λ t. t ≡ text) (length text) bytes at → Stands (λ t. t ≡ 0 ∷ []) 1 bytes (at + length text) → length bytes < at + width → StopsIn Whole width bytes at (length bytes)
+  pub end_stops : FieldStands (λ t. t ≡ text) (length text) bytes at → FieldStands (λ t. t ≡ 0 ∷ []) 1 bytes (at + length text) → length bytes < at + width → StopsIn Whole width bytes at (length bytes)
   end_stops there zero short =
       let n : ℕ = length text in
       let here : n + 1 ≤ length field = long_field (n + 1) (omega arith) (omega (arith, zero.0)) in
@@ -121,7 +121,7 @@ module _ (width : ℕ) (text bytes : List ℕ) (at : ℕ) (fits : length text < 
       let found : IsFirstMisfit Whole field (n + 1 + length filler) = to_filler (length filler) (filler_misfit (width - n - 1) filler few) in
       let all : n + 1 + length filler ≡ length field = omega (arith, length-drop (n + 1) field) in (length field, omega (arith, size), subst (IsFirstMisfit Whole field) all found)
 
-  pub text_there : Stands (λ t. t ≡ text) (length text) bytes at → Stands (λ t. t ≡ 0 ∷ []) 1 bytes (at + length text) → at + width ≤ length bytes → Stands Whole width bytes at
+  pub text_there : FieldStands (λ t. t ≡ text) (length text) bytes at → FieldStands (λ t. t ≡ 0 ∷ []) 1 bytes (at + length text) → at + width ≤ length bytes → FieldStands Whole width bytes at
   text_there there zero long =
       let n : ℕ = length text in
       let size : length field ≡ width = omega (arith, length-take width (drop at bytes), length-drop at bytes) in (
@@ -244,16 +244,16 @@ module _ (l : LabelFields) (number : ℤ) (range : LabelInRange l number) where
     at_head k m = subst (IsFirstMisfit This bytes) (let e : k ≡ 0 + k = omega arith in e) (same_misfit Head This bytes k from_fields has_fields m)
 
     abbrev pub HeadThere : Type 0
-    HeadThere = Stands (λ t. t ≡ head_bytes l number) 24 bytes 0
+    HeadThere = FieldStands (λ t. t ≡ head_bytes l number) 24 bytes 0
 
     abbrev pub HostThere : Type 0
-    HostThere = Stands (λ t. HasText 64 t l.host) 64 bytes 24
+    HostThere = FieldStands (λ t. HasText 64 t l.host) 64 bytes 24
 
     abbrev pub ZoneThere : Type 0
-    ZoneThere = Stands (λ t. HasText 40 t l.zone) 40 bytes 88
+    ZoneThere = FieldStands (λ t. HasText 40 t l.zone) 40 bytes 88
 
     abbrev pub BackThere : Type 0
-    BackThere = Stands (λ t. t ≡ back_bytes) 4 bytes 128
+    BackThere = FieldStands (λ t. t ≡ back_bytes) 4 bytes 128
 
     to_host : HeadThere → Passed This bytes Host 24
     to_host h = pass This bytes (λ t. t ≡ head_bytes l number) 24 Host 0 h.0 h.1 at_head
@@ -292,10 +292,10 @@ module _ (l : LabelFields) (number : ℤ) (range : LabelInRange l number) where
     long_head : (w : List ℕ) → w ≡ take 24 (label l number) → length w ≡ 24
     long_head w e = ap length (e ∙ front_of_label l number range.fits) ∙ length-head l number
 
-    pub head_there : (w : List ℕ) → w ≡ take 24 (label l number) → Stands (λ t. t ≡ w) (length w) bytes 0 → HeadThere
+    pub head_there : (w : List ℕ) → w ≡ take 24 (label l number) → FieldStands (λ t. t ≡ w) (length w) bytes 0 → HeadThere
     head_there w e s =
-        subst (λ (x : List ℕ). Stands (λ t. t ≡ x) 24 bytes 0) (e ∙ front_of_label l number range.fits)
-        (subst (λ (k : ℕ). Stands (λ t. t ≡ w) k bytes 0) (long_head w e) s)
+        subst (λ (x : List ℕ). FieldStands (λ t. t ≡ x) 24 bytes 0) (e ∙ front_of_label l number range.fits)
+        (subst (λ (k : ℕ). FieldStands (λ t. t ≡ w) k bytes 0) (long_head w e) s)
 
     pub written_head_stops : (w : List ℕ) → w ≡ take 24 (label l number) → (place : ℕ) → StopsIn (λ t. t ≡ w) (length w) bytes 0 place → IsFirstMisfit This bytes place
     written_head_stops w e place s = head_stops place
@@ -311,3 +311,7 @@ on_ok (Err e) P Q h f = tt
 pub if_err : {T E : Type 0} (r : Result T E) (P Q : E → Type 0) → IfErr r P → ((e : E) → P e → Q e) → IfErr r Q
 if_err (Ok v) P Q h f = tt
 if_err (Err e) P Q h f = f e h
+
+pub if_ok : {T E : Type 0} (r : Result T E) (P Q : T → Type 0) → IfOk r P → ((v : T) → P v → Q v) → IfOk r Q
+if_ok (Ok v) P Q h f = f v h
+if_ok (Err e) P Q h f = tt
