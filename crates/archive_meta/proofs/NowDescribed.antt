@@ -1,8 +1,8 @@
 -- With the records that are missing, a result is described.
-use Rattle.std.proofs.Common.{◌≡◌, ℕ, ℤ, ◌<◌, ◌≤◌, ◌⊎◌, inl, inr, Bool, true, false, ◌&&◌, cond, nat_eq, List, [], ◌∷◌, ◌++◌, map, Option, Some, None, is_none, refl, sym, ap, ◌∙◌, subst, arith, append_assoc, Contains, ⊎_elim}
-use Rattle.std.specs.Prelude.{option_to_list, IsTrue}
+use Rattle.std.proofs.Common.{◌≡◌, ℕ, ℤ, ◌<◌, ◌≤◌, inl, inr, Bool, true, false, ◌&&◌, cond, nat_eq, List, [], ◌∷◌, ◌++◌, map, Option, Some, None, is_none, refl, sym, ap, ◌∙◌, subst, arith, append_assoc, Contains, ⊎_elim}
+use Rattle.std.specs.Prelude.{IsTrue}
 use Rattle.std.specs.List.{AllByRecursion}
-use Rattle.std.proofs.lemmas.Bool.{eqb-true, eqb-false, eq-eqb}
+use Rattle.std.proofs.lemmas.Bool.{eqb-true, eqb-false}
 use Rattle.std.proofs.lemmas.List.{append-nil}
 use Rattle.std.proofs.lemmas.List.Elements.{Contains-append_left, Contains-append_right}
 use Rattle.pcp_base.specs.Time.{Moment, microseconds}
@@ -17,7 +17,7 @@ use Rattle.pcp_model.specs.declared.records.MetaRecord.TheVariants.{Description,
 use Rattle.pcp_model.specs.Described.{EachStamp, HoldsAt, IsNamed, AreNamed, IsDescribedBy, IsDescribedSet, Described}
 use Rattle.archive_meta.specs.declared.facts.Facts.{Facts}
 use Rattle.archive_meta.specs.Said.{describes, description_of}
-use Rattle.archive_meta.specs.Facts.{has_values, first_under, metric_of, domain_of, fact_of, listed_of, IsKeptAs, FitsFact, FitsMetric, FitsSet, FitSets}
+use Rattle.archive_meta.specs.Facts.{has_values, metric_of, domain_of, fact_of, listed_of, IsKeptAs, FitsFact, FitsMetric, FitSets}
 use Rattle.archive_meta.specs.Enough.{AreListed, IsTold, AreEnough}
 use Rattle.archive_meta.proofs.Taken.{Among, among_left, among_right, all_taken, of_taken, all_map, first_is}
 use Rattle.archive_meta.specs.Missing.{taken, is_undescribed, undescribed, described_by, missing_descriptions, domain_in, shown_domain, shown_domains, domains_of, Lacks, listed_from, AreMissingDomains, AreMissing}

@@ -1,5 +1,5 @@
 -- Facts that tell enough of a result to describe it (LOGARCHIVE(5)).
-use Rattle.std.specs.Prelude.{◌≡◌, ◌⊎◌, ℕ, ℤ, IsTrue, List, Option, Some, Contains}
+use Rattle.std.specs.Prelude.{◌≡◌, ◌⊎◌, ℕ, ℤ, IsTrue, List, Some, Contains}
 use Rattle.std.specs.List.{AllByRecursion}
 use Rattle.pcp_base.specs.Ids.{null_indom}
 use Rattle.pcp_base.specs.declared.desc.Desc.{Desc}

@@ -1,5 +1,5 @@
 -- Which records of Meta a result still needs, and how they are framed (LOGARCHIVE(5)).
-use Rattle.std.specs.Prelude.{◌≡◌, ◌≢◌, ◌⊎◌, ◌<◌, ◌+◌, ℕ, suc, ℤ, Bool, true, false, min, slice_get, ◌&&◌, nat_eq, nat_lt, is_none, option_to_list, if◌then◌else◌, List, [], ◌∷◌, ◌++◌, length, map, Option, Some, None}
+use Rattle.std.specs.Prelude.{◌≡◌, ◌≢◌, ◌⊎◌, ◌<◌, ℕ, suc, ℤ, Bool, true, false, min, slice_get, ◌&&◌, nat_eq, nat_lt, is_none, option_to_list, if◌then◌else◌, List, [], ◌∷◌, ◌++◌, length, map, Option, Some, None}
 use Rattle.pcp_base.specs.Time.{Moment}
 use Rattle.pcp_base.specs.declared.desc.Desc.{Desc}
 use Rattle.pcp_base.specs.declared.result.PmResult.{PmResult}
@@ -7,12 +7,13 @@ use Rattle.pcp_base.specs.declared.result.ValueSet.{ValueSet}
 use Rattle.pcp_model.specs.declared.records.MetaRecord.{MetaRecord}
 use Rattle.pcp_model.specs.declared.records.MetaRecord.TheVariants.{Description, Domain, Other}
 use Rattle.pcp_model.specs.Described.{HoldsAt}
-use Rattle.pcp_model.specs.Frame.{frame}
-use Rattle.pcp_model.specs.Records.{description, domain}
+use Rattle.pcp_model.specs.Frame.{frame, IsFrameable}
+use Rattle.pcp_model.specs.Records.{description, domain, IsRecord}
 use Rattle.archive_meta.specs.declared.facts.Facts.{Facts}
 use Rattle.archive_meta.specs.declared.facts.RecordsFault.{RecordsFault}
 use Rattle.archive_meta.specs.declared.facts.RecordsFault.TheVariants.{Large, NoMemory}
 use Rattle.archive_meta.specs.Facts.{has_values, fact_of, listed_of, domain_of}
+use Rattle.archive_meta.specs.Records.{AreRecords}
 use Rattle.archive_meta.specs.Said.{description_of}
 
 -- a key leads to nothing any more
@@ -95,6 +96,12 @@ abbrev pub framed_records : List MetaRecord → List ℕ
 framed_records [] = []
 framed_records (r ∷ records) = framed_record r ++ framed_records records
 
+-- the one spelling of a record is read as it, and fits a frame
+abbrev pub IsSpelled : MetaRecord → Type 0
+IsSpelled (Description d names) = IsFrameable (description d names) × IsRecord (description d names) (Description d names)
+IsSpelled (Domain t indom pairs) = IsFrameable (domain t indom pairs) × IsRecord (domain t indom pairs) (Domain t indom pairs)
+IsSpelled Other = ⊥
+
 -- the length of the first of them that is too long for a frame
 abbrev pub large_length : List MetaRecord → Option ℕ
 large_length [] = None
@@ -110,12 +117,13 @@ abbrev pub IsLargeOf : List MetaRecord → RecordsFault → Type 0
 IsLargeOf records (Large bytes) = (n : ℕ) × (large_length records ≡ Some n) × (bytes ≡ min n 18446744073709551615)
 IsLargeOf records NoMemory = Unit {0}
 
--- The bytes are the missing records, framed, and each of them fits a frame.
+-- The bytes are the missing records, framed, each of them fits a frame, and they are read as these records.
 pub record AreMade (records : List MetaRecord) (facts : Facts) (answer : PmResult) (bytes : List ℕ) : Type 0 where
   pub missing : List MetaRecord
   pub needed : AreMissing records facts answer missing
   pub fit : large_length missing ≡ None
   pub is : bytes ≡ framed_records missing
+  pub read : AreRecords bytes missing
 
 -- one of them doesn't
 abbrev pub IsRecordsFault : List MetaRecord → Facts → PmResult → RecordsFault → Type 0

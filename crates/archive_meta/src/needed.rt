@@ -1,8 +1,9 @@
 //! The records that a result still needs, framed behind what a buffer holds.
 ghost use Rattle.std.specs.Prelude.{◌≡◌, ◌+◌, ◌*◌, ◌≤◌, [], ◌∷◌, ◌++◌, None, length, map, min, OnOk, IfErr, MatchResult};
+ghost use Rattle.std.specs.List.{AllByRecursion};
 ghost use Rattle.pcp_model.specs.Frame.{frame};
 ghost use Rattle.pcp_model.specs.Records.{description, domain, name_table};
-ghost use Rattle.archive_meta.specs.Missing.{described_by, listed_from, framed_records, large_length, at_places, IsLarge, IsLargeOf, AreMade, IsRecordsFault};
+ghost use Rattle.archive_meta.specs.Missing.{described_by, listed_from, framed_records, large_length, at_places, IsSpelled, IsLarge, IsLargeOf, AreMade, IsRecordsFault};
 
 use crate::facts::{Facts, RecordsFault};
 use crate::state::MetaState;
@@ -46,6 +47,7 @@ fn domain_length(pairs: &[(i32, Text)]) -> u64
 fn put_fact(out: &mut Vec<u8>, desc: &Desc, name: &Text) -> Result<(), RecordsFault>
     ensures bytes { OnOk result (out.new.items ≡ out.old.items ++ frame (description desc.now (name.now ∷ []))) }
     ensures fits { OnOk result (length (frame (description desc.now (name.now ∷ []))) ≤ 16777216) }
+    ensures read { OnOk result (IsSpelled (described_by (desc.now, name.now))) }
     ensures fault { IfErr result (IsLarge (length (frame (description desc.now (name.now ∷ []))))) }
 {
     let bytes = description_length(name);
@@ -66,6 +68,7 @@ fn put_listed(
 ) -> Result<(), RecordsFault>
     ensures bytes { OnOk result (out.new.items ≡ out.old.items ++ frame (domain t indom pairs.now)) }
     ensures fits { OnOk result (length (frame (domain t indom pairs.now)) ≤ 16777216) }
+    ensures read { OnOk result (IsSpelled (listed_from t (indom, pairs.now))) }
     ensures fault { IfErr result (IsLarge (length (frame (domain t indom pairs.now)))) }
 {
     let bytes = domain_length(pairs);
@@ -86,6 +89,7 @@ fn put_facts(
 ) -> Result<(), RecordsFault>
     ensures bytes { OnOk result (out.new.items ≡ out.old.items ++ framed_records (map described_by (at_places metrics.now places.now))) }
     ensures fit { OnOk result (large_length (map described_by (at_places metrics.now places.now)) ≡ None) }
+    ensures read { OnOk result (AllByRecursion IsSpelled (map described_by (at_places metrics.now places.now))) }
     ensures fault { IfErr result (IsLargeOf (map described_by (at_places metrics.now places.now))) }
 {
     for place in places {
@@ -105,6 +109,7 @@ fn put_domains(
 ) -> Result<(), RecordsFault>
     ensures bytes { OnOk result (out.new.items ≡ out.old.items ++ framed_records (map (listed_from t) (at_places domains.now places.now))) }
     ensures fit { OnOk result (large_length (map (listed_from t) (at_places domains.now places.now)) ≡ None) }
+    ensures read { OnOk result (AllByRecursion IsSpelled (map (listed_from t) (at_places domains.now places.now))) }
     ensures fault { IfErr result (IsLargeOf (map (listed_from t) (at_places domains.now places.now))) }
 {
     for place in places {

@@ -1,4 +1,4 @@
-use Rattle.std.proofs.Common.{◌≡◌, ℕ, ◌++◌, List, map, sym, ap, ap₂, ◌∙◌}
+use Rattle.std.proofs.Common.{◌≡◌, ℕ, ◌++◌, List, map, ap, ap₂, ◌∙◌}
 use Rattle.archive_meta.specs.Facts.{domain_of, listed_of}
 use Rattle.archive_meta.specs.Missing.{taken, shown_domains, domains_of, place_from, at_places}
 use Rattle.archive_meta.proofs.FramedRecords.{ok_then}

@@ -1,9 +1,9 @@
-use Rattle.std.proofs.Common.{◌≤◌, ◌++◌, length, get_or, map, ap, subst, ◌∙◌}
+use Rattle.std.proofs.Common.{◌≤◌, ◌++◌, length, get_or, map, ap, subst, ◌∙◌, arith}
 use Rattle.std.proofs.lemmas.List.{drop_more}
 use Rattle.pcp_model.specs.Frame.{frame}
 use Rattle.pcp_model.specs.Records.{domain}
-use Rattle.archive_meta.specs.Missing.{listed_from, at_places, IsLarge, IsLargeOf}
-use Rattle.archive_meta.proofs.FramedRecords.{IsPut, put_some, put_none, put_large, err_handed}
+use Rattle.archive_meta.specs.Missing.{listed_from, at_places, IsSpelled, IsLarge, IsLargeOf}
+use Rattle.archive_meta.proofs.FramedRecords.{put_some, put_none, read_some, read_none, read_all, put_large, err_handed}
 use Rattle.archive_meta.proofs.needed.put_domains.Goals as goal
 use Rattle.archive_meta.proofs.needed.put_domains.Goals.{in-Some+in_ok-put_listed, in_default}
 
@@ -22,9 +22,13 @@ loop-place-preserved c =
           let p = put_some (listed_from c.args.t) c.args.domains.now c.args.places.now c.loop-place.place-index (get_or c.args.places.now c.loop-place.place-index 0) (drop_more c.args.places.now c.loop-place.place-index 0 c.loop-place-test.true) w.in-Some.field-0.now c.loop-place.out.items c.match-get.out.items _ all
           w.in-Some.ensures (ap (λ o. o.items) w.out-is ∙ w.in_ok-put_listed.ensures.bytes ∙ ap (λ ps. c.loop-place.out.items ++ frame (domain c.args.t w.in-Some.field-0.now.0 ps)) w.as_slice.ensures)
           (subst (λ ps. length (frame (domain c.args.t w.in-Some.field-0.now.0 ps)) ≤ 16777216) w.as_slice.ensures w.in_ok-put_listed.ensures.fits) c.loop-place.invariant.whole c.loop-place.invariant.large in
-          record { whole = p.whole; large = p.large }
+          record { whole = p.whole; large = p.large; read = read_some (listed_from c.args.t) c.args.domains.now c.args.places.now c.loop-place.place-index (get_or c.args.places.now c.loop-place.place-index 0) (drop_more c.args.places.now c.loop-place.place-index 0 c.loop-place-test.true) w.in-Some.field-0.now all w.in-Some.ensures (subst (λ ps. IsSpelled (listed_from c.args.t (w.in-Some.field-0.now.0, ps))) w.as_slice.ensures w.in_ok-put_listed.ensures.read) c.loop-place.invariant.read }
       | in_default w ↦
           let p = put_none (listed_from c.args.t) c.args.domains.now c.args.places.now c.loop-place.place-index (get_or c.args.places.now c.loop-place.place-index 0) (drop_more c.args.places.now c.loop-place.place-index 0 c.loop-place-test.true) c.loop-place.out.items c.match-get.out.items _ all
           w.in_default.ensures (ap (λ o. o.items) w.out-is) c.loop-place.invariant.whole c.loop-place.invariant.large in
-          record { whole = p.whole; large = p.large }
+          record { whole = p.whole; large = p.large; read = read_none (listed_from c.args.t) c.args.domains.now c.args.places.now c.loop-place.place-index (get_or c.args.places.now c.loop-place.place-index 0) (drop_more c.args.places.now c.loop-place.place-index 0 c.loop-place-test.true) all w.in_default.ensures c.loop-place.invariant.read }
     ]
+
+pub returns-clause-read : goal.returns-clause-read
+returns-clause-read c =
+    read_all (listed_from c.args.t) c.args.domains.now c.args.places.now c.loop-place.place-index (map (listed_from c.args.t) (at_places c.args.domains.now c.args.places.now)) (omega (arith, c.loop-place-test.false)) c.loop-place.invariant.read

@@ -1,8 +1,8 @@
-use Rattle.std.proofs.Common.{◌≡◌, ◌+◌, [], ◌∷◌, ◌++◌, length, ap, ◌∙◌, arith}
-use Rattle.pcp_model.specs.Records.{description}
+use Rattle.std.proofs.Common.{◌≡◌, ◌+◌, [], ◌∷◌, ◌++◌, length, ap, ◌∙◌, subst, arith}
+use Rattle.pcp_model.specs.Records.{description, DescriptionInRange}
 use Rattle.pcp_model.proofs.Lengths.{length-frame}
 use Rattle.pcp_model.proofs.Spelled.{length-description}
-use Rattle.archive_meta.proofs.FramedRecords.{framed_out}
+use Rattle.archive_meta.proofs.FramedRecords.{framed_out, description_spelled}
 use Rattle.archive_meta.proofs.needed.put_fact.Goals as goal
 
 pub returns-then-bytes-gt-MOST-clause-fault : goal.returns-then-bytes-gt-MOST-clause-fault
@@ -24,3 +24,10 @@ returns-clause-fits c =
     let p = description c.args.desc.now (c.args.name.now ∷ []) in
     let long : length p ≡ 28 + (4 + length c.args.name.now + 0) = length-description c.args.desc.now (c.args.name.now ∷ []) in
     omega (arith, length-frame p, long, c.description_length-bytes.ensures, c.if-bytes-gt-MOST.false)
+
+pub returns-clause-read : goal.returns-clause-read
+returns-clause-read c =
+    let p = description c.args.desc.now (c.args.name.now ∷ []) in
+    let long : length p ≡ 28 + (4 + length c.args.name.now + 0) = length-description c.args.desc.now (c.args.name.now ∷ []) in
+    description_spelled c.args.desc.now c.args.name.now (omega (arith, length-frame p, long, c.description_length-bytes.ensures, c.if-bytes-gt-MOST.false))
+    (subst (DescriptionInRange c.args.desc.now) c.from_ref.ensures.value c.in_ok-put_description.ensures.range)

@@ -1,7 +1,7 @@
-use Rattle.std.proofs.Common.{get_or, map, ap, ◌∙◌}
+use Rattle.std.proofs.Common.{get_or, map, ap, ◌∙◌, arith}
 use Rattle.std.proofs.lemmas.List.{drop_more}
 use Rattle.archive_meta.specs.Missing.{described_by, at_places, IsLargeOf}
-use Rattle.archive_meta.proofs.FramedRecords.{IsPut, put_some, put_none, put_large, err_handed}
+use Rattle.archive_meta.proofs.FramedRecords.{put_some, put_none, read_some, read_none, read_all, put_large, err_handed}
 use Rattle.archive_meta.proofs.needed.put_facts.Goals as goal
 use Rattle.archive_meta.proofs.needed.put_facts.Goals.{in-Some+in_ok-put_fact, in_default}
 
@@ -19,9 +19,13 @@ loop-place-preserved c =
       | in-Some+in_ok-put_fact w ↦
           let p = put_some described_by c.args.metrics.now c.args.places.now c.loop-place.place-index (get_or c.args.places.now c.loop-place.place-index 0) (drop_more c.args.places.now c.loop-place.place-index 0 c.loop-place-test.true) w.in-Some.field-0.now c.loop-place.out.items c.match-get.out.items _ all
           w.in-Some.ensures (ap (λ o. o.items) w.out-is ∙ w.in_ok-put_fact.ensures.bytes) w.in_ok-put_fact.ensures.fits c.loop-place.invariant.whole c.loop-place.invariant.large in
-          record { whole = p.whole; large = p.large }
+          record { whole = p.whole; large = p.large; read = read_some described_by c.args.metrics.now c.args.places.now c.loop-place.place-index (get_or c.args.places.now c.loop-place.place-index 0) (drop_more c.args.places.now c.loop-place.place-index 0 c.loop-place-test.true) w.in-Some.field-0.now all w.in-Some.ensures w.in_ok-put_fact.ensures.read c.loop-place.invariant.read }
       | in_default w ↦
           let p = put_none described_by c.args.metrics.now c.args.places.now c.loop-place.place-index (get_or c.args.places.now c.loop-place.place-index 0) (drop_more c.args.places.now c.loop-place.place-index 0 c.loop-place-test.true) c.loop-place.out.items c.match-get.out.items _ all
           w.in_default.ensures (ap (λ o. o.items) w.out-is) c.loop-place.invariant.whole c.loop-place.invariant.large in
-          record { whole = p.whole; large = p.large }
+          record { whole = p.whole; large = p.large; read = read_none described_by c.args.metrics.now c.args.places.now c.loop-place.place-index (get_or c.args.places.now c.loop-place.place-index 0) (drop_more c.args.places.now c.loop-place.place-index 0 c.loop-place-test.true) all w.in_default.ensures c.loop-place.invariant.read }
     ]
+
+pub returns-clause-read : goal.returns-clause-read
+returns-clause-read c =
+    read_all described_by c.args.metrics.now c.args.places.now c.loop-place.place-index (map described_by (at_places c.args.metrics.now c.args.places.now)) (omega (arith, c.loop-place-test.false)) c.loop-place.invariant.read

@@ -1,8 +1,8 @@
-use Rattle.std.proofs.Common.{◌≡◌, ◌+◌, ◌*◌, length, arith}
-use Rattle.pcp_model.specs.Records.{domain, name_table}
+use Rattle.std.proofs.Common.{arith}
+use Rattle.pcp_model.specs.Records.{domain}
 use Rattle.pcp_model.proofs.Lengths.{length-frame}
 use Rattle.pcp_model.proofs.Spelled.{length-domain}
-use Rattle.archive_meta.proofs.FramedRecords.{framed_out}
+use Rattle.archive_meta.proofs.FramedRecords.{framed_out, domain_spelled}
 use Rattle.archive_meta.proofs.needed.put_listed.Goals as goal
 
 pub returns-then-bytes-gt-MOST-clause-fault : goal.returns-then-bytes-gt-MOST-clause-fault
@@ -22,3 +22,9 @@ pub returns-clause-fits : goal.returns-clause-fits
 returns-clause-fits c =
     let p = domain c.args.t c.args.indom c.args.pairs.now in
     omega (arith, length-frame p, length-domain c.args.t c.args.indom c.args.pairs.now, c.domain_length-bytes.ensures, c.if-bytes-gt-MOST.false)
+
+pub returns-clause-read : goal.returns-clause-read
+returns-clause-read c =
+    let p = domain c.args.t c.args.indom c.args.pairs.now in
+    domain_spelled c.args.t c.args.indom c.args.pairs.now (omega (arith, length-frame p, length-domain c.args.t c.args.indom c.args.pairs.now, c.domain_length-bytes.ensures, c.if-bytes-gt-MOST.false))
+    c.in_ok-put_domain.ensures.range

@@ -1,5 +1,3 @@
-use Rattle.std.proofs.Common.{◌≡◌, true, false, length, drop, sym, ◌∙◌, arith}
-use Rattle.pcp_model.specs.Frame.{IsTorn}
 use Rattle.archive_meta.specs.Records.{IsFrontFault}
 use Rattle.archive_meta.proofs.Frames.{adds_one, between, handed_on}
 use Rattle.archive_meta.proofs.Torn.{front_frame_fault, front_add_fault, end_torn}

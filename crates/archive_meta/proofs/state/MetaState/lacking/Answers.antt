@@ -1,4 +1,4 @@
-use Rattle.std.proofs.Common.{get_or, ◌≡◌, ◌++◌, true, false, sym, subst, ap, ◌∙◌}
+use Rattle.std.proofs.Common.{get_or, subst, ◌∙◌}
 use Rattle.std.proofs.lemmas.List.{drop_more}
 use Rattle.archive_meta.specs.Missing.{Tells}
 use Rattle.archive_meta.proofs.Lacking.{lacks_here, holds_already, nothing_here, all_so_far}

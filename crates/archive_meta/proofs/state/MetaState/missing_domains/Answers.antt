@@ -1,4 +1,4 @@
-use Rattle.std.proofs.Common.{◌≡◌, ℕ, List, ◌++◌, map, sym, subst, ◌∙◌}
+use Rattle.std.proofs.Common.{◌≡◌, ℕ, List, ◌++◌, map, sym, subst}
 use Rattle.std.specs.List.{AllByRecursion}
 use Rattle.pcp_model.specs.Described.{HoldsAt}
 use Rattle.archive_meta.specs.Facts.{domain_of}

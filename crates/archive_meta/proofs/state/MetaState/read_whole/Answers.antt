@@ -1,4 +1,4 @@
-use Rattle.std.proofs.Common.{◌≡◌, [], take, inr, subst}
+use Rattle.std.proofs.Common.{◌≡◌, take, inr, subst}
 use Rattle.archive_meta.specs.Records.{Adds}
 use Rattle.archive_meta.proofs.Torn.{has_front, one_front, front_none}
 use Rattle.archive_meta.proofs.state.MetaState.read_whole.Goals as goal

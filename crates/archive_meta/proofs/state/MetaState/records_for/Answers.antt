@@ -1,8 +1,9 @@
-use Rattle.std.proofs.Common.{◌≡◌, ℕ, ◌++◌, List, None, map, sym, subst, subst₂, ap, ◌∙◌}
+use Rattle.std.proofs.Common.{◌≡◌, ℕ, ◌++◌, List, None, map, sym, subst, subst₂, ap}
 use Rattle.pcp_base.specs.declared.desc.Desc.{Desc}
 use Rattle.pcp_base.specs.declared.result.ValueSet.{ValueSet}
+use Rattle.std.specs.List.{AllByRecursion}
 use Rattle.archive_meta.specs.Facts.{fact_of}
-use Rattle.archive_meta.specs.Missing.{taken, undescribed, described_by, listed_from, missing_descriptions, at_places, framed_records, large_length, IsLargeOf, AreMade, IsRecordsFault}
+use Rattle.archive_meta.specs.Missing.{taken, undescribed, described_by, listed_from, at_places, framed_records, large_length, IsSpelled, IsLargeOf, AreMade, IsRecordsFault}
 use Rattle.archive_meta.proofs.FramedRecords.{both_made, first_large, last_large, match_handed}
 use Rattle.archive_meta.proofs.state.MetaState.records_for.Goals as goal
 
@@ -44,4 +45,6 @@ returns c =
     (subst (λ ps. c.put_facts.new.out.items ≡ c.new-out.result.items ++ framed_records (ds ps)) c.as_slice-2.ensures c.in_ok-put_facts.ensures.bytes)
     (subst (λ ps. large_length (ds ps) ≡ None) c.as_slice-2.ensures c.in_ok-put_facts.ensures.fit)
     (subst (λ ps. c.put_domains.new.out.items ≡ c.put_facts.new.out.items ++ framed_records (ms ps)) c.as_slice-3.ensures c.in_ok-put_domains.ensures.bytes)
-    (subst (λ ps. large_length (ms ps) ≡ None) c.as_slice-3.ensures c.in_ok-put_domains.ensures.fit))
+    (subst (λ ps. large_length (ms ps) ≡ None) c.as_slice-3.ensures c.in_ok-put_domains.ensures.fit)
+    (subst (λ ps. AllByRecursion IsSpelled (ds ps)) c.as_slice-2.ensures c.in_ok-put_facts.ensures.read)
+    (subst (λ ps. AllByRecursion IsSpelled (ms ps)) c.as_slice-3.ensures c.in_ok-put_domains.ensures.read))
