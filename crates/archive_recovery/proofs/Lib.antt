@@ -1,7 +1,10 @@
 pub mod Again
+pub mod Ends
+pub mod LastVolume
 pub mod Moments
 pub mod Parts
 pub mod Read
 pub mod Settled
+pub mod Steps
 pub mod Sures
 pub mod Volumes

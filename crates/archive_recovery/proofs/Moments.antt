@@ -32,7 +32,7 @@ emptied_image label held image cut = record {
   ];
 }
 
-emptied : (h : Held) → cut_to 0 h ≡ record { sure = []; rest = [] }
+pub emptied : (h : Held) → cut_to 0 h ≡ record { sure = []; rest = [] }
 emptied h = ap (λ n. record { sure = []; rest = take n h.rest }) (let e : 0 - length h.sure ≡ 0 = omega arith in e)
 
 was_before : Holdings → Files → Files

@@ -40,13 +40,13 @@ pub record HalfVolumes (files image : Files) (c : ArchiveContents) : Type 0 wher
 -- ---- which volumes have their label
 
 -- the last one has none
-labelled_short : (files : Files) (number : ℕ) (items : List Item) (before : List (ℕ × List Item)) → length (files (Volume number)) < 132 → labelled_volumes files (before ++ (number, items) ∷ []) ≡ before
+pub labelled_short : (files : Files) (number : ℕ) (items : List Item) (before : List (ℕ × List Item)) → length (files (Volume number)) < 132 → labelled_volumes files (before ++ (number, items) ∷ []) ≡ before
 labelled_short files number items [] short = ap (λ (b : Bool). if b then [] else (number, items) ∷ []) (lt-ltb (length (files (Volume number))) 132 short)
 labelled_short files number items (v ∷ []) short = ap (λ xs. v ∷ xs) (labelled_short files number items [] short)
 labelled_short files number items (v ∷ w ∷ vs) short = ap (λ xs. v ∷ xs) (labelled_short files number items (w ∷ vs) short)
 
 -- those before the last one have theirs
-before_long : (files : Files) (l : LabelFields) (number : ℕ) (items : List Item) (before : List (ℕ × List Item)) → AreVolumes files l (before ++ (number, items) ∷ []) → AllByRecursion (λ (v : ℕ × List Item). 132 ≤ length (files (Volume v.0))) before
+pub before_long : (files : Files) (l : LabelFields) (number : ℕ) (items : List Item) (before : List (ℕ × List Item)) → AreVolumes files l (before ++ (number, items) ∷ []) → AllByRecursion (λ (v : ℕ × List Item). 132 ≤ length (files (Volume v.0))) before
 before_long files l number items [] are = tt
 before_long files l number items (v ∷ []) are = (labelled_long IsItem (files (Volume v.0)) l (pos v.0) v.1 [] are.0, tt)
 before_long files l number items (v ∷ w ∷ vs) are = (labelled_long IsItem (files (Volume v.0)) l (pos v.0) v.1 [] are.0, before_long files l number items (w ∷ vs) are.2)
@@ -88,7 +88,7 @@ module _ (files image left : Files) (l : LabelFields) where
   are_mended_before number [] same low mended = mended
   are_mended_before number (v ∷ vs) same low mended = before_mended number (v ∷ vs) same low mended
 
-  some_mended : (gs : Files) (before : List (ℕ × List Item)) (v : ℕ × List Item) → AllByRecursion (Mended gs) (before ++ v ∷ []) → AreMended gs l left (before ++ v ∷ [])
+  pub some_mended : (gs : Files) (before : List (ℕ × List Item)) (v : ℕ × List Item) → AllByRecursion (Mended gs) (before ++ v ∷ []) → AreMended gs l left (before ++ v ∷ [])
   some_mended gs [] v all = all
   some_mended gs (w ∷ before) v all = all
 

@@ -1,3 +1,4 @@
+pub mod Damage
 pub mod Halfway
 pub mod Laws
 pub mod Mending

@@ -4,9 +4,10 @@
 mod laws;
 mod mending;
 mod syncing;
+mod whole;
 
 pub use laws::{
     halfway_is_read, halfway_recovers_sound, halfway_recovers_the_same, settled_is_halfway,
 };
-pub use mending::{Last, Tail, cut_tail, mend_index, mend_volumes};
-pub use syncing::sync_all;
+pub use mending::{Last, Tail};
+pub use whole::{Damage, mend};

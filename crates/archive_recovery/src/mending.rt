@@ -23,7 +23,7 @@ pub struct Last {
 }
 
 /// Cuts off what stands behind a file's whole records.
-pub fn cut_tail<D: Disk>(disk: &mut D, file: FileId, tail: Tail) -> Result<(), Failed>
+pub(crate) fn cut_tail<D: Disk>(disk: &mut D, file: FileId, tail: Tail) -> Result<(), Failed>
     requires numbered { IsNumbered file }
     requires length { D.tells → tail.length ≡ length_of (D.held disk.old file) }
     ensures held { D.tells → OnOk result (Becomes file (cut_to tail.end (D.held disk.old file)) (D.held disk.old) (D.held disk.new)) }
@@ -38,7 +38,7 @@ pub fn cut_tail<D: Disk>(disk: &mut D, file: FileId, tail: Tail) -> Result<(), F
 }
 
 /// Cuts off what the index has behind its whole entries, which end there; where its label isn't whole (`None`), it gets it anew.
-pub fn mend_index<D: Disk>(
+pub(crate) fn mend_index<D: Disk>(
     disk: &mut D,
     label: &[u8],
     end: Option<u64>,
@@ -82,7 +82,7 @@ fn mend_last<D: Disk>(disk: &mut D, last: Option<Last>) -> Result<(), Failed>
 }
 
 /// Cuts off what the last volume has behind its whole records, and gives the first volume's label where no volume has one.
-pub fn mend_volumes<D: Disk>(
+pub(crate) fn mend_volumes<D: Disk>(
     disk: &mut D,
     label: &[u8],
     last: Option<Last>,

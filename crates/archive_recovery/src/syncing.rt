@@ -36,7 +36,7 @@ fn sync_volumes<D: Disk>(disk: &mut D, count: u32) -> Result<(), Failed>
 }
 
 /// Makes all bytes of Meta, of the index and of each volume sure, in this order.
-pub fn sync_all<D: Disk>(disk: &mut D) -> Result<(), Failed>
+pub(crate) fn sync_all<D: Disk>(disk: &mut D) -> Result<(), Failed>
     ensures held { D.tells → OnOk result (MadeSure IsAny (D.held disk.old) (D.held disk.new)) }
     ensures any_moment { D.tells → LeavesOnly D.moment D.left_since disk.old disk.new (CrashImage (D.held disk.old)) }
     ensures wrapped { D.tells → D.wrapped_file disk.new ≡ D.wrapped_file disk.old }
