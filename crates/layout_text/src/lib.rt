@@ -15,6 +15,7 @@ mod writing;
 pub use content::{content_of, written_of};
 pub use laws::{read_line_is_line, written_content_is_read, written_line_is_read};
 pub use line::{Line, Written};
+pub use parts::{put_kind, put_semantics};
 pub use reading::read_line;
 pub use whole::layout_text;
 pub use writing::write_line;

@@ -1,1 +1,8 @@
 mod Bytes
+pub mod Days
+pub mod Digits
+pub mod Held
+pub mod Places
+pub mod Tables
+pub mod Words
+pub mod Zeros

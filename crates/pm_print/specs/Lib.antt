@@ -1,4 +1,12 @@
 pub mod Bytes
+pub mod Calendar
 pub mod Dumps
 pub mod FaultLines
+pub mod Holding
+pub mod Infos
+pub mod Items
 pub mod Laws
+pub mod Rows
+pub mod Sets
+pub mod Stamps
+pub mod Values

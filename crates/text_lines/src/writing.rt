@@ -17,9 +17,9 @@ fn hex_glyph(digit: u8) -> u8
     b'a' - 10 + digit
 }
 
-// So many hexadecimal digits of a number.
+/// So many hexadecimal digits of a number, the last ones.
 #[tactic(auto, unfolding(crate::specs::Spelling::hex_text))]
-fn put_hex(out: &mut Vec<u8>, count: u32, number: u64) -> Result<(), NoMemory>
+pub fn put_hex(out: &mut Vec<u8>, count: u32, number: u64) -> Result<(), NoMemory>
     ensures { OnOk result (out.new.items ≡ out.old.items ++ hex_text count number) }
 {
     if count == 0 {
@@ -46,7 +46,8 @@ fn put_escape(out: &mut Vec<u8>, byte: u8) -> Result<(), NoMemory>
     Ok(())
 }
 
-fn put_escapes(out: &mut Vec<u8>, text: &[u8]) -> Result<(), NoMemory>
+/// The bytes of a text as they stand between quotes.
+pub fn put_escapes(out: &mut Vec<u8>, text: &[u8]) -> Result<(), NoMemory>
     ensures { OnOk result (out.new.items ≡ out.old.items ++ escapes text.now) }
 {
     for byte in text {
