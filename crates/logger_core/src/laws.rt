@@ -1,8 +1,23 @@
 //! What holds of what a logger keeps. Each is the contract of a function without parameters, which does nothing.
-ghost use Rattle.logger_core.specs.Laws.{KeptFilesSurvive};
+ghost use Rattle.logger_core.specs.Laws.{KeptFilesSurvive, NearerIsKept, SureIsAcknowledged, SureIsKnown};
 
 /// Whatever a crash leaves of what a logger keeps is an archive of the first of its items, with all acknowledged ones,
 /// each described by the metadata that is left, and sound.
 pub fn kept_files_survive()
     ensures { KeptFilesSurvive }
+{}
+
+/// What a logger keeps is kept where a file got more of the bytes that it is meant to have, or more of them are sure.
+pub fn nearer_is_kept()
+    ensures { NearerIsKept }
+{}
+
+/// Once the volume that is written is wholly sure, every item is acknowledged.
+pub fn sure_is_acknowledged()
+    ensures { SureIsAcknowledged }
+{}
+
+/// Once Meta is wholly sure, all its records are.
+pub fn sure_is_known()
+    ensures { SureIsKnown }
 {}

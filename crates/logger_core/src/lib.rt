@@ -3,4 +3,4 @@
 
 mod laws;
 
-pub use laws::kept_files_survive;
+pub use laws::{kept_files_survive, nearer_is_kept, sure_is_acknowledged, sure_is_known};
