@@ -23,10 +23,10 @@ use Rattle.pcp_model.proofs.Lists.{each-append, each-all, each-map}
 
 -- ---- what the other files hold
 
-added_this : (n : ℕ) (bytes : List ℕ) (files : Files) → with_added (Volume n) bytes files (Volume n) ≡ files (Volume n) ++ bytes
+pub added_this : (n : ℕ) (bytes : List ℕ) (files : Files) → with_added (Volume n) bytes files (Volume n) ≡ files (Volume n) ++ bytes
 added_this n bytes files = ap (λ (b : Bool). if b then files (Volume n) ++ bytes else files (Volume n)) (eq-eqb n n refl)
 
-added_other : (n k : ℕ) (bytes : List ℕ) (files : Files) → k ≢ n → with_added (Volume n) bytes files (Volume k) ≡ files (Volume k)
+pub added_other : (n k : ℕ) (bytes : List ℕ) (files : Files) → k ≢ n → with_added (Volume n) bytes files (Volume k) ≡ files (Volume k)
 added_other n k bytes files other = ap (λ (b : Bool). if b then files (Volume k) ++ bytes else files (Volume k)) (ne_eqb n k (λ (e : n ≡ k). other (sym e)))
 
 longer_by : (b : Bool) (old bytes : List ℕ) → length old ≤ length (if b then old ++ bytes else old)
@@ -103,14 +103,14 @@ last_listed (v ∷ before) number items =
     let c : Contains (numbers (before ++ (number, items) ∷ [])) number = last_listed before number items in
     (suc c.0, omega (arith, c.1), c.2)
 
-first_listed : (n : ℕ) (vs ws : List (ℕ × List Item)) (k : ℕ) → k < length (numbers vs) → slice_index_or (numbers vs) k n ≡ n → Contains (numbers (vs ++ ws)) n
+pub first_listed : (n : ℕ) (vs ws : List (ℕ × List Item)) (k : ℕ) → k < length (numbers vs) → slice_index_or (numbers vs) k n ≡ n → Contains (numbers (vs ++ ws)) n
 first_listed n [] ws k h is = absurd (omega arith)
 first_listed n (v ∷ vs) ws zero h is = (0, omega arith, is)
 first_listed n (v ∷ vs) ws (suc k) h is =
     let c : Contains (numbers (vs ++ ws)) n = first_listed n vs ws k (omega arith) is in
     (suc c.0, omega (arith, c.1), c.2)
 
-above_listed : (n : ℕ) (vs : List (ℕ × List Item)) → AllByRecursion (λ (v : ℕ × List Item). v.0 < n) vs → (k : ℕ) → k < length (numbers vs) → slice_index_or (numbers vs) k n ≡ n → ⊥
+pub above_listed : (n : ℕ) (vs : List (ℕ × List Item)) → AllByRecursion (λ (v : ℕ × List Item). v.0 < n) vs → (k : ℕ) → k < length (numbers vs) → slice_index_or (numbers vs) k n ≡ n → ⊥
 above_listed n [] all k h is = omega arith
 above_listed n (v ∷ vs) all zero h is = let e : v.0 ≡ n = is in omega (arith, all.0)
 above_listed n (v ∷ vs) all (suc k) h is = above_listed n vs all.1 k (omega arith) is
@@ -119,29 +119,29 @@ pub items_of-append : (vs ws : List (ℕ × List Item)) → items_of (vs ++ ws) 
 items_of-append [] ws = refl
 items_of-append (v ∷ vs) ws = ap (λ t. v.1 ++ t) (items_of-append vs ws) ∙ sym (append_assoc v.1 (items_of vs) (items_of ws))
 
-items_behind : (before : List (ℕ × List Item)) (number : ℕ) (items more : List Item) → items_of (before ++ (number, items ++ more) ∷ []) ≡ items_of (before ++ (number, items) ∷ []) ++ more
+pub items_behind : (before : List (ℕ × List Item)) (number : ℕ) (items more : List Item) → items_of (before ++ (number, items ++ more) ∷ []) ≡ items_of (before ++ (number, items) ∷ []) ++ more
 items_behind [] number items more = append-nil (items ++ more) ∙ ap (λ t. t ++ more) (sym (append-nil items))
 items_behind (v ∷ before) number items more = ap (λ t. v.1 ++ t) (items_behind before number items more) ∙ sym (append_assoc v.1 (items_of (before ++ (number, items) ∷ [])) more)
 
-no_torn_end : IsTorn []
+pub no_torn_end : IsTorn []
 no_torn_end = inl (omega arith)
 
 -- ---- an item
 
-abbrev with_volumes : ArchiveContents → List (ℕ × List Item) → ArchiveContents
+abbrev pub with_volumes : ArchiveContents → List (ℕ × List Item) → ArchiveContents
 with_volumes c volumes = record { label = c.label; records = c.records; entries = c.entries; volumes = volumes }
 
 module _ (files : Files) (c : ArchiveContents) (number : ℕ) (payload : List ℕ) (x : Item) (is : IsArchive files c) (ends : EndsWhole files c number) (fits : IsFrameable payload) (read : IsItem payload x) where
-  abbrev with_item : Files
+  abbrev pub with_item : Files
   with_item = with_added (Volume number) (frame payload) files
+
+  pub item_whole : LabelledFile IsItem (with_item (Volume number)) c.label (pos number) (ends.items ++ x ∷ []) []
+  item_whole = subst (λ t. LabelledFile IsItem t c.label (pos number) (ends.items ++ x ∷ []) []) (sym (added_this number (frame payload) files)) (added_record IsItem (files (Volume number)) c.label (pos number) ends.items payload x ends.whole fits read)
 
   item_volumes : AreVolumes with_item c.label (ends.before ++ (number, ends.items ++ x ∷ []) ∷ [])
   item_volumes =
       let listed : AreVolumes files c.label (ends.before ++ (number, ends.items) ∷ []) = subst (AreVolumes files c.label) ends.are is.volumes in
-      let last : LabelledFile IsItem (with_item (Volume number)) c.label (pos number) (ends.items ++ x ∷ []) [] =
-      subst (λ t. LabelledFile IsItem t c.label (pos number) (ends.items ++ x ∷ []) []) (sym (added_this number (frame payload) files))
-      (added_record IsItem (files (Volume number)) c.label (pos number) ends.items payload x ends.whole fits read) in
-      last_replaced files with_item c.label number ends.items ends.before (ends.items ++ x ∷ []) listed (λ n low. added_other number n (frame payload) files (λ e. omega arith)) (inr ([], no_torn_end, last))
+      last_replaced files with_item c.label number ends.items ends.before (ends.items ++ x ∷ []) listed (λ n low. added_other number n (frame payload) files (λ e. omega arith)) (inr ([], no_torn_end, item_whole))
 
   item_others : (n : ℕ) → (Contains (numbers (ends.before ++ (number, ends.items ++ x ∷ []) ∷ [])) n → ⊥) → with_item (Volume n) ≡ []
   item_others n none =
@@ -149,16 +149,19 @@ module _ (files : Files) (c : ArchiveContents) (number : ℕ) (payload : List �
       let same : numbers c.volumes ≡ numbers (ends.before ++ (number, ends.items ++ x ∷ []) ∷ []) = ap numbers ends.are ∙ numbers_same ends.before number ends.items (ends.items ++ x ∷ []) in
       added_other number n (frame payload) files other ∙ is.others n (λ has. none (subst (λ (ns : List ℕ). Contains ns n) same has))
 
+  pub item_is : IsArchive with_item (with_volumes c (ends.before ++ (number, ends.items ++ x ∷ []) ∷ []))
+  item_is = record {
+    meta = meta_kept (files Meta) c (with_volumes c (ends.before ++ (number, ends.items ++ x ∷ []) ∷ [])) is.meta refl refl;
+    index = entries_kept (files Index) c.label c.records c.records c.entries c.volumes (ends.before ++ (number, ends.items ++ x ∷ []) ∷ []) is.index;
+    volumes = item_volumes;
+    others = item_others;
+    labelled = still_labelled (Volume number) (frame payload) files c.entries is.labelled;
+  }
+
   pub item_added : GrowsTo with_item c [] [] (x ∷ [])
   item_added = record {
     new = with_volumes c (ends.before ++ (number, ends.items ++ x ∷ []) ∷ []);
-    is = record {
-      meta = meta_kept (files Meta) c (with_volumes c (ends.before ++ (number, ends.items ++ x ∷ []) ∷ [])) is.meta refl refl;
-      index = entries_kept (files Index) c.label c.records c.records c.entries c.volumes (ends.before ++ (number, ends.items ++ x ∷ []) ∷ []) is.index;
-      volumes = item_volumes;
-      others = item_others;
-      labelled = still_labelled (Volume number) (frame payload) files c.entries is.labelled;
-    };
+    is = item_is;
     longer = record {
       label = refl;
       records = sym (append-nil c.records);
@@ -171,38 +174,41 @@ module _ (files : Files) (c : ArchiveContents) (number : ℕ) (payload : List �
 
 module _ (files : Files) (c : ArchiveContents) (payloads : List (List ℕ)) (more : List MetaRecord) (is : IsArchive files c) (whole : LabelledFile IsRecord (files Meta) c.label (negsuc 0) c.records []) (read : AreRead IsRecord payloads more)
     (agree : AreConsistent (c.records ++ more)) where
-  abbrev with_records : Files
+  abbrev pub with_records : Files
   with_records = with_added Meta (frames payloads) files
 
-  abbrev more_records : ArchiveContents
+  abbrev pub more_records : ArchiveContents
   more_records = record { label = c.label; records = c.records ++ more; entries = c.entries; volumes = c.volumes }
 
-  records_text : with_records Meta ≡ whole.head ++ (frames (whole.payloads ++ payloads) ++ [])
+  pub records_text : with_records Meta ≡ whole.head ++ (frames (whole.payloads ++ payloads) ++ [])
   records_text =
       ap (λ t. t ++ frames payloads) (whole.is ∙ ap (λ t. whole.head ++ t) (append-nil (frames whole.payloads))) ∙ append_assoc whole.head (frames whole.payloads) (frames payloads)
       ∙ ap (λ t. whole.head ++ t) (sym (append-nil (frames (whole.payloads ++ payloads)) ∙ frames-append whole.payloads payloads))
 
+  pub records_are : IsArchive with_records more_records
+  records_are = record {
+    meta = record {
+      torn = [];
+      is_torn = no_torn_end;
+      holds = record {
+        head = whole.head;
+        label = whole.label;
+        payloads = whole.payloads ++ payloads;
+        read = read-append IsRecord whole.payloads payloads c.records more whole.read read;
+        is = records_text;
+      };
+      consistent = agree;
+    };
+    index = entries_kept (files Index) c.label c.records (c.records ++ more) c.entries c.volumes c.volumes is.index;
+    volumes = volumes_same files with_records c.label c.volumes (each-all (λ (v : ℕ × List Item). with_records (Volume v.0) ≡ files (Volume v.0)) (λ v. refl) c.volumes) is.volumes;
+    others = is.others;
+    labelled = still_labelled Meta (frames payloads) files c.entries is.labelled;
+  }
+
   pub records_added : GrowsTo with_records c more [] []
   records_added = record {
     new = more_records;
-    is = record {
-      meta = record {
-        torn = [];
-        is_torn = no_torn_end;
-        holds = record {
-          head = whole.head;
-          label = whole.label;
-          payloads = whole.payloads ++ payloads;
-          read = read-append IsRecord whole.payloads payloads c.records more whole.read read;
-          is = records_text;
-        };
-        consistent = agree;
-      };
-      index = entries_kept (files Index) c.label c.records (c.records ++ more) c.entries c.volumes c.volumes is.index;
-      volumes = volumes_same files with_records c.label c.volumes (each-all (λ (v : ℕ × List Item). with_records (Volume v.0) ≡ files (Volume v.0)) (λ v. refl) c.volumes) is.volumes;
-      others = is.others;
-      labelled = still_labelled Meta (frames payloads) files c.entries is.labelled;
-    };
+    is = records_are;
     longer = record { label = refl; records = refl; entries = sym (append-nil c.entries); items = sym (append-nil (items_of c.volumes)) };
   }
 
@@ -213,57 +219,60 @@ entries-append [] fs = refl
 entries-append (e ∷ es) fs = ap (λ t. entry e ++ t) (entries-append es fs) ∙ sym (append_assoc (entry e) (entries es) (entries fs))
 
 module _ (files : Files) (c : ArchiveContents) (e : Entry) (is : IsArchive files c) (index : HasEntries (files Index) c) (whole : index.rest ≡ []) (n : ℕ) (label : 132 ≤ length (files (Volume n))) (fits : FitsEntry e) where
-  abbrev with_entry : Files
+  abbrev pub with_entry : Files
   with_entry = with_added Index (entry e) files
 
-  abbrev more_entries : ArchiveContents
+  abbrev pub more_entries : ArchiveContents
   more_entries = record { label = c.label; records = c.records; entries = c.entries ++ e ∷ []; volumes = c.volumes }
 
-  entry_text : with_entry Index ≡ index.head ++ (entries (c.entries ++ e ∷ []) ++ [])
+  pub entry_text : with_entry Index ≡ index.head ++ (entries (c.entries ++ e ∷ []) ++ [])
   entry_text =
       ap (λ t. t ++ entry e) (index.is ∙ ap (λ t. index.head ++ t) (ap (λ t. entries c.entries ++ t) whole ∙ append-nil (entries c.entries))) ∙ append_assoc index.head (entries c.entries) (entry e)
       ∙ ap (λ t. index.head ++ t) (sym (append-nil (entries (c.entries ++ e ∷ [])) ∙ entries-append c.entries (e ∷ []) ∙ ap (λ t. entries c.entries ++ t) (append-nil (entry e))))
 
+  pub entry_is : IsArchive with_entry more_entries
+  entry_is = record {
+    meta = meta_kept (files Meta) c more_entries is.meta refl refl;
+    index = inr (record {
+      head = index.head;
+      label = index.label;
+      fit = each-append FitsEntry c.entries (e ∷ []) index.fit (fits, tt);
+      rest = [];
+      short = omega arith;
+      is = entry_text;
+    });
+    volumes = volumes_same files with_entry c.label c.volumes (each-all (λ (v : ℕ × List Item). with_entry (Volume v.0) ≡ files (Volume v.0)) (λ v. refl) c.volumes) is.volumes;
+    others = is.others;
+    labelled = inr (n, label);
+  }
+
   pub entry_added : GrowsTo with_entry c [] (e ∷ []) []
   entry_added = record {
     new = more_entries;
-    is = record {
-      meta = meta_kept (files Meta) c more_entries is.meta refl refl;
-      index = inr (record {
-        head = index.head;
-        label = index.label;
-        fit = each-append FitsEntry c.entries (e ∷ []) index.fit (fits, tt);
-        rest = [];
-        short = omega arith;
-        is = entry_text;
-      });
-      volumes = volumes_same files with_entry c.label c.volumes (each-all (λ (v : ℕ × List Item). with_entry (Volume v.0) ≡ files (Volume v.0)) (λ v. refl) c.volumes) is.volumes;
-      others = is.others;
-      labelled = inr (n, label);
-    };
+    is = entry_is;
     longer = record { label = refl; records = sym (append-nil c.records); entries = refl; items = sym (append-nil (items_of c.volumes)) };
   }
 
 -- ---- a volume
 
 module _ (files : Files) (c : ArchiveContents) (number next : ℕ) (head : List ℕ) (is : IsArchive files c) (ends : EndsWhole files c number) (above : number < next) (label : IsLabel head c.label (pos next)) where
-  abbrev with_volume : Files
+  abbrev pub with_volume : Files
   with_volume = with_added (Volume next) head files
 
   listed : AreVolumes files c.label (ends.before ++ (number, ends.items) ∷ [])
   listed = subst (AreVolumes files c.label) ends.are is.volumes
 
-  all_below : AllByRecursion (λ (v : ℕ × List Item). v.0 < next) c.volumes
+  pub all_below : AllByRecursion (λ (v : ℕ × List Item). v.0 < next) c.volumes
   all_below =
       let before : AllByRecursion (λ (v : ℕ × List Item). v.0 < number) ends.before = before_last files files c.label number ends.items ends.before listed in
       subst (AllByRecursion (λ (v : ℕ × List Item). v.0 < next)) (sym ends.are)
       (each-append (λ (v : ℕ × List Item). v.0 < next) ends.before ((number, ends.items) ∷ [])
       (each-map (λ (v : ℕ × List Item). v.0 < number) (λ (v : ℕ × List Item). v.0 < next) (λ v low. omega arith) ends.before before) (above, tt))
 
-  was_empty : files (Volume next) ≡ []
+  pub was_empty : files (Volume next) ≡ []
   was_empty = is.others next (λ has. above_listed next c.volumes all_below has.0 has.1 has.2)
 
-  volume_text : with_volume (Volume next) ≡ head
+  pub volume_text : with_volume (Volume next) ≡ head
   volume_text = added_this next head files ∙ ap (λ t. t ++ head) was_empty
 
   last_volume : IsLastVolume (with_volume (Volume next)) c.label next []
@@ -278,15 +287,18 @@ module _ (files : Files) (c : ArchiveContents) (number next : ℕ) (head : List 
       let other : n ≢ next = λ same. none (subst (Contains (numbers (c.volumes ++ (next, []) ∷ []))) (sym same) (last_listed c.volumes next [])) in
       added_other next n head files other ∙ is.others n (λ has. none (first_listed n c.volumes ((next, []) ∷ []) has.0 has.1 has.2))
 
+  pub volume_is : IsArchive with_volume (with_volumes c (c.volumes ++ (next, []) ∷ []))
+  volume_is = record {
+    meta = meta_kept (files Meta) c (with_volumes c (c.volumes ++ (next, []) ∷ [])) is.meta refl refl;
+    index = entries_kept (files Index) c.label c.records c.records c.entries c.volumes (c.volumes ++ (next, []) ∷ []) is.index;
+    volumes = next_volumes;
+    others = next_others;
+    labelled = still_labelled (Volume next) head files c.entries is.labelled;
+  }
+
   pub volume_added : GrowsTo with_volume c [] [] []
   volume_added = record {
     new = with_volumes c (c.volumes ++ (next, []) ∷ []);
-    is = record {
-      meta = meta_kept (files Meta) c (with_volumes c (c.volumes ++ (next, []) ∷ [])) is.meta refl refl;
-      index = entries_kept (files Index) c.label c.records c.records c.entries c.volumes (c.volumes ++ (next, []) ∷ []) is.index;
-      volumes = next_volumes;
-      others = next_others;
-      labelled = still_labelled (Volume next) head files c.entries is.labelled;
-    };
+    is = volume_is;
     longer = record { label = refl; records = sym (append-nil c.records); entries = sym (append-nil c.entries); items = items_of-append c.volumes ((next, []) ∷ []) };
   }
