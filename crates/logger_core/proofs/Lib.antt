@@ -1,2 +1,4 @@
+pub mod Announced
+pub mod Items
 pub mod Nearer
 pub mod Survival

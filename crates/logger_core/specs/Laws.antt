@@ -1,12 +1,20 @@
 -- What holds of what a logger keeps.
-use Rattle.std.specs.Prelude.{◌≡◌, ℕ, ◌≤◌, List, length, take}
+use Rattle.std.specs.Prelude.{◌≡◌, ℕ, ◌≤◌, List, [], ◌∷◌, ◌++◌, length, take}
 use Rattle.std.specs.List.{AllByRecursion}
 use Rattle.pcp_base.specs.declared.file.FileId.{FileId}
 use Rattle.pcp_base.specs.declared.file.FileId.TheVariants.{Meta, Index, Volume}
-use Rattle.pcp_model.specs.Archive.{ArchiveContents, ArchiveReading, IsArchive, items_of}
+use Rattle.pcp_base.specs.declared.result.Item.{Item}
+use Rattle.pcp_model.specs.declared.records.Entry.{Entry}
+use Rattle.pcp_model.specs.declared.records.MetaRecord.{MetaRecord}
+use Rattle.pcp_model.specs.Archive.{ArchiveContents, ArchiveReading, AreRead, IsArchive, items_of}
 use Rattle.pcp_model.specs.Described.{Described}
 use Rattle.pcp_model.specs.Disk.{Files, Held, Holdings, CrashImage}
-use Rattle.pcp_model.specs.Sound.{IsSound}
+use Rattle.pcp_model.specs.Frame.{IsFrameable, frame, frames}
+use Rattle.pcp_model.specs.Laws.{IsLonger}
+use Rattle.pcp_model.specs.Payload.{IsItem, stamp_of}
+use Rattle.pcp_model.specs.Records.{IsRecord, AreConsistent}
+use Rattle.pcp_model.specs.Sound.{IsSound, NoItemAfter}
+use Rattle.pcp_model.specs.Written.{with_added}
 use Rattle.pcp_outside.specs.Devices.{Becomes}
 use Rattle.logger_core.specs.Keeps.{Start, WasSound, WasDescribed, IsPart, is_sure, Keeps}
 
@@ -50,3 +58,31 @@ SureIsAcknowledged = (s : Start) (files : Files) (c : ArchiveContents) (number k
 abbrev pub SureIsKnown : Type 0
 SureIsKnown = (s : Start) (files : Files) (c : ArchiveContents) (number known acknowledged : ℕ) (held : Holdings) → Keeps s files c number known acknowledged held → held Meta ≡ is_sure (files Meta)
     → Keeps s files c number (length c.records) acknowledged held
+
+-- the logger means longer files now, and keeps them: the disk holds what it held
+pub record Announces (s : Start) (files : Files) (c : ArchiveContents) (number known acknowledged : ℕ) (held : Holdings) (records : List MetaRecord) (entries : List Entry) (items : List Item) : Type 0 where
+  pub new : ArchiveContents
+  pub longer : IsLonger c new records entries items
+  pub keeps : Keeps s files new number known acknowledged held
+
+-- An item may be meant once so many records of Meta are sure that they describe it, and so do all with more behind them; its
+-- stamp is not before those that stand.
+pub record IsItemToCome (s : Start) (c : ArchiveContents) (known : ℕ) (payload : List ℕ) (x : Item) : Type 0 where
+  pub fits : IsFrameable payload
+  pub read : IsItem payload x
+  pub described : (k : ℕ) → known ≤ k → WasDescribed s x → Described (take k c.records) x
+  pub by : WasSound s → NoItemAfter (stamp_of x) (items_of c.volumes)
+
+abbrev pub ItemIsAnnounced : Type 0
+ItemIsAnnounced = (s : Start) (files : Files) (c : ArchiveContents) (number known acknowledged : ℕ) (held : Holdings) (payload : List ℕ) (x : Item) → Keeps s files c number known acknowledged held → IsItemToCome s c known payload x
+    → Announces s (with_added (Volume number) (frame payload) files) c number known acknowledged held [] [] (x ∷ [])
+
+-- A record of Meta may be meant that no other contradicts, and with which all that was described stays so.
+pub record AreRecordsToCome (s : Start) (c : ArchiveContents) (payloads : List (List ℕ)) (records : List MetaRecord) : Type 0 where
+  pub read : AreRead IsRecord payloads records
+  pub agree : AreConsistent (c.records ++ records)
+  pub described : (k : ℕ) → k ≤ length records → (x : Item) → Described c.records x → Described (c.records ++ take k records) x
+
+abbrev pub RecordsAreAnnounced : Type 0
+RecordsAreAnnounced = (s : Start) (files : Files) (c : ArchiveContents) (number acknowledged : ℕ) (held : Holdings) (payloads : List (List ℕ)) (records : List MetaRecord) → Keeps s files c number (length c.records) acknowledged held
+    → AreRecordsToCome s c payloads records → Announces s (with_added Meta (frames payloads) files) c number (length c.records) acknowledged held records [] []

@@ -1,5 +1,5 @@
 //! What holds of what a logger keeps. Each is the contract of a function without parameters, which does nothing.
-ghost use Rattle.logger_core.specs.Laws.{KeptFilesSurvive, NearerIsKept, SureIsAcknowledged, SureIsKnown};
+ghost use Rattle.logger_core.specs.Laws.{KeptFilesSurvive, NearerIsKept, SureIsAcknowledged, SureIsKnown, ItemIsAnnounced, RecordsAreAnnounced};
 
 /// Whatever a crash leaves of what a logger keeps is an archive of the first of its items, with all acknowledged ones,
 /// each described by the metadata that is left, and sound.
@@ -20,4 +20,15 @@ pub fn sure_is_acknowledged()
 /// Once Meta is wholly sure, all its records are.
 pub fn sure_is_known()
     ensures { SureIsKnown }
+{}
+
+/// An item that sure metadata describes may be meant behind the last volume: what was kept is kept of the longer files, before
+/// any byte of them is written.
+pub fn item_is_announced()
+    ensures { ItemIsAnnounced }
+{}
+
+/// Records that contradict none may be meant behind Meta.
+pub fn records_are_announced()
+    ensures { RecordsAreAnnounced }
 {}

@@ -3,4 +3,7 @@
 
 mod laws;
 
-pub use laws::{kept_files_survive, nearer_is_kept, sure_is_acknowledged, sure_is_known};
+pub use laws::{
+    item_is_announced, kept_files_survive, nearer_is_kept, records_are_announced,
+    sure_is_acknowledged, sure_is_known,
+};

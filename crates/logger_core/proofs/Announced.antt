@@ -1,0 +1,123 @@
+-- The logger means longer files: one item more, or records of Meta.
+use Rattle.std.proofs.Common.{◌≡◌, inl, inr, ⊎_elim, ℕ, ◌+◌, ◌-◌, ◌<◌, ◌≤◌, negsuc, List, [], ◌∷◌, ◌++◌, length, take, refl, sym, ap, ◌∙◌, subst, append_assoc, arith, length-append}
+use Rattle.std.specs.List.{AllByRecursion}
+use Rattle.std.proofs.lemmas.Bool.{cases_lt}
+use Rattle.std.proofs.lemmas.List.{append-nil, take-append-le, take_all}
+use Rattle.std.proofs.Math.Seq.{take-append-add}
+use Rattle.pcp_base.specs.declared.file.FileId.TheVariants.{Meta, Volume}
+use Rattle.pcp_base.specs.declared.result.Item.{Item}
+use Rattle.pcp_model.specs.declared.records.Entry.{Entry}
+use Rattle.pcp_model.specs.declared.records.MetaRecord.{MetaRecord}
+use Rattle.pcp_model.specs.Archive.{ArchiveContents, LabelledFile, items_of}
+use Rattle.pcp_model.specs.Described.{Described}
+use Rattle.pcp_model.specs.Disk.{Files, Holdings, bytes_of}
+use Rattle.pcp_model.specs.Frame.{frame, frames}
+use Rattle.pcp_model.specs.Records.{IsRecord}
+use Rattle.pcp_model.specs.Sound.{IsSoundEntry, NoDomainAfter, PointsWell}
+use Rattle.pcp_model.specs.Written.{with_added}
+use Rattle.pcp_model.proofs.Added.{added_this, added_other, item_is, records_are, records_text}
+use Rattle.pcp_model.proofs.Boundaries.{boundary_of_file, boundary_stays}
+use Rattle.pcp_model.proofs.Cuts.{as_many, read-append}
+use Rattle.pcp_model.proofs.Lists.{each-append, each-map}
+use Rattle.pcp_model.proofs.Recovered.{nothing_torn}
+use Rattle.logger_core.specs.Keeps.{Start, WasDescribed, AreSure, Keeps, end_of, is_sure}
+use Rattle.logger_core.specs.Laws.{Announces, IsItemToCome, AreRecordsToCome}
+use Rattle.logger_core.proofs.Items.{more_items, longer_volume, items_more, sound_with_item}
+
+-- records that end before others begin
+end_stays : (i : ℕ) (payloads more : List (List ℕ)) → i ≤ length payloads → end_of i (payloads ++ more) ≡ end_of i payloads
+end_stays i payloads more few = ap (λ ps. 132 + length (frames ps)) (take-append-le i payloads more few)
+
+-- ---- an item
+
+module _ (s : Start) (files : Files) (c : ArchiveContents) (number known acknowledged : ℕ) (held : Holdings) (payload : List ℕ) (x : Item) (k : Keeps s files c number known acknowledged held) (come : IsItemToCome s c known payload x) where
+  abbrev with_it : ArchiveContents
+  with_it = more_items files c number payload x k.is k.last come.fits come.read
+
+  still_sure : AreSure (length (items_of k.last.before)) k.last.whole.payloads (length (held (Volume number)).sure) acknowledged → AreSure (length (items_of k.last.before)) (k.last.whole.payloads ++ payload ∷ []) (length (held (Volume number)).sure) acknowledged
+  still_sure (inl few) = inl few
+  still_sure (inr some) = inr (some.0, omega (arith, some.1, length-append k.last.whole.payloads (payload ∷ [])), omega (arith, some.2, end_stays some.0 k.last.whole.payloads (payload ∷ []) some.1), some.3)
+
+  pub item_announced : Announces s (with_added (Volume number) (frame payload) files) c number known acknowledged held [] [] (x ∷ [])
+  item_announced = record {
+    new = with_it;
+    longer = record { label = refl; records = sym (append-nil c.records); entries = sym (append-nil c.entries); items = items_more files c number payload x k.is k.last come.fits come.read };
+    keeps = record {
+      is = item_is files c number payload x k.is k.last come.fits come.read;
+      last = record { before = k.last.before; items = k.last.items ++ x ∷ []; are = refl; whole = longer_volume files c number payload x k.is k.last come.fits come.read };
+      whole = k.whole;
+      meta = k.meta;
+      index = k.index;
+      volume = record { more = k.volume.more ++ frame payload; is = sym (append_assoc (bytes_of (held (Volume number))) k.volume.more (frame payload)) ∙ ap (λ t. t ++ frame payload) k.volume.is ∙ sym (added_this number (frame payload) files) };
+      others = λ n other. k.others n other ∙ ap is_sure (sym (added_other number n (frame payload) files other));
+      few = k.few;
+      sure = k.sure;
+      described = λ n le. subst (AllByRecursion (λ y. WasDescribed s y → Described (take n c.records) y)) (sym (items_more files c number payload x k.is k.last come.fits come.read))
+          (each-append (λ y. WasDescribed s y → Described (take n c.records) y) (items_of c.volumes) (x ∷ []) (k.described n le) (come.described n le, tt));
+      sound = λ was. sound_with_item files c number payload x k.is k.last come.fits come.read (come.by was) (k.sound was);
+      points = k.points;
+      items = still_sure k.items;
+    };
+  }
+
+-- ---- records of Meta
+
+module _ (s : Start) (files : Files) (c : ArchiveContents) (number acknowledged : ℕ) (held : Holdings) (payloads : List (List ℕ)) (more : List MetaRecord) (k : Keeps s files c number (length c.records) acknowledged held) (come : AreRecordsToCome s c payloads more) where
+  abbrev with_them : ArchiveContents
+  with_them = record { label = c.label; records = c.records ++ more; entries = c.entries; volumes = c.volumes }
+
+  -- those that are left of Meta with them describe what was described
+  described_on : (n : ℕ) → length c.records ≤ n → (x : Item) → (WasDescribed s x → Described (take (length c.records) c.records) x) → WasDescribed s x → Described (take n (c.records ++ more)) x
+  described_on n le x was w =
+      let first : Described c.records x = subst (λ rs. Described rs x) (take_all (length c.records) c.records (omega arith)) (was w) in
+      let e : take n (c.records ++ more) ≡ c.records ++ take (n - length c.records) more = ap (λ (m : ℕ). take m (c.records ++ more)) (let q : n ≡ length c.records + (n - length c.records) = omega arith in q) ∙ take-append-add c.records more (n - length c.records) in
+      subst (λ rs. Described rs x) (sym e) (⊎_elim
+      (λ (few : n - length c.records < length more). come.described (n - length c.records) (omega arith) x first)
+      (λ (all : length more ≤ n - length c.records). subst (λ rs. Described (c.records ++ rs) x) (take_all (length more) more (omega arith) ∙ sym (take_all (n - length c.records) more all)) (come.described (length more) (omega arith) x first)) (cases_lt (n - length c.records) (length more)))
+
+  -- an entry says the same of the records before its offset
+  still_points_well : (e : Entry) → PointsWell files c e → PointsWell (with_added Meta (frames payloads) files) with_them e
+  still_points_well e p =
+      let few : p.records ≤ length c.records = (boundary_of_file IsRecord (files Meta) c.label (negsuc 0) c.records [] e.meta p.records k.whole nothing_torn p.meta).0 in
+      record {
+        records = p.records;
+        meta = boundary_stays (files Meta) (frames payloads) e.meta p.records p.meta;
+        domains = subst (NoDomainAfter e.stamp) (sym (take-append-le p.records c.records more few)) p.domains;
+        items = p.items;
+        volume = p.volume;
+        before = p.before;
+        earlier = p.earlier;
+      }
+
+  still_sound_entry : (e : Entry) → IsSoundEntry files c e → IsSoundEntry (with_added Meta (frames payloads) files) with_them e
+  still_sound_entry e sound = record { not_above = sound.not_above; points = λ some. still_points_well e (sound.points some) }
+
+  abbrev longer_meta : LabelledFile IsRecord (with_added Meta (frames payloads) files Meta) c.label (negsuc 0) (c.records ++ more) []
+  longer_meta = record {
+    head = k.whole.head;
+    label = k.whole.label;
+    payloads = k.whole.payloads ++ payloads;
+    read = read-append IsRecord k.whole.payloads payloads c.records more k.whole.read come.read;
+    is = records_text files c payloads more k.is k.whole come.read come.agree;
+  }
+
+  pub records_announced : Announces s (with_added Meta (frames payloads) files) c number (length c.records) acknowledged held more [] []
+  records_announced = record {
+    new = with_them;
+    longer = record { label = refl; records = refl; entries = sym (append-nil c.entries); items = sym (append-nil (items_of c.volumes)) };
+    keeps = record {
+      is = records_are files c payloads more k.is k.whole come.read come.agree;
+      last = record { before = k.last.before; items = k.last.items; are = k.last.are; whole = k.last.whole };
+      whole = longer_meta;
+      meta = record { more = k.meta.more ++ frames payloads; is = sym (append_assoc (bytes_of (held Meta)) k.meta.more (frames payloads)) ∙ ap (λ t. t ++ frames payloads) k.meta.is };
+      index = k.index;
+      volume = k.volume;
+      others = k.others;
+      few = omega (arith, length-append c.records more);
+      sure = omega (arith, k.sure, end_stays (length c.records) k.whole.payloads payloads (omega (arith, as_many IsRecord k.whole.payloads c.records k.whole.read)));
+      described = λ n le. each-map (λ x. WasDescribed s x → Described (take (length c.records) c.records) x) (λ x. WasDescribed s x → Described (take n (c.records ++ more)) x) (described_on n le) (items_of c.volumes) (k.described (length c.records) (omega arith));
+      sound = λ was. ((k.sound was).0, each-map (IsSoundEntry files c) (IsSoundEntry (with_added Meta (frames payloads) files) with_them) still_sound_entry c.entries (k.sound was).1);
+      points = k.points;
+      items = k.items;
+    };
+  }
