@@ -1,5 +1,5 @@
 -- What the gate counts stays true over every act.
-use Rattle.std.proofs.Common.{◌≡◌, ℕ, ◌+◌, ◌-◌, ◌^◌, ◌<◌, ◌≤◌, ◌⊎◌, Bool, true, false, List, [], ◌∷◌, length, set, eqb, ltb, ltb-true, eqb-true, length-set, refl, inl, inr, ⊎_elim, arith}
+use Rattle.std.proofs.Common.{◌≡◌, ℕ, zero, suc, ◌+◌, ◌-◌, ◌^◌, ◌<◌, ◌≤◌, ◌⊎◌, Bool, true, false, List, [], ◌∷◌, length, set, eqb, ltb, ltb-true, eqb-true, length-set, refl, inl, inr, ⊎_elim, arith}
 use Rattle.std.proofs.lemmas.List.{length-replicate}
 use mathlib.Core.Option.{some}
 use lib.ListN.{get_elem?}
@@ -92,3 +92,11 @@ at_most (m ∷ ms) = let h = at_most ms in let one = one_mode m in omega arith
 -- one more at the gate is no overflow of a word
 pub gate_room : (gate : ℕ) (ms : List Mode) → IsGated gate ms → gate + 1 < 2 ^ 64
 gate_room gate ms g = let h = at_most ms in omega arith
+
+-- where no pass is changing, the sum of those changing is 0
+pub none_changing : (ms : List Mode) → ((k : ℕ) → get_elem? ms k ≡ some Changing → ⊥) → total one_if_changing ms ≡ 0
+none_changing [] h = refl
+none_changing (Idle ∷ ms) h = let none = none_changing ms (λ k. h (suc k)) in omega arith
+none_changing (Attached ∷ ms) h = let none = none_changing ms (λ k. h (suc k)) in omega arith
+none_changing (Bounced ∷ ms) h = let none = none_changing ms (λ k. h (suc k)) in omega arith
+none_changing (Changing ∷ ms) h = absurd (h zero refl)

@@ -8,3 +8,4 @@ pub mod Runs
 pub mod Positions
 pub mod Replays
 pub mod Running
+pub mod Lasting

@@ -1,19 +1,21 @@
 -- The laws at positions of a journal.
-use Rattle.std.proofs.Common.{◌≡◌, ◌≢◌, ℕ, zero, suc, ◌<◌, ◌≤◌, ◌⊎◌, List, ◌∷◌, ◌++◌, length, set, take, drop, length-set, slice_index, slice_get, Some, All, get_or-set_same, get_or-set_other, ext_get_or, take-append-drop, sym, refl, ap, ◌∙◌, subst, ⊎_elim, arith}
+use Rattle.std.proofs.Common.{◌≡◌, ◌≢◌, ℕ, zero, suc, ◌+◌, ◌-◌, ◌<◌, ◌≤◌, ◌⊎◌, List, ◌∷◌, ◌++◌, length, set, take, drop, length-set, slice_index, slice_get, Some, All, get_or-set_same, get_or-set_other, ext_get_or, take-append-drop, add-zero, sym, refl, ap, ◌∙◌, subst, ⊎_elim, arith}
 use lib.Seq.{set-get_or}
 use mathlib.Core.Logic.{dite}
 use native.Mathlib.Decide.{ℕ_discrete, dec_le}
 use mathlib.Core.Option.{some}
 use lib.ListN.{get_elem?}
+use Rattle.region_core.specs.declared.act.Act.TheVariants.{Load}
 use Rattle.region_core.specs.declared.act.Entry.{Entry}
 use Rattle.region_core.specs.Shape.{Shaping, IsShape, IsWord, IsLike}
-use Rattle.region_core.specs.State.{State, word, g1, g2, opening, IsAllowed}
+use Rattle.region_core.specs.State.{State, word, g1, g2, opening, after, IsAllowed, IsStable}
 use Rattle.region_core.specs.Journal.{state, state_at, IsLegal, IsJournal}
-use Rattle.region_core.specs.Readings.{HasLayout, Reading, IsFoundBetween, IsShownBetween}
-use Rattle.region_core.proofs.Lists.{take_further, drop_at, at_get, at_below, get_or_at}
-use Rattle.region_core.proofs.Journals.{state-append, legal-front, legal-back}
+use Rattle.region_core.specs.Readings.{HasLayout, Reading, IsFoundBetween, IsShownBetween, IsAgainBetween}
+use Rattle.region_core.specs.Laws.{HasNoBegin}
+use Rattle.region_core.proofs.Lists.{take_further, take_next, drop_at, at_get, at_below, at_some, get_or_at}
+use Rattle.region_core.proofs.Journals.{state-append, state-snoc, legal-front, legal-back}
 use Rattle.region_core.proofs.Sound.{IsSound, sound_run, sound_opening}
-use Rattle.region_core.proofs.Stretch.{Rises, IsStill, rises_run, still_run}
+use Rattle.region_core.proofs.Stretch.{Rises, IsStill, rises_run, still_run, first_kept}
 use Rattle.region_core.proofs.Runs.{wide_run}
 
 -- the first n words are those of the second list
@@ -175,3 +177,26 @@ module _ (S : Shaping) (laws : IsShape S) (words : List ℕ) (passes : ℕ) (log
       let load = found_at S start log k p q reading.found position.0 (w, slice_index found w) shown.each position.1 in
       (load.0, omega (arith, load.1), omega (arith, load.2), load.4)) in
       (like.image, like.form ∙ first.form_is)
+
+  step_at : (p : ℕ) (e : Entry) → get_elem? log p ≡ some e → at (suc p) ≡ after (at p) e.by e.act
+  step_at p e there = ap (λ (es : List Entry). state start es) (take_next log p e there) ∙ state-snoc start (take p log) e
+
+  -- while no change begins, the first generation stays
+  first_from : (p n : ℕ) → p + n ≤ length log → HasNoBegin log p (p + n) → g1 (at (p + n)) ≡ g1 (at p)
+  first_from p zero below none = ap (λ (m : ℕ). g1 (at m)) (add-zero p)
+  first_from p (suc n) below none =
+      let there = at_some log (p + n) (omega arith) in
+      let e : Entry = there.0 in
+      let next : p + suc n ≡ suc (p + n) = omega arith in
+      ap (λ (m : ℕ). g1 (at m)) next ∙ ap (λ (s : State). g1 s) (step_at (p + n) e there.1)
+      ∙ first_kept S laws (at (p + n)) e.by e.act (sound_at (p + n)) (allowed_at (p + n) e there.1) (λ m. none (p + n) m e (omega arith) (omega arith) there.1)
+      ∙ first_from p n (omega arith) (λ r m x a b. none r m x a (omega arith))
+
+  -- so a reading that began while the generations agreed is not refused
+  pub not_again : (from k first last p q : ℕ) → IsStable (at p) → HasNoBegin log p q → IsAgainBetween start log from k first last p q → ⊥
+  not_again from k first last p q stable none again =
+      let below = at_below log q (record { by = k; act = Load 1 }) again.closes in
+      let order = again.order in
+      let end : p + (q - p) ≡ q = omega arith in
+      let kept : g1 (at q) ≡ g1 (at p) = subst (λ (m : ℕ). g1 (at m) ≡ g1 (at p)) end (first_from p (q - p) (omega arith) (λ r m x a b. none r m x a (omega arith))) in
+      again.differ (again.first_is ∙ sym stable ∙ sym kept ∙ sym again.last_is)

@@ -96,6 +96,19 @@ module _ (S : Shaping) where
   quiet_act laws s k (End n) sound a none = let one = changing_one s.modes k a.ready.0 in absurd (omega arith)
   quiet_act laws s k Free sound a none = still_refl s.words (sound.image (sound.shut none))
 
+  -- only `Begin` changes the first generation
+  pub first_kept : IsShape S → (s : State) (k : ℕ) (act : Act) → IsSound S s → IsAllowed S s k act → ((n : ℕ) → act ≢ Begin n) → g1 (after s k act) ≡ g1 s
+  first_kept laws s k (Load w) sound a none = refl
+  first_kept laws s k (Swap w v) sound a none = let still = quiet_act laws s k (Swap w v) sound a (inside_shut s.gate s.modes k sound.gated a.ready.0) in still.first
+  first_kept laws s k (Add w d) sound a none = let still = quiet_act laws s k (Add w d) sound a (inside_shut s.gate s.modes k sound.gated a.ready.0) in still.first
+  first_kept laws s k Enter sound a none = refl
+  first_kept laws s k Leave sound a none = refl
+  first_kept laws s k Take sound a none = refl
+  first_kept laws s k (Begin n) sound a none = absurd (none n refl)
+  first_kept laws s k (Put w v) sound a none = get_or-set_other s.words w 1 v 0 (λ (e : 1 ≡ w). a.ready.2 (sym e))
+  first_kept laws s k (End n) sound a none = get_or-set_other s.words 2 1 n 0 (λ (e : 1 ≡ 2). omega arith)
+  first_kept laws s k Free sound a none = refl
+
   rises_still : (from to : List ℕ) → IsStill from to → Rises from to
   rises_still from to still = record { first = omega arith; second = omega arith }
 

@@ -1,5 +1,5 @@
 -- The laws of legal journals, each over every journal of a shape, and over all positions.
-use Rattle.std.specs.Prelude.{◌≡◌, ◌≢◌, ℕ, ◌<◌, ◌≤◌, ◌⊎◌, List, length, take, All, Some, slice_get, slice_index}
+use Rattle.std.specs.Prelude.{◌≡◌, ◌≢◌, ℕ, ◌<◌, ◌≤◌, ◌⊎◌, List, [], ◌++◌, length, take, All, Some, slice_get, slice_index}
 use mathlib.Core.Option.{some}
 use lib.ListN.{get_elem?}
 use Rattle.region_core.specs.declared.mode.Mode.{Mode}
@@ -7,16 +7,20 @@ use Rattle.region_core.specs.declared.mode.Mode.TheVariants.{Idle, Attached, Bou
 use Rattle.region_core.specs.declared.act.Act.TheVariants.{Begin}
 use Rattle.region_core.specs.declared.act.Entry.{Entry}
 use Rattle.region_core.specs.Shape.{Shaping, IsLike}
-use Rattle.region_core.specs.State.{State, word, g1, g2, opening, with_zeros, IsIn}
-use Rattle.region_core.specs.Journal.{state_at, IsJournal}
+use Rattle.region_core.specs.State.{State, word, g1, g2, opening, with_zeros, IsIn, IsStable}
+use Rattle.region_core.specs.Journal.{state_at, own, IsJournal}
 use Rattle.region_core.specs.Gate.{IsGated}
 use Rattle.region_core.specs.Events.{IsEvent, events_of, after_events}
 use Rattle.region_core.specs.Replay.{IsRunnable, IsFirstShut}
-use Rattle.region_core.specs.Readings.{LoadsAt, IsFoundBetween, HasLayout, Reading, IsShownBetween}
+use Rattle.region_core.specs.Readings.{LoadsAt, IsFoundBetween, HasLayout, Reading, IsShownBetween, Shown, IsAgainBetween, IsAgain, Missed}
 
 -- the state of a region of these words and passes after the first p entries
 abbrev pub region_at : List ℕ → ℕ → List Entry → ℕ → State
 region_at words passes log p = state_at (opening words passes) log p
+
+-- no change begins between the positions p and q
+abbrev pub HasNoBegin : List Entry → ℕ → ℕ → Type 0
+HasNoBegin log p q = (r n : ℕ) (e : Entry) → p ≤ r → r < q → get_elem? log r ≡ some e → e.act ≢ Begin n
 
 module _ (S : Shaping) where
   -- the second generation is never above the first, and neither falls
@@ -93,6 +97,41 @@ module _ (S : Shaping) where
   -- and one with an entry that modes, generations or the capacity don't allow is not legal
   abbrev pub StoppedIsIllegal : Type 0
   StoppedIsIllegal = (words : List ℕ) (passes : ℕ) (log : List Entry) (position : ℕ) → IsFirstShut (opening words passes) log position → IsJournal S words passes log → ⊥
+
+  -- a reading that began while the generations agreed, and during which no change begins, is not refused
+  abbrev pub QuietReadingsAgree : Type 0
+  QuietReadingsAgree = (words : List ℕ) (passes : ℕ) (log : List Entry) (from k first last p q : ℕ) → IsJournal S words passes log
+      → IsStable (region_at words passes log p) → HasNoBegin log p q
+      → IsAgainBetween (opening words passes) log from k first last p q → ⊥
+
+  -- the generations agree where no pass is changing
+  abbrev pub UnchangingIsStable : Type 0
+  UnchangingIsStable = (words : List ℕ) (passes : ℕ) (log : List Entry) (p : ℕ) → IsJournal S words passes log
+      → ((k : ℕ) → IsIn Changing (region_at words passes log p) k → ⊥) → IsStable (region_at words passes log p)
+
+  -- and so where each pass is idle
+  abbrev pub IdleIsStable : Type 0
+  IdleIsStable = (words : List ℕ) (passes : ℕ) (log : List Entry) (p : ℕ) → IsJournal S words passes log
+      → ((k : ℕ) → k < passes → IsIn Idle (region_at words passes log p) k) → IsStable (region_at words passes log p)
+
+  -- a number from the count of passes on has no entry
+  abbrev pub PassesAlone : Type 0
+  PassesAlone = (words : List ℕ) (passes : ℕ) (log : List Entry) (k : ℕ) → IsJournal S words passes log → passes ≤ k → own k log ≡ []
+
+  -- what is shown stays so in any longer journal, and may be said from any earlier position
+  abbrev pub ShownLasts : Type 0
+  ShownLasts = (start : State) (log more : List Entry) (earlier from k : ℕ) (reading : Reading S) → earlier ≤ from
+      → Shown S start log from k reading → Shown S start (log ++ more) earlier k reading
+
+-- so is what was refused
+abbrev pub AgainLasts : Type 0
+AgainLasts = (start : State) (log more : List Entry) (earlier from k first last : ℕ) → earlier ≤ from
+    → IsAgain start log from k first last → IsAgain start (log ++ more) earlier k first last
+
+-- and what was missed
+abbrev pub MissedLasts : Type 0
+MissedLasts = (start : State) (log more : List Entry) (earlier from k : ℕ) → earlier ≤ from
+    → Missed start log from k → Missed start (log ++ more) earlier k
 
 -- the words of a state are the replay of the events before it over the opening words
 abbrev pub WordsAreReplayed : Type 0

@@ -1,6 +1,6 @@
 //! The laws of legal journals. Each is the contract of a function without parameters, which does nothing.
 
-ghost use Rattle.region_core.specs.Laws.{GenerationsRise, HasOneFormBetween, HasOneFormEach, WordsAreAnImage, GateCounts, OnePassChanges, ChangesAlone, NoChangeBegins, AgreementShows, ShownWordsAreAnImage, PaddingKeepsTheForm, LegalRuns, StoppedIsIllegal, WordsAreReplayed};
+ghost use Rattle.region_core.specs.Laws.{GenerationsRise, HasOneFormBetween, HasOneFormEach, WordsAreAnImage, GateCounts, OnePassChanges, ChangesAlone, NoChangeBegins, AgreementShows, ShownWordsAreAnImage, PaddingKeepsTheForm, LegalRuns, StoppedIsIllegal, WordsAreReplayed, QuietReadingsAgree, UnchangingIsStable, IdleIsStable, PassesAlone, ShownLasts, AgainLasts, MissedLasts};
 
 use crate::shape::Shape;
 
@@ -75,4 +75,39 @@ pub fn stopped_is_illegal<S: Shape>()
 /// The words of a state are the replay of its events over the opening words.
 pub fn words_are_replayed()
     ensures { WordsAreReplayed }
+{}
+
+/// A reading that began while the generations agreed, and during which no change begins, is not refused.
+pub fn quiet_readings_agree<S: Shape>()
+    ensures { QuietReadingsAgree S.shaping }
+{}
+
+/// Where no pass is changing the two generations agree.
+pub fn unchanging_is_stable<S: Shape>()
+    ensures { UnchangingIsStable S.shaping }
+{}
+
+/// And so where each pass is idle.
+pub fn idle_is_stable<S: Shape>()
+    ensures { IdleIsStable S.shaping }
+{}
+
+/// A number from the count of passes on has no entry.
+pub fn passes_alone<S: Shape>()
+    ensures { PassesAlone S.shaping }
+{}
+
+/// What a reading showed stays shown in any longer journal, and may be said from any earlier position.
+pub fn shown_lasts<S: Shape>()
+    ensures { ShownLasts S.shaping }
+{}
+
+/// A reading that was refused stays so in any longer journal, and may be said to be from any earlier position.
+pub fn again_lasts()
+    ensures { AgainLasts }
+{}
+
+/// A region that was missed stays so in any longer journal, and may be said to be from any earlier position.
+pub fn missed_lasts()
+    ensures { MissedLasts }
 {}

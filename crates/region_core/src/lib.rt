@@ -13,9 +13,11 @@ mod state;
 pub use act::{Act, Entry};
 pub use event::Event;
 pub use laws::{
-    agreement_shows, changes_alone, gate_counts, generations_rise, legal_runs, no_change_begins,
-    one_form_between, one_form_each, one_pass_changes, padding_keeps_the_form,
-    shown_words_are_an_image, stopped_is_illegal, words_are_an_image, words_are_replayed,
+    again_lasts, agreement_shows, changes_alone, gate_counts, generations_rise, idle_is_stable,
+    legal_runs, missed_lasts, no_change_begins, one_form_between, one_form_each, one_pass_changes,
+    padding_keeps_the_form, passes_alone, quiet_readings_agree, shown_lasts,
+    shown_words_are_an_image, stopped_is_illegal, unchanging_is_stable, words_are_an_image,
+    words_are_replayed,
 };
 pub use mode::Mode;
 pub use shape::Shape;
