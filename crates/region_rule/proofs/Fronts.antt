@@ -1,14 +1,15 @@
 -- Beginnings of one list, and what a view may say of a longer one.
 use Rattle.std.proofs.Common.{◌≡◌, ℕ, ◌+◌, ◌≤◌, Bool, true, false, cond, List, [], ◌∷◌, ◌++◌, length, ltb, append_assoc, append-nil, sym, refl, ap, ◌∙◌, subst, arith}
 use Rattle.region_core.specs.declared.act.Entry.{Entry}
-use Rattle.region_core.specs.State.{State, IsIn}
-use Rattle.region_core.specs.Journal.{own}
+use Rattle.region_core.specs.declared.mode.Mode.TheVariants.{Idle}
+use Rattle.region_core.specs.State.{State, opening, IsIn}
+use Rattle.region_core.specs.Journal.{state, own}
 use Rattle.region_core.proofs.Journals.{state-append, own-append}
 use Rattle.region_core.proofs.Runs.{mode_run}
 use Rattle.region_rule.specs.declared.view.View.{View}
-use Rattle.region_rule.specs.Views.{opening_of, now, IsFront, Agrees, Owns, count}
+use Rattle.region_rule.specs.Views.{opening_of, now, IsFront, HasNone, Agrees, Owns, count}
 use Rattle.region_core.specs.Shape.{Shaping}
-use Rattle.region_rule.specs.Tokens.{HasLists, Knows, after_learning, longer, shorter}
+use Rattle.region_rule.specs.Tokens.{HasLists, AreIdle, Knows, after_learning, longer, shorter}
 use Rattle.region_rule.specs.Calls.{Learns}
 
 pub record Front (a b ra rb : List Entry) : Type 0 where
@@ -45,17 +46,32 @@ own_back k mid rest e = none_back (own k mid) (own k rest) (sym (own-append k mi
 pub own_same : (k : ℕ) (seen mid : List Entry) → own k mid ≡ [] → own k (seen ++ mid) ≡ own k seen
 own_same k seen mid e = own-append k seen mid ∙ ap (λ (es : List Entry). own k seen ++ es) e ∙ append-nil (own k seen)
 
-pub agrees_further : (seen mid rest : List Entry) (kept : List (ℕ × List Entry)) → Agrees seen (mid ++ rest) kept → Agrees (seen ++ mid) rest kept
-agrees_further seen mid rest [] a = tt
-agrees_further seen mid rest (x ∷ xs) a = (own_same x.0 seen mid (own_front x.0 mid rest a.1) ∙ a.0, own_back x.0 mid rest a.1, agrees_further seen mid rest xs a.2)
+pub agrees_further : (start : State) (seen mid rest : List Entry) (kept : List (ℕ × List Entry)) → Agrees start seen (mid ++ rest) kept → Agrees start (seen ++ mid) rest kept
+agrees_further start seen mid rest [] a = tt
+agrees_further start seen mid rest (x ∷ xs) a =
+    let none : own x.0 mid ≡ [] = own_front x.0 mid rest a.1 in (
+      own_same x.0 seen mid none ∙ a.0,
+      own_back x.0 mid rest a.1,
+      subst (λ (s : State). IsIn Idle s x.0) (sym (state-append start seen mid)) (mode_run (state start seen) x.0 Idle mid none a.2),
+      agrees_further start seen mid rest xs a.3,
+    )
 
-pub agrees_both : (seen rest : List Entry) (xs ys : List (ℕ × List Entry)) → Agrees seen rest xs → Agrees seen rest ys → Agrees seen rest (xs ++ ys)
-agrees_both seen rest [] ys a b = b
-agrees_both seen rest (x ∷ xs) ys a b = (a.0, a.1, agrees_both seen rest xs ys a.2 b)
+pub agrees_both : (start : State) (seen rest : List Entry) (xs ys : List (ℕ × List Entry)) → Agrees start seen rest xs → Agrees start seen rest ys → Agrees start seen rest (xs ++ ys)
+agrees_both start seen rest [] ys a b = b
+agrees_both start seen rest (x ∷ xs) ys a b = (a.0, a.1, a.2, agrees_both start seen rest xs ys a.3 b)
 
-pub lists_of : (seen rest : List Entry) (kept : List (ℕ × List Entry)) → Agrees seen rest kept → HasLists seen kept
-lists_of seen rest [] a = tt
-lists_of seen rest (x ∷ xs) a = (a.0, lists_of seen rest xs a.2)
+pub lists_of : (start : State) (seen rest : List Entry) (kept : List (ℕ × List Entry)) → Agrees start seen rest kept → HasLists seen kept
+lists_of start seen rest [] a = tt
+lists_of start seen rest (x ∷ xs) a = (a.0, lists_of start seen rest xs a.3)
+
+pub idle_of : (start : State) (seen rest : List Entry) (kept : List (ℕ × List Entry)) → Agrees start seen rest kept → AreIdle (state start seen) kept
+idle_of start seen rest [] a = tt
+idle_of start seen rest (x ∷ xs) a = (a.2, idle_of start seen rest xs a.3)
+
+-- passes that add no entry stay idle
+pub idle_further : (s : State) (es : List Entry) (kept : List (ℕ × List Entry)) → HasNone es kept → AreIdle s kept → AreIdle (state s es) kept
+idle_further s es [] none idle = tt
+idle_further s es (x ∷ xs) none idle = (mode_run s x.0 Idle es none.0 idle.0, idle_further s es xs none.1 idle.1)
 
 pub count-append : (k : ℕ) (xs ys : List (ℕ × List Entry)) → count k (xs ++ ys) ≡ count k xs + count k ys
 count-append k [] ys = omega arith
@@ -70,7 +86,7 @@ owns_further words passes log mid rest v o =
       had = own_same v.number v.seen mid none ∙ o.had;
       none = own_back v.number mid rest o.none;
       mode = subst (λ (s : State). IsIn v.mode s v.number) (sym (state-append (opening_of v) v.seen mid)) (mode_run (now v) v.number v.mode mid none o.mode);
-      kept = agrees_further v.seen mid rest v.kept o.kept;
+      kept = agrees_further (opening words passes) v.seen mid rest v.kept o.kept;
     }
 
 -- of two lists the longer begins with both, if it begins with the shorter

@@ -5,11 +5,12 @@ use lib.ListN.{get_elem?}
 use Rattle.atomic_table.specs.Table.{State as Table, keeps, Allows}
 use Rattle.atomic_table.proofs.Lists.{at_set}
 use Rattle.region_core.specs.declared.mode.Mode.{Mode}
+use Rattle.region_core.specs.declared.mode.Mode.TheVariants.{Idle}
 use Rattle.region_core.specs.declared.act.Act.{Act}
 use Rattle.region_core.specs.declared.act.Act.TheVariants.{Load, Swap, Add, Enter, Leave, Take, Begin, Put, End, Free}
 use Rattle.region_core.specs.declared.act.Entry.{Entry}
 use Rattle.region_core.specs.Shape.{Shaping, IsShape}
-use Rattle.region_core.specs.State.{State, after, next_mode, IsIn, IsAllowed}
+use Rattle.region_core.specs.State.{State, opening, after, next_mode, IsIn, IsAllowed}
 use Rattle.region_core.specs.Journal.{state, own, IsLegal, IsJournal}
 use Rattle.region_core.specs.Gate.{total}
 use Rattle.region_core.proofs.Totals.{total-set, le_total, two_le_total}
@@ -34,24 +35,28 @@ at_most_one true = omega arith
 at_most_one false = omega arith
 
 -- the lists that are kept agree with a longer journal, whose last entry is of another pass
-agrees_longer : (k : ℕ) (act : Act) (seen rest : List Entry) (kept : List (ℕ × List Entry)) → count k kept ≡ 0 → Agrees seen rest kept → Agrees seen (rest ++ entry k act ∷ []) kept
-agrees_longer k act seen rest [] c a = tt
-agrees_longer k act seen rest (x ∷ xs) c a =
+agrees_longer : (start : State) (k : ℕ) (act : Act) (seen rest : List Entry) (kept : List (ℕ × List Entry)) → count k kept ≡ 0 → Agrees start seen rest kept → Agrees start seen (rest ++ entry k act ∷ []) kept
+agrees_longer start k act seen rest [] c a = tt
+agrees_longer start k act seen rest (x ∷ xs) c a =
     let differ : x.0 ≢ k = not_counted x.0 k (omega arith) in
-    (a.0, own-others k x.0 rest act (λ e. differ (sym e)) ∙ a.1, agrees_longer k act seen rest xs (omega arith) a.2)
+    (a.0, own-others k x.0 rest act (λ e. differ (sym e)) ∙ a.1, a.2, agrees_longer start k act seen rest xs (omega arith) a.3)
 
 -- and with what was seen of it, once it was seen to its end
-agrees_whole : (k : ℕ) (act : Act) (seen rest : List Entry) (kept : List (ℕ × List Entry)) → count k kept ≡ 0 → Agrees seen rest kept → Agrees ((seen ++ rest) ++ entry k act ∷ []) [] kept
-agrees_whole k act seen rest [] c a = tt
-agrees_whole k act seen rest (x ∷ xs) c a =
+agrees_whole : (start : State) (k : ℕ) (act : Act) (seen rest : List Entry) (kept : List (ℕ × List Entry)) → count k kept ≡ 0 → Agrees start seen rest kept → Agrees start ((seen ++ rest) ++ entry k act ∷ []) [] kept
+agrees_whole start k act seen rest [] c a = tt
+agrees_whole start k act seen rest (x ∷ xs) c a =
     let differ : x.0 ≢ k = not_counted x.0 k (omega arith) in
+    let more : List Entry = rest ++ entry k act ∷ [] in
+    let none : own x.0 more ≡ [] = own-others k x.0 rest act (λ e. differ (sym e)) ∙ a.1 in
+    let there : state (state start seen) more ≡ state start ((seen ++ rest) ++ entry k act ∷ []) =
+    sym (state-append start seen more) ∙ ap (λ (es : List Entry). state start es) (sym (append_assoc seen rest (entry k act ∷ []))) in
     let both : own x.0 (seen ++ rest) ≡ x.1 = own-append x.0 seen rest ∙ ap (λ (es : List Entry). own x.0 seen ++ es) a.1 ∙ append-nil (own x.0 seen) ∙ a.0 in
-    (own-others k x.0 (seen ++ rest) act (λ e. differ (sym e)) ∙ both, refl, agrees_whole k act seen rest xs (omega arith) a.2)
+    (own-others k x.0 (seen ++ rest) act (λ e. differ (sym e)) ∙ both, refl, subst (λ (s : State). IsIn Idle s x.0) there (mode_run (state start seen) x.0 Idle more none a.2), agrees_whole start k act seen rest xs (omega arith) a.3)
 
 -- none of the numbers that are kept has an entry in the rest
-pub none_kept : (seen rest : List Entry) (kept : List (ℕ × List Entry)) → Agrees seen rest kept → HasNone rest kept
-none_kept seen rest [] a = tt
-none_kept seen rest (x ∷ xs) a = (a.1, none_kept seen rest xs a.2)
+pub none_kept : (start : State) (seen rest : List Entry) (kept : List (ℕ × List Entry)) → Agrees start seen rest kept → HasNone rest kept
+none_kept start seen rest [] a = tt
+none_kept start seen rest (x ∷ xs) a = (a.1, none_kept start seen rest xs a.3)
 
 sees_longer : (words : List ℕ) (passes : ℕ) (log rest es : List Entry) (v : View) → Sees words passes log rest v → Sees words passes (log ++ es) (rest ++ es) v
 sees_longer words passes log rest es v s = record {
@@ -74,7 +79,7 @@ fits_longer Numbered words passes log v k act h f =
         had = o.had;
         none = own-others k v.number f.0 act (λ e. differ (sym e)) ∙ o.none;
         mode = o.mode;
-        kept = agrees_longer k act v.seen f.0 v.kept (omega arith) o.kept;
+        kept = agrees_longer (opening words passes) k act v.seen f.0 v.kept (omega arith) o.kept;
       },
     )
 
@@ -145,7 +150,7 @@ module _ (S : Shaping) where
           had = own-mine v.number (v.seen ++ rest) act ∙ ap (λ (es : List Entry). es ++ e ∷ []) whole;
           none = refl;
           mode = subst (λ (s : State). IsIn (next_mode (found_by act t) v.mode act) s v.number) (sym (state-snoc (opening_of v) (v.seen ++ rest) e)) there;
-          kept = agrees_whole v.number act v.seen rest v.kept alone o.kept;
+          kept = agrees_whole (opening_of v) v.number act v.seen rest v.kept alone o.kept;
         }
 
     -- two views that both have a number would be one too many
@@ -205,7 +210,7 @@ module _ (S : Shaping) where
           extends = record {
             between = rest;
             others = o.none;
-            gathered = none_kept v.seen rest v.kept o.kept;
+            gathered = none_kept (opening_of v) v.seen rest v.kept o.kept;
             is = refl;
             found = refl;
             journal = longer;

@@ -37,7 +37,7 @@ has_first e es h = other_first e.by e es h refl
 
 module _ (S : Shaping) where
   -- entries of nobody are none
-  nobody : (v : View) (es : List Entry) → IsLegal S (now v) es → own v.number es ≡ [] → HasNone es v.kept → IsLast v → es ≡ []
+  pub nobody : (v : View) (es : List Entry) → IsLegal S (now v) es → own v.number es ≡ [] → HasNone es v.kept → IsLast v → es ≡ []
   nobody v [] l mine kept last = refl
   nobody v (e ∷ es) l mine kept last = dite (ℕ_discrete e.by v.number)
       (λ (same : e.by ≡ v.number). absurd (has_first e es (subst (λ (k : ℕ). own k (e ∷ es) ≡ []) (sym same) mine)))

@@ -7,3 +7,6 @@ pub mod Relaying
 pub mod Finishing
 pub mod Showing
 pub mod Lawful
+pub mod HasRead
+pub mod Gathered
+pub mod Choosing

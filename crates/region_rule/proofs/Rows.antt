@@ -58,4 +58,4 @@ closes S words passes cells views id gate v image kept at is start count are =
     (subst (λ (ws : List ℕ). IsJournal S ws passes (v.seen ++ own_rest.0)) (sym start) (subst (λ (es : List Entry). IsJournal S words passes es) o.sees.is kept.journal)) in
     let same : state (opening words passes) kept.log ≡ last = (λ i. state (opening (sym start i) (sym count i)) kept.log) ∙ ap (λ (es : List Entry). state (opening_of v) es) o.sees.is in
     let found : gate ∷ image ≡ table_words last = sym are ∙ kept.is ∙ ap (λ (s : State). table_words s) same in
-    record { rest = own_rest.0; journal = here; is = cc; others = o.none; gathered_none = none_kept v.seen own_rest.0 v.kept o.kept }
+    record { rest = own_rest.0; journal = here; is = cc; others = o.none; gathered_none = none_kept (opening words passes) v.seen own_rest.0 v.kept o.kept }

@@ -103,7 +103,7 @@ module _ (S : Shaping) where
   reads_more v u w (x ∷ xs) i n r e = (r.0, r.1, reads_more r.0 u w xs i n r.2 e)
 
 -- the same position, told of the first view
-spot_since : (u v : View) (log : List Entry) (i n : ℕ) → Follows u v → Spot (opening_of v) log v.number (length v.seen) i n → Spot (opening_of u) log u.number (length u.seen) i n
+pub spot_since : (u v : View) (log : List Entry) (i n : ℕ) → Follows u v → Spot (opening_of v) log v.number (length v.seen) i n → Spot (opening_of u) log u.number (length u.seen) i n
 spot_since u v log i n f s =
     let wide : length v.seen ≡ length u.seen + length f.seen.0 = ap length f.seen.1 ∙ length-append u.seen f.seen.0 in
     let since = s.since in
@@ -121,7 +121,7 @@ numbered_at first [] i h = absurd (omega arith)
 numbered_at first (x ∷ xs) zero h = ap (λ (k : ℕ). Some (k, x)) (sym (add-zero first))
 numbered_at first (x ∷ xs) (suc i) h = numbered_at (suc first) xs i (omega arith) ∙ ap (λ (k : ℕ). Some (k, slice_index xs i)) (omega arith)
 
-numbered_or : (first : ℕ) (xs : List ℕ) (i : ℕ) (d : ℕ × ℕ) → i < length xs → get_or (numbered_from first xs) i d ≡ (first + i, slice_index xs i)
+pub numbered_or : (first : ℕ) (xs : List ℕ) (i : ℕ) (d : ℕ × ℕ) → i < length xs → get_or (numbered_from first xs) i d ≡ (first + i, slice_index xs i)
 numbered_or first [] i d h = absurd (omega arith)
 numbered_or first (x ∷ xs) zero d h = ap (λ (k : ℕ). (k, x)) (sym (add-zero first))
 numbered_or first (x ∷ xs) (suc i) d h = numbered_or (suc first) xs i d (omega arith) ∙ ap (λ (k : ℕ). (k, slice_index xs i)) (omega arith)

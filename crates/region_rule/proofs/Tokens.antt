@@ -9,11 +9,12 @@ use native.Mathlib.Decide.{ℕ_discrete}
 use lib.ListN.{get_elem?}
 use Rattle.atomic_table.specs.Table.{State as Table, keeps, Allows, Splits, Joins}
 use Rattle.atomic_table.proofs.Lists.{at_set, at_snoc, set_again, set_else}
+use Rattle.region_core.specs.declared.mode.Mode.{Mode}
 use Rattle.region_core.specs.declared.mode.Mode.TheVariants.{Idle}
 use Rattle.region_core.specs.declared.act.Entry.{Entry}
 use Rattle.region_core.specs.Shape.{Shaping}
-use Rattle.region_core.specs.State.{opening, IsIn}
-use Rattle.region_core.specs.Journal.{IsLegal, IsJournal}
+use Rattle.region_core.specs.State.{State, opening, IsIn}
+use Rattle.region_core.specs.Journal.{state, IsLegal, IsJournal}
 use Rattle.region_core.specs.Gate.{total}
 use Rattle.region_core.proofs.Lists.{at_some, at_copies}
 use Rattle.region_core.proofs.Totals.{total-set, le_total, total-snoc}
@@ -21,10 +22,10 @@ use Rattle.region_core.proofs.Journals.{legal-front}
 use Rattle.region_rule.specs.declared.view.View.{View}
 use Rattle.region_rule.specs.declared.view.Role.{Role}
 use Rattle.region_rule.specs.declared.view.Role.TheVariants.{Copied, Numbered}
-use Rattle.region_rule.specs.Views.{Agrees, Owns, fits_as, Fits, one_if, count, times_in_as, times_in, IsOneJournal, numbers_from, fresh_view, first_view}
-use Rattle.region_rule.specs.Tokens.{after_giving, next_pass, note_of, spent_view, after_learning, after_gathering, Knows}
+use Rattle.region_rule.specs.Views.{now, Agrees, Owns, fits_as, Fits, one_if, count, times_in_as, times_in, IsOneJournal, numbers_from, fresh_view, first_view}
+use Rattle.region_rule.specs.Tokens.{after_giving, next_pass, note_of, spent_view, after_learning, after_gathering, AreIdle, Knows}
 use Rattle.region_rule.proofs.Keeps.{numbered, counted}
-use Rattle.region_rule.proofs.Fronts.{Front, front, agrees_further, agrees_both, lists_of, count-append, owns_further}
+use Rattle.region_rule.proofs.Fronts.{Front, front, agrees_further, agrees_both, lists_of, idle_of, count-append, owns_further}
 
 some_true : (b : Bool) → 1 ≤ one_if b → b ≡ true
 some_true true h = refl
@@ -69,9 +70,9 @@ counts_waiting k i (suc n) =
     let one = next_below k i in
     omega arith
 
-agrees_waiting : (i n : ℕ) → Agrees [] [] (numbers_from i n)
-agrees_waiting i zero = tt
-agrees_waiting i (suc n) = (refl, refl, agrees_waiting (suc i) n)
+agrees_waiting : (words : List ℕ) (passes i n : ℕ) → i + n ≤ passes → Agrees (opening words passes) [] [] (numbers_from i n)
+agrees_waiting words passes i zero h = tt
+agrees_waiting words passes i (suc n) h = (refl, refl, idle_there words passes i (omega arith), agrees_waiting words passes (suc i) n (omega arith))
 
 -- where a view with a number says that it keeps another one, that one is a pass's
 kept_below : (passes : ℕ) (views : List View) (id k : ℕ) (v : View) → total (times_in k) views ≡ one_if (ltb k passes) → get_elem? views id ≡ some v → 1 ≤ times_in k v → k < passes
@@ -86,7 +87,7 @@ at_one v u (suc id) e = absurd (some-ne-none u (sym e))
 record Joined (words : List ℕ) (passes : ℕ) (log rw : List Entry) (v w : View) (b : Bool) : Type 0 where
   rest : List Entry
   owns : Owns words passes log rest (record v { seen = cond b w.seen v.seen; told = cond b v.seen w.seen })
-  others : (kept : List (ℕ × List Entry)) → Agrees w.seen rw kept → Agrees (cond b w.seen v.seen) rest kept
+  others : (kept : List (ℕ × List Entry)) → Agrees (opening words passes) w.seen rw kept → Agrees (opening words passes) (cond b w.seen v.seen) rest kept
 
 -- a view that has taken the longer of two beginnings
 joined : (words : List ℕ) (passes : ℕ) (log rv rw : List Entry) (v w : View) (b : Bool) → ltb (length v.seen) (length w.seen) ≡ b
@@ -113,11 +114,11 @@ joined words passes log rv rw v w false b o there =
         mode = o.mode;
         kept = o.kept;
       };
-      others = λ kept a. subst (λ (es : List Entry). Agrees es rv kept) (sym f.is) (agrees_further w.seen f.mid rv kept (subst (λ (r : List Entry). Agrees w.seen r kept) f.rest a));
+      others = λ kept a. subst (λ (es : List Entry). Agrees (opening words passes) es rv kept) (sym f.is) (agrees_further (opening words passes) w.seen f.mid rv kept (subst (λ (r : List Entry). Agrees (opening words passes) w.seen r kept) f.rest a));
     }
 
 -- a view that keeps other numbers
-keeping : (words : List ℕ) (passes : ℕ) (log rest : List Entry) (v : View) (kept : List (ℕ × List Entry)) → Owns words passes log rest v → Agrees v.seen rest kept → Owns words passes log rest (record v { kept = kept })
+keeping : (words : List ℕ) (passes : ℕ) (log rest : List Entry) (v : View) (kept : List (ℕ × List Entry)) → Owns words passes log rest v → Agrees (opening words passes) v.seen rest kept → Owns words passes log rest (record v { kept = kept })
 keeping words passes log rest v kept o a = record {
   sees = record { start = o.sees.start; passes_are = o.sees.passes_are; is = o.sees.is; told = o.sees.told };
   had = o.had;
@@ -146,7 +147,7 @@ module _ (S : Shaping) (words : List ℕ) (passes : ℕ) where
             had = refl;
             none = refl;
             mode = idle_there words passes 0 some_of;
-            kept = agrees_waiting 1 (passes - 1);
+            kept = agrees_waiting words passes 1 (passes - 1) (omega arith);
           },
         );
         once = λ k.
@@ -196,7 +197,7 @@ module _ (S : Shaping) (words : List ℕ) (passes : ℕ) where
           had = refl;
           none = o.kept.1;
           mode = idle_there words passes x.0 below;
-          kept = o.kept.2;
+          kept = o.kept.3;
         },
       )
       (λ k. omega arith)
@@ -246,20 +247,22 @@ module _ (S : Shaping) (words : List ℕ) (passes : ℕ) where
       (λ k. let none : times_in k w ≡ 0 = ap (λ (r : Role). times_in_as r k w.number w.kept) copied in let same : times_in k (after_learning v w) ≡ times_in k v = refl in omega arith)
 
   -- a pass ends another one, and keeps its entries
-  pub gathers : (id other : ℕ) (v w : View) → v.role ≡ Numbered → w.role ≡ Numbered → Joins IsRuled id v other w (after_gathering v w) spent_view
-  gathers id other v w is ended s kept at differ there =
+  pub gathers : (id other : ℕ) (v w : View) → v.role ≡ Numbered → w.role ≡ Numbered → w.mode ≡ Idle → Joins IsRuled id v other w (after_gathering v w) spent_view
+  gathers id other v w is ended idle s kept at differ there =
       let there' : get_elem? s.views other ≡ some w = sym (set_else s.views id other (after_gathering v w) differ) ∙ there in
       let own_rest = numbered words passes kept.log v is (kept.fits id v at) in
       let its_rest = numbered words passes kept.log w ended (kept.fits other w there') in
       let o : Owns words passes kept.log its_rest.0 w = its_rest.1 in
       let b : Bool = ltb (length v.seen) (length w.seen) in
       let j : Joined words passes kept.log its_rest.0 v w b = joined words passes kept.log own_rest.0 its_rest.0 v w b refl own_rest.1 o.sees.is in
-      let its : Agrees (cond b w.seen v.seen) j.rest ((w.number, w.own) ∷ w.kept) = j.others ((w.number, w.own) ∷ w.kept) (o.had, o.none, o.kept) in
+      let resting : IsIn Idle (state (opening words passes) w.seen) w.number =
+      subst (λ (t : State). IsIn Idle t w.number) (λ i. state (opening (o.sees.start i) (o.sees.passes_are i)) w.seen) (subst (λ (m : Mode). IsIn m (now w) w.number) idle o.mode) in
+      let its : Agrees (opening words passes) (cond b w.seen v.seen) j.rest ((w.number, w.own) ∷ w.kept) = j.others ((w.number, w.own) ∷ w.kept) (o.had, o.none, resting, o.kept) in
       join s id other v w (after_gathering v w) kept at differ there
       (subst (λ (r : Role). fits_as r words passes kept.log (after_gathering v w)) (sym is) (
         j.rest,
         keeping words passes kept.log j.rest (after_learning v w) ((w.number, w.own) ∷ (w.kept ++ v.kept)) j.owns
-            (its.0, its.1, agrees_both (cond b w.seen v.seen) j.rest w.kept v.kept its.2 j.owns.kept),
+            (its.0, its.1, its.2, agrees_both (opening words passes) (cond b w.seen v.seen) j.rest w.kept v.kept its.3 j.owns.kept),
       ))
       (λ k.
       let mine : times_in k v ≡ one_if (eqb v.number k) + count k v.kept = ap (λ (r : Role). times_in_as r k v.number v.kept) is in
@@ -295,7 +298,8 @@ module _ (S : Shaping) (words : List ℕ) (passes : ℕ) where
             told = o.sees.told;
             had = o.had;
             mode = o.mode;
-            lists = lists_of v.seen own_rest.0 v.kept o.kept;
+            lists = lists_of (opening words passes) v.seen own_rest.0 v.kept o.kept;
+            idle = subst (λ (t : State). AreIdle t v.kept) (λ i. state (opening (start i) (count_is i)) v.seen) (idle_of (opening words passes) v.seen own_rest.0 v.kept o.kept);
           },
         ),
       )

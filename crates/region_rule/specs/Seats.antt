@@ -4,6 +4,7 @@ use Rattle.atomic_table.specs.Table.{Me}
 use Rattle.atomic_table.specs.Seated.{TableId}
 use Rattle.atomic_table.specs.declared.shared.Seat.{Seat}
 use Rattle.region_core.specs.Shape.{Shaping}
+use Rattle.region_core.specs.declared.mode.Mode.{Mode}
 use Rattle.region_core.specs.declared.act.Act.{Act}
 use Rattle.region_rule.specs.declared.view.View.{View}
 use Rattle.region_rule.specs.declared.view.Role.TheVariants.{Numbered}
@@ -29,10 +30,18 @@ region_of seat = record { table = seat.table_id; words = seat.me.0.start; passes
 abbrev pub token_of : Seat (Unit {0}) View → Token
 token_of seat = record { region = region_of seat; view = seat.me.0 }
 
--- the region, its capacity and the pass's number stay
-pub record IsSame (old new : Token) : Type 0 where
+-- The pass is in this mode, and what it has seen is of its region's words and passes
+pub record IsOf (mode : Mode) (token : Token) : Type 0 where
+  pub mode_is : token.view.mode ≡ mode
+  pub start_is : token.view.start ≡ token.region.words
+  pub passes_are : token.view.passes ≡ token.region.passes
+
+-- The region and the pass's number stay, and so do the region's words and passes. The pass was in the first mode, and is in the second
+pub record IsSame (was stays : Mode) (old new : Token) : Type 0 where
   pub region : new.region ≡ old.region
   pub number : new.view.number ≡ old.view.number
+  pub before : IsOf was old
+  pub after : IsOf stays new
 
 -- the seat of a pass of this region
 pub record IsSeatOf (region : MadeRegion) (seat : Seat (Unit {0}) View) : Type 0 where

@@ -3,7 +3,7 @@ use Rattle.std.specs.Prelude.{◌≡◌, ℕ, ◌<◌, ◌≢◌, List, [], ◌�
 use Rattle.region_core.specs.declared.mode.Mode.TheVariants.{Idle}
 use Rattle.region_core.specs.declared.act.Entry.{Entry}
 use Rattle.region_core.specs.Shape.{Shaping}
-use Rattle.region_core.specs.State.{IsIn}
+use Rattle.region_core.specs.State.{State, IsIn}
 use Rattle.region_core.specs.Journal.{own, IsJournal}
 use Rattle.region_rule.specs.declared.view.View.{View}
 use Rattle.region_rule.specs.declared.view.Role.TheVariants.{Spent, Copied}
@@ -54,14 +54,20 @@ abbrev pub HasLists : List Entry → List (ℕ × List Entry) → Type 0
 HasLists seen [] = Unit {0}
 HasLists seen (x ∷ xs) = (own x.0 seen ≡ x.1) × HasLists seen xs
 
+-- the pass of each number in the list is idle
+abbrev pub AreIdle : State → List (ℕ × List Entry) → Type 0
+AreIdle s [] = Unit {0}
+AreIdle s (x ∷ xs) = IsIn Idle s x.0 × AreIdle s xs
+
 -- What a look at the table tells a pass of its own view: what it has seen is a legal journal, with the list that came by the
--- last join at its front, with just these own entries, with just these entries of the passes that were gathered
+-- last join at its front, with just these own entries, with just these entries of the passes that were gathered, which are idle
 pub record Knows (S : Shaping) (v : View) : Type 0 where
   pub journal : IsJournal S v.start v.passes v.seen
   pub told : IsFront v.told v.seen
   pub had : own v.number v.seen ≡ v.own
   pub mode : IsIn v.mode (now v) v.number
   pub lists : HasLists v.seen v.kept
+  pub idle : AreIdle (now v) v.kept
 
 -- the pass has gathered every other one
 abbrev pub IsLast : View → Type 0

@@ -27,10 +27,10 @@ opening_of v = opening v.start v.passes
 abbrev pub now : View → State
 now v = state (opening_of v) v.seen
 
--- the entries of each number are those that are kept, and it has none in the rest of the journal
-abbrev pub Agrees : List Entry → List Entry → List (ℕ × List Entry) → Type 0
-Agrees seen rest [] = Unit {0}
-Agrees seen rest (x ∷ xs) = (own x.0 seen ≡ x.1) × (own x.0 rest ≡ []) × Agrees seen rest xs
+-- the entries of each number are those that are kept, it has none in the rest of the journal, and its pass is idle
+abbrev pub Agrees : State → List Entry → List Entry → List (ℕ × List Entry) → Type 0
+Agrees start seen rest [] = Unit {0}
+Agrees start seen rest (x ∷ xs) = (own x.0 seen ≡ x.1) × (own x.0 rest ≡ []) × IsIn Idle (state start seen) x.0 × Agrees start seen rest xs
 
 -- none of these numbers has an entry in the list
 abbrev pub HasNone : List Entry → List (ℕ × List Entry) → Type 0
@@ -50,7 +50,7 @@ pub record Owns (words : List ℕ) (passes : ℕ) (log rest : List Entry) (v : V
   pub had : own v.number v.seen ≡ v.own
   pub none : own v.number rest ≡ []
   pub mode : IsIn v.mode (now v) v.number
-  pub kept : Agrees v.seen rest v.kept
+  pub kept : Agrees (opening words passes) v.seen rest v.kept
 
 -- a spent view says nothing, and a note has no number
 abbrev pub fits_as : Role → List ℕ → ℕ → List Entry → View → Type 0

@@ -2,6 +2,7 @@
 //! generation 2 last (mmv(5)).
 ghost use Rattle.std.specs.Prelude.{◌≡◌, ◌+◌, ◌-◌, ◌^◌, ◌<◌, MatchResult, max, length, slice_index};
 ghost use Rattle.region_rule.specs.Tokens.{note_of};
+ghost use Rattle.region_core.specs.declared.mode.Mode.TheVariants.{Idle, Changing};
 ghost use Rattle.region_rule.specs.Seats.{IsSame};
 ghost use Rattle.region_rule.specs.Calls.{Learns};
 ghost use Rattle.region_rule.specs.Changes.{next_after, left_from, left_of, Acts, Starts, Fails, Stores, last_acts};
@@ -91,7 +92,7 @@ impl<S: Shape> Region<S> {
             result
             (λ change. Starts S.shaping pass.view (length self.now.words) image.items moment change)
             (λ refused. Fails S.shaping pass.view (length self.now.words) image.items refused.0.view refused.2) }
-        ensures stays { MatchResult result (λ change. IsSame pass change.token) (λ refused. IsSame pass refused.0 × (refused.1.items ≡ image.items)) }
+        ensures stays { MatchResult result (λ change. IsSame Idle Changing pass change.token) (λ refused. IsSame Idle Idle pass refused.0 × (refused.1.items ≡ image.items)) }
     {
         if image.len() > self.capacity as usize {
             let need = image.len() as u64;
@@ -145,7 +146,7 @@ impl<S: Shape> Change<S> {
         requires here { self.old.token.region ≡ region.now }
         ensures left { result ≡ left_of self.new }
         ensures stores { Stores S.shaping self.old self.new }
-        ensures stays { IsSame self.old.token self.new.token }
+        ensures stays { IsSame Changing Changing self.old.token self.new.token }
     {
         if self.left() == 0 {
             return 0;
@@ -160,7 +161,7 @@ impl<S: Shape> Change<S> {
     pub fn finish(self, region: &Region<S>) -> Pass
         requires here { self.token.region ≡ region.now }
         ensures finishes { Acts S.shaping self.token.view (last_acts self) result.view }
-        ensures stays { IsSame self.token result }
+        ensures stays { IsSame Changing Idle self.token result }
     {
         let mut change = self;
         while change.left() > 0 {
@@ -174,7 +175,7 @@ impl<S: Shape> Change<S> {
         requires here { self.token.region ≡ region.now }
         requires done { left_of self ≡ 0 }
         ensures finishes { Acts S.shaping self.token.view (last_acts self) result.view }
-        ensures stays { IsSame self.token result }
+        ensures stays { IsSame Changing Idle self.token result }
     {
         let Change {
             number,
@@ -206,7 +207,7 @@ impl<S: Shape> Change<S> {
         requires note { note.region ≡ region.now }
         ensures learns { Learns S.shaping self.old.token.view note.view self.new.token.view }
         ensures image { (self.new.generation ≡ self.old.generation) × (self.new.image ≡ self.old.image) × (self.new.next ≡ self.old.next) }
-        ensures stays { IsSame self.old.token self.new.token }
+        ensures stays { IsSame Changing Changing self.old.token self.new.token }
     {
         region.learn_seat(&mut self.seat, note.seat);
     }

@@ -75,3 +75,12 @@ impl From<AllocError> for ReadFault {
         ReadFault::NoMemory
     }
 }
+
+/// Why a read of chosen words gave none.
+#[derive(Clone, Copy, Debug, PartialEq, Eq)]
+pub enum ValueFault {
+    /// Generation 2 was `found`, and not the known one.
+    Newer { found: u64 },
+    /// A change crossed the reading: generation 2 was `first`, and generation 1 after it `last`.
+    Again { first: u64, last: u64 },
+}

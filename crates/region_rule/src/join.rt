@@ -1,5 +1,6 @@
 //! How views are cut in two and joined.
 ghost use Rattle.std.specs.Prelude.{◌≡◌, ℕ, ◌+◌, ◌-◌, ◌<◌, []};
+ghost use Rattle.region_core.specs.declared.mode.Mode.TheVariants.{Idle};
 ghost use Rattle.region_rule.specs.declared.view.Role.TheVariants.{Copied, Numbered};
 ghost use Rattle.region_rule.specs.Views.{fresh_view, numbers_from};
 ghost use Rattle.region_rule.specs.Tokens.{note_of, after_learning, after_gathering, Knows};
@@ -47,7 +48,7 @@ impl<S: Shape> Region<S> {
     /// Ends another pass.
     pub(crate) fn gather_seat(&self, seat: &mut Seat<(), View>, ended: Seat<(), View>)
         requires here { IsSeatOf self.now seat.old }
-        requires ended { IsSeatOf self.now ended × (ended.me.1 ≡ []) }
+        requires ended { IsSeatOf self.now ended × (ended.me.1 ≡ []) × (ended.me.0.mode ≡ Idle) }
         ensures table { seat.new.table_id ≡ seat.old.table_id }
         ensures both { seat.new.me ≡ (after_gathering seat.old.me.0 ended.me.0, seat.old.me.1) }
         ensures knows { Knows S.shaping seat.new.me.0 }

@@ -1,7 +1,7 @@
 //! What follows from the clauses of the calls. Each law is the contract of a function without parameters, which does nothing.
 
 ghost use Rattle.region_rule.specs.Reads.{Agreement, Disagreement};
-ghost use Rattle.region_rule.specs.Laws.{FormStaysInside, StepsKeepTheForm, LastSeesAll, LastClosesAll};
+ghost use Rattle.region_rule.specs.Laws.{FormStaysInside, StepsKeepTheForm, LastSeesAll, LastClosesAll, LastKnowsAll, LastLeavesIdle, LastReadsAll, LastReadsWords};
 
 use region_core::Shape;
 
@@ -33,4 +33,24 @@ pub fn agreement_is_shown<S: Shape>()
 /// And one whose two numbers differ is refused.
 pub fn disagreement_is_again<S: Shape>()
     ensures { Disagreement S.shaping }
+{}
+
+/// A pass that has gathered every other one knows the whole journal.
+pub fn last_knows_all<S: Shape>()
+    ensures { LastKnowsAll S.shaping }
+{}
+
+/// And each other pass is idle.
+pub fn last_leaves_idle<S: Shape>()
+    ensures { LastLeavesIdle S.shaping }
+{}
+
+/// A reading by such a pass finds the last state's generations and words, and leaves that state.
+pub fn last_reads_all<S: Shape>()
+    ensures { LastReadsAll S.shaping }
+{}
+
+/// And a read of all words gives exactly the last state's words.
+pub fn last_reads_words<S: Shape>()
+    ensures { LastReadsWords S.shaping }
 {}

@@ -18,10 +18,10 @@ mod view;
 mod waits;
 
 pub use change::Change;
-pub use fault::{Again, ChangeFault, Changing, NoMemory, OpenFault, ReadFault, Stable};
+pub use fault::{Again, ChangeFault, Changing, NoMemory, OpenFault, ReadFault, Stable, ValueFault};
 pub use laws::{
-    agreement_is_shown, disagreement_is_again, form_stays_inside, last_closes_all, last_sees_all,
-    steps_keep_the_form,
+    agreement_is_shown, disagreement_is_again, form_stays_inside, last_closes_all, last_knows_all,
+    last_leaves_idle, last_reads_all, last_reads_words, last_sees_all, steps_keep_the_form,
 };
 pub use pass::{Note, Pass};
 pub use reading::Reading;

@@ -1,6 +1,7 @@
 //! Passes, and notes of what they have seen.
 ghost use Rattle.std.specs.Prelude.{◌≡◌};
 ghost use Rattle.region_rule.specs.Tokens.{note_of};
+ghost use Rattle.region_core.specs.declared.mode.Mode.TheVariants.{Idle};
 ghost use Rattle.region_rule.specs.Seats.{IsSame};
 ghost use Rattle.region_rule.specs.Calls.{Learns, Gathers};
 
@@ -73,7 +74,7 @@ impl Pass {
         requires here { self.old.region ≡ region.now }
         requires note { note.region ≡ region.now }
         ensures learns { Learns S.shaping self.old.view note.view self.new.view }
-        ensures stays { IsSame self.old self.new }
+        ensures stays { IsSame Idle Idle self.old self.new }
     {
         region.learn_seat(&mut self.seat, note.seat);
     }
@@ -83,7 +84,7 @@ impl Pass {
         requires here { self.old.region ≡ region.now }
         requires ended { ended.region ≡ region.now }
         ensures gathers { Gathers S.shaping self.old.view ended.view self.new.view }
-        ensures stays { IsSame self.old self.new }
+        ensures stays { IsSame Idle Idle self.old self.new }
     {
         region.gather_seat(&mut self.seat, ended.seat);
     }

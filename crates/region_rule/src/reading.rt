@@ -1,12 +1,13 @@
 //! Readings: generation 2 first, then words, then generation 1 (mmv(5)).
-ghost use Rattle.std.specs.Prelude.{◌≡◌, ◌≢◌, ◌<◌, ℕ, List, MatchResult, length};
+ghost use Rattle.std.specs.Prelude.{◌≡◌, ◌≢◌, ◌<◌, ℕ, List, [], ◌∷◌, ◌++◌, MatchResult, length};
 ghost use Rattle.region_core.specs.declared.act.Act.TheVariants.{Load};
 ghost use Rattle.region_rule.specs.Steps.{Extends};
 ghost use Rattle.region_rule.specs.Tokens.{note_of};
+ghost use Rattle.region_core.specs.declared.mode.Mode.TheVariants.{Idle};
 ghost use Rattle.region_rule.specs.Seats.{IsSame};
 ghost use Rattle.region_rule.specs.declared.view.View.{View};
 ghost use Rattle.region_rule.specs.Calls.{Learns};
-ghost use Rattle.region_rule.specs.Reads.{Reads, ShowsIn, RefusedIn};
+ghost use Rattle.region_rule.specs.Reads.{HasRead, ShowsIn, RefusedIn};
 
 use crate::fault::{Again, Stable};
 use crate::pass::{Note, Pass};
@@ -43,7 +44,8 @@ impl<S: Shape> Region<S> {
     pub fn start_read(&self, pass: Pass) -> Reading
         requires here { pass.region ≡ self.now }
         ensures reads { Extends S.shaping pass.view (Load 2) result.first result.token.view }
-        ensures stays { IsSame pass result.token }
+        ensures begins { HasRead S.shaping pass.view result.first [] result.token.view }
+        ensures stays { IsSame Idle Idle pass result.token }
     {
         let Pass { number, mut seat } = pass;
         let first = self.load_second(&mut seat);
@@ -61,25 +63,26 @@ impl Reading {
         requires here { self.old.token.region ≡ region.now }
         requires below { index < length region.now.words }
         ensures reads { Extends S.shaping self.old.token.view (Load index) result self.new.token.view }
+        ensures goes_on { (v : View) (found : List (ℕ × ℕ)) → HasRead S.shaping v self.old.first found self.old.token.view → HasRead S.shaping v self.new.first (found ++ (index, result) ∷ []) self.new.token.view }
         ensures first { self.new.first ≡ self.old.first }
-        ensures stays { IsSame self.old.token self.new.token }
+        ensures stays { IsSame Idle Idle self.old.token self.new.token }
     {
         region.load(&mut self.seat, index)
     }
 
     /// Ends the reading by a load of generation 1. `Stable` comes exactly where the two loaded numbers are equal: the words
-    /// loaded between are then of one layout. `Again` carries both where they differ.
+    /// loaded between are then of one layout, whatever the reading learned meanwhile. `Again` carries both where they differ.
     pub fn end<S: Shape>(self, region: &Region<S>) -> (Pass, Result<Stable, Again>)
         requires here { self.token.region ≡ region.now }
         ensures reads { (last : ℕ) × Extends S.shaping self.token.view (Load 1) last result.0.view × MatchResult
             result.1
             (λ stable. (stable.generation ≡ self.first) × (last ≡ self.first))
             (λ again. (again.first ≡ self.first) × (again.last ≡ last) × (self.first ≢ last)) }
-        ensures shown { (v begun : View) (found : List (ℕ × ℕ)) → Extends S.shaping v (Load 2) self.first begun → Reads S.shaping begun found self.token.view → MatchResult
+        ensures shown { (v : View) (found : List (ℕ × ℕ)) → HasRead S.shaping v self.first found self.token.view → MatchResult
             result.1
             (λ stable. (form : S.shaping.Form) × ShowsIn S.shaping v (record { generation = stable.generation; form = form; found = found }) result.0.view)
             (λ again. RefusedIn v again.first again.last result.0.view) }
-        ensures stays { IsSame self.token result.0 }
+        ensures stays { IsSame Idle Idle self.token result.0 }
     {
         let Reading {
             number,
@@ -110,8 +113,9 @@ impl Reading {
         requires here { self.old.token.region ≡ region.now }
         requires note { note.region ≡ region.now }
         ensures learns { Learns S.shaping self.old.token.view note.view self.new.token.view }
+        ensures goes_on { (v : View) (found : List (ℕ × ℕ)) → HasRead S.shaping v self.old.first found self.old.token.view → HasRead S.shaping v self.new.first found self.new.token.view }
         ensures first { self.new.first ≡ self.old.first }
-        ensures stays { IsSame self.old.token self.new.token }
+        ensures stays { IsSame Idle Idle self.old.token self.new.token }
     {
         region.learn_seat(&mut self.seat, note.seat);
     }

@@ -1,9 +1,11 @@
-//! Reads of all words.
-ghost use Rattle.std.specs.Prelude.{◌≡◌, MatchResult, length};
+//! Reads of all words, and of chosen ones.
+ghost use Rattle.std.specs.Prelude.{◌≡◌, ◌<◌, MatchResult, All, length};
+ghost use Rattle.std.specs.List.{zip};
+ghost use Rattle.region_core.specs.declared.mode.Mode.TheVariants.{Idle, Attached};
 ghost use Rattle.region_rule.specs.Seats.{IsSeatOf, IsSame};
-ghost use Rattle.region_rule.specs.Reads.{Reads, numbered_from, ReadsImage, ReadsNot, ReadsInside};
+ghost use Rattle.region_rule.specs.Reads.{Reads, numbered_from, ReadsImage, ReadsNot, StaysIdle, ReadsInside, ReadsChosen, ReadsChosenNot};
 
-use crate::fault::{NoMemory, ReadFault};
+use crate::fault::{NoMemory, ReadFault, ValueFault};
 use crate::pass::Pass;
 use crate::region::Region;
 use crate::stint::Stint;
@@ -37,7 +39,7 @@ impl<S: Shape> Region<S> {
             result
             (λ words. ReadsImage S.shaping pass.old.view words.items pass.new.view)
             (ReadsNot S.shaping pass.old.view pass.new.view) }
-        ensures stays { IsSame pass.old pass.new }
+        ensures stays { MatchResult result (λ _. IsSame Idle Idle pass.old pass.new) (StaysIdle pass.old pass.new) }
     {
         let mut words = Vec::from_elem(alloc, 0u64, self.capacity as usize)?;
         let first = self.load_second(&mut pass.seat);
@@ -47,6 +49,55 @@ impl<S: Shape> Region<S> {
             return Err(ReadFault::Again { first, last });
         }
         Ok(words)
+    }
+
+    /// Loads these words in order.
+    fn load_each(&self, seat: &mut Seat<(), View>, indexes: &[u32], out: &mut [u64])
+        requires here { IsSeatOf self.now seat.old }
+        requires long { length out.old ≡ length indexes.now }
+        requires below { All (λ index. index < length self.now.words) indexes.now }
+        ensures reads { Reads S.shaping seat.old.me.0 (zip indexes.now out.new) seat.new.me.0 }
+        ensures long { length out.new ≡ length out.old }
+        ensures seat { IsSeatOf self.now seat.new × (seat.new.me.1 ≡ seat.old.me.1) × (seat.new.me.0.number ≡ seat.old.me.0.number) × (seat.new.me.0.mode ≡ seat.old.me.0.mode) }
+    {
+        let mut at = 0;
+        while at < indexes.len() {
+            let found = self.load(seat, indexes[at]);
+            out[at] = found;
+            at += 1;
+        }
+    }
+
+    /// Reads these words, if generation 2 is the known one: generation 2 first, then the words in order, and generation 1.
+    /// `Newer` comes exactly where generation 2 is another one, and nothing else was loaded then; then `Again` exactly where
+    /// generation 1 differs from it. What is in `out` after a refusal is not said.
+    pub fn read_chosen(
+        &self,
+        pass: &mut Pass,
+        known: u64,
+        indexes: &[u32],
+        out: &mut [u64],
+    ) -> Result<(), ValueFault>
+        requires here { pass.old.region ≡ self.now }
+        requires long { length out.old ≡ length indexes.now }
+        requires below { All (λ index. index < length self.now.words) indexes.now }
+        ensures reads { MatchResult
+            result
+            (λ _. ReadsChosen S.shaping pass.old.view known indexes.now out.new pass.new.view)
+            (ReadsChosenNot S.shaping pass.old.view known indexes.now pass.new.view) }
+        ensures long { length out.new ≡ length out.old }
+        ensures stays { IsSame Idle Idle pass.old pass.new }
+    {
+        let first = self.load_second(&mut pass.seat);
+        if first != known {
+            return Err(ValueFault::Newer { found: first });
+        }
+        self.load_each(&mut pass.seat, indexes, out);
+        let last = self.load_first(&mut pass.seat);
+        if last != first {
+            return Err(ValueFault::Again { first, last });
+        }
+        Ok(())
     }
 }
 
@@ -60,7 +111,7 @@ impl Stint {
     ) -> Result<Vec<u64>, NoMemory>
         requires here { self.old.region ≡ region.now }
         ensures reads { MatchResult result (λ words. ReadsInside S.shaping self.old.view words.items self.new.view) (λ _. self.new ≡ self.old) }
-        ensures stays { IsSame self.old self.new }
+        ensures stays { MatchResult result (λ _. IsSame Attached Attached self.old self.new) (λ _. self.new ≡ self.old) }
     {
         let Ok(mut words) = Vec::from_elem(alloc, 0u64, region.capacity as usize) else {
             return Err(NoMemory);

@@ -3,6 +3,7 @@ ghost use Rattle.std.specs.Prelude.{◌≡◌, ◌<◌, MatchResult, length};
 ghost use Rattle.region_core.specs.declared.act.Act.TheVariants.{Swap, Add};
 ghost use Rattle.region_rule.specs.Steps.{Extends};
 ghost use Rattle.region_rule.specs.Tokens.{note_of};
+ghost use Rattle.region_core.specs.declared.mode.Mode.TheVariants.{Idle, Attached};
 ghost use Rattle.region_rule.specs.Seats.{IsSame};
 ghost use Rattle.region_rule.specs.Calls.{Attaches, Bounces, Detaches, KeepsForm, TakesValue, TakesAll, Learns};
 
@@ -46,7 +47,7 @@ impl<S: Shape> Region<S> {
             result
             (λ stint. Attaches S.shaping pass.view stint.view)
             (λ refused. Bounces S.shaping pass.view refused.1.gate refused.0.view) }
-        ensures stays { MatchResult result (λ stint. IsSame pass stint) (λ refused. IsSame pass refused.0) }
+        ensures stays { MatchResult result (λ stint. IsSame Idle Attached pass stint) (λ refused. IsSame Idle Idle pass refused.0) }
     {
         let Pass { number, mut seat } = pass;
         let gate = self.enter(&mut seat);
@@ -67,7 +68,7 @@ impl Stint {
         requires takes { TakesValue S.shaping self.old.view word value }
         ensures swaps { Extends S.shaping self.old.view (Swap word value) result self.new.view }
         ensures form { KeepsForm S.shaping self.old.view self.new.view }
-        ensures stays { IsSame self.old self.new }
+        ensures stays { IsSame Attached Attached self.old self.new }
     {
         region.swap(&mut self.seat, word, value)
     }
@@ -79,7 +80,7 @@ impl Stint {
         requires takes { TakesAll S.shaping self.old.view word }
         ensures adds { Extends S.shaping self.old.view (Add word delta) result self.new.view }
         ensures form { KeepsForm S.shaping self.old.view self.new.view }
-        ensures stays { IsSame self.old self.new }
+        ensures stays { IsSame Attached Attached self.old self.new }
     {
         region.add(&mut self.seat, word, delta)
     }
@@ -88,7 +89,7 @@ impl Stint {
     pub fn detach<S: Shape>(self, region: &Region<S>) -> Pass
         requires here { self.region ≡ region.now }
         ensures detaches { Detaches S.shaping self.view result.view }
-        ensures stays { IsSame self result }
+        ensures stays { IsSame Attached Idle self result }
     {
         let Stint { number, mut seat } = self;
         region.leave(&mut seat);
@@ -112,7 +113,7 @@ impl Stint {
         requires note { note.region ≡ region.now }
         ensures learns { Learns S.shaping self.old.view note.view self.new.view }
         ensures form { KeepsForm S.shaping self.old.view self.new.view }
-        ensures stays { IsSame self.old self.new }
+        ensures stays { IsSame Attached Attached self.old self.new }
     {
         region.learn_seat(&mut self.seat, note.seat);
     }

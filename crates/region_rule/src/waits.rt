@@ -1,5 +1,6 @@
 //! The calls that wait. Each ensures what it says if it returns.
 ghost use Rattle.std.specs.Prelude.{◌≡◌, MatchResult, length};
+ghost use Rattle.region_core.specs.declared.mode.Mode.TheVariants.{Idle, Attached, Changing};
 ghost use Rattle.region_rule.specs.Seats.{IsSame};
 ghost use Rattle.region_rule.specs.Waits.{AttachesAtLast, StartsAtLast, FailsAtLast};
 
@@ -17,7 +18,7 @@ impl<S: Shape> Region<S> {
     pub fn attach_wait<R: Wait>(&self, rt: &R, pass: Pass) -> Stint
         requires here { pass.region ≡ self.now }
         ensures attaches { AttachesAtLast S.shaping pass.view result.view }
-        ensures stays { IsSame pass result }
+        ensures stays { IsSame Idle Attached pass result }
     {
         let mut waiting = pass;
         for _ in rt.forever() {
@@ -45,7 +46,7 @@ impl<S: Shape> Region<S> {
             result
             (λ change. StartsAtLast S.shaping pass.view (length self.now.words) image.items moment change)
             (λ refused. FailsAtLast S.shaping pass.view (length self.now.words) image.items refused.0.view refused.2) }
-        ensures stays { MatchResult result (λ change. IsSame pass change.token) (λ refused. IsSame pass refused.0 × (refused.1.items ≡ image.items)) }
+        ensures stays { MatchResult result (λ change. IsSame Idle Changing pass change.token) (λ refused. IsSame Idle Idle pass refused.0 × (refused.1.items ≡ image.items)) }
     {
         let mut waiting = pass;
         let mut kept = image;

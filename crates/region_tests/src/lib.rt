@@ -8,5 +8,7 @@ mod journals;
 mod slate;
 #[cfg(test)]
 mod threads;
+#[cfg(test)]
+mod words;
 
 pub use slate::Slate;

@@ -14,5 +14,5 @@ join_seat-requires g c =
       ap (λ (p : MadeRegion). p.table) its,
       c.requires.ended.1,
       omega arith,
-      gathers g.S.Shape.shaping region.words region.passes c.args.seat.now.id c.args.ended.id c.args.seat.now.me.0 c.args.ended.me.0 c.requires.here.named c.requires.ended.0.named,
+      gathers g.S.Shape.shaping region.words region.passes c.args.seat.now.id c.args.ended.id c.args.seat.now.me.0 c.args.ended.me.0 c.requires.here.named c.requires.ended.0.named c.requires.ended.2,
     )
