@@ -1,7 +1,6 @@
 //! Calls of an image (mmv(5)), whose bytes are the input.
 use crate::hostile;
 use case_book::Answer;
-use layout_text::{Line as TextLine, write_line};
 use mmv_layout::{Image, Slot};
 use pcp_base::NoMemory;
 use pm_print::image_fault_text;
@@ -53,25 +52,6 @@ fn tell_texts(alloc: Global, image: &Image) -> Result<String, NoMemory> {
     Ok(out)
 }
 
-// `form`: whether it is an image of one 32-bit value alone, and which.
-fn tell_form(alloc: Global, image: &Image) -> Result<String, NoMemory> {
-    let cluster = image.cluster();
-    if !image.is_first_form() {
-        return Ok(format!(in alloc; "cluster {cluster}, another form\n")?);
-    }
-    let value = image.only_value();
-    Ok(format!(in alloc; "cluster {cluster}, one value {value}\n")?)
-}
-
-// `metric`: the line of the metric of such an image.
-fn tell_metric(alloc: Global, image: &Image) -> Result<Vec<u8>, NoMemory> {
-    let mut out = Vec::new(alloc);
-    if image.is_first_form() {
-        write_line(&mut out, &TextLine::Metric(image.only_metric(alloc)?))?;
-    }
-    Ok(out)
-}
-
 // `copy`: the bytes of a copy.
 fn tell_copy(alloc: Global, image: &Image) -> Result<Vec<u8>, NoMemory> {
     let copy = image.copy(alloc)?;
@@ -83,8 +63,6 @@ fn tell(alloc: Global, image: &Image, rest: &str) -> Result<Option<Vec<u8>>, NoM
         "" => String::from_str(alloc, "read\n")?,
         "slots" => tell_slots(alloc, image)?,
         "texts" => tell_texts(alloc, image)?,
-        "form" => tell_form(alloc, image)?,
-        "metric" => return Ok(Some(tell_metric(alloc, image)?)),
         "copy" => return Ok(Some(tell_copy(alloc, image)?)),
         _ => {
             let Some(slot) = rest.strip_prefix("slot ") else {
@@ -99,7 +77,7 @@ fn tell(alloc: Global, image: &Image, rest: &str) -> Result<Option<Vec<u8>>, NoM
     Ok(Some(text.into_bytes()))
 }
 
-/// `image`, or `image` with one of `slots`, `slot ITEM INSTANCE`, `texts`, `form`, `metric`, `copy`, and those of
+/// `image`, or `image` with one of `slots`, `slot ITEM INSTANCE`, `texts`, `copy`, and those of
 /// `hostile`.
 pub fn tell_image(
     alloc: Global,

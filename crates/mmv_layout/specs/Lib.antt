@@ -1,4 +1,3 @@
-pub mod FirstForm
 pub mod Form
 pub mod Rows
 pub mod Says

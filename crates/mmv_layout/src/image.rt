@@ -1,7 +1,5 @@
 //! An image: words whose form is known.
 ghost use Rattle.std.specs.Prelude.{◌≡◌, ◌≢◌, ◌<◌, ◌≤◌, ◌^◌, ◌⊎◌, negsuc, length, All, Contains, IfOk, IfSome, OnOk, Err, None, MatchOption};
-ghost use Rattle.pcp_base.specs.declared.kind.Kind.TheVariants.{I32, U32};
-ghost use Rattle.pcp_base.specs.Names.{IsName};
 ghost use Rattle.mmv_format.specs.Contents.{cluster_in, is_short};
 ghost use Rattle.mmv_format.specs.Fields.{words_of};
 ghost use Rattle.mmv_format.specs.Faults.{image_in, image_of};
@@ -10,80 +8,20 @@ ghost use Rattle.mmv_layout.specs.Form.{slots_of, texts_of, IsSlotOf, IsOther};
 ghost use Rattle.mmv_layout.specs.Rows.{layout_of};
 ghost use Rattle.mmv_layout.specs.SlotTables.{Finds};
 ghost use Rattle.mmv_layout.specs.Says.{Says};
-ghost use Rattle.mmv_layout.specs.FirstForm.{is_plain_metric, is_first_form, IsFirstForm, only_item, only_kind, only_semantics, only_units, only_name, only_metric, only_value};
 
 use crate::layout::layout;
 use crate::slot_table::SlotTable;
 use crate::slots::{slot_of, slots, texts};
-use mmv_format::{
-    HEADER_SIZE, ImageFault, Layout, MetricRow, Slot, cluster_in, flags_in, image_fault,
-    is_no_domain, item_in_metric, long_offset_in_metric, metric_at, metric_count, name_in_metric,
-    number64, semantics_in_metric, serial_in_metric, short_offset_in_metric, type_in_metric,
-    units_in_metric, value_at, value_count, value_in_value, words_of,
-};
-use pcp_base::{Kind, List, NoMemory, Semantics, Text, Units};
+use mmv_format::{HEADER_SIZE, ImageFault, Layout, Slot, cluster_in, image_fault, words_of};
+use pcp_base::{List, NoMemory, Text};
 use std::alloc::Global;
 use std::marker::Model;
-
-/// Whether the metric at a place has 32-bit values, no domain and no help.
-#[tactic(auto, unfolding(crate::specs::FirstForm::is_plain_metric))]
-fn is_plain_metric(words: &[u64], metric: u128) -> bool
-    requires { metric < 2 ^ 80 }
-    ensures { result ≡ is_plain_metric words.now metric }
-{
-    type_in_metric(words, metric) <= 1
-        && is_no_domain(serial_in_metric(words, metric))
-        && number64(words, short_offset_in_metric(metric)) == 0
-        && number64(words, long_offset_in_metric(metric)) == 0
-}
 
 /// Whether so many bytes are fewer than a header, or no whole number of words.
 fn is_short(bytes: usize) -> bool
     ensures { result ≡ is_short bytes }
 {
     (bytes as u64) < HEADER_SIZE || bytes % 8 != 0
-}
-
-/// The one metric's item.
-#[tactic(auto, unfolding(crate::specs::FirstForm::only_item))]
-fn only_item(words: &[u64]) -> u32
-    ensures { result ≡ only_item words.now }
-{
-    item_in_metric(words, metric_at(words, 0))
-}
-
-/// The one metric's kind.
-#[tactic(auto, unfolding(crate::specs::FirstForm::only_kind))]
-fn only_kind(words: &[u64]) -> Kind
-    ensures { result ≡ only_kind words.now }
-{
-    Kind::of_code(type_in_metric(words, metric_at(words, 0))).unwrap_or(Kind::I32)
-}
-
-/// The one metric's semantics.
-#[tactic(auto, unfolding(crate::specs::FirstForm::only_semantics))]
-fn only_semantics(words: &[u64]) -> Semantics
-    ensures { result ≡ only_semantics words.now }
-{
-    Semantics::of_code(semantics_in_metric(words, metric_at(words, 0))).unwrap_or(
-        Semantics::Counter,
-    )
-}
-
-/// The one metric's units.
-#[tactic(auto, unfolding(crate::specs::FirstForm::only_units))]
-fn only_units(words: &[u64]) -> Units
-    ensures { result ≡ only_units words.now }
-{
-    Units::of_word(units_in_metric(words, metric_at(words, 0)))
-}
-
-/// The one metric's name.
-#[tactic(auto, unfolding(crate::specs::FirstForm::only_name))]
-fn only_name(alloc: Global, words: &[u64]) -> Result<Text, NoMemory>
-    ensures { IfOk result (λ name. name ≡ only_name words.now) }
-{
-    Ok(name_in_metric(alloc, words, metric_at(words, 0))?)
 }
 
 /// An image of version 1 (mmv(5)). Contracts see it as the list of its words.
@@ -179,27 +117,6 @@ impl Image {
         cluster_in(&self.words)
     }
 
-    /// Whether the image has the first form: exactly one metric and one value, the metric without an instance domain
-    /// or a help, of 32-bit kind, and without flag 1.
-    #[tactic(auto, unfolding(crate::specs::FirstForm::is_first_form))]
-    pub fn is_first_form(&self) -> bool
-        ensures { result ≡ is_first_form self.now }
-    {
-        let words = self.words.as_slice();
-        flags_in(words) % 2 == 0
-            && metric_count(words) == 1
-            && value_count(words) == 1
-            && is_plain_metric(words, metric_at(words, 0))
-    }
-
-    /// The whole value field; an `I32` or `U32` value is its low 32 bits.
-    #[tactic(auto, unfolding(crate::specs::FirstForm::only_value))]
-    pub fn only_value(&self) -> u64
-        ensures { result ≡ only_value self.now }
-    {
-        value_in_value(&self.words, value_at(&self.words, 0))
-    }
-
     /// What the image says: each row by the addresses of its fields, each reference as the row to which it leads.
     pub fn layout(&self, alloc: Global) -> Result<Layout, NoMemory>
         ensures value { IfOk result (λ layout. layout ≡ layout_of self.now) }
@@ -239,28 +156,5 @@ impl Image {
         ensures item { item ≤ 1023 ⊎ (result ≡ None) }
     {
         slot_of(&self.words, item, instance)
-    }
-
-    /// The one metric, without an instance domain and help texts.
-    #[tactic(auto, using(crate::proofs::FirstForms::name_is, crate::proofs::FirstForms::name_short, crate::proofs::FirstForms::item_fits, crate::proofs::FirstForms::kind_is))]
-    pub fn only_metric(&self, alloc: Global) -> Result<MetricRow, NoMemory>
-        requires { IsFirstForm self.now }
-        ensures row { IfOk result (λ row. row ≡ only_metric self.now) }
-        ensures name { IsName (only_name self.now) }
-        ensures short { length (only_name self.now) ≤ 63 }
-        ensures item { only_item self.now ≤ 1023 }
-        ensures kind { (only_kind self.now ≡ I32) ⊎ (only_kind self.now ≡ U32) }
-    {
-        let name = only_name(alloc, &self.words)?;
-        Ok(MetricRow {
-            name,
-            item: only_item(&self.words),
-            kind: only_kind(&self.words),
-            semantics: only_semantics(&self.words),
-            units: only_units(&self.words),
-            serial: None,
-            short: None,
-            long: None,
-        })
     }
 }

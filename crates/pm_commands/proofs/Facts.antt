@@ -4,7 +4,6 @@ use Rattle.pcp_model.specs.Disk.{IsSettled}
 use Rattle.pcp_outside.specs.Causes.{Rose}
 use Rattle.pm_commands.specs.declared.stage.ReadRefusal.{ReadRefusal}
 use Rattle.pm_commands.specs.declared.stage.InputRefusal.{InputRefusal}
-use Rattle.pm_commands.specs.declared.stage.InputRefusal.TheVariants.{LaterImage}
 use Rattle.pm_commands.specs.declared.stage.FilesRefusal.{FilesRefusal}
 use Rattle.pm_commands.specs.declared.stage.FilesRefusal.TheVariants.{LaterDisk}
 use Rattle.pm_commands.specs.declared.stage.DiskRefusal.TheVariants.{Files as FilesAway, DiskFault}
@@ -149,25 +148,29 @@ module _ (words : List (List ℕ)) (s : SourceSide) (k : SinkSide) (d : DiskSide
         (λ done b f two bad. absurd (found_good done.run.asks b f done.run.served.good bad)) (λ untold b f two bad. absurd (found_good untold.run.asks b f untold.run.served.good bad)) input_found;
   }
 
-  later_input : (e : InputRefusal) → input_status e ≡ 15 → e ≡ LaterImage
-  later_input e h = grind arith
+  input_now : (e : InputRefusal) → input_status e ≡ 15 → ⊥
+  input_now e h = grind arith
 
   never_later : (e : ReadRefusal) → reading_status e ≡ 15 → ⊥
   never_later e h = grind arith
 
-  later_only : (e : Refusal) → Caused e → status_of e ≡ 15 → Finds words s LaterImage ⊎ TurnsAway words s d LaterDisk
-  later_only (Input e) c h = inl (c.0.0, c.0.1 ∙ ap Some (later_input e h))
-  later_only (Disk (FilesAway LaterDisk)) c h = inr record { asks = c.0; good = c.1.0; uses = c.1.1; turned = c.2.1 }
-  later_only (Disk DiskFault) c h = cc
-  later_only (Words usage) c h = cc
+  turned_away : (e : FilesRefusal) → Caused (Disk (FilesAway e)) → TurnsAway words s d e
+  turned_away e c = record { asks = c.0; good = c.1.0; uses = c.1.1; turned = c.2.1 }
+
+  -- no status below is 15
+  below : (n : ℕ) → n < 15 → n ≡ 15 → ⊥
+  below n low h = omega arith
+
+  later_only : (e : Refusal) → Caused e → status_of e ≡ 15 → TurnsAway words s d LaterDisk
+  later_only (Words usage) c h = absurd (below 1 (omega arith) h)
   later_only (Reading e) c h = absurd (never_later e h)
-  later_only NoMemory c h = cc
+  later_only (Input e) c h = absurd (input_now e h)
+  later_only (Disk (FilesAway LaterDisk)) c h = turned_away LaterDisk c
+  later_only (Disk DiskFault) c h = absurd (below 5 (omega arith) h)
+  later_only NoMemory c h = absurd (below 9 (omega arith) h)
 
-  later_image_found : (e : Refusal) → Caused e → (b : Meets words s) → refused_of b ≡ Some LaterImage → (status_of e ≡ 15) ⊎ ((status_of e ≡ 9) ⊎ (status_of e ≡ 3))
-  later_image_found e c b bad = grind (arith, apart, not_met, found_same, found_good)
-
-  later_disk_found : (e : Refusal) → Caused e → (b : Meets words s) → refused_of b ≡ None → (status_of e ≡ 15) ⊎ ((status_of e ≡ 9) ⊎ ((status_of e ≡ 3) ⊎ (status_of e ≡ 5)))
-  later_disk_found e c b good = grind (arith, apart, not_met, found_bad)
+  later_found : (e : Refusal) → Caused e → (b : Meets words s) → refused_of b ≡ None → (status_of e ≡ 15) ⊎ ((status_of e ≡ 9) ⊎ ((status_of e ≡ 3) ⊎ (status_of e ≡ 5)))
+  later_found e c b good = grind (arith, apart, not_met, found_bad)
 
   -- what was done was over files that the command doesn't turn away
   not_welcome : (text : List ℕ) → HasRun words s d text → (b : Meets words s) (e : FilesRefusal) → d.tells → (meaning b.command).turns_away b.input (found d) e → ⊥
@@ -177,12 +180,10 @@ module _ (words : List (List ℕ)) (s : SourceSide) (k : SinkSide) (d : DiskSide
 
   pub later_is_exact : (status : ℕ) → Ends words s k d status → LaterIsExact words s d status
   later_is_exact status ends = record {
-    only = by_end status (λ n. n ≡ 15 → Finds words s LaterImage ⊎ TurnsAway words s d LaterDisk) ends (λ done h. cc) (λ untold h. cc) later_only;
-    image = by_end status (λ n. (b : Meets words s) → refused_of b ≡ Some LaterImage → (n ≡ 15) ⊎ ((n ≡ 9) ⊎ (n ≡ 3))) ends
-        (λ done b bad. absurd (found_good done.run.asks b LaterImage done.run.served.good bad)) (λ untold b bad. absurd (found_good untold.run.asks b LaterImage untold.run.served.good bad)) later_image_found;
-    disk = by_end status (λ n. (b : Meets words s) → refused_of b ≡ None → d.tells → (meaning b.command).turns_away b.input (found d) LaterDisk → (n ≡ 15) ⊎ ((n ≡ 9) ⊎ ((n ≡ 3) ⊎ (n ≡ 5)))) ends
+    only = by_end status (λ n. n ≡ 15 → TurnsAway words s d LaterDisk) ends (λ done h. cc) (λ untold h. cc) later_only;
+    always = by_end status (λ n. (b : Meets words s) → refused_of b ≡ None → d.tells → (meaning b.command).turns_away b.input (found d) LaterDisk → (n ≡ 15) ⊎ ((n ≡ 9) ⊎ ((n ≡ 3) ⊎ (n ≡ 5)))) ends
         (λ done b good tells turned. absurd (not_welcome done.text done.run b LaterDisk tells turned)) (λ untold b good tells turned. absurd (not_welcome untold.text untold.run b LaterDisk tells turned))
-        (λ e c b good tells turned. later_disk_found e c b good);
+        (λ e c b good tells turned. later_found e c b good);
   }
 
   left_unwritten : (status : ℕ) (a : Asks words s) → Left (meaning a.command) status a.input d → Unwritten words s d status

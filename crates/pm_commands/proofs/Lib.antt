@@ -1,9 +1,6 @@
 pub mod Components
-pub mod Logged
 pub mod Looks
 pub mod Memory
-pub mod NoneOrOne
-pub mod Stages
 pub mod Facts
 pub mod Wholes
 pub mod Served

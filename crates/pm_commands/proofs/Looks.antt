@@ -5,7 +5,7 @@ use Rattle.pcp_model.specs.Disk.{Files, Held, Holdings, CrashImage, IsEmpty, con
 use Rattle.pcp_outside.specs.Devices.{Elapses, LeavesOnly, IsVolumes}
 use Rattle.pcp_outside.proofs.Crash.{started, after_look}
 use Rattle.pm_commands.specs.commands.once.{HasByte}
-use Rattle.pm_commands.specs.Pieces.{Holds}
+use Rattle.record_run.specs.Pieces.{HoldsOnly}
 
 module _ {D : Type 0} (moment : D → ℕ) (left_since : D → ℕ → Files → Type 0) (held : D → Holdings) where
   -- a run in which files were only looked at leaves what was there
@@ -37,7 +37,7 @@ nil_right (x ∷ xs) ys h = cc
 pub holds_nothing : (h : Held) → bytes_of h ≡ [] → h ≡ nothing_held
 holds_nothing h e = ap (λ (sure : List ℕ). record { sure = sure; rest = h.rest }) (nil_left h.sure h.rest e) ∙ ap (λ (rest : List ℕ). record { sure = []; rest = rest }) (nil_right h.sure h.rest e)
 
-pub empty_holds : (held : Holdings) → IsEmpty (contents_of held) → Holds held nothing_held nothing_held nothing_held
+pub empty_holds : (held : Holdings) → IsEmpty (contents_of held) → HoldsOnly held nothing_held nothing_held nothing_held
 empty_holds held empty = record {
   has_meta = holds_nothing (held Meta) (empty Meta);
   has_index = holds_nothing (held Index) (empty Index);

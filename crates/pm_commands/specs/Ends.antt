@@ -5,7 +5,7 @@ use Rattle.pcp_outside.specs.Causes.{Rose}
 use Rattle.pm_commands.specs.declared.stage.FilesRefusal.{FilesRefusal}
 use Rattle.pm_commands.specs.declared.refusal.Refusal.{Refusal}
 use Rattle.pm_commands.specs.declared.output.Output.{Output}
-use Rattle.pm_commands.specs.declared.output.Output.TheVariants.{Logged, Made}
+use Rattle.pm_commands.specs.declared.output.Output.TheVariants.{Logged, NothingLogged, Made}
 use Rattle.pm_commands.specs.Causes.{Asks, Cause}
 use Rattle.pm_commands.specs.Inputs.{refusal_of}
 use Rattle.pm_commands.specs.Meaning.{Meaning}
@@ -16,6 +16,7 @@ use Rattle.pm_commands.specs.Sides.{SourceSide, SinkSide, DiskSide, found}
 -- what is written of an output
 abbrev pub shown : Output → List ℕ
 shown Logged = codes "logged 1\n"
+shown NothingLogged = codes "logged 0\n"
 shown (Made bytes) = bytes
 
 -- A command is done with an input that it reads, over files that it doesn't turn away, and this is to be written.

@@ -4,7 +4,6 @@ use Rattle.std.specs.Prelude.{◌≡◌, ◌⊎◌, ℕ, ◌<◌, ◌≤◌, Lis
 use Rattle.pcp_model.specs.Disk.{Files, Holdings, CrashImage}
 use Rattle.pcp_outside.specs.Causes.{Rose}
 use Rattle.pm_commands.specs.declared.stage.InputRefusal.{InputRefusal}
-use Rattle.pm_commands.specs.declared.stage.InputRefusal.TheVariants.{LaterImage}
 use Rattle.pm_commands.specs.declared.stage.FilesRefusal.{FilesRefusal}
 use Rattle.pm_commands.specs.declared.stage.FilesRefusal.TheVariants.{LaterDisk}
 use Rattle.pm_commands.specs.declared.words.Command.{Command}
@@ -62,12 +61,10 @@ pub record TurnsAway (words : List (List ℕ)) (s : SourceSide) (d : DiskSide) (
   pub uses : (meaning asks.command).uses_disk ≡ true
   pub turned : d.tells → (meaning asks.command).turns_away asks.input (found d) e
 
--- 15 exactly where `once` is given an image that is not of the first form, or a file of the disk isn't empty; a disk that
--- fails comes before the second
+-- 15 exactly where a file of the disk isn't empty; a disk that fails comes before
 pub record LaterIsExact (words : List (List ℕ)) (s : SourceSide) (d : DiskSide) (status : ℕ) : Type 0 where
-  pub only : status ≡ 15 → Finds words s LaterImage ⊎ TurnsAway words s d LaterDisk
-  pub image : (a : Meets words s) → refused_of a ≡ Some LaterImage → (status ≡ 15) ⊎ ((status ≡ 9) ⊎ (status ≡ 3))
-  pub disk : (a : Meets words s) → refused_of a ≡ None → d.tells → (meaning a.command).turns_away a.input (found d) LaterDisk
+  pub only : status ≡ 15 → TurnsAway words s d LaterDisk
+  pub always : (a : Meets words s) → refused_of a ≡ None → d.tells → (meaning a.command).turns_away a.input (found d) LaterDisk
       → (status ≡ 15) ⊎ ((status ≡ 9) ⊎ ((status ≡ 3) ⊎ (status ≡ 5)))
 
 -- it was refused, so that it wasn't done

@@ -2,14 +2,10 @@ pub mod Causes
 pub mod CommandLine
 pub mod Ends
 pub mod Facts
-pub mod Fits
 pub mod Inputs
 pub mod Meaning
 pub mod Meanings
-pub mod Once
-pub mod Pieces
 pub mod Refusals
-pub mod Shots
 pub mod Sides
 pub mod Writes
 pub mod commands

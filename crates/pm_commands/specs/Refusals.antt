@@ -9,7 +9,7 @@ use Rattle.pm_commands.specs.declared.stage.Usage.{Usage}
 use Rattle.pm_commands.specs.declared.stage.ReadRefusal.{ReadRefusal}
 use Rattle.pm_commands.specs.declared.stage.ReadRefusal.TheVariants.{ReadFault, InputLimit}
 use Rattle.pm_commands.specs.declared.stage.InputRefusal.{InputRefusal}
-use Rattle.pm_commands.specs.declared.stage.InputRefusal.TheVariants.{Image, Line, LaterImage}
+use Rattle.pm_commands.specs.declared.stage.InputRefusal.TheVariants.{Image, Line}
 use Rattle.pm_commands.specs.declared.stage.FilesRefusal.{FilesRefusal}
 use Rattle.pm_commands.specs.declared.stage.FilesRefusal.TheVariants.{LaterDisk}
 use Rattle.pm_commands.specs.declared.stage.DiskRefusal.{DiskRefusal}
@@ -34,18 +34,10 @@ reading_line InputLimit = codes "limit input 16777217\n"
 abbrev pub input_status : InputRefusal → ℕ
 input_status (Image fault) = 2
 input_status (Line fault) = 2
-input_status LaterImage = 15
 
--- the line where making it takes memory, and the line where it takes none
-abbrev pub numbered_input_line : InputRefusal → Option (List ℕ)
-numbered_input_line (Image fault) = Some (image_line fault)
-numbered_input_line (Line fault) = Some (text_line fault.line fault.fault)
-numbered_input_line LaterImage = None
-
-abbrev pub plain_input_line : InputRefusal → List ℕ
-plain_input_line (Image fault) = []
-plain_input_line (Line fault) = []
-plain_input_line LaterImage = codes "later image\n"
+abbrev pub input_line : InputRefusal → List ℕ
+input_line (Image fault) = image_line fault
+input_line (Line fault) = text_line fault.line fault.fault
 
 -- the files, and the disk
 abbrev pub files_status : FilesRefusal → ℕ
@@ -73,7 +65,7 @@ status_of NoMemory = 9
 abbrev pub numbered_line_of : Refusal → Option (List ℕ)
 numbered_line_of (Words usage) = Some (usage_line usage)
 numbered_line_of (Reading e) = None
-numbered_line_of (Input e) = numbered_input_line e
+numbered_line_of (Input e) = Some (input_line e)
 numbered_line_of (Disk e) = None
 numbered_line_of NoMemory = None
 
@@ -81,7 +73,7 @@ numbered_line_of NoMemory = None
 abbrev pub plain_line_of : Refusal → List ℕ
 plain_line_of (Words usage) = []
 plain_line_of (Reading e) = reading_line e
-plain_line_of (Input e) = plain_input_line e
+plain_line_of (Input e) = []
 plain_line_of (Disk e) = disk_line e
 plain_line_of NoMemory = []
 

@@ -6,12 +6,10 @@
 mod commands;
 mod inputs;
 mod output;
-mod plan;
 mod refusal;
 mod stage;
 mod top;
 mod words;
-mod writes;
 
 pub use refusal::Refusal;
 pub use stage::{DiskRefusal, FilesRefusal, InputRefusal, ReadRefusal, Stop, Usage};

@@ -9,6 +9,8 @@ use pcp_base::Bytes;
 pub enum Output {
     /// That one result was logged.
     Logged,
+    /// That no result was logged.
+    NothingLogged,
     /// What was made of the input.
     Made(Bytes),
 }
@@ -20,6 +22,7 @@ impl Output {
     {
         match self {
             Output::Logged => b"logged 1\n",
+            Output::NothingLogged => b"logged 0\n",
             Output::Made(bytes) => bytes.as_slice(),
         }
     }

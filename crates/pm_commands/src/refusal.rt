@@ -97,7 +97,10 @@ impl Refusal {
                 let line = usage.line(alloc)?;
                 Ok(Some(line))
             }
-            Refusal::Input(refusal) => refusal.numbered_line(alloc),
+            Refusal::Input(refusal) => {
+                let line = refusal.line(alloc)?;
+                Ok(Some(line))
+            }
             Refusal::Reading(_) | Refusal::Disk(_) | Refusal::NoMemory => Ok(None),
         }
     }
@@ -108,9 +111,8 @@ impl Refusal {
     {
         match self {
             Refusal::Reading(refusal) => refusal.line(),
-            Refusal::Input(refusal) => refusal.plain_line(),
             Refusal::Disk(refusal) => refusal.line(),
-            Refusal::Words(_) | Refusal::NoMemory => b"",
+            Refusal::Words(_) | Refusal::Input(_) | Refusal::NoMemory => b"",
         }
     }
 

@@ -1,7 +1,7 @@
 //! What each stage of a command refuses: the words, the reading of the input, the input, and the disk; with the exit
 //! status and the last line of each refusal.
-ghost use Rattle.std.specs.Prelude.{◌≡◌, IfOk, OnErr, IsSome};
-ghost use Rattle.pm_commands.specs.Refusals.{usage_line, reading_status, reading_line, input_status, numbered_input_line, plain_input_line, disk_status, disk_line};
+ghost use Rattle.std.specs.Prelude.{◌≡◌, IfOk};
+ghost use Rattle.pm_commands.specs.Refusals.{usage_line, reading_status, reading_line, input_status, input_line, disk_status, disk_line};
 
 use mmv_layout::ImageFault;
 use mmv_writer::TextFault;
@@ -88,8 +88,6 @@ pub enum InputRefusal {
     Image(ImageFault),
     /// The input is no layout text.
     Line(TextFault),
-    /// The image is not of the first form; such images are run later.
-    LaterImage,
 }
 
 impl InputRefusal {
@@ -98,35 +96,15 @@ impl InputRefusal {
     {
         match self {
             InputRefusal::Image(_) | InputRefusal::Line(_) => 2,
-            InputRefusal::LaterImage => 15,
         }
     }
 
-    // The line where making it takes memory.
-    pub(crate) fn numbered_line(&self, alloc: Global) -> Result<Option<Bytes>, NoMemory>
-        ensures line { IfOk result (λ line. line ≡ numbered_input_line self.now) }
-        ensures numbered { OnErr result (IsSome (numbered_input_line self.now)) }
+    pub(crate) fn line(&self, alloc: Global) -> Result<Bytes, NoMemory>
+        ensures { IfOk result (λ line. line ≡ input_line self.now) }
     {
         match self {
-            InputRefusal::Image(fault) => {
-                let line = image_fault_text(alloc, fault)?;
-                Ok(Some(line))
-            }
-            InputRefusal::Line(fault) => {
-                let line = line_fault_text(alloc, fault.line, &fault.fault)?;
-                Ok(Some(line))
-            }
-            InputRefusal::LaterImage => Ok(None),
-        }
-    }
-
-    // The line where it is always the same.
-    pub(crate) fn plain_line(&self) -> &'static [u8]
-        ensures { result.now ≡ plain_input_line self.now }
-    {
-        match self {
-            InputRefusal::LaterImage => b"later image\n",
-            InputRefusal::Image(_) | InputRefusal::Line(_) => b"",
+            InputRefusal::Image(fault) => image_fault_text(alloc, fault),
+            InputRefusal::Line(fault) => line_fault_text(alloc, fault.line, &fault.fault),
         }
     }
 }

@@ -35,10 +35,7 @@ fn serve<D: Disk>(
     ensures any_moment { Leaves D.Disk disk.old disk.new (MayLeave (meaning command.now) input.now) }
 {
     match command {
-        Command::Once(asked) => {
-            once(alloc, asked, input, disk)?;
-            Ok(Output::Logged)
-        }
+        Command::Once(asked) => once(alloc, asked, input, disk),
         Command::MmvMake => {
             let image = mmv_make(alloc, input)?;
             Ok(Output::Made(image))
@@ -96,7 +93,7 @@ fn answer<I: Source, O: Sink, D: Disk>(
 /// Runs the command that the words are, and answers the exit status; where it isn't 0, the last line of the output says
 /// why it ended. 0: done. 1: the words are no command. 2: the input is no image, or no layout text. 3, 4, 5: the source,
 /// the sink or the disk failed. 7: the input is above 16 MiB. 9: memory was refused, before the first write to the disk.
-/// 15: an image or a disk of a kind that is run later. What is looked at first comes first: the words, the input, the
+/// 15: files that aren't empty, which are gone on with later. What is looked at first comes first: the words, the input, the
 /// disk, the writes, the output.
 pub fn offline<I: Source, O: Sink, D: Disk>(
     alloc: Global,

@@ -1,66 +1,62 @@
--- `once SEC USEC FILE` reads an image of the first form and logs one result of it, over files that hold nothing.
-use Rattle.std.specs.Prelude.{◌≡◌, ℕ, ◌<◌, ◌≤◌, List, length, codes, true, if◌then◌else◌, Option, Some, None, Result, Ok, Err}
+-- `once SEC USEC FILE` reads an image and logs the one result of its run, over files that hold nothing.
+use Rattle.std.specs.Prelude.{◌≡◌, ℕ, ◌<◌, ◌≤◌, List, [], ◌∷◌, length, codes, true, Some, Ok}
 use Rattle.pcp_base.specs.declared.file.FileId.{FileId}
 use Rattle.pcp_base.specs.declared.result.Item.{Item}
-use Rattle.pcp_base.specs.declared.result.Item.TheVariants.{Sample}
 use Rattle.pcp_model.specs.Disk.{Files, contents_of, IsEmpty, IsSettled}
-use Rattle.mmv_format.specs.declared.fault.ImageFault.{ImageFault}
 use Rattle.mmv_format.specs.Faults.{image_of}
-use Rattle.mmv_layout.specs.FirstForm.{is_first_form}
-use Rattle.pm_commands.specs.declared.stage.InputRefusal.{InputRefusal}
-use Rattle.pm_commands.specs.declared.stage.InputRefusal.TheVariants.{Image, LaterImage}
+use Rattle.record_run.specs.Archives.{run_files, run_item}
+use Rattle.record_run.specs.Pieces.{NoneOrOne, HasItem}
+use Rattle.record_run.specs.Runs.{metrics_of}
 use Rattle.pm_commands.specs.declared.stage.FilesRefusal.TheVariants.{LaterDisk}
 use Rattle.pm_commands.specs.declared.words.OnceWords.{OnceWords}
-use Rattle.pm_commands.specs.Inputs.{input_limit}
+use Rattle.pm_commands.specs.Inputs.{input_limit, image_refusal, made_of}
 use Rattle.pm_commands.specs.Meaning.{Meaning}
-use Rattle.pm_commands.specs.Once.{once_files, shown_result}
-use Rattle.pm_commands.specs.Pieces.{NoneOrOne, HasItem}
-use Rattle.pm_commands.specs.Shots.{shot_of}
 use Rattle.pm_commands.specs.Sides.{DiskSide}
 
--- an input is an image of the first form of these words, within the limit
+-- an input is an image of these words, within the limit
 pub record IsImageInput (input words : List ℕ) : Type 0 where
   pub within : length input ≤ input_limit
   pub image : image_of input ≡ Ok words
-  pub form : is_first_form words ≡ true
-
--- why an input isn't read
-abbrev pub first_form_refusal : Result (List ℕ) ImageFault → Option InputRefusal
-first_form_refusal (Ok words) = if is_first_form words then None else Some LaterImage
-first_form_refusal (Err fault) = Some (Image fault)
 
 -- some file holds a byte
 abbrev pub HasByte : Files → Type 0
 HasByte files = (file : FileId) × (0 < length (files file))
 
--- the item that is logged of an image
-abbrev pub item_of : OnceWords → List ℕ → Item
-item_of asked image = Sample (shown_result asked.stamp (shot_of image))
+-- how many results are logged of these metrics
+abbrev pub logged_line : List ℕ → List ℕ
+logged_line [] = codes "logged 0\n"
+logged_line (pmid ∷ pmids) = codes "logged 1\n"
 
--- The files were empty, and are the archive of the image's result; all but the index entry is sure.
+-- where a metric is asked for, the item is there, and described; else there is no byte
+abbrev pub HasLogged : List ℕ → Item → Files → Type 0
+HasLogged [] item crash = IsEmpty crash
+HasLogged (pmid ∷ pmids) item crash = HasItem crash item
+
+-- no item is there, or the one, and then its description
+abbrev pub MayHaveLogged : List ℕ → Item → Files → Type 0
+MayHaveLogged [] item crash = ⊥
+MayHaveLogged (pmid ∷ pmids) item crash = NoneOrOne crash item
+
+-- The files were empty, and are those of the image's run; all but the index entry is sure.
 pub record IsLogged (asked : OnceWords) (input : List ℕ) (d : DiskSide) : Type 0 where
   pub image : List ℕ
   pub is_image : IsImageInput input image
   pub empty : d.tells → IsEmpty (contents_of d.held)
-  pub files : d.tells → (file : FileId) → contents_of d.after file ≡ once_files asked.stamp asked.file (shot_of image) file
+  pub files : d.tells → (file : FileId) → contents_of d.after file ≡ run_files asked.stamp asked.file image file
   pub settled : d.tells → IsSettled d.after
 
--- the item is there, and described
-abbrev pub HasLogged : OnceWords → List ℕ → Files → Type 0
-HasLogged asked input crash = (image : List ℕ) × IsImageInput input image × HasItem crash (item_of asked image)
-
--- no item is there, or the one, and then its description
-abbrev pub MayHaveLogged : OnceWords → List ℕ → Files → Type 0
-MayHaveLogged asked input crash = (image : List ℕ) × IsImageInput input image × NoneOrOne crash (item_of asked image)
+-- what is so of the metrics and the item of an input's image
+abbrev pub OfRun : OnceWords → List ℕ → (List ℕ → Item → Files → Type 0) → Files → Type 0
+OfRun asked input P crash = (image : List ℕ) × IsImageInput input image × P (metrics_of asked.file image) (run_item asked.stamp asked.file image) crash
 
 abbrev pub once : OnceWords → Meaning
 once asked = record {
-  reads = Some (λ input. first_form_refusal (image_of input));
+  reads = Some (λ input. image_refusal (image_of input));
   uses_disk = true;
   turns_away = λ input found e. (e ≡ LaterDisk) × HasByte found.files;
   done = IsLogged asked;
-  says = λ input d text. text ≡ codes "logged 1\n";
-  keeps = HasLogged asked;
+  says = λ input d text. text ≡ made_of (λ image. logged_line (metrics_of asked.file image)) (image_of input);
+  keeps = λ input crash. OfRun asked input HasLogged crash;
   begun = λ status input d. (status ≡ 5) × (d.tells → IsEmpty (contents_of d.held));
-  may_leave = λ input held crash. IsEmpty (contents_of held) × MayHaveLogged asked input crash;
+  may_leave = λ input held crash. IsEmpty (contents_of held) × OfRun asked input MayHaveLogged crash;
 }

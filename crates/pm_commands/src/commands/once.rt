@@ -1,25 +1,23 @@
-//! The command `once SEC USEC FILE`: an image becomes one logged result.
-ghost use Rattle.std.specs.Prelude.{◌≡◌, ◌⊎◌, ◌≤◌, length, codes, IfOk, IfErr, OnOk, MatchBool, None};
+//! The command `once SEC USEC FILE`: the result of an image's run is logged.
+ghost use Rattle.std.specs.Prelude.{◌≡◌, ◌≤◌, length, IfOk, IfErr, OnOk, MatchBool, None};
+ghost use Rattle.mmv_format.specs.Images.{IsImage};
 ghost use Rattle.pcp_model.specs.Disk.{CrashImage, IsEmpty, contents_of};
 ghost use Rattle.pcp_outside.specs.Causes.{HasCause};
-ghost use Rattle.pcp_outside.specs.Devices.{appended};
+ghost use Rattle.record_run.specs.Written.{IsPlanOf};
 ghost use Rattle.pm_commands.specs.Causes.{StopCause};
-ghost use Rattle.pm_commands.specs.Ends.{HasServed, MayLeave};
-ghost use Rattle.pm_commands.specs.Fits.{FitsOnce, FitsShot};
+ghost use Rattle.pm_commands.specs.Ends.{HasServed, MayLeave, shown};
 ghost use Rattle.pm_commands.specs.Inputs.{input_limit, refusal_of, Refuses};
-ghost use Rattle.pm_commands.specs.Pieces.{pieces, Holds, IsCut, sure, meta_file, volume_file};
-ghost use Rattle.pm_commands.specs.Shots.{shot_of};
 ghost use Rattle.pm_commands.specs.Sides.{disk_side, Leaves};
 ghost use Rattle.pm_commands.specs.commands.once.{once as meaning_of_once, IsImageInput, HasByte};
-ghost use Rattle.pm_commands.specs.Writes.{WriteCause, MayWrite};
+ghost use Rattle.pm_commands.specs.Writes.{WriteCause, HoldsPlan, MayWrite, line_of_plan};
 
-use crate::plan::{Plan, plan_of};
+use crate::output::Output;
 use crate::refusal::Refusal;
 use crate::stage::{DiskRefusal, FilesRefusal, InputRefusal, Stop};
 use crate::words::OnceWords;
-use crate::writes::write_archive;
 use mmv_layout::{Image, ImageFault};
 use pcp_outside::{Disk, Failed, FileId};
+use record_run::{Plan, plan_once, write_archive};
 use std::alloc::Global;
 
 // Whether no file holds a byte.
@@ -41,13 +39,15 @@ fn is_disk_empty<D: Disk>(disk: &mut D) -> Result<bool, Failed>
     Ok(true)
 }
 
-// The pieces of the archive of an input, which is an image of the first form.
-fn prepare(alloc: Global, asked: &OnceWords, input: &[u8]) -> Result<Plan, Stop<InputRefusal>>
-    requires file { length asked.now.file ≤ 63 }
+// The pieces of what the run of an input's image logs, if it logs anything.
+fn prepare(
+    alloc: Global,
+    asked: &OnceWords,
+    input: &[u8],
+) -> Result<Option<Plan>, Stop<InputRefusal>>
     requires within { length input.now ≤ input_limit }
-    ensures made { IfOk result (λ p. (words : _) × IsImageInput input.now words × (p ≡ pieces asked.now.stamp asked.now.file (shot_of words)) × FitsShot (shot_of words)) }
+    ensures made { IfOk result (λ p. (words : _) × IsImageInput input.now words × IsImage words × IsPlanOf asked.now.stamp asked.now.file words p) }
     ensures good { OnOk result (refusal_of (meaning_of_once asked.now).reads input.now ≡ None) }
-    ensures fits { OnOk result (FitsOnce asked.now) }
     ensures cause { IfErr result (Refuses (meaning_of_once asked.now).reads input.now) }
 {
     let image = match Image::from_bytes(alloc, input) {
@@ -55,17 +55,14 @@ fn prepare(alloc: Global, asked: &OnceWords, input: &[u8]) -> Result<Plan, Stop<
         Err(ImageFault::NoMemory) => return Err(Stop::OutOfMemory),
         Err(fault) => return Err(Stop::Refused(InputRefusal::Image(fault))),
     };
-    if !image.is_first_form() {
-        return Err(Stop::Refused(InputRefusal::LaterImage));
-    }
-    let plan = plan_of(alloc, asked, &image)?;
+    let plan = plan_once(alloc, asked.stamp, &asked.file, image)?;
     Ok(plan)
 }
 
-// The archive over an empty disk.
-fn write_plan<D: Disk>(disk: &mut D, plan: &Plan) -> Result<(), DiskRefusal>
+// The archive over an empty disk, or nothing.
+fn write_plan<D: Disk>(disk: &mut D, plan: &Option<Plan>) -> Result<(), DiskRefusal>
     ensures empty { D.tells → OnOk result (IsEmpty (contents_of (D.held disk.old))) }
-    ensures ok { D.tells → OnOk result (Holds (D.held disk.new) (sure (meta_file plan.now)) (appended (sure plan.now.index_label) plan.now.entry) (sure (volume_file plan.now))) }
+    ensures ok { D.tells → OnOk result (HoldsPlan plan.now (D.held disk.old) (D.held disk.new)) }
     ensures cause { IfErr result (WriteCause (disk_side D.Disk disk.old disk.new)) }
     ensures any_moment { Leaves D.Disk disk.old disk.new (MayWrite plan.now) }
 {
@@ -76,26 +73,38 @@ fn write_plan<D: Disk>(disk: &mut D, plan: &Plan) -> Result<(), DiskRefusal>
     if !is_empty {
         return Err(DiskRefusal::Files(FilesRefusal::LaterDisk));
     }
+    let Some(plan) = plan else {
+        return Ok(());
+    };
     match write_archive(disk, plan) {
         Ok(()) => Ok(()),
         Err(_) => Err(DiskRefusal::DiskFault),
     }
 }
 
-/// Logs one result of an input, an image of the first form, over an empty disk.
+// How many results were logged.
+fn told(plan: &Option<Plan>) -> Output
+    ensures { shown result ≡ line_of_plan plan.now }
+{
+    match plan {
+        Some(_) => Output::Logged,
+        None => Output::NothingLogged,
+    }
+}
+
+/// Logs the result of an input's image over an empty disk.
 pub(crate) fn once<D: Disk>(
     alloc: Global,
     asked: &OnceWords,
     input: &[u8],
     disk: &mut D,
-) -> Result<(), Refusal>
-    requires file { length asked.now.file ≤ 63 }
+) -> Result<Output, Refusal>
     requires within { length input.now ≤ input_limit }
-    ensures served { OnOk result (HasServed (meaning_of_once asked.now) input.now (disk_side D.Disk disk.old disk.new) (codes "logged 1\n")) }
+    ensures served { IfOk result (λ output. HasServed (meaning_of_once asked.now) input.now (disk_side D.Disk disk.old disk.new) (shown output)) }
     ensures cause { IfErr result (StopCause (meaning_of_once asked.now) input.now (disk_side D.Disk disk.old disk.new)) }
     ensures any_moment { Leaves D.Disk disk.old disk.new (MayLeave (meaning_of_once asked.now) input.now) }
 {
     let plan = prepare(alloc, asked, input)?;
     write_plan(disk, &plan)?;
-    Ok(())
+    Ok(told(&plan))
 }

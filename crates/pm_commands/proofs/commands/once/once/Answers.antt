@@ -9,8 +9,8 @@ use Rattle.pm_commands.proofs.commands.once.once.Goals as goal
 
 pub returns-clause-served : goal.returns-clause-served
 returns-clause-served g c =
-    has_served c.args.asked.now c.args.input.now _ c.in_ok-plan.plan
-    c.in_ok-plan.ensures.fits c.in_ok-plan.ensures.made c.in_ok-plan.ensures.good (λ tells. c.in_ok-write_plan.ensures.empty tells) (λ tells. c.in_ok-write_plan.ensures.ok tells)
+    has_served c.args.asked.now c.args.input.now _ c.in_ok-plan.plan _
+    c.in_ok-plan.ensures.made c.in_ok-plan.ensures.good (λ tells. c.in_ok-write_plan.ensures.empty tells) (λ tells. c.in_ok-write_plan.ensures.ok tells) c.told.ensures
 
 pub returns-in_err-write_plan-clause-cause : goal.returns-in_err-write_plan-clause-cause
 returns-in_err-write_plan-clause-cause g c =
@@ -23,7 +23,7 @@ returns-clause-any_moment g c = λ tells.
     weaker d.moment d.left_since d.held c.args.disk.now c.write_plan.new.disk
     (MayWrite c.in_ok-plan.plan (d.held c.args.disk.now)) (MayLeave (once c.args.asked.now) c.args.input.now (d.held c.args.disk.now))
     (c.write_plan.ensures.any_moment tells)
-    (may_leave c.args.asked.now c.args.input.now (d.held c.args.disk.now) c.in_ok-plan.plan c.in_ok-plan.ensures.fits c.in_ok-plan.ensures.made)
+    (may_leave c.args.asked.now c.args.input.now (d.held c.args.disk.now) c.in_ok-plan.plan c.in_ok-plan.ensures.made)
 
 pub returns-in_err-write_plan-clause-any_moment : goal.returns-in_err-write_plan-clause-any_moment
 returns-in_err-write_plan-clause-any_moment g c = λ tells.
@@ -31,4 +31,4 @@ returns-in_err-write_plan-clause-any_moment g c = λ tells.
     weaker d.moment d.left_since d.held c.args.disk.now c.write_plan.new.disk
     (MayWrite c.in_ok-plan.plan (d.held c.args.disk.now)) (MayLeave (once c.args.asked.now) c.args.input.now (d.held c.args.disk.now))
     (c.write_plan.ensures.any_moment tells)
-    (may_leave c.args.asked.now c.args.input.now (d.held c.args.disk.now) c.in_ok-plan.plan c.in_ok-plan.ensures.fits c.in_ok-plan.ensures.made)
+    (may_leave c.args.asked.now c.args.input.now (d.held c.args.disk.now) c.in_ok-plan.plan c.in_ok-plan.ensures.made)

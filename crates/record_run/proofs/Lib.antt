@@ -1,0 +1,10 @@
+pub mod Described
+pub mod Enough
+pub mod Images
+pub mod Keys
+pub mod Logged
+pub mod NoneOrOne
+pub mod Planned
+pub mod Sets
+pub mod Stages
+pub mod Values

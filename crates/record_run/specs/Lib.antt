@@ -1,0 +1,4 @@
+pub mod Archives
+pub mod Pieces
+pub mod Runs
+pub mod Written
