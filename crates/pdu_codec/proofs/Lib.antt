@@ -1,0 +1,12 @@
+pub mod BodyReaders
+pub mod FieldReaders
+pub mod Lengths
+pub mod Loops
+pub mod Misfits
+pub mod Once
+pub mod Pdus
+pub mod Readers
+pub mod TextReaders
+pub mod Walks
+pub mod Whole
+pub mod Written

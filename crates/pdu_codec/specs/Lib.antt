@@ -1,0 +1,9 @@
+pub mod Bodies
+pub mod Decoding
+pub mod Faults
+pub mod Grammar
+pub mod Laws
+pub mod Reading
+pub mod ResultMisfit
+pub mod Spelling
+pub mod Types

@@ -1,0 +1,17 @@
+//! What holds of PDUs and their faults.
+ghost use Rattle.pdu_codec.specs.Laws.{OneFault, NoPduBeginsAnother, WrittenIsRead};
+
+/// Bytes are a PDU, or they have one fault.
+pub fn faults_come_once()
+    ensures { OneFault }
+{}
+
+/// No PDU is the beginning of another one.
+pub fn no_pdu_begins_another()
+    ensures { NoPduBeginsAnother }
+{}
+
+/// What `encode` writes of a PDU, `decode` reads as that PDU, unless memory runs out.
+pub fn written_is_read()
+    ensures { WrittenIsRead }
+{}
