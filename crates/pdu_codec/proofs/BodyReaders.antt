@@ -1,15 +1,13 @@
 -- The readers of bodies, by their grammars.
-use Rattle.std.proofs.Common.{◌≡◌, ℕ, ℤ, ◌+◌, Bool, List, [], ◌∷◌, Result, Ok, Err, refl}
-use Rattle.profile_filter.specs.declared.profile.DomainPart.{DomainPart}
+use Rattle.std.proofs.Common.{◌≡◌, ℕ, ℤ, Bool, List, [], ◌∷◌, Result, Ok, Err, refl}
 use Rattle.pdu_codec.specs.declared.fault.PduFault.{PduFault}
 use Rattle.pdu_codec.specs.declared.lists.Head.{Head}
-use Rattle.pdu_codec.specs.declared.pdu.Pdu.{Pdu}
 use Rattle.pdu_codec.specs.declared.pdu.Pdu.TheVariants as pdus
 use Rattle.pdu_codec.specs.declared.types.PduType.TheVariants as types
 use Rattle.pdu_codec.specs.Reading.{◌>>=◌, signed_at, state_at, text_at, pair_at, head_at, many, part_of, one_part, parts_at, error_at, profile_at, fetch_at, desc_req_at, desc_at, instance_req_at, instance_at, creds_at, ids_at, names_at, child_at, traverse_at}
 use Rattle.pdu_codec.specs.Grammar.{Signed, State, TextField, Pair, HeadField, Parts, zero_word}
 use Rattle.pdu_codec.specs.Bodies.{body_of}
-use Rattle.pdu_codec.proofs.Readers.{Reads, Code, code, plain, next, list_of, same_reads, is_reads, done}
+use Rattle.pdu_codec.proofs.Readers.{Reads, Code, code, plain, next, list_of, same_reads, is_reads}
 use Rattle.pdu_codec.proofs.FieldReaders.{word_code, skip, signed_reads, state_reads}
 use Rattle.pdu_codec.proofs.TextReaders.{text_reads, pair_reads}
 

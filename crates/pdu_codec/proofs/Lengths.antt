@@ -1,5 +1,5 @@
 -- Lists are no longer than what they take.
-use Rattle.std.proofs.Common.{ℕ, ℤ, ◌+◌, ◌*◌, ◌≤◌, List, [], ◌∷◌, length, arith}
+use Rattle.std.proofs.Common.{ℕ, ℤ, ◌*◌, ◌≤◌, List, [], ◌∷◌, length, arith}
 use Rattle.profile_filter.specs.declared.profile.DomainPart.{DomainPart}
 use Rattle.pdu_codec.specs.Spelling.{all_lengths, text_length, pair_length, part_length}
 

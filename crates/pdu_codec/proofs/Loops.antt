@@ -1,5 +1,5 @@
 -- Reading one behind the other, as a loop does.
-use Rattle.std.proofs.Common.{◌≡◌, ℕ, ℤ, suc, ◌-◌, ◌+◌, ◌<◌, List, [], ◌∷◌, ◌++◌, length, drop, get_or, Result, Ok, Err, refl, sym, ap, ◌∙◌, append_assoc, arith}
+use Rattle.std.proofs.Common.{◌≡◌, ℕ, suc, ◌-◌, ◌+◌, ◌<◌, List, [], ◌∷◌, ◌++◌, length, drop, get_or, Result, Ok, Err, refl, sym, ap, ◌∙◌, append_assoc, arith}
 use Rattle.profile_filter.specs.declared.profile.DomainPart.{DomainPart}
 use Rattle.pcp_model.proofs.Payloads.{drop_item}
 use Rattle.pdu_codec.specs.declared.fault.PduFault.{PduFault}

@@ -2,7 +2,7 @@
 -- first, or else that of the second.
 use Rattle.std.proofs.Common.{◌≡◌, ℕ, ◌+◌, ◌-◌, ◌<◌, ◌≤◌, List, [], ◌++◌, length, take, drop, refl, sym, ap, ◌∙◌, subst, append_assoc, arith, inl, inr}
 use Rattle.std.proofs.lemmas.Bool.{cases_lt}
-use Rattle.std.proofs.lemmas.List.{take_at, drop_at, take-append-le, take_all, length-append, length-take, length-take-le, append-nil, append_cancel_left, take-append-drop}
+use Rattle.std.proofs.lemmas.List.{take_at, take-append-le, take_all, length-append, length-take-le, append-nil, append_cancel_left, take-append-drop}
 use Rattle.std.proofs.Math.Seq.{take-append-add}
 use Rattle.archive_frame.specs.Misfits.{BeginsOne, IsFirstMisfit}
 use Rattle.pdu_codec.specs.Grammar.{Both}

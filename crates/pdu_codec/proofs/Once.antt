@@ -1,8 +1,8 @@
 -- Bytes are one PDU, or have one fault.
-use Rattle.std.proofs.Common.{◌≡◌, ℕ, ◌+◌, ◌<◌, ◌≤◌, Option, Some, None, List, ◌++◌, length, take, drop, Result, Ok, Err, refl, sym, ap, ◌∙◌, subst, append_assoc, arith, inl, inr}
-use Rattle.std.specs.Prelude.{◌⊎◌, ◌≢◌}
-use Rattle.std.proofs.lemmas.List.{take_at, length-append}
-use Rattle.pcp_model.specs.Words.{word, length-word}
+use Rattle.std.proofs.Common.{◌≡◌, ℕ, ◌+◌, ◌<◌, ◌≤◌, Some, None, List, ◌++◌, length, take, drop, Result, Ok, Err, refl, sym, ap, ◌∙◌, subst, append_assoc, arith, inl, inr}
+use Rattle.std.specs.Prelude.{◌⊎◌}
+use Rattle.std.proofs.lemmas.List.{take_at}
+use Rattle.pcp_model.specs.Words.{word}
 use Rattle.archive_frame.specs.Misfits.{IsFirstMisfit}
 use Rattle.result_form.proofs.Spans.{IsBytes}
 use Rattle.pdu_codec.specs.declared.fault.PduFault.{PduFault}

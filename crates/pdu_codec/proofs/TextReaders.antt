@@ -1,17 +1,16 @@
 -- The reader of texts, by their grammar.
 use Rattle.std.proofs.Common.{◌≡◌, ◌≢◌, ℕ, ℤ, zero, suc, ◌+◌, ◌-◌, ◌<◌, ◌≤◌, Bool, true, false, cond, ltb, eqb, List, [], ◌∷◌, ◌++◌, length, get_or, take, drop, replicate, Result, Ok, Err, refl, sym, ap, ◌∙◌, subst, append_assoc, arith, inl, inr}
-use Rattle.std.proofs.lemmas.Bool.{cases_lt, ltb-true, ltb-false, le-ltb, lt-ltb, eqb-true, eqb-false, cond-true, cond-false}
-use Rattle.std.proofs.lemmas.List.{take_at, take_all, drop-drop, length-append, length-drop, length-take, length-replicate, append-nil, get_or_append_left, get_or-append_right, get_or-replicate, get_or_past, get_or-drop, get_or-take, get_or_default, take-append-drop, take-take, drop-take}
+use Rattle.std.proofs.lemmas.Bool.{cases_lt, le-ltb, lt-ltb, eqb-true, eqb-false, cond-true, cond-false}
+use Rattle.std.proofs.lemmas.List.{take_at, take_all, drop-drop, length-append, length-drop, length-take, length-replicate, get_or_append_left, get_or-append_right, get_or-replicate, get_or-take, take-append-drop, take-take, drop-take}
 use Rattle.pcp_base.specs.Texts.{IsText}
 use Rattle.pcp_model.specs.Words.{zeros}
 use Rattle.pcp_model.specs.Payload.{filling}
-use Rattle.result_form.proofs.Spans.{Spans}
 use Rattle.pdu_codec.specs.declared.fault.PduFault.{PduFault}
 use Rattle.pdu_codec.specs.declared.fault.PduFault.TheVariants.{Body}
 use Rattle.pdu_codec.specs.Reading.{signed_at, clean_length, text_behind, text_at, pair_at}
 use Rattle.pdu_codec.specs.Grammar.{Signed, TextOf, TextField, Pair}
 use Rattle.pdu_codec.proofs.Misfits.{Stops, short_stops}
-use Rattle.pdu_codec.proofs.Readers.{Takes, StopsAt, Reads, Code, code, plain, next, done, failed, ok_is, not_both, err_is}
+use Rattle.pdu_codec.proofs.Readers.{Takes, StopsAt, Reads, Code, code, plain, next, done, ok_is, not_both, err_is}
 use Rattle.pdu_codec.proofs.FieldReaders.{word_code, signed_reads}
 
 -- ---- bytes before the first zero byte

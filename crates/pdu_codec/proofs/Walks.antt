@@ -2,7 +2,7 @@
 use Rattle.std.proofs.Common.{◌≡◌, ℕ, suc, ◌+◌, ◌-◌, ◌<◌, List, Result, Ok, refl, sym, ap, ◌∙◌, arith}
 use Rattle.pdu_codec.specs.declared.misfit.Blocks.{Blocks}
 use Rattle.pdu_codec.specs.declared.misfit.Sets.{Sets}
-use Rattle.pdu_codec.specs.ResultMisfit.{◌>>=◌, led_by, place_at, places_from, set_at, sets_at}
+use Rattle.pdu_codec.specs.ResultMisfit.{led_by, place_at, places_from, set_at, sets_at}
 
 pub places_on : (bytes : List ℕ) (end count i at place : ℕ) (b : Blocks) (total : Result Blocks ℕ) → i < count → place_at bytes end at ≡ Ok place
     → places_from bytes end b (count - i) at ≡ total → places_from bytes end (led_by bytes b place) (count - (i + 1)) (at + 8) ≡ total

@@ -2,7 +2,7 @@
 use Rattle.std.proofs.Common.{◌≡◌, ℕ, ◌+◌, ◌-◌, ◌<◌, ◌≤◌, Bool, true, false, cond, ltb, List, [], ◌++◌, length, drop, Result, Ok, Err, refl, sym, ap, ◌∙◌, subst, arith, inl, inr}
 use Rattle.std.specs.Prelude.{◌⊎◌}
 use Rattle.std.proofs.lemmas.Bool.{ltb-true, ltb-false, le-ltb}
-use Rattle.std.proofs.lemmas.List.{append-nil, drop_all, length-drop, length-append}
+use Rattle.std.proofs.lemmas.List.{append-nil, drop_all, length-drop}
 use Rattle.archive_frame.specs.Misfits.{IsFirstMisfit}
 use Rattle.pcp_base.specs.declared.result.PmResult.{PmResult}
 use Rattle.pcp_model.specs.Payload.{IsPayload}
@@ -18,9 +18,9 @@ use Rattle.pdu_codec.specs.declared.pdu.Pdu.{Pdu}
 use Rattle.pdu_codec.specs.declared.pdu.Pdu.TheVariants as pdus
 use Rattle.pdu_codec.specs.declared.types.PduType.{PduType}
 use Rattle.pdu_codec.specs.declared.types.PduType.TheVariants as types
-use Rattle.pdu_codec.specs.Bodies.{body_of, ResultBody}
+use Rattle.pdu_codec.specs.Bodies.{body_of}
 use Rattle.pdu_codec.specs.Decoding.{fault_of, result_read, result_at, body_at, ended}
-use Rattle.pdu_codec.specs.Faults.{SomeBody, IsBodyMisfit}
+use Rattle.pdu_codec.specs.Faults.{IsBodyMisfit}
 use Rattle.pdu_codec.specs.Reading.{◌>>=◌}
 use Rattle.pdu_codec.specs.ResultMisfit.{result_misfit}
 use Rattle.pdu_codec.proofs.Misfits.{Some, stopped, exceeded}

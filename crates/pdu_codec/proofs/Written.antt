@@ -12,7 +12,7 @@ use Rattle.pdu_codec.specs.declared.lists.Head.{Head}
 use Rattle.pdu_codec.specs.declared.pdu.Pdu.{Pdu}
 use Rattle.pdu_codec.specs.declared.pdu.Pdu.TheVariants as pdus
 use Rattle.pdu_codec.specs.Types.{code_of_type, type_of}
-use Rattle.pdu_codec.specs.Grammar.{Is, Both, Given, Word, Signed, state_word, TextField, Pair, HeadField, Many, Parts, zero_word}
+use Rattle.pdu_codec.specs.Grammar.{Is, Both, Word, Signed, state_word, TextField, Pair, HeadField, Many, Parts, zero_word}
 use Rattle.pdu_codec.specs.Bodies.{body_of, IsPdu}
 use Rattle.pdu_codec.specs.Spelling.{all_bytes, all_lengths, text_bytes, text_length, pair_bytes, pair_length, head_bytes, instance_bytes, part_length, body_bytes, body_length, pdu_length, pdu_bytes, IsHead, IsShort, IsPair, IsWord, ListsNumbers, InRange}
 

@@ -1,7 +1,6 @@
 -- Which bytes are the body of which PDU, by its type; and which bytes are a PDU (PCP's PDU headers; the bodies are this
 -- program's own, but that of a result, pmFetch(3)).
 use Rattle.std.specs.Prelude.{◌≡◌, ℕ, ◌+◌, ◌<◌, List, [], ◌∷◌, ◌++◌, length}
-use Rattle.pcp_base.specs.declared.desc.Desc.{Desc}
 use Rattle.pcp_base.specs.declared.result.PmResult.{PmResult}
 use Rattle.pcp_model.specs.Words.{word}
 use Rattle.pcp_model.specs.Payload.{IsPayload}

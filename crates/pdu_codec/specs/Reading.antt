@@ -1,13 +1,12 @@
 -- Reading a PDU's bytes from left to right. A step answers what it read and the byte behind it, or the place of the first
 -- byte that doesn't fit, which is the end where the bytes are too few.
-use Rattle.std.specs.Prelude.{◌≡◌, ◌⊎◌, ℕ, zero, suc, ℤ, ◌+◌, ◌-◌, ◌%◌, Bool, true, false, List, [], ◌∷◌, length, take, drop, slice_get, Option, Some, None, Result, Ok, Err, nat_lt, ◌==◌, if◌then◌else◌}
+use Rattle.std.specs.Prelude.{◌≡◌, ◌⊎◌, ℕ, zero, suc, ℤ, ◌+◌, Bool, true, false, List, [], ◌∷◌, length, take, drop, slice_get, Option, Some, None, Result, Ok, Err, nat_lt, ◌==◌, if◌then◌else◌}
 use Rattle.std.specs.Int.{w32, cast_signed}
 use Rattle.pcp_base.specs.Fields.{be_field}
-use Rattle.pcp_base.specs.declared.desc.Desc.{Desc}
 use Rattle.profile_filter.specs.declared.profile.DomainPart.{DomainPart}
 use Rattle.pcp_model.specs.Payload.{filling}
 use Rattle.pdu_codec.specs.declared.fault.PduFault.{PduFault}
-use Rattle.pdu_codec.specs.declared.fault.PduFault.TheVariants.{Length, Unknown, Body, NoMemory}
+use Rattle.pdu_codec.specs.declared.fault.PduFault.TheVariants.{Body, NoMemory}
 use Rattle.pdu_codec.specs.declared.pdu.Pdu.{Pdu}
 use Rattle.pdu_codec.specs.declared.pdu.Pdu.TheVariants as pdus
 use Rattle.pdu_codec.specs.declared.lists.Head.{Head}

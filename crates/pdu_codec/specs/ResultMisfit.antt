@@ -1,7 +1,7 @@
 -- Where bytes that are no payload of a result stop being like one, byte by byte: the first byte with which no payload goes
 -- on, or their end. So a word may stop at its first byte, and what may stand there goes by what stood before: of places
 -- that lead to blocks, and of sets that are still to come, since all blocks lie behind the last set.
-use Rattle.std.specs.Prelude.{ℕ, zero, suc, ◌+◌, ◌-◌, ◌*◌, ◌/◌, ◌%◌, List, length, slice_index, min, max, Bool, true, false, Option, Some, None, Result, Ok, Err, nat_lt, nat_le, ◌==◌, ◌&&◌, ◌||◌, if◌then◌else◌}
+use Rattle.std.specs.Prelude.{ℕ, zero, suc, ◌+◌, ◌-◌, ◌*◌, ◌/◌, ◌%◌, List, length, slice_index, min, max, true, false, Option, Some, None, Result, Ok, Err, nat_lt, nat_le, ◌==◌, ◌&&◌, ◌||◌, if◌then◌else◌}
 use Rattle.std.specs.Int.{w32}
 use Rattle.pcp_model.specs.Payload.{place_byte}
 use Rattle.result_form.specs.Decoding.{padded_size}

@@ -1,9 +1,9 @@
 -- What is written and what is left make the whole.
-use Rattle.std.proofs.Common.{◌≡◌, ◌++◌, ◌+◌, ◌*◌, ◌≤◌, drop, length}
+use Rattle.std.proofs.Common.{◌≡◌, ◌++◌, ◌+◌, ◌*◌, drop, length}
 use Rattle.std.specs.Prelude.{◌↔◌, FitsSigned}
 use Rattle.std.specs.Int.{w32}
 use Rattle.std.specs.List.{AllByRecursion}
-use Rattle.pcp_model.specs.Words.{word, signed_word}
+use Rattle.pcp_model.specs.Words.{signed_word}
 use Rattle.pdu_codec.specs.Spelling.{all_bytes}
 use Rattle.pdu_codec.proofs.parts.put_instances.Given as goal
 

@@ -1,9 +1,8 @@
 -- What is written and what is left make the whole.
-use Rattle.std.proofs.Common.{◌≡◌, ◌++◌, ◌+◌, ◌*◌, ◌≤◌, drop, length}
-use Rattle.std.specs.Prelude.{◌↔◌, FitsSigned}
-use Rattle.std.specs.Int.{w32}
+use Rattle.std.proofs.Common.{◌≡◌, ◌++◌, ◌+◌, ◌*◌, drop, length}
+use Rattle.std.specs.Prelude.{◌↔◌}
 use Rattle.std.specs.List.{AllByRecursion}
-use Rattle.pcp_model.specs.Words.{word, signed_word}
+use Rattle.pcp_model.specs.Words.{word}
 use Rattle.pdu_codec.specs.Spelling.{all_bytes, IsWord}
 use Rattle.pdu_codec.proofs.parts.put_pmids.Given as goal
 
