@@ -1,6 +1,6 @@
 //! Configurations of a logger, and when their groups are due.
 use case_book::Words;
-use log_schedule::{Config, ConfigError, Group, Groups};
+use log_schedule::{Config, ConfigFault, Group, Groups};
 use pcp_base::{NoMemory, Stamp};
 use std::alloc::Global;
 
@@ -55,11 +55,10 @@ impl Schedule {
                 }
                 self.config = Some(config);
             }
-            Err(ConfigError::Fault(fault)) => {
-                let at = fault.at;
+            Err(ConfigFault::Grammar { at }) => {
                 write!(&mut out, "fault at {at}\n")?;
             }
-            Err(ConfigError::NoMemory) => return Err(NoMemory),
+            Err(ConfigFault::NoMemory) => return Err(NoMemory),
         }
         Ok(Some(out))
     }

@@ -1,12 +1,8 @@
 -- When a group is due (pmlogger(1)): a group with an interval at its start and then again and again,
 -- one that is logged once at its start alone.
 use Rattle.std.specs.Prelude.{◌≡◌, ℕ, ◌+◌, ◌*◌, ◌<◌, ◌≤◌, List, length, slice_index_or, Option, Some, None, MatchOption, unwrap_or}
-use Rattle.pcp_base.specs.Time.{Moment, IsMoment}
+use Rattle.pcp_base.specs.Time.{Moment, IsMoment, microseconds}
 use Rattle.log_schedule.specs.declared.config.Group.{Group}
-
--- microseconds since 1970
-abbrev pub micros : Moment → ℕ
-micros t = t.sec * 1000000 + t.usec
 
 -- a group's start, its interval in milliseconds where it has one, and the next instant that it waits for
 pub record Timetable : Type 0 where
@@ -17,18 +13,18 @@ pub record Timetable : Type 0 where
 -- the instants are the start and, each an interval after the one before, the moments up to the last
 -- that a stamp can tell
 abbrev pub IsInstant : Timetable → Moment → Type 0
-IsInstant t m = IsMoment m × (k : ℕ) × (micros m ≡ micros t.start + k * (unwrap_or t.interval 0 * 1000))
+IsInstant t m = IsMoment m × (k : ℕ) × (microseconds m ≡ microseconds t.start + k * (unwrap_or t.interval 0 * 1000))
 
 -- an instant after now, and not before the one that the group waited for
 pub record Comes (t : Timetable) (before now m : Moment) : Type 0 where
   pub instant : IsInstant t m
-  pub after : micros now < micros m
-  pub not_back : micros before ≤ micros m
+  pub after : microseconds now < microseconds m
+  pub not_back : microseconds before ≤ microseconds m
 
 -- it is the least of them
 pub record IsNextAfter (t : Timetable) (before now m : Moment) : Type 0 where
   pub comes : Comes t before now m
-  pub least : (other : Moment) → Comes t before now other → micros m ≤ micros other
+  pub least : (other : Moment) → Comes t before now other → microseconds m ≤ microseconds other
 
 -- the next instant once now has passed: the least that comes, or none where none does
 abbrev pub Follows : Timetable → Moment → Option Moment → Option Moment → Type 0
@@ -48,7 +44,7 @@ pub record EachPasses (now : Moment) (old new : List Timetable) : Type 0 where
 
 -- a group is due where its next instant is not after now
 abbrev pub Due : Timetable → Moment → Type 0
-Due t now = (m : Moment) × (t.next ≡ Some m) × (micros m ≤ micros now)
+Due t now = (m : Moment) × (t.next ≡ Some m) × (microseconds m ≤ microseconds now)
 
 -- the timetable of a group that starts now
 abbrev pub timetable_from : Moment → Group → Timetable

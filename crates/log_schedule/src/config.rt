@@ -3,13 +3,14 @@
 ghost use Rattle.std.specs.Prelude.{◌≡◌, ℕ, ◌↔◌, ◌<◌, ◌≤◌, List as Sequence, IfOk, IfErr, IsTrue};
 ghost use Rattle.log_schedule.specs.Configuration.{IsConfiguration, IsFault};
 ghost use Rattle.log_schedule.specs.Refusals.{IsReadAs, IsRefusal};
-ghost use Rattle.log_schedule.specs.declared.config.ConfigError.TheVariants.{NoMemory as Refused, Fault as Faulty};
+ghost use Rattle.log_schedule.specs.declared.config.ConfigFault.TheVariants.{NoMemory as Refused, Grammar as Ungrammatical};
 ghost use Rattle.log_schedule.specs.declared.config.Group.{Group as Grouped};
 
 use crate::found::Found;
 use crate::stage::Stage;
 use pcp_base::{List, NoMemory, Text};
 use std::alloc::Global;
+use thiserror::Error;
 
 /// The groups of a logger, one for each statement, in order (pmlogger(1)).
 #[derive(Drop)]
@@ -25,32 +26,29 @@ pub struct Group {
     pub names: List<Text>,
 }
 
-/// The byte at the offset `at` is the first that no statement has there; `at` is the text's length where
-/// the text ends too early.
-#[derive(Clone, Copy, Debug, PartialEq, Eq)]
-pub struct ConfigFault {
-    pub at: u64,
-}
-
 /// Why a configuration wasn't read.
-#[derive(Clone, Copy, Debug, PartialEq, Eq)]
-pub enum ConfigError {
-    Fault(ConfigFault),
+#[derive(Clone, Copy, Debug, PartialEq, Eq, Error)]
+pub enum ConfigFault {
+    /// The first byte that no statement has there; `at` is the text's length where the text ends too early.
+    #[error("no statement has such a byte at {at}")]
+    Grammar { at: u64 },
+    /// Memory was refused.
+    #[error("out of memory")]
     NoMemory,
 }
 
-impl From<NoMemory> for ConfigError {
+impl From<NoMemory> for ConfigFault {
     ghost from_gives = { λ _ e. e ≡ Refused };
 
-    fn from(_error: NoMemory) -> ConfigError {
-        ConfigError::NoMemory
+    fn from(_error: NoMemory) -> ConfigFault {
+        ConfigFault::NoMemory
     }
 }
 
 impl Config {
     /// Reads statements `log mandatory on INTERVAL { NAMES }` (pmlogger(1)); the fault is the first byte that
     /// no statement has there.
-    pub fn read(alloc: Global, text: &[u8]) -> Result<Config, ConfigError>
+    pub fn read(alloc: Global, text: &[u8]) -> Result<Config, ConfigFault>
         // What is read is a configuration of these groups.
         ensures read { IfOk result (λ config. IsConfiguration text.now config.groups) }
         // Each configuration is read, as its groups and no others.
@@ -77,8 +75,8 @@ impl Config {
 }
 
 // The fault at this offset.
-fn fault(at: usize) -> ConfigError
-    ensures { result ≡ Faulty record { at = at } }
+fn fault(at: usize) -> ConfigFault
+    ensures { result ≡ Ungrammatical at }
 {
-    ConfigError::Fault(ConfigFault { at: at as u64 })
+    ConfigFault::Grammar { at: at as u64 }
 }

@@ -1,8 +1,7 @@
 //! Moments as microseconds, and the first of a row of equally distant ones.
 
 ghost use Rattle.std.specs.Prelude.{◌≡◌, ℕ, ◌+◌, ◌*◌, ◌<◌, ◌≤◌, MatchOption};
-ghost use Rattle.pcp_base.specs.Time.{Moment, IsMoment};
-ghost use Rattle.log_schedule.specs.Instants.{micros};
+ghost use Rattle.pcp_base.specs.Time.{Moment, IsMoment, microseconds};
 ghost use Rattle.log_schedule.specs.Steps.{IsFirstStep};
 
 use pcp_base::Stamp;
@@ -12,7 +11,7 @@ pub const END: u64 = 2_147_483_648_000_000;
 
 /// Microseconds since 1970.
 pub fn micros_of(stamp: Stamp) -> u64
-    ensures value { result ≡ micros stamp }
+    ensures value { result ≡ microseconds stamp }
     ensures range { result < 2147483648000000 }
 {
     stamp.sec() as u64 * 1_000_000 + stamp.usec() as u64
@@ -21,7 +20,7 @@ pub fn micros_of(stamp: Stamp) -> u64
 /// The stamp so many microseconds after 1970 began.
 pub fn stamp_of(count: u64) -> Stamp
     requires { count < 2147483648000000 }
-    ensures { micros result ≡ count }
+    ensures { microseconds result ≡ count }
 {
     Stamp::build((count / 1_000_000) as u32, (count % 1_000_000) as u32).unwrap()
 }

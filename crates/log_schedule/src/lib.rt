@@ -9,5 +9,5 @@ mod groups;
 mod instants;
 mod stage;
 
-pub use config::{Config, ConfigError, ConfigFault, Group};
+pub use config::{Config, ConfigFault, Group};
 pub use groups::Groups;

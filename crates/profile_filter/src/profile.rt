@@ -8,6 +8,7 @@ ghost use Rattle.profile_filter.specs.Size.{size_of};
 use pcp_base::{InDom, List};
 use std::alloc::Global;
 use std::marker::Model;
+use thiserror::Error;
 
 /// How many parts and listed instances a profile may hold together.
 const LIMIT: u64 = 1024;
@@ -22,7 +23,8 @@ pub struct DomainPart {
 }
 
 /// Parts and listed instances are `count` together (2^64 - 1 where they are more), above 1,024.
-#[derive(Clone, Copy, Debug, PartialEq, Eq)]
+#[derive(Clone, Copy, Debug, PartialEq, Eq, Error)]
+#[error("{count} parts and listed instances")]
 pub struct TooMany {
     pub count: u64,
 }
