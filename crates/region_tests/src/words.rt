@@ -4,7 +4,8 @@ ghost use Rattle.std.specs.Prelude.{◌≡◌, ◌<◌, length};
 
 use mmv_layout::Image;
 use region_words::{
-    Again, Changing, Known, Note, OpenFault, Pass, Reading, Region, Stable, Stint, ValueFault,
+    Again, ChangeFault, Changing, Known, Note, OpenFault, Pass, Reading, Region, Stable, Stint,
+    ValueFault,
 };
 use std::alloc::Global;
 use std::process::Abort;
@@ -107,6 +108,34 @@ fn a_reading_across_a_change_of_values_is_refused(rt: HostRuntime) {
         panic!(&rt; "nobody is changing")
     };
     drop(stint);
+}
+
+#[test]
+fn a_change_of_values_waits_and_a_spent_generation_ends_it(rt: HostRuntime) {
+    let alloc = rt.alloc();
+    let image = hits(&rt, alloc, u64::MAX, SIGNED, 7);
+    let (region, first, second, _) = make_three(&rt, alloc, &image);
+    let Ok(stint) = region.attach(first) else {
+        panic!(&rt; "nobody is changing")
+    };
+    let second = match region.begin_change(second, image, 0) {
+        Ok(change) => change.finish(&region),
+        Err((second, _image, fault)) => {
+            assert_eq!(&rt; fault, ChangeFault::Busy { gate: 1 });
+            second
+        }
+    };
+    let first = stint.detach(&region);
+    let second = match region.begin_change(second, hits(&rt, alloc, 5, SIGNED, 9), 0) {
+        Ok(change) => change.finish(&region),
+        Err((second, _image, fault)) => {
+            let generation = u64::MAX;
+            assert_eq!(&rt; fault, ChangeFault::Spent { generation });
+            second
+        }
+    };
+    assert!(&rt; region.attach(second).is_ok(), "the gate is free again");
+    drop(first);
 }
 
 #[test]
