@@ -26,8 +26,16 @@ rises [] x sorted by = tt
 rises (y ∷ []) x sorted by = (by.0, tt)
 rises (y ∷ z ∷ items) x sorted by = (sorted.0, rises (z ∷ items) x sorted.1 by.1)
 
-this_or_other : (n m : ℕ) → (n ≡ m) ⊎ (n ≢ m)
+pub this_or_other : (n m : ℕ) → (n ≡ m) ⊎ (n ≢ m)
 this_or_other n m = ⊎_elim (λ (lt : n < m). inr (λ e. omega arith)) (λ (ge : m ≤ n). ⊎_elim (λ (gt : m < n). inr (λ e. omega arith)) (λ (le : n ≤ m). inl (omega arith)) (cases_lt m n)) (cases_lt n m)
+
+-- a volume above the last one holds nothing
+pub above_empty : (files : Files) (c : ArchiveContents) (number : ℕ) → IsArchive files c → EndsWhole files c number → (n : ℕ) → number < n → files (Volume n) ≡ []
+above_empty files c number is ends n low =
+    let before : AllByRecursion (λ (v : ℕ × List Item). v.0 < number) ends.before = before_last files files c.label number ends.items ends.before (subst (AreVolumes files c.label) ends.are is.volumes) in
+    let all : AllByRecursion (λ (v : ℕ × List Item). v.0 < n) c.volumes = subst (AllByRecursion (λ (v : ℕ × List Item). v.0 < n)) (sym ends.are)
+    (each-append (λ (v : ℕ × List Item). v.0 < n) ends.before ((number, ends.items) ∷ []) (each-map (λ (v : ℕ × List Item). v.0 < number) (λ (v : ℕ × List Item). v.0 < n) (λ v lt. omega arith) ends.before before) (low, tt)) in
+    is.others n (λ has. above_listed n c.volumes all has.0 has.1 has.2)
 
 module _ (files : Files) (c : ArchiveContents) (number : ℕ) (payload : List ℕ) (x : Item) (is : IsArchive files c) (ends : EndsWhole files c number) (fits : IsFrameable payload) (read : IsItem payload x) where
   abbrev added : Files
@@ -76,11 +84,7 @@ module _ (files : Files) (c : ArchiveContents) (number : ℕ) (payload : List �
 
     -- none stands behind the last
     not_behind : number < e.volume → ⊥
-    not_behind low =
-        let before : AllByRecursion (λ (v : ℕ × List Item). v.0 < number) ends.before = before_last files files c.label number ends.items ends.before listed in
-        let all : AllByRecursion (λ (v : ℕ × List Item). v.0 < e.volume) c.volumes = subst (AllByRecursion (λ (v : ℕ × List Item). v.0 < e.volume)) (sym ends.are)
-        (each-append (λ (v : ℕ × List Item). v.0 < e.volume) ends.before ((number, ends.items) ∷ []) (each-map (λ (v : ℕ × List Item). v.0 < number) (λ (v : ℕ × List Item). v.0 < e.volume) (λ v lt. omega arith) ends.before before) (low, tt)) in
-        omega (arith, had, ap length (is.others e.volume (λ has. above_listed e.volume c.volumes all has.0 has.1 has.2)))
+    not_behind low = omega (arith, had, ap length (above_empty files c number is ends e.volume low))
 
     split_before : AllByRecursion (λ (v : ℕ × List Item). v.0 ≡ e.volume → NoItemAfter e.stamp (take was.items v.1)) ends.before × AllByRecursion (λ (v : ℕ × List Item). v.0 ≡ e.volume → NoItemAfter e.stamp (take was.items v.1)) ((number, ends.items) ∷ [])
     split_before = each-split (λ (v : ℕ × List Item). v.0 ≡ e.volume → NoItemAfter e.stamp (take was.items v.1)) ends.before ((number, ends.items) ∷ []) (subst (AllByRecursion (λ (v : ℕ × List Item). v.0 ≡ e.volume → NoItemAfter e.stamp (take was.items v.1))) ends.are was.before)

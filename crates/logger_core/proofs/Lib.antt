@@ -2,3 +2,4 @@ pub mod Announced
 pub mod Items
 pub mod Nearer
 pub mod Survival
+pub mod Switched

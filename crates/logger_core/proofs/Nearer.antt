@@ -53,6 +53,7 @@ module _ (s : Start) (files : Files) (c : ArchiveContents) (number known acknowl
   still_kept = record {
     is = k.is;
     last = k.last;
+    indexed = k.indexed;
     whole = k.whole;
     meta = still_part Meta k.meta;
     index = still_part Index k.index;
@@ -84,6 +85,7 @@ module _ (s : Start) (files : Files) (c : ArchiveContents) (number known acknowl
       record {
         is = k.is;
         last = k.last;
+        indexed = k.indexed;
         whole = k.whole;
         meta = k.meta;
         index = k.index;
@@ -108,6 +110,7 @@ module _ (s : Start) (files : Files) (c : ArchiveContents) (number known acknowl
       record {
         is = k.is;
         last = k.last;
+        indexed = k.indexed;
         whole = k.whole;
         meta = k.meta;
         index = k.index;

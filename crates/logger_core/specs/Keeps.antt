@@ -6,7 +6,7 @@ use Rattle.std.specs.List.{AllByRecursion}
 use Rattle.pcp_base.specs.declared.file.FileId.TheVariants.{Meta, Index, Volume}
 use Rattle.pcp_base.specs.declared.result.Item.{Item}
 use Rattle.pcp_model.specs.declared.records.Entry.{Entry}
-use Rattle.pcp_model.specs.Archive.{ArchiveContents, ArchiveReading, LabelledFile, IsArchive, items_of, scan, records_in}
+use Rattle.pcp_model.specs.Archive.{ArchiveContents, ArchiveReading, LabelledFile, HasEntries, IsArchive, items_of, scan, records_in}
 use Rattle.pcp_model.specs.Described.{Described}
 use Rattle.pcp_model.specs.Disk.{Files, Held, Holdings, bytes_of}
 use Rattle.pcp_model.specs.Frame.{frames}
@@ -55,6 +55,7 @@ AreSure earlier payloads sure acknowledged =
 pub record Keeps (s : Start) (files : Files) (c : ArchiveContents) (number known acknowledged : ℕ) (held : Holdings) : Type 0 where
   pub is : IsArchive files c
   pub last : EndsWhole files c number
+  pub indexed : (has : HasEntries (files Index) c) × (has.rest ≡ [])
   pub whole : LabelledFile IsRecord (files Meta) c.label (negsuc 0) c.records []
   pub meta : IsPart (held Meta) (files Meta)
   pub index : IsPart (held Index) (files Index)

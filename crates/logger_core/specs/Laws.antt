@@ -1,5 +1,5 @@
 -- What holds of what a logger keeps.
-use Rattle.std.specs.Prelude.{◌≡◌, ℕ, ◌≤◌, List, [], ◌∷◌, ◌++◌, length, take}
+use Rattle.std.specs.Prelude.{◌≡◌, ℕ, pos, ◌<◌, ◌≤◌, List, [], ◌∷◌, ◌++◌, length, take}
 use Rattle.std.specs.List.{AllByRecursion}
 use Rattle.pcp_base.specs.declared.file.FileId.{FileId}
 use Rattle.pcp_base.specs.declared.file.FileId.TheVariants.{Meta, Index, Volume}
@@ -10,10 +10,11 @@ use Rattle.pcp_model.specs.Archive.{ArchiveContents, ArchiveReading, AreRead, Is
 use Rattle.pcp_model.specs.Described.{Described}
 use Rattle.pcp_model.specs.Disk.{Files, Held, Holdings, CrashImage}
 use Rattle.pcp_model.specs.Frame.{IsFrameable, frame, frames}
+use Rattle.pcp_model.specs.Labels.{IsLabel}
 use Rattle.pcp_model.specs.Laws.{IsLonger}
 use Rattle.pcp_model.specs.Payload.{IsItem, stamp_of}
-use Rattle.pcp_model.specs.Records.{IsRecord, AreConsistent}
-use Rattle.pcp_model.specs.Sound.{IsSound, NoItemAfter}
+use Rattle.pcp_model.specs.Records.{IsRecord, AreConsistent, FitsEntry, entry}
+use Rattle.pcp_model.specs.Sound.{IsSound, NoDomainAfter, NoItemAfter}
 use Rattle.pcp_model.specs.Written.{with_added}
 use Rattle.pcp_outside.specs.Devices.{Becomes}
 use Rattle.logger_core.specs.Keeps.{Start, WasSound, WasDescribed, IsPart, is_sure, Keeps}
@@ -86,3 +87,29 @@ pub record AreRecordsToCome (s : Start) (c : ArchiveContents) (payloads : List (
 abbrev pub RecordsAreAnnounced : Type 0
 RecordsAreAnnounced = (s : Start) (files : Files) (c : ArchiveContents) (number acknowledged : ℕ) (held : Holdings) (payloads : List (List ℕ)) (records : List MetaRecord) → Keeps s files c number (length c.records) acknowledged held
     → AreRecordsToCome s c payloads records → Announces s (with_added Meta (frames payloads) files) c number (length c.records) acknowledged held records [] []
+
+-- An entry may be meant once Meta and the volume that is written are wholly sure: it points to their ends, and nothing that
+-- stands before them is stamped after it.
+pub record IsEntryToCome (s : Start) (files : Files) (c : ArchiveContents) (number : ℕ) (held : Holdings) (e : Entry) : Type 0 where
+  pub fits : FitsEntry e
+  pub volume : e.volume ≡ number
+  pub at_meta : e.meta ≡ length (files Meta)
+  pub at_volume : e.offset ≡ length (files (Volume number))
+  pub meta_sure : held Meta ≡ is_sure (files Meta)
+  pub volume_sure : held (Volume number) ≡ is_sure (files (Volume number))
+  pub domains : WasSound s → NoDomainAfter e.stamp c.records
+  pub items : WasSound s → NoItemAfter e.stamp (items_of c.volumes)
+
+abbrev pub EntryIsAnnounced : Type 0
+EntryIsAnnounced = (s : Start) (files : Files) (c : ArchiveContents) (number known acknowledged : ℕ) (held : Holdings) (e : Entry) → Keeps s files c number known acknowledged held → IsEntryToCome s files c number held e
+    → Announces s (with_added Index (entry e) files) c number known acknowledged held [] (e ∷ []) []
+
+-- The next volume's label may be meant once the volume that was written is wholly sure, and nothing is of a volume above it.
+pub record IsVolumeToCome (files : Files) (c : ArchiveContents) (number next : ℕ) (held : Holdings) (head : List ℕ) : Type 0 where
+  pub above : number < next
+  pub label : IsLabel head c.label (pos next)
+  pub volume_sure : held (Volume number) ≡ is_sure (files (Volume number))
+
+abbrev pub VolumeIsAnnounced : Type 0
+VolumeIsAnnounced = (s : Start) (files : Files) (c : ArchiveContents) (number next known acknowledged : ℕ) (held : Holdings) (head : List ℕ) → Keeps s files c number known acknowledged held
+    → IsVolumeToCome files c number next held head → Announces s (with_added (Volume next) head files) c next known acknowledged held [] [] []

@@ -1,5 +1,5 @@
 //! What holds of what a logger keeps. Each is the contract of a function without parameters, which does nothing.
-ghost use Rattle.logger_core.specs.Laws.{KeptFilesSurvive, NearerIsKept, SureIsAcknowledged, SureIsKnown, ItemIsAnnounced, RecordsAreAnnounced};
+ghost use Rattle.logger_core.specs.Laws.{KeptFilesSurvive, NearerIsKept, SureIsAcknowledged, SureIsKnown, ItemIsAnnounced, RecordsAreAnnounced, EntryIsAnnounced, VolumeIsAnnounced};
 
 /// Whatever a crash leaves of what a logger keeps is an archive of the first of its items, with all acknowledged ones,
 /// each described by the metadata that is left, and sound.
@@ -31,4 +31,14 @@ pub fn item_is_announced()
 /// Records that contradict none may be meant behind Meta.
 pub fn records_are_announced()
     ensures { RecordsAreAnnounced }
+{}
+
+/// An entry that points to the ends of Meta and of the volume, both sure, may be meant behind the index.
+pub fn entry_is_announced()
+    ensures { EntryIsAnnounced }
+{}
+
+/// The label of a volume above the last, which is wholly sure, may be meant, and that volume is then the one that is written.
+pub fn volume_is_announced()
+    ensures { VolumeIsAnnounced }
 {}

@@ -4,6 +4,6 @@
 mod laws;
 
 pub use laws::{
-    item_is_announced, kept_files_survive, nearer_is_kept, records_are_announced,
-    sure_is_acknowledged, sure_is_known,
+    entry_is_announced, item_is_announced, kept_files_survive, nearer_is_kept,
+    records_are_announced, sure_is_acknowledged, sure_is_known, volume_is_announced,
 };
