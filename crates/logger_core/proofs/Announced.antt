@@ -25,7 +25,7 @@ use Rattle.pcp_model.proofs.Recovered.{nothing_torn}
 use Rattle.pcp_model.proofs.Sound.{labelled_long, entry_at_ends}
 use Rattle.logger_core.specs.Keeps.{Start, WasDescribed, AreSure, Keeps, end_of, is_sure, WasSound, PointsSurely}
 use Rattle.logger_core.specs.Laws.{Announces, IsItemToCome, AreRecordsToCome, IsEntryToCome}
-use Rattle.logger_core.proofs.Items.{more_items, longer_volume, items_more, sound_with_item}
+use Rattle.logger_core.proofs.Items.{had_bytes, more_items, longer_volume, items_more, sound_with_item}
 
 -- records that end before others begin
 end_stays : (i : ℕ) (payloads more : List (List ℕ)) → i ≤ length payloads → end_of i (payloads ++ more) ≡ end_of i payloads
@@ -55,6 +55,9 @@ module _ (s : Start) (files : Files) (c : ArchiveContents) (number known acknowl
   still_sure (inl few) = inl few
   still_sure (inr some) = inr (some.0, omega (arith, some.1, length-append k.last.whole.payloads (payload ∷ [])), omega (arith, some.2, end_stays some.0 k.last.whole.payloads (payload ∷ []) some.1), some.3)
 
+  still_pointed : (e : Entry) → PointsSurely files held number e → PointsSurely (with_added (Volume number) (frame payload) files) held number e
+  still_pointed e p = record { meta = λ some. p.meta (had_bytes files c number payload x k.is k.last come.fits come.read e.volume some); offset = p.offset; below = p.below }
+
   pub item_announced : Announces s (with_added (Volume number) (frame payload) files) c number known acknowledged held [] [] (x ∷ [])
   item_announced = record {
     new = with_it;
@@ -73,7 +76,8 @@ module _ (s : Start) (files : Files) (c : ArchiveContents) (number known acknowl
       described = λ n le. subst (AllByRecursion (λ y. WasDescribed s y → Described (take n c.records) y)) (sym (items_more files c number payload x k.is k.last come.fits come.read))
           (each-append (λ y. WasDescribed s y → Described (take n c.records) y) (items_of c.volumes) (x ∷ []) (k.described n le) (come.described n le, tt));
       sound = λ was. sound_with_item files c number payload x k.is k.last come.fits come.read (come.by was) (k.sound was);
-      points = k.points;
+      labelled = k.labelled;
+      points = λ was. each-map (PointsSurely files held number) (PointsSurely (with_added (Volume number) (frame payload) files) held number) still_pointed c.entries (k.points was);
       items = still_sure k.items;
     };
   }
@@ -136,7 +140,8 @@ module _ (s : Start) (files : Files) (c : ArchiveContents) (number acknowledged 
       sure = omega (arith, k.sure, end_stays (length c.records) k.whole.payloads payloads (omega (arith, as_many IsRecord k.whole.payloads c.records k.whole.read)));
       described = λ n le. each-map (λ x. WasDescribed s x → Described (take (length c.records) c.records) x) (λ x. WasDescribed s x → Described (take n (c.records ++ more)) x) (described_on n le) (items_of c.volumes) (k.described (length c.records) (omega arith));
       sound = λ was. ((k.sound was).0, each-map (IsSoundEntry files c) (IsSoundEntry (with_added Meta (frames payloads) files) with_them) still_sound_entry c.entries (k.sound was).1);
-      points = k.points;
+      labelled = k.labelled;
+      points = λ was. each-map (PointsSurely files held number) (PointsSurely (with_added Meta (frames payloads) files) held number) (λ e p. record { meta = p.meta; offset = p.offset; below = p.below }) c.entries (k.points was);
       items = k.items;
     };
   }
@@ -160,9 +165,9 @@ module _ (s : Start) (files : Files) (c : ArchiveContents) (number known acknowl
   new_entry was = entry_at_ends files c e c.label (negsuc 0) (pos number) k.last.items k.whole (subst (λ (n : ℕ). LabelledFile IsItem (files (Volume n)) c.label (pos number) k.last.items []) (sym come.volume) k.last.whole)
       come.at_meta (come.at_volume ∙ ap (λ (n : ℕ). length (files (Volume n))) (sym come.volume)) (come.domains was) (come.items was)
 
-  points_surely : PointsSurely held number e
+  points_surely : PointsSurely (with_added Index (entry e) files) held number e
   points_surely = record {
-    meta = omega (arith, come.at_meta, ap (λ (h : Held). length h.sure) come.meta_sure);
+    meta = λ some. omega (arith, come.at_meta, ap (λ (h : Held). length h.sure) come.meta_sure);
     offset = λ same. omega (arith, come.at_volume, ap (λ (h : Held). length h.sure) come.volume_sure);
     below = (number, omega (arith, volume_long, ap (λ (h : Held). length h.sure) come.volume_sure), omega (arith, come.volume));
   }
@@ -201,7 +206,9 @@ module _ (s : Start) (files : Files) (c : ArchiveContents) (number known acknowl
         each-append (IsSoundEntry (with_added Index (entry e) files) with_entry_too) c.entries (e ∷ [])
             (each-map (IsSoundEntry files c) (IsSoundEntry (with_added Index (entry e) files) with_entry_too) same_entry c.entries (k.sound was).1) (same_entry e (new_entry was), tt),
       );
-      points = each-append (PointsSurely held number) c.entries (e ∷ []) k.points (points_surely, tt);
+      labelled = inr (number, omega (arith, volume_long, ap (λ (h : Held). length h.sure) come.volume_sure));
+      points = λ was. each-append (PointsSurely (with_added Index (entry e) files) held number) c.entries (e ∷ [])
+          (each-map (PointsSurely files held number) (PointsSurely (with_added Index (entry e) files) held number) (λ f p. record { meta = p.meta; offset = p.offset; below = p.below }) c.entries (k.points was)) (points_surely, tt);
       items = k.items;
     };
   }

@@ -1,7 +1,6 @@
 -- An archive with one item more behind its last volume.
-use Rattle.std.proofs.Common.{◌≡◌, ◌≢◌, ◌⊎◌, inl, inr, ⊎_elim, ℕ, ◌<◌, ◌≤◌, pos, List, [], ◌∷◌, ◌++◌, length, take, sym, ap, ◌∙◌, subst, append_assoc, arith, length-append}
+use Rattle.std.proofs.Common.{◌≡◌, ◌≢◌, ⊎_elim, ℕ, ◌<◌, ◌≤◌, pos, List, [], ◌∷◌, ◌++◌, length, take, sym, ap, ◌∙◌, subst, append_assoc, arith, length-append}
 use Rattle.std.specs.List.{AllByRecursion}
-use Rattle.std.proofs.lemmas.Bool.{cases_lt}
 use Rattle.std.proofs.lemmas.List.{append-nil, take-append-le}
 use Rattle.pcp_base.specs.declared.file.FileId.TheVariants.{Volume}
 use Rattle.pcp_base.specs.declared.result.Item.{Item}
@@ -18,6 +17,7 @@ use Rattle.pcp_model.proofs.Boundaries.{boundary_of_file, boundary_stays}
 use Rattle.pcp_model.proofs.Cuts.{frames-append, read-append}
 use Rattle.pcp_model.proofs.Lists.{each-append, each-split, each-map}
 use Rattle.pcp_model.proofs.Recovered.{nothing_torn}
+use Rattle.logger_core.proofs.Survival.{this_or_other}
 use Rattle.pcp_model.proofs.Sound.{labelled_long}
 
 -- stamps still rise where one not before them follows
@@ -25,9 +25,6 @@ rises : (items : List Item) (x : Item) → NeverFalls items → NoItemAfter (sta
 rises [] x sorted by = tt
 rises (y ∷ []) x sorted by = (by.0, tt)
 rises (y ∷ z ∷ items) x sorted by = (sorted.0, rises (z ∷ items) x sorted.1 by.1)
-
-pub this_or_other : (n m : ℕ) → (n ≡ m) ⊎ (n ≢ m)
-this_or_other n m = ⊎_elim (λ (lt : n < m). inr (λ e. omega arith)) (λ (ge : m ≤ n). ⊎_elim (λ (gt : m < n). inr (λ e. omega arith)) (λ (le : n ≤ m). inl (omega arith)) (cases_lt m n)) (cases_lt n m)
 
 -- a volume above the last one holds nothing
 pub above_empty : (files : Files) (c : ArchiveContents) (number : ℕ) → IsArchive files c → EndsWhole files c number → (n : ℕ) → number < n → files (Volume n) ≡ []
@@ -70,11 +67,15 @@ module _ (files : Files) (c : ArchiveContents) (number : ℕ) (payload : List �
       (λ (e : number ≡ n). (frame payload, subst (λ (m : ℕ). added (Volume m) ≡ files (Volume m) ++ frame payload) e (added_this number (frame payload) files)))
       (λ (other : number ≢ n). ([], added_other number n (frame payload) files (λ e. other (sym e)) ∙ sym (append-nil (files (Volume n))))) (this_or_other number n)
 
+  -- what has bytes had some
+  pub had_bytes : (n : ℕ) → 0 < length (added (Volume n)) → 0 < length (files (Volume n))
+  had_bytes n some = ⊎_elim
+      (λ (same : number ≡ n). subst (λ (m : ℕ). 0 < length (files (Volume m))) same (omega (arith, labelled_long IsItem (files (Volume number)) c.label (pos number) ends.items [] ends.whole)))
+      (λ (other : number ≢ n). omega (arith, some, ap length (added_other number n (frame payload) files (λ e. other (sym e))))) (this_or_other number n)
+
   module _ (e : Entry) (sound : IsSoundEntry files c e) (some : 0 < length (added (Volume e.volume))) where
     had : 0 < length (files (Volume e.volume))
-    had = ⊎_elim
-        (λ (same : number ≡ e.volume). subst (λ (m : ℕ). 0 < length (files (Volume m))) same (omega (arith, labelled_long IsItem (files (Volume number)) c.label (pos number) ends.items [] ends.whole)))
-        (λ (other : number ≢ e.volume). omega (arith, some, ap length (added_other number e.volume (frame payload) files (λ e. other (sym e))))) (this_or_other number e.volume)
+    had = had_bytes e.volume some
 
     was : PointsWell files c e
     was = sound.points had

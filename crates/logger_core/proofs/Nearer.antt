@@ -1,5 +1,5 @@
 -- What a logger keeps is kept while its files come nearer to what they are meant to hold.
-use Rattle.std.proofs.Common.{◌≡◌, ◌≢◌, inl, inr, ⊎_elim, ℕ, ◌+◌, ◌≤◌, true, false, List, [], ◌∷◌, ◌++◌, length, refl, sym, ap, ◌∙◌, subst, arith, length-append}
+use Rattle.std.proofs.Common.{◌≡◌, ◌≢◌, inl, inr, ⊎_elim, ℕ, ◌+◌, ◌≤◌, true, false, List, [], ◌∷◌, ◌++◌, length, refl, sym, ap, ◌∙◌, subst, arith, length-append, ◌⊎◌}
 use Rattle.std.proofs.lemmas.Bool.{ne_eqb}
 use Rattle.std.proofs.lemmas.List.{append-nil, take_all}
 use Rattle.pcp_base.specs.declared.file.FileId.{FileId}
@@ -42,12 +42,16 @@ module _ (s : Start) (files : Files) (c : ArchiveContents) (number known acknowl
   elsewhere n other Index w = refl
   elsewhere n other (Volume m) w = ne_eqb m n (λ e. other (sym e ∙ w))
 
-  still_points : (e : Entry) → PointsSurely old number e → PointsSurely new number e
+  still_points : (e : Entry) → PointsSurely files old number e → PointsSurely files new number e
   still_points e p = record {
-    meta = omega (arith, p.meta, grows Meta);
+    meta = λ some. omega (arith, p.meta some, grows Meta);
     offset = λ same. omega (arith, p.offset same, grows (Volume number));
     below = (p.below.0, omega (arith, p.below.1, grows (Volume p.below.0)), p.below.2);
   }
+
+  still_labelled : (c.entries ≡ []) ⊎ ((n : ℕ) × (132 ≤ length (old (Volume n)).sure)) → (c.entries ≡ []) ⊎ ((n : ℕ) × (132 ≤ length (new (Volume n)).sure))
+  still_labelled (inl none) = inl none
+  still_labelled (inr some) = inr (some.0, omega (arith, some.1, grows (Volume some.0)))
 
   pub still_kept : Keeps s files c number known acknowledged new
   still_kept = record {
@@ -63,7 +67,8 @@ module _ (s : Start) (files : Files) (c : ArchiveContents) (number known acknowl
     sure = omega (arith, k.sure, grows Meta);
     described = k.described;
     sound = k.sound;
-    points = each-map (PointsSurely old number) (PointsSurely new number) still_points c.entries k.points;
+    labelled = still_labelled k.labelled;
+    points = λ was. each-map (PointsSurely files old number) (PointsSurely files new number) still_points c.entries (k.points was);
     items = more_sure (length (items_of k.last.before)) k.last.whole.payloads (length (old (Volume number)).sure) (length (new (Volume number)).sure) acknowledged (grows (Volume number)) k.items;
   }
 
@@ -95,6 +100,7 @@ module _ (s : Start) (files : Files) (c : ArchiveContents) (number known acknowl
         sure = k.sure;
         described = k.described;
         sound = k.sound;
+        labelled = k.labelled;
         points = k.points;
         items = inr (length w.payloads, omega arith, omega (arith, all_end w.payloads, ap (λ (x : Held). length x.sure) sure), omega (arith, count, as_many IsItem w.payloads k.last.items w.read));
       }
@@ -120,6 +126,7 @@ module _ (s : Start) (files : Files) (c : ArchiveContents) (number known acknowl
         sure = omega (arith, end, ap (λ (x : Held). length x.sure) sure);
         described = λ n le. k.described n (omega (arith, k.few));
         sound = k.sound;
+        labelled = k.labelled;
         points = k.points;
         items = k.items;
       }

@@ -1,6 +1,7 @@
 -- Whatever a crash leaves of what a logger keeps.
-use Rattle.std.proofs.Common.{zero, suc, ◌≡◌, ◌≢◌, ◌⊎◌, inl, inr, ℕ, ℤ, ◌+◌, ◌-◌, ◌<◌, ◌≤◌, pos, negsuc, List, [], ◌∷◌, ◌++◌, length, take, drop, map, refl, sym, ap, ◌∙◌, subst, append_assoc, arith, length-append, length-take}
+use Rattle.std.proofs.Common.{zero, suc, ◌≡◌, ◌≢◌, ◌⊎◌, inl, inr, ℕ, ℤ, ◌+◌, ◌-◌, ◌<◌, ◌≤◌, pos, negsuc, List, [], ◌∷◌, ◌++◌, length, take, drop, map, refl, sym, ap, ◌∙◌, subst, append_assoc, arith, length-append, length-take, ⊎_elim}
 use Rattle.std.specs.Prelude.{Contains, slice_index_or}
+use Rattle.std.proofs.lemmas.Bool.{cases_lt}
 use Rattle.std.specs.List.{AllByRecursion}
 use Rattle.std.proofs.Math.Seq.{take-append-add, take-nil}
 use Rattle.std.proofs.lemmas.List.{append-nil, take-append-drop, take_at}
@@ -22,6 +23,7 @@ use Rattle.pcp_model.proofs.CutArchive.{first_part, last_of}
 use Rattle.pcp_model.proofs.CutSound.{sound_part}
 use Rattle.pcp_model.proofs.Cuts.{length_of_label, frameable, as_many, frames-append}
 use Rattle.pcp_model.proofs.Lists.{each-first, each-map}
+use Rattle.pcp_model.proofs.Sound.{labelled_long}
 use Rattle.pcp_model.proofs.Unique.{both}
 use Rattle.logger_core.specs.Keeps.{Start, WasSound, WasDescribed, IsPart, PointsSurely, AreSure, Keeps, end_of}
 use Rattle.logger_core.specs.Laws.{Survives}
@@ -69,6 +71,9 @@ module _ {X : Type 0} (R : List ℕ → X → Type 0) (bytes : List ℕ) (l : La
       front_lists (take k h.payloads) held.payloads front.0 torn (each-first IsFrameable k h.payloads (frameable R h.payloads values h.read)) (frameable R held.payloads left held.read) is_torn same in
       omega (arith, lists.1, length-take k h.payloads, as_many R held.payloads left held.read)
 
+pub this_or_other : (n m : ℕ) → (n ≡ m) ⊎ (n ≢ m)
+this_or_other n m = ⊎_elim (λ (lt : n < m). inr (λ e. omega arith)) (λ (ge : m ≤ n). ⊎_elim (λ (gt : m < n). inr (λ e. omega arith)) (λ (le : n ≤ m). inl (omega arith)) (cases_lt m n)) (cases_lt n m)
+
 none_below : (n : ℕ) (vs : List (ℕ × List Item)) → AllByRecursion (λ (v : ℕ × List Item). v.0 < n) vs → (i : ℕ) → i < length (map (λ (v : ℕ × List Item). v.0) vs) → slice_index_or (map (λ (v : ℕ × List Item). v.0) vs) i n ≡ n → ⊥
 none_below n [] all i h is = omega arith
 none_below n (v ∷ vs) all zero h is = let e : v.0 ≡ n = is in omega (arith, all.0)
@@ -110,8 +115,7 @@ module _ (s : Start) (files : Files) (c : ArchiveContents) (number known acknowl
           let rest : length (entries c.entries ++ has.rest) ≡ length has.rest = ap (λ es. length (entries es ++ has.rest)) none in
           omega (arith, index_part.within, length_of_label has.head c.label (negsuc 1) has.label, has.short)
   by_entries (e ∷ es) some =
-      let first : PointsSurely held number e = (subst (AllByRecursion (PointsSurely held number)) some k.points).0 in
-      inr (first.below.0, omega (arith, first.below.1, sure_is_left first.below.0))
+      ⊎_elim (λ (none : c.entries ≡ []). absurd (omega (arith, ap length (sym some ∙ none)))) (λ (label : (n : ℕ) × (132 ≤ length (held (Volume n)).sure)). inr (label.0, omega (arith, label.1, sure_is_left label.0))) k.labelled
 
   left : FirstPart files image c last meta_part.m index_part.m volume_part.m
   left = first_part files image c meta_part.m index_part.m volume_part.m k.is last cut (omega (arith, k.sure, meta_part.sure)) (by_entries c.entries refl)
@@ -172,16 +176,22 @@ module _ (s : Start) (files : Files) (c : ArchiveContents) (number known acknowl
 
   -- ---- soundness
 
-  kept_entry : (e : Entry) → PointsSurely held number e → IsKeptBy image number meta_part.m volume_part.m e
+  -- what has bytes left had some
+  had_bytes : (n : ℕ) → 0 < length (image (Volume n)) → 0 < length (files (Volume n))
+  had_bytes n some = ⊎_elim
+      (λ (e : number ≡ n). subst (λ (m : ℕ). 0 < length (files (Volume m))) e (omega (arith, labelled_long IsItem (files (Volume number)) c.label (pos number) k.last.items [] k.last.whole)))
+      (λ (other : number ≢ n). subst (λ t. 0 < length t) (other_same n (λ e. other (sym e))) some) (this_or_other number n)
+
+  kept_entry : (e : Entry) → PointsSurely files held number e → IsKeptBy image number meta_part.m volume_part.m e
   kept_entry e p = record {
-    meta = omega (arith, p.meta, meta_part.sure);
+    meta = λ some. omega (arith, p.meta (had_bytes e.volume some), meta_part.sure);
     offset = λ same. omega (arith, p.offset same, volume_part.sure);
     not_above = (p.below.0, omega (arith, p.below.1, sure_is_left p.below.0), p.below.2);
   }
 
   still_sound : WasSound s → IsSound image (ArchiveReading.archive left.new)
   still_sound was = sound_part files image c meta_part.m index_part.m volume_part.m last cut left (k.sound was)
-      (subst (AllByRecursion (IsKeptBy image number meta_part.m volume_part.m)) (sym left.entries) (each-first (IsKeptBy image number meta_part.m volume_part.m) left.k c.entries (each-map (PointsSurely held number) (IsKeptBy image number meta_part.m volume_part.m) kept_entry c.entries k.points)))
+      (subst (AllByRecursion (IsKeptBy image number meta_part.m volume_part.m)) (sym left.entries) (each-first (IsKeptBy image number meta_part.m volume_part.m) left.k c.entries (each-map (PointsSurely files held number) (IsKeptBy image number meta_part.m volume_part.m) kept_entry c.entries (k.points was))))
 
   pub survives : Survives s c acknowledged image
   survives = record { new = left.new; is = left.is; q = left.q; items = left.items; enough = still_enough; described = still_described; sound = still_sound }

@@ -1,26 +1,26 @@
 -- The logger goes on in another volume.
-use Rattle.std.proofs.Common.{zero, suc, ◌≡◌, ◌≢◌, ◌⊎◌, inl, inr, ⊎_elim, ℕ, ℤ, ◌+◌, ◌<◌, ◌≤◌, pos, negsuc, List, [], ◌∷◌, ◌++◌, length, take, map, refl, sym, ap, ◌∙◌, subst, append_assoc, arith, length-append}
+use Rattle.std.proofs.Common.{◌≡◌, ◌≢◌, ◌⊎◌, inl, inr, ⊎_elim, ℕ, ◌+◌, ◌<◌, ◌≤◌, pos, List, [], ◌∷◌, ◌++◌, length, take, refl, sym, ap, ◌∙◌, subst, arith, length-append}
 use Rattle.std.specs.List.{AllByRecursion}
 use Rattle.std.proofs.Math.Seq.{take-nil}
 use Rattle.std.proofs.lemmas.Bool.{cases_lt}
 use Rattle.std.proofs.lemmas.List.{append-nil}
-use Rattle.pcp_base.specs.declared.file.FileId.TheVariants.{Meta, Index, Volume}
+use Rattle.pcp_base.specs.declared.file.FileId.TheVariants.{Index, Volume}
 use Rattle.pcp_base.specs.declared.result.Item.{Item}
 use Rattle.pcp_model.specs.declared.records.Entry.{Entry}
-use Rattle.pcp_model.specs.Archive.{ArchiveContents, ArchiveReading, LabelledFile, AreVolumes, IsArchive, items_of}
+use Rattle.pcp_model.specs.Archive.{ArchiveContents, LabelledFile, items_of}
 use Rattle.pcp_model.specs.Described.{Described}
 use Rattle.pcp_model.specs.Disk.{Files, Held, Holdings, bytes_of}
 use Rattle.pcp_model.specs.Payload.{IsItem}
-use Rattle.pcp_model.specs.Sound.{IsBoundary, IsSound, IsSoundEntry, NeverFalls, NoItemAfter, PointsWell}
+use Rattle.pcp_model.specs.Sound.{IsBoundary, IsSoundEntry, NeverFalls, NoItemAfter, PointsWell}
 use Rattle.pcp_model.specs.Written.{with_added}
-use Rattle.pcp_model.proofs.Added.{added_this, added_other, items_of-append, volume_is, volume_text, was_empty}
+use Rattle.pcp_model.proofs.Added.{added_other, items_of-append, volume_is, volume_text, was_empty}
 use Rattle.pcp_model.proofs.Cuts.{as_many}
 use Rattle.pcp_model.proofs.Lists.{each-append, each-map}
-use Rattle.pcp_model.proofs.Sound.{labelled_long}
-use Rattle.logger_core.specs.Keeps.{Start, WasSound, WasDescribed, IsPart, PointsSurely, AreSure, Keeps, is_sure}
+use Rattle.logger_core.specs.Keeps.{Start, WasDescribed, PointsSurely, AreSure, Keeps, is_sure}
 use Rattle.logger_core.specs.Laws.{Announces, IsVolumeToCome}
 use Rattle.logger_core.proofs.Announced.{still_indexed}
-use Rattle.logger_core.proofs.Items.{above_empty, this_or_other}
+use Rattle.logger_core.proofs.Items.{above_empty}
+use Rattle.logger_core.proofs.Survival.{this_or_other}
 
 module _ (s : Start) (files : Files) (c : ArchiveContents) (number next known acknowledged : ℕ) (held : Holdings) (head : List ℕ) (k : Keeps s files c number known acknowledged held) (come : IsVolumeToCome files c number next held head) where
   abbrev added : Files
@@ -67,9 +67,9 @@ module _ (s : Start) (files : Files) (c : ArchiveContents) (number next known ac
       }
 
   -- no entry is of the new volume
-  still_points : (e : Entry) → PointsSurely held number e → PointsSurely held next e
+  still_points : (e : Entry) → PointsSurely files held number e → PointsSurely added held next e
   still_points e p = record {
-    meta = p.meta;
+    meta = λ some. p.meta (⊎_elim (λ (same : next ≡ e.volume). absurd (no_entry (sym same) (cases_lt number p.below.0))) (λ (other : next ≢ e.volume). subst (λ t. 0 < length t) (same_volume e.volume (λ x. other (sym x))) some) (this_or_other next e.volume));
     offset = λ same. absurd (no_entry same (cases_lt number p.below.0));
     below = p.below;
   }
@@ -119,7 +119,8 @@ module _ (s : Start) (files : Files) (c : ArchiveContents) (number next known ac
       sure = k.sure;
       described = λ n le. subst (AllByRecursion (λ y. WasDescribed s y → Described (take n c.records) y)) (sym items_same) (k.described n le);
       sound = λ was. (subst NeverFalls (sym items_same) (k.sound was).0, each-map (IsSoundEntry files c) (IsSoundEntry added with_it) still_sound_entry c.entries (k.sound was).1);
-      points = each-map (PointsSurely held number) (PointsSurely held next) still_points c.entries k.points;
+      labelled = k.labelled;
+      points = λ was. each-map (PointsSurely files held number) (PointsSurely added held next) still_points c.entries (k.points was);
       items = inl (all_acknowledged k.items);
     };
   }

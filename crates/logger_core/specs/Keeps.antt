@@ -1,7 +1,7 @@
 -- What a logger keeps of its archive: whole files that it means, of which the disk holds a beginning each. Every record of
 -- Meta that describes an item is sure; every entry of the index points into sure bytes; every volume but the one that is
 -- written is wholly sure. A crash, a cut and going on keep it so.
-use Rattle.std.specs.Prelude.{◌≡◌, ◌≢◌, ◌⊎◌, ℕ, ◌+◌, ◌≤◌, negsuc, List, [], ◌++◌, length, take, Contains}
+use Rattle.std.specs.Prelude.{◌≡◌, ◌≢◌, ◌⊎◌, ℕ, ◌+◌, ◌≤◌, negsuc, List, [], ◌++◌, length, take, Contains, ◌<◌}
 use Rattle.std.specs.List.{AllByRecursion}
 use Rattle.pcp_base.specs.declared.file.FileId.TheVariants.{Meta, Index, Volume}
 use Rattle.pcp_base.specs.declared.result.Item.{Item}
@@ -39,9 +39,9 @@ is_sure bytes = record { sure = bytes; rest = [] }
 abbrev pub end_of : ℕ → List (List ℕ) → ℕ
 end_of k payloads = 132 + length (frames (take k payloads))
 
--- an entry points into sure bytes, and is of a volume at or below one whose label is sure
-pub record PointsSurely (held : Holdings) (number : ℕ) (e : Entry) : Type 0 where
-  pub meta : e.meta ≤ length (held Meta).sure
+-- An entry points into sure bytes, unless its volume is empty, and is of a volume at or below one whose label is sure.
+pub record PointsSurely (files : Files) (held : Holdings) (number : ℕ) (e : Entry) : Type 0 where
+  pub meta : 0 < length (files (Volume e.volume)) → e.meta ≤ length (held Meta).sure
   pub offset : e.volume ≡ number → e.offset ≤ length (held (Volume number)).sure
   pub below : (n : ℕ) × (132 ≤ length (held (Volume n)).sure) × (e.volume ≤ n)
 
@@ -65,5 +65,6 @@ pub record Keeps (s : Start) (files : Files) (c : ArchiveContents) (number known
   pub sure : end_of known whole.payloads ≤ length (held Meta).sure
   pub described : (k : ℕ) → known ≤ k → AllByRecursion (λ x. WasDescribed s x → Described (take k c.records) x) (items_of c.volumes)
   pub sound : WasSound s → IsSound files (ArchiveReading.archive c)
-  pub points : AllByRecursion (PointsSurely held number) c.entries
+  pub labelled : (c.entries ≡ []) ⊎ ((n : ℕ) × (132 ≤ length (held (Volume n)).sure))
+  pub points : WasSound s → AllByRecursion (PointsSurely files held number) c.entries
   pub items : AreSure (length (items_of last.before)) last.whole.payloads (length (held (Volume number)).sure) acknowledged

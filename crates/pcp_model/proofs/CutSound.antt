@@ -72,7 +72,7 @@ module _ (files image : Files) (c : ArchiveContents) (m i v : ℕ) (last : HasLa
         let was : PointsWell files c e = sound.points (had_bytes e.volume some) in
         record {
           records = was.records;
-          meta = subst (λ t. IsBoundary t e.meta was.records) (sym cut.meta) (boundary_survives (files Meta) m e.meta was.records kept.meta was.meta);
+          meta = subst (λ t. IsBoundary t e.meta was.records) (sym cut.meta) (boundary_survives (files Meta) m e.meta was.records (kept.meta some) was.meta);
           domains = subst (λ rs. AllByRecursion (IsRecordBy e.stamp) (take was.records rs)) (sym f.records) (first_of_first (IsRecordBy e.stamp) was.records f.j c.records was.domains);
           items = was.items;
           volume = volume_boundary e was.items kept was.volume;

@@ -99,7 +99,7 @@ CutsAreRead = (files image : Files) (c : ArchiveContents) (m i v : ℕ) → IsAr
 
 -- an entry points into what is left of an archive that is cut
 pub record IsKeptBy (image : Files) (number m v : ℕ) (e : Entry) : Type 0 where
-  pub meta : e.meta ≤ m
+  pub meta : 0 < length (image (Volume e.volume)) → e.meta ≤ m
   pub offset : e.volume ≡ number → e.offset ≤ v
   pub not_above : (n : ℕ) × (0 < length (image (Volume n))) × (e.volume ≤ n)
 
