@@ -3,3 +3,4 @@ pub mod Items
 pub mod Nearer
 pub mod Survival
 pub mod Switched
+pub mod Whole

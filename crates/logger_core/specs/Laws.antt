@@ -1,17 +1,17 @@
 -- What holds of what a logger keeps.
-use Rattle.std.specs.Prelude.{◌≡◌, ℕ, pos, ◌<◌, ◌≤◌, List, [], ◌∷◌, ◌++◌, length, take}
+use Rattle.std.specs.Prelude.{◌≡◌, ℕ, pos, ◌<◌, ◌≤◌, List, [], ◌∷◌, ◌++◌, length, take, negsuc}
 use Rattle.std.specs.List.{AllByRecursion}
 use Rattle.pcp_base.specs.declared.file.FileId.{FileId}
 use Rattle.pcp_base.specs.declared.file.FileId.TheVariants.{Meta, Index, Volume}
 use Rattle.pcp_base.specs.declared.result.Item.{Item}
 use Rattle.pcp_model.specs.declared.records.Entry.{Entry}
 use Rattle.pcp_model.specs.declared.records.MetaRecord.{MetaRecord}
-use Rattle.pcp_model.specs.Archive.{ArchiveContents, ArchiveReading, AreRead, IsArchive, items_of}
+use Rattle.pcp_model.specs.Archive.{ArchiveContents, ArchiveReading, AreRead, IsArchive, items_of, HasEntries, LabelledFile}
 use Rattle.pcp_model.specs.Described.{Described}
 use Rattle.pcp_model.specs.Disk.{Files, Held, Holdings, CrashImage}
 use Rattle.pcp_model.specs.Frame.{IsFrameable, frame, frames}
 use Rattle.pcp_model.specs.Labels.{IsLabel}
-use Rattle.pcp_model.specs.Laws.{IsLonger}
+use Rattle.pcp_model.specs.Laws.{IsLonger, EndsWhole}
 use Rattle.pcp_model.specs.Payload.{IsItem, stamp_of}
 use Rattle.pcp_model.specs.Records.{IsRecord, AreConsistent, FitsEntry, entry}
 use Rattle.pcp_model.specs.Sound.{IsSound, NoDomainAfter, NoItemAfter}
@@ -113,3 +113,15 @@ pub record IsVolumeToCome (files : Files) (c : ArchiveContents) (number next : �
 abbrev pub VolumeIsAnnounced : Type 0
 VolumeIsAnnounced = (s : Start) (files : Files) (c : ArchiveContents) (number next known acknowledged : ℕ) (held : Holdings) (head : List ℕ) → Keeps s files c number known acknowledged held
     → IsVolumeToCome files c number next held head → Announces s (with_added (Volume next) head files) c next known acknowledged held [] [] []
+
+-- A whole archive of which every byte is sure, as recovery and a creation leave it, is kept: all its items are acknowledged.
+pub record IsWhole (files : Files) (c : ArchiveContents) (number : ℕ) (held : Holdings) : Type 0 where
+  pub is : IsArchive files c
+  pub last : EndsWhole files c number
+  pub indexed : (has : HasEntries (files Index) c) × (has.rest ≡ [])
+  pub meta : LabelledFile IsRecord (files Meta) c.label (negsuc 0) c.records []
+  pub sure : (file : FileId) → held file ≡ is_sure (files file)
+
+abbrev pub WholeIsKept : Type 0
+WholeIsKept = (files : Files) (c : ArchiveContents) (number : ℕ) (held : Holdings) → IsWhole files c number held
+    → Keeps (record { files = files; reading = ArchiveReading.archive c }) files c number (length c.records) (length (items_of c.volumes)) held

@@ -1,5 +1,5 @@
 //! What holds of what a logger keeps. Each is the contract of a function without parameters, which does nothing.
-ghost use Rattle.logger_core.specs.Laws.{KeptFilesSurvive, NearerIsKept, SureIsAcknowledged, SureIsKnown, ItemIsAnnounced, RecordsAreAnnounced, EntryIsAnnounced, VolumeIsAnnounced};
+ghost use Rattle.logger_core.specs.Laws.{KeptFilesSurvive, NearerIsKept, SureIsAcknowledged, SureIsKnown, ItemIsAnnounced, RecordsAreAnnounced, EntryIsAnnounced, VolumeIsAnnounced, WholeIsKept};
 
 /// Whatever a crash leaves of what a logger keeps is an archive of the first of its items, with all acknowledged ones,
 /// each described by the metadata that is left, and sound.
@@ -41,4 +41,9 @@ pub fn entry_is_announced()
 /// The label of a volume above the last, which is wholly sure, may be meant, and that volume is then the one that is written.
 pub fn volume_is_announced()
     ensures { VolumeIsAnnounced }
+{}
+
+/// A whole archive of which every byte is sure is kept, with all its items acknowledged.
+pub fn whole_is_kept()
+    ensures { WholeIsKept }
 {}
