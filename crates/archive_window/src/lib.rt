@@ -1,0 +1,11 @@
+//! Records of an archive's volume as they stand on the disk (LOGARCHIVE(5)): of a record its length word is taken and then its
+//! other bytes, no byte more. A call here only reads, and says so of the disk.
+#![tactic(auto)]
+
+mod forward;
+mod lack;
+mod reading;
+
+pub use forward::{Next, next_record};
+pub use lack::Lack;
+pub use reading::{count_volumes, front_of, length_of, take_bytes, whole_of, wrapped_file};
