@@ -1,1 +1,7 @@
+pub mod Loads
+pub mod Nexts
+pub mod PartsRead
+pub mod Readable
 pub mod Searching
+pub mod Stepping
+pub mod Volumes

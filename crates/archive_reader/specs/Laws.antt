@@ -4,9 +4,12 @@ use Rattle.pcp_base.specs.Time.{Moment, microseconds}
 use Rattle.pcp_base.specs.declared.file.FileId.TheVariants.{Volume}
 use Rattle.pcp_base.specs.declared.result.Item.{Item}
 use Rattle.pcp_model.specs.declared.records.Entry.{Entry}
-use Rattle.pcp_model.specs.Archive.{ArchiveContents, ArchiveReading, items_of}
+use Rattle.pcp_model.specs.declared.records.MetaRecord.{MetaRecord}
+use Rattle.pcp_model.specs.Archive.{ArchiveContents, ArchiveReading, Reads, items_of, scan, records_in}
 use Rattle.pcp_model.specs.Disk.{Files}
 use Rattle.pcp_model.specs.Sound.{NeverFalls, IsBoundary, IsSound}
+use Rattle.archive_reader.specs.Loaded.{Loaded, IsOver}
+use Rattle.archive_reader.specs.Walks.{AllFrom}
 use Rattle.archive_reader.specs.Searches.{or_else, last_of, at, between, segment, items_before, items_from, chosen_place}
 
 -- no item lies on both sides of a place, or on none
@@ -49,3 +52,14 @@ pub record IsEnough (files : Files) (c : ArchiveContents) (found : Option Entry)
 
 abbrev pub ChosenPlaceIsEnough : Type 0
 ChosenPlaceIsEnough = (files : Files) (c : ArchiveContents) (found : Option Entry) → IsSound files (ArchiveReading.archive c) → IsEnough files c found
+
+-- files are read in some way as an archive of these records and these items
+pub record IsReadAs (files : Files) (records : List MetaRecord) (items : List Item) : Type 0 where
+  pub reading : ArchiveReading
+  pub is : Reads files reading
+  pub scan_is : scan reading ≡ items
+  pub records_are : records_in reading ≡ records
+
+-- where records stand from the first place on, up to the end, they are the scan
+abbrev pub StandingIsRead : Type 0
+StandingIsRead = (files : Files) (r : Loaded) (items : List Item) → IsOver files r → AllFrom files r.volumes 132 items → IsReadAs files r.records items

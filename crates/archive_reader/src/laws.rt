@@ -1,5 +1,5 @@
 //! What a search by time may leave unread. Each is the contract of a function without parameters, which does nothing.
-ghost use Rattle.archive_reader.specs.Laws.{PlacesPart, SegmentsAreEnough, ChosenPlaceIsEnough};
+ghost use Rattle.archive_reader.specs.Laws.{PlacesPart, SegmentsAreEnough, ChosenPlaceIsEnough, StandingIsRead};
 
 /// A place parts an archive's items into those before it and those from it on.
 pub fn places_part()
@@ -15,4 +15,10 @@ pub fn segments_are_enough()
 /// last item is asked for.
 pub fn chosen_place_is_enough()
     ensures { ChosenPlaceIsEnough }
+{}
+
+/// Where items' records stand from the first place on, over the ends of volumes and up to the end, the files are readable and
+/// these items are their scan.
+pub fn standing_is_read()
+    ensures { StandingIsRead }
 {}

@@ -1,8 +1,18 @@
-//! Searching an archive by time (LOGARCHIVE(5)): the last item not after a moment, and the items between two moments.
-//! Over a sound archive neither wants the whole scan: a search begins where the index says and ends at the first item
-//! stamped after the later moment.
+//! Reading an archive (LOGARCHIVE(5)): its label and its metadata are loaded, and of each volume its label; items are read
+//! record after record, or searched by time. Over a sound archive a search wants no scan: it begins where the index says and
+//! ends at the first item stamped after the later moment. A record that wasn't written whole is the archive's end.
 #![tactic(auto)]
 
+mod fault;
+mod labels;
 mod laws;
+mod loading;
+mod parts;
+mod places;
+mod reader;
+mod walking;
 
-pub use laws::{chosen_place_is_enough, places_part, segments_are_enough};
+pub use fault::ReaderFault;
+pub use laws::{chosen_place_is_enough, places_part, segments_are_enough, standing_is_read};
+pub use places::Place;
+pub use reader::ArchiveReader;

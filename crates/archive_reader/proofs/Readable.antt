@@ -1,0 +1,198 @@
+-- Records that stand from the first place on, up to an end, are all items of an archive.
+use Rattle.std.proofs.Common.{zero, suc, ◌≡◌, ◌≢◌, ◌⊎◌, inl, inr, ⊎_elim, ℕ, pos, ◌+◌, ◌-◌, ◌<◌, ◌≤◌, Bool, true, false, List, [], ◌∷◌, ◌++◌, length, take, drop, map, refl, sym, ap, ◌∙◌, subst, append_assoc, arith, eqb-true, eq-eqb, Option, Some, None}
+use Rattle.std.specs.Prelude.{Contains, nat_eq}
+use Rattle.std.specs.List.{AllByRecursion}
+use Rattle.std.proofs.lemmas.Bool.{cases_lt}
+use Rattle.std.proofs.lemmas.List.{take-append-drop, drop_at, drop_all, append-nil, length-append, length-drop}
+use Rattle.pcp_base.specs.declared.file.FileId.TheVariants.{Meta, Index, Volume}
+use Rattle.pcp_base.specs.declared.result.Item.{Item}
+use Rattle.pcp_model.specs.declared.records.MetaRecord.{MetaRecord}
+use Rattle.pcp_model.specs.declared.records.Entry.{Entry}
+use Rattle.pcp_model.specs.Archive.{ArchiveContents, ArchiveReading, AreRead, LabelledFile, IsMeta, IsIndex, IsLastVolume, AreVolumes, IsArchive, Reads, items_of, scan, records_in}
+use Rattle.pcp_model.specs.Disk.{Files}
+use Rattle.pcp_model.specs.Frame.{frame, frames, IsTorn}
+use Rattle.pcp_model.specs.LabelFields.{LabelFields}
+use Rattle.pcp_model.specs.Labels.{BeginsLabel}
+use Rattle.pcp_model.specs.Payload.{IsItem}
+use Rattle.pcp_model.proofs.Cuts.{frames-append}
+use Rattle.pcp_model.proofs.Lengths.{length-frame}
+use Rattle.archive_frame.specs.Steps.{Stands}
+use Rattle.archive_window.specs.Standing.{ItemStands}
+use Rattle.archive_reader.specs.Laws.{IsReadAs}
+use Rattle.archive_reader.specs.Loaded.{Loaded, IsOver, contents_with, IsLabelled, IsHeaded, Rises, IsLabelledArchive, IsKeptOf, numbers}
+use Rattle.archive_reader.specs.Walks.{next_volumes, next_offset, StandsNext, StepsOver, EndsThere, IsEnd, Leads, AllFrom}
+use Rattle.archive_reader.proofs.Stepping.{next_over, next_here}
+
+-- a record and what follows it
+pub behind_record : (bytes payload : List ℕ) (at next : ℕ) → Stands bytes payload at next → drop at bytes ≡ frame payload ++ drop next bytes
+behind_record bytes payload at next s =
+    let one : drop at bytes ≡ frame payload ++ s.rest = ap (drop at) s.is ∙ drop_at s.front (frame payload ++ s.rest) at s.begins in
+    let long : length (s.front ++ frame payload) ≡ next = omega (arith, length-append s.front (frame payload), length-frame payload, s.begins, s.ends) in
+    let two : drop next bytes ≡ s.rest = ap (drop next) (s.is ∙ sym (append_assoc s.front (frame payload) s.rest)) ∙ drop_at (s.front ++ frame payload) s.rest next long in
+    one ∙ ap (λ t. frame payload ++ t) (sym two)
+
+read_more : (ps : List (List ℕ)) (xs : List Item) (p : List ℕ) (x : Item) → AreRead IsItem ps xs → AreRead IsItem (p ∷ []) (x ∷ []) → AreRead IsItem (ps ++ p ∷ []) (xs ++ x ∷ [])
+read_more [] [] p x read one = one
+read_more [] (y ∷ xs) p x read one = absurd (read tt)
+read_more (q ∷ ps) [] p x read one = absurd (read tt)
+read_more (q ∷ ps) (y ∷ xs) p x read one = (read.0, read.1, read_more ps xs p x read.2 one)
+
+-- the records of a volume up to an offset
+pub record Passed (bytes : List ℕ) (at : ℕ) (xs : List Item) : Type 0 where
+  pub payloads : List (List ℕ)
+  pub read : AreRead IsItem payloads xs
+  pub is : drop 132 bytes ≡ frames payloads ++ drop at bytes
+
+pub none_passed : (bytes : List ℕ) → Passed bytes 132 []
+none_passed bytes = record { payloads = []; read = tt; is = refl }
+
+pub one_passed : (bytes : List ℕ) (at next : ℕ) (xs : List Item) (x : Item) → Passed bytes at xs → ItemStands bytes at next x → Passed bytes next (xs ++ x ∷ [])
+one_passed bytes at next xs x p s = record {
+  payloads = p.payloads ++ s.payload ∷ [];
+  read = read_more p.payloads xs s.payload x p.read (s.stands.fits, s.reads, tt);
+  is = p.is ∙ ap (λ t. frames p.payloads ++ t) (behind_record bytes s.payload at next s.stands) ∙ sym (append_assoc (frames p.payloads) (frame s.payload) (drop next bytes))
+      ∙ ap (λ t. t ++ drop next bytes) (sym (frames-append p.payloads (s.payload ∷ []) ∙ ap (λ t. frames p.payloads ++ t) (append-nil (frame s.payload))));
+}
+
+module _ (files : Files) (l : LabelFields) where
+  file_of : (n at : ℕ) (xs : List Item) → IsLabelled (files (Volume n)) l n → Passed (files (Volume n)) at xs → LabelledFile IsItem (files (Volume n)) l (pos n) xs (drop at (files (Volume n)))
+  file_of n at xs label p = record {
+    head = take 132 (files (Volume n));
+    label = label;
+    payloads = p.payloads;
+    read = p.read;
+    is = sym (take-append-drop 132 (files (Volume n))) ∙ ap (λ t. take 132 (files (Volume n)) ++ t) p.is;
+  }
+
+  -- a volume that ends within its label has no record
+  none_read : (n at : ℕ) (xs : List Item) → length (files (Volume n)) < 132 → Passed (files (Volume n)) at xs → xs ≡ []
+  none_read n at xs short p = go p.payloads xs p.read (p.is)
+    where
+      go : (ps : List (List ℕ)) (xs : List Item) → AreRead IsItem ps xs → drop 132 (files (Volume n)) ≡ frames ps ++ drop at (files (Volume n)) → xs ≡ []
+      go [] [] read is = refl
+      go [] (x ∷ xs) read is = absurd (read tt)
+      go (q ∷ ps) [] read is = absurd (read tt)
+      go (q ∷ ps) (x ∷ xs) read is = absurd (omega (arith, ap length is, length-drop 132 (files (Volume n)), short, length-append (frame q ++ frames ps) (drop at (files (Volume n))), length-append (frame q) (frames ps), length-frame q))
+
+  last_of_all : (v : ℕ × ℕ) (at : ℕ) (xs : List Item) → IsHeaded files l v → Passed (files (Volume v.0)) at xs → IsTorn (drop at (files (Volume v.0))) → IsLastVolume (files (Volume v.0)) l v.0 xs
+  last_of_all v at xs headed p torn = ⊎_elim (λ label. inr (drop at (files (Volume v.0)), torn, file_of v.0 at xs label p))
+      (λ part. inl (omega (arith, headed.0, headed.1), none_read v.0 at xs part.0.short p, part.0)) headed.2
+
+  -- a volume before the last has its label
+  label_of : (v w : ℕ × ℕ) → IsHeaded files l v → v.0 < w.0 → IsHeaded files l w → IsLabelled (files (Volume v.0)) l v.0
+  label_of v w headed lt next = ⊎_elim (λ label. label) (λ part. absurd (omega (arith, next.0, next.1, ap length (part.1 w.0 lt)))) headed.2
+
+  pub record Built (vs : List (ℕ × ℕ)) (xs items : List Item) : Type 0 where
+    pub volumes : List (ℕ × List Item)
+    pub are : AreVolumes files l volumes
+    pub same : map (λ (v : ℕ × List Item). v.0) volumes ≡ numbers vs
+    pub all : items_of volumes ≡ xs ++ items
+
+  put : (n : ℕ) (xs : List Item) (w : ℕ × ℕ) (ws : List (ℕ × ℕ)) (volumes : List (ℕ × List Item)) → LabelledFile IsItem (files (Volume n)) l (pos n) xs [] → n < w.0 → AreVolumes files l volumes
+      → map (λ (v : ℕ × List Item). v.0) volumes ≡ numbers (w ∷ ws) → AreVolumes files l ((n, xs) ∷ volumes)
+  put n xs w ws [] file lt are same = absurd (omega (arith, ap length same))
+  put n xs w ws (u ∷ us) file lt are same = (file, subst (λ k. n < k) (sym (first u us same)) lt, are)
+    where
+      first : (u : ℕ × List Item) (us : List (ℕ × List Item)) → map (λ (v : ℕ × List Item). v.0) (u ∷ us) ≡ numbers (w ∷ ws) → u.0 ≡ w.0
+      first u us same = cc
+
+  in_last : (v : ℕ × ℕ) (items : List Item) (at : ℕ) (xs : List Item) (last : List (ℕ × ℕ)) (to : ℕ) → IsHeaded files l v → Passed (files (Volume v.0)) at xs
+      → Leads files (v ∷ []) at items last to → IsEnd files last to → Built (v ∷ []) xs items
+  in_last v [] at xs last to headed p leads ends =
+      let torn : IsTorn (drop at (files (Volume v.0))) = subst (λ o. IsEnd files (v ∷ []) o) leads.1 (subst (λ vs. IsEnd files vs to) leads.0 ends) in
+      record { volumes = (v.0, xs) ∷ []; are = last_of_all v at xs headed p torn; same = refl; all = refl }
+  in_last v (x ∷ items) at xs last to headed p (us, next, step, more) ends =
+      let here : ItemStands (files (Volume v.0)) at next x = subst (λ ws. StandsNext files ws at x next) step.volumes step.stands in
+      let b : Built (v ∷ []) (xs ++ x ∷ []) items = in_last v items next (xs ++ x ∷ []) last to headed (one_passed (files (Volume v.0)) at next xs x p here) (subst (λ ws. Leads files ws next items last to) step.volumes more) ends in
+      record { volumes = b.volumes; are = b.are; same = b.same; all = b.all ∙ append_assoc xs (x ∷ []) items }
+
+  -- over the end of a volume
+  moved : (v w : ℕ × ℕ) (ws : List (ℕ × ℕ)) (items : List Item) (at : ℕ) (last : List (ℕ × ℕ)) (to : ℕ) → at ≡ v.1 → Leads files (v ∷ w ∷ ws) at items last to → IsEnd files last to → AllFrom files (w ∷ ws) 132 items
+  moved v w ws [] at last to is leads ends =
+      let over = next_over v w ws at is in
+      let there : IsEnd files (v ∷ w ∷ ws) at = subst (λ o. IsEnd files (v ∷ w ∷ ws) o) leads.1 (subst (λ vs. IsEnd files vs to) leads.0 ends) in
+      record {
+        last = w ∷ ws;
+        to = 132;
+        leads = (refl, refl);
+        ends = subst (λ o. EndsThere files (next_volumes (w ∷ ws) 132) o) over.1 (subst (λ vs. EndsThere files vs (next_offset (v ∷ w ∷ ws) at)) over.0 there);
+      }
+  moved v w ws (x ∷ items) at last to is (us, next, step, more) ends =
+      let over = next_over v w ws at is in
+      let over_step : StepsOver files (w ∷ ws) 132 x us next = record { volumes = step.volumes ∙ over.0; stands = subst (λ o. StandsNext files us o x next) over.1 step.stands } in
+      record { last = last; to = to; leads = (us, next, over_step, more); ends = ends }
+
+  at_end : (v w : ℕ × ℕ) (ws : List (ℕ × ℕ)) (then_ : (items : List Item) → AllFrom files (w ∷ ws) 132 items → Built (w ∷ ws) [] items) (items : List Item) (at : ℕ) (xs : List Item)
+      → IsHeaded files l v → v.0 < w.0 → IsHeaded files l w → Passed (files (Volume v.0)) at xs → at ≡ v.1 → AllFrom files (w ∷ ws) 132 items → Built (v ∷ w ∷ ws) xs items
+  at_end v w ws then_ items at xs headed lt next_headed p end a =
+      let b : Built (w ∷ ws) [] items = then_ items a in
+      let nothing : drop at (files (Volume v.0)) ≡ [] = drop_all at (files (Volume v.0)) (omega (arith, end, headed.0)) in
+      let file : LabelledFile IsItem (files (Volume v.0)) l (pos v.0) xs [] = subst (LabelledFile IsItem (files (Volume v.0)) l (pos v.0) xs) nothing (file_of v.0 at xs (label_of v w headed lt next_headed) p) in
+      record { volumes = (v.0, xs) ∷ b.volumes; are = put v.0 xs w ws b.volumes file lt b.are b.same; same = ap (λ ns. v.0 ∷ ns) b.same; all = ap (λ more. xs ++ more) b.all }
+
+  not_both : (b : Bool) → b ≡ true → b ≡ false → ⊥
+  not_both b one other = let both : true ≡ false = sym one ∙ other in cc
+
+  in_volume : (items : List Item) (b : Bool) (v w : ℕ × ℕ) (ws : List (ℕ × ℕ)) (then_ : (items : List Item) → AllFrom files (w ∷ ws) 132 items → Built (w ∷ ws) [] items) (at : ℕ) (xs : List Item) (last : List (ℕ × ℕ)) (to : ℕ)
+      → IsHeaded files l v → v.0 < w.0 → IsHeaded files l w → Passed (files (Volume v.0)) at xs → Leads files (v ∷ w ∷ ws) at items last to → IsEnd files last to → nat_eq at v.1 ≡ b → Built (v ∷ w ∷ ws) xs items
+  in_volume [] true v w ws then_ at xs last to headed lt next_headed p leads ends e =
+      let end : at ≡ v.1 = eqb-true at v.1 e in at_end v w ws then_ [] at xs headed lt next_headed p end (moved v w ws [] at last to end leads ends)
+  in_volume (x ∷ items) true v w ws then_ at xs last to headed lt next_headed p leads ends e =
+      let end : at ≡ v.1 = eqb-true at v.1 e in at_end v w ws then_ (x ∷ items) at xs headed lt next_headed p end (moved v w ws (x ∷ items) at last to end leads ends)
+  in_volume [] false v w ws then_ at xs last to headed lt next_headed p leads ends e =
+      let here = next_here v w ws at (λ same. not_both (nat_eq at v.1) (eq-eqb at v.1 same) e) in
+      let there : IsEnd files (v ∷ w ∷ ws) at = subst (λ o. IsEnd files (v ∷ w ∷ ws) o) leads.1 (subst (λ vs. IsEnd files vs to) leads.0 ends) in
+      absurd (subst (λ vs. EndsThere files vs (next_offset (v ∷ w ∷ ws) at)) here.0 there)
+  in_volume (x ∷ items) false v w ws then_ at xs last to headed lt next_headed p (us, next, step, more) ends e =
+      let here = next_here v w ws at (λ same. not_both (nat_eq at v.1) (eq-eqb at v.1 same) e) in
+      let whole : us ≡ v ∷ w ∷ ws = step.volumes ∙ here.0 in
+      let stands : ItemStands (files (Volume v.0)) at next x = subst (λ o. StandsNext files (v ∷ w ∷ ws) o x next) here.1 (subst (λ vs. StandsNext files vs (next_offset (v ∷ w ∷ ws) at) x next) whole step.stands) in
+      let b : Built (v ∷ w ∷ ws) (xs ++ x ∷ []) items = in_volume items (nat_eq next v.1) v w ws then_ next (xs ++ x ∷ []) last to headed lt next_headed (one_passed (files (Volume v.0)) at next xs x p stands)
+      (subst (λ vs. Leads files vs next items last to) whole more) ends refl in
+      record { volumes = b.volumes; are = b.are; same = b.same; all = b.all ∙ append_assoc xs (x ∷ []) items }
+
+  pub built : (v : ℕ × ℕ) (vs : List (ℕ × ℕ)) → AllByRecursion (IsHeaded files l) (v ∷ vs) → Rises (v ∷ vs) → (items : List Item) → AllFrom files (v ∷ vs) 132 items → Built (v ∷ vs) [] items
+  built v [] each rises items a = in_last v items 132 [] a.last a.to each.0 (none_passed (files (Volume v.0))) a.leads a.ends
+  built v (w ∷ ws) each rises items a =
+      in_volume items (nat_eq 132 v.1) v w ws (built w ws each.1 rises.1) 132 [] a.last a.to each.0 rises.0.0 each.1.0 (none_passed (files (Volume v.0))) a.leads a.ends refl
+
+meta_kept : (bytes : List ℕ) (l : LabelFields) (records : List MetaRecord) (entries : List Entry) (volumes : List (ℕ × List Item)) → IsMeta bytes (contents_with l records [] []) → IsMeta bytes (contents_with l records entries volumes)
+meta_kept bytes l records entries volumes m = record { torn = m.torn; is_torn = m.is_torn; holds = m.holds; consistent = m.consistent }
+
+index_kept : (bytes : List ℕ) (l : LabelFields) (records : List MetaRecord) (entries : List Entry) (volumes : List (ℕ × List Item)) → IsIndex bytes (contents_with l [] entries []) → IsIndex bytes (contents_with l records entries volumes)
+index_kept bytes l records entries volumes (inl none) = inl none
+index_kept bytes l records entries volumes (inr has) = inr (record { head = has.head; label = has.label; fit = has.fit; rest = has.rest; short = has.short; is = has.is })
+
+-- no record stands where there is no volume
+nothing_stands : (files : Files) (items : List Item) → AllFrom files [] 132 items → items ≡ []
+nothing_stands files items a = go items a.last a.to a.leads
+  where
+    go : (items : List Item) (last : List (ℕ × ℕ)) (to : ℕ) → Leads files [] 132 items last to → items ≡ []
+    go [] last to leads = refl
+    go (x ∷ items) last to (us, next, step, more) = absurd (subst (λ ws. StandsNext files ws 132 x next) step.volumes step.stands)
+
+with_volumes : (files : Files) (l : LabelFields) (records : List MetaRecord) (entries : List Entry) (vs : List (ℕ × ℕ)) (items : List Item) → IsLabelledArchive files l records entries vs → Built files l vs [] items → IsReadAs files records items
+with_volumes files l records entries vs items kept b = record {
+  reading = ArchiveReading.archive (contents_with l records entries b.volumes);
+  is = record {
+    meta = meta_kept (files Meta) l records entries b.volumes kept.meta;
+    index = index_kept (files Index) l records entries b.volumes kept.index;
+    volumes = b.are;
+    others = λ n other. kept.others n (λ told. other (subst (λ ns. Contains ns n) (sym b.same) told));
+    labelled = kept.beside;
+  };
+  scan_is = b.all;
+  records_are = refl;
+}
+
+pub is_read : (files : Files) (label : Option LabelFields) (records : List MetaRecord) (entries : List Entry) (vs : List (ℕ × ℕ)) (items : List Item) → IsKeptOf files label records entries vs → AllFrom files vs 132 items → IsReadAs files records items
+is_read files None records entries vs items kept a =
+    let none : items ≡ [] = nothing_stands files items (subst (λ ws. AllFrom files ws 132 items) kept.3 a) in
+    record { reading = ArchiveReading.nothing; is = kept.0; scan_is = sym none; records_are = sym kept.1 }
+is_read files (Some l) records entries [] items kept a =
+    let none : items ≡ [] = nothing_stands files items a in
+    with_volumes files l records entries [] items kept (record { volumes = []; are = tt; same = refl; all = sym none })
+is_read files (Some l) records entries (v ∷ vs) items kept a = with_volumes files l records entries (v ∷ vs) items kept (built files l v vs kept.labelled.0 kept.labelled.1 items a)
+
+pub standing_is_read : (files : Files) (r : Loaded) (items : List Item) → IsOver files r → AllFrom files r.volumes 132 items → IsReadAs files r.records items
+standing_is_read files r items over a = is_read files r.label r.records r.entries r.volumes items over a

@@ -1,0 +1,46 @@
+//! The faults of reading an archive.
+ghost use Rattle.std.specs.Prelude.{◌≡◌};
+ghost use Rattle.archive_reader.specs.declared.fault.ReaderFault.TheVariants.{NoMemory as Refused};
+ghost use Rattle.archive_reader.specs.Lacks.{of_lack};
+
+use archive_window::Lack;
+use pcp_base::NoMemory;
+use pcp_outside::FileId;
+use thiserror::Error;
+
+/// Why an archive isn't read.
+#[derive(Clone, Copy, Debug, PartialEq, Eq, Error)]
+pub enum ReaderFault {
+    /// The file stands under its name with `.xz` or `.gz` added.
+    #[error("a file is compressed")]
+    Compressed { file: FileId },
+    /// The first place that fits no archive: of a label its first byte that doesn't fit, of a record the record's first byte,
+    /// of an entry that leads outside its volume's records the offset that it says.
+    #[error("a file is no archive at byte {at}")]
+    NotArchive { file: FileId, at: u64 },
+    /// The disk failed.
+    #[error("the disk failed")]
+    DiskFault,
+    /// Memory was refused.
+    #[error("out of memory")]
+    NoMemory,
+}
+
+impl From<NoMemory> for ReaderFault {
+    ghost from_gives = { λ _ e. e ≡ Refused };
+
+    fn from(_error: NoMemory) -> ReaderFault {
+        ReaderFault::NoMemory
+    }
+}
+
+impl From<Lack> for ReaderFault {
+    ghost from_gives = { λ lack e. e ≡ of_lack lack };
+
+    fn from(error: Lack) -> ReaderFault {
+        match error {
+            Lack::Disk => ReaderFault::DiskFault,
+            Lack::Memory => ReaderFault::NoMemory,
+        }
+    }
+}
