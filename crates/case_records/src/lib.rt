@@ -3,6 +3,7 @@
 #![tactic(auto)]
 
 mod archive;
+mod facts;
 mod items;
 mod meta;
 mod results;

@@ -1,7 +1,8 @@
 //! The records of an archive's Meta file (LOGARCHIVE(5)), behind its label.
+use crate::facts::{desc_of, tell_needs};
 use archive_meta::{MetaFault, MetaState, domain_stamp, put_description, put_domain};
 use case_book::{Words, text_of};
-use pcp_base::{Desc, Duplicate, InDom, List, NoMemory, Text, Units};
+use pcp_base::{Desc, InDom, List, NoMemory, Text};
 use std::alloc::Global;
 
 fn tell_added(alloc: Global, added: Result<(), MetaFault>) -> Result<String, NoMemory> {
@@ -18,6 +19,17 @@ fn read(alloc: Global, state: &mut MetaState, input: &[u8]) -> Result<String, No
         Ok(found) => {
             *state = found;
             tell_added(alloc, Ok(()))
+        }
+        Err(fault) => tell_added(alloc, Err(fault)),
+    }
+}
+
+// `whole`: the records of the input before a torn one, and where they end.
+fn read_whole(alloc: Global, state: &mut MetaState, input: &[u8]) -> Result<String, NoMemory> {
+    match MetaState::read_whole(alloc, input) {
+        Ok((found, end)) => {
+            *state = found;
+            Ok(format!(in alloc; "read {end}\n")?)
         }
         Err(fault) => tell_added(alloc, Err(fault)),
     }
@@ -81,25 +93,15 @@ fn tell_stamp(alloc: Global, payload: &[u8]) -> Result<String, NoMemory> {
 
 // The payload of a description: `PMID CODE DOMAIN SEMANTICS UNITS NAME`.
 fn make_description(alloc: Global, mut words: Words<'_>) -> Result<Option<Vec<u8>>, NoMemory> {
-    let (Some(pmid), Some(code), Some(indom)) = (words.pmid(), words.number(), words.hex()) else {
+    let Some(desc) = desc_of(&mut words) else {
         return Ok(None);
-    };
-    let (Some(semantics), Some(units)) = (words.number(), words.hex()) else {
-        return Ok(None);
-    };
-    let desc = Desc {
-        pmid,
-        code,
-        indom: InDom::of_word(indom),
-        semantics,
-        units: Units::of_word(units),
     };
     let name = text_of(alloc, words.rest())?;
     if name.as_slice().len() > 63 {
         return Ok(None);
     }
     let mut out = Vec::new(alloc);
-    put_description(&mut out, &desc.copy(alloc)?, &[name])?;
+    put_description(&mut out, &desc, &[name])?;
     Ok(Some(out))
 }
 
@@ -160,7 +162,8 @@ fn look(
     }
 }
 
-/// `meta read`, `meta extend` and `meta stamp` of the input's bytes; then `meta desc WORD`, `meta names WORD`,
+/// `meta read`, `meta whole`, `meta extend` and `meta stamp` of the input's bytes; `meta fit` and `meta records_for`
+/// of a result (`tell_needs`); then `meta desc WORD`, `meta names WORD`,
 /// `meta domain WORD SEC USEC` and `meta pmids`, words in hexadecimal; and `meta put_description ..` and
 /// `meta put_domain ..` (above).
 pub fn tell_meta(
@@ -172,6 +175,8 @@ pub fn tell_meta(
     let mut rest = words;
     let told = match rest.next() {
         "read" => read(alloc, state, input)?,
+        "whole" => read_whole(alloc, state, input)?,
+        "fit" | "records_for" => return tell_needs(alloc, state, words),
         "extend" => tell_added(alloc, state.extend(alloc, input))?,
         "stamp" => tell_stamp(alloc, input)?,
         "pmids" => tell_pmids(alloc, state)?,
