@@ -1,10 +1,14 @@
 //! Calls of an image (mmv(5)), whose bytes are the input.
 use crate::hostile;
 use case_book::Answer;
+use fetch_engine::{FetchFault, Shot, answer};
 use mmv_layout::{Image, Slot};
-use pcp_base::NoMemory;
+use pcp_base::{List, NoMemory, Pmid, Stamp, Text};
 use pm_print::image_fault_text;
+use profile_filter::Profile;
+use result_form::{encode, fits};
 use std::alloc::Global;
+use std::slice;
 
 fn write_slot(out: &mut String, slot: Slot) -> Result<(), NoMemory> {
     let Slot {
@@ -58,6 +62,58 @@ fn tell_copy(alloc: Global, image: &Image) -> Result<Vec<u8>, NoMemory> {
     Ok(pm_print::image_bytes(alloc, &copy)?.into_vec())
 }
 
+fn asked(alloc: Global, cluster: u32, rest: &str) -> Result<Option<List<Pmid>>, NoMemory> {
+    let (first, count) = rest.split_once(' ').unwrap_or((rest, ""));
+    let (Ok(first), Ok(count)) = (first.parse::<u16>(), count.parse::<u16>()) else {
+        return Ok(None);
+    };
+    let mut pmids = List::empty(alloc);
+    for step in 0..count {
+        let item = (u32::from(first) + u32::from(step)) % 1024;
+        let Some(pmid) = Pmid::build(70, cluster, item) else {
+            return Ok(None);
+        };
+        pmids.push(pmid)?;
+    }
+    Ok(Some(pmids))
+}
+
+// `fetch FIRST COUNT`: the payload of what the image answers, as region `app` at second 100, for so many metrics from an
+// item on.
+fn tell_fetch(alloc: Global, image: &Image, rest: &str) -> Result<Option<Vec<u8>>, NoMemory> {
+    let cluster = image.cluster();
+    let Some(pmids) = asked(alloc, cluster, rest)? else {
+        return Ok(None);
+    };
+    let (Some(stamp), Ok(file)) = (Stamp::build(100, 0), Text::build(alloc, b"app")) else {
+        return Ok(None);
+    };
+    let shot = Shot {
+        file,
+        cluster,
+        image: Some(image.copy(alloc)?),
+    };
+    let every = Profile::all(alloc);
+    match answer(
+        alloc,
+        slice::from_ref(&shot),
+        &every,
+        pmids.as_slice(),
+        stamp,
+    ) {
+        Ok(fetched) => {
+            if !fits(&fetched.result) {
+                return Ok(None);
+            }
+            Ok(Some(encode(alloc, &fetched.result)?.into_vec()))
+        }
+        Err(FetchFault::NoMemory) => Err(NoMemory),
+        Err(FetchFault::TooMany { count }) => {
+            Ok(Some(format!(in alloc; "TooMany {count}\n")?.into_bytes()))
+        }
+    }
+}
+
 fn tell(alloc: Global, image: &Image, rest: &str) -> Result<Option<Vec<u8>>, NoMemory> {
     let text = match rest {
         "" => String::from_str(alloc, "read\n")?,
@@ -65,6 +121,9 @@ fn tell(alloc: Global, image: &Image, rest: &str) -> Result<Option<Vec<u8>>, NoM
         "texts" => tell_texts(alloc, image)?,
         "copy" => return Ok(Some(tell_copy(alloc, image)?)),
         _ => {
+            if let Some(asked) = rest.strip_prefix("fetch ") {
+                return tell_fetch(alloc, image, asked);
+            }
             let Some(slot) = rest.strip_prefix("slot ") else {
                 return Ok(None);
             };
@@ -77,7 +136,7 @@ fn tell(alloc: Global, image: &Image, rest: &str) -> Result<Option<Vec<u8>>, NoM
     Ok(Some(text.into_bytes()))
 }
 
-/// `image`, or `image` with one of `slots`, `slot ITEM INSTANCE`, `texts`, `copy`, and those of
+/// `image`, or `image` with one of `slots`, `slot ITEM INSTANCE`, `texts`, `copy`, `fetch FIRST COUNT`, and those of
 /// `hostile`.
 pub fn tell_image(
     alloc: Global,
