@@ -1,8 +1,6 @@
 -- Tests of all numbers below a count, one number after the other.
 use Rattle.std.proofs.Common.{◌≡◌, ℕ, zero, suc, ◌+◌, ◌<◌, ◌≤◌, Bool, true, false, ◌&&◌, ◌||◌, ◌⊎◌, ap, sym, ◌∙◌, refl, arith, add-one, ⊎_elim}
-use Rattle.std.specs.Prelude.{Option, Some, None}
 use Rattle.mmv_format.specs.Below.{all_below, some_below}
-use Rattle.mmv_format.specs.Faults.{or_else, unless, first_below}
 
 and_false : (a : Bool) → (a && false) ≡ false
 and_false true = refl
@@ -30,7 +28,7 @@ pub some_more : (n : ℕ) (test : ℕ → Bool) → some_below (n + 1) test ≡ 
 unfolding some_below
 some_more n test = rw add-one
 
-below_suc : (k n : ℕ) → k < suc n → (k < n) ⊎ (k ≡ n)
+pub below_suc : (k n : ℕ) → k < suc n → (k < n) ⊎ (k ≡ n)
 below_suc k n h = grind arith
 
 -- one that fails decides
@@ -68,30 +66,6 @@ pub some_absent : (n : ℕ) (test : ℕ → Bool) → ((k : ℕ) → k < n → t
 unfolding some_below
 some_absent zero test none = refl
 some_absent (suc n) test none = ap (λ b. b || test n) (some_absent n test (λ k h. none k (omega arith))) ∙ none n (omega arith)
-
--- nothing is found below 0, and nothing one number further where that number has nothing
-pub first_none : (found : ℕ → Option ℕ) → first_below 0 found ≡ None
-unfolding first_below
-first_none found = refl
-
-pub first_goes : (n : ℕ) (found : ℕ → Option ℕ) → first_below n found ≡ None → found n ≡ None → first_below (n + 1) found ≡ None
-unfolding first_below or_else
-first_goes n found none here = rw (add-one, none) here
-
--- the first that has something decides
-pub first_stops : (n k at : ℕ) (found : ℕ → Option ℕ) → k < n → first_below k found ≡ None → found k ≡ Some at → first_below n found ≡ Some at
-unfolding first_below or_else
-first_stops zero k at found h none here = absurd (omega arith)
-first_stops (suc n) k at found h none here =
-    ⊎_elim (λ (below : k < n). ap (λ o. or_else o (found n)) (first_stops n k at found below none here))
-    (λ (last : k ≡ n). ap (λ o. or_else o (found n)) (ap (λ m. first_below m found) (sym last) ∙ none) ∙ ap found (sym last) ∙ here) (below_suc k n h)
-
-pub found_stops : (n k at : ℕ) (found : ℕ → Option ℕ) → k < n → first_below k found ≡ None → found k ≡ Some at → Some at ≡ first_below n found
-found_stops n k at found h none here = sym (first_stops n k at found h none here)
-
-pub test_stops : (n k at : ℕ) (good : ℕ → Bool) (place : ℕ → ℕ) → k < n → first_below k (λ i. unless (good i) (place i)) ≡ None → good k ≡ false → at ≡ place k → Some at ≡ first_below n (λ i. unless (good i) (place i))
-unfolding unless
-test_stops n k at good place h none bad is = found_stops n k at (λ i. unless (good i) (place i)) h none (rw (bad, is) refl)
 
 -- what all pass below a count, all pass below a lesser one
 pub all_lesser : (n k : ℕ) (test : ℕ → Bool) → all_below n test ≡ true → k ≤ n → all_below k test ≡ true

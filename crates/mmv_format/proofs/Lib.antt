@@ -1,12 +1,5 @@
-pub mod Again
 pub mod Below
 pub mod Bytes
-pub mod Images
-pub mod Leads
-pub mod Lies
-pub mod Lowest
-pub mod Nones
 pub mod Sections
-pub mod Seen
+pub mod Standing
 pub mod Texts
-pub mod Told

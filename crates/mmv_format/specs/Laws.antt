@@ -1,8 +1,6 @@
 -- What the definitions of this crate say together.
-use Rattle.std.specs.Prelude.{◌≡◌, ℕ, ◌+◌, ◌*◌, ◌/◌, ◌%◌, ◌^◌, ◌<◌, List, length, slice_index, is_none}
+use Rattle.std.specs.Prelude.{◌≡◌, ℕ, ◌+◌, ◌*◌, ◌/◌, ◌%◌, ◌^◌, ◌<◌, List, length, slice_index}
 use Rattle.mmv_format.specs.Fields.{number32, number64, byte_at, words_of}
-use Rattle.mmv_format.specs.Images.{is_image}
-use Rattle.mmv_format.specs.Faults.{image_fault}
 
 -- the words that bytes make hold these bytes, byte k at place k
 abbrev pub WordsHoldBytes : Type 0
@@ -17,7 +15,3 @@ NumberHoldsBytes = (words : List ℕ) (at : ℕ) → at % 4 ≡ 0 →
 abbrev pub NumberHoldsHalves : Type 0
 NumberHoldsHalves = (words : List ℕ) (at : ℕ) → at % 8 ≡ 0 → slice_index words (at / 8) < 2 ^ 64 →
     number64 words at ≡ number32 words at + 4294967296 * number32 words (at + 4)
-
--- what is looked at entry by entry is what is looked at kind by kind: words are an image where they have no fault
-abbrev pub ImagesAreGood : Type 0
-ImagesAreGood = (words : List ℕ) → is_image words ≡ is_none (image_fault words)

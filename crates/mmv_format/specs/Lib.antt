@@ -2,10 +2,7 @@ pub mod Below
 pub mod Contents
 pub mod Entries
 pub mod EntryFields
-pub mod Faults
 pub mod Fields
 pub mod Images
-pub mod Keys
 pub mod Laws
-pub mod Lowest
 pub mod Sizes

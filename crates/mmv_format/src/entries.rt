@@ -2,10 +2,10 @@
 ghost use Rattle.std.specs.Prelude.{◌≡◌, ◌+◌, ◌*◌, ◌<◌, ◌^◌};
 ghost use Rattle.mmv_format.specs.Sizes.{instance_size};
 ghost use Rattle.mmv_format.specs.EntryFields.{first_in_indom};
-ghost use Rattle.mmv_format.specs.Entries.{leads, leads_to_indom, leads_to_instance, leads_to_metric, leads_to_string, indom_at, instance_at, metric_at, value_at, string_at, help_leads};
+ghost use Rattle.mmv_format.specs.Entries.{leads, leads_to_indom, leads_to_instance, leads_to_metric, leads_to_string, indom_count, instance_count, metric_count, value_count, string_count, indom_at, instance_at, metric_at, value_at, string_at, help_leads, is_no_domain, metric_of};
 
 use crate::contents::{INDOMS, INSTANCES, METRICS, STRINGS, VALUES, section_of};
-use crate::entry_fields::first_in_indom;
+use crate::entry_fields::{first_in_indom, metric_in_value};
 use crate::fields::number64;
 use crate::sizes::{INDOM_SIZE, INSTANCE_SIZE, METRIC_SIZE, STRING_SIZE, VALUE_SIZE};
 
@@ -113,4 +113,53 @@ pub fn help_leads(words: &[u64], field: u128) -> bool
 {
     let help = number64(words, field);
     help == 0 || leads_to_string(words, help as u128)
+}
+
+/// How many domains there are.
+pub fn indom_count(words: &[u64]) -> u32
+    ensures { result ≡ indom_count words.now }
+{
+    section_of(words, INDOMS).count
+}
+
+pub fn instance_count(words: &[u64]) -> u32
+    ensures { result ≡ instance_count words.now }
+{
+    section_of(words, INSTANCES).count
+}
+
+pub fn string_count(words: &[u64]) -> u32
+    ensures { result ≡ string_count words.now }
+{
+    section_of(words, STRINGS).count
+}
+
+/// How many metrics there are.
+pub fn metric_count(words: &[u64]) -> u32
+    ensures { result ≡ metric_count words.now }
+{
+    section_of(words, METRICS).count
+}
+
+/// Whether a metric's serial says that it has no domain.
+pub fn is_no_domain(serial: u32) -> bool
+    ensures { result ≡ is_no_domain serial }
+{
+    serial == 0 || serial == u32::MAX
+}
+
+/// How many values there are.
+pub fn value_count(words: &[u64]) -> u32
+    ensures { result ≡ value_count words.now }
+{
+    section_of(words, VALUES).count
+}
+
+/// The place of the metric of the value at a place.
+#[tactic(auto, unfolding(crate::specs::Entries::metric_of))]
+pub fn metric_of(words: &[u64], value: u128) -> u64
+    requires { value < 2 ^ 80 }
+    ensures { result ≡ metric_of words.now value }
+{
+    metric_in_value(words, value)
 }

@@ -8,7 +8,7 @@ use Rattle.mmv_format.specs.EntryFields.{metric_offset_in_value}
 use Rattle.mmv_format.specs.Entries.{indom_count, indom_at, instance_count, instance_at, metric_count, metric_at, value_count, value_at, string_count, string_at}
 use Rattle.mmv_format.specs.Images.{has_good_header, is_image}
 use Rattle.mmv_format.proofs.Below.{all_at, both_left, both_right}
-use Rattle.mmv_format.proofs.Images.{short_words}
+use Rattle.mmv_faults.proofs.Images.{short_words}
 use Rattle.mmv_layout.proofs.Goods.{le_of, header, sections}
 use Rattle.mmv_layout.proofs.EntryPlaces.{Entry, entry_of, Lies, section_stands, some_of, Stands, value_stands}
 

@@ -15,8 +15,9 @@ pub use laws::{
     length_keeps_the_form, length_keeps_the_layout, one_slot_each, says_one_layout,
     slot_holds_the_content, texts_are_the_forms, value_keeps_the_form, values_have_slots,
 };
+pub use mmv_faults::{ImageFault, images_are_good, lowest_place};
 pub use mmv_format::{
-    Content, ImageFault, IndomRow, Layout, MetricRow, Slot, ValueRow, images_are_good,
-    lowest_place, number_holds_bytes, number_holds_halves, words_hold_bytes,
+    Content, IndomRow, Layout, MetricRow, Slot, ValueRow, number_holds_bytes, number_holds_halves,
+    words_hold_bytes,
 };
 pub use slot_table::SlotTable;

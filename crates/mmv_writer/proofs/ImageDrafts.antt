@@ -17,7 +17,7 @@ use Rattle.mmv_format.specs.Contents.{version_in, section_of}
 use Rattle.mmv_format.specs.Entries.{leads_to_string, indom_count, indom_at, instance_count, instance_at, metric_count, metric_at, value_count, value_at, string_count, string_at, help_leads, is_instance_of, has_good_run, has_serial, is_good_indom, has_text, lies_in_run, is_same_instance, is_new_instance, is_instance_number, is_good_instance, has_name, is_kind, is_no_domain, is_indom_serial, serial_leads, is_same_metric, has_good_fields, is_good_metric, metric_of, instance_leads, choice_leads, is_good_value, is_good_string}
 use Rattle.mmv_format.specs.Images.{has_good_header, is_image}
 use Rattle.mmv_format.proofs.Below.{all_at, both_left, both_right}
-use Rattle.mmv_format.proofs.Images.{cluster_fits}
+use Rattle.mmv_faults.proofs.Images.{cluster_fits}
 use Rattle.mmv_format.proofs.Texts.{text_clean, text_short}
 use Rattle.mmv_layout.specs.Rows.{list_below, number_of, string_text, help_of, instance_row, instances_of, indom_row, serial_of, metric_row, type_of, domain_of, instance_of, content_of, value_row, indoms_of, metrics_of, values_of, strings_of, layout_of}
 use Rattle.mmv_layout.specs.Says.{LeadsTo}

@@ -6,8 +6,8 @@ use Rattle.std.proofs.Math.Nat.{mul-mod_right}
 use Rattle.mmv_format.specs.Fields.{number32, number64}
 use Rattle.mmv_format.specs.Images.{is_cluster, has_good_header, is_image}
 use Rattle.std.specs.Prelude.{Option, Some, None, is_none, Ok}
-use Rattle.mmv_format.specs.Faults.{image_fault, unless_fault, image_in}
-use Rattle.mmv_format.proofs.Images.{images_same}
+use Rattle.mmv_faults.specs.Faults.{image_fault, unless_fault, image_in}
+use Rattle.mmv_faults.proofs.Images.{images_same}
 use Rattle.mmv_format.specs.declared.rows.Layout.{Layout}
 use Rattle.mmv_writer.specs.Draft.{IsDraft}
 use Rattle.mmv_spelling.specs.Places.{counts_of, sections_in, words_in}

@@ -1,6 +1,6 @@
 -- What an input must be for the commands that read one.
 use Rattle.std.specs.Prelude.{◌≡◌, ℕ, List, [], Option, Some, None, Result, Ok, Err}
-use Rattle.mmv_format.specs.declared.fault.ImageFault.{ImageFault}
+use Rattle.mmv_faults.specs.declared.fault.ImageFault.{ImageFault}
 use Rattle.mmv_writer.specs.declared.line_fault.TextFault.{TextFault}
 use Rattle.pm_commands.specs.declared.stage.Stop.{Stop}
 use Rattle.pm_commands.specs.declared.stage.Stop.TheVariants.{OutOfMemory, Refused}

@@ -3,7 +3,7 @@ use Rattle.std.specs.Prelude.{◌≡◌, ℕ, ◌<◌, ◌≤◌, List, [], ◌�
 use Rattle.pcp_base.specs.declared.file.FileId.{FileId}
 use Rattle.pcp_base.specs.declared.result.Item.{Item}
 use Rattle.pcp_model.specs.Disk.{Files, contents_of, IsEmpty, IsSettled}
-use Rattle.mmv_format.specs.Faults.{image_of}
+use Rattle.mmv_faults.specs.Faults.{image_of}
 use Rattle.record_run.specs.Archives.{run_files, run_item}
 use Rattle.record_run.specs.Pieces.{NoneOrOne, HasItem}
 use Rattle.record_run.specs.Runs.{metrics_of}

@@ -1,6 +1,6 @@
 -- The distance from the first entry decides.
 use Rattle.std.proofs.Common.{arith}
-use Rattle.mmv_format.proofs.Leads.{leads_below, leads_not}
+use Rattle.mmv_format.proofs.Standing.{leads_below, leads_not}
 use Rattle.mmv_format.proofs.entries.leads.Goals as goal
 
 pub returns-then-place-first : goal.returns-then-place-first

@@ -1,0 +1,9 @@
+pub mod Again
+pub mod Firsts
+pub mod Images
+pub mod KeyLists
+pub mod Lies
+pub mod Lowest
+pub mod Nones
+pub mod Seen
+pub mod Told

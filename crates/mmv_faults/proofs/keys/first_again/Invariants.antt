@@ -1,0 +1,10 @@
+-- The keys so far were seen, and each of them was new; the next key begins where they end.
+use Rattle.std.proofs.Common.{◌≡◌, ℕ, List, length, true, bytes_eq}
+use Rattle.std.specs.List.{list_any}
+use Rattle.mmv_format.specs.Below.{all_below, some_below}
+use Rattle.mmv_faults.specs.Keys.{key_at, keys_before, is_new_key}
+use Rattle.mmv_faults.proofs.keys.first_again.Given as goal
+
+abbrev pub invariant-loop-i : goal.invariant-loop-i
+invariant-loop-i l =
+    record { new : all_below l.i (is_new_key l.words l.key) ≡ true; seen : (q : List ℕ) → list_any (λ k. bytes_eq q k.now) l.seen.keys ≡ some_below l.i (λ j. bytes_eq q (key_at l.words l.key j)); begins : l.start ≡ length (keys_before l.words l.key l.i) }

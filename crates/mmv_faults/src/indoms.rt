@@ -1,0 +1,117 @@
+//! What of the instance domains of an image is at fault.
+ghost use Rattle.std.specs.Prelude.{◌≡◌, ◌<◌, ◌^◌, IfOk};
+ghost use Rattle.mmv_faults.specs.Keys.{HasSerials};
+ghost use Rattle.mmv_format.specs.Entries.{is_instance_of, has_good_run, indom_count};
+ghost use Rattle.mmv_faults.specs.Faults.{HasSections, help_fault, indom_reference_fault, indoms_reference_fault, indoms_duplicate_fault, indoms_serial_fault};
+
+use crate::keys::{Key, first_again};
+use crate::places::indom_place;
+use mmv_format::{
+    FIRST_OFFSET, count_in_indom, domain_in_instance, help_leads, indom_at, indom_count,
+    leads_to_instance, long_offset_in_indom, run_at, serial_in_indom, short_offset_in_indom,
+};
+use std::alloc::{AllocError, Global};
+use std::collections::BTreeSet;
+
+/// Whether an instance stands at a place and leads to a domain.
+#[tactic(auto, unfolding(mmv_format::specs::Entries::is_instance_of))]
+fn is_instance_of(words: &[u64], domain: u128, instance: u128) -> bool
+    ensures { result ≡ is_instance_of words.now domain instance }
+{
+    leads_to_instance(words, instance) && domain_in_instance(words, instance) as u128 == domain
+}
+
+/// Whether the run of the domain at a place consists of its own instances.
+#[tactic(auto, using(mmv_format::proofs::Below::all_none, mmv_format::proofs::Below::all_more), unfolding(mmv_format::specs::Entries::has_good_run))]
+fn has_good_run(words: &[u64], domain: u128) -> bool
+    requires { domain < 2 ^ 80 }
+    ensures { result ≡ has_good_run words.now domain }
+{
+    for k in 0..count_in_indom(words, domain) {
+        if !is_instance_of(words, domain, run_at(words, domain, k)) {
+            return false;
+        }
+    }
+    true
+}
+
+/// The place of a help field that leads to no string.
+#[tactic(auto, unfolding(crate::specs::Faults::help_fault, crate::specs::Faults::unless))]
+pub fn help_fault(words: &[u64], field: u64) -> Option<u64>
+    ensures { result ≡ help_fault words.now field }
+{
+    if help_leads(words, field as u128) {
+        None
+    } else {
+        Some(field)
+    }
+}
+
+/// The place of the first reference of the domain at a place that leads nowhere: its run, its helps.
+#[tactic(auto, unfolding(crate::specs::Faults::indom_reference_fault, crate::specs::Faults::unless, crate::specs::Faults::or_else))]
+fn indom_reference_fault(words: &[u64], domain: u64) -> Option<u64>
+    requires { domain < 524288 }
+    ensures { result ≡ indom_reference_fault words.now domain }
+{
+    if !has_good_run(words, domain as u128) {
+        return Some(domain + FIRST_OFFSET);
+    }
+    if let Some(at) = help_fault(words, short_offset_in_indom(domain as u128) as u64) {
+        return Some(at);
+    }
+    help_fault(words, long_offset_in_indom(domain as u128) as u64)
+}
+
+/// The place of the first reference of a domain that leads nowhere.
+#[tactic(auto, using(crate::proofs::Firsts::first_none, crate::proofs::Firsts::first_goes), unfolding(crate::specs::Faults::indoms_reference_fault, crate::specs::Faults::unless))]
+pub fn indoms_reference_fault(words: &[u64]) -> Option<u64>
+    requires { HasSections words.now }
+    ensures { result ≡ indoms_reference_fault words.now }
+{
+    for i in 0..indom_count(words) {
+        if let Some(at) = indom_reference_fault(words, indom_place(words, i)) {
+            return Some(at);
+        }
+    }
+    None
+}
+
+/// The place of the first domain whose serial stood before.
+pub fn indoms_duplicate_fault(alloc: Global, words: &[u64]) -> Result<Option<u64>, AllocError>
+    requires { HasSections words.now }
+    ensures { IfOk result (λ at. at ≡ indoms_duplicate_fault words.now) }
+{
+    let count = indom_count(words);
+    let first = first_again(alloc, words, Key::Serial, count)?;
+    if first == count {
+        return Ok(None);
+    }
+    Ok(Some(indom_place(words, first)))
+}
+
+/// The place of the first serial of a domain that is 0 or above 1023.
+#[tactic(auto, using(crate::proofs::Firsts::first_none, crate::proofs::Firsts::first_goes), unfolding(crate::specs::Faults::indoms_serial_fault, crate::specs::Faults::unless))]
+pub fn indoms_serial_fault(words: &[u64]) -> Option<u64>
+    requires { HasSections words.now }
+    ensures { result ≡ indoms_serial_fault words.now }
+{
+    for i in 0..indom_count(words) {
+        let domain = indom_place(words, i);
+        let serial = serial_in_indom(words, domain as u128);
+        if serial < 1 || 1023 < serial {
+            return Some(domain);
+        }
+    }
+    None
+}
+
+/// The serials of the domains.
+pub fn indom_serials(alloc: Global, words: &[u64]) -> Result<BTreeSet<u32>, AllocError>
+    ensures { IfOk result (HasSerials words.now) }
+{
+    let mut serials: BTreeSet<u32> = BTreeSet::new(alloc);
+    for i in 0..indom_count(words) {
+        serials.insert(serial_in_indom(words, indom_at(words, i)))?;
+    }
+    Ok(serials)
+}

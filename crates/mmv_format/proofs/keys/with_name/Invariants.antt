@@ -1,8 +1,0 @@
--- The numbers so far and the bytes behind are the key.
-use Rattle.std.proofs.Common.{◌≡◌, ◌+◌, ◌-◌, ◌++◌}
-use Rattle.mmv_format.specs.Sizes.{name_width}
-use Rattle.mmv_format.specs.Fields.{text_at}
-use Rattle.mmv_format.proofs.keys.with_name.Given as goal
-
-abbrev pub invariant-loop-k : goal.invariant-loop-k
-invariant-loop-k l = l.key.items ++ text_at l.words (l.at + l.k) (name_width - l.k) ≡ l.initial.key.items ++ text_at l.words l.at name_width
