@@ -7,6 +7,7 @@ use Rattle.std.proofs.lemmas.Bool.Decides.{nat_tests}
 use Rattle.mmv_faults.specs.declared.fault.ImageFault.TheVariants.{Short, TooLarge, Magic, Version, Generations, Section, Offset, Name, Kind, Reference, Duplicate, Serial}
 use Rattle.mmv_format.specs.Below.{all_below}
 use Rattle.mmv_format.specs.Fields.{words_of, first_words}
+use Rattle.mmv_format.specs.Sizes.{is_version}
 use Rattle.mmv_format.specs.EntryFields.{serial_in_indom, short_offset_in_indom, long_offset_in_indom, number_offset_in_instance, number_in_instance, name_offset_in_instance, item_offset_in_metric, item_in_metric, type_in_metric, semantics_in_metric, serial_in_metric, short_offset_in_metric, long_offset_in_metric, extra_offset_in_value, metric_offset_in_value, instance_offset_in_value}
 use Rattle.mmv_format.specs.Contents.{bytes_in, is_short, has_magic, version_in, first_generation, second_generation, cluster_in, contents_in, has_good_section, is_aligned, sections_are_good, sections_are_aligned, place_offset_in}
 use Rattle.mmv_format.specs.Entries.{indom_count, indom_at, instance_count, instance_at, metric_count, metric_at, value_count, value_at, string_count, string_at, has_text, has_name, is_good_string, is_kind, is_semantics, has_good_run, help_leads, lies_in_run, serial_leads, leads_to_metric, metric_of, choice_leads, instance_leads, is_new_indom, is_new_instance, is_new_metric, is_new_value, is_serial, is_instance_number, is_item, is_good_indom, is_good_instance, is_good_metric, has_good_fields, is_good_value, indoms_are_good, instances_are_good, metrics_are_good, values_are_good, strings_are_good}
@@ -195,7 +196,7 @@ header_parts words true false generations = refl
 header_parts words true true false = refl
 header_parts words true true true = refl
 
-header_same : (words : List ℕ) → is_none (header_fault words) ≡ (has_magic words && ((version_in words == 1) && (first_generation words == second_generation words)))
+header_same : (words : List ℕ) → is_none (header_fault words) ≡ (has_magic words && (is_version (version_in words) && (first_generation words == second_generation words)))
 unfolding header_fault
 header_same words = header_parts words _ _ _
 
@@ -259,7 +260,7 @@ entries_parts words =
 pub images_same : (words : List ℕ) → is_image words ≡ is_none (image_fault words)
 unfolding is_image has_good_header
 images_same words =
-    head_parts (not (is_short (bytes_in words))) (not (is_too_large words)) (has_magic words) (version_in words == 1) (first_generation words == second_generation words) (is_cluster (cluster_in words))
+    head_parts (not (is_short (bytes_in words))) (not (is_too_large words)) (has_magic words) (is_version (version_in words)) (first_generation words == second_generation words) (is_cluster (cluster_in words))
     (sections_are_good words) (sections_are_aligned words) (indoms_are_good words) (instances_are_good words) (metrics_are_good words) (values_are_good words) (strings_are_good words)
     ∙ ap (λ b. not (is_short (bytes_in words)) && (not (is_too_large words) && b)) (both _ _ _ _ (sym (header_same words)) (both _ _ _ _ (sections_same words) (both _ _ _ _ (aligned_same words) (entries_parts words)) ∙ sym (entries_same words)))
     ∙ sym (whole_same words)

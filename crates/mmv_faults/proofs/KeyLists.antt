@@ -1,5 +1,5 @@
 -- Keys that stand one behind another in one list.
-use Rattle.std.proofs.Common.{◌≡◌, ℕ, zero, suc, ◌+◌, ◌-◌, ◌<◌, ◌≤◌, ◌⊎◌, List, [], ◌∷◌, ◌++◌, length, take, drop, slice_index, ap, sym, ◌∙◌, refl, arith, add-one, append_assoc, append-nil, length-append, ⊎_elim}
+use Rattle.std.proofs.Common.{◌≡◌, ℕ, zero, suc, ◌+◌, ◌-◌, ◌<◌, ◌≤◌, ◌⊎◌, List, [], ◌∷◌, ◌++◌, length, take, drop, get_or, ap, sym, ◌∙◌, refl, arith, add-one, append_assoc, append-nil, length-append, ⊎_elim}
 use Rattle.std.proofs.Math.Seq.{take-append_seam, drop-append_seam, get_or-append_seam}
 use Rattle.std.proofs.lemmas.List.{get_or_append_left}
 use Rattle.mmv_format.proofs.Below.{below_suc}
@@ -32,15 +32,21 @@ module _ (words : List ℕ) (key : Key) where
       omega arith
 
   -- where a key ends
-  pub end_is : (n i : ℕ) → i < n → slice_index (ends_before words key n) i ≡ length (keys_before words key (i + 1))
+  end_is : (n i d : ℕ) → i < n → get_or (ends_before words key n) i d ≡ length (keys_before words key (i + 1))
   unfolding ends_before
-  end_is zero i h = absurd (omega arith)
-  end_is (suc n) i h =
+  end_is zero i d h = absurd (omega arith)
+  end_is (suc n) i d h =
       let count : length (ends_before words key n) ≡ n = ends_count n in
       ⊎_elim
-      (λ (before : i < n). get_or_append_left (ends_before words key n) (length (keys_before words key (suc n)) ∷ []) 0 i (omega arith) ∙ end_is n i before)
-      (λ (last : i ≡ n). ap (λ k. slice_index (ends_before words key n ++ length (keys_before words key (suc n)) ∷ []) k) (last ∙ sym count) ∙ get_or-append_seam (ends_before words key n) (length (keys_before words key (suc n)) ∷ []) 0 ∙ ap (λ k. length (keys_before words key k)) (ap suc (sym last) ∙ sym add-one))
+      (λ (before : i < n). get_or_append_left (ends_before words key n) (length (keys_before words key (suc n)) ∷ []) d i (omega arith) ∙ end_is n i d before)
+      (λ (last : i ≡ n).
+      let here : i ≡ length (ends_before words key n) = omega arith in
+      let next : suc n ≡ i + 1 = omega arith in
+      ap (λ k. get_or (ends_before words key n ++ length (keys_before words key (suc n)) ∷ []) k d) here ∙ get_or-append_seam (ends_before words key n) (length (keys_before words key (suc n))) [] d ∙ ap (λ k. length (keys_before words key k)) next)
       (below_suc i n h)
+
+  pub end_read : (n i end : ℕ) (ends : List ℕ) → i < n → ends ≡ ends_before words key n → end ≡ get_or ends i end → end ≡ length (keys_before words key (i + 1))
+  end_read n i end ends h is read = read ∙ ap (λ l. get_or l i end) is ∙ end_is n i end h
 
   Behind : ℕ → ℕ → Type 0
   Behind n i = (rest : List ℕ) × (keys_before words key n ≡ keys_before words key i ++ rest)

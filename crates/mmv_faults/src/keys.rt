@@ -1,5 +1,5 @@
 //! What tells the entries of a section apart, and the first that has the key of an earlier one.
-ghost use Rattle.std.specs.Prelude.{◌≡◌, ◌<◌, ◌^◌, ◌++◌, IfOk, OnOk};
+ghost use Rattle.std.specs.Prelude.{◌≡◌, ◌-◌, ◌<◌, ◌≤◌, ◌^◌, ◌++◌, length, take, drop, IfOk, OnOk};
 ghost use Rattle.mmv_format.specs.Sizes.{name_width};
 ghost use Rattle.mmv_format.specs.Fields.{text_at};
 ghost use Rattle.mmv_faults.specs.Keys.{key_at, keys_before, ends_before, is_new_key, IsFirst};
@@ -73,17 +73,27 @@ fn push_key(keys: &mut Vec<u64>, words: &[u64], key: Key, i: u32) -> Result<(), 
 }
 
 /// The keys of so many entries.
+#[tactic(auto, using(crate::proofs::KeyLists::keys_none, crate::proofs::KeyLists::ends_none))]
 fn keys_of(alloc: Global, words: &[u64], key: Key, count: u32) -> Result<Keys, AllocError>
     ensures numbers { IfOk result (λ keys. keys.numbers.items ≡ keys_before words.now key count) }
     ensures ends { IfOk result (λ keys. keys.ends.items ≡ ends_before words.now key count) }
 {
     let mut numbers = Vec::new(alloc);
-    let mut ends = Vec::with_capacity(alloc, count as usize)?;
+    let mut ends = Vec::new(alloc);
     for i in 0..count {
         push_key(&mut numbers, words, key, i)?;
         ends.push(numbers.len())?;
     }
     Ok(Keys { numbers, ends })
+}
+
+/// The numbers from one place up to another.
+fn between(numbers: &[u64], start: usize, end: usize) -> &[u64]
+    requires order { start ≤ end }
+    requires within { end ≤ length numbers.now }
+    ensures { result.now ≡ take (end - start) (drop start numbers.now) }
+{
+    &numbers[start..end]
 }
 
 /// The index of the first of so many entries that has the key of an earlier one, or their number.
@@ -95,7 +105,8 @@ pub fn first_again(alloc: Global, words: &[u64], key: Key, count: u32) -> Result
     let mut start = 0;
     for i in 0..count {
         let end = keys.ends[i as usize];
-        let is_new = seen.insert(&keys.numbers[start..end])?;
+        let part = between(keys.numbers.as_slice(), start, end);
+        let is_new = seen.insert(part)?;
         if !is_new {
             return Ok(i);
         }

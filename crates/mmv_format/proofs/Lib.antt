@@ -3,3 +3,4 @@ pub mod Bytes
 pub mod Sections
 pub mod Standing
 pub mod Texts
+pub mod Versions

@@ -4,15 +4,16 @@ use Rattle.std.specs.List.{list_any, slice_get}
 use Rattle.std.specs.Int.{w32, is_negative}
 use Rattle.std.specs.Int.RustNames.{FitsSigned}
 use Rattle.std.proofs.lemmas.Bool.Decides.{nat_tests}
-use Rattle.std.proofs.lemmas.Bool.{eqb-true, eq-eqb}
+use Rattle.std.proofs.lemmas.Bool.{eqb-true, eq-eqb, leb-true}
 use Rattle.std.specs.Ordering.{int_eq}
+use Rattle.mmv_format.specs.Sizes.{is_version}
 use Rattle.mmv_format.specs.declared.rows.IndomRow.{IndomRow}
 use Rattle.mmv_format.specs.declared.rows.MetricRow.{MetricRow}
 use Rattle.mmv_format.specs.declared.rows.ValueRow.{ValueRow}
 use Rattle.mmv_format.specs.declared.rows.Layout.{Layout}
 use Rattle.mmv_writer.specs.declared.fault.BuildFault.{BuildFault}
 use Rattle.mmv_writer.specs.declared.fault.BuildFault.TheVariants.{Name, Duplicate, Unknown, Serial, Item}
-use Rattle.mmv_writer.specs.Rules.{is_long, is_long_help, has_domain, is_serial, indom_fault, is_instance_name, is_same_instance, has_same_instance, instance_fault, is_metric_name, is_same_metric, lacks_domain, unknown_or, metric_fault, has_instance, fits_instance, fits_kind, fits_metric, fits_some_metric, is_same_value, is_long_content, value_fault, text_fault}
+use Rattle.mmv_writer.specs.Rules.{is_long, is_long_help, has_domain, is_serial, header_fault, indom_fault, is_instance_name, is_same_instance, has_same_instance, instance_fault, is_metric_name, is_same_metric, lacks_domain, unknown_or, metric_fault, has_instance, fits_instance, fits_kind, fits_metric, fits_some_metric, is_same_value, is_long_content, value_fault, text_fault}
 use Rattle.mmv_writer.specs.Draft.{Each, Apart, IsStored, IsString, IsHelp, IsNumber, IsInstance, IsDomain, HasDomain, IsMetric, IsContent, IsValue, is_same_serial, IsDraft, empty_draft, with_domain, add_instance, with_instance, with_metric, with_value, with_string}
 use Rattle.mmv_writer.proofs.Rows.{any_at, each_snoc, apart_snoc, any_longer, any_wider}
 
@@ -304,18 +305,25 @@ instance_added draft serial id name d h fits stored =
       strings = d.strings;
     }
 
-pub nothing_added : (version generation flags pid cluster : ℕ) → version ≡ 1 → flags < 2 ^ 32 → pid < 2 ^ 32 → cluster ≤ 4095 → IsDraft (empty_draft version generation flags pid cluster)
+header_rules : (a b : Bool) → cond (a && b) None (Some Serial) ≡ None → (a ≡ true) × (b ≡ true)
+header_rules true true h = (refl, refl)
+header_rules true false h = cc
+header_rules false b h = cc
+
+pub nothing_added : (version generation flags pid cluster : ℕ) → header_fault version cluster ≡ None → flags < 2 ^ 32 → pid < 2 ^ 32 → IsDraft (empty_draft version generation flags pid cluster)
 unfolding empty_draft
-nothing_added version generation flags pid cluster one f p c = record {
-  version = one;
-  flags = f;
-  process = p;
-  cluster = c;
-  domains = λ i x at. cc;
-  serials = λ i j a b less at more. cc;
-  metrics = λ i x at. cc;
-  items = λ i j a b less at more. cc;
-  values = λ i x at. cc;
-  places = λ i j a b less at more. cc;
-  strings = λ i x at. cc;
-}
+nothing_added version generation flags pid cluster taken f p =
+    let rules : (is_version version ≡ true) × (nat_le cluster 4095 ≡ true) = header_rules (is_version version) (nat_le cluster 4095) taken in
+    record {
+      version = rules.0;
+      flags = f;
+      process = p;
+      cluster = leb-true cluster 4095 rules.1;
+      domains = λ i x at. cc;
+      serials = λ i j a b less at more. cc;
+      metrics = λ i x at. cc;
+      items = λ i j a b less at more. cc;
+      values = λ i x at. cc;
+      places = λ i j a b less at more. cc;
+      strings = λ i x at. cc;
+    }

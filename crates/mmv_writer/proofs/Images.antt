@@ -4,10 +4,12 @@ use Rattle.std.proofs.lemmas.Bool.{eq-eqb}
 use Rattle.std.proofs.lemmas.Bool.Decides.{nat_tests}
 use Rattle.std.proofs.Math.Nat.{mul-mod_right}
 use Rattle.mmv_format.specs.Fields.{number32, number64}
+use Rattle.mmv_format.specs.Sizes.{is_version}
 use Rattle.mmv_format.specs.Images.{is_cluster, has_good_header, is_image}
 use Rattle.std.specs.Prelude.{Option, Some, None, is_none, Ok}
 use Rattle.mmv_faults.specs.Faults.{image_fault, unless_fault, image_in}
 use Rattle.mmv_faults.proofs.Images.{images_same}
+use Rattle.mmv_format.proofs.Versions.{version_fits}
 use Rattle.mmv_format.specs.declared.rows.Layout.{Layout}
 use Rattle.mmv_writer.specs.Draft.{IsDraft}
 use Rattle.mmv_spelling.specs.Places.{counts_of, sections_in, words_in}
@@ -35,7 +37,7 @@ unfolding has_good_header header_words
 good_header draft s few d =
     let words : List ℕ = spelled draft s in
     let long : length (spelled draft s) ≡ words_in (counts_of draft s) = length_spelled draft s in
-    let version : draft.version ≡ 1 = d.version in
+    let version : draft.version < 4294967296 = version_fits draft.version d.version in
     let process : draft.pid < 4294967296 = d.process in
     let cluster : draft.cluster ≤ 4095 = d.cluster in
     let magic : number32 words 0 ≡ 5655885 = low_read words 0 0 0 (header_words draft (sections_in (counts_of draft s))) 5655885 draft.version (stand_header draft s) (omega arith) refl refl (omega arith) in
@@ -47,7 +49,7 @@ good_header draft s few d =
     (ap not (long_enough (length words) (omega arith)))
     (ap (λ b. not (not b)) (at_most (length words) 65536 (omega arith))))
     (eq-eqb (number32 words 0) 5655885 magic))
-    (eq-eqb (number32 words 4) 1 (edition ∙ version)))
+    (ap is_version edition ∙ d.version))
     (eq-eqb (number64 words 8) (number64 words 16) (first ∙ sym second)))
     (ap is_cluster group ∙ at_most draft.cluster 4095 cluster)
 

@@ -22,6 +22,7 @@ use Rattle.mmv_format.specs.declared.rows.Content.{Content}
 use Rattle.mmv_format.specs.declared.rows.Content.TheVariants.{Number, Choice, Raw}
 use Rattle.mmv_format.specs.declared.rows.Layout.{Layout}
 use Rattle.mmv_format.proofs.Below.{both_left, both_right}
+use Rattle.mmv_format.proofs.Versions.{version_fits}
 use Rattle.mmv_writer.specs.Rules.{fits_instance, fits_kind, fits_metric}
 use Rattle.mmv_writer.specs.Draft.{Each, IsString, IsInstance, HasDomain, IsMetric, IsDraft}
 use Rattle.mmv_spelling.specs.Places.{instances_in, counts_of, sections_in, words_in}
@@ -210,7 +211,7 @@ said draft d few =
     let flags : draft.flags < 4294967296 = d.flags in
     let process : draft.pid < 4294967296 = d.process in
     let cluster : draft.cluster ≤ 4095 = d.cluster in
-    let version : draft.version ≡ 1 = d.version in
+    let version : draft.version < 4294967296 = version_fits draft.version d.version in
     let head : List ℕ = header_words draft (sections_in (counts_of draft (all_strings draft))) in
     record {
       version = sym (high_read words 0 0 4 (header_words draft (sections_in (counts_of draft (all_strings draft)))) 5655885 draft.version (stand_header draft (all_strings draft)) (omega arith) refl refl (omega arith) (omega arith));

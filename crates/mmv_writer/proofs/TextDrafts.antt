@@ -1,7 +1,7 @@
 -- What a text says is a draft.
 use Rattle.std.proofs.Common.{◌≡◌, ℕ, zero, suc, ◌+◌, ◌-◌, ◌<◌, ℤ, pos, negsuc, Bool, true, false, not, ◌&&◌, ◌||◌, cond, nat_eq, nat_le, nat_lt, List, [], ◌∷◌, refl, sym, ap, subst, ◌∙◌, arith, ⊎_elim, true≢false, Option, Some, None, option_map, Result, Ok, Err, All, IfSome, slice_index, get_or}
 use Rattle.std.specs.List.{list_any}
-use Rattle.std.proofs.lemmas.Bool.{eqb-true, leb-true, eq-eqb}
+use Rattle.std.proofs.lemmas.Bool.{eq-eqb}
 use Rattle.pcp_base.specs.declared.kind.Kind.{Kind}
 use Rattle.pcp_base.specs.declared.kind.Kind.TheVariants as kinds
 use Rattle.mmv_format.specs.declared.rows.IndomRow.{IndomRow}
@@ -178,19 +178,13 @@ rest_is (line ∷ lines) number draft after said d h =
     next (Err fault) same goes h = cc
     next (Ok later) same goes h = goes later same h
 
-header_rules : (a b : Bool) → cond (a && b) None (Some Serial) ≡ None → (a ≡ true) × (b ≡ true)
-header_rules true true h = (refl, refl)
-header_rules true false h = cc
-header_rules false b h = cc
-
 head_is : (draft : Layout) (found : Option Line) → ((l : Line) → found ≡ Some l → IsLine l) → with_head found ≡ Ok draft → IsDraft draft
 unfolding with_head
 head_is draft None said h = cc
 head_is draft (Some (lines.Mmv version generation flags pid cluster)) said h =
     let l : IsLine (lines.Mmv version generation flags pid cluster) = said (lines.Mmv version generation flags pid cluster) refl in
     let t : (header_fault version cluster ≡ None) × (empty_draft version generation flags pid cluster ≡ draft) = taken (header_fault version cluster) (empty_draft version generation flags pid cluster) draft h in
-    let rules : (nat_eq version 1 ≡ true) × (nat_le cluster 4095 ≡ true) = header_rules (nat_eq version 1) (nat_le cluster 4095) t.0 in
-    subst IsDraft t.1 (nothing_added version generation flags pid cluster (eqb-true version 1 rules.0) l.2 l.3 (leb-true cluster 4095 rules.1))
+    subst IsDraft t.1 (nothing_added version generation flags pid cluster t.0 l.2 l.3)
 head_is draft (Some (lines.String text)) said h = cc
 head_is draft (Some (lines.Indom serial short long)) said h = cc
 head_is draft (Some (lines.Instance serial id name)) said h = cc

@@ -13,6 +13,7 @@ use Rattle.mmv_format.specs.declared.rows.Content.TheVariants as contents
 use Rattle.mmv_format.specs.declared.rows.Layout.{Layout}
 use Rattle.mmv_layout.specs.Rows.{layout_of}
 use Rattle.mmv_format.proofs.Below.{both_left, both_right}
+use Rattle.mmv_format.proofs.Versions.{version_fits}
 use Rattle.mmv_layout.proofs.Saying.{says_layout}
 use Rattle.text_lines.specs.Laws.{IsLineByte}
 use Rattle.layout_text.specs.declared.line.Line.{Line}
@@ -358,13 +359,13 @@ module _ (draft : Layout) (w : IsWrittenDraft draft) where
 
   head_line : IsLine head
   head_line =
-      let one : draft.version ≡ 1 = w.rows.version in
-      let small : draft.cluster ≤ 4095 = w.rows.cluster in
+      let small : draft.version < 4294967296 = version_fits draft.version w.rows.version in
+      let group : draft.cluster ≤ 4095 = w.rows.cluster in
       (omega arith, w.generation, w.rows.flags, w.rows.process, omega arith)
 
   head_none : header_fault draft.version draft.cluster ≡ None
   head_none =
-      ap (λ b. cond (b && nat_le draft.cluster 4095) None (Some Serial)) (eq-eqb draft.version 1 w.rows.version)
+      ap (λ b. cond (b && nat_le draft.cluster 4095) None (Some Serial)) w.rows.version
       ∙ ap (λ b. cond b None (Some Serial)) (le-leb draft.cluster 4095 w.rows.cluster)
 
   text_read : text_draft (layout_text draft) ≡ Ok draft

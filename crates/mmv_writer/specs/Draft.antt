@@ -1,6 +1,7 @@
 -- What a builder has been given: a layout of which all rules for rows hold, and what each row adds to it.
 use Rattle.std.specs.Prelude.{◌≡◌, ℕ, ◌<◌, ◌≤◌, ◌^◌, ℤ, pos, Bool, true, false, ◌==◌, if◌then◌else◌, List, [], ◌∷◌, ◌++◌, Option, Some, None, slice_get, slice_index, ◌⊎◌}
 use Rattle.pcp_base.specs.Texts.{IsText}
+use Rattle.mmv_format.specs.Sizes.{is_version}
 use Rattle.mmv_format.specs.declared.rows.IndomRow.{IndomRow}
 use Rattle.mmv_format.specs.declared.rows.MetricRow.{MetricRow}
 use Rattle.mmv_format.specs.declared.rows.ValueRow.{ValueRow}
@@ -77,7 +78,7 @@ is_same_serial a b = a.serial == b.serial
 
 -- the rows of each section meet their rules, and no two of a section are the same
 pub record IsDraft (draft : Layout) : Type 0 where
-  pub version : draft.version ≡ 1
+  pub version : is_version draft.version ≡ true
   pub flags : draft.flags < 2 ^ 32
   pub process : draft.pid < 2 ^ 32
   pub cluster : draft.cluster ≤ 4095

@@ -6,6 +6,7 @@ use Rattle.std.specs.Ordering.{int_eq}
 use Rattle.pcp_base.specs.Codes.{code_of_kind}
 use Rattle.pcp_base.specs.Names.{spells}
 use Rattle.pcp_base.specs.declared.kind.Kind.{Kind}
+use Rattle.mmv_format.specs.Sizes.{is_version}
 use Rattle.mmv_format.specs.declared.rows.IndomRow.{IndomRow}
 use Rattle.mmv_format.specs.declared.rows.MetricRow.{MetricRow}
 use Rattle.mmv_format.specs.declared.rows.ValueRow.{ValueRow}
@@ -31,9 +32,9 @@ has_domain indoms serial = list_any (λ row. row.serial == serial) indoms
 abbrev pub is_serial : ℕ → Bool
 is_serial serial = nat_le 1 serial && nat_le serial 1023
 
--- version 1 and a cluster of at most 4095 alone are taken
+-- a version that is written and a cluster of at most 4095 alone are taken
 abbrev pub header_fault : ℕ → ℕ → Option BuildFault
-header_fault version cluster = if version == 1 && nat_le cluster 4095 then None else Some Serial
+header_fault version cluster = if is_version version && nat_le cluster 4095 then None else Some Serial
 
 -- a domain: long helps, a serial that is there, a serial out of range
 unfoldable pub indom_fault : Layout → IndomRow → Option BuildFault

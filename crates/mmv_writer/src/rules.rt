@@ -7,6 +7,7 @@ ghost use Rattle.mmv_writer.specs.Draft.{IsStored, IsHelp, IsContent, IsString};
 
 use crate::fault::BuildFault;
 use crate::keys::{DomainKeys, fits_domain};
+use mmv_format::is_version;
 use mmv_layout::{Content, MetricRow, ValueRow};
 use pcp_base::{Kind, Text, is_name};
 use std::collections::BTreeMap;
@@ -55,7 +56,7 @@ pub fn is_serial(serial: u32) -> bool
 pub fn header_fault(version: u32, cluster: u32) -> Option<BuildFault>
     ensures { result ≡ header_fault version cluster }
 {
-    if version == 1 && cluster <= 4095 {
+    if is_version(version) && cluster <= 4095 {
         None
     } else {
         Some(BuildFault::Serial)

@@ -7,4 +7,4 @@ use Rattle.mmv_faults.proofs.keys.first_again.Given as goal
 
 abbrev pub invariant-loop-i : goal.invariant-loop-i
 invariant-loop-i l =
-    record { new : all_below l.i (is_new_key l.words l.key) ≡ true; seen : (q : List ℕ) → list_any (λ k. bytes_eq q k.now) l.seen.keys ≡ some_below l.i (λ j. bytes_eq q (key_at l.words l.key j)); begins : l.start ≡ length (keys_before l.words l.key l.i) }
+    record { new : all_below l.i (is_new_key l.fn.words l.fn.key) ≡ true; seen : (q : List ℕ) → list_any (λ k. bytes_eq q k.now) l.seen.keys ≡ some_below l.i (λ j. bytes_eq q (key_at l.fn.words l.fn.key j)); begins : l.start ≡ length (keys_before l.fn.words l.fn.key l.i) }
