@@ -14,7 +14,6 @@ pub fn drafts_are_said()
 {}
 
 /// What an image says is a draft: its rows meet the rules for rows.
-#[tactic(auto, using(crate::proofs::ImageDrafts::layouts_are_drafts))]
 pub fn layouts_are_drafts()
     ensures { LayoutsAreDrafts }
 {}
