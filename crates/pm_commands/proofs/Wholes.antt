@@ -6,7 +6,7 @@ use Rattle.pcp_base.specs.declared.file.FileId.{FileId}
 use Rattle.pcp_base.specs.declared.file.FileId.TheVariants.{Meta, Index, Volume}
 use Rattle.pcp_base.specs.declared.result.Item.{Item}
 use Rattle.pcp_model.specs.Disk.{Files as WholeFiles, Held, Holdings, CrashImage, IsEmpty, IsSettled, contents_of}
-use Rattle.mmv_format.specs.Faults.{image_of}
+use Rattle.mmv_faults.specs.Faults.{image_of}
 use Rattle.mmv_format.specs.Images.{IsImage}
 use Rattle.fetch_engine.specs.declared.fetch.Fetched.{Fetched}
 use Rattle.record_run.specs.Archives.{archive_of, files_with, run_files, run_item}
