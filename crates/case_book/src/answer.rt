@@ -23,7 +23,14 @@ pub struct Answer {
 
 // Where two lists first differ.
 fn first_difference(a: &[u8], b: &[u8]) -> usize {
-    a.iter().zip(b).take_while(|(x, y)| **x == **y).count()
+    let mut at = 0usize;
+    for (x, y) in a.iter().zip(b) {
+        if *x != *y {
+            break;
+        }
+        at = at.saturating_add(1);
+    }
+    at
 }
 
 // Adds the bytes from a place on, at most 100 of them.
@@ -80,24 +87,20 @@ impl Answer {
         Ok(false)
     }
 
-    // How much of a part was asked for.
-    fn asked_of(&self, name: &str) -> usize {
+    // The front of what is left of a part, at most so many bytes.
+    fn left_of(&self, name: &str, length: usize) -> &[u8] {
         for part in &self.parts {
             if part.name.as_str() == name {
-                return part.asked;
+                let rest = part.bytes.get(part.asked..).unwrap_or(&[]);
+                return rest.get(..length).unwrap_or(rest);
             }
         }
-        0
+        &[]
     }
 
     /// Asks for the front of what is left of a part.
     pub fn ask(&mut self, name: &str, wanted: &[u8]) -> Result<bool, NoMemory> {
-        let at = self.asked_of(name);
-        let rest = self
-            .get(name)
-            .and_then(|bytes| bytes.get(at..))
-            .unwrap_or(&[]);
-        let front = rest.get(..wanted.len()).unwrap_or(rest).to_vec(self.alloc)?;
+        let front = self.left_of(name, wanted.len()).to_vec(self.alloc)?;
         for part in self.parts.iter_mut() {
             if part.name.as_str() == name {
                 part.asked = part.asked.saturating_add(wanted.len());

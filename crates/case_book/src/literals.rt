@@ -17,6 +17,29 @@ fn byte_of(high: u8, low: u8) -> Option<u8> {
     Some(high.wrapping_mul(16).wrapping_add(low))
 }
 
+// What stands before the next byte of a text or digit of a run.
+#[derive(Clone, Copy)]
+enum Before {
+    Nothing,
+    Backslash,
+    Hexadecimal,
+    High(u8),
+}
+
+// Adds the byte of a second digit, and tells what stands before the next. `None` where they are no digits.
+fn add_digit(bytes: &mut Vec<u8>, before: Before, digit: u8) -> Result<Option<Before>, NoMemory> {
+    let Before::High(high) = before else {
+        return Ok(Some(Before::High(digit)));
+    };
+    match byte_of(high, digit) {
+        Some(byte) => {
+            bytes.push(byte)?;
+            Ok(Some(Before::Nothing))
+        }
+        None => Ok(None),
+    }
+}
+
 // The bytes of one run of digits; a single 0 is a zero byte.
 fn read_digits(alloc: Global, digits: &str) -> Result<Option<Vec<u8>>, NoMemory> {
     let mut bytes = Vec::new(alloc);
@@ -24,16 +47,17 @@ fn read_digits(alloc: Global, digits: &str) -> Result<Option<Vec<u8>>, NoMemory>
         bytes.push(0)?;
         return Ok(Some(bytes));
     }
-    for pair in digits.as_bytes().chunks(2) {
-        let [high, low] = pair else {
-            return Ok(None);
-        };
-        let Some(byte) = byte_of(*high, *low) else {
-            return Ok(None);
-        };
-        bytes.push(byte)?;
+    let mut before = Before::Nothing;
+    for digit in digits.as_bytes() {
+        match add_digit(&mut bytes, before, *digit)? {
+            Some(next) => before = next,
+            None => return Ok(None),
+        }
     }
-    Ok(Some(bytes))
+    match before {
+        Before::Nothing => Ok(Some(bytes)),
+        _ => Ok(None),
+    }
 }
 
 // Adds bytes so many times.
@@ -73,39 +97,30 @@ pub fn read_hex(alloc: Global, text: &str) -> Result<Option<Vec<u8>>, NoMemory> 
     Ok(Some(bytes))
 }
 
-// What stands before the next byte of a text.
-#[derive(Clone, Copy)]
-enum Escape {
-    Nothing,
-    Backslash,
-    Hexadecimal,
-    High(u8),
-}
-
 // Adds a byte that an escape doesn't hold back, and tells what stands before the next. `None` where an escape is none.
-fn add_byte(bytes: &mut Vec<u8>, before: Escape, byte: u8) -> Result<Option<Escape>, NoMemory> {
+fn add_byte(bytes: &mut Vec<u8>, before: Before, byte: u8) -> Result<Option<Before>, NoMemory> {
     let meant = match (before, byte) {
-        (Escape::Nothing, b'\\') => return Ok(Some(Escape::Backslash)),
-        (Escape::Backslash, b'x') => return Ok(Some(Escape::Hexadecimal)),
-        (Escape::Hexadecimal, high) => return Ok(Some(Escape::High(high))),
-        (Escape::Nothing, plain) => plain,
-        (Escape::Backslash, b'n') => b'\n',
-        (Escape::Backslash, b'\\') => b'\\',
-        (Escape::Backslash, _) => return Ok(None),
-        (Escape::High(high), low) => match byte_of(high, low) {
+        (Before::Nothing, b'\\') => return Ok(Some(Before::Backslash)),
+        (Before::Backslash, b'x') => return Ok(Some(Before::Hexadecimal)),
+        (Before::Hexadecimal, high) => return Ok(Some(Before::High(high))),
+        (Before::Nothing, plain) => plain,
+        (Before::Backslash, b'n') => b'\n',
+        (Before::Backslash, b'\\') => b'\\',
+        (Before::Backslash, _) => return Ok(None),
+        (Before::High(high), low) => match byte_of(high, low) {
             Some(found) => found,
             None => return Ok(None),
         },
     };
     bytes.push(meant)?;
-    Ok(Some(Escape::Nothing))
+    Ok(Some(Before::Nothing))
 }
 
 /// The bytes of text in which `\n` is a line feed, `\\` a backslash and `\xHH` any byte. `None` where a backslash
 /// begins something else.
 pub fn read_text(alloc: Global, text: &str) -> Result<Option<Vec<u8>>, NoMemory> {
     let mut bytes = Vec::new(alloc);
-    let mut before = Escape::Nothing;
+    let mut before = Before::Nothing;
     for byte in text.as_bytes() {
         match add_byte(&mut bytes, before, *byte)? {
             Some(next) => before = next,
@@ -113,21 +128,25 @@ pub fn read_text(alloc: Global, text: &str) -> Result<Option<Vec<u8>>, NoMemory>
         }
     }
     match before {
-        Escape::Nothing => Ok(Some(bytes)),
+        Before::Nothing => Ok(Some(bytes)),
         _ => Ok(None),
     }
+}
+
+fn write_byte(out: &mut String, byte: u8) -> Result<(), NoMemory> {
+    match byte {
+        b'\n' => out.push_str("\\n")?,
+        b'\\' => out.push_str("\\\\")?,
+        32..=126 => out.push(char::from(byte))?,
+        _ => write!(out, "\\x{byte:02x}")?,
+    }
+    Ok(())
 }
 
 /// Writes bytes as such a text.
 pub fn write_text(out: &mut String, bytes: &[u8]) -> Result<(), NoMemory> {
     for byte in bytes {
-        let byte = *byte;
-        match byte {
-            b'\n' => out.push_str("\\n")?,
-            b'\\' => out.push_str("\\\\")?,
-            32..=126 => out.push(char::from(byte))?,
-            _ => write!(out, "\\x{byte:02x}")?,
-        }
+        write_byte(out, *byte)?;
     }
     Ok(())
 }

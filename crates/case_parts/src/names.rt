@@ -82,6 +82,61 @@ fn tell_all(out: &mut String, pairs: &List<(Text, Pmid)>) -> Result<(), NoMemory
     Ok(())
 }
 
+// `add NAME WORD ..`; false where the words are no pairs.
+fn add(
+    alloc: Global,
+    out: &mut String,
+    names: &mut Names,
+    words: Words<'_>,
+) -> Result<bool, NoMemory> {
+    match pairs_of(alloc, words)? {
+        Some(pairs) => {
+            tell_added(out, names.add(alloc, &pairs))?;
+            Ok(true)
+        }
+        None => Ok(false),
+    }
+}
+
+// `name_of WORD`
+fn find_name(out: &mut String, names: &Names, mut words: Words<'_>) -> Result<bool, NoMemory> {
+    match words.number() {
+        Some(word) => {
+            tell_name(out, names.name_of(Pmid::of_word(word)))?;
+            Ok(true)
+        }
+        None => Ok(false),
+    }
+}
+
+// `find NAME`, `children NAME` and `traverse NAME`
+fn look(
+    alloc: Global,
+    out: &mut String,
+    names: &Names,
+    form: &str,
+    name: &Text,
+) -> Result<bool, NoMemory> {
+    match form {
+        "find" => tell_pmid(out, names.find(name))?,
+        "children" => tell_children(out, names.children(alloc, name)?)?,
+        "traverse" => tell_all(out, &names.traverse(alloc, name)?)?,
+        _ => return Ok(false),
+    }
+    Ok(true)
+}
+
+fn look_at_name(
+    alloc: Global,
+    out: &mut String,
+    names: &Names,
+    form: &str,
+    word: &str,
+) -> Result<bool, NoMemory> {
+    let name = text_of(alloc, word)?;
+    look(alloc, out, names, form, &name)
+}
+
 /// `names add NAME WORD ..`, `find NAME`, `name_of WORD`, `children NAME` and `traverse NAME`. `None` where it is
 /// none of these.
 pub fn tell_names(
@@ -90,32 +145,11 @@ pub fn tell_names(
     mut words: Words<'_>,
 ) -> Result<Option<String>, NoMemory> {
     let mut out = String::new(alloc);
-    match words.next() {
-        "add" => {
-            let Some(pairs) = pairs_of(alloc, words)? else {
-                return Ok(None);
-            };
-            tell_added(&mut out, names.add(alloc, &pairs))?;
-        }
-        "find" => {
-            let name = text_of(alloc, words.rest())?;
-            tell_pmid(&mut out, names.find(&name))?;
-        }
-        "name_of" => {
-            let Some(word) = words.number() else {
-                return Ok(None);
-            };
-            tell_name(&mut out, names.name_of(Pmid::of_word(word)))?;
-        }
-        "children" => {
-            let name = text_of(alloc, words.rest())?;
-            tell_children(&mut out, names.children(alloc, &name)?)?;
-        }
-        "traverse" => {
-            let name = text_of(alloc, words.rest())?;
-            tell_all(&mut out, &names.traverse(alloc, &name)?)?;
-        }
-        _ => return Ok(None),
-    }
-    Ok(Some(out))
+    let form = words.next();
+    let known = match form {
+        "add" => add(alloc, &mut out, names, words)?,
+        "name_of" => find_name(&mut out, names, words)?,
+        _ => look_at_name(alloc, &mut out, names, form, words.rest())?,
+    };
+    Ok(if known { Some(out) } else { None })
 }

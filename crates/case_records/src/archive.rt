@@ -3,7 +3,7 @@ use archive_frame::{
     FrameFault, Label, Step, label_bytes, put_frame, put_label, read_label, step_back, step_forward,
 };
 use case_book::{Words, text_of};
-use pcp_base::{Duplicate, NoMemory};
+use pcp_base::{Duplicate, NoMemory, Stamp};
 use std::alloc::Global;
 use temporal_index::{Entry, Index, IndexFault, entry_bytes, put_entry};
 
@@ -18,21 +18,52 @@ fn write_fault(out: &mut String, fault: FrameFault) -> Result<(), NoMemory> {
     Ok(())
 }
 
+fn write_start(out: &mut String, label: &Label) -> Result<(), NoMemory> {
+    let start = label.start();
+    let (sec, usec) = (start.sec(), start.usec());
+    write!(out, "{sec} {usec} ")?;
+    Ok(())
+}
+
+fn write_label(out: &mut String, label: &Label, number: i32) -> Result<(), NoMemory> {
+    let pid = label.pid();
+    write!(out, "{number} {pid} ")?;
+    write_start(out, label)?;
+    case_book::write_text(out, label.host().as_slice())?;
+    out.push(' ')?;
+    case_book::write_text(out, label.zone().as_slice())?;
+    out.push('\n')?;
+    Ok(())
+}
+
 // What bytes are as a label: `NUMBER PID SEC USEC HOST ZONE`.
 fn tell_label(alloc: Global, bytes: &[u8]) -> Result<String, NoMemory> {
     let mut out = String::new(alloc);
     match read_label(alloc, bytes) {
-        Ok((label, number)) => {
-            let (pid, sec, usec) = (label.pid(), label.start().sec(), label.start().usec());
-            write!(&mut out, "{number} {pid} {sec} {usec} ")?;
-            case_book::write_text(&mut out, label.host().as_slice())?;
-            out.push(' ')?;
-            case_book::write_text(&mut out, label.zone().as_slice())?;
-            out.push('\n')?;
-        }
+        Ok((label, number)) => write_label(&mut out, &label, number)?,
         Err(fault) => write_fault(&mut out, fault)?,
     }
     Ok(out)
+}
+
+fn label_of(
+    alloc: Global,
+    pid: u32,
+    start: Stamp,
+    mut words: Words<'_>,
+) -> Result<Option<Label>, NoMemory> {
+    let host = text_of(alloc, words.next())?;
+    let zone = text_of(alloc, words.rest())?;
+    Ok(Label::build(pid, start, host, zone))
+}
+
+fn spell_twice(alloc: Global, label: &Label, number: i32) -> Result<Option<Vec<u8>>, NoMemory> {
+    if number < -2 {
+        return Ok(None);
+    }
+    let mut out = label_bytes(label, number).to_vec(alloc)?;
+    put_label(&mut out, label, number)?;
+    Ok(Some(out))
 }
 
 // The label of `NUMBER PID SEC USEC HOST ZONE`, twice.
@@ -41,17 +72,10 @@ fn make_label(alloc: Global, mut words: Words<'_>) -> Result<Option<Vec<u8>>, No
     else {
         return Ok(None);
     };
-    let host = text_of(alloc, words.next())?;
-    let zone = text_of(alloc, words.rest())?;
-    let Some(label) = Label::build(pid, start, host, zone) else {
-        return Ok(Some(b"none\n".to_vec(alloc)?));
-    };
-    if number < -2 {
-        return Ok(None);
+    match label_of(alloc, pid, start, words)? {
+        Some(label) => spell_twice(alloc, &label, number),
+        None => Ok(Some(b"none\n".to_vec(alloc)?)),
     }
-    let mut out = label_bytes(&label, number).to_vec(alloc)?;
-    put_label(&mut out, &label, number)?;
-    Ok(Some(out))
 }
 
 fn tell_step(alloc: Global, step: Result<Step, FrameFault>) -> Result<String, NoMemory> {
@@ -122,6 +146,28 @@ fn write_entries(out: &mut String, index: &Index) -> Result<(), NoMemory> {
     Ok(())
 }
 
+fn write_place(out: &mut String, index: &Index, at: u64) -> Result<(), NoMemory> {
+    match index.entry(at) {
+        Some(entry) => write_entry(out, entry),
+        None => Ok(out.push_str("none\n")?),
+    }
+}
+
+// The entry that a word and a moment find, and false where there is no such word.
+fn write_moment(
+    out: &mut String,
+    index: &Index,
+    form: &str,
+    moment: Stamp,
+) -> Result<bool, NoMemory> {
+    match form {
+        "at" => write_found(out, index.seek_at(moment))?,
+        "before" => write_found(out, index.seek_before(moment))?,
+        _ => return Ok(false),
+    }
+    Ok(true)
+}
+
 // What an index tells: `all`, `copy`, `entry N`, `at SEC USEC` and `before SEC USEC`.
 fn write_index(
     alloc: Global,
@@ -129,27 +175,18 @@ fn write_index(
     index: &Index,
     mut words: Words<'_>,
 ) -> Result<bool, NoMemory> {
-    match words.next() {
+    let form = words.next();
+    match form {
         "all" => write_entries(out, index)?,
         "copy" => write_entries(out, &index.copy(alloc)?)?,
-        "entry" => {
-            let Some(at) = words.wide() else {
-                return Ok(false);
-            };
-            match index.entry(at) {
-                Some(entry) => write_entry(out, entry)?,
-                None => out.push_str("none\n")?,
-            }
-        }
-        "at" => match words.stamp() {
-            Some(moment) => write_found(out, index.seek_at(moment))?,
+        "entry" => match words.wide() {
+            Some(at) => write_place(out, index, at)?,
             None => return Ok(false),
         },
-        "before" => match words.stamp() {
-            Some(moment) => write_found(out, index.seek_before(moment))?,
+        _ => match words.stamp() {
+            Some(moment) => return write_moment(out, index, form, moment),
             None => return Ok(false),
         },
-        _ => return Ok(false),
     }
     Ok(true)
 }

@@ -1,5 +1,5 @@
 //! Items of an archive as text, for lines of a book: `100 0 70.1.2[-1]=7`.
-use pcp_base::{Block, Body, Item, NoMemory, PmResult, Stamp, ValueSet};
+use pcp_base::{Block, Body, Item, NoMemory, PmResult, Pmid, Stamp, ValueSet};
 
 fn write_stamp(out: &mut String, stamp: Stamp) -> Result<(), NoMemory> {
     let (sec, usec) = (stamp.sec(), stamp.usec());
@@ -17,29 +17,41 @@ fn write_block(out: &mut String, block: &Block) -> Result<(), NoMemory> {
     Ok(())
 }
 
-fn write_set(out: &mut String, set: &ValueSet) -> Result<(), NoMemory> {
-    let (domain, cluster, item) = (set.pmid.domain(), set.pmid.cluster(), set.pmid.item());
-    write!(out, " {domain}.{cluster}.{item}")?;
-    match &set.body {
-        Body::InPlace(pairs) => {
-            for (instance, value) in pairs.as_slice() {
-                let (instance, value) = (*instance, *value);
-                write!(out, "[{instance}]={value}")?;
-            }
-        }
-        Body::Blocks(pairs) => {
-            for (instance, block) in pairs.as_slice() {
-                let instance = *instance;
-                write!(out, "[{instance}]=")?;
-                write_block(out, block)?;
-            }
-        }
-        Body::Status(status) => {
-            let status = *status;
-            write!(out, " status {status}")?;
-        }
+fn write_values(out: &mut String, pairs: &[(i32, u32)]) -> Result<(), NoMemory> {
+    for (instance, value) in pairs {
+        let (instance, value) = (*instance, *value);
+        write!(out, "[{instance}]={value}")?;
     }
     Ok(())
+}
+
+fn write_blocks(out: &mut String, pairs: &[(i32, Block)]) -> Result<(), NoMemory> {
+    for (instance, block) in pairs {
+        let instance = *instance;
+        write!(out, "[{instance}]=")?;
+        write_block(out, block)?;
+    }
+    Ok(())
+}
+
+fn write_status(out: &mut String, status: i32) -> Result<(), NoMemory> {
+    write!(out, " status {status}")?;
+    Ok(())
+}
+
+fn write_pmid(out: &mut String, pmid: Pmid) -> Result<(), NoMemory> {
+    let (domain, cluster, item) = (pmid.domain(), pmid.cluster(), pmid.item());
+    write!(out, " {domain}.{cluster}.{item}")?;
+    Ok(())
+}
+
+fn write_set(out: &mut String, set: &ValueSet) -> Result<(), NoMemory> {
+    write_pmid(out, set.pmid)?;
+    match &set.body {
+        Body::InPlace(pairs) => write_values(out, pairs.as_slice()),
+        Body::Blocks(pairs) => write_blocks(out, pairs.as_slice()),
+        Body::Status(status) => write_status(out, *status),
+    }
 }
 
 /// A result as text.

@@ -2,7 +2,7 @@
 use crate::facts::{desc_of, tell_needs};
 use archive_meta::{MetaFault, MetaState, domain_stamp, put_description, put_domain};
 use case_book::{Words, text_of};
-use pcp_base::{Desc, InDom, List, NoMemory, Text};
+use pcp_base::{Desc, InDom, List, NoMemory, Stamp, Text};
 use std::alloc::Global;
 
 fn tell_added(alloc: Global, added: Result<(), MetaFault>) -> Result<String, NoMemory> {
@@ -57,16 +57,20 @@ fn tell_names(alloc: Global, found: Option<&List<Text>>) -> Result<String, NoMem
     Ok(out)
 }
 
+fn write_instance(out: &mut String, number: i32, name: &Text) -> Result<(), NoMemory> {
+    write!(out, "{number} ")?;
+    case_book::write_text(out, name.as_slice())?;
+    out.push('\n')?;
+    Ok(())
+}
+
 fn tell_instances(alloc: Global, found: Option<&List<(i32, Text)>>) -> Result<String, NoMemory> {
     let Some(pairs) = found else {
         return Ok(String::from_str(alloc, "none\n")?);
     };
     let mut out = String::new(alloc);
     for (number, name) in pairs.as_slice() {
-        let number = *number;
-        write!(&mut out, "{number} ")?;
-        case_book::write_text(&mut out, name.as_slice())?;
-        out.push('\n')?;
+        write_instance(&mut out, *number, name)?;
     }
     Ok(out)
 }
@@ -105,30 +109,41 @@ fn make_description(alloc: Global, mut words: Words<'_>) -> Result<Option<Vec<u8
     Ok(Some(out))
 }
 
+fn put_both(
+    alloc: Global,
+    stamp: Stamp,
+    indom: InDom,
+    first: (i32, Text),
+    second: (i32, Text),
+) -> Result<Option<Vec<u8>>, NoMemory> {
+    if first.1.as_slice().len() > 63 || second.1.as_slice().len() > 63 {
+        return Ok(None);
+    }
+    let mut out = Vec::new(alloc);
+    put_domain(&mut out, stamp, indom, &[first, second])?;
+    Ok(Some(out))
+}
+
 // The payload of a domain of two instances: `DOMAIN SEC USEC NUMBER NAME NUMBER NAME`.
 fn make_domain(alloc: Global, mut words: Words<'_>) -> Result<Option<Vec<u8>>, NoMemory> {
     let (Some(indom), Some(stamp)) = (words.hex(), words.stamp()) else {
         return Ok(None);
     };
-    let Some(low) = words.signed() else {
+    let (Some(low), first) = (words.signed(), words.next()) else {
         return Ok(None);
     };
-    let first = text_of(alloc, words.next())?;
-    let Some(high) = words.signed() else {
+    let (Some(high), second) = (words.signed(), words.next()) else {
         return Ok(None);
     };
-    let second = text_of(alloc, words.next())?;
-    if first.as_slice().len() > 63 || second.as_slice().len() > 63 {
-        return Ok(None);
-    }
-    let mut out = Vec::new(alloc);
-    put_domain(
-        &mut out,
+    let first = text_of(alloc, first)?;
+    let second = text_of(alloc, second)?;
+    put_both(
+        alloc,
         stamp,
         InDom::of_word(indom),
-        &[(low, first), (high, second)],
-    )?;
-    Ok(Some(out))
+        (low, first),
+        (high, second),
+    )
 }
 
 fn bytes_of(told: Option<String>) -> Option<Vec<u8>> {
@@ -136,6 +151,19 @@ fn bytes_of(told: Option<String>) -> Option<Vec<u8>> {
         Some(text) => Some(text.into_bytes()),
         None => None,
     }
+}
+
+// The instances of a domain at a moment.
+fn look_at_domain(
+    alloc: Global,
+    state: &MetaState,
+    mut words: Words<'_>,
+) -> Result<Option<String>, NoMemory> {
+    let (Some(indom), Some(moment)) = (words.hex(), words.stamp()) else {
+        return Ok(None);
+    };
+    let found = state.domain_at(InDom::of_word(indom), moment);
+    Ok(Some(tell_instances(alloc, found)?))
 }
 
 // What is told of a metric or of a domain at a moment.
@@ -146,11 +174,7 @@ fn look(
 ) -> Result<Option<String>, NoMemory> {
     let form = words.next();
     if form == "domain" {
-        let (Some(indom), Some(moment)) = (words.hex(), words.stamp()) else {
-            return Ok(None);
-        };
-        let found = state.domain_at(InDom::of_word(indom), moment);
-        return Ok(Some(tell_instances(alloc, found)?));
+        return look_at_domain(alloc, state, words);
     }
     let Some(pmid) = words.pmid() else {
         return Ok(None);

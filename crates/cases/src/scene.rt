@@ -1,25 +1,19 @@
-//! What the lines of a book act on: one part for commands over an archive's files, and one for each crate whose calls
-//! no command makes. A word's function stands in the module of its part, or
-//! in the crates `case_images`, `case_parts` and `case_records`.
-mod commands;
-mod crash;
-mod disk;
-mod files;
-mod flows;
-mod numbers;
+//! What the lines of a book act on: what a case has outside of the program, and the parts whose calls no command makes.
+//! A word's function stands in the crate of its part: `case_outside`, `case_commands`, `case_crashes`, `case_images`,
+//! `case_parts` or `case_records`.
 mod parts;
 
-use crate::scene::commands::Commands;
 use crate::scene::parts::Parts;
 use case_book::{Answer, Kept, Line, Subject};
 use case_images::{Building, tell_image};
+use case_outside::{Outside, prepare_input};
 use pcp_base::NoMemory;
 use std::alloc::Global;
 
 /// All parts together.
 #[derive(Drop)]
 pub struct Scene {
-    commands: Commands,
+    outside: Outside,
     building: Building,
     parts: Parts,
 }
@@ -27,7 +21,7 @@ pub struct Scene {
 impl Scene {
     pub fn new(alloc: Global) -> Scene {
         Scene {
-            commands: Commands::new(alloc),
+            outside: Outside::new(alloc),
             building: Building::new(),
             parts: Parts::new(alloc),
         }
@@ -36,9 +30,7 @@ impl Scene {
 
 impl Subject for Scene {
     fn begin(&mut self, alloc: Global) -> Result<(), NoMemory> {
-        self.commands = Commands::new(alloc);
-        self.building = Building::new();
-        self.parts = Parts::new(alloc);
+        *self = Scene::new(alloc);
         Ok(())
     }
 
@@ -49,22 +41,22 @@ impl Subject for Scene {
         answer: &mut Answer,
         line: Line<'_>,
     ) -> Result<bool, NoMemory> {
+        let rest = line.rest;
+        let outside = &mut self.outside;
         match line.word {
             "input" | "more" | "line" | "set" | "cut" => {
-                self.commands.prepare_input(alloc, kept, line)
+                prepare_input(alloc, kept, &mut outside.input, line)
             }
-            "fail" | "slow" => self.commands.prepare_failure(line),
-            "before" | "wrap" | "restart" => self.commands.prepare_files(alloc, kept, line),
-            "run" => self.commands.run(alloc, answer, line.rest),
-            "file" | "files" | "calls" | "taken" => {
-                self.commands.look(alloc, kept, answer, line)
-            }
-            "stream" => self.commands.call_stream(alloc, answer, line.rest),
-            "disk" => self.commands.call_disk(alloc, kept, answer, line.rest),
-            "crash" | "cuts" => self.commands.crash(alloc, kept, answer, line),
-            "image" => tell_image(alloc, answer, &self.commands.input, line.rest),
+            "fail" | "slow" => outside.prepare_failure(line),
+            "before" | "wrap" | "restart" => outside.drive.prepare(alloc, kept, line),
+            "run" => case_commands::run(alloc, outside, answer, rest),
+            "file" | "files" | "calls" | "taken" => outside.drive.look(alloc, kept, answer, line),
+            "stream" => outside.call_stream(alloc, answer, rest),
+            "disk" => outside.drive.call(alloc, kept, answer, rest),
+            "crash" | "cuts" => case_crashes::crash(alloc, &mut outside.drive, kept, answer, line),
+            "image" => tell_image(alloc, answer, &outside.input, rest),
             "build" | "take" => self.building.step(alloc, kept, answer, line),
-            _ => self.parts.step(alloc, &self.commands.input, answer, line),
+            _ => self.parts.step(alloc, &outside.input, answer, line),
         }
     }
 }

@@ -4,6 +4,7 @@ use case_book::{Answer, Line, Words};
 use case_images::tell_text;
 use case_parts::{Filter, Schedule, tell_names, tell_value};
 use case_records::{tell_meta, tell_record, tell_result};
+use case_regions::tell_journal;
 use pcp_base::NoMemory;
 use pmns_core::Names;
 use std::alloc::Global;
@@ -47,6 +48,7 @@ impl Parts {
             "schedule" => Ok(bytes_of(self.schedule.call(alloc, words)?)),
             "meta" => tell_meta(alloc, &mut self.meta, words, input),
             "base" => Ok(bytes_of(tell_value(alloc, words, input)?)),
+            "journal" => Ok(bytes_of(tell_journal(alloc, line.rest)?)),
             "text" => tell_text(alloc, words),
             "result" => tell_result(alloc, line.rest, input),
             "label" | "frame" | "index" => tell_record(alloc, line.word, words, input),

@@ -1,21 +1,9 @@
-//! Numbers and names in lines.
+//! Names of files in lines.
 ghost use Rattle.std.specs.Prelude.{IfSome};
 ghost use Rattle.pcp_outside.specs.Devices.{IsNumbered};
 
 use pcp_base::{FileId, NoMemory};
 use std::alloc::Global;
-
-/// The words of a line, which are separated by single spaces; an empty line has none.
-pub fn words_of(alloc: Global, line: &str) -> Result<Vec<String>, NoMemory> {
-    let mut words = Vec::new(alloc);
-    if line.is_empty() {
-        return Ok(words);
-    }
-    for word in line.split(' ') {
-        words.push(String::from_str(alloc, word)?)?;
-    }
-    Ok(words)
-}
 
 /// The file `meta`, `index` or `volume K`, K below 1,000.
 pub fn file_of(name: &str) -> Option<FileId>
@@ -41,16 +29,20 @@ pub fn name_of(alloc: Global, file: FileId) -> Result<String, NoMemory> {
     }
 }
 
-/// A file's name, as one or two words, and what stands behind it.
+/// A file's name, as one or two words, and what stands behind the space after it.
 pub fn split_file(rest: &str) -> (&str, &str) {
-    let mut spaces: u8 = if rest.starts_with("volume ") { 2 } else { 1 };
-    for (at, byte) in rest.as_bytes().iter().enumerate() {
-        if *byte == b' ' {
-            spaces = spaces.saturating_sub(1);
-            if spaces == 0 {
-                return rest.split_at(at);
-            }
-        }
+    let behind = match rest.strip_prefix("volume ") {
+        Some(more) => more,
+        None => rest,
+    };
+    match behind.split_once(' ') {
+        Some((_, more)) => (name_before(rest, more), more),
+        None => (rest, ""),
     }
-    (rest, "")
+}
+
+// What stands before a space and the end of a text.
+fn name_before<'a>(text: &'a str, end: &str) -> &'a str {
+    let length = text.len().saturating_sub(end.len()).saturating_sub(1);
+    text.get(..length).unwrap_or(text)
 }

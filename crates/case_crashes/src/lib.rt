@@ -1,0 +1,10 @@
+//! Words of a book of cases for what a crash may leave of the runs of a case: of each file by itself the bytes that were
+//! sure, and any beginning of the rest. Each image is read by the plain readers, whose answers are true by the
+//! definitions.
+#![tactic(auto)]
+
+mod images;
+mod parts;
+mod tally;
+
+pub use images::crash;
