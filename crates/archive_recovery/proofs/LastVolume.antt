@@ -35,7 +35,7 @@ never : false ≡ true → ⊥
 never e = cc
 
 -- a number is this one or another
-this_or_other : (n m : ℕ) → (m ≡ n) ⊎ (n ≢ m)
+pub this_or_other : (n m : ℕ) → (m ≡ n) ⊎ (n ≢ m)
 this_or_other n m = ⊎_elim (λ (lt : n < m). inr (λ e. omega arith)) (λ (ge : m ≤ n). ⊎_elim (λ (gt : m < n). inr (λ e. omega arith)) (λ (le : n ≤ m). inl (omega arith)) (cases_lt m n)) (cases_lt n m)
 
 module _ (files : Files) (c : ArchiveContents) (is : IsArchive files c) (old : Holdings) (start : (n : ℕ) → bytes_of (old (Volume n)) ≡ files (Volume n)) where

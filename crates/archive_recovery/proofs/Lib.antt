@@ -1,5 +1,6 @@
 pub mod Again
 pub mod Ends
+pub mod KeepsSound
 pub mod LastVolume
 pub mod Moments
 pub mod Parts

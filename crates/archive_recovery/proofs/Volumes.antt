@@ -60,7 +60,7 @@ one_listed : (n m : ℕ) → m ≢ n → (k : ℕ) → k < 1 → slice_index_or 
 one_listed n m other zero h is = other is
 one_listed n m other (suc k) h is = omega arith
 
-none_long : (files : Files) (vs : List (ℕ × List Item)) → ((n : ℕ) → (Contains (map (λ (v : ℕ × List Item). v.0) vs) n → ⊥) → files (Volume n) ≡ []) → labelled_volumes files vs ≡ [] → (n : ℕ) → 132 ≤ length (files (Volume n)) → ⊥
+pub none_long : (files : Files) (vs : List (ℕ × List Item)) → ((n : ℕ) → (Contains (map (λ (v : ℕ × List Item). v.0) vs) n → ⊥) → files (Volume n) ≡ []) → labelled_volumes files vs ≡ [] → (n : ℕ) → 132 ≤ length (files (Volume n)) → ⊥
 none_long files [] others none n long = omega (arith, ap length (others n (λ c. omega (arith, c.1))))
 none_long files (v ∷ []) others none n long =
     let short : length (files (Volume v.0)) < 132 = ltb-true (length (files (Volume v.0))) 132 (not_short (nat_lt (length (files (Volume v.0))) 132) v none) in

@@ -1,8 +1,9 @@
 -- What holds of files on which recovery is on its way.
-use Rattle.std.specs.Prelude.{◌≡◌, ℕ, List, [], take}
+use Rattle.std.specs.Prelude.{◌≡◌, ℕ, List, [], take, ◌≤◌, length}
 use Rattle.pcp_base.specs.declared.file.FileId.TheVariants.{Meta, Volume}
+use Rattle.std.specs.List.{AllByRecursion}
 use Rattle.pcp_model.specs.declared.records.Entry.{Entry}
-use Rattle.pcp_model.specs.Archive.{ArchiveReading, Reads, scan, records_in}
+use Rattle.pcp_model.specs.Archive.{ArchiveReading, Reads, scan, records_in, ArchiveContents, IsArchive}
 use Rattle.pcp_model.specs.Disk.{Files, Holdings, CrashImage, IsSettled, contents_of}
 use Rattle.pcp_model.specs.Recovered.{Recovers, recovered_reading}
 use Rattle.pcp_model.specs.Sound.{IsSound}
@@ -44,3 +45,12 @@ HalfwayRecoversSound = (files image left again : Files) (r new : ArchiveReading)
 abbrev pub SettledIsHalfway : Type 0
 SettledIsHalfway = (held : Holdings) (r : ArchiveReading) (image : Files) → IsSettled held → Reads (contents_of held) r → CrashImage held image
     → HalfwayFrom (contents_of held) r image
+
+-- each entry is of a volume at or below one with its whole label
+abbrev pub AreLabelled : Files → List Entry → Type 0
+AreLabelled files es = AllByRecursion (λ (e : Entry). (n : ℕ) × (132 ≤ length (files (Volume n))) × (e.volume ≤ n)) es
+
+-- Recovery keeps an archive sound whose entries are of volumes at or below one with its whole label.
+abbrev pub RecoveryKeepsSound : Type 0
+RecoveryKeepsSound = (files left : Files) (c : ArchiveContents) → IsArchive files c → IsSound files (ArchiveReading.archive c) → AreLabelled files c.entries → Recovers files (ArchiveReading.archive c) left
+    → IsSound left (recovered_reading files (ArchiveReading.archive c))

@@ -7,7 +7,8 @@ mod syncing;
 mod whole;
 
 pub use laws::{
-    halfway_is_read, halfway_recovers_sound, halfway_recovers_the_same, settled_is_halfway,
+    halfway_is_read, halfway_recovers_sound, halfway_recovers_the_same, recovery_keeps_sound,
+    settled_is_halfway,
 };
 pub use mending::{Last, Tail};
 pub use whole::{Damage, mend};

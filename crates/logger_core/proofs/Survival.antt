@@ -25,6 +25,7 @@ use Rattle.pcp_model.proofs.Cuts.{length_of_label, frameable, as_many, frames-ap
 use Rattle.pcp_model.proofs.Lists.{each-first, each-map}
 use Rattle.pcp_model.proofs.Sound.{labelled_long}
 use Rattle.pcp_model.proofs.Unique.{both}
+use Rattle.archive_recovery.specs.Laws.{AreLabelled}
 use Rattle.logger_core.specs.Keeps.{Start, WasSound, WasDescribed, IsPart, PointsSurely, AreSure, Keeps, end_of}
 use Rattle.logger_core.specs.Laws.{Survives}
 
@@ -193,5 +194,9 @@ module _ (s : Start) (files : Files) (c : ArchiveContents) (number known acknowl
   still_sound was = sound_part files image c meta_part.m index_part.m volume_part.m last cut left (k.sound was)
       (subst (AllByRecursion (IsKeptBy image number meta_part.m volume_part.m)) (sym left.entries) (each-first (IsKeptBy image number meta_part.m volume_part.m) left.k c.entries (each-map (PointsSurely files held number) (IsKeptBy image number meta_part.m volume_part.m) kept_entry c.entries (k.points was))))
 
+  still_labelled : WasSound s → AreLabelled image left.new.entries
+  still_labelled was = subst (AreLabelled image) (sym left.entries) (each-first (λ (e : Entry). (n : ℕ) × (132 ≤ length (image (Volume n))) × (e.volume ≤ n)) left.k c.entries
+      (each-map (PointsSurely files held number) (λ (e : Entry). (n : ℕ) × (132 ≤ length (image (Volume n))) × (e.volume ≤ n)) (λ e p. (p.below.0, omega (arith, p.below.1, sure_is_left p.below.0), p.below.2)) c.entries (k.points was)))
+
   pub survives : Survives s c acknowledged image
-  survives = record { new = left.new; is = left.is; q = left.q; items = left.items; enough = still_enough; described = still_described; sound = still_sound }
+  survives = record { new = left.new; is = left.is; q = left.q; items = left.items; enough = still_enough; described = still_described; sound = still_sound; labelled = still_labelled }

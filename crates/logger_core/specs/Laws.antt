@@ -17,6 +17,7 @@ use Rattle.pcp_model.specs.Records.{IsRecord, AreConsistent, FitsEntry, entry}
 use Rattle.pcp_model.specs.Sound.{IsSound, NoDomainAfter, NoItemAfter}
 use Rattle.pcp_model.specs.Written.{with_added}
 use Rattle.pcp_outside.specs.Devices.{Becomes}
+use Rattle.archive_recovery.specs.Laws.{AreLabelled}
 use Rattle.logger_core.specs.Keeps.{Start, WasSound, WasDescribed, IsPart, is_sure, Keeps}
 
 -- Files with the first items of an archive, at least so many, each with its metadata, and sound
@@ -28,6 +29,8 @@ pub record Survives (s : Start) (c : ArchiveContents) (acknowledged : ℕ) (imag
   pub enough : acknowledged ≤ length (items_of new.volumes)
   pub described : AllByRecursion (λ x. WasDescribed s x → Described new.records x) (items_of new.volumes)
   pub sound : WasSound s → IsSound image (ArchiveReading.archive new)
+  -- so recovery keeps it sound
+  pub labelled : WasSound s → AreLabelled image new.entries
 
 -- Whatever a crash leaves of what a logger keeps has the first of its items, all acknowledged ones among them, with their metadata.
 abbrev pub KeptFilesSurvive : Type 0
