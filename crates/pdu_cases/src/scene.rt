@@ -1,0 +1,72 @@
+//! What the lines of a book act on: bytes, of which PDUs are read or that come as a stream.
+use crate::pdus::tell_pdu;
+use crate::streams::tell_pieces;
+use case_book::{Answer, Kept, Line, Subject, Words};
+use pcp_base::NoMemory;
+use std::alloc::Global;
+
+/// The bytes that a line's call takes.
+#[derive(Drop)]
+pub struct Scene {
+    input: Vec<u8>,
+}
+
+impl Scene {
+    pub fn new(alloc: Global) -> Scene {
+        Scene {
+            input: Vec::new(alloc),
+        }
+    }
+
+    // `more LITERAL` behind the input.
+    fn add_input(&mut self, alloc: Global, kept: &Kept, rest: &str) -> Result<bool, NoMemory> {
+        match kept.read(alloc, rest)? {
+            Some(more) => {
+                self.input.extend_from_slice(&more)?;
+                Ok(true)
+            }
+            None => Ok(false),
+        }
+    }
+
+    // A call, and what it tells.
+    fn call(&self, alloc: Global, answer: &mut Answer, line: Line<'_>) -> Result<bool, NoMemory> {
+        if !answer.renew()? {
+            return Ok(false);
+        }
+        let told = match line.word {
+            "pdu" => tell_pdu(alloc, line.rest, &self.input)?,
+            "pieces" => tell_pieces(alloc, Words::of(line.rest), &self.input)?,
+            _ => None,
+        };
+        let Some(told) = told else {
+            return Ok(false);
+        };
+        answer.put("out", &told)?;
+        Ok(true)
+    }
+}
+
+impl Subject for Scene {
+    fn begin(&mut self, _alloc: Global) -> Result<(), NoMemory> {
+        self.input.clear();
+        Ok(())
+    }
+
+    fn step(
+        &mut self,
+        alloc: Global,
+        kept: &Kept,
+        answer: &mut Answer,
+        line: Line<'_>,
+    ) -> Result<bool, NoMemory> {
+        match line.word {
+            "input" => {
+                self.input.clear();
+                self.add_input(alloc, kept, line.rest)
+            }
+            "more" => self.add_input(alloc, kept, line.rest),
+            _ => self.call(alloc, answer, line),
+        }
+    }
+}
