@@ -1,23 +1,26 @@
 -- Each fact on a status follows from how the call ends, by cases on the refusal.
 use Rattle.std.proofs.Common.{◌≡◌, ◌⊎◌, inl, inr, ⊎_elim, ℕ, ◌<◌, ◌≤◌, List, length, drop, refl, sym, ap, ap₂, ◌∙◌, subst, arith, true, Option, Some, None, IsSome, Ok, Err}
+use Rattle.pcp_base.specs.declared.file.FileId.{FileId}
 use Rattle.pcp_model.specs.Disk.{IsSettled}
 use Rattle.pcp_outside.specs.Causes.{Rose}
 use Rattle.pm_commands.specs.declared.stage.ReadRefusal.{ReadRefusal}
+use Rattle.pm_commands.specs.declared.stage.ReadRefusal.TheVariants.{ReadFault, InputLimit}
 use Rattle.pm_commands.specs.declared.stage.InputRefusal.{InputRefusal}
 use Rattle.pm_commands.specs.declared.stage.FilesRefusal.{FilesRefusal}
-use Rattle.pm_commands.specs.declared.stage.FilesRefusal.TheVariants.{LaterDisk}
+use Rattle.pm_commands.specs.declared.stage.FilesRefusal.TheVariants.{LaterDisk, Compressed, NotArchive}
 use Rattle.pm_commands.specs.declared.stage.DiskRefusal.TheVariants.{Files as FilesAway, DiskFault}
 use Rattle.pm_commands.specs.declared.words.Command.{Command}
 use Rattle.pm_commands.specs.declared.refusal.Refusal.{Refusal}
 use Rattle.pm_commands.specs.declared.refusal.Refusal.TheVariants.{Words, Reading, Input, Disk, NoMemory}
 use Rattle.pm_commands.specs.CommandLine.{command_of}
 use Rattle.pm_commands.specs.Causes.{Got, Asks, fault_of, IsReader, Finds, Left, Cause}
-use Rattle.pm_commands.specs.Ends.{Ends, EndsDone, EndsUntold, HasRun}
-use Rattle.pm_commands.specs.Facts.{UsageIsExact, LimitIsExact, InputFaultIsExact, LaterIsExact, Given, Meets, refused_of, TurnsAway, IsRefused, Unwritten, IsGoodDisk, IsGoodRun, Keeps}
+use Rattle.pm_commands.specs.Ends.{Ends, EndsDone, EndsUntold, HasRun, IsNever}
+use Rattle.pm_commands.specs.Facts.{UsageIsExact, LimitIsExact, InputFaultIsExact, LaterIsExact, ArchiveFaultIsExact, Given, Meets, refused_of, TurnsAway, IsRefused, Unwritten, IsGoodDisk, IsGoodRun, Keeps}
 use Rattle.pm_commands.specs.Inputs.{input_limit, refusal_of}
 use Rattle.pm_commands.specs.Meanings.{meaning}
 use Rattle.pm_commands.specs.Refusals.{status_of, reading_status, input_status, files_status}
 use Rattle.pm_commands.specs.Sides.{SourceSide, SinkSide, DiskSide, found, Untouched}
+use Rattle.pm_commands.proofs.Lookings.{one_later, wrapped_first}
 
 module _ (words : List (List ℕ)) (s : SourceSide) (k : SinkSide) (d : DiskSide) where
   -- a refusal that has this cause
@@ -151,6 +154,9 @@ module _ (words : List (List ℕ)) (s : SourceSide) (k : SinkSide) (d : DiskSide
   input_now : (e : InputRefusal) → input_status e ≡ 15 → ⊥
   input_now e h = grind arith
 
+  never_six : (e : InputRefusal) → input_status e ≡ 6 → ⊥
+  never_six e h = grind arith
+
   never_later : (e : ReadRefusal) → reading_status e ≡ 15 → ⊥
   never_later e h = grind arith
 
@@ -166,24 +172,56 @@ module _ (words : List (List ℕ)) (s : SourceSide) (k : SinkSide) (d : DiskSide
   later_only (Reading e) c h = absurd (never_later e h)
   later_only (Input e) c h = absurd (input_now e h)
   later_only (Disk (FilesAway LaterDisk)) c h = turned_away LaterDisk c
+  later_only (Disk (FilesAway (Compressed file))) c h = absurd (below 6 (omega arith) h)
+  later_only (Disk (FilesAway (NotArchive file at))) c h = absurd (below 6 (omega arith) h)
   later_only (Disk DiskFault) c h = absurd (below 5 (omega arith) h)
   later_only NoMemory c h = absurd (below 9 (omega arith) h)
 
-  later_found : (e : Refusal) → Caused e → (b : Meets words s) → refused_of b ≡ None → (status_of e ≡ 15) ⊎ ((status_of e ≡ 9) ⊎ ((status_of e ≡ 3) ⊎ (status_of e ≡ 5)))
-  later_found e c b good = grind (arith, apart, not_met, found_bad)
+  -- a file refusal that a command of the words has, told of the command that got its input
+  turned_here : (a : Asks words s) (b : Meets words s) (e : FilesRefusal) → (meaning b.command).turns_away b.input (found d) e → (meaning a.command).turns_away a.input (found d) e
+  turned_here a b e turned =
+      subst (λ (i : List ℕ). (meaning a.command).turns_away i (found d) e) (sym (same_input a b))
+      (subst (λ (c : Command). (meaning c).turns_away b.input (found d) e) (sym (same_command a b)) turned)
+
+  -- which refusal of a good input comes of files that are turned away: one of this status, unless memory ran out, the source or the disk failed
+  turned_found : (status : ℕ) (b : Meets words s) → refused_of b ≡ None → ((a : Asks words s) (e : FilesRefusal) → (d.tells → (meaning a.command).turns_away a.input (found d) e) → files_status e ≡ status)
+      → (e : Refusal) → Caused e → (status_of e ≡ status) ⊎ ((status_of e ≡ 9) ⊎ ((status_of e ≡ 3) ⊎ (status_of e ≡ 5)))
+  turned_found status b good so (Words usage) c = absurd (apart usage.at c.0 b.command b.words_are)
+  turned_found status b good so (Reading ReadFault) c = inr (inr (inl refl))
+  turned_found status b good so (Reading InputLimit) c = absurd (not_met c.0 (λ tells. (c.1 tells).0) b)
+  turned_found status b good so (Input e) c = absurd (found_bad c.0.0 b e c.0.1 good)
+  turned_found status b good so (Disk (FilesAway e)) c = inl (so c.0 e c.2.1)
+  turned_found status b good so (Disk DiskFault) c = inr (inr (inr refl))
+  turned_found status b good so NoMemory c = inr (inl refl)
 
   -- what was done was over files that the command doesn't turn away
-  not_welcome : (text : List ℕ) → HasRun words s d text → (b : Meets words s) (e : FilesRefusal) → d.tells → (meaning b.command).turns_away b.input (found d) e → ⊥
-  not_welcome text run b e tells turned =
-      run.served.welcome tells e (subst (λ (i : List ℕ). (meaning run.asks.command).turns_away i (found d) e) (sym (same_input run.asks b))
-      (subst (λ (c : Command). (meaning c).turns_away b.input (found d) e) (sym (same_command run.asks b)) turned))
+  not_welcome : (text : List ℕ) → HasRun words s d text → (b : Meets words s) (e : FilesRefusal) → IsNever e → d.tells → (meaning b.command).turns_away b.input (found d) e → ⊥
+  not_welcome text run b e never tells turned =
+      run.served.welcome tells e never (turned_here run.asks b e turned)
 
   pub later_is_exact : (status : ℕ) → Ends words s k d status → LaterIsExact words s d status
   later_is_exact status ends = record {
     only = by_end status (λ n. n ≡ 15 → TurnsAway words s d LaterDisk) ends (λ done h. cc) (λ untold h. cc) later_only;
     always = by_end status (λ n. (b : Meets words s) → refused_of b ≡ None → d.tells → (meaning b.command).turns_away b.input (found d) LaterDisk → (n ≡ 15) ⊎ ((n ≡ 9) ⊎ ((n ≡ 3) ⊎ (n ≡ 5)))) ends
-        (λ done b good tells turned. absurd (not_welcome done.text done.run b LaterDisk tells turned)) (λ untold b good tells turned. absurd (not_welcome untold.text untold.run b LaterDisk tells turned))
-        (λ e c b good tells turned. later_found e c b good);
+        (λ done b good tells turned. absurd (not_welcome done.text done.run b LaterDisk tt tells turned)) (λ untold b good tells turned. absurd (not_welcome untold.text untold.run b LaterDisk tt tells turned))
+        (λ e c b good tells turned. turned_found 15 b good (λ a x also. ap files_status (one_later a.command a.input (found d) x (turned_here a b LaterDisk turned) (also tells))) e c);
+  }
+
+  archive_only : (e : Refusal) → Caused e → status_of e ≡ 6 → (x : FilesRefusal) × (files_status x ≡ 6) × TurnsAway words s d x
+  archive_only (Disk (FilesAway e)) c h = (e, h, record { asks = c.0; good = c.1.0; uses = c.1.1; turned = c.2.1 })
+  archive_only (Disk DiskFault) c h = cc
+  archive_only (Words usage) c h = cc
+  archive_only (Reading ReadFault) c h = cc
+  archive_only (Reading InputLimit) c h = cc
+  archive_only (Input e) c h = absurd (never_six e h)
+  archive_only NoMemory c h = cc
+
+  pub archive_fault_is_exact : (status : ℕ) → Ends words s k d status → ArchiveFaultIsExact words s d status
+  archive_fault_is_exact status ends = record {
+    only = by_end status (λ n. n ≡ 6 → (x : FilesRefusal) × (files_status x ≡ 6) × TurnsAway words s d x) ends (λ done h. cc) (λ untold h. cc) archive_only;
+    always = by_end status (λ n. (b : Meets words s) → refused_of b ≡ None → d.tells → (file : FileId) → (meaning b.command).turns_away b.input (found d) (Compressed file) → (n ≡ 6) ⊎ ((n ≡ 9) ⊎ ((n ≡ 3) ⊎ (n ≡ 5)))) ends
+        (λ done b good tells file turned. absurd (not_welcome done.text done.run b (Compressed file) tt tells turned)) (λ untold b good tells file turned. absurd (not_welcome untold.text untold.run b (Compressed file) tt tells turned))
+        (λ e c b good tells file turned. turned_found 6 b good (λ a x also. wrapped_first a.command a.input (found d) file x (turned_here a b (Compressed file) turned) (also tells)) e c);
   }
 
   left_unwritten : (status : ℕ) (a : Asks words s) → Left (meaning a.command) status a.input d → Unwritten words s d status
@@ -193,7 +231,7 @@ module _ (words : List (List ℕ)) (s : SourceSide) (k : SinkSide) (d : DiskSide
   refused_unwritten (Words usage) c = inl c.2
   refused_unwritten (Reading e) c = inl c.2
   refused_unwritten (Input e) c = inl c.1
-  refused_unwritten (Disk (FilesAway e)) c = left_unwritten (files_status e) c.0 c.2.0
+  refused_unwritten (Disk (FilesAway e)) c = inl c.2.0
   refused_unwritten (Disk DiskFault) c = left_unwritten 5 c.0 c.2.0
   refused_unwritten NoMemory c = ⊎_elim (λ still. inl still) (λ left. left_unwritten 9 left.0 left.1) c.1
 
@@ -227,7 +265,13 @@ module _ (words : List (List ℕ)) (s : SourceSide) (k : SinkSide) (d : DiskSide
   good_source good rose = good.source_kept rose
 
   completed : (e : Refusal) → Caused e → IsGoodRun words s k d → (status_of e ≡ 0) ⊎ (status_of e ≡ 9)
-  completed e c good = grind (arith, good_apart, good_within, good_input, good_files, good_faults, good_source)
+  completed (Words usage) c good = absurd (good_apart good usage.at c.0)
+  completed (Reading ReadFault) c good = absurd (good_source good c.1.0)
+  completed (Reading InputLimit) c good = absurd (good_within good c.0 c.1)
+  completed (Input e) c good = absurd (good_input good c.0.0 e c.0.1)
+  completed (Disk (FilesAway e)) c good = absurd (good_files good c.0 c.1.1 e c.2.1)
+  completed (Disk DiskFault) c good = absurd (good_faults good c.0 c.1.1 c.2.1)
+  completed NoMemory c good = inr refl
 
   -- good input succeeds
   pub completes : (status : ℕ) → Ends words s k d status → IsGoodRun words s k d → (status ≡ 0) ⊎ (status ≡ 9)
@@ -247,7 +291,7 @@ module _ (words : List (List ℕ)) (s : SourceSide) (k : SinkSide) (d : DiskSide
   stays_settled (Words usage) c h = still_settled c.2
   stays_settled (Reading e) c h = still_settled c.2
   stays_settled (Input e) c h = still_settled c.1
-  stays_settled (Disk (FilesAway e)) c h = c.2.0.settled h
+  stays_settled (Disk (FilesAway e)) c h = still_settled c.2.0
   stays_settled (Disk DiskFault) c h = c.2.0.settled h
   stays_settled NoMemory c h = ⊎_elim still_settled (λ left. left.1.settled h) c.1
 

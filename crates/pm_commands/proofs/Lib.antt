@@ -1,4 +1,6 @@
+pub mod Asking
 pub mod Components
+pub mod Lookings
 pub mod Looks
 pub mod Memory
 pub mod Facts

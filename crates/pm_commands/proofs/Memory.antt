@@ -2,6 +2,7 @@
 use Rattle.std.proofs.Common.{◌≡◌, inl, inr, ℕ, ◌≤◌, List, [], length, refl, sym, ◌∙◌, subst, arith, append-nil, Option, Some, None, IsSome}
 use Rattle.std.proofs.lemmas.List.{drop_all}
 use Rattle.pm_commands.specs.declared.stage.InputRefusal.{InputRefusal}
+use Rattle.pm_commands.specs.declared.stage.DiskRefusal.TheVariants.{Files, DiskFault}
 use Rattle.pm_commands.specs.declared.refusal.Refusal.{Refusal}
 use Rattle.pm_commands.specs.declared.refusal.Refusal.TheVariants.{Words, Reading, Input, Disk, NoMemory}
 use Rattle.pm_commands.specs.Causes.{Got, Cause, TookSome}
@@ -24,7 +25,8 @@ pub out_of_memory : (words : List (List ℕ)) (s : SourceSide) (d : DiskSide) (e
 out_of_memory words s d (Words usage) c some = (λ tells. (0, omega arith, c.1 tells), inl c.2)
 out_of_memory words s d (Input e) c some = (took_some s (meaning c.0.0.command).reads c.0.0.input c.0.0.got, inl c.1)
 out_of_memory words s d (Reading e) c some = cc
-out_of_memory words s d (Disk e) c some = cc
+out_of_memory words s d (Disk (Files e)) c some = (took_some s (meaning c.0.command).reads c.0.input c.0.got, inl c.2.0)
+out_of_memory words s d (Disk DiskFault) c some = cc
 out_of_memory words s d NoMemory c some = cc
 
 pub ends_untold : (words : List (List ℕ)) (s : SourceSide) (k : SinkSide) (d : DiskSide) (e : Refusal) → Cause words s d e → IsSome (numbered_line_of e) → (k.tells → k.after ≡ k.written) → Ends words s k d 9

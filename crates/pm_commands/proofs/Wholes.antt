@@ -23,12 +23,10 @@ use Rattle.pm_commands.specs.declared.words.OnceWords.{OnceWords}
 use Rattle.pm_commands.specs.Causes.{StopCause}
 use Rattle.pm_commands.specs.Ends.{HasServed, MayLeave}
 use Rattle.pm_commands.specs.Inputs.{refusal_of, made_of}
-use Rattle.pm_commands.specs.Refusals.{files_status}
 use Rattle.pm_commands.specs.Sides.{DiskSide}
 use Rattle.pm_commands.specs.Writes.{WriteCause, HoldsPlan, MayWrite, line_of_plan}
 use Rattle.pm_commands.specs.commands.once.{once, IsImageInput, HasByte, logged_line, HasLogged, MayHaveLogged}
 use Rattle.pm_commands.proofs.Looks.{holds_nothing}
-use Rattle.pm_commands.proofs.Served.{left_alone}
 
 -- the pieces made of an input
 abbrev pub Planned : OnceWords → List ℕ → Option Pieces → Type 0
@@ -74,7 +72,7 @@ has_served asked input d None text (words, is, image, none) good empty final tol
     let after : d.tells → IsEmpty (contents_of d.after) = λ tells. subst (λ (h : Holdings). IsEmpty (contents_of h)) (sym (final tells)) (empty tells) in
     record {
       good = good;
-      welcome = λ tells e turned. has_no_byte (contents_of d.held) (empty tells) turned.1;
+      welcome = λ tells e never turned. has_no_byte (contents_of d.held) (empty tells) turned.1;
       done = record {
         image = words;
         is_image = is;
@@ -91,7 +89,7 @@ has_served asked input d (Some p) text (words, is, image, plan) good empty final
     let whole : d.tells → HoldsArchive (pieces (fetched_of asked.stamp asked.file words)) d.after = λ tells. subst (λ q. HoldsArchive q d.after) plan.are (final tells) in
     record {
       good = good;
-      welcome = λ tells e turned. has_no_byte (contents_of d.held) (empty tells) turned.1;
+      welcome = λ tells e never turned. has_no_byte (contents_of d.held) (empty tells) turned.1;
       done = record {
         image = words;
         is_image = is;
@@ -111,7 +109,7 @@ has_served asked input d (Some p) text (words, is, image, plan) good empty final
 
 -- why the writes stop, told of the command
 pub write_stops : (asked : OnceWords) (input : List ℕ) (d : DiskSide) (e : DiskRefusal) → refusal_of (once asked).reads input ≡ None → WriteCause d e → StopCause (once asked) input d (Disk e)
-write_stops asked input d (Files e) good c = ((good, refl), (left_alone (once asked) (files_status e) input d c.0, c.1))
+write_stops asked input d (Files e) good c = ((good, refl), c)
 write_stops asked input d DiskFault good c = (
   (good, refl),
   (

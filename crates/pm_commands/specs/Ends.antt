@@ -3,6 +3,7 @@ use Rattle.std.specs.Prelude.{◌≡◌, ◌⊎◌, ℕ, List, ◌++◌, take, c
 use Rattle.pcp_model.specs.Disk.{Files, Holdings, CrashImage, IsSettled}
 use Rattle.pcp_outside.specs.Causes.{Rose}
 use Rattle.pm_commands.specs.declared.stage.FilesRefusal.{FilesRefusal}
+use Rattle.pm_commands.specs.declared.stage.FilesRefusal.TheVariants.{LaterDisk, Compressed, NotArchive}
 use Rattle.pm_commands.specs.declared.refusal.Refusal.{Refusal}
 use Rattle.pm_commands.specs.declared.output.Output.{Output}
 use Rattle.pm_commands.specs.declared.output.Output.TheVariants.{Logged, NothingLogged, Made}
@@ -19,10 +20,16 @@ shown Logged = codes "logged 1\n"
 shown NothingLogged = codes "logged 0\n"
 shown (Made bytes) = bytes
 
+-- over files that are turned away so, no command is done
+abbrev pub IsNever : FilesRefusal → Type 0
+IsNever LaterDisk = Unit {0}
+IsNever (Compressed file) = Unit {0}
+IsNever (NotArchive file at) = ⊥
+
 -- A command is done with an input that it reads, over files that it doesn't turn away, and this is to be written.
 pub record HasServed (m : Meaning) (input : List ℕ) (d : DiskSide) (text : List ℕ) : Type 0 where
   pub good : refusal_of m.reads input ≡ None
-  pub welcome : d.tells → (e : FilesRefusal) → m.turns_away input (found d) e → ⊥
+  pub welcome : d.tells → (e : FilesRefusal) → IsNever e → m.turns_away input (found d) e → ⊥
   pub done : m.done input d
   pub says : m.says input d text
   pub kept : d.tells → (crash : Files) → CrashImage d.after crash → m.keeps input crash

@@ -5,14 +5,15 @@ use Rattle.pcp_model.specs.Disk.{Files, Holdings, CrashImage}
 use Rattle.pcp_outside.specs.Causes.{Rose}
 use Rattle.pm_commands.specs.declared.stage.InputRefusal.{InputRefusal}
 use Rattle.pm_commands.specs.declared.stage.FilesRefusal.{FilesRefusal}
-use Rattle.pm_commands.specs.declared.stage.FilesRefusal.TheVariants.{LaterDisk}
+use Rattle.pm_commands.specs.declared.stage.FilesRefusal.TheVariants.{LaterDisk, Compressed}
 use Rattle.pm_commands.specs.declared.words.Command.{Command}
 use Rattle.pm_commands.specs.CommandLine.{command_of}
 use Rattle.pm_commands.specs.Causes.{Asks, fault_of, Finds, IsReader}
 use Rattle.pm_commands.specs.Inputs.{input_limit, refusal_of}
 use Rattle.pm_commands.specs.Meaning.{Meaning}
 use Rattle.pm_commands.specs.Meanings.{meaning}
-use Rattle.pm_commands.specs.Refusals.{input_status}
+use Rattle.pcp_base.specs.declared.file.FileId.{FileId}
+use Rattle.pm_commands.specs.Refusals.{input_status, files_status}
 use Rattle.pm_commands.specs.Sides.{SourceSide, SinkSide, DiskSide, found, Untouched}
 
 -- the words are a command that has nothing to do with the disk
@@ -66,6 +67,13 @@ pub record LaterIsExact (words : List (List ℕ)) (s : SourceSide) (d : DiskSide
   pub only : status ≡ 15 → TurnsAway words s d LaterDisk
   pub always : (a : Meets words s) → refused_of a ≡ None → d.tells → (meaning a.command).turns_away a.input (found d) LaterDisk
       → (status ≡ 15) ⊎ ((status ≡ 9) ⊎ ((status ≡ 3) ⊎ (status ≡ 5)))
+
+-- 6 only where the archive is turned away: a file stands wrapped, or a place fits no archive; always in the first case, unless the
+-- disk fails before
+pub record ArchiveFaultIsExact (words : List (List ℕ)) (s : SourceSide) (d : DiskSide) (status : ℕ) : Type 0 where
+  pub only : status ≡ 6 → (e : FilesRefusal) × (files_status e ≡ 6) × TurnsAway words s d e
+  pub always : (a : Meets words s) → refused_of a ≡ None → d.tells → (file : FileId) → (meaning a.command).turns_away a.input (found d) (Compressed file)
+      → (status ≡ 6) ⊎ ((status ≡ 9) ⊎ ((status ≡ 3) ⊎ (status ≡ 5)))
 
 -- it was refused, so that it wasn't done
 abbrev pub IsRefused : ℕ → Type 0

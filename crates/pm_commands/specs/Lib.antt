@@ -1,3 +1,4 @@
+pub mod Archives
 pub mod Causes
 pub mod CommandLine
 pub mod Ends

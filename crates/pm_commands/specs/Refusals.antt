@@ -1,7 +1,11 @@
 -- How a command that is refused ends: its status and its last line, stage by stage.
 use Rattle.std.specs.Prelude.{◌≡◌, ◌⊎◌, ℕ, List, [], ◌∷◌, ◌++◌, take, Option, Some, None, unwrap_or, codes}
 use Rattle.std.specs.Fmt.{decimal}
+use Rattle.pcp_base.specs.declared.file.FileId.{FileId}
+use Rattle.pcp_base.specs.declared.file.FileId.TheVariants.{Meta, Index, Volume}
 use Rattle.pcp_outside.specs.Causes.{Rose}
+use Rattle.archive_reader.specs.declared.fault.ReaderFault.{ReaderFault}
+use Rattle.archive_reader.specs.declared.fault.ReaderFault.TheVariants as faults
 use Rattle.pm_print.specs.FaultLines.{image_line, text_line}
 use Rattle.pm_commands.specs.declared.stage.Stop.{Stop}
 use Rattle.pm_commands.specs.declared.stage.Stop.TheVariants.{OutOfMemory, Refused}
@@ -11,7 +15,7 @@ use Rattle.pm_commands.specs.declared.stage.ReadRefusal.TheVariants.{ReadFault, 
 use Rattle.pm_commands.specs.declared.stage.InputRefusal.{InputRefusal}
 use Rattle.pm_commands.specs.declared.stage.InputRefusal.TheVariants.{Image, Line}
 use Rattle.pm_commands.specs.declared.stage.FilesRefusal.{FilesRefusal}
-use Rattle.pm_commands.specs.declared.stage.FilesRefusal.TheVariants.{LaterDisk}
+use Rattle.pm_commands.specs.declared.stage.FilesRefusal.TheVariants.{LaterDisk, Compressed, NotArchive}
 use Rattle.pm_commands.specs.declared.stage.DiskRefusal.{DiskRefusal}
 use Rattle.pm_commands.specs.declared.stage.DiskRefusal.TheVariants.{Files, DiskFault}
 use Rattle.pm_commands.specs.declared.refusal.Refusal.{Refusal}
@@ -42,17 +46,36 @@ input_line (Line fault) = text_line fault.line fault.fault
 -- the files, and the disk
 abbrev pub files_status : FilesRefusal → ℕ
 files_status LaterDisk = 15
+files_status (Compressed file) = 6
+files_status (NotArchive file at) = 6
 
-abbrev pub files_line : FilesRefusal → List ℕ
-files_line LaterDisk = codes "later disk\n"
+-- a file's name in a line
+abbrev pub file_name : FileId → List ℕ
+file_name Meta = codes "meta"
+file_name Index = codes "index"
+file_name (Volume k) = decimal k
+
+abbrev pub numbered_files_line : FilesRefusal → Option (List ℕ)
+numbered_files_line LaterDisk = None
+numbered_files_line (Compressed file) = Some (codes "compressed " ++ (file_name file ++ 10 ∷ []))
+numbered_files_line (NotArchive file at) = Some (codes "not archive " ++ (file_name file ++ (32 ∷ (decimal at ++ 10 ∷ []))))
+
+abbrev pub plain_files_line : FilesRefusal → List ℕ
+plain_files_line LaterDisk = codes "later disk\n"
+plain_files_line (Compressed file) = []
+plain_files_line (NotArchive file at) = []
 
 abbrev pub disk_status : DiskRefusal → ℕ
 disk_status (Files e) = files_status e
 disk_status DiskFault = 5
 
-abbrev pub disk_line : DiskRefusal → List ℕ
-disk_line (Files e) = files_line e
-disk_line DiskFault = codes "disk fault\n"
+abbrev pub numbered_disk_line : DiskRefusal → Option (List ℕ)
+numbered_disk_line (Files e) = numbered_files_line e
+numbered_disk_line DiskFault = None
+
+abbrev pub plain_disk_line : DiskRefusal → List ℕ
+plain_disk_line (Files e) = plain_files_line e
+plain_disk_line DiskFault = codes "disk fault\n"
 
 -- all stages
 abbrev pub status_of : Refusal → ℕ
@@ -66,7 +89,7 @@ abbrev pub numbered_line_of : Refusal → Option (List ℕ)
 numbered_line_of (Words usage) = Some (usage_line usage)
 numbered_line_of (Reading e) = None
 numbered_line_of (Input e) = Some (input_line e)
-numbered_line_of (Disk e) = None
+numbered_line_of (Disk e) = numbered_disk_line e
 numbered_line_of NoMemory = None
 
 -- want of memory has no line
@@ -74,7 +97,7 @@ abbrev pub plain_line_of : Refusal → List ℕ
 plain_line_of (Words usage) = []
 plain_line_of (Reading e) = reading_line e
 plain_line_of (Input e) = []
-plain_line_of (Disk e) = disk_line e
+plain_line_of (Disk e) = plain_disk_line e
 plain_line_of NoMemory = []
 
 -- the last line of a refusal
@@ -85,6 +108,13 @@ line_of e = unwrap_or (numbered_line_of e) (plain_line_of e)
 abbrev pub stopped : {E : Type 0} → (E → Refusal) → Stop E → Refusal
 stopped at OutOfMemory = NoMemory
 stopped at (Refused e) = at e
+
+-- a reader's fault, as a refusal
+abbrev pub reader_refusal : ReaderFault → Refusal
+reader_refusal (faults.Compressed file) = Disk (Files (Compressed file))
+reader_refusal (faults.NotArchive file at) = Disk (Files (NotArchive file at))
+reader_refusal faults.DiskFault = Disk DiskFault
+reader_refusal faults.NoMemory = NoMemory
 
 -- the line is written, or a front of it where the sink failed
 abbrev pub Wrote : ℕ → ℕ → List ℕ → List ℕ → List ℕ → Type 0

@@ -2,7 +2,8 @@
 ghost use Rattle.std.specs.Prelude.{◌≡◌, IfOk, OnOk, OnErr, IsSome};
 ghost use Rattle.pm_commands.specs.Refusals.{status_of, numbered_line_of, plain_line_of, line_of, Wrote};
 
-use crate::stage::{DiskRefusal, InputRefusal, ReadRefusal, Stop, Usage};
+use crate::stage::{DiskRefusal, FilesRefusal, InputRefusal, ReadRefusal, Stop, Usage};
+use archive_reader::ReaderFault;
 use pcp_base::{Bytes, NoMemory};
 use pcp_outside::{Sink, write_all};
 use std::alloc::Global;
@@ -73,6 +74,35 @@ impl From<DiskRefusal> for Refusal {
     }
 }
 
+impl From<ReaderFault> for Refusal {
+    ghost use Rattle.pm_commands.specs.Refusals.{reader_refusal};
+
+    ghost from_gives = { λ fault e. e ≡ reader_refusal fault };
+
+    fn from(fault: ReaderFault) -> Refusal {
+        match fault {
+            ReaderFault::Compressed { file } => {
+                Refusal::Disk(DiskRefusal::Files(FilesRefusal::Compressed { file }))
+            }
+            ReaderFault::NotArchive { file, at } => {
+                Refusal::Disk(DiskRefusal::Files(FilesRefusal::NotArchive { file, at }))
+            }
+            ReaderFault::DiskFault => Refusal::Disk(DiskRefusal::DiskFault),
+            ReaderFault::NoMemory => Refusal::NoMemory,
+        }
+    }
+}
+
+impl From<NoMemory> for Refusal {
+    ghost use Rattle.pm_commands.specs.declared.refusal.Refusal.TheVariants.{NoMemory as Stopped};
+
+    ghost from_gives = { λ _ e. e ≡ Stopped };
+
+    fn from(_error: NoMemory) -> Refusal {
+        Refusal::NoMemory
+    }
+}
+
 impl Refusal {
     /// The exit status.
     pub fn status(&self) -> u8
@@ -101,7 +131,8 @@ impl Refusal {
                 let line = refusal.line(alloc)?;
                 Ok(Some(line))
             }
-            Refusal::Reading(_) | Refusal::Disk(_) | Refusal::NoMemory => Ok(None),
+            Refusal::Disk(refusal) => refusal.numbered_line(alloc),
+            Refusal::Reading(_) | Refusal::NoMemory => Ok(None),
         }
     }
 
@@ -111,7 +142,7 @@ impl Refusal {
     {
         match self {
             Refusal::Reading(refusal) => refusal.line(),
-            Refusal::Disk(refusal) => refusal.line(),
+            Refusal::Disk(refusal) => refusal.plain_line(),
             Refusal::Words(_) | Refusal::Input(_) | Refusal::NoMemory => b"",
         }
     }

@@ -1,11 +1,12 @@
 //! What each stage of a command refuses: the words, the reading of the input, the input, and the disk; with the exit
 //! status and the last line of each refusal.
-ghost use Rattle.std.specs.Prelude.{◌≡◌, IfOk};
-ghost use Rattle.pm_commands.specs.Refusals.{usage_line, reading_status, reading_line, input_status, input_line, disk_status, disk_line};
+ghost use Rattle.std.specs.Prelude.{◌≡◌, Some, IfOk, OnErr, IsSome, string_bytes};
+ghost use Rattle.pm_commands.specs.Refusals.{usage_line, reading_status, reading_line, input_status, input_line, file_name, files_status, numbered_files_line, plain_files_line, disk_status, numbered_disk_line, plain_disk_line};
+ghost use Rattle.pm_commands.specs.declared.stage.FilesRefusal.TheVariants.{Compressed, NotArchive};
 
 use mmv_layout::ImageFault;
 use mmv_writer::TextFault;
-use pcp_base::{Bytes, List, NoMemory};
+use pcp_base::{Bytes, FileId, List, NoMemory};
 use pm_print::{image_fault_text, line_fault_text};
 use std::alloc::{AllocError, Global};
 
@@ -114,6 +115,78 @@ impl InputRefusal {
 pub enum FilesRefusal {
     /// The files aren't empty; such an archive is gone on with later.
     LaterDisk,
+    /// The file stands under its name with `.xz` or `.gz` added.
+    Compressed { file: FileId },
+    /// The file fits no archive from this byte on.
+    NotArchive { file: FileId, at: u64 },
+}
+
+impl FilesRefusal {
+    pub(crate) fn status(&self) -> u8
+        ensures { result ≡ files_status self.now }
+    {
+        match self {
+            FilesRefusal::LaterDisk => 15,
+            FilesRefusal::Compressed { .. } | FilesRefusal::NotArchive { .. } => 6,
+        }
+    }
+
+    // The line where making it takes memory.
+    fn numbered_line(&self, alloc: Global) -> Result<Option<Bytes>, NoMemory>
+        ensures line { IfOk result (λ line. line ≡ numbered_files_line self.now) }
+        ensures numbered { OnErr result (IsSome (numbered_files_line self.now)) }
+    {
+        match self {
+            FilesRefusal::LaterDisk => Ok(None),
+            FilesRefusal::Compressed { file } => {
+                let line = compressed_line(alloc, *file)?;
+                Ok(Some(line))
+            }
+            FilesRefusal::NotArchive { file, at } => {
+                let line = misfit_line(alloc, *file, *at)?;
+                Ok(Some(line))
+            }
+        }
+    }
+
+    // The line where it is always the same.
+    fn plain_line(&self) -> &'static [u8]
+        ensures { result.now ≡ plain_files_line self.now }
+    {
+        match self {
+            FilesRefusal::LaterDisk => b"later disk\n",
+            FilesRefusal::Compressed { .. } | FilesRefusal::NotArchive { .. } => b"",
+        }
+    }
+}
+
+// A file's name in a line: `meta`, `index`, or the volume's number.
+fn file_name(alloc: Global, file: FileId) -> Result<String, AllocError>
+    ensures { IfOk result (λ name. string_bytes name ≡ file_name file) }
+{
+    match file {
+        FileId::Meta => format!(in alloc; "meta"),
+        FileId::Index => format!(in alloc; "index"),
+        FileId::Volume(number) => format!(in alloc; "{number}"),
+    }
+}
+
+fn compressed_line(alloc: Global, file: FileId) -> Result<Bytes, NoMemory>
+    ensures { IfOk result (λ line. Some line ≡ numbered_files_line (Compressed file)) }
+{
+    let name = file_name(alloc, file)?;
+    let name = name.as_str();
+    let line = format!(in alloc; "compressed {name}\n")?;
+    Ok(List::from_vec(line.into_bytes()))
+}
+
+fn misfit_line(alloc: Global, file: FileId, at: u64) -> Result<Bytes, NoMemory>
+    ensures { IfOk result (λ line. Some line ≡ numbered_files_line (NotArchive file at)) }
+{
+    let name = file_name(alloc, file)?;
+    let name = name.as_str();
+    let line = format!(in alloc; "not archive {name} {at}\n")?;
+    Ok(List::from_vec(line.into_bytes()))
 }
 
 /// Why a command stops at the disk.
@@ -130,16 +203,28 @@ impl DiskRefusal {
         ensures { result ≡ disk_status self.now }
     {
         match self {
-            DiskRefusal::Files(FilesRefusal::LaterDisk) => 15,
+            DiskRefusal::Files(refusal) => refusal.status(),
             DiskRefusal::DiskFault => 5,
         }
     }
 
-    pub(crate) fn line(&self) -> &'static [u8]
-        ensures { result.now ≡ disk_line self.now }
+    // The line where making it takes memory.
+    pub(crate) fn numbered_line(&self, alloc: Global) -> Result<Option<Bytes>, NoMemory>
+        ensures line { IfOk result (λ line. line ≡ numbered_disk_line self.now) }
+        ensures numbered { OnErr result (IsSome (numbered_disk_line self.now)) }
     {
         match self {
-            DiskRefusal::Files(FilesRefusal::LaterDisk) => b"later disk\n",
+            DiskRefusal::Files(refusal) => refusal.numbered_line(alloc),
+            DiskRefusal::DiskFault => Ok(None),
+        }
+    }
+
+    // The line where it is always the same.
+    pub(crate) fn plain_line(&self) -> &'static [u8]
+        ensures { result.now ≡ plain_disk_line self.now }
+    {
+        match self {
+            DiskRefusal::Files(refusal) => refusal.plain_line(),
             DiskRefusal::DiskFault => b"disk fault\n",
         }
     }

@@ -5,11 +5,12 @@ ghost use Rattle.pcp_outside.specs.Causes.{Rose};
 ghost use Rattle.pm_commands.specs.Causes.{Cause, StopCause};
 ghost use Rattle.pm_commands.specs.CommandLine.{FitsCommand};
 ghost use Rattle.pm_commands.specs.Ends.{HasServed, HasRun, Ends, EndsDone, MayLeave, MayBeLeft, shown};
-ghost use Rattle.pm_commands.specs.Facts.{UsageIsExact, LimitIsExact, InputFaultIsExact, LaterIsExact, IsAside, IsInputless, IsRefused, Unwritten, IsGoodRun, Keeps};
+ghost use Rattle.pm_commands.specs.Facts.{UsageIsExact, LimitIsExact, InputFaultIsExact, LaterIsExact, ArchiveFaultIsExact, IsAside, IsInputless, IsRefused, Unwritten, IsGoodRun, Keeps};
 ghost use Rattle.pm_commands.specs.Inputs.{input_limit};
 ghost use Rattle.pm_commands.specs.Meanings.{meaning};
 ghost use Rattle.pm_commands.specs.Sides.{source_side, sink_side, disk_side, Leaves};
 
+use crate::commands::info::info;
 use crate::commands::mmv_dump::mmv_dump;
 use crate::commands::mmv_make::mmv_make;
 use crate::commands::once::once;
@@ -44,6 +45,7 @@ fn serve<D: Disk>(
             let text = mmv_dump(alloc, input)?;
             Ok(Output::Made(text))
         }
+        Command::Info => info(alloc, disk),
     }
 }
 
@@ -92,7 +94,8 @@ fn answer<I: Source, O: Sink, D: Disk>(
 
 /// Runs the command that the words are, and answers the exit status; where it isn't 0, the last line of the output says
 /// why it ended. 0: done. 1: the words are no command. 2: the input is no image, or no layout text. 3, 4, 5: the source,
-/// the sink or the disk failed. 7: the input is above 16 MiB. 9: memory was refused, before the first write to the disk.
+/// the sink or the disk failed. 6: the archive is turned away. 7: the input is above 16 MiB. 9: memory was refused, before the
+/// first write to the disk.
 /// 15: files that aren't empty, which are gone on with later. What is looked at first comes first: the words, the input, the
 /// disk, the writes, the output.
 pub fn offline<I: Source, O: Sink, D: Disk>(
@@ -117,6 +120,7 @@ pub fn offline<I: Source, O: Sink, D: Disk>(
     ensures disk_fault { result ≡ 5 → Rose (D.faults disk.old) (D.faults disk.new) }
     ensures input_limit { LimitIsExact (map string_bytes words.now) (source_side I.Source input.old input.new) result }
     ensures later { LaterIsExact (map string_bytes words.now) (source_side I.Source input.old input.new) (disk_side D.Disk disk.old disk.new) result }
+    ensures archive_fault { ArchiveFaultIsExact (map string_bytes words.now) (source_side I.Source input.old input.new) (disk_side D.Disk disk.old disk.new) result }
 
     // Refused: the files hold what they held, or what the command says of a stop after its first write.
     ensures unwritten { IsRefused result → Unwritten (map string_bytes words.now) (source_side I.Source input.old input.new) (disk_side D.Disk disk.old disk.new) result }

@@ -1,7 +1,7 @@
 //! The words of a command line, read as the command that they ask for.
 ghost use Rattle.std.specs.Prelude.{◌≡◌, ◌<◌, ◌≤◌, length, map, string_bytes, IfOk};
 ghost use Rattle.pcp_base.specs.Texts.{IsText};
-ghost use Rattle.pm_commands.specs.CommandLine.{Reads, Gives, FitsCommand, command_of, end_then, once_of, image_command_of, second_of, microsecond_of, file_of, word_then};
+ghost use Rattle.pm_commands.specs.CommandLine.{Reads, Gives, FitsCommand, command_of, end_then, once_of, image_command_of, archive_command_of, second_of, microsecond_of, file_of, word_then};
 
 use crate::stage::{Stop, Usage};
 use pcp_base::{Stamp, Text, TextError, is_component};
@@ -17,6 +17,8 @@ pub enum Command {
     MmvMake,
     /// `mmv-dump`: write the layout text of an image.
     MmvDump,
+    /// `info`: write an archive's descriptions.
+    Info,
 }
 
 /// When the result is logged, and the region's name: one component of a name, of at most 63 bytes.
@@ -123,6 +125,18 @@ fn image_words(name: &[u8], words: &[String]) -> Result<Command, usize>
     Err(0)
 }
 
+// A command over an archive.
+fn archive_words(name: &[u8], words: &[String]) -> Result<Command, usize>
+    ensures command { Gives (λ command. command) result (archive_command_of name.now (map string_bytes words.now)) }
+    ensures fits { IfOk result FitsCommand }
+{
+    if name == b"info".as_slice() {
+        end_at(words, 1)?;
+        return Ok(Command::Info);
+    }
+    image_words(name, words)
+}
+
 /// The command that the words are, or the index of the first word that is bad or missing. A command that
 /// isn't known is bad at 0.
 pub fn read_words(alloc: Global, words: &[String]) -> Result<Command, Stop<Usage>>
@@ -135,6 +149,6 @@ pub fn read_words(alloc: Global, words: &[String]) -> Result<Command, Stop<Usage
     if name.as_bytes() == b"once".as_slice() {
         return once_words(alloc, rest);
     }
-    let command = image_words(name.as_bytes(), rest)?;
+    let command = archive_words(name.as_bytes(), rest)?;
     Ok(command)
 }

@@ -1,0 +1,44 @@
+-- Commands that only read an archive: what they find of the files, why they turn files away, and that they leave the disk as
+-- it was.
+use Rattle.std.specs.Prelude.{◌≡◌, ℕ, true, List, Some, None}
+use Rattle.pcp_outside.specs.Causes.{Rose}
+use Rattle.archive_reader.specs.Loaded.{Loaded, IsOver}
+use Rattle.archive_reader.specs.LoadFaults.{NotLoaded}
+use Rattle.pm_commands.specs.declared.stage.FilesRefusal.{FilesRefusal}
+use Rattle.pm_commands.specs.declared.stage.FilesRefusal.TheVariants.{LaterDisk, Compressed, NotArchive}
+use Rattle.pm_commands.specs.declared.stage.DiskRefusal.TheVariants.{Files as FilesAway, DiskFault}
+use Rattle.pm_commands.specs.declared.refusal.Refusal.{Refusal}
+use Rattle.pm_commands.specs.declared.refusal.Refusal.TheVariants.{Disk, NoMemory}
+use Rattle.pm_commands.specs.Meaning.{Meaning}
+use Rattle.pm_commands.specs.Sides.{DiskSide, Found, found, Untouched}
+
+-- no file stands wrapped, and apart from the records of its volumes this is the archive
+pub record IsLoaded (found : Found) (r : Loaded) : Type 0 where
+  pub unwrapped : found.wrapped ≡ None
+  pub over : IsOver found.files r
+
+-- a file stands wrapped, or apart from the records of volumes this place fits no archive
+abbrev pub IsNotLoaded : Found → FilesRefusal → Type 0
+IsNotLoaded found (Compressed file) = found.wrapped ≡ Some file
+IsNotLoaded found (NotArchive file at) = (found.wrapped ≡ None) × NotLoaded found.files file at
+IsNotLoaded found LaterDisk = ⊥
+
+-- why such a command ends without a text: it turned the files away, the disk failed, or memory ran out
+abbrev pub TurnedAway : (Found → FilesRefusal → Type 0) → DiskSide → Refusal → Type 0
+TurnedAway turned d (Disk (FilesAway e)) = d.tells → turned (found d) e
+TurnedAway turned d (Disk DiskFault) = Rose d.faults d.faults_after
+TurnedAway turned d NoMemory = Unit {0}
+TurnedAway turned d _ = ⊥
+
+-- a command that reads an archive and writes a text of it
+abbrev pub looks : (Found → FilesRefusal → Type 0) → (Found → List ℕ → Type 0) → Meaning
+looks turned said = record {
+  reads = None;
+  uses_disk = true;
+  turns_away = λ input files e. turned files e;
+  done = λ input d. Untouched d;
+  says = λ input d text. d.tells → said (found d) text;
+  keeps = λ input crash. Unit {0};
+  begun = λ status input d. ⊥;
+  may_leave = λ input held crash. ⊥;
+}
