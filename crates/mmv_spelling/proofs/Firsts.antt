@@ -1,5 +1,6 @@
 -- The first of a list that passes a test, as the list grows, and a map that tells it for each text.
-use Rattle.std.proofs.Common.{◌≡◌, ℕ, ◌+◌, ◌-◌, Bool, true, false, not, ◌||◌, List, [], ◌∷◌, ◌++◌, length, take, ap, ap₂, sym, ◌∙◌, refl, arith, cond, nat_lt, Option, Some, None, is_some, bytes_eq, length-append, Vec, Global}
+use Rattle.std.proofs.Common.{◌≡◌, ℕ, ◌+◌, ◌-◌, Bool, true, false, not, ◌||◌, List, [], ◌∷◌, ◌++◌, length, take, ap, ap₂, sym, subst, ◌∙◌, refl, arith, cond, get_or, ◌<◌, nat_lt, Option, Some, None, is_some, is_none, bytes_eq, length-append, Vec, Global}
+use Rattle.std.specs.Borrow.{Bor}
 use Rattle.std.specs.List.{list_any, position, position_or_len}
 use Rattle.std.specs.Map.{lookup}
 use Rattle.std.specs.Ordering.{nat_cmp, match_ordering, is_eq}
@@ -8,11 +9,13 @@ use Rattle.std.specs.declared.cmp.Ordering.TheVariants.{Less, Equal, Greater}
 use Rattle.std.specs.Cmp.Lexicographic.{slice_cmp}
 use Rattle.std.specs.BTreeMap.{BTreeMap, is_at, insert_entry}
 use Rattle.std.proofs.lemmas.Bool.Decides.{nat_tests}
+use Rattle.std.proofs.lemmas.List.{take_more, length-take-le}
 use Rattle.std.proofs.lemmas.Map.Lookups.{exact_bytes}
 use Rattle.std.proofs.lemmas.Map.Text.{is_eq-slice_cmp}
 use Rattle.std.proofs.Math.Seq.{take-append_seam}
 use Rattle.std.proofs.lemmas.Slice.Eq.{bytes_eq-Decides}
-use Rattle.mmv_spelling.specs.Tables.{first_of, IsIndex}
+use Rattle.mmv_spelling.specs.Tables.{read, first_of, is_open, Tells, IsIndex, Holds, Grows}
+use Rattle.mmv_spelling.proofs.ReadTexts.{length_read, read_more}
 
 lt_next : (p n : ℕ) → nat_lt (1 + p) (n + 1) ≡ nat_lt p n
 lt_next p n = grind (arith, nat_tests)
@@ -78,16 +81,16 @@ position_some test xs = here (nat_lt (position_or_len test xs) (length xs)) ∙ 
 
 -- An ordered map of texts
 
-module _ {K : Type 0} (items : K → List ℕ) where
-  abbrev found : List ℕ → List (K × ℕ) → Option ℕ
+module _ {K X : Type 0} (items : K → List ℕ) where
+  abbrev found : List ℕ → List (K × X) → Option X
   found q es = lookup (is_at (λ k. slice_cmp nat_cmp q (items k))) es
 
   -- a map after a key is put in
-  pub found_insert : (q : List ℕ) (key : K) (n : ℕ) (es : List (K × ℕ)) → found q (insert_entry (λ a b. slice_cmp nat_cmp (items a) (items b)) es key n) ≡ cond (bytes_eq q (items key)) (Some n) (found q es)
+  pub found_insert : (q : List ℕ) (key : K) (n : X) (es : List (K × X)) → found q (insert_entry (λ a b. slice_cmp nat_cmp (items a) (items b)) es key n) ≡ cond (bytes_eq q (items key)) (Some n) (found q es)
   found_insert q key n [] = ap (λ b. cond b (Some n) None) (is_eq-slice_cmp q (items key))
   found_insert q key n (e ∷ es) = here (slice_cmp nat_cmp (items key) (items e.0)) refl (found_insert q key n es)
     where
-      rest : List (K × ℕ)
+      rest : List (K × X)
       rest = insert_entry (λ a b. slice_cmp nat_cmp (items a) (items b)) es key n
 
       same : (a b : Bool) → a ≡ b → cond a (Some n) (found q es) ≡ cond b (Some n) (cond a (Some e.1) (found q es))
@@ -124,41 +127,101 @@ none_of : {A : Type 0} (o : Option A) → is_some o ≡ false → o ≡ None
 none_of None h = refl
 none_of (Some a) h = cc
 
--- a text that wasn't among the strings, with its position
-pub index_new : (old new : BTreeMap (Vec ℕ Global) ℕ) (strings : List (List ℕ)) (key : Vec ℕ Global) (text : List ℕ) → key.items ≡ text → IsIndex old strings → position (λ other. bytes_eq other text) strings ≡ None
-    → new.entries ≡ insert_entry (λ a b. slice_cmp nat_cmp a.items b.items) old.entries key (length strings) → IsIndex new (strings ++ text ∷ [])
-index_new old new strings key text is index absent put q =
-    ap (found (λ k. k.items) q) put ∙ found_insert (λ k. k.items) q key (length strings) old.entries
-    ∙ ap (λ t. cond (bytes_eq q t) (Some (length strings)) (first_of old q)) is
-    ∙ here (bytes_eq q text) refl (index q)
-    ∙ sym (position_snoc (λ other. bytes_eq other q) strings text)
-  where
-    here : (b : Bool) → bytes_eq q text ≡ b → first_of old q ≡ position (λ other. bytes_eq other q) strings
-        → cond b (Some (length strings)) (first_of old q) ≡ cond (list_any (λ other. bytes_eq other q) strings) (position (λ other. bytes_eq other q) strings) (cond (bytes_eq text q) (Some (length strings)) None)
-    here true e at =
-        let same : text ≡ q = turned q text e in
-        let none : list_any (λ other. bytes_eq other q) strings ≡ false = sym (position_some (λ other. bytes_eq other q) strings) ∙ ap is_some (ap (λ t. position (λ other. bytes_eq other t) strings) (sym same) ∙ absent) in
-        let itself : bytes_eq text q ≡ true = (bytes_eq-Decides text q).1 same in
-        sym (ap₂ (λ a b. cond a (position (λ other. bytes_eq other q) strings) (cond b (Some (length strings)) None)) none itself)
-    here false e at = at ∙ later (list_any (λ other. bytes_eq other q) strings) (bytes_eq text q) refl refl
-      where
-        later : (a b : Bool) → list_any (λ other. bytes_eq other q) strings ≡ a → bytes_eq text q ≡ b → position (λ other. bytes_eq other q) strings ≡ cond a (position (λ other. bytes_eq other q) strings) (cond b (Some (length strings)) None)
-        later true b f g = refl
-        later false true f g = let wrong : bytes_eq q text ≡ true = (bytes_eq-Decides q text).1 (turned text q g) in cc
-        later false false f g = none_of (position (λ other. bytes_eq other q) strings) (position_some (λ other. bytes_eq other q) strings ∙ f)
+opened : (kept : Option (Option ℕ)) (at : Option ℕ) → is_open kept ≡ true → Tells kept at → at ≡ None
+opened None at h t = cc
+opened (Some None) at h t = sym t
+opened (Some (Some n)) at h t = cc
 
--- a text that was among the strings already
-pub index_again : (firsts : BTreeMap (Vec ℕ Global) ℕ) (strings : List (List ℕ)) (text : List ℕ) → IsIndex firsts strings → is_some (position (λ other. bytes_eq other text) strings) ≡ true → IsIndex firsts (strings ++ text ∷ [])
-index_again firsts strings text index there q =
-    index q ∙ here (list_any (λ other. bytes_eq other q) strings) (bytes_eq text q) refl refl ∙ sym (position_snoc (λ other. bytes_eq other q) strings text)
+module _ (strings : List (List ℕ)) (text q : List ℕ) where
+  -- the first string that is equal to q, with one text more that isn't, or behind one that is
+  unchanged : (a b : Bool) → list_any (λ other. bytes_eq other q) strings ≡ a → bytes_eq text q ≡ b → (a ≡ false → b ≡ false) → position (λ other. bytes_eq other q) strings ≡ cond a (position (λ other. bytes_eq other q) strings) (cond b (Some (length strings)) None)
+  unchanged true b f g h = refl
+  unchanged false true f g h = let wrong : true ≡ false = h refl in cc
+  unchanged false false f g h = none_of (position (λ other. bytes_eq other q) strings) (position_some (λ other. bytes_eq other q) strings ∙ f)
+
+-- a text that stood nowhere, with its position
+pub index_first : (old new : BTreeMap (Vec ℕ Global) (Option ℕ)) (key : Vec ℕ Global) (text : List ℕ) (at : ℕ) → key.items ≡ text → is_open (first_of old text) ≡ true
+    → new.entries ≡ insert_entry (λ a b. slice_cmp nat_cmp a.items b.items) old.entries key (Some at) → Grows old new text at
+index_first old new key text at is looked put strings long index q =
+    subst (λ o. Tells o (position (λ other. bytes_eq other q) (strings ++ text ∷ []))) (sym put_in)
+    (subst (Tells (cond (bytes_eq q text) (Some (Some at)) (first_of old q))) (sym (position_snoc (λ other. bytes_eq other q) strings text)) (here (bytes_eq q text) refl (index q)))
   where
-    here : (a b : Bool) → list_any (λ other. bytes_eq other q) strings ≡ a → bytes_eq text q ≡ b → position (λ other. bytes_eq other q) strings ≡ cond a (position (λ other. bytes_eq other q) strings) (cond b (Some (length strings)) None)
-    here true b f g = refl
-    here false true f g =
-        let same : q ≡ text = turned text q g in
-        let some : list_any (λ other. bytes_eq other q) strings ≡ true = ap (λ t. list_any (λ other. bytes_eq other t) strings) same ∙ sym (position_some (λ other. bytes_eq other text) strings) ∙ there in
+    put_in : first_of new q ≡ cond (bytes_eq q text) (Some (Some at)) (first_of old q)
+    put_in = ap (found (λ k. k.items) q) put ∙ found_insert (λ k. k.items) q key (Some at) old.entries ∙ ap (λ t. cond (bytes_eq q t) (Some (Some at)) (first_of old q)) is
+
+    here : (b : Bool) → bytes_eq q text ≡ b → Tells (first_of old q) (position (λ other. bytes_eq other q) strings)
+        → Tells (cond b (Some (Some at)) (first_of old q)) (cond (list_any (λ other. bytes_eq other q) strings) (position (λ other. bytes_eq other q) strings) (cond (bytes_eq text q) (Some (length strings)) None))
+    here true e t =
+        let same : text ≡ q = turned q text e in
+        let absent : position (λ other. bytes_eq other text) strings ≡ None = opened (first_of old text) (position (λ other. bytes_eq other text) strings) looked (index text) in
+        let none : list_any (λ other. bytes_eq other q) strings ≡ false = sym (position_some (λ other. bytes_eq other q) strings) ∙ ap is_some (ap (λ s. position (λ other. bytes_eq other s) strings) (sym same) ∙ absent) in
+        let itself : bytes_eq text q ≡ true = (bytes_eq-Decides text q).1 same in
+        ap Some (sym long) ∙ sym (ap₂ (λ a b. cond a (position (λ other. bytes_eq other q) strings) (cond b (Some (length strings)) None)) none itself)
+    here false e t =
+        let apart : bytes_eq text q ≡ false = other_way (bytes_eq text q) refl in
+        subst (Tells (first_of old q)) (unchanged strings text q (list_any (λ other. bytes_eq other q) strings) (bytes_eq text q) refl refl (λ none. apart)) t
+      where
+        other_way : (b : Bool) → bytes_eq text q ≡ b → b ≡ false
+        other_way true g = let wrong : bytes_eq q text ≡ true = (bytes_eq-Decides q text).1 (turned text q g) in cc
+        other_way false g = refl
+
+-- a text that isn't looked up, or stood somewhere
+pub index_kept : (firsts : BTreeMap (Vec ℕ Global) (Option ℕ)) (text : List ℕ) (at : ℕ) → is_open (first_of firsts text) ≡ false → Grows firsts firsts text at
+index_kept firsts text at shut strings long index q =
+    subst (Tells (first_of firsts q)) (sym (position_snoc (λ other. bytes_eq other q) strings text)) (here (first_of firsts q) (list_any (λ other. bytes_eq other q) strings) (bytes_eq text q) refl refl refl (index q))
+  where
+    here : (o : Option (Option ℕ)) (a b : Bool) → first_of firsts q ≡ o → list_any (λ other. bytes_eq other q) strings ≡ a → bytes_eq text q ≡ b → Tells o (position (λ other. bytes_eq other q) strings)
+        → Tells o (cond a (position (λ other. bytes_eq other q) strings) (cond b (Some (length strings)) None))
+    here None a b w e f t = tt
+    here (Some p) true b w e f t = t
+    here (Some p) false false w e f t = t ∙ none_of (position (λ other. bytes_eq other q) strings) (position_some (λ other. bytes_eq other q) strings ∙ e)
+    here (Some p) false true w e f t =
+        let none : p ≡ None = t ∙ none_of (position (λ other. bytes_eq other q) strings) (position_some (λ other. bytes_eq other q) strings ∙ e) in
+        let again : is_open (first_of firsts text) ≡ true = ap (λ x. is_open (first_of firsts x)) (sym (turned text q f)) ∙ ap is_open w ∙ ap (λ x. is_open (Some x)) none in
         cc
-    here false false f g = none_of (position (λ other. bytes_eq other q) strings) (position_some (λ other. bytes_eq other q) strings ∙ f)
+
+-- a text that will be looked up, while there is no string
+pub key_put : (old new : BTreeMap (Vec ℕ Global) (Option ℕ)) (key : Vec ℕ Global) → new.entries ≡ insert_entry (λ a b. slice_cmp nat_cmp a.items b.items) old.entries key None → IsIndex old [] → IsIndex new []
+key_put old new key put index q =
+    subst (λ o. Tells o None) (sym (ap (found (λ k. k.items) q) put ∙ found_insert (λ k. k.items) q key None old.entries)) (here (bytes_eq q key.items) (index q))
+  where
+    here : (b : Bool) → Tells (first_of old q) None → Tells (cond b (Some None) (first_of old q)) None
+    here true t = refl
+    here false t = t
+
+pub key_none : (firsts : BTreeMap (Vec ℕ Global) (Option ℕ)) → firsts.entries ≡ [] → IsIndex firsts []
+key_none firsts empty q = subst (λ es. Tells (found (λ k. k.items) q es) None) (sym empty) tt
+
+-- one string more of those that a loop has passed
+pub index_more : (old new : BTreeMap (Vec ℕ Global) (Option ℕ)) (strings : List (List ℕ)) (i : ℕ) (x : List ℕ) → i < length strings → x ≡ get_or strings i x → Grows old new x i → IsIndex old (take i strings) → IsIndex new (take (i + 1) strings)
+index_more old new strings i x below is grows index =
+    subst (IsIndex new) (ap (λ y. take i strings ++ y ∷ []) is ∙ sym (take_more strings i x below)) (grows (take i strings) (length-take-le i strings (omega arith)) index)
+
+-- one string more at the end
+pub index_added : (old new : BTreeMap (Vec ℕ Global) (Option ℕ)) (strings : List (Bor (List ℕ))) (x : Bor (List ℕ)) (at : ℕ) → at ≡ length strings → Grows old new x.now at → IsIndex old (read strings) → IsIndex new (read (strings ++ x ∷ []))
+index_added old new strings x at e grows index = subst (IsIndex new) (sym (read_more strings x)) (grows (read strings) (sym (length_read strings) ∙ sym e) index)
+
+-- where nothing was added after all
+pub index_stays : (old new : BTreeMap (Vec ℕ Global) (Option ℕ)) (strings left : List (Bor (List ℕ))) → Holds old new → left ≡ strings → IsIndex old (read strings) → IsIndex new (read left)
+index_stays old new strings left holds same index q =
+    subst (λ o. Tells o (position (λ other. bytes_eq other q) (read left))) (sym (holds q)) (subst (λ l. Tells (first_of old q) (position (λ other. bytes_eq other q) (read l))) (sym same) (index q))
+
+-- what is kept of a text
+pub told_at : (o : Option (Option ℕ)) (p kept : Option ℕ) → Tells o p → Some kept ≡ o → kept ≡ p
+told_at None p kept t e = cc
+told_at (Some other) p kept t e = let same : kept ≡ other = cc in same ∙ t
+
+pub open_none : (o : Option (Option ℕ)) → None ≡ o → false ≡ is_open o
+open_none None e = refl
+open_none (Some other) e = cc
+
+pub open_some : (o : Option (Option ℕ)) (kept : Option ℕ) → Some kept ≡ o → is_none kept ≡ is_open o
+open_some None kept e = cc
+open_some (Some other) kept e = let same : kept ≡ other = cc in ap is_none same ∙ here other
+  where
+    here : (p : Option ℕ) → is_none p ≡ is_open (Some p)
+    here None = refl
+    here (Some n) = refl
 
 -- a list that grew by one and lost its last
 pub taken_back : {T : Type 0} (xs : List T) (x : T) → take (length (xs ++ x ∷ []) - 1) (xs ++ x ∷ []) ≡ xs

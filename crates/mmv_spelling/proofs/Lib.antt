@@ -4,4 +4,5 @@ pub mod Lengths
 pub mod Members
 pub mod Missing
 pub mod Positions
+pub mod ReadTexts
 pub mod Told

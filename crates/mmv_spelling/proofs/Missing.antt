@@ -1,10 +1,13 @@
 -- Strings and the texts that they lacked.
 use Rattle.std.proofs.Common.{◌≡◌, ℕ, ◌+◌, ◌<◌, length, take, get_or, ap, sym, ◌∙◌, append-nil, append_assoc, List, [], ◌∷◌, ◌++◌, refl, bytes_eq, if◌then◌else◌, Bool, true, false, is_some}
 use Rattle.std.specs.List.{list_any, flat_map, position}
+use Rattle.std.specs.Borrow.{Bor}
 use Rattle.std.proofs.lemmas.List.{take_more}
 use Rattle.std.proofs.lemmas.List.Concat.{flat_map-append}
 use Rattle.mmv_spelling.specs.Spelling.{with_missing}
+use Rattle.mmv_spelling.specs.Tables.{read}
 use Rattle.mmv_spelling.proofs.Firsts.{position_some}
+use Rattle.mmv_spelling.proofs.ReadTexts.{read_more}
 
 pub missing_none : (strings : List (List ℕ)) → with_missing strings [] ≡ strings
 unfolding with_missing
@@ -40,13 +43,14 @@ joined_more f rows i d below =
     ap (λ t. flat_map f (take i rows) ++ t) (sym (append-nil (f (get_or rows i d))))
     ∙ sym (flat_map-append f (take i rows) (get_or rows i d ∷ [])) ∙ ap (flat_map f) (sym (take_more rows i d below))
 
-pub missing_more : {T : Type 0} (f : T → List (List ℕ)) (start now next : List (List ℕ)) (rows : List T) (i : ℕ) (x : T) → i < length rows → x ≡ get_or rows i x → now ≡ with_missing start (flat_map f (take i rows)) → next ≡ with_missing now (f x) → next ≡ with_missing start (flat_map f (take (i + 1) rows))
-missing_more f start now next rows i x below is h e =
-    e ∙ ap (λ s. with_missing s (f x)) h ∙ ap (λ y. with_missing (with_missing start (flat_map f (take i rows))) (f y)) is
-    ∙ missing_joined start (flat_map f (take i rows)) (f (get_or rows i x)) ∙ ap (with_missing start) (joined_more f rows i x below)
+-- the texts that a loop has passed were added, and then the next
+pub missing_more : (start now next : List (List ℕ)) (texts : List (Bor (List ℕ))) (i : ℕ) (x : Bor (List ℕ)) → i < length texts → x ≡ get_or texts i x → now ≡ with_missing start (read (take i texts)) → next ≡ with_missing now (x.now ∷ []) → next ≡ with_missing start (read (take (i + 1) texts))
+missing_more start now next texts i x below is h e =
+    e ∙ ap (λ s. with_missing s (x.now ∷ [])) h ∙ missing_joined start (read (take i texts)) (x.now ∷ [])
+    ∙ ap (with_missing start) (sym (read_more (take i texts) x) ∙ ap (λ y. read (take i texts ++ y ∷ [])) is ∙ ap read (sym (take_more texts i x below)))
 
--- words written before, those of the entries that a loop has passed, and those of the next
-pub written_more : {T : Type 0} (f : T → List ℕ) (start now next : List ℕ) (rows : List T) (i : ℕ) (x : T) → i < length rows → x ≡ get_or rows i x → now ≡ start ++ flat_map f (take i rows) → next ≡ now ++ f x → next ≡ start ++ flat_map f (take (i + 1) rows)
+-- what was written before, those of the entries that a loop has passed, and those of the next
+pub written_more : {T A : Type 0} (f : T → List A) (start now next : List A) (rows : List T) (i : ℕ) (x : T) → i < length rows → x ≡ get_or rows i x → now ≡ start ++ flat_map f (take i rows) → next ≡ now ++ f x → next ≡ start ++ flat_map f (take (i + 1) rows)
 written_more f start now next rows i x below is h e =
     e ∙ ap (λ s. s ++ f x) h ∙ append_assoc start (flat_map f (take i rows)) (f x) ∙ ap (λ y. start ++ (flat_map f (take i rows) ++ f y)) is
     ∙ ap (λ t. start ++ t) (joined_more f rows i x below)

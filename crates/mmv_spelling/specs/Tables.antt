@@ -1,5 +1,6 @@
 -- Where the first string of a text and the first row of a key stand, as ordered maps tell it.
-use Rattle.std.specs.Prelude.{◌≡◌, ℕ, ℤ, ◌==◌, Bool, if◌then◌else◌, min, List, take, length, Option, Some, None, bytes_eq, slice_get}
+use Rattle.std.specs.Prelude.{◌≡◌, ℕ, ℤ, ◌==◌, Bool, true, false, if◌then◌else◌, min, List, [], ◌∷◌, ◌++◌, map, take, length, Option, Some, None, bytes_eq, slice_get}
+use Rattle.std.specs.Borrow.{Bor}
 use Rattle.std.specs.Global.{Vec}
 use Rattle.std.specs.List.{position}
 use Rattle.std.specs.Ordering.{nat_cmp, int_cmp, int_eq}
@@ -10,13 +11,36 @@ use Rattle.mmv_format.specs.declared.rows.MetricRow.{MetricRow}
 use Rattle.mmv_spelling.specs.declared.lookups.DomainPlace.{DomainPlace}
 use Rattle.mmv_spelling.specs.Places.{instances_in}
 
--- what a map has for a text
-abbrev pub first_of : BTreeMap (Vec ℕ) ℕ → List ℕ → Option ℕ
+-- the texts behind references
+abbrev pub read : List (Bor (List ℕ)) → List (List ℕ)
+read texts = map (λ text. text.now) texts
+
+-- what a map has for a text: nothing where the text isn't looked up
+abbrev pub first_of : BTreeMap (Vec ℕ) (Option ℕ) → List ℕ → Option (Option ℕ)
 first_of firsts text = get_by (λ (key : Vec ℕ). slice_cmp nat_cmp text key.items) firsts
 
--- a map has for each text the position of the first string that is equal to it, and none for another
-abbrev pub IsIndex : BTreeMap (Vec ℕ) ℕ → List (List ℕ) → Type 0
-IsIndex firsts strings = (text : List ℕ) → first_of firsts text ≡ position (λ other. bytes_eq other text) strings
+-- a text is looked up, and stands nowhere
+abbrev pub is_open : Option (Option ℕ) → Bool
+is_open None = false
+is_open (Some None) = true
+is_open (Some (Some at)) = false
+
+-- what is kept, if something is, is this
+abbrev pub Tells : Option (Option ℕ) → Option ℕ → Type 0
+Tells None at = Unit {0}
+Tells (Some kept) at = kept ≡ at
+
+-- a map has for each text that is looked up the position of the first string that is equal to it, if there is one
+abbrev pub IsIndex : BTreeMap (Vec ℕ) (Option ℕ) → List (List ℕ) → Type 0
+IsIndex firsts strings = (text : List ℕ) → Tells (first_of firsts text) (position (λ other. bytes_eq other text) strings)
+
+-- a map has for each text what another has
+abbrev pub Holds : BTreeMap (Vec ℕ) (Option ℕ) → BTreeMap (Vec ℕ) (Option ℕ) → Type 0
+Holds old new = (text : List ℕ) → first_of new text ≡ first_of old text
+
+-- a map tells so many strings, and then another those and a text behind them
+abbrev pub Grows : BTreeMap (Vec ℕ) (Option ℕ) → BTreeMap (Vec ℕ) (Option ℕ) → List ℕ → ℕ → Type 0
+Grows old new text at = (strings : List (List ℕ)) → length strings ≡ at → IsIndex old strings → IsIndex new (strings ++ text ∷ [])
 
 -- what is kept of a key, or else a new value where the key is its own
 abbrev pub kept_or : {X : Type 0} → Option X → Bool → X → Option X

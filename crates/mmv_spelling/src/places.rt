@@ -2,11 +2,11 @@
 ghost use Rattle.std.specs.Prelude.{◌≡◌, ◌≤◌, min};
 ghost use Rattle.mmv_spelling.specs.Places.{instances_in, counts_of, one_if_some, sections_in, places_of, words_in};
 
+use crate::tables::StringTable;
 use mmv_format::{
     ENTRY_SIZE, HEADER_SIZE, INDOM_SIZE, INSTANCE_SIZE, IndomRow, Layout, METRIC_SIZE, STRING_SIZE,
     VALUE_SIZE,
 };
-use pcp_base::Text;
 
 const HEADER_WORDS: u128 = HEADER_SIZE as u128 / 8;
 
@@ -75,7 +75,7 @@ pub fn sections_in(counts: &Counts) -> u64
 }
 
 /// How many entries the sections of a draft with these strings have; there are 2^64 - 1 instances at most.
-pub fn counts_of(draft: &Layout, strings: &[Text]) -> Counts
+pub fn counts_of(draft: &Layout, strings: &StringTable) -> Counts
     ensures { result ≡ record (counts_of draft.now strings.now) { instances = min (instances_in draft.now.indoms) 18446744073709551615 } }
 {
     Counts {

@@ -16,7 +16,7 @@ fn text_index(strings: &StringTable, text: &Text) -> usize
     ensures value { result ≡ position_or_len (λ other. bytes_eq other text.now) strings.now }
     ensures bound { result ≤ length strings.now }
 {
-    strings.position(text).unwrap_or(strings.as_slice().len())
+    strings.position(text).unwrap_or(strings.len())
 }
 
 /// The place of the first string that is equal to a text.

@@ -11,7 +11,7 @@ use crate::words::{
     push_values,
 };
 use mmv_format::Layout;
-use pcp_base::{NoMemory, Text};
+use pcp_base::NoMemory;
 use std::alloc::Global;
 
 /// Writes the sections of a draft with these strings.
@@ -45,13 +45,13 @@ fn push_sections(
         &items,
         draft.values.as_slice(),
     )?;
-    push_strings(out, strings.as_slice())?;
+    push_strings(out, strings)?;
     Ok(())
 }
 
 /// How many words the image of a draft with these strings has, 2^64 - 1 at most.
 #[tactic(auto, using(crate::proofs::Lengths::counted_words))]
-pub fn words_needed(draft: &Layout, strings: &[Text]) -> u64
+pub fn words_needed(draft: &Layout, strings: &StringTable) -> u64
     ensures { result ≡ min (words_in (counts_of draft.now strings.now)) 18446744073709551615 }
 {
     words_in(&counts_of(draft, strings))
@@ -59,7 +59,7 @@ pub fn words_needed(draft: &Layout, strings: &[Text]) -> u64
 
 /// How many entries the sections have where the image isn't too large.
 #[tactic(auto, using(crate::proofs::Lengths::counted_exactly))]
-fn counted(draft: &Layout, strings: &[Text]) -> Counts
+fn counted(draft: &Layout, strings: &StringTable) -> Counts
     requires { words_in (counts_of draft.now strings.now) ≤ 65536 }
     ensures { result ≡ counts_of draft.now strings.now }
 {
@@ -72,7 +72,7 @@ pub fn spelled(alloc: Global, draft: &Layout, strings: &StringTable) -> Result<V
     requires { words_in (counts_of draft.now strings.now) ≤ 65536 }
     ensures { IfOk result (λ words. words.items ≡ spelled draft.now strings.now) }
 {
-    let counts = counted(draft, strings.as_slice());
+    let counts = counted(draft, strings);
     let places = places_of(&counts);
     let mut out = Vec::new(alloc);
     push_header(&mut out, draft, sections_in(&counts) as u32)?;

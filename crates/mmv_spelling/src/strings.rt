@@ -1,7 +1,8 @@
 //! Which strings an image of given rows has: those given, then each text that no earlier one equals.
 ghost use Rattle.std.specs.Prelude.{◌≡◌, ◌++◌, OnOk, IfOk};
 ghost use Rattle.std.specs.List.{flat_map};
-ghost use Rattle.mmv_spelling.specs.Spelling.{texts_of, texts_in, with_missing, all_strings};
+ghost use Rattle.mmv_spelling.specs.Spelling.{texts_of, texts_in, wanted, with_missing, all_strings};
+ghost use Rattle.mmv_spelling.specs.Tables.{read};
 
 use crate::tables::StringTable;
 use mmv_format::{Content, IndomRow, Layout, MetricRow, ValueRow};
@@ -9,98 +10,105 @@ use pcp_base::{NoMemory, Text};
 use std::alloc::Global;
 
 /// Adds a help, if there is one.
-#[tactic(auto, unfolding(crate::specs::Spelling::with_missing))]
-fn add_help(alloc: Global, strings: &mut StringTable, help: &Option<Text>) -> Result<(), NoMemory>
-    ensures { OnOk result (strings.new ≡ with_missing strings.old (texts_of help.now)) }
+#[tactic(auto, using(crate::proofs::ReadTexts::read_none, crate::proofs::ReadTexts::read_more))]
+fn push_help<'a>(texts: &mut Vec<&'a Text>, help: &'a Option<Text>) -> Result<(), NoMemory>
+    ensures { OnOk result (read texts.new.items ≡ read texts.old.items ++ texts_of help.now) }
 {
     match help {
         None => {}
-        Some(text) => strings.add(alloc, text)?,
+        Some(text) => texts.push(text)?,
     }
     Ok(())
 }
 
 /// Adds two helps.
-#[tactic(auto, using(crate::proofs::Missing::missing_joined))]
-fn add_helps(
-    alloc: Global,
-    strings: &mut StringTable,
-    short: &Option<Text>,
-    long: &Option<Text>,
+fn push_helps<'a>(
+    texts: &mut Vec<&'a Text>,
+    short: &'a Option<Text>,
+    long: &'a Option<Text>,
 ) -> Result<(), NoMemory>
-    ensures { OnOk result (strings.new ≡ with_missing strings.old (texts_of short.now ++ texts_of long.now)) }
+    ensures { OnOk result (read texts.new.items ≡ read texts.old.items ++ (texts_of short.now ++ texts_of long.now)) }
 {
-    add_help(alloc, strings, short)?;
-    add_help(alloc, strings, long)?;
+    push_help(texts, short)?;
+    push_help(texts, long)?;
     Ok(())
 }
 
 /// Adds the helps of domains.
-#[tactic(auto, using(crate::proofs::Missing::missing_joined, crate::proofs::Missing::missing_none))]
-fn add_of_domains(
-    alloc: Global,
-    strings: &mut StringTable,
-    rows: &[IndomRow],
-) -> Result<(), NoMemory>
-    ensures { OnOk result (strings.new ≡ with_missing strings.old (flat_map (λ row. texts_of row.short ++ texts_of row.long) rows.now)) }
+fn push_of_domains<'a>(texts: &mut Vec<&'a Text>, rows: &'a [IndomRow]) -> Result<(), NoMemory>
+    ensures { OnOk result (read texts.new.items ≡ read texts.old.items ++ flat_map (λ row. texts_of row.short ++ texts_of row.long) rows.now) }
 {
     for row in rows {
-        add_helps(alloc, strings, &row.short, &row.long)?;
+        push_helps(texts, &row.short, &row.long)?;
     }
     Ok(())
 }
 
 /// Adds the helps of metrics.
-#[tactic(auto, using(crate::proofs::Missing::missing_joined, crate::proofs::Missing::missing_none))]
-fn add_of_metrics(
-    alloc: Global,
-    strings: &mut StringTable,
-    rows: &[MetricRow],
-) -> Result<(), NoMemory>
-    ensures { OnOk result (strings.new ≡ with_missing strings.old (flat_map (λ row. texts_of row.short ++ texts_of row.long) rows.now)) }
+fn push_of_metrics<'a>(texts: &mut Vec<&'a Text>, rows: &'a [MetricRow]) -> Result<(), NoMemory>
+    ensures { OnOk result (read texts.new.items ≡ read texts.old.items ++ flat_map (λ row. texts_of row.short ++ texts_of row.long) rows.now) }
 {
     for row in rows {
-        add_helps(alloc, strings, &row.short, &row.long)?;
+        push_helps(texts, &row.short, &row.long)?;
     }
     Ok(())
 }
 
 /// Adds the text of a content, if it is one.
-#[tactic(auto, unfolding(crate::specs::Spelling::with_missing))]
-fn add_content(alloc: Global, strings: &mut StringTable, content: &Content) -> Result<(), NoMemory>
-    ensures { OnOk result (strings.new ≡ with_missing strings.old (texts_in content.now)) }
+#[tactic(auto, using(crate::proofs::ReadTexts::read_none, crate::proofs::ReadTexts::read_more))]
+fn push_content<'a>(texts: &mut Vec<&'a Text>, content: &'a Content) -> Result<(), NoMemory>
+    ensures { OnOk result (read texts.new.items ≡ read texts.old.items ++ texts_in content.now) }
 {
     match content {
         Content::Number(_) => {}
-        Content::Choice(text) => strings.add(alloc, text)?,
+        Content::Choice(text) => texts.push(text)?,
         Content::Raw(_, _) => {}
     }
     Ok(())
 }
 
 /// Adds the texts of values.
-#[tactic(auto, using(crate::proofs::Missing::missing_joined, crate::proofs::Missing::missing_none))]
-fn add_of_values(
-    alloc: Global,
-    strings: &mut StringTable,
-    rows: &[ValueRow],
-) -> Result<(), NoMemory>
-    ensures { OnOk result (strings.new ≡ with_missing strings.old (flat_map (λ row. texts_in row.content) rows.now)) }
+fn push_of_values<'a>(texts: &mut Vec<&'a Text>, rows: &'a [ValueRow]) -> Result<(), NoMemory>
+    ensures { OnOk result (read texts.new.items ≡ read texts.old.items ++ flat_map (λ row. texts_in row.content) rows.now) }
 {
     for row in rows {
-        add_content(alloc, strings, &row.content)?;
+        push_content(texts, &row.content)?;
+    }
+    Ok(())
+}
+
+/// The texts to which the references of a draft lead, in the order of its rows.
+fn wanted<'a>(alloc: Global, draft: &'a Layout) -> Result<Vec<&'a Text>, NoMemory>
+    ensures { IfOk result (λ texts. read texts.items ≡ wanted draft.now) }
+{
+    let mut texts = Vec::new(alloc);
+    push_of_domains(&mut texts, draft.indoms.as_slice())?;
+    push_of_metrics(&mut texts, draft.metrics.as_slice())?;
+    push_of_values(&mut texts, draft.values.as_slice())?;
+    Ok(texts)
+}
+
+/// Adds each of these texts that no string is equal to.
+fn add_missing<'a>(
+    alloc: Global,
+    strings: &mut StringTable<'a>,
+    texts: &[&'a Text],
+) -> Result<(), NoMemory>
+    ensures { OnOk result (strings.new ≡ with_missing strings.old (read texts.now)) }
+{
+    for text in texts {
+        strings.add(alloc, *text)?;
     }
     Ok(())
 }
 
 /// The strings of the image of a draft.
-#[tactic(auto, using(crate::proofs::Missing::missing_joined), unfolding(crate::specs::Spelling::all_strings))]
-pub fn all_strings(alloc: Global, draft: &Layout) -> Result<StringTable, NoMemory>
+#[tactic(auto, unfolding(crate::specs::Spelling::all_strings))]
+pub fn all_strings<'a>(alloc: Global, draft: &'a Layout) -> Result<StringTable<'a>, NoMemory>
     ensures { IfOk result (λ strings. strings ≡ all_strings draft.now) }
 {
-    let mut strings = StringTable::of(alloc, draft.strings.as_slice())?;
-    add_of_domains(alloc, &mut strings, draft.indoms.as_slice())?;
-    add_of_metrics(alloc, &mut strings, draft.metrics.as_slice())?;
-    add_of_values(alloc, &mut strings, draft.values.as_slice())?;
+    let texts = wanted(alloc, draft)?;
+    let mut strings = StringTable::of(alloc, draft.strings.as_slice(), texts.as_slice())?;
+    add_missing(alloc, &mut strings, texts.as_slice())?;
     Ok(strings)
 }

@@ -3,7 +3,7 @@ ghost use Rattle.std.specs.Prelude.{◌≡◌, ◌+◌, ◌<◌, ◌≤◌, ◌^
 ghost use Rattle.std.specs.List.{flat_map};
 ghost use Rattle.std.specs.Int.{w64, from_le_bytes};
 ghost use Rattle.mmv_format.specs.Fields.{first_words};
-ghost use Rattle.mmv_spelling.specs.Places.{instances_in, words_in, AreSmall};
+ghost use Rattle.mmv_spelling.specs.Places.{string_length, instances_in, words_in, AreSmall};
 ghost use Rattle.mmv_spelling.specs.Spelling.{halves, header_words, entry_words, contents_words, domain_place, domain_words, instance_words, serial_word, metric_words, value_field, value_words, domain_section, instance_section, metric_section, value_section, string_section};
 
 use crate::lookups::{DomainTable, MetricTable};
@@ -318,13 +318,20 @@ pub fn push_values(
     Ok(())
 }
 
-/// Writes the strings.
-#[tactic(auto, unfolding(crate::specs::Spelling::string_section))]
-pub fn push_strings(out: &mut Vec<u64>, strings: &[Text]) -> Result<(), NoMemory>
-    ensures { OnOk result (out.new.items ≡ out.old.items ++ string_section strings.now) }
+/// Writes texts as strings.
+fn push_texts(out: &mut Vec<u64>, texts: &[&Text]) -> Result<(), NoMemory>
+    ensures { OnOk result (out.new.items ≡ out.old.items ++ flat_map (λ text. first_words string_length text.now) texts.now) }
 {
-    for text in strings {
-        push_text(out, text, STRING_WORDS)?;
+    for text in texts {
+        push_text(out, *text, STRING_WORDS)?;
     }
     Ok(())
+}
+
+/// Writes the strings.
+#[tactic(auto, using(crate::proofs::ReadTexts::section_read))]
+pub fn push_strings(out: &mut Vec<u64>, strings: &StringTable) -> Result<(), NoMemory>
+    ensures { OnOk result (out.new.items ≡ out.old.items ++ string_section strings.now) }
+{
+    push_texts(out, strings.as_slice())
 }

@@ -19,7 +19,7 @@ pub fn words_of_draft(alloc: Global, draft: &Layout) -> Result<Vec<u64>, BuildFa
         (λ fault. IsTooLarge draft.now fault) }
 {
     let strings = all_strings(alloc, draft)?;
-    let words = words_needed(draft, strings.as_slice());
+    let words = words_needed(draft, &strings);
     if words > MOST_WORDS {
         return Err(BuildFault::TooLarge { words });
     }

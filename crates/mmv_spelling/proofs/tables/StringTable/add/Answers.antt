@@ -1,1 +1,0 @@
--- A text that is missing is added, and no other.
