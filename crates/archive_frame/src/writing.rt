@@ -6,6 +6,7 @@ ghost use Rattle.pcp_model.specs.Labels.{label as spelled};
 ghost use Rattle.archive_frame.specs.Labels.{LabelInRange};
 ghost use Rattle.archive_frame.specs.Overwritten.{over};
 
+use byteorder::{BigEndian, ByteOrder};
 use pcp_model::Label;
 
 /// The number of bytes in a label.
@@ -24,7 +25,9 @@ fn put_word(out: &mut [u8; LABEL], at: usize, number: u32)
     requires { at + 4 ≤ 132 }
     ensures { out.new ≡ over out.old at (word number) }
 {
-    put(out, at, &number.to_be_bytes());
+    let mut word = [0; 4];
+    BigEndian::write_u32(&mut word, number);
+    put(out, at, &word);
 }
 
 /// The label of the file with this number: -1 Meta, -2 the index, else the volume's.

@@ -3,8 +3,9 @@ use Rattle.std.proofs.Common.{◌≡◌, ℕ, ◌+◌, ◌-◌, ◌*◌, ◌≤�
 use Rattle.std.proofs.lemmas.List.{append-nil}
 use Rattle.std.proofs.lemmas.Bool.Decides.{nat_tests}
 use Rattle.std.specs.List.{AllByRecursion}
-use Rattle.log_schedule.specs.Names.{is_letter, is_digit, is_name_byte, Each, IsComponent, with_points, IsName}
-use Rattle.log_schedule.specs.Configuration.{is_blank, is_between, IsGap, number_from, IsNumber, IsUnit, IsEvery, IsTimed, IsInterval, MoreNames, AreNames, IsStatement, IsConfiguration}
+use Rattle.pcp_base.specs.Names.{is_letter, is_name_byte, IsComponent, IsName}
+use Rattle.log_schedule.proofs.Named.{with_points, Parted, parted, each_passes}
+use Rattle.log_schedule.specs.Configuration.{is_digit, Each, is_blank, is_between, IsGap, number_from, IsNumber, IsUnit, IsEvery, IsTimed, IsInterval, MoreNames, AreNames, IsStatement, IsConfiguration}
 use Rattle.log_schedule.specs.declared.config.Group.{Group}
 use Rattle.log_schedule.specs.declared.stage.Word.TheVariants as words
 use Rattle.log_schedule.specs.declared.stage.Next.{Next}
@@ -173,7 +174,7 @@ leads_part f name [] is rest = absurd is
 leads_part f name (b ∷ part) (letter, each) rest =
     step stages.Dot (record f { name = name }) b (stages.Name, acts.Add) (part ++ rest)
     (next_other stages.Dot b (letter_no_blank b letter) ∙ ap (λ t. if t then Some (stages.Name, acts.Add) else None) letter)
-    ∙ leads_tail f (name ++ b ∷ []) part each rest
+    ∙ leads_tail f (name ++ b ∷ []) part (each_passes part each) rest
     ∙ ap (λ n. run (in_name f n) rest) (append_assoc name (b ∷ []) part)
 
 leads_parts : (f : Found) (name : List ℕ) (parts : List (List ℕ)) → AllByRecursion IsComponent parts → Leads (in_name f name) (in_name f (name ++ with_points parts)) (with_points parts)
@@ -186,14 +187,17 @@ leads_parts f name (part ∷ parts) (is, each) rest =
 
 -- a whole name, at a place where a letter begins one
 leads_name : (p : Stage) (f : Found) (name : List ℕ) → ((b : ℕ) → is_letter b ≡ true → next_of p b ≡ Some (stages.Name, acts.Begin)) → IsName name → Leads (p, f) (in_name f name) name
-leads_name p f name begins is rest = ap (λ w. run (p, f) (w ++ rest)) is.spelled ∙ by_first is.first is.component ∙ ap (λ w. run (in_name f w) rest) (sym is.spelled)
+leads_name p f name begins named rest = ap (λ w. run (p, f) (w ++ rest)) is.spelled ∙ by_first is.first is.component ∙ ap (λ w. run (in_name f w) rest) (sym is.spelled)
   where
+    is : Parted name
+    is = parted name named
+
     by_first : (first : List ℕ) → IsComponent first → run (p, f) ((first ++ with_points is.more) ++ rest) ≡ run (in_name f (first ++ with_points is.more)) rest
     by_first [] none = absurd none
     by_first (b ∷ first) (letter, each) =
         step p f b (stages.Name, acts.Begin) ((first ++ with_points is.more) ++ rest) (begins b letter)
         ∙ leads_join (in_name f (b ∷ [])) (in_name f (b ∷ first)) (in_name f ((b ∷ first) ++ with_points is.more)) first (with_points is.more)
-        (leads_tail f (b ∷ []) first each) (leads_parts f (b ∷ first) is.more is.components) rest
+        (leads_tail f (b ∷ []) first (each_passes first each)) (leads_parts f (b ∷ first) is.more is.components) rest
 
 begins_first : (b : ℕ) → is_letter b ≡ true → next_of stages.First b ≡ Some (stages.Name, acts.Begin)
 begins_first b letter = next_other stages.First b (letter_no_blank b letter) ∙ ap (λ t. if t then Some (stages.Name, acts.Begin) else None) letter

@@ -1,4 +1,5 @@
 pub mod Accepts
+pub mod Named
 pub mod Rest
 pub mod Steps
 pub mod Verdicts

@@ -3,8 +3,9 @@
 use Rattle.std.proofs.Common.{◌≡◌, ℕ, ◌+◌, ◌-◌, ◌*◌, ◌≤◌, Bool, IsTrue, ◌⊎◌, inl, inr, List, [], ◌∷◌, ◌++◌, Option, Some, None, refl, sym, ap, ◌∙◌, subst, append_assoc, codes}
 use Rattle.std.proofs.lemmas.List.{append-nil}
 use Rattle.std.specs.List.{AllByRecursion}
-use Rattle.log_schedule.specs.Names.{is_letter, is_digit, is_name_byte, Each, IsComponent, with_points, IsName}
-use Rattle.log_schedule.specs.Configuration.{is_blank, is_between, number_from, IsUnit, IsEvery, IsInterval, MoreNames, IsConfiguration}
+use Rattle.pcp_base.specs.Names.{is_letter, is_name_byte, IsComponent, IsName}
+use Rattle.log_schedule.proofs.Named.{with_points, all_pass, named, parted}
+use Rattle.log_schedule.specs.Configuration.{is_digit, Each, is_blank, is_between, number_from, IsUnit, IsEvery, IsInterval, MoreNames, IsConfiguration}
 use Rattle.log_schedule.specs.declared.config.Group.{Group}
 
 -- the end of a statement, and the statements after it
@@ -187,7 +188,7 @@ module _ (groups : List Group) (interval : Option ℕ) (names : List (List ℕ))
     rest = n.rest;
     spelled = ap (λ bs. b ∷ bs) (n.spelled ∙ sym (append_assoc n.tail (with_points n.parts) n.rest));
     each = tt;
-    is_name = record { first = b ∷ n.tail; more = n.parts; spelled = refl; component = (letter, n.each); components = n.components };
+    is_name = named (b ∷ (n.tail ++ with_points n.parts)) record { first = b ∷ n.tail; more = n.parts; spelled = refl; component = (letter, all_pass n.tail n.each); components = n.components };
     closes = n.closes;
   }
 
@@ -245,7 +246,7 @@ module _ (groups : List Group) (interval : Option ℕ) (names : List (List ℕ))
 
   pub dot_before : (bytes : List ℕ) → InDot groups interval names (name ++ 46 ∷ []) bytes out → InName groups interval names name (46 ∷ bytes) out
   dot_before bytes n =
-      let is = n.is_name in
+      let is = parted n.part n.is_name in
       let dots : 46 ∷ n.part ≡ with_points (is.first ∷ is.more) = ap (λ bs. 46 ∷ bs) is.spelled in
       record {
         tail = [];
@@ -262,7 +263,7 @@ module _ (groups : List Group) (interval : Option ℕ) (names : List (List ℕ))
     part = b ∷ (n.tail ++ with_points n.parts);
     rest = n.rest;
     spelled = ap (λ bs. b ∷ bs) (n.spelled ∙ sym (append_assoc n.tail (with_points n.parts) n.rest));
-    is_name = record { first = b ∷ n.tail; more = n.parts; spelled = refl; component = (letter, n.each); components = n.components };
+    is_name = named (b ∷ (n.tail ++ with_points n.parts)) record { first = b ∷ n.tail; more = n.parts; spelled = refl; component = (letter, all_pass n.tail n.each); components = n.components };
     closes = subst (λ (whole : List ℕ). Closes groups interval (names ++ whole ∷ []) n.rest out) (append_assoc name (b ∷ []) (n.tail ++ with_points n.parts)) n.closes;
   }
 

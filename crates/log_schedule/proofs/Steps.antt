@@ -3,8 +3,8 @@
 use Rattle.std.proofs.Common.{◌≡◌, ℕ, ◌+◌, ◌-◌, ◌*◌, ◌≤◌, ◌<◌, Bool, true, false, if◌then◌else◌, ◌&&◌, ◌||◌, ◌==◌, nat_le, inl, inr, List, [], ◌∷◌, ◌++◌, length, drop, slice_index, Option, Some, None, refl, sym, ap, ◌∙◌, subst, arith, codes, drop-cons, drop_of_length-le, add-one, lit<}
 use Rattle.std.proofs.lemmas.Bool.{eqb-true}
 use Rattle.std.proofs.lemmas.Bool.Decides.{nat_tests}
-use Rattle.log_schedule.specs.Names.{is_letter, is_digit, is_name_byte}
-use Rattle.log_schedule.specs.Configuration.{is_blank, is_between}
+use Rattle.pcp_base.specs.Names.{is_letter, is_name_byte}
+use Rattle.log_schedule.specs.Configuration.{is_digit, is_blank, is_between}
 use Rattle.log_schedule.specs.declared.config.Group.{Group}
 use Rattle.log_schedule.specs.declared.stage.Unit.TheVariants as units
 use Rattle.log_schedule.specs.declared.stage.Word.{Word}

@@ -5,8 +5,8 @@ use Rattle.std.proofs.lemmas.List.{append-nil}
 use Rattle.std.proofs.lemmas.Bool.{cases_lt, leb-true}
 use Rattle.std.proofs.lemmas.Bool.Decides.{nat_tests}
 use Rattle.std.proofs.Math.Seq.{take-suc, take-length}
-use Rattle.log_schedule.specs.Names.{is_letter, is_digit, is_name_byte}
-use Rattle.log_schedule.specs.Configuration.{is_blank, IsConfiguration, IsBeginning, IsFault}
+use Rattle.pcp_base.specs.Names.{is_letter, is_name_byte}
+use Rattle.log_schedule.specs.Configuration.{is_digit, is_blank, IsConfiguration, IsBeginning, IsFault}
 use Rattle.log_schedule.specs.declared.config.Group.{Group}
 use Rattle.log_schedule.specs.declared.stage.Unit.TheVariants as units
 use Rattle.log_schedule.specs.declared.stage.Word.{Word}

@@ -1,8 +1,16 @@
 -- The grammar of a logger's configuration (pmlogger(1)): any number of statements
 -- `log mandatory on INTERVAL { NAMES }`, and what its first fault is.
-use Rattle.std.specs.Prelude.{◌≡◌, ℕ, ◌+◌, ◌-◌, ◌*◌, ◌<◌, ◌≤◌, Bool, ◌||◌, ◌==◌, IsTrue, ◌⊎◌, List, [], ◌∷◌, ◌++◌, length, take, Option, Some, None, codes}
-use Rattle.log_schedule.specs.Names.{is_digit, Each, IsName}
+use Rattle.std.specs.Prelude.{◌≡◌, ℕ, ◌+◌, ◌-◌, ◌*◌, ◌<◌, ◌≤◌, Bool, ◌&&◌, ◌||◌, nat_le, ◌==◌, IsTrue, ◌⊎◌, List, [], ◌∷◌, ◌++◌, length, take, Option, Some, None, codes}
+use Rattle.std.specs.List.{AllByRecursion}
+use Rattle.pcp_base.specs.Names.{IsName}
 use Rattle.log_schedule.specs.declared.config.Group.{Group}
+
+abbrev pub is_digit : ℕ → Bool
+is_digit b = nat_le 48 b && nat_le b 57
+
+-- each byte passes a test
+abbrev pub Each : (ℕ → Bool) → List ℕ → Type 0
+Each test bytes = AllByRecursion (λ b. IsTrue (test b)) bytes
 
 -- a space or a line feed
 abbrev pub is_blank : ℕ → Bool

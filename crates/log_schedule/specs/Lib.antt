@@ -1,6 +1,5 @@
 pub mod Configuration
 pub mod Instants
-pub mod Names
 pub mod Scanning
 pub mod Refusals
 pub mod Steps

@@ -1,8 +1,8 @@
 -- How a configuration is read byte by byte: the stage of a statement at which a byte stands, what it changes
 -- there, and what has been read so far.
 use Rattle.std.specs.Prelude.{ℕ, ◌+◌, ◌-◌, ◌*◌, ◌<◌, ◌≤◌, Bool, true, false, ◌&&◌, ◌==◌, nat_le, if◌then◌else◌, List, [], ◌∷◌, ◌++◌, length, slice_index, Option, Some, None, option_and_then, codes}
-use Rattle.log_schedule.specs.Names.{is_letter, is_digit, is_name_byte}
-use Rattle.log_schedule.specs.Configuration.{is_blank}
+use Rattle.pcp_base.specs.Names.{is_letter, is_name_byte}
+use Rattle.log_schedule.specs.Configuration.{is_digit, is_blank}
 use Rattle.log_schedule.specs.declared.config.Group.{Group}
 use Rattle.log_schedule.specs.declared.stage.Unit.{Unit as TimeUnit}
 use Rattle.log_schedule.specs.declared.stage.Unit.TheVariants as units

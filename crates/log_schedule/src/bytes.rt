@@ -1,8 +1,8 @@
 //! What a single byte may be in a configuration.
 
 ghost use Rattle.std.specs.Prelude.{◌≡◌};
-ghost use Rattle.log_schedule.specs.Configuration.{is_between as between_lem, is_blank as blank_lem};
-ghost use Rattle.log_schedule.specs.Names.{is_digit as digit_lem, is_letter as letter_lem, is_name_byte as name_byte_lem};
+ghost use Rattle.pcp_base.specs.Names.{is_letter as letter_lem, is_name_byte as name_byte_lem};
+ghost use Rattle.log_schedule.specs.Configuration.{is_between as between_lem, is_blank as blank_lem, is_digit as digit_lem};
 
 /// Whether the byte is a space or a line feed.
 pub fn is_blank(byte: u8) -> bool

@@ -3,6 +3,7 @@ ghost use Rattle.std.specs.Prelude.{◌≡◌, ◌+◌, ◌<◌, ◌≤◌, ◌^
 ghost use Rattle.std.specs.Int.{w64, from_le_bytes};
 ghost use Rattle.mmv_format.specs.Fields.{number32, number64, byte_at, text_at, has_zero, words_of};
 
+use byteorder::{ByteOrder, LittleEndian};
 use pcp_base::{List, Text};
 use std::alloc::{AllocError, Global};
 
@@ -77,12 +78,12 @@ pub fn text_at(alloc: Global, words: &[u64], at: u128, n: u32) -> Result<Text, A
 }
 
 /// The word that eight bytes make, the low byte first.
+#[tactic(auto, using(pcp_base::proofs::Orders::little_eight))]
 fn word_of(bytes: &[u8], at: usize) -> u64
     requires { at + 8 ≤ length bytes.now }
     ensures { result ≡ from_le_bytes w64 (take 8 (drop at bytes.now)) }
 {
-    let b = &bytes[at..at + 8];
-    u64::from_le_bytes([b[0], b[1], b[2], b[3], b[4], b[5], b[6], b[7]])
+    LittleEndian::read_u64(&bytes[at..at + 8])
 }
 
 /// The words that whole groups of eight bytes make.
