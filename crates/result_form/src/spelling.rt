@@ -10,6 +10,7 @@ ghost use Rattle.pcp_model.specs.Payload.{value_pairs, place_pairs, pair_blocks,
 ghost use Rattle.result_form.specs.Ranges.{IsPair, IsBlockPair, HasNumbers};
 
 use crate::sizes::block_length;
+use byteorder::{BigEndian, ByteOrder};
 use pcp_base::{Block, Body, NoMemory, PmResult, ValueSet};
 use pcp_model::{put_signed, put_word};
 
@@ -134,8 +135,9 @@ fn put_block(out: &mut Vec<u8>, value: &Block) -> Result<(), NoMemory>
 {
     let bytes = value.bytes();
     let size = (4 + bytes.len()) as u32;
-    let [_, high, middle, low] = size.to_be_bytes();
-    out.extend_from_slice(&[value.code(), high, middle, low])?;
+    let mut head = [value.code(); 4];
+    BigEndian::write_u24(&mut head[1..], size);
+    out.extend_from_slice(&head)?;
     out.extend_from_slice(bytes)?;
     put_zeros(out, (4 - bytes.len() % 4) % 4)
 }

@@ -3,6 +3,7 @@ ghost use Rattle.std.specs.Prelude.{◌≡◌, ◌+◌, ◌<◌, ◌≤◌, List
 ghost use Rattle.pcp_model.specs.Words.{word};
 ghost use Rattle.pcp_model.specs.Records.{entry as spelled, FitsEntry};
 
+use byteorder::{BigEndian, ByteOrder};
 use pcp_base::NoMemory;
 use pcp_model::Entry;
 
@@ -15,7 +16,9 @@ fn put_word(out: &mut [u8; ENTRY], at: usize, number: u32)
     requires { at + 4 ≤ 20 }
     ensures { out.new ≡ take at out.old ++ (word number ++ drop (at + 4) out.old) }
 {
-    out[at..at + 4].copy_from_slice(&number.to_be_bytes());
+    let mut word = [0; 4];
+    BigEndian::write_u32(&mut word, number);
+    out[at..at + 4].copy_from_slice(&word);
 }
 
 /// The bytes of an entry. They are read again as this entry where its volume and both offsets are below 2^31.
