@@ -1,7 +1,5 @@
-pub mod Loads
+pub mod Lacking
 pub mod Nexts
-pub mod PartsRead
 pub mod Readable
 pub mod Searching
 pub mod Stepping
-pub mod Volumes

@@ -12,10 +12,10 @@ use Rattle.archive_reader.specs.Lacks.{of_lack}
 use Rattle.pcp_model.specs.declared.records.MetaRecord.{MetaRecord}
 use Rattle.pcp_model.specs.declared.records.Entry.{Entry}
 use Rattle.pcp_model.specs.LabelFields.{LabelFields}
-use Rattle.archive_reader.specs.Loaded.{IsKeptOf, IsMeasured, Rises}
+use Rattle.archive_loading.specs.Loaded.{IsKeptOf, IsMeasured, Rises}
 use Rattle.archive_reader.specs.Nexts.{IsNext, IsNextFault}
 use Rattle.archive_reader.specs.Walks.{volumes_from, StepsOver, IsEnd, IsBad}
-use Rattle.archive_reader.proofs.Volumes.{measured}
+use Rattle.archive_loading.proofs.Volumes.{measured}
 use Rattle.archive_reader.proofs.Stepping.{from_own}
 
 pub lack_next : (files : Files) (volumes : List (ℕ × ℕ)) (p : Place) (lack : Lack) → IsNextFault files volumes p (of_lack lack)

@@ -14,7 +14,7 @@ use Rattle.archive_window.specs.Standing.{ItemStands, NoItemStands}
 use Rattle.archive_reader.specs.declared.walking.Step.{Step}
 use Rattle.archive_reader.specs.declared.walking.Step.TheVariants.{End as StepEnd, Bad as StepBad, Item as StepItem}
 use Rattle.archive_reader.specs.Steps.{IsStood, IsWalked}
-use Rattle.archive_reader.specs.Loaded.{Rises}
+use Rattle.archive_loading.specs.Loaded.{Rises}
 use Rattle.archive_reader.specs.Walks.{volumes_from, next_volumes, next_offset, StandsNext, StepsOver, EndsThere, IsEnd, IsBadThere, IsBad, Leads}
 
 -- ---- the volumes from a number on

@@ -8,7 +8,7 @@ use Rattle.pcp_model.specs.declared.records.MetaRecord.{MetaRecord}
 use Rattle.pcp_model.specs.Archive.{ArchiveContents, ArchiveReading, Reads, items_of, scan, records_in}
 use Rattle.pcp_model.specs.Disk.{Files}
 use Rattle.pcp_model.specs.Sound.{NeverFalls, IsBoundary, IsSound}
-use Rattle.archive_reader.specs.Loaded.{Loaded, IsOver}
+use Rattle.archive_loading.specs.Loaded.{Loaded, IsOver}
 use Rattle.archive_reader.specs.Walks.{AllFrom}
 use Rattle.archive_reader.specs.Searches.{or_else, last_of, at, between, segment, items_before, items_from, chosen_place}
 

@@ -1,10 +1,7 @@
 pub mod Lacks
 pub mod Laws
 pub mod LoadFaults
-pub mod Loaded
 pub mod Nexts
-pub mod Parts
 pub mod Searches
 pub mod Steps
-pub mod Volumes
 pub mod Walks

@@ -4,10 +4,7 @@
 #![tactic(auto)]
 
 mod fault;
-mod labels;
 mod laws;
-mod loading;
-mod parts;
 mod places;
 mod reader;
 mod walking;

@@ -7,18 +7,20 @@ ghost use Rattle.pcp_outside.specs.Causes.{Rose};
 ghost use Rattle.archive_window.specs.Looks.{Looks};
 ghost use Rattle.archive_reader.specs.declared.fault.ReaderFault.TheVariants.{DiskFault};
 ghost use Rattle.pcp_base.specs.declared.file.FileId.TheVariants.{Meta};
-ghost use Rattle.archive_reader.specs.declared.parts.MetaPart.TheVariants.{Begun};
-ghost use Rattle.archive_reader.specs.Loaded.{IsOver, IsMeasured, Rises, IsReachable, HasLong, AllShort};
-ghost use Rattle.archive_reader.specs.LoadFaults.{HeadIs, MetaIs, IsFilesFault, IsLoadFault};
-ghost use Rattle.archive_reader.specs.Parts.{IsMetaPart};
+ghost use Rattle.archive_loading.specs.declared.parts.MetaPart.TheVariants.{Begun};
+ghost use Rattle.archive_loading.specs.Loaded.{IsOver, IsMeasured, Rises, IsReachable, HasLong, AllShort};
+ghost use Rattle.archive_loading.specs.LoadFaults.{HeadIs, MetaIs};
+ghost use Rattle.archive_reader.specs.LoadFaults.{IsFilesFault, IsLoadFault};
+ghost use Rattle.archive_loading.specs.Parts.{IsMetaPart};
 ghost use Rattle.archive_reader.specs.Nexts.{IsNext, IsNextFault};
 ghost use Rattle.archive_reader.specs.Walks.{volumes_from};
 
 use crate::fault::ReaderFault;
-use crate::loading::{VolumesPart, is_alone, load_index, load_meta, load_volumes};
-use crate::parts::{IndexPart, MetaPart, no_entries};
 use crate::places::Place;
 use crate::walking::{Step, first_from, walk};
+use archive_loading::{
+    IndexPart, MetaPart, VolumesPart, is_alone, load_index, load_meta, load_volumes, no_entries,
+};
 use archive_meta::MetaState;
 use archive_window::wrapped_file;
 use pcp_base::{Item, List};
@@ -39,7 +41,7 @@ pub struct ArchiveReader {
 }
 
 impl Model for ArchiveReader {
-    ghost use Rattle.archive_reader.specs.Loaded.{Loaded, IsReachable};
+    ghost use Rattle.archive_loading.specs.Loaded.{Loaded, IsReachable};
 
     ghost Value = { Loaded };
 

@@ -3,7 +3,7 @@ ghost use Rattle.std.specs.Prelude.{◌≡◌, ◌+◌, ◌<◌, ◌≤◌, leng
 ghost use Rattle.std.specs.List.{AllByRecursion};
 ghost use Rattle.pcp_model.specs.Disk.{contents_of};
 ghost use Rattle.archive_window.specs.Looks.{Looks, Blames};
-ghost use Rattle.archive_reader.specs.Loaded.{IsMeasured, IsReachable};
+ghost use Rattle.archive_loading.specs.Loaded.{IsMeasured, IsReachable};
 ghost use Rattle.archive_reader.specs.Walks.{volumes_from, next_volumes, next_offset};
 ghost use Rattle.archive_reader.specs.Steps.{IsStood, IsWalked, IsIn};
 

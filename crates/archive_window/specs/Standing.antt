@@ -68,6 +68,12 @@ IsNextRecord bytes at End = IsTorn (drop at bytes)
 IsNextRecord bytes at Bad = NoItemStands bytes at × (IsTorn (drop at bytes) → ⊥)
 IsNextRecord bytes at (Item x next) = ItemStands bytes at next x
 
+-- a record of a file of this length has bytes, all within the file
+abbrev pub FitsNext : ℕ → ℕ → Next → Type 0
+FitsNext end at End = Unit {0}
+FitsNext end at Bad = Unit {0}
+FitsNext end at (Item x next) = (at < next) × (next ≤ end)
+
 -- the first bytes of a file, at most so many, and its length
 abbrev pub IsFront : List ℕ → ℕ → List ℕ × ℕ → Type 0
 IsFront bytes most front = (front.0 ≡ take most bytes) × (front.1 ≡ length bytes)

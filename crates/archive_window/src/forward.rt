@@ -4,8 +4,9 @@ ghost use Rattle.pcp_model.specs.Disk.{contents_of};
 ghost use Rattle.pcp_base.specs.declared.file.FileId.TheVariants.{Volume};
 ghost use Rattle.result_form.specs.declared.fault.FormFault.TheVariants.{NoMemory as Refused};
 ghost use Rattle.archive_frame.specs.Steps.{number_at};
+ghost use Rattle.pcp_outside.specs.Devices.{IsNumbered};
 ghost use Rattle.archive_window.specs.Looks.{Looks, Blames};
-ghost use Rattle.archive_window.specs.Standing.{IsSized, IsSaid, IsTaken, FitsIn, IsItemOf, IsItemIn, IsNextRecord};
+ghost use Rattle.archive_window.specs.Standing.{IsSized, IsSaid, IsTaken, FitsIn, FitsNext, IsItemOf, IsItemIn, IsNextRecord};
 
 use crate::lack::Lack;
 use crate::reading::take_bytes;
@@ -67,16 +68,16 @@ fn word_of(frame: &[u8]) -> u32
 /// The other bytes of a record whose length word the buffer holds.
 fn take_rest<D: Disk>(
     disk: &mut D,
-    number: u32,
+    file: FileId,
     end: u64,
     at: u64,
     frame: Vec<u8>,
 ) -> Result<Taken, Lack>
-    requires numbered { number < 4294967295 }
+    requires numbered { IsNumbered file }
     requires word { length frame.items ≡ 4 }
     requires left { at + 4 ≤ end }
-    requires there { D.tells → (end ≡ length (contents_of (D.held disk.old) (Volume number))) × (frame.items ≡ take 4 (drop at (contents_of (D.held disk.old) (Volume number)))) }
-    ensures taken { D.tells → IfOk result (IsTaken (contents_of (D.held disk.old) (Volume number)) at) }
+    requires there { D.tells → (end ≡ length (contents_of (D.held disk.old) file)) × (frame.items ≡ take 4 (drop at (contents_of (D.held disk.old) file))) }
+    ensures taken { D.tells → IfOk result (IsTaken (contents_of (D.held disk.old) file) at) }
     ensures within { IfOk result (FitsIn end at) }
     ensures looks { Looks D.Disk disk.old disk.new }
     ensures cause { IfErr result (Blames D.Disk disk.old disk.new) }
@@ -86,23 +87,23 @@ fn take_rest<D: Disk>(
         Said::Torn => Ok(Taken::Torn),
         Said::Wrong => Ok(Taken::Wrong),
         Said::Whole(size) => {
-            take_bytes(disk, FileId::Volume(number), at + 4, size - 4, &mut frame)?;
+            take_bytes(disk, file, at + 4, size - 4, &mut frame)?;
             Ok(Taken::Frame(List::from_vec(frame)))
         }
     }
 }
 
-/// The record's bytes at an offset of a volume of this length.
-fn take_frame<D: Disk>(
+/// The record's bytes at an offset of a file of this length: its length word is taken, and then its other bytes.
+pub fn take_frame<D: Disk>(
     alloc: Global,
     disk: &mut D,
-    number: u32,
+    file: FileId,
     end: u64,
     at: u64,
 ) -> Result<Taken, Lack>
-    requires numbered { number < 4294967295 }
-    requires end { D.tells → end ≡ length (contents_of (D.held disk.old) (Volume number)) }
-    ensures taken { D.tells → IfOk result (IsTaken (contents_of (D.held disk.old) (Volume number)) at) }
+    requires numbered { IsNumbered file }
+    requires end { D.tells → end ≡ length (contents_of (D.held disk.old) file) }
+    ensures taken { D.tells → IfOk result (IsTaken (contents_of (D.held disk.old) file) at) }
     ensures within { IfOk result (FitsIn end at) }
     ensures looks { Looks D.Disk disk.old disk.new }
     ensures cause { IfErr result (Blames D.Disk disk.old disk.new) }
@@ -111,8 +112,8 @@ fn take_frame<D: Disk>(
         return Ok(Taken::Torn);
     }
     let mut frame = Vec::new(alloc);
-    take_bytes(disk, FileId::Volume(number), at, 4, &mut frame)?;
-    take_rest(disk, number, end, at, frame)
+    take_bytes(disk, file, at, 4, &mut frame)?;
+    take_rest(disk, file, end, at, frame)
 }
 
 /// Goes on unless memory was refused.
@@ -161,10 +162,11 @@ pub fn next_record<D: Disk>(
     requires numbered { number < 4294967295 }
     requires end { D.tells → end ≡ length (contents_of (D.held disk.old) (Volume number)) }
     ensures found { D.tells → IfOk result (IsNextRecord (contents_of (D.held disk.old) (Volume number)) at) }
+    ensures within { IfOk result (FitsNext end at) }
     ensures looks { Looks D.Disk disk.old disk.new }
     ensures cause { IfErr result (Blames D.Disk disk.old disk.new) }
 {
-    let frame = match take_frame(alloc, disk, number, end, at)? {
+    let frame = match take_frame(alloc, disk, FileId::Volume(number), end, at)? {
         Taken::Torn => return Ok(Next::End),
         Taken::Wrong => return Ok(Next::Bad),
         Taken::Frame(frame) => frame,

@@ -6,6 +6,6 @@ mod forward;
 mod lack;
 mod reading;
 
-pub use forward::{Next, next_record};
+pub use forward::{Next, Taken, next_record, take_frame};
 pub use lack::Lack;
 pub use reading::{count_volumes, front_of, length_of, take_bytes, whole_of, wrapped_file};

@@ -2,8 +2,8 @@
 -- it was.
 use Rattle.std.specs.Prelude.{◌≡◌, ℕ, true, List, Some, None}
 use Rattle.pcp_outside.specs.Causes.{Rose}
-use Rattle.archive_reader.specs.Loaded.{Loaded, IsOver}
-use Rattle.archive_reader.specs.LoadFaults.{NotLoaded}
+use Rattle.archive_loading.specs.Loaded.{Loaded, IsOver}
+use Rattle.archive_loading.specs.LoadFaults.{NotLoaded}
 use Rattle.pm_commands.specs.declared.stage.FilesRefusal.{FilesRefusal}
 use Rattle.pm_commands.specs.declared.stage.FilesRefusal.TheVariants.{LaterDisk, Compressed, NotArchive}
 use Rattle.pm_commands.specs.declared.stage.DiskRefusal.TheVariants.{Files as FilesAway, DiskFault}

@@ -1,6 +1,6 @@
 -- `info` writes the descriptions of an archive.
 use Rattle.std.specs.Prelude.{◌≡◌, ℕ, List}
-use Rattle.archive_reader.specs.Loaded.{Loaded}
+use Rattle.archive_loading.specs.Loaded.{Loaded}
 use Rattle.pm_print.specs.Infos.{info_text}
 use Rattle.pm_commands.specs.declared.stage.FilesRefusal.{FilesRefusal}
 use Rattle.pm_commands.specs.Archives.{IsLoaded, IsNotLoaded, looks}

@@ -1,8 +1,8 @@
 use Rattle.std.proofs.Common.{◌≡◌, ◌⊎◌, [], subst}
 use Rattle.pcp_model.specs.Disk.{contents_of}
-use Rattle.archive_reader.specs.Loaded.{HasLong, AllShort}
-use Rattle.archive_reader.specs.Volumes.{IsVolumesPart}
-use Rattle.archive_reader.proofs.Loads.{beside_fault, whole_archive}
+use Rattle.archive_loading.specs.Loaded.{HasLong, AllShort}
+use Rattle.archive_loading.specs.Volumes.{IsVolumesPart}
+use Rattle.archive_loading.proofs.Loads.{beside_fault, whole_archive}
 use Rattle.archive_reader.proofs.reader.load_behind.Goals as goal
 
 pub returns-then-not-is_beside-clause-fault : goal.returns-then-not-is_beside-clause-fault

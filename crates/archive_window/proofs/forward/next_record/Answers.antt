@@ -1,4 +1,4 @@
-use Rattle.std.proofs.Common.{◌≡◌, ℕ, ◌+◌, List, length, sym, ap, subst}
+use Rattle.std.proofs.Common.{◌≡◌, ℕ, ◌+◌, List, length, sym, ap, subst, arith}
 use Rattle.pcp_base.specs.declared.file.FileId.TheVariants.{Volume}
 use Rattle.pcp_model.specs.Disk.{contents_of}
 use Rattle.archive_window.specs.Standing.{ItemStands, NoItemStands, IsSized, WasTaken, IsTaken, FitsIn, IsItemIn}
@@ -27,3 +27,8 @@ returns-clause-found g c = λ tells.
     let taken : WasTaken bytes c.args.at c.in-Frame.frame = subst (IsTaken bytes c.args.at) c.in-Frame.is (c.in_ok-take_frame.ensures.taken tells) in
     let none : NoItemStands c.as_slice.result.now 0 = subst (IsItemIn c.as_slice.result.now) c.in-None.is c.in_ok-item.ensures in
     (no_item_there bytes c.in-Frame.frame c.args.at taken (subst (λ l. NoItemStands l 0) c.as_slice.ensures none), whole_not_torn bytes c.in-Frame.frame c.args.at taken)
+
+pub returns-in-Some-clause-within : goal.returns-in-Some-clause-within
+returns-in-Some-clause-within g c =
+    let fits = subst (FitsIn c.args.end c.args.at) c.in-Frame.is c.in_ok-take_frame.ensures.within in
+    (omega (arith, c.len.ensures, fits.0.size.0), omega (arith, c.len.ensures, fits.1))

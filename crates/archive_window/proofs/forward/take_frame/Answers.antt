@@ -1,6 +1,5 @@
 use Rattle.std.proofs.Common.{subst}
 use Rattle.std.specs.Prelude.{IfOk}
-use Rattle.pcp_base.specs.declared.file.FileId.TheVariants.{Volume}
 use Rattle.pcp_model.specs.Disk.{contents_of}
 use Rattle.archive_window.specs.Standing.{IsTaken}
 use Rattle.archive_window.proofs.Looking.{looks_none, looks_on}
@@ -11,7 +10,7 @@ returns-then-at-end-clause-looks g c = looks_none g.D.Disk g.met.D.Disk.only_now
 
 pub returns-clause-taken : goal.returns-clause-taken
 returns-clause-taken g c = λ tells.
-    subst (λ h. IfOk c.take_rest.result (IsTaken (contents_of h (Volume c.args.number)) c.args.at)) (c.take_bytes.ensures.looks.held tells) (c.take_rest.ensures.taken tells)
+    subst (λ h. IfOk c.take_rest.result (IsTaken (contents_of h c.args.file) c.args.at)) (c.take_bytes.ensures.looks.held tells) (c.take_rest.ensures.taken tells)
 
 pub returns-clause-looks : goal.returns-clause-looks
 returns-clause-looks g c = looks_on g.D.Disk c.args.disk.now c.take_bytes.new.disk c.take_rest.new.disk c.take_bytes.ensures.looks c.take_rest.ensures.looks

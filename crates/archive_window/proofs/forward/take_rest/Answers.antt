@@ -1,5 +1,4 @@
 use Rattle.std.proofs.Common.{◌≡◌, ◌-◌, ℕ, ◌+◌, ◌≤◌, List, length, take, drop, refl, sym, ap, ◌∙◌, subst, arith}
-use Rattle.pcp_base.specs.declared.file.FileId.TheVariants.{Volume}
 use Rattle.pcp_model.specs.Disk.{contents_of}
 use Rattle.archive_frame.specs.Steps.{IsSize, number_at}
 use Rattle.archive_window.proofs.Frames.{no_frame, not_torn, taken_whole, sized_by}
@@ -7,7 +6,7 @@ use Rattle.archive_window.proofs.forward.take_rest.Goals as goal
 
 pub returns-in-Wrong-clause-taken : goal.returns-in-Wrong-clause-taken
 returns-in-Wrong-clause-taken g c = λ tells.
-    let bytes : List ℕ = contents_of (g.D.Disk.held c.args.disk.now) (Volume c.args.number) in
+    let bytes : List ℕ = contents_of (g.D.Disk.held c.args.disk.now) c.args.file in
     let first : List ℕ = c.args.frame.items in
     let there = c.requires.there tells in
     let word : c.word_of.result ≡ number_at first 0 = c.word_of.ensures ∙ ap (λ l. number_at l 0) c.deref.ensures.value in
@@ -16,7 +15,7 @@ returns-in-Wrong-clause-taken g c = λ tells.
 
 pub returns-in_ok-take_bytes-in-Whole-clause-taken : goal.returns-in_ok-take_bytes-in-Whole-clause-taken
 returns-in_ok-take_bytes-in-Whole-clause-taken g c = λ tells.
-    let bytes : List ℕ = contents_of (g.D.Disk.held c.args.disk.now) (Volume c.args.number) in
+    let bytes : List ℕ = contents_of (g.D.Disk.held c.args.disk.now) c.args.file in
     let first : List ℕ = c.args.frame.items in
     let size : ℕ = c.in-Whole.size in
     let there = c.requires.there tells in

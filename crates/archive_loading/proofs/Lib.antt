@@ -1,0 +1,4 @@
+pub mod Loads
+pub mod PartsRead
+pub mod Passed
+pub mod Volumes

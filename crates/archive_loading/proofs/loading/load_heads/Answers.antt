@@ -1,0 +1,60 @@
+use Rattle.std.proofs.Common.{◌≡◌, ◌∙◌, ◌+◌, ◌<◌, ℕ, List, [], ◌∷◌, sym, subst, arith}
+use Rattle.std.specs.Prelude.{nat_eq}
+use Rattle.pcp_model.proofs.Lists.{each-append}
+use Rattle.archive_loading.specs.declared.loading.VolumePart.{VolumePart}
+use Rattle.archive_loading.specs.Volumes.{IsVolumePart}
+use Rattle.archive_loading.proofs.loading.load_heads.Goals.{in-Empty, in-Headed+in_ok-push-in-Headed}
+use Rattle.pcp_model.specs.Disk.{contents_of}
+use Rattle.archive_window.proofs.Looking.{looks_none, looks_on}
+use Rattle.archive_loading.specs.Loaded.{IsReachable}
+use Rattle.archive_loading.proofs.Volumes.{SoFar, none_yet, skips, adds, headed_here, one_stops, all_headed}
+use Rattle.archive_loading.proofs.loading.load_heads.Goals as goal
+
+pub loop-number-init : goal.loop-number-init
+loop-number-init g c = record {
+  looks = looks_none g.D.Disk g.met.D.Disk.only_now c.args.disk.now;
+  so_far = λ tells. subst (λ vs. SoFar (contents_of (g.D.Disk.held c.args.disk.now)) c.args.label.now c.args.count 0 vs) (sym c.empty-volumes.ensures) (none_yet (contents_of (g.D.Disk.held c.args.disk.now)) c.args.label.now c.args.count);
+  reach = subst IsReachable (sym c.empty-volumes.ensures) tt;
+}
+
+pub returns-in-Stops-clause-looks : goal.returns-in-Stops-clause-looks
+returns-in-Stops-clause-looks g c = looks_on g.D.Disk c.args.disk.now c.loop-number.disk c.load_volume.new.disk c.loop-number.invariant.looks c.load_volume.ensures.looks
+
+pub returns-in-Stops-clause-volumes : goal.returns-in-Stops-clause-volumes
+returns-in-Stops-clause-volumes g c = λ tells.
+    let l = c.args.label.now in
+    let n = c.loop-number.number in
+    let is_last = nat_eq (n + 1) c.args.count in
+    let found = subst (λ h. IsVolumePart (contents_of h) l n is_last c.in_ok-load_volume.field-0) (c.loop-number.invariant.looks.held tells) (c.in_ok-load_volume.ensures.volume tells) in
+    one_stops (g.D.Disk.held c.args.disk.now) l c.args.count n c.in-Stops.at c.loop-number.volumes (c.requires tells) c.loop-number-test.true (c.loop-number.invariant.so_far tells)
+    (subst (IsVolumePart (contents_of (g.D.Disk.held c.args.disk.now)) l n is_last) c.in-Stops.is found)
+
+pub loop-number-preserved : goal.loop-number-preserved
+loop-number-preserved g c =
+    let l = c.args.label.now in
+    let n = c.loop-number.number in
+    let count = c.args.count in
+    let vs : List (ℕ × ℕ) = c.loop-number.volumes in
+    let files = contents_of (g.D.Disk.held c.args.disk.now) in
+    let is_last = nat_eq (n + 1) count in
+    record {
+      looks = looks_on g.D.Disk c.args.disk.now c.loop-number.disk c.load_volume.new.disk c.loop-number.invariant.looks c.load_volume.ensures.looks;
+      so_far = λ tells.
+          let found = subst (λ h. IsVolumePart (contents_of h) l n is_last c.in_ok-load_volume.field-0) (c.loop-number.invariant.looks.held tells) (c.in_ok-load_volume.ensures.volume tells) in
+          elim c.match-branch-2.branch [
+            | in-Empty w ↦ subst (SoFar files l count (n + 1)) (sym w.volumes-is) (skips files l count n vs (subst (IsVolumePart files l n is_last) w.in-Empty.is found) (c.loop-number.invariant.so_far tells))
+            | in-Headed+in_ok-push-in-Headed w ↦ subst (SoFar files l count (n + 1)) (sym (w.volumes-is ∙ w.in_ok-push-in-Headed.ensures.ok))
+                (adds files l count n w.in-Headed.end vs (headed_here files l count n w.in-Headed.end (subst (IsVolumePart files l n is_last) w.in-Headed.is found)) (c.loop-number.invariant.so_far tells))
+          ];
+      reach = elim c.match-branch-2.branch [
+        | in-Empty w ↦ subst IsReachable (sym w.volumes-is) c.loop-number.invariant.reach
+        | in-Headed+in_ok-push-in-Headed w ↦ subst IsReachable (sym (w.volumes-is ∙ w.in_ok-push-in-Headed.ensures.ok))
+            (each-append (λ (v : ℕ × ℕ). v.0 < 4294967295) vs ((n, w.in-Headed.end) ∷ []) c.loop-number.invariant.reach (let low : n < 4294967295 = omega (arith, c.loop-number-test.true, c.ranges.count.fits) in low, tt))
+      ];
+    }
+
+pub returns-clause-volumes : goal.returns-clause-volumes
+returns-clause-volumes g c = λ tells.
+    let end : c.loop-number.number ≡ c.args.count = omega (arith, c.loop-number-test.false, c.loop-number.auto.number-end) in
+    all_headed (g.D.Disk.held c.args.disk.now) c.args.label.now c.args.count c.loop-number.volumes (c.requires tells)
+    (subst (λ n. SoFar (contents_of (g.D.Disk.held c.args.disk.now)) c.args.label.now c.args.count n c.loop-number.volumes) end (c.loop-number.invariant.so_far tells))

@@ -1,0 +1,12 @@
+use Rattle.pcp_model.specs.Disk.{contents_of}
+use Rattle.archive_window.specs.Looks.{Looks}
+use Rattle.archive_loading.specs.Loaded.{IsReachable}
+use Rattle.archive_loading.proofs.Volumes.{SoFar}
+use Rattle.archive_loading.proofs.loading.load_heads.Given as goal
+
+abbrev pub invariant-loop-number : goal.invariant-loop-number
+invariant-loop-number g l = record {
+  looks : Looks g.D.Disk l.initial.disk l.disk;
+  so_far : g.D.Disk.tells → SoFar (contents_of (g.D.Disk.held l.initial.disk)) l.label l.count l.number l.volumes;
+  reach : IsReachable l.volumes;
+}

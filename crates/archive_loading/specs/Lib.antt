@@ -1,0 +1,4 @@
+pub mod LoadFaults
+pub mod Loaded
+pub mod Parts
+pub mod Volumes
