@@ -11,7 +11,8 @@ use Rattle.pcp_model.specs.Words.{word}
 use Rattle.pcp_model.specs.Records.{counted_name, counted_names, description, DescriptionInRange}
 use Rattle.archive_meta.specs.Decoding.{◌>>=◌, text_of, first_name, names_from, desc_in, description_in}
 use Rattle.archive_meta.proofs.ZeroBytes.{bind_some, some_is, past, text_is, text_clean}
-use Rattle.archive_meta.proofs.Fields.{IsBytes, IsBytes-drop, WordStands, field_takes, field_again, behind_word}
+use Rattle.archive_frame.proofs.Records.{IsBytes}
+use Rattle.archive_meta.proofs.Fields.{IsBytes-drop, WordStands, field_takes, field_again, behind_word}
 
 pub record NameRead (bytes name : List ℕ) : Type 0 where
   pub is : bytes ≡ counted_name name ++ drop (4 + length name) bytes

@@ -8,10 +8,8 @@ use Rattle.std.proofs.lemmas.List.{take_at, drop_at, drop-drop, take-append-drop
 use Rattle.std.proofs.lemmas.Nat.{be_bytes_4, from_be_bytes-to_be_bytes_4}
 use Rattle.pcp_base.specs.Fields.{be_field}
 use Rattle.pcp_model.specs.Words.{word, signed_word}
+use Rattle.archive_frame.proofs.Records.{IsBytes}
 use Rattle.archive_meta.proofs.ZeroBytes.{past, some_is}
-
-abbrev pub IsBytes : List ℕ → Type 0
-IsBytes bytes = (i : ℕ) → get_or bytes i 0 < 256
 
 pub IsBytes-drop : (n : ℕ) (bytes : List ℕ) → IsBytes bytes → IsBytes (drop n bytes)
 IsBytes-drop n bytes h i = rw get_or-drop (h (n + i))

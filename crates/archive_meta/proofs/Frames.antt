@@ -22,7 +22,7 @@ use Rattle.archive_meta.proofs.RecordsRead.{all_only}
 use Rattle.archive_meta.specs.declared.fault.MetaFault.{MetaFault}
 use Rattle.archive_meta.specs.declared.fault.MetaFault.TheVariants.{Record, NoMemory}
 use Rattle.archive_meta.specs.Laws.{RecordsGoOn}
-use Rattle.archive_meta.specs.Records.{AreRecords, RecordStands, NoRecordStands, IsFirstBad, IsMetaFault, IsRecordFault, IsAddFault, Adds}
+use Rattle.archive_meta.specs.Records.{AreRecords, RecordStands, NoRecordStands, IsFirstBad, IsMetaFault, IsRecordFault, IsAddFault, Adds, AreFound}
 use Rattle.archive_meta.proofs.Consistent.{consistent_front}
 
 read_more : (first more : List (List ℕ)) (xs ys : List MetaRecord) → AreRead IsRecord first xs → AreRead IsRecord more ys → AreRead IsRecord (first ++ more) (xs ++ ys)
@@ -244,3 +244,7 @@ add_fault before mid bytes at next r NoMemory a within s fault = tt
 
 pub handed_on : {T : Type 0} (r : Result T MetaFault) (e : MetaFault) (P : MetaFault → Type 0) → IsErrAnd r (λ y. y ≡ e) → P e → IfErr r P
 handed_on r e P was h = let p = err_from_is_err_and r was in subst (λ x. IfErr x P) (sym p.1) (subst P (sym p.2) h)
+
+-- want of memory says nothing of the records
+pub no_room : {X : Type 0} (Says : X → List MetaRecord → Type 0) (records : List MetaRecord) (r : Result X MetaFault) → IsErrAnd r (λ y. y ≡ NoMemory) → AreFound Says records r
+no_room Says records r was = let p = err_from_is_err_and r was in subst (λ x. AreFound Says records x) (sym p.1) p.2

@@ -12,7 +12,8 @@ use Rattle.pcp_model.specs.Records.{IsRecord, description, domain_head, word_byt
 use Rattle.archive_meta.specs.Decoding.{◌>>=◌, description_in, domain_in, record_in, stamp_in, stamped_in}
 use Rattle.archive_meta.specs.Stamped.{IsStamped}
 use Rattle.archive_meta.proofs.ZeroBytes.{bind_some, some_is, past, only}
-use Rattle.archive_meta.proofs.Fields.{IsBytes, WordStands, field_takes, field_again, behind_word}
+use Rattle.archive_frame.proofs.Records.{IsBytes}
+use Rattle.archive_meta.proofs.Fields.{WordStands, field_takes, field_again, behind_word}
 use Rattle.archive_meta.proofs.DescriptionsRead.{description_takes, description_again}
 use Rattle.archive_meta.proofs.DomainsRead.{StampRead, stamp_takes, stamp_again, domain_takes, domain_again}
 

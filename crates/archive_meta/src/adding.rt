@@ -1,14 +1,12 @@
 //! One record more, or less, in what is kept beside the records.
 ghost use Rattle.std.specs.Prelude.{◌≡◌, ◌↔◌, ℕ, ◌∷◌, [], ◌++◌, length, List as Sequence, IsTrue, OnOk, OnErr};
-ghost use Rattle.std.specs.Option.{option_copied};
 ghost use Rattle.pcp_model.specs.declared.records.MetaRecord.{MetaRecord as Record};
 ghost use Rattle.pcp_model.specs.declared.records.MetaRecord.TheVariants.{Description};
-ghost use Rattle.archive_meta.specs.Said.{desc_in, names_in, pairs_in};
 ghost use Rattle.archive_meta.specs.Kept.{HasDescriptions, HasMoments};
 
 use crate::descriptions::{Descriptions, forget_metric, note_metric};
 use crate::moments::{Moments, forget_moment, note_moment};
-use pcp_base::{Desc, List, NoMemory, Text};
+use pcp_base::{Desc, NoMemory, Text};
 use pcp_model::MetaRecord;
 
 /// Notes a record behind all others.
@@ -72,35 +70,5 @@ pub fn is_description(one: &MetaRecord, desc: &Desc, names: &[Text]) -> bool
             found == desc && are_same_texts(others.as_slice(), names)
         }
         MetaRecord::Domain(_, _, _) | MetaRecord::Other => false,
-    }
-}
-
-/// The description in a record.
-pub fn desc_in(one: &MetaRecord) -> Option<&Desc>
-    ensures { option_copied result ≡ desc_in one.now }
-{
-    match one {
-        MetaRecord::Description(desc, _) => Some(desc),
-        MetaRecord::Domain(_, _, _) | MetaRecord::Other => None,
-    }
-}
-
-/// The names in a description.
-pub fn names_in(one: &MetaRecord) -> Option<&List<Text>>
-    ensures { option_copied result ≡ names_in one.now }
-{
-    match one {
-        MetaRecord::Description(_, names) => Some(names),
-        MetaRecord::Domain(_, _, _) | MetaRecord::Other => None,
-    }
-}
-
-/// The instances in a domain's record.
-pub fn pairs_in(one: &MetaRecord) -> Option<&List<(i32, Text)>>
-    ensures { option_copied result ≡ pairs_in one.now }
-{
-    match one {
-        MetaRecord::Domain(_, _, pairs) => Some(pairs),
-        MetaRecord::Description(_, _) | MetaRecord::Other => None,
     }
 }

@@ -5,17 +5,20 @@ ghost use Rattle.pcp_model.specs.Frame.{IsTorn};
 ghost use Rattle.pcp_model.specs.Records.{AreConsistent};
 ghost use Rattle.archive_meta.specs.Records.{AreRecords, Adds, AreFound, HasFront, IsFrontFault, IsWholeEnd};
 
+use crate::counting::records_at_most;
 use crate::fault::MetaFault;
 use crate::framed::record_at;
 use crate::state::MetaState;
 use pcp_base::be32;
 use std::alloc::Global;
 
-/// Whether bytes are the beginning of a framed record that wasn't written whole: fewer than 4, or fewer than their
-/// length word says, which is in range. No bytes are.
-fn is_torn(rest: &[u8]) -> bool
-    ensures { IsTrue result ↔ IsTorn rest.now }
+/// Whether what stands from a byte on is the beginning of a framed record that wasn't written whole: fewer than 4
+/// bytes, or fewer than their length word says, which is in range. No bytes are.
+fn is_torn_at(bytes: &[u8], at: usize) -> bool
+    requires { at ≤ length bytes.now }
+    ensures { IsTrue result ↔ IsTorn (drop at bytes.now) }
 {
+    let rest = &bytes[at..];
     let Some(word) = be32(rest, 0) else {
         return true;
     };
@@ -23,13 +26,6 @@ fn is_torn(rest: &[u8]) -> bool
         return false;
     }
     rest.len() < word as usize
-}
-
-fn is_torn_at(bytes: &[u8], at: usize) -> bool
-    requires { at ≤ length bytes.now }
-    ensures { IsTrue result ↔ IsTorn (drop at bytes.now) }
-{
-    is_torn(&bytes[at..])
 }
 
 impl MetaState {
@@ -65,7 +61,7 @@ impl MetaState {
         // Which record it is.
         ensures fault { IfErr result (IsFrontFault [] bytes.now) }
     {
-        let mut meta = MetaState::empty(alloc);
+        let mut meta = MetaState::with_room(alloc, records_at_most(bytes))?;
         let end = meta.add_front(alloc, bytes)?;
         Ok((meta, end))
     }

@@ -6,7 +6,7 @@ ghost use Rattle.pcp_model.specs.Records.{AreConsistent};
 ghost use Rattle.archive_meta.specs.Said.{description_of, pairs_of};
 ghost use Rattle.archive_meta.specs.Kept.{HasDescriptions, HasMoments, IsKept};
 
-use crate::adding::{forget, note, pairs_in};
+use crate::adding::{forget, note};
 use crate::descriptions::{Descriptions, place_of};
 use crate::moments::{Moments, last_moment};
 use pcp_base::{InDom, List, NoMemory, Pmid, Stamp, Text};
@@ -32,8 +32,8 @@ fn pairs_at(records: &List<MetaRecord>, at: usize) -> Option<&List<(i32, Text)>>
     ensures { option_copied result ≡ pairs_of (slice_get records.now at) }
 {
     match records.get(at) {
-        Some(one) => pairs_in(one),
-        None => None,
+        Some(MetaRecord::Domain(_, _, pairs)) => Some(pairs),
+        Some(MetaRecord::Description(_, _)) | Some(MetaRecord::Other) | None => None,
     }
 }
 

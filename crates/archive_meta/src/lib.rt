@@ -5,6 +5,7 @@
 #![tactic(auto)]
 
 mod adding;
+mod counting;
 mod descriptions;
 mod facts;
 mod fault;

@@ -11,7 +11,8 @@ use std::alloc::Global;
 fn names_from(alloc: Global, bytes: &[u8], count: u32) -> Result<Option<List<Text>>, NoMemory>
     ensures { IfOk result (λ found. found ≡ names_from count bytes.now) }
 {
-    let mut names = List::empty(alloc);
+    let most = (count as usize).min(bytes.len() / 4);
+    let mut names = List::from_vec(Vec::with_capacity(alloc, most)?);
     let mut at = 0;
     for _ in 0..count {
         match first_name(alloc, &bytes[at..])? {

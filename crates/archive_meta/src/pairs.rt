@@ -58,7 +58,7 @@ fn pairs_from(
     ensures pairs { IfOk result (λ found. found ≡ pairs_from table.now count numbers.now offsets.now) }
     ensures room { IfOk result (λ found. IfSome found (λ pairs. memory_of pairs ≤ 268435456)) }
 {
-    let mut pairs = List::empty(alloc);
+    let mut pairs = List::from_vec(Vec::with_capacity(alloc, count as usize)?);
     let mut kept: usize = 0;
     for i in 0..count {
         let at = 4 * i as usize;

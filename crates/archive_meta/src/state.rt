@@ -8,7 +8,8 @@ ghost use Rattle.pcp_model.specs.Records.{AreConsistent};
 ghost use Rattle.archive_meta.specs.Records.{AreRecords, IsMetaFault, Adds, AreFound, IsAddFault};
 ghost use Rattle.archive_meta.specs.Said.{description_of, desc_of, names_of, described};
 
-use crate::adding::{desc_in, is_description, names_in};
+use crate::adding::is_description;
+use crate::counting::records_at_most;
 use crate::descriptions::{Descriptions, all_metrics};
 use crate::fault::MetaFault;
 use crate::framed::record_at;
@@ -51,6 +52,17 @@ impl MetaState {
             descriptions: IndexMap::new(alloc),
             moments: BTreeSet::new(alloc),
         }
+    }
+
+    /// No records, with room for so many.
+    pub(crate) fn with_room(alloc: Global, count: usize) -> Result<MetaState, NoMemory>
+        ensures { IfOk result (λ m. m ≡ []) }
+    {
+        Ok(MetaState {
+            records: List::from_vec(Vec::with_capacity(alloc, count)?),
+            descriptions: IndexMap::with_capacity(alloc, count)?,
+            moments: BTreeSet::new(alloc),
+        })
     }
 
     /// How many records there are.
@@ -178,7 +190,7 @@ impl MetaState {
         // Which record it is.
         ensures fault { IfErr result (IsMetaFault [] bytes.now) }
     {
-        let mut meta = MetaState::empty(alloc);
+        let mut meta = MetaState::with_room(alloc, records_at_most(bytes))?;
         match meta.extend(alloc, bytes) {
             Ok(()) => Ok(meta),
             Err(fault) => Err(fault),
@@ -190,8 +202,8 @@ impl MetaState {
         ensures { option_copied result ≡ desc_of (description_of pmid self.now) }
     {
         match self.description_of(pmid) {
-            Some(one) => desc_in(one),
-            None => None,
+            Some(MetaRecord::Description(desc, _)) => Some(desc),
+            Some(MetaRecord::Domain(_, _, _)) | Some(MetaRecord::Other) | None => None,
         }
     }
 
@@ -200,8 +212,8 @@ impl MetaState {
         ensures { option_copied result ≡ names_of (description_of pmid self.now) }
     {
         match self.description_of(pmid) {
-            Some(one) => names_in(one),
-            None => None,
+            Some(MetaRecord::Description(_, names)) => Some(names),
+            Some(MetaRecord::Domain(_, _, _)) | Some(MetaRecord::Other) | None => None,
         }
     }
 
