@@ -1,6 +1,7 @@
 pub mod Decoding
 pub mod Enough
 pub mod Facts
+pub mod Hashing
 pub mod Kept
 pub mod Laws
 pub mod Missing

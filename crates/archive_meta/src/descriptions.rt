@@ -3,12 +3,13 @@ ghost use Rattle.std.specs.Prelude.{◌≡◌, nat_eq, OnOk, OnErr, IfOk};
 ghost use Rattle.indexmap.specs.IndexMap.{get, keys, IsUnchanged};
 ghost use Rattle.archive_meta.specs.Kept.{NotesMetric, DropsMetric};
 
+use crate::hashing::WordHasher;
 use indexmap::IndexMap;
 use pcp_base::{List, NoMemory, Pmid};
 use std::alloc::Global;
 
 /// By a metric's word, in the order in which metrics are first described.
-pub type Descriptions = IndexMap<u32, usize>;
+pub type Descriptions = IndexMap<u32, usize, WordHasher>;
 
 /// Where a metric's first description stands.
 pub fn place_of(descriptions: &Descriptions, pmid: Pmid) -> Option<usize>

@@ -12,6 +12,7 @@ mod fault;
 mod fitting;
 mod framed;
 mod front;
+mod hashing;
 mod keeping;
 mod laws;
 mod missing;

@@ -13,6 +13,7 @@ use crate::counting::records_at_most;
 use crate::descriptions::{Descriptions, all_metrics};
 use crate::fault::MetaFault;
 use crate::framed::record_at;
+use crate::hashing::WordHasher;
 use crate::keeping::{cut, description_of, domain_at, push};
 use crate::moments::Moments;
 use indexmap::IndexMap;
@@ -49,7 +50,7 @@ impl MetaState {
     {
         MetaState {
             records: List::empty(alloc),
-            descriptions: IndexMap::new(alloc),
+            descriptions: IndexMap::with_hasher(alloc, WordHasher::new()),
             moments: BTreeSet::new(alloc),
         }
     }
@@ -60,7 +61,7 @@ impl MetaState {
     {
         Ok(MetaState {
             records: List::from_vec(Vec::with_capacity(alloc, count)?),
-            descriptions: IndexMap::with_capacity(alloc, count)?,
+            descriptions: IndexMap::with_capacity_and_hasher(alloc, count, WordHasher::new())?,
             moments: BTreeSet::new(alloc),
         })
     }

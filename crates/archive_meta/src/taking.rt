@@ -4,18 +4,19 @@ ghost use Rattle.indexmap.specs.IndexMap.{get};
 ghost use Rattle.archive_meta.specs.Facts.{metric_of, domain_of};
 ghost use Rattle.archive_meta.specs.Missing.{taken, place_from};
 
+use crate::hashing::WordHasher;
 use indexmap::IndexMap;
 use pcp_base::{Desc, InDom, List, NoMemory, Text};
 use std::alloc::Global;
 
 /// Where keys stand.
-pub type Places = IndexMap<u32, usize>;
+pub type Places = IndexMap<u32, usize, WordHasher>;
 
 /// Where the first of equal keys stands in a table.
 pub fn first_places(alloc: Global, table: &[u32]) -> Result<Places, NoMemory>
     ensures { IfOk result (λ places. (q : ℕ) → get nat_eq places q ≡ place_from 0 table.now q) }
 {
-    let mut places = IndexMap::new(alloc);
+    let mut places = IndexMap::with_hasher(alloc, WordHasher::new());
     let mut at = table.len();
     while at > 0 {
         at -= 1;
