@@ -1,2 +1,4 @@
+pub mod Ending
 pub mod Looks
 pub mod Standing
+pub mod Taking

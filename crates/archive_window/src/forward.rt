@@ -6,6 +6,7 @@ ghost use Rattle.result_form.specs.declared.fault.FormFault.TheVariants.{NoMemor
 ghost use Rattle.archive_frame.specs.Steps.{number_at};
 ghost use Rattle.pcp_outside.specs.Devices.{IsNumbered};
 ghost use Rattle.archive_window.specs.Looks.{Looks, Blames};
+ghost use Rattle.archive_window.specs.Taking.{Took, TookBehind};
 ghost use Rattle.archive_window.specs.Standing.{IsSized, IsSaid, IsTaken, FitsIn, FitsNext, IsItemOf, IsItemIn, IsNextRecord};
 
 use crate::lack::Lack;
@@ -40,13 +41,13 @@ pub enum Next {
 }
 
 /// What a length word says of a record of which so many bytes are there.
-enum Said {
+pub enum Said {
     Torn,
     Wrong,
     Whole(usize),
 }
 
-fn size_said(word: u32, left: u64) -> Said
+pub fn size_said(word: u32, left: u64) -> Said
     ensures { IsSaid word left result }
 {
     if word < 12 || word > 16_777_216 {
@@ -58,7 +59,7 @@ fn size_said(word: u32, left: u64) -> Said
     Said::Whole(word as usize)
 }
 
-fn word_of(frame: &[u8]) -> u32
+pub fn word_of(frame: &[u8]) -> u32
     requires { 4 ≤ length frame.now }
     ensures { result ≡ number_at frame.now 0 }
 {
@@ -79,6 +80,7 @@ fn take_rest<D: Disk>(
     requires there { D.tells → (end ≡ length (contents_of (D.held disk.old) file)) × (frame.items ≡ take 4 (drop at (contents_of (D.held disk.old) file))) }
     ensures taken { D.tells → IfOk result (IsTaken (contents_of (D.held disk.old) file) at) }
     ensures within { IfOk result (FitsIn end at) }
+    ensures count { D.tells → TookBehind (contents_of (D.held disk.old) file) at (D.taken disk.old) (D.taken disk.new) }
     ensures looks { Looks D.Disk disk.old disk.new }
     ensures cause { IfErr result (Blames D.Disk disk.old disk.new) }
 {
@@ -105,6 +107,7 @@ pub fn take_frame<D: Disk>(
     requires end { D.tells → end ≡ length (contents_of (D.held disk.old) file) }
     ensures taken { D.tells → IfOk result (IsTaken (contents_of (D.held disk.old) file) at) }
     ensures within { IfOk result (FitsIn end at) }
+    ensures count { D.tells → Took (contents_of (D.held disk.old) file) at (D.taken disk.old) (D.taken disk.new) }
     ensures looks { Looks D.Disk disk.old disk.new }
     ensures cause { IfErr result (Blames D.Disk disk.old disk.new) }
 {
@@ -127,7 +130,7 @@ fn go_on(fault: FormFault) -> Result<(), NoMemory>
 }
 
 /// The item that a payload is.
-fn item_of(alloc: Global, payload: &[u8]) -> Result<Option<Item>, NoMemory>
+pub fn item_of(alloc: Global, payload: &[u8]) -> Result<Option<Item>, NoMemory>
     ensures { IfOk result (IsItemOf payload.now) }
 {
     match decode_item(alloc, payload) {
@@ -163,6 +166,7 @@ pub fn next_record<D: Disk>(
     requires end { D.tells → end ≡ length (contents_of (D.held disk.old) (Volume number)) }
     ensures found { D.tells → IfOk result (IsNextRecord (contents_of (D.held disk.old) (Volume number)) at) }
     ensures within { IfOk result (FitsNext end at) }
+    ensures count { D.tells → Took (contents_of (D.held disk.old) (Volume number)) at (D.taken disk.old) (D.taken disk.new) }
     ensures looks { Looks D.Disk disk.old disk.new }
     ensures cause { IfErr result (Blames D.Disk disk.old disk.new) }
 {

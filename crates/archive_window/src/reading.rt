@@ -4,6 +4,7 @@ ghost use Rattle.pcp_model.specs.Disk.{contents_of};
 ghost use Rattle.pcp_outside.specs.Devices.{IsNumbered, IsVolumes};
 ghost use Rattle.archive_window.specs.Looks.{Looks, Blames};
 ghost use Rattle.archive_window.specs.Standing.{IsFront};
+ghost use Rattle.archive_window.specs.Taking.{volume_bytes};
 
 use crate::lack::Lack;
 use pcp_base::{Bytes, List, NoMemory};
@@ -14,6 +15,7 @@ use std::alloc::Global;
 pub fn length_of<D: Disk>(disk: &mut D, file: FileId) -> Result<u64, Lack>
     requires { IsNumbered file }
     ensures length { D.tells → IfOk result (λ n. n ≡ length (contents_of (D.held disk.old) file)) }
+    ensures taken { D.tells → D.taken disk.new ≡ D.taken disk.old }
     ensures looks { Looks D.Disk disk.old disk.new }
     ensures cause { IfErr result (Blames D.Disk disk.old disk.new) }
 {
@@ -27,6 +29,7 @@ pub fn length_of<D: Disk>(disk: &mut D, file: FileId) -> Result<u64, Lack>
 /// One more than the greatest number of a volume that isn't empty, or 0.
 pub fn count_volumes<D: Disk>(disk: &mut D) -> Result<u32, Lack>
     ensures count { D.tells → IfOk result (IsVolumes (D.held disk.old)) }
+    ensures taken { D.tells → D.taken disk.new ≡ D.taken disk.old }
     ensures looks { Looks D.Disk disk.old disk.new }
     ensures cause { IfErr result (Blames D.Disk disk.old disk.new) }
 {
@@ -37,6 +40,7 @@ pub fn count_volumes<D: Disk>(disk: &mut D) -> Result<u32, Lack>
 /// The first file that stands under its name with `.xz` or `.gz` added.
 pub fn wrapped_file<D: Disk>(disk: &mut D) -> Result<Option<FileId>, Lack>
     ensures first { D.tells → IfOk result (λ found. found ≡ D.wrapped_file disk.old) }
+    ensures taken { D.tells → D.taken disk.new ≡ D.taken disk.old }
     ensures looks { Looks D.Disk disk.old disk.new }
     ensures cause { IfErr result (Blames D.Disk disk.old disk.new) }
 {
@@ -67,6 +71,8 @@ pub fn take_bytes<D: Disk>(
     ensures bytes { D.tells → OnOk result (out.new.items ≡ out.old.items ++ take count (drop at (contents_of (D.held disk.old) file))) }
     ensures length { OnOk result (length out.new.items ≡ length out.old.items + count) }
     ensures front { OnOk result (take (length out.old.items) out.new.items ≡ out.old.items) }
+    ensures taken { D.tells → D.taken disk.new ≤ D.taken disk.old + volume_bytes file count }
+    ensures most { D.tells → D.taken disk.new ≤ D.taken disk.old + count }
     ensures looks { Looks D.Disk disk.old disk.new }
     ensures cause { IfErr result (Blames D.Disk disk.old disk.new) }
 {
@@ -86,6 +92,7 @@ pub fn front_of<D: Disk>(
     requires { IsNumbered file }
     ensures front { D.tells → IfOk result (IsFront (contents_of (D.held disk.old) file) most) }
     ensures short { IfOk result (λ front. length front.0 ≤ most) }
+    ensures taken { D.tells → D.taken disk.new ≤ D.taken disk.old + volume_bytes file (length (take most (contents_of (D.held disk.old) file))) }
     ensures looks { Looks D.Disk disk.old disk.new }
     ensures cause { IfErr result (Blames D.Disk disk.old disk.new) }
 {
@@ -100,6 +107,7 @@ pub fn front_of<D: Disk>(
 pub fn whole_of<D: Disk>(alloc: Global, disk: &mut D, file: FileId) -> Result<Bytes, Lack>
     requires { IsNumbered file }
     ensures whole { D.tells → IfOk result (λ bytes. bytes ≡ contents_of (D.held disk.old) file) }
+    ensures taken { D.tells → D.taken disk.new ≤ D.taken disk.old + volume_bytes file (length (contents_of (D.held disk.old) file)) }
     ensures looks { Looks D.Disk disk.old disk.new }
     ensures cause { IfErr result (Blames D.Disk disk.old disk.new) }
 {
