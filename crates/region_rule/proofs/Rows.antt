@@ -10,6 +10,7 @@ use Rattle.region_core.specs.Shape.{Shaping}
 use Rattle.region_core.specs.State.{State, opening}
 use Rattle.region_core.specs.Journal.{state, IsJournal}
 use Rattle.region_core.proofs.Lists.{get_or_at}
+use Rattle.region_core.proofs.Runs.{wide_run}
 use Rattle.region_rule.specs.declared.view.View.{View}
 use Rattle.region_rule.specs.declared.view.Role.TheVariants.{Numbered}
 use Rattle.region_rule.specs.Views.{table_words, opening_of, Owns, IsOneJournal, fresh_view}
@@ -58,4 +59,5 @@ closes S words passes cells views id gate v image kept at is start count are =
     (subst (λ (ws : List ℕ). IsJournal S ws passes (v.seen ++ own_rest.0)) (sym start) (subst (λ (es : List Entry). IsJournal S words passes es) o.sees.is kept.journal)) in
     let same : state (opening words passes) kept.log ≡ last = (λ i. state (opening (sym start i) (sym count i)) kept.log) ∙ ap (λ (es : List Entry). state (opening_of v) es) o.sees.is in
     let found : gate ∷ image ≡ table_words last = sym are ∙ kept.is ∙ ap (λ (s : State). table_words s) same in
-    record { rest = own_rest.0; journal = here; is = cc; others = o.none; gathered_none = none_kept (opening words passes) v.seen own_rest.0 v.kept o.kept }
+    let words_are : image ≡ last.words = cc in
+    record { rest = own_rest.0; journal = here; is = words_are; whole = ap (λ (ws : List ℕ). length ws) words_are ∙ wide_run (opening_of v) (v.seen ++ own_rest.0); others = o.none; gathered_none = none_kept (opening words passes) v.seen own_rest.0 v.kept o.kept }

@@ -73,12 +73,13 @@ pub record Gathers (S : Shaping) (v w new : View) : Type 0 where
   pub theirs : IsFront w.seen new.seen
   pub knows : Knows S new
 
--- The words are those of the last state of a legal journal that begins with what the pass has seen, and in which neither it
+-- The words are as many as at the start: those of the last state of a legal journal that begins with what the pass has seen, and in which neither it
 -- nor a pass that it gathered has a further entry
 pub record Closes (S : Shaping) (v : View) (words : List ℕ) : Type 0 where
   pub rest : List Entry
   pub journal : IsJournal S v.start v.passes (v.seen ++ rest)
   pub is : words ≡ (state (opening_of v) (v.seen ++ rest)).words
+  pub whole : length words ≡ length v.start
   pub others : own v.number rest ≡ []
   pub gathered_none : HasNone rest v.kept
 

@@ -1,3 +1,4 @@
+pub mod Openings
 pub mod Views
 pub mod Steps
 pub mod Tokens

@@ -7,6 +7,7 @@ mod change;
 mod fault;
 mod join;
 mod laws;
+mod opening;
 mod pass;
 mod reading;
 mod reads;
@@ -23,9 +24,10 @@ pub use laws::{
     agreement_is_shown, disagreement_is_again, form_stays_inside, last_closes_all, last_knows_all,
     last_leaves_idle, last_reads_all, last_reads_words, last_sees_all, steps_keep_the_form,
 };
+pub use opening::Opening;
 pub use pass::{Note, Pass};
 pub use reading::Reading;
 pub use region::Region;
 pub use rule::Rule;
 pub use stint::Stint;
-pub use view::{Opening, Role, View};
+pub use view::{Role, View};

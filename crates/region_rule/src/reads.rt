@@ -5,7 +5,7 @@ ghost use Rattle.region_core.specs.declared.mode.Mode.TheVariants.{Idle, Attache
 ghost use Rattle.region_rule.specs.Seats.{IsSeatOf, IsSame};
 ghost use Rattle.region_rule.specs.Reads.{Reads, numbered_from, ReadsImage, ReadsNot, StaysIdle, ReadsInside, ReadsChosen, ReadsChosenNot};
 
-use crate::fault::{NoMemory, ReadFault, ValueFault};
+use crate::fault::{ReadFault, ValueFault};
 use crate::pass::Pass;
 use crate::region::Region;
 use crate::stint::Stint;
@@ -21,6 +21,7 @@ impl<S: Shape> Region<S> {
         requires wide { length words.old.items ≡ length self.now.words }
         ensures reads { Reads S.shaping seat.old.me.0 (numbered_from 0 words.new.items) seat.new.me.0 }
         ensures wide { length words.new.items ≡ length words.old.items }
+        ensures some { 0 < length words.new.items }
         ensures seat { IsSeatOf self.now seat.new × (seat.new.me.1 ≡ seat.old.me.1) × (seat.new.me.0.number ≡ seat.old.me.0.number) × (seat.new.me.0.mode ≡ seat.old.me.0.mode) }
     {
         let mut index = 0;
@@ -102,21 +103,14 @@ impl<S: Shape> Region<S> {
 }
 
 impl Stint {
-    /// Loads every word by rising index. No change runs meanwhile, so they are an image of the form of what the stint has
-    /// seen, which is the region's.
-    pub fn words<S: Shape>(
-        &mut self,
-        region: &Region<S>,
-        alloc: Global,
-    ) -> Result<Vec<u64>, NoMemory>
+    /// Loads every word by rising index into a list that has as many. No change runs meanwhile, so they are an image of the
+    /// form of what the stint has seen, which is the region's.
+    pub fn words<S: Shape>(&mut self, region: &Region<S>, words: &mut Vec<u64>)
         requires here { self.old.region ≡ region.now }
-        ensures reads { MatchResult result (λ words. ReadsInside S.shaping self.old.view words.items self.new.view) (λ _. self.new ≡ self.old) }
-        ensures stays { MatchResult result (λ _. IsSame Attached Attached self.old self.new) (λ _. self.new ≡ self.old) }
+        requires wide { length words.old.items ≡ length region.now.words }
+        ensures reads { ReadsInside S.shaping self.old.view words.new.items self.new.view }
+        ensures stays { IsSame Attached Attached self.old self.new }
     {
-        let Ok(mut words) = Vec::from_elem(alloc, 0u64, region.capacity as usize) else {
-            return Err(NoMemory);
-        };
-        region.load_all(&mut self.seat, &mut words);
-        Ok(words)
+        region.load_all(&mut self.seat, words);
     }
 }

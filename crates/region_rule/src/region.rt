@@ -6,9 +6,10 @@ ghost use Rattle.region_rule.specs.Views.{fresh_view, numbers_from};
 ghost use Rattle.region_rule.specs.Calls.{Opens, OpensNot, Closes, fresh_from};
 
 use crate::fault::{NoMemory, OpenFault};
+use crate::opening::Opening;
 use crate::pass::Pass;
 use crate::rule::Rule;
-use crate::view::{Opening, View};
+use crate::view::View;
 use atomic_table::{Closed, Seat, Table};
 use region_core::{Shape, padding_keeps_the_form};
 use std::alloc::{AllocError, Global};
@@ -27,14 +28,14 @@ impl<S: Shape> Model for Region<S> {
 
     ghost Value = { MadeRegion };
 
-    ghost view = { λ r. record { table = r.table.shared.table_id; words = r.table.shared.key.words.items; passes = r.table.shared.key.passes } };
+    ghost view = { λ r. record { table = r.table.shared.table_id; words = r.table.shared.key.words; passes = r.table.shared.key.passes } };
 
-    ghost invariant = { λ r. (r.table.shared.table_id.words ≡ length r.table.shared.key.words.items + 1) × (length r.table.shared.key.words.items ≡ r.capacity) × (2 < r.capacity) × (r.table.shared.table_id.slots ≡ 0) × All IsWord r.table.shared.key.words.items };
+    ghost invariant = { λ r. (r.table.shared.table_id.words ≡ length r.table.shared.key.words + 1) × (length r.table.shared.key.words ≡ r.capacity) × (2 < r.capacity) × (r.table.shared.table_id.slots ≡ 0) × All IsWord r.table.shared.key.words };
 }
 
 impl<S: Shape> Region<S> {
     fn into_table(self) -> Table<(), View, Opening, Rule<S>, Global>
-        ensures region { (result.shared.table_id ≡ self.table) × (result.shared.key.words.items ≡ self.words) × (result.shared.key.passes ≡ self.passes) }
+        ensures region { (result.shared.table_id ≡ self.table) × (result.shared.key.words ≡ self.words) × (result.shared.key.passes ≡ self.passes) }
         ensures counts { (result.shared.table_id.words ≡ length self.words + 1) × (result.shared.table_id.slots ≡ 0) }
     {
         let Self { table, capacity: _ } = self;
@@ -47,26 +48,6 @@ impl<S: Shape> Drop for Region<S> {
         let Self { table, capacity: _ } = self;
         drop(table);
     }
-}
-
-/// The image, and zeros behind it up to the capacity.
-fn padded(alloc: Global, image: &[u64], capacity: u32) -> Result<Vec<u64>, AllocError>
-    requires { length image.now ≤ capacity }
-    ensures { IfOk result (λ v. v.items ≡ with_zeros image.now capacity) }
-{
-    let zeros = Vec::from_elem(alloc, 0u64, capacity as usize - image.len())?;
-    let mut words = Vec::from_slice(alloc, image)?;
-    words.extend_from_slice(zeros.as_slice())?;
-    Ok(words)
-}
-
-/// The words with a gate before them that nobody has passed.
-fn with_gate(alloc: Global, words: &[u64]) -> Result<Vec<u64>, AllocError>
-    ensures { IfOk result (λ v. v.items ≡ 0 ∷ words.now) }
-{
-    let mut cells = Vec::from_slice(alloc, &[0])?;
-    cells.extend_from_slice(words)?;
-    Ok(cells)
 }
 
 /// The image words of a table that no thread shares any more. The list comes in with as many words as the capacity.
@@ -119,10 +100,8 @@ impl<S: Shape> Region<S> {
         ensures { IfOk result (λ made. (made.0.words ≡ with_zeros image.now capacity) × (made.0.passes ≡ passes) × (made.1.table_id ≡ made.0.table) × (made.1.me ≡ (fresh_view made.0.words passes 0 (numbers_from 1 (passes - 1)), []))) }
     {
         padding_keeps_the_form::<S>();
-        let words = padded(alloc, image, capacity)?;
-        let cells = with_gate(alloc, words.as_slice())?;
-        let opening = Opening { words, passes };
-        let (table, seat) = Table::of_words(alloc, cells.as_slice(), &opening)?;
+        let opening = Opening::of_image(alloc, image, capacity, passes)?;
+        let (table, seat) = Table::of_words(alloc, opening.cells(), &opening)?;
         Ok((Region { table, capacity }, seat))
     }
 

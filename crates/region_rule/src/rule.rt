@@ -4,7 +4,8 @@ ghost use Rattle.region_core.specs.declared.act.Act.TheVariants.{Load, Swap, Add
 ghost use Rattle.region_rule.specs.Tokens.{after_giving, next_pass, note_of, spent_view, after_learning, after_gathering};
 ghost use Rattle.region_rule.specs.Seats.{Tells, TellsView};
 
-use crate::view::{Opening, View};
+use crate::opening::Opening;
+use crate::view::View;
 use atomic_table::{Join, Play, Split, TableRule};
 use region_core::Shape;
 use std::marker::PhantomData;
@@ -17,9 +18,9 @@ pub struct Rule<S> {
 impl<S: Shape> TableRule<(), View, Opening> for Rule<S> {
     ghost use Rattle.region_rule.specs.Views.{IsOneJournal, first_view};
 
-    ghost holds = { λ key s. IsOneJournal S.shaping key.words.items key.passes s.words s.views };
+    ghost holds = { λ key s. IsOneJournal S.shaping key.words key.passes s.words s.views };
 
-    ghost first = { λ key. first_view key.words.items key.passes };
+    ghost first = { λ key. first_view key.words key.passes };
 }
 
 pub(crate) struct Loads<S> {

@@ -31,10 +31,3 @@ pub struct View {
     /// The numbers of passes that were gathered, or are still to be given, each with all its entries.
     pub kept: LinkedList<(u32, LinkedList<Entry>)>,
 }
-
-/// What a region is told at its making: its words up to the capacity, and how many passes it has.
-#[derive(Drop)]
-pub struct Opening {
-    pub words: Vec<u64>,
-    pub passes: u32,
-}

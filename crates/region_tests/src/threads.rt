@@ -1,179 +1,298 @@
-//! Threads that really run beside each other: two writers, one that changes the layout, and a reader.
+//! Threads that run beside each other over one region: four writers, one that changes the layout, and a reader.
 
-ghost use Rattle.std.specs.Prelude.{◌≡◌, length, slice_index};
-ghost use Rattle.region_rule.specs.Views.{now};
+ghost use Rattle.std.specs.Prelude.{◌≡◌, IfSome};
 
-use crate::Slate;
-use region_rule::{Pass, ReadFault, Region, Stint};
+use crate::layouts::{LAYOUTS, image_of_layout, is_one_layout, relay};
+use crate::words::add_to_first;
+use mmv_layout::Image;
+use region_words::{Known, Pass, ReadFault, Region, Stint, ValueFault};
 use std::alloc::Global;
+use std::process::Abort;
 use std::sync::Wait;
-use std::thread::{self, join};
-
-// A slate of generation 5 has the text at 64; later ones have it at 64 where their generation is odd, and else at 128.
-const OPENING: [u64; 5] = [1, 5, 5, 0, 64];
-
-const FIRST: u64 = 5;
-
-const LAYOUTS: usize = 1001;
+use std::sync::atomic::{AtomicBool, Ordering};
+use std::thread::{self, Threads, join};
 
 const STINTS: u64 = 1000;
 
 const ADDS: u64 = 100;
 
-fn text_of(generation: u64) -> u64 {
-    if generation % 2 == 0 { 128 } else { 64 }
+// How often a layout was seen, or a read refused.
+#[derive(Drop)]
+struct Seen {
+    stable: u64,
+    refused: u64,
 }
 
-// How many adds a writer made under each generation, and the sum of the words that they found.
+// How many adds were made in each layout, and the sum of what they found above the layout's first value.
 #[derive(Drop)]
 struct Tally {
     counts: Vec<u64>,
     sums: Vec<u64>,
 }
 
-// Adds 1 as often to the counter, and gives the sum of the words found.
-fn add_ones(region: &Region<Slate>, stint: &mut Stint, times: u64) -> u64
-    requires here { stint.old.region ≡ region.now }
-    requires words { length region.now.words ≡ 5 }
-    requires counter { slice_index (now stint.old.view).words 0 ≡ 1 }
-    ensures { stint.new.region ≡ region.now }
-{
-    let mut sum = 0u64;
-    for _ in 0..times {
-        sum = sum.wrapping_add(stint.add(region, 3, 1));
-    }
-    sum
-}
-
-// Adds in many stints.
-fn write<R: Wait>(rt: &R, alloc: Global, region: &Region<Slate>, pass: Pass) -> Option<Tally>
-    requires here { pass.region ≡ region.now }
-    requires words { length region.now.words ≡ 5 }
-{
-    let mut counts = Vec::from_elem(alloc, 0u64, LAYOUTS).ok()?;
-    let mut sums = Vec::from_elem(alloc, 0u64, LAYOUTS).ok()?;
-    let mut pass = pass;
-    for _ in 0..STINTS {
-        let mut stint = region.attach_wait(rt, pass);
-        let words = stint.words(region, alloc).ok()?;
-        if words[0] != 1 || words[1] < FIRST {
-            return None;
-        }
-        let layout = (words[1] - FIRST) as usize;
-        if layout >= counts.len() || layout >= sums.len() {
-            return None;
-        }
-        let sum = add_ones(region, &mut stint, ADDS);
-        counts[layout] = counts[layout].wrapping_add(ADDS);
-        sums[layout] = sums[layout].wrapping_add(sum);
-        pass = stint.detach(region);
-        thread::yield_now();
-    }
+fn empty_tally(alloc: Global) -> Option<Tally> {
+    let counts = Vec::from_elem(alloc, 0u64, LAYOUTS as usize).ok()?;
+    let sums = Vec::from_elem(alloc, 0u64, LAYOUTS as usize).ok()?;
     Some(Tally { counts, sums })
 }
 
-// Lays the region anew, with the counter at 0, once for each further generation.
-fn relay<R: Wait>(rt: &R, alloc: Global, region: &Region<Slate>, pass: Pass) -> Option<()>
-    requires here { pass.region ≡ region.now }
-    requires words { length region.now.words ≡ 5 }
+// Counts adds, and sums what they found.
+fn keep(tally: &mut Tally, layout: usize, count: u64, sum: u64) {
+    if layout < tally.counts.len() && layout < tally.sums.len() {
+        tally.counts[layout] = tally.counts[layout].wrapping_add(count);
+        tally.sums[layout] = tally.sums[layout].wrapping_add(sum);
+    }
+}
+
+fn keep_all(tally: &mut Tally, other: &Tally) {
+    for (layout, (count, sum)) in other.counts.iter().zip(other.sums.iter()).enumerate() {
+        keep(tally, layout, *count, *sum);
+    }
+}
+
+fn add_many(alloc: Global, region: &Region, stint: &mut Stint, tally: &mut Tally) -> Option<()>
+    requires here { stint.old.region ≡ region.now }
+    ensures { stint.new.region ≡ region.now }
 {
-    let mut pass = pass;
-    for layout in 1..LAYOUTS {
-        let image = if layout % 2 == 1 {
-            Vec::from_slice(alloc, &[1, 0, 0, 0, 128]).ok()?
-        } else {
-            Vec::from_slice(alloc, &[1, 0, 0, 0, 64]).ok()?
-        };
-        match region.begin_change_wait(rt, pass, image, 0) {
-            Ok(change) => pass = change.finish(region),
-            Err(_) => return None,
-        }
-        thread::yield_now();
+    for _ in 0..ADDS {
+        let found = add_to_first(alloc, region, stint, 1)?;
+        keep(tally, (found >> 32) as usize, 1, found & 0xffff_ffff);
     }
     Some(())
 }
 
-// Reads the region, and says how many readings were stable; `None` where one of them was of two layouts.
-fn read(alloc: Global, region: &Region<Slate>, pass: Pass) -> Option<u64>
+// Adds in many stints.
+fn write<R: Wait>(rt: &R, alloc: Global, region: &Region, pass: Pass) -> Option<(Pass, Tally)>
     requires here { pass.region ≡ region.now }
-    requires words { length region.now.words ≡ 5 }
+    ensures { IfSome result (λ r. r.0.region ≡ region.now) }
 {
+    let mut tally = empty_tally(alloc)?;
     let mut pass = pass;
-    let mut stable = 0u64;
-    for _ in 0..20_000 {
-        match region.read_words(alloc, &mut pass) {
-            Ok(words) => {
-                if words.len() != 5 || words[1] != words[2] || words[4] != text_of(words[1]) {
-                    return None;
-                }
-                stable = stable.wrapping_add(1);
-            }
-            Err(ReadFault::Again { first: _, last: _ }) => {}
-            Err(ReadFault::NoMemory) => return None,
+    for _ in 0..STINTS {
+        let mut stint = region.attach_wait(rt, pass);
+        add_many(alloc, region, &mut stint, &mut tally)?;
+        pass = stint.detach(region);
+        thread::yield_now();
+    }
+    Some((pass, tally))
+}
+
+// Two writers beside each other; the first gathers the second.
+fn write_two<R: Threads + Wait + Sync>(
+    rt: &R,
+    alloc: Global,
+    region: &Region,
+    one: Pass,
+    two: Pass,
+) -> Option<(Pass, Tally)>
+    requires here { (one.region ≡ region.now) × (two.region ≡ region.now) }
+    ensures { IfSome result (λ r. r.0.region ≡ region.now) }
+{
+    let (first, second) = join(
+        rt,
+        || -> Option<(Pass, Tally)>
+            requires { one.region ≡ region.now }
+            ensures { IfSome result (λ r. r.0.region ≡ region.entry.now) }
+        { write(rt, alloc, region, one) },
+        || -> Option<(Pass, Tally)>
+            requires { two.region ≡ region.now }
+            ensures { IfSome result (λ r. r.0.region ≡ region.entry.now) }
+        { write(rt, alloc, region, two) },
+    );
+    let (mut pass, mut tally) = first?;
+    let (ended, other) = second?;
+    pass.gather(region, ended);
+    keep_all(&mut tally, &other);
+    Some((pass, tally))
+}
+
+// Reads chosen words of the layout that was just read, and says whether a layout was seen.
+fn read_known(region: &Region, pass: &mut Pass, image: &Image, seen: &mut Seen) -> bool
+    requires here { pass.old.region ≡ region.now }
+    ensures { pass.new.region ≡ region.now }
+{
+    if region.capacity() <= 22 {
+        return false;
+    }
+    let known = Known::of_image(image);
+    let mut values = [0; 2];
+    match region.read_values(pass, &known, &[17, 22], &mut values) {
+        Ok(()) => {
+            seen.stable = seen.stable.wrapping_add(1);
+            is_one_layout(known.generation, values[0], values[1])
+        }
+        Err(ValueFault::Newer { found }) => found > known.generation,
+        Err(ValueFault::Again { first: _, last: _ }) => {
+            seen.refused = seen.refused.wrapping_add(1);
+            true
         }
     }
-    Some(stable)
+}
+
+// Reads all words, and then chosen ones, and says whether they were of one layout each.
+fn read_both(alloc: Global, region: &Region, pass: &mut Pass, seen: &mut Seen) -> bool
+    requires here { pass.old.region ≡ region.now }
+    ensures { pass.new.region ≡ region.now }
+{
+    match region.read_image(alloc, pass) {
+        Ok(image) => {
+            seen.stable = seen.stable.wrapping_add(1);
+            let words = image.words();
+            match (words.get(1), words.get(17), words.get(22)) {
+                (Some(generation), Some(metric), Some(value)) => {
+                    is_one_layout(*generation, *metric, *value)
+                        && read_known(region, pass, &image, seen)
+                }
+                _ => false,
+            }
+        }
+        Err(ReadFault::Again { first: _, last: _ }) => {
+            seen.refused = seen.refused.wrapping_add(1);
+            true
+        }
+        Err(ReadFault::NoMemory) => false,
+    }
+}
+
+// Reads until enough readings were stable and enough were refused; `None` where one was of no one layout.
+fn read(alloc: Global, region: &Region, pass: Pass, done: &AtomicBool) -> Option<Pass>
+    requires here { pass.region ≡ region.now }
+    ensures { IfSome result (λ p. p.region ≡ region.now) }
+{
+    let mut pass = pass;
+    let mut seen = Seen {
+        stable: 0,
+        refused: 0,
+    };
+    for _ in 0..10_000_000 {
+        if !read_both(alloc, region, &mut pass, &mut seen) {
+            return None;
+        }
+        if seen.stable >= 1000 && seen.refused >= 100 {
+            done.store(true, Ordering::SeqCst);
+            return Some(pass);
+        }
+    }
+    None
+}
+
+// One that changes the layout, and a reader, beside each other; the last layout's number.
+fn change_and_read<R: Threads + Wait + Sync>(
+    rt: &R,
+    alloc: Global,
+    region: &Region,
+    changer: Pass,
+    reader: Pass,
+) -> Option<(Pass, u64)>
+    requires here { (changer.region ≡ region.now) × (reader.region ≡ region.now) }
+    ensures { IfSome result (λ r. r.0.region ≡ region.now) }
+{
+    let done = AtomicBool::new(false);
+    let (laid, read) = join(
+        rt,
+        || -> Option<(Pass, u64)>
+            requires { changer.region ≡ region.now }
+            ensures { IfSome result (λ r. r.0.region ≡ region.entry.now) }
+        { relay(rt, alloc, region, changer, &done) },
+        || -> Option<Pass>
+            requires { reader.region ≡ region.now }
+            ensures { IfSome result (λ p. p.region ≡ region.entry.now) }
+        { read(alloc, region, reader, &done) },
+    );
+    let (mut pass, layout) = laid?;
+    pass.gather(region, read?);
+    Some((pass, layout))
 }
 
 // How many adds there were; `None` where those of a layout did not find 0, 1, 2 and so on, each once.
-fn joint_total(one: &Tally, two: &Tally) -> Option<u64> {
+fn total_of(tally: &Tally) -> Option<u64> {
     let mut total = 0u64;
-    for layout in 0..LAYOUTS {
-        let count = one
-            .counts
-            .get(layout)?
-            .wrapping_add(*two.counts.get(layout)?);
-        let sum = one.sums.get(layout)?.wrapping_add(*two.sums.get(layout)?);
-        if sum != count.wrapping_mul(count.wrapping_sub(1)) / 2 {
+    for (count, sum) in tally.counts.iter().zip(tally.sums.iter()) {
+        if *sum != count.wrapping_mul(count.wrapping_sub(1)) / 2 {
             return None;
         }
-        total = total.wrapping_add(count);
+        total = total.wrapping_add(*count);
     }
     Some(total)
 }
 
-#[test]
-fn two_writers_a_changer_and_a_reader_lose_no_add(rt: HostRuntime) {
-    let Ok((region, mut passes)) = Region::make(rt.alloc(), &OPENING, 5, 4) else {
-        panic!(&rt; "no memory")
-    };
-    let fourth = passes.pop().expect(&rt, "four passes");
-    let third = passes.pop().expect(&rt, "four passes");
-    let second = passes.pop().expect(&rt, "four passes");
-    let first = passes.pop().expect(&rt, "four passes");
-    let alloc = rt.alloc();
-    let ((one, two), (laid, stable)) = join(
-        &rt,
-        || -> (Option<Tally>, Option<Tally>)
-            requires { (first.region ≡ region) × (second.region ≡ region) × (length region.words ≡ 5) }
+// Four writers, one that changes the layout and a reader; the last one gathers all.
+fn run<R: Threads + Wait + Sync>(
+    rt: &R,
+    alloc: Global,
+    region: &Region,
+    writers: (Pass, Pass, Pass, Pass),
+    others: (Pass, Pass),
+) -> Option<(Pass, Tally, u64)>
+    requires writers { (writers.0.region ≡ region.now) × (writers.1.region ≡ region.now) × (writers.2.region ≡ region.now) × (writers.3.region ≡ region.now) }
+    requires others { (others.0.region ≡ region.now) × (others.1.region ≡ region.now) }
+    ensures { IfSome result (λ r. r.0.region ≡ region.now) }
+{
+    let (one, two, three, four) = writers;
+    let (changer, reader) = others;
+    let (first, (second, third)) = join(
+        rt,
+        || -> Option<(Pass, Tally)>
+            requires { (one.region ≡ region.now) × (two.region ≡ region.now) }
+            ensures { IfSome result (λ r. r.0.region ≡ region.entry.now) }
+        { write_two(rt, alloc, region, one, two) },
+        || -> (Option<(Pass, Tally)>, Option<(Pass, u64)>)
+            requires { (three.region ≡ region.now) × (four.region ≡ region.now) × (changer.region ≡ region.now) × (reader.region ≡ region.now) }
+            ensures { IfSome result.0 (λ r. r.0.region ≡ region.entry.now) × IfSome result.1 (λ r. r.0.region ≡ region.entry.now) }
         {
             join(
-                &rt,
-                || -> Option<Tally>
-                    requires { (first.region ≡ region) × (length region.words ≡ 5) }
-                { write(&rt, alloc, &region, first) },
-                || -> Option<Tally>
-                    requires { (second.region ≡ region) × (length region.words ≡ 5) }
-                { write(&rt, alloc, &region, second) },
-            )
-        },
-        || -> (Option<()>, Option<u64>)
-            requires { (third.region ≡ region) × (fourth.region ≡ region) × (length region.words ≡ 5) }
-        {
-            join(
-                &rt,
-                || -> Option<()>
-                    requires { (third.region ≡ region) × (length region.words ≡ 5) }
-                { relay(&rt, alloc, &region, third) },
-                || -> Option<u64>
-                    requires { (fourth.region ≡ region) × (length region.words ≡ 5) }
-                { read(alloc, &region, fourth) },
+                rt,
+                || -> Option<(Pass, Tally)>
+                    requires { (three.region ≡ region.now) × (four.region ≡ region.now) }
+                    ensures { IfSome result (λ r. r.0.region ≡ region.entry.now) }
+                { write_two(rt, alloc, region, three, four) },
+                || -> Option<(Pass, u64)>
+                    requires { (changer.region ≡ region.now) × (reader.region ≡ region.now) }
+                    ensures { IfSome result (λ r. r.0.region ≡ region.entry.now) }
+                { change_and_read(rt, alloc, region, changer, reader) },
             )
         },
     );
-    assert!(&rt; laid.is_some(), "each change was made");
-    assert!(&rt; stable.is_some(), "each stable reading is of one layout");
-    let one = one.expect(&rt, "the first writer");
-    let two = two.expect(&rt, "the second writer");
-    assert_eq!(&rt; joint_total(&one, &two), Some(200_000));
+    let (ended, mut tally) = first?;
+    let (other, theirs) = second?;
+    let (mut pass, layout) = third?;
+    pass.gather(region, ended);
+    pass.gather(region, other);
+    keep_all(&mut tally, &theirs);
+    Some((pass, tally, layout))
+}
+
+#[test]
+fn four_writers_a_changer_and_a_reader_lose_no_add(rt: HostRuntime) {
+    let alloc = rt.alloc();
+    let image = image_of_layout(alloc, 0).expect(&rt, "an image");
+    let Ok((region, mut passes)) = Region::make(alloc, &image, 32, 6) else {
+        panic!(&rt; "no memory")
+    };
+    let others = (
+        passes.pop().expect(&rt, "six passes"),
+        passes.pop().expect(&rt, "six passes"),
+    );
+    let writers = (
+        passes.pop().expect(&rt, "six passes"),
+        passes.pop().expect(&rt, "six passes"),
+        passes.pop().expect(&rt, "six passes"),
+        passes.pop().expect(&rt, "six passes"),
+    );
+    let Some((pass, tally, layout)) = run(&rt, alloc, &region, writers, others) else {
+        panic!(&rt; "a reading was of no one layout, or too few were seen")
+    };
+    assert_eq!(&rt; total_of(&tally), Some(400_000));
+    let count = tally
+        .counts
+        .get(layout as usize)
+        .copied()
+        .expect(&rt, "a layout");
+    match region.close(alloc, pass) {
+        Ok(words) => assert_eq!(&rt;
+            words.get(22).copied(),
+            Some((layout << 32).wrapping_add(count))
+        ),
+        Err((_, _, _fault)) => panic!(&rt; "no memory"),
+    }
 }

@@ -3,68 +3,91 @@
 ghost use Rattle.std.specs.Prelude.{◌≡◌, ◌<◌, length};
 
 use mmv_layout::Image;
+use mmv_writer::read_text;
 use region_words::{
     Again, ChangeFault, Changing, Known, Note, OpenFault, Pass, Reading, Region, Stable, Stint,
-    ValueFault,
+    ValueFault, is_number,
 };
 use std::alloc::Global;
 use std::process::Abort;
 
-// A metric word: item 2 of type 0, a number of 32 bits with a sign.
-const SIGNED: u64 = 2;
+// One counter named hits, whose value stands in word 22 of 26.
+const SEVEN: &str = "mmv 1 5 0 0 1\nmetric hits 2 i32 counter 00100000 - - -\nvalue 2 - 7\n";
 
-// One counter named hits, its metric word, and its value in word 22: 26 words.
-fn hits(rt: &impl Abort, alloc: Global, generation: u64, metric: u64, value: u64) -> Image {
-    let words = [
-        0x1_0056_4d4d,
-        generation,
-        generation,
-        2,
-        0x1_0000_0000,
-        0x1_0000_0003,
-        72,
-        0x1_0000_0004,
-        176,
-        0x7374_6968,
-        0,
-        0,
-        0,
-        0,
-        0,
-        0,
-        0,
-        metric,
-        0x10_0000_0000_0001,
-        0xffff_ffff,
-        0,
-        0,
-        value,
-        0,
-        72,
-        0,
-    ];
-    let Ok(words) = Vec::from_slice(alloc, &words) else {
-        panic!(rt; "no memory")
-    };
-    match Image::parse(alloc, words) {
+const NINE: &str = "mmv 1 5 0 0 1\nmetric hits 2 i32 counter 00100000 - - -\nvalue 2 - 9\n";
+
+const SPENT: &str =
+    "mmv 1 18446744073709551615 0 0 1\nmetric hits 2 i32 counter 00100000 - - -\nvalue 2 - 7\n";
+
+const MOST: &str =
+    "mmv 1 5 0 0 1\nmetric hits 2 u32 counter 00100000 - - -\nvalue 2 - 4294967295\n";
+
+// A text of two that the layout has: the value word holds the second one's offset.
+const STATE: &str =
+    "mmv 1 5 0 0 1\nstring \"on\"\nmetric state 5 string discrete 00000000 - - -\nvalue 5 - \"off\"\n";
+
+// The image of a layout text.
+fn image_of(rt: &impl Abort, alloc: Global, text: &str) -> Image {
+    match read_text(alloc, text.as_bytes()) {
         Ok(image) => image,
         Err(_) => panic!(rt; "an image"),
     }
 }
 
-// A region of an image, with 32 words, and its three passes.
-fn make_three(rt: &impl Abort, alloc: Global, image: &Image) -> (Region, Pass, Pass, Pass)
-    ensures words { length result.0.words ≡ 32 }
+// A region of the image of a text, with 128 words, and its three passes.
+fn make_three(rt: &impl Abort, alloc: Global, text: &str) -> (Region, Pass, Pass, Pass)
+    ensures words { length result.0.words ≡ 128 }
     ensures regions { (result.1.region ≡ result.0) × (result.2.region ≡ result.0) × (result.3.region ≡ result.0) }
 {
-    let Ok((region, mut passes)) = Region::make(alloc, image, 32, 3) else {
+    let Ok((region, mut passes)) = Region::make(alloc, &image_of(rt, alloc, text), 128, 3) else {
         panic!(rt; "no memory")
     };
     let third = passes.pop().expect(rt, "three passes");
     let second = passes.pop().expect(rt, "three passes");
     let first = passes.pop().expect(rt, "three passes");
-    assert_eq!(rt; region.capacity(), 32);
+    assert_eq!(rt;
+        (first.number(), second.number(), third.number()),
+        (0, 1, 2)
+    );
+    assert_eq!(rt; region.capacity(), 128);
     (region, first, second, third)
+}
+
+// Adds to the first value, and answers the word before.
+pub fn add_to_first(alloc: Global, region: &Region, stint: &mut Stint, number: u64) -> Option<u64>
+    requires here { stint.old.region ≡ region.now }
+    ensures { stint.new.region ≡ region.now }
+{
+    let Ok(slots) = region.slots(alloc, stint) else {
+        return None;
+    };
+    let Some(slot) = slots.get(0) else {
+        return None;
+    };
+    if is_number(slot.kind) {
+        return Some(stint.add(region, slot.word, number));
+    }
+    None
+}
+
+// Swaps the first value to the first text, and answers the word before.
+fn swap_to_first(alloc: Global, region: &Region, stint: &mut Stint) -> Option<u64>
+    requires here { stint.old.region ≡ region.now }
+    ensures { stint.new.region ≡ region.now }
+{
+    let Ok(texts) = region.texts(alloc, stint) else {
+        return None;
+    };
+    let Some(text) = texts.get(0) else {
+        return None;
+    };
+    let Ok(slots) = region.slots(alloc, stint) else {
+        return None;
+    };
+    let Some(slot) = slots.get(0) else {
+        return None;
+    };
+    Some(stint.swap(region, slot.word, text.0))
 }
 
 // Reads one word under a known generation.
@@ -79,11 +102,11 @@ fn read_one(region: &Region, pass: &mut Pass, generation: u64, word: u32) -> Res
 }
 
 #[test]
-fn a_reading_across_a_change_of_values_is_refused(rt: HostRuntime) {
+fn a_reading_across_a_change_is_refused(rt: HostRuntime) {
     let alloc = rt.alloc();
-    let (region, reader, writer, other) = make_three(&rt, alloc, &hits(&rt, alloc, 5, SIGNED, 7));
+    let (region, reader, writer, other) = make_three(&rt, alloc, SEVEN);
     let reading = region.start_read(reader);
-    let Ok(mut change) = region.begin_change(writer, hits(&rt, alloc, 5, SIGNED, 9), 0) else {
+    let Ok(mut change) = region.begin_change(writer, image_of(&rt, alloc, NINE), 0) else {
         panic!(&rt; "the gate was 0")
     };
     assert_eq!(&rt; change.generation(), 6);
@@ -104,29 +127,26 @@ fn a_reading_across_a_change_of_values_is_refused(rt: HostRuntime) {
     let answer = read_one(&region, &mut other, 5, 22);
     assert_eq!(&rt; answer, Err(ValueFault::Newer { found: 6 }));
     assert_eq!(&rt; read_one(&region, &mut other, 6, 22), Ok(9));
-    let Ok(stint) = region.attach(other) else {
-        panic!(&rt; "nobody is changing")
-    };
-    drop(stint);
+    assert!(&rt; region.attach(other).is_ok(), "nobody is changing");
 }
 
 #[test]
-fn a_change_of_values_waits_and_a_spent_generation_ends_it(rt: HostRuntime) {
+fn a_change_waits_for_the_stint_and_a_spent_generation_ends_it(rt: HostRuntime) {
     let alloc = rt.alloc();
-    let image = hits(&rt, alloc, u64::MAX, SIGNED, 7);
-    let (region, first, second, _) = make_three(&rt, alloc, &image);
+    let (region, first, second, _) = make_three(&rt, alloc, SPENT);
     let Ok(stint) = region.attach(first) else {
         panic!(&rt; "nobody is changing")
     };
-    let second = match region.begin_change(second, image, 0) {
-        Ok(change) => change.finish(&region),
-        Err((second, _image, fault)) => {
+    let image = image_of(&rt, alloc, NINE);
+    let (second, image) = match region.begin_change(second, image, 0) {
+        Ok(change) => (change.finish(&region), image_of(&rt, alloc, SEVEN)),
+        Err((second, image, fault)) => {
             assert_eq!(&rt; fault, ChangeFault::Busy { gate: 1 });
-            second
+            (second, image)
         }
     };
-    let first = stint.detach(&region);
-    let second = match region.begin_change(second, hits(&rt, alloc, 5, SIGNED, 9), 0) {
+    let _ = stint.detach(&region);
+    let second = match region.begin_change(second, image, 0) {
         Ok(change) => change.finish(&region),
         Err((second, _image, fault)) => {
             let generation = u64::MAX;
@@ -135,18 +155,50 @@ fn a_change_of_values_waits_and_a_spent_generation_ends_it(rt: HostRuntime) {
         }
     };
     assert!(&rt; region.attach(second).is_ok(), "the gate is free again");
-    drop(first);
+}
+
+#[test]
+fn adds_of_two_passes_carry_over_32_bits(rt: HostRuntime) {
+    let alloc = rt.alloc();
+    let (region, mut first, second, third) = make_three(&rt, alloc, MOST);
+    let (Ok(mut stint), Ok(mut other)) = (region.attach(second), region.attach(third)) else {
+        panic!(&rt; "nobody is changing")
+    };
+    let one = add_to_first(alloc, &region, &mut stint, 1);
+    let two = add_to_first(alloc, &region, &mut other, 1);
+    assert_eq!(&rt; (one, two), (Some(4_294_967_295), Some(4_294_967_296)));
+    first.gather(&region, stint.detach(&region));
+    first.gather(&region, other.detach(&region));
+    let mut reading = region.start_read(first);
+    assert_eq!(&rt; reading.word(&region, 22), 4_294_967_297);
+    let (first, _) = reading.end(&region);
+    match region.close(alloc, first) {
+        Ok(words) => assert_eq!(&rt; words.get(22).copied(), Some(4_294_967_297)),
+        Err((_, _, _fault)) => panic!(&rt; "no memory"),
+    }
+}
+
+#[test]
+fn a_text_is_swapped_to_another_one(rt: HostRuntime) {
+    let alloc = rt.alloc();
+    let (region, first, _, _) = make_three(&rt, alloc, STATE);
+    let Ok(mut stint) = region.attach(first) else {
+        panic!(&rt; "nobody is changing")
+    };
+    let off = swap_to_first(alloc, &region, &mut stint).expect(&rt, "a text");
+    let on = swap_to_first(alloc, &region, &mut stint).expect(&rt, "a text");
+    assert_eq!(&rt; (off, on), (480, 224));
+    assert_eq!(&rt; stint.detach(&region).number(), 0);
 }
 
 #[test]
 fn an_image_of_more_words_is_refused(rt: HostRuntime) {
     let alloc = rt.alloc();
-    let image = hits(&rt, alloc, 5, SIGNED, 7);
     let fault = OpenFault::TooLarge {
         need: 26,
         capacity: 25,
     };
-    match Region::make(alloc, &image, 25, 1) {
+    match Region::make(alloc, &image_of(&rt, alloc, SEVEN), 25, 1) {
         Ok(_) => panic!(&rt; "26 words don't fit"),
         Err(found) => assert_eq!(&rt; found, fault),
     }
@@ -157,7 +209,7 @@ fn needs_send<T: Send>() {}
 fn needs_sync<T: Sync>() {}
 
 #[test]
-fn tokens_of_values_may_be_sent_and_a_region_shared(_rt: HostRuntime) {
+fn tokens_may_be_sent_and_a_region_shared(_rt: HostRuntime) {
     needs_send::<Pass>();
     needs_send::<Note>();
     needs_send::<Reading>();

@@ -1,5 +1,7 @@
 -- The value words and strings of words whose form is known.
-use Rattle.std.proofs.Common.{◌≡◌, ℕ, zero, suc, ◌<◌, List, [], ◌∷◌, Result, Ok, Err, IfOk, All, Contains, map, length, get_or, sym, refl, ap, ◌∙◌, subst, arith}
+use Rattle.std.proofs.Common.{◌≡◌, ℕ, zero, suc, ◌<◌, List, [], ◌∷◌, Result, Ok, Err, IfOk, Some, All, Contains, map, length, get_or, slice_get, sym, refl, ap, ◌∙◌, subst, arith}
+use Rattle.std.proofs.lemmas.List.Elements.{All-nil, All-cons}
+use Rattle.std.proofs.lemmas.Option.{slice_get_within, get_or_from_slice_get}
 use Rattle.pcp_base.specs.declared.kind.Kind.{Kind}
 use Rattle.pcp_base.specs.declared.kind.Kind.TheVariants as kinds
 use Rattle.pcp_base.specs.declared.memory.NoMemory.{NoMemory}
@@ -9,7 +11,12 @@ use Rattle.mmv_layout.specs.Form.{slots_of, texts_of, Form, form_of}
 use Rattle.mmv_layout.specs.ShapeLaws.{TakesAs}
 use Rattle.mmv_layout.proofs.FormSays.{texts_said}
 use Rattle.mmv_layout.proofs.SlotFacts.{slot_lies}
-use Rattle.region_words.specs.Calls.{form_seen, IsNumber, NumbersTakeAll, SlotsTakeOffsets}
+use Rattle.region_rule.specs.declared.view.View.{View}
+use Rattle.region_rule.specs.Views.{fresh_view}
+use Rattle.region_rule.specs.Seats.{MadeRegion, Token}
+use Rattle.region_rule.specs.Calls.{fresh_from, Opens, TakesValue, TakesAll}
+use Rattle.region_words.specs.Images.{mmv}
+use Rattle.region_words.specs.Calls.{form_seen, IsNumber, NumbersTakeAll, SlotsTakeOffsets, WordsTellTheForm}
 
 -- the value words are the form's
 pub slots_inside : (words : List ℕ) (form : Form) → form_of words ≡ form → slots_of words ≡ form.slots
@@ -63,3 +70,27 @@ numbers_take v slot among number x fits = record { slot = slot; among = among; s
 -- and each value word the offset of a string
 pub slots_take : SlotsTakeOffsets
 slots_take v slot offset among string = record { slot = slot; among = among; stands = refl; takes = takes_offset slot.kind (form_seen v).offsets offset string }
+
+-- words that were loaded inside tell the form of what was seen
+pub words_tell : WordsTellTheForm
+words_tell v w words reads = let texts = texts_inside words (form_seen w) reads.form in (slots_inside words (form_seen w) reads.form, texts.0)
+
+-- the slot that was looked up is one of the form's, and takes what its kind lets it
+found : {X : Type 0} (xs : List X) (k : ℕ) (x : X) → slice_get xs k ≡ Some x → Contains xs x
+found xs k x e = (k, slice_get_within xs k x e, get_or_from_slice_get xs k x x e)
+
+pub number_taken : (v : View) (slots : List Slot) (k : ℕ) (slot : Slot) → slots ≡ (form_seen v).slots → slice_get slots k ≡ Some slot → IsNumber slot.kind → TakesAll mmv v slot.word
+number_taken v slots k slot e there number = numbers_take v slot (subst (λ (xs : List Slot). Contains xs slot) e (found slots k slot there)) number
+
+pub text_taken : (v : View) (slots : List Slot) (k : ℕ) (slot : Slot) (offsets : List ℕ) (i offset : ℕ) → slots ≡ (form_seen v).slots → slice_get slots k ≡ Some slot → offsets ≡ (form_seen v).offsets → slice_get offsets i ≡ Some offset
+    → TakesValue mmv v slot.word offset
+text_taken v slots k slot offsets i offset e there told text =
+    slots_take v slot offset (subst (λ (xs : List Slot). Contains xs slot) e (found slots k slot there)) (subst (λ (xs : List ℕ). Contains xs offset) told (found offsets i offset text))
+
+-- each pass of a new region is its own
+fresh_here : (region : MadeRegion) (k n : ℕ) → All (λ (t : Token). t.region ≡ region) (fresh_from region k n)
+fresh_here region k zero = All-nil (λ (t : Token). t.region ≡ region)
+fresh_here region k (suc n) = All-cons (λ (t : Token). t.region ≡ region) (record { region = region; view = fresh_view region.words region.passes k [] }) (fresh_from region (suc k) n) refl (fresh_here region (suc k) n)
+
+pub opens_here : (image : List ℕ) (capacity passes : ℕ) (region : MadeRegion) (tokens : List Token) → Opens image capacity passes region tokens → All (λ (t : Token). t.region ≡ region) tokens
+opens_here image capacity passes region tokens opens = subst (λ (ts : List Token). All (λ (t : Token). t.region ≡ region) ts) (sym opens.tokens_are) (fresh_here region 0 passes)

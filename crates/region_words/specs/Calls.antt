@@ -1,13 +1,13 @@
 -- What the calls of a region of memory mapped values say beside those of the rule.
-use Rattle.std.specs.Prelude.{◌≡◌, ℕ, List, Contains}
+use Rattle.std.specs.Prelude.{◌≡◌, ℕ, List, Contains, map}
 use Rattle.pcp_base.specs.declared.kind.Kind.{Kind}
 use Rattle.pcp_base.specs.declared.kind.Kind.TheVariants.{I32, U32, I64, U64}
 use Rattle.mmv_format.specs.declared.rows.Slot.{Slot}
-use Rattle.mmv_layout.specs.Form.{Form, form_of}
+use Rattle.mmv_layout.specs.Form.{Form, form_of, slots_of, texts_of}
 use Rattle.region_rule.specs.declared.view.View.{View}
 use Rattle.region_rule.specs.Views.{now}
 use Rattle.region_rule.specs.Calls.{TakesValue, TakesAll}
-use Rattle.region_rule.specs.Reads.{Reads}
+use Rattle.region_rule.specs.Reads.{Reads, ReadsInside}
 use Rattle.region_words.specs.Images.{mmv}
 
 -- the form of what a pass has seen; while it is inside, it is the region's
@@ -33,3 +33,7 @@ NumbersTakeAll = (v : View) (slot : Slot) → Contains (form_seen v).slots slot 
 -- and each value word takes the offset of a string
 abbrev pub SlotsTakeOffsets : Type 0
 SlotsTakeOffsets = (v : View) (slot : Slot) (offset : ℕ) → Contains (form_seen v).slots slot → Contains (form_seen v).offsets offset → TakesValue mmv v slot.word offset
+
+-- words that were loaded inside are an image that has the slots and the strings of the form of what was seen
+abbrev pub WordsTellTheForm : Type 0
+WordsTellTheForm = (v w : View) (words : List ℕ) → ReadsInside mmv v words w → (slots_of words ≡ (form_seen w).slots) × (map (λ (text : ℕ × List ℕ). text.0) (texts_of words) ≡ (form_seen w).offsets)

@@ -5,6 +5,7 @@
 
 mod change;
 mod laws;
+mod number;
 mod pass;
 mod reading;
 mod reads;
@@ -14,7 +15,8 @@ mod stint;
 mod waits;
 
 pub use change::Change;
-pub use laws::{numbers_take_all, slots_take_offsets};
+pub use laws::{numbers_take_all, slots_take_offsets, words_tell_the_form};
+pub use number::is_number;
 pub use pass::{Note, Pass};
 pub use reading::Reading;
 pub use reads::Known;

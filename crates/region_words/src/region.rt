@@ -1,5 +1,5 @@
 //! A region: its words and its gate, which threads share.
-ghost use Rattle.std.specs.Prelude.{◌≡◌, ◌<◌, ◌≤◌, length, IfOk, MatchResult};
+ghost use Rattle.std.specs.Prelude.{◌≡◌, ◌<◌, ◌≤◌, All, length, IfOk, MatchResult};
 ghost use Rattle.region_rule.specs.Calls.{Opens, OpensNot, Closes};
 ghost use Rattle.region_words.specs.Images.{mmv};
 
@@ -39,6 +39,7 @@ fn passes_of(alloc: Global, passes: Vec<RuledPass>) -> Result<Vec<Pass>, AllocEr
 impl Region {
     /// Makes a region of this image, of the given capacity in words, and so many passes, numbered from 0 upwards.
     /// `TooLarge` comes exactly where the image has more words. Words behind the image are 0.
+    #[tactic(auto, using(crate::proofs::Inside::opens_here))]
     pub fn make(
         alloc: Global,
         image: &Image,
@@ -47,7 +48,8 @@ impl Region {
     ) -> Result<(Region, Vec<Pass>), OpenFault>
         requires capacity { capacity ≤ 65536 }
         requires passes { (0 < passes) × (passes ≤ 256) }
-        ensures { MatchResult result (λ made. Opens image.now capacity passes made.0 made.1.items) (OpensNot image.now capacity) }
+        ensures opens { MatchResult result (λ made. Opens image.now capacity passes made.0 made.1.items) (OpensNot image.now capacity) }
+        ensures here { IfOk result (λ made. All (λ pass. pass.region ≡ made.0) made.1.items) }
     {
         let (inner, passes) = RuledRegion::make(alloc, image.words(), capacity, passes)?;
         let passes = passes_of(alloc, passes)?;

@@ -6,6 +6,7 @@ ghost use Rattle.region_rule.specs.Steps.{Extends};
 ghost use Rattle.region_rule.specs.Tokens.{note_of};
 ghost use Rattle.region_rule.specs.Seats.{IsSame};
 ghost use Rattle.region_rule.specs.Calls.{Attaches, Bounces, Detaches, TakesValue, TakesAll, Learns};
+ghost use Rattle.region_rule.specs.Reads.{ReadsInside};
 ghost use Rattle.region_words.specs.Images.{mmv};
 ghost use Rattle.region_words.specs.Calls.{form_seen, Loads};
 
@@ -48,6 +49,30 @@ impl Region {
         }
     }
 
+    /// Loads every word by rising index into a list of the caller's that has as many. While a stint lives no change runs, so
+    /// they are an image, of the form of what the stint has seen, which is the region's.
+    pub fn words(&self, stint: &mut Stint, words: &mut Vec<u64>)
+        requires here { stint.old.region ≡ self.now }
+        requires wide { length words.old.items ≡ length self.now.words }
+        ensures reads { ReadsInside mmv stint.old.view words.new.items stint.new.view }
+        ensures stays { IsSame Attached Attached stint.old stint.new }
+    {
+        stint.inner.words(&self.inner, words);
+    }
+
+    /// The image that loads of every word find.
+    fn image_inside(&self, alloc: Global, stint: &mut Stint) -> Result<Image, NoMemory>
+        requires here { stint.old.region ≡ self.now }
+        ensures reads { MatchResult result (λ image. ReadsInside mmv stint.old.view image stint.new.view) (λ _. stint.new ≡ stint.old) }
+        ensures stays { MatchResult result (λ _. IsSame Attached Attached stint.old stint.new) (λ _. stint.new ≡ stint.old) }
+    {
+        let Ok(mut words) = Vec::from_elem(alloc, 0u64, self.capacity() as usize) else {
+            return Err(NoMemory);
+        };
+        self.words(stint, &mut words);
+        Ok(Image::of_words(words))
+    }
+
     /// Loads every word, and tells the value words, in the order of the values. While a stint lives no change runs, so they
     /// are those of the region.
     #[tactic(auto, using(crate::proofs::Inside::slots_inside, crate::proofs::Inside::slots_below))]
@@ -60,10 +85,10 @@ impl Region {
         ensures stays { (stint.new ≡ stint.old) ⊎ IsSame Attached Attached stint.old stint.new }
         ensures done { OnOk result (IsSame Attached Attached stint.old stint.new) }
     {
-        let Ok(words) = stint.inner.words(&self.inner, alloc) else {
+        let Ok(image) = self.image_inside(alloc, stint) else {
             return Err(NoMemory);
         };
-        Image::of_words(words).slots(alloc)
+        image.slots(alloc)
     }
 
     /// Loads every word, and tells the strings with their offsets, in section order.
@@ -75,10 +100,10 @@ impl Region {
         ensures stays { (stint.new ≡ stint.old) ⊎ IsSame Attached Attached stint.old stint.new }
         ensures done { OnOk result (IsSame Attached Attached stint.old stint.new) }
     {
-        let Ok(words) = stint.inner.words(&self.inner, alloc) else {
+        let Ok(image) = self.image_inside(alloc, stint) else {
             return Err(NoMemory);
         };
-        Image::of_words(words).texts(alloc)
+        image.texts(alloc)
     }
 }
 

@@ -31,7 +31,7 @@ invariant_of-result-2 g c =
     let load = c.load_first-generation.ensures.tells in
     let begin = c.begin.ensures.tells in
     let l = loaded_stable g.S.Shape.shaping g.S.Shape.laws v u x c.take-gate.result c.load_first-generation.result c.if-gate-ne0.false take.0 c.pass.invariant.2 load.0 in
-    let key : List ℕ = c.self.inside.table.shared.key.words.items in
+    let key : List ℕ = c.self.inside.table.shared.key.words in
     let start : x.start ≡ key = ap (λ (z : View). z.start) load.0.is ∙ ap (λ (z : View). z.start) take.0.is ∙ ap (λ (t : Token). t.region.words) c.pass.view_is ∙ ap (λ (p : MadeRegion). p.words) c.requires.here
     ∙ sym (ap (λ (p : MadeRegion). p.words) c.self.view_is) in
     let count = c.self.invariant.1 in

@@ -6,7 +6,7 @@ use Rattle.region_rule.proofs.region.Region.gather_seat.Goals as goal
 pub join_seat-requires : goal.join_seat-requires
 join_seat-requires g c =
     let r = c.self.inside in
-    let region : MadeRegion = record { table = r.table.shared.table_id; words = r.table.shared.key.words.items; passes = r.table.shared.key.passes } in
+    let region : MadeRegion = record { table = r.table.shared.table_id; words = r.table.shared.key.words; passes = r.table.shared.key.passes } in
     let is : region_of c.args.seat.now ≡ region = c.requires.here.is ∙ sym c.self.view_is in
     let its : region_of c.args.ended ≡ region = c.requires.ended.0.is ∙ sym c.self.view_is in
     let count = c.self.invariant.0 in (

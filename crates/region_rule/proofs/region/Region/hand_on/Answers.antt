@@ -13,7 +13,7 @@ split_seat-requires g c =
     let S = g.S.Shape.shaping in
     let r = c.self.inside in
     let n = c.args.number in
-    let region : MadeRegion = record { table = r.table.shared.table_id; words = r.table.shared.key.words.items; passes = r.table.shared.key.passes } in
+    let region : MadeRegion = record { table = r.table.shared.table_id; words = r.table.shared.key.words; passes = r.table.shared.key.passes } in
     let here : region ≡ c.args.self.now = c.self.view_is in
     let more : n + 1 < region.passes = subst (λ (p : MadeRegion). n + 1 < p.passes) (sym here) c.requires.more in
     let seat : c.args.seat.now.me ≡ (fresh_view region.words region.passes n (numbers_from (n + 1) (region.passes - (n + 1))), []) =

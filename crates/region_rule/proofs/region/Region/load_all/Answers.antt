@@ -18,7 +18,7 @@ loop-index-preserved g c =
     let inv = c.loop-index.invariant in
     let e = c.load-found.ensures.tells in
     let capacity = c.self.invariant.1 in
-    let long : length words ≡ length c.self.inside.table.shared.key.words.items = inv.1 ∙ c.requires.wide ∙ sym (ap (λ (p : MadeRegion). length p.words) c.self.view_is) in
+    let long : length words ≡ length c.self.inside.table.shared.key.words = inv.1 ∙ c.requires.wide ∙ sym (ap (λ (p : MadeRegion). length p.words) c.self.view_is) in
     let below : i < length words = omega (arith, c.loop-index-test.true) in
     let wide = length-set words i x in
     let front : length (take i words) ≡ i = length-take i words ∙ omega arith in
@@ -33,3 +33,10 @@ loop-index-preserved g c =
       ap (λ (v : View). v.number) e.0.is ∙ inv.5,
       ap (λ (v : View). v.mode) e.0.is ∙ inv.6,
     )
+
+pub returns-clause-some : goal.returns-clause-some
+returns-clause-some g c =
+    let capacity = c.self.invariant.1 in
+    let least = c.self.invariant.2 in
+    let long : length c.loop-index.words.items ≡ length c.self.inside.table.shared.key.words = c.loop-index.invariant.1 ∙ c.requires.wide ∙ sym (ap (λ (p : MadeRegion). length p.words) c.self.view_is) in
+    omega arith

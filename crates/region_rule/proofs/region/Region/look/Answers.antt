@@ -9,7 +9,7 @@ load-requires g c =
     let laws = g.S.Shape.laws in
     let r = c.self.inside in
     let v = c.args.seat.now.me.0 in
-    let region : MadeRegion = record { table = r.table.shared.table_id; words = r.table.shared.key.words.items; passes = r.table.shared.key.passes } in
+    let region : MadeRegion = record { table = r.table.shared.table_id; words = r.table.shared.key.words; passes = r.table.shared.key.passes } in
     let is : region_of c.args.seat.now ≡ region = c.requires.here.is ∙ sym c.self.view_is in
     let start : v.start ≡ region.words = ap (λ (p : MadeRegion). p.words) is in
     let count = c.self.invariant.0 in

@@ -1,4 +1,4 @@
-use Rattle.std.proofs.Common.{◌≡◌, ℕ, List, length, sym, ap, ◌∙◌, subst, arith}
+use Rattle.std.proofs.Common.{◌≡◌, ℕ, List, length, sym, ap, ◌∙◌, subst}
 use Rattle.region_rule.specs.Seats.{MadeRegion, Token}
 use Rattle.region_rule.specs.Reads.{numbered_from, ReadsInside}
 use Rattle.region_rule.proofs.Showing.{reads_inside, reads_there, reads_had}
@@ -24,10 +24,8 @@ returns-clause-reads g c =
     let v = c.self.inside.seat.me.0 in
     let w = c.load_all.new.seat.me.0 in
     let words : List ℕ = c.load_all.new.words.items in
-    let made = c.in-Ok.ensures in
-    let start : v.start ≡ c.region.inside.table.shared.key.words.items = ap (λ (t : Token). t.region.words) c.self.view_is ∙ ap (λ (p : MadeRegion). p.words) c.requires.here ∙ sym (ap (λ (p : MadeRegion). p.words) c.region.view_is) in
-    let many : length words ≡ c.region.inside.capacity = omega (arith, c.load_all.ensures.wide, made.len) in
-    let whole : length words ≡ length v.start = many ∙ sym c.region.invariant.1 ∙ sym (ap length start) in
-    let capacity = c.region.invariant.2 in
+    let e = c.load_all.ensures in
+    let start : v.start ≡ c.args.region.now.words = ap (λ (t : Token). t.region.words) c.self.view_is ∙ ap (λ (p : MadeRegion). p.words) c.requires.here in
+    let whole : length words ≡ length v.start = e.wide ∙ c.requires.wide ∙ sym (ap (λ (ws : List ℕ). length ws) start) in
     subst (λ (t : Token). ReadsInside S t.view words w) c.self.view_is
-    (reads_inside S g.S.Shape.laws v w words c.load_all.ensures.reads c.self.invariant.2 c.self.invariant.4 (omega arith) whole)
+    (reads_inside S g.S.Shape.laws v w words e.reads c.self.invariant.2 c.self.invariant.4 e.some whole)
