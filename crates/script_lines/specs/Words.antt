@@ -1,0 +1,48 @@
+-- The parts of a script's lines.
+use Rattle.std.specs.Prelude.{ℕ, ℤ, pos, ◌==◌, if◌then◌else◌, List, [], ◌∷◌, Option, Some, None}
+use Rattle.std.specs.List.{list_any}
+use Rattle.text_lines.specs.Numbers.{◌>>=◌, below, number_of, number32, whole_number}
+use Rattle.text_lines.specs.Words.{take_as, take_space, optional, starts_quoted, quoted, ended}
+use Rattle.script_lines.specs.declared.line.Place.{Place}
+use Rattle.script_lines.specs.declared.line.Slot.{Slot}
+use Rattle.script_lines.specs.declared.line.Given.{Given}
+use Rattle.script_lines.specs.declared.line.Given.TheVariants as given
+
+-- a name: a word that isn't quoted, and without a zero byte
+unfoldable pub name_of : List ℕ → Option (List ℕ)
+name_of [] = None
+name_of (b ∷ bs) = if b == 34 then None else if list_any (λ c. c == 0) (b ∷ bs) then None else Some (b ∷ bs)
+
+-- the number of an instance, which isn't negative and has 31 bits
+unfoldable pub instance_of : List ℕ → Option ℤ
+instance_of word = below 2147483648 (number_of word) >>= (λ n. Some (pos n))
+
+-- a region's FILE and the number of a pass
+unfoldable pub take_place : List ℕ → Option (Place × List ℕ)
+take_place bytes = do
+  file ← take_as name_of bytes
+  pass ← take_as number_of file.1
+  Some (record { file = file.0; pass = pass.0 }, pass.1)
+
+-- an item, and an instance or `-`
+unfoldable pub take_slot : List ℕ → Option (Slot × List ℕ)
+take_slot bytes = do
+  item ← take_as number32 bytes
+  instance ← take_as (optional instance_of) item.1
+  Some (record { item = item.0; instance = instance.0 }, instance.1)
+
+unfoldable pub quoted_value : List ℕ → Option Given
+quoted_value bytes = do
+  text ← quoted bytes
+  ended text.1 (given.Choice text.0)
+
+unfoldable pub number_value : List ℕ → Option Given
+number_value bytes = do
+  n ← whole_number bytes
+  Some (given.Number n)
+
+-- the last part of a line: a quoted text or a whole number
+unfoldable pub take_value : List ℕ → Option Given
+take_value bytes = do
+  s ← take_space bytes
+  if starts_quoted s.1 then quoted_value s.1 else number_value s.1
