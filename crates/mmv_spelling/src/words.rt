@@ -12,6 +12,7 @@ use crate::references::{
     domain_place, extra_field, first_instance, help_place, instance_field, metric_place,
 };
 use crate::tables::StringTable;
+use byteorder::{ByteOrder, LittleEndian};
 use mmv_format::{Content, IndomRow, Layout, MetricRow, NAME_WIDTH, STRING_SIZE, ValueRow};
 use pcp_base::{NoMemory, Text};
 
@@ -43,7 +44,7 @@ fn word_at(bytes: &[u8], at: usize) -> u64
     requires { at ≤ 1024 }
     ensures { result ≡ from_le_bytes w64 (take 8 (drop at bytes.now)) }
 {
-    u64::from_le_bytes([
+    LittleEndian::read_u64(&[
         byte_or_zero(bytes, at),
         byte_or_zero(bytes, at + 1),
         byte_or_zero(bytes, at + 2),
