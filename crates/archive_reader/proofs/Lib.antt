@@ -1,5 +1,13 @@
+pub mod Archives
+pub mod Backs
+pub mod Finds
+pub mod Founds
 pub mod Lacking
+pub mod Loadable
 pub mod Nexts
 pub mod Readable
 pub mod Searching
+pub mod Segmented
+pub mod Spanned
 pub mod Stepping
+pub mod Valued

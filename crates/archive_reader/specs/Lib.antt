@@ -1,7 +1,12 @@
+pub mod Asked
 pub mod Lacks
+pub mod Lasts
 pub mod Laws
 pub mod LoadFaults
 pub mod Nexts
 pub mod Searches
+pub mod Sounds
 pub mod Steps
+pub mod Takes
+pub mod Values
 pub mod Walks

@@ -1,5 +1,6 @@
 //! What a search by time may leave unread. Each is the contract of a function without parameters, which does nothing.
 ghost use Rattle.archive_reader.specs.Laws.{PlacesPart, SegmentsAreEnough, ChosenPlaceIsEnough, StandingIsRead};
+ghost use Rattle.archive_reader.specs.Sounds.{LoadsReadable, ReadableStands, SoundFindsLast, SoundFindsRange, ReadableFindsValue};
 
 /// A place parts an archive's items into those before it and those from it on.
 pub fn places_part()
@@ -21,4 +22,29 @@ pub fn chosen_place_is_enough()
 /// these items are their scan.
 pub fn standing_is_read()
     ensures { StandingIsRead }
+{}
+
+/// A readable archive is loaded, unless the disk fails or memory runs out.
+pub fn readable_is_loaded()
+    ensures { LoadsReadable }
+{}
+
+/// In a readable archive that is loaded the items of the scan stand from the first place on, and nothing else does.
+pub fn readable_stands()
+    ensures { ReadableStands }
+{}
+
+/// Over a sound archive the last item not after a moment is that of the scan.
+pub fn sound_finds_last()
+    ensures { SoundFindsLast }
+{}
+
+/// Over a sound archive the items of a range are those of the scan.
+pub fn sound_finds_range()
+    ensures { SoundFindsRange }
+{}
+
+/// Over a readable archive a metric's last values are those of the scan.
+pub fn readable_finds_value()
+    ensures { ReadableFindsValue }
 {}

@@ -3,13 +3,21 @@
 //! ends at the first item stamped after the later moment. A record that wasn't written whole is the archive's end.
 #![tactic(auto)]
 
+mod beginning;
 mod fault;
+mod lasts;
 mod laws;
 mod places;
+mod ranges;
 mod reader;
+mod segments;
+mod values;
 mod walking;
 
 pub use fault::ReaderFault;
-pub use laws::{chosen_place_is_enough, places_part, segments_are_enough, standing_is_read};
+pub use laws::{
+    chosen_place_is_enough, places_part, readable_finds_value, readable_is_loaded, readable_stands,
+    segments_are_enough, sound_finds_last, sound_finds_range, standing_is_read,
+};
 pub use places::Place;
 pub use reader::ArchiveReader;

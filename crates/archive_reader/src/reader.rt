@@ -12,18 +12,25 @@ ghost use Rattle.archive_loading.specs.Loaded.{IsOver, IsMeasured, Rises, IsReac
 ghost use Rattle.archive_loading.specs.LoadFaults.{HeadIs, MetaIs};
 ghost use Rattle.archive_reader.specs.LoadFaults.{IsFilesFault, IsLoadFault};
 ghost use Rattle.archive_loading.specs.Parts.{IsMetaPart};
+ghost use Rattle.archive_reader.specs.Asked.{IsRangeFrom, IsRangeFault, range_begin, IsAtFrom, IsAtFault, at_begin};
+ghost use Rattle.archive_reader.specs.Takes.{TakesRange, TakesAt};
+ghost use Rattle.archive_reader.specs.Values.{IsValueAt, IsWholeFault};
 ghost use Rattle.archive_reader.specs.Nexts.{IsNext, IsNextFault};
 ghost use Rattle.archive_reader.specs.Walks.{volumes_from};
 
+use crate::beginning::{begin_of, entry_before, entry_by};
 use crate::fault::ReaderFault;
+use crate::lasts::at_from;
 use crate::places::Place;
+use crate::ranges::range_from;
+use crate::values::value_from;
 use crate::walking::{Step, first_from, walk};
 use archive_loading::{
     IndexPart, MetaPart, VolumesPart, is_alone, load_index, load_meta, load_volumes, no_entries,
 };
 use archive_meta::MetaState;
 use archive_window::wrapped_file;
-use pcp_base::{Item, List};
+use pcp_base::{Item, List, Pmid, Stamp, ValueSet};
 use pcp_model::Label;
 use pcp_outside::{Disk, FileId};
 use std::alloc::Global;
@@ -267,5 +274,71 @@ impl ArchiveReader {
         ensures cause { IfErr result (λ e. e ≡ DiskFault → Rose (D.faults disk.old) (D.faults disk.new)) }
     {
         item_from(alloc, disk, self.volumes.as_slice(), place)
+    }
+
+    /// The items stamped neither before the first moment nor after the second, of the records from where the index says up to the
+    /// first one stamped after the second. Over an archive whose stamps fall, or whose index points elsewhere, these need not be
+    /// all. An entry that leads outside its volume's records is `NotArchive` at its offset. The disk is that of `load`, unchanged.
+    pub fn range<D: Disk>(
+        &mut self,
+        alloc: Global,
+        disk: &mut D,
+        from: Stamp,
+        to: Stamp,
+    ) -> Result<List<Item>, ReaderFault>
+        requires { D.tells → IsOver (contents_of (D.held disk.old)) self.old }
+        ensures same { self.new ≡ self.old }
+        ensures found { D.tells → IfOk result (IsRangeFrom (contents_of (D.held disk.old)) self.old.volumes from to (range_begin self.old from)) }
+        ensures fault { D.tells → IfErr result (IsRangeFault (contents_of (D.held disk.old)) self.old.volumes to (range_begin self.old from)) }
+        ensures taken { D.tells → TakesRange (contents_of (D.held disk.old)) self.old.volumes to (range_begin self.old from) (D.taken disk.old) (D.taken disk.new) }
+        ensures looks { Looks D.Disk disk.old disk.new }
+        ensures cause { IfErr result (λ e. e ≡ DiskFault → Rose (D.faults disk.old) (D.faults disk.new)) }
+    {
+        let volumes = self.volumes.as_slice();
+        let begin = begin_of(volumes, entry_before(&self.index, from));
+        range_from(alloc, disk, volumes, begin, from, to)
+    }
+
+    /// The last item not after a moment, of the records from where the index says up to the first one stamped after the moment;
+    /// where these are none, the item of the record that ends there, over the start of a volume too, unless it is after the moment.
+    /// Over a sound archive it is the last of the scan that isn't after the moment. `NotArchive` names, of an entry that leads
+    /// outside its volume's records, its offset, and so of one where no record ends that has to. The disk is that of `load`,
+    /// unchanged.
+    pub fn at<D: Disk>(
+        &mut self,
+        alloc: Global,
+        disk: &mut D,
+        t: Stamp,
+    ) -> Result<Option<Item>, ReaderFault>
+        requires { D.tells → IsOver (contents_of (D.held disk.old)) self.old }
+        ensures same { self.new ≡ self.old }
+        ensures found { D.tells → IfOk result (IsAtFrom (contents_of (D.held disk.old)) self.old.volumes t (at_begin self.old t)) }
+        ensures fault { D.tells → IfErr result (IsAtFault (contents_of (D.held disk.old)) self.old.volumes t (at_begin self.old t)) }
+        ensures taken { D.tells → TakesAt (contents_of (D.held disk.old)) self.old.volumes t (at_begin self.old t) (D.taken disk.old) (D.taken disk.new) }
+        ensures looks { Looks D.Disk disk.old disk.new }
+        ensures cause { IfErr result (λ e. e ≡ DiskFault → Rose (D.faults disk.old) (D.faults disk.new)) }
+    {
+        let volumes = self.volumes.as_slice();
+        let begin = begin_of(volumes, entry_by(&self.index, t));
+        at_from(alloc, disk, volumes, begin, t)
+    }
+
+    /// The stamp and the values of a metric in the last item not after a moment in which it has values; `None` where there is none.
+    /// All records are read, and each has to be an item's. The disk is that of `load`, unchanged.
+    pub fn value_at<D: Disk>(
+        &mut self,
+        alloc: Global,
+        disk: &mut D,
+        pmid: Pmid,
+        t: Stamp,
+    ) -> Result<Option<(Stamp, ValueSet)>, ReaderFault>
+        requires { D.tells → IsOver (contents_of (D.held disk.old)) self.old }
+        ensures same { self.new ≡ self.old }
+        ensures found { D.tells → IfOk result (IsValueAt (contents_of (D.held disk.old)) self.old.volumes pmid t) }
+        ensures fault { D.tells → IfErr result (IsWholeFault (contents_of (D.held disk.old)) self.old.volumes) }
+        ensures looks { Looks D.Disk disk.old disk.new }
+        ensures cause { IfErr result (λ e. e ≡ DiskFault → Rose (D.faults disk.old) (D.faults disk.new)) }
+    {
+        value_from(alloc, disk, self.volumes.as_slice(), pmid, t)
     }
 }

@@ -6,6 +6,7 @@ ghost use Rattle.archive_window.specs.Looks.{Looks, Blames};
 ghost use Rattle.archive_loading.specs.Loaded.{IsMeasured, IsReachable};
 ghost use Rattle.archive_reader.specs.Walks.{volumes_from, next_volumes, next_offset};
 ghost use Rattle.archive_reader.specs.Steps.{IsStood, IsWalked, IsIn};
+ghost use Rattle.archive_reader.specs.Takes.{TookThere, TookNext};
 
 use archive_window::{Lack, Next, next_record};
 use pcp_base::Item;
@@ -72,6 +73,7 @@ fn stand<D: Disk>(
     requires lengths { D.tells → AllByRecursion (IsMeasured (contents_of (D.held disk.old))) volumes.now }
     ensures step { D.tells → IfOk result (IsStood (contents_of (D.held disk.old)) volumes.now (drop index volumes.now) at) }
     ensures within { IfOk result (IsIn volumes.now) }
+    ensures count { D.tells → TookThere (contents_of (D.held disk.old)) (drop index volumes.now) at (D.taken disk.old) (D.taken disk.new) }
     ensures looks { Looks D.Disk disk.old disk.new }
     ensures cause { IfErr result (Blames D.Disk disk.old disk.new) }
 {
@@ -104,6 +106,7 @@ pub fn walk<D: Disk>(
     requires lengths { D.tells → AllByRecursion (IsMeasured (contents_of (D.held disk.old))) volumes.now }
     ensures step { D.tells → IfOk result (IsWalked (contents_of (D.held disk.old)) volumes.now index at) }
     ensures within { IfOk result (IsIn volumes.now) }
+    ensures count { D.tells → TookNext (contents_of (D.held disk.old)) (drop index volumes.now) at (D.taken disk.old) (D.taken disk.new) }
     ensures looks { Looks D.Disk disk.old disk.new }
     ensures cause { IfErr result (Blames D.Disk disk.old disk.new) }
 {

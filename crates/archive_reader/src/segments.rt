@@ -1,0 +1,91 @@
+//! The records of a segment, one after another: from a place on up to the first one stamped after a moment.
+ghost use Rattle.std.specs.Prelude.{◌≡◌, ◌≤◌, length, drop, IfOk, IfErr};
+ghost use Rattle.std.specs.List.{AllByRecursion};
+ghost use Rattle.pcp_base.specs.Time.{microseconds};
+ghost use Rattle.pcp_model.specs.Disk.{contents_of};
+ghost use Rattle.pcp_model.specs.Payload.{stamp_of};
+ghost use Rattle.pcp_outside.specs.Causes.{Rose};
+ghost use Rattle.archive_window.specs.Looks.{Looks};
+ghost use Rattle.archive_reader.specs.declared.fault.ReaderFault.TheVariants.{DiskFault};
+ghost use Rattle.archive_reader.specs.Steps.{IsAhead, IsAheadFault, IsAheadIn};
+ghost use Rattle.archive_loading.specs.Loaded.{IsMeasured, IsReachable};
+ghost use Rattle.archive_reader.specs.Searches.{is_after, is_before};
+ghost use Rattle.archive_reader.specs.Takes.{TookNext};
+
+use crate::fault::ReaderFault;
+use crate::walking::{Step, walk};
+use pcp_base::{Item, Stamp};
+use pcp_outside::{Disk, FileId};
+use std::alloc::Global;
+
+/// What follows a place in a segment.
+#[derive(Drop)]
+pub enum Ahead {
+    /// The segment ends.
+    End,
+    /// An item; behind it a place: how many volumes are behind, and an offset.
+    Item(Item, usize, u64),
+}
+
+fn microseconds(stamp: Stamp) -> u64
+    ensures { result ≡ microseconds stamp }
+{
+    stamp.sec() as u64 * 1_000_000 + stamp.usec() as u64
+}
+
+fn stamp_of(item: &Item) -> Stamp
+    ensures { result ≡ stamp_of item.now }
+{
+    match item {
+        Item::Sample(answer) => answer.stamp,
+        Item::Mark(stamp) => *stamp,
+    }
+}
+
+/// Whether an item is stamped after a moment.
+pub fn is_after(item: &Item, t: Stamp) -> bool
+    ensures { result ≡ is_after t item.now }
+{
+    microseconds(t) < microseconds(stamp_of(item))
+}
+
+/// Whether an item is stamped before a moment.
+pub fn is_before(item: &Item, t: Stamp) -> bool
+    ensures { result ≡ is_before t item.now }
+{
+    microseconds(stamp_of(item)) < microseconds(t)
+}
+
+/// The next item of a segment.
+pub fn next_ahead<D: Disk>(
+    alloc: Global,
+    disk: &mut D,
+    volumes: &[(u32, u64)],
+    index: usize,
+    at: u64,
+    t: Stamp,
+) -> Result<Ahead, ReaderFault>
+    requires within { index ≤ length volumes.now }
+    requires numbered { IsReachable volumes.now }
+    requires lengths { D.tells → AllByRecursion (IsMeasured (contents_of (D.held disk.old))) volumes.now }
+    ensures found { D.tells → IfOk result (IsAhead (contents_of (D.held disk.old)) volumes.now index at t) }
+    ensures fault { D.tells → IfErr result (IsAheadFault (contents_of (D.held disk.old)) (drop index volumes.now) at) }
+    ensures within { IfOk result (IsAheadIn volumes.now) }
+    ensures count { D.tells → TookNext (contents_of (D.held disk.old)) (drop index volumes.now) at (D.taken disk.old) (D.taken disk.new) }
+    ensures looks { Looks D.Disk disk.old disk.new }
+    ensures cause { IfErr result (λ e. e ≡ DiskFault → Rose (D.faults disk.old) (D.faults disk.new)) }
+{
+    match walk(alloc, disk, volumes, index, at)? {
+        Step::End => Ok(Ahead::End),
+        Step::Bad(number, place) => Err(ReaderFault::NotArchive {
+            file: FileId::Volume(number),
+            at: place,
+        }),
+        Step::Item(item, behind, next) => {
+            if is_after(&item, t) {
+                return Ok(Ahead::End);
+            }
+            Ok(Ahead::Item(item, behind, next))
+        }
+    }
+}
