@@ -1,7 +1,7 @@
 //! PDUs as text, for lines of a book: `fetch 0 0 0 11800402`.
 use case_book::write_text;
 use case_records::write_item;
-use pcp_base::{Desc, Duplicate, Item, List, NoMemory, Pmid, Text};
+use pcp_base::{Desc, Duplicate, Item, List, NoMemory, PmResult, Pmid, Text};
 use pdu_codec::{Pdu, PduFault, decode, encode, fits, pdu_length};
 use profile_filter::DomainPart;
 use std::alloc::Global;
@@ -83,78 +83,97 @@ fn write_names(out: &mut String, status: i32, names: &[Text]) -> Result<(), NoMe
     Ok(())
 }
 
-// What a client sends alone; false for another PDU.
-fn write_request(out: &mut String, pdu: &Pdu) -> Result<bool, NoMemory> {
+// A fetch of these metrics in a context, and the moment that its result is to have.
+fn write_fetch(
+    out: &mut String,
+    context: u32,
+    sec: u32,
+    usec: u32,
+    pmids: &List<Pmid>,
+) -> Result<(), NoMemory> {
+    write!(out, "fetch {context} {sec} {usec}")?;
+    write_words(out, pmids)
+}
+
+fn write_one(out: &mut String, word: &str, number: u32) -> Result<(), NoMemory> {
+    out.push_str(word)?;
+    write!(out, " {number:08x}")?;
+    Ok(())
+}
+
+fn write_asked(out: &mut String, indom: u32, instance: i32) -> Result<(), NoMemory> {
+    write!(out, "instance_req {indom:08x} {instance}")?;
+    Ok(())
+}
+
+fn write_named(out: &mut String, word: &str, name: &Text) -> Result<(), NoMemory> {
+    out.push_str(word)?;
+    write_name(out, name)
+}
+
+// What a client sends alone; nothing of another PDU.
+fn write_request(out: &mut String, pdu: &Pdu) -> Result<(), NoMemory> {
     match pdu {
         Pdu::Profile {
             context,
             global,
             parts,
-        } => write_profile(out, *context, *global, parts.as_slice())?,
+        } => write_profile(out, *context, *global, parts.as_slice()),
         Pdu::Fetch {
             context,
             sec,
             usec,
             pmids,
-        } => {
-            let (context, sec, usec) = (*context, *sec, *usec);
-            write!(out, "fetch {context} {sec} {usec}")?;
-            write_words(out, pmids)?;
-        }
-        Pdu::DescReq { pmid } => {
-            let pmid = pmid.word();
-            write!(out, "desc_req {pmid:08x}")?;
-        }
-        Pdu::InstanceReq { indom, instance } => {
-            let (indom, instance) = (indom.word(), *instance);
-            write!(out, "instance_req {indom:08x} {instance}")?;
-        }
-        Pdu::Creds => out.push_str("creds")?,
-        Pdu::PmnsChild { name } => {
-            out.push_str("child")?;
-            write_name(out, name)?;
-        }
-        Pdu::PmnsTraverse { name } => {
-            out.push_str("traverse")?;
-            write_name(out, name)?;
-        }
-        _ => return Ok(false),
+        } => write_fetch(out, *context, *sec, *usec, pmids),
+        Pdu::DescReq { pmid } => write_one(out, "desc_req", pmid.word()),
+        Pdu::InstanceReq { indom, instance } => write_asked(out, indom.word(), *instance),
+        Pdu::PmnsChild { name } => write_named(out, "child", name),
+        Pdu::PmnsTraverse { name } => write_named(out, "traverse", name),
+        _ => Ok(()),
     }
-    Ok(true)
 }
 
-fn write_reply(out: &mut String, pdu: &Pdu) -> Result<(), NoMemory> {
-    match pdu {
-        Pdu::Error { code } => {
-            let code = *code;
-            write!(out, "error {code}")?;
-        }
-        Pdu::Desc(desc) => write_desc(out, desc)?,
-        Pdu::Instance { indom, pairs } => {
-            let indom = indom.word();
-            write!(out, "instance {indom:08x}")?;
-            write_pairs(out, pairs.as_slice())?;
-        }
-        Pdu::PmnsIds { status, pmids } => {
-            let status = *status;
-            write!(out, "ids {status}")?;
-            write_words(out, pmids)?;
-        }
-        Pdu::PmnsNames { status, names } => write_names(out, *status, names.as_slice())?,
-        _ => {}
-    }
+fn write_error(out: &mut String, code: i32) -> Result<(), NoMemory> {
+    write!(out, "error {code}")?;
     Ok(())
 }
 
+fn write_instances(out: &mut String, indom: u32, pairs: &[(i32, Text)]) -> Result<(), NoMemory> {
+    write_one(out, "instance", indom)?;
+    write_pairs(out, pairs)
+}
+
+fn write_ids(out: &mut String, status: i32, pmids: &List<Pmid>) -> Result<(), NoMemory> {
+    write!(out, "ids {status}")?;
+    write_words(out, pmids)
+}
+
+// What is answered; nothing of another PDU.
+fn write_reply(out: &mut String, pdu: &Pdu) -> Result<(), NoMemory> {
+    match pdu {
+        Pdu::Error { code } => write_error(out, *code),
+        Pdu::Desc(desc) => write_desc(out, desc),
+        Pdu::Instance { indom, pairs } => write_instances(out, indom.word(), pairs.as_slice()),
+        Pdu::PmnsIds { status, pmids } => write_ids(out, *status, pmids),
+        Pdu::PmnsNames { status, names } => write_names(out, *status, names.as_slice()),
+        _ => Ok(()),
+    }
+}
+
+fn write_result(alloc: Global, out: &mut String, answer: &PmResult) -> Result<(), NoMemory> {
+    out.push_str("result ")?;
+    write_item(out, &Item::Sample(answer.copy(alloc)?))
+}
+
 fn write_pdu(alloc: Global, out: &mut String, pdu: &Pdu) -> Result<(), NoMemory> {
-    if write_request(out, pdu)? {
-        return Ok(());
+    match pdu {
+        Pdu::Creds => Ok(out.push_str("creds")?),
+        Pdu::Result(answer) => write_result(alloc, out, answer),
+        _ => {
+            write_request(out, pdu)?;
+            write_reply(out, pdu)
+        }
     }
-    if let Pdu::Result(answer) = pdu {
-        out.push_str("result ")?;
-        return write_item(out, &Item::Sample(answer.copy(alloc)?));
-    }
-    write_reply(out, pdu)
 }
 
 // The PDU that bytes are, or why they are none.
