@@ -5,6 +5,7 @@ ghost use Rattle.fetch_engine.specs.Bounds.{FitsContent};
 ghost use Rattle.fetch_engine.specs.Values.{block_of, bytes_of, blocks_of, keeps, shown_block, shown_word, stored, word_of, words_of};
 
 use crate::index::Values;
+use byteorder::{BigEndian, ByteOrder};
 use mmv_layout::Content;
 use pcp_base::{Block, Body, Bytes, InDom, Kind, List, NoMemory};
 use profile_filter::Profile;
@@ -36,7 +37,8 @@ fn bytes_of(alloc: Global, content: &Content) -> Result<Bytes, NoMemory>
 {
     match content {
         Content::Number(number) => {
-            let bytes = number.to_be_bytes();
+            let mut bytes = [0; 8];
+            BigEndian::write_u64(&mut bytes, *number);
             Ok(List::from_vec(bytes.to_vec(alloc)?))
         }
         Content::Choice(text) => {
@@ -55,6 +57,7 @@ fn block_of(alloc: Global, code: u8, content: &Content) -> Result<Block, NoMemor
     ensures { IfOk result (λ block. block ≡ block_of code content.now) }
 {
     let bytes = bytes_of(alloc, content)?;
+    // A text of an image and its zero byte are at most 257 bytes, and a block holds 16,777,211.
     let Some(block) = Block::build(code, bytes) else {
         unreachable!()
     };
