@@ -1,8 +1,10 @@
 pub mod Asking
 pub mod Components
+pub mod Dumped
 pub mod Lookings
 pub mod Looks
 pub mod Memory
+pub mod Sending
 pub mod Facts
 pub mod Wholes
 pub mod Served

@@ -1,19 +1,28 @@
 -- Commands that only read an archive: how they end, and which refusals of files go together.
-use Rattle.std.proofs.Common.{◌≡◌, ℕ, List, refl, sym, ◌∙◌, Option, Some, None}
+use Rattle.std.proofs.Common.{◌≡◌, ◌⊎◌, inl, ⊎_elim, ℕ, Bool, List, [], ◌++◌, refl, sym, ◌∙◌, Option, Some, None, Result, Ok, Err, IfOk, IfErr, OnErr}
 use Rattle.pcp_base.specs.declared.file.FileId.{FileId}
+use Rattle.pcp_model.specs.Disk.{CrashImage}
+use Rattle.pcp_outside.specs.declared.disk.Disk.{Ghosts as DiskGhosts}
+use Rattle.pcp_outside.proofs.Crash.{weaker}
+use Rattle.archive_window.specs.Looks.{Looks}
+use Rattle.archive_loading.specs.Loaded.{Loaded}
+use Rattle.pm_commands.specs.declared.output.Output.{Output}
 use Rattle.pm_commands.specs.declared.stage.FilesRefusal.{FilesRefusal}
 use Rattle.pm_commands.specs.declared.stage.FilesRefusal.TheVariants.{LaterDisk, Compressed, NotArchive}
 use Rattle.pm_commands.specs.declared.stage.DiskRefusal.TheVariants.{Files as FilesAway, DiskFault}
 use Rattle.pm_commands.specs.declared.refusal.Refusal.{Refusal}
 use Rattle.pm_commands.specs.declared.refusal.Refusal.TheVariants.{Words, Reading, Input, Disk, NoMemory}
 use Rattle.pm_commands.specs.declared.words.Command.{Command}
-use Rattle.pm_commands.specs.declared.words.Command.TheVariants.{Once, MmvMake, MmvDump, Info}
-use Rattle.pm_commands.specs.Archives.{TurnedAway, looks}
+use Rattle.pm_commands.specs.declared.words.Command.TheVariants.{Once, MmvMake, MmvDump, Dump, Info}
+use Rattle.pm_commands.specs.Archives.{TurnedAfter, TurnedAway, looks, nothing_before}
 use Rattle.pm_commands.specs.Causes.{StopCause}
-use Rattle.pm_commands.specs.Ends.{HasServed, IsNever}
+use Rattle.pm_commands.specs.Ends.{HasServed, Serves, IsNever, MayLeave, told_of}
+use Rattle.pm_commands.specs.Meaning.{Meaning}
 use Rattle.pm_commands.specs.Meanings.{meaning}
 use Rattle.pm_commands.specs.Refusals.{files_status}
-use Rattle.pm_commands.specs.Sides.{DiskSide, Found, found, Untouched}
+use Rattle.pm_commands.specs.Sides.{SinkSide, DiskSide, Found, found, Untouched, Leaves}
+use Rattle.pm_commands.specs.Streams.{IsSent}
+use Rattle.pm_commands.specs.commands.dump as dump
 use Rattle.pm_commands.specs.commands.info as info
 use Rattle.pm_commands.proofs.Served.{still_settled, left_alone}
 
@@ -32,23 +41,38 @@ info_fits = record {
   unwrapped = λ f text s. s.1.unwrapped;
 }
 
+neither : {A B : Type 0} → (A → ⊥) → (B → ⊥) → A ⊎ B → ⊥
+neither f g t = ⊎_elim f g t
+
+-- a command that turns files away for what it finds in an archive that was loaded
+asked_fits : (why : Loaded → Found → FilesRefusal → Type 0) (said : Found → List ℕ → Type 0) → ((r : Loaded) (f : Found) → why r f LaterDisk → ⊥) → ((r : Loaded) (f : Found) (file : FileId) → why r f (Compressed file) → ⊥)
+    → ((f : Found) (text : List ℕ) → said f text → f.wrapped ≡ None) → FitsLook (TurnedAfter why) said
+asked_fits why said later wrapped unwrapped = record {
+  never_later = λ f t. neither (λ n. n) (λ b. later b.0 f b.2) t;
+  wrapped = λ f file t. ⊎_elim (λ (w : f.wrapped ≡ Some file). w) (λ b. absurd (wrapped b.0 f file b.2)) t;
+  unwrapped = unwrapped;
+}
+
+pub dump_fits : FitsLook dump.turned dump.said
+dump_fits = asked_fits dump.BadRecord dump.said (λ r f b. b) (λ r f file b. b) (λ f text s. s.1.unwrapped)
+
 not_both : (w : Option FileId) (file : FileId) → w ≡ None → w ≡ Some file → ⊥
 not_both w file none some = let e : None ≡ Some file = sym none ∙ some in cc
 
-module _ (turned : Found → FilesRefusal → Type 0) (said : Found → List ℕ → Type 0) (fits : FitsLook turned said) where
+module _ (turned : Found → FilesRefusal → Type 0) (said : Found → List ℕ → Type 0) (first : DiskSide → List ℕ → Type 0) (fits : FitsLook turned said) where
   never_turned : (f : Found) (text : List ℕ) → said f text → (e : FilesRefusal) → IsNever e → turned f e → ⊥
   never_turned f text s LaterDisk never t = fits.never_later f t
   never_turned f text s (Compressed file) never t = not_both f.wrapped file (fits.unwrapped f text s) (fits.wrapped f file t)
-  never_turned f text s (NotArchive file at) never t = never
+  never_turned f text s (NotArchive file place) never t = never
 
   -- where a file stands wrapped, the archive is turned away
-  look_wrapped : (f : Found) (e : FilesRefusal) → turned f e → files_status e ≡ 6
-  look_wrapped f LaterDisk t = absurd (fits.never_later f t)
-  look_wrapped f (Compressed other) t = refl
-  look_wrapped f (NotArchive other at) t = refl
+  look_wrapped : (f : Found) (file : FileId) (e : FilesRefusal) → turned f (Compressed file) → turned f e → files_status e ≡ 6
+  look_wrapped f file LaterDisk w t = absurd (fits.never_later f t)
+  look_wrapped f file (Compressed other) w t = refl
+  look_wrapped f file (NotArchive other place) w t = refl
 
   -- what such a command is served
-  pub look_served : (input : List ℕ) (d : DiskSide) (text : List ℕ) → Untouched d → (d.tells → said (found d) text) → HasServed (looks turned said) input d text
+  pub look_served : (input : List ℕ) (d : DiskSide) (text : List ℕ) → Untouched d → (d.tells → said (found d) text) → HasServed (looks turned said first) input d text
   look_served input d text still told = record {
     good = refl;
     welcome = λ tells e never away. never_turned (found d) text (told tells) e never away;
@@ -59,19 +83,37 @@ module _ (turned : Found → FilesRefusal → Type 0) (said : Found → List ℕ
   }
 
   -- and why it is stopped
-  pub look_stops : (input : List ℕ) (d : DiskSide) (e : Refusal) → Untouched d → TurnedAway turned d e → StopCause (looks turned said) input d e
+  pub look_stops : (input : List ℕ) (d : DiskSide) (e : Refusal) → Untouched d → TurnedAway turned d e → StopCause (looks turned said first) input d e
   look_stops input d (Disk (FilesAway e)) still c = ((refl, refl), (still, c))
-  look_stops input d (Disk DiskFault) still c = ((refl, refl), (left_alone (looks turned said) 5 input d still, c))
-  look_stops input d NoMemory still c = left_alone (looks turned said) 9 input d still
+  look_stops input d (Disk DiskFault) still c = ((refl, refl), (left_alone (looks turned said first) 5 input d still, c))
+  look_stops input d NoMemory still c = left_alone (looks turned said first) 9 input d still
   look_stops input d (Words usage) still c = absurd c
   look_stops input d (Reading e) still c = absurd c
   look_stops input d (Input e) still c = absurd c
+
+  -- what such a command answers that writes nothing before it is done
+  pub look_serves : (input : List ℕ) (k : SinkSide) (failed : Bool) (d : DiskSide) (result : Result (List ℕ) Refusal) → Untouched d → IsSent k [] failed → first d [] → (d.tells → IfOk result (said (found d))) → IfErr result (TurnedAway turned d)
+      → Serves (looks turned said first) input k failed d (told_of result)
+  look_serves input k failed d (Ok text) still sent begun told away = record { front = []; sent = sent; done = look_served input d text still told; stops = tt }
+  look_serves input k failed d (Err e) still sent begun told away = record { front = []; sent = sent; done = tt; stops = (look_stops input d e still away, begun) }
+
+-- at any moment it leaves what was there
+pub look_leaves : {D : Type 0} (g : DiskGhosts D) (m : Meaning) (input : List ℕ) (a b : D) → Looks g a b → Leaves g a b (MayLeave m input)
+look_leaves g m input a b looks = λ tells. weaker g.moment g.left_since g.held a b (CrashImage (g.held a)) (MayLeave m input (g.held a)) (looks.moments tells) (λ crash was. inl was)
+
+-- of `dump`, whose text goes on behind what was sent
+pub dump_serves : (input : List ℕ) (k : SinkSide) (failed : Bool) (d : DiskSide) (result : Result (List ℕ) Refusal) → Untouched d → IfOk result (dump.HasSaid k failed d) → OnErr result (dump.HasStopped k failed d) → IfErr result (TurnedAway dump.turned d)
+    → Serves dump.dump input k failed d (told_of result)
+dump_serves input k failed d (Ok text) still has stopped away = record { front = has.front; sent = has.sent; done = look_served dump.turned dump.said dump.begun dump_fits input d (has.front ++ text) still has.whole; stops = tt }
+dump_serves input k failed d (Err e) still has stopped away =
+    record { front = stopped.front; sent = stopped.sent; done = tt; stops = (look_stops dump.turned dump.said dump.begun dump_fits input d e still away, stopped.so_far) }
 
 -- over a disk that isn't empty, nothing else is refused
 pub one_later : (command : Command) (input : List ℕ) (f : Found) (e : FilesRefusal) → (meaning command).turns_away input f LaterDisk → (meaning command).turns_away input f e → e ≡ LaterDisk
 one_later (Once asked) input f e later t = t.0
 one_later MmvMake input f e later t = absurd later
 one_later MmvDump input f e later t = absurd later
+one_later Dump input f e later t = absurd (dump_fits.never_later f later)
 one_later Info input f e later t = absurd (info_fits.never_later f later)
 
 -- where a file stands wrapped, the archive is turned away
@@ -79,4 +121,5 @@ pub wrapped_first : (command : Command) (input : List ℕ) (f : Found) (file : F
 wrapped_first (Once asked) input f file e w t = let other : Compressed file ≡ LaterDisk = w.0 in absurd cc
 wrapped_first MmvMake input f file e w t = absurd w
 wrapped_first MmvDump input f file e w t = absurd w
-wrapped_first Info input f file e w t = look_wrapped info.turned info.said info_fits f e t
+wrapped_first Dump input f file e w t = look_wrapped dump.turned dump.said dump.begun dump_fits f file e w t
+wrapped_first Info input f file e w t = look_wrapped info.turned info.said nothing_before info_fits f file e w t

@@ -1,12 +1,12 @@
 -- A refusal whose line could not be made ends as want of memory.
-use Rattle.std.proofs.Common.{◌≡◌, inl, inr, ℕ, ◌≤◌, List, [], length, refl, sym, ◌∙◌, subst, arith, append-nil, Option, Some, None, IsSome}
+use Rattle.std.proofs.Common.{◌≡◌, inl, inr, ℕ, ◌≤◌, List, [], ◌++◌, length, refl, sym, ap, ◌∙◌, subst, arith, append-nil, Option, Some, None, IsSome}
 use Rattle.std.proofs.lemmas.List.{drop_all}
 use Rattle.pm_commands.specs.declared.stage.InputRefusal.{InputRefusal}
 use Rattle.pm_commands.specs.declared.stage.DiskRefusal.TheVariants.{Files, DiskFault}
 use Rattle.pm_commands.specs.declared.refusal.Refusal.{Refusal}
 use Rattle.pm_commands.specs.declared.refusal.Refusal.TheVariants.{Words, Reading, Input, Disk, NoMemory}
 use Rattle.pm_commands.specs.Causes.{Got, Cause, TookSome}
-use Rattle.pm_commands.specs.Ends.{Ends}
+use Rattle.pm_commands.specs.Ends.{Ends, HasBegun}
 use Rattle.pm_commands.specs.Inputs.{input_limit}
 use Rattle.pm_commands.specs.Meanings.{meaning}
 use Rattle.pm_commands.specs.Refusals.{numbered_line_of}
@@ -29,10 +29,13 @@ out_of_memory words s d (Disk (Files e)) c some = (took_some s (meaning c.0.comm
 out_of_memory words s d (Disk DiskFault) c some = cc
 out_of_memory words s d NoMemory c some = cc
 
-pub ends_untold : (words : List (List ℕ)) (s : SourceSide) (k : SinkSide) (d : DiskSide) (e : Refusal) → Cause words s d e → IsSome (numbered_line_of e) → (k.tells → k.after ≡ k.written) → Ends words s k d 9
-ends_untold words s k d e cause some nothing = inr (inr (record {
+pub ends_untold : (words : List (List ℕ)) (s : SourceSide) (k : SinkSide) (d : DiskSide) (e : Refusal) (front : List ℕ) → Cause words s d e × HasBegun words s d front → IsSome (numbered_line_of e) → (k.tells → k.after ≡ k.written ++ front)
+    → Ends words s k d 9
+ends_untold words s k d e front stops some so_far = inr (inr (record {
   refusal = NoMemory;
   status_is = refl;
-  cause = out_of_memory words s d e cause some;
-  told = λ tells. inl (nothing tells ∙ sym (append-nil k.written));
+  cause = out_of_memory words s d e stops.0 some;
+  front = front;
+  begun = stops.1;
+  told = λ tells. inl (so_far tells ∙ ap (λ t. k.written ++ t) (sym (append-nil front)));
 }))

@@ -1,17 +1,28 @@
 -- What a command does with its input, told of the words and the source.
-use Rattle.std.proofs.Common.{◌≡◌, inl, inr, ⊎_elim, ℕ, List, ◌++◌, take, Result, Ok, Err, IfOk, IfErr, refl, ap, ◌∙◌, subst, sym}
+use Rattle.std.proofs.Common.{◌≡◌, inl, inr, ⊎_elim, ℕ, Bool, true, false, List, [], ◌++◌, length, Result, Ok, Err, IsSome, refl, ap, ◌∙◌, subst, sym, arith}
+use Rattle.std.specs.Prelude.{if◌then◌else◌}
 use Rattle.pcp_model.specs.Disk.{Files, Holdings, CrashImage, IsSettled}
-use Rattle.pcp_outside.specs.Causes.{Rose}
+use Rattle.pcp_outside.specs.declared.streams.Sink.{Ghosts as SinkGhosts}
 use Rattle.pm_commands.specs.declared.output.Output.{Output}
 use Rattle.pm_commands.specs.declared.refusal.Refusal.{Refusal}
-use Rattle.pm_commands.specs.declared.refusal.Refusal.TheVariants.{Input, Disk, NoMemory}
-use Rattle.pm_commands.specs.Causes.{Asks, Left, StopCause, Cause}
-use Rattle.pm_commands.specs.Ends.{HasServed, HasRun, Told, Ends, MayLeave, MayBeLeft, shown}
+use Rattle.pm_commands.specs.declared.refusal.Refusal.TheVariants.{Words, Reading, Input, Disk, NoMemory}
+use Rattle.pm_commands.specs.declared.stage.InputRefusal.{InputRefusal}
+use Rattle.pm_commands.specs.declared.stage.ReadRefusal.{ReadRefusal}
+use Rattle.pm_commands.specs.declared.stage.Stop.{Stop}
+use Rattle.pm_commands.specs.declared.stage.Stop.TheVariants.{OutOfMemory, Refused}
+use Rattle.pm_commands.specs.declared.stage.Usage.{Usage}
+use Rattle.pm_commands.specs.declared.words.Command.{Command}
+use Rattle.pm_commands.specs.Causes.{Asks, Left, StopCause, UnreadCause, Cause}
+use Rattle.pm_commands.specs.CommandLine.{command_of, Reads}
+use Rattle.pm_commands.specs.Ends.{HasRun, HasBegun, Serves, Runs, Told, Ends, MayLeave, MayBeLeft, shown}
+use Rattle.pm_commands.specs.Inputs.{Refuses}
 use Rattle.pm_commands.specs.Meaning.{Meaning}
 use Rattle.pm_commands.specs.Meanings.{meaning}
-use Rattle.pm_commands.specs.Refusals.{status_of, line_of}
-use Rattle.pm_commands.specs.Sides.{SourceSide, SinkSide, DiskSide, Untouched}
+use Rattle.pm_commands.specs.Refusals.{status_of, line_of, stopped}
+use Rattle.pm_commands.specs.Sides.{SourceSide, SinkSide, DiskSide, NotAsked, Untouched, sink_side}
+use Rattle.pm_commands.specs.Streams.{IsSent, Finishes}
 use Rattle.pm_commands.proofs.Memory.{took_some}
+use Rattle.pm_commands.proofs.Sending.{front_taken, sent_on}
 
 -- a disk that holds what it held is settled if it was
 pub still_settled : (d : DiskSide) → Untouched d → d.tells → IsSettled d.held → IsSettled d.after
@@ -29,32 +40,63 @@ stop_cause words s d a NoMemory c = (took_some s (meaning a.command).reads a.inp
 stop_cause words s d a _ c = absurd c
 
 -- the same of what a command answered
-pub runs : (words : List (List ℕ)) (s : SourceSide) (d : DiskSide) (a : Asks words s) (result : Result Output Refusal)
-    → IfOk result (λ output. HasServed (meaning a.command) a.input d (shown output)) → IfOk result (λ output. HasRun words s d (shown output))
-runs words s d a (Ok output) served = record { asks = a; served = served }
-runs words s d a (Err e) served = tt
+pub runs : (words : List (List ℕ)) (s : SourceSide) (k : SinkSide) (failed : Bool) (d : DiskSide) (a : Asks words s) (result : Result Output Refusal)
+    → Serves (meaning a.command) a.input k failed d result → Runs words s k failed d result
+runs words s k failed d a (Ok output) serves = record { front = serves.front; sent = serves.sent; done = record { asks = a; served = serves.done }; stops = tt }
+runs words s k failed d a (Err e) serves = record {
+  front = serves.front;
+  sent = serves.sent;
+  done = tt;
+  stops = (stop_cause words s d a e serves.stops.0, inr (a, serves.stops.1));
+}
 
-pub causes : (words : List (List ℕ)) (s : SourceSide) (d : DiskSide) (a : Asks words s) (result : Result Output Refusal)
-    → IfErr result (StopCause (meaning a.command) a.input d) → IfErr result (Cause words s d)
-causes words s d a (Ok output) cause = tt
-causes words s d a (Err e) cause = stop_cause words s d a e cause
+-- stopped before anything was asked for
+pub runs_none : (words : List (List ℕ)) (s : SourceSide) (k : SinkSide) (failed : Bool) (d : DiskSide) (e : Refusal) → IsSent k [] failed → Cause words s d e → Runs words s k failed d (Err e)
+runs_none words s k failed d e sent cause = record { front = []; sent = sent; done = tt; stops = (cause, inl refl) }
+
+-- the words are none
+pub no_words : (words : List (List ℕ)) (s : SourceSide) (d : DiskSide) (stop : Stop Usage) → Reads (Err stop) (command_of words) → NotAsked s → Untouched d → Cause words s d (stopped Words stop)
+no_words words s d OutOfMemory reads unasked still = (λ tells. (0, omega arith, unasked tells), inl still)
+no_words words s d (Refused usage) reads unasked still = (reads, unasked, still)
+
+-- the input isn't read
+pub no_input : (words : List (List ℕ)) (s : SourceSide) (d : DiskSide) (command : Command) (stop : Stop ReadRefusal) → command_of words ≡ Ok command → IsSome (meaning command).reads → UnreadCause s stop → Untouched d
+    → Cause words s d (stopped Reading stop)
+no_input words s d command OutOfMemory is some cause still = (cause, inl still)
+no_input words s d command (Refused e) is some cause still = ((command, is, some), cause, still)
+
+-- what was got isn't what the command reads
+pub no_good : (m : Meaning) (input : List ℕ) (d : DiskSide) (stop : Stop InputRefusal) → Refuses m.reads input stop → Untouched d → StopCause m input d (stopped Input stop)
+no_good m input d OutOfMemory refuses still = left_alone m 9 input d still
+no_good m input d (Refused e) refuses still = (refuses, still)
+
+-- a command that is refused its input
+pub unconverted : (m : Meaning) (input : List ℕ) (k : SinkSide) (failed : Bool) (d : DiskSide) (stop : Stop InputRefusal) → IsSent k [] failed → m.begins input d [] → Untouched d → Refuses m.reads input stop → Serves m input k failed d (Err (stopped Input stop))
+unconverted m input k failed d stop sent nothing still refuses = record { front = []; sent = sent; done = tt; stops = (no_good m input d stop refuses still, nothing) }
 
 pub may_be_left : (words : List (List ℕ)) (s : SourceSide) (held : Holdings) (a : Asks words s) (crash : Files) → MayLeave (meaning a.command) a.input held crash → MayBeLeft words s held crash
 may_be_left words s held a crash may = ⊎_elim (λ (was : CrashImage held crash). inl was) (λ (left : (meaning a.command).may_leave a.input held crash). inr (a, left)) may
 
--- the end of a run whose output wasn't written whole
-pub untold_ends : (words : List (List ℕ)) (s : SourceSide) (k : SinkSide) (d : DiskSide) (text bytes : List ℕ) → HasRun words s d text → bytes ≡ text → Rose k.faults k.faults_after
-    → (k.tells → (n : ℕ) × (k.after ≡ k.written ++ take n bytes)) → Ends words s k d 4
-untold_ends words s k d text bytes run are rose told = inr (inl (
+-- the end of a run whose output was written, or of which a front was
+finished_ends : (words : List (List ℕ)) (s : SourceSide) (k : SinkSide) (d : DiskSide) (text : List ℕ) (failed : Bool) → HasRun words s d text → IsSent k text failed → Ends words s k d (if failed then 4 else 0)
+finished_ends words s k d text false run sent = inl (refl, record { text = text; run = run; told = sent.given })
+finished_ends words s k d text true run sent = inr (inl (
   refl,
   record {
     text = text;
     run = run;
-    rose = rose;
-    told = λ tells. ((told tells).0, (told tells).1 ∙ ap (λ t. k.written ++ take (told tells).0 t) are);
+    rose = sent.given.0;
+    told = λ tells. let m = sent.given.1 tells in (length m.0, m.2 ∙ ap (λ t. k.written ++ t) (front_taken m.0 text m.1));
   },
 ))
 
+pub finishes : {O : Type 0} (g : SinkGhosts O) (words : List (List ℕ)) (s : SourceSide) (d : DiskSide) (a b c : O) (failed : Bool) (output : Output) (status : ℕ) → Runs words s (sink_side g a b) failed d (Ok output) → Finishes (sink_side g b c) failed (shown output) status
+    → Ends words s (sink_side g a c) d status
+finishes g words s d a b c failed output status runs (now, sends, is) =
+    subst (Ends words s (sink_side g a c) d) (sym is)
+    (finished_ends words s (sink_side g a c) d (runs.front ++ shown output) now runs.done (sent_on g a b c runs.front (shown output) failed now runs.sent sends))
+
 -- the end of a refusal whose line was written, or a front of it
-pub refused_ends : (words : List (List ℕ)) (s : SourceSide) (k : SinkSide) (d : DiskSide) (status : ℕ) (e : Refusal) → status ≡ status_of e → Cause words s d e → Told k (line_of e) → Ends words s k d status
-refused_ends words s k d status e is cause told = inr (inr (record { refusal = e; status_is = is; cause = cause; told = told }))
+pub refused_ends : (words : List (List ℕ)) (s : SourceSide) (k : SinkSide) (d : DiskSide) (status : ℕ) (e : Refusal) (front : List ℕ) → status ≡ status_of e → Cause words s d e × HasBegun words s d front → Told k (front ++ line_of e)
+    → Ends words s k d status
+refused_ends words s k d status e front is stops told = inr (inr (record { refusal = e; status_is = is; cause = stops.0; front = front; begun = stops.1; told = told }))

@@ -1,6 +1,6 @@
 -- Commands that only read an archive: what they find of the files, why they turn files away, and that they leave the disk as
 -- it was.
-use Rattle.std.specs.Prelude.{◌≡◌, ℕ, true, List, Some, None}
+use Rattle.std.specs.Prelude.{◌≡◌, ◌⊎◌, ℕ, true, List, [], Some, None}
 use Rattle.pcp_outside.specs.Causes.{Rose}
 use Rattle.archive_loading.specs.Loaded.{Loaded, IsOver}
 use Rattle.archive_loading.specs.LoadFaults.{NotLoaded}
@@ -23,6 +23,10 @@ IsNotLoaded found (Compressed file) = found.wrapped ≡ Some file
 IsNotLoaded found (NotArchive file at) = (found.wrapped ≡ None) × NotLoaded found.files file at
 IsNotLoaded found LaterDisk = ⊥
 
+-- files are turned away where they aren't loaded, or for what is found in an archive that was
+abbrev pub TurnedAfter : (Loaded → Found → FilesRefusal → Type 0) → Found → FilesRefusal → Type 0
+TurnedAfter why found e = IsNotLoaded found e ⊎ ((r : Loaded) × IsLoaded found r × why r found e)
+
 -- why such a command ends without a text: it turned the files away, the disk failed, or memory ran out
 abbrev pub TurnedAway : (Found → FilesRefusal → Type 0) → DiskSide → Refusal → Type 0
 TurnedAway turned d (Disk (FilesAway e)) = d.tells → turned (found d) e
@@ -30,14 +34,19 @@ TurnedAway turned d (Disk DiskFault) = Rose d.faults d.faults_after
 TurnedAway turned d NoMemory = Unit {0}
 TurnedAway turned d _ = ⊥
 
--- a command that reads an archive and writes a text of it
-abbrev pub looks : (Found → FilesRefusal → Type 0) → (Found → List ℕ → Type 0) → Meaning
-looks turned said = record {
+-- one that writes nothing before it is done
+abbrev pub nothing_before : DiskSide → List ℕ → Type 0
+nothing_before d front = front ≡ []
+
+-- a command that reads an archive and writes a text of it, of which it may have written a front where it is stopped
+abbrev pub looks : (Found → FilesRefusal → Type 0) → (Found → List ℕ → Type 0) → (DiskSide → List ℕ → Type 0) → Meaning
+looks turned said first = record {
   reads = None;
   uses_disk = true;
   turns_away = λ input files e. turned files e;
   done = λ input d. Untouched d;
   says = λ input d text. d.tells → said (found d) text;
+  begins = λ input d front. first d front;
   keeps = λ input crash. Unit {0};
   begun = λ status input d. ⊥;
   may_leave = λ input held crash. ⊥;

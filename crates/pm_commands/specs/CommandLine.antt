@@ -4,7 +4,7 @@ use Rattle.std.specs.List.{list_all}
 use Rattle.pcp_base.specs.Names.{is_letter, is_name_byte}
 use Rattle.text_lines.specs.Numbers.{number_of}
 use Rattle.pm_commands.specs.declared.words.Command.{Command}
-use Rattle.pm_commands.specs.declared.words.Command.TheVariants.{Once, MmvMake, MmvDump, Info}
+use Rattle.pm_commands.specs.declared.words.Command.TheVariants.{Once, MmvMake, MmvDump, Dump, Info}
 use Rattle.pm_commands.specs.declared.stage.Stop.{Stop}
 use Rattle.pm_commands.specs.declared.stage.Stop.TheVariants.{OutOfMemory, Refused}
 use Rattle.pm_commands.specs.declared.stage.Usage.{Usage}
@@ -62,6 +62,7 @@ image_command_of word words =
 -- the commands over an archive, without a further word
 abbrev pub archive_command_of : List ℕ → List (List ℕ) → Result Command ℕ
 archive_command_of word words =
+    if bytes_eq word (codes "dump") then end_then Dump 1 words else
     if bytes_eq word (codes "info") then end_then Info 1 words else image_command_of word words
 
 -- The command, or the index of the first word that is bad or missing. A command that isn't known is bad at 0.

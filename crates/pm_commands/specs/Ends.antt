@@ -1,5 +1,5 @@
 -- How a call ends: done, done but not told, or refused; and what a crash may leave at any moment of it.
-use Rattle.std.specs.Prelude.{◌≡◌, ◌⊎◌, ℕ, List, ◌++◌, take, codes, None}
+use Rattle.std.specs.Prelude.{◌≡◌, ◌⊎◌, ℕ, Bool, List, [], ◌++◌, take, codes, None, Result, Ok, Err, IfOk, IfErr}
 use Rattle.pcp_model.specs.Disk.{Files, Holdings, CrashImage, IsSettled}
 use Rattle.pcp_outside.specs.Causes.{Rose}
 use Rattle.pm_commands.specs.declared.stage.FilesRefusal.{FilesRefusal}
@@ -7,18 +7,24 @@ use Rattle.pm_commands.specs.declared.stage.FilesRefusal.TheVariants.{LaterDisk,
 use Rattle.pm_commands.specs.declared.refusal.Refusal.{Refusal}
 use Rattle.pm_commands.specs.declared.output.Output.{Output}
 use Rattle.pm_commands.specs.declared.output.Output.TheVariants.{Logged, NothingLogged, Made}
-use Rattle.pm_commands.specs.Causes.{Asks, Cause}
+use Rattle.pm_commands.specs.Causes.{Asks, StopCause, Cause}
 use Rattle.pm_commands.specs.Inputs.{refusal_of}
 use Rattle.pm_commands.specs.Meaning.{Meaning}
 use Rattle.pm_commands.specs.Meanings.{meaning}
 use Rattle.pm_commands.specs.Refusals.{status_of, line_of, Wrote}
 use Rattle.pm_commands.specs.Sides.{SourceSide, SinkSide, DiskSide, found}
+use Rattle.pm_commands.specs.Streams.{IsSent}
 
 -- what is written of an output
 abbrev pub shown : Output → List ℕ
 shown Logged = codes "logged 1\n"
 shown NothingLogged = codes "logged 0\n"
 shown (Made bytes) = bytes
+
+-- what a command answers of a text, or of none
+abbrev pub told_of : Result (List ℕ) Refusal → Result Output Refusal
+told_of (Ok text) = Ok (Made text)
+told_of (Err e) = Err e
 
 -- over files that are turned away so, no command is done
 abbrev pub IsNever : FilesRefusal → Type 0
@@ -53,16 +59,36 @@ pub record EndsUntold (words : List (List ℕ)) (s : SourceSide) (k : SinkSide) 
   pub rose : Rose k.faults k.faults_after
   pub told : k.tells → (n : ℕ) × (k.after ≡ k.written ++ take n text)
 
--- the output of a refusal: a line, or a front of it where the sink failed
+-- what was written before a refusal's line: nothing, or what the command begins with
+abbrev pub HasBegun : List (List ℕ) → SourceSide → DiskSide → List ℕ → Type 0
+HasBegun words s d front = (front ≡ []) ⊎ ((a : Asks words s) × (meaning a.command).begins a.input d front)
+
+-- the output of a refusal: what was begun and a line, or a front of both where the sink failed
 abbrev pub Told : SinkSide → List ℕ → Type 0
-Told k line = k.tells → Wrote k.faults k.faults_after k.written k.after line
+Told k text = k.tells → Wrote k.faults k.faults_after k.written k.after text
 
 -- refused
 pub record EndsRefused (words : List (List ℕ)) (s : SourceSide) (k : SinkSide) (d : DiskSide) (status : ℕ) : Type 0 where
   pub refusal : Refusal
   pub status_is : status ≡ status_of refusal
   pub cause : Cause words s d refusal
-  pub told : Told k (line_of refusal)
+  pub front : List ℕ
+  pub begun : HasBegun words s d front
+  pub told : Told k (front ++ line_of refusal)
+
+-- what a command answers, and what it wrote before: its output goes on behind that, or it is stopped
+pub record Serves (m : Meaning) (input : List ℕ) (k : SinkSide) (failed : Bool) (d : DiskSide) (result : Result Output Refusal) : Type 0 where
+  pub front : List ℕ
+  pub sent : IsSent k front failed
+  pub done : IfOk result (λ output. HasServed m input d (front ++ shown output))
+  pub stops : IfErr result (λ e. StopCause m input d e × m.begins input d front)
+
+-- the same of the command that the words are
+pub record Runs (words : List (List ℕ)) (s : SourceSide) (k : SinkSide) (failed : Bool) (d : DiskSide) (result : Result Output Refusal) : Type 0 where
+  pub front : List ℕ
+  pub sent : IsSent k front failed
+  pub done : IfOk result (λ output. HasRun words s d (front ++ shown output))
+  pub stops : IfErr result (λ e. Cause words s d e × HasBegun words s d front)
 
 -- how a call ends, by its status
 abbrev pub Ends : List (List ℕ) → SourceSide → SinkSide → DiskSide → ℕ → Type 0

@@ -8,5 +8,6 @@ pub mod Meaning
 pub mod Meanings
 pub mod Refusals
 pub mod Sides
+pub mod Streams
 pub mod Writes
 pub mod commands

@@ -1,5 +1,5 @@
 -- What a command means: all that is its own. Its parts speak of whole inputs and of whole files.
-use Rattle.std.specs.Prelude.{◌≡◌, ℕ, Bool, false, List, Option, Some}
+use Rattle.std.specs.Prelude.{◌≡◌, ℕ, Bool, false, List, [], Option, Some}
 use Rattle.pcp_model.specs.Disk.{Files, Holdings}
 use Rattle.pm_commands.specs.declared.stage.InputRefusal.{InputRefusal}
 use Rattle.pm_commands.specs.declared.stage.FilesRefusal.{FilesRefusal}
@@ -17,6 +17,8 @@ pub record Meaning : Type 1 where
   pub done : List ℕ → DiskSide → Type 0
   -- what it then writes to its output
   pub says : List ℕ → DiskSide → List ℕ → Type 0
+  -- what it may have written to its output where it is stopped
+  pub begins : List ℕ → DiskSide → List ℕ → Type 0
   -- what each crash leaves from then on
   pub keeps : List ℕ → Files → Type 0
   -- what it leaves where it is stopped, with a status, after its first write
@@ -32,6 +34,7 @@ converts refuses make = record {
   turns_away = λ input files e. ⊥;
   done = λ input d. Untouched d;
   says = λ input d text. text ≡ make input;
+  begins = λ input d front. front ≡ [];
   keeps = λ input crash. Unit {0};
   begun = λ status input d. ⊥;
   may_leave = λ input held crash. ⊥;

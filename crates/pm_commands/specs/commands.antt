@@ -1,3 +1,4 @@
+pub mod dump
 pub mod info
 pub mod mmv_dump
 pub mod mmv_make

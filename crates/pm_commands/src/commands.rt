@@ -1,5 +1,6 @@
 //! The commands, each in a file of its own.
 
+pub(crate) mod dump;
 pub(crate) mod info;
 pub(crate) mod mmv_dump;
 pub(crate) mod mmv_make;

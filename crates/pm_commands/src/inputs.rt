@@ -31,7 +31,7 @@ fn takes_input(command: &Command) -> bool
 {
     match command {
         Command::Once(_) | Command::MmvMake | Command::MmvDump => true,
-        Command::Info => false,
+        Command::Dump | Command::Info => false,
     }
 }
 

@@ -1,8 +1,12 @@
-//! What a command writes when it is done.
+//! What a command writes when it is done, and how it goes to the sink.
 ghost use Rattle.std.specs.Prelude.{◌≡◌};
-ghost use Rattle.pm_commands.specs.Ends.{shown};
+ghost use Rattle.pm_commands.specs.Ends.{shown, told_of};
+ghost use Rattle.pm_commands.specs.Sides.{sink_side};
+ghost use Rattle.pm_commands.specs.Streams.{Sends, Finishes};
 
+use crate::refusal::Refusal;
 use pcp_base::Bytes;
+use pcp_outside::{Sink, write_all};
 
 /// What a command writes when it is done.
 #[derive(Drop)]
@@ -26,4 +30,38 @@ impl Output {
             Output::Made(bytes) => bytes.as_slice(),
         }
     }
+}
+
+/// What a command answers that makes a text.
+pub(crate) fn told(text: Result<Bytes, Refusal>) -> Result<Output, Refusal>
+    ensures { result ≡ told_of text }
+{
+    match text {
+        Ok(text) => Ok(Output::Made(text)),
+        Err(refusal) => Err(refusal),
+    }
+}
+
+/// Writes a piece of an output, unless the sink has failed before; and whether it has failed.
+pub(crate) fn send<O: Sink>(out: &mut O, failed: bool, piece: &[u8]) -> bool
+    ensures { Sends (sink_side O.Sink out.old out.new) failed piece.now result }
+{
+    if failed {
+        return true;
+    }
+    match write_all(out, piece) {
+        Ok(()) => false,
+        Err(_) => true,
+    }
+}
+
+/// Writes an output, or what is left of it, and tells the status.
+pub(crate) fn finish<O: Sink>(out: &mut O, failed: bool, output: &Output) -> u8
+    ensures { Finishes (sink_side O.Sink out.old out.new) failed (shown output.now) result }
+{
+    let gone = send(out, failed, output.as_slice());
+    if gone {
+        return 4;
+    }
+    0
 }

@@ -1,37 +1,39 @@
 //! The call that main makes.
-ghost use Rattle.std.specs.Prelude.{◌≡◌, ◌⊎◌, ◌≤◌, length, map, string_bytes, IfOk, IfErr, false};
+ghost use Rattle.std.specs.Prelude.{◌≡◌, ◌⊎◌, ◌≤◌, length, map, string_bytes, false};
 ghost use Rattle.pcp_model.specs.Disk.{IsSettled};
 ghost use Rattle.pcp_outside.specs.Causes.{Rose};
-ghost use Rattle.pm_commands.specs.Causes.{Cause, StopCause};
 ghost use Rattle.pm_commands.specs.CommandLine.{FitsCommand};
-ghost use Rattle.pm_commands.specs.Ends.{HasServed, HasRun, Ends, EndsDone, MayLeave, MayBeLeft, shown};
+ghost use Rattle.pm_commands.specs.Ends.{Serves, Runs, Ends, EndsDone, MayLeave, MayBeLeft};
 ghost use Rattle.pm_commands.specs.Facts.{UsageIsExact, LimitIsExact, InputFaultIsExact, LaterIsExact, ArchiveFaultIsExact, IsAside, IsInputless, IsRefused, Unwritten, IsGoodRun, Keeps};
 ghost use Rattle.pm_commands.specs.Inputs.{input_limit};
 ghost use Rattle.pm_commands.specs.Meanings.{meaning};
 ghost use Rattle.pm_commands.specs.Sides.{source_side, sink_side, disk_side, Leaves};
 
+use crate::commands::dump::dump;
 use crate::commands::info::info;
 use crate::commands::mmv_dump::mmv_dump;
 use crate::commands::mmv_make::mmv_make;
 use crate::commands::once::once;
 use crate::inputs::get_input;
-use crate::output::Output;
+use crate::output::{Output, finish, told};
 use crate::refusal::Refusal;
 use crate::words::{Command, read_words};
-use pcp_outside::{Disk, Sink, Source, write_all};
+use pcp_outside::{Disk, Sink, Source};
 use std::alloc::Global;
 
-// Does what a command asks for with its input.
-fn serve<D: Disk>(
+// Does what a command asks for with its input. What it writes before it is done goes to the sink unless that has failed.
+fn serve<O: Sink, D: Disk>(
     alloc: Global,
     command: &Command,
     input: &[u8],
+    out: &mut O,
+    failed: &mut bool,
     disk: &mut D,
 ) -> Result<Output, Refusal>
     requires fits { FitsCommand command.now }
     requires within { length input.now ≤ input_limit }
-    ensures served { IfOk result (λ output. HasServed (meaning command.now) input.now (disk_side D.Disk disk.old disk.new) (shown output)) }
-    ensures cause { IfErr result (StopCause (meaning command.now) input.now (disk_side D.Disk disk.old disk.new)) }
+    requires fresh { failed.old ≡ false }
+    ensures serves { Serves (meaning command.now) input.now (sink_side O.Sink out.old out.new) failed.new (disk_side D.Disk disk.old disk.new) result }
     ensures aside { (meaning command.now).uses_disk ≡ false → disk.new ≡ disk.old }
     ensures any_moment { Leaves D.Disk disk.old disk.new (MayLeave (meaning command.now) input.now) }
 {
@@ -45,29 +47,32 @@ fn serve<D: Disk>(
             let text = mmv_dump(alloc, input)?;
             Ok(Output::Made(text))
         }
-        Command::Info => info(alloc, disk),
+        Command::Dump => told(dump(alloc, out, failed, disk)),
+        Command::Info => told(info(alloc, disk)),
     }
 }
 
 // Runs the command that the words are.
-fn run<I: Source, D: Disk>(
+fn run<I: Source, O: Sink, D: Disk>(
     alloc: Global,
     words: &[String],
     input: &mut I,
+    out: &mut O,
+    failed: &mut bool,
     disk: &mut D,
 ) -> Result<Output, Refusal>
-    ensures done { IfOk result (λ output. HasRun (map string_bytes words.now) (source_side I.Source input.old input.new) (disk_side D.Disk disk.old disk.new) (shown output)) }
-    ensures cause { IfErr result (Cause (map string_bytes words.now) (source_side I.Source input.old input.new) (disk_side D.Disk disk.old disk.new)) }
+    requires { failed.old ≡ false }
+    ensures runs { Runs (map string_bytes words.now) (source_side I.Source input.old input.new) (sink_side O.Sink out.old out.new) failed.new (disk_side D.Disk disk.old disk.new) result }
     ensures aside { IsAside (map string_bytes words.now) → disk.new ≡ disk.old }
     ensures unasked { IsInputless (map string_bytes words.now) → input.new ≡ input.old }
     ensures any_moment { Leaves D.Disk disk.old disk.new (MayBeLeft (map string_bytes words.now) (source_side I.Source input.old input.new)) }
 {
     let command = read_words(alloc, words)?;
     let bytes = get_input(alloc, &command, input)?;
-    serve(alloc, &command, bytes.as_slice(), disk)
+    serve(alloc, &command, bytes.as_slice(), out, failed, disk)
 }
 
-// Runs the command, and writes its output or its last line.
+// Runs the command, and writes its output, or what is left of it, or its last line.
 fn answer<I: Source, O: Sink, D: Disk>(
     alloc: Global,
     words: &[String],
@@ -80,15 +85,18 @@ fn answer<I: Source, O: Sink, D: Disk>(
     ensures unasked { IsInputless (map string_bytes words.now) → input.new ≡ input.old }
     ensures any_moment { Leaves D.Disk disk.old disk.new (MayBeLeft (map string_bytes words.now) (source_side I.Source input.old input.new)) }
 {
-    match run(alloc, words, input, disk) {
-        Ok(output) => match write_all(out, output.as_slice()) {
-            Ok(()) => 0,
-            Err(_) => 4,
-        },
-        Err(refusal) => match refusal.tell(alloc, out) {
-            Ok(()) => refusal.status(),
-            Err(_) => 9,
-        },
+    let mut failed = false;
+    match run(alloc, words, input, out, &mut failed, disk) {
+        Ok(output) => finish(out, failed, &output),
+        Err(refusal) => {
+            if failed {
+                return refusal.status();
+            }
+            match refusal.tell(alloc, out) {
+                Ok(()) => refusal.status(),
+                Err(_) => 9,
+            }
+        }
     }
 }
 

@@ -17,6 +17,8 @@ pub enum Command {
     MmvMake,
     /// `mmv-dump`: write the layout text of an image.
     MmvDump,
+    /// `dump`: write an archive's label and all its items.
+    Dump,
     /// `info`: write an archive's descriptions.
     Info,
 }
@@ -130,6 +132,10 @@ fn archive_words(name: &[u8], words: &[String]) -> Result<Command, usize>
     ensures command { Gives (λ command. command) result (archive_command_of name.now (map string_bytes words.now)) }
     ensures fits { IfOk result FitsCommand }
 {
+    if name == b"dump".as_slice() {
+        end_at(words, 1)?;
+        return Ok(Command::Dump);
+    }
     if name == b"info".as_slice() {
         end_at(words, 1)?;
         return Ok(Command::Info);

@@ -3,7 +3,7 @@ use Rattle.std.specs.Prelude.{◌≡◌, ℕ, List}
 use Rattle.archive_loading.specs.Loaded.{Loaded}
 use Rattle.pm_print.specs.Infos.{info_text}
 use Rattle.pm_commands.specs.declared.stage.FilesRefusal.{FilesRefusal}
-use Rattle.pm_commands.specs.Archives.{IsLoaded, IsNotLoaded, looks}
+use Rattle.pm_commands.specs.Archives.{IsLoaded, IsNotLoaded, looks, nothing_before}
 use Rattle.pm_commands.specs.Meaning.{Meaning}
 use Rattle.pm_commands.specs.Sides.{Found}
 
@@ -15,4 +15,4 @@ abbrev pub said : Found → List ℕ → Type 0
 said found text = (r : Loaded) × IsLoaded found r × (text ≡ info_text r.records)
 
 abbrev pub info : Meaning
-info = looks turned said
+info = looks turned said nothing_before

@@ -56,6 +56,7 @@ once asked = record {
   turns_away = λ input found e. (e ≡ LaterDisk) × HasByte found.files;
   done = IsLogged asked;
   says = λ input d text. text ≡ made_of (λ image. logged_line (metrics_of asked.file image)) (image_of input);
+  begins = λ input d front. front ≡ [];
   keeps = λ input crash. OfRun asked input HasLogged crash;
   begun = λ status input d. (status ≡ 5) × (d.tells → IsEmpty (contents_of d.held));
   may_leave = λ input held crash. IsEmpty (contents_of held) × OfRun asked input MayHaveLogged crash;

@@ -1,17 +1,27 @@
 -- Each end of a call by what ran and what was written.
-use Rattle.std.proofs.Common.{rules}
+use Rattle.std.proofs.Common.{true, false, subst, sym, ◌∙◌}
+use Rattle.pm_commands.specs.Streams.{IsSent}
 use Rattle.pm_commands.proofs.Memory.{ends_untold}
-use Rattle.pm_commands.proofs.Served.{untold_ends, refused_ends}
+use Rattle.pm_commands.proofs.Sending.{told_behind, told_no_more}
+use Rattle.pm_commands.proofs.Served.{finishes, refused_ends}
 use Rattle.pm_commands.proofs.top.answer.Goals as goal
 
 pub returns-in-Ok-clause-ends : goal.returns-in-Ok-clause-ends
-returns-in-Ok-clause-ends g c =
-    untold_ends _ _ _ _ _ c.as_slice.result.now c.in-Ok.ensures.done c.as_slice.ensures (c.in-Err-write_all.ensures.cause.failed (search rules)) (λ tells. c.in-Err-write_all.ensures.bytes tells)
+returns-in-Ok-clause-ends g c = finishes g.O.Sink _ _ _ c.args.out.now c.run.new.out c.finish.new.out c.run.new.failed c.in-Ok.output c.finish.result c.in-Ok.ensures.runs c.finish.ensures
+
+pub returns-then-failed-clause-ends : goal.returns-then-failed-clause-ends
+returns-then-failed-clause-ends g c =
+    let ran = c.in-Err.ensures.runs in
+    refused_ends _ _ _ _ c.status.result c.in-Err.refusal ran.front c.status.ensures ran.stops (told_no_more _ ran.front _ (subst (IsSent _ ran.front) c.if-failed.true ran.sent))
 
 pub returns-in-Ok-tell-clause-ends : goal.returns-in-Ok-tell-clause-ends
 returns-in-Ok-tell-clause-ends g c =
-    refused_ends _ _ _ _ c.status.result c.in-Err.refusal c.status.ensures c.in-Err.ensures.cause (λ tells. c.in-Ok-tell.ensures.wrote tells)
+    let ran = c.in-Err.ensures.runs in
+    refused_ends _ _ _ _ c.status-in-Ok-tell.result c.in-Err.refusal ran.front c.status-in-Ok-tell.ensures ran.stops
+    (λ tells. told_behind g.O.Sink c.args.out.now c.run.new.out c.tell.new.out ran.front _ tells (subst (IsSent _ ran.front) c.if-failed.false ran.sent) (c.in-Ok-tell.ensures.wrote tells))
 
-pub returns-clause-ends : goal.returns-clause-ends
-returns-clause-ends g c =
-    ends_untold _ _ _ _ c.in-Err.refusal c.in-Err.ensures.cause c.in-Err-tell.ensures.numbered (λ tells. c.in-Err-tell.ensures.nothing tells)
+pub returns-in-Err-tell-clause-ends : goal.returns-in-Err-tell-clause-ends
+returns-in-Err-tell-clause-ends g c =
+    let ran = c.in-Err.ensures.runs in
+    ends_untold _ _ _ _ c.in-Err.refusal ran.front ran.stops c.in-Err-tell.ensures.numbered
+    (λ tells. c.in-Err-tell.ensures.nothing tells ∙ (subst (IsSent _ ran.front) c.if-failed.false ran.sent).given tells)

@@ -1,12 +1,33 @@
 -- What a command may leave, told of the words and the source.
-use Rattle.std.proofs.Common.{map, string_bytes, Global, List, ℕ, subst, sym}
+use Rattle.std.proofs.Common.{rules, map, string_bytes, Global, List, ℕ, refl, subst, sym}
 use Rattle.pcp_outside.proofs.Crash.{weaker}
 use Rattle.pm_commands.specs.Causes.{Asks, Got}
 use Rattle.pm_commands.specs.Ends.{MayLeave, MayBeLeft}
 use Rattle.pm_commands.specs.Meanings.{meaning}
-use Rattle.pm_commands.specs.Sides.{SourceSide, source_side}
-use Rattle.pm_commands.proofs.Served.{may_be_left, runs, causes}
+use Rattle.pm_commands.specs.Sides.{SourceSide, SinkSide, DiskSide, source_side, sink_side, disk_side}
+use Rattle.pm_commands.proofs.Sending.{unsent}
+use Rattle.pm_commands.proofs.Served.{may_be_left, runs, runs_none, no_words, no_input}
 use Rattle.pm_commands.proofs.top.run.Goals as goal
+
+pub returns-in_err-command-clause-runs : goal.returns-in_err-command-clause-runs
+returns-in_err-command-clause-runs g c =
+    let words = map (string_bytes {Z = Global}) c.args.words.now in
+    let s : SourceSide = source_side g.I.Source c.args.input.now c.args.input.now in
+    let k : SinkSide = sink_side g.O.Sink c.args.out.now c.args.out.now in
+    let d : DiskSide = disk_side g.D.Disk c.args.disk.now c.args.disk.now in
+    let ran = runs_none words s k c.args.failed.now d _ (unsent g.O.Sink c.args.out.now c.args.failed.now c.requires)
+    (no_words words s d c.in_err-command.field-0.0 c.in_err-command.ensures.command (λ tells. refl) (λ tells. refl)) in
+    search (rules, ran)
+
+pub returns-in_err-bytes-clause-runs : goal.returns-in_err-bytes-clause-runs
+returns-in_err-bytes-clause-runs g c =
+    let words = map (string_bytes {Z = Global}) c.args.words.now in
+    let s : SourceSide = source_side g.I.Source c.args.input.now c.get_input.new.input in
+    let k : SinkSide = sink_side g.O.Sink c.args.out.now c.args.out.now in
+    let d : DiskSide = disk_side g.D.Disk c.args.disk.now c.args.disk.now in
+    let ran = runs_none words s k c.args.failed.now d _ (unsent g.O.Sink c.args.out.now c.args.failed.now c.requires)
+    (no_input words s d c.in_ok-command.command c.in_err-bytes.field-0.0 c.in_ok-command.ensures.command c.in_err-bytes.ensures.reads c.in_err-bytes.ensures.cause (λ tells. refl)) in
+    search (rules, ran)
 
 pub returns-clause-any_moment : goal.returns-clause-any_moment
 returns-clause-any_moment g c = λ tells.
@@ -23,8 +44,8 @@ returns-clause-any_moment g c = λ tells.
     (MayLeave (meaning a.command) a.input (d.held c.args.disk.now)) (MayBeLeft words s (d.held c.args.disk.now))
     (c.serve.ensures.any_moment tells) (may_be_left words s (d.held c.args.disk.now) a)
 
-pub returns-clause-done : goal.returns-clause-done
-returns-clause-done g c =
+pub returns-clause-runs : goal.returns-clause-runs
+returns-clause-runs g c =
     let words = map (string_bytes {Z = Global}) c.args.words.now in
     let s : SourceSide = source_side g.I.Source c.args.input.now c.get_input.new.input in
     let a : Asks words s = record {
@@ -33,16 +54,4 @@ returns-clause-done g c =
       input = c.as_slice.result.now;
       got = subst (λ (input : List ℕ). Got (meaning c.in_ok-command.command).reads s input) (sym c.as_slice.ensures) c.in_ok-bytes.ensures.got;
     } in
-    runs _ _ _ a _ c.serve.ensures.served
-
-pub returns-clause-cause : goal.returns-clause-cause
-returns-clause-cause g c =
-    let words = map (string_bytes {Z = Global}) c.args.words.now in
-    let s : SourceSide = source_side g.I.Source c.args.input.now c.get_input.new.input in
-    let a : Asks words s = record {
-      command = c.in_ok-command.command;
-      words_are = c.in_ok-command.ensures.command;
-      input = c.as_slice.result.now;
-      got = subst (λ (input : List ℕ). Got (meaning c.in_ok-command.command).reads s input) (sym c.as_slice.ensures) c.in_ok-bytes.ensures.got;
-    } in
-    causes _ _ _ a _ c.serve.ensures.cause
+    runs words s _ _ _ a _ c.serve.ensures.serves

@@ -1,23 +1,65 @@
--- What a command without input answers, told of the command that was asked for.
-use Rattle.std.proofs.Common.{IfOk, IfErr, subst, sym}
+-- What each command answers, told of the command that was asked for.
+use Rattle.std.proofs.Common.{rules, refl, subst, sym, Result, Err}
+use Rattle.pm_commands.specs.declared.output.Output.{Output}
+use Rattle.pm_commands.specs.declared.refusal.Refusal.{Refusal}
+use Rattle.pm_commands.specs.declared.refusal.Refusal.TheVariants.{Input as AtInput}
 use Rattle.pm_commands.specs.declared.words.Command.{Command}
-use Rattle.pm_commands.specs.Causes.{StopCause}
-use Rattle.pm_commands.specs.Ends.{HasServed, MayLeave, shown}
+use Rattle.pm_commands.specs.declared.words.Command.TheVariants.{Once, MmvMake, MmvDump, Dump, Info}
+use Rattle.pm_commands.specs.Archives.{nothing_before}
+use Rattle.pm_commands.specs.Ends.{Serves}
 use Rattle.pm_commands.specs.Meanings.{meaning}
-use Rattle.pm_commands.specs.Sides.{disk_side, Leaves}
+use Rattle.pm_commands.specs.Refusals.{stopped}
+use Rattle.pm_commands.specs.Sides.{SinkSide, DiskSide, sink_side, disk_side}
+use Rattle.pm_commands.specs.commands.info as info
+use Rattle.pm_commands.proofs.Lookings.{info_fits, look_serves, look_leaves, dump_serves}
+use Rattle.pm_commands.proofs.Sending.{unsent, serves_whole}
+use Rattle.pm_commands.proofs.Served.{unconverted}
 use Rattle.pm_commands.proofs.top.serve.Goals as goal
 
-pub returns-in-Info-clause-served : goal.returns-in-Info-clause-served
-returns-in-Info-clause-served g c =
-    subst (λ (command : Command). IfOk c.info.result (λ output. HasServed (meaning command) c.args.input.now (disk_side g.D.Disk c.args.disk.now c.info.new.disk) (shown output))) (sym c.in-Info.is)
-    (c.info.ensures.served c.args.input.now)
+pub returns-in-Once-clause-serves : goal.returns-in-Once-clause-serves
+returns-in-Once-clause-serves g c =
+    let k : SinkSide = sink_side g.O.Sink c.args.out.now c.args.out.now in
+    let d : DiskSide = disk_side g.D.Disk c.args.disk.now c.once.new.disk in
+    subst (λ (command : Command). Serves (meaning command) c.args.input.now k c.args.failed.now d c.once.result) (sym c.in-Once.is)
+    (serves_whole (meaning (Once c.in-Once.asked)) c.args.input.now k c.args.failed.now d c.once.result (unsent g.O.Sink c.args.out.now c.args.failed.now c.requires.fresh) refl c.once.ensures.served c.once.ensures.cause)
 
-pub returns-in-Info-clause-cause : goal.returns-in-Info-clause-cause
-returns-in-Info-clause-cause g c =
-    subst (λ (command : Command). IfErr c.info.result (StopCause (meaning command) c.args.input.now (disk_side g.D.Disk c.args.disk.now c.info.new.disk))) (sym c.in-Info.is)
-    (c.info.ensures.cause c.args.input.now)
+pub returns-in_err-image-in-MmvMake-clause-serves : goal.returns-in_err-image-in-MmvMake-clause-serves
+returns-in_err-image-in-MmvMake-clause-serves g c =
+    let k : SinkSide = sink_side g.O.Sink c.args.out.now c.args.out.now in
+    let d : DiskSide = disk_side g.D.Disk c.args.disk.now c.args.disk.now in
+    let stop = c.in_err-image-in-MmvMake.field-0.0 in
+    let serves = subst (λ (command : Command). Serves (meaning command) c.args.input.now k c.args.failed.now d (Err (stopped AtInput stop))) (sym c.in-MmvMake.is)
+    (unconverted (meaning MmvMake) c.args.input.now k c.args.failed.now d stop (unsent g.O.Sink c.args.out.now c.args.failed.now c.requires.fresh) refl (λ tells. refl) c.in_err-image-in-MmvMake.ensures.cause) in
+    search (rules, serves)
+
+pub returns-in_err-text-in-MmvDump-clause-serves : goal.returns-in_err-text-in-MmvDump-clause-serves
+returns-in_err-text-in-MmvDump-clause-serves g c =
+    let k : SinkSide = sink_side g.O.Sink c.args.out.now c.args.out.now in
+    let d : DiskSide = disk_side g.D.Disk c.args.disk.now c.args.disk.now in
+    let stop = c.in_err-text-in-MmvDump.field-0.0 in
+    let serves = subst (λ (command : Command). Serves (meaning command) c.args.input.now k c.args.failed.now d (Err (stopped AtInput stop))) (sym c.in-MmvDump.is)
+    (unconverted (meaning MmvDump) c.args.input.now k c.args.failed.now d stop (unsent g.O.Sink c.args.out.now c.args.failed.now c.requires.fresh) refl (λ tells. refl) c.in_err-text-in-MmvDump.ensures.cause) in
+    search (rules, serves)
+
+pub returns-in-Dump-clause-serves : goal.returns-in-Dump-clause-serves
+returns-in-Dump-clause-serves g c =
+    let k : SinkSide = sink_side g.O.Sink c.args.out.now c.dump.new.out in
+    let d : DiskSide = disk_side g.D.Disk c.args.disk.now c.dump.new.disk in
+    subst (λ (command : Command). Serves (meaning command) c.args.input.now k c.dump.new.failed d c.told.result) (sym c.in-Dump.is)
+    (subst (λ (result : Result Output Refusal). Serves (meaning Dump) c.args.input.now k c.dump.new.failed d result) (sym c.told.ensures)
+    (dump_serves c.args.input.now k c.dump.new.failed d c.dump.result (λ tells. c.dump.ensures.looks.held tells) c.dump.ensures.said c.dump.ensures.stops c.dump.ensures.turned))
+
+pub returns-in-Dump-clause-any_moment : goal.returns-in-Dump-clause-any_moment
+returns-in-Dump-clause-any_moment g c = look_leaves g.D.Disk (meaning c.args.command.now) c.args.input.now c.args.disk.now c.dump.new.disk c.dump.ensures.looks
+
+pub returns-in-Info-clause-serves : goal.returns-in-Info-clause-serves
+returns-in-Info-clause-serves g c =
+    let k : SinkSide = sink_side g.O.Sink c.args.out.now c.args.out.now in
+    let d : DiskSide = disk_side g.D.Disk c.args.disk.now c.info.new.disk in
+    subst (λ (command : Command). Serves (meaning command) c.args.input.now k c.args.failed.now d c.told-in-Info.result) (sym c.in-Info.is)
+    (subst (λ (result : Result Output Refusal). Serves (meaning Info) c.args.input.now k c.args.failed.now d result) (sym c.told-in-Info.ensures)
+    (look_serves info.turned info.said nothing_before info_fits c.args.input.now k c.args.failed.now d c.info.result (λ tells. c.info.ensures.looks.held tells) (unsent g.O.Sink c.args.out.now c.args.failed.now c.requires.fresh) refl
+    (λ tells. c.info.ensures.said tells) c.info.ensures.turned))
 
 pub returns-in-Info-clause-any_moment : goal.returns-in-Info-clause-any_moment
-returns-in-Info-clause-any_moment g c =
-    subst (λ (command : Command). Leaves g.D.Disk c.args.disk.now c.info.new.disk (MayLeave (meaning command) c.args.input.now)) (sym c.in-Info.is)
-    (c.info.ensures.any_moment c.args.input.now)
+returns-in-Info-clause-any_moment g c = look_leaves g.D.Disk (meaning c.args.command.now) c.args.input.now c.args.disk.now c.info.new.disk c.info.ensures.looks
