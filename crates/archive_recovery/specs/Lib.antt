@@ -1,5 +1,13 @@
+pub mod Counts
 pub mod Damage
 pub mod Halfway
+pub mod Lacks
 pub mod Laws
 pub mod Mending
+pub mod Metadata
+pub mod RecoverFaults
+pub mod Stamps
+pub mod Surveys
 pub mod Syncing
+pub mod Told
+pub mod Volumes

@@ -1,8 +1,16 @@
-//! Recovery of an archive that was stopped anywhere: what is torn is cut away, and labels that are missing are given.
+//! Recovery of an archive that was stopped anywhere: it is read, and then what is torn is cut away and labels that are missing
+//! are given.
 #![tactic(auto)]
 
+mod counting;
 mod laws;
 mod mending;
+mod metadata;
+mod outcome;
+mod reading;
+mod recovering;
+mod stamps;
+mod survey;
 mod syncing;
 mod whole;
 
@@ -11,4 +19,6 @@ pub use laws::{
     settled_is_halfway,
 };
 pub use mending::{Last, Tail};
+pub use outcome::{Archive, RecoverFault};
+pub use recovering::recover;
 pub use whole::{Damage, mend};

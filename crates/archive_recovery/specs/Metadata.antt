@@ -1,0 +1,74 @@
+-- What reading Meta record by record finds.
+use Rattle.std.specs.Prelude.{◌≡◌, ◌⊎◌, ℕ, negsuc, ◌+◌, ◌-◌, ◌<◌, ◌≤◌, List, [], ◌∷◌, ◌++◌, length, take, drop}
+use Rattle.pcp_model.specs.declared.records.MetaRecord.{MetaRecord}
+use Rattle.pcp_model.specs.Frame.{IsTorn}
+use Rattle.pcp_model.specs.LabelFields.{LabelFields}
+use Rattle.pcp_model.specs.Labels.{IsLabel, BeginsLabel}
+use Rattle.pcp_model.specs.Records.{AreConsistent}
+use Rattle.archive_frame.specs.Heads.{IsMetaLabel}
+use Rattle.archive_meta.specs.declared.fault.MetaFault.TheVariants.{Record as BadRecord}
+use Rattle.archive_meta.specs.Records.{AreRecords, RecordStands, Adds, HasFront, IsFrontFault}
+use Rattle.archive_window.specs.Standing.{WasTaken}
+use Rattle.archive_loading.specs.LoadFaults.{MetaLabelStops}
+use Rattle.archive_recovery.specs.declared.metadata.Added.{Added}
+use Rattle.archive_recovery.specs.declared.metadata.Added.TheVariants.{End, Stops, Record}
+use Rattle.archive_recovery.specs.declared.metadata.RecordsRead.{RecordsRead}
+use Rattle.archive_recovery.specs.declared.metadata.RecordsRead.TheVariants.{Whole, Stops as RecordsStop}
+use Rattle.archive_recovery.specs.declared.metadata.MetaRead.{MetaRead}
+use Rattle.archive_recovery.specs.declared.metadata.MetaRead.TheVariants.{Begun, Whole as WholeMeta, Stops as MetaStopsAt}
+use Rattle.archive_recovery.specs.declared.stamps.Tally.{Tally}
+use Rattle.archive_recovery.specs.Counts.{Noted}
+use Rattle.archive_recovery.specs.Stamps.{domain_stamps, IsLatest}
+
+-- a frame's record was added, and its stamp noted
+pub record FrameIsAdded (frame : List ℕ) (old new : List MetaRecord) (before after : Tally) : Type 0 where
+  pub adds : Adds old frame new
+  pub records : List MetaRecord
+  pub are : AreRecords frame records
+  pub is : new ≡ old ++ records
+  pub noted : Noted before (domain_stamps records) after
+
+-- or it is none, or a description differs
+pub record FrameIsBad (frame : List ℕ) (old new : List MetaRecord) : Type 0 where
+  pub same : new ≡ old
+  pub bad : (records : List MetaRecord) → AreRecords frame records → AreConsistent (old ++ records) → ⊥
+
+-- no record that may follow stands there
+abbrev pub NoRecordFits : List ℕ → ℕ → List MetaRecord → Type 0
+NoRecordFits bytes at old = (next : ℕ) (r : MetaRecord) → RecordStands bytes at next r → AreConsistent (old ++ r ∷ []) → ⊥
+
+-- what stands behind Meta's label at a byte: no whole record, none that may follow, or one that was added
+abbrev pub IsAdded : List ℕ → ℕ → List MetaRecord → List MetaRecord → Tally → Tally → Added → Type 0
+IsAdded bytes k old new before after End = (new ≡ old) × (after ≡ before) × IsTorn (drop k bytes)
+IsAdded bytes k old new before after Stops = NoRecordFits bytes k old × (IsTorn (drop k bytes) → ⊥)
+IsAdded bytes k old new before after (Record next) =
+    (r : MetaRecord) × RecordStands bytes k (next - 132) r × (new ≡ old ++ r ∷ []) × AreConsistent new × Noted before (domain_stamps (r ∷ [])) after
+
+abbrev pub FitsAdded : ℕ → ℕ → Added → Type 0
+FitsAdded end at End = Unit {0}
+FitsAdded end at Stops = Unit {0}
+FitsAdded end at (Record next) = (at < next) × (next ≤ end)
+
+-- the records behind Meta's label up to a byte, and the latest stamp of them
+pub record MetaSoFar (bytes : List ℕ) (at : ℕ) (records : List MetaRecord) (tally : Tally) : Type 0 where
+  pub added : Adds [] (take (at - 132) (drop 132 bytes)) records
+  pub none : tally.items ≡ 0
+  pub latest : IsLatest (domain_stamps records) tally.last
+
+-- the whole records and where they end, or where one stands that mustn't
+pub record AreAllRecords (bytes : List ℕ) (records : List MetaRecord) (end : ℕ) (tally : Tally) : Type 0 where
+  pub low : 132 ≤ end
+  pub front : HasFront (drop 132 bytes) records (end - 132)
+  pub none : tally.items ≡ 0
+  pub latest : IsLatest (domain_stamps records) tally.last
+
+abbrev pub IsRecordsRead : List ℕ → RecordsRead → Type 0
+IsRecordsRead bytes (Whole records end tally) = AreAllRecords bytes records end tally
+IsRecordsRead bytes (RecordsStop place) = (k : ℕ) × (place ≡ 132 + k) × IsFrontFault [] (drop 132 bytes) (BadRecord k)
+
+-- Meta is less than its label, or its label and records, or something else from a byte on
+abbrev pub IsMetaRead : List ℕ → MetaRead → Type 0
+IsMetaRead bytes (Begun size) = (size ≡ length bytes) × ((l : LabelFields) × BeginsLabel bytes l (negsuc 0))
+IsMetaRead bytes (WholeMeta l records tail tally) = IsLabel (take 132 bytes) l (negsuc 0) × AreAllRecords bytes records tail.end tally × (tail.length ≡ length bytes)
+IsMetaRead bytes (MetaStopsAt place) =
+    MetaLabelStops (take 132 bytes) place ⊎ (IsMetaLabel (take 132 bytes) × (k : ℕ) × (place ≡ 132 + k) × IsFrontFault [] (drop 132 bytes) (BadRecord k))

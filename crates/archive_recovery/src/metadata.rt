@@ -1,0 +1,138 @@
+//! Meta, read record by record.
+ghost use Rattle.std.specs.Prelude.{◌≡◌, ◌-◌, ◌≤◌, length, drop, IfOk, IfErr, MatchBool};
+ghost use Rattle.pcp_base.specs.declared.file.FileId.TheVariants.{Meta};
+ghost use Rattle.pcp_model.specs.Disk.{contents_of};
+ghost use Rattle.archive_window.specs.Looks.{Looks, Blames};
+ghost use Rattle.archive_window.specs.Standing.{IsSized};
+ghost use Rattle.archive_recovery.specs.Metadata.{FrameIsAdded, FrameIsBad, IsAdded, FitsAdded, IsRecordsRead, IsMetaRead};
+
+use crate::mending::Tail;
+use crate::stamps::{Tally, stamp_in};
+use archive_loading::{MetaHead, meta_head};
+use archive_meta::{MetaFault, MetaState};
+use archive_window::{Lack, Taken, front_of, take_frame};
+use pcp_base::NoMemory;
+use pcp_model::Label;
+use pcp_outside::{Disk, FileId};
+use std::alloc::Global;
+
+/// What stands in Meta at a byte.
+pub enum Added {
+    /// No whole record.
+    End,
+    /// No record that may stand there.
+    Stops,
+    /// A record, up to this byte.
+    Record(u64),
+}
+
+/// What stands behind Meta's label.
+#[derive(Drop)]
+pub enum RecordsRead {
+    /// Whole records up to this byte, and behind them at most one that wasn't written whole.
+    Whole(MetaState, u64, Tally),
+    /// Something else, from this byte on.
+    Stops(u64),
+}
+
+/// What Meta is.
+#[derive(Drop)]
+pub enum MetaRead {
+    /// Less than its label, and this length.
+    Begun(u64),
+    /// Its label, and records.
+    Whole(Label, MetaState, Tail, Tally),
+    /// Something else, from this byte on.
+    Stops(u64),
+}
+
+/// Adds a framed record, and says whether it may follow those before it.
+fn add_frame(
+    alloc: Global,
+    meta: &mut MetaState,
+    tally: &mut Tally,
+    frame: &[u8],
+) -> Result<bool, NoMemory>
+    requires { IsSized frame.now }
+    ensures { IfOk result (λ added. MatchBool added (FrameIsAdded frame.now meta.old meta.new tally.old tally.new) (FrameIsBad frame.now meta.old meta.new)) }
+{
+    match meta.extend(alloc, frame) {
+        Ok(()) => {
+            tally.note(stamp_in(frame));
+            Ok(true)
+        }
+        Err(MetaFault::Record { at: _ }) => Ok(false),
+        Err(MetaFault::NoMemory) => Err(NoMemory),
+    }
+}
+
+/// Adds the record that stands in Meta at a byte behind the label.
+fn add_next<D: Disk>(
+    alloc: Global,
+    disk: &mut D,
+    meta: &mut MetaState,
+    tally: &mut Tally,
+    end: u64,
+    at: u64,
+) -> Result<Added, Lack>
+    requires behind { 132 ≤ at }
+    requires long { D.tells → (end ≡ length (contents_of (D.held disk.old) Meta)) × (132 ≤ end) }
+    ensures added { D.tells → IfOk result (IsAdded (drop 132 (contents_of (D.held disk.old) Meta)) (at - 132) meta.old meta.new tally.old tally.new) }
+    ensures within { IfOk result (FitsAdded end at) }
+    ensures looks { Looks D.Disk disk.old disk.new }
+    ensures cause { IfErr result (Blames D.Disk disk.old disk.new) }
+{
+    let frame = match take_frame(alloc, disk, FileId::Meta, end, at)? {
+        Taken::Torn => return Ok(Added::End),
+        Taken::Wrong => return Ok(Added::Stops),
+        Taken::Frame(frame) => frame,
+    };
+    let added = add_frame(alloc, meta, tally, frame.as_slice())?;
+    if added {
+        return Ok(Added::Record(at + frame.len() as u64));
+    }
+    Ok(Added::Stops)
+}
+
+/// The records behind the label of a Meta of this length.
+fn read_records<D: Disk>(alloc: Global, disk: &mut D, end: u64) -> Result<RecordsRead, Lack>
+    requires { D.tells → (end ≡ length (contents_of (D.held disk.old) Meta)) × (132 ≤ end) }
+    ensures read { D.tells → IfOk result (IsRecordsRead (contents_of (D.held disk.old) Meta)) }
+    ensures looks { Looks D.Disk disk.old disk.new }
+    ensures cause { IfErr result (Blames D.Disk disk.old disk.new) }
+{
+    let mut meta = MetaState::empty(alloc);
+    let mut tally = Tally {
+        items: 0,
+        last: None,
+    };
+    let mut at = 132;
+    while at < end {
+        match add_next(alloc, disk, &mut meta, &mut tally, end, at)? {
+            Added::End => return Ok(RecordsRead::Whole(meta, at, tally)),
+            Added::Stops => return Ok(RecordsRead::Stops(at)),
+            Added::Record(next) => at = next,
+        }
+    }
+    Ok(RecordsRead::Whole(meta, at, tally))
+}
+
+/// Meta, read record by record.
+pub(crate) fn read_meta<D: Disk>(alloc: Global, disk: &mut D) -> Result<MetaRead, Lack>
+    ensures read { D.tells → IfOk result (IsMetaRead (contents_of (D.held disk.old) Meta)) }
+    ensures looks { Looks D.Disk disk.old disk.new }
+    ensures cause { IfErr result (Blames D.Disk disk.old disk.new) }
+{
+    let (head, length) = front_of(alloc, disk, FileId::Meta, 132)?;
+    let label = match meta_head(alloc, head.as_slice())? {
+        MetaHead::Part => return Ok(MetaRead::Begun(length)),
+        MetaHead::Stops(at) => return Ok(MetaRead::Stops(at)),
+        MetaHead::Whole(label) => label,
+    };
+    match read_records(alloc, disk, length)? {
+        RecordsRead::Whole(meta, end, tally) => {
+            Ok(MetaRead::Whole(label, meta, Tail { end, length }, tally))
+        }
+        RecordsRead::Stops(at) => Ok(MetaRead::Stops(at)),
+    }
+}

@@ -1,0 +1,78 @@
+//! What recovery tells, and why it is refused.
+ghost use Rattle.std.specs.Prelude.{◌≡◌};
+ghost use Rattle.archive_recovery.specs.declared.outcome.RecoverFault.TheVariants.{NoMemory as Refused, DiskFault as Failing};
+ghost use Rattle.archive_recovery.specs.Lacks.{of_lack};
+
+use archive_meta::MetaState;
+use archive_window::Lack;
+use pcp_base::{NoMemory, Stamp};
+use pcp_model::Label;
+use pcp_outside::{Failed, FileId};
+use temporal_index::Index;
+use thiserror::Error;
+
+/// An archive as recovery leaves it.
+#[derive(Drop)]
+pub struct Archive {
+    /// Its label; `None` of an empty disk, and of a creation that was stopped, of which nothing is left.
+    pub label: Option<Label>,
+    /// The records of Meta.
+    pub meta: MetaState,
+    /// The bytes of Meta.
+    pub meta_length: u64,
+    /// The entries of the index.
+    pub index: Index,
+    /// The number of the last volume that isn't empty, or 0.
+    pub volume: u32,
+    /// The bytes of that volume.
+    pub length: u64,
+    /// How many items the volumes have.
+    pub items: u64,
+    /// The latest stamp of an item or of a domain's record.
+    pub last: Option<Stamp>,
+}
+
+/// Why an archive isn't recovered.
+#[derive(Clone, Copy, Debug, PartialEq, Eq, Error)]
+pub enum RecoverFault {
+    /// The file stands under its name with `.xz` or `.gz` added.
+    #[error("a file is compressed")]
+    Compressed { file: FileId },
+    /// The first place that fits no archive: of a label its first byte that doesn't fit, of a record or of an entry its first
+    /// byte; Meta's or a volume's length where it ends within its label but mustn't.
+    #[error("a file is no archive at byte {at}")]
+    NotArchive { file: FileId, at: u64 },
+    /// The disk failed.
+    #[error("the disk failed")]
+    DiskFault,
+    /// Memory was refused.
+    #[error("out of memory")]
+    NoMemory,
+}
+
+impl From<NoMemory> for RecoverFault {
+    ghost from_gives = { λ _ e. e ≡ Refused };
+
+    fn from(_error: NoMemory) -> RecoverFault {
+        RecoverFault::NoMemory
+    }
+}
+
+impl From<Failed> for RecoverFault {
+    ghost from_gives = { λ _ e. e ≡ Failing };
+
+    fn from(_error: Failed) -> RecoverFault {
+        RecoverFault::DiskFault
+    }
+}
+
+impl From<Lack> for RecoverFault {
+    ghost from_gives = { λ lack e. e ≡ of_lack lack };
+
+    fn from(error: Lack) -> RecoverFault {
+        match error {
+            Lack::Disk => RecoverFault::DiskFault,
+            Lack::Memory => RecoverFault::NoMemory,
+        }
+    }
+}
