@@ -1,3 +1,4 @@
+pub mod LabelBytes
 pub mod Loads
 pub mod PartsRead
 pub mod Passed

@@ -1,22 +1,21 @@
 -- A reader of the parts that were read.
-use Rattle.std.proofs.Common.{zero, suc, ◌≡◌, ◌≢◌, ◌⊎◌, inl, inr, ⊎_elim, ℕ, pos, negsuc, ◌+◌, ◌-◌, ◌<◌, ◌≤◌, Bool, true, false, List, [], ◌∷◌, ◌++◌, length, take, map, refl, sym, ap, ◌∙◌, subst, arith, Option, Some, None}
+use Rattle.std.proofs.Common.{◌≡◌, ◌≢◌, ◌⊎◌, inl, inr, ⊎_elim, ℕ, ◌-◌, ◌<◌, ◌≤◌, Bool, true, false, List, [], ◌∷◌, length, refl, sym, ap, ◌∙◌, subst, arith}
 use Rattle.std.specs.Prelude.{Contains, MatchBool}
 use Rattle.std.specs.List.{AllByRecursion}
 use Rattle.std.proofs.lemmas.Bool.{cases_lt}
 use Rattle.std.proofs.lemmas.List.{nil_from_length}
 use Rattle.std.proofs.lemmas.List.Elements.{All-contains, All-from_recursion}
-use Rattle.pcp_base.specs.declared.file.FileId.{FileId}
 use Rattle.pcp_base.specs.declared.file.FileId.TheVariants.{Meta, Index, Volume}
 use Rattle.pcp_model.specs.declared.records.MetaRecord.{MetaRecord}
 use Rattle.pcp_model.specs.declared.records.Entry.{Entry}
-use Rattle.pcp_model.specs.Archive.{IsMeta, IsIndex, IsStoppedCreation}
+use Rattle.pcp_model.specs.Archive.{IsStoppedCreation}
 use Rattle.pcp_model.specs.Disk.{Files, Holdings, contents_of, bytes_of}
 use Rattle.pcp_model.specs.LabelFields.{LabelFields}
 use Rattle.pcp_outside.specs.Devices.{IsVolumes}
-use Rattle.archive_loading.specs.declared.parts.MetaPart.TheVariants.{Begun, Stops}
-use Rattle.archive_loading.specs.Parts.{IsMetaPart, IsIndexPart}
-use Rattle.archive_loading.specs.Loaded.{IsOver, IsKeptOf, IsLabelledArchive, AreLabelled, IsHeaded, IsMeasured, Rises, HasLong, AllShort, numbers}
-use Rattle.archive_loading.specs.LoadFaults.{HeadIs, MetaIs, NotLoaded, IsBeside}
+use Rattle.archive_loading.specs.declared.parts.MetaPart.TheVariants.{Begun}
+use Rattle.archive_loading.specs.Parts.{IsMetaPart}
+use Rattle.archive_loading.specs.Loaded.{IsLabelledArchive, AreLabelled, IsHeaded, IsMeasured, HasLong, AllShort, numbers}
+use Rattle.archive_loading.specs.LoadFaults.{HeadIs, NotLoaded, IsBeside}
 use Rattle.archive_loading.specs.Volumes.{IsAlone}
 use Rattle.archive_loading.proofs.Volumes.{measured}
 

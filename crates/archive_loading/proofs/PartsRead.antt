@@ -1,19 +1,14 @@
 -- Meta, the index and the labels of volumes, as they were read.
-use Rattle.std.proofs.Common.{zero, suc, ◌≡◌, ◌≢◌, ◌⊎◌, inl, inr, ⊎_elim, ℕ, ℤ, pos, negsuc, ◌+◌, ◌-◌, ◌*◌, ◌/◌, ◌<◌, ◌≤◌, Bool, true, false, List, [], ◌∷◌, ◌++◌, length, take, drop, map, refl, sym, ap, ◌∙◌, subst, append_assoc, arith, Option, Some, None, Result, Ok, Err}
-use Rattle.std.specs.Prelude.{Contains, IfOk, MatchBool}
-use Rattle.std.specs.List.{AllByRecursion, slice_range}
+use Rattle.std.proofs.Common.{◌≡◌, ◌≢◌, inl, inr, ⊎_elim, ℕ, ℤ, negsuc, ◌-◌, ◌<◌, List, [], ◌++◌, length, take, drop, refl, sym, ap, ◌∙◌, subst, arith, Some, None, Ok}
 use Rattle.std.proofs.lemmas.Bool.{cases_lt}
-use Rattle.std.proofs.lemmas.List.{take_all, drop_all, take-append-drop, append-nil, length-append, length-take, length-drop}
-use Rattle.pcp_base.specs.declared.file.FileId.TheVariants.{Meta, Index, Volume}
+use Rattle.std.proofs.lemmas.List.{take_all, take-append-drop, length-append, length-take, length-drop}
 use Rattle.pcp_model.specs.declared.records.MetaRecord.{MetaRecord}
 use Rattle.pcp_model.specs.declared.records.Entry.{Entry}
-use Rattle.pcp_model.specs.Archive.{IsMeta, IsIndex, HasEntries}
-use Rattle.pcp_model.specs.Disk.{Files}
-use Rattle.pcp_model.specs.Frame.{IsTorn, frames}
+use Rattle.pcp_model.specs.Archive.{IsMeta, IsIndex}
 use Rattle.pcp_model.specs.LabelFields.{LabelFields}
 use Rattle.pcp_model.specs.Labels.{label_head, IsLabel, BeginsLabel}
 use Rattle.pcp_model.proofs.Lengths.{length-frame, length-label_head}
-use Rattle.pcp_model.specs.Records.{AreConsistent, entries}
+use Rattle.pcp_model.specs.Records.{AreConsistent}
 use Rattle.archive_frame.specs.Heads.{IsHeadFault, IsMetaHeadFault}
 use Rattle.archive_frame.specs.declared.fault.FrameFault.{FrameFault}
 use Rattle.archive_frame.specs.declared.fault.FrameFault.TheVariants.{Torn, Size, Lengths, Label as Misfit, NoMemory as Lacking}

@@ -1,20 +1,20 @@
 -- The volumes so far, as far as their labels go.
-use Rattle.std.proofs.Common.{zero, suc, ◌≡◌, ◌≢◌, ◌⊎◌, inl, inr, ⊎_elim, ℕ, pos, ◌+◌, ◌-◌, ◌<◌, ◌≤◌, Bool, true, false, List, [], ◌∷◌, ◌++◌, length, take, map, refl, sym, ap, ◌∙◌, subst, arith, eqb-true, eq-eqb}
-use Rattle.std.specs.Prelude.{Contains, nat_eq, MatchBool}
+use Rattle.std.proofs.Common.{◌≡◌, ◌⊎◌, inl, inr, ⊎_elim, ℕ, pos, ◌+◌, ◌-◌, ◌<◌, ◌≤◌, true, false, List, [], ◌∷◌, ◌++◌, length, sym, ◌∙◌, subst, arith, eqb-true, eq-eqb}
+use Rattle.std.specs.Prelude.{Contains, nat_eq}
 use Rattle.std.specs.List.{AllByRecursion}
 use Rattle.std.proofs.lemmas.Bool.{cases_lt}
-use Rattle.std.proofs.lemmas.List.{map-append, nil_from_length}
+use Rattle.std.proofs.lemmas.List.{map-append}
 use Rattle.std.proofs.lemmas.List.Elements.{All-contains, All-from_recursion, Contains-append_left, Contains-push}
-use Rattle.pcp_base.specs.declared.file.FileId.TheVariants.{Index, Volume}
+use Rattle.pcp_base.specs.declared.file.FileId.TheVariants.{Volume}
 use Rattle.pcp_model.proofs.Lists.{each-append, each-map}
 use Rattle.pcp_model.specs.Disk.{Files, Holdings, contents_of}
 use Rattle.pcp_model.specs.LabelFields.{LabelFields}
 use Rattle.pcp_model.specs.Labels.{BeginsLabel}
 use Rattle.pcp_outside.specs.Devices.{IsVolumes}
-use Rattle.archive_loading.specs.declared.loading.VolumePart.TheVariants.{Empty, Headed, Stops as StopsAt}
-use Rattle.archive_loading.specs.Loaded.{IsLabelled, IsHeaded, IsTop, Rises, AreLabelled, IsMeasured, IsReachable, HasLong, AllShort, numbers}
-use Rattle.archive_loading.specs.LoadFaults.{LabelStops, VolumeStops, AreLabelledBelow, IsFollowed}
-use Rattle.archive_loading.specs.Volumes.{IsVolumePart, IsVolumesPart}
+use Rattle.archive_loading.specs.declared.loading.VolumePart.TheVariants.{Headed, Stops as StopsAt}
+use Rattle.archive_loading.specs.Loaded.{IsLabelled, IsHeaded, Rises, AreLabelled, IsMeasured, numbers}
+use Rattle.archive_loading.specs.LoadFaults.{VolumeStops, AreLabelledBelow, IsFollowed}
+use Rattle.archive_loading.specs.Volumes.{IsVolumePart}
 
 -- a volume of so many has its label, or it is the last one and ends within it
 abbrev pub IsHeadedOf : Files → LabelFields → ℕ → ℕ × ℕ → Type 0

@@ -1,4 +1,5 @@
 pub mod LoadFaults
 pub mod Loaded
 pub mod Parts
+pub mod Takes
 pub mod Volumes

@@ -1,6 +1,6 @@
 -- What a reader keeps of an archive: what Meta and the index say, and which volumes there are. Of a volume it has seen its
 -- label alone.
-use Rattle.std.specs.Prelude.{◌≡◌, ◌⊎◌, ℕ, pos, negsuc, ◌<◌, ◌≤◌, List, [], ◌∷◌, length, take, map, Contains, Option, Some, None}
+use Rattle.std.specs.Prelude.{◌≡◌, ◌⊎◌, ℕ, pos, ◌<◌, ◌≤◌, List, [], ◌∷◌, length, take, map, Contains, Option, Some, None}
 use Rattle.std.specs.List.{AllByRecursion}
 use Rattle.pcp_base.specs.declared.file.FileId.TheVariants.{Meta, Index, Volume}
 use Rattle.pcp_base.specs.declared.result.Item.{Item}

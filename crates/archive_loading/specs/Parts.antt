@@ -1,11 +1,8 @@
 -- What whole files are: Meta, the index, and of a volume its first bytes.
-use Rattle.std.specs.Prelude.{◌≡◌, ◌⊎◌, ℕ, pos, negsuc, ◌+◌, ◌<◌, ◌≤◌, Bool, true, false, List, [], length, take, drop, Contains}
-use Rattle.std.specs.List.{AllByRecursion}
-use Rattle.pcp_base.specs.declared.file.FileId.TheVariants.{Volume}
+use Rattle.std.specs.Prelude.{◌≡◌, ◌⊎◌, ℕ, negsuc, ◌+◌, List, [], length, take, drop}
 use Rattle.pcp_model.specs.Archive.{IsMeta, IsIndex}
-use Rattle.pcp_model.specs.Disk.{Files}
 use Rattle.pcp_model.specs.LabelFields.{LabelFields}
-use Rattle.pcp_model.specs.Labels.{IsLabel, BeginsLabel}
+use Rattle.pcp_model.specs.Labels.{BeginsLabel}
 use Rattle.archive_frame.specs.Heads.{IsMetaLabel}
 use Rattle.archive_meta.specs.declared.fault.MetaFault.TheVariants.{Record}
 use Rattle.archive_meta.specs.Records.{IsFrontFault}

@@ -1,12 +1,13 @@
 //! Loading: Meta and the index whole, and of each volume its label.
 ghost use Rattle.std.specs.Prelude.{◌≡◌, ◌+◌, ◌<◌, ◌≤◌, length, take, IfOk, IfErr, MatchBool};
-ghost use Rattle.pcp_base.specs.declared.file.FileId.TheVariants.{Meta, Index as IndexFile};
+ghost use Rattle.pcp_base.specs.declared.file.FileId.TheVariants.{Meta, Index as IndexFile, Volume};
 ghost use Rattle.pcp_model.specs.Disk.{contents_of};
 ghost use Rattle.pcp_outside.specs.Devices.{IsVolumes};
 ghost use Rattle.archive_window.specs.Looks.{Looks, Blames};
 ghost use Rattle.archive_loading.specs.Parts.{IsMetaPart, IsIndexPart};
 ghost use Rattle.archive_loading.specs.Volumes.{IsVolumeHead, IsVolumePart, IsVolumesPart, IsReachablePart, IsAlone};
 ghost use Rattle.archive_loading.specs.LoadFaults.{IsBeside};
+ghost use Rattle.archive_loading.specs.Takes.{label_bytes, TookLabels};
 
 use crate::labels::{Head, head_of};
 use crate::parts::{IndexPart, MetaPart, index_part, meta_part};
@@ -37,6 +38,7 @@ pub enum VolumesPart {
 /// Meta, read whole.
 pub fn load_meta<D: Disk>(alloc: Global, disk: &mut D) -> Result<MetaPart, Lack>
     ensures meta { D.tells → IfOk result (IsMetaPart (contents_of (D.held disk.old) Meta)) }
+    ensures taken { D.tells → D.taken disk.new ≤ D.taken disk.old }
     ensures looks { Looks D.Disk disk.old disk.new }
     ensures cause { IfErr result (Blames D.Disk disk.old disk.new) }
 {
@@ -48,6 +50,7 @@ pub fn load_meta<D: Disk>(alloc: Global, disk: &mut D) -> Result<MetaPart, Lack>
 /// The index, read whole.
 pub fn load_index<D: Disk>(alloc: Global, disk: &mut D, label: &Label) -> Result<IndexPart, Lack>
     ensures index { D.tells → IfOk result (IsIndexPart label.now (contents_of (D.held disk.old) IndexFile)) }
+    ensures taken { D.tells → D.taken disk.new ≤ D.taken disk.old }
     ensures looks { Looks D.Disk disk.old disk.new }
     ensures cause { IfErr result (Blames D.Disk disk.old disk.new) }
 {
@@ -77,6 +80,7 @@ pub fn load_volume<D: Disk>(
 ) -> Result<VolumePart, Lack>
     requires { number < 4294967295 }
     ensures volume { D.tells → IfOk result (IsVolumePart (contents_of (D.held disk.old)) label.now number is_last) }
+    ensures taken { D.tells → D.taken disk.new ≤ D.taken disk.old + length (take 132 (contents_of (D.held disk.old) (Volume number))) }
     ensures looks { Looks D.Disk disk.old disk.new }
     ensures cause { IfErr result (Blames D.Disk disk.old disk.new) }
 {
@@ -106,6 +110,7 @@ fn load_heads<D: Disk>(
     requires { D.tells → IsVolumes (D.held disk.old) count }
     ensures volumes { D.tells → IfOk result (IsVolumesPart (contents_of (D.held disk.old)) label.now) }
     ensures reachable { IfOk result IsReachablePart }
+    ensures taken { D.tells → D.taken disk.new ≤ D.taken disk.old + label_bytes (contents_of (D.held disk.old)) count }
     ensures looks { Looks D.Disk disk.old disk.new }
     ensures cause { IfErr result (Blames D.Disk disk.old disk.new) }
 {
@@ -128,6 +133,7 @@ pub fn load_volumes<D: Disk>(
 ) -> Result<VolumesPart, Lack>
     ensures volumes { D.tells → IfOk result (IsVolumesPart (contents_of (D.held disk.old)) label.now) }
     ensures reachable { IfOk result IsReachablePart }
+    ensures taken { D.tells → TookLabels (contents_of (D.held disk.old)) (D.taken disk.old) (D.taken disk.new) }
     ensures looks { Looks D.Disk disk.old disk.new }
     ensures cause { IfErr result (Blames D.Disk disk.old disk.new) }
 {
@@ -138,6 +144,7 @@ pub fn load_volumes<D: Disk>(
 /// Whether no file but Meta holds a byte.
 pub fn is_alone<D: Disk>(disk: &mut D) -> Result<bool, Lack>
     ensures alone { D.tells → IfOk result (λ alone. MatchBool alone (IsAlone (contents_of (D.held disk.old))) (IsBeside (contents_of (D.held disk.old)))) }
+    ensures taken { D.tells → D.taken disk.new ≤ D.taken disk.old }
     ensures looks { Looks D.Disk disk.old disk.new }
     ensures cause { IfErr result (Blames D.Disk disk.old disk.new) }
 {

@@ -10,6 +10,7 @@ ghost use Rattle.pcp_base.specs.declared.file.FileId.TheVariants.{Meta};
 ghost use Rattle.archive_loading.specs.declared.parts.MetaPart.TheVariants.{Begun};
 ghost use Rattle.archive_loading.specs.Loaded.{IsOver, IsMeasured, Rises, IsReachable, HasLong, AllShort};
 ghost use Rattle.archive_loading.specs.LoadFaults.{HeadIs, MetaIs};
+ghost use Rattle.archive_loading.specs.Takes.{TookLabels};
 ghost use Rattle.archive_reader.specs.LoadFaults.{IsFilesFault, IsLoadFault};
 ghost use Rattle.archive_loading.specs.Parts.{IsMetaPart};
 ghost use Rattle.archive_reader.specs.Asked.{IsRangeFrom, IsRangeFault, range_begin, IsAtFrom, IsAtFault, at_begin};
@@ -85,6 +86,7 @@ fn load_behind<D: Disk>(
     requires { D.tells → HeadIs (contents_of (D.held disk.old)) label meta index }
     ensures loaded { D.tells → IfOk result (IsOver (contents_of (D.held disk.old))) }
     ensures fault { D.tells → IfErr result (IsFilesFault (contents_of (D.held disk.old))) }
+    ensures taken { D.tells → TookLabels (contents_of (D.held disk.old)) (D.taken disk.old) (D.taken disk.new) }
     ensures looks { Looks D.Disk disk.old disk.new }
     ensures cause { IfErr result (λ e. e ≡ DiskFault → Rose (D.faults disk.old) (D.faults disk.new)) }
 {
@@ -121,6 +123,7 @@ fn load_with<D: Disk>(
     requires { D.tells → MetaIs (contents_of (D.held disk.old)) label meta }
     ensures loaded { D.tells → IfOk result (IsOver (contents_of (D.held disk.old))) }
     ensures fault { D.tells → IfErr result (IsFilesFault (contents_of (D.held disk.old))) }
+    ensures taken { D.tells → TookLabels (contents_of (D.held disk.old)) (D.taken disk.old) (D.taken disk.new) }
     ensures looks { Looks D.Disk disk.old disk.new }
     ensures cause { IfErr result (λ e. e ≡ DiskFault → Rose (D.faults disk.old) (D.faults disk.new)) }
 {
@@ -142,6 +145,7 @@ fn load_begun<D: Disk>(
     requires { D.tells → IsMetaPart (contents_of (D.held disk.old) Meta) (Begun length) }
     ensures loaded { D.tells → IfOk result (IsOver (contents_of (D.held disk.old))) }
     ensures fault { D.tells → IfErr result (IsFilesFault (contents_of (D.held disk.old))) }
+    ensures taken { D.tells → TookLabels (contents_of (D.held disk.old)) (D.taken disk.old) (D.taken disk.new) }
     ensures looks { Looks D.Disk disk.old disk.new }
     ensures cause { IfErr result (λ e. e ≡ DiskFault → Rose (D.faults disk.old) (D.faults disk.new)) }
 {
@@ -163,6 +167,7 @@ fn load_begun<D: Disk>(
 fn load_files<D: Disk>(alloc: Global, disk: &mut D) -> Result<ArchiveReader, ReaderFault>
     ensures loaded { D.tells → IfOk result (IsOver (contents_of (D.held disk.old))) }
     ensures fault { D.tells → IfErr result (IsFilesFault (contents_of (D.held disk.old))) }
+    ensures taken { D.tells → TookLabels (contents_of (D.held disk.old)) (D.taken disk.old) (D.taken disk.new) }
     ensures looks { Looks D.Disk disk.old disk.new }
     ensures cause { IfErr result (λ e. e ≡ DiskFault → Rose (D.faults disk.old) (D.faults disk.new)) }
 {
@@ -219,11 +224,12 @@ impl ArchiveReader {
     /// The archive on a disk: Meta and the index are read, and of each volume its label. A torn end of Meta, of the index or of
     /// the last volume is its end. `Compressed` and `NotArchive` name the first place that is wrong: Meta's are looked at
     /// first, then the index's, then each volume's label, and last whether the index has an entry beside no volume with its
-    /// label (the index at 132).
+    /// label (the index at 132). Of each volume it takes no byte behind the label.
     pub fn load<D: Disk>(alloc: Global, disk: &mut D) -> Result<ArchiveReader, ReaderFault>
         ensures loaded { D.tells → IfOk result (IsOver (contents_of (D.held disk.old))) }
         ensures unwrapped { D.tells → OnOk result (D.wrapped_file disk.old ≡ None) }
         ensures fault { D.tells → IfErr result (IsLoadFault (D.wrapped_file disk.old) (contents_of (D.held disk.old))) }
+        ensures taken { D.tells → TookLabels (contents_of (D.held disk.old)) (D.taken disk.old) (D.taken disk.new) }
         ensures looks { Looks D.Disk disk.old disk.new }
         ensures cause { IfErr result (λ e. e ≡ DiskFault → Rose (D.faults disk.old) (D.faults disk.new)) }
     {

@@ -1,6 +1,5 @@
 use Rattle.std.proofs.Common.{subst}
 use Rattle.pcp_outside.specs.Devices.{IsVolumes}
-use Rattle.archive_window.proofs.Looking.{looks_on}
 use Rattle.archive_loading.proofs.Loads.{beside_volume}
 use Rattle.archive_loading.proofs.loading.is_alone.Goals as goal
 

@@ -1,12 +1,13 @@
-use Rattle.std.proofs.Common.{◌≡◌, ◌∙◌, ◌+◌, ◌<◌, ℕ, List, [], ◌∷◌, sym, subst, arith}
+use Rattle.std.proofs.Common.{◌≡◌, ◌∙◌, ◌+◌, ◌<◌, ◌≤◌, ℕ, List, [], ◌∷◌, length, take, sym, subst, arith}
 use Rattle.std.specs.Prelude.{nat_eq}
 use Rattle.pcp_model.proofs.Lists.{each-append}
-use Rattle.archive_loading.specs.declared.loading.VolumePart.{VolumePart}
 use Rattle.archive_loading.specs.Volumes.{IsVolumePart}
 use Rattle.archive_loading.proofs.loading.load_heads.Goals.{in-Empty, in-Headed+in_ok-push-in-Headed}
 use Rattle.pcp_model.specs.Disk.{contents_of}
 use Rattle.archive_window.proofs.Looking.{looks_none, looks_on}
 use Rattle.archive_loading.specs.Loaded.{IsReachable}
+use Rattle.pcp_base.specs.declared.file.FileId.TheVariants.{Volume}
+use Rattle.archive_loading.proofs.LabelBytes.{none_taken, one_label, labels_below, labels_so_far}
 use Rattle.archive_loading.proofs.Volumes.{SoFar, none_yet, skips, adds, headed_here, one_stops, all_headed}
 use Rattle.archive_loading.proofs.loading.load_heads.Goals as goal
 
@@ -15,6 +16,7 @@ loop-number-init g c = record {
   looks = looks_none g.D.Disk g.met.D.Disk.only_now c.args.disk.now;
   so_far = λ tells. subst (λ vs. SoFar (contents_of (g.D.Disk.held c.args.disk.now)) c.args.label.now c.args.count 0 vs) (sym c.empty-volumes.ensures) (none_yet (contents_of (g.D.Disk.held c.args.disk.now)) c.args.label.now c.args.count);
   reach = subst IsReachable (sym c.empty-volumes.ensures) tt;
+  took = λ tells. none_taken (g.D.Disk.taken c.args.disk.now) (contents_of (g.D.Disk.held c.args.disk.now));
 }
 
 pub returns-in-Stops-clause-looks : goal.returns-in-Stops-clause-looks
@@ -51,6 +53,10 @@ loop-number-preserved g c =
         | in-Headed+in_ok-push-in-Headed w ↦ subst IsReachable (sym (w.volumes-is ∙ w.in_ok-push-in-Headed.ensures.ok))
             (each-append (λ (v : ℕ × ℕ). v.0 < 4294967295) vs ((n, w.in-Headed.end) ∷ []) c.loop-number.invariant.reach (let low : n < 4294967295 = omega (arith, c.loop-number-test.true, c.ranges.count.fits) in low, tt))
       ];
+      took = λ tells.
+          let one : g.D.Disk.taken c.load_volume.new.disk ≤ g.D.Disk.taken c.loop-number.disk + length (take 132 (files (Volume n))) =
+          subst (λ h. g.D.Disk.taken c.load_volume.new.disk ≤ g.D.Disk.taken c.loop-number.disk + length (take 132 (contents_of h (Volume n)))) (c.loop-number.invariant.looks.held tells) (c.load_volume.ensures.taken tells) in
+          one_label files n (g.D.Disk.taken c.args.disk.now) (g.D.Disk.taken c.loop-number.disk) (g.D.Disk.taken c.load_volume.new.disk) (c.loop-number.invariant.took tells) one;
     }
 
 pub returns-clause-volumes : goal.returns-clause-volumes
@@ -58,3 +64,31 @@ returns-clause-volumes g c = λ tells.
     let end : c.loop-number.number ≡ c.args.count = omega (arith, c.loop-number-test.false, c.loop-number.auto.number-end) in
     all_headed (g.D.Disk.held c.args.disk.now) c.args.label.now c.args.count c.loop-number.volumes (c.requires tells)
     (subst (λ n. SoFar (contents_of (g.D.Disk.held c.args.disk.now)) c.args.label.now c.args.count n c.loop-number.volumes) end (c.loop-number.invariant.so_far tells))
+
+pub returns-clause-taken : goal.returns-clause-taken
+returns-clause-taken g c = λ tells.
+    labels_so_far (contents_of (g.D.Disk.held c.args.disk.now)) c.loop-number.number c.args.count (g.D.Disk.taken c.args.disk.now) (g.D.Disk.taken c.loop-number.disk) (omega (arith, c.loop-number-test.false, c.loop-number.auto.number-end)) (c.loop-number.invariant.took tells)
+
+pub returns-in_err-load_volume-clause-taken : goal.returns-in_err-load_volume-clause-taken
+returns-in_err-load_volume-clause-taken g c = λ tells.
+    let files = contents_of (g.D.Disk.held c.args.disk.now) in
+    let n = c.loop-number.number in
+    let one : g.D.Disk.taken c.load_volume.new.disk ≤ g.D.Disk.taken c.loop-number.disk + length (take 132 (files (Volume n))) =
+    subst (λ h. g.D.Disk.taken c.load_volume.new.disk ≤ g.D.Disk.taken c.loop-number.disk + length (take 132 (contents_of h (Volume n)))) (c.loop-number.invariant.looks.held tells) (c.load_volume.ensures.taken tells) in
+    labels_below files n c.args.count (g.D.Disk.taken c.args.disk.now) (g.D.Disk.taken c.loop-number.disk) (g.D.Disk.taken c.load_volume.new.disk) c.loop-number-test.true (c.loop-number.invariant.took tells) one
+
+pub returns-in_err-push-in-Headed-clause-taken : goal.returns-in_err-push-in-Headed-clause-taken
+returns-in_err-push-in-Headed-clause-taken g c = λ tells.
+    let files = contents_of (g.D.Disk.held c.args.disk.now) in
+    let n = c.loop-number.number in
+    let one : g.D.Disk.taken c.load_volume.new.disk ≤ g.D.Disk.taken c.loop-number.disk + length (take 132 (files (Volume n))) =
+    subst (λ h. g.D.Disk.taken c.load_volume.new.disk ≤ g.D.Disk.taken c.loop-number.disk + length (take 132 (contents_of h (Volume n)))) (c.loop-number.invariant.looks.held tells) (c.load_volume.ensures.taken tells) in
+    labels_below files n c.args.count (g.D.Disk.taken c.args.disk.now) (g.D.Disk.taken c.loop-number.disk) (g.D.Disk.taken c.load_volume.new.disk) c.loop-number-test.true (c.loop-number.invariant.took tells) one
+
+pub returns-in-Stops-clause-taken : goal.returns-in-Stops-clause-taken
+returns-in-Stops-clause-taken g c = λ tells.
+    let files = contents_of (g.D.Disk.held c.args.disk.now) in
+    let n = c.loop-number.number in
+    let one : g.D.Disk.taken c.load_volume.new.disk ≤ g.D.Disk.taken c.loop-number.disk + length (take 132 (files (Volume n))) =
+    subst (λ h. g.D.Disk.taken c.load_volume.new.disk ≤ g.D.Disk.taken c.loop-number.disk + length (take 132 (contents_of h (Volume n)))) (c.loop-number.invariant.looks.held tells) (c.load_volume.ensures.taken tells) in
+    labels_below files n c.args.count (g.D.Disk.taken c.args.disk.now) (g.D.Disk.taken c.loop-number.disk) (g.D.Disk.taken c.load_volume.new.disk) c.loop-number-test.true (c.loop-number.invariant.took tells) one

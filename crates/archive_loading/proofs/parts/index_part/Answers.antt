@@ -1,4 +1,4 @@
-use Rattle.std.proofs.Common.{◌≡◌, ◌≤◌, ℕ, List, negsuc, inl, length, take, refl, subst, arith}
+use Rattle.std.proofs.Common.{negsuc, inl, take, subst, arith}
 use Rattle.std.proofs.lemmas.List.{length-take}
 use Rattle.pcp_model.specs.Labels.{IsLabel, BeginsLabel}
 use Rattle.archive_loading.specs.LoadFaults.{LabelStops}

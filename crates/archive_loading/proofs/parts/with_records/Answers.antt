@@ -1,4 +1,4 @@
-use Rattle.std.proofs.Common.{◌+◌, inr, [], ap, sym, subst, drop}
+use Rattle.std.proofs.Common.{◌+◌, inr, [], ap, subst, drop}
 use Rattle.std.proofs.lemmas.List.{take_rest}
 use Rattle.archive_meta.specs.Records.{IsFrontFault}
 use Rattle.archive_loading.proofs.PartsRead.{meta_is}
