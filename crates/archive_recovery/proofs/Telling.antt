@@ -165,3 +165,7 @@ less_left held stopped image m = record {
     cut_meta : (image Meta ≡ m.before Meta) ⊎ (image Meta ≡ take 0 (m.before Meta)) → (n : ℕ) × (image Meta ≡ take n (contents_of held Meta))
     cut_meta (inl same) = (length (held Meta).sure + (m.left Meta).0, same ∙ some_sure held m.before Meta m.left)
     cut_meta (inr none) = (0, none)
+
+-- such a creation is read in no other way
+pub stopped_less : (held : Holdings) → IsStoppedCreation (contents_of held) → (r : ArchiveReading) → Reads (contents_of held) r → (image : Files) → IsLess (contents_of held) image → HalfwayFrom (contents_of held) r image
+stopped_less held stopped r reads image less = subst (λ x. HalfwayFrom (contents_of held) x image) (one_reading (contents_of held) ArchiveReading.nothing r stopped reads) less

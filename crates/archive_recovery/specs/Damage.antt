@@ -3,7 +3,7 @@ use Rattle.std.specs.Prelude.{◌≡◌, ℕ, ◌<◌, pos, negsuc, Bool, true, 
 use Rattle.pcp_base.specs.declared.file.FileId.TheVariants.{Meta, Index, Volume}
 use Rattle.pcp_base.specs.declared.result.Item.{Item}
 use Rattle.pcp_model.specs.Archive.{ArchiveContents, HasEntries, IsArchive}
-use Rattle.pcp_model.specs.Disk.{Files, Holdings}
+use Rattle.pcp_model.specs.Disk.{Files, Holdings, IsSettled, contents_of}
 use Rattle.pcp_model.specs.LabelFields.{LabelFields}
 use Rattle.pcp_model.specs.Labels.{label}
 use Rattle.pcp_model.specs.Payload.{IsItem}
@@ -12,6 +12,7 @@ use Rattle.pcp_model.specs.Recovered.{IsMended, labelled_volumes}
 use Rattle.pcp_outside.specs.Devices.{length_of}
 use Rattle.archive_recovery.specs.declared.mending.Last.{Last}
 use Rattle.archive_recovery.specs.declared.whole.Damage.{Damage}
+use Rattle.archive_recovery.specs.Halfway.{IsHalfway}
 
 -- where whole entries end
 abbrev pub IsIndexEnd : List ℕ → ArchiveContents → Option ℕ → Type 0
@@ -55,3 +56,8 @@ pub record AreLengths (held : Holdings) (d : Damage) : Type 0 where
   pub meta : d.meta.length ≡ length_of (held Meta)
   pub index : d.index_length ≡ length_of (held Index)
   pub last : IfSome d.last (λ l. l.length ≡ length_of (held (Volume l.number)))
+
+-- over a settled disk recovery is on its way, where reading found what there is to mend
+abbrev pub MayBeMended : Damage → List ℕ → List ℕ → Holdings → Files → Type 0
+MayBeMended d index_label volume_label held image =
+    IsSettled held → (c : ArchiveContents) → Found (contents_of held) c d index_label volume_label → IsHalfway (contents_of held) c image

@@ -2,8 +2,8 @@
 -- the index.
 use Rattle.std.specs.Prelude.{◌≡◌, ◌≢◌, ◌⊎◌, ℕ, ℤ, ◌<◌, pos, negsuc, List, [], ◌++◌, length, take}
 use Rattle.pcp_base.specs.declared.file.FileId.TheVariants.{Meta, Index, Volume}
-use Rattle.pcp_model.specs.Archive.{ArchiveContents, ArchiveReading}
-use Rattle.pcp_model.specs.Disk.{Files}
+use Rattle.pcp_model.specs.Archive.{ArchiveContents, ArchiveReading, Reads}
+use Rattle.pcp_model.specs.Disk.{Files, Holdings, IsSettled, contents_of}
 use Rattle.pcp_model.specs.LabelFields.{LabelFields}
 use Rattle.pcp_model.specs.Labels.{label}
 use Rattle.pcp_model.specs.Laws.{HasLast}
@@ -56,3 +56,7 @@ pub record IsLess (files image : Files) : Type 0 where
 abbrev pub HalfwayFrom : Files → ArchiveReading → Files → Type 0
 HalfwayFrom files ArchiveReading.nothing image = IsLess files image
 HalfwayFrom files (ArchiveReading.archive c) image = IsHalfway files c image
+
+-- over a settled disk whose files are read so
+abbrev pub MayBeHalfway : Holdings → Files → Type 0
+MayBeHalfway held image = IsSettled held → (r : ArchiveReading) → Reads (contents_of held) r → HalfwayFrom (contents_of held) r image

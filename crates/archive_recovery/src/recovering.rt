@@ -2,12 +2,12 @@
 ghost use Rattle.std.specs.Prelude.{◌≡◌, ◌≢◌, ◌⊎◌, ◌≤◌, [], length, IfOk, IfErr, OnOk, None};
 ghost use Rattle.pcp_base.specs.declared.file.FileId.{FileId as File};
 ghost use Rattle.pcp_base.specs.declared.file.FileId.TheVariants.{Meta};
-ghost use Rattle.pcp_model.specs.Archive.{ArchiveReading, IsStoppedCreation, Reads, Readable};
-ghost use Rattle.pcp_model.specs.Disk.{CrashImage, IsSettled, contents_of};
+ghost use Rattle.pcp_model.specs.Archive.{IsStoppedCreation, Readable};
+ghost use Rattle.pcp_model.specs.Disk.{CrashImage, contents_of};
 ghost use Rattle.pcp_outside.specs.Causes.{Rose};
 ghost use Rattle.pcp_outside.specs.Devices.{LeavesOnly};
 ghost use Rattle.archive_recovery.specs.declared.outcome.RecoverFault.TheVariants.{DiskFault, NoMemory as Refused};
-ghost use Rattle.archive_recovery.specs.Halfway.{HalfwayFrom};
+ghost use Rattle.archive_recovery.specs.Halfway.{MayBeHalfway};
 ghost use Rattle.archive_recovery.specs.RecoverFaults.{IsFilesRefusal, IsRecoverFault};
 ghost use Rattle.archive_recovery.specs.Surveys.{IsSighted, SightIsLow};
 ghost use Rattle.archive_recovery.specs.Told.{WasRecovered};
@@ -31,7 +31,7 @@ fn forget<D: Disk>(alloc: Global, disk: &mut D, bytes: u64) -> Result<Archive, R
     ensures sure { D.tells → OnOk result ((file : File) → (D.held disk.new file).rest ≡ []) }
     ensures fault { IfErr result (λ e. (e ≡ DiskFault) ⊎ (e ≡ Refused)) }
     ensures kept { D.tells → IfErr result (λ e. e ≢ DiskFault → D.held disk.new ≡ D.held disk.old) }
-    ensures any_moment { D.tells → IsSettled (D.held disk.old) → LeavesOnly D.moment D.left_since disk.old disk.new (HalfwayFrom (contents_of (D.held disk.old)) ArchiveReading.nothing) }
+    ensures any_moment { D.tells → LeavesOnly D.moment D.left_since disk.old disk.new (MayBeHalfway (D.held disk.old)) }
     ensures wrapped { D.tells → D.wrapped_file disk.new ≡ D.wrapped_file disk.old }
     ensures later { D.faults disk.old ≤ D.faults disk.new }
     ensures cause { IfErr result (λ e. e ≡ DiskFault → Rose (D.faults disk.old) (D.faults disk.new)) }
@@ -61,7 +61,7 @@ fn restore<D: Disk>(disk: &mut D, sighted: Sighted) -> Result<Archive, RecoverFa
     ensures recovered { D.tells → IfOk result (WasRecovered (contents_of (D.held disk.old)) (contents_of (D.held disk.new))) }
     ensures sure { D.tells → OnOk result ((file : File) → (D.held disk.new file).rest ≡ []) }
     ensures fault { IfErr result (λ e. e ≡ DiskFault) }
-    ensures any_moment { D.tells → IsSettled (D.held disk.old) → (r : ArchiveReading) → Reads (contents_of (D.held disk.old)) r → LeavesOnly D.moment D.left_since disk.old disk.new (HalfwayFrom (contents_of (D.held disk.old)) r) }
+    ensures any_moment { D.tells → LeavesOnly D.moment D.left_since disk.old disk.new (MayBeHalfway (D.held disk.old)) }
     ensures wrapped { D.tells → D.wrapped_file disk.new ≡ D.wrapped_file disk.old }
     ensures later { D.faults disk.old ≤ D.faults disk.new }
     ensures cause { IfErr result (λ e. e ≡ DiskFault → Rose (D.faults disk.old) (D.faults disk.new)) }
@@ -87,7 +87,7 @@ fn recover_files<D: Disk>(alloc: Global, disk: &mut D) -> Result<Archive, Recove
     ensures sure { D.tells → OnOk result ((file : File) → (D.held disk.new file).rest ≡ []) }
     ensures fault { D.tells → IfErr result (IsFilesRefusal (contents_of (D.held disk.old))) }
     ensures kept { D.tells → IfErr result (λ e. e ≢ DiskFault → D.held disk.new ≡ D.held disk.old) }
-    ensures any_moment { D.tells → IsSettled (D.held disk.old) → (r : ArchiveReading) → Reads (contents_of (D.held disk.old)) r → LeavesOnly D.moment D.left_since disk.old disk.new (HalfwayFrom (contents_of (D.held disk.old)) r) }
+    ensures any_moment { D.tells → LeavesOnly D.moment D.left_since disk.old disk.new (MayBeHalfway (D.held disk.old)) }
     ensures unread { D.tells → (Readable (contents_of (D.held disk.old)) → ⊥) → LeavesOnly D.moment D.left_since disk.old disk.new (CrashImage (D.held disk.old)) }
     ensures wrapped { D.tells → D.wrapped_file disk.new ≡ D.wrapped_file disk.old }
     ensures later { D.faults disk.old ≤ D.faults disk.new }
@@ -112,8 +112,8 @@ pub fn recover<D: Disk>(alloc: Global, disk: &mut D) -> Result<Archive, RecoverF
     ensures unwrapped { D.tells → OnOk result (D.wrapped_file disk.old ≡ None) }
     ensures fault { D.tells → IfErr result (IsRecoverFault (D.wrapped_file disk.old) (contents_of (D.held disk.old))) }
     ensures kept { D.tells → IfErr result (λ e. e ≢ DiskFault → D.held disk.new ≡ D.held disk.old) }
-    // A crash at any moment of it leaves files on which recovery is on its way.
-    ensures any_moment { D.tells → IsSettled (D.held disk.old) → (r : ArchiveReading) → Reads (contents_of (D.held disk.old)) r → LeavesOnly D.moment D.left_since disk.old disk.new (HalfwayFrom (contents_of (D.held disk.old)) r) }
+    // A crash at any moment of it, over a settled disk, leaves files on which recovery is on its way.
+    ensures any_moment { D.tells → LeavesOnly D.moment D.left_since disk.old disk.new (MayBeHalfway (D.held disk.old)) }
     // Where the files aren't readable nothing is written.
     ensures unread { D.tells → (Readable (contents_of (D.held disk.old)) → ⊥) → LeavesOnly D.moment D.left_since disk.old disk.new (CrashImage (D.held disk.old)) }
     ensures wrapped { D.tells → D.wrapped_file disk.new ≡ D.wrapped_file disk.old }

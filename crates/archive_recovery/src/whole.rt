@@ -2,12 +2,11 @@
 ghost use Rattle.std.specs.Prelude.{◌≡◌, ◌<◌, [], IfSome, OnOk};
 ghost use Rattle.pcp_base.specs.declared.file.FileId.{FileId as File};
 ghost use Rattle.pcp_model.specs.Archive.{ArchiveContents};
-ghost use Rattle.pcp_model.specs.Disk.{IsSettled, contents_of};
+ghost use Rattle.pcp_model.specs.Disk.{contents_of};
 ghost use Rattle.pcp_model.specs.Recovered.{IsRecovered};
 ghost use Rattle.pcp_outside.specs.Causes.{HasCause};
 ghost use Rattle.pcp_outside.specs.Devices.{LeavesOnly};
-ghost use Rattle.archive_recovery.specs.Damage.{Found, AreLengths};
-ghost use Rattle.archive_recovery.specs.Halfway.{IsHalfway};
+ghost use Rattle.archive_recovery.specs.Damage.{Found, AreLengths, MayBeMended};
 
 use crate::mending::{Last, Tail, cut_tail, mend_index, mend_volumes};
 use crate::syncing::sync_all;
@@ -40,7 +39,7 @@ pub fn mend<D: Disk>(
     ensures recovered { D.tells → (c : ArchiveContents) → Found (contents_of (D.held disk.old)) c damage index_label.now volume_label.now → OnOk result (IsRecovered (contents_of (D.held disk.old)) c (contents_of (D.held disk.new))) }
     ensures sure { D.tells → OnOk result ((file : File) → (D.held disk.new file).rest ≡ []) }
     // Wherever it stops, the archive is on its way: a crash leaves files with the same items and records.
-    ensures any_moment { D.tells → IsSettled (D.held disk.old) → (c : ArchiveContents) → Found (contents_of (D.held disk.old)) c damage index_label.now volume_label.now → LeavesOnly D.moment D.left_since disk.old disk.new (IsHalfway (contents_of (D.held disk.old)) c) }
+    ensures any_moment { D.tells → LeavesOnly D.moment D.left_since disk.old disk.new (MayBeMended damage index_label.now volume_label.now (D.held disk.old)) }
     ensures wrapped { D.tells → D.wrapped_file disk.new ≡ D.wrapped_file disk.old }
     ensures cause { HasCause (D.faults disk.old) (D.faults disk.new) result }
 {
