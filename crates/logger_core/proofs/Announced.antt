@@ -89,13 +89,21 @@ module _ (s : Start) (files : Files) (c : ArchiveContents) (number acknowledged 
   with_them = record { label = c.label; records = c.records ++ more; entries = c.entries; volumes = c.volumes }
 
   -- those that are left of Meta with them describe what was described
-  described_on : (n : ℕ) → length c.records ≤ n → (x : Item) → (WasDescribed s x → Described (take (length c.records) c.records) x) → WasDescribed s x → Described (take n (c.records ++ more)) x
-  described_on n le x was w =
-      let first : Described c.records x = subst (λ rs. Described rs x) (take_all (length c.records) c.records (omega arith)) (was w) in
+  described_on : (n : ℕ) → length c.records ≤ n → AllByRecursion (λ x. Described c.records x → Described (take n (c.records ++ more)) x) (items_of c.volumes)
+  described_on n le =
       let e : take n (c.records ++ more) ≡ c.records ++ take (n - length c.records) more = ap (λ (m : ℕ). take m (c.records ++ more)) (let q : n ≡ length c.records + (n - length c.records) = omega arith in q) ∙ take-append-add c.records more (n - length c.records) in
-      subst (λ rs. Described rs x) (sym e) (⊎_elim
-      (λ (few : n - length c.records < length more). come.described (n - length c.records) (omega arith) x first)
-      (λ (all : length more ≤ n - length c.records). subst (λ rs. Described (c.records ++ rs) x) (take_all (length more) more (omega arith) ∙ sym (take_all (n - length c.records) more all)) (come.described (length more) (omega arith) x first)) (cases_lt (n - length c.records) (length more)))
+      subst (λ rs. AllByRecursion (λ x. Described c.records x → Described rs x) (items_of c.volumes)) (sym e) (⊎_elim
+      (λ (few : n - length c.records < length more). come.described (n - length c.records) (omega arith))
+      (λ (all : length more ≤ n - length c.records). subst (λ rs. AllByRecursion (λ x. Described c.records x → Described (c.records ++ rs) x) (items_of c.volumes)) (take_all (length more) more (omega arith) ∙ sym (take_all (n - length c.records) more all)) (come.described (length more) (omega arith)))
+      (cases_lt (n - length c.records) (length more)))
+
+  still_described : (n : ℕ) → length c.records ≤ n → (xs : List Item) → AllByRecursion (λ x. WasDescribed s x → Described (take (length c.records) c.records) x) xs → AllByRecursion (λ x. Described c.records x → Described (take n (c.records ++ more)) x) xs
+      → AllByRecursion (λ x. WasDescribed s x → Described (take n (c.records ++ more)) x) xs
+  still_described n le [] was on = tt
+  still_described n le (x ∷ xs) was on = (
+    (λ w. on.0 (subst (λ rs. Described rs x) (take_all (length c.records) c.records (omega arith)) (was.0 w))),
+    still_described n le xs was.1 on.1,
+  )
 
   -- an entry says the same of the records before its offset
   still_points_well : (e : Entry) → PointsWell files c e → PointsWell (with_added Meta (frames payloads) files) with_them e
@@ -138,7 +146,7 @@ module _ (s : Start) (files : Files) (c : ArchiveContents) (number acknowledged 
       others = k.others;
       few = omega (arith, length-append c.records more);
       sure = omega (arith, k.sure, end_stays (length c.records) k.whole.payloads payloads (omega (arith, as_many IsRecord k.whole.payloads c.records k.whole.read)));
-      described = λ n le. each-map (λ x. WasDescribed s x → Described (take (length c.records) c.records) x) (λ x. WasDescribed s x → Described (take n (c.records ++ more)) x) (described_on n le) (items_of c.volumes) (k.described (length c.records) (omega arith));
+      described = λ n le. still_described n le (items_of c.volumes) (k.described (length c.records) (omega arith)) (described_on n le);
       sound = λ was. ((k.sound was).0, each-map (IsSoundEntry files c) (IsSoundEntry (with_added Meta (frames payloads) files) with_them) still_sound_entry c.entries (k.sound was).1);
       labelled = k.labelled;
       points = λ was. each-map (PointsSurely files held number) (PointsSurely (with_added Meta (frames payloads) files) held number) (λ e p. record { meta = p.meta; offset = p.offset; below = p.below }) c.entries (k.points was);

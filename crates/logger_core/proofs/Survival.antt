@@ -32,13 +32,13 @@ use Rattle.logger_core.specs.Laws.{Survives}
 -- ---- one file
 
 -- what a crash leaves of a part
-record CutPart (h : Held) (whole b : List ℕ) : Type 0 where
+pub record CutPart (h : Held) (whole b : List ℕ) : Type 0 where
   pub m : ℕ
   pub sure : length h.sure ≤ m
   pub within : m ≤ length whole
   pub is : b ≡ take m whole
 
-cut_part : (h : Held) (whole b : List ℕ) → IsPart h whole → (n : ℕ) → b ≡ h.sure ++ take n h.rest → CutPart h whole b
+pub cut_part : (h : Held) (whole b : List ℕ) → IsPart h whole → (n : ℕ) → b ≡ h.sure ++ take n h.rest → CutPart h whole b
 cut_part h whole b part n left = record {
   m = length h.sure + length (take n h.rest);
   sure = omega arith;
@@ -198,5 +198,5 @@ module _ (s : Start) (files : Files) (c : ArchiveContents) (number known acknowl
   still_labelled was = subst (AreLabelled image) (sym left.entries) (each-first (λ (e : Entry). (n : ℕ) × (132 ≤ length (image (Volume n))) × (e.volume ≤ n)) left.k c.entries
       (each-map (PointsSurely files held number) (λ (e : Entry). (n : ℕ) × (132 ≤ length (image (Volume n))) × (e.volume ≤ n)) (λ e p. (p.below.0, omega (arith, p.below.1, sure_is_left p.below.0), p.below.2)) c.entries (k.points was)))
 
-  pub survives : Survives s c acknowledged image
+  pub survives : Survives s (items_of c.volumes) acknowledged image
   survives = record { new = left.new; is = left.is; q = left.q; items = left.items; enough = still_enough; described = still_described; sound = still_sound; labelled = still_labelled }

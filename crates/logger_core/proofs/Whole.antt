@@ -23,10 +23,10 @@ use Rattle.logger_core.proofs.Items.{above_empty}
 use Rattle.logger_core.proofs.Nearer.{all_acknowledged}
 
 -- each of a list is in it
-next_contains : {X : Type 0} (y : X) (ys : List X) (x : X) → Contains ys x → Contains (y ∷ ys) x
+pub next_contains : {X : Type 0} (y : X) (ys : List X) (x : X) → Contains ys x → Contains (y ∷ ys) x
 next_contains y ys x c = (suc c.0, omega (arith, c.1), c.2)
 
-each_contained : {X : Type 0} (xs : List X) → AllByRecursion (λ x. Contains xs x) xs
+pub each_contained : {X : Type 0} (xs : List X) → AllByRecursion (λ x. Contains xs x) xs
 each_contained [] = tt
 each_contained (x ∷ xs) = ((0, omega arith, refl), each-map (λ y. Contains xs y) (λ y. Contains (x ∷ xs) y) (λ y c. next_contains x xs y c) xs (each_contained xs))
 

@@ -1,6 +1,8 @@
 -- What holds of what a logger keeps.
 use Rattle.std.specs.Prelude.{◌≡◌, ℕ, pos, ◌<◌, ◌≤◌, List, [], ◌∷◌, ◌++◌, length, take, negsuc}
 use Rattle.std.specs.List.{AllByRecursion}
+use Rattle.pcp_base.specs.Time.{Moment, microseconds}
+use Rattle.pcp_model.specs.declared.records.MetaRecord.TheVariants.{Description, Domain, Other}
 use Rattle.pcp_base.specs.declared.file.FileId.{FileId}
 use Rattle.pcp_base.specs.declared.file.FileId.TheVariants.{Meta, Index, Volume}
 use Rattle.pcp_base.specs.declared.result.Item.{Item}
@@ -14,18 +16,19 @@ use Rattle.pcp_model.specs.Labels.{IsLabel}
 use Rattle.pcp_model.specs.Laws.{IsLonger, EndsWhole}
 use Rattle.pcp_model.specs.Payload.{IsItem, stamp_of}
 use Rattle.pcp_model.specs.Records.{IsRecord, AreConsistent, FitsEntry, entry}
+use Rattle.pcp_model.specs.Recovered.{IsRecovered, recovered_contents}
 use Rattle.pcp_model.specs.Sound.{IsSound, NoDomainAfter, NoItemAfter}
 use Rattle.pcp_model.specs.Written.{with_added}
 use Rattle.pcp_outside.specs.Devices.{Becomes}
 use Rattle.archive_recovery.specs.Laws.{AreLabelled}
 use Rattle.logger_core.specs.Keeps.{Start, WasSound, WasDescribed, IsPart, is_sure, Keeps}
 
--- Files with the first items of an archive, at least so many, each with its metadata, and sound
-pub record Survives (s : Start) (c : ArchiveContents) (acknowledged : ℕ) (image : Files) : Type 0 where
+-- Files with the first of these items, at least so many, each with its metadata, and sound
+pub record Survives (s : Start) (all : List Item) (acknowledged : ℕ) (image : Files) : Type 0 where
   pub new : ArchiveContents
   pub is : IsArchive image new
   pub q : ℕ
-  pub items : items_of new.volumes ≡ take q (items_of c.volumes)
+  pub items : items_of new.volumes ≡ take q all
   pub enough : acknowledged ≤ length (items_of new.volumes)
   pub described : AllByRecursion (λ x. WasDescribed s x → Described new.records x) (items_of new.volumes)
   pub sound : WasSound s → IsSound image (ArchiveReading.archive new)
@@ -35,7 +38,7 @@ pub record Survives (s : Start) (c : ArchiveContents) (acknowledged : ℕ) (imag
 -- Whatever a crash leaves of what a logger keeps has the first of its items, all acknowledged ones among them, with their metadata.
 abbrev pub KeptFilesSurvive : Type 0
 KeptFilesSurvive = (s : Start) (files : Files) (c : ArchiveContents) (number known acknowledged : ℕ) (held : Holdings) (image : Files) → Keeps s files c number known acknowledged held → CrashImage held image
-    → Survives s c acknowledged image
+    → Survives s (items_of c.volumes) acknowledged image
 
 -- the files that a logger writes now
 abbrev pub IsWritten : ℕ → FileId → Type 0
@@ -81,11 +84,21 @@ abbrev pub ItemIsAnnounced : Type 0
 ItemIsAnnounced = (s : Start) (files : Files) (c : ArchiveContents) (number known acknowledged : ℕ) (held : Holdings) (payload : List ℕ) (x : Item) → Keeps s files c number known acknowledged held → IsItemToCome s c known payload x
     → Announces s (with_added (Volume number) (frame payload) files) c number known acknowledged held [] [] (x ∷ [])
 
--- A record of Meta may be meant that no other contradicts, and with which all that was described stays so.
+-- Records of Meta may be meant that no other contradicts, and with which each item that was described stays so.
 pub record AreRecordsToCome (s : Start) (c : ArchiveContents) (payloads : List (List ℕ)) (records : List MetaRecord) : Type 0 where
   pub read : AreRead IsRecord payloads records
   pub agree : AreConsistent (c.records ++ records)
-  pub described : (k : ℕ) → k ≤ length records → (x : Item) → Described c.records x → Described (c.records ++ take k records) x
+  pub described : (k : ℕ) → k ≤ length records → AllByRecursion (λ x. Described c.records x → Described (c.records ++ take k records) x) (items_of c.volumes)
+
+-- a record of Meta isn't an instance domain stamped up to t
+abbrev pub IsRecordAfter : Moment → MetaRecord → Type 0
+IsRecordAfter t (Description d names) = Unit {0}
+IsRecordAfter t (Domain s indom pairs) = microseconds t < microseconds s
+IsRecordAfter t Other = Unit {0}
+
+-- Instance domains that are stamped after an item leave it described, and so do descriptions.
+abbrev pub LaterRecordsDescribe : Type 0
+LaterRecordsDescribe = (records more : List MetaRecord) (x : Item) → AllByRecursion (IsRecordAfter (stamp_of x)) more → Described records x → Described (records ++ more) x
 
 abbrev pub RecordsAreAnnounced : Type 0
 RecordsAreAnnounced = (s : Start) (files : Files) (c : ArchiveContents) (number acknowledged : ℕ) (held : Holdings) (payloads : List (List ℕ)) (records : List MetaRecord) → Keeps s files c number (length c.records) acknowledged held
@@ -128,3 +141,8 @@ pub record IsWhole (files : Files) (c : ArchiveContents) (number : ℕ) (held : 
 abbrev pub WholeIsKept : Type 0
 WholeIsKept = (files : Files) (c : ArchiveContents) (number : ℕ) (held : Holdings) → IsWhole files c number held
     → Keeps (record { files = files; reading = ArchiveReading.archive c }) files c number (length c.records) (length (items_of c.volumes)) held
+
+-- What recovery leaves, once every byte of it is sure, is such an archive.
+abbrev pub RecoveredIsWhole : Type 0
+RecoveredIsWhole = (files left : Files) (c : ArchiveContents) (held : Holdings) → IsArchive files c → IsRecovered files c left → ((file : FileId) → held file ≡ is_sure (left file))
+    → (number : ℕ) × IsWhole left (recovered_contents files c) number held

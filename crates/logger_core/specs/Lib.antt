@@ -1,2 +1,12 @@
+pub mod Created
+pub mod Going
 pub mod Keeps
+pub mod LogSteps
 pub mod Laws
+pub mod Logging
+pub mod Meant
+pub mod Preparing
+pub mod Refusals
+pub mod Runs
+pub mod Steps
+pub mod Writing

@@ -1,5 +1,5 @@
 //! What holds of what a logger keeps. Each is the contract of a function without parameters, which does nothing.
-ghost use Rattle.logger_core.specs.Laws.{KeptFilesSurvive, NearerIsKept, SureIsAcknowledged, SureIsKnown, ItemIsAnnounced, RecordsAreAnnounced, EntryIsAnnounced, VolumeIsAnnounced, WholeIsKept};
+ghost use Rattle.logger_core.specs.Laws.{KeptFilesSurvive, NearerIsKept, SureIsAcknowledged, SureIsKnown, ItemIsAnnounced, RecordsAreAnnounced, LaterRecordsDescribe, EntryIsAnnounced, VolumeIsAnnounced, WholeIsKept, RecoveredIsWhole};
 
 /// Whatever a crash leaves of what a logger keeps is an archive of the first of its items, with all acknowledged ones,
 /// each described by the metadata that is left, and sound.
@@ -33,6 +33,11 @@ pub fn records_are_announced()
     ensures { RecordsAreAnnounced }
 {}
 
+/// Records of Meta leave an item described where each instance domain among them is stamped after it.
+pub fn later_records_describe()
+    ensures { LaterRecordsDescribe }
+{}
+
 /// An entry that points to the ends of Meta and of the volume, both sure, may be meant behind the index.
 pub fn entry_is_announced()
     ensures { EntryIsAnnounced }
@@ -46,4 +51,9 @@ pub fn volume_is_announced()
 /// A whole archive of which every byte is sure is kept, with all its items acknowledged.
 pub fn whole_is_kept()
     ensures { WholeIsKept }
+{}
+
+/// What recovery leaves of an archive, once every byte of it is sure, is a whole archive: no volume without its label is left.
+pub fn recovered_is_whole()
+    ensures { RecoveredIsWhole }
 {}

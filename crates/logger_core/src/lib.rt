@@ -1,9 +1,24 @@
-//! The logger: what is acknowledged is never lost.
+//! The logger (pmlogger(1)): what is acknowledged is never lost. It keeps of its archive where the files end, what the metadata
+//! say and the greatest stamp; a crash at any moment of a call leaves the first of its items, with all acknowledged ones, each
+//! described by the metadata that is left.
 #![tactic(auto)]
 
+mod creating;
+mod ends;
+mod entries;
+mod fault;
+mod flushing;
 mod laws;
+mod logger;
+mod logging;
+mod preparing;
+mod running;
+mod switching;
 
+pub use fault::LogFault;
 pub use laws::{
-    entry_is_announced, item_is_announced, kept_files_survive, nearer_is_kept,
-    records_are_announced, sure_is_acknowledged, sure_is_known, volume_is_announced, whole_is_kept,
+    entry_is_announced, item_is_announced, kept_files_survive, later_records_describe,
+    nearer_is_kept, records_are_announced, recovered_is_whole, sure_is_acknowledged, sure_is_known,
+    volume_is_announced, whole_is_kept,
 };
+pub use logger::Logger;

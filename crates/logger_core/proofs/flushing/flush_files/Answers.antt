@@ -1,0 +1,30 @@
+-- The volume is synced, and the entry put that is then due.
+use Rattle.logger_core.specs.Meant.{SurvivesOf}
+use Rattle.logger_core.specs.Going.{all_acknowledged}
+use Rattle.logger_core.proofs.Calls.{run_then}
+use Rattle.logger_core.proofs.Rests.{fewer_acknowledged}
+use Rattle.logger_core.proofs.Turned.{found_room, found_leads, flush_ok}
+use Rattle.logger_core.proofs.flushing.flush_files.Goals as goal
+
+pub add_entry-requires-clause-room : goal.add_entry-requires-clause-room
+add_entry-requires-clause-room g c = found_room c.in_ok-synced.synced c.due-entry.result c.due-entry.ensures
+
+pub returns-clause-any_moment : goal.returns-clause-any_moment
+returns-clause-any_moment g c = λ tells m at.
+    let d = g.D.Disk in
+    let s = c.in_ok-synced.synced in
+    let mid = d.held c.sync_volume.new.disk in
+    let now = c.in_ok-synced.ensures.ok tells m at in
+    let lead = found_leads (all_acknowledged m) s mid c.due-entry.result c.due-entry.ensures now (c.in_ok-synced.ensures.sure tells) in
+    run_then d g.met.D.Disk.only_now c.args.disk.now c.sync_volume.new.disk c.add_entry.new.disk (SurvivesOf m) (SurvivesOf m) (SurvivesOf (all_acknowledged m))
+    (c.sync_volume.ensures.any_moment tells m at) (c.add_entry.ensures.any_moment tells (all_acknowledged m) now lead) (λ image good. good) (fewer_acknowledged m c.args.ends.now.volume (d.held c.args.disk.now) at.stands)
+
+pub returns-clause-ok : goal.returns-clause-ok
+returns-clause-ok g c = λ tells m at.
+    let d = g.D.Disk in
+    let s = c.in_ok-synced.synced in
+    let mid = d.held c.sync_volume.new.disk in
+    let now = c.in_ok-synced.ensures.ok tells m at in
+    let lead = found_leads (all_acknowledged m) s mid c.due-entry.result c.due-entry.ensures now (c.in_ok-synced.ensures.sure tells) in
+    flush_ok m c.args.ends.now s (d.held c.args.disk.now) (d.held c.add_entry.new.disk) c.due-entry.result c.add_entry.result c.due-entry.ensures at c.in_ok-synced.ensures.same.0 c.in_ok-synced.ensures.same.1 now.ends
+    (c.add_entry.ensures.ok tells (all_acknowledged m) now lead)

@@ -1,0 +1,33 @@
+-- The entry is appended.
+use Rattle.pcp_base.specs.declared.file.FileId.TheVariants.{Index}
+use Rattle.logger_core.specs.Meant.{SurvivesOf}
+use Rattle.logger_core.proofs.Calls.{one_append}
+use Rattle.logger_core.proofs.EntryPut.{entry_survives, entry_fits, entry_appended}
+use Rattle.logger_core.proofs.Rests.{image_survives}
+use Rattle.logger_core.proofs.flushing.put_entry.Goals as goal
+
+pub returns-in_err-append-clause-any_moment : goal.returns-in_err-append-clause-any_moment
+returns-in_err-append-clause-any_moment g c = λ tells m at leads.
+    let d = g.D.Disk in
+    let e = c.args.ends.now in
+    let old = d.held c.args.disk.now in
+    let fits = entry_fits m e old c.args.entry leads c.requires.small c.requires.room c.entry_bytes-bytes.ensures.range in
+    one_append d g.met.D.Disk.only_now c.args.disk.now c.append.new.self (SurvivesOf m) Index c.entry_bytes-bytes.result c.append.result c.append.ensures.time (c.append.ensures.held tells)
+    (image_survives m e.volume old at.stands) (entry_survives m e old c.args.entry at fits leads c.entry_bytes-bytes.result c.entry_bytes-bytes.ensures.bytes)
+
+pub returns-clause-any_moment : goal.returns-clause-any_moment
+returns-clause-any_moment g c = λ tells m at leads.
+    let d = g.D.Disk in
+    let e = c.args.ends.now in
+    let old = d.held c.args.disk.now in
+    let fits = entry_fits m e old c.args.entry leads c.requires.small c.requires.room c.entry_bytes-bytes.ensures.range in
+    one_append d g.met.D.Disk.only_now c.args.disk.now c.append.new.self (SurvivesOf m) Index c.entry_bytes-bytes.result c.append.result c.append.ensures.time (c.append.ensures.held tells)
+    (image_survives m e.volume old at.stands) (entry_survives m e old c.args.entry at fits leads c.entry_bytes-bytes.result c.entry_bytes-bytes.ensures.bytes)
+
+pub returns-clause-ok : goal.returns-clause-ok
+returns-clause-ok g c = λ tells m at leads.
+    let d = g.D.Disk in
+    let e = c.args.ends.now in
+    let old = d.held c.args.disk.now in
+    let fits = entry_fits m e old c.args.entry leads c.requires.small c.requires.room c.entry_bytes-bytes.ensures.range in
+    entry_appended m e old c.args.entry at fits leads c.entry_bytes-bytes.result (d.held c.append.new.self) c.entry_bytes-bytes.ensures.bytes (c.in_ok-append.ensures.held tells)

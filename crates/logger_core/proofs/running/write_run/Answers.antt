@@ -1,0 +1,51 @@
+-- The metadata, and then the records.
+use Rattle.logger_core.specs.Meant.{SurvivesOf}
+use Rattle.logger_core.specs.Runs.{SurvivesWith}
+use Rattle.logger_core.proofs.Calls.{run_as, run_then}
+use Rattle.logger_core.proofs.Loggable.{survives_more}
+use Rattle.logger_core.proofs.RunPut.{items_come, run_grown, run_ends, grown_survives_with}
+use Rattle.logger_core.proofs.running.write_run.Goals as goal
+
+pub returns-in_err-add_records-clause-any_moment :
+    goal.returns-in_err-add_records-clause-any_moment
+returns-in_err-add_records-clause-any_moment g c = λ tells m at rs xs run.
+    let d = g.D.Disk in
+    run_as d g.met.D.Disk.only_now c.args.disk.now c.add_records.new.disk (SurvivesWith m xs) (SurvivesOf m) (c.add_records.ensures.any_moment tells m at.stands run.meta_payloads rs run.meta_is run.come) (survives_more m xs)
+
+pub returns-in_err-add_items-clause-any_moment : goal.returns-in_err-add_items-clause-any_moment
+returns-in_err-add_items-clause-any_moment g c = λ tells m at rs xs run.
+    let d = g.D.Disk in
+    let e = c.args.ends.now in
+    let old = d.held c.args.disk.now in
+    let mid = d.held c.add_records.new.disk in
+    let first = c.in_ok-add_records.ensures.ok tells m at.stands run.meta_payloads rs run.meta_is run.come in
+    let come = items_come m e old mid rs xs c.args.records.now c.args.items.now at run first in
+    run_then d g.met.D.Disk.only_now c.args.disk.now c.add_records.new.disk c.add_items.new.disk (SurvivesWith m xs) (SurvivesOf m) (SurvivesWith first.new xs)
+    (c.add_records.ensures.any_moment tells m at.stands run.meta_payloads rs run.meta_is run.come) (c.add_items.ensures.any_moment tells first.new first.stands run.payloads xs run.items_are come)
+    (survives_more m xs) (grown_survives_with m e old mid rs xs c.args.records.now c.args.items.now at run first)
+
+pub returns-clause-any_moment : goal.returns-clause-any_moment
+returns-clause-any_moment g c = λ tells m at rs xs run.
+    let d = g.D.Disk in
+    let e = c.args.ends.now in
+    let old = d.held c.args.disk.now in
+    let mid = d.held c.add_records.new.disk in
+    let first = c.in_ok-add_records.ensures.ok tells m at.stands run.meta_payloads rs run.meta_is run.come in
+    let come = items_come m e old mid rs xs c.args.records.now c.args.items.now at run first in
+    run_then d g.met.D.Disk.only_now c.args.disk.now c.add_records.new.disk c.add_items.new.disk (SurvivesWith m xs) (SurvivesOf m) (SurvivesWith first.new xs)
+    (c.add_records.ensures.any_moment tells m at.stands run.meta_payloads rs run.meta_is run.come) (c.add_items.ensures.any_moment tells first.new first.stands run.payloads xs run.items_are come)
+    (survives_more m xs) (grown_survives_with m e old mid rs xs c.args.records.now c.args.items.now at run first)
+
+pub returns-clause-ok : goal.returns-clause-ok
+returns-clause-ok g c = λ tells m at rs xs run last many.
+    let d = g.D.Disk in
+    let e = c.args.ends.now in
+    let old = d.held c.args.disk.now in
+    let mid = d.held c.add_records.new.disk in
+    let new = d.held c.add_items.new.disk in
+    let first = c.in_ok-add_records.ensures.ok tells m at.stands run.meta_payloads rs run.meta_is run.come in
+    let come = items_come m e old mid rs xs c.args.records.now c.args.items.now at run first in
+    let second = c.in_ok-add_items.ensures.ok tells first.new first.stands run.payloads xs run.items_are come in (
+      run_grown m e old mid rs xs c.args.records.now c.args.items.now at run first new second,
+      run_ends m e old mid rs xs c.args.records.now c.args.items.now at run first new second c.args.stamp c.args.count c.saturating_add.result last many c.saturating_add.ensures,
+    )

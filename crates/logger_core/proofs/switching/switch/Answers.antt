@@ -1,0 +1,58 @@
+-- A flush, the label, the entry.
+use Rattle.std.proofs.Common.{◌∙◌}
+use Rattle.logger_core.specs.Meant.{IsAt, SurvivesOf}
+use Rattle.logger_core.proofs.Calls.{run_then}
+use Rattle.logger_core.proofs.Turned.{flushed_survives, grown_survives, switch_found_room, switch_found_leads, switch_ok}
+use Rattle.logger_core.proofs.switching.switch.Goals as goal
+
+pub add_entry-requires-clause-room : goal.add_entry-requires-clause-room
+add_entry-requires-clause-room g c = switch_found_room c.in_ok-opened.opened c.switch_entry-entry.result c.switch_entry-entry.ensures
+
+pub returns-in_err-opened-clause-any_moment : goal.returns-in_err-opened-clause-any_moment
+returns-in_err-opened-clause-any_moment g c = λ tells m at same.
+    let d = g.D.Disk in
+    let e = c.args.ends.now in
+    let old = d.held c.args.disk.now in
+    let mid = d.held c.flush_files.new.disk in
+    let flushed = c.in_ok-flushed.flushed in
+    let f = c.in_ok-flushed.ensures.ok tells m at in
+    run_then d g.met.D.Disk.only_now c.args.disk.now c.flush_files.new.disk c.open_next.new.disk (SurvivesOf m) (SurvivesOf m) (SurvivesOf f.new)
+    (c.flush_files.ensures.any_moment tells m at) (c.open_next.ensures.any_moment tells f.new f.at (c.in_ok-flushed.ensures.sure tells) (f.label_same ∙ same))
+    (λ image good. good) (flushed_survives m e flushed old mid at f)
+
+pub returns-clause-any_moment : goal.returns-clause-any_moment
+returns-clause-any_moment g c = λ tells m at same.
+    let d = g.D.Disk in
+    let e = c.args.ends.now in
+    let old = d.held c.args.disk.now in
+    let mid = d.held c.flush_files.new.disk in
+    let mid2 = d.held c.open_next.new.disk in
+    let flushed = c.in_ok-flushed.flushed in
+    let open_ = c.in_ok-opened.opened in
+    let f = c.in_ok-flushed.ensures.ok tells m at in
+    let sure = c.in_ok-flushed.ensures.sure tells in
+    let o = c.in_ok-opened.ensures.ok tells f.new f.at sure (f.label_same ∙ same) in
+    let o_at : IsAt o.0.new open_ mid2 = record { stands = o.0.stands; ends = o.1 } in
+    let lead = switch_found_leads o.0.new open_ mid2 c.switch_entry-entry.result c.switch_entry-entry.ensures o_at (c.in_ok-opened.ensures.sure tells f.new f.at) c.in_ok-opened.ensures.same.4 in
+    run_then d g.met.D.Disk.only_now c.args.disk.now c.open_next.new.disk c.add_entry.new.disk (SurvivesOf m) (SurvivesOf m) (SurvivesOf o.0.new)
+    (run_then d g.met.D.Disk.only_now c.args.disk.now c.flush_files.new.disk c.open_next.new.disk (SurvivesOf m) (SurvivesOf m) (SurvivesOf f.new)
+    (c.flush_files.ensures.any_moment tells m at) (c.open_next.ensures.any_moment tells f.new f.at sure (f.label_same ∙ same)) (λ image good. good) (flushed_survives m e flushed old mid at f))
+    (c.add_entry.ensures.any_moment tells o.0.new o_at lead) (λ image good. good)
+    (λ image w. flushed_survives m e flushed old mid at f image (grown_survives f.new _ open_.volume mid2 o.0 image w))
+
+pub returns-clause-ok : goal.returns-clause-ok
+returns-clause-ok g c = λ tells m at same.
+    let d = g.D.Disk in
+    let e = c.args.ends.now in
+    let old = d.held c.args.disk.now in
+    let mid = d.held c.flush_files.new.disk in
+    let mid2 = d.held c.open_next.new.disk in
+    let flushed = c.in_ok-flushed.flushed in
+    let open_ = c.in_ok-opened.opened in
+    let f = c.in_ok-flushed.ensures.ok tells m at in
+    let sure = c.in_ok-flushed.ensures.sure tells in
+    let o = c.in_ok-opened.ensures.ok tells f.new f.at sure (f.label_same ∙ same) in
+    let o_at : IsAt o.0.new open_ mid2 = record { stands = o.0.stands; ends = o.1 } in
+    let lead = switch_found_leads o.0.new open_ mid2 c.switch_entry-entry.result c.switch_entry-entry.ensures o_at (c.in_ok-opened.ensures.sure tells f.new f.at) c.in_ok-opened.ensures.same.4 in
+    switch_ok m c.args.label.now e flushed open_ old mid mid2 (d.held c.add_entry.new.disk) c.switch_entry-entry.result c.add_entry.result at same f o
+    c.in_ok-flushed.ensures.same.0 c.in_ok-opened.ensures.same.0 c.in_ok-opened.ensures.same.1 c.in_ok-flushed.ensures.same.1 c.switch_entry-entry.ensures (c.add_entry.ensures.ok tells o.0.new o_at lead) c.add_entry.ensures.same

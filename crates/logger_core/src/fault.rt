@@ -1,0 +1,33 @@
+//! Why a logger's call was refused.
+ghost use Rattle.std.specs.Prelude.{◌≡◌};
+ghost use Rattle.logger_core.specs.declared.fault.LogFault.TheVariants.{NoMemory as Refused};
+
+use pcp_base::{FileId, NoMemory, Pmid, Stamp};
+
+/// Why a logger's call was refused. They are looked at in this order.
+#[derive(Clone, Copy, Debug, PartialEq, Eq)]
+pub enum LogFault {
+    /// An earlier call of this logger answered `DiskFault`.
+    Closed,
+    /// The framed record, or else a record of Meta that is missing for it, would be longer than 16,777,216 bytes.
+    Large { bytes: u64 },
+    /// The result isn't stamped after every item and every instance domain; this is the greatest stamp.
+    NotLater { last: Stamp },
+    /// A metric is described otherwise than before, or its name isn't the first one kept.
+    Changed { pmid: Pmid },
+    /// Meta or the index would pass 2,147,483,647 bytes, and would have so many; or a volume would be opened whose number is
+    /// 10,000 or above, and `bytes` is 10,000.
+    Full { file: FileId, bytes: u64 },
+    /// Memory was refused.
+    NoMemory,
+    /// The disk failed. The logger is closed: what it left is to be recovered.
+    DiskFault,
+}
+
+impl From<NoMemory> for LogFault {
+    ghost from_gives = { λ _ e. e ≡ Refused };
+
+    fn from(_error: NoMemory) -> LogFault {
+        LogFault::NoMemory
+    }
+}

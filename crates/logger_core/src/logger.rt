@@ -1,0 +1,238 @@
+//! What a logger keeps, and its calls.
+ghost use Rattle.std.specs.Prelude.{◌≡◌, ◌≢◌, ◌<◌, ◌≤◌, [], ◌∷◌, true, false, length, Err, IfOk, IfErr, OnOk, OnErr};
+ghost use Rattle.pcp_model.specs.Disk.{IsEmpty, contents_of};
+ghost use Rattle.pcp_outside.specs.Devices.{LeavesOnly};
+ghost use Rattle.logger_core.specs.declared.fault.LogFault.TheVariants.{Closed, NoMemory as Refused, DiskFault};
+ghost use Rattle.std.specs.List.{AllByRecursion};
+ghost use Rattle.pcp_base.specs.Results.{Fits};
+ghost use Rattle.pcp_base.specs.declared.result.Item.TheVariants.{Sample};
+ghost use Rattle.archive_meta.specs.Enough.{AreEnough};
+ghost use Rattle.archive_meta.specs.Records.{Adds};
+ghost use Rattle.logger_core.specs.Logging.{IsLogged, IsLoggable, IsPrepared, PrepareMayAnswer, LogMayAnswer};
+ghost use Rattle.logger_core.specs.Runs.{SurvivesWith};
+ghost use Rattle.logger_core.specs.Writing.{IsBounded};
+ghost use Rattle.logger_core.specs.Created.{HasNoItem, IsCreated, first_ends};
+ghost use Rattle.logger_core.specs.Going.{AreSmall, IsFlushed};
+ghost use Rattle.logger_core.specs.Meant.{Meant, IsLogger, SurvivesOf};
+ghost use Rattle.logger_core.specs.Refusals.{FlushMayAnswer, CreateMayAnswer};
+
+use crate::creating::write_labels;
+use crate::ends::Ends;
+use crate::fault::LogFault;
+use crate::flushing::flush_files;
+use crate::logging::write_item;
+use crate::preparing::{Made, prepare};
+use archive_meta::{Facts, MetaState};
+use pcp_base::{Duplicate, NoMemory, PmResult};
+use pcp_model::Label;
+use pcp_outside::Disk;
+use std::alloc::Global;
+use std::marker::Model;
+
+/// A logger of one archive (pmlogger(1)). Between its calls the disk holds all that it logged; each call that reaches the files
+/// is handed the disk, which nobody else has changed since.
+#[derive(Drop)]
+pub struct Logger {
+    label: Label,
+    meta: MetaState,
+    ends: Ends,
+    limit: u64,
+    closed: bool,
+}
+
+impl Model for Logger {
+    ghost use Rattle.logger_core.specs.Meant.{Kept};
+    ghost use Rattle.logger_core.specs.Going.{IsReachable};
+
+    ghost Value = { Kept };
+
+    ghost view = { λ a. record { label = a.label; records = a.meta; ends = a.ends; limit = a.limit; closed = a.closed } };
+
+    ghost invariant = { λ a. IsReachable a.ends a.limit };
+}
+
+/// The same label.
+fn copy_of(alloc: Global, label: &Label) -> Result<Label, NoMemory>
+    ensures { IfOk result (λ l. l ≡ label.now) }
+{
+    let host = label.host().copy(alloc)?;
+    let zone = label.zone().copy(alloc)?;
+    match Label::build(label.pid(), label.start(), host, zone) {
+        Some(copy) => Ok(copy),
+        // Both texts are as long as they were.
+        None => Err(NoMemory),
+    }
+}
+
+/// Where the files of a new archive end.
+fn first_ends() -> Ends
+    ensures { result ≡ first_ends }
+{
+    Ends {
+        meta: 132,
+        index: 132,
+        volume: 0,
+        length: 132,
+        greatest: None,
+        entry: None,
+        logged: 0,
+        acknowledged: 0,
+    }
+}
+
+/// The logger of a new archive.
+fn new_logger(label: Label, meta: MetaState, limit: u64) -> Logger
+    requires { limit ≤ 1073741824 }
+    ensures { result ≡ record { label = label; records = meta; ends = first_ends; limit = limit; closed = false } }
+{
+    Logger {
+        label,
+        meta,
+        ends: first_ends(),
+        limit,
+        closed: false,
+    }
+}
+
+/// Adds framed records that contradict none.
+fn extend(meta: &mut MetaState, alloc: Global, bytes: &[u8]) -> Result<(), NoMemory>
+    ensures ok { OnOk result (Adds meta.old bytes.now meta.new) }
+    ensures err { OnErr result (meta.new ≡ meta.old) }
+{
+    match meta.extend(alloc, bytes) {
+        Ok(()) => Ok(()),
+        Err(_) => Err(NoMemory),
+    }
+}
+
+impl Logger {
+    /// A logger of a new archive, over files that hold nothing: the labels of Meta, of the index and of the first volume are
+    /// appended and synced. `volume` is the volume limit, 1,024 to 1,073,741,824 bytes.
+    pub fn create<D: Disk>(
+        alloc: Global,
+        disk: &mut D,
+        label: &Label,
+        volume: u64,
+    ) -> Result<Logger, LogFault>
+        requires limit { (1024 ≤ volume) × (volume ≤ 1073741824) }
+        // The labels stand, synced, and nothing else; the logger keeps the archive that they are.
+        ensures created { D.tells → IsEmpty (contents_of (D.held disk.old)) → IfOk result (λ l. IsCreated label.now volume l (D.held disk.new)) }
+        // A crash at any moment leaves files without an item.
+        ensures any_moment { D.tells → IsEmpty (contents_of (D.held disk.old)) → LeavesOnly D.moment D.left_since disk.old disk.new HasNoItem }
+        // Which refusal it is.
+        ensures fault { IfErr result (λ e. CreateMayAnswer (D.faults disk.old) (D.faults disk.new) e) }
+        // The disk was not touched where memory ran out.
+        ensures untouched { IfErr result (λ e. e ≡ Refused → disk.new ≡ disk.old) }
+        ensures later { D.faults disk.old ≤ D.faults disk.new }
+    {
+        let copy = copy_of(alloc, label)?;
+        let meta = MetaState::empty(alloc);
+        match write_labels(disk, &copy) {
+            Ok(()) => Ok(new_logger(copy, meta, volume)),
+            Err(_) => Err(LogFault::DiskFault),
+        }
+    }
+
+    /// How many items there are: those found at opening, and those logged since.
+    pub fn logged(&self) -> u64
+        ensures { result ≡ self.now.ends.logged }
+    {
+        self.ends.logged
+    }
+
+    /// How many items are acknowledged: those found at opening, and those acknowledged since.
+    pub fn acknowledged(&self) -> u64
+        ensures { result ≡ self.now.ends.acknowledged }
+    {
+        self.ends.acknowledged
+    }
+
+    /// Makes every logged item sure, and then puts an entry behind the index where one is due: `Ok` acknowledges them all. No
+    /// memory is taken.
+    pub fn flush<D: Disk>(&mut self, disk: &mut D) -> Result<(), LogFault>
+        // The files are those after a flush, and every item is acknowledged.
+        ensures done { D.tells → (m : Meant) → IsLogger m self.old (D.held disk.old) → OnOk result (IsFlushed m self.old self.new (D.held disk.new)) }
+        // A crash at any moment leaves the first items, all acknowledged ones among them, each described.
+        ensures any_moment { D.tells → (m : Meant) → IsLogger m self.old (D.held disk.old) → LeavesOnly D.moment D.left_since disk.old disk.new (SurvivesOf m) }
+        // Closed comes exactly after a fault of the disk, and then nothing is touched.
+        ensures closed { self.old.closed ≡ true → (result ≡ Err Closed) × (self.new ≡ self.old) × (disk.new ≡ disk.old) }
+        // Which refusal it is; a fault of the disk closes the logger.
+        ensures fault { IfErr result (λ e. FlushMayAnswer self.old self.new (D.faults disk.old) (D.faults disk.new) e) }
+        ensures later { D.faults disk.old ≤ D.faults disk.new }
+    {
+        if self.closed {
+            return Err(LogFault::Closed);
+        }
+        match flush_files(disk, &self.ends) {
+            Ok(ends) => {
+                self.ends = ends;
+                Ok(())
+            }
+            Err(_) => {
+                self.closed = true;
+                Err(LogFault::DiskFault)
+            }
+        }
+    }
+
+    /// All that is written of a result; the metadata know of it then.
+    fn prepared(
+        &mut self,
+        alloc: Global,
+        answer: &PmResult,
+        facts: &Facts,
+    ) -> Result<Made, LogFault>
+        requires some { 0 < length answer.now.sets }
+        requires fits { AllByRecursion Fits answer.now.sets }
+        ensures made { IfOk result (IsPrepared self.old self.new answer.now facts.now) }
+        ensures bounded { IfOk result (IsBounded self.old.ends) }
+        ensures small { AreSmall self.old.ends }
+        ensures limited { self.old.limit ≤ 1073741824 }
+        ensures fault { IfErr result (PrepareMayAnswer self.old self.new answer.now facts.now) }
+    {
+        let is_closed = self.closed;
+        if is_closed {
+            return Err(LogFault::Closed);
+        }
+        let made = prepare(alloc, &self.meta, &self.ends, self.limit, answer, facts)?;
+        extend(&mut self.meta, alloc, made.records.as_slice())?;
+        Ok(made)
+    }
+
+    /// Logs a result: the metadata that are missing are appended and synced, and then the result's record. Where it would pass
+    /// the volume limit, the next volume is opened first. `facts` describe each metric with values, and list its domain with
+    /// every instance shown. A refusal other than `DiskFault` leaves everything as it was.
+    pub fn log<D: Disk>(
+        &mut self,
+        alloc: Global,
+        disk: &mut D,
+        answer: &PmResult,
+        facts: &Facts,
+    ) -> Result<(), LogFault>
+        requires some { 0 < length answer.now.sets }
+        requires fits { AllByRecursion Fits answer.now.sets }
+        // The result is the last item, and the files are those after it.
+        ensures done { D.tells → AreEnough facts.now answer.now.sets → (m : Meant) → IsLogger m self.old (D.held disk.old) → OnOk result (IsLogged m self.old self.new answer.now facts.now (D.held disk.new)) }
+        // It may be logged.
+        ensures loggable { OnOk result ((self.old.closed ≡ false) × IsLoggable self.old.records self.old.ends self.old.limit answer.now facts.now) }
+        // A crash at any moment leaves the first items, perhaps the new one too, all acknowledged ones among them, each described.
+        ensures any_moment { D.tells → AreEnough facts.now answer.now.sets → (m : Meant) → IsLogger m self.old (D.held disk.old) → LeavesOnly D.moment D.left_since disk.old disk.new (SurvivesWith m (Sample answer.now ∷ [])) }
+        // Which refusal it is, and what it leaves.
+        ensures fault { IfErr result (λ e. LogMayAnswer self.old self.new answer.now facts.now (D.faults disk.old) (D.faults disk.new) e) }
+        // Every refusal but a fault of the disk leaves the disk untouched.
+        ensures untouched { IfErr result (λ e. e ≢ DiskFault → disk.new ≡ disk.old) }
+        ensures later { D.faults disk.old ≤ D.faults disk.new }
+    {
+        let made = self.prepared(alloc, answer, facts)?;
+        match write_item(disk, &self.label, &self.ends, &made, answer) {
+            Ok(ends) => {
+                self.ends = ends;
+                Ok(())
+            }
+            Err(_) => {
+                self.closed = true;
+                Err(LogFault::DiskFault)
+            }
+        }
+    }
+}
