@@ -1,6 +1,6 @@
 //! What the lines of a book act on: what a case has outside of the program, and the parts whose calls no command makes.
 //! A word's function stands in the crate of its part: `case_outside`, `case_commands`, `case_crashes`, `case_images`,
-//! `case_parts` or `case_records`.
+//! `case_parts`, `case_records`, `case_regions` or `case_scripts`.
 mod parts;
 
 use crate::scene::parts::Parts;

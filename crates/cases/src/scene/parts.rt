@@ -5,6 +5,7 @@ use case_images::tell_text;
 use case_parts::{Filter, Schedule, tell_names, tell_value};
 use case_records::{tell_meta, tell_record, tell_result};
 use case_regions::tell_journal;
+use case_scripts::tell_script;
 use pcp_base::NoMemory;
 use pmns_core::Names;
 use std::alloc::Global;
@@ -50,6 +51,7 @@ impl Parts {
             "base" => Ok(bytes_of(tell_value(alloc, words, input)?)),
             "journal" => Ok(bytes_of(tell_journal(alloc, line.rest)?)),
             "text" => tell_text(alloc, words),
+            "script" => tell_script(alloc, line.rest, input),
             "result" => tell_result(alloc, line.rest, input),
             "label" | "frame" | "index" => tell_record(alloc, line.word, words, input),
             _ => Ok(None),

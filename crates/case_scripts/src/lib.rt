@@ -1,0 +1,26 @@
+//! Words of a book of cases for scripts: a line of a script by itself, and whole scripts.
+#![tactic(auto)]
+
+mod lines;
+mod scripts;
+
+use case_book::read_text;
+use pcp_base::NoMemory;
+use std::alloc::Global;
+
+/// `script head LINE` and `script step LINE`: the line as it was read, or `none`. `script`: what the input's script says,
+/// or its first fault. `script image POSITION`: the bytes of an image of the input's script.
+pub fn tell_script(alloc: Global, rest: &str, input: &[u8]) -> Result<Option<Vec<u8>>, NoMemory> {
+    let (form, behind) = rest.split_once(' ').unwrap_or((rest, ""));
+    if form.is_empty() || form == "image" {
+        return scripts::tell(alloc, input, behind);
+    }
+    let Some(line) = read_text(alloc, behind)? else {
+        return Ok(None);
+    };
+    match form {
+        "head" => Ok(Some(lines::tell_head(alloc, &line)?.into_bytes())),
+        "step" => Ok(Some(lines::tell_step(alloc, &line)?.into_bytes())),
+        _ => Ok(None),
+    }
+}
