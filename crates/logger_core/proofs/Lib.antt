@@ -1,4 +1,5 @@
 pub mod Announced
+pub mod AsFound
 pub mod Calls
 pub mod Dues
 pub mod EntryPut
@@ -12,6 +13,7 @@ pub mod NoItems
 pub mod Opened
 pub mod Pointwise
 pub mod RecordsPut
+pub mod Recovered
 pub mod Refused
 pub mod Reopened
 pub mod Rests

@@ -6,7 +6,9 @@ pub mod Laws
 pub mod Logging
 pub mod Meant
 pub mod Preparing
+pub mod Recovering
 pub mod Refusals
+pub mod Reopening
 pub mod Runs
 pub mod Steps
 pub mod Writing

@@ -113,6 +113,10 @@ pub record IsPrepared (old now : Kept) (answer : PmResult) (facts : Facts) (made
   pub added : Adds old.records made.records now.records
   pub same : now ≡ record { label = old.label; records = now.records; ends = old.ends; limit = old.limit; closed = old.closed }
 
+-- a logger that was closed, whose metadata may be those of the result that was not written
+abbrev pub closed_with : Kept → List MetaRecord → Kept
+closed_with l records = record { label = l.label; records = records; ends = l.ends; limit = l.limit; closed = true }
+
 -- Which refusal `log` answers, and what it leaves: all but a fault of the disk leave the logger as it was.
 abbrev pub LogMayAnswer : Kept → Kept → PmResult → Facts → ℕ → ℕ → LogFault → Type 0
 LogMayAnswer old new answer facts before after Closed = PrepareMayAnswer old new answer facts Closed
@@ -121,4 +125,4 @@ LogMayAnswer old new answer facts before after (NotLater last) = PrepareMayAnswe
 LogMayAnswer old new answer facts before after (Changed pmid) = PrepareMayAnswer old new answer facts (Changed pmid)
 LogMayAnswer old new answer facts before after (Full file bytes) = PrepareMayAnswer old new answer facts (Full file bytes)
 LogMayAnswer old new answer facts before after NoMemory = PrepareMayAnswer old new answer facts NoMemory
-LogMayAnswer old new answer facts before after DiskFault = (old.closed ≡ false) × IsLoggable old.records old.ends old.limit answer facts × (new.closed ≡ true) × Rose before after
+LogMayAnswer old new answer facts before after DiskFault = (old.closed ≡ false) × IsLoggable old.records old.ends old.limit answer facts × (new ≡ closed_with old new.records) × Rose before after

@@ -1,4 +1,5 @@
 //! What holds of what a logger keeps. Each is the contract of a function without parameters, which does nothing.
+ghost use Rattle.logger_core.specs.Recovering.{SurvivorsAreRecovered};
 ghost use Rattle.logger_core.specs.Laws.{KeptFilesSurvive, NearerIsKept, SureIsAcknowledged, SureIsKnown, ItemIsAnnounced, RecordsAreAnnounced, LaterRecordsDescribe, EntryIsAnnounced, VolumeIsAnnounced, WholeIsKept, RecoveredIsWhole};
 
 /// Whatever a crash leaves of what a logger keeps is an archive of the first of its items, with all acknowledged ones,
@@ -56,4 +57,10 @@ pub fn whole_is_kept()
 /// What recovery leaves of an archive, once every byte of it is sure, is a whole archive: no volume without its label is left.
 pub fn recovered_is_whole()
     ensures { RecoveredIsWhole }
+{}
+
+/// Recovery of what survives leaves an archive of the first of the items, with all acknowledged ones, each described by the
+/// metadata that is left, and sound.
+pub fn survivors_are_recovered()
+    ensures { SurvivorsAreRecovered }
 {}

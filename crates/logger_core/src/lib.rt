@@ -11,6 +11,7 @@ mod flushing;
 mod laws;
 mod logger;
 mod logging;
+mod opening;
 mod preparing;
 mod running;
 mod switching;
@@ -19,6 +20,6 @@ pub use fault::LogFault;
 pub use laws::{
     entry_is_announced, item_is_announced, kept_files_survive, later_records_describe,
     nearer_is_kept, records_are_announced, recovered_is_whole, sure_is_acknowledged, sure_is_known,
-    volume_is_announced, whole_is_kept,
+    survivors_are_recovered, volume_is_announced, whole_is_kept,
 };
 pub use logger::Logger;

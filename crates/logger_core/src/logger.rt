@@ -1,5 +1,5 @@
 //! What a logger keeps, and its calls.
-ghost use Rattle.std.specs.Prelude.{◌≡◌, ◌≢◌, ◌<◌, ◌≤◌, [], ◌∷◌, true, false, length, Err, IfOk, IfErr, OnOk, OnErr};
+ghost use Rattle.std.specs.Prelude.{◌≡◌, ◌≢◌, ◌<◌, ◌≤◌, [], ◌∷◌, true, false, length, None, Some, Err, IfOk, IfErr, MatchOption, OnOk, OnErr};
 ghost use Rattle.pcp_model.specs.Disk.{IsEmpty, contents_of};
 ghost use Rattle.pcp_outside.specs.Devices.{LeavesOnly};
 ghost use Rattle.logger_core.specs.declared.fault.LogFault.TheVariants.{Closed, NoMemory as Refused, DiskFault};
@@ -15,14 +15,17 @@ ghost use Rattle.logger_core.specs.Created.{HasNoItem, IsCreated, first_ends};
 ghost use Rattle.logger_core.specs.Going.{AreSmall, IsFlushed};
 ghost use Rattle.logger_core.specs.Meant.{Meant, IsLogger, SurvivesOf};
 ghost use Rattle.logger_core.specs.Refusals.{FlushMayAnswer, CreateMayAnswer};
+ghost use Rattle.logger_core.specs.Reopening.{IsLeft, IsReopened, SameFiles, ends_of};
 
 use crate::creating::write_labels;
 use crate::ends::Ends;
 use crate::fault::LogFault;
 use crate::flushing::flush_files;
 use crate::logging::write_item;
+use crate::opening::ends_of;
 use crate::preparing::{Made, prepare};
 use archive_meta::{Facts, MetaState};
+use archive_recovery::Archive;
 use pcp_base::{Duplicate, NoMemory, PmResult};
 use pcp_model::Label;
 use pcp_outside::Disk;
@@ -94,6 +97,22 @@ fn new_logger(label: Label, meta: MetaState, limit: u64) -> Logger
     }
 }
 
+/// The logger of an archive that was left so, whose files end there.
+fn logger_of(archive: Archive, ends: Ends, limit: u64) -> Option<Logger>
+    requires small { AreSmall ends }
+    requires limited { limit ≤ 1073741824 }
+    ensures { MatchOption result (archive.label ≡ None) (λ l. (Some l.label ≡ archive.label) × (l.records ≡ archive.meta) × (l.ends ≡ ends) × (l.limit ≡ limit) × (l.closed ≡ false)) }
+{
+    let label = archive.label?;
+    Some(Logger {
+        label,
+        meta: archive.meta,
+        ends,
+        limit,
+        closed: false,
+    })
+}
+
 /// Adds framed records that contradict none.
 fn extend(meta: &mut MetaState, alloc: Global, bytes: &[u8]) -> Result<(), NoMemory>
     ensures ok { OnOk result (Adds meta.old bytes.now meta.new) }
@@ -130,6 +149,32 @@ impl Logger {
         match write_labels(disk, &copy) {
             Ok(()) => Ok(new_logger(copy, meta, volume)),
             Err(_) => Err(LogFault::DiskFault),
+        }
+    }
+
+    /// A logger that goes on with an archive as recovery left it, which has a label: every item is acknowledged. `volume` is the
+    /// volume limit, 1,024 to 1,073,741,824 bytes. It takes no memory; `NoMemory` tells that a file has 2^63 bytes or more, which
+    /// none could be handed on.
+    pub fn reopen<D: Disk>(disk: &mut D, archive: Archive, volume: u64) -> Result<Logger, LogFault>
+        requires limit { (1024 ≤ volume) × (volume ≤ 1073741824) }
+        requires labelled { archive.label ≢ None }
+        // The logger keeps the archive that recovery left.
+        ensures reopened { D.tells → IsLeft archive (D.held disk.old) → IfOk result (λ l. IsReopened volume l (D.held disk.new)) }
+        // A crash at any moment leaves the files as they are.
+        ensures any_moment { D.tells → IsLeft archive (D.held disk.old) → LeavesOnly D.moment D.left_since disk.old disk.new (SameFiles (D.held disk.old)) }
+        ensures untouched { disk.new ≡ disk.old }
+        // It is refused exactly where a file is so long.
+        ensures fault { IfErr result (λ e. (e ≡ Refused) × (AreSmall (ends_of archive) → ⊥)) }
+        // What it keeps is what was told.
+        ensures told { IfOk result (λ l. (Some l.label ≡ archive.label) × (l.records ≡ archive.meta) × (l.ends ≡ ends_of archive) × (l.limit ≡ volume) × (l.closed ≡ false)) }
+    {
+        let _ = disk;
+        let Some(ends) = ends_of(&archive) else {
+            return Err(LogFault::NoMemory);
+        };
+        match logger_of(archive, ends, volume) {
+            Some(logger) => Ok(logger),
+            None => Err(LogFault::NoMemory),
         }
     }
 
