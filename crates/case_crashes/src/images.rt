@@ -1,11 +1,14 @@
 //! Reads the images that a crash may leave.
-use crate::parts::{Part, advance, parts_at, parts_cut};
+use crate::described::is_described;
+use crate::parts::{Part, advance, fronts_of, parts_at, parts_cut};
 use crate::tally::{Found, Tally};
-use archive_plain::{PlainReading, is_described, read_archive, records_in, scan};
+use archive_meta::MetaState;
+use archive_reader::{ArchiveReader, ReaderFault};
 use case_book::{Answer, Kept, Line};
-use case_outside::{Drive, Held, file_of, snapshot};
+use case_outside::{Drive, Held, disk_of, file_of, snapshot};
 use case_records::write_item;
-use pcp_base::{Bytes, Item, List, NoMemory};
+use pcp_base::{Item, List, NoMemory};
+use pcp_outside::MemDisk;
 use std::alloc::Global;
 
 fn is_told(alloc: Global, item: &Item, wanted: &[u8]) -> Result<bool, NoMemory> {
@@ -14,60 +17,53 @@ fn is_told(alloc: Global, item: &Item, wanted: &[u8]) -> Result<bool, NoMemory> 
     Ok(text.as_bytes() == wanted)
 }
 
-// What an item of a reading is, where one of this text is looked for.
+// What an item is, where one of this text is looked for.
 fn found_of(
     alloc: Global,
-    reading: &PlainReading,
+    meta: &MetaState,
     item: &Item,
     wanted: &[u8],
 ) -> Result<Found, NoMemory> {
     if !is_told(alloc, item, wanted)? {
         return Ok(Found::Other);
     }
-    match is_described(records_in(reading), item) {
+    match is_described(meta, item) {
         true => Ok(Found::Described),
         false => Ok(Found::Undescribed),
     }
 }
 
-fn look(alloc: Global, reading: &PlainReading, wanted: &[u8]) -> Result<Found, NoMemory> {
-    let items = scan(alloc, reading)?;
-    match items.as_slice() {
-        [] => Ok(Found::Nothing),
-        [item] => found_of(alloc, reading, item, wanted),
-        _ => Ok(Found::Other),
+fn unread(fault: ReaderFault) -> Result<Found, NoMemory> {
+    match fault {
+        ReaderFault::NoMemory => Err(NoMemory),
+        _ => Ok(Found::Unreadable),
     }
 }
 
-// What an image is read as.
-fn read_image(
-    alloc: Global,
-    meta: &[u8],
-    index: &[u8],
-    volumes: &[Bytes],
-    wanted: &[u8],
-) -> Result<Found, NoMemory> {
-    match read_archive(alloc, meta, index, volumes)? {
-        Some(reading) => look(alloc, &reading, wanted),
-        None => Ok(Found::Unreadable),
+// What the archive on a disk is read as.
+fn look(alloc: Global, disk: &mut MemDisk, wanted: &[u8]) -> Result<Found, NoMemory> {
+    let mut reader = match ArchiveReader::load(alloc, disk) {
+        Ok(reader) => reader,
+        Err(fault) => return unread(fault),
+    };
+    let start = reader.start();
+    let (item, next) = match reader.item_at(alloc, disk, start) {
+        Ok(Some(found)) => found,
+        Ok(None) => return Ok(Found::Nothing),
+        Err(fault) => return unread(fault),
+    };
+    match reader.item_at(alloc, disk, next) {
+        Ok(None) => found_of(alloc, reader.meta(), &item, wanted),
+        Ok(Some(_)) => Ok(Found::Other),
+        Err(fault) => unread(fault),
     }
-}
-
-fn fronts_of(alloc: Global, parts: &[Part]) -> Result<Vec<Bytes>, NoMemory> {
-    let mut fronts = Vec::new(alloc);
-    for part in parts {
-        fronts.push(List::from_vec(part.front().to_vec(alloc)?))?;
-    }
-    Ok(fronts)
 }
 
 // What the parts are read as at the lengths that they are looked at.
 fn read_parts(alloc: Global, parts: &[Part], wanted: &[u8]) -> Result<Found, NoMemory> {
-    let [meta, index, rest @ ..] = parts else {
-        return Ok(Found::Other);
-    };
-    let volumes = fronts_of(alloc, rest)?;
-    read_image(alloc, meta.front(), index.front(), &volumes, wanted)
+    let files = fronts_of(alloc, parts)?;
+    let mut disk = disk_of(alloc, &files, List::empty(alloc))?;
+    look(alloc, &mut disk, wanted)
 }
 
 // Reads each image of one moment.

@@ -1,10 +1,13 @@
 //! Words of a book of cases for what a crash may leave of the runs of a case: of each file by itself the bytes that were
-//! sure, and any beginning of the rest. Each image is read by the plain readers, whose answers are true by the
-//! definitions.
+//! sure, and any beginning of the rest. Each image is read by the reader, whose answers are what the definitions
+//! say, or recovered.
 #![tactic(auto)]
 
+mod described;
 mod images;
 mod parts;
+mod recovered;
 mod tally;
 
 pub use images::crash;
+pub use recovered::recovered;

@@ -7,6 +7,8 @@ use std::alloc::Global;
 /// What a file held at a moment: how many bytes were sure, and all of them; and at which length it is looked at.
 #[derive(Drop)]
 pub struct Part {
+    /// Which file it is.
+    pub file: FileId,
     sure: usize,
     bytes: Bytes,
     end: usize,
@@ -14,8 +16,9 @@ pub struct Part {
 
 impl Part {
     /// A part of which so many bytes are sure.
-    pub fn new(sure: usize, bytes: Bytes) -> Part {
+    pub fn new(file: FileId, sure: usize, bytes: Bytes) -> Part {
         Part {
+            file,
             sure,
             bytes,
             end: sure,
@@ -54,7 +57,7 @@ fn part_at(alloc: Global, disk: &MemDisk, moment: usize, file: FileId) -> Result
         return Err(NoMemory);
     }
     let (sure, bytes) = disk.holdings_at(alloc, moment, file)?;
-    Ok(Part::new(sure, bytes))
+    Ok(Part::new(file, sure, bytes))
 }
 
 /// The files that ever held bytes, as they were at a moment.
@@ -77,7 +80,20 @@ pub fn parts_cut(alloc: Global, files: &[Held], cut: FileId) -> Result<Vec<Part>
     for held in files {
         let bytes = List::from_vec(held.bytes.to_vec(alloc)?);
         let sure = if held.file == cut { 0 } else { bytes.len() };
-        parts.push(Part::new(sure, bytes))?;
+        parts.push(Part::new(held.file, sure, bytes))?;
     }
     Ok(parts)
+}
+
+/// The files of the image at the lengths that they are looked at.
+pub fn fronts_of(alloc: Global, parts: &[Part]) -> Result<Vec<Held>, NoMemory> {
+    let mut files = Vec::new(alloc);
+    for part in parts {
+        let bytes = part.front().to_vec(alloc)?;
+        files.push(Held {
+            file: part.file,
+            bytes,
+        })?;
+    }
+    Ok(files)
 }

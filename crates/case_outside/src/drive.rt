@@ -46,6 +46,15 @@ fn fill_all(disk: &mut MemDisk, files: &[Held]) -> bool {
     true
 }
 
+/// A disk whose files hold these bytes, all sure. Of its calls, those that fill it too, the ones with these numbers are to fail.
+pub fn disk_of(alloc: Global, files: &[Held], fails: List<u64>) -> Result<MemDisk, NoMemory> {
+    let mut disk = MemDisk::new(alloc, fails);
+    match fill_all(&mut disk, files) {
+        true => Ok(disk),
+        false => Err(NoMemory),
+    }
+}
+
 // The numbers of the disk's calls that are to fail, behind those that fill it.
 fn fails_behind(alloc: Global, fails: &[u64], filling: usize) -> Result<List<u64>, NoMemory> {
     let mut behind = List::empty(alloc);
@@ -72,13 +81,11 @@ impl Drive {
             return Ok(());
         }
         let filling = self.files.len().saturating_mul(2);
-        self.disk = MemDisk::new(alloc, fails_behind(alloc, &self.fails, filling)?);
+        let fails = fails_behind(alloc, &self.fails, filling)?;
+        self.disk = disk_of(alloc, &self.files, fails)?;
         self.first_moment = filling;
         self.is_made = true;
-        match fill_all(&mut self.disk, &self.files) {
-            true => Ok(()),
-            false => Err(NoMemory),
-        }
+        Ok(())
     }
 
     // `before FILE LITERAL`

@@ -12,8 +12,8 @@ mod numbers;
 mod outside;
 mod streams;
 
-pub use drive::Drive;
-pub use files::{Held, put_changed, snapshot};
+pub use drive::{Drive, disk_of};
+pub use files::{Held, bytes_in, put_changed, snapshot};
 pub use input::prepare_input;
 pub use numbers::file_of;
 pub use outside::{Given, Outside};

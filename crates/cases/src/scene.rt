@@ -54,6 +54,9 @@ impl Subject for Scene {
             "stream" => outside.call_stream(alloc, answer, rest),
             "disk" => outside.drive.call(alloc, kept, answer, rest),
             "crash" | "cuts" => case_crashes::crash(alloc, &mut outside.drive, kept, answer, line),
+            "recovered" => {
+                case_crashes::recovered(alloc, &mut outside.drive, kept, answer, line)
+            }
             "image" => tell_image(alloc, answer, &outside.input, rest),
             "build" | "take" => self.building.step(alloc, kept, answer, line),
             _ => self.parts.step(alloc, &outside.input, answer, line),

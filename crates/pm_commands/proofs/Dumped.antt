@@ -1,6 +1,5 @@
 -- A dump's text goes on with each item.
-use Rattle.std.proofs.Common.{◌≡◌, inl, inr, ⊎_elim, ℕ, Bool, true, false, List, [], ◌∷◌, ◌++◌, refl, sym, ap, ◌∙◌, subst, arith, append_assoc, append-nil, Option}
-use Rattle.pcp_base.specs.declared.file.FileId.{FileId}
+use Rattle.std.proofs.Common.{◌≡◌, inl, inr, ℕ, Bool, true, false, List, [], ◌∷◌, ◌++◌, refl, sym, ap, ◌∙◌, subst, append_assoc, append-nil}
 use Rattle.pcp_base.specs.declared.result.Item.{Item}
 use Rattle.pcp_model.specs.declared.records.MetaRecord.{MetaRecord}
 use Rattle.pcp_model.specs.Disk.{Files, Holdings, contents_of}
@@ -12,20 +11,18 @@ use Rattle.archive_reader.specs.declared.fault.ReaderFault.TheVariants as faults
 use Rattle.archive_loading.specs.Loaded.{Loaded}
 use Rattle.archive_reader.specs.Nexts.{IsNextFault}
 use Rattle.archive_reader.proofs.Readable.{standing_is_read}
-use Rattle.archive_reader.specs.Walks.{volumes_from, Leads, StepsOver, IsEnd, IsBad}
+use Rattle.archive_reader.specs.Walks.{volumes_from, Leads, StepsOver}
 use Rattle.archive_reader.specs.declared.places.Place.{Place}
 use Rattle.pm_print.specs.Items.{item_text, items_text}
 use Rattle.pm_commands.specs.declared.stage.FilesRefusal.{FilesRefusal}
-use Rattle.pm_commands.specs.declared.stage.FilesRefusal.TheVariants.{LaterDisk, Compressed, NotArchive}
-use Rattle.pm_commands.specs.declared.stage.DiskRefusal.TheVariants.{Files as FilesAway, DiskFault}
+use Rattle.pm_commands.specs.declared.stage.FilesRefusal.TheVariants.{LaterDisk, Compressed, NotArchive, Nothing}
 use Rattle.pm_commands.specs.declared.refusal.Refusal.{Refusal}
-use Rattle.pm_commands.specs.declared.refusal.Refusal.TheVariants.{Words, Reading, Input, Disk, NoMemory}
 use Rattle.pm_commands.specs.Archives.{IsLoaded, TurnedAway}
 use Rattle.pm_commands.specs.Refusals.{reader_refusal}
 use Rattle.pcp_outside.specs.declared.streams.Sink.{Ghosts as SinkGhosts}
 use Rattle.pm_commands.specs.Sides.{SinkSide, DiskSide, Found, sink_side, disk_side, found}
 use Rattle.pm_commands.specs.Streams.{IsFront, IsSent, Turns}
-use Rattle.pm_commands.specs.commands.dump.{label_line, turned, HasItems, BeginsWith, HasNext, BadNext, HasPut, HasPutSome, HasSaid, HasStopped, BadRecord}
+use Rattle.pm_commands.specs.commands.dump.{label_line, HasItems, BeginsWith, HasNext, BadNext, HasPut, HasPutSome, HasSaid, HasStopped, BadRecord}
 use Rattle.pm_commands.proofs.Asking.{turned_on}
 use Rattle.pm_commands.proofs.Sending.{unsent, sent_on}
 
@@ -104,6 +101,7 @@ module _ {O : Type 0} (g : SinkGhosts O) (tells : Type 0) (files : Files) (r : L
 bad_record : (r : Loaded) (p : Place) (f : Found) (before text : List ℕ) → IsSoFar f.files r p before text → (e : FilesRefusal) → BadNext r p f e → BadRecord r f e
 bad_record r p f before text so LaterDisk bad = absurd bad
 bad_record r p f before text so (Compressed file) bad = absurd bad
+bad_record r p f before text so (Nothing stamp) bad = absurd bad
 bad_record r p f before text so (NotArchive file at) bad = (so.items, record { last = volumes_from p.volume r.volumes; to = p.offset; leads = so.leads; bad = bad })
 
 -- nothing was sent yet

@@ -1,13 +1,14 @@
 -- Each fact on a status follows from how the call ends, by cases on the refusal.
 use Rattle.std.proofs.Common.{◌≡◌, ◌⊎◌, inl, inr, ⊎_elim, ℕ, ◌<◌, ◌≤◌, List, length, drop, refl, sym, ap, ap₂, ◌∙◌, subst, arith, true, Option, Some, None, IsSome, Ok, Err}
 use Rattle.pcp_base.specs.declared.file.FileId.{FileId}
+use Rattle.pcp_base.specs.Time.{Moment}
 use Rattle.pcp_model.specs.Disk.{IsSettled}
 use Rattle.pcp_outside.specs.Causes.{Rose}
 use Rattle.pm_commands.specs.declared.stage.ReadRefusal.{ReadRefusal}
 use Rattle.pm_commands.specs.declared.stage.ReadRefusal.TheVariants.{ReadFault, InputLimit}
 use Rattle.pm_commands.specs.declared.stage.InputRefusal.{InputRefusal}
 use Rattle.pm_commands.specs.declared.stage.FilesRefusal.{FilesRefusal}
-use Rattle.pm_commands.specs.declared.stage.FilesRefusal.TheVariants.{LaterDisk, Compressed, NotArchive}
+use Rattle.pm_commands.specs.declared.stage.FilesRefusal.TheVariants.{LaterDisk, Compressed, NotArchive, Nothing}
 use Rattle.pm_commands.specs.declared.stage.DiskRefusal.TheVariants.{Files as FilesAway, DiskFault}
 use Rattle.pm_commands.specs.declared.words.Command.{Command}
 use Rattle.pm_commands.specs.declared.refusal.Refusal.{Refusal}
@@ -15,7 +16,7 @@ use Rattle.pm_commands.specs.declared.refusal.Refusal.TheVariants.{Words, Readin
 use Rattle.pm_commands.specs.CommandLine.{command_of}
 use Rattle.pm_commands.specs.Causes.{Got, Asks, fault_of, IsReader, Finds, Left, Cause}
 use Rattle.pm_commands.specs.Ends.{Ends, EndsDone, EndsUntold, HasRun, IsNever}
-use Rattle.pm_commands.specs.Facts.{UsageIsExact, LimitIsExact, InputFaultIsExact, LaterIsExact, ArchiveFaultIsExact, Given, Meets, refused_of, TurnsAway, IsRefused, Unwritten, IsGoodDisk, IsGoodRun, Keeps}
+use Rattle.pm_commands.specs.Facts.{UsageIsExact, LimitIsExact, InputFaultIsExact, LaterIsExact, ArchiveFaultIsExact, NothingIsThere, Given, Meets, refused_of, TurnsAway, IsRefused, Unwritten, IsGoodDisk, IsGoodRun, Keeps}
 use Rattle.pm_commands.specs.Inputs.{input_limit, refusal_of}
 use Rattle.pm_commands.specs.Meanings.{meaning}
 use Rattle.pm_commands.specs.Refusals.{status_of, reading_status, input_status, files_status}
@@ -174,6 +175,7 @@ module _ (words : List (List ℕ)) (s : SourceSide) (k : SinkSide) (d : DiskSide
   later_only (Disk (FilesAway LaterDisk)) c h = turned_away LaterDisk c
   later_only (Disk (FilesAway (Compressed file))) c h = absurd (below 6 (omega arith) h)
   later_only (Disk (FilesAway (NotArchive file at))) c h = absurd (below 6 (omega arith) h)
+  later_only (Disk (FilesAway (Nothing stamp))) c h = absurd (below 11 (omega arith) h)
   later_only (Disk DiskFault) c h = absurd (below 5 (omega arith) h)
   later_only NoMemory c h = absurd (below 9 (omega arith) h)
 
@@ -206,6 +208,29 @@ module _ (words : List (List ℕ)) (s : SourceSide) (k : SinkSide) (d : DiskSide
         (λ done b good tells turned. absurd (not_welcome done.text done.run b LaterDisk tt tells turned)) (λ untold b good tells turned. absurd (not_welcome untold.text untold.run b LaterDisk tt tells turned))
         (λ e c b good tells turned. turned_found 15 b good (λ a x also. ap files_status (one_later a.command a.input (found d) x (turned_here a b LaterDisk turned) (also tells))) e c);
   }
+
+  never_nothing : (e : InputRefusal) → input_status e ≡ 11 → ⊥
+  never_nothing e h = grind arith
+
+  never_unread : (e : ReadRefusal) → reading_status e ≡ 11 → ⊥
+  never_unread e h = grind arith
+
+  unlike : (n m : ℕ) → n < m → n ≡ m → ⊥
+  unlike n m low h = omega arith
+
+  nothing_only : (e : Refusal) → Caused e → status_of e ≡ 11 → (stamp : Moment) × TurnsAway words s d (Nothing stamp)
+  nothing_only (Words usage) c h = absurd (unlike 1 11 (omega arith) h)
+  nothing_only (Reading e) c h = absurd (never_unread e h)
+  nothing_only (Input e) c h = absurd (never_nothing e h)
+  nothing_only (Disk (FilesAway LaterDisk)) c h = absurd (unlike 11 15 (omega arith) (sym h))
+  nothing_only (Disk (FilesAway (Compressed file))) c h = absurd (unlike 6 11 (omega arith) h)
+  nothing_only (Disk (FilesAway (NotArchive file at))) c h = absurd (unlike 6 11 (omega arith) h)
+  nothing_only (Disk (FilesAway (Nothing stamp))) c h = (stamp, turned_away (Nothing stamp) c)
+  nothing_only (Disk DiskFault) c h = absurd (unlike 5 11 (omega arith) h)
+  nothing_only NoMemory c h = absurd (unlike 9 11 (omega arith) h)
+
+  pub nothing_is_there : (status : ℕ) → Ends words s k d status → NothingIsThere words s d status
+  nothing_is_there status ends = by_end status (λ n. n ≡ 11 → (stamp : Moment) × TurnsAway words s d (Nothing stamp)) ends (λ done h. cc) (λ untold h. cc) nothing_only
 
   archive_only : (e : Refusal) → Caused e → status_of e ≡ 6 → (x : FilesRefusal) × (files_status x ≡ 6) × TurnsAway words s d x
   archive_only (Disk (FilesAway e)) c h = (e, h, record { asks = c.0; good = c.1.0; uses = c.1.1; turned = c.2.1 })
@@ -255,7 +280,7 @@ module _ (words : List (List ℕ)) (s : SourceSide) (k : SinkSide) (d : DiskSide
       (subst (λ (i : List ℕ). IsGoodDisk (meaning good.meets.command) i d) (sym (same_input a good.meets))
       (good.disk (ap (λ (c : Command). (meaning c).uses_disk) (sym (same_command a good.meets)) ∙ uses)))
 
-  good_files : IsGoodRun words s k d → (a : Asks words s) → (meaning a.command).uses_disk ≡ true → (e : FilesRefusal) → (d.tells → (meaning a.command).turns_away a.input (found d) e) → ⊥
+  good_files : IsGoodRun words s k d → (a : Asks words s) → (meaning a.command).uses_disk ≡ true → (e : FilesRefusal) → (d.tells → (meaning a.command).turns_away a.input (found d) e) → files_status e ≡ 11
   good_files good a uses e turned = let disk : IsGoodDisk (meaning a.command) a.input d = good_disk good a uses in disk.welcome e (turned disk.tells)
 
   good_faults : IsGoodRun words s k d → (a : Asks words s) → (meaning a.command).uses_disk ≡ true → Rose d.faults d.faults_after → ⊥
@@ -264,18 +289,18 @@ module _ (words : List (List ℕ)) (s : SourceSide) (k : SinkSide) (d : DiskSide
   good_source : IsGoodRun words s k d → Rose s.faults s.faults_after → ⊥
   good_source good rose = good.source_kept rose
 
-  completed : (e : Refusal) → Caused e → IsGoodRun words s k d → (status_of e ≡ 0) ⊎ (status_of e ≡ 9)
+  completed : (e : Refusal) → Caused e → IsGoodRun words s k d → (status_of e ≡ 0) ⊎ ((status_of e ≡ 9) ⊎ (status_of e ≡ 11))
   completed (Words usage) c good = absurd (good_apart good usage.at c.0)
   completed (Reading ReadFault) c good = absurd (good_source good c.1.0)
   completed (Reading InputLimit) c good = absurd (good_within good c.0 c.1)
   completed (Input e) c good = absurd (good_input good c.0.0 e c.0.1)
-  completed (Disk (FilesAway e)) c good = absurd (good_files good c.0 c.1.1 e c.2.1)
+  completed (Disk (FilesAway e)) c good = inr (inr (good_files good c.0 c.1.1 e c.2.1))
   completed (Disk DiskFault) c good = absurd (good_faults good c.0 c.1.1 c.2.1)
-  completed NoMemory c good = inr refl
+  completed NoMemory c good = inr (inl refl)
 
   -- good input succeeds
-  pub completes : (status : ℕ) → Ends words s k d status → IsGoodRun words s k d → (status ≡ 0) ⊎ (status ≡ 9)
-  completes status ends = by_end status (λ n. IsGoodRun words s k d → (n ≡ 0) ⊎ (n ≡ 9)) ends (λ done good. inl refl) (λ untold good. absurd (good.sink_kept untold.rose)) completed
+  pub completes : (status : ℕ) → Ends words s k d status → IsGoodRun words s k d → (status ≡ 0) ⊎ ((status ≡ 9) ⊎ (status ≡ 11))
+  completes status ends = by_end status (λ n. IsGoodRun words s k d → (n ≡ 0) ⊎ ((n ≡ 9) ⊎ (n ≡ 11))) ends (λ done good. inl refl) (λ untold good. absurd (good.sink_kept untold.rose)) completed
 
   not_done : (e : Refusal) → Caused e → status_of e ≡ 0 → ⊥
   not_done e c h = grind arith

@@ -4,7 +4,11 @@ pub mod Dumped
 pub mod Lookings
 pub mod Looks
 pub mod Memory
+pub mod Mended
+pub mod Refused
 pub mod Sending
 pub mod Facts
 pub mod Wholes
 pub mod Served
+pub mod Timed
+pub mod Welcome

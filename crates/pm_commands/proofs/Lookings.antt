@@ -1,19 +1,20 @@
 -- Commands that only read an archive: how they end, and which refusals of files go together.
 use Rattle.std.proofs.Common.{◌≡◌, ◌⊎◌, inl, ⊎_elim, ℕ, Bool, List, [], ◌++◌, refl, sym, ◌∙◌, Option, Some, None, Result, Ok, Err, IfOk, IfErr, OnErr}
+use Rattle.pcp_base.specs.Time.{Moment}
 use Rattle.pcp_base.specs.declared.file.FileId.{FileId}
 use Rattle.pcp_model.specs.Disk.{CrashImage}
 use Rattle.pcp_outside.specs.declared.disk.Disk.{Ghosts as DiskGhosts}
 use Rattle.pcp_outside.proofs.Crash.{weaker}
 use Rattle.archive_window.specs.Looks.{Looks}
 use Rattle.archive_loading.specs.Loaded.{Loaded}
-use Rattle.pm_commands.specs.declared.output.Output.{Output}
 use Rattle.pm_commands.specs.declared.stage.FilesRefusal.{FilesRefusal}
-use Rattle.pm_commands.specs.declared.stage.FilesRefusal.TheVariants.{LaterDisk, Compressed, NotArchive}
+use Rattle.pm_commands.specs.declared.stage.FilesRefusal.TheVariants.{LaterDisk, Compressed, NotArchive, Nothing}
 use Rattle.pm_commands.specs.declared.stage.DiskRefusal.TheVariants.{Files as FilesAway, DiskFault}
 use Rattle.pm_commands.specs.declared.refusal.Refusal.{Refusal}
 use Rattle.pm_commands.specs.declared.refusal.Refusal.TheVariants.{Words, Reading, Input, Disk, NoMemory}
 use Rattle.pm_commands.specs.declared.words.Command.{Command}
-use Rattle.pm_commands.specs.declared.words.Command.TheVariants.{Once, MmvMake, MmvDump, Dump, Info}
+use Rattle.pm_commands.specs.declared.words.Command.TheVariants.{Once, MmvMake, MmvDump, Dump, Info, Recover, At, Range, Value}
+use Rattle.pm_commands.specs.declared.words.ValueWords.{ValueWords}
 use Rattle.pm_commands.specs.Archives.{TurnedAfter, TurnedAway, looks, nothing_before}
 use Rattle.pm_commands.specs.Causes.{StopCause}
 use Rattle.pm_commands.specs.Ends.{HasServed, Serves, IsNever, MayLeave, told_of}
@@ -22,8 +23,12 @@ use Rattle.pm_commands.specs.Meanings.{meaning}
 use Rattle.pm_commands.specs.Refusals.{files_status}
 use Rattle.pm_commands.specs.Sides.{SinkSide, DiskSide, Found, found, Untouched, Leaves}
 use Rattle.pm_commands.specs.Streams.{IsSent}
+use Rattle.pm_commands.specs.commands.at as at
 use Rattle.pm_commands.specs.commands.dump as dump
 use Rattle.pm_commands.specs.commands.info as info
+use Rattle.pm_commands.proofs.Mended.{recover_wrapped}
+use Rattle.pm_commands.specs.commands.range as range
+use Rattle.pm_commands.specs.commands.value as value
 use Rattle.pm_commands.proofs.Served.{still_settled, left_alone}
 
 -- over which files such a command refuses, and over which it writes a text
@@ -33,11 +38,14 @@ pub record FitsLook (turned : Found → FilesRefusal → Type 0) (said : Found �
   -- a file stands wrapped where one says so, and none does where a text was written
   pub wrapped : (f : Found) (file : FileId) → turned f (Compressed file) → f.wrapped ≡ Some file
   pub unwrapped : (f : Found) (text : List ℕ) → said f text → f.wrapped ≡ None
+  -- nor where nothing was found
+  pub nothing : (f : Found) (stamp : Moment) → turned f (Nothing stamp) → f.wrapped ≡ None
 
 pub info_fits : FitsLook info.turned info.said
 info_fits = record {
   never_later = λ f t. t;
   wrapped = λ f file t. t;
+  nothing = λ f stamp t. absurd t;
   unwrapped = λ f text s. s.1.unwrapped;
 }
 
@@ -50,11 +58,21 @@ asked_fits : (why : Loaded → Found → FilesRefusal → Type 0) (said : Found 
 asked_fits why said later wrapped unwrapped = record {
   never_later = λ f t. neither (λ n. n) (λ b. later b.0 f b.2) t;
   wrapped = λ f file t. ⊎_elim (λ (w : f.wrapped ≡ Some file). w) (λ b. absurd (wrapped b.0 f file b.2)) t;
+  nothing = λ f stamp t. ⊎_elim (λ (n : ⊥). absurd n) (λ b. b.1.unwrapped) t;
   unwrapped = unwrapped;
 }
 
 pub dump_fits : FitsLook dump.turned dump.said
 dump_fits = asked_fits dump.BadRecord dump.said (λ r f b. b) (λ r f file b. b) (λ f text s. s.1.unwrapped)
+
+pub at_fits : (t : Moment) → FitsLook (at.turned t) (at.said t)
+at_fits t = asked_fits (at.IsStopped t) (at.said t) (λ r f b. b) (λ r f file b. b) (λ f text s. s.1.unwrapped)
+
+pub range_fits : (from to : Moment) → FitsLook (range.turned from to) (range.said from to)
+range_fits from to = asked_fits (range.IsStopped from to) (range.said from to) (λ r f b. b) (λ r f file b. b) (λ f text s. s.1.unwrapped)
+
+pub value_fits : (asked : ValueWords) → FitsLook (value.turned asked) (value.said asked)
+value_fits asked = asked_fits (value.IsStopped asked) (value.said asked) (λ r f b. b) (λ r f file b. b) (λ f text s. s.1.unwrapped)
 
 not_both : (w : Option FileId) (file : FileId) → w ≡ None → w ≡ Some file → ⊥
 not_both w file none some = let e : None ≡ Some file = sym none ∙ some in cc
@@ -64,12 +82,14 @@ module _ (turned : Found → FilesRefusal → Type 0) (said : Found → List ℕ
   never_turned f text s LaterDisk never t = fits.never_later f t
   never_turned f text s (Compressed file) never t = not_both f.wrapped file (fits.unwrapped f text s) (fits.wrapped f file t)
   never_turned f text s (NotArchive file place) never t = never
+  never_turned f text s (Nothing stamp) never t = never
 
   -- where a file stands wrapped, the archive is turned away
   look_wrapped : (f : Found) (file : FileId) (e : FilesRefusal) → turned f (Compressed file) → turned f e → files_status e ≡ 6
   look_wrapped f file LaterDisk w t = absurd (fits.never_later f t)
   look_wrapped f file (Compressed other) w t = refl
   look_wrapped f file (NotArchive other place) w t = refl
+  look_wrapped f file (Nothing stamp) w t = absurd (not_both f.wrapped file (fits.nothing f stamp t) (fits.wrapped f file w))
 
   -- what such a command is served
   pub look_served : (input : List ℕ) (d : DiskSide) (text : List ℕ) → Untouched d → (d.tells → said (found d) text) → HasServed (looks turned said first) input d text
@@ -115,6 +135,10 @@ one_later MmvMake input f e later t = absurd later
 one_later MmvDump input f e later t = absurd later
 one_later Dump input f e later t = absurd (dump_fits.never_later f later)
 one_later Info input f e later t = absurd (info_fits.never_later f later)
+one_later Recover input f e later t = absurd later
+one_later (At t) input f e later away = absurd ((at_fits t).never_later f later)
+one_later (Range from to) input f e later away = absurd ((range_fits from to).never_later f later)
+one_later (Value asked) input f e later away = absurd ((value_fits asked).never_later f later)
 
 -- where a file stands wrapped, the archive is turned away
 pub wrapped_first : (command : Command) (input : List ℕ) (f : Found) (file : FileId) (e : FilesRefusal) → (meaning command).turns_away input f (Compressed file) → (meaning command).turns_away input f e → files_status e ≡ 6
@@ -123,3 +147,7 @@ wrapped_first MmvMake input f file e w t = absurd w
 wrapped_first MmvDump input f file e w t = absurd w
 wrapped_first Dump input f file e w t = look_wrapped dump.turned dump.said dump.begun dump_fits f file e w t
 wrapped_first Info input f file e w t = look_wrapped info.turned info.said nothing_before info_fits f file e w t
+wrapped_first Recover input f file e w t = recover_wrapped f file e w t
+wrapped_first (At t) input f file e w away = look_wrapped (at.turned t) (at.said t) nothing_before (at_fits t) f file e w away
+wrapped_first (Range from to) input f file e w away = look_wrapped (range.turned from to) (range.said from to) nothing_before (range_fits from to) f file e w away
+wrapped_first (Value asked) input f file e w away = look_wrapped (value.turned asked) (value.said asked) nothing_before (value_fits asked) f file e w away

@@ -1,7 +1,6 @@
 -- What is read and written makes the whole.
-use Rattle.std.proofs.Common.{◌≡◌, inl, inr, ⊎_elim, ℕ, ◌<◌, List, [], ◌∷◌, ◌++◌, length, take, refl, sym, ap, ◌∙◌, arith, subst, Option, Some, None, Result, Ok}
+use Rattle.std.proofs.Common.{◌≡◌, inl, inr, ⊎_elim, ℕ, ◌<◌, List, [], ◌∷◌, ◌++◌, length, take, refl, sym, ap, ◌∙◌, arith, subst, Option, Some, None}
 use Rattle.std.proofs.lemmas.List.{take_all}
-use Rattle.pcp_base.specs.Time.{Moment}
 use Rattle.pcp_base.specs.declared.file.FileId.{FileId}
 use Rattle.pcp_base.specs.declared.file.FileId.TheVariants.{Meta, Index, Volume}
 use Rattle.pcp_base.specs.declared.result.Item.{Item}
@@ -9,10 +8,10 @@ use Rattle.pcp_model.specs.Disk.{Files as WholeFiles, Held, Holdings, CrashImage
 use Rattle.mmv_faults.specs.Faults.{image_of}
 use Rattle.mmv_format.specs.Images.{IsImage}
 use Rattle.fetch_engine.specs.declared.fetch.Fetched.{Fetched}
-use Rattle.record_run.specs.Archives.{archive_of, files_with, run_files, run_item}
+use Rattle.record_run.specs.Archives.{archive_of, files_with, run_item}
 use Rattle.record_run.specs.Pieces.{Pieces, pieces, IsCut, HoldsArchive, HasItem, NoneOrOne}
 use Rattle.record_run.specs.Runs.{metrics_of, fetched_of}
-use Rattle.record_run.specs.Written.{IsPlan, IsPlanOf}
+use Rattle.record_run.specs.Written.{IsPlanOf}
 use Rattle.record_run.proofs.Images.{image_described}
 use Rattle.record_run.proofs.Logged.{final_files, final_settled}
 use Rattle.record_run.proofs.NoneOrOne.{none_or_one, has_item}

@@ -1,11 +1,14 @@
 -- Commands that only read an archive: what they find of the files, why they turn files away, and that they leave the disk as
 -- it was.
 use Rattle.std.specs.Prelude.{◌≡◌, ◌⊎◌, ℕ, true, List, [], Some, None}
+use Rattle.pcp_base.specs.declared.result.Item.{Item}
+use Rattle.pcp_model.specs.Archive.{ArchiveReading, Reads, scan}
+use Rattle.pcp_model.specs.Sound.{IsSound}
 use Rattle.pcp_outside.specs.Causes.{Rose}
 use Rattle.archive_loading.specs.Loaded.{Loaded, IsOver}
 use Rattle.archive_loading.specs.LoadFaults.{NotLoaded}
 use Rattle.pm_commands.specs.declared.stage.FilesRefusal.{FilesRefusal}
-use Rattle.pm_commands.specs.declared.stage.FilesRefusal.TheVariants.{LaterDisk, Compressed, NotArchive}
+use Rattle.pm_commands.specs.declared.stage.FilesRefusal.TheVariants.{LaterDisk, Compressed, NotArchive, Nothing}
 use Rattle.pm_commands.specs.declared.stage.DiskRefusal.TheVariants.{Files as FilesAway, DiskFault}
 use Rattle.pm_commands.specs.declared.refusal.Refusal.{Refusal}
 use Rattle.pm_commands.specs.declared.refusal.Refusal.TheVariants.{Disk, NoMemory}
@@ -22,10 +25,18 @@ abbrev pub IsNotLoaded : Found → FilesRefusal → Type 0
 IsNotLoaded found (Compressed file) = found.wrapped ≡ Some file
 IsNotLoaded found (NotArchive file at) = (found.wrapped ≡ None) × NotLoaded found.files file at
 IsNotLoaded found LaterDisk = ⊥
+IsNotLoaded found (Nothing stamp) = ⊥
 
 -- files are turned away where they aren't loaded, or for what is found in an archive that was
 abbrev pub TurnedAfter : (Loaded → Found → FilesRefusal → Type 0) → Found → FilesRefusal → Type 0
 TurnedAfter why found e = IsNotLoaded found e ⊎ ((r : Loaded) × IsLoaded found r × why r found e)
+
+-- what is so of the scan where the files are a readable archive, or a sound one
+abbrev pub OverReadable : Found → (List Item → Type 0) → Type 0
+OverReadable found P = (reading : ArchiveReading) → Reads found.files reading → P (scan reading)
+
+abbrev pub OverSound : Found → (List Item → Type 0) → Type 0
+OverSound found P = (reading : ArchiveReading) → Reads found.files reading → IsSound found.files reading → P (scan reading)
 
 -- why such a command ends without a text: it turned the files away, the disk failed, or memory ran out
 abbrev pub TurnedAway : (Found → FilesRefusal → Type 0) → DiskSide → Refusal → Type 0

@@ -3,7 +3,7 @@ use Rattle.std.specs.Prelude.{◌≡◌, ◌⊎◌, ℕ, Bool, List, [], ◌++�
 use Rattle.pcp_model.specs.Disk.{Files, Holdings, CrashImage, IsSettled}
 use Rattle.pcp_outside.specs.Causes.{Rose}
 use Rattle.pm_commands.specs.declared.stage.FilesRefusal.{FilesRefusal}
-use Rattle.pm_commands.specs.declared.stage.FilesRefusal.TheVariants.{LaterDisk, Compressed, NotArchive}
+use Rattle.pm_commands.specs.declared.stage.FilesRefusal.TheVariants.{LaterDisk, Compressed, NotArchive, Nothing}
 use Rattle.pm_commands.specs.declared.refusal.Refusal.{Refusal}
 use Rattle.pm_commands.specs.declared.output.Output.{Output}
 use Rattle.pm_commands.specs.declared.output.Output.TheVariants.{Logged, NothingLogged, Made}
@@ -31,6 +31,7 @@ abbrev pub IsNever : FilesRefusal → Type 0
 IsNever LaterDisk = Unit {0}
 IsNever (Compressed file) = Unit {0}
 IsNever (NotArchive file at) = ⊥
+IsNever (Nothing stamp) = ⊥
 
 -- A command is done with an input that it reads, over files that it doesn't turn away, and this is to be written.
 pub record HasServed (m : Meaning) (input : List ℕ) (d : DiskSide) (text : List ℕ) : Type 0 where

@@ -1,11 +1,12 @@
 -- What a status says, fact by fact. "Always" yields to want of memory (9) and to a read that failed before (3), which no
 -- clause can foresee.
 use Rattle.std.specs.Prelude.{◌≡◌, ◌⊎◌, ℕ, ◌<◌, ◌≤◌, List, [], length, drop, true, false, Option, Some, None, Ok, Err}
+use Rattle.pcp_base.specs.Time.{Moment}
 use Rattle.pcp_model.specs.Disk.{Files, Holdings, CrashImage}
 use Rattle.pcp_outside.specs.Causes.{Rose}
 use Rattle.pm_commands.specs.declared.stage.InputRefusal.{InputRefusal}
 use Rattle.pm_commands.specs.declared.stage.FilesRefusal.{FilesRefusal}
-use Rattle.pm_commands.specs.declared.stage.FilesRefusal.TheVariants.{LaterDisk, Compressed}
+use Rattle.pm_commands.specs.declared.stage.FilesRefusal.TheVariants.{LaterDisk, Compressed, Nothing}
 use Rattle.pm_commands.specs.declared.words.Command.{Command}
 use Rattle.pm_commands.specs.CommandLine.{command_of}
 use Rattle.pm_commands.specs.Causes.{Asks, fault_of, Finds, IsReader}
@@ -75,6 +76,10 @@ pub record ArchiveFaultIsExact (words : List (List ℕ)) (s : SourceSide) (d : D
   pub always : (a : Meets words s) → refused_of a ≡ None → d.tells → (file : FileId) → (meaning a.command).turns_away a.input (found d) (Compressed file)
       → (status ≡ 6) ⊎ ((status ≡ 9) ⊎ ((status ≡ 3) ⊎ (status ≡ 5)))
 
+-- 11 only where nothing that was asked for is there
+abbrev pub NothingIsThere : List (List ℕ) → SourceSide → DiskSide → ℕ → Type 0
+NothingIsThere words s d status = status ≡ 11 → (stamp : Moment) × TurnsAway words s d (Nothing stamp)
+
 -- it was refused, so that it wasn't done
 abbrev pub IsRefused : ℕ → Type 0
 IsRefused status = (status ≡ 0 → ⊥) × (status ≡ 4 → ⊥)
@@ -83,10 +88,11 @@ IsRefused status = (status ≡ 0 → ⊥) × (status ≡ 4 → ⊥)
 abbrev pub Unwritten : List (List ℕ) → SourceSide → DiskSide → ℕ → Type 0
 Unwritten words s d status = Untouched d ⊎ ((a : Asks words s) × (meaning a.command).begun status a.input d)
 
--- what a command that uses the disk needs of it: to tell, files that it doesn't turn away, and a count that doesn't rise
+-- what a command that uses the disk needs of it: to tell, files that it doesn't turn away but for finding nothing in them, and a
+-- count that doesn't rise
 pub record IsGoodDisk (m : Meaning) (input : List ℕ) (d : DiskSide) : Type 0 where
   pub tells : d.tells
-  pub welcome : (e : FilesRefusal) → m.turns_away input (found d) e → ⊥
+  pub welcome : (e : FilesRefusal) → m.turns_away input (found d) e → files_status e ≡ 11
   pub kept : Rose d.faults d.faults_after → ⊥
 
 -- Good input succeeds: a command, an input that it reads, a good disk where it uses one, and no count that rose.

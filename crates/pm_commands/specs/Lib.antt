@@ -4,6 +4,7 @@ pub mod CommandLine
 pub mod Ends
 pub mod Facts
 pub mod Inputs
+pub mod Laws
 pub mod Meaning
 pub mod Meanings
 pub mod Refusals

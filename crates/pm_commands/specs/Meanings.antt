@@ -1,12 +1,16 @@
 -- The meaning of each command.
 use Rattle.pm_commands.specs.declared.words.Command.{Command}
-use Rattle.pm_commands.specs.declared.words.Command.TheVariants.{Once, MmvMake, MmvDump, Dump, Info}
+use Rattle.pm_commands.specs.declared.words.Command.TheVariants.{Once, MmvMake, MmvDump, Dump, Info, Recover, At, Range, Value}
 use Rattle.pm_commands.specs.Meaning.{Meaning}
+use Rattle.pm_commands.specs.commands.at.{at}
 use Rattle.pm_commands.specs.commands.dump.{dump}
 use Rattle.pm_commands.specs.commands.info.{info}
 use Rattle.pm_commands.specs.commands.mmv_dump.{mmv_dump}
 use Rattle.pm_commands.specs.commands.mmv_make.{mmv_make}
 use Rattle.pm_commands.specs.commands.once.{once}
+use Rattle.pm_commands.specs.commands.recover.{recover}
+use Rattle.pm_commands.specs.commands.range.{range}
+use Rattle.pm_commands.specs.commands.value.{value}
 
 abbrev pub meaning : Command → Meaning
 meaning (Once asked) = once asked
@@ -14,3 +18,7 @@ meaning MmvMake = mmv_make
 meaning MmvDump = mmv_dump
 meaning Dump = dump
 meaning Info = info
+meaning Recover = recover
+meaning (At t) = at t
+meaning (Range from to) = range from to
+meaning (Value asked) = value asked

@@ -6,6 +6,8 @@ use Rattle.pcp_base.specs.declared.file.FileId.TheVariants.{Meta, Index, Volume}
 use Rattle.pcp_outside.specs.Causes.{Rose}
 use Rattle.archive_reader.specs.declared.fault.ReaderFault.{ReaderFault}
 use Rattle.archive_reader.specs.declared.fault.ReaderFault.TheVariants as faults
+use Rattle.archive_recovery.specs.declared.outcome.RecoverFault.{RecoverFault}
+use Rattle.archive_recovery.specs.declared.outcome.RecoverFault.TheVariants as recovering
 use Rattle.pm_print.specs.FaultLines.{image_line, text_line}
 use Rattle.pm_commands.specs.declared.stage.Stop.{Stop}
 use Rattle.pm_commands.specs.declared.stage.Stop.TheVariants.{OutOfMemory, Refused}
@@ -15,7 +17,7 @@ use Rattle.pm_commands.specs.declared.stage.ReadRefusal.TheVariants.{ReadFault, 
 use Rattle.pm_commands.specs.declared.stage.InputRefusal.{InputRefusal}
 use Rattle.pm_commands.specs.declared.stage.InputRefusal.TheVariants.{Image, Line}
 use Rattle.pm_commands.specs.declared.stage.FilesRefusal.{FilesRefusal}
-use Rattle.pm_commands.specs.declared.stage.FilesRefusal.TheVariants.{LaterDisk, Compressed, NotArchive}
+use Rattle.pm_commands.specs.declared.stage.FilesRefusal.TheVariants.{LaterDisk, Compressed, NotArchive, Nothing}
 use Rattle.pm_commands.specs.declared.stage.DiskRefusal.{DiskRefusal}
 use Rattle.pm_commands.specs.declared.stage.DiskRefusal.TheVariants.{Files, DiskFault}
 use Rattle.pm_commands.specs.declared.refusal.Refusal.{Refusal}
@@ -48,6 +50,7 @@ abbrev pub files_status : FilesRefusal → ℕ
 files_status LaterDisk = 15
 files_status (Compressed file) = 6
 files_status (NotArchive file at) = 6
+files_status (Nothing stamp) = 11
 
 -- a file's name in a line
 abbrev pub file_name : FileId → List ℕ
@@ -59,11 +62,13 @@ abbrev pub numbered_files_line : FilesRefusal → Option (List ℕ)
 numbered_files_line LaterDisk = None
 numbered_files_line (Compressed file) = Some (codes "compressed " ++ (file_name file ++ 10 ∷ []))
 numbered_files_line (NotArchive file at) = Some (codes "not archive " ++ (file_name file ++ (32 ∷ (decimal at ++ 10 ∷ []))))
+numbered_files_line (Nothing stamp) = Some (codes "nothing at " ++ (decimal stamp.sec ++ (32 ∷ (decimal stamp.usec ++ 10 ∷ []))))
 
 abbrev pub plain_files_line : FilesRefusal → List ℕ
 plain_files_line LaterDisk = codes "later disk\n"
 plain_files_line (Compressed file) = []
 plain_files_line (NotArchive file at) = []
+plain_files_line (Nothing stamp) = []
 
 abbrev pub disk_status : DiskRefusal → ℕ
 disk_status (Files e) = files_status e
@@ -115,6 +120,13 @@ reader_refusal (faults.Compressed file) = Disk (Files (Compressed file))
 reader_refusal (faults.NotArchive file at) = Disk (Files (NotArchive file at))
 reader_refusal faults.DiskFault = Disk DiskFault
 reader_refusal faults.NoMemory = NoMemory
+
+-- and a fault of recovery
+abbrev pub recover_refusal : RecoverFault → Refusal
+recover_refusal (recovering.Compressed file) = Disk (Files (Compressed file))
+recover_refusal (recovering.NotArchive file at) = Disk (Files (NotArchive file at))
+recover_refusal recovering.DiskFault = Disk DiskFault
+recover_refusal recovering.NoMemory = NoMemory
 
 -- the line is written, or a front of it where the sink failed
 abbrev pub Wrote : ℕ → ℕ → List ℕ → List ℕ → List ℕ → Type 0

@@ -1,7 +1,11 @@
 //! The commands, each in a file of its own.
 
+pub(crate) mod at;
 pub(crate) mod dump;
 pub(crate) mod info;
 pub(crate) mod mmv_dump;
 pub(crate) mod mmv_make;
 pub(crate) mod once;
+pub(crate) mod range;
+pub(crate) mod recover;
+pub(crate) mod value;

@@ -31,7 +31,12 @@ fn takes_input(command: &Command) -> bool
 {
     match command {
         Command::Once(_) | Command::MmvMake | Command::MmvDump => true,
-        Command::Dump | Command::Info => false,
+        Command::Dump
+        | Command::Info
+        | Command::Recover
+        | Command::At(_)
+        | Command::Range(..)
+        | Command::Value(_) => false,
     }
 }
 

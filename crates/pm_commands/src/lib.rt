@@ -5,13 +5,15 @@
 
 mod commands;
 mod inputs;
+mod laws;
 mod output;
 mod refusal;
 mod stage;
 mod top;
 mod words;
 
+pub use laws::readable_is_welcome;
 pub use refusal::Refusal;
 pub use stage::{DiskRefusal, FilesRefusal, InputRefusal, ReadRefusal, Stop, Usage};
 pub use top::offline;
-pub use words::{Command, OnceWords, read_words};
+pub use words::{Command, OnceWords, ValueWords, read_words};

@@ -4,6 +4,7 @@ ghost use Rattle.pm_commands.specs.Refusals.{status_of, numbered_line_of, plain_
 
 use crate::stage::{DiskRefusal, FilesRefusal, InputRefusal, ReadRefusal, Stop, Usage};
 use archive_reader::ReaderFault;
+use archive_recovery::RecoverFault;
 use pcp_base::{Bytes, NoMemory};
 use pcp_outside::{Sink, write_all};
 use std::alloc::Global;
@@ -89,6 +90,25 @@ impl From<ReaderFault> for Refusal {
             }
             ReaderFault::DiskFault => Refusal::Disk(DiskRefusal::DiskFault),
             ReaderFault::NoMemory => Refusal::NoMemory,
+        }
+    }
+}
+
+impl From<RecoverFault> for Refusal {
+    ghost use Rattle.pm_commands.specs.Refusals.{recover_refusal};
+
+    ghost from_gives = { λ fault e. e ≡ recover_refusal fault };
+
+    fn from(fault: RecoverFault) -> Refusal {
+        match fault {
+            RecoverFault::Compressed { file } => {
+                Refusal::Disk(DiskRefusal::Files(FilesRefusal::Compressed { file }))
+            }
+            RecoverFault::NotArchive { file, at } => {
+                Refusal::Disk(DiskRefusal::Files(FilesRefusal::NotArchive { file, at }))
+            }
+            RecoverFault::DiskFault => Refusal::Disk(DiskRefusal::DiskFault),
+            RecoverFault::NoMemory => Refusal::NoMemory,
         }
     }
 }

@@ -2,11 +2,11 @@
 //! status and the last line of each refusal.
 ghost use Rattle.std.specs.Prelude.{◌≡◌, Some, IfOk, OnErr, IsSome, string_bytes};
 ghost use Rattle.pm_commands.specs.Refusals.{usage_line, reading_status, reading_line, input_status, input_line, file_name, files_status, numbered_files_line, plain_files_line, disk_status, numbered_disk_line, plain_disk_line};
-ghost use Rattle.pm_commands.specs.declared.stage.FilesRefusal.TheVariants.{Compressed, NotArchive};
+ghost use Rattle.pm_commands.specs.declared.stage.FilesRefusal.TheVariants.{Compressed, NotArchive, Nothing};
 
 use mmv_layout::ImageFault;
 use mmv_writer::TextFault;
-use pcp_base::{Bytes, FileId, List, NoMemory};
+use pcp_base::{Bytes, FileId, List, NoMemory, Stamp};
 use pm_print::{image_fault_text, line_fault_text};
 use std::alloc::{AllocError, Global};
 
@@ -110,7 +110,7 @@ impl InputRefusal {
     }
 }
 
-/// Why a command turns files away.
+/// Why a command turns files away, or finds nothing in them.
 #[derive(Clone, Copy, Debug, PartialEq, Eq)]
 pub enum FilesRefusal {
     /// The files aren't empty; such an archive is gone on with later.
@@ -119,6 +119,8 @@ pub enum FilesRefusal {
     Compressed { file: FileId },
     /// The file fits no archive from this byte on.
     NotArchive { file: FileId, at: u64 },
+    /// Nothing that was asked for is there at this moment.
+    Nothing { stamp: Stamp },
 }
 
 impl FilesRefusal {
@@ -128,6 +130,7 @@ impl FilesRefusal {
         match self {
             FilesRefusal::LaterDisk => 15,
             FilesRefusal::Compressed { .. } | FilesRefusal::NotArchive { .. } => 6,
+            FilesRefusal::Nothing { .. } => 11,
         }
     }
 
@@ -146,6 +149,10 @@ impl FilesRefusal {
                 let line = misfit_line(alloc, *file, *at)?;
                 Ok(Some(line))
             }
+            FilesRefusal::Nothing { stamp } => {
+                let line = nothing_line(alloc, *stamp)?;
+                Ok(Some(line))
+            }
         }
     }
 
@@ -155,7 +162,9 @@ impl FilesRefusal {
     {
         match self {
             FilesRefusal::LaterDisk => b"later disk\n",
-            FilesRefusal::Compressed { .. } | FilesRefusal::NotArchive { .. } => b"",
+            FilesRefusal::Compressed { .. }
+            | FilesRefusal::NotArchive { .. }
+            | FilesRefusal::Nothing { .. } => b"",
         }
     }
 }
@@ -186,6 +195,15 @@ fn misfit_line(alloc: Global, file: FileId, at: u64) -> Result<Bytes, NoMemory>
     let name = file_name(alloc, file)?;
     let name = name.as_str();
     let line = format!(in alloc; "not archive {name} {at}\n")?;
+    Ok(List::from_vec(line.into_bytes()))
+}
+
+fn nothing_line(alloc: Global, stamp: Stamp) -> Result<Bytes, NoMemory>
+    ensures { IfOk result (λ line. Some line ≡ numbered_files_line (Nothing stamp)) }
+{
+    let sec = stamp.sec();
+    let usec = stamp.usec();
+    let line = format!(in alloc; "nothing at {sec} {usec}\n")?;
     Ok(List::from_vec(line.into_bytes()))
 }
 

@@ -4,16 +4,20 @@ ghost use Rattle.pcp_model.specs.Disk.{IsSettled};
 ghost use Rattle.pcp_outside.specs.Causes.{Rose};
 ghost use Rattle.pm_commands.specs.CommandLine.{FitsCommand};
 ghost use Rattle.pm_commands.specs.Ends.{Serves, Runs, Ends, EndsDone, MayLeave, MayBeLeft};
-ghost use Rattle.pm_commands.specs.Facts.{UsageIsExact, LimitIsExact, InputFaultIsExact, LaterIsExact, ArchiveFaultIsExact, IsAside, IsInputless, IsRefused, Unwritten, IsGoodRun, Keeps};
+ghost use Rattle.pm_commands.specs.Facts.{UsageIsExact, LimitIsExact, InputFaultIsExact, LaterIsExact, ArchiveFaultIsExact, NothingIsThere, IsAside, IsInputless, IsRefused, Unwritten, IsGoodRun, Keeps};
 ghost use Rattle.pm_commands.specs.Inputs.{input_limit};
 ghost use Rattle.pm_commands.specs.Meanings.{meaning};
 ghost use Rattle.pm_commands.specs.Sides.{source_side, sink_side, disk_side, Leaves};
 
+use crate::commands::at::at;
 use crate::commands::dump::dump;
 use crate::commands::info::info;
 use crate::commands::mmv_dump::mmv_dump;
 use crate::commands::mmv_make::mmv_make;
 use crate::commands::once::once;
+use crate::commands::range::range;
+use crate::commands::recover::recover;
+use crate::commands::value::value;
 use crate::inputs::get_input;
 use crate::output::{Output, finish, told};
 use crate::refusal::Refusal;
@@ -49,6 +53,10 @@ fn serve<O: Sink, D: Disk>(
         }
         Command::Dump => told(dump(alloc, out, failed, disk)),
         Command::Info => told(info(alloc, disk)),
+        Command::Recover => recover(alloc, disk),
+        Command::At(t) => told(at(alloc, *t, disk)),
+        Command::Range(from, to) => told(range(alloc, *from, *to, disk)),
+        Command::Value(asked) => told(value(alloc, asked, disk)),
     }
 }
 
@@ -103,7 +111,7 @@ fn answer<I: Source, O: Sink, D: Disk>(
 /// Runs the command that the words are, and answers the exit status; where it isn't 0, the last line of the output says
 /// why it ended. 0: done. 1: the words are no command. 2: the input is no image, or no layout text. 3, 4, 5: the source,
 /// the sink or the disk failed. 6: the archive is turned away. 7: the input is above 16 MiB. 9: memory was refused, before the
-/// first write to the disk.
+/// first write to the disk, or of `recover` after the last. 11: nothing is there at the moment that was asked for.
 /// 15: files that aren't empty, which are gone on with later. What is looked at first comes first: the words, the input, the
 /// disk, the writes, the output.
 pub fn offline<I: Source, O: Sink, D: Disk>(
@@ -128,6 +136,7 @@ pub fn offline<I: Source, O: Sink, D: Disk>(
     ensures disk_fault { result ≡ 5 → Rose (D.faults disk.old) (D.faults disk.new) }
     ensures input_limit { LimitIsExact (map string_bytes words.now) (source_side I.Source input.old input.new) result }
     ensures later { LaterIsExact (map string_bytes words.now) (source_side I.Source input.old input.new) (disk_side D.Disk disk.old disk.new) result }
+    ensures nothing_there { NothingIsThere (map string_bytes words.now) (source_side I.Source input.old input.new) (disk_side D.Disk disk.old disk.new) result }
     ensures archive_fault { ArchiveFaultIsExact (map string_bytes words.now) (source_side I.Source input.old input.new) (disk_side D.Disk disk.old disk.new) result }
 
     // Refused: the files hold what they held, or what the command says of a stop after its first write.
@@ -137,8 +146,8 @@ pub fn offline<I: Source, O: Sink, D: Disk>(
     ensures aside { IsAside (map string_bytes words.now) → disk.new ≡ disk.old }
     ensures unasked { IsInputless (map string_bytes words.now) → input.new ≡ input.old }
 
-    // Good input succeeds.
-    ensures completes { IsGoodRun (map string_bytes words.now) (source_side I.Source input.old input.new) (sink_side O.Sink out.old out.new) (disk_side D.Disk disk.old disk.new) → (result ≡ 0) ⊎ (result ≡ 9) }
+    // Good input succeeds, or nothing is there.
+    ensures completes { IsGoodRun (map string_bytes words.now) (source_side I.Source input.old input.new) (sink_side O.Sink out.old out.new) (disk_side D.Disk disk.old disk.new) → (result ≡ 0) ⊎ ((result ≡ 9) ⊎ (result ≡ 11)) }
 
     // A settled disk is settled after every status but 5.
     ensures settled { (result ≡ 5 → ⊥) → D.tells → IsSettled (D.held disk.old) → IsSettled (D.held disk.new) }

@@ -10,7 +10,7 @@ use Rattle.archive_reader.specs.Walks.{volumes_from, StepsOver, IsEnd, IsBad, Le
 use Rattle.archive_reader.specs.declared.places.Place.{Place}
 use Rattle.pm_print.specs.Items.{item_text, items_text}
 use Rattle.pm_commands.specs.declared.stage.FilesRefusal.{FilesRefusal}
-use Rattle.pm_commands.specs.declared.stage.FilesRefusal.TheVariants.{LaterDisk, Compressed, NotArchive}
+use Rattle.pm_commands.specs.declared.stage.FilesRefusal.TheVariants.{LaterDisk, Compressed, NotArchive, Nothing}
 use Rattle.pm_commands.specs.Archives.{IsLoaded, TurnedAfter, looks}
 use Rattle.pm_commands.specs.Meaning.{Meaning}
 use Rattle.pm_commands.specs.Sides.{SinkSide, DiskSide, Found, found}
@@ -33,6 +33,7 @@ abbrev pub BadRecord : Loaded → Found → FilesRefusal → Type 0
 BadRecord r found (NotArchive file at) = (items : List Item) × StopsAt found.files r.volumes 132 items file at
 BadRecord r found (Compressed file) = ⊥
 BadRecord r found LaterDisk = ⊥
+BadRecord r found (Nothing stamp) = ⊥
 
 -- files are turned away where they aren't loaded, or where a record is no item's
 abbrev pub turned : Found → FilesRefusal → Type 0
@@ -68,6 +69,7 @@ abbrev pub BadNext : Loaded → Place → Found → FilesRefusal → Type 0
 BadNext r p found (NotArchive file at) = IsBad found.files (volumes_from p.volume r.volumes) p.offset file at
 BadNext r p found (Compressed file) = ⊥
 BadNext r p found LaterDisk = ⊥
+BadNext r p found (Nothing stamp) = ⊥
 
 -- Of all steps: the texts of all items stand behind what was there; the front of that went to the sink, and the rest waits.
 pub record HasPut (tells : Type 0) (files : Files) (r : Loaded) (before : List ℕ) (k : SinkSide) (failed : Bool) (waits : List ℕ) : Type 0 where

@@ -1,5 +1,5 @@
 -- The status tells whether the sink has failed.
-use Rattle.std.proofs.Common.{true, false, refl, subst, sym}
+use Rattle.std.proofs.Common.{true, false, refl, subst}
 use Rattle.pm_commands.specs.Sides.{sink_side}
 use Rattle.pm_commands.specs.Streams.{Sends, Finishes}
 use Rattle.pm_commands.proofs.output.finish.Goals as goal

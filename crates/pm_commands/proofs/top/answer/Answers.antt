@@ -1,5 +1,5 @@
 -- Each end of a call by what ran and what was written.
-use Rattle.std.proofs.Common.{true, false, subst, sym, ◌∙◌}
+use Rattle.std.proofs.Common.{subst, ◌∙◌}
 use Rattle.pm_commands.specs.Streams.{IsSent}
 use Rattle.pm_commands.proofs.Memory.{ends_untold}
 use Rattle.pm_commands.proofs.Sending.{told_behind, told_no_more}

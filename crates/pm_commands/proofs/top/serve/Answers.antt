@@ -4,14 +4,17 @@ use Rattle.pm_commands.specs.declared.output.Output.{Output}
 use Rattle.pm_commands.specs.declared.refusal.Refusal.{Refusal}
 use Rattle.pm_commands.specs.declared.refusal.Refusal.TheVariants.{Input as AtInput}
 use Rattle.pm_commands.specs.declared.words.Command.{Command}
-use Rattle.pm_commands.specs.declared.words.Command.TheVariants.{Once, MmvMake, MmvDump, Dump, Info}
+use Rattle.pm_commands.specs.declared.words.Command.TheVariants.{Once, MmvMake, MmvDump, Dump, Info, Recover, At, Range, Value}
 use Rattle.pm_commands.specs.Archives.{nothing_before}
-use Rattle.pm_commands.specs.Ends.{Serves}
+use Rattle.pm_commands.specs.Ends.{Serves, MayLeave}
 use Rattle.pm_commands.specs.Meanings.{meaning}
 use Rattle.pm_commands.specs.Refusals.{stopped}
-use Rattle.pm_commands.specs.Sides.{SinkSide, DiskSide, sink_side, disk_side}
+use Rattle.pm_commands.specs.Sides.{SinkSide, DiskSide, Leaves, sink_side, disk_side}
+use Rattle.pm_commands.specs.commands.at as at
 use Rattle.pm_commands.specs.commands.info as info
-use Rattle.pm_commands.proofs.Lookings.{info_fits, look_serves, look_leaves, dump_serves}
+use Rattle.pm_commands.specs.commands.range as range
+use Rattle.pm_commands.specs.commands.value as value
+use Rattle.pm_commands.proofs.Lookings.{info_fits, at_fits, range_fits, value_fits, look_serves, look_leaves, dump_serves}
 use Rattle.pm_commands.proofs.Sending.{unsent, serves_whole}
 use Rattle.pm_commands.proofs.Served.{unconverted}
 use Rattle.pm_commands.proofs.top.serve.Goals as goal
@@ -63,3 +66,49 @@ returns-in-Info-clause-serves g c =
 
 pub returns-in-Info-clause-any_moment : goal.returns-in-Info-clause-any_moment
 returns-in-Info-clause-any_moment g c = look_leaves g.D.Disk (meaning c.args.command.now) c.args.input.now c.args.disk.now c.info.new.disk c.info.ensures.looks
+
+pub returns-in-Recover-clause-serves : goal.returns-in-Recover-clause-serves
+returns-in-Recover-clause-serves g c =
+    let k : SinkSide = sink_side g.O.Sink c.args.out.now c.args.out.now in
+    let d : DiskSide = disk_side g.D.Disk c.args.disk.now c.recover.new.disk in
+    subst (λ (command : Command). Serves (meaning command) c.args.input.now k c.args.failed.now d c.recover.result) (sym c.in-Recover.is)
+    (serves_whole (meaning Recover) c.args.input.now k c.args.failed.now d c.recover.result (unsent g.O.Sink c.args.out.now c.args.failed.now c.requires.fresh) refl (c.recover.ensures.served c.args.input.now) (c.recover.ensures.cause c.args.input.now))
+
+pub returns-in-Recover-clause-any_moment : goal.returns-in-Recover-clause-any_moment
+returns-in-Recover-clause-any_moment g c = subst (λ (command : Command). Leaves g.D.Disk c.args.disk.now c.recover.new.disk (MayLeave (meaning command) c.args.input.now)) (sym c.in-Recover.is) (c.recover.ensures.any_moment c.args.input.now)
+
+pub returns-in-At-clause-serves : goal.returns-in-At-clause-serves
+returns-in-At-clause-serves g c =
+    let k : SinkSide = sink_side g.O.Sink c.args.out.now c.args.out.now in
+    let d : DiskSide = disk_side g.D.Disk c.args.disk.now c.at.new.disk in
+    subst (λ (command : Command). Serves (meaning command) c.args.input.now k c.args.failed.now d c.told-in-At.result) (sym c.in-At.is)
+    (subst (λ (result : Result Output Refusal). Serves (meaning (At c.in-At.t)) c.args.input.now k c.args.failed.now d result) (sym c.told-in-At.ensures)
+    (look_serves (at.turned c.in-At.t) (at.said c.in-At.t) nothing_before (at_fits c.in-At.t) c.args.input.now k c.args.failed.now d c.at.result (λ tells. c.at.ensures.looks.held tells) (unsent g.O.Sink c.args.out.now c.args.failed.now c.requires.fresh) refl
+    (λ tells. c.at.ensures.said tells) c.at.ensures.turned))
+
+pub returns-in-At-clause-any_moment : goal.returns-in-At-clause-any_moment
+returns-in-At-clause-any_moment g c = look_leaves g.D.Disk (meaning c.args.command.now) c.args.input.now c.args.disk.now c.at.new.disk c.at.ensures.looks
+
+pub returns-in-Range-clause-serves : goal.returns-in-Range-clause-serves
+returns-in-Range-clause-serves g c =
+    let k : SinkSide = sink_side g.O.Sink c.args.out.now c.args.out.now in
+    let d : DiskSide = disk_side g.D.Disk c.args.disk.now c.range.new.disk in
+    subst (λ (command : Command). Serves (meaning command) c.args.input.now k c.args.failed.now d c.told-in-Range.result) (sym c.in-Range.is)
+    (subst (λ (result : Result Output Refusal). Serves (meaning (Range c.in-Range.from c.in-Range.to)) c.args.input.now k c.args.failed.now d result) (sym c.told-in-Range.ensures)
+    (look_serves (range.turned c.in-Range.from c.in-Range.to) (range.said c.in-Range.from c.in-Range.to) nothing_before (range_fits c.in-Range.from c.in-Range.to) c.args.input.now k c.args.failed.now d c.range.result (λ tells. c.range.ensures.looks.held tells) (unsent g.O.Sink c.args.out.now c.args.failed.now c.requires.fresh) refl
+    (λ tells. c.range.ensures.said tells) c.range.ensures.turned))
+
+pub returns-in-Range-clause-any_moment : goal.returns-in-Range-clause-any_moment
+returns-in-Range-clause-any_moment g c = look_leaves g.D.Disk (meaning c.args.command.now) c.args.input.now c.args.disk.now c.range.new.disk c.range.ensures.looks
+
+pub returns-in-Value-clause-serves : goal.returns-in-Value-clause-serves
+returns-in-Value-clause-serves g c =
+    let k : SinkSide = sink_side g.O.Sink c.args.out.now c.args.out.now in
+    let d : DiskSide = disk_side g.D.Disk c.args.disk.now c.value.new.disk in
+    subst (λ (command : Command). Serves (meaning command) c.args.input.now k c.args.failed.now d c.told-in-Value.result) (sym c.in-Value.is)
+    (subst (λ (result : Result Output Refusal). Serves (meaning (Value c.in-Value.asked)) c.args.input.now k c.args.failed.now d result) (sym c.told-in-Value.ensures)
+    (look_serves (value.turned c.in-Value.asked) (value.said c.in-Value.asked) nothing_before (value_fits c.in-Value.asked) c.args.input.now k c.args.failed.now d c.value.result (λ tells. c.value.ensures.looks.held tells) (unsent g.O.Sink c.args.out.now c.args.failed.now c.requires.fresh) refl
+    (λ tells. c.value.ensures.said tells) c.value.ensures.turned))
+
+pub returns-in-Value-clause-any_moment : goal.returns-in-Value-clause-any_moment
+returns-in-Value-clause-any_moment g c = look_leaves g.D.Disk (meaning c.args.command.now) c.args.input.now c.args.disk.now c.value.new.disk c.value.ensures.looks

@@ -1,5 +1,5 @@
 -- One step, as the reader answers it.
-use Rattle.std.proofs.Common.{rules, subst, ap, sym, ◌∙◌, ◌++◌, refl}
+use Rattle.std.proofs.Common.{rules, subst, ap, ◌∙◌, ◌++◌, refl}
 use Rattle.pcp_model.specs.Disk.{contents_of}
 use Rattle.archive_reader.specs.Nexts.{IsNext}
 use Rattle.pm_print.specs.Items.{item_text}
