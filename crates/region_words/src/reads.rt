@@ -63,7 +63,8 @@ impl Region {
         ensures long { length out.new ≡ length out.old }
         ensures stays { IsSame Idle Idle pass.old pass.new }
     {
+        let generation = known.generation;
         self.inner
-            .read_chosen(&mut pass.inner, known.generation, indexes, out)
+            .read_chosen(&mut pass.inner, generation, indexes, out)
     }
 }
