@@ -10,8 +10,8 @@ use std::sync::Wait;
 use std::sync::atomic::{AtomicBool, Ordering};
 use std::thread;
 
-/// How many layouts there are at most.
-pub const LAYOUTS: u64 = 2000;
+// How many layouts there are at most.
+const LAYOUTS: u64 = 2000;
 
 // How many are laid at least.
 const FEWEST: u64 = 200;
@@ -32,17 +32,16 @@ pub fn is_one_layout(generation: u64, metric: u64, value: u64) -> bool {
     metric == 0x3_0000_0002 + layout % 2 && value >> 32 == layout
 }
 
-/// Lays one layout after the other, until another thread is done, and answers the last one's number. Half way through each
-/// change it lets others run.
+/// Lays one layout after the other, until another thread is done. Half way through each change it lets others run.
 pub fn relay<R: Wait>(
     rt: &R,
     alloc: Global,
     region: &Region,
     pass: Pass,
     done: &AtomicBool,
-) -> Option<(Pass, u64)>
+) -> Option<Pass>
     requires here { pass.region ≡ region.now }
-    ensures { IfSome result (λ r. r.0.region ≡ region.now) }
+    ensures { IfSome result (λ p. p.region ≡ region.now) }
 {
     let mut pass = pass;
     for layout in 1..LAYOUTS {
@@ -56,8 +55,8 @@ pub fn relay<R: Wait>(
             Err(_) => return None,
         }
         if layout >= FEWEST && done.load(Ordering::SeqCst) {
-            return Some((pass, layout));
+            return Some(pass);
         }
     }
-    Some((pass, LAYOUTS - 1))
+    Some(pass)
 }

@@ -1,16 +1,15 @@
 //! Threads that run beside each other over one region: four writers, one that changes the layout, and a reader.
 
-ghost use Rattle.std.specs.Prelude.{◌≡◌, IfSome};
+ghost use Rattle.std.specs.Prelude.{◌≡◌, All, IfOk, IfSome};
 
-use crate::layouts::{LAYOUTS, image_of_layout, is_one_layout, relay};
+use crate::layouts::{image_of_layout, is_one_layout, relay};
 use crate::words::add_to_first;
 use mmv_layout::Image;
 use region_words::{Known, Pass, ReadFault, Region, Stint, ValueFault};
-use std::alloc::Global;
-use std::process::Abort;
+use std::alloc::{AllocError, Global};
 use std::sync::Wait;
 use std::sync::atomic::{AtomicBool, Ordering};
-use std::thread::{self, Threads, join};
+use std::thread::{self, Threads};
 
 const STINTS: u64 = 1000;
 
@@ -23,87 +22,32 @@ struct Seen {
     refused: u64,
 }
 
-// How many adds were made in each layout, and the sum of what they found above the layout's first value.
-#[derive(Drop)]
-struct Tally {
-    counts: Vec<u64>,
-    sums: Vec<u64>,
-}
-
-fn empty_tally(alloc: Global) -> Option<Tally> {
-    let counts = Vec::from_elem(alloc, 0u64, LAYOUTS as usize).ok()?;
-    let sums = Vec::from_elem(alloc, 0u64, LAYOUTS as usize).ok()?;
-    Some(Tally { counts, sums })
-}
-
-// Counts adds, and sums what they found.
-fn keep(tally: &mut Tally, layout: usize, count: u64, sum: u64) {
-    if layout < tally.counts.len() && layout < tally.sums.len() {
-        tally.counts[layout] = tally.counts[layout].wrapping_add(count);
-        tally.sums[layout] = tally.sums[layout].wrapping_add(sum);
-    }
-}
-
-fn keep_all(tally: &mut Tally, other: &Tally) {
-    for (layout, (count, sum)) in other.counts.iter().zip(other.sums.iter()).enumerate() {
-        keep(tally, layout, *count, *sum);
-    }
-}
-
-fn add_many(alloc: Global, region: &Region, stint: &mut Stint, tally: &mut Tally) -> Option<()>
+// Adds 1 many times, and keeps what it found.
+fn add_many(alloc: Global, region: &Region, stint: &mut Stint, found: &mut Vec<u64>) -> Option<()>
     requires here { stint.old.region ≡ region.now }
     ensures { stint.new.region ≡ region.now }
 {
     for _ in 0..ADDS {
-        let found = add_to_first(alloc, region, stint, 1)?;
-        keep(tally, (found >> 32) as usize, 1, found & 0xffff_ffff);
+        let word = add_to_first(alloc, region, stint, 1)?;
+        found.push(word).ok()?;
     }
     Some(())
 }
 
 // Adds in many stints.
-fn write<R: Wait>(rt: &R, alloc: Global, region: &Region, pass: Pass) -> Option<(Pass, Tally)>
+fn write<R: Wait>(rt: &R, alloc: Global, region: &Region, pass: Pass) -> Option<(Pass, Vec<u64>)>
     requires here { pass.region ≡ region.now }
     ensures { IfSome result (λ r. r.0.region ≡ region.now) }
 {
-    let mut tally = empty_tally(alloc)?;
+    let mut found = Vec::new(alloc);
     let mut pass = pass;
     for _ in 0..STINTS {
         let mut stint = region.attach_wait(rt, pass);
-        add_many(alloc, region, &mut stint, &mut tally)?;
+        add_many(alloc, region, &mut stint, &mut found)?;
         pass = stint.detach(region);
         thread::yield_now();
     }
-    Some((pass, tally))
-}
-
-// Two writers beside each other; the first gathers the second.
-fn write_two<R: Threads + Wait + Sync>(
-    rt: &R,
-    alloc: Global,
-    region: &Region,
-    one: Pass,
-    two: Pass,
-) -> Option<(Pass, Tally)>
-    requires here { (one.region ≡ region.now) × (two.region ≡ region.now) }
-    ensures { IfSome result (λ r. r.0.region ≡ region.now) }
-{
-    let (first, second) = join(
-        rt,
-        || -> Option<(Pass, Tally)>
-            requires { one.region ≡ region.now }
-            ensures { IfSome result (λ r. r.0.region ≡ region.entry.now) }
-        { write(rt, alloc, region, one) },
-        || -> Option<(Pass, Tally)>
-            requires { two.region ≡ region.now }
-            ensures { IfSome result (λ r. r.0.region ≡ region.entry.now) }
-        { write(rt, alloc, region, two) },
-    );
-    let (mut pass, mut tally) = first?;
-    let (ended, other) = second?;
-    pass.gather(region, ended);
-    keep_all(&mut tally, &other);
-    Some((pass, tally))
+    Some((pass, found))
 }
 
 // Reads chosen words of the layout that was just read, and says whether a layout was seen.
@@ -137,14 +81,7 @@ fn read_both(alloc: Global, region: &Region, pass: &mut Pass, seen: &mut Seen) -
     match region.read_image(alloc, pass) {
         Ok(image) => {
             seen.stable = seen.stable.wrapping_add(1);
-            let words = image.words();
-            match (words.get(1), words.get(17), words.get(22)) {
-                (Some(generation), Some(metric), Some(value)) => {
-                    is_one_layout(*generation, *metric, *value)
-                        && read_known(region, pass, &image, seen)
-                }
-                _ => false,
-            }
+            are_one_layout(image.words()) && read_known(region, pass, &image, seen)
         }
         Err(ReadFault::Again { first: _, last: _ }) => {
             seen.refused = seen.refused.wrapping_add(1);
@@ -176,123 +113,108 @@ fn read(alloc: Global, region: &Region, pass: Pass, done: &AtomicBool) -> Option
     None
 }
 
-// One that changes the layout, and a reader, beside each other; the last layout's number.
-fn change_and_read<R: Threads + Wait + Sync>(
+// What the thread of each pass does, by the pass's number: 4 changes the layout, 5 reads, and the others write.
+fn work<R: Wait>(
     rt: &R,
     alloc: Global,
     region: &Region,
-    changer: Pass,
-    reader: Pass,
-) -> Option<(Pass, u64)>
-    requires here { (changer.region ≡ region.now) × (reader.region ≡ region.now) }
+    pass: Pass,
+    done: &AtomicBool,
+) -> Option<(Pass, Vec<u64>)>
+    requires here { pass.region ≡ region.now }
     ensures { IfSome result (λ r. r.0.region ≡ region.now) }
 {
-    let done = AtomicBool::new(false);
-    let (laid, read) = join(
-        rt,
-        || -> Option<(Pass, u64)>
-            requires { changer.region ≡ region.now }
-            ensures { IfSome result (λ r. r.0.region ≡ region.entry.now) }
-        { relay(rt, alloc, region, changer, &done) },
-        || -> Option<Pass>
-            requires { reader.region ≡ region.now }
-            ensures { IfSome result (λ p. p.region ≡ region.entry.now) }
-        { read(alloc, region, reader, &done) },
-    );
-    let (mut pass, layout) = laid?;
-    pass.gather(region, read?);
-    Some((pass, layout))
-}
-
-// How many adds there were; `None` where those of a layout did not find 0, 1, 2 and so on, each once.
-fn total_of(tally: &Tally) -> Option<u64> {
-    let mut total = 0u64;
-    for (count, sum) in tally.counts.iter().zip(tally.sums.iter()) {
-        if *sum != count.wrapping_mul(count.wrapping_sub(1)) / 2 {
-            return None;
-        }
-        total = total.wrapping_add(*count);
+    match pass.number() {
+        4 => Some((relay(rt, alloc, region, pass, done)?, Vec::new(alloc))),
+        5 => Some((read(alloc, region, pass, done)?, Vec::new(alloc))),
+        _ => write(rt, alloc, region, pass),
     }
-    Some(total)
 }
 
-// Four writers, one that changes the layout and a reader; the last one gathers all.
+// A thread for each pass.
 fn run<R: Threads + Wait + Sync>(
     rt: &R,
     alloc: Global,
     region: &Region,
-    writers: (Pass, Pass, Pass, Pass),
-    others: (Pass, Pass),
-) -> Option<(Pass, Tally, u64)>
-    requires writers { (writers.0.region ≡ region.now) × (writers.1.region ≡ region.now) × (writers.2.region ≡ region.now) × (writers.3.region ≡ region.now) }
-    requires others { (others.0.region ≡ region.now) × (others.1.region ≡ region.now) }
-    ensures { IfSome result (λ r. r.0.region ≡ region.now) }
+    passes: Vec<Pass>,
+) -> Result<Vec<Option<(Pass, Vec<u64>)>>, AllocError>
+    requires here { All (λ pass. pass.region ≡ region.now) passes.items }
+    ensures { IfOk result (λ ended. All (λ one. IfSome one (λ r. r.0.region ≡ region.now)) ended.items) }
 {
-    let (one, two, three, four) = writers;
-    let (changer, reader) = others;
-    let (first, (second, third)) = join(
+    let done = AtomicBool::new(false);
+    thread::map_vec(
         rt,
-        || -> Option<(Pass, Tally)>
-            requires { (one.region ≡ region.now) × (two.region ≡ region.now) }
+        passes,
+        &|pass| -> Option<(Pass, Vec<u64>)>
+            requires { pass.region ≡ region.now }
             ensures { IfSome result (λ r. r.0.region ≡ region.entry.now) }
-        { write_two(rt, alloc, region, one, two) },
-        || -> (Option<(Pass, Tally)>, Option<(Pass, u64)>)
-            requires { (three.region ≡ region.now) × (four.region ≡ region.now) × (changer.region ≡ region.now) × (reader.region ≡ region.now) }
-            ensures { IfSome result.0 (λ r. r.0.region ≡ region.entry.now) × IfSome result.1 (λ r. r.0.region ≡ region.entry.now) }
-        {
-            join(
-                rt,
-                || -> Option<(Pass, Tally)>
-                    requires { (three.region ≡ region.now) × (four.region ≡ region.now) }
-                    ensures { IfSome result (λ r. r.0.region ≡ region.entry.now) }
-                { write_two(rt, alloc, region, three, four) },
-                || -> Option<(Pass, u64)>
-                    requires { (changer.region ≡ region.now) × (reader.region ≡ region.now) }
-                    ensures { IfSome result (λ r. r.0.region ≡ region.entry.now) }
-                { change_and_read(rt, alloc, region, changer, reader) },
-            )
-        },
-    );
-    let (ended, mut tally) = first?;
-    let (other, theirs) = second?;
-    let (mut pass, layout) = third?;
-    pass.gather(region, ended);
-    pass.gather(region, other);
-    keep_all(&mut tally, &theirs);
-    Some((pass, tally, layout))
+        { work(rt, alloc, region, pass, &done) },
+    )
+}
+
+// Gathers all passes, and what each found; `None` where one of them stopped.
+fn gather_all(
+    region: &Region,
+    first: Pass,
+    ended: Vec<Option<(Pass, Vec<u64>)>>,
+    found: &mut Vec<u64>,
+) -> Option<Pass>
+    requires first { first.region ≡ region.now }
+    requires here { All (λ one. IfSome one (λ r. r.0.region ≡ region.now)) ended.items }
+    ensures { IfSome result (λ p. p.region ≡ region.now) }
+{
+    let mut pass = first;
+    for one in ended {
+        let (other, words) = one?;
+        pass.gather(region, other);
+        found.extend_from_slice(&words).ok()?;
+    }
+    Some(pass)
+}
+
+// Whether the words are those of one layout.
+fn are_one_layout(words: &[u64]) -> bool {
+    match (words.get(1), words.get(17), words.get(22)) {
+        (Some(generation), Some(metric), Some(value)) => {
+            is_one_layout(*generation, *metric, *value)
+        }
+        _ => false,
+    }
+}
+
+// Whether what was found in each layout, in order, is 0, 1, 2 and so on above the layout's first value, each once.
+fn is_gapless(found: &[u64]) -> bool {
+    let mut next = 0u64;
+    for word in found {
+        if *word < next || (*word > next && *word & 0xffff_ffff != 0) {
+            return false;
+        }
+        next = word.wrapping_add(1);
+    }
+    true
+}
+
+// How many numbers four writers found beside a changer and a reader, with the last value, which the next one would have
+// found; `None` where a number was lost, a reading was of no one layout, or too few were seen.
+fn count_found<R: Threads + Wait + Sync>(rt: &R, alloc: Global) -> Option<usize> {
+    let image = image_of_layout(alloc, 0)?;
+    let (region, mut passes) = Region::make(alloc, &image, 32, 7).ok()?;
+    let last = passes.pop()?;
+    let ended = run(rt, alloc, &region, passes).ok()?;
+    let mut found = Vec::new(alloc);
+    let pass = gather_all(&region, last, ended, &mut found)?;
+    let words = region.close(alloc, pass).ok()?;
+    found.push(*words.get(22)?).ok()?;
+    found.sort().ok()?;
+    if are_one_layout(&words) && is_gapless(&found) {
+        Some(found.len())
+    } else {
+        None
+    }
 }
 
 #[test]
 fn four_writers_a_changer_and_a_reader_lose_no_add(rt: HostRuntime) {
-    let alloc = rt.alloc();
-    let image = image_of_layout(alloc, 0).expect(&rt, "an image");
-    let Ok((region, mut passes)) = Region::make(alloc, &image, 32, 6) else {
-        panic!(&rt; "no memory")
-    };
-    let others = (
-        passes.pop().expect(&rt, "six passes"),
-        passes.pop().expect(&rt, "six passes"),
-    );
-    let writers = (
-        passes.pop().expect(&rt, "six passes"),
-        passes.pop().expect(&rt, "six passes"),
-        passes.pop().expect(&rt, "six passes"),
-        passes.pop().expect(&rt, "six passes"),
-    );
-    let Some((pass, tally, layout)) = run(&rt, alloc, &region, writers, others) else {
-        panic!(&rt; "a reading was of no one layout, or too few were seen")
-    };
-    assert_eq!(&rt; total_of(&tally), Some(400_000));
-    let count = tally
-        .counts
-        .get(layout as usize)
-        .copied()
-        .expect(&rt, "a layout");
-    match region.close(alloc, pass) {
-        Ok(words) => assert_eq!(&rt;
-            words.get(22).copied(),
-            Some((layout << 32).wrapping_add(count))
-        ),
-        Err((_, _, _fault)) => panic!(&rt; "no memory"),
-    }
+    let count = count_found(&rt, rt.alloc());
+    assert_eq!(&rt; count, Some(400_001));
 }

@@ -101,32 +101,50 @@ fn read_one(region: &Region, pass: &mut Pass, generation: u64, word: u32) -> Res
     Ok(values[0])
 }
 
+// Changes the layout to this image, or tells why it did not.
+fn relay_once(region: &Region, pass: Pass, image: Image) -> (Pass, Option<ChangeFault>)
+    requires here { pass.region ≡ region.now }
+    ensures { result.0.region ≡ region.now }
+{
+    match region.begin_change(pass, image, 0) {
+        Ok(change) => (change.finish(region), None),
+        Err((pass, _image, fault)) => (pass, Some(fault)),
+    }
+}
+
 #[test]
 fn a_reading_across_a_change_is_refused(rt: HostRuntime) {
     let alloc = rt.alloc();
-    let (region, reader, writer, other) = make_three(&rt, alloc, SEVEN);
+    let (region, reader, writer, _) = make_three(&rt, alloc, SEVEN);
     let reading = region.start_read(reader);
+    let (_, fault) = relay_once(&region, writer, image_of(&rt, alloc, NINE));
+    let (reader, crossed) = reading.end(&region);
+    let mut reading = region.start_read(reader);
+    let word = reading.word(&region, 22);
+    let (_, stable) = reading.end(&region);
+    assert_eq!(&rt; (fault, word), (None, 9));
+    assert_eq!(&rt; crossed, Err(Again { first: 5, last: 6 }));
+    assert_eq!(&rt; stable, Ok(Stable { generation: 6 }));
+}
+
+#[test]
+fn attach_and_a_known_layout_are_refused_beside_a_change(rt: HostRuntime) {
+    let alloc = rt.alloc();
+    let (region, _, writer, other) = make_three(&rt, alloc, SEVEN);
     let Ok(mut change) = region.begin_change(writer, image_of(&rt, alloc, NINE), 0) else {
         panic!(&rt; "the gate was 0")
     };
-    assert_eq!(&rt; change.generation(), 6);
     let Err((mut other, refused)) = region.attach(other) else {
         panic!(&rt; "a pass is changing")
     };
-    assert_eq!(&rt; refused, Changing { gate: 1 << 63 });
-    let answer = read_one(&region, &mut other, 5, 22);
-    assert_eq!(&rt; answer, Err(ValueFault::Again { first: 5, last: 6 }));
-    assert_eq!(&rt; change.step(&region), 23);
+    let crossed = read_one(&region, &mut other, 5, 22);
+    assert_eq!(&rt; (change.generation(), change.step(&region)), (6, 23));
     let _ = change.finish(&region);
-    let (reader, answer) = reading.end(&region);
-    assert_eq!(&rt; answer, Err(Again { first: 5, last: 6 }));
-    let mut reading = region.start_read(reader);
-    assert_eq!(&rt; reading.word(&region, 22), 9);
-    let (_, answer) = reading.end(&region);
-    assert_eq!(&rt; answer, Ok(Stable { generation: 6 }));
-    let answer = read_one(&region, &mut other, 5, 22);
-    assert_eq!(&rt; answer, Err(ValueFault::Newer { found: 6 }));
-    assert_eq!(&rt; read_one(&region, &mut other, 6, 22), Ok(9));
+    let newer = read_one(&region, &mut other, 5, 22);
+    let value = read_one(&region, &mut other, 6, 22);
+    assert_eq!(&rt; (refused, value), (Changing { gate: 1 << 63 }, Ok(9)));
+    assert_eq!(&rt; crossed, Err(ValueFault::Again { first: 5, last: 6 }));
+    assert_eq!(&rt; newer, Err(ValueFault::Newer { found: 6 }));
     assert!(&rt; region.attach(other).is_ok(), "nobody is changing");
 }
 
@@ -137,23 +155,12 @@ fn a_change_waits_for_the_stint_and_a_spent_generation_ends_it(rt: HostRuntime) 
     let Ok(stint) = region.attach(first) else {
         panic!(&rt; "nobody is changing")
     };
-    let image = image_of(&rt, alloc, NINE);
-    let (second, image) = match region.begin_change(second, image, 0) {
-        Ok(change) => (change.finish(&region), image_of(&rt, alloc, SEVEN)),
-        Err((second, image, fault)) => {
-            assert_eq!(&rt; fault, ChangeFault::Busy { gate: 1 });
-            (second, image)
-        }
-    };
+    let (second, busy) = relay_once(&region, second, image_of(&rt, alloc, NINE));
     let _ = stint.detach(&region);
-    let second = match region.begin_change(second, image, 0) {
-        Ok(change) => change.finish(&region),
-        Err((second, _image, fault)) => {
-            let generation = u64::MAX;
-            assert_eq!(&rt; fault, ChangeFault::Spent { generation });
-            second
-        }
-    };
+    let (second, spent) = relay_once(&region, second, image_of(&rt, alloc, SEVEN));
+    let generation = u64::MAX;
+    assert_eq!(&rt; busy, Some(ChangeFault::Busy { gate: 1 }));
+    assert_eq!(&rt; spent, Some(ChangeFault::Spent { generation }));
     assert!(&rt; region.attach(second).is_ok(), "the gate is free again");
 }
 
