@@ -12,15 +12,15 @@ use std::env;
 
 // What is timed: its name, the call, the words of its region, and how often each thread calls.
 const TIMES: [Row; 9] = [
-    ("fetch_add of an atomic", Call::FetchAdd, 26, 3_000_000),
-    ("Stint::add", Call::Add, 26, 3_000_000),
-    ("attach and detach", Call::Attach, 26, 2_000_000),
-    ("load of an atomic", Call::Load, 26, 20_000_000),
-    ("Reading::word", Call::Word, 26, 20_000_000),
-    ("start_read, a word, end", Call::Reading, 26, 5_000_000),
-    ("read_values, 40 words", Call::Values, 26, 500_000),
-    ("read_image, 26 words", Call::Image, 26, 500_000),
-    ("read_image, 65,536 words", Call::Image, 65_536, 500),
+    ("fetch_add of an atomic", Call::FetchAdd, 26, 300_000),
+    ("Stint::add", Call::Add, 26, 300_000),
+    ("attach and detach", Call::Attach, 26, 200_000),
+    ("load of an atomic", Call::Load, 26, 5_000_000),
+    ("Reading::word", Call::Word, 26, 5_000_000),
+    ("start_read, a word, end", Call::Reading, 26, 1_000_000),
+    ("read_values, 40 words", Call::Values, 26, 30_000),
+    ("read_image, 26 words", Call::Image, 26, 30_000),
+    ("read_image, 65,536 words", Call::Image, 65_536, 30),
 ];
 
 // What is read beside changes.

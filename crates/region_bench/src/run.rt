@@ -125,12 +125,12 @@ fn run<R: Threads + Clock + Sync>(
     Some(Told { nanos, refused })
 }
 
-/// The time of a call in tenths of a nanosecond, the best of five runs, with a caller for each pass.
+/// The time of a call in tenths of a nanosecond, the best of a hundred short runs, with a caller for each pass.
 pub fn fastest<R: Threads + Clock + Sync>(rt: &R, alloc: Global, row: &Row, passes: u32) -> u64
     requires passes { (0 < passes) × (passes ≤ 256) }
 {
     let mut best = u64::MAX;
-    for _ in 0..5 {
+    for _ in 0..100 {
         let shared = Shared::new(256, 0);
         if let Some(told) = run(rt, alloc, row, passes, &shared) {
             best = best.min(told.nanos);
