@@ -7,7 +7,6 @@ use Rattle.run_script.specs.declared.fault.ScriptLineFault.TheVariants.{Line}
 use Rattle.run_script.specs.declared.fault.LineStop.{LineStop}
 use Rattle.run_script.specs.declared.fault.LineStop.TheVariants as stops
 use Rattle.run_script.specs.declared.said.Said.{Said}
-use Rattle.run_script.specs.declared.said.Stage.{Stage}
 use Rattle.run_script.specs.declared.said.Stage.TheVariants as stages
 use Rattle.run_script.specs.Said.{nothing}
 use Rattle.run_script.specs.Faults.{on_line}

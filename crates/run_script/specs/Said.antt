@@ -1,5 +1,5 @@
 -- What the lines of a script say so far.
-use Rattle.std.specs.Prelude.{ℕ, [], None}
+use Rattle.std.specs.Prelude.{[], None}
 use Rattle.run_script.specs.declared.said.Said.{Said}
 
 -- no line was read

@@ -1,5 +1,5 @@
 -- What the steps of a script say: the regions, passes and images that they name.
-use Rattle.std.specs.Prelude.{ℕ, ℤ, ◌+◌, nat_lt, if◌then◌else◌, List, [], ◌∷◌, ◌++◌, slice_get, Option, Some, None, Result, Ok, Err, Bool, true, bytes_eq}
+use Rattle.std.specs.Prelude.{ℕ, ℤ, nat_lt, if◌then◌else◌, List, [], ◌∷◌, ◌++◌, slice_get, Option, Some, None, Result, Ok, Err, Bool, true, bytes_eq}
 use Rattle.std.specs.List.{position}
 use Rattle.pcp_base.specs.Time.{Moment, microseconds}
 use Rattle.mmv_writer.specs.declared.line_fault.LineFault.TheVariants.{Grammar, Condition}
