@@ -1,11 +1,12 @@
 //! What the lines of a book act on: what a case has outside of the program, and the parts whose calls no command makes.
 //! A word's function stands in the crate of its part: `case_outside`, `case_commands`, `case_crashes`, `case_images`,
-//! `case_parts`, `case_records`, `case_regions` or `case_scripts`.
+//! `case_logger`, `case_parts`, `case_records`, `case_regions` or `case_scripts`.
 mod parts;
 
 use crate::scene::parts::Parts;
 use case_book::{Answer, Kept, Line, Subject};
 use case_images::{Building, tell_image};
+use case_logger::Logging;
 use case_outside::{Outside, prepare_input};
 use pcp_base::NoMemory;
 use std::alloc::Global;
@@ -15,6 +16,7 @@ use std::alloc::Global;
 pub struct Scene {
     outside: Outside,
     building: Building,
+    logging: Logging,
     parts: Parts,
 }
 
@@ -23,6 +25,7 @@ impl Scene {
         Scene {
             outside: Outside::new(alloc),
             building: Building::new(),
+            logging: Logging::new(alloc),
             parts: Parts::new(alloc),
         }
     }
@@ -57,6 +60,7 @@ impl Subject for Scene {
             "recovered" => {
                 case_crashes::recovered(alloc, &mut outside.drive, kept, answer, line)
             }
+            "logger" => self.logging.call(alloc, &mut outside.drive, answer, rest),
             "image" => tell_image(alloc, answer, &outside.input, rest),
             "build" | "take" => self.building.step(alloc, kept, answer, line),
             _ => self.parts.step(alloc, &outside.input, answer, line),
