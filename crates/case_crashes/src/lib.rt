@@ -6,8 +6,8 @@
 mod described;
 mod images;
 mod parts;
-mod recovered;
+mod recoveries;
 mod tally;
 
 pub use images::crash;
-pub use recovered::recovered;
+pub use recoveries::recovered;

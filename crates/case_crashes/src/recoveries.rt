@@ -44,7 +44,9 @@ impl Outcomes {
             same,
             empty,
         } = self;
-        Ok(format!(in alloc; "images {images}, {told} with {name}, {same} the same, {empty} empty\n")?)
+        Ok(format!(in alloc;
+            "images {images}, {told} with {name}, {same} the same, {empty} empty\n"
+        )?)
     }
 }
 
