@@ -10,5 +10,6 @@ pub mod Sending
 pub mod Facts
 pub mod Wholes
 pub mod Served
+pub mod Taken
 pub mod Timed
 pub mod Welcome

@@ -10,5 +10,6 @@ pub mod Meanings
 pub mod Refusals
 pub mod Sides
 pub mod Streams
+pub mod Takes
 pub mod Writes
 pub mod commands

@@ -1,6 +1,6 @@
 //! The call that main makes.
 ghost use Rattle.std.specs.Prelude.{◌≡◌, ◌⊎◌, ◌≤◌, length, map, string_bytes, false};
-ghost use Rattle.pcp_model.specs.Disk.{IsSettled};
+ghost use Rattle.pcp_model.specs.Disk.{IsSettled, contents_of};
 ghost use Rattle.pcp_outside.specs.Causes.{Rose};
 ghost use Rattle.pm_commands.specs.CommandLine.{FitsCommand};
 ghost use Rattle.pm_commands.specs.Ends.{Serves, Runs, Ends, EndsDone, MayLeave, MayBeLeft};
@@ -8,6 +8,7 @@ ghost use Rattle.pm_commands.specs.Facts.{UsageIsExact, LimitIsExact, InputFault
 ghost use Rattle.pm_commands.specs.Inputs.{input_limit};
 ghost use Rattle.pm_commands.specs.Meanings.{meaning};
 ghost use Rattle.pm_commands.specs.Sides.{source_side, sink_side, disk_side, Leaves};
+ghost use Rattle.pm_commands.specs.Takes.{MayTake, TakesLittle};
 
 use crate::commands::at::at;
 use crate::commands::dump::dump;
@@ -40,6 +41,7 @@ fn serve<O: Sink, D: Disk>(
     ensures serves { Serves (meaning command.now) input.now (sink_side O.Sink out.old out.new) failed.new (disk_side D.Disk disk.old disk.new) result }
     ensures aside { (meaning command.now).uses_disk ≡ false → disk.new ≡ disk.old }
     ensures any_moment { Leaves D.Disk disk.old disk.new (MayLeave (meaning command.now) input.now) }
+    ensures taken { D.tells → MayTake command.now (contents_of (D.held disk.old)) (D.taken disk.old) (D.taken disk.new) }
 {
     match command {
         Command::Once(asked) => once(alloc, asked, input, disk),
@@ -74,6 +76,7 @@ fn run<I: Source, O: Sink, D: Disk>(
     ensures aside { IsAside (map string_bytes words.now) → disk.new ≡ disk.old }
     ensures unasked { IsInputless (map string_bytes words.now) → input.new ≡ input.old }
     ensures any_moment { Leaves D.Disk disk.old disk.new (MayBeLeft (map string_bytes words.now) (source_side I.Source input.old input.new)) }
+    ensures taken { D.tells → TakesLittle (map string_bytes words.now) (contents_of (D.held disk.old)) (D.taken disk.old) (D.taken disk.new) }
 {
     let command = read_words(alloc, words)?;
     let bytes = get_input(alloc, &command, input)?;
@@ -92,6 +95,7 @@ fn answer<I: Source, O: Sink, D: Disk>(
     ensures aside { IsAside (map string_bytes words.now) → disk.new ≡ disk.old }
     ensures unasked { IsInputless (map string_bytes words.now) → input.new ≡ input.old }
     ensures any_moment { Leaves D.Disk disk.old disk.new (MayBeLeft (map string_bytes words.now) (source_side I.Source input.old input.new)) }
+    ensures taken { D.tells → TakesLittle (map string_bytes words.now) (contents_of (D.held disk.old)) (D.taken disk.old) (D.taken disk.new) }
 {
     let mut failed = false;
     match run(alloc, words, input, out, &mut failed, disk) {
@@ -145,6 +149,10 @@ pub fn offline<I: Source, O: Sink, D: Disk>(
     // A command that has nothing to do with the disk leaves it alone, and one without input the source.
     ensures aside { IsAside (map string_bytes words.now) → disk.new ≡ disk.old }
     ensures unasked { IsInputless (map string_bytes words.now) → input.new ≡ input.old }
+
+    // Of the volumes a command that asks by time takes the labels, and then what its search takes of the records: the segment from the
+    // place where the index says, one record before it and one behind it.
+    ensures taken { D.tells → TakesLittle (map string_bytes words.now) (contents_of (D.held disk.old)) (D.taken disk.old) (D.taken disk.new) }
 
     // Good input succeeds, or nothing is there.
     ensures completes { IsGoodRun (map string_bytes words.now) (source_side I.Source input.old input.new) (sink_side O.Sink out.old out.new) (disk_side D.Disk disk.old disk.new) → (result ≡ 0) ⊎ ((result ≡ 9) ⊎ (result ≡ 11)) }

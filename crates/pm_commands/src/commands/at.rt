@@ -1,8 +1,10 @@
 //! The command `at SEC USEC`: the last item that isn't stamped after a moment.
 ghost use Rattle.std.specs.Prelude.{IfOk, IfErr};
+ghost use Rattle.pcp_model.specs.Disk.{contents_of};
 ghost use Rattle.archive_window.specs.Looks.{Looks};
 ghost use Rattle.pm_commands.specs.Archives.{TurnedAway};
 ghost use Rattle.pm_commands.specs.Sides.{disk_side, found};
+ghost use Rattle.pm_commands.specs.Takes.{TookAt};
 ghost use Rattle.pm_commands.specs.commands.at.{turned, said};
 
 use crate::refusal::Refusal;
@@ -17,6 +19,7 @@ use std::alloc::Global;
 pub(crate) fn at<D: Disk>(alloc: Global, t: Stamp, disk: &mut D) -> Result<Bytes, Refusal>
     ensures said { D.tells → IfOk result (said t (found (disk_side D.Disk disk.old disk.new))) }
     ensures turned { IfErr result (TurnedAway (turned t) (disk_side D.Disk disk.old disk.new)) }
+    ensures taken { D.tells → TookAt t (contents_of (D.held disk.old)) (D.taken disk.old) (D.taken disk.new) }
     ensures looks { Looks D.Disk disk.old disk.new }
 {
     let mut reader = ArchiveReader::load(alloc, disk)?;

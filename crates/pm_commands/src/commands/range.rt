@@ -1,9 +1,11 @@
 //! The command `range SEC USEC SEC USEC`: the items between two moments.
 ghost use Rattle.std.specs.Prelude.{◌≡◌, ◌++◌, IfOk, IfErr, OnOk};
+ghost use Rattle.pcp_model.specs.Disk.{contents_of};
 ghost use Rattle.archive_window.specs.Looks.{Looks};
 ghost use Rattle.pm_print.specs.Items.{items_text};
 ghost use Rattle.pm_commands.specs.Archives.{TurnedAway};
 ghost use Rattle.pm_commands.specs.Sides.{disk_side, found};
+ghost use Rattle.pm_commands.specs.Takes.{TookRange};
 ghost use Rattle.pm_commands.specs.commands.range.{turned, said};
 
 use crate::refusal::Refusal;
@@ -45,6 +47,7 @@ pub(crate) fn range<D: Disk>(
 ) -> Result<Bytes, Refusal>
     ensures said { D.tells → IfOk result (said from to (found (disk_side D.Disk disk.old disk.new))) }
     ensures turned { IfErr result (TurnedAway (turned from to) (disk_side D.Disk disk.old disk.new)) }
+    ensures taken { D.tells → TookRange from to (contents_of (D.held disk.old)) (D.taken disk.old) (D.taken disk.new) }
     ensures looks { Looks D.Disk disk.old disk.new }
 {
     let mut reader = ArchiveReader::load(alloc, disk)?;

@@ -5,7 +5,9 @@ use Rattle.pm_commands.specs.Causes.{Asks, Got}
 use Rattle.pm_commands.specs.Ends.{MayLeave, MayBeLeft}
 use Rattle.pm_commands.specs.Meanings.{meaning}
 use Rattle.pm_commands.specs.Sides.{SourceSide, SinkSide, DiskSide, source_side, sink_side, disk_side}
+use Rattle.pcp_model.specs.Disk.{contents_of}
 use Rattle.pm_commands.proofs.Sending.{unsent}
+use Rattle.pm_commands.proofs.Taken.{takes_nothing, takes_little}
 use Rattle.pm_commands.proofs.Served.{may_be_left, runs, runs_none, no_words, no_input}
 use Rattle.pm_commands.proofs.top.run.Goals as goal
 
@@ -55,3 +57,12 @@ returns-clause-runs g c =
       got = subst (λ (input : List ℕ). Got (meaning c.in_ok-command.command).reads s input) (sym c.as_slice.ensures) c.in_ok-bytes.ensures.got;
     } in
     runs words s _ _ _ a _ c.serve.ensures.serves
+
+pub returns-in_err-command-clause-taken : goal.returns-in_err-command-clause-taken
+returns-in_err-command-clause-taken g c = λ tells. takes_nothing (map (string_bytes {Z = Global}) c.args.words.now) (contents_of (g.D.Disk.held c.args.disk.now)) (g.D.Disk.taken c.args.disk.now)
+
+pub returns-in_err-bytes-clause-taken : goal.returns-in_err-bytes-clause-taken
+returns-in_err-bytes-clause-taken g c = λ tells. takes_nothing (map (string_bytes {Z = Global}) c.args.words.now) (contents_of (g.D.Disk.held c.args.disk.now)) (g.D.Disk.taken c.args.disk.now)
+
+pub returns-clause-taken : goal.returns-clause-taken
+returns-clause-taken g c = λ tells. takes_little (map (string_bytes {Z = Global}) c.args.words.now) c.in_ok-command.command (contents_of (g.D.Disk.held c.args.disk.now)) (g.D.Disk.taken c.args.disk.now) (g.D.Disk.taken c.serve.new.disk) c.in_ok-command.ensures.command (c.serve.ensures.taken tells)

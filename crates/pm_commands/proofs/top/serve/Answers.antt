@@ -5,11 +5,13 @@ use Rattle.pm_commands.specs.declared.refusal.Refusal.{Refusal}
 use Rattle.pm_commands.specs.declared.refusal.Refusal.TheVariants.{Input as AtInput}
 use Rattle.pm_commands.specs.declared.words.Command.{Command}
 use Rattle.pm_commands.specs.declared.words.Command.TheVariants.{Once, MmvMake, MmvDump, Dump, Info, Recover, At, Range, Value}
+use Rattle.pcp_model.specs.Disk.{contents_of}
 use Rattle.pm_commands.specs.Archives.{nothing_before}
 use Rattle.pm_commands.specs.Ends.{Serves, MayLeave}
 use Rattle.pm_commands.specs.Meanings.{meaning}
 use Rattle.pm_commands.specs.Refusals.{stopped}
 use Rattle.pm_commands.specs.Sides.{SinkSide, DiskSide, Leaves, sink_side, disk_side}
+use Rattle.pm_commands.specs.Takes.{MayTake}
 use Rattle.pm_commands.specs.commands.at as at
 use Rattle.pm_commands.specs.commands.info as info
 use Rattle.pm_commands.specs.commands.range as range
@@ -112,3 +114,36 @@ returns-in-Value-clause-serves g c =
 
 pub returns-in-Value-clause-any_moment : goal.returns-in-Value-clause-any_moment
 returns-in-Value-clause-any_moment g c = look_leaves g.D.Disk (meaning c.args.command.now) c.args.input.now c.args.disk.now c.value.new.disk c.value.ensures.looks
+
+pub returns-in-Once-clause-taken : goal.returns-in-Once-clause-taken
+returns-in-Once-clause-taken g c = λ tells. subst (λ (command : Command). MayTake command (contents_of (g.D.Disk.held c.args.disk.now)) (g.D.Disk.taken c.args.disk.now) (g.D.Disk.taken c.once.new.disk)) (sym c.in-Once.is) tt
+
+pub returns-in-Dump-clause-taken : goal.returns-in-Dump-clause-taken
+returns-in-Dump-clause-taken g c = λ tells. subst (λ (command : Command). MayTake command (contents_of (g.D.Disk.held c.args.disk.now)) (g.D.Disk.taken c.args.disk.now) (g.D.Disk.taken c.dump.new.disk)) (sym c.in-Dump.is) tt
+
+pub returns-in-Info-clause-taken : goal.returns-in-Info-clause-taken
+returns-in-Info-clause-taken g c = λ tells. subst (λ (command : Command). MayTake command (contents_of (g.D.Disk.held c.args.disk.now)) (g.D.Disk.taken c.args.disk.now) (g.D.Disk.taken c.info.new.disk)) (sym c.in-Info.is) tt
+
+pub returns-in-Recover-clause-taken : goal.returns-in-Recover-clause-taken
+returns-in-Recover-clause-taken g c = λ tells. subst (λ (command : Command). MayTake command (contents_of (g.D.Disk.held c.args.disk.now)) (g.D.Disk.taken c.args.disk.now) (g.D.Disk.taken c.recover.new.disk)) (sym c.in-Recover.is) tt
+
+pub returns-in-Value-clause-taken : goal.returns-in-Value-clause-taken
+returns-in-Value-clause-taken g c = λ tells. subst (λ (command : Command). MayTake command (contents_of (g.D.Disk.held c.args.disk.now)) (g.D.Disk.taken c.args.disk.now) (g.D.Disk.taken c.value.new.disk)) (sym c.in-Value.is) tt
+
+pub returns-in_err-image-in-MmvMake-clause-taken : goal.returns-in_err-image-in-MmvMake-clause-taken
+returns-in_err-image-in-MmvMake-clause-taken g c = λ tells. subst (λ (command : Command). MayTake command (contents_of (g.D.Disk.held c.args.disk.now)) (g.D.Disk.taken c.args.disk.now) (g.D.Disk.taken c.args.disk.now)) (sym c.in-MmvMake.is) tt
+
+pub returns-in_ok-image-in-MmvMake-clause-taken : goal.returns-in_ok-image-in-MmvMake-clause-taken
+returns-in_ok-image-in-MmvMake-clause-taken g c = λ tells. subst (λ (command : Command). MayTake command (contents_of (g.D.Disk.held c.args.disk.now)) (g.D.Disk.taken c.args.disk.now) (g.D.Disk.taken c.args.disk.now)) (sym c.in-MmvMake.is) tt
+
+pub returns-in_err-text-in-MmvDump-clause-taken : goal.returns-in_err-text-in-MmvDump-clause-taken
+returns-in_err-text-in-MmvDump-clause-taken g c = λ tells. subst (λ (command : Command). MayTake command (contents_of (g.D.Disk.held c.args.disk.now)) (g.D.Disk.taken c.args.disk.now) (g.D.Disk.taken c.args.disk.now)) (sym c.in-MmvDump.is) tt
+
+pub returns-in_ok-text-in-MmvDump-clause-taken : goal.returns-in_ok-text-in-MmvDump-clause-taken
+returns-in_ok-text-in-MmvDump-clause-taken g c = λ tells. subst (λ (command : Command). MayTake command (contents_of (g.D.Disk.held c.args.disk.now)) (g.D.Disk.taken c.args.disk.now) (g.D.Disk.taken c.args.disk.now)) (sym c.in-MmvDump.is) tt
+
+pub returns-in-At-clause-taken : goal.returns-in-At-clause-taken
+returns-in-At-clause-taken g c = λ tells. subst (λ (command : Command). MayTake command (contents_of (g.D.Disk.held c.args.disk.now)) (g.D.Disk.taken c.args.disk.now) (g.D.Disk.taken c.at.new.disk)) (sym c.in-At.is) (c.at.ensures.taken tells)
+
+pub returns-in-Range-clause-taken : goal.returns-in-Range-clause-taken
+returns-in-Range-clause-taken g c = λ tells. subst (λ (command : Command). MayTake command (contents_of (g.D.Disk.held c.args.disk.now)) (g.D.Disk.taken c.args.disk.now) (g.D.Disk.taken c.range.new.disk)) (sym c.in-Range.is) (c.range.ensures.taken tells)

@@ -9,6 +9,8 @@ use Rattle.pm_print.specs.Items.{item_text}
 use Rattle.pm_commands.specs.Refusals.{reader_refusal}
 use Rattle.pm_commands.specs.commands.at.{turned, IsStopped}
 use Rattle.pm_commands.proofs.Asking.{not_loaded, is_loaded, asked_turned, still_over}
+use Rattle.archive_reader.specs.Takes.{TakesAt}
+use Rattle.pm_commands.proofs.Taken.{took_labels, took_at}
 use Rattle.pm_commands.proofs.Timed.{at_stops, at_scan}
 use Rattle.pm_commands.proofs.commands.at.at.Goals as goal
 
@@ -64,3 +66,18 @@ returns-clause-turned g c = λ tells.
       is_loaded g.D.Disk c.args.disk.now c.load.new.disk c.at.new.disk r tells c.in_ok-reader.ensures.loaded c.in_ok-reader.ensures.unwrapped,
       (refl, is, at_scan t (record { files = contents_of (g.D.Disk.held c.args.disk.now); wrapped = g.D.Disk.wrapped_file c.args.disk.now }) r None (c.in_ok-reader.ensures.loaded tells) is),
     )
+
+pub returns-in_err-reader-clause-taken : goal.returns-in_err-reader-clause-taken
+returns-in_err-reader-clause-taken g c = took_labels g.D.Disk c.args.disk.now c.load.new.disk c.load.new.disk (λ r. TakesAt (contents_of (g.D.Disk.held c.args.disk.now)) r.volumes c.args.t (at_begin r c.args.t)) c.load.ensures.taken
+
+pub returns-in_err-found-clause-taken : goal.returns-in_err-found-clause-taken
+returns-in_err-found-clause-taken g c = took_at g.D.Disk c.args.disk.now c.load.new.disk c.at.new.disk c.args.t c.in_ok-reader.reader c.load.ensures.looks c.in_ok-reader.ensures.loaded c.load.ensures.taken c.at.ensures.taken
+
+pub returns-in_err-text-in-Some-clause-taken : goal.returns-in_err-text-in-Some-clause-taken
+returns-in_err-text-in-Some-clause-taken g c = took_at g.D.Disk c.args.disk.now c.load.new.disk c.at.new.disk c.args.t c.in_ok-reader.reader c.load.ensures.looks c.in_ok-reader.ensures.loaded c.load.ensures.taken c.at.ensures.taken
+
+pub returns-in-Some-clause-taken : goal.returns-in-Some-clause-taken
+returns-in-Some-clause-taken g c = took_at g.D.Disk c.args.disk.now c.load.new.disk c.at.new.disk c.args.t c.in_ok-reader.reader c.load.ensures.looks c.in_ok-reader.ensures.loaded c.load.ensures.taken c.at.ensures.taken
+
+pub returns-clause-taken : goal.returns-clause-taken
+returns-clause-taken g c = took_at g.D.Disk c.args.disk.now c.load.new.disk c.at.new.disk c.args.t c.in_ok-reader.reader c.load.ensures.looks c.in_ok-reader.ensures.loaded c.load.ensures.taken c.at.ensures.taken

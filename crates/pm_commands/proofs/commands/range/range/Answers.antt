@@ -8,6 +8,8 @@ use Rattle.pm_print.specs.Items.{items_text}
 use Rattle.pm_commands.specs.Refusals.{reader_refusal}
 use Rattle.pm_commands.specs.commands.range.{turned, IsStopped}
 use Rattle.pm_commands.proofs.Asking.{not_loaded, is_loaded, asked_turned, still_over}
+use Rattle.archive_reader.specs.Takes.{TakesRange}
+use Rattle.pm_commands.proofs.Taken.{took_labels, took_range}
 use Rattle.pm_commands.proofs.Timed.{range_stops, range_scan}
 use Rattle.pm_commands.proofs.commands.range.range.Goals as goal
 
@@ -46,3 +48,15 @@ returns-clause-said g c = λ tells.
       range_scan c.args.from c.args.to (record { files = contents_of (g.D.Disk.held c.args.disk.now); wrapped = g.D.Disk.wrapped_file c.args.disk.now }) r c.in_ok-items.items (c.in_ok-reader.ensures.loaded tells) is,
       c.in_ok-text.ensures ∙ ap (λ items. items_text c.meta.result.now items) c.as_slice.ensures ∙ ap (λ records. items_text records c.in_ok-items.items) (c.meta.ensures ∙ ap (λ (s : Loaded). s.records) c.range.ensures.same),
     )
+
+pub returns-in_err-reader-clause-taken : goal.returns-in_err-reader-clause-taken
+returns-in_err-reader-clause-taken g c = took_labels g.D.Disk c.args.disk.now c.load.new.disk c.load.new.disk (λ r. TakesRange (contents_of (g.D.Disk.held c.args.disk.now)) r.volumes c.args.to (range_begin r c.args.from)) c.load.ensures.taken
+
+pub returns-in_err-items-clause-taken : goal.returns-in_err-items-clause-taken
+returns-in_err-items-clause-taken g c = took_range g.D.Disk c.args.disk.now c.load.new.disk c.range.new.disk c.args.from c.args.to c.in_ok-reader.reader c.load.ensures.looks c.in_ok-reader.ensures.loaded c.load.ensures.taken c.range.ensures.taken
+
+pub returns-in_err-text-clause-taken : goal.returns-in_err-text-clause-taken
+returns-in_err-text-clause-taken g c = took_range g.D.Disk c.args.disk.now c.load.new.disk c.range.new.disk c.args.from c.args.to c.in_ok-reader.reader c.load.ensures.looks c.in_ok-reader.ensures.loaded c.load.ensures.taken c.range.ensures.taken
+
+pub returns-clause-taken : goal.returns-clause-taken
+returns-clause-taken g c = took_range g.D.Disk c.args.disk.now c.load.new.disk c.range.new.disk c.args.from c.args.to c.in_ok-reader.reader c.load.ensures.looks c.in_ok-reader.ensures.loaded c.load.ensures.taken c.range.ensures.taken
