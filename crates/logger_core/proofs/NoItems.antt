@@ -61,6 +61,7 @@ module _ (l : LabelFields) (s : SpelledLabel l) (image : Files) (m i v : ℕ) (m
     };
     sound = tt;
     none = refl;
+    labelled = tt;
   }
 
   abbrev reads_as : List (ℕ × List Item) → ArchiveContents
@@ -79,6 +80,7 @@ module _ (l : LabelFields) (s : SpelledLabel l) (image : Files) (m i v : ℕ) (m
     reads = record { meta = meta_is vs le; index = index_is vs; volumes = are; others = no_others; labelled = inl refl };
     sound = (subst (λ xs. NeverFalls xs) (sym no_item) tt, tt);
     none = no_item;
+    labelled = tt;
   }
 
   only_first : (n : ℕ) → (Contains (map (λ (w : ℕ × List Item). w.0) ((0, []) ∷ [])) n → ⊥) → image (Volume n) ≡ []
@@ -222,4 +224,5 @@ nothing_left held empty image crash = record {
   };
   sound = tt;
   none = refl;
+  labelled = tt;
 }

@@ -6,6 +6,7 @@ use Rattle.pcp_model.specs.Disk.{Files, Holdings}
 use Rattle.pcp_model.specs.LabelFields.{LabelFields}
 use Rattle.pcp_model.specs.Sound.{IsSound}
 use Rattle.pcp_model.specs.Written.{created}
+use Rattle.archive_recovery.specs.Laws.{AreLabelled, entries_in}
 use Rattle.logger_core.specs.declared.ends.Ends.{Ends}
 use Rattle.logger_core.specs.Keeps.{is_sure}
 use Rattle.logger_core.specs.Meant.{Meant, Kept, IsLogger}
@@ -16,6 +17,8 @@ pub record HasNoItem (image : Files) : Type 0 where
   pub reads : Reads image reading
   pub sound : IsSound image reading
   pub none : scan reading ≡ []
+  -- so recovery keeps it sound
+  pub labelled : AreLabelled image (entries_in reading)
 
 -- an archive without a record, entry or item, in which the first volume is written
 abbrev pub no_items : LabelFields → ArchiveContents

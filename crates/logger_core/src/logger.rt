@@ -12,7 +12,7 @@ ghost use Rattle.logger_core.specs.Logging.{IsLogged, IsLoggable, IsPrepared, Pr
 ghost use Rattle.logger_core.specs.Runs.{SurvivesWith};
 ghost use Rattle.logger_core.specs.Writing.{IsBounded};
 ghost use Rattle.logger_core.specs.Created.{HasNoItem, IsCreated, first_ends};
-ghost use Rattle.logger_core.specs.Going.{AreSmall, IsFlushed};
+ghost use Rattle.logger_core.specs.Going.{AreSmall, IsFlushed, IsVolumeSure};
 ghost use Rattle.logger_core.specs.Meant.{Meant, IsLogger, SurvivesOf};
 ghost use Rattle.logger_core.specs.Refusals.{FlushMayAnswer, CreateMayAnswer};
 ghost use Rattle.logger_core.specs.Reopening.{IsLeft, IsReopened, SameFiles, ends_of};
@@ -136,6 +136,8 @@ impl Logger {
         requires limit { (1024 ≤ volume) × (volume ≤ 1073741824) }
         // The labels stand, synced, and nothing else; the logger keeps the archive that they are.
         ensures created { D.tells → IsEmpty (contents_of (D.held disk.old)) → IfOk result (λ l. IsCreated label.now volume l (D.held disk.new)) }
+        // It is open.
+        ensures open_ { IfOk result (λ l. (l.limit ≡ volume) × (l.closed ≡ false)) }
         // A crash at any moment leaves files without an item.
         ensures any_moment { D.tells → IsEmpty (contents_of (D.held disk.old)) → LeavesOnly D.moment D.left_since disk.old disk.new HasNoItem }
         // Which refusal it is.
@@ -197,8 +199,12 @@ impl Logger {
     pub fn flush<D: Disk>(&mut self, disk: &mut D) -> Result<(), LogFault>
         // The files are those after a flush, and every item is acknowledged.
         ensures done { D.tells → (m : Meant) → IsLogger m self.old (D.held disk.old) → OnOk result (IsFlushed m self.old self.new (D.held disk.new)) }
+        // It stays open.
+        ensures open_ { OnOk result ((self.new.limit ≡ self.old.limit) × (self.new.closed ≡ false)) }
         // A crash at any moment leaves the first items, all acknowledged ones among them, each described.
         ensures any_moment { D.tells → (m : Meant) → IsLogger m self.old (D.held disk.old) → LeavesOnly D.moment D.left_since disk.old disk.new (SurvivesOf m) }
+        // The volume that is written is wholly sure.
+        ensures sure { D.tells → OnOk result (IsVolumeSure self.new.ends.volume (D.held disk.new)) }
         // Closed comes exactly after a fault of the disk, and then nothing is touched.
         ensures closed { self.old.closed ≡ true → (result ≡ Err Closed) × (self.new ≡ self.old) × (disk.new ≡ disk.old) }
         // Which refusal it is; a fault of the disk closes the logger.
@@ -260,6 +266,8 @@ impl Logger {
         ensures done { D.tells → AreEnough facts.now answer.now.sets → (m : Meant) → IsLogger m self.old (D.held disk.old) → OnOk result (IsLogged m self.old self.new answer.now facts.now (D.held disk.new)) }
         // It may be logged.
         ensures loggable { OnOk result ((self.old.closed ≡ false) × IsLoggable self.old.records self.old.ends self.old.limit answer.now facts.now) }
+        // It stays open.
+        ensures open_ { OnOk result ((self.new.limit ≡ self.old.limit) × (self.new.closed ≡ false)) }
         // A crash at any moment leaves the first items, perhaps the new one too, all acknowledged ones among them, each described.
         ensures any_moment { D.tells → AreEnough facts.now answer.now.sets → (m : Meant) → IsLogger m self.old (D.held disk.old) → LeavesOnly D.moment D.left_since disk.old disk.new (SurvivesWith m (Sample answer.now ∷ [])) }
         // Which refusal it is, and what it leaves.
