@@ -34,6 +34,7 @@ is_logged m old now records answer facts held new l w = record {
   new = w.new;
   started = w.started;
   step = w.step;
+  said = w.said;
   items_are = w.items_are;
   still = w.still;
   is = record { at = w.at; label_is = w.label_same ∙ l.label_is; records_are = w.records_are };

@@ -208,6 +208,7 @@ module _ (m : Meant) (e start now : Ends) (held mid new : Holdings) (limit : ℕ
       crosses_is = w.is.crossing_is ∙ ap (λ (n : ℕ). crosses limit n (payload_length answer + 8)) at.ends.length_is;
       is = files_now;
     };
+    said = g.0.longer.records ∙ ap (λ rs. rs ++ w.is.metadata.missing) ready.records_same;
     items_are = g.0.longer.items ∙ ap (λ xs. xs ++ Sample answer ∷ []) ready.items_same;
     still = omega (arith, ready.still, g.0.acknowledged_is);
     label_same = g.0.longer.label ∙ ready.label_same;

@@ -77,11 +77,13 @@ pub record IsMadeOf (records : List MetaRecord) (e : Ends) (limit : ℕ) (answer
   pub item_length : length made.item ≡ payload_length answer + 8
   pub range : ResultInRange answer
 
--- A result was logged: the files are those after it, and all items of before stand before it.
+-- A result was logged: the files are those after it, the records of Meta that were missing stand behind the others, and all
+-- items of before stand before it.
 pub record IsLogged (m : Meant) (old now : Kept) (answer : PmResult) (facts : Facts) (held : Holdings) : Type 0 where
   pub new : Meant
   pub started : new.start ≡ m.start
   pub step : LogStep m.files m.contents old.ends.volume old.limit answer facts new.files
+  pub said : new.contents.records ≡ m.contents.records ++ step.missing
   pub items_are : items_in new ≡ items_in m ++ Sample answer ∷ []
   pub still : m.acknowledged ≤ new.acknowledged
   pub is : IsLogger new now held

@@ -31,6 +31,7 @@ pub record ItemWritten (m : Meant) (e now : Ends) (limit : ℕ) (answer : PmResu
   pub new : Meant
   pub started : new.start ≡ m.start
   pub step : LogStep m.files m.contents e.volume limit answer facts new.files
+  pub said : new.contents.records ≡ m.contents.records ++ step.missing
   pub items_are : items_in new ≡ items_in m ++ Sample answer ∷ []
   pub still : m.acknowledged ≤ new.acknowledged
   pub label_same : new.contents.label ≡ m.contents.label
