@@ -21,6 +21,7 @@ use Rattle.pcp_model.specs.Sound.{NoItemAfter, NoDomainAfter}
 use Rattle.pcp_model.proofs.Cuts.{length_of_label}
 use Rattle.pcp_model.proofs.CutsOfAny.{length-entries}
 use Rattle.pcp_model.proofs.Lists.{each-split}
+use Rattle.pcp_model.proofs.OneReading.{entries_long}
 use Rattle.pcp_model.proofs.Sound.{labelled_long}
 use Rattle.archive_recovery.specs.declared.outcome.Archive.{Archive}
 use Rattle.archive_recovery.specs.Stamps.{domain_stamps, item_stamps, IsLatest}
@@ -137,8 +138,11 @@ module _ (held : Holdings) (a : Archive) (limit : ℕ) (kept : Kept) (few : a.it
         (λ (ge : number ≤ a.volume). omega (arith, le, ge)) (cases_lt a.volume number))
         (cases_lt number a.volume)
 
+    index_sure : 132 ≤ length (held Index).sure
+    index_sure = omega (arith, entries_long (left Index) d w.indexed.0, ap length (sure Index), length-append (held Index).sure (held Index).rest)
+
     stands : Stands (as_found left d) a.volume held
-    stands = subst (λ (n : ℕ). Stands (as_found left d) n held) same_volume record { keeps = whole_is_kept left d number held w; written = λ file. refl; sure = sure Meta }
+    stands = subst (λ (n : ℕ). Stands (as_found left d) n held) same_volume record { keeps = whole_is_kept left d number held w; written = λ file. refl; sure = sure Meta; indexed = index_sure }
 
     index_is : 132 + 20 * length a.index ≡ length (left Index)
     index_is =

@@ -87,6 +87,7 @@ module _ (m : Meant) (e : Ends) (held : Holdings) (x : Entry) (at : IsAt m e hel
       keeps = subst (λ rs. Keeps m.start (with_added Index (entry x) m.files) said.new e.volume (length rs) m.acknowledged new) (sym same_records) kept;
       written = appended_written m.start m.files (with_added Index (entry x) m.files) said.new e.volume (length m.contents.records) m.acknowledged held Index (entry x) said.keeps tt at.stands.written refl other_files new change;
       sure = ap (λ (h : Held). h.rest) (change.others Meta refl) ∙ at.stands.sure;
+      indexed = omega (arith, at.stands.indexed, ap (λ (h : Held). length h.sure) change.this);
     }
 
     pub entry_grown : GrownTo m [] (x ∷ []) [] (with_entry (Some x) m.files) now new

@@ -3,7 +3,7 @@ use Rattle.std.proofs.Common.{◌≡◌, ℕ, false, List, [], ◌∷◌, ◌++�
 use Rattle.std.specs.List.{AllByRecursion}
 use Rattle.std.proofs.lemmas.List.{append-nil, take_all}
 use Rattle.pcp_base.specs.declared.file.FileId.{FileId}
-use Rattle.pcp_base.specs.declared.file.FileId.TheVariants.{Meta, Volume}
+use Rattle.pcp_base.specs.declared.file.FileId.TheVariants.{Meta, Index, Volume}
 use Rattle.pcp_base.specs.declared.result.Item.{Item}
 use Rattle.pcp_model.specs.Archive.{ArchiveContents, AreRead, items_of}
 use Rattle.pcp_model.specs.Described.{Described}
@@ -96,6 +96,7 @@ module _ (m : Meant) (number : ℕ) (held : Holdings) (payloads : List (List ℕ
         keeps = appended_keeps m.start m.files said.files said.new number (length said.new.records) m.acknowledged held (Volume number) (frames payloads) said.keeps refl at.written this new change_is;
         written = appended_written m.start m.files said.files said.new number (length said.new.records) m.acknowledged held (Volume number) (frames payloads) said.keeps refl at.written this others new change_is;
         sure = ap (λ (h : Held). h.rest) (change.others Meta refl) ∙ at.sure;
+        indexed = omega (arith, at.indexed, ap (λ (h : Held). length h.sure) (change.others Index refl));
       };
     }
 

@@ -1,10 +1,10 @@
 -- A new archive is what its logger keeps.
-use Rattle.std.proofs.Common.{zero, suc, ◌≡◌, inl, inr, ℕ, pos, negsuc, List, [], ◌∷◌, refl, sym, ap, ◌∙◌, arith, cond, None}
+use Rattle.std.proofs.Common.{zero, suc, ◌≡◌, inl, inr, ℕ, pos, negsuc, List, [], ◌∷◌, length, refl, sym, ap, ◌∙◌, arith, cond, None}
 use Rattle.std.specs.Prelude.{Contains}
 use Rattle.std.specs.Prelude.{map}
 use Rattle.std.proofs.lemmas.List.{append-nil}
 use Rattle.std.proofs.Math.Dec.{eqb-suc-zero}
-use Rattle.pcp_base.specs.declared.file.FileId.TheVariants.{Meta, Volume}
+use Rattle.pcp_base.specs.declared.file.FileId.TheVariants.{Meta, Index, Volume}
 use Rattle.pcp_base.specs.declared.result.Item.{Item}
 use Rattle.pcp_model.specs.Archive.{IsArchive}
 use Rattle.pcp_model.specs.Disk.{Held, Holdings, bytes_of}
@@ -60,6 +60,7 @@ module _ (l : LabelFields) (held : Holdings) (r : LabelInRange l (pos 0)) (label
       keeps = whole_is_kept (created l) (no_items l) 0 held is_whole;
       written = λ file. ap bytes_of (labels file) ∙ append-nil (created l file);
       sure = ap (λ (h : Held). h.rest) (labels Meta);
+      indexed = omega (arith, ap (λ (h : Held). length h.sure) (labels Index), length-label l (negsuc 1) r.fits);
     };
     ends = record {
       meta = sym (length-label l (negsuc 0) r.fits);

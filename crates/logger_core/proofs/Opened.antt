@@ -3,7 +3,7 @@ use Rattle.std.proofs.Common.{◌≡◌, ℕ, pos, ◌+◌, ◌<◌, List, [], �
 use Rattle.std.specs.Int.{w32, cast_signed}
 use Rattle.std.proofs.lemmas.Int.{to_z_pos}
 use Rattle.std.proofs.lemmas.List.{append-nil}
-use Rattle.pcp_base.specs.declared.file.FileId.TheVariants.{Meta, Volume}
+use Rattle.pcp_base.specs.declared.file.FileId.TheVariants.{Meta, Index, Volume}
 use Rattle.pcp_model.specs.Archive.{items_of}
 use Rattle.pcp_model.specs.Disk.{Files, Held, Holdings, CrashImage}
 use Rattle.pcp_model.specs.Labels.{label, IsLabel}
@@ -87,6 +87,7 @@ module _ (m : Meant) (e : Ends) (held : Holdings) (l : LabelFields) (bytes : Lis
           keeps = subst (λ rs. Keeps m.start files said.new next (length rs) m.acknowledged new) (sym same_records) kept;
           written = sure_written m.start m.files files said.new next (length m.contents.records) m.acknowledged held (Volume next) head said.keeps refl at.stands.written this (λ g other. other_added (Volume next) head m.files g other) new change_is;
           sure = ap (λ (h : Held). h.rest) (change_is.others Meta refl) ∙ at.stands.sure;
+          indexed = omega (arith, at.stands.indexed, ap (λ (h : Held). length h.sure) (change_is.others Index refl));
         };
       },
       record {

@@ -1,7 +1,7 @@
 -- Records were put behind Meta.
 use Rattle.std.proofs.Common.{◌≡◌, ℕ, List, [], ◌∷◌, ◌++◌, length, refl, sym, ap, ◌∙◌, subst, arith, length-append}
 use Rattle.std.proofs.lemmas.List.{append-nil}
-use Rattle.pcp_base.specs.declared.file.FileId.TheVariants.{Meta}
+use Rattle.pcp_base.specs.declared.file.FileId.TheVariants.{Meta, Index}
 use Rattle.pcp_model.specs.declared.records.MetaRecord.{MetaRecord}
 use Rattle.pcp_model.specs.Archive.{AreRead, items_of}
 use Rattle.pcp_model.specs.Disk.{Files, Held, Holdings, CrashImage}
@@ -79,6 +79,7 @@ module _ (m : Meant) (number : ℕ) (held : Holdings) (payloads : List (List ℕ
         keeps = all_known m.start files said.new number (length m.contents.records) m.acknowledged new kept meta_now;
         written = sure_written m.start m.files files said.new number (length m.contents.records) m.acknowledged held Meta (frames payloads) said.keeps tt at.written refl (λ g other. other_added Meta (frames payloads) m.files g other) new change_is;
         sure = ap (λ (h : Held). h.rest) meta_now;
+        indexed = omega (arith, at.indexed, ap (λ (h : Held). length h.sure) (change_is.others Index refl));
       };
     }
 

@@ -2,7 +2,7 @@
 use Rattle.std.proofs.Common.{◌≡◌, ⊎_elim, ℕ, ◌≤◌, min, true, false, List, [], ◌++◌, length, refl, sym, ap, ◌∙◌, subst, arith, length-append, cond}
 use Rattle.std.proofs.lemmas.List.{append-nil, length-take, take-append-le, take_min}
 use Rattle.pcp_base.specs.declared.file.FileId.{FileId}
-use Rattle.pcp_base.specs.declared.file.FileId.TheVariants.{Meta, Volume}
+use Rattle.pcp_base.specs.declared.file.FileId.TheVariants.{Meta, Index, Volume}
 use Rattle.pcp_base.specs.declared.result.Item.{Item}
 use Rattle.pcp_model.specs.Archive.{ArchiveContents, items_of}
 use Rattle.pcp_model.specs.Disk.{Files, Held, Holdings, CrashImage, bytes_of, contents_of}
@@ -130,6 +130,7 @@ module _ (m : Meant) (number : ℕ) (held : Holdings) (at : Stands m number held
       keeps = acknowledged_now m.start m.files m.contents number (length m.contents.records) m.acknowledged new synced_keeps now_is;
       written = still_written;
       sure = ap (λ (h : Held). h.rest) (change.others Meta refl) ∙ at.sure;
+      indexed = omega (arith, at.indexed, ap (λ (h : Held). length h.sure) (change.others Index refl));
     }
 
 pub synced_at : (m : Meant) (e : Ends) (held new : Holdings) → IsAt m e held → Becomes (Volume e.volume) (synced (held (Volume e.volume))) held new

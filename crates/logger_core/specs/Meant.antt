@@ -1,5 +1,5 @@
 -- How what a logger keeps between two calls is tied to its files: everything that is meant is written, and Meta is sure.
-use Rattle.std.specs.Prelude.{◌≡◌, ℕ, Bool, List, [], length}
+use Rattle.std.specs.Prelude.{◌≡◌, ℕ, ◌≤◌, Bool, List, [], length}
 use Rattle.pcp_base.specs.declared.file.FileId.{FileId}
 use Rattle.pcp_base.specs.declared.file.FileId.TheVariants.{Meta, Index, Volume}
 use Rattle.pcp_base.specs.declared.result.Item.{Item}
@@ -34,11 +34,12 @@ pub record AreEnds (m : Meant) (e : Ends) : Type 0 where
   pub logged : e.logged ≡ capped (length (items_in m))
   pub acknowledged_is : e.acknowledged ≡ capped m.acknowledged
 
--- between two calls of the disk: the files keep what is meant, all of it is written, and Meta is sure
+-- between two calls of the disk: the files keep what is meant, all of it is written, and Meta and the index's label are sure
 pub record Stands (m : Meant) (number : ℕ) (held : Holdings) : Type 0 where
   pub keeps : Keeps m.start m.files m.contents number (length m.contents.records) m.acknowledged held
   pub written : (file : FileId) → bytes_of (held file) ≡ m.files file
   pub sure : (held Meta).rest ≡ []
+  pub indexed : 132 ≤ length (held Index).sure
 
 pub record IsAt (m : Meant) (e : Ends) (held : Holdings) : Type 0 where
   pub stands : Stands m e.volume held
