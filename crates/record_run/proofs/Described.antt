@@ -1,18 +1,17 @@
 -- The records of a result agree with each other, none is stamped after it, and with them it is described.
-use Rattle.std.proofs.Common.{◌≡◌, ◌⊎◌, inl, inr, ⊎_elim, ℕ, ℤ, ◌≤◌, Bool, true, false, cond, nat_eq, List, [], ◌∷◌, ◌++◌, map, Option, Some, None, refl, sym, ap, ◌∙◌, subst, arith}
+use Rattle.std.proofs.Common.{◌≡◌, inl, inr, ⊎_elim, ℕ, ℤ, ◌≤◌, List, [], ◌∷◌, ◌++◌, map, Some, refl, sym, ap, ◌∙◌, arith}
 use Rattle.std.specs.List.{AllByRecursion}
-use Rattle.std.proofs.lemmas.Bool.{eqb-true}
 use Rattle.pcp_base.specs.Time.{Moment, microseconds}
 use Rattle.pcp_base.specs.declared.desc.Desc.{Desc}
 use Rattle.pcp_base.specs.declared.result.Item.TheVariants.{Sample}
 use Rattle.pcp_base.specs.declared.result.ValueSet.{ValueSet}
 use Rattle.pcp_model.specs.declared.records.MetaRecord.{MetaRecord}
-use Rattle.pcp_model.specs.declared.records.MetaRecord.TheVariants.{Description, Domain, Other}
+use Rattle.pcp_model.specs.declared.records.MetaRecord.TheVariants.{Domain}
 use Rattle.pcp_model.specs.Described.{HoldsAt, Described}
-use Rattle.pcp_model.specs.Records.{Agrees, AgreesWithAll, AreConsistent}
-use Rattle.pcp_model.specs.Sound.{IsRecordBy, NoDomainAfter}
+use Rattle.pcp_model.specs.Records.{Agrees, AreConsistent}
+use Rattle.pcp_model.specs.Sound.{NoDomainAfter}
 use Rattle.archive_meta.specs.Enough.{AreEnough}
-use Rattle.archive_meta.specs.Facts.{first_under, metric_of, fact_of, FitsFact, FitsMetric, FitSets}
+use Rattle.archive_meta.specs.Facts.{metric_of, fact_of, FitsMetric, FitSets}
 use Rattle.archive_meta.specs.Missing.{taken, undescribed, described_by, domains_of, missing_descriptions, Lacks, listed_from, AreMissingDomains, AreMissing}
 use Rattle.archive_meta.proofs.NowDescribed.{missing_describe}
 use Rattle.archive_meta.proofs.Taken.{all_taken, first_is}

@@ -1,16 +1,15 @@
 -- The facts of a fetch tell enough of its answer: each metric with values, and each instance that it shows.
-use Rattle.std.proofs.Common.{◌≡◌, ◌⊎◌, inl, inr, ⊎_elim, ℕ, ℤ, ◌+◌, ◌*◌, ◌/◌, ◌<◌, Bool, true, false, cond, nat_eq, List, [], ◌∷◌, ◌++◌, map, fold, Option, Some, None, refl, sym, ap, ◌∙◌, subst, arith, All}
-use Rattle.std.specs.Prelude.{IsTrue, IfSome, option_map, unwrap_or}
+use Rattle.std.proofs.Common.{◌≡◌, ◌⊎◌, inl, inr, ℕ, ℤ, ◌+◌, ◌*◌, ◌/◌, ◌<◌, Bool, true, false, cond, nat_eq, List, [], ◌∷◌, ◌++◌, map, fold, Option, Some, None, refl, sym, ap, ◌∙◌, subst, arith}
+use Rattle.std.specs.Prelude.{IsTrue, option_map, unwrap_or}
 use Rattle.std.specs.BTreeSet.{insert_key}
 use Rattle.std.specs.List.{AllByRecursion, find, flat_map}
 use Rattle.std.specs.Ordering.{nat_cmp}
-use Rattle.std.proofs.lemmas.Bool.{eqb-true, eqb-false, eq-eqb}
+use Rattle.std.proofs.lemmas.Bool.{eqb-true}
 use Rattle.pcp_base.specs.Ids.{item_of, null_indom}
 use Rattle.pcp_base.specs.Typed.{TypedBytes}
 use Rattle.pcp_base.specs.declared.desc.Desc.{Desc}
 use Rattle.pcp_base.specs.declared.kind.Kind.{Kind}
 use Rattle.pcp_base.specs.declared.kind.Kind.TheVariants as kinds
-use Rattle.pcp_base.specs.declared.result.Body.{Body}
 use Rattle.pcp_base.specs.declared.result.ValueSet.{ValueSet}
 use Rattle.mmv_format.specs.declared.rows.IndomRow.{IndomRow}
 use Rattle.mmv_format.specs.declared.rows.Layout.{Layout}
@@ -21,7 +20,7 @@ use Rattle.archive_meta.specs.Enough.{IsListed, AreListed, IsTold, AreEnough}
 use Rattle.archive_meta.specs.Facts.{has_values, first_under, metric_of, fact_of as told_of, listed_of}
 use Rattle.archive_meta.specs.declared.facts.Facts.{Facts}
 use Rattle.archive_meta.proofs.Taken.{Among}
-use Rattle.fetch_engine.specs.Answers.{is_of, region_of, metric_with, indom_in, body_of, region_body, layout_body, metric_body, set_of, desc_of, fact_of, region_fact, layout_fact, metric_fact, with_shown, shown_of, with_indom, domains_of, instances_of, region_instances, layout_instances, row_instances, metrics_in, domains_in, facts_of}
+use Rattle.fetch_engine.specs.Answers.{is_of, region_of, metric_with, indom_in, body_of, region_body, layout_body, metric_body, set_of, desc_of, fact_of, region_fact, layout_fact, metric_fact, with_shown, shown_of, with_indom, domains_of, instances_of, region_instances, layout_instances, row_instances, facts_of}
 use Rattle.fetch_engine.specs.Bounds.{FitsSerial, FitsMetric, IsBounded}
 use Rattle.fetch_engine.specs.Names.{served_word, full_name}
 use Rattle.fetch_engine.specs.Readings.{Reading}

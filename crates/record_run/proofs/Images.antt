@@ -1,5 +1,5 @@
 -- What is logged of an image is described in the archive.
-use Rattle.std.proofs.Common.{ℕ, ◌<◌, List, [], ◌∷◌, length, map, refl}
+use Rattle.std.proofs.Common.{ℕ, List, [], ◌∷◌, map, refl}
 use Rattle.pcp_base.specs.Time.{Moment}
 use Rattle.pcp_model.specs.Described.{Described}
 use Rattle.mmv_format.specs.Images.{IsImage}
@@ -12,7 +12,7 @@ use Rattle.record_run.specs.Runs.{region_of, metrics_of, every_instance, fetched
 use Rattle.record_run.proofs.Described.{described}
 use Rattle.record_run.proofs.Enough.{AreSaid, facts_are_enough}
 
-said : (file words : List ℕ) → IsImage words → AreSaid (map reading_of (region_of file words ∷ []))
+pub said : (file words : List ℕ) → IsImage words → AreSaid (map reading_of (region_of file words ∷ []))
 said file words image = ((layouts_are_drafts words image, bounded words (layout_of words) image refl), tt)
 
 pub image_described : (stamp : Moment) (file words : List ℕ) → IsImage words → Described (records_of (fetched_of stamp file words)) (run_item stamp file words)

@@ -1,5 +1,5 @@
 -- The files that the writes leave are those of the definition, and settled.
-use Rattle.std.proofs.Common.{◌≡◌, ◌≢◌, inl, ℕ, zero, suc, negsuc, pos, List, [], ◌∷◌, ◌++◌, length, refl, sym, ap, ◌∙◌, arith, append-nil, cond}
+use Rattle.std.proofs.Common.{◌≡◌, ◌≢◌, inl, ℕ, zero, suc, negsuc, pos, [], ◌++◌, length, refl, sym, ap, ◌∙◌, arith, append-nil, cond}
 use Rattle.std.proofs.Math.Dec.{eqb-zero-suc, eqb-suc-zero}
 use Rattle.pcp_base.specs.Time.{Moment}
 use Rattle.pcp_base.specs.declared.file.FileId.{FileId}
@@ -32,7 +32,7 @@ volume_text : (f : Fetched) → volume_file (pieces f) ≡ archive_of f (Volume 
 unfolding pieces
 volume_text f = refl
 
-other_text : (f : Fetched) (k : ℕ) → k ≢ 0 → archive_of f (Volume k) ≡ []
+pub other_text : (f : Fetched) (k : ℕ) → k ≢ 0 → archive_of f (Volume k) ≡ []
 other_text f zero h = absurd (h refl)
 other_text f (suc k) h =
     let m : Files = with_added Meta (framed_records (records_of f)) (created (run_label f.result.stamp)) in

@@ -17,7 +17,7 @@ many regions (pmid ∷ pmids) = let more : length (map (set_of regions every_ins
 pub as_many : (f : Fetched) (regions : List Reading) (pmids : List ℕ) (stamp : Moment) → f ≡ fetched_from regions pmids stamp → length f.result.sets ≡ length pmids
 as_many f regions pmids stamp is = ap (λ (g : Fetched). length g.result.sets) is ∙ many regions pmids
 
-metrics_are : (file words : List ℕ) (shot : Shot) (pmids : List ℕ) → shot ≡ region_of file words → pmids ≡ metrics_below (names_of (shot ∷ [])) (codes "mmv") → pmids ≡ metrics_of file words
+pub metrics_are : (file words : List ℕ) (shot : Shot) (pmids : List ℕ) → shot ≡ region_of file words → pmids ≡ metrics_below (names_of (shot ∷ [])) (codes "mmv") → pmids ≡ metrics_of file words
 metrics_are file words shot pmids is are = are ∙ ap (λ (s : Shot). metrics_below (names_of (s ∷ [])) (codes "mmv")) is
 
 pub is_plan : (stamp : Moment) (file words : List ℕ) (shot : Shot) (pmids : List ℕ) (f : Fetched) (p : Pieces) → shot ≡ region_of file words → pmids ≡ metrics_below (names_of (shot ∷ [])) (codes "mmv")

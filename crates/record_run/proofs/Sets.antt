@@ -1,5 +1,5 @@
 -- Each set of an answer can be written: a set with values has one, and a status isn't above 0.
-use Rattle.std.proofs.Common.{ℕ, ℤ, ◌<◌, List, [], ◌∷◌, map, Option, Some, None, arith}
+use Rattle.std.proofs.Common.{ℕ, ℤ, List, [], ◌∷◌, map, Option, Some, None, arith}
 use Rattle.std.specs.List.{AllByRecursion, flat_map}
 use Rattle.pcp_base.specs.Ids.{item_of}
 use Rattle.pcp_base.specs.Results.{HasContent, Fits}

@@ -1,4 +1,9 @@
 pub mod Archives
+pub mod ImageCrashes
+pub mod ImageFaults
+pub mod ImageLogs
+pub mod ImageRuns
+pub mod Opening
 pub mod Pieces
 pub mod Runs
 pub mod Written

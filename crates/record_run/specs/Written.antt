@@ -1,10 +1,9 @@
 -- What is known of a result and its pieces once these were made, so that the archive is read again as it.
-use Rattle.std.specs.Prelude.{◌≡◌, ℕ, ◌+◌, ◌<◌, ◌≤◌, List, [], length, Option, None, Some, true}
-use Rattle.pcp_base.specs.Time.{Moment, IsMoment}
+use Rattle.std.specs.Prelude.{◌≡◌, ℕ, ◌<◌, ◌≤◌, List, [], length, Option, None, Some}
+use Rattle.pcp_base.specs.Time.{Moment}
 use Rattle.pcp_model.specs.Payload.{payload_length, ResultInRange}
 use Rattle.archive_meta.specs.Missing.{framed_records}
 use Rattle.archive_meta.specs.Records.{AreRecords}
-use Rattle.mmv_format.specs.Images.{IsImage}
 use Rattle.fetch_engine.specs.declared.fetch.Fetched.{Fetched}
 use Rattle.record_run.specs.Archives.{records_of}
 use Rattle.record_run.specs.Pieces.{Pieces, pieces}

@@ -53,7 +53,7 @@ pub(crate) fn text_of(alloc: Global, bytes: &[u8]) -> Result<Text, NoMemory>
     Ok(Text::of_clean(List::from_vec(copy)))
 }
 
-fn label_of(alloc: Global, stamp: Stamp) -> Result<Label, NoMemory>
+pub(crate) fn label_of(alloc: Global, stamp: Stamp) -> Result<Label, NoMemory>
     ensures { IfOk result (λ l. l ≡ run_label stamp) }
 {
     let host = text_of(alloc, b"localhost")?;

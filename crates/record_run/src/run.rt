@@ -5,6 +5,7 @@ ghost use Rattle.pcp_base.specs.Results.{Fits};
 ghost use Rattle.mmv_format.specs.Images.{IsImage};
 ghost use Rattle.fetch_engine.specs.Names.{names_of};
 ghost use Rattle.fetch_engine.specs.Readings.{reading_of, AreInOrder};
+ghost use Rattle.record_run.specs.ImageRuns.{AreResults, result_of};
 ghost use Rattle.record_run.specs.Runs.{metrics_below, fetched_from, region_of};
 ghost use Rattle.record_run.specs.Written.{IsPlanOf};
 
@@ -89,4 +90,27 @@ pub fn plan_once(
     let fetched = fetch(alloc, &shot, pmids.as_slice(), stamp)?;
     let plan = plan_of(alloc, &fetched)?;
     Ok(Some(plan))
+}
+
+/// The result that the run of an image logs at a moment, with the facts that describe it: the image is served as the region FILE
+/// in its own cluster, and all metrics below `mmv` are logged, in the byte order of their names. There is none of an image
+/// without a metric, or whose names are refused.
+#[tactic(auto, using(crate::proofs::Results::is_some, crate::proofs::Results::is_none))]
+pub fn result_once(
+    alloc: Global,
+    stamp: Stamp,
+    file: &Text,
+    image: Image,
+) -> Result<Option<Fetched>, NoMemory>
+    ensures answer { IfOk result (λ o. o ≡ result_of stamp file.now image) }
+    ensures described { IfOk result AreResults }
+    ensures image { OnOk result (IsImage image) }
+{
+    let shot = shot_of(alloc, file, image)?;
+    let pmids = metrics_of(alloc, &shot)?;
+    if pmids.is_empty() {
+        return Ok(None);
+    }
+    let fetched = fetch(alloc, &shot, pmids.as_slice(), stamp)?;
+    Ok(Some(fetched))
 }

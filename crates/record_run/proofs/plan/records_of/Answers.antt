@@ -1,5 +1,5 @@
 -- What an archive without any record lacks is what the definition has.
-use Rattle.std.proofs.Common.{◌≡◌, ◌∙◌, List, ap, subst}
+use Rattle.std.proofs.Common.{◌∙◌, List, ap, subst}
 use Rattle.pcp_model.specs.declared.records.MetaRecord.{MetaRecord}
 use Rattle.archive_meta.specs.Missing.{AreMade, framed_records}
 use Rattle.archive_meta.specs.Records.{AreRecords}

@@ -1,4 +1,4 @@
-use Rattle.std.proofs.Common.{◌≡◌, ◌∙◌, ap}
+use Rattle.std.proofs.Common.{◌≡◌, ap}
 use Rattle.pcp_base.specs.declared.file.FileId.TheVariants.{Index, Volume}
 use Rattle.pcp_outside.specs.Devices.{LeavesOnly}
 use Rattle.pcp_outside.proofs.Crash.{started, after_sync, after_append}
