@@ -4,16 +4,20 @@
 mod lines;
 mod scripts;
 
-use case_book::read_text;
+use case_book::{Words, read_text};
 use pcp_base::NoMemory;
 use std::alloc::Global;
 
 /// `script head LINE` and `script step LINE`: the line as it was read, or `none`. `script`: what the input's script says,
-/// or its first fault. `script image POSITION`: the bytes of an image of the input's script.
+/// or its first fault. `script image POSITION`: the bytes of an image of the input's script. `script make NUMBER TICKS`: what
+/// the script says that a number makes.
 pub fn tell_script(alloc: Global, rest: &str, input: &[u8]) -> Result<Option<Vec<u8>>, NoMemory> {
     let (form, behind) = rest.split_once(' ').unwrap_or((rest, ""));
     if form.is_empty() || form == "image" {
         return scripts::tell(alloc, input, behind);
+    }
+    if form == "make" {
+        return scripts::tell_made(alloc, Words::of(behind));
     }
     let Some(line) = read_text(alloc, behind)? else {
         return Ok(None);

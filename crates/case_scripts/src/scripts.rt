@@ -1,11 +1,13 @@
 //! Whole scripts: what they say, or their first fault. Regions and images are told by their positions.
 use crate::lines::{write_given, write_slot, write_tick};
-use case_book::write_text;
+use case_book::{Words, write_text};
 use log_schedule::Group;
 use mmv_layout::Image;
 use pcp_base::{NoMemory, Text};
 use pm_print::{image_bytes, line_fault_text};
-use run_script::{Given, Line, ReadScriptError, RegionRow, Script, ScriptFault, ScriptLineFault};
+use run_script::{
+    Given, Line, ReadScriptError, RegionRow, Script, ScriptFault, ScriptLineFault, generate,
+};
 use std::alloc::Global;
 
 fn write_image(out: &mut String, name: &Text, image: &Image) -> Result<(), NoMemory> {
@@ -148,4 +150,17 @@ pub fn tell(alloc: Global, input: &[u8], position: &str) -> Result<Option<Vec<u8
         Some((_, image)) => Ok(Some(image_bytes(alloc, image)?.into_vec())),
         None => Ok(None),
     }
+}
+
+/// What the script of a number and so many ticks says.
+pub fn tell_made(alloc: Global, mut words: Words<'_>) -> Result<Option<Vec<u8>>, NoMemory> {
+    let (Some(number), Some(ticks)) = (words.wide(), words.number()) else {
+        return Ok(None);
+    };
+    if ticks > 100_000 {
+        return Ok(None);
+    }
+    let mut out = String::new(alloc);
+    write_script(&mut out, &generate(alloc, number, ticks)?)?;
+    Ok(Some(out.into_bytes()))
 }

@@ -1,4 +1,5 @@
 pub mod Faults
+pub mod Generated
 pub mod Heads
 pub mod Laws
 pub mod Names

@@ -2,10 +2,13 @@
 //! ticks and flushes, written down line by line. A script's head has the images, the regions and what is logged.
 #![tactic(auto)]
 
+mod draws;
 mod fault;
 mod head;
 mod images;
 mod laws;
+mod made;
+mod making;
 mod named;
 mod names;
 mod reading;
@@ -15,5 +18,6 @@ mod steps;
 
 pub use fault::{ReadScriptError, ScriptFault, ScriptLineFault};
 pub use laws::statements_are_told;
+pub use made::generate;
 pub use script::{Line, RegionRow, Script};
 pub use script_lines::Given;
