@@ -155,8 +155,8 @@ impl Logger {
     }
 
     /// A logger that goes on with an archive as recovery left it, which has a label: every item is acknowledged. `volume` is the
-    /// volume limit, 1,024 to 1,073,741,824 bytes. It takes no memory; `NoMemory` tells that a file has 2^63 bytes or more, which
-    /// none could be handed on.
+    /// volume limit, 1,024 to 1,073,741,824 bytes. It takes no memory of its own; `NoMemory` comes exactly where a file has 2^63
+    /// bytes or more, or the volume a number of 2^31 or more, and no other refusal does.
     pub fn reopen<D: Disk>(disk: &mut D, archive: Archive, volume: u64) -> Result<Logger, LogFault>
         requires limit { (1024 ≤ volume) × (volume ≤ 1073741824) }
         requires labelled { archive.label ≢ None }
