@@ -3,6 +3,8 @@ ghost use Rattle.std.specs.Prelude.{◌≤◌, IfSome};
 
 use crate::answers::{tell_counts, tell_fault, tell_refusal};
 use crate::handed::Handed;
+use crate::images::tell_images;
+use crate::items::tell_items;
 use archive_recovery::{Archive, recover};
 use case_book::{Answer, Words, text_of};
 use case_outside::Drive;
@@ -244,12 +246,18 @@ impl Logging {
             "log" => self.log(alloc, drive, &mut words),
             "flush" => self.flush(alloc, drive),
             "counts" => self.counts(alloc),
+            "images" => Ok(Some(tell_images(alloc, drive)?)),
+            "items" => match words.size() {
+                Some(skipped) => Ok(Some(tell_items(alloc, drive, skipped)?)),
+                None => Ok(None),
+            },
             _ => Ok(None),
         }
     }
 
     /// `logger create LIMIT PID SEC USEC HOST ZONE`, `reopen LIMIT` behind a recovery, `log SEC USEC COUNT` of what is handed,
-    /// `flush` and `counts` tell their answer; `fact PMID CODE DOMAIN SEMANTICS UNITS NAME`, `domain DOMAIN NUMBER NAME ..`,
+    /// `flush` and `counts` tell their answer, `images` how many items a crash leaves, and `items N`
+    /// those behind the first N; `fact PMID CODE DOMAIN SEMANTICS UNITS NAME`, `domain DOMAIN NUMBER NAME ..`,
     /// `set PMID INSTANCE VALUE ..`, `many PMID COUNT`, `status PMID STATUS` and `nothing` say what is handed.
     pub fn call(
         &mut self,

@@ -1,9 +1,11 @@
 //! Words of a book of cases for a logger (pmlogger(1)) over the disk of the case: the result and the facts that it is handed,
-//! and its calls.
+//! its calls, and what a crash may leave of them.
 #![tactic(auto)]
 
 mod answers;
 mod calls;
 mod handed;
+mod images;
+mod items;
 
 pub use calls::Logging;
