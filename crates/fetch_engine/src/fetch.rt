@@ -13,6 +13,7 @@ use archive_meta::Facts;
 use pcp_base::{NoMemory, PmResult, Pmid, Stamp};
 use profile_filter::Profile;
 use std::alloc::Global;
+use thiserror::Error;
 
 /// How many metrics a fetch may ask for.
 const LIMIT: usize = 1024;
@@ -25,10 +26,12 @@ pub struct Fetched {
 }
 
 /// Why a fetch wasn't answered.
-#[derive(Clone, Copy, Debug, PartialEq, Eq)]
+#[derive(Clone, Copy, Debug, PartialEq, Eq, Error)]
 pub enum FetchFault {
     /// More than 1,024 metrics were asked for.
+    #[error("{count} metrics are asked for at once")]
     TooMany { count: u64 },
+    #[error("out of memory")]
     NoMemory,
 }
 

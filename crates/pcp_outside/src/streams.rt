@@ -6,6 +6,7 @@ ghost use Rattle.pcp_outside.specs.Streams.{Takes, Puts, PutsAll, ReadsTo};
 use crate::failed::Failed;
 use pcp_base::{Bytes, List, NoMemory};
 use std::alloc::{AllocError, Global};
+use thiserror::Error;
 
 /// Where bytes come from.
 pub trait Source {
@@ -60,11 +61,14 @@ pub fn write_all<O: Sink>(out: &mut O, bytes: &[u8]) -> Result<(), Failed>
 }
 
 /// Why a source isn't read to its end.
-#[derive(Clone, Copy, Debug, PartialEq, Eq)]
+#[derive(Clone, Copy, Debug, PartialEq, Eq, Error)]
 pub enum ReadFault {
+    #[error("out of memory")]
     NoMemory,
+    #[error("the source failed")]
     Failed,
     /// It holds more bytes than the limit.
+    #[error("the source holds more than the limit")]
     TooMuch,
 }
 

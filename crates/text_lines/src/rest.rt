@@ -9,11 +9,14 @@ use crate::quoted::{starts_quoted, text_byte};
 use pcp_base::{Bytes, NoMemory, Text};
 use std::alloc::{AllocError, Global};
 use std::marker::Model;
+use thiserror::Error;
 
 /// Why nothing was taken: the bytes are no line, or memory was refused.
-#[derive(Clone, Copy, Debug, PartialEq, Eq)]
+#[derive(Clone, Copy, Debug, PartialEq, Eq, Error)]
 pub enum TakeFault {
+    #[error("no line")]
     NoLine,
+    #[error("out of memory")]
     NoMemory,
 }
 
