@@ -1,12 +1,11 @@
 //! Reads the images that a crash may leave.
-use crate::described::is_described;
 use crate::parts::{Part, advance, fronts_of, parts_at, parts_cut};
 use crate::tally::{Found, Tally};
 use archive_meta::MetaState;
 use archive_reader::{ArchiveReader, ReaderFault};
 use case_book::{Answer, Kept, Line};
 use case_outside::{Drive, Held, disk_of, file_of, snapshot};
-use case_records::write_item;
+use case_records::{is_described, write_item};
 use pcp_base::{Item, List, NoMemory};
 use pcp_outside::MemDisk;
 use std::alloc::Global;

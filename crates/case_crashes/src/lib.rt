@@ -3,7 +3,6 @@
 //! say, or recovered.
 #![tactic(auto)]
 
-mod described;
 mod images;
 mod parts;
 mod recoveries;

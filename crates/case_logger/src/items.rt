@@ -3,10 +3,8 @@ use archive_frame::{Step, step_forward};
 use archive_meta::MetaState;
 use archive_volume::decode_item;
 use case_outside::{Drive, Held, snapshot};
-use case_records::write_item;
-use pcp_base::{
-    Block, Body, Desc, FileId, InDom, Item, List, NoMemory, PmResult, Stamp, Text, ValueSet,
-};
+use case_records::{is_described, write_item};
+use pcp_base::{FileId, Item, NoMemory};
 use std::alloc::Global;
 
 // The record at a byte, and where the next one begins. `None` where there is none.
@@ -51,66 +49,11 @@ pub fn tell_item(alloc: Global, item: &Item) -> Result<String, NoMemory> {
     Ok(out)
 }
 
-fn is_listed(pairs: &List<(i32, Text)>, instance: i32) -> bool {
-    for (number, _) in pairs.as_slice() {
-        if *number == instance {
-            return true;
-        }
-    }
-    false
-}
-
-// Whether the instance is one of a domain at a moment; the null domain has any.
-fn is_known(meta: &MetaState, indom: InDom, stamp: Stamp, instance: i32) -> bool {
-    match meta.domain_at(indom, stamp) {
-        Some(pairs) => is_listed(pairs, instance),
-        None => indom.word() == u32::MAX,
-    }
-}
-
-fn are_words_known(meta: &MetaState, desc: &Desc, stamp: Stamp, pairs: &[(i32, u32)]) -> bool {
-    for (instance, _) in pairs {
-        if !is_known(meta, desc.indom, stamp, *instance) {
-            return false;
-        }
-    }
-    true
-}
-
-fn are_blocks_known(meta: &MetaState, desc: &Desc, stamp: Stamp, pairs: &[(i32, Block)]) -> bool {
-    for (instance, _) in pairs {
-        if !is_known(meta, desc.indom, stamp, *instance) {
-            return false;
-        }
-    }
-    true
-}
-
-fn is_set_described(meta: &MetaState, stamp: Stamp, set: &ValueSet) -> bool {
-    match (&set.body, meta.desc(set.pmid)) {
-        (Body::Status(_), _) => true,
-        (Body::InPlace(pairs), Some(desc)) => are_words_known(meta, desc, stamp, pairs.as_slice()),
-        (Body::Blocks(pairs), Some(desc)) => are_blocks_known(meta, desc, stamp, pairs.as_slice()),
-        (_, None) => false,
-    }
-}
-
-fn is_described(meta: &MetaState, answer: &PmResult) -> bool {
-    for set in answer.sets.as_slice() {
-        if !is_set_described(meta, answer.stamp, set) {
-            return false;
-        }
-    }
-    true
-}
-
 /// Whether Meta describes each metric with values, and lists the instances that it shows.
 pub fn are_described(meta: &MetaState, items: &[Item]) -> bool {
     for item in items {
-        if let Item::Sample(answer) = item {
-            if !is_described(meta, answer) {
-                return false;
-            }
+        if !is_described(meta, item) {
+            return false;
         }
     }
     true
