@@ -1,6 +1,7 @@
 //! The sample's layout text, whose image `once` logs into memory and into a folder.
 use pcp_base::List;
-use pcp_outside::{Disk, FileDisk, FileId, MemDisk, MemSink, SureSource};
+use pcp_outside::{Disk, FileId, MemDisk, MemSink, SureSource};
+use pcp_system::FileDisk;
 use pm_commands::offline;
 use std::alloc::Global;
 use std::fs;

@@ -1,5 +1,6 @@
 //! A reader as a source, and a writer as a sink.
-use pcp_outside::{Failed, ReaderSource, WriterSink, read_to_limit, write_all};
+use pcp_outside::{Failed, read_to_limit, write_all};
+use pcp_system::{ReaderSource, WriterSink};
 use std::io::Cursor;
 use std::test::Fail;
 

@@ -1,5 +1,6 @@
 //! The files of an archive in the system's folder.
-use pcp_outside::{Disk, FileDisk, FileId, append_synced};
+use pcp_outside::{Disk, FileId, append_synced};
+use pcp_system::FileDisk;
 use std::fs;
 use std::test::Fail;
 

@@ -2,7 +2,8 @@
 //! command, standard input and standard output are handed to the command, whose status is the program's.
 #![tactic(auto)]
 
-use pcp_outside::{FileDisk, ReaderSource, Sink, WriterSink};
+use pcp_outside::Sink;
+use pcp_system::{FileDisk, ReaderSource, WriterSink};
 use pm_commands::{Refusal, Stop, Usage, offline, read_words};
 use std::alloc::{Alloc, AllocError, Global};
 use std::env::Env;

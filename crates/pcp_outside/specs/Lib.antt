@@ -1,6 +1,8 @@
 pub mod Causes
+pub mod Clocks
 pub mod Contents
 pub mod Devices
+pub mod Doors
 pub mod Memory
 pub mod Record
 pub mod Streams

@@ -332,8 +332,8 @@ fn same(a: FileId, b: FileId) -> bool
     }
 }
 
-// Whether a file is named before another: Meta, Index, then the volumes upwards.
-pub(crate) fn is_before(a: FileId, b: FileId) -> bool
+/// Whether a file is named before another: Meta, Index, then the volumes upwards.
+pub fn is_before(a: FileId, b: FileId) -> bool
     ensures { result ≡ comes_before a b }
 {
     match (a, b) {

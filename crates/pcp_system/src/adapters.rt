@@ -2,8 +2,7 @@
 ghost use Rattle.std.specs.Prelude.{◌≡◌, [], OnOk};
 ghost use Rattle.pcp_outside.specs.Causes.{HasCause};
 
-use crate::failed::Failed;
-use crate::streams::{Sink, Source};
+use pcp_outside::{Failed, Sink, Source};
 use std::io::{ErrorKind, Read, Write};
 
 /// A source over a reader of the system. It tells no content.

@@ -1,5 +1,5 @@
 use Rattle.std.proofs.Common.{◌≡◌}
-use Rattle.pcp_outside.proofs.adapters.WriterSinkSink.put.Given as goal
+use Rattle.pcp_system.proofs.adapters.ReaderSourceSource.take.Given as goal
 
 abbrev pub invariant-loop : goal.invariant-loop
 invariant-loop g l = l.self.faults ≡ l.fn.self.faults

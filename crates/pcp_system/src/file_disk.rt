@@ -4,10 +4,7 @@ ghost use Rattle.pcp_model.specs.Disk.{empty_disk, CrashImage};
 ghost use Rattle.pcp_outside.specs.Causes.{HasCause, capped};
 ghost use Rattle.pcp_outside.specs.Devices.{IsNumbered};
 
-use crate::disk::Disk;
-use crate::failed::Failed;
-use crate::memory_disk::is_before;
-use pcp_base::FileId;
+use pcp_outside::{Disk, Failed, FileId, is_before};
 use std::alloc::{AllocError, Global};
 use std::fs::{File, Files, OpenOptions};
 use std::io;
