@@ -1,12 +1,14 @@
 -- What a text is, by the first zero byte.
 use Rattle.std.proofs.Common.{◌≡◌, ◌≢◌, ℕ, ◌+◌, ◌-◌, ◌<◌, ◌≤◌, Bool, true, false, cond, ltb, List, [], ◌∷◌, ◌++◌, length, get_or, take, drop, position, Option, Some, None, refl, sym, ap, ◌∙◌, subst, arith}
-use Rattle.std.specs.Prelude.{is_none}
+use Rattle.std.specs.Prelude.{is_none, IfSome, IfNone}
 use Rattle.std.specs.List.{position_or_len}
 use Rattle.std.proofs.lemmas.Bool.{lt-ltb, le-ltb, ltb-false, eqb-false, eqb-true, eq-eqb, ne_eqb}
 use Rattle.std.proofs.lemmas.List.{take_at, take-take, take_more, length-append, length-take, length-drop, length-take-le, get_or-take, get_or_append_left, get_or-append_right}
 use Rattle.std.proofs.lemmas.List.Sums.{position_or_len_is, fails_before_first}
 use Rattle.std.proofs.lemmas.List.Quantifiers.{position-Some}
-use Rattle.pcp_base.specs.Texts.{IsText, IsFirstZero}
+use Rattle.std.proofs.lemmas.Grind.{get_or_default_zero}
+use Rattle.memchr.specs.Find.{Nowhere, Passes, IsFirstByte, is_byte}
+use Rattle.pcp_base.specs.Texts.{IsText}
 use Rattle.pcp_model.specs.Records.{NameStands}
 use Rattle.archive_meta.specs.Decoding.{◌>>=◌, is_zero, text_of, name_at}
 
@@ -54,8 +56,33 @@ none_where false n e = refl
 pub text_clean : (bytes : List ℕ) → IsText bytes → text_of bytes ≡ Some bytes
 text_clean bytes clean = ap (λ o. cond (is_none o) (Some bytes) None) (position_none bytes clean)
 
-pub text_zero : (bytes : List ℕ) (at : ℕ) → IsFirstZero bytes at → text_of bytes ≡ None
-text_zero bytes at first = ap (λ o. cond (is_none o) (Some bytes) None) (position_at bytes at first.within first.zero first.first)
+-- ---- what a search for the first zero byte tells
+
+nowhere_zero : (bytes : List ℕ) → Nowhere (Passes (is_byte 0) bytes) 0 (length bytes) → IsText bytes
+nowhere_zero bytes none k d within = λ zero. none k (omega arith) within (eq-eqb (get_or bytes k 0) 0 (sym (get_or_default_zero bytes k d within) ∙ zero))
+
+front_clean : (bytes : List ℕ) (at : ℕ) → at ≤ length bytes → Nowhere (Passes (is_byte 0) bytes) 0 at → IsText (take at bytes)
+front_clean bytes at short none k d within =
+    let low : k < at = omega (arith, length-take-le at bytes short) in
+    let in_all : k < length bytes = omega arith in
+    λ zero. none k (omega arith) low (eq-eqb (get_or bytes k 0) 0 (sym (get_or_default_zero bytes k d in_all) ∙ sym (get_or-take at bytes k d low) ∙ zero))
+
+pub zero_place : (bytes : List ℕ) (r : Option ℕ) → IsFirstByte (is_byte 0) bytes r → r ≡ position is_zero bytes
+zero_place bytes None h = sym (position_none bytes (nowhere_zero bytes h))
+zero_place bytes (Some at) h =
+    sym (position_at bytes at h.0.high (eqb-true (get_or bytes at 0) 0 h.1) (λ k low zero. h.0.before k (omega arith) low (eq-eqb (get_or bytes k 0) 0 zero)))
+
+pub zero_within : (bytes : List ℕ) (r : Option ℕ) → IsFirstByte (is_byte 0) bytes r → IfSome r (λ at. at < length bytes)
+zero_within bytes None h = tt
+zero_within bytes (Some at) h = h.0.high
+
+pub zero_front : (bytes : List ℕ) (r : Option ℕ) → IsFirstByte (is_byte 0) bytes r → IfSome r (λ at. IsText (take at bytes))
+zero_front bytes None h = tt
+zero_front bytes (Some at) h = front_clean bytes at (let lt : at < length bytes = h.0.high in omega arith) h.0.before
+
+pub zero_nowhere : (bytes : List ℕ) (r : Option ℕ) → IsFirstByte (is_byte 0) bytes r → IfNone r (IsText bytes)
+zero_nowhere bytes None h = nowhere_zero bytes h
+zero_nowhere bytes (Some at) h = tt
 
 -- what is a text
 pub text_is : (bytes name : List ℕ) → text_of bytes ≡ Some name → (bytes ≡ name) × IsText name

@@ -29,8 +29,9 @@ impl Hasher for WordHasher {
     ghost finish = { λ s. spread s.word };
 
     fn finish(&self) -> u64 {
-        let near = u64::from(self.word % 4) * 16_777_216;
-        u64::from(self.word / 4) * 10_005_399_829 / 65_536 + near
+        let run = u64::from(self.word / 64) * 86_476_435_957 / 65_536;
+        let near = u64::from(self.word / 4 % 16) + u64::from(self.word % 4) * 16_777_216;
+        run + near
     }
 
     fn write(&mut self, bytes: &[u8]) {

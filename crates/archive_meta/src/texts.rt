@@ -1,26 +1,29 @@
 //! The texts of a record.
-ghost use Rattle.std.specs.Prelude.{◌≡◌, ◌+◌, ◌<◌, ◌≤◌, length, position, IfOk, IfSome};
+ghost use Rattle.std.specs.Prelude.{◌≡◌, ◌+◌, ◌<◌, ◌≤◌, length, take, position, IfOk, IfSome, IfNone};
+ghost use Rattle.pcp_base.specs.Texts.{IsText};
 ghost use Rattle.archive_meta.specs.Decoding.{is_zero, text_of, name_at, first_name};
 
-use pcp_base::{NoMemory, Text, TextError, be32};
+use memchr::memchr;
+use pcp_base::{List, NoMemory, Text, be32};
 use std::alloc::Global;
 
+/// Where the first zero byte stands.
 fn zero_in(bytes: &[u8]) -> Option<usize>
     ensures value { result ≡ position is_zero bytes.now }
     ensures within { IfSome result (λ at. at < length bytes.now) }
+    ensures front { IfSome result (λ at. IsText (take at bytes.now)) }
+    ensures all { IfNone result (IsText bytes.now) }
 {
-    bytes.iter().position(|byte| *byte == 0)
+    memchr(0, bytes)
 }
 
-/// The text of bytes, where none of them is zero.
-fn text_of(alloc: Global, bytes: &[u8]) -> Result<Option<Text>, NoMemory>
+/// The text of bytes of which none is zero.
+#[tactic(auto, using(crate::proofs::ZeroBytes::text_clean))]
+fn clean_text(alloc: Global, bytes: &[u8]) -> Result<Option<Text>, NoMemory>
+    requires { IsText bytes.now }
     ensures { IfOk result (λ found. found ≡ text_of bytes.now) }
 {
-    match Text::build(alloc, bytes) {
-        Ok(text) => Ok(Some(text)),
-        Err(TextError::Zero(_)) => Ok(None),
-        Err(TextError::NoMemory) => Err(NoMemory),
-    }
+    Ok(Some(Text::of_clean(List::from_vec(Vec::from_slice(alloc, bytes)?))))
 }
 
 /// The name that begins at an offset of a table, up to the first zero byte.
@@ -34,7 +37,7 @@ pub fn name_at(alloc: Global, table: &[u8], offset: u32) -> Result<Option<Text>,
     }
     let rest = &table[from..];
     match zero_in(rest) {
-        Some(end) => text_of(alloc, &rest[..end]),
+        Some(end) => clean_text(alloc, &rest[..end]),
         None => Ok(None),
     }
 }
@@ -53,5 +56,9 @@ pub fn first_name(alloc: Global, bytes: &[u8]) -> Result<Option<Text>, NoMemory>
     if rest.len() < size {
         return Ok(None);
     }
-    text_of(alloc, &rest[..size])
+    let name = &rest[..size];
+    match zero_in(name) {
+        Some(_) => Ok(None),
+        None => clean_text(alloc, name),
+    }
 }
