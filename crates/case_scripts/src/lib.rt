@@ -10,7 +10,7 @@ use std::alloc::Global;
 
 /// `script head LINE` and `script step LINE`: the line as it was read, or `none`. `script`: what the input's script says,
 /// or its first fault. `script image POSITION`: the bytes of an image of the input's script. `script make NUMBER TICKS`: what
-/// the script says that a number makes.
+/// the script says that a number makes; with a line's number behind it, the steps from that line on.
 pub fn tell_script(alloc: Global, rest: &str, input: &[u8]) -> Result<Option<Vec<u8>>, NoMemory> {
     let (form, behind) = rest.split_once(' ').unwrap_or((rest, ""));
     if form.is_empty() || form == "image" {

@@ -110,10 +110,17 @@ fn write_script(out: &mut String, script: &Script) -> Result<(), NoMemory> {
     for group in script.config.groups.as_slice() {
         write_group(out, group)?;
     }
+    write_steps(out, script, 0)
+}
+
+// The steps from the line of this number on.
+fn write_steps(out: &mut String, script: &Script, from: u32) -> Result<(), NoMemory> {
     for (number, line) in script.steps.as_slice() {
         let number = *number;
-        write!(out, "{number} ")?;
-        write_line(out, line)?;
+        if from <= number {
+            write!(out, "{number} ")?;
+            write_line(out, line)?;
+        }
     }
     Ok(())
 }
@@ -152,7 +159,7 @@ pub fn tell(alloc: Global, input: &[u8], position: &str) -> Result<Option<Vec<u8
     }
 }
 
-/// What the script of a number and so many ticks says.
+/// What the script of a number and so many ticks says, or its steps alone from the line of a number on.
 pub fn tell_made(alloc: Global, mut words: Words<'_>) -> Result<Option<Vec<u8>>, NoMemory> {
     let (Some(number), Some(ticks)) = (words.wide(), words.number()) else {
         return Ok(None);
@@ -161,6 +168,10 @@ pub fn tell_made(alloc: Global, mut words: Words<'_>) -> Result<Option<Vec<u8>>,
         return Ok(None);
     }
     let mut out = String::new(alloc);
-    write_script(&mut out, &generate(alloc, number, ticks)?)?;
+    let script = generate(alloc, number, ticks)?;
+    match words.number() {
+        Some(from) => write_steps(&mut out, &script, from)?,
+        None => write_script(&mut out, &script)?,
+    }
     Ok(Some(out.into_bytes()))
 }

@@ -1,8 +1,13 @@
 pub mod Components
 pub mod Growing
+pub mod HeadLines
+pub mod MadeOrder
+pub mod MadeSteps
 pub mod Numbered
+pub mod Passing
 pub mod Places
 pub mod Ruled
 pub mod ScriptLines
 pub mod Statements
+pub mod StepLines
 pub mod Texts

@@ -11,7 +11,7 @@ unfolding numbered
 as_many from [] = refl
 as_many from (step ∷ steps) = ap suc (as_many (from + 1) steps)
 
-numbers_go_on : (from : ℕ) (a b : List Line) → numbered from (a ++ b) ≡ numbered from a ++ numbered (from + length a) b
+pub numbers_go_on : (from : ℕ) (a b : List Line) → numbered from (a ++ b) ≡ numbered from a ++ numbered (from + length a) b
 unfolding numbered
 numbers_go_on from [] b = let same : from ≡ from + 0 = omega arith in ap (λ n. numbered n b) same
 numbers_go_on from (step ∷ a) b =

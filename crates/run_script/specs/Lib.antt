@@ -1,5 +1,6 @@
 pub mod Faults
 pub mod Generated
+pub mod GeneratedText
 pub mod Heads
 pub mod Laws
 pub mod Names

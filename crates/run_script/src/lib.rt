@@ -17,7 +17,7 @@ mod script;
 mod steps;
 
 pub use fault::{ReadScriptError, ScriptFault, ScriptLineFault};
-pub use laws::statements_are_told;
+pub use laws::{generated_is_in_order, generated_is_read, scripts_are_ruled, statements_are_told};
 pub use made::generate;
 pub use script::{Line, RegionRow, Script};
 pub use script_lines::Given;
