@@ -12,8 +12,8 @@ use Rattle.pcp_model.specs.Archive.{IsStoppedCreation}
 use Rattle.pcp_model.specs.Disk.{Files, Holdings, contents_of, bytes_of}
 use Rattle.pcp_model.specs.LabelFields.{LabelFields}
 use Rattle.pcp_outside.specs.Devices.{IsVolumes}
-use Rattle.archive_loading.specs.declared.parts.MetaPart.TheVariants.{Begun}
-use Rattle.archive_loading.specs.Parts.{IsMetaPart}
+use Rattle.archive_loading.specs.declared.metadata.MetaPart.TheVariants.{Begun}
+use Rattle.archive_loading.specs.Metadata.{IsMetaPart}
 use Rattle.archive_loading.specs.Loaded.{IsLabelledArchive, AreLabelled, IsHeaded, IsMeasured, HasLong, AllShort, numbers}
 use Rattle.archive_loading.specs.LoadFaults.{HeadIs, NotLoaded, IsBeside}
 use Rattle.archive_loading.specs.Volumes.{IsAlone}

@@ -4,10 +4,12 @@
 
 mod labels;
 mod loading;
+mod metadata;
 mod parts;
+mod stamps;
 
 pub use labels::{Head, MetaHead, head_of, meta_head};
-pub use loading::{
-    VolumePart, VolumesPart, is_alone, load_index, load_meta, load_volume, load_volumes,
-};
-pub use parts::{IndexPart, MetaPart, index_part, meta_part, no_entries};
+pub use loading::{VolumePart, VolumesPart, is_alone, load_index, load_volume, load_volumes};
+pub use metadata::{MetaEnd, MetaPart, load_meta};
+pub use parts::{IndexPart, index_part, no_entries};
+pub use stamps::later;

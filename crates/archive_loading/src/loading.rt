@@ -1,16 +1,16 @@
-//! Loading: Meta and the index whole, and of each volume its label.
+//! Loading of the index, whole, and of each volume its label.
 ghost use Rattle.std.specs.Prelude.{◌≡◌, ◌+◌, ◌<◌, ◌≤◌, length, take, IfOk, IfErr, MatchBool};
-ghost use Rattle.pcp_base.specs.declared.file.FileId.TheVariants.{Meta, Index as IndexFile, Volume};
+ghost use Rattle.pcp_base.specs.declared.file.FileId.TheVariants.{Index as IndexFile, Volume};
 ghost use Rattle.pcp_model.specs.Disk.{contents_of};
 ghost use Rattle.pcp_outside.specs.Devices.{IsVolumes};
 ghost use Rattle.archive_window.specs.Looks.{Looks, Blames};
-ghost use Rattle.archive_loading.specs.Parts.{IsMetaPart, IsIndexPart};
+ghost use Rattle.archive_loading.specs.Parts.{IsIndexPart};
 ghost use Rattle.archive_loading.specs.Volumes.{IsVolumeHead, IsVolumePart, IsVolumesPart, IsReachablePart, IsAlone};
 ghost use Rattle.archive_loading.specs.LoadFaults.{IsBeside};
 ghost use Rattle.archive_loading.specs.Takes.{label_bytes, TookLabels};
 
 use crate::labels::{Head, head_of};
-use crate::parts::{IndexPart, MetaPart, index_part, meta_part};
+use crate::parts::{IndexPart, index_part};
 use archive_window::{Lack, count_volumes, front_of, length_of, whole_of};
 use pcp_base::List;
 use pcp_model::Label;
@@ -33,18 +33,6 @@ pub enum VolumesPart {
     Headed(List<(u32, u64)>),
     /// The first that is something else has this number, and is so from this byte on.
     Stops(u32, u64),
-}
-
-/// Meta, read whole.
-pub fn load_meta<D: Disk>(alloc: Global, disk: &mut D) -> Result<MetaPart, Lack>
-    ensures meta { D.tells → IfOk result (IsMetaPart (contents_of (D.held disk.old) Meta)) }
-    ensures taken { D.tells → D.taken disk.new ≤ D.taken disk.old }
-    ensures looks { Looks D.Disk disk.old disk.new }
-    ensures cause { IfErr result (Blames D.Disk disk.old disk.new) }
-{
-    let bytes = whole_of(alloc, disk, FileId::Meta)?;
-    let part = meta_part(alloc, bytes.as_slice())?;
-    Ok(part)
 }
 
 /// The index, read whole.

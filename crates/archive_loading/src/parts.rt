@@ -1,25 +1,13 @@
-//! Meta and the index as they are read whole.
+//! The index as it is read whole.
 ghost use Rattle.std.specs.Prelude.{◌≡◌, ◌≤◌, negsuc, [], length, take, IfOk};
 ghost use Rattle.pcp_model.specs.Labels.{IsLabel};
-ghost use Rattle.archive_loading.specs.Parts.{IsMetaPart, IsIndexPart};
+ghost use Rattle.archive_loading.specs.Parts.{IsIndexPart};
 
-use crate::labels::{Head, MetaHead, head_of, meta_head};
-use archive_meta::{MetaFault, MetaState};
+use crate::labels::{Head, head_of};
 use pcp_base::NoMemory;
 use pcp_model::Label;
 use std::alloc::Global;
 use temporal_index::{Index, IndexFault};
-
-/// What Meta is.
-#[derive(Drop)]
-pub enum MetaPart {
-    /// Less than its label, and this length.
-    Begun(u64),
-    /// Its label, and records.
-    Whole(Label, MetaState),
-    /// Something else, from this byte on.
-    Stops(u64),
-}
 
 /// What the index is.
 #[derive(Drop)]
@@ -39,30 +27,6 @@ fn first_bytes(bytes: &[u8]) -> &[u8]
         return bytes;
     }
     &bytes[..132]
-}
-
-fn with_records(alloc: Global, bytes: &[u8], label: Label) -> Result<MetaPart, NoMemory>
-    requires label { IsLabel (take 132 bytes.now) label (negsuc 0) }
-    requires long { 132 ≤ length bytes.now }
-    ensures { IfOk result (IsMetaPart bytes.now) }
-{
-    match MetaState::read_whole(alloc, &bytes[132..]) {
-        Ok((meta, _)) => Ok(MetaPart::Whole(label, meta)),
-        Err(MetaFault::Record { at }) => Ok(MetaPart::Stops(132 + at)),
-        Err(MetaFault::NoMemory) => Err(NoMemory),
-    }
-}
-
-/// What the bytes of Meta are.
-pub fn meta_part(alloc: Global, bytes: &[u8]) -> Result<MetaPart, NoMemory>
-    ensures { IfOk result (IsMetaPart bytes.now) }
-{
-    let head = first_bytes(bytes);
-    match meta_head(alloc, head)? {
-        MetaHead::Whole(label) => with_records(alloc, bytes, label),
-        MetaHead::Part => Ok(MetaPart::Begun(bytes.len() as u64)),
-        MetaHead::Stops(at) => Ok(MetaPart::Stops(at)),
-    }
 }
 
 fn with_entries(alloc: Global, bytes: &[u8], label: &Label) -> Result<IndexPart, NoMemory>

@@ -1,6 +1,6 @@
 -- The items of a readable archive stand in its volumes, from the first place on and from each boundary.
-use Rattle.std.proofs.Common.{zero, suc, ◌≡◌, ◌≢◌, ◌⊎◌, inl, inr, ⊎_elim, ℕ, pos, negsuc, ◌+◌, ◌-◌, ◌<◌, ◌≤◌, Bool, true, false, List, [], ◌∷◌, ◌++◌, length, take, drop, map, refl, sym, ap, ◌∙◌, subst, append_assoc, arith, eqb-true, eq-eqb, Option, Some, None}
-use Rattle.std.specs.Prelude.{Contains, nat_eq, slice_index_or}
+use Rattle.std.proofs.Common.{zero, suc, ◌≡◌, ◌≢◌, inl, inr, ⊎_elim, ℕ, pos, negsuc, ◌+◌, ◌-◌, ◌<◌, ◌≤◌, List, [], ◌∷◌, ◌++◌, length, take, drop, map, refl, sym, ap, ◌∙◌, subst, append_assoc, arith}
+use Rattle.std.specs.Prelude.{Contains}
 use Rattle.std.specs.List.{AllByRecursion}
 use Rattle.std.proofs.lemmas.Bool.{cases_lt}
 use Rattle.std.proofs.lemmas.List.{take-append-drop, drop_at, drop_all, drop-drop, append-nil, nil_from_length, length-append, length-take, length-drop}
@@ -9,11 +9,10 @@ use Rattle.pcp_base.specs.declared.file.FileId.TheVariants.{Meta, Index, Volume}
 use Rattle.pcp_base.specs.declared.result.Item.{Item}
 use Rattle.pcp_model.specs.declared.records.MetaRecord.{MetaRecord}
 use Rattle.pcp_model.specs.declared.records.Entry.{Entry}
-use Rattle.pcp_model.specs.Archive.{ArchiveContents, ArchiveReading, AreRead, LabelledFile, IsMeta, IsIndex, IsLastVolume, AreVolumes, IsArchive, IsStoppedCreation, Reads, items_of, scan, records_in}
+use Rattle.pcp_model.specs.Archive.{ArchiveContents, ArchiveReading, AreRead, LabelledFile, IsMeta, IsIndex, IsLastVolume, AreVolumes, IsArchive, items_of}
 use Rattle.pcp_model.specs.Disk.{Files}
 use Rattle.pcp_model.specs.Frame.{frame, frames, IsFrameable, IsTorn}
 use Rattle.pcp_model.specs.LabelFields.{LabelFields}
-use Rattle.pcp_model.specs.Labels.{BeginsLabel}
 use Rattle.pcp_model.specs.Payload.{IsItem}
 use Rattle.pcp_model.specs.Records.{IsRecord}
 use Rattle.pcp_model.specs.Sound.{IsBoundary}
@@ -25,22 +24,21 @@ use Rattle.pcp_model.proofs.OneReading.{one_reading, last_has_bytes, others_abov
 use Rattle.pcp_model.proofs.OneRecord.{one_record}
 use Rattle.pcp_model.proofs.Sound.{label_boundary, labelled_long}
 use Rattle.pcp_model.proofs.Unique.{one_file, SameFile}
-use Rattle.archive_frame.specs.Steps.{Stands}
 use Rattle.archive_window.specs.Standing.{ItemStands}
-use Rattle.archive_loading.specs.Loaded.{Loaded, IsOver, contents_with, IsLabelled, IsHeaded, Rises, IsLabelledArchive, IsKeptOf, numbers}
+use Rattle.archive_loading.specs.Loaded.{contents_with, IsHeaded, Rises, IsLabelledArchive, numbers}
 use Rattle.archive_reader.specs.Walks.{next_volumes, next_offset, StandsNext, StepsOver, EndsThere, IsEnd, Leads, AllFrom}
 use Rattle.archive_reader.proofs.Stepping.{next_over, next_here}
 
 -- ---- numbers that rise, of all volumes that aren't empty
 
-abbrev Rising : List ℕ → Type 0
+abbrev pub Rising : List ℕ → Type 0
 Rising [] = Unit {0}
 Rising (n ∷ ns) = AllByRecursion (λ m. n < m) ns × Rising ns
 
-abbrev HasBytes : Files → ℕ → Type 0
+abbrev pub HasBytes : Files → ℕ → Type 0
 HasBytes files n = 0 < length (files (Volume n))
 
-abbrev Cover : Files → ℕ → List ℕ → Type 0
+abbrev pub Cover : Files → ℕ → List ℕ → Type 0
 Cover files low ns = (n : ℕ) → low ≤ n → (Contains ns n → ⊥) → files (Volume n) ≡ []
 
 none_of : (n : ℕ) (ns : List ℕ) → AllByRecursion (λ m. n < m) ns → Contains ns n → ⊥
@@ -56,7 +54,7 @@ missing files low n ns cover le some none = omega (arith, some, ap length (cover
 above_first : (n m : ℕ) (ns : List ℕ) → n < m → AllByRecursion (λ k. m < k) ns → AllByRecursion (λ k. n < k) (m ∷ ns)
 above_first n m ns lt all = (lt, each-map (λ k. m < k) (λ k. n < k) (λ k h. omega (arith, lt, h)) ns all)
 
-one_numbers : (files : Files) (low : ℕ) (ns ms : List ℕ) → Rising ns → Rising ms → AllByRecursion (HasBytes files) ns → AllByRecursion (HasBytes files) ms → AllByRecursion (λ n. low ≤ n) ns → AllByRecursion (λ n. low ≤ n) ms
+pub one_numbers : (files : Files) (low : ℕ) (ns ms : List ℕ) → Rising ns → Rising ms → AllByRecursion (HasBytes files) ns → AllByRecursion (HasBytes files) ms → AllByRecursion (λ n. low ≤ n) ns → AllByRecursion (λ n. low ≤ n) ms
     → Cover files low ns → Cover files low ms → ns ≡ ms
 one_numbers files low [] [] a b c d e f p q = refl
 one_numbers files low [] (m ∷ ms) a b c d e f p q = absurd (missing files low m [] p f.0 d.0 (none_of m [] tt))
@@ -70,7 +68,7 @@ one_numbers files low (n ∷ ns) (m ∷ ms) a b c d e f p q =
     (λ k le none. p k (omega (arith, le, e.0)) (none_behind n k ns (omega (arith, le)) none)) (λ k le none. q k (omega (arith, le, e.0)) (none_behind m k ms (omega (arith, le, same)) none)) in
     ap (λ k. k ∷ ns) same ∙ ap (λ ks. m ∷ ks) more
 
-from_zero : (ns : List ℕ) → AllByRecursion (λ n. 0 ≤ n) ns
+pub from_zero : (ns : List ℕ) → AllByRecursion (λ n. 0 ≤ n) ns
 from_zero [] = tt
 from_zero (n ∷ ns) = (omega arith, from_zero ns)
 
@@ -94,7 +92,7 @@ all_match files l (v ∷ vs) (c ∷ cs) headed same = (first same, headed.0.0, a
     others : numbers (v ∷ vs) ≡ map (λ (c : ℕ × List Item). c.0) (c ∷ cs) → numbers vs ≡ map (λ (c : ℕ × List Item). c.0) cs
     others same = cc
 
-kept_rise : (vs : List (ℕ × ℕ)) → Rises vs → Rising (numbers vs)
+pub kept_rise : (vs : List (ℕ × ℕ)) → Rises vs → Rising (numbers vs)
 kept_rise [] rises = tt
 kept_rise (v ∷ vs) rises = (up vs rises.0, kept_rise vs rises.1)
   where
@@ -102,7 +100,7 @@ kept_rise (v ∷ vs) rises = (up vs rises.0, kept_rise vs rises.1)
     up [] all = tt
     up (w ∷ ws) all = (all.0, up ws all.1)
 
-kept_filled : (files : Files) (l : LabelFields) (vs : List (ℕ × ℕ)) → AllByRecursion (IsHeaded files l) vs → AllByRecursion (HasBytes files) (numbers vs)
+pub kept_filled : (files : Files) (l : LabelFields) (vs : List (ℕ × ℕ)) → AllByRecursion (IsHeaded files l) vs → AllByRecursion (HasBytes files) (numbers vs)
 kept_filled files l [] headed = tt
 kept_filled files l (v ∷ vs) headed = (omega (arith, headed.0.0, headed.0.1), kept_filled files l vs headed.1)
 

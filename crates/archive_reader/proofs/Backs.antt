@@ -1,7 +1,7 @@
 -- Where the record before a place ends, and the last item from there on or before it.
-use Rattle.std.proofs.Common.{zero, suc, ◌≡◌, ◌≢◌, ◌⊎◌, inl, inr, ⊎_elim, ℕ, ◌+◌, ◌-◌, ◌<◌, ◌≤◌, Bool, true, false, List, [], ◌∷◌, ◌++◌, length, take, drop, refl, sym, ap, ◌∙◌, subst, arith, ltb-true, eqb-true, eq-eqb, Option, Some, None, Result, Ok, Err}
+use Rattle.std.proofs.Common.{◌≡◌, ◌⊎◌, inl, inr, ⊎_elim, ℕ, ◌+◌, ◌<◌, ◌≤◌, Bool, true, false, List, [], ◌∷◌, ◌++◌, length, take, drop, refl, sym, ap, ◌∙◌, subst, arith, eq-eqb, Option, Some, None, Result, Ok, Err}
 use Rattle.std.proofs.lemmas.Bool.{lt-ltb, le-ltb, ltb-false}
-use Rattle.std.proofs.lemmas.List.{take_at, take_more, take-append-drop, length-append, length-take, length-drop}
+use Rattle.std.proofs.lemmas.List.{take_at, take_more, length-append, length-drop}
 use Rattle.std.specs.List.{AllByRecursion}
 use Rattle.std.specs.Prelude.{if◌then◌else◌, nat_lt, nat_eq, get_or, IfSome, IfErr}
 use Rattle.pcp_base.specs.Time.{Moment}
@@ -12,7 +12,7 @@ use Rattle.pcp_model.specs.declared.records.Entry.{Entry}
 use Rattle.pcp_model.specs.Disk.{Files}
 use Rattle.archive_reader.specs.declared.beginning.Begin.TheVariants.{At, Outside}
 use Rattle.archive_reader.specs.declared.fault.ReaderFault.{ReaderFault}
-use Rattle.archive_reader.specs.Asked.{HasSegment, IsSegmentFault, own_length, length_of, begin_in, begin_of, volumes_below, last_filled, first_at, back_end, IsBackAt, IsBackFault, IsLastOr, IsAtOn, IsAtOnFault}
+use Rattle.archive_reader.specs.Asked.{HasSegment, own_length, length_of, begin_in, begin_of, volumes_below, last_filled, first_at, back_end, IsBackAt, IsBackFault, IsLastOr, IsAtOn, IsAtOnFault}
 use Rattle.archive_reader.specs.Lasts.{IsLastOn, StartsIn, BeginsWithin}
 use Rattle.archive_loading.specs.Loaded.{IsMeasured, IsReachable}
 use Rattle.archive_reader.specs.Searches.{or_else, last_of}

@@ -1,14 +1,13 @@
 -- Over readable and sound archives the searches find what the scan has.
-use Rattle.std.proofs.Common.{zero, suc, ◌≡◌, ◌≢◌, ◌⊎◌, inl, inr, ⊎_elim, ℕ, ◌+◌, ◌-◌, ◌<◌, ◌≤◌, Bool, true, false, List, [], ◌∷◌, ◌++◌, length, pos, negsuc, refl, sym, ap, ◌∙◌, subst, arith, ltb-true, eqb-true, eq-eqb, Option, Some, None}
-use Rattle.std.proofs.lemmas.Bool.{cases_lt, lt-ltb, le-ltb, ltb-false}
-use Rattle.std.proofs.lemmas.List.{nil_from_length, append-nil, length-append, length-drop}
+use Rattle.std.proofs.Common.{◌≡◌, ◌⊎◌, inl, inr, ⊎_elim, ℕ, ◌+◌, ◌-◌, ◌<◌, ◌≤◌, Bool, true, false, List, [], ◌∷◌, ◌++◌, length, negsuc, refl, sym, ap, ◌∙◌, subst, arith, ltb-true, eqb-true, eq-eqb, Option, Some, None}
+use Rattle.std.proofs.lemmas.Bool.{cases_lt, le-ltb, ltb-false}
+use Rattle.std.proofs.lemmas.List.{length-append, length-drop}
 use Rattle.std.specs.List.{AllByRecursion}
 use Rattle.std.specs.Prelude.{if◌then◌else◌, nat_lt, nat_eq, IfSome, Contains}
 use Rattle.pcp_base.specs.Time.{Moment, microseconds}
 use Rattle.pcp_base.specs.declared.file.FileId.{FileId}
 use Rattle.pcp_base.specs.declared.file.FileId.TheVariants.{Meta, Volume}
 use Rattle.pcp_base.specs.declared.result.Item.{Item}
-use Rattle.pcp_base.specs.declared.result.ValueSet.{ValueSet}
 use Rattle.pcp_model.specs.declared.records.MetaRecord.{MetaRecord}
 use Rattle.pcp_model.specs.declared.records.Entry.{Entry}
 use Rattle.pcp_model.specs.Archive.{ArchiveContents, ArchiveReading, IsArchive, IsStoppedCreation, AreVolumes, Reads, items_of, scan, records_in}
@@ -24,16 +23,16 @@ use Rattle.pcp_model.proofs.OneReading.{one_reading}
 use Rattle.archive_reader.specs.declared.beginning.Begin.{Begin}
 use Rattle.archive_reader.specs.declared.beginning.Begin.TheVariants.{At, Outside}
 use Rattle.archive_reader.specs.declared.fault.ReaderFault.TheVariants.{NotArchive}
-use Rattle.archive_reader.specs.Asked.{last_entry, is_entry_before, is_entry_by, own_length, length_of, first_volume, begin_in, begin_of, back_end, at_begin, range_begin, unless_after, HasSegment, SegmentStops, IsBackAt, IsLastOr, BackStops, IsAtOn, IsAtFrom, IsAtFault, IsRangeOn, IsRangeFrom, IsRangeFault}
+use Rattle.archive_reader.specs.Asked.{last_entry, is_entry_before, is_entry_by, own_length, length_of, first_volume, begin_in, begin_of, back_end, unless_after, IsBackAt, IsLastOr, BackStops, IsAtFrom, IsAtFault, IsRangeFrom, IsRangeFault}
 use Rattle.archive_reader.specs.Laws.{IsEntry, LastIsFound, RangeIsFound}
 use Rattle.archive_loading.specs.Loaded.{Loaded, IsOver, IsKeptOf, IsHeaded, IsLabelledArchive, Rises, numbers}
 use Rattle.archive_reader.specs.Searches.{or_else, last_of, at, between, segment, is_after, items_before, items_from, first_number, chosen_place}
 use Rattle.archive_reader.specs.Sounds.{StandsAs, BeginsInCutLabel, FindsLast, FindsRange, FindsValue}
-use Rattle.archive_reader.specs.Values.{IsValueAt, IsWholeFault, value_at}
-use Rattle.archive_reader.specs.Walks.{volumes_from, Leads, IsBad, AllFrom, StopsAt}
+use Rattle.archive_reader.specs.Values.{value_at}
+use Rattle.archive_reader.specs.Walks.{volumes_from, Leads, IsBad, AllFrom}
 use Rattle.archive_reader.proofs.Archives.{Matches, IsSameAs, same_as, from_first}
 use Rattle.archive_reader.proofs.Backs.{from_has}
-use Rattle.archive_reader.proofs.Founds.{IsOf, is_of, up, BackIs, LastEnds, from_of, back_of}
+use Rattle.archive_reader.proofs.Founds.{IsOf, is_of, up, BackIs, from_of, back_of}
 use Rattle.archive_reader.proofs.Searching.{chosen_is_enough}
 use Rattle.archive_reader.proofs.Segmented.{segment_is, segment_whole, one_all, never_bad, same_end, no_other_end}
 use Rattle.archive_reader.proofs.Stepping.{from_skips, from_stops}

@@ -1,37 +1,28 @@
 -- What the searches find in a sound archive: where they begin, and the record before that place.
-use Rattle.std.proofs.Common.{zero, suc, ◌≡◌, ◌≢◌, ◌⊎◌, inl, inr, ⊎_elim, ℕ, pos, ◌+◌, ◌-◌, ◌<◌, ◌≤◌, Bool, true, false, List, [], ◌∷◌, ◌++◌, length, take, drop, map, refl, sym, ap, ◌∙◌, subst, append_assoc, arith, ltb-true, eqb-true, eq-eqb, Option, Some, None}
+use Rattle.std.proofs.Common.{zero, suc, ◌≡◌, ◌⊎◌, inl, inr, ℕ, pos, ◌+◌, ◌<◌, ◌≤◌, Bool, true, false, List, [], ◌∷◌, ◌++◌, length, take, drop, refl, sym, ap, ◌∙◌, subst, append_assoc, arith, ltb-true, eqb-true, eq-eqb, Option, Some, None}
 use Rattle.std.proofs.lemmas.Bool.{cases_lt, lt-ltb, le-ltb, ltb-false}
-use Rattle.std.proofs.lemmas.List.{take-append-drop, take_all, drop_at, append-nil, length-append, length-take, nil_from_length}
+use Rattle.std.proofs.lemmas.List.{take-append-drop, take_all, append-nil, length-append, length-take, nil_from_length}
 use Rattle.std.specs.List.{AllByRecursion}
-use Rattle.std.specs.Prelude.{if◌then◌else◌, nat_lt, nat_eq, IfSome, Contains}
-use Rattle.pcp_base.specs.Time.{Moment, microseconds}
-use Rattle.pcp_base.specs.declared.file.FileId.{FileId}
+use Rattle.std.specs.Prelude.{if◌then◌else◌, nat_lt, nat_eq, Contains}
 use Rattle.pcp_base.specs.declared.file.FileId.TheVariants.{Volume}
 use Rattle.pcp_base.specs.declared.result.Item.{Item}
-use Rattle.pcp_model.specs.declared.records.Entry.{Entry}
-use Rattle.pcp_model.specs.Archive.{ArchiveContents, AreRead, LabelledFile, IsLastVolume, AreVolumes, items_of}
+use Rattle.pcp_model.specs.Archive.{AreRead, LabelledFile, IsLastVolume, AreVolumes, items_of}
 use Rattle.pcp_model.specs.Disk.{Files}
 use Rattle.pcp_model.specs.Frame.{frame, frames, IsFrameable, IsTorn}
 use Rattle.pcp_model.specs.LabelFields.{LabelFields}
-use Rattle.pcp_model.specs.Payload.{stamp_of, IsItem}
-use Rattle.pcp_model.specs.Sound.{IsBoundary, PointsWell, IsSoundEntry}
+use Rattle.pcp_model.specs.Payload.{IsItem}
+use Rattle.pcp_model.specs.Sound.{IsBoundary}
 use Rattle.pcp_model.proofs.Boundaries.{boundary_of_file}
 use Rattle.pcp_model.proofs.Cuts.{length_of_label, frames-append, as_many}
 use Rattle.pcp_model.proofs.Lengths.{length-frame}
-use Rattle.pcp_model.proofs.Lists.{each-split}
-use Rattle.pcp_model.proofs.OneReading.{others_above}
 use Rattle.pcp_model.proofs.Sound.{end_boundary}
 use Rattle.archive_frame.specs.Steps.{Stands}
 use Rattle.archive_window.specs.Ending.{ItemEnds}
-use Rattle.archive_reader.specs.declared.beginning.Begin.{Begin}
-use Rattle.archive_reader.specs.declared.beginning.Begin.TheVariants.{At, Outside}
-use Rattle.archive_reader.specs.Asked.{last_entry, own_length, length_of, first_volume, begin_in, begin_of, volumes_below, last_filled, first_at, back_end}
-use Rattle.archive_reader.specs.Laws.{IsEntry}
-use Rattle.archive_loading.specs.Loaded.{IsHeaded, Rises, numbers}
-use Rattle.archive_reader.specs.Searches.{or_else, last_of, items_before, items_from, first_number, chosen_place}
+use Rattle.archive_reader.specs.Asked.{volumes_below, last_filled, first_at, back_end}
+use Rattle.archive_loading.specs.Loaded.{Rises, numbers}
+use Rattle.archive_reader.specs.Searches.{or_else, last_of, items_before, items_from}
 use Rattle.archive_reader.specs.Walks.{volumes_from, AllFrom}
 use Rattle.archive_reader.proofs.Archives.{Matches, from_boundary, short_boundary}
-use Rattle.archive_reader.proofs.Backs.{from_has}
 use Rattle.archive_reader.proofs.Stepping.{from_skips, from_stops}
 
 -- ---- the last of a list

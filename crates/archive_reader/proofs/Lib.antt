@@ -5,6 +5,8 @@ pub mod Founds
 pub mod Lacking
 pub mod Loadable
 pub mod Nexts
+pub mod Once
+pub mod OnceLoaded
 pub mod Readable
 pub mod Searching
 pub mod Segmented

@@ -1,17 +1,16 @@
 -- A readable archive is loaded: no file of it stops being what it should be.
-use Rattle.std.proofs.Common.{zero, suc, ◌≡◌, ◌≢◌, ◌⊎◌, inl, inr, ⊎_elim, ℕ, ℤ, pos, negsuc, ◌+◌, ◌-◌, ◌*◌, ◌/◌, ◌<◌, ◌≤◌, Bool, true, false, List, [], ◌∷◌, ◌++◌, length, take, drop, map, refl, sym, ap, ◌∙◌, subst, append_assoc, arith, Option, Some, None}
+use Rattle.std.proofs.Common.{zero, suc, ◌≡◌, ◌≢◌, ◌⊎◌, inl, inr, ⊎_elim, ℕ, ℤ, pos, negsuc, ◌+◌, ◌-◌, ◌*◌, ◌<◌, ◌≤◌, List, [], ◌∷◌, ◌++◌, length, take, drop, map, refl, sym, ap, ◌∙◌, subst, append_assoc, arith}
 use Rattle.std.specs.Prelude.{Contains, FitsSigned}
 use Rattle.std.specs.Int.{w32}
 use Rattle.std.specs.List.{AllByRecursion}
-use Rattle.std.proofs.lemmas.Bool.{cases_lt}
 use Rattle.std.proofs.lemmas.Int.{ints}
-use Rattle.std.proofs.lemmas.List.{take_at, drop_at, take_all, take-append-drop, append-nil, nil_from_length, length-append, length-take, length-drop}
+use Rattle.std.proofs.lemmas.List.{take_at, drop_at, take_all, append-nil, length-append, length-take, length-drop}
 use Rattle.pcp_base.specs.declared.file.FileId.{FileId}
 use Rattle.pcp_base.specs.declared.file.FileId.TheVariants.{Meta, Index, Volume}
 use Rattle.pcp_base.specs.declared.result.Item.{Item}
 use Rattle.pcp_model.specs.declared.records.MetaRecord.{MetaRecord}
 use Rattle.pcp_model.specs.declared.records.Entry.{Entry}
-use Rattle.pcp_model.specs.Archive.{ArchiveContents, ArchiveReading, LabelledFile, IsMeta, IsIndex, HasEntries, IsLastVolume, AreVolumes, IsArchive, IsStoppedCreation, Reads, Readable}
+use Rattle.pcp_model.specs.Archive.{ArchiveContents, ArchiveReading, LabelledFile, IsMeta, IsIndex, IsLastVolume, AreVolumes, IsArchive, IsStoppedCreation, Readable}
 use Rattle.pcp_model.specs.Disk.{Files}
 use Rattle.pcp_model.specs.Frame.{frames, IsTorn}
 use Rattle.pcp_model.specs.LabelFields.{LabelFields}
@@ -25,13 +24,11 @@ use Rattle.pcp_model.proofs.Sound.{labelled_long}
 use Rattle.pcp_model.proofs.Unique.{both, both_entries, one_file, one_index, SameFile}
 use Rattle.archive_frame.specs.Heads.{IsMetaLabel}
 use Rattle.archive_frame.specs.Misfits.{BeginsOne, IsFirstMisfit}
-use Rattle.archive_meta.specs.declared.fault.MetaFault.{MetaFault}
 use Rattle.archive_meta.specs.declared.fault.MetaFault.TheVariants.{Record, NoMemory as Lacking}
-use Rattle.archive_meta.specs.Records.{AreRecords, HasFront, IsFrontFault}
+use Rattle.archive_meta.specs.Records.{HasFront}
 use Rattle.archive_meta.proofs.Torn.{front_refused}
-use Rattle.temporal_index.specs.Entries.{IsFirstFault}
-use Rattle.archive_loading.specs.Loaded.{contents_with, IsTop}
-use Rattle.archive_loading.specs.LoadFaults.{LabelStops, MetaLabelStops, IsBeside, MetaStops, whole_entries, IndexStops, IsFollowed, VolumeStops, MetaIs, HeadIs, NotLoaded}
+use Rattle.archive_loading.specs.Loaded.{contents_with}
+use Rattle.archive_loading.specs.LoadFaults.{LabelStops, MetaStops, whole_entries, IndexStops, VolumeStops, MetaIs, NotLoaded}
 
 -- ---- labels
 
@@ -42,10 +39,10 @@ misfits_not Texts bytes k lt begins m =
 label_begins : (bytes : List ℕ) (l : LabelFields) (n : ℤ) → IsLabel bytes l n → BeginsOne (λ t. IsLabel t l n) bytes
 label_begins bytes l n label = ([], subst (λ t. IsLabel t l n) (sym (append-nil bytes)) label)
 
-whole_stops : (bytes : List ℕ) (l : LabelFields) (n : ℤ) (place : ℕ) → IsLabel bytes l n → LabelStops bytes l n place → ⊥
+pub whole_stops : (bytes : List ℕ) (l : LabelFields) (n : ℤ) (place : ℕ) → IsLabel bytes l n → LabelStops bytes l n place → ⊥
 whole_stops bytes l n place label (k, lt, m, told) = misfits_not (λ t. IsLabel t l n) bytes k lt (label_begins bytes l n label) m
 
-part_stops : (bytes : List ℕ) (l : LabelFields) (n : ℤ) (place : ℕ) → BeginsLabel bytes l n → LabelStops (take 132 bytes) l n place → ⊥
+pub part_stops : (bytes : List ℕ) (l : LabelFields) (n : ℤ) (place : ℕ) → BeginsLabel bytes l n → LabelStops (take 132 bytes) l n place → ⊥
 part_stops bytes l n place b stops =
     let all : take 132 bytes ≡ bytes = take_all 132 bytes (omega (arith, b.short)) in
     let here : LabelStops bytes l n place = subst (λ t. LabelStops t l n place) all stops in
@@ -73,7 +70,7 @@ module _ (files : Files) (c : ArchiveContents) (is : IsMeta (files Meta) c) wher
         torn = subst IsTorn (sym (ap (drop (length (frames h.payloads))) behind ∙ drop_at (frames h.payloads) is.torn (length (frames h.payloads)) refl)) is.is_torn;
       }
 
-  meta_good : (place : ℕ) → MetaStops files place → ⊥
+  pub meta_good : (place : ℕ) → MetaStops files place → ⊥
   meta_good place (inl (lt, m)) =
       let label : IsLabel (take 132 (files Meta)) c.label (negsuc 0) = head_of IsRecord (files Meta) c.label (negsuc 0) c.records is.torn is.holds in
       misfits_not IsMetaLabel (take 132 (files Meta)) place lt ([], (c.label, subst (λ t. IsLabel t c.label (negsuc 0)) (sym (append-nil (take 132 (files Meta)))) label)) m
@@ -81,7 +78,7 @@ module _ (files : Files) (c : ArchiveContents) (is : IsMeta (files Meta) c) wher
   meta_good place (inr (inr (label, k, same, fault))) =
       let both : Record k ≡ Lacking = front_refused (drop 132 (files Meta)) c.records (length (frames is.holds.payloads)) (Record k) fault meta_front in cc
 
-  same_label : (l : LabelFields) (records : List MetaRecord) → MetaIs files l records → c.label ≡ l
+  pub same_label : (l : LabelFields) (records : List MetaRecord) → MetaIs files l records → c.label ≡ l
   same_label l records other =
       let same : SameFile c.label l (negsuc 0) (negsuc 0) c.records records is.torn other.torn =
       one_file IsRecord one_record (files Meta) c.label l (negsuc 0) (negsuc 0) c.records records is.torn other.torn is.holds other.holds is.is_torn other.is_torn in same.label
@@ -98,7 +95,7 @@ no_first_fault (f ∷ front) (e ∷ es) rest fit fits is some none =
     no_first_fault front es rest fit.1 fits.1 one.1 some none
 
 module _ (bytes : List ℕ) (c : ArchiveContents) where
-  index_good : (place : ℕ) → IsIndex bytes c → IndexStops bytes c.label place → ⊥
+  pub index_good : (place : ℕ) → IsIndex bytes c → IndexStops bytes c.label place → ⊥
   index_good place (inl (none, begins)) (inl stops) = part_stops bytes c.label (negsuc 1) place begins stops
   index_good place (inl (none, begins)) (inr (label, k, same, fault)) =
       omega (arith, begins.short, length_of_label (take 132 bytes) c.label (negsuc 1) label, length-take 132 bytes)
@@ -118,7 +115,7 @@ module _ (bytes : List ℕ) (c : ArchiveContents) where
       twenty [] = refl
       twenty (e ∷ es) = omega (arith, length-append (entry e) (entries es), length-entry e, twenty es)
 
-  same_entries : (l : LabelFields) (es : List Entry) → IsIndex bytes c → IsIndex bytes (contents_with l [] es []) → c.entries ≡ es
+  pub same_entries : (l : LabelFields) (es : List Entry) → IsIndex bytes c → IsIndex bytes (contents_with l [] es []) → c.entries ≡ es
   same_entries l es (inl p) (inl q) = p.0 ∙ sym q.0
   same_entries l es (inl p) (inr q) = absurd (omega (arith, p.1.short, entries_long bytes (contents_with l [] es []) q))
   same_entries l es (inr p) (inl q) = absurd (omega (arith, q.1.short, entries_long bytes c p))
@@ -129,7 +126,7 @@ module _ (bytes : List ℕ) (c : ArchiveContents) where
 
 -- ---- volumes
 
-too_high : (n : ℕ) → FitsSigned w32 (pos n) → 2147483648 ≤ n → ⊥
+pub too_high : (n : ℕ) → FitsSigned w32 (pos n) → 2147483648 ≤ n → ⊥
 too_high n fits high = omega (arith, ints)
 
 -- a volume is its label and more, or it ends within its label and none above it holds a byte
@@ -183,7 +180,7 @@ module _ (files : Files) (stop : IsStoppedCreation files) where
   meta_short : length (files Meta) < 132
   meta_short = ⊎_elim (λ (none : files Meta ≡ []). omega (arith, ap length none)) (λ begins. omega (arith, begins.1.short)) stop.meta
 
-  no_meta : (l : LabelFields) (records : List MetaRecord) → MetaIs files l records → ⊥
+  pub no_meta : (l : LabelFields) (records : List MetaRecord) → MetaIs files l records → ⊥
   no_meta l records is = omega (arith, meta_short, labelled_long IsRecord (files Meta) l (negsuc 0) records is.torn is.holds)
 
   alone : (file : FileId) → file ≢ Meta → 0 < length (files file) → ⊥
@@ -208,7 +205,7 @@ module _ (files : Files) (stop : IsStoppedCreation files) where
 -- ---- an archive
 
 module _ (files : Files) (c : ArchiveContents) (is : IsArchive files c) where
-  some_bytes : (bytes : List ℕ) → 0 < length bytes → bytes ≡ [] → ⊥
+  pub some_bytes : (bytes : List ℕ) → 0 < length bytes → bytes ≡ [] → ⊥
   some_bytes bytes some none = omega (arith, some, ap length none)
 
   listed : (n : ℕ) → 0 < length (files (Volume n)) → (Contains (map (λ (v : ℕ × List Item). v.0) c.volumes) n → ⊥) → ⊥

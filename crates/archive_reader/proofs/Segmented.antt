@@ -1,8 +1,8 @@
 -- Records stand in one way: a segment is that of the items that stand from its place on, and where items stand no bytes are bad.
-use Rattle.std.proofs.Common.{zero, suc, ◌≡◌, ◌⊎◌, inl, inr, ⊎_elim, ℕ, ◌+◌, ◌-◌, ◌<◌, ◌≤◌, Bool, true, false, List, [], ◌∷◌, ◌++◌, length, drop, refl, sym, ap, ◌∙◌, subst, arith, Option, Some, None}
+use Rattle.std.proofs.Common.{◌≡◌, ◌⊎◌, inl, inr, ℕ, ◌+◌, ◌-◌, ◌<◌, ◌≤◌, Bool, List, [], ◌∷◌, refl, sym, ap, ◌∙◌, subst, arith}
 use Rattle.std.proofs.lemmas.Bool.{lt-ltb, le-ltb}
 use Rattle.std.specs.List.{slice_range}
-use Rattle.std.specs.Prelude.{if◌then◌else◌, nat_lt}
+use Rattle.std.specs.Prelude.{if◌then◌else◌}
 use Rattle.pcp_base.specs.Time.{Moment, microseconds}
 use Rattle.pcp_base.specs.declared.file.FileId.{FileId}
 use Rattle.pcp_base.specs.declared.file.FileId.TheVariants.{Volume}
@@ -11,13 +11,13 @@ use Rattle.pcp_model.proofs.OneItem.{one_item}
 use Rattle.pcp_model.specs.Disk.{Files}
 use Rattle.pcp_model.specs.Payload.{stamp_of, IsItem}
 use Rattle.pcp_model.specs.Sound.{NoItemAfter}
-use Rattle.archive_frame.specs.Steps.{Stands, number_at}
+use Rattle.archive_frame.specs.Steps.{Stands}
 use Rattle.archive_frame.proofs.Records.{Ends, stood}
 use Rattle.archive_window.specs.Ending.{ItemEnds, OtherEnds}
-use Rattle.archive_window.specs.Standing.{ItemStands, NoItemStands}
+use Rattle.archive_window.specs.Standing.{ItemStands}
 use Rattle.archive_reader.specs.Asked.{HasSegment, SegmentStops}
-use Rattle.archive_reader.specs.Searches.{is_after, segment}
-use Rattle.archive_reader.specs.Walks.{next_volumes, next_offset, StandsNext, StepsOver, EndsThere, IsEnd, IsBadThere, IsBad, Leads, AllFrom, StopsAt}
+use Rattle.archive_reader.specs.Searches.{segment}
+use Rattle.archive_reader.specs.Walks.{next_volumes, next_offset, StandsNext, StepsOver, EndsThere, IsEnd, IsBadThere, IsBad, Leads, AllFrom}
 use Rattle.archive_reader.proofs.Stepping.{torn_no_item}
 
 -- ---- one record
@@ -55,10 +55,10 @@ bad_there : (files : Files) (us : List (ℕ × ℕ)) (at : ℕ) (x : Item) (next
 bad_there files [] at x next file place bad s = bad
 bad_there files (u ∷ us) at x next file place bad s = bad.2 next x s
 
-not_bad : (files : Files) (vs : List (ℕ × ℕ)) (at : ℕ) (x : Item) (us : List (ℕ × ℕ)) (next : ℕ) (file : FileId) (place : ℕ) → IsBad files vs at file place → StepsOver files vs at x us next → ⊥
+pub not_bad : (files : Files) (vs : List (ℕ × ℕ)) (at : ℕ) (x : Item) (us : List (ℕ × ℕ)) (next : ℕ) (file : FileId) (place : ℕ) → IsBad files vs at file place → StepsOver files vs at x us next → ⊥
 not_bad files vs at x us next file place bad s = bad_there files (next_volumes vs at) (next_offset vs at) x next file place bad (subst (λ l. StandsNext files l (next_offset vs at) x next) s.volumes s.stands)
 
-end_there : (files : Files) (us : List (ℕ × ℕ)) (at : ℕ) (file : FileId) (place : ℕ) → IsBadThere files us at file place → EndsThere files us at → ⊥
+pub end_there : (files : Files) (us : List (ℕ × ℕ)) (at : ℕ) (file : FileId) (place : ℕ) → IsBadThere files us at file place → EndsThere files us at → ⊥
 end_there files [] at file place bad end = bad
 end_there files (u ∷ us) at file place bad end = bad.3 end
 
@@ -66,7 +66,7 @@ end_there files (u ∷ us) at file place bad end = bad.3 end
 
 -- two walks go one way
 module _ (files : Files) where
-  moved : (vs us ws : List (ℕ × ℕ)) (at next other : ℕ) (x y : Item) (items : List Item) (last : List (ℕ × ℕ)) (to : ℕ) → StepsOver files vs at x us next → StepsOver files vs at y ws other → Leads files ws other items last to → Leads files us next items last to
+  pub moved : (vs us ws : List (ℕ × ℕ)) (at next other : ℕ) (x y : Item) (items : List Item) (last : List (ℕ × ℕ)) (to : ℕ) → StepsOver files vs at x us next → StepsOver files vs at y ws other → Leads files ws other items last to → Leads files us next items last to
   moved vs us ws at next other x y items last to s t more =
       let same : SameNext x y next other = same_step files vs at x y us ws next other s t in
       subst (λ n. Leads files us n items last to) (sym same.behind) (subst (λ l. Leads files l other items last to) (t.volumes ∙ sym s.volumes) more)
@@ -129,7 +129,7 @@ module _ (files : Files) where
 
 -- ---- one record that ends
 
-same_first : (bytes p q : List ℕ) (first other at : ℕ) → Stands bytes p first at → Stands bytes q other at → p ≡ q
+pub same_first : (bytes p q : List ℕ) (first other at : ℕ) → Stands bytes p first at → Stands bytes q other at → p ≡ q
 same_first bytes p q first other at s t =
     let e : Ends bytes p first at = stood bytes p first at s in
     let f : Ends bytes q other at = stood bytes q other at t in

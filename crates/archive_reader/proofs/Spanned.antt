@@ -1,9 +1,9 @@
 -- The records so far of a segment, and what was kept of their items.
-use Rattle.std.proofs.Common.{◌≡◌, ◌⊎◌, inl, inr, ℕ, ◌+◌, ◌-◌, ◌<◌, ◌≤◌, Bool, true, false, ◌||◌, List, [], ◌∷◌, ◌++◌, length, drop, refl, sym, ap, ◌∙◌, subst, append_assoc, arith, ltb-true, Option, Some, None, Result}
+use Rattle.std.proofs.Common.{◌≡◌, inl, inr, ℕ, ◌+◌, ◌-◌, ◌≤◌, Bool, true, false, ◌||◌, List, [], ◌∷◌, ◌++◌, drop, refl, sym, ap, ◌∙◌, subst, arith, Option, Some, None, Result}
 use Rattle.std.proofs.lemmas.Bool.{lt-ltb, le-ltb, ltb-false}
 use Rattle.std.proofs.lemmas.List.{append-nil}
 use Rattle.std.specs.List.{AllByRecursion}
-use Rattle.std.specs.Prelude.{if◌then◌else◌, nat_lt, IfErr}
+use Rattle.std.specs.Prelude.{if◌then◌else◌, IfErr}
 use Rattle.std.specs.Result.{IsErrAnd}
 use Rattle.std.proofs.lemmas.Result.{err_from_is_err_and}
 use Rattle.pcp_base.specs.Time.{Moment, microseconds}
@@ -22,7 +22,7 @@ use Rattle.archive_window.specs.Taking.{IsPart, Took}
 use Rattle.archive_reader.specs.declared.fault.ReaderFault.{ReaderFault}
 use Rattle.archive_reader.specs.declared.fault.ReaderFault.TheVariants.{Compressed, NotArchive, DiskFault, NoMemory}
 use Rattle.archive_reader.specs.declared.segments.Ahead.TheVariants.{End as AheadEnd}
-use Rattle.archive_reader.specs.Asked.{last_entry, is_entry_before, is_entry_by, HasSegment, SegmentStops, IsSegmentFault, IsRangeOn, kept_from}
+use Rattle.archive_reader.specs.Asked.{last_entry, is_entry_before, is_entry_by, HasSegment, IsSegmentFault, IsRangeOn, kept_from}
 use Rattle.archive_reader.specs.Lasts.{IsLastOn}
 use Rattle.archive_reader.specs.Searches.{or_else, last_of, between, is_before, is_after}
 use Rattle.archive_reader.specs.Steps.{IsAhead, IsAheadFault}

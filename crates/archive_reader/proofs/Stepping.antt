@@ -1,21 +1,20 @@
 -- Steps over records, over the ends of volumes.
-use Rattle.std.proofs.Common.{zero, suc, ◌≡◌, ◌≢◌, ◌⊎◌, inl, inr, ⊎_elim, ℕ, ◌+◌, ◌<◌, ◌≤◌, Bool, true, false, List, [], ◌∷◌, ◌++◌, length, drop, refl, sym, ap, ◌∙◌, subst, arith, ltb-true, eqb-true, eq-eqb, Option, Some, None, Result, Ok, Err}
-use Rattle.std.proofs.lemmas.Bool.{lt-ltb, le-ltb, ltb-false}
-use Rattle.std.proofs.lemmas.List.{drop_more, drop_all, length-drop}
+use Rattle.std.proofs.Common.{zero, suc, ◌≡◌, ◌≢◌, inl, inr, ℕ, ◌+◌, ◌<◌, ◌≤◌, Bool, true, false, List, [], ◌∷◌, length, drop, refl, sym, ap, ◌∙◌, subst, arith, eqb-true, eq-eqb, Result, Ok, Err}
+use Rattle.std.proofs.lemmas.Bool.{lt-ltb, le-ltb}
+use Rattle.std.proofs.lemmas.List.{drop_all, length-drop}
 use Rattle.std.specs.List.{AllByRecursion}
-use Rattle.std.specs.Prelude.{if◌then◌else◌, nat_lt, nat_eq, get_or, IfOk}
+use Rattle.std.specs.Prelude.{if◌then◌else◌, nat_eq, get_or, IfOk}
 use Rattle.pcp_base.specs.declared.file.FileId.TheVariants.{Volume}
 use Rattle.pcp_base.specs.declared.result.Item.{Item}
 use Rattle.pcp_model.specs.Disk.{Files}
 use Rattle.pcp_model.specs.Frame.{IsTorn}
-use Rattle.archive_frame.specs.Steps.{Stands, number_at}
 use Rattle.archive_frame.proofs.Records.{Ends, stood}
 use Rattle.archive_window.specs.Standing.{ItemStands, NoItemStands}
 use Rattle.archive_reader.specs.declared.walking.Step.{Step}
 use Rattle.archive_reader.specs.declared.walking.Step.TheVariants.{End as StepEnd, Bad as StepBad, Item as StepItem}
 use Rattle.archive_reader.specs.Steps.{IsStood, IsWalked}
 use Rattle.archive_loading.specs.Loaded.{Rises}
-use Rattle.archive_reader.specs.Walks.{volumes_from, next_volumes, next_offset, StandsNext, StepsOver, EndsThere, IsEnd, IsBadThere, IsBad, Leads}
+use Rattle.archive_reader.specs.Walks.{volumes_from, next_volumes, next_offset, StandsNext, EndsThere, IsBadThere}
 
 -- ---- the volumes from a number on
 

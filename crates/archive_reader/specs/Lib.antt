@@ -4,6 +4,7 @@ pub mod Lasts
 pub mod Laws
 pub mod LoadFaults
 pub mod Nexts
+pub mod Once
 pub mod Searches
 pub mod Sounds
 pub mod Steps

@@ -1,5 +1,5 @@
 -- What `item_at` answers at a place.
-use Rattle.std.specs.Prelude.{◌≡◌, ℕ, List, Option, Some, None}
+use Rattle.std.specs.Prelude.{ℕ, List, Option, Some, None}
 use Rattle.pcp_base.specs.declared.result.Item.{Item}
 use Rattle.pcp_model.specs.Disk.{Files}
 use Rattle.archive_reader.specs.declared.fault.ReaderFault.{ReaderFault}

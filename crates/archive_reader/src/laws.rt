@@ -1,5 +1,6 @@
-//! What a search by time may leave unread. Each is the contract of a function without parameters, which does nothing.
+//! What a search by time may leave unread, and that it has one answer. Each is the contract of a function without parameters, which does nothing.
 ghost use Rattle.archive_reader.specs.Laws.{PlacesPart, SegmentsAreEnough, ChosenPlaceIsEnough, StandingIsRead};
+ghost use Rattle.archive_reader.specs.Once.{LoadAnswersOnce, AtAnswersOnce, RangeAnswersOnce, ValueAnswersOnce};
 ghost use Rattle.archive_reader.specs.Sounds.{LoadsReadable, ReadableStands, SoundFindsLast, SoundFindsRange, ReadableFindsValue};
 
 /// A place parts an archive's items into those before it and those from it on.
@@ -47,4 +48,24 @@ pub fn sound_finds_range()
 /// Over a readable archive a metric's last values are those of the scan.
 pub fn readable_finds_value()
     ensures { ReadableFindsValue }
+{}
+
+/// Any files are loaded as one archive at most, and then no place of them is refused.
+pub fn load_answers_once()
+    ensures { LoadAnswersOnce }
+{}
+
+/// Over any files that are loaded the last item not after a moment is one, or there is none, or one place is refused.
+pub fn at_answers_once()
+    ensures { AtAnswersOnce }
+{}
+
+/// Over any files that are loaded the items of a range are one list, or one place is refused.
+pub fn range_answers_once()
+    ensures { RangeAnswersOnce }
+{}
+
+/// Over any files that are loaded a metric's last values are one set, or there are none, or one place is refused.
+pub fn value_answers_once()
+    ensures { ValueAnswersOnce }
 {}

@@ -16,8 +16,9 @@ mod walking;
 
 pub use fault::ReaderFault;
 pub use laws::{
-    chosen_place_is_enough, places_part, readable_finds_value, readable_is_loaded, readable_stands,
-    segments_are_enough, sound_finds_last, sound_finds_range, standing_is_read,
+    at_answers_once, chosen_place_is_enough, load_answers_once, places_part, range_answers_once,
+    readable_finds_value, readable_is_loaded, readable_stands, segments_are_enough,
+    sound_finds_last, sound_finds_range, standing_is_read, value_answers_once,
 };
 pub use places::Place;
 pub use reader::ArchiveReader;

@@ -7,12 +7,12 @@ ghost use Rattle.pcp_outside.specs.Causes.{Rose};
 ghost use Rattle.archive_window.specs.Looks.{Looks};
 ghost use Rattle.archive_reader.specs.declared.fault.ReaderFault.TheVariants.{DiskFault};
 ghost use Rattle.pcp_base.specs.declared.file.FileId.TheVariants.{Meta};
-ghost use Rattle.archive_loading.specs.declared.parts.MetaPart.TheVariants.{Begun};
+ghost use Rattle.archive_loading.specs.declared.metadata.MetaPart.TheVariants.{Begun};
 ghost use Rattle.archive_loading.specs.Loaded.{IsOver, IsMeasured, Rises, IsReachable, HasLong, AllShort};
 ghost use Rattle.archive_loading.specs.LoadFaults.{HeadIs, MetaIs};
+ghost use Rattle.archive_loading.specs.Metadata.{IsMetaPart};
 ghost use Rattle.archive_loading.specs.Takes.{TookLabels};
 ghost use Rattle.archive_reader.specs.LoadFaults.{IsFilesFault, IsLoadFault};
-ghost use Rattle.archive_loading.specs.Parts.{IsMetaPart};
 ghost use Rattle.archive_reader.specs.Asked.{IsRangeFrom, IsRangeFault, range_begin, IsAtFrom, IsAtFault, at_begin};
 ghost use Rattle.archive_reader.specs.Takes.{TakesRange, TakesAt};
 ghost use Rattle.archive_reader.specs.Values.{IsValueAt, IsWholeFault};
@@ -172,7 +172,7 @@ fn load_files<D: Disk>(alloc: Global, disk: &mut D) -> Result<ArchiveReader, Rea
     ensures cause { IfErr result (λ e. e ≡ DiskFault → Rose (D.faults disk.old) (D.faults disk.new)) }
 {
     match load_meta(alloc, disk)? {
-        MetaPart::Whole(label, meta) => load_with(alloc, disk, label, meta),
+        MetaPart::Whole(label, meta, _) => load_with(alloc, disk, label, meta),
         MetaPart::Begun(length) => load_begun(alloc, disk, length),
         MetaPart::Stops(at) => Err(ReaderFault::NotArchive {
             file: FileId::Meta,

@@ -1,15 +1,15 @@
 -- The volumes below the last one, one after another, and then the last.
-use Rattle.std.proofs.Common.{zero, suc, ◌≡◌, ◌≢◌, ◌⊎◌, inl, inr, ⊎_elim, ℕ, pos, ◌+◌, ◌-◌, ◌<◌, ◌≤◌, Bool, true, false, List, [], ◌∷◌, ◌++◌, length, take, drop, map, refl, sym, ap, ◌∙◌, subst, arith, append_assoc, Option, Some, None}
+use Rattle.std.proofs.Common.{◌≡◌, ◌⊎◌, inl, inr, ⊎_elim, ℕ, pos, ◌+◌, ◌<◌, ◌≤◌, true, false, List, [], ◌∷◌, ◌++◌, length, take, drop, map, refl, sym, ap, ◌∙◌, subst, arith, Some, None}
 use Rattle.std.specs.Prelude.{Contains}
 use Rattle.std.specs.List.{AllByRecursion}
 use Rattle.std.proofs.lemmas.Bool.{cases_lt}
-use Rattle.std.proofs.lemmas.List.{append-nil, drop_all, length-append, length-drop, length-take, map-append, take-append-drop}
-use Rattle.std.proofs.lemmas.List.Elements.{All-contains, All-from_recursion, Contains-append_left, Contains-push}
+use Rattle.std.proofs.lemmas.List.{append-nil, drop_all, length-take, map-append, take-append-drop}
+use Rattle.std.proofs.lemmas.List.Elements.{All-contains, All-from_recursion, Contains-append_left}
 use Rattle.pcp_base.specs.declared.file.FileId.TheVariants.{Volume}
 use Rattle.pcp_base.specs.declared.result.Item.{Item}
 use Rattle.pcp_model.specs.Archive.{LabelledFile, IsLastVolume, AreVolumes, items_of}
-use Rattle.pcp_model.specs.Disk.{Files, Holdings, contents_of, bytes_of}
-use Rattle.pcp_model.specs.Frame.{IsTorn, frame}
+use Rattle.pcp_model.specs.Disk.{Files}
+use Rattle.pcp_model.specs.Frame.{IsTorn}
 use Rattle.pcp_model.specs.LabelFields.{LabelFields}
 use Rattle.pcp_model.specs.Labels.{BeginsLabel}
 use Rattle.pcp_model.specs.Payload.{IsItem}
@@ -19,17 +19,15 @@ use Rattle.pcp_model.proofs.Lists.{each-append, each-map}
 use Rattle.pcp_model.proofs.Recovered.{labelled_all, nothing_torn}
 use Rattle.pcp_model.proofs.Sound.{labelled_long}
 use Rattle.pcp_model.proofs.Unique.{torn_has_none}
-use Rattle.pcp_outside.specs.Devices.{IsVolumes}
 use Rattle.archive_window.specs.Standing.{NoItemStands}
-use Rattle.archive_loading.specs.LoadFaults.{LabelStops, VolumeStops, IsFollowed}
+use Rattle.archive_loading.specs.LoadFaults.{IsFollowed}
 use Rattle.archive_loading.proofs.Passed.{behind_record}
 use Rattle.archive_recovery.specs.declared.counting.VolumeRead.TheVariants.{Stops}
-use Rattle.archive_recovery.specs.declared.mending.Last.{Last}
 use Rattle.archive_recovery.specs.declared.reading.Top.{Top}
 use Rattle.archive_recovery.specs.declared.stamps.Tally.{Tally}
 use Rattle.archive_recovery.specs.Counts.{Counted}
-use Rattle.archive_recovery.specs.RecoverFaults.{IsWhole, AreWholeBelow, StopsInRecords, VolumeIsRefused}
-use Rattle.archive_recovery.specs.Volumes.{Ascend, TopIs, IsTopOf, EarlierStand, LastEnds, VolumesStand, VolumeStands, VolumeBreaks, IsVolumeRead}
+use Rattle.archive_recovery.specs.RecoverFaults.{IsWhole, AreWholeBelow, VolumeIsRefused}
+use Rattle.archive_recovery.specs.Volumes.{Ascend, IsTopOf, EarlierStand, VolumesStand, VolumeStands, IsVolumeRead}
 use Rattle.archive_recovery.proofs.Latest.{counted_none, counted_on}
 use Rattle.archive_recovery.proofs.OneVolume.{file_up_to}
 use Rattle.archive_recovery.proofs.Volumes.{labelled_short}

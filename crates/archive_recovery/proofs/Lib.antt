@@ -1,11 +1,9 @@
 pub mod Again
 pub mod AllVolumes
 pub mod Ends
-pub mod Framed
 pub mod KeepsSound
 pub mod LastVolume
 pub mod Latest
-pub mod MetaSteps
 pub mod Moments
 pub mod Moving
 pub mod OneVolume

@@ -1,5 +1,5 @@
 -- One volume, record by record.
-use Rattle.std.proofs.Common.{◌≡◌, ◌⊎◌, inl, inr, ⊎_elim, ℕ, pos, ◌+◌, ◌<◌, ◌≤◌, Bool, true, false, List, [], ◌∷◌, ◌++◌, length, take, drop, refl, sym, ap, ◌∙◌, subst, arith, append_assoc}
+use Rattle.std.proofs.Common.{◌≡◌, inl, inr, ⊎_elim, ℕ, pos, ◌<◌, ◌≤◌, true, false, List, [], ◌∷◌, ◌++◌, length, take, drop, refl, sym, ap, ◌∙◌, arith, append_assoc}
 use Rattle.std.proofs.lemmas.List.{append-nil, length-append, length-drop, length-take, take-append-drop, take_at}
 use Rattle.pcp_base.specs.declared.file.FileId.TheVariants.{Volume}
 use Rattle.pcp_base.specs.declared.result.Item.{Item}
@@ -12,7 +12,6 @@ use Rattle.pcp_model.specs.Payload.{IsItem}
 use Rattle.archive_window.specs.Standing.{ItemStands, NoItemStands}
 use Rattle.archive_loading.specs.declared.loading.VolumePart.TheVariants.{Headed, Stops as StopsAt}
 use Rattle.archive_loading.specs.Loaded.{IsLabelled}
-use Rattle.archive_loading.specs.LoadFaults.{LabelStops}
 use Rattle.archive_loading.specs.Volumes.{IsVolumePart}
 use Rattle.archive_loading.proofs.Passed.{Passed, one_passed}
 use Rattle.archive_loading.proofs.PartsRead.{label_long}

@@ -1,18 +1,19 @@
 -- What was read of Meta, the index and the volumes is one archive, and what there is to mend.
-use Rattle.std.proofs.Common.{◌≡◌, ◌≢◌, ◌⊎◌, inl, inr, ⊎_elim, ℕ, pos, negsuc, ◌+◌, ◌-◌, ◌*◌, ◌/◌, ◌<◌, ◌≤◌, Bool, true, false, List, [], ◌∷◌, ◌++◌, length, take, drop, map, refl, sym, ap, ◌∙◌, subst, arith, append_assoc, Option, Some, None}
-use Rattle.std.specs.Prelude.{Contains, MatchOption, IfSome}
+use Rattle.std.proofs.Common.{◌≡◌, ◌≢◌, ◌⊎◌, inl, inr, ⊎_elim, ℕ, pos, negsuc, ◌+◌, ◌-◌, ◌*◌, ◌<◌, ◌≤◌, Bool, true, false, List, [], ◌∷◌, ◌++◌, length, take, drop, refl, sym, ap, ◌∙◌, subst, arith, Option, Some, None}
+use Rattle.std.specs.Prelude.{MatchOption, IfSome}
 use Rattle.std.proofs.Math.Seq.{take-add}
 use Rattle.std.proofs.lemmas.Bool.{cases_lt}
-use Rattle.std.proofs.lemmas.List.{append-nil, drop-drop, length-append, length-drop, length-take, take-append-drop, nil_from_length}
+use Rattle.std.proofs.lemmas.List.{append-nil, drop-drop, length-append, length-drop, length-take, take-append-drop}
+use Rattle.pcp_base.specs.Time.{Moment}
 use Rattle.pcp_base.specs.declared.file.FileId.TheVariants.{Meta, Index, Volume}
 use Rattle.pcp_base.specs.declared.result.Item.{Item}
 use Rattle.pcp_model.specs.declared.records.Entry.{Entry}
 use Rattle.pcp_model.specs.declared.records.MetaRecord.{MetaRecord}
-use Rattle.pcp_model.specs.Archive.{ArchiveContents, LabelledFile, IsMeta, IsIndex, HasEntries, IsArchive, items_of}
+use Rattle.pcp_model.specs.Archive.{ArchiveContents, IsMeta, IsIndex, IsArchive}
 use Rattle.pcp_model.specs.Disk.{Files}
 use Rattle.pcp_model.specs.Frame.{frames, IsTorn}
 use Rattle.pcp_model.specs.LabelFields.{LabelFields}
-use Rattle.pcp_model.specs.Labels.{IsLabel, label}
+use Rattle.pcp_model.specs.Labels.{IsLabel}
 use Rattle.pcp_model.specs.Payload.{IsItem}
 use Rattle.pcp_model.specs.Recovered.{IsMended, labelled_volumes}
 use Rattle.pcp_model.specs.Records.{IsRecord, entries}
@@ -20,24 +21,24 @@ use Rattle.pcp_model.proofs.Cuts.{length_of_label}
 use Rattle.pcp_model.proofs.CutsOfAny.{length-entries}
 use Rattle.pcp_model.proofs.Sound.{labelled_long}
 use Rattle.archive_loading.specs.Loaded.{contents_with}
-use Rattle.archive_loading.specs.LoadFaults.{HeadIs, MetaIs, whole_entries}
-use Rattle.archive_loading.proofs.PartsRead.{meta_is}
+use Rattle.archive_loading.specs.LoadFaults.{HeadIs, whole_entries}
+use Rattle.archive_loading.specs.Metadata.{HasEnd, AreAllRecords}
+use Rattle.archive_loading.specs.declared.metadata.MetaEnd.{MetaEnd}
+use Rattle.archive_loading.proofs.MetaSteps.{meta_reads}
 use Rattle.archive_recovery.specs.declared.mending.Last.{Last}
 use Rattle.archive_recovery.specs.declared.mending.Tail.{Tail}
 use Rattle.archive_recovery.specs.declared.reading.Top.{Top}
 use Rattle.archive_recovery.specs.declared.stamps.Tally.{Tally}
-use Rattle.archive_recovery.specs.Counts.{Counted}
-use Rattle.archive_recovery.specs.Damage.{Found, IsIndexEnd, IsLastEnd, IsBare}
-use Rattle.archive_recovery.specs.Metadata.{AreAllRecords}
-use Rattle.archive_recovery.specs.RecoverFaults.{IsRefused, IsBesideNone, AreWholeBelow, VolumeIsRefused}
-use Rattle.archive_recovery.specs.Stamps.{domain_stamps, item_stamps, IsLatest}
+use Rattle.archive_recovery.specs.Damage.{IsIndexEnd, IsLastEnd, IsBare}
+use Rattle.archive_recovery.specs.RecoverFaults.{IsRefused, AreWholeBelow, VolumeIsRefused}
+use Rattle.archive_recovery.specs.Stamps.{domain_stamps}
 use Rattle.archive_recovery.specs.Surveys.{MetaStands, HeadStands, IsSighted}
-use Rattle.archive_recovery.specs.Volumes.{TopIs, IsTopOf, IsLastOf, LastEnds, VolumesStand}
+use Rattle.archive_recovery.specs.Volumes.{IsLastOf, VolumesStand}
 use Rattle.archive_recovery.proofs.Volumes.{none_long}
 
 -- ---- Meta
 
-module _ (bytes : List ℕ) (l : LabelFields) (records : List MetaRecord) (end : ℕ) (tally : Tally) (has : IsLabel (take 132 bytes) l (negsuc 0)) (all : AreAllRecords bytes records end tally) where
+module _ (bytes : List ℕ) (l : LabelFields) (records : List MetaRecord) (end : ℕ) (last : Option Moment) (has : IsLabel (take 132 bytes) l (negsuc 0)) (all : AreAllRecords bytes records end last) where
   split : drop end bytes ≡ drop (end - 132) (drop 132 bytes)
   split = ap (λ n. drop n bytes) (let e : end ≡ 132 + (end - 132) = omega (arith, all.low) in e) ∙ sym (drop-drop (end - 132) 132 bytes)
 
@@ -56,11 +57,13 @@ module _ (bytes : List ℕ) (l : LabelFields) (records : List MetaRecord) (end :
   pub meta_within : end ≡ length (take end bytes)
   meta_within = omega (arith, length-take end bytes, all.front.within, all.low, length-drop 132 bytes, length_of_label (take 132 bytes) l (negsuc 0) has, length-take 132 bytes)
 
-  pub meta_reads : IsMeta bytes (contents_with l records [] [])
-  meta_reads = meta_is bytes l records (end - 132) has all.front.read all.front.consistent (record { within = all.front.within; end = inr all.front.torn })
-
 meta_with : (bytes : List ℕ) (l : LabelFields) (records : List MetaRecord) (es : List Entry) (vs : List (ℕ × List Item)) → IsMeta bytes (contents_with l records [] []) → IsMeta bytes (contents_with l records es vs)
 meta_with bytes l records es vs m = record { torn = m.torn; is_torn = m.is_torn; holds = m.holds; consistent = m.consistent }
+
+-- and no item was counted
+pub meta_stands : (files : Files) (l : LabelFields) (records : List MetaRecord) (e : MetaEnd) → HasEnd (files Meta) l records e
+    → MetaStands files l records (record { end = e.end; length = e.length }) (record { items = 0; last = e.last })
+meta_stands files l records e h = record { has_label = h.has_label; all = h.all; size = h.size; none = refl }
 
 -- ---- the index
 
@@ -87,7 +90,7 @@ index_ends bytes c size (Some n) is (inr has) long =
 
 module _ (files : Files) (l : LabelFields) (records : List MetaRecord) (tail : Tail) (tally : Tally) (es : List Entry) (size : ℕ) (head : HeadStands files l records tail tally es size) where
   pub head_is : HeadIs files l records es
-  head_is = record { meta = meta_reads (files Meta) l records tail.end tally head.meta.has_label head.meta.all; index = head.index }
+  head_is = record { meta = meta_reads (files Meta) l records tail.end tally.last head.meta.has_label head.meta.all; index = head.index }
 
   pub volume_refused : (n place : ℕ) → AreWholeBelow files l n × VolumeIsRefused files l n place → IsRefused files (Volume n) place
   volume_refused n place (below, refused) = (l, records, es, head_is, below, refused)
@@ -156,8 +159,8 @@ module _ (files : Files) (l : LabelFields) (records : List MetaRecord) (tail : T
       found = record {
         is = is_archive beside;
         left = take tail.end (files Meta);
-        meta = meta_mended (files Meta) l records tail.end tally head.meta.has_label head.meta.all;
-        meta_end = meta_within (files Meta) l records tail.end tally head.meta.has_label head.meta.all;
+        meta = meta_mended (files Meta) l records tail.end tally.last head.meta.has_label head.meta.all;
+        meta_end = meta_within (files Meta) l records tail.end tally.last head.meta.has_label head.meta.all;
         index = index_ends (files Index) contents size end head.is_size (index_with (files Index) l records es v.volumes head.index) ends;
         last = last_is last v.ends;
         bare = bare_is top.bare refl;
@@ -169,6 +172,6 @@ module _ (files : Files) (l : LabelFields) (records : List MetaRecord) (tail : T
       last_size = last_long last v.ends;
       ascend = v.ascend;
       top_is = v.top_is;
-      counted = omega (arith, v.counted.more, head.meta.all.none);
+      counted = omega (arith, v.counted.more, head.meta.none);
       latest = v.counted.on (domain_stamps records) head.meta.all.latest;
     }

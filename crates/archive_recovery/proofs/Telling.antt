@@ -1,13 +1,13 @@
 -- What is told of the files that recovery leaves.
-use Rattle.std.proofs.Common.{zero, suc, ◌≡◌, ◌≢◌, ◌⊎◌, inl, inr, ⊎_elim, ℕ, pos, negsuc, ◌+◌, ◌-◌, ◌<◌, ◌≤◌, List, [], ◌∷◌, ◌++◌, length, take, drop, map, refl, sym, ap, ◌∙◌, subst, arith, Option, Some, None}
-use Rattle.std.specs.Prelude.{Contains, slice_index_or, IfSome}
+use Rattle.std.proofs.Common.{zero, suc, ◌≡◌, ◌⊎◌, inl, inr, ⊎_elim, ℕ, pos, negsuc, ◌+◌, ◌<◌, List, [], ◌∷◌, ◌++◌, length, take, map, refl, sym, ap, ◌∙◌, subst, arith, Some}
+use Rattle.std.specs.Prelude.{Contains}
 use Rattle.std.specs.List.{AllByRecursion}
 use Rattle.std.proofs.lemmas.List.{length-append, nil_from_length}
 use Rattle.pcp_base.specs.declared.file.FileId.{FileId}
 use Rattle.pcp_base.specs.declared.file.FileId.TheVariants.{Meta, Index, Volume}
 use Rattle.pcp_base.specs.declared.result.Item.{Item}
 use Rattle.pcp_model.specs.Archive.{ArchiveContents, ArchiveReading, IsStoppedCreation, Reads, items_of}
-use Rattle.pcp_model.specs.Disk.{Files, Held, Holdings, CrashImage, IsSettled, bytes_of, contents_of}
+use Rattle.pcp_model.specs.Disk.{Files, Holdings, bytes_of, contents_of}
 use Rattle.pcp_model.specs.LabelFields.{LabelFields}
 use Rattle.pcp_model.specs.Labels.{label}
 use Rattle.pcp_model.specs.Payload.{IsItem}
@@ -34,7 +34,7 @@ use Rattle.archive_recovery.specs.Mending.{MayBeCut}
 use Rattle.archive_recovery.specs.Stamps.{domain_stamps, item_stamps, IsLatest}
 use Rattle.archive_recovery.specs.Surveys.{IsSighted}
 use Rattle.archive_recovery.specs.Told.{IsTold, IsToldEmpty, WasRecovered}
-use Rattle.archive_recovery.specs.Volumes.{Ascend, TopIs, IsTopOf}
+use Rattle.archive_recovery.specs.Volumes.{Ascend, TopIs}
 use Rattle.archive_recovery.proofs.Moments.{emptied}
 use Rattle.archive_recovery.proofs.Settled.{some_sure, no_bytes}
 use Rattle.archive_recovery.proofs.Volumes.{each_mended}

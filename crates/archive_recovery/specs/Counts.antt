@@ -1,14 +1,9 @@
--- What was counted, record by record and item by item.
+-- What was counted, item by item.
 use Rattle.std.specs.Prelude.{◌≡◌, ◌+◌, List, ◌++◌, length}
 use Rattle.pcp_base.specs.Time.{Moment}
 use Rattle.pcp_base.specs.declared.result.Item.{Item}
 use Rattle.archive_recovery.specs.declared.stamps.Tally.{Tally}
 use Rattle.archive_recovery.specs.Stamps.{item_stamps, IsLatest}
-
--- these stamps more
-pub record Noted (old : Tally) (stamps : List Moment) (new : Tally) : Type 0 where
-  pub as_many : new.items ≡ old.items
-  pub on : (moments : List Moment) → IsLatest moments old.last → IsLatest (moments ++ stamps) new.last
 
 -- these items more
 pub record Counted (old : Tally) (items : List Item) (new : Tally) : Type 0 where

@@ -4,7 +4,6 @@ pub mod Halfway
 pub mod Lacks
 pub mod Laws
 pub mod Mending
-pub mod Metadata
 pub mod RecoverFaults
 pub mod Stamps
 pub mod Surveys

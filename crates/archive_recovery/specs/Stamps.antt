@@ -1,23 +1,9 @@
 -- The latest stamp of an archive: of its items and of the records of its instance domains.
-use Rattle.std.specs.Prelude.{◌≡◌, ℕ, ◌≤◌, List, [], ◌∷◌, ◌++◌, map, Contains, Option, Some, None}
-use Rattle.std.specs.List.{AllByRecursion}
-use Rattle.pcp_base.specs.Time.{Moment, microseconds}
+use Rattle.std.specs.Prelude.{List, map}
+use Rattle.pcp_base.specs.Time.{Moment}
 use Rattle.pcp_base.specs.declared.result.Item.{Item}
-use Rattle.pcp_model.specs.declared.records.MetaRecord.{MetaRecord}
-use Rattle.pcp_model.specs.declared.records.MetaRecord.TheVariants.{Description, Domain, Other}
 use Rattle.pcp_model.specs.Payload.{stamp_of}
-
--- the stamps of domains' records
-abbrev pub domain_stamps : List MetaRecord → List Moment
-domain_stamps [] = []
-domain_stamps (Description d names ∷ records) = domain_stamps records
-domain_stamps (Domain t indom pairs ∷ records) = t ∷ domain_stamps records
-domain_stamps (Other ∷ records) = domain_stamps records
+pub use Rattle.archive_loading.specs.Stamps.{domain_stamps, IsLatest}
 
 abbrev pub item_stamps : List Item → List Moment
 item_stamps items = map stamp_of items
-
--- None where there is no moment; else one of them, and no other is after it.
-abbrev pub IsLatest : List Moment → Option Moment → Type 0
-IsLatest moments None = moments ≡ []
-IsLatest moments (Some t) = Contains moments t × AllByRecursion (λ (s : Moment). microseconds s ≤ microseconds t) moments

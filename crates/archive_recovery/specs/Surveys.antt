@@ -10,6 +10,7 @@ use Rattle.pcp_model.specs.LabelFields.{LabelFields}
 use Rattle.pcp_model.specs.Labels.{IsLabel, BeginsLabel, label}
 use Rattle.pcp_model.specs.Recovered.{labelled_volumes}
 use Rattle.archive_loading.specs.Loaded.{contents_with}
+use Rattle.archive_loading.specs.Metadata.{AreAllRecords}
 use Rattle.archive_recovery.specs.declared.mending.Last.{Last}
 use Rattle.archive_recovery.specs.declared.mending.Tail.{Tail}
 use Rattle.archive_recovery.specs.declared.stamps.Tally.{Tally}
@@ -17,15 +18,15 @@ use Rattle.archive_recovery.specs.declared.survey.Sighted.{Sighted}
 use Rattle.archive_recovery.specs.declared.survey.Survey.{Survey}
 use Rattle.archive_recovery.specs.declared.survey.Survey.TheVariants.{Begun, Archive}
 use Rattle.archive_recovery.specs.Damage.{Found}
-use Rattle.archive_recovery.specs.Metadata.{AreAllRecords}
 use Rattle.archive_recovery.specs.Stamps.{domain_stamps, item_stamps, IsLatest}
 use Rattle.archive_recovery.specs.Volumes.{Ascend, IsTopOf}
 
--- Meta
+-- Meta, before any item is counted
 pub record MetaStands (files : Files) (l : LabelFields) (records : List MetaRecord) (tail : Tail) (tally : Tally) : Type 0 where
   pub has_label : IsLabel (take 132 (files Meta)) l (negsuc 0)
-  pub all : AreAllRecords (files Meta) records tail.end tally
+  pub all : AreAllRecords (files Meta) records tail.end tally.last
   pub size : tail.length ≡ length (files Meta)
+  pub none : tally.items ≡ 0
 
 -- and the index
 pub record HeadStands (files : Files) (l : LabelFields) (records : List MetaRecord) (tail : Tail) (tally : Tally) (entries : List Entry) (size : ℕ) : Type 0 where

@@ -5,7 +5,6 @@
 mod counting;
 mod laws;
 mod mending;
-mod metadata;
 mod outcome;
 mod reading;
 mod recovering;

@@ -9,12 +9,11 @@ ghost use Rattle.archive_recovery.specs.RecoverFaults.{IsFilesRefusal};
 ghost use Rattle.archive_recovery.specs.Surveys.{MetaStands, HeadStands, IsSighted, IsBegun, IsSurvey, SightIsLow, SurveyIsLow};
 
 use crate::mending::Tail;
-use crate::metadata::{MetaRead, read_meta};
 use crate::outcome::RecoverFault;
 use crate::reading::{Top, VolumesRead, read_volumes};
 use crate::stamps::Tally;
 use crate::whole::Damage;
-use archive_loading::{IndexPart, is_alone, load_index};
+use archive_loading::{IndexPart, MetaPart, is_alone, load_index, load_meta};
 use archive_meta::MetaState;
 use archive_window::length_of;
 use pcp_model::Label;
@@ -164,13 +163,21 @@ pub(crate) fn sight<D: Disk>(alloc: Global, disk: &mut D) -> Result<Survey, Reco
     ensures looks { Looks D.Disk disk.old disk.new }
     ensures cause { IfErr result (λ e. e ≡ DiskFault → Rose (D.faults disk.old) (D.faults disk.new)) }
 {
-    match read_meta(alloc, disk)? {
-        MetaRead::Whole(label, meta, tail, tally) => {
+    match load_meta(alloc, disk)? {
+        MetaPart::Whole(label, meta, end) => {
+            let tail = Tail {
+                end: end.end,
+                length: end.length,
+            };
+            let tally = Tally {
+                items: 0,
+                last: end.last,
+            };
             let sighted = survey_index(alloc, disk, label, meta, tail, tally)?;
             Ok(Survey::Archive(sighted))
         }
-        MetaRead::Begun(length) => survey_begun(disk, length),
-        MetaRead::Stops(at) => Err(RecoverFault::NotArchive {
+        MetaPart::Begun(length) => survey_begun(disk, length),
+        MetaPart::Stops(at) => Err(RecoverFault::NotArchive {
             file: FileId::Meta,
             at,
         }),

@@ -36,6 +36,18 @@ bytes_up (Volume k) m n le = le
 bytes_up Meta m n le = omega arith
 bytes_up Index m n le = omega arith
 
+-- no more than so many
+pub took_up : (file : FileId) (n most before after : ℕ) → n ≤ most → after ≤ before + volume_bytes file n → after ≤ before + volume_bytes file most
+took_up file n most before after le took =
+    let up : volume_bytes file n ≤ volume_bytes file most = bytes_up file n most le in
+    omega (arith, up, took)
+
+-- in two calls
+pub took_both : (file : FileId) (m n before mid after : ℕ) → mid ≤ before + volume_bytes file m → after ≤ mid + volume_bytes file n → after ≤ before + volume_bytes file (m + n)
+took_both (Volume k) m n before mid after one two = omega (arith, one, two)
+took_both Meta m n before mid after one two = omega (arith, one, two)
+took_both Index m n before mid after one two = omega (arith, one, two)
+
 pub took_none : (bytes : List ℕ) (at before after : ℕ) → after ≡ before → Took bytes at before after
 took_none bytes at before after same = record { count = 0; part = inl refl; most = omega (arith, same) }
 

@@ -6,7 +6,7 @@ ghost use Rattle.result_form.specs.declared.fault.FormFault.TheVariants.{NoMemor
 ghost use Rattle.archive_frame.specs.Steps.{number_at};
 ghost use Rattle.pcp_outside.specs.Devices.{IsNumbered};
 ghost use Rattle.archive_window.specs.Looks.{Looks, Blames};
-ghost use Rattle.archive_window.specs.Taking.{Took, TookBehind};
+ghost use Rattle.archive_window.specs.Taking.{volume_bytes, Took, TookBehind};
 ghost use Rattle.archive_window.specs.Standing.{IsSized, IsSaid, IsTaken, FitsIn, FitsNext, IsItemOf, IsItemIn, IsNextRecord};
 
 use crate::lack::Lack;
@@ -81,6 +81,7 @@ fn take_rest<D: Disk>(
     ensures taken { D.tells → IfOk result (IsTaken (contents_of (D.held disk.old) file) at) }
     ensures within { IfOk result (FitsIn end at) }
     ensures count { D.tells → TookBehind (contents_of (D.held disk.old) file) at (D.taken disk.old) (D.taken disk.new) }
+    ensures most { D.tells → D.taken disk.new ≤ D.taken disk.old + volume_bytes file 16777212 }
     ensures looks { Looks D.Disk disk.old disk.new }
     ensures cause { IfErr result (Blames D.Disk disk.old disk.new) }
 {
@@ -108,6 +109,7 @@ pub fn take_frame<D: Disk>(
     ensures taken { D.tells → IfOk result (IsTaken (contents_of (D.held disk.old) file) at) }
     ensures within { IfOk result (FitsIn end at) }
     ensures count { D.tells → Took (contents_of (D.held disk.old) file) at (D.taken disk.old) (D.taken disk.new) }
+    ensures most { D.tells → D.taken disk.new ≤ D.taken disk.old + volume_bytes file 16777216 }
     ensures looks { Looks D.Disk disk.old disk.new }
     ensures cause { IfErr result (Blames D.Disk disk.old disk.new) }
 {

@@ -1,4 +1,4 @@
-use Rattle.std.proofs.Common.{◌≡◌, ◌+◌, ◌-◌, ◌<◌, ◌≤◌, ℕ, List, length, take, sym, ap, ◌∙◌, arith}
+use Rattle.std.proofs.Common.{◌≡◌, ◌+◌, ◌-◌, ◌<◌, ℕ, List, length, take, sym, ap, ◌∙◌, arith}
 use Rattle.archive_reader.specs.Asked.{last_filled}
 use Rattle.archive_reader.proofs.Backs.{filled_here, filled_before}
 use Rattle.archive_reader.proofs.lasts.last_filled.Goals as goal

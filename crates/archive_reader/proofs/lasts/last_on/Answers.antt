@@ -1,4 +1,4 @@
-use Rattle.std.proofs.Common.{◌≡◌, ◌∙◌, ◌<◌, ◌≤◌, ℕ, List, [], length, drop, refl, sym, subst, arith, Some, None}
+use Rattle.std.proofs.Common.{◌<◌, ℕ, List, length, drop, refl, sym, subst, arith, Some, None}
 use Rattle.pcp_model.specs.Disk.{contents_of}
 use Rattle.archive_window.proofs.Looking.{looks_none, looks_on}
 use Rattle.std.specs.List.{AllByRecursion}
@@ -6,7 +6,7 @@ use Rattle.archive_loading.specs.Loaded.{IsMeasured}
 use Rattle.archive_reader.specs.Steps.{IsAhead, IsAheadFault, IsAheadIn}
 use Rattle.archive_reader.specs.Asked.{IsSegmentFault}
 use Rattle.archive_reader.specs.Takes.{TookNext}
-use Rattle.archive_reader.proofs.Spanned.{SoFar, LastSoFar, handed_on, nothing_yet, goes_on, stops_here, takes_next, takes_here, last_here, last_more}
+use Rattle.archive_reader.proofs.Spanned.{LastSoFar, handed_on, nothing_yet, goes_on, stops_here, takes_next, takes_here, last_here, last_more}
 use Rattle.archive_reader.proofs.lasts.last_on.Goals as goal
 
 pub loop-init : goal.loop-init

@@ -1,4 +1,4 @@
-use Rattle.std.proofs.Common.{◌≡◌, ◌-◌, ℕ, subst}
+use Rattle.std.proofs.Common.{◌-◌, ℕ, subst}
 use Rattle.pcp_model.specs.Disk.{contents_of}
 use Rattle.archive_window.proofs.Looking.{looks_on}
 use Rattle.archive_recovery.specs.Volumes.{IsEarlier}

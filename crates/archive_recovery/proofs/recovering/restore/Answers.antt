@@ -1,4 +1,3 @@
-use Rattle.std.proofs.Common.{◌≡◌, pos, negsuc, subst}
 use Rattle.pcp_model.specs.Disk.{contents_of}
 use Rattle.pcp_outside.proofs.Crash.{weaker}
 use Rattle.archive_recovery.specs.Damage.{MayBeMended}

@@ -1,4 +1,4 @@
-use Rattle.std.proofs.Common.{◌≡◌, subst}
+use Rattle.std.proofs.Common.{subst}
 use Rattle.pcp_model.specs.Disk.{contents_of}
 use Rattle.archive_recovery.specs.Volumes.{IsVolumesRead}
 use Rattle.archive_recovery.proofs.Surveying.{volume_refused, beside_none, all_sighted}

@@ -1,6 +1,6 @@
 -- Meta, the index and the volumes are mended one after another, and all is synced.
 use Rattle.pcp_base.specs.declared.file.FileId.TheVariants.{Meta}
-use Rattle.pcp_model.specs.Disk.{CrashImage, contents_of}
+use Rattle.pcp_model.specs.Disk.{CrashImage}
 use Rattle.pcp_outside.specs.Devices.{LeavesOnly}
 use Rattle.pcp_outside.proofs.Crash.{joined, weaker}
 use Rattle.archive_recovery.specs.Damage.{MayBeMended}

@@ -1,11 +1,11 @@
 use Rattle.std.proofs.Common.{◌≡◌, ℕ, ◌+◌, ◌-◌, ◌≤◌, List, length, refl, ap, subst, arith}
 use Rattle.pcp_base.specs.declared.file.FileId.TheVariants.{Meta}
 use Rattle.pcp_model.specs.Disk.{contents_of}
-use Rattle.archive_window.specs.Standing.{IsSized, IsTaken, FitsIn, WasTaken}
+use Rattle.archive_window.specs.Standing.{IsTaken, WasTaken}
 use Rattle.archive_loading.proofs.Loads.{when_true, when_false}
-use Rattle.archive_recovery.specs.Metadata.{FrameIsAdded, FrameIsBad}
-use Rattle.archive_recovery.proofs.MetaSteps.{torn_behind, not_torn_behind, no_frame_fits, frame_not_torn, bad_fits, frame_stands}
-use Rattle.archive_recovery.proofs.metadata.add_next.Goals as goal
+use Rattle.archive_loading.specs.Metadata.{FrameIsAdded, FrameIsBad}
+use Rattle.archive_loading.proofs.MetaSteps.{torn_behind, not_torn_behind, no_frame_fits, frame_not_torn, bad_fits, frame_stands}
+use Rattle.archive_loading.proofs.metadata.add_next.Goals as goal
 
 pub returns-in-Torn-clause-added : goal.returns-in-Torn-clause-added
 returns-in-Torn-clause-added g c = λ tells.
@@ -31,9 +31,9 @@ returns-then-added-clause-added g c = λ tells.
     let behind : c.args.at ≡ 132 + k = omega (arith, c.requires.behind) in
     let long : 132 ≤ length bytes = omega (arith, (c.requires.long tells).0, (c.requires.long tells).1) in
     let taken : WasTaken bytes c.args.at c.in-Frame.frame = subst (IsTaken bytes c.args.at) c.in-Frame.is (c.in_ok-take_frame.ensures.taken tells) in
-    let told = when_true (FrameIsAdded c.as_slice.result.now c.args.meta.now c.add_frame.new.meta c.args.tally.now c.add_frame.new.tally) (FrameIsBad c.as_slice.result.now c.args.meta.now c.add_frame.new.meta) c.in_ok-added.added c.in_ok-added.ensures c.if-added.true in
-    frame_stands bytes c.args.at k behind long c.in-Frame.frame taken c.args.meta.now c.add_frame.new.meta c.args.tally.now c.add_frame.new.tally (c.args.at + c.len.result) (ap (λ n. c.args.at + n) c.len.ensures)
-    (subst (λ f. FrameIsAdded f c.args.meta.now c.add_frame.new.meta c.args.tally.now c.add_frame.new.tally) c.as_slice.ensures told)
+    let told = when_true (FrameIsAdded c.as_slice.result.now c.args.meta.now c.add_frame.new.meta c.args.last.now c.add_frame.new.last) (FrameIsBad c.as_slice.result.now c.args.meta.now c.add_frame.new.meta) c.in_ok-added.added c.in_ok-added.ensures c.if-added.true in
+    frame_stands bytes c.args.at k behind long c.in-Frame.frame taken c.args.meta.now c.add_frame.new.meta c.args.last.now c.add_frame.new.last (c.args.at + c.len.result) (ap (λ n. c.args.at + n) c.len.ensures)
+    (subst (λ f. FrameIsAdded f c.args.meta.now c.add_frame.new.meta c.args.last.now c.add_frame.new.last) c.as_slice.ensures told)
 
 pub returns-clause-added : goal.returns-clause-added
 returns-clause-added g c = λ tells.
@@ -42,5 +42,5 @@ returns-clause-added g c = λ tells.
     let behind : c.args.at ≡ 132 + k = omega (arith, c.requires.behind) in
     let long : 132 ≤ length bytes = omega (arith, (c.requires.long tells).0, (c.requires.long tells).1) in
     let taken : WasTaken bytes c.args.at c.in-Frame.frame = subst (IsTaken bytes c.args.at) c.in-Frame.is (c.in_ok-take_frame.ensures.taken tells) in
-    let told = when_false (FrameIsAdded c.as_slice.result.now c.args.meta.now c.add_frame.new.meta c.args.tally.now c.add_frame.new.tally) (FrameIsBad c.as_slice.result.now c.args.meta.now c.add_frame.new.meta) c.in_ok-added.added c.in_ok-added.ensures c.if-added.false in
+    let told = when_false (FrameIsAdded c.as_slice.result.now c.args.meta.now c.add_frame.new.meta c.args.last.now c.add_frame.new.last) (FrameIsBad c.as_slice.result.now c.args.meta.now c.add_frame.new.meta) c.in_ok-added.added c.in_ok-added.ensures c.if-added.false in
     (bad_fits bytes c.args.at k behind long c.in-Frame.frame taken c.args.meta.now c.add_frame.new.meta (subst (λ f. FrameIsBad f c.args.meta.now c.add_frame.new.meta) c.as_slice.ensures told), frame_not_torn bytes c.args.at k behind long c.in-Frame.frame taken)

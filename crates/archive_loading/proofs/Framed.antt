@@ -1,5 +1,5 @@
 -- One framed record of Meta: its stamp, where it stands, and where it is refused.
-use Rattle.std.proofs.Common.{◌≡◌, ◌≢◌, ◌⊎◌, inl, inr, ⊎_elim, ℕ, ◌+◌, ◌-◌, ◌<◌, ◌≤◌, List, [], ◌∷◌, ◌++◌, length, take, drop, refl, sym, ap, ◌∙◌, subst, arith, append_assoc, Option, Some, None}
+use Rattle.std.proofs.Common.{◌≡◌, ℕ, ◌+◌, ◌-◌, ◌<◌, ◌≤◌, List, [], ◌∷◌, ◌++◌, length, take, drop, refl, sym, ap, ◌∙◌, subst, arith, append_assoc, Option, Some, None}
 use Rattle.std.specs.Prelude.{MatchOption, option_to_list}
 use Rattle.std.specs.Int.{w32, from_be_bytes}
 use Rattle.std.specs.List.{slice_range}
@@ -8,19 +8,19 @@ use Rattle.pcp_base.specs.Time.{Moment}
 use Rattle.pcp_model.specs.declared.records.MetaRecord.{MetaRecord}
 use Rattle.pcp_model.specs.declared.records.MetaRecord.TheVariants.{Description, Domain, Other}
 use Rattle.pcp_model.specs.Archive.{AreRead}
-use Rattle.pcp_model.specs.Frame.{frame, frames, IsTorn, IsFrameable}
-use Rattle.pcp_model.specs.Records.{IsRecord, IsDomain, AreConsistent, description, instance_words, word_bytes}
+use Rattle.pcp_model.specs.Frame.{frame, frames}
+use Rattle.pcp_model.specs.Records.{IsRecord, IsDomain, description, instance_words, word_bytes}
 use Rattle.pcp_model.specs.Words.{word, length-word}
 use Rattle.pcp_model.proofs.Cuts.{number_of_word}
 use Rattle.pcp_model.proofs.Lengths.{length-frame}
 use Rattle.pcp_model.proofs.Unique.{both_words}
-use Rattle.archive_frame.specs.Steps.{Stands, number_at}
+use Rattle.archive_frame.specs.Steps.{Stands}
 use Rattle.archive_frame.proofs.Records.{Ends, stood}
 use Rattle.archive_meta.specs.Records.{AreRecords, RecordStands}
 use Rattle.archive_meta.specs.Stamped.{IsStamped}
 use Rattle.archive_window.specs.Standing.{IsSized, WasTaken, NoFrameStands}
 use Rattle.archive_window.proofs.Frames.{in_place, out_of_place}
-use Rattle.archive_recovery.specs.Stamps.{domain_stamps}
+use Rattle.archive_loading.specs.Stamps.{domain_stamps}
 
 -- bytes that say their length are one frame of the framed records that they are
 pub record OneFrame (bytes : List ℕ) (records : List MetaRecord) : Type 0 where

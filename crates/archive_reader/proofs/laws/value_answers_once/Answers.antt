@@ -1,0 +1,5 @@
+use Rattle.archive_reader.proofs.Once.{value_answers_once}
+use Rattle.archive_reader.proofs.laws.value_answers_once.Goals as goal
+
+pub returns : goal.returns
+returns c = value_answers_once
