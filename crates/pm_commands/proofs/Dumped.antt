@@ -15,7 +15,7 @@ use Rattle.archive_reader.specs.Walks.{volumes_from, Leads, StepsOver}
 use Rattle.archive_reader.specs.declared.places.Place.{Place}
 use Rattle.pm_print.specs.Items.{item_text, items_text}
 use Rattle.pm_commands.specs.declared.stage.FilesRefusal.{FilesRefusal}
-use Rattle.pm_commands.specs.declared.stage.FilesRefusal.TheVariants.{LaterDisk, Compressed, NotArchive, Nothing}
+use Rattle.pm_commands.specs.declared.stage.FilesRefusal.TheVariants.{Unlogged, Compressed, NotArchive, Nothing}
 use Rattle.pm_commands.specs.declared.refusal.Refusal.{Refusal}
 use Rattle.pm_commands.specs.Archives.{IsLoaded, TurnedAway}
 use Rattle.pm_commands.specs.Refusals.{reader_refusal}
@@ -99,7 +99,7 @@ module _ {O : Type 0} (g : SinkGhosts O) (tells : Type 0) (files : Files) (r : L
   }
 
 bad_record : (r : Loaded) (p : Place) (f : Found) (before text : List ℕ) → IsSoFar f.files r p before text → (e : FilesRefusal) → BadNext r p f e → BadRecord r f e
-bad_record r p f before text so LaterDisk bad = absurd bad
+bad_record r p f before text so (Unlogged reason) bad = absurd bad
 bad_record r p f before text so (Compressed file) bad = absurd bad
 bad_record r p f before text so (Nothing stamp) bad = absurd bad
 bad_record r p f before text so (NotArchive file at) bad = (so.items, record { last = volumes_from p.volume r.volumes; to = p.offset; leads = so.leads; bad = bad })

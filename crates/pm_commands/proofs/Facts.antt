@@ -8,7 +8,7 @@ use Rattle.pm_commands.specs.declared.stage.ReadRefusal.{ReadRefusal}
 use Rattle.pm_commands.specs.declared.stage.ReadRefusal.TheVariants.{ReadFault, InputLimit}
 use Rattle.pm_commands.specs.declared.stage.InputRefusal.{InputRefusal}
 use Rattle.pm_commands.specs.declared.stage.FilesRefusal.{FilesRefusal}
-use Rattle.pm_commands.specs.declared.stage.FilesRefusal.TheVariants.{LaterDisk, Compressed, NotArchive, Nothing}
+use Rattle.pm_commands.specs.declared.stage.FilesRefusal.TheVariants.{Unlogged, Compressed, NotArchive, Nothing}
 use Rattle.pm_commands.specs.declared.stage.DiskRefusal.TheVariants.{Files as FilesAway, DiskFault}
 use Rattle.pm_commands.specs.declared.words.Command.{Command}
 use Rattle.pm_commands.specs.declared.refusal.Refusal.{Refusal}

@@ -8,7 +8,7 @@ use Rattle.pcp_outside.proofs.Crash.{weaker}
 use Rattle.archive_window.specs.Looks.{Looks}
 use Rattle.archive_loading.specs.Loaded.{Loaded}
 use Rattle.pm_commands.specs.declared.stage.FilesRefusal.{FilesRefusal}
-use Rattle.pm_commands.specs.declared.stage.FilesRefusal.TheVariants.{LaterDisk, Compressed, NotArchive, Nothing}
+use Rattle.pm_commands.specs.declared.stage.FilesRefusal.TheVariants.{Unlogged, Compressed, NotArchive, Nothing}
 use Rattle.pm_commands.specs.declared.stage.DiskRefusal.TheVariants.{Files as FilesAway, DiskFault}
 use Rattle.pm_commands.specs.declared.refusal.Refusal.{Refusal}
 use Rattle.pm_commands.specs.declared.refusal.Refusal.TheVariants.{Words, Reading, Input, Disk, NoMemory}
@@ -79,14 +79,14 @@ not_both w file none some = let e : None ≡ Some file = sym none ∙ some in cc
 
 module _ (turned : Found → FilesRefusal → Type 0) (said : Found → List ℕ → Type 0) (first : DiskSide → List ℕ → Type 0) (fits : FitsLook turned said) where
   never_turned : (f : Found) (text : List ℕ) → said f text → (e : FilesRefusal) → IsNever e → turned f e → ⊥
-  never_turned f text s LaterDisk never t = fits.never_later f t
+  never_turned f text s (Unlogged reason) never t = fits.never_later f t
   never_turned f text s (Compressed file) never t = not_both f.wrapped file (fits.unwrapped f text s) (fits.wrapped f file t)
   never_turned f text s (NotArchive file place) never t = never
   never_turned f text s (Nothing stamp) never t = never
 
   -- where a file stands wrapped, the archive is turned away
   look_wrapped : (f : Found) (file : FileId) (e : FilesRefusal) → turned f (Compressed file) → turned f e → files_status e ≡ 6
-  look_wrapped f file LaterDisk w t = absurd (fits.never_later f t)
+  look_wrapped f file (Unlogged reason) w t = absurd (fits.never_later f t)
   look_wrapped f file (Compressed other) w t = refl
   look_wrapped f file (NotArchive other place) w t = refl
   look_wrapped f file (Nothing stamp) w t = absurd (not_both f.wrapped file (fits.nothing f stamp t) (fits.wrapped f file w))

@@ -13,7 +13,7 @@ use Rattle.archive_recovery.specs.declared.outcome.RecoverFault.TheVariants as f
 use Rattle.archive_recovery.specs.RecoverFaults.{IsRecoverFault}
 use Rattle.archive_recovery.specs.Told.{IsToldOf, WasRecovered}
 use Rattle.pm_commands.specs.declared.stage.FilesRefusal.{FilesRefusal}
-use Rattle.pm_commands.specs.declared.stage.FilesRefusal.TheVariants.{LaterDisk, Compressed, NotArchive, Nothing}
+use Rattle.pm_commands.specs.declared.stage.FilesRefusal.TheVariants.{Unlogged, Compressed, NotArchive, Nothing}
 use Rattle.pm_commands.specs.declared.refusal.Refusal.TheVariants.{NoMemory}
 use Rattle.pm_commands.specs.Causes.{StopCause}
 use Rattle.pm_commands.specs.Ends.{HasServed, IsNever}
@@ -33,14 +33,14 @@ not_both : (w : Option FileId) (file : FileId) → w ≡ None → w ≡ Some fil
 not_both w file none some = let e : None ≡ Some file = sym none ∙ some in cc
 
 never_turned : (f : Found) (e : FilesRefusal) → f.wrapped ≡ None → IsNever e → turned f e → ⊥
-never_turned f LaterDisk none never t = t
+never_turned f (Unlogged reason) none never t = t
 never_turned f (Compressed file) none never t = not_both f.wrapped file none t
 never_turned f (NotArchive file at) none never t = never
 never_turned f (Nothing stamp) none never t = never
 
 -- over a disk that isn't empty, nothing else is refused; where a file stands wrapped, the archive is turned away
 pub recover_wrapped : (f : Found) (file : FileId) (e : FilesRefusal) → turned f (Compressed file) → turned f e → files_status e ≡ 6
-recover_wrapped f file LaterDisk w t = absurd t
+recover_wrapped f file (Unlogged reason) w t = absurd t
 recover_wrapped f file (Compressed other) w t = refl
 recover_wrapped f file (NotArchive other place) w t = refl
 recover_wrapped f file (Nothing stamp) w t = absurd t

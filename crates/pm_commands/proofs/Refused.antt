@@ -22,7 +22,7 @@ use Rattle.archive_loading.specs.LoadFaults.{AreLabelledBelow}
 use Rattle.archive_reader.proofs.Loadable.{loads_readable}
 use Rattle.archive_recovery.specs.RecoverFaults.{IsRefused, AreWholeBelow, StopsInRecords}
 use Rattle.pm_commands.specs.declared.stage.FilesRefusal.{FilesRefusal}
-use Rattle.pm_commands.specs.declared.stage.FilesRefusal.TheVariants.{LaterDisk, Compressed, NotArchive, Nothing}
+use Rattle.pm_commands.specs.declared.stage.FilesRefusal.TheVariants.{Unlogged, Compressed, NotArchive, Nothing}
 use Rattle.pm_commands.specs.Sides.{Found}
 use Rattle.pm_commands.specs.commands.recover.{turned}
 
@@ -128,7 +128,7 @@ refused_is_none files (Volume n) place readable (l, records, entries, head, whol
 refused_is_none files (Volume n) place readable (l, records, entries, head, whole, inr s) = stops_in_none files l n place s readable
 
 pub takes_readable : (f : Found) → f.wrapped ≡ None → Readable f.files → (e : FilesRefusal) → turned f e → ⊥
-takes_readable f unwrapped readable LaterDisk t = t
+takes_readable f unwrapped readable (Unlogged reason) t = t
 takes_readable f unwrapped readable (Compressed file) t = let other : None ≡ Some file = sym unwrapped ∙ t in cc
 takes_readable f unwrapped readable (NotArchive file place) t = refused_is_none f.files file place readable t.1
 takes_readable f unwrapped readable (Nothing stamp) t = t

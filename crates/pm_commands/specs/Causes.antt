@@ -17,6 +17,7 @@ use Rattle.pm_commands.specs.CommandLine.{command_of}
 use Rattle.pm_commands.specs.Inputs.{input_limit, refusal_of}
 use Rattle.pm_commands.specs.Meaning.{Meaning}
 use Rattle.pm_commands.specs.Meanings.{meaning}
+use Rattle.pm_commands.specs.Refusals.{files_status}
 use Rattle.pm_commands.specs.Sides.{SourceSide, DiskSide, found, NotAsked, Untouched}
 
 -- an input of at most 16 MiB was read to its end, and where the source tells, it's all that the source had left
@@ -68,9 +69,10 @@ pub record Left (m : Meaning) (status : ℕ) (input : List ℕ) (d : DiskSide) :
   pub files : Untouched d ⊎ m.begun status input d
   pub settled : (status ≡ 5 → ⊥) → d.tells → IsSettled d.held → IsSettled d.after
 
--- why a command that uses the disk stops at it; files that are turned away stay as they were
+-- why a command that uses the disk stops at it; files that are turned away stay as they were, or as the command says of a stop
+-- after its first write
 abbrev pub DiskCause : Meaning → List ℕ → DiskSide → DiskRefusal → Type 0
-DiskCause m input d (Files e) = Untouched d × (d.tells → m.turns_away input (found d) e)
+DiskCause m input d (Files e) = Left m (files_status e) input d × (d.tells → m.turns_away input (found d) e)
 DiskCause m input d DiskFault = Left m 5 input d × Rose d.faults d.faults_after
 
 -- why a command that got its input stops

@@ -3,7 +3,7 @@ use Rattle.std.specs.Prelude.{◌≡◌, ◌⊎◌, ℕ, Bool, List, [], ◌++�
 use Rattle.pcp_model.specs.Disk.{Files, Holdings, CrashImage, IsSettled}
 use Rattle.pcp_outside.specs.Causes.{Rose}
 use Rattle.pm_commands.specs.declared.stage.FilesRefusal.{FilesRefusal}
-use Rattle.pm_commands.specs.declared.stage.FilesRefusal.TheVariants.{LaterDisk, Compressed, NotArchive, Nothing}
+use Rattle.pm_commands.specs.declared.stage.FilesRefusal.TheVariants.{Unlogged, Compressed, NotArchive, Nothing}
 use Rattle.pm_commands.specs.declared.refusal.Refusal.{Refusal}
 use Rattle.pm_commands.specs.declared.output.Output.{Output}
 use Rattle.pm_commands.specs.declared.output.Output.TheVariants.{Logged, NothingLogged, Made}
@@ -28,7 +28,7 @@ told_of (Err e) = Err e
 
 -- over files that are turned away so, no command is done
 abbrev pub IsNever : FilesRefusal → Type 0
-IsNever LaterDisk = Unit {0}
+IsNever (Unlogged reason) = ⊥
 IsNever (Compressed file) = Unit {0}
 IsNever (NotArchive file at) = ⊥
 IsNever (Nothing stamp) = ⊥
@@ -39,7 +39,7 @@ pub record HasServed (m : Meaning) (input : List ℕ) (d : DiskSide) (text : Lis
   pub welcome : d.tells → (e : FilesRefusal) → IsNever e → m.turns_away input (found d) e → ⊥
   pub done : m.done input d
   pub says : m.says input d text
-  pub kept : d.tells → (crash : Files) → CrashImage d.after crash → m.keeps input crash
+  pub kept : d.tells → (crash : Files) → CrashImage d.after crash → m.keeps input d.held crash
   pub settled : d.tells → IsSettled d.held → IsSettled d.after
 
 -- the same of the command that the words are

@@ -11,5 +11,4 @@ pub mod Refusals
 pub mod Sides
 pub mod Streams
 pub mod Takes
-pub mod Writes
 pub mod commands

@@ -19,8 +19,8 @@ pub record Meaning : Type 1 where
   pub says : List ℕ → DiskSide → List ℕ → Type 0
   -- what it may have written to its output where it is stopped
   pub begins : List ℕ → DiskSide → List ℕ → Type 0
-  -- what each crash leaves from then on
-  pub keeps : List ℕ → Files → Type 0
+  -- what each crash leaves from then on, over what the disk held at the start
+  pub keeps : List ℕ → Holdings → Files → Type 0
   -- what it leaves where it is stopped, with a status, after its first write
   pub begun : ℕ → List ℕ → DiskSide → Type 0
   -- what a crash at any moment of it may leave, beside what was there
@@ -35,7 +35,7 @@ converts refuses make = record {
   done = λ input d. Untouched d;
   says = λ input d text. text ≡ make input;
   begins = λ input d front. front ≡ [];
-  keeps = λ input crash. Unit {0};
+  keeps = λ input held crash. Unit {0};
   begun = λ status input d. ⊥;
   may_leave = λ input held crash. ⊥;
 }

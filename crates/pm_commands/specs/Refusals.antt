@@ -9,6 +9,13 @@ use Rattle.archive_reader.specs.declared.fault.ReaderFault.TheVariants as faults
 use Rattle.archive_recovery.specs.declared.outcome.RecoverFault.{RecoverFault}
 use Rattle.archive_recovery.specs.declared.outcome.RecoverFault.TheVariants as recovering
 use Rattle.pm_print.specs.FaultLines.{image_line, text_line}
+use Rattle.pm_print.specs.Sets.{pmid_text}
+use Rattle.pm_commands.specs.declared.stage.ResultRefusal.{ResultRefusal}
+use Rattle.pm_commands.specs.declared.stage.ResultRefusal.TheVariants.{Large, NotLater, Changed, Full}
+use Rattle.logger_core.specs.declared.fault.LogFault.{LogFault}
+use Rattle.logger_core.specs.declared.fault.LogFault.TheVariants as logging
+use Rattle.record_run.specs.declared.fault.RunFault.{RunFault}
+use Rattle.record_run.specs.declared.fault.RunFault.TheVariants as running
 use Rattle.pm_commands.specs.declared.stage.Stop.{Stop}
 use Rattle.pm_commands.specs.declared.stage.Stop.TheVariants.{OutOfMemory, Refused}
 use Rattle.pm_commands.specs.declared.stage.Usage.{Usage}
@@ -17,7 +24,7 @@ use Rattle.pm_commands.specs.declared.stage.ReadRefusal.TheVariants.{ReadFault, 
 use Rattle.pm_commands.specs.declared.stage.InputRefusal.{InputRefusal}
 use Rattle.pm_commands.specs.declared.stage.InputRefusal.TheVariants.{Image, Line}
 use Rattle.pm_commands.specs.declared.stage.FilesRefusal.{FilesRefusal}
-use Rattle.pm_commands.specs.declared.stage.FilesRefusal.TheVariants.{LaterDisk, Compressed, NotArchive, Nothing}
+use Rattle.pm_commands.specs.declared.stage.FilesRefusal.TheVariants.{Unlogged, Compressed, NotArchive, Nothing}
 use Rattle.pm_commands.specs.declared.stage.DiskRefusal.{DiskRefusal}
 use Rattle.pm_commands.specs.declared.stage.DiskRefusal.TheVariants.{Files, DiskFault}
 use Rattle.pm_commands.specs.declared.refusal.Refusal.{Refusal}
@@ -45,9 +52,28 @@ abbrev pub input_line : InputRefusal → List ℕ
 input_line (Image fault) = image_line fault
 input_line (Line fault) = text_line fault.line fault.fault
 
+-- a result that isn't logged
+abbrev pub result_status : ResultRefusal → ℕ
+result_status (Large bytes) = 7
+result_status (NotLater last) = 12
+result_status (Changed pmid) = 13
+result_status (Full file bytes) = 7
+
+-- what of an archive is full
+abbrev pub part_name : FileId → List ℕ
+part_name Meta = codes "meta"
+part_name Index = codes "index"
+part_name (Volume k) = codes "volume"
+
+abbrev pub result_line : ResultRefusal → List ℕ
+result_line (Large bytes) = codes "limit record " ++ (decimal bytes ++ 10 ∷ [])
+result_line (NotLater last) = codes "not later " ++ (decimal last.sec ++ (32 ∷ (decimal last.usec ++ 10 ∷ [])))
+result_line (Changed pmid) = codes "changed " ++ (pmid_text pmid ++ 10 ∷ [])
+result_line (Full file bytes) = codes "limit " ++ (part_name file ++ (32 ∷ (decimal bytes ++ 10 ∷ [])))
+
 -- the files, and the disk
 abbrev pub files_status : FilesRefusal → ℕ
-files_status LaterDisk = 15
+files_status (Unlogged reason) = result_status reason
 files_status (Compressed file) = 6
 files_status (NotArchive file at) = 6
 files_status (Nothing stamp) = 11
@@ -59,13 +85,13 @@ file_name Index = codes "index"
 file_name (Volume k) = decimal k
 
 abbrev pub numbered_files_line : FilesRefusal → Option (List ℕ)
-numbered_files_line LaterDisk = None
+numbered_files_line (Unlogged reason) = Some (result_line reason)
 numbered_files_line (Compressed file) = Some (codes "compressed " ++ (file_name file ++ 10 ∷ []))
 numbered_files_line (NotArchive file at) = Some (codes "not archive " ++ (file_name file ++ (32 ∷ (decimal at ++ 10 ∷ []))))
 numbered_files_line (Nothing stamp) = Some (codes "nothing at " ++ (decimal stamp.sec ++ (32 ∷ (decimal stamp.usec ++ 10 ∷ []))))
 
 abbrev pub plain_files_line : FilesRefusal → List ℕ
-plain_files_line LaterDisk = codes "later disk\n"
+plain_files_line (Unlogged reason) = []
 plain_files_line (Compressed file) = []
 plain_files_line (NotArchive file at) = []
 plain_files_line (Nothing stamp) = []
@@ -127,6 +153,21 @@ recover_refusal (recovering.Compressed file) = Disk (Files (Compressed file))
 recover_refusal (recovering.NotArchive file at) = Disk (Files (NotArchive file at))
 recover_refusal recovering.DiskFault = Disk DiskFault
 recover_refusal recovering.NoMemory = NoMemory
+
+-- and a fault of a logger, and of the run of an image
+abbrev pub log_refusal : LogFault → Refusal
+log_refusal logging.Closed = Disk DiskFault
+log_refusal (logging.Large bytes) = Disk (Files (Unlogged (Large bytes)))
+log_refusal (logging.NotLater last) = Disk (Files (Unlogged (NotLater last)))
+log_refusal (logging.Changed pmid) = Disk (Files (Unlogged (Changed pmid)))
+log_refusal (logging.Full file bytes) = Disk (Files (Unlogged (Full file bytes)))
+log_refusal logging.NoMemory = NoMemory
+log_refusal logging.DiskFault = Disk DiskFault
+
+abbrev pub run_refusal : RunFault → Refusal
+run_refusal (running.Recovery fault) = recover_refusal fault
+run_refusal (running.Logging fault) = log_refusal fault
+run_refusal running.NoMemory = NoMemory
 
 -- the line is written, or a front of it where the sink failed
 abbrev pub Wrote : ℕ → ℕ → List ℕ → List ℕ → List ℕ → Type 0

@@ -1,12 +1,17 @@
 //! The refusals of all stages as one, and how its last line is told.
 ghost use Rattle.std.specs.Prelude.{◌≡◌, IfOk, OnOk, OnErr, IsSome};
-ghost use Rattle.pm_commands.specs.Refusals.{status_of, numbered_line_of, plain_line_of, line_of, Wrote};
+ghost use Rattle.pm_commands.specs.declared.refusal.Refusal.TheVariants.{Disk};
+ghost use Rattle.pm_commands.specs.declared.stage.DiskRefusal.TheVariants.{Files};
+ghost use Rattle.pm_commands.specs.declared.stage.FilesRefusal.TheVariants.{Unlogged};
+ghost use Rattle.pm_commands.specs.Refusals.{log_refusal, status_of, numbered_line_of, plain_line_of, line_of, Wrote};
 
-use crate::stage::{DiskRefusal, FilesRefusal, InputRefusal, ReadRefusal, Stop, Usage};
+use crate::stage::{DiskRefusal, FilesRefusal, InputRefusal, ReadRefusal, ResultRefusal, Stop, Usage};
 use archive_reader::ReaderFault;
 use archive_recovery::RecoverFault;
+use logger_core::LogFault;
 use pcp_base::{Bytes, NoMemory};
 use pcp_outside::{Sink, write_all};
+use record_run::RunFault;
 use std::alloc::Global;
 
 /// Why a command ended before it was done.
@@ -109,6 +114,76 @@ impl From<RecoverFault> for Refusal {
             }
             RecoverFault::DiskFault => Refusal::Disk(DiskRefusal::DiskFault),
             RecoverFault::NoMemory => Refusal::NoMemory,
+        }
+    }
+}
+
+/// A logger's fault, as a refusal.
+fn of_log(fault: LogFault) -> Refusal
+    ensures { result ≡ log_refusal fault }
+{
+    match fault {
+        LogFault::Large { bytes } => unlogged(ResultRefusal::Large { bytes }),
+        LogFault::NotLater { last } => unlogged(ResultRefusal::NotLater { last }),
+        LogFault::Changed { pmid } => unlogged(ResultRefusal::Changed { pmid }),
+        LogFault::Full { file, bytes } => unlogged(ResultRefusal::Full { file, bytes }),
+        LogFault::NoMemory => Refusal::NoMemory,
+        // No logger is closed before it logs.
+        LogFault::Closed | LogFault::DiskFault => Refusal::Disk(DiskRefusal::DiskFault),
+    }
+}
+
+fn unlogged(reason: ResultRefusal) -> Refusal
+    ensures { result ≡ Disk (Files (Unlogged reason)) }
+{
+    Refusal::Disk(DiskRefusal::Files(FilesRefusal::Unlogged(reason)))
+}
+
+impl From<RunFault> for Refusal {
+    ghost use Rattle.pm_commands.specs.Refusals.{run_refusal};
+
+    ghost from_gives = { λ fault e. e ≡ run_refusal fault };
+
+    fn from(fault: RunFault) -> Refusal {
+        match fault {
+            RunFault::Recovery(fault) => Refusal::from(fault),
+            RunFault::Logging(fault) => of_log(fault),
+            RunFault::NoMemory => Refusal::NoMemory,
+        }
+    }
+}
+
+/// A logger's fault, as a refusal.
+fn of_log(fault: LogFault) -> Refusal
+    ensures { result ≡ log_refusal fault }
+{
+    match fault {
+        LogFault::Large { bytes } => unlogged(ResultRefusal::Large { bytes }),
+        LogFault::NotLater { last } => unlogged(ResultRefusal::NotLater { last }),
+        LogFault::Changed { pmid } => unlogged(ResultRefusal::Changed { pmid }),
+        LogFault::Full { file, bytes } => unlogged(ResultRefusal::Full { file, bytes }),
+        LogFault::NoMemory => Refusal::NoMemory,
+        // No logger is closed before it logs.
+        LogFault::Closed | LogFault::DiskFault => Refusal::Disk(DiskRefusal::DiskFault),
+    }
+}
+
+fn unlogged(reason: ResultRefusal) -> Refusal
+    ensures { result ≡ Disk (Files (Unlogged reason)) }
+{
+    Refusal::Disk(DiskRefusal::Files(FilesRefusal::Unlogged(reason)))
+}
+
+impl From<RunFault> for Refusal {
+    ghost use Rattle.pm_commands.specs.Refusals.{run_refusal};
+
+    ghost from_gives = { λ fault e. e ≡ run_refusal fault };
+
+    fn from(fault: RunFault) -> Refusal {
+        match fault {
+            RunFault::Recovery(fault) => Refusal::from(fault),
+            RunFault::Logging(fault) => of_log(fault),
+            RunFault::NoMemory => Refusal::NoMemory,
         }
     }
 }

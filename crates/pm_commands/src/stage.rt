@@ -1,12 +1,13 @@
 //! What each stage of a command refuses: the words, the reading of the input, the input, and the disk; with the exit
 //! status and the last line of each refusal.
 ghost use Rattle.std.specs.Prelude.{◌≡◌, Some, IfOk, OnErr, IsSome, string_bytes};
-ghost use Rattle.pm_commands.specs.Refusals.{usage_line, reading_status, reading_line, input_status, input_line, file_name, files_status, numbered_files_line, plain_files_line, disk_status, numbered_disk_line, plain_disk_line};
+ghost use Rattle.pm_commands.specs.Refusals.{usage_line, reading_status, reading_line, input_status, input_line, file_name, files_status, numbered_files_line, plain_files_line, disk_status, numbered_disk_line, plain_disk_line, part_name, result_status, result_line};
 ghost use Rattle.pm_commands.specs.declared.stage.FilesRefusal.TheVariants.{Compressed, NotArchive, Nothing};
+ghost use Rattle.pm_commands.specs.declared.stage.ResultRefusal.TheVariants.{Large, NotLater, Changed, Full};
 
 use mmv_layout::ImageFault;
 use mmv_writer::TextFault;
-use pcp_base::{Bytes, FileId, List, NoMemory, Stamp};
+use pcp_base::{Bytes, FileId, List, NoMemory, Pmid, Stamp};
 use pm_print::{image_fault_text, line_fault_text};
 use std::alloc::{AllocError, Global};
 
@@ -110,11 +111,93 @@ impl InputRefusal {
     }
 }
 
+/// Why a result isn't logged.
+#[derive(Clone, Copy, Debug, PartialEq, Eq)]
+pub enum ResultRefusal {
+    /// Its record, or one of Meta that it needs, would have so many bytes.
+    Large { bytes: u64 },
+    /// It isn't stamped after all that the archive has; this is the greatest stamp.
+    NotLater { last: Stamp },
+    /// The archive describes the metric otherwise.
+    Changed { pmid: Pmid },
+    /// The file would have so many bytes, or it is volume 10,000.
+    Full { file: FileId, bytes: u64 },
+}
+
+impl ResultRefusal {
+    pub(crate) fn status(&self) -> u8
+        ensures { result ≡ result_status self.now }
+    {
+        match self {
+            ResultRefusal::Large { .. } | ResultRefusal::Full { .. } => 7,
+            ResultRefusal::NotLater { .. } => 12,
+            ResultRefusal::Changed { .. } => 13,
+        }
+    }
+
+    fn line(&self, alloc: Global) -> Result<Bytes, NoMemory>
+        ensures { IfOk result (λ line. line ≡ result_line self.now) }
+    {
+        match self {
+            ResultRefusal::Large { bytes } => large_line(alloc, *bytes),
+            ResultRefusal::NotLater { last } => not_later_line(alloc, *last),
+            ResultRefusal::Changed { pmid } => changed_line(alloc, *pmid),
+            ResultRefusal::Full { file, bytes } => full_line(alloc, *file, *bytes),
+        }
+    }
+}
+
+fn large_line(alloc: Global, bytes: u64) -> Result<Bytes, NoMemory>
+    ensures { IfOk result (λ line. line ≡ result_line (Large bytes)) }
+{
+    let line = format!(in alloc; "limit record {bytes}\n")?;
+    Ok(List::from_vec(line.into_bytes()))
+}
+
+fn not_later_line(alloc: Global, last: Stamp) -> Result<Bytes, NoMemory>
+    ensures { IfOk result (λ line. line ≡ result_line (NotLater last)) }
+{
+    let sec = last.sec();
+    let usec = last.usec();
+    let line = format!(in alloc; "not later {sec} {usec}\n")?;
+    Ok(List::from_vec(line.into_bytes()))
+}
+
+#[tactic(auto, unfolding(pm_print::specs::Sets::pmid_text))]
+fn changed_line(alloc: Global, pmid: Pmid) -> Result<Bytes, NoMemory>
+    ensures { IfOk result (λ line. line ≡ result_line (Changed pmid)) }
+{
+    let domain = pmid.domain();
+    let cluster = pmid.cluster();
+    let item = pmid.item();
+    let line = format!(in alloc; "changed {domain}.{cluster}.{item}\n")?;
+    Ok(List::from_vec(line.into_bytes()))
+}
+
+// What of an archive is full.
+fn part_name(file: FileId) -> &'static str
+    ensures { result.now ≡ part_name file }
+{
+    match file {
+        FileId::Meta => "meta",
+        FileId::Index => "index",
+        FileId::Volume(_) => "volume",
+    }
+}
+
+fn full_line(alloc: Global, file: FileId, bytes: u64) -> Result<Bytes, NoMemory>
+    ensures { IfOk result (λ line. line ≡ result_line (Full file bytes)) }
+{
+    let part = part_name(file);
+    let line = format!(in alloc; "limit {part} {bytes}\n")?;
+    Ok(List::from_vec(line.into_bytes()))
+}
+
 /// Why a command turns files away, or finds nothing in them.
 #[derive(Clone, Copy, Debug, PartialEq, Eq)]
 pub enum FilesRefusal {
-    /// The files aren't empty; such an archive is gone on with later.
-    LaterDisk,
+    /// The archive doesn't take the result.
+    Unlogged(ResultRefusal),
     /// The file stands under its name with `.xz` or `.gz` added.
     Compressed { file: FileId },
     /// The file fits no archive from this byte on.
@@ -128,7 +211,7 @@ impl FilesRefusal {
         ensures { result ≡ files_status self.now }
     {
         match self {
-            FilesRefusal::LaterDisk => 15,
+            FilesRefusal::Unlogged(reason) => reason.status(),
             FilesRefusal::Compressed { .. } | FilesRefusal::NotArchive { .. } => 6,
             FilesRefusal::Nothing { .. } => 11,
         }
@@ -140,7 +223,10 @@ impl FilesRefusal {
         ensures numbered { OnErr result (IsSome (numbered_files_line self.now)) }
     {
         match self {
-            FilesRefusal::LaterDisk => Ok(None),
+            FilesRefusal::Unlogged(reason) => {
+                let line = reason.line(alloc)?;
+                Ok(Some(line))
+            }
             FilesRefusal::Compressed { file } => {
                 let line = compressed_line(alloc, *file)?;
                 Ok(Some(line))
@@ -161,8 +247,8 @@ impl FilesRefusal {
         ensures { result.now ≡ plain_files_line self.now }
     {
         match self {
-            FilesRefusal::LaterDisk => b"later disk\n",
-            FilesRefusal::Compressed { .. }
+            FilesRefusal::Unlogged(_)
+            | FilesRefusal::Compressed { .. }
             | FilesRefusal::NotArchive { .. }
             | FilesRefusal::Nothing { .. } => b"",
         }

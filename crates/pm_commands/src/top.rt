@@ -4,7 +4,7 @@ ghost use Rattle.pcp_model.specs.Disk.{IsSettled, contents_of};
 ghost use Rattle.pcp_outside.specs.Causes.{Rose};
 ghost use Rattle.pm_commands.specs.CommandLine.{FitsCommand};
 ghost use Rattle.pm_commands.specs.Ends.{Serves, Runs, Ends, EndsDone, MayLeave, MayBeLeft};
-ghost use Rattle.pm_commands.specs.Facts.{UsageIsExact, LimitIsExact, InputFaultIsExact, LaterIsExact, ArchiveFaultIsExact, NothingIsThere, IsAside, IsInputless, IsRefused, Unwritten, IsGoodRun, Keeps};
+ghost use Rattle.pm_commands.specs.Facts.{UsageIsExact, LimitIsExact, InputFaultIsExact, UnloggedIsExact, ArchiveFaultIsExact, NothingIsThere, IsAside, IsInputless, IsRefused, Unwritten, IsGoodRun, Keeps};
 ghost use Rattle.pm_commands.specs.Inputs.{input_limit};
 ghost use Rattle.pm_commands.specs.Meanings.{meaning};
 ghost use Rattle.pm_commands.specs.Sides.{source_side, sink_side, disk_side, Leaves};
@@ -114,10 +114,10 @@ fn answer<I: Source, O: Sink, D: Disk>(
 
 /// Runs the command that the words are, and answers the exit status; where it isn't 0, the last line of the output says
 /// why it ended. 0: done. 1: the words are no command. 2: the input is no image, or no layout text. 3, 4, 5: the source,
-/// the sink or the disk failed. 6: the archive is turned away. 7: the input is above 16 MiB. 9: memory was refused, before the
-/// first write to the disk, or of `recover` after the last. 11: nothing is there at the moment that was asked for.
-/// 15: files that aren't empty, which are gone on with later. What is looked at first comes first: the words, the input, the
-/// disk, the writes, the output.
+/// the sink or the disk failed. 6: the archive is turned away. 7: the input is above 16 MiB, a record is too long, or a file is full. 9: memory was refused; what stands
+/// then is what stood, what recovery left, or the archive as it was opened. 11: nothing is there at the moment that was asked for.
+/// 12: the archive has a stamp that isn't before the result's. 13: it describes a metric otherwise. What is looked at first comes
+/// first: the words, the input, the recovery of the disk, the run, the output.
 pub fn offline<I: Source, O: Sink, D: Disk>(
     alloc: Global,
     words: &[String],
@@ -138,8 +138,8 @@ pub fn offline<I: Source, O: Sink, D: Disk>(
     ensures read_fault { result ≡ 3 → Rose (I.faults input.old) (I.faults input.new) }
     ensures write_fault { result ≡ 4 → Rose (O.faults out.old) (O.faults out.new) }
     ensures disk_fault { result ≡ 5 → Rose (D.faults disk.old) (D.faults disk.new) }
-    ensures input_limit { LimitIsExact (map string_bytes words.now) (source_side I.Source input.old input.new) result }
-    ensures later { LaterIsExact (map string_bytes words.now) (source_side I.Source input.old input.new) (disk_side D.Disk disk.old disk.new) result }
+    ensures input_limit { LimitIsExact (map string_bytes words.now) (source_side I.Source input.old input.new) (disk_side D.Disk disk.old disk.new) result }
+    ensures unlogged { UnloggedIsExact (map string_bytes words.now) (source_side I.Source input.old input.new) (disk_side D.Disk disk.old disk.new) result }
     ensures nothing_there { NothingIsThere (map string_bytes words.now) (source_side I.Source input.old input.new) (disk_side D.Disk disk.old disk.new) result }
     ensures archive_fault { ArchiveFaultIsExact (map string_bytes words.now) (source_side I.Source input.old input.new) (disk_side D.Disk disk.old disk.new) result }
 
@@ -165,7 +165,7 @@ pub fn offline<I: Source, O: Sink, D: Disk>(
     ensures any_moment { Leaves D.Disk disk.old disk.new (MayBeLeft (map string_bytes words.now) (source_side I.Source input.old input.new)) }
 
     // Once it has ended with 0, each crash leaves what the command keeps, until something else touches the disk.
-    ensures kept { result ≡ 0 → D.tells → Keeps (map string_bytes words.now) (source_side I.Source input.old input.new) (D.held disk.new) }
+    ensures kept { result ≡ 0 → D.tells → Keeps (map string_bytes words.now) (source_side I.Source input.old input.new) (D.held disk.old) (D.held disk.new) }
 {
     answer(alloc, words, input, out, disk)
 }

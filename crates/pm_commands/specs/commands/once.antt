@@ -1,63 +1,83 @@
--- `once SEC USEC FILE` reads an image and logs the one result of its run, over files that hold nothing.
-use Rattle.std.specs.Prelude.{◌≡◌, ℕ, ◌<◌, ◌≤◌, List, [], ◌∷◌, length, codes, true, Some, Ok}
-use Rattle.pcp_base.specs.declared.file.FileId.{FileId}
-use Rattle.pcp_base.specs.declared.result.Item.{Item}
-use Rattle.pcp_model.specs.Disk.{Files, contents_of, IsEmpty, IsSettled}
+-- `once SEC USEC FILE` reads an image and logs the one result of its run, over any files: they are recovered, and the archive is
+-- created or gone on with.
+use Rattle.std.specs.Prelude.{◌≡◌, ◌⊎◌, ℕ, ◌≤◌, List, [], ◌∷◌, length, codes, true, Option, Some, None, Ok}
+use Rattle.pcp_model.specs.Archive.{ArchiveReading, Reads}
+use Rattle.pcp_model.specs.Disk.{Files, Holdings, IsSettled, contents_of}
+use Rattle.pcp_model.specs.Recovered.{Recovers}
 use Rattle.mmv_faults.specs.Faults.{image_of}
-use Rattle.record_run.specs.Archives.{run_files, run_item}
-use Rattle.record_run.specs.Pieces.{NoneOrOne, HasItem}
+use Rattle.archive_recovery.specs.RecoverFaults.{IsRefused}
+use Rattle.fetch_engine.specs.declared.fetch.Fetched.{Fetched}
+use Rattle.logger_core.specs.declared.fault.LogFault.{LogFault}
+use Rattle.logger_core.specs.declared.fault.LogFault.TheVariants as faults
+use Rattle.record_run.specs.ImageCrashes.{IsAllAfter, MayBeAfter}
+use Rattle.record_run.specs.ImageFaults.{IsTurnedAway, IsUnloggable, StandsStill}
+use Rattle.record_run.specs.ImageRuns.{RunsTo, items_of_run, result_of}
 use Rattle.record_run.specs.Runs.{metrics_of}
-use Rattle.pm_commands.specs.declared.stage.FilesRefusal.TheVariants.{LaterDisk}
+use Rattle.pm_commands.specs.declared.stage.FilesRefusal.{FilesRefusal}
+use Rattle.pm_commands.specs.declared.stage.FilesRefusal.TheVariants.{Unlogged, Compressed, NotArchive, Nothing}
+use Rattle.pm_commands.specs.declared.stage.ResultRefusal.{ResultRefusal}
+use Rattle.pm_commands.specs.declared.stage.ResultRefusal.TheVariants.{Large, NotLater, Changed, Full}
 use Rattle.pm_commands.specs.declared.words.OnceWords.{OnceWords}
 use Rattle.pm_commands.specs.Inputs.{input_limit, image_refusal, made_of}
 use Rattle.pm_commands.specs.Meaning.{Meaning}
-use Rattle.pm_commands.specs.Sides.{DiskSide}
+use Rattle.pm_commands.specs.Sides.{DiskSide, Found}
 
 -- an input is an image of these words, within the limit
 pub record IsImageInput (input words : List ℕ) : Type 0 where
   pub within : length input ≤ input_limit
   pub image : image_of input ≡ Ok words
 
--- some file holds a byte
-abbrev pub HasByte : Files → Type 0
-HasByte files = (file : FileId) × (0 < length (files file))
-
 -- how many results are logged of these metrics
 abbrev pub logged_line : List ℕ → List ℕ
 logged_line [] = codes "logged 0\n"
 logged_line (pmid ∷ pmids) = codes "logged 1\n"
 
--- where a metric is asked for, the item is there, and described; else there is no byte
-abbrev pub HasLogged : List ℕ → Item → Files → Type 0
-HasLogged [] item crash = IsEmpty crash
-HasLogged (pmid ∷ pmids) item crash = HasItem crash item
+-- what is so of the result of an input's image, if there is one
+abbrev pub OfRun : OnceWords → List ℕ → (Option Fetched → Type 0) → Type 0
+OfRun asked input P = (image : List ℕ) × IsImageInput input image × P (result_of asked.stamp asked.file image)
 
--- no item is there, or the one, and then its description
-abbrev pub MayHaveLogged : List ℕ → Item → Files → Type 0
-MayHaveLogged [] item crash = ⊥
-MayHaveLogged (pmid ∷ pmids) item crash = NoneOrOne crash item
+abbrev pub fault_of_result : ResultRefusal → LogFault
+fault_of_result (Large bytes) = faults.Large bytes
+fault_of_result (NotLater last) = faults.NotLater last
+fault_of_result (Changed pmid) = faults.Changed pmid
+fault_of_result (Full file bytes) = faults.Full file bytes
 
--- The files were empty, and are those of the image's run; all but the index entry is sure.
-pub record IsLogged (asked : OnceWords) (input : List ℕ) (d : DiskSide) : Type 0 where
-  pub image : List ℕ
-  pub is_image : IsImageInput input image
-  pub empty : d.tells → IsEmpty (contents_of d.held)
-  pub files : d.tells → (file : FileId) → contents_of d.after file ≡ run_files asked.stamp asked.file image file
+-- the archive that these files are recovered to doesn't take the result
+abbrev pub TakesNot : Files → Option Fetched → LogFault → Type 0
+TakesNot files None e = ⊥
+TakesNot files (Some f) e = (reading : ArchiveReading) × Reads files reading × (left : Files) × Recovers files reading left × IsUnloggable left f e
+
+abbrev pub turned : Found → Option Fetched → FilesRefusal → Type 0
+turned found o (Compressed file) = found.wrapped ≡ Some file
+turned found o (NotArchive file at) = (found.wrapped ≡ None) × IsRefused found.files file at
+turned found o (Unlogged reason) = (found.wrapped ≡ None) × TakesNot found.files o (fault_of_result reason)
+turned found o (Nothing stamp) = ⊥
+
+-- The files are those of the image's run, and settled.
+pub record IsLogged (o : Option Fetched) (d : DiskSide) : Type 0 where
+  pub unwrapped : d.tells → d.wrapped ≡ None
+  pub files : d.tells → RunsTo o (contents_of d.held) (contents_of d.after)
   pub settled : d.tells → IsSettled d.after
 
--- what is so of the metrics and the item of an input's image
-abbrev pub OfRun : OnceWords → List ℕ → (List ℕ → Item → Files → Type 0) → Files → Type 0
-OfRun asked input P crash = (image : List ℕ) × IsImageInput input image × P (metrics_of asked.file image) (run_item asked.stamp asked.file image) crash
+-- Where memory was wanting, or the result isn't taken, the archive stands as recovery left it, or as it was opened; it is settled.
+abbrev pub Stands : Option Fetched → DiskSide → Type 0
+Stands None d = ⊥
+Stands (Some f) d = (reading : ArchiveReading) × Reads (contents_of d.held) reading × (left : Files) × Recovers (contents_of d.held) reading left
+    × (StandsStill left f d.after ⊎ ((e : LogFault) × IsTurnedAway left f d.after e))
+
+-- After a disk fault the run is on its way.
+abbrev pub begun : ℕ → Option Fetched → DiskSide → Type 0
+begun status o d = (status ≡ 5) ⊎ (d.tells → Stands o d)
 
 abbrev pub once : OnceWords → Meaning
 once asked = record {
   reads = Some (λ input. image_refusal (image_of input));
   uses_disk = true;
-  turns_away = λ input found e. (e ≡ LaterDisk) × HasByte found.files;
-  done = IsLogged asked;
+  turns_away = λ input found e. OfRun asked input (λ o. turned found o e);
+  done = λ input d. OfRun asked input (λ o. IsLogged o d);
   says = λ input d text. text ≡ made_of (λ image. logged_line (metrics_of asked.file image)) (image_of input);
   begins = λ input d front. front ≡ [];
-  keeps = λ input crash. OfRun asked input HasLogged crash;
-  begun = λ status input d. (status ≡ 5) × (d.tells → IsEmpty (contents_of d.held));
-  may_leave = λ input held crash. IsEmpty (contents_of held) × OfRun asked input MayHaveLogged crash;
+  keeps = λ input held crash. OfRun asked input (λ o. IsAllAfter (items_of_run o) (contents_of held) crash);
+  begun = λ status input d. OfRun asked input (λ o. begun status o d);
+  may_leave = λ input held crash. OfRun asked input (λ o. MayBeAfter (items_of_run o) held crash);
 }

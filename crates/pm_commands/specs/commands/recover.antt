@@ -8,7 +8,7 @@ use Rattle.pcp_model.specs.Recovered.{Recovers}
 use Rattle.archive_recovery.specs.Halfway.{MayBeHalfway}
 use Rattle.archive_recovery.specs.RecoverFaults.{IsRefused}
 use Rattle.pm_commands.specs.declared.stage.FilesRefusal.{FilesRefusal}
-use Rattle.pm_commands.specs.declared.stage.FilesRefusal.TheVariants.{LaterDisk, Compressed, NotArchive, Nothing}
+use Rattle.pm_commands.specs.declared.stage.FilesRefusal.TheVariants.{Unlogged, Compressed, NotArchive, Nothing}
 use Rattle.pm_commands.specs.Meaning.{Meaning}
 use Rattle.pm_commands.specs.Sides.{DiskSide, Found}
 
@@ -16,7 +16,7 @@ use Rattle.pm_commands.specs.Sides.{DiskSide, Found}
 abbrev pub turned : Found → FilesRefusal → Type 0
 turned found (Compressed file) = found.wrapped ≡ Some file
 turned found (NotArchive file at) = (found.wrapped ≡ None) × IsRefused found.files file at
-turned found LaterDisk = ⊥
+turned found (Unlogged reason) = ⊥
 turned found (Nothing stamp) = ⊥
 
 -- the files were read, and what is left is what recovery leaves, all of it sure
@@ -45,7 +45,7 @@ recover = record {
   done = λ input d. d.tells → IsMendedSide d;
   says = λ input d text. d.tells → said (contents_of d.held) text;
   begins = λ input d front. front ≡ [];
-  keeps = λ input crash. Unit {0};
+  keeps = λ input held crash. Unit {0};
   begun = λ status input d. begun status d;
   may_leave = λ input held crash. MayBeHalfway held crash;
 }
