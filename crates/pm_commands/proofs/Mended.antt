@@ -20,16 +20,16 @@ use Rattle.pm_commands.specs.Ends.{HasServed, IsNever}
 use Rattle.pm_commands.specs.Refusals.{recover_refusal, files_status}
 use Rattle.pm_commands.specs.Sides.{DiskSide, Found, found, disk_side}
 use Rattle.pm_commands.specs.commands.recover.{IsMendedSide, items_line, recover, turned}
-use Rattle.pm_commands.proofs.Served.{still_settled}
+use Rattle.pm_commands.proofs.Served.{left_alone, still_settled}
 
 counted : (left : Files) (r : ArchiveReading) (a : Archive) → IsToldOf left r a → a.items ≡ length (scan r)
 counted left ArchiveReading.nothing a told = told.no_items
 counted left (ArchiveReading.archive c) a told = told.counted
 
-all_settled : (held : Holdings) → ((file : FileId) → (held file).rest ≡ []) → IsSettled held
+pub all_settled : (held : Holdings) → ((file : FileId) → (held file).rest ≡ []) → IsSettled held
 all_settled held sure = record { meta = sure _; index = inr (sure _); volumes = λ k. sure _ }
 
-not_both : (w : Option FileId) (file : FileId) → w ≡ None → w ≡ Some file → ⊥
+pub not_both : (w : Option FileId) (file : FileId) → w ≡ None → w ≡ Some file → ⊥
 not_both w file none some = let e : None ≡ Some file = sym none ∙ some in cc
 
 never_turned : (f : Found) (e : FilesRefusal) → f.wrapped ≡ None → IsNever e → turned f e → ⊥
@@ -38,7 +38,7 @@ never_turned f (Compressed file) none never t = not_both f.wrapped file none t
 never_turned f (NotArchive file at) none never t = never
 never_turned f (Nothing stamp) none never t = never
 
--- over a disk that isn't empty, nothing else is refused; where a file stands wrapped, the archive is turned away
+-- where a file stands wrapped, the archive is turned away
 pub recover_wrapped : (f : Found) (file : FileId) (e : FilesRefusal) → turned f (Compressed file) → turned f e → files_status e ≡ 6
 recover_wrapped f file (Unlogged reason) w t = absurd t
 recover_wrapped f file (Compressed other) w t = refl
@@ -77,7 +77,7 @@ module _ {D : Type 0} (g : DiskGhosts D) (a b : D) (input : List ℕ) where
   -- why it is refused
   pub stops : (fault : RecoverFault) → (g.tells → IsRecoverFault (g.wrapped_file a) (contents_of (g.held a)) fault) → (g.tells → fault ≢ faults.DiskFault → g.held b ≡ g.held a) → (fault ≡ faults.DiskFault → Rose (g.faults a) (g.faults b))
       → StopCause recover input side (recover_refusal fault)
-  stops (faults.Compressed file) why kept rose = ((refl, refl), (λ tells. kept tells (λ e. cc), λ tells. why tells))
-  stops (faults.NotArchive file at) why kept rose = ((refl, refl), (λ tells. kept tells (λ e. cc), λ tells. why tells))
+  stops (faults.Compressed file) why kept rose = ((refl, refl), (left_alone recover 6 input side (λ tells. kept tells (λ e. cc)), λ tells. why tells))
+  stops (faults.NotArchive file at) why kept rose = ((refl, refl), (left_alone recover 6 input side (λ tells. kept tells (λ e. cc)), λ tells. why tells))
   stops faults.DiskFault why kept rose = ((refl, refl), (record { files = inr (inl refl); settled = λ other. absurd (other refl) }, rose refl))
   stops faults.NoMemory why kept rose = record { files = inl (λ tells. kept tells (λ e. cc)); settled = λ other. still_settled side (λ tells. kept tells (λ e. cc)) }

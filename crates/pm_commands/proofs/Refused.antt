@@ -120,7 +120,7 @@ labelled_below files l n whole k lt = ⊎_elim (λ (none : files (Volume k) ≡ 
     begins : (items : List Item) → LabelledFile IsItem (files (Volume k)) l (pos k) items [] → IsLabelled (files (Volume k)) l k
     begins items h = subst (λ t. IsLabel t l (pos k)) (sym (ap (take 132) h.is ∙ take_at h.head (frames h.payloads ++ []) 132 (length_of_label h.head l (pos k) h.label))) h.label
 
-refused_is_none : (files : Files) (file : FileId) (place : ℕ) → Readable files → IsRefused files file place → ⊥
+pub refused_is_none : (files : Files) (file : FileId) (place : ℕ) → Readable files → IsRefused files file place → ⊥
 refused_is_none files Meta place readable stops = loads_readable files Meta place readable stops
 refused_is_none files Index place readable (inl stops) = loads_readable files Index place readable (inl stops)
 refused_is_none files Index place readable (inr (same, l, records, entries, b)) = loads_readable files Index place readable (inr (same, l, records, entries, b.head, b.some, b.short))

@@ -1,6 +1,7 @@
 -- What a command does with its input, told of the words and the source.
-use Rattle.std.proofs.Common.{◌≡◌, inl, inr, ⊎_elim, ℕ, Bool, true, false, List, [], ◌++◌, length, Result, Ok, Err, IsSome, refl, ap, ◌∙◌, subst, sym, arith}
+use Rattle.std.proofs.Common.{◌≡◌, inl, inr, ⊎_elim, ℕ, ◌≤◌, Option, Some, None, Bool, true, false, List, [], ◌++◌, length, Result, Ok, Err, IsSome, refl, ap, ◌∙◌, subst, sym, arith}
 use Rattle.std.specs.Prelude.{if◌then◌else◌}
+use Rattle.std.proofs.lemmas.List.{drop_all}
 use Rattle.pcp_model.specs.Disk.{Files, Holdings, CrashImage, IsSettled}
 use Rattle.pcp_outside.specs.declared.streams.Sink.{Ghosts as SinkGhosts}
 use Rattle.pm_commands.specs.declared.output.Output.{Output}
@@ -12,17 +13,25 @@ use Rattle.pm_commands.specs.declared.stage.Stop.{Stop}
 use Rattle.pm_commands.specs.declared.stage.Stop.TheVariants.{OutOfMemory, Refused}
 use Rattle.pm_commands.specs.declared.stage.Usage.{Usage}
 use Rattle.pm_commands.specs.declared.words.Command.{Command}
-use Rattle.pm_commands.specs.Causes.{Asks, Left, StopCause, UnreadCause, Cause}
+use Rattle.pm_commands.specs.Causes.{Asks, Got, Left, StopCause, TookSome, UnreadCause, Cause}
 use Rattle.pm_commands.specs.CommandLine.{command_of, Reads}
 use Rattle.pm_commands.specs.Ends.{HasRun, HasBegun, Serves, Runs, Told, Ends, MayLeave, MayBeLeft, shown}
-use Rattle.pm_commands.specs.Inputs.{Refuses}
+use Rattle.pm_commands.specs.Inputs.{Refuses, input_limit}
 use Rattle.pm_commands.specs.Meaning.{Meaning}
 use Rattle.pm_commands.specs.Meanings.{meaning}
 use Rattle.pm_commands.specs.Refusals.{status_of, line_of, stopped}
 use Rattle.pm_commands.specs.Sides.{SourceSide, SinkSide, DiskSide, NotAsked, Untouched, sink_side}
 use Rattle.pm_commands.specs.Streams.{IsSent, Finishes}
-use Rattle.pm_commands.proofs.Memory.{took_some}
 use Rattle.pm_commands.proofs.Sending.{front_taken, sent_on}
+
+-- all of a source was taken
+all_taken : (s : SourceSide) → length s.left ≤ input_limit → s.after ≡ [] → TookSome s
+all_taken s within all = (length s.left, omega arith, all ∙ sym (drop_all (length s.left) s.left (omega arith)))
+
+-- what was got was taken
+pub took_some : (s : SourceSide) (reads : Option (List ℕ → Option InputRefusal)) (input : List ℕ) → Got reads s input → s.tells → TookSome s
+took_some s None input got tells = (0, omega arith, got.1 tells)
+took_some s (Some refuses) input got tells = all_taken s (subst (λ bytes. length bytes ≤ input_limit) (got.told tells).0 got.within) (got.told tells).1
 
 -- a disk that holds what it held is settled if it was
 pub still_settled : (d : DiskSide) → Untouched d → d.tells → IsSettled d.held → IsSettled d.after

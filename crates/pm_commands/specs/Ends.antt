@@ -28,7 +28,7 @@ told_of (Err e) = Err e
 
 -- over files that are turned away so, no command is done
 abbrev pub IsNever : FilesRefusal → Type 0
-IsNever (Unlogged reason) = ⊥
+IsNever (Unlogged reason) = Unit {0}
 IsNever (Compressed file) = Unit {0}
 IsNever (NotArchive file at) = ⊥
 IsNever (Nothing stamp) = ⊥

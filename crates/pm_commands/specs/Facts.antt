@@ -66,10 +66,14 @@ pub record InputFaultIsExact (words : List (List ℕ)) (s : SourceSide) (status 
   pub only : status ≡ 2 → (e : InputRefusal) × (input_status e ≡ 2) × Finds words s e
   pub always : (a : Meets words s) → (e : InputRefusal) → input_status e ≡ 2 → refused_of a ≡ Some e → (status ≡ 2) ⊎ ((status ≡ 9) ⊎ (status ≡ 3))
 
--- 12 and 13 only where the archive doesn't take the result: it isn't later, or a metric is described otherwise
+-- 12 only where the result isn't later than all that the archive has, 13 only where that describes a metric otherwise. Where the
+-- archive doesn't take the result, the status is always that of the one reason: 12, 13, or 7 where a record is too long or a file
+-- full; a disk that fails comes before.
 pub record UnloggedIsExact (words : List (List ℕ)) (s : SourceSide) (d : DiskSide) (status : ℕ) : Type 0 where
   pub not_later : status ≡ 12 → (last : Moment) × TurnsAway words s d (Unlogged (NotLater last))
   pub changed : status ≡ 13 → (pmid : ℕ) × TurnsAway words s d (Unlogged (Changed pmid))
+  pub always : (a : Meets words s) → refused_of a ≡ None → d.tells → (reason : ResultRefusal) → (meaning a.command).turns_away a.input (found d) (Unlogged reason)
+      → (status ≡ result_status reason) ⊎ ((status ≡ 9) ⊎ ((status ≡ 3) ⊎ (status ≡ 5)))
 
 -- 6 only where the archive is turned away: a file stands wrapped, or a place fits no archive; always in the first case, unless the
 -- disk fails before

@@ -1,6 +1,7 @@
 -- What a call found of each object outside, and left of it. Each side is named once, by its trait's ghosts.
 use Rattle.std.specs.Prelude.{◌≡◌, ℕ, List, Option}
 use Rattle.pcp_base.specs.declared.file.FileId.{FileId}
+use Rattle.pcp_model.specs.Archive.{Readable}
 use Rattle.pcp_model.specs.Disk.{Files, Holdings, contents_of}
 use Rattle.pcp_outside.specs.declared.streams.Source.{Ghosts as SourceGhosts}
 use Rattle.pcp_outside.specs.declared.streams.Sink.{Ghosts as SinkGhosts}
@@ -60,3 +61,7 @@ Untouched d = d.tells → d.after ≡ d.held
 -- a crash at any moment of the call leaves only what P allows over what the disk held
 abbrev pub Leaves : {D : Type 0} → DiskGhosts D → D → D → (Holdings → Files → Type 0) → Type 0
 Leaves g old new P = g.tells → LeavesOnly g.moment g.left_since old new (P (g.held old))
+
+-- the files of a disk are no archive, and no creation that was stopped
+abbrev pub IsUnread : {D : Type 0} → DiskGhosts D → D → Type 0
+IsUnread g old = Readable (contents_of (g.held old)) → ⊥

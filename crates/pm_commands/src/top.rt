@@ -1,13 +1,13 @@
 //! The call that main makes.
 ghost use Rattle.std.specs.Prelude.{◌≡◌, ◌⊎◌, ◌≤◌, length, map, string_bytes, false};
-ghost use Rattle.pcp_model.specs.Disk.{IsSettled, contents_of};
+ghost use Rattle.pcp_model.specs.Disk.{CrashImage, IsSettled, contents_of};
 ghost use Rattle.pcp_outside.specs.Causes.{Rose};
 ghost use Rattle.pm_commands.specs.CommandLine.{FitsCommand};
 ghost use Rattle.pm_commands.specs.Ends.{Serves, Runs, Ends, EndsDone, MayLeave, MayBeLeft};
 ghost use Rattle.pm_commands.specs.Facts.{UsageIsExact, LimitIsExact, InputFaultIsExact, UnloggedIsExact, ArchiveFaultIsExact, NothingIsThere, IsAside, IsInputless, IsRefused, Unwritten, IsGoodRun, Keeps};
 ghost use Rattle.pm_commands.specs.Inputs.{input_limit};
 ghost use Rattle.pm_commands.specs.Meanings.{meaning};
-ghost use Rattle.pm_commands.specs.Sides.{source_side, sink_side, disk_side, Leaves};
+ghost use Rattle.pm_commands.specs.Sides.{source_side, sink_side, disk_side, IsUnread, Leaves};
 ghost use Rattle.pm_commands.specs.Takes.{MayTake, TakesLittle};
 
 use crate::commands::at::at;
@@ -41,6 +41,7 @@ fn serve<O: Sink, D: Disk>(
     ensures serves { Serves (meaning command.now) input.now (sink_side O.Sink out.old out.new) failed.new (disk_side D.Disk disk.old disk.new) result }
     ensures aside { (meaning command.now).uses_disk ≡ false → disk.new ≡ disk.old }
     ensures any_moment { Leaves D.Disk disk.old disk.new (MayLeave (meaning command.now) input.now) }
+    ensures unread { IsUnread D.Disk disk.old → Leaves D.Disk disk.old disk.new CrashImage }
     ensures taken { D.tells → MayTake command.now (contents_of (D.held disk.old)) (D.taken disk.old) (D.taken disk.new) }
 {
     match command {
@@ -76,6 +77,7 @@ fn run<I: Source, O: Sink, D: Disk>(
     ensures aside { IsAside (map string_bytes words.now) → disk.new ≡ disk.old }
     ensures unasked { IsInputless (map string_bytes words.now) → input.new ≡ input.old }
     ensures any_moment { Leaves D.Disk disk.old disk.new (MayBeLeft (map string_bytes words.now) (source_side I.Source input.old input.new)) }
+    ensures unread { IsUnread D.Disk disk.old → Leaves D.Disk disk.old disk.new CrashImage }
     ensures taken { D.tells → TakesLittle (map string_bytes words.now) (contents_of (D.held disk.old)) (D.taken disk.old) (D.taken disk.new) }
 {
     let command = read_words(alloc, words)?;
@@ -95,6 +97,7 @@ fn answer<I: Source, O: Sink, D: Disk>(
     ensures aside { IsAside (map string_bytes words.now) → disk.new ≡ disk.old }
     ensures unasked { IsInputless (map string_bytes words.now) → input.new ≡ input.old }
     ensures any_moment { Leaves D.Disk disk.old disk.new (MayBeLeft (map string_bytes words.now) (source_side I.Source input.old input.new)) }
+    ensures unread { IsUnread D.Disk disk.old → Leaves D.Disk disk.old disk.new CrashImage }
     ensures taken { D.tells → TakesLittle (map string_bytes words.now) (contents_of (D.held disk.old)) (D.taken disk.old) (D.taken disk.new) }
 {
     let mut failed = false;
@@ -114,10 +117,11 @@ fn answer<I: Source, O: Sink, D: Disk>(
 
 /// Runs the command that the words are, and answers the exit status; where it isn't 0, the last line of the output says
 /// why it ended. 0: done. 1: the words are no command. 2: the input is no image, or no layout text. 3, 4, 5: the source,
-/// the sink or the disk failed. 6: the archive is turned away. 7: the input is above 16 MiB, a record is too long, or a file is full. 9: memory was refused; what stands
-/// then is what stood, what recovery left, or the archive as it was opened. 11: nothing is there at the moment that was asked for.
-/// 12: the archive has a stamp that isn't before the result's. 13: it describes a metric otherwise. What is looked at first comes
-/// first: the words, the input, the recovery of the disk, the run, the output.
+/// the sink or the disk failed. 6: the archive is turned away. 7: the input is above 16 MiB, or a record would be too long,
+/// or a file too long. 9: memory was refused: the files stand as they did, or as recovery left them, or the archive as it
+/// was opened. 11: nothing is there at the moment that was asked for. 12: the result isn't later than all that the archive
+/// has. 13: the archive describes a metric otherwise. What is looked at first comes first: the words, the input, the
+/// recovery of the disk, the run, the output.
 pub fn offline<I: Source, O: Sink, D: Disk>(
     alloc: Global,
     words: &[String],
@@ -163,6 +167,9 @@ pub fn offline<I: Source, O: Sink, D: Disk>(
     // Nothing that was there is lost: a crash at any moment leaves what one at the start might have left, or what the
     // command allows over what was there.
     ensures any_moment { Leaves D.Disk disk.old disk.new (MayBeLeft (map string_bytes words.now) (source_side I.Source input.old input.new)) }
+
+    // Files that are no archive stay as they were.
+    ensures unread { IsUnread D.Disk disk.old → Leaves D.Disk disk.old disk.new CrashImage }
 
     // Once it has ended with 0, each crash leaves what the command keeps, until something else touches the disk.
     ensures kept { result ≡ 0 → D.tells → Keeps (map string_bytes words.now) (source_side I.Source input.old input.new) (D.held disk.old) (D.held disk.new) }

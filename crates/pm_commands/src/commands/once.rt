@@ -1,12 +1,13 @@
 //! The command `once SEC USEC FILE`: the result of an image's run is logged, over any files.
 ghost use Rattle.std.specs.Prelude.{◌≡◌, ◌≤◌, length, IfErr, IfOk, OnOk, None};
 ghost use Rattle.mmv_format.specs.Images.{IsImage};
+ghost use Rattle.pcp_model.specs.Disk.{CrashImage};
 ghost use Rattle.record_run.specs.ImageRuns.{AreResults, result_of};
 ghost use Rattle.pm_commands.specs.Causes.{StopCause};
 ghost use Rattle.pm_commands.specs.Ends.{HasServed, MayLeave, shown};
 ghost use Rattle.pm_commands.specs.Inputs.{input_limit, refusal_of, Refuses};
-ghost use Rattle.pm_commands.specs.Sides.{disk_side, Leaves};
-ghost use Rattle.pm_commands.specs.commands.once.{once as meaning_of_once, IsImageInput};
+ghost use Rattle.pm_commands.specs.Sides.{disk_side, IsUnread, Leaves};
+ghost use Rattle.pm_commands.specs.commands.once.{once as meaning_of_once, IsImageInput, count_line};
 
 use crate::output::Output;
 use crate::refusal::Refusal;
@@ -39,6 +40,16 @@ fn prepare(
     Ok(fetched)
 }
 
+// How many results were logged.
+fn told(count: u64) -> Output
+    ensures { shown result ≡ count_line count }
+{
+    if count == 0 {
+        return Output::NothingLogged;
+    }
+    Output::Logged
+}
+
 /// Logs the result of an input's image, over any files.
 pub(crate) fn once<D: Disk>(
     alloc: Global,
@@ -46,14 +57,13 @@ pub(crate) fn once<D: Disk>(
     input: &[u8],
     disk: &mut D,
 ) -> Result<Output, Refusal>
-    requires within { length input.now ≤ input_limit }
+    requires { length input.now ≤ input_limit }
     ensures served { IfOk result (λ output. HasServed (meaning_of_once asked.now) input.now (disk_side D.Disk disk.old disk.new) (shown output)) }
     ensures cause { IfErr result (StopCause (meaning_of_once asked.now) input.now (disk_side D.Disk disk.old disk.new)) }
     ensures any_moment { Leaves D.Disk disk.old disk.new (MayLeave (meaning_of_once asked.now) input.now) }
+    ensures unread { IsUnread D.Disk disk.old → Leaves D.Disk disk.old disk.new CrashImage }
 {
     let fetched = prepare(alloc, asked, input)?;
-    match log_result(alloc, disk, &fetched)? {
-        0 => Ok(Output::NothingLogged),
-        _ => Ok(Output::Logged),
-    }
+    let count = log_result(alloc, disk, &fetched)?;
+    Ok(told(count))
 }

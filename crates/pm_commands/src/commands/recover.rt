@@ -1,8 +1,9 @@
 //! The command `recover`: an archive that was stopped anywhere is mended.
 ghost use Rattle.std.specs.Prelude.{◌≡◌, ℕ, List, IfOk, IfErr};
+ghost use Rattle.pcp_model.specs.Disk.{CrashImage};
 ghost use Rattle.pm_commands.specs.Causes.{StopCause};
 ghost use Rattle.pm_commands.specs.Ends.{HasServed, MayLeave, shown};
-ghost use Rattle.pm_commands.specs.Sides.{disk_side, Leaves};
+ghost use Rattle.pm_commands.specs.Sides.{disk_side, IsUnread, Leaves};
 ghost use Rattle.pm_commands.specs.commands.recover.{recover as meaning_of_recover, items_line};
 
 use crate::output::Output;
@@ -25,6 +26,7 @@ pub(crate) fn recover<D: Disk>(alloc: Global, disk: &mut D) -> Result<Output, Re
     ensures served { (input : List ℕ) → IfOk result (λ output. HasServed meaning_of_recover input (disk_side D.Disk disk.old disk.new) (shown output)) }
     ensures cause { (input : List ℕ) → IfErr result (StopCause meaning_of_recover input (disk_side D.Disk disk.old disk.new)) }
     ensures any_moment { (input : List ℕ) → Leaves D.Disk disk.old disk.new (MayLeave meaning_of_recover input) }
+    ensures unread { IsUnread D.Disk disk.old → Leaves D.Disk disk.old disk.new CrashImage }
 {
     let archive = mend_archive(alloc, disk)?;
     let line = items_line(alloc, archive.items)?;

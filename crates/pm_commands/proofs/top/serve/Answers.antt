@@ -147,3 +147,24 @@ returns-in-At-clause-taken g c = λ tells. subst (λ (command : Command). MayTak
 
 pub returns-in-Range-clause-taken : goal.returns-in-Range-clause-taken
 returns-in-Range-clause-taken g c = λ tells. subst (λ (command : Command). MayTake command (contents_of (g.D.Disk.held c.args.disk.now)) (g.D.Disk.taken c.args.disk.now) (g.D.Disk.taken c.range.new.disk)) (sym c.in-Range.is) (c.range.ensures.taken tells)
+
+pub returns-in-Once-clause-unread : goal.returns-in-Once-clause-unread
+returns-in-Once-clause-unread g c = λ none tells. c.once.ensures.unread none tells
+
+pub returns-in-Dump-clause-unread : goal.returns-in-Dump-clause-unread
+returns-in-Dump-clause-unread g c = λ none tells. c.dump.ensures.looks.moments tells
+
+pub returns-in-Info-clause-unread : goal.returns-in-Info-clause-unread
+returns-in-Info-clause-unread g c = λ none tells. c.info.ensures.looks.moments tells
+
+pub returns-in-At-clause-unread : goal.returns-in-At-clause-unread
+returns-in-At-clause-unread g c = λ none tells. c.at.ensures.looks.moments tells
+
+pub returns-in-Range-clause-unread : goal.returns-in-Range-clause-unread
+returns-in-Range-clause-unread g c = λ none tells. c.range.ensures.looks.moments tells
+
+pub returns-in-Value-clause-unread : goal.returns-in-Value-clause-unread
+returns-in-Value-clause-unread g c = λ none tells. c.value.ensures.looks.moments tells
+
+pub returns-in-Recover-clause-unread : goal.returns-in-Recover-clause-unread
+returns-in-Recover-clause-unread g c = λ none tells. c.recover.ensures.unread none tells
