@@ -153,41 +153,6 @@ impl From<RunFault> for Refusal {
     }
 }
 
-/// A logger's fault, as a refusal.
-fn of_log(fault: LogFault) -> Refusal
-    ensures { result ≡ log_refusal fault }
-{
-    match fault {
-        LogFault::Large { bytes } => unlogged(ResultRefusal::Large { bytes }),
-        LogFault::NotLater { last } => unlogged(ResultRefusal::NotLater { last }),
-        LogFault::Changed { pmid } => unlogged(ResultRefusal::Changed { pmid }),
-        LogFault::Full { file, bytes } => unlogged(ResultRefusal::Full { file, bytes }),
-        LogFault::NoMemory => Refusal::NoMemory,
-        // No logger is closed before it logs.
-        LogFault::Closed | LogFault::DiskFault => Refusal::Disk(DiskRefusal::DiskFault),
-    }
-}
-
-fn unlogged(reason: ResultRefusal) -> Refusal
-    ensures { result ≡ Disk (Files (Unlogged reason)) }
-{
-    Refusal::Disk(DiskRefusal::Files(FilesRefusal::Unlogged(reason)))
-}
-
-impl From<RunFault> for Refusal {
-    ghost use Rattle.pm_commands.specs.Refusals.{run_refusal};
-
-    ghost from_gives = { λ fault e. e ≡ run_refusal fault };
-
-    fn from(fault: RunFault) -> Refusal {
-        match fault {
-            RunFault::Recovery(fault) => Refusal::from(fault),
-            RunFault::Logging(fault) => of_log(fault),
-            RunFault::NoMemory => Refusal::NoMemory,
-        }
-    }
-}
-
 impl From<NoMemory> for Refusal {
     ghost use Rattle.pm_commands.specs.declared.refusal.Refusal.TheVariants.{NoMemory as Stopped};
 
