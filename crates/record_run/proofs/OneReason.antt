@@ -278,8 +278,12 @@ one_greatest c timely (Some s) (Some t) x y =
 
 -- ---- one archive is opened, and what is kept of it in numbers is one
 
+abbrev first_number : List (ℕ × List Item) → ℕ
+first_number [] = 0
+first_number (v ∷ vs) = v.0
+
 last_number : (a b : List (ℕ × List Item)) (m n : ℕ) (xs ys : List Item) → a ++ (m, xs) ∷ [] ≡ b ++ (n, ys) ∷ [] → m ≡ n
-last_number [] [] m n xs ys same = cc
+last_number [] [] m n xs ys same = ap first_number same
 last_number [] (v ∷ b) m n xs ys same = absurd (omega (arith, ap length same, length-append b ((n, ys) ∷ [])))
 last_number (v ∷ a) [] m n xs ys same = absurd (omega (arith, ap length same, length-append a ((m, xs) ∷ [])))
 last_number (v ∷ a) (w ∷ b) m n xs ys same = last_number a b m n xs ys (let e : a ++ (m, xs) ∷ [] ≡ b ++ (n, ys) ∷ [] = cc in e)
