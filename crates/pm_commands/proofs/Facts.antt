@@ -142,15 +142,18 @@ module _ (words : List (List ℕ)) (s : SourceSide) (k : SinkSide) (d : DiskSide
   abbrev LimitCause : Type 0
   LimitCause = (IsReader words × (s.tells → (input_limit < length s.left) × (s.after ≡ drop 16777217 s.left))) ⊎ ((reason : ResultRefusal) × (result_status reason ≡ 7) × TurnsAway words s d (Unlogged reason))
 
+  limit_files : (e : FilesRefusal) → TurnsAway words s d e → files_status e ≡ 7 → LimitCause
+  limit_files (Unlogged reason) away h = inr (reason, h, away)
+  limit_files (Compressed file) away h = cc
+  limit_files (NotArchive file at) away h = cc
+  limit_files (Nothing stamp) away h = cc
+
   limit_only : (e : Refusal) → Caused e → status_of e ≡ 7 → LimitCause
   limit_only (Words usage) c h = cc
   limit_only (Reading ReadFault) c h = cc
   limit_only (Reading InputLimit) c h = inl (c.0, c.1)
   limit_only (Input e) c h = absurd (input_never 7 (omega arith) e h)
-  limit_only (Disk (FilesAway (Unlogged reason))) c h = inr (reason, h, turned_away (Unlogged reason) c)
-  limit_only (Disk (FilesAway (Compressed file))) c h = cc
-  limit_only (Disk (FilesAway (NotArchive file at))) c h = cc
-  limit_only (Disk (FilesAway (Nothing stamp))) c h = cc
+  limit_only (Disk (FilesAway e)) c h = limit_files e (turned_away e c) h
   limit_only (Disk DiskFault) c h = cc
   limit_only NoMemory c h = cc
 
@@ -208,36 +211,44 @@ module _ (words : List (List ℕ)) (s : SourceSide) (k : SinkSide) (d : DiskSide
   read_low ReadFault = omega arith
   read_low InputLimit = omega arith
 
-  read_never : (n : ℕ) → 7 < n → (e : ReadRefusal) → reading_status e ≡ n → ⊥
-  read_never n high e h = omega (arith, high, h, read_low e)
+  -- a status above 9 comes of the files
+  of_files : (e : Refusal) (n : ℕ) → 9 < n → Caused e → status_of e ≡ n → (x : FilesRefusal) × (files_status x ≡ n) × TurnsAway words s d x
+  of_files (Words usage) n high c h = absurd (omega (arith, high, h))
+  of_files (Reading e) n high c h = absurd (omega (arith, high, h, read_low e))
+  of_files (Input e) n high c h = absurd (omega (arith, high, h, input_two e))
+  of_files (Disk (FilesAway e)) n high c h = (e, h, turned_away e c)
+  of_files (Disk DiskFault) n high c h = absurd (omega (arith, high, h))
+  of_files NoMemory n high c h = absurd (omega (arith, high, h))
+
+  not_later_files : (x : FilesRefusal) → files_status x ≡ 12 → TurnsAway words s d x → (last : Moment) × TurnsAway words s d (Unlogged (NotLater last))
+  not_later_files (Unlogged reason) h away = by reason h away
+    where
+      by : (r : ResultRefusal) → result_status r ≡ 12 → TurnsAway words s d (Unlogged r) → (last : Moment) × TurnsAway words s d (Unlogged (NotLater last))
+      by (Large bytes) h away = cc
+      by (NotLater last) h away = (last, away)
+      by (Changed pmid) h away = cc
+      by (Full file bytes) h away = cc
+  not_later_files (Compressed file) h away = cc
+  not_later_files (NotArchive file at) h away = cc
+  not_later_files (Nothing stamp) h away = cc
+
+  changed_files : (x : FilesRefusal) → files_status x ≡ 13 → TurnsAway words s d x → (pmid : ℕ) × TurnsAway words s d (Unlogged (Changed pmid))
+  changed_files (Unlogged reason) h away = by reason h away
+    where
+      by : (r : ResultRefusal) → result_status r ≡ 13 → TurnsAway words s d (Unlogged r) → (pmid : ℕ) × TurnsAway words s d (Unlogged (Changed pmid))
+      by (Large bytes) h away = cc
+      by (NotLater last) h away = cc
+      by (Changed pmid) h away = (pmid, away)
+      by (Full file bytes) h away = cc
+  changed_files (Compressed file) h away = cc
+  changed_files (NotArchive file at) h away = cc
+  changed_files (Nothing stamp) h away = cc
 
   not_later_only : (e : Refusal) → Caused e → status_of e ≡ 12 → (last : Moment) × TurnsAway words s d (Unlogged (NotLater last))
-  not_later_only (Words usage) c h = cc
-  not_later_only (Reading e) c h = absurd (read_never 12 (omega arith) e h)
-  not_later_only (Input e) c h = absurd (input_never 12 (omega arith) e h)
-  not_later_only (Disk (FilesAway (Unlogged (Large bytes)))) c h = cc
-  not_later_only (Disk (FilesAway (Unlogged (NotLater last)))) c h = (last, turned_away (Unlogged (NotLater last)) c)
-  not_later_only (Disk (FilesAway (Unlogged (Changed pmid)))) c h = cc
-  not_later_only (Disk (FilesAway (Unlogged (Full file bytes)))) c h = cc
-  not_later_only (Disk (FilesAway (Compressed file))) c h = cc
-  not_later_only (Disk (FilesAway (NotArchive file at))) c h = cc
-  not_later_only (Disk (FilesAway (Nothing stamp))) c h = cc
-  not_later_only (Disk DiskFault) c h = cc
-  not_later_only NoMemory c h = cc
+  not_later_only e c h = let x = of_files e 12 (omega arith) c h in not_later_files x.0 x.1 x.2
 
   changed_only : (e : Refusal) → Caused e → status_of e ≡ 13 → (pmid : ℕ) × TurnsAway words s d (Unlogged (Changed pmid))
-  changed_only (Words usage) c h = cc
-  changed_only (Reading e) c h = absurd (read_never 13 (omega arith) e h)
-  changed_only (Input e) c h = absurd (input_never 13 (omega arith) e h)
-  changed_only (Disk (FilesAway (Unlogged (Large bytes)))) c h = cc
-  changed_only (Disk (FilesAway (Unlogged (NotLater last)))) c h = cc
-  changed_only (Disk (FilesAway (Unlogged (Changed pmid)))) c h = (pmid, turned_away (Unlogged (Changed pmid)) c)
-  changed_only (Disk (FilesAway (Unlogged (Full file bytes)))) c h = cc
-  changed_only (Disk (FilesAway (Compressed file))) c h = cc
-  changed_only (Disk (FilesAway (NotArchive file at))) c h = cc
-  changed_only (Disk (FilesAway (Nothing stamp))) c h = cc
-  changed_only (Disk DiskFault) c h = cc
-  changed_only NoMemory c h = cc
+  changed_only e c h = let x = of_files e 13 (omega arith) c h in changed_files x.0 x.1 x.2
 
   pub unlogged_is_exact : (status : ℕ) → Ends words s k d status → UnloggedIsExact words s d status
   unlogged_is_exact status ends = record {
@@ -248,19 +259,20 @@ module _ (words : List (List ℕ)) (s : SourceSide) (k : SinkSide) (d : DiskSide
         (λ e c b good tells reason turned. turned_found (result_status reason) b good (λ a x also. one_reason a.command a.input (found d) reason x (turned_here a b (Unlogged reason) turned) (also tells)) e c);
   }
 
+  not_eleven : (r : ResultRefusal) → result_status r ≡ 11 → ⊥
+  not_eleven (Large bytes) h = cc
+  not_eleven (NotLater last) h = cc
+  not_eleven (Changed pmid) h = cc
+  not_eleven (Full file bytes) h = cc
+
+  nothing_files : (x : FilesRefusal) → files_status x ≡ 11 → TurnsAway words s d x → (stamp : Moment) × TurnsAway words s d (Nothing stamp)
+  nothing_files (Unlogged reason) h away = absurd (not_eleven reason h)
+  nothing_files (Compressed file) h away = cc
+  nothing_files (NotArchive file at) h away = cc
+  nothing_files (Nothing stamp) h away = (stamp, away)
+
   nothing_only : (e : Refusal) → Caused e → status_of e ≡ 11 → (stamp : Moment) × TurnsAway words s d (Nothing stamp)
-  nothing_only (Words usage) c h = cc
-  nothing_only (Reading e) c h = absurd (read_never 11 (omega arith) e h)
-  nothing_only (Input e) c h = absurd (input_never 11 (omega arith) e h)
-  nothing_only (Disk (FilesAway (Unlogged (Large bytes)))) c h = cc
-  nothing_only (Disk (FilesAway (Unlogged (NotLater last)))) c h = cc
-  nothing_only (Disk (FilesAway (Unlogged (Changed pmid)))) c h = cc
-  nothing_only (Disk (FilesAway (Unlogged (Full file bytes)))) c h = cc
-  nothing_only (Disk (FilesAway (Compressed file))) c h = cc
-  nothing_only (Disk (FilesAway (NotArchive file at))) c h = cc
-  nothing_only (Disk (FilesAway (Nothing stamp))) c h = (stamp, turned_away (Nothing stamp) c)
-  nothing_only (Disk DiskFault) c h = cc
-  nothing_only NoMemory c h = cc
+  nothing_only e c h = let x = of_files e 11 (omega arith) c h in nothing_files x.0 x.1 x.2
 
   pub nothing_is_there : (status : ℕ) → Ends words s k d status → NothingIsThere words s d status
   nothing_is_there status ends = by_end status (λ n. n ≡ 11 → (stamp : Moment) × TurnsAway words s d (Nothing stamp)) ends (λ done h. cc) (λ untold h. cc) nothing_only

@@ -14,8 +14,6 @@ mod words;
 
 pub use laws::{readable_is_welcome, taking_is_welcome};
 pub use refusal::Refusal;
-pub use stage::{
-    DiskRefusal, FilesRefusal, InputRefusal, ReadRefusal, ResultRefusal, Stop, Usage,
-};
+pub use stage::{DiskRefusal, FilesRefusal, InputRefusal, ReadRefusal, ResultRefusal, Stop, Usage};
 pub use top::offline;
 pub use words::{Command, OnceWords, ValueWords, read_words};

@@ -5,7 +5,9 @@ ghost use Rattle.pm_commands.specs.declared.stage.DiskRefusal.TheVariants.{Files
 ghost use Rattle.pm_commands.specs.declared.stage.FilesRefusal.TheVariants.{Unlogged};
 ghost use Rattle.pm_commands.specs.Refusals.{log_refusal, status_of, numbered_line_of, plain_line_of, line_of, Wrote};
 
-use crate::stage::{DiskRefusal, FilesRefusal, InputRefusal, ReadRefusal, ResultRefusal, Stop, Usage};
+use crate::stage::{
+    DiskRefusal, FilesRefusal, InputRefusal, ReadRefusal, ResultRefusal, Stop, Usage,
+};
 use archive_reader::ReaderFault;
 use archive_recovery::RecoverFault;
 use logger_core::LogFault;
