@@ -4,26 +4,26 @@ use Rattle.pcp_base.specs.declared.file.FileId.{FileId}
 use Rattle.pcp_base.specs.Time.{Moment}
 use Rattle.pcp_model.specs.Disk.{IsSettled}
 use Rattle.pcp_outside.specs.Causes.{Rose}
-use Rattle.pm_commands.specs.declared.stage.ReadRefusal.{ReadRefusal}
-use Rattle.pm_commands.specs.declared.stage.ReadRefusal.TheVariants.{ReadFault, InputLimit}
-use Rattle.pm_commands.specs.declared.stage.InputRefusal.{InputRefusal}
-use Rattle.pm_commands.specs.declared.stage.InputRefusal.TheVariants.{Image, Line}
-use Rattle.pm_commands.specs.declared.stage.FilesRefusal.{FilesRefusal}
-use Rattle.pm_commands.specs.declared.stage.FilesRefusal.TheVariants.{Unlogged, Compressed, NotArchive, Nothing}
-use Rattle.pm_commands.specs.declared.stage.ResultRefusal.{ResultRefusal}
-use Rattle.pm_commands.specs.declared.stage.ResultRefusal.TheVariants.{Large, NotLater, Changed, Full}
-use Rattle.pm_commands.specs.declared.stage.DiskRefusal.TheVariants.{Files as FilesAway, DiskFault}
-use Rattle.pm_commands.specs.declared.words.Command.{Command}
-use Rattle.pm_commands.specs.declared.refusal.Refusal.{Refusal}
-use Rattle.pm_commands.specs.declared.refusal.Refusal.TheVariants.{Words, Reading, Input, Disk, NoMemory}
-use Rattle.pm_commands.specs.CommandLine.{command_of}
-use Rattle.pm_commands.specs.Causes.{Got, Asks, fault_of, IsReader, Finds, Left, Cause}
-use Rattle.pm_commands.specs.Ends.{Ends, EndsDone, EndsUntold, HasRun, IsNever}
+use Rattle.pm_tasks.specs.declared.stage.ReadRefusal.{ReadRefusal}
+use Rattle.pm_tasks.specs.declared.stage.ReadRefusal.TheVariants.{ReadFault, InputLimit}
+use Rattle.pm_tasks.specs.declared.stage.InputRefusal.{InputRefusal}
+use Rattle.pm_tasks.specs.declared.stage.InputRefusal.TheVariants.{Image, Line}
+use Rattle.pm_tasks.specs.declared.stage.FilesRefusal.{FilesRefusal}
+use Rattle.pm_tasks.specs.declared.stage.FilesRefusal.TheVariants.{Unlogged, Compressed, NotArchive, Nothing}
+use Rattle.pm_tasks.specs.declared.stage.ResultRefusal.{ResultRefusal}
+use Rattle.pm_tasks.specs.declared.stage.ResultRefusal.TheVariants.{Large, NotLater, Changed, Full}
+use Rattle.pm_tasks.specs.declared.stage.DiskRefusal.TheVariants.{Files as FilesAway, DiskFault}
+use Rattle.pm_tasks.specs.declared.words.Command.{Command}
+use Rattle.pm_tasks.specs.declared.refusal.Refusal.{Refusal}
+use Rattle.pm_tasks.specs.declared.refusal.Refusal.TheVariants.{Words, Reading, Input, Disk, NoMemory}
+use Rattle.pm_tasks.specs.CommandLine.{command_of}
+use Rattle.pm_tasks.specs.Causes.{Got, Asks, fault_of, IsReader, Finds, Left, Cause}
+use Rattle.pm_tasks.specs.Ends.{Ends, EndsDone, EndsUntold, HasRun, IsNever}
 use Rattle.pm_commands.specs.Facts.{UsageIsExact, LimitIsExact, InputFaultIsExact, UnloggedIsExact, ArchiveFaultIsExact, NothingIsThere, Given, Meets, refused_of, TurnsAway, IsRefused, Unwritten, IsGoodDisk, IsGoodRun, Keeps}
-use Rattle.pm_commands.specs.Inputs.{input_limit, refusal_of}
-use Rattle.pm_commands.specs.Meanings.{meaning}
-use Rattle.pm_commands.specs.Refusals.{status_of, reading_status, input_status, files_status, result_status}
-use Rattle.pm_commands.specs.Sides.{SourceSide, SinkSide, DiskSide, found, Untouched}
+use Rattle.pm_tasks.specs.Inputs.{input_limit, refusal_of}
+use Rattle.pm_tasks.specs.Meanings.{meaning}
+use Rattle.pm_tasks.specs.Refusals.{status_of, reading_status, input_status, files_status, result_status}
+use Rattle.pm_tasks.specs.Sides.{SourceSide, SinkSide, DiskSide, found, Untouched}
 use Rattle.pm_commands.proofs.Lookings.{one_reason, wrapped_first}
 
 module _ (words : List (List ℕ)) (s : SourceSide) (k : SinkSide) (d : DiskSide) where

@@ -1,15 +1,15 @@
 -- A refusal whose line could not be made ends as want of memory.
 use Rattle.std.proofs.Common.{◌≡◌, inl, inr, ℕ, List, [], ◌++◌, refl, sym, ap, ◌∙◌, arith, append-nil, IsSome}
-use Rattle.pm_commands.specs.declared.stage.DiskRefusal.TheVariants.{Files, DiskFault}
-use Rattle.pm_commands.specs.declared.refusal.Refusal.{Refusal}
-use Rattle.pm_commands.specs.declared.refusal.Refusal.TheVariants.{Words, Reading, Input, Disk, NoMemory}
-use Rattle.pm_commands.specs.Causes.{Cause}
-use Rattle.pm_commands.specs.Ends.{Ends, HasBegun}
-use Rattle.pm_commands.specs.Meanings.{meaning}
-use Rattle.pm_commands.specs.Refusals.{numbered_line_of}
-use Rattle.pm_commands.specs.Sides.{SourceSide, SinkSide, DiskSide}
+use Rattle.pm_tasks.specs.declared.stage.DiskRefusal.TheVariants.{Files, DiskFault}
+use Rattle.pm_tasks.specs.declared.refusal.Refusal.{Refusal}
+use Rattle.pm_tasks.specs.declared.refusal.Refusal.TheVariants.{Words, Reading, Input, Disk, NoMemory}
+use Rattle.pm_tasks.specs.Causes.{Cause}
+use Rattle.pm_tasks.specs.Ends.{Ends, HasBegun}
+use Rattle.pm_tasks.specs.Meanings.{meaning}
+use Rattle.pm_tasks.specs.Refusals.{numbered_line_of}
+use Rattle.pm_tasks.specs.Sides.{SourceSide, SinkSide, DiskSide}
 use Rattle.pm_commands.proofs.Lookings.{untold_left}
-use Rattle.pm_commands.proofs.Served.{took_some}
+use Rattle.pm_tasks.proofs.Served.{took_some}
 
 pub out_of_memory : (words : List (List ℕ)) (s : SourceSide) (d : DiskSide) (e : Refusal) → Cause words s d e → IsSome (numbered_line_of e) → Cause words s d NoMemory
 out_of_memory words s d (Words usage) c some = (λ tells. (0, omega arith, c.1 tells), inl c.2)

@@ -7,16 +7,16 @@ use Rattle.archive_reader.proofs.Finds.{readable_stands}
 use Rattle.archive_reader.proofs.Loadable.{loads_readable}
 use Rattle.archive_reader.specs.declared.fault.ReaderFault.TheVariants as faults
 use Rattle.archive_reader.specs.Values.{IsWholeFault}
-use Rattle.pm_commands.specs.declared.stage.FilesRefusal.{FilesRefusal}
-use Rattle.pm_commands.specs.declared.stage.FilesRefusal.TheVariants.{Unlogged, Compressed, NotArchive, Nothing}
-use Rattle.pm_commands.specs.declared.words.ValueWords.{ValueWords}
-use Rattle.pm_commands.specs.Archives.{IsLoaded, IsNotLoaded}
+use Rattle.pm_tasks.specs.declared.stage.FilesRefusal.{FilesRefusal}
+use Rattle.pm_tasks.specs.declared.stage.FilesRefusal.TheVariants.{Unlogged, Compressed, NotArchive, Nothing}
+use Rattle.pm_tasks.specs.declared.words.ValueWords.{ValueWords}
+use Rattle.pm_tasks.specs.Archives.{IsLoaded, IsNotLoaded}
 use Rattle.pm_commands.specs.Laws.{IsWelcome}
-use Rattle.pm_commands.specs.Refusals.{files_status}
-use Rattle.pm_commands.specs.Sides.{Found}
-use Rattle.pm_commands.proofs.Refused.{takes_readable}
-use Rattle.pm_commands.specs.commands.dump as dump
-use Rattle.pm_commands.specs.commands.value as value
+use Rattle.pm_tasks.specs.Refusals.{files_status}
+use Rattle.pm_tasks.specs.Sides.{Found}
+use Rattle.pm_tasks.proofs.Refused.{takes_readable}
+use Rattle.pm_tasks.specs.commands.dump as dump
+use Rattle.pm_tasks.specs.commands.value as value
 
 not_both : (w : Option FileId) (file : FileId) → w ≡ None → w ≡ Some file → ⊥
 not_both w file none some = let e : None ≡ Some file = sym none ∙ some in cc

@@ -4,15 +4,15 @@ use Rattle.std.specs.Prelude.{◌≡◌, Option, None}
 use Rattle.pcp_model.specs.Archive.{Readable}
 use Rattle.fetch_engine.specs.declared.fetch.Fetched.{Fetched}
 use Rattle.record_run.specs.OneReason.{Takes}
-use Rattle.pm_commands.specs.declared.stage.FilesRefusal.{FilesRefusal}
-use Rattle.pm_commands.specs.declared.words.ValueWords.{ValueWords}
-use Rattle.pm_commands.specs.Refusals.{files_status}
-use Rattle.pm_commands.specs.Sides.{Found}
-use Rattle.pm_commands.specs.commands.dump as dump
-use Rattle.pm_commands.specs.commands.info as info
-use Rattle.pm_commands.specs.commands.once as once
-use Rattle.pm_commands.specs.commands.recover as recover
-use Rattle.pm_commands.specs.commands.value as value
+use Rattle.pm_tasks.specs.declared.stage.FilesRefusal.{FilesRefusal}
+use Rattle.pm_tasks.specs.declared.words.ValueWords.{ValueWords}
+use Rattle.pm_tasks.specs.Refusals.{files_status}
+use Rattle.pm_tasks.specs.Sides.{Found}
+use Rattle.pm_tasks.specs.commands.dump as dump
+use Rattle.pm_tasks.specs.commands.info as info
+use Rattle.pm_tasks.specs.commands.once as once
+use Rattle.pm_tasks.specs.commands.recover as recover
+use Rattle.pm_tasks.specs.commands.value as value
 
 pub record IsWelcome (f : Found) : Type 0 where
   pub descriptions : (e : FilesRefusal) → info.turned f e → ⊥

@@ -2,28 +2,16 @@
 ghost use Rattle.std.specs.Prelude.{◌≡◌, ◌⊎◌, ◌≤◌, length, map, string_bytes, false};
 ghost use Rattle.pcp_model.specs.Disk.{CrashImage, IsSettled, contents_of};
 ghost use Rattle.pcp_outside.specs.Causes.{Rose};
-ghost use Rattle.pm_commands.specs.CommandLine.{FitsCommand};
-ghost use Rattle.pm_commands.specs.Ends.{Serves, Runs, Ends, EndsDone, MayLeave, MayBeLeft};
+ghost use Rattle.pm_tasks.specs.CommandLine.{FitsCommand};
+ghost use Rattle.pm_tasks.specs.Ends.{Serves, Runs, Ends, EndsDone, MayLeave, MayBeLeft};
 ghost use Rattle.pm_commands.specs.Facts.{UsageIsExact, LimitIsExact, InputFaultIsExact, UnloggedIsExact, ArchiveFaultIsExact, NothingIsThere, IsAside, IsInputless, IsRefused, Unwritten, IsGoodRun, Keeps};
-ghost use Rattle.pm_commands.specs.Inputs.{input_limit};
-ghost use Rattle.pm_commands.specs.Meanings.{meaning};
-ghost use Rattle.pm_commands.specs.Sides.{source_side, sink_side, disk_side, IsUnread, Leaves};
-ghost use Rattle.pm_commands.specs.Takes.{MayTake, TakesLittle};
+ghost use Rattle.pm_tasks.specs.Inputs.{input_limit};
+ghost use Rattle.pm_tasks.specs.Meanings.{meaning};
+ghost use Rattle.pm_tasks.specs.Sides.{source_side, sink_side, disk_side, IsUnread, Leaves};
+ghost use Rattle.pm_tasks.specs.Takes.{MayTake, TakesLittle};
 
-use crate::commands::at::at;
-use crate::commands::dump::dump;
-use crate::commands::info::info;
-use crate::commands::mmv_dump::mmv_dump;
-use crate::commands::mmv_make::mmv_make;
-use crate::commands::once::once;
-use crate::commands::range::range;
-use crate::commands::recover::recover;
-use crate::commands::value::value;
-use crate::inputs::get_input;
-use crate::output::{Output, finish, told};
-use crate::refusal::Refusal;
-use crate::words::{Command, read_words};
 use pcp_outside::{Disk, Sink, Source};
+use pm_tasks::{Command, Output, Refusal, at, dump, finish, get_input, info, mmv_dump, mmv_make, once, range, read_words, recover, told, value};
 use std::alloc::Global;
 
 // Does what a command asks for with its input. What it writes before it is done goes to the sink unless that has failed.

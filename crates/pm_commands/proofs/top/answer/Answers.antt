@@ -1,9 +1,9 @@
 -- Each end of a call by what ran and what was written.
 use Rattle.std.proofs.Common.{subst, ◌∙◌}
-use Rattle.pm_commands.specs.Streams.{IsSent}
+use Rattle.pm_tasks.specs.Streams.{IsSent}
 use Rattle.pm_commands.proofs.Memory.{ends_untold}
-use Rattle.pm_commands.proofs.Sending.{told_behind, told_no_more}
-use Rattle.pm_commands.proofs.Served.{finishes, refused_ends}
+use Rattle.pm_tasks.proofs.Sending.{told_behind, told_no_more}
+use Rattle.pm_tasks.proofs.Served.{finishes, refused_ends}
 use Rattle.pm_commands.proofs.top.answer.Goals as goal
 
 pub returns-in-Ok-clause-ends : goal.returns-in-Ok-clause-ends

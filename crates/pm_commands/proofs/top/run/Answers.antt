@@ -1,14 +1,14 @@
 -- What a command may leave, told of the words and the source.
 use Rattle.std.proofs.Common.{rules, map, string_bytes, Global, List, ℕ, refl, subst, sym}
 use Rattle.pcp_outside.proofs.Crash.{weaker}
-use Rattle.pm_commands.specs.Causes.{Asks, Got}
-use Rattle.pm_commands.specs.Ends.{MayLeave, MayBeLeft}
-use Rattle.pm_commands.specs.Meanings.{meaning}
-use Rattle.pm_commands.specs.Sides.{SourceSide, SinkSide, DiskSide, source_side, sink_side, disk_side}
+use Rattle.pm_tasks.specs.Causes.{Asks, Got}
+use Rattle.pm_tasks.specs.Ends.{MayLeave, MayBeLeft}
+use Rattle.pm_tasks.specs.Meanings.{meaning}
+use Rattle.pm_tasks.specs.Sides.{SourceSide, SinkSide, DiskSide, source_side, sink_side, disk_side}
 use Rattle.pcp_model.specs.Disk.{contents_of}
-use Rattle.pm_commands.proofs.Sending.{unsent}
-use Rattle.pm_commands.proofs.Taken.{takes_nothing, takes_little}
-use Rattle.pm_commands.proofs.Served.{may_be_left, runs, runs_none, no_words, no_input}
+use Rattle.pm_tasks.proofs.Sending.{unsent}
+use Rattle.pm_tasks.proofs.Taken.{takes_nothing, takes_little}
+use Rattle.pm_tasks.proofs.Served.{may_be_left, runs, runs_none, no_words, no_input}
 use Rattle.pm_commands.proofs.top.run.Goals as goal
 
 pub returns-in_err-command-clause-runs : goal.returns-in_err-command-clause-runs

@@ -1,24 +1,24 @@
 -- What each command answers, told of the command that was asked for.
 use Rattle.std.proofs.Common.{rules, refl, subst, sym, Result, Err}
-use Rattle.pm_commands.specs.declared.output.Output.{Output}
-use Rattle.pm_commands.specs.declared.refusal.Refusal.{Refusal}
-use Rattle.pm_commands.specs.declared.refusal.Refusal.TheVariants.{Input as AtInput}
-use Rattle.pm_commands.specs.declared.words.Command.{Command}
-use Rattle.pm_commands.specs.declared.words.Command.TheVariants.{Once, MmvMake, MmvDump, Dump, Info, Recover, At, Range, Value}
+use Rattle.pm_tasks.specs.declared.output.Output.{Output}
+use Rattle.pm_tasks.specs.declared.refusal.Refusal.{Refusal}
+use Rattle.pm_tasks.specs.declared.refusal.Refusal.TheVariants.{Input as AtInput}
+use Rattle.pm_tasks.specs.declared.words.Command.{Command}
+use Rattle.pm_tasks.specs.declared.words.Command.TheVariants.{Once, MmvMake, MmvDump, Dump, Info, Recover, At, Range, Value}
 use Rattle.pcp_model.specs.Disk.{contents_of}
-use Rattle.pm_commands.specs.Archives.{nothing_before}
-use Rattle.pm_commands.specs.Ends.{Serves, MayLeave}
-use Rattle.pm_commands.specs.Meanings.{meaning}
-use Rattle.pm_commands.specs.Refusals.{stopped}
-use Rattle.pm_commands.specs.Sides.{SinkSide, DiskSide, Leaves, sink_side, disk_side}
-use Rattle.pm_commands.specs.Takes.{MayTake}
-use Rattle.pm_commands.specs.commands.at as at
-use Rattle.pm_commands.specs.commands.info as info
-use Rattle.pm_commands.specs.commands.range as range
-use Rattle.pm_commands.specs.commands.value as value
+use Rattle.pm_tasks.specs.Archives.{nothing_before}
+use Rattle.pm_tasks.specs.Ends.{Serves, MayLeave}
+use Rattle.pm_tasks.specs.Meanings.{meaning}
+use Rattle.pm_tasks.specs.Refusals.{stopped}
+use Rattle.pm_tasks.specs.Sides.{SinkSide, DiskSide, Leaves, sink_side, disk_side}
+use Rattle.pm_tasks.specs.Takes.{MayTake}
+use Rattle.pm_tasks.specs.commands.at as at
+use Rattle.pm_tasks.specs.commands.info as info
+use Rattle.pm_tasks.specs.commands.range as range
+use Rattle.pm_tasks.specs.commands.value as value
 use Rattle.pm_commands.proofs.Lookings.{info_fits, at_fits, range_fits, value_fits, look_serves, look_leaves, dump_serves}
-use Rattle.pm_commands.proofs.Sending.{unsent, serves_whole}
-use Rattle.pm_commands.proofs.Served.{unconverted}
+use Rattle.pm_tasks.proofs.Sending.{unsent, serves_whole}
+use Rattle.pm_tasks.proofs.Served.{unconverted}
 use Rattle.pm_commands.proofs.top.serve.Goals as goal
 
 pub returns-in-Once-clause-serves : goal.returns-in-Once-clause-serves
