@@ -6,5 +6,8 @@ mod laws;
 mod top;
 
 pub use laws::{readable_is_welcome, taking_is_welcome};
-pub use pm_tasks::{Command, DiskRefusal, FilesRefusal, InputRefusal, OnceWords, ReadRefusal, Refusal, ResultRefusal, Stop, Usage, ValueWords, read_words};
+pub use pm_tasks::{
+    Command, DiskRefusal, FilesRefusal, InputRefusal, OnceWords, ReadRefusal, Refusal,
+    ResultRefusal, Stop, Usage, ValueWords, read_words,
+};
 pub use top::offline;

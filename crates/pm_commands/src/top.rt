@@ -11,7 +11,10 @@ ghost use Rattle.pm_tasks.specs.Sides.{source_side, sink_side, disk_side, IsUnre
 ghost use Rattle.pm_tasks.specs.Takes.{MayTake, TakesLittle};
 
 use pcp_outside::{Disk, Sink, Source};
-use pm_tasks::{Command, Output, Refusal, at, dump, finish, get_input, info, mmv_dump, mmv_make, once, range, read_words, recover, told, value};
+use pm_tasks::{
+    Command, Output, Refusal, at, dump, finish, get_input, info, mmv_dump, mmv_make, once, range,
+    read_words, recover, told, value,
+};
 use std::alloc::Global;
 
 // Does what a command asks for with its input. What it writes before it is done goes to the sink unless that has failed.

@@ -39,12 +39,7 @@ fn text_of(alloc: Global, items: &[Item], meta: &MetaState) -> Result<Bytes, NoM
 }
 
 /// The items, as text.
-pub fn range<D: Disk>(
-    alloc: Global,
-    from: Stamp,
-    to: Stamp,
-    disk: &mut D,
-) -> Result<Bytes, Refusal>
+pub fn range<D: Disk>(alloc: Global, from: Stamp, to: Stamp, disk: &mut D) -> Result<Bytes, Refusal>
     ensures said { D.tells → IfOk result (said from to (found (disk_side D.Disk disk.old disk.new))) }
     ensures turned { IfErr result (TurnedAway (turned from to) (disk_side D.Disk disk.old disk.new)) }
     ensures taken { D.tells → TookRange from to (contents_of (D.held disk.old)) (D.taken disk.old) (D.taken disk.new) }

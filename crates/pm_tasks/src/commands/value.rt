@@ -101,11 +101,7 @@ fn shown<D: Disk>(
 }
 
 /// The values and their stamp, as text.
-pub fn value<D: Disk>(
-    alloc: Global,
-    asked: &ValueWords,
-    disk: &mut D,
-) -> Result<Bytes, Refusal>
+pub fn value<D: Disk>(alloc: Global, asked: &ValueWords, disk: &mut D) -> Result<Bytes, Refusal>
     ensures said { D.tells → IfOk result (said asked.now (found (disk_side D.Disk disk.old disk.new))) }
     ensures turned { IfErr result (TurnedAway (turned asked.now) (disk_side D.Disk disk.old disk.new)) }
     ensures looks { Looks D.Disk disk.old disk.new }
