@@ -45,6 +45,10 @@ module _ (start mid : Files) (archive : Archive) (w : WasRecovered start mid arc
   pub all_after : (more : List Item) (k : ℕ) (image : Files) → length more ≡ k → ComesBackTo more k mid image → IsAllAfter more start image
   all_after more k image many comes = λ r reads left recovered. back more k (length (scan r ++ more)) image comes r reads left recovered (omega (arith, length-append (scan r) more))
 
+  -- from the moment on at which recovery left these files
+  pub from_there : (more : List Item) (image : Files) → ComesBackTo more 0 mid image → ComesBack (start_of start w.reading mid) (scan w.reading ++ more) (length (scan w.reading)) image
+  from_there more image comes = back more 0 (length (scan w.reading)) image comes w.reading w.was mid w.recovered (omega arith)
+
   pub readable : Readable start
   readable = (w.reading, w.was)
 

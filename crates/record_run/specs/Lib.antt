@@ -6,3 +6,4 @@ pub mod ImageRuns
 pub mod OneReason
 pub mod Opening
 pub mod Runs
+pub mod SinceRecovery

@@ -7,6 +7,7 @@ ghost use Rattle.pcp_outside.specs.Devices.{LeavesOnly};
 ghost use Rattle.record_run.specs.ImageCrashes.{IsAllAfter, MayBeAfter};
 ghost use Rattle.record_run.specs.ImageFaults.{IsRunFault, RunMayAnswer};
 ghost use Rattle.record_run.specs.ImageRuns.{AreResults, RunsTo, how_many, items_of_run, result_of};
+ghost use Rattle.record_run.specs.SinceRecovery.{SinceRecovery};
 
 use crate::fault::RunFault;
 use crate::logging::log_over;
@@ -36,6 +37,8 @@ pub fn log_result<D: Disk>(
     ensures stays { D.tells → OnOk result ((image : AllFiles) → CrashImage (D.held disk.new) image → IsAllAfter (items_of_run fetched.now) (contents_of (D.held disk.old)) image) }
     // A crash at any moment, over a settled disk, leaves all items of the start, and perhaps the new one.
     ensures any_moment { D.tells → LeavesOnly D.moment D.left_since disk.old disk.new (MayBeAfter (items_of_run fetched.now) (D.held disk.old)) }
+    // Over any disk, from the moment on at which recovery answered, a crash leaves all items of the start, and perhaps the new one.
+    ensures since { D.tells → SinceRecovery D.held D.moment D.left_since (items_of_run fetched.now) disk.old disk.new result }
     // Where the files can't be read nothing is written.
     ensures unread { D.tells → (Readable (contents_of (D.held disk.old)) → ⊥) → LeavesOnly D.moment D.left_since disk.old disk.new (CrashImage (D.held disk.old)) }
     // Which refusal it is, and what then stands.
@@ -75,6 +78,8 @@ pub fn log_image<D: Disk>(
     ensures stays { D.tells → OnOk result ((crash : AllFiles) → CrashImage (D.held disk.new) crash → IsAllAfter (items_of_run (result_of stamp file.now image)) (contents_of (D.held disk.old)) crash) }
     // A crash at any moment, over a settled disk, leaves all items of the start, and perhaps the new one.
     ensures any_moment { D.tells → LeavesOnly D.moment D.left_since disk.old disk.new (MayBeAfter (items_of_run (result_of stamp file.now image)) (D.held disk.old)) }
+    // Over any disk, from the moment on at which recovery answered, a crash leaves all items of the start, and perhaps the new one.
+    ensures since { D.tells → SinceRecovery D.held D.moment D.left_since (items_of_run (result_of stamp file.now image)) disk.old disk.new result }
     // Where the files can't be read nothing is written.
     ensures unread { D.tells → (Readable (contents_of (D.held disk.old)) → ⊥) → LeavesOnly D.moment D.left_since disk.old disk.new (CrashImage (D.held disk.old)) }
     // Which refusal it is, and what then stands.

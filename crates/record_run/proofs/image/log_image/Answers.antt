@@ -8,6 +8,7 @@ use Rattle.logger_core.proofs.Calls.{no_call}
 use Rattle.record_run.specs.ImageCrashes.{IsAllAfter, MayBeAfter}
 use Rattle.record_run.specs.ImageFaults.{IsRunFault}
 use Rattle.record_run.specs.ImageRuns.{RunsTo, how_many, items_of_run, result_of}
+use Rattle.record_run.specs.SinceRecovery.{SinceRecovery}
 use Rattle.record_run.proofs.ImageRun.{standing_may}
 use Rattle.record_run.proofs.image.log_image.Goals as goal
 
@@ -47,3 +48,8 @@ pub returns-clause-fault : goal.returns-clause-fault
 returns-clause-fault g c = λ tells.
     let d = g.D.Disk in
     subst (λ (o : Option Fetched). IfErr c.log_result.result (IsRunFault o (d.wrapped_file c.args.disk.now) (d.held c.args.disk.now) (d.held c.log_result.new.disk))) c.in_ok-fetched.ensures.answer (c.log_result.ensures.fault tells)
+
+pub returns-clause-since : goal.returns-clause-since
+returns-clause-since g c = λ tells.
+    let d = g.D.Disk in
+    subst (λ (o : Option Fetched). SinceRecovery d.held d.moment d.left_since (items_of_run o) c.args.disk.now c.log_result.new.disk c.log_result.result) c.in_ok-fetched.ensures.answer (c.log_result.ensures.since tells)
