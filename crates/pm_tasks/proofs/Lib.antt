@@ -3,6 +3,7 @@ pub mod Components
 pub mod Dumped
 pub mod Logged
 pub mod Mended
+pub mod Recovering
 pub mod Refused
 pub mod Sending
 pub mod Served

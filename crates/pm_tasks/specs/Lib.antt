@@ -7,6 +7,7 @@ pub mod Meaning
 pub mod Meanings
 pub mod Refusals
 pub mod Sides
+pub mod Since
 pub mod Streams
 pub mod Takes
 pub mod commands

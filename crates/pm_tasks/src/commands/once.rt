@@ -7,6 +7,8 @@ ghost use Rattle.pm_tasks.specs.Causes.{StopCause};
 ghost use Rattle.pm_tasks.specs.Ends.{HasServed, MayLeave, shown};
 ghost use Rattle.pm_tasks.specs.Inputs.{input_limit, refusal_of, Refuses};
 ghost use Rattle.pm_tasks.specs.Sides.{disk_side, IsUnread, Leaves};
+ghost use Rattle.pm_tasks.specs.Since.{CommandSince, HasRecovered};
+ghost use Rattle.pm_tasks.specs.declared.words.Command.TheVariants.{Once};
 ghost use Rattle.pm_tasks.specs.commands.once.{once as meaning_of_once, IsImageInput, count_line};
 
 use crate::output::Output;
@@ -62,6 +64,7 @@ pub fn once<D: Disk>(
     ensures cause { IfErr result (StopCause (meaning_of_once asked.now) input.now (disk_side D.Disk disk.old disk.new)) }
     ensures any_moment { Leaves D.Disk disk.old disk.new (MayLeave (meaning_of_once asked.now) input.now) }
     ensures unread { IsUnread D.Disk disk.old → Leaves D.Disk disk.old disk.new CrashImage }
+    ensures since { D.tells → HasRecovered result → CommandSince D.Disk (Once asked.now) input.now disk.old disk.new }
 {
     let fetched = prepare(alloc, asked, input)?;
     let count = log_result(alloc, disk, &fetched)?;
