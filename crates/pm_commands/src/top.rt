@@ -7,6 +7,7 @@ ghost use Rattle.pm_tasks.specs.Ends.{Serves, Runs, Ends, EndsDone, MayLeave, Ma
 ghost use Rattle.pm_commands.specs.Facts.{UsageIsExact, LimitIsExact, InputFaultIsExact, UnloggedIsExact, ArchiveFaultIsExact, NothingIsThere, IsAside, IsInputless, IsRefused, Unwritten, IsGoodRun, Keeps};
 ghost use Rattle.pm_tasks.specs.Inputs.{input_limit};
 ghost use Rattle.pm_tasks.specs.Meanings.{meaning};
+ghost use Rattle.pm_tasks.specs.Since.{CommandSince, HasRecovered, HadRecovered, WordsSince};
 ghost use Rattle.pm_tasks.specs.Sides.{source_side, sink_side, disk_side, IsUnread, Leaves};
 ghost use Rattle.pm_tasks.specs.Takes.{MayTake, TakesLittle};
 
@@ -34,6 +35,7 @@ fn serve<O: Sink, D: Disk>(
     ensures any_moment { Leaves D.Disk disk.old disk.new (MayLeave (meaning command.now) input.now) }
     ensures unread { IsUnread D.Disk disk.old → Leaves D.Disk disk.old disk.new CrashImage }
     ensures taken { D.tells → MayTake command.now (contents_of (D.held disk.old)) (D.taken disk.old) (D.taken disk.new) }
+    ensures since { D.tells → HasRecovered result → CommandSince D.Disk command.now input.now disk.old disk.new }
 {
     match command {
         Command::Once(asked) => once(alloc, asked, input, disk),
@@ -70,6 +72,7 @@ fn run<I: Source, O: Sink, D: Disk>(
     ensures any_moment { Leaves D.Disk disk.old disk.new (MayBeLeft (map string_bytes words.now) (source_side I.Source input.old input.new)) }
     ensures unread { IsUnread D.Disk disk.old → Leaves D.Disk disk.old disk.new CrashImage }
     ensures taken { D.tells → TakesLittle (map string_bytes words.now) (contents_of (D.held disk.old)) (D.taken disk.old) (D.taken disk.new) }
+    ensures since { D.tells → HasRecovered result → WordsSince D.Disk (map string_bytes words.now) (source_side I.Source input.old input.new) disk.old disk.new }
 {
     let command = read_words(alloc, words)?;
     let bytes = get_input(alloc, &command, input)?;
@@ -90,6 +93,7 @@ fn answer<I: Source, O: Sink, D: Disk>(
     ensures any_moment { Leaves D.Disk disk.old disk.new (MayBeLeft (map string_bytes words.now) (source_side I.Source input.old input.new)) }
     ensures unread { IsUnread D.Disk disk.old → Leaves D.Disk disk.old disk.new CrashImage }
     ensures taken { D.tells → TakesLittle (map string_bytes words.now) (contents_of (D.held disk.old)) (D.taken disk.old) (D.taken disk.new) }
+    ensures since { D.tells → HadRecovered result → WordsSince D.Disk (map string_bytes words.now) (source_side I.Source input.old input.new) disk.old disk.new }
 {
     let mut failed = false;
     match run(alloc, words, input, out, &mut failed, disk) {
@@ -164,6 +168,10 @@ pub fn offline<I: Source, O: Sink, D: Disk>(
 
     // Once it has ended with 0, each crash leaves what the command keeps, until something else touches the disk.
     ensures kept { result ≡ 0 → D.tells → Keeps (map string_bytes words.now) (source_side I.Source input.old input.new) (D.held disk.old) (D.held disk.new) }
+
+    // `once` over any disk, settled or not: from the moment on at which recovery answered, a crash leaves all items of the start, and
+    // perhaps the new one.
+    ensures since { D.tells → HadRecovered result → WordsSince D.Disk (map string_bytes words.now) (source_side I.Source input.old input.new) disk.old disk.new }
 {
     answer(alloc, words, input, out, disk)
 }

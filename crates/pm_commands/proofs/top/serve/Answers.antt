@@ -11,6 +11,7 @@ use Rattle.pm_tasks.specs.Ends.{Serves, MayLeave}
 use Rattle.pm_tasks.specs.Meanings.{meaning}
 use Rattle.pm_tasks.specs.Refusals.{stopped}
 use Rattle.pm_tasks.specs.Sides.{SinkSide, DiskSide, Leaves, sink_side, disk_side}
+use Rattle.pm_tasks.specs.Since.{CommandSince}
 use Rattle.pm_tasks.specs.Takes.{MayTake}
 use Rattle.pm_tasks.specs.commands.at as at
 use Rattle.pm_tasks.specs.commands.info as info
@@ -168,3 +169,36 @@ returns-in-Value-clause-unread g c = λ none tells. c.value.ensures.looks.moment
 
 pub returns-in-Recover-clause-unread : goal.returns-in-Recover-clause-unread
 returns-in-Recover-clause-unread g c = λ none tells. c.recover.ensures.unread none tells
+
+pub returns-in-Once-clause-since : goal.returns-in-Once-clause-since
+returns-in-Once-clause-since g c = λ tells behind. subst (λ (command : Command). CommandSince g.D.Disk command c.args.input.now c.args.disk.now c.once.new.disk) (sym c.in-Once.is) (c.once.ensures.since tells behind)
+
+pub returns-in-Dump-clause-since : goal.returns-in-Dump-clause-since
+returns-in-Dump-clause-since g c = λ tells behind. subst (λ (command : Command). CommandSince g.D.Disk command c.args.input.now c.args.disk.now c.dump.new.disk) (sym c.in-Dump.is) tt
+
+pub returns-in-Info-clause-since : goal.returns-in-Info-clause-since
+returns-in-Info-clause-since g c = λ tells behind. subst (λ (command : Command). CommandSince g.D.Disk command c.args.input.now c.args.disk.now c.info.new.disk) (sym c.in-Info.is) tt
+
+pub returns-in-Recover-clause-since : goal.returns-in-Recover-clause-since
+returns-in-Recover-clause-since g c = λ tells behind. subst (λ (command : Command). CommandSince g.D.Disk command c.args.input.now c.args.disk.now c.recover.new.disk) (sym c.in-Recover.is) tt
+
+pub returns-in-Value-clause-since : goal.returns-in-Value-clause-since
+returns-in-Value-clause-since g c = λ tells behind. subst (λ (command : Command). CommandSince g.D.Disk command c.args.input.now c.args.disk.now c.value.new.disk) (sym c.in-Value.is) tt
+
+pub returns-in_err-image-in-MmvMake-clause-since : goal.returns-in_err-image-in-MmvMake-clause-since
+returns-in_err-image-in-MmvMake-clause-since g c = λ tells behind. subst (λ (command : Command). CommandSince g.D.Disk command c.args.input.now c.args.disk.now c.args.disk.now) (sym c.in-MmvMake.is) tt
+
+pub returns-in_ok-image-in-MmvMake-clause-since : goal.returns-in_ok-image-in-MmvMake-clause-since
+returns-in_ok-image-in-MmvMake-clause-since g c = λ tells behind. subst (λ (command : Command). CommandSince g.D.Disk command c.args.input.now c.args.disk.now c.args.disk.now) (sym c.in-MmvMake.is) tt
+
+pub returns-in_err-text-in-MmvDump-clause-since : goal.returns-in_err-text-in-MmvDump-clause-since
+returns-in_err-text-in-MmvDump-clause-since g c = λ tells behind. subst (λ (command : Command). CommandSince g.D.Disk command c.args.input.now c.args.disk.now c.args.disk.now) (sym c.in-MmvDump.is) tt
+
+pub returns-in_ok-text-in-MmvDump-clause-since : goal.returns-in_ok-text-in-MmvDump-clause-since
+returns-in_ok-text-in-MmvDump-clause-since g c = λ tells behind. subst (λ (command : Command). CommandSince g.D.Disk command c.args.input.now c.args.disk.now c.args.disk.now) (sym c.in-MmvDump.is) tt
+
+pub returns-in-At-clause-since : goal.returns-in-At-clause-since
+returns-in-At-clause-since g c = λ tells behind. subst (λ (command : Command). CommandSince g.D.Disk command c.args.input.now c.args.disk.now c.at.new.disk) (sym c.in-At.is) tt
+
+pub returns-in-Range-clause-since : goal.returns-in-Range-clause-since
+returns-in-Range-clause-since g c = λ tells behind. subst (λ (command : Command). CommandSince g.D.Disk command c.args.input.now c.args.disk.now c.range.new.disk) (sym c.in-Range.is) tt
