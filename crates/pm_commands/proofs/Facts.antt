@@ -4,24 +4,27 @@ use Rattle.pcp_base.specs.declared.file.FileId.{FileId}
 use Rattle.pcp_base.specs.Time.{Moment}
 use Rattle.pcp_model.specs.Disk.{IsSettled}
 use Rattle.pcp_outside.specs.Causes.{Rose}
-use Rattle.pm_commands.specs.declared.stage.ReadRefusal.{ReadRefusal}
-use Rattle.pm_commands.specs.declared.stage.ReadRefusal.TheVariants.{ReadFault, InputLimit}
-use Rattle.pm_commands.specs.declared.stage.InputRefusal.{InputRefusal}
-use Rattle.pm_commands.specs.declared.stage.FilesRefusal.{FilesRefusal}
-use Rattle.pm_commands.specs.declared.stage.FilesRefusal.TheVariants.{LaterDisk, Compressed, NotArchive, Nothing}
-use Rattle.pm_commands.specs.declared.stage.DiskRefusal.TheVariants.{Files as FilesAway, DiskFault}
-use Rattle.pm_commands.specs.declared.words.Command.{Command}
-use Rattle.pm_commands.specs.declared.refusal.Refusal.{Refusal}
-use Rattle.pm_commands.specs.declared.refusal.Refusal.TheVariants.{Words, Reading, Input, Disk, NoMemory}
-use Rattle.pm_commands.specs.CommandLine.{command_of}
-use Rattle.pm_commands.specs.Causes.{Got, Asks, fault_of, IsReader, Finds, Left, Cause}
-use Rattle.pm_commands.specs.Ends.{Ends, EndsDone, EndsUntold, HasRun, IsNever}
-use Rattle.pm_commands.specs.Facts.{UsageIsExact, LimitIsExact, InputFaultIsExact, LaterIsExact, ArchiveFaultIsExact, NothingIsThere, Given, Meets, refused_of, TurnsAway, IsRefused, Unwritten, IsGoodDisk, IsGoodRun, Keeps}
-use Rattle.pm_commands.specs.Inputs.{input_limit, refusal_of}
-use Rattle.pm_commands.specs.Meanings.{meaning}
-use Rattle.pm_commands.specs.Refusals.{status_of, reading_status, input_status, files_status}
-use Rattle.pm_commands.specs.Sides.{SourceSide, SinkSide, DiskSide, found, Untouched}
-use Rattle.pm_commands.proofs.Lookings.{one_later, wrapped_first}
+use Rattle.pm_tasks.specs.declared.stage.ReadRefusal.{ReadRefusal}
+use Rattle.pm_tasks.specs.declared.stage.ReadRefusal.TheVariants.{ReadFault, InputLimit}
+use Rattle.pm_tasks.specs.declared.stage.InputRefusal.{InputRefusal}
+use Rattle.pm_tasks.specs.declared.stage.InputRefusal.TheVariants.{Image, Line}
+use Rattle.pm_tasks.specs.declared.stage.FilesRefusal.{FilesRefusal}
+use Rattle.pm_tasks.specs.declared.stage.FilesRefusal.TheVariants.{Unlogged, Compressed, NotArchive, Nothing}
+use Rattle.pm_tasks.specs.declared.stage.ResultRefusal.{ResultRefusal}
+use Rattle.pm_tasks.specs.declared.stage.ResultRefusal.TheVariants.{Large, NotLater, Changed, Full}
+use Rattle.pm_tasks.specs.declared.stage.DiskRefusal.TheVariants.{Files as FilesAway, DiskFault}
+use Rattle.pm_tasks.specs.declared.words.Command.{Command}
+use Rattle.pm_tasks.specs.declared.refusal.Refusal.{Refusal}
+use Rattle.pm_tasks.specs.declared.refusal.Refusal.TheVariants.{Words, Reading, Input, Disk, NoMemory}
+use Rattle.pm_tasks.specs.CommandLine.{command_of}
+use Rattle.pm_tasks.specs.Causes.{Got, Asks, fault_of, IsReader, Finds, Left, Cause}
+use Rattle.pm_tasks.specs.Ends.{Ends, EndsDone, EndsUntold, HasRun, IsNever}
+use Rattle.pm_commands.specs.Facts.{UsageIsExact, LimitIsExact, InputFaultIsExact, UnloggedIsExact, ArchiveFaultIsExact, NothingIsThere, Given, Meets, refused_of, TurnsAway, IsRefused, Unwritten, IsGoodDisk, IsGoodRun, Keeps}
+use Rattle.pm_tasks.specs.Inputs.{input_limit, refusal_of}
+use Rattle.pm_tasks.specs.Meanings.{meaning}
+use Rattle.pm_tasks.specs.Refusals.{status_of, reading_status, input_status, files_status, result_status}
+use Rattle.pm_tasks.specs.Sides.{SourceSide, SinkSide, DiskSide, found, Untouched}
+use Rattle.pm_commands.proofs.Lookings.{one_reason, wrapped_first}
 
 module _ (words : List (List ℕ)) (s : SourceSide) (k : SinkSide) (d : DiskSide) where
   -- a refusal that has this cause
@@ -126,15 +129,45 @@ module _ (words : List (List ℕ)) (s : SourceSide) (k : SinkSide) (d : DiskSide
   pub write_fault_rose : (status : ℕ) → Ends words s k d status → status ≡ 4 → Rose k.faults k.faults_after
   write_fault_rose status ends = by_end status (λ n. n ≡ 4 → Rose k.faults k.faults_after) ends (λ done h. cc) (λ untold h. untold.rose) write_rose
 
-  limit_only : (e : Refusal) → Caused e → status_of e ≡ 7 → IsReader words × (s.tells → (input_limit < length s.left) × (s.after ≡ drop 16777217 s.left))
-  limit_only e c h = grind arith
+  turned_away : (e : FilesRefusal) → Caused (Disk (FilesAway e)) → TurnsAway words s d e
+  turned_away e c = record { asks = c.0; good = c.1.0; uses = c.1.1; turned = c.2.1 }
+
+  input_two : (e : InputRefusal) → input_status e ≡ 2
+  input_two (Image fault) = refl
+  input_two (Line fault) = refl
+
+  input_never : (n : ℕ) → 2 < n → (e : InputRefusal) → input_status e ≡ n → ⊥
+  input_never n high e h = omega (arith, high, h, input_two e)
+
+  abbrev LimitCause : Type 0
+  LimitCause = (IsReader words × (s.tells → (input_limit < length s.left) × (s.after ≡ drop 16777217 s.left))) ⊎ ((reason : ResultRefusal) × (result_status reason ≡ 7) × TurnsAway words s d (Unlogged reason))
+
+  limit_files : (e : FilesRefusal) → TurnsAway words s d e → files_status e ≡ 7 → LimitCause
+  limit_files (Unlogged reason) away h = inr (reason, h, away)
+  limit_files (Compressed file) away h = cc
+  limit_files (NotArchive file at) away h = cc
+  limit_files (Nothing stamp) away h = cc
+
+  limit_only : (e : Refusal) → Caused e → status_of e ≡ 7 → LimitCause
+  limit_only (Words usage) c h = cc
+  limit_only (Reading ReadFault) c h = cc
+  limit_only (Reading InputLimit) c h = inl (c.0, c.1)
+  limit_only (Input e) c h = absurd (input_never 7 (omega arith) e h)
+  limit_only (Disk (FilesAway e)) c h = limit_files e (turned_away e c) h
+  limit_only (Disk DiskFault) c h = cc
+  limit_only NoMemory c h = cc
 
   limit_found : (e : Refusal) → Caused e → IsReader words → s.tells → input_limit < length s.left → (status_of e ≡ 7) ⊎ ((status_of e ≡ 9) ⊎ (status_of e ≡ 3))
-  limit_found e c reader tells above = grind (arith, apart, was_above)
+  limit_found (Words usage) c reader tells above = absurd (apart usage.at c.0 reader.0 reader.1)
+  limit_found (Reading ReadFault) c reader tells above = inr (inr refl)
+  limit_found (Reading InputLimit) c reader tells above = inl refl
+  limit_found (Input e) c reader tells above = absurd (was_above c.0.0 reader tells above)
+  limit_found (Disk e) c reader tells above = absurd (was_above c.0 reader tells above)
+  limit_found NoMemory c reader tells above = inr (inl refl)
 
-  pub limit_is_exact : (status : ℕ) → Ends words s k d status → LimitIsExact words s status
+  pub limit_is_exact : (status : ℕ) → Ends words s k d status → LimitIsExact words s d status
   limit_is_exact status ends = record {
-    only = by_end status (λ n. n ≡ 7 → IsReader words × (s.tells → (input_limit < length s.left) × (s.after ≡ drop 16777217 s.left))) ends (λ done h. cc) (λ untold h. cc) limit_only;
+    only = by_end status (λ n. n ≡ 7 → LimitCause) ends (λ done h. cc) (λ untold h. cc) limit_only;
     always = by_end status (λ n. IsReader words → s.tells → input_limit < length s.left → (n ≡ 7) ⊎ ((n ≡ 9) ⊎ (n ≡ 3))) ends
         (λ done reader tells above. absurd (was_above done.run.asks reader tells above)) (λ untold reader tells above. absurd (was_above untold.run.asks reader tells above)) limit_found;
   }
@@ -151,33 +184,6 @@ module _ (words : List (List ℕ)) (s : SourceSide) (k : SinkSide) (d : DiskSide
     always = by_end status (λ n. (b : Meets words s) → (f : InputRefusal) → input_status f ≡ 2 → refused_of b ≡ Some f → (n ≡ 2) ⊎ ((n ≡ 9) ⊎ (n ≡ 3))) ends
         (λ done b f two bad. absurd (found_good done.run.asks b f done.run.served.good bad)) (λ untold b f two bad. absurd (found_good untold.run.asks b f untold.run.served.good bad)) input_found;
   }
-
-  input_now : (e : InputRefusal) → input_status e ≡ 15 → ⊥
-  input_now e h = grind arith
-
-  never_six : (e : InputRefusal) → input_status e ≡ 6 → ⊥
-  never_six e h = grind arith
-
-  never_later : (e : ReadRefusal) → reading_status e ≡ 15 → ⊥
-  never_later e h = grind arith
-
-  turned_away : (e : FilesRefusal) → Caused (Disk (FilesAway e)) → TurnsAway words s d e
-  turned_away e c = record { asks = c.0; good = c.1.0; uses = c.1.1; turned = c.2.1 }
-
-  -- no status below is 15
-  below : (n : ℕ) → n < 15 → n ≡ 15 → ⊥
-  below n low h = omega arith
-
-  later_only : (e : Refusal) → Caused e → status_of e ≡ 15 → TurnsAway words s d LaterDisk
-  later_only (Words usage) c h = absurd (below 1 (omega arith) h)
-  later_only (Reading e) c h = absurd (never_later e h)
-  later_only (Input e) c h = absurd (input_now e h)
-  later_only (Disk (FilesAway LaterDisk)) c h = turned_away LaterDisk c
-  later_only (Disk (FilesAway (Compressed file))) c h = absurd (below 6 (omega arith) h)
-  later_only (Disk (FilesAway (NotArchive file at))) c h = absurd (below 6 (omega arith) h)
-  later_only (Disk (FilesAway (Nothing stamp))) c h = absurd (below 11 (omega arith) h)
-  later_only (Disk DiskFault) c h = absurd (below 5 (omega arith) h)
-  later_only NoMemory c h = absurd (below 9 (omega arith) h)
 
   -- a file refusal that a command of the words has, told of the command that got its input
   turned_here : (a : Asks words s) (b : Meets words s) (e : FilesRefusal) → (meaning b.command).turns_away b.input (found d) e → (meaning a.command).turns_away a.input (found d) e
@@ -201,44 +207,83 @@ module _ (words : List (List ℕ)) (s : SourceSide) (k : SinkSide) (d : DiskSide
   not_welcome text run b e never tells turned =
       run.served.welcome tells e never (turned_here run.asks b e turned)
 
-  pub later_is_exact : (status : ℕ) → Ends words s k d status → LaterIsExact words s d status
-  later_is_exact status ends = record {
-    only = by_end status (λ n. n ≡ 15 → TurnsAway words s d LaterDisk) ends (λ done h. cc) (λ untold h. cc) later_only;
-    always = by_end status (λ n. (b : Meets words s) → refused_of b ≡ None → d.tells → (meaning b.command).turns_away b.input (found d) LaterDisk → (n ≡ 15) ⊎ ((n ≡ 9) ⊎ ((n ≡ 3) ⊎ (n ≡ 5)))) ends
-        (λ done b good tells turned. absurd (not_welcome done.text done.run b LaterDisk tt tells turned)) (λ untold b good tells turned. absurd (not_welcome untold.text untold.run b LaterDisk tt tells turned))
-        (λ e c b good tells turned. turned_found 15 b good (λ a x also. ap files_status (one_later a.command a.input (found d) x (turned_here a b LaterDisk turned) (also tells))) e c);
+  read_low : (e : ReadRefusal) → reading_status e ≤ 7
+  read_low ReadFault = omega arith
+  read_low InputLimit = omega arith
+
+  -- a status above 9 comes of the files
+  of_files : (e : Refusal) (n : ℕ) → 9 < n → Caused e → status_of e ≡ n → (x : FilesRefusal) × (files_status x ≡ n) × TurnsAway words s d x
+  of_files (Words usage) n high c h = absurd (omega (arith, high, h))
+  of_files (Reading e) n high c h = absurd (omega (arith, high, h, read_low e))
+  of_files (Input e) n high c h = absurd (omega (arith, high, h, input_two e))
+  of_files (Disk (FilesAway e)) n high c h = (e, h, turned_away e c)
+  of_files (Disk DiskFault) n high c h = absurd (omega (arith, high, h))
+  of_files NoMemory n high c h = absurd (omega (arith, high, h))
+
+  not_later_files : (x : FilesRefusal) → files_status x ≡ 12 → TurnsAway words s d x → (last : Moment) × TurnsAway words s d (Unlogged (NotLater last))
+  not_later_files (Unlogged reason) h away = by reason h away
+    where
+      by : (r : ResultRefusal) → result_status r ≡ 12 → TurnsAway words s d (Unlogged r) → (last : Moment) × TurnsAway words s d (Unlogged (NotLater last))
+      by (Large bytes) h away = cc
+      by (NotLater last) h away = (last, away)
+      by (Changed pmid) h away = cc
+      by (Full file bytes) h away = cc
+  not_later_files (Compressed file) h away = cc
+  not_later_files (NotArchive file at) h away = cc
+  not_later_files (Nothing stamp) h away = cc
+
+  changed_files : (x : FilesRefusal) → files_status x ≡ 13 → TurnsAway words s d x → (pmid : ℕ) × TurnsAway words s d (Unlogged (Changed pmid))
+  changed_files (Unlogged reason) h away = by reason h away
+    where
+      by : (r : ResultRefusal) → result_status r ≡ 13 → TurnsAway words s d (Unlogged r) → (pmid : ℕ) × TurnsAway words s d (Unlogged (Changed pmid))
+      by (Large bytes) h away = cc
+      by (NotLater last) h away = cc
+      by (Changed pmid) h away = (pmid, away)
+      by (Full file bytes) h away = cc
+  changed_files (Compressed file) h away = cc
+  changed_files (NotArchive file at) h away = cc
+  changed_files (Nothing stamp) h away = cc
+
+  not_later_only : (e : Refusal) → Caused e → status_of e ≡ 12 → (last : Moment) × TurnsAway words s d (Unlogged (NotLater last))
+  not_later_only e c h = let x = of_files e 12 (omega arith) c h in not_later_files x.0 x.1 x.2
+
+  changed_only : (e : Refusal) → Caused e → status_of e ≡ 13 → (pmid : ℕ) × TurnsAway words s d (Unlogged (Changed pmid))
+  changed_only e c h = let x = of_files e 13 (omega arith) c h in changed_files x.0 x.1 x.2
+
+  pub unlogged_is_exact : (status : ℕ) → Ends words s k d status → UnloggedIsExact words s d status
+  unlogged_is_exact status ends = record {
+    not_later = by_end status (λ n. n ≡ 12 → (last : Moment) × TurnsAway words s d (Unlogged (NotLater last))) ends (λ done h. cc) (λ untold h. cc) not_later_only;
+    changed = by_end status (λ n. n ≡ 13 → (pmid : ℕ) × TurnsAway words s d (Unlogged (Changed pmid))) ends (λ done h. cc) (λ untold h. cc) changed_only;
+    always = by_end status (λ n. (b : Meets words s) → refused_of b ≡ None → d.tells → (reason : ResultRefusal) → (meaning b.command).turns_away b.input (found d) (Unlogged reason) → (n ≡ result_status reason) ⊎ ((n ≡ 9) ⊎ ((n ≡ 3) ⊎ (n ≡ 5)))) ends
+        (λ done b good tells reason turned. absurd (not_welcome done.text done.run b (Unlogged reason) tt tells turned)) (λ untold b good tells reason turned. absurd (not_welcome untold.text untold.run b (Unlogged reason) tt tells turned))
+        (λ e c b good tells reason turned. turned_found (result_status reason) b good (λ a x also. one_reason a.command a.input (found d) reason x (turned_here a b (Unlogged reason) turned) (also tells)) e c);
   }
 
-  never_nothing : (e : InputRefusal) → input_status e ≡ 11 → ⊥
-  never_nothing e h = grind arith
+  not_eleven : (r : ResultRefusal) → result_status r ≡ 11 → ⊥
+  not_eleven (Large bytes) h = cc
+  not_eleven (NotLater last) h = cc
+  not_eleven (Changed pmid) h = cc
+  not_eleven (Full file bytes) h = cc
 
-  never_unread : (e : ReadRefusal) → reading_status e ≡ 11 → ⊥
-  never_unread e h = grind arith
-
-  unlike : (n m : ℕ) → n < m → n ≡ m → ⊥
-  unlike n m low h = omega arith
+  nothing_files : (x : FilesRefusal) → files_status x ≡ 11 → TurnsAway words s d x → (stamp : Moment) × TurnsAway words s d (Nothing stamp)
+  nothing_files (Unlogged reason) h away = absurd (not_eleven reason h)
+  nothing_files (Compressed file) h away = cc
+  nothing_files (NotArchive file at) h away = cc
+  nothing_files (Nothing stamp) h away = (stamp, away)
 
   nothing_only : (e : Refusal) → Caused e → status_of e ≡ 11 → (stamp : Moment) × TurnsAway words s d (Nothing stamp)
-  nothing_only (Words usage) c h = absurd (unlike 1 11 (omega arith) h)
-  nothing_only (Reading e) c h = absurd (never_unread e h)
-  nothing_only (Input e) c h = absurd (never_nothing e h)
-  nothing_only (Disk (FilesAway LaterDisk)) c h = absurd (unlike 11 15 (omega arith) (sym h))
-  nothing_only (Disk (FilesAway (Compressed file))) c h = absurd (unlike 6 11 (omega arith) h)
-  nothing_only (Disk (FilesAway (NotArchive file at))) c h = absurd (unlike 6 11 (omega arith) h)
-  nothing_only (Disk (FilesAway (Nothing stamp))) c h = (stamp, turned_away (Nothing stamp) c)
-  nothing_only (Disk DiskFault) c h = absurd (unlike 5 11 (omega arith) h)
-  nothing_only NoMemory c h = absurd (unlike 9 11 (omega arith) h)
+  nothing_only e c h = let x = of_files e 11 (omega arith) c h in nothing_files x.0 x.1 x.2
 
   pub nothing_is_there : (status : ℕ) → Ends words s k d status → NothingIsThere words s d status
   nothing_is_there status ends = by_end status (λ n. n ≡ 11 → (stamp : Moment) × TurnsAway words s d (Nothing stamp)) ends (λ done h. cc) (λ untold h. cc) nothing_only
 
   archive_only : (e : Refusal) → Caused e → status_of e ≡ 6 → (x : FilesRefusal) × (files_status x ≡ 6) × TurnsAway words s d x
-  archive_only (Disk (FilesAway e)) c h = (e, h, record { asks = c.0; good = c.1.0; uses = c.1.1; turned = c.2.1 })
+  archive_only (Disk (FilesAway e)) c h = (e, h, turned_away e c)
   archive_only (Disk DiskFault) c h = cc
   archive_only (Words usage) c h = cc
   archive_only (Reading ReadFault) c h = cc
   archive_only (Reading InputLimit) c h = cc
-  archive_only (Input e) c h = absurd (never_six e h)
+  archive_only (Input e) c h = absurd (input_never 6 (omega arith) e h)
   archive_only NoMemory c h = cc
 
   pub archive_fault_is_exact : (status : ℕ) → Ends words s k d status → ArchiveFaultIsExact words s d status
@@ -256,7 +301,7 @@ module _ (words : List (List ℕ)) (s : SourceSide) (k : SinkSide) (d : DiskSide
   refused_unwritten (Words usage) c = inl c.2
   refused_unwritten (Reading e) c = inl c.2
   refused_unwritten (Input e) c = inl c.1
-  refused_unwritten (Disk (FilesAway e)) c = inl c.2.0
+  refused_unwritten (Disk (FilesAway e)) c = left_unwritten (files_status e) c.0 c.2.0
   refused_unwritten (Disk DiskFault) c = left_unwritten 5 c.0 c.2.0
   refused_unwritten NoMemory c = ⊎_elim (λ still. inl still) (λ left. left_unwritten 9 left.0 left.1) c.1
 
@@ -316,7 +361,7 @@ module _ (words : List (List ℕ)) (s : SourceSide) (k : SinkSide) (d : DiskSide
   stays_settled (Words usage) c h = still_settled c.2
   stays_settled (Reading e) c h = still_settled c.2
   stays_settled (Input e) c h = still_settled c.1
-  stays_settled (Disk (FilesAway e)) c h = still_settled c.2.0
+  stays_settled (Disk (FilesAway e)) c h = c.2.0.settled h
   stays_settled (Disk DiskFault) c h = c.2.0.settled h
   stays_settled NoMemory c h = ⊎_elim still_settled (λ left. left.1.settled h) c.1
 
@@ -326,7 +371,7 @@ module _ (words : List (List ℕ)) (s : SourceSide) (k : SinkSide) (d : DiskSide
       (λ done h tells settled. done.run.served.settled tells settled) (λ untold h tells settled. untold.run.served.settled tells settled) stays_settled
 
   -- each crash from then on leaves what the command keeps
-  pub keeps : (status : ℕ) → Ends words s k d status → status ≡ 0 → d.tells → Keeps words s d.after
+  pub keeps : (status : ℕ) → Ends words s k d status → status ≡ 0 → d.tells → Keeps words s d.held d.after
   keeps status ends zero tells =
       let done : EndsDone words s k d = is_done status ends zero in
       record { asks = done.run.asks; each = done.run.served.kept tells }

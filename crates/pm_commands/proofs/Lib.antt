@@ -1,15 +1,4 @@
-pub mod Asking
-pub mod Components
-pub mod Dumped
 pub mod Lookings
-pub mod Looks
 pub mod Memory
-pub mod Mended
-pub mod Refused
-pub mod Sending
 pub mod Facts
-pub mod Wholes
-pub mod Served
-pub mod Taken
-pub mod Timed
 pub mod Welcome

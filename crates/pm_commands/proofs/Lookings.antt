@@ -1,5 +1,5 @@
 -- Commands that only read an archive: how they end, and which refusals of files go together.
-use Rattle.std.proofs.Common.{◌≡◌, ◌⊎◌, inl, ⊎_elim, ℕ, Bool, List, [], ◌++◌, refl, sym, ◌∙◌, Option, Some, None, Result, Ok, Err, IfOk, IfErr, OnErr}
+use Rattle.std.proofs.Common.{◌≡◌, ◌⊎◌, inl, inr, ⊎_elim, arith, ℕ, Bool, List, [], ◌++◌, refl, sym, ◌∙◌, Option, Some, None, Result, Ok, Err, IfOk, IfErr, OnErr}
 use Rattle.pcp_base.specs.Time.{Moment}
 use Rattle.pcp_base.specs.declared.file.FileId.{FileId}
 use Rattle.pcp_model.specs.Disk.{CrashImage}
@@ -7,34 +7,36 @@ use Rattle.pcp_outside.specs.declared.disk.Disk.{Ghosts as DiskGhosts}
 use Rattle.pcp_outside.proofs.Crash.{weaker}
 use Rattle.archive_window.specs.Looks.{Looks}
 use Rattle.archive_loading.specs.Loaded.{Loaded}
-use Rattle.pm_commands.specs.declared.stage.FilesRefusal.{FilesRefusal}
-use Rattle.pm_commands.specs.declared.stage.FilesRefusal.TheVariants.{LaterDisk, Compressed, NotArchive, Nothing}
-use Rattle.pm_commands.specs.declared.stage.DiskRefusal.TheVariants.{Files as FilesAway, DiskFault}
-use Rattle.pm_commands.specs.declared.refusal.Refusal.{Refusal}
-use Rattle.pm_commands.specs.declared.refusal.Refusal.TheVariants.{Words, Reading, Input, Disk, NoMemory}
-use Rattle.pm_commands.specs.declared.words.Command.{Command}
-use Rattle.pm_commands.specs.declared.words.Command.TheVariants.{Once, MmvMake, MmvDump, Dump, Info, Recover, At, Range, Value}
-use Rattle.pm_commands.specs.declared.words.ValueWords.{ValueWords}
-use Rattle.pm_commands.specs.Archives.{TurnedAfter, TurnedAway, looks, nothing_before}
-use Rattle.pm_commands.specs.Causes.{StopCause}
-use Rattle.pm_commands.specs.Ends.{HasServed, Serves, IsNever, MayLeave, told_of}
-use Rattle.pm_commands.specs.Meaning.{Meaning}
-use Rattle.pm_commands.specs.Meanings.{meaning}
-use Rattle.pm_commands.specs.Refusals.{files_status}
-use Rattle.pm_commands.specs.Sides.{SinkSide, DiskSide, Found, found, Untouched, Leaves}
-use Rattle.pm_commands.specs.Streams.{IsSent}
-use Rattle.pm_commands.specs.commands.at as at
-use Rattle.pm_commands.specs.commands.dump as dump
-use Rattle.pm_commands.specs.commands.info as info
-use Rattle.pm_commands.proofs.Mended.{recover_wrapped}
-use Rattle.pm_commands.specs.commands.range as range
-use Rattle.pm_commands.specs.commands.value as value
-use Rattle.pm_commands.proofs.Served.{still_settled, left_alone}
+use Rattle.pm_tasks.specs.declared.stage.FilesRefusal.{FilesRefusal}
+use Rattle.pm_tasks.specs.declared.stage.FilesRefusal.TheVariants.{Unlogged, Compressed, NotArchive, Nothing}
+use Rattle.pm_tasks.specs.declared.stage.ResultRefusal.{ResultRefusal}
+use Rattle.pm_tasks.specs.declared.stage.DiskRefusal.TheVariants.{Files as FilesAway, DiskFault}
+use Rattle.pm_tasks.specs.declared.refusal.Refusal.{Refusal}
+use Rattle.pm_tasks.specs.declared.refusal.Refusal.TheVariants.{Words, Reading, Input, Disk, NoMemory}
+use Rattle.pm_tasks.specs.declared.words.Command.{Command}
+use Rattle.pm_tasks.specs.declared.words.Command.TheVariants.{Once, MmvMake, MmvDump, Dump, Info, Recover, At, Range, Value}
+use Rattle.pm_tasks.specs.declared.words.ValueWords.{ValueWords}
+use Rattle.pm_tasks.specs.Archives.{TurnedAfter, TurnedAway, looks, nothing_before}
+use Rattle.pm_tasks.specs.Causes.{Left, StopCause}
+use Rattle.pm_tasks.specs.Ends.{HasServed, Serves, IsNever, MayLeave, told_of}
+use Rattle.pm_tasks.specs.Meaning.{Meaning}
+use Rattle.pm_tasks.specs.Meanings.{meaning}
+use Rattle.pm_tasks.specs.Refusals.{files_status, result_status}
+use Rattle.pm_tasks.specs.Sides.{SinkSide, DiskSide, Found, found, Untouched, Leaves}
+use Rattle.pm_tasks.specs.Streams.{IsSent}
+use Rattle.pm_tasks.specs.commands.at as at
+use Rattle.pm_tasks.specs.commands.dump as dump
+use Rattle.pm_tasks.specs.commands.info as info
+use Rattle.pm_tasks.proofs.Logged.{once_unlogged, once_untold, once_wrapped}
+use Rattle.pm_tasks.proofs.Mended.{recover_wrapped}
+use Rattle.pm_tasks.specs.commands.range as range
+use Rattle.pm_tasks.specs.commands.value as value
+use Rattle.pm_tasks.proofs.Served.{still_settled, left_alone}
 
 -- over which files such a command refuses, and over which it writes a text
 pub record FitsLook (turned : Found → FilesRefusal → Type 0) (said : Found → List ℕ → Type 0) : Type 0 where
-  -- none speaks of a disk that isn't empty
-  pub never_later : (f : Found) → turned f LaterDisk → ⊥
+  -- none speaks of a result that isn't logged
+  pub never_unlogged : (f : Found) (reason : ResultRefusal) → turned f (Unlogged reason) → ⊥
   -- a file stands wrapped where one says so, and none does where a text was written
   pub wrapped : (f : Found) (file : FileId) → turned f (Compressed file) → f.wrapped ≡ Some file
   pub unwrapped : (f : Found) (text : List ℕ) → said f text → f.wrapped ≡ None
@@ -43,7 +45,7 @@ pub record FitsLook (turned : Found → FilesRefusal → Type 0) (said : Found �
 
 pub info_fits : FitsLook info.turned info.said
 info_fits = record {
-  never_later = λ f t. t;
+  never_unlogged = λ f reason t. t;
   wrapped = λ f file t. t;
   nothing = λ f stamp t. absurd t;
   unwrapped = λ f text s. s.1.unwrapped;
@@ -53,40 +55,40 @@ neither : {A B : Type 0} → (A → ⊥) → (B → ⊥) → A ⊎ B → ⊥
 neither f g t = ⊎_elim f g t
 
 -- a command that turns files away for what it finds in an archive that was loaded
-asked_fits : (why : Loaded → Found → FilesRefusal → Type 0) (said : Found → List ℕ → Type 0) → ((r : Loaded) (f : Found) → why r f LaterDisk → ⊥) → ((r : Loaded) (f : Found) (file : FileId) → why r f (Compressed file) → ⊥)
+asked_fits : (why : Loaded → Found → FilesRefusal → Type 0) (said : Found → List ℕ → Type 0) → ((r : Loaded) (f : Found) (reason : ResultRefusal) → why r f (Unlogged reason) → ⊥) → ((r : Loaded) (f : Found) (file : FileId) → why r f (Compressed file) → ⊥)
     → ((f : Found) (text : List ℕ) → said f text → f.wrapped ≡ None) → FitsLook (TurnedAfter why) said
-asked_fits why said later wrapped unwrapped = record {
-  never_later = λ f t. neither (λ n. n) (λ b. later b.0 f b.2) t;
+asked_fits why said unlogged wrapped unwrapped = record {
+  never_unlogged = λ f reason t. neither (λ n. n) (λ b. unlogged b.0 f reason b.2) t;
   wrapped = λ f file t. ⊎_elim (λ (w : f.wrapped ≡ Some file). w) (λ b. absurd (wrapped b.0 f file b.2)) t;
   nothing = λ f stamp t. ⊎_elim (λ (n : ⊥). absurd n) (λ b. b.1.unwrapped) t;
   unwrapped = unwrapped;
 }
 
 pub dump_fits : FitsLook dump.turned dump.said
-dump_fits = asked_fits dump.BadRecord dump.said (λ r f b. b) (λ r f file b. b) (λ f text s. s.1.unwrapped)
+dump_fits = asked_fits dump.BadRecord dump.said (λ r f reason b. b) (λ r f file b. b) (λ f text s. s.1.unwrapped)
 
 pub at_fits : (t : Moment) → FitsLook (at.turned t) (at.said t)
-at_fits t = asked_fits (at.IsStopped t) (at.said t) (λ r f b. b) (λ r f file b. b) (λ f text s. s.1.unwrapped)
+at_fits t = asked_fits (at.IsStopped t) (at.said t) (λ r f reason b. b) (λ r f file b. b) (λ f text s. s.1.unwrapped)
 
 pub range_fits : (from to : Moment) → FitsLook (range.turned from to) (range.said from to)
-range_fits from to = asked_fits (range.IsStopped from to) (range.said from to) (λ r f b. b) (λ r f file b. b) (λ f text s. s.1.unwrapped)
+range_fits from to = asked_fits (range.IsStopped from to) (range.said from to) (λ r f reason b. b) (λ r f file b. b) (λ f text s. s.1.unwrapped)
 
 pub value_fits : (asked : ValueWords) → FitsLook (value.turned asked) (value.said asked)
-value_fits asked = asked_fits (value.IsStopped asked) (value.said asked) (λ r f b. b) (λ r f file b. b) (λ f text s. s.1.unwrapped)
+value_fits asked = asked_fits (value.IsStopped asked) (value.said asked) (λ r f reason b. b) (λ r f file b. b) (λ f text s. s.1.unwrapped)
 
 not_both : (w : Option FileId) (file : FileId) → w ≡ None → w ≡ Some file → ⊥
 not_both w file none some = let e : None ≡ Some file = sym none ∙ some in cc
 
 module _ (turned : Found → FilesRefusal → Type 0) (said : Found → List ℕ → Type 0) (first : DiskSide → List ℕ → Type 0) (fits : FitsLook turned said) where
   never_turned : (f : Found) (text : List ℕ) → said f text → (e : FilesRefusal) → IsNever e → turned f e → ⊥
-  never_turned f text s LaterDisk never t = fits.never_later f t
+  never_turned f text s (Unlogged reason) never t = fits.never_unlogged f reason t
   never_turned f text s (Compressed file) never t = not_both f.wrapped file (fits.unwrapped f text s) (fits.wrapped f file t)
   never_turned f text s (NotArchive file place) never t = never
   never_turned f text s (Nothing stamp) never t = never
 
   -- where a file stands wrapped, the archive is turned away
   look_wrapped : (f : Found) (file : FileId) (e : FilesRefusal) → turned f (Compressed file) → turned f e → files_status e ≡ 6
-  look_wrapped f file LaterDisk w t = absurd (fits.never_later f t)
+  look_wrapped f file (Unlogged reason) w t = absurd (fits.never_unlogged f reason t)
   look_wrapped f file (Compressed other) w t = refl
   look_wrapped f file (NotArchive other place) w t = refl
   look_wrapped f file (Nothing stamp) w t = absurd (not_both f.wrapped file (fits.nothing f stamp t) (fits.wrapped f file w))
@@ -104,7 +106,7 @@ module _ (turned : Found → FilesRefusal → Type 0) (said : Found → List ℕ
 
   -- and why it is stopped
   pub look_stops : (input : List ℕ) (d : DiskSide) (e : Refusal) → Untouched d → TurnedAway turned d e → StopCause (looks turned said first) input d e
-  look_stops input d (Disk (FilesAway e)) still c = ((refl, refl), (still, c))
+  look_stops input d (Disk (FilesAway e)) still c = ((refl, refl), (left_alone (looks turned said first) (files_status e) input d still, c))
   look_stops input d (Disk DiskFault) still c = ((refl, refl), (left_alone (looks turned said first) 5 input d still, c))
   look_stops input d NoMemory still c = left_alone (looks turned said first) 9 input d still
   look_stops input d (Words usage) still c = absurd c
@@ -128,21 +130,21 @@ dump_serves input k failed d (Ok text) still has stopped away = record { front =
 dump_serves input k failed d (Err e) still has stopped away =
     record { front = stopped.front; sent = stopped.sent; done = tt; stops = (look_stops dump.turned dump.said dump.begun dump_fits input d e still away, stopped.so_far) }
 
--- over a disk that isn't empty, nothing else is refused
-pub one_later : (command : Command) (input : List ℕ) (f : Found) (e : FilesRefusal) → (meaning command).turns_away input f LaterDisk → (meaning command).turns_away input f e → e ≡ LaterDisk
-one_later (Once asked) input f e later t = t.0
-one_later MmvMake input f e later t = absurd later
-one_later MmvDump input f e later t = absurd later
-one_later Dump input f e later t = absurd (dump_fits.never_later f later)
-one_later Info input f e later t = absurd (info_fits.never_later f later)
-one_later Recover input f e later t = absurd later
-one_later (At t) input f e later away = absurd ((at_fits t).never_later f later)
-one_later (Range from to) input f e later away = absurd ((range_fits from to).never_later f later)
-one_later (Value asked) input f e later away = absurd ((value_fits asked).never_later f later)
+-- where the archive doesn't take the result, nothing else is refused
+pub one_reason : (command : Command) (input : List ℕ) (f : Found) (reason : ResultRefusal) (e : FilesRefusal) → (meaning command).turns_away input f (Unlogged reason) → (meaning command).turns_away input f e → files_status e ≡ result_status reason
+one_reason (Once asked) input f reason e unlogged t = once_unlogged asked input f reason e unlogged t
+one_reason MmvMake input f reason e unlogged t = absurd unlogged
+one_reason MmvDump input f reason e unlogged t = absurd unlogged
+one_reason Dump input f reason e unlogged t = absurd (dump_fits.never_unlogged f reason unlogged)
+one_reason Info input f reason e unlogged t = absurd (info_fits.never_unlogged f reason unlogged)
+one_reason Recover input f reason e unlogged t = absurd unlogged
+one_reason (At t) input f reason e unlogged away = absurd ((at_fits t).never_unlogged f reason unlogged)
+one_reason (Range from to) input f reason e unlogged away = absurd ((range_fits from to).never_unlogged f reason unlogged)
+one_reason (Value asked) input f reason e unlogged away = absurd ((value_fits asked).never_unlogged f reason unlogged)
 
 -- where a file stands wrapped, the archive is turned away
 pub wrapped_first : (command : Command) (input : List ℕ) (f : Found) (file : FileId) (e : FilesRefusal) → (meaning command).turns_away input f (Compressed file) → (meaning command).turns_away input f e → files_status e ≡ 6
-wrapped_first (Once asked) input f file e w t = let other : Compressed file ≡ LaterDisk = w.0 in absurd cc
+wrapped_first (Once asked) input f file e w t = once_wrapped asked input f file e w t
 wrapped_first MmvMake input f file e w t = absurd w
 wrapped_first MmvDump input f file e w t = absurd w
 wrapped_first Dump input f file e w t = look_wrapped dump.turned dump.said dump.begun dump_fits f file e w t
@@ -151,3 +153,25 @@ wrapped_first Recover input f file e w t = recover_wrapped f file e w t
 wrapped_first (At t) input f file e w away = look_wrapped (at.turned t) (at.said t) nothing_before (at_fits t) f file e w away
 wrapped_first (Range from to) input f file e w away = look_wrapped (range.turned from to) (range.said from to) nothing_before (range_fits from to) f file e w away
 wrapped_first (Value asked) input f file e w away = look_wrapped (value.turned asked) (value.said asked) nothing_before (value_fits asked) f file e w away
+
+-- ---- a refusal of files whose line wants memory
+
+never_five : (e : FilesRefusal) → files_status e ≡ 5 → ⊥
+never_five e h = grind arith
+
+begun_untold : (command : Command) (input : List ℕ) (d : DiskSide) (e : FilesRefusal) → (meaning command).begun (files_status e) input d → (meaning command).begun 9 input d
+begun_untold (Once asked) input d e begun = once_untold asked input d (files_status e) (never_five e) begun
+begun_untold MmvMake input d e begun = begun
+begun_untold MmvDump input d e begun = begun
+begun_untold Dump input d e begun = begun
+begun_untold Info input d e begun = begun
+begun_untold Recover input d e begun = ⊎_elim (λ (five : files_status e ≡ 5). absurd (never_five e five)) (λ mended. inr (refl, mended.1)) begun
+begun_untold (At t) input d e begun = begun
+begun_untold (Range from to) input d e begun = begun
+begun_untold (Value asked) input d e begun = begun
+
+pub untold_left : (command : Command) (input : List ℕ) (d : DiskSide) (e : FilesRefusal) → Left (meaning command) (files_status e) input d → Left (meaning command) 9 input d
+untold_left command input d e left = record {
+  files = ⊎_elim (λ (still : Untouched d). inl still) (λ (begun : (meaning command).begun (files_status e) input d). inr (begun_untold command input d e begun)) left.files;
+  settled = λ other. left.settled (never_five e);
+}

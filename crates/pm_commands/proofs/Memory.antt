@@ -1,31 +1,21 @@
 -- A refusal whose line could not be made ends as want of memory.
-use Rattle.std.proofs.Common.{◌≡◌, inl, inr, ℕ, ◌≤◌, List, [], ◌++◌, length, refl, sym, ap, ◌∙◌, subst, arith, append-nil, Option, Some, None, IsSome}
-use Rattle.std.proofs.lemmas.List.{drop_all}
-use Rattle.pm_commands.specs.declared.stage.InputRefusal.{InputRefusal}
-use Rattle.pm_commands.specs.declared.stage.DiskRefusal.TheVariants.{Files, DiskFault}
-use Rattle.pm_commands.specs.declared.refusal.Refusal.{Refusal}
-use Rattle.pm_commands.specs.declared.refusal.Refusal.TheVariants.{Words, Reading, Input, Disk, NoMemory}
-use Rattle.pm_commands.specs.Causes.{Got, Cause, TookSome}
-use Rattle.pm_commands.specs.Ends.{Ends, HasBegun}
-use Rattle.pm_commands.specs.Inputs.{input_limit}
-use Rattle.pm_commands.specs.Meanings.{meaning}
-use Rattle.pm_commands.specs.Refusals.{numbered_line_of}
-use Rattle.pm_commands.specs.Sides.{SourceSide, SinkSide, DiskSide}
-
--- all of a source was taken
-all_taken : (s : SourceSide) → length s.left ≤ input_limit → s.after ≡ [] → TookSome s
-all_taken s within all = (length s.left, omega arith, all ∙ sym (drop_all (length s.left) s.left (omega arith)))
-
--- what was got was taken
-pub took_some : (s : SourceSide) (reads : Option (List ℕ → Option InputRefusal)) (input : List ℕ) → Got reads s input → s.tells → TookSome s
-took_some s None input got tells = (0, omega arith, got.1 tells)
-took_some s (Some refuses) input got tells = all_taken s (subst (λ bytes. length bytes ≤ input_limit) (got.told tells).0 got.within) (got.told tells).1
+use Rattle.std.proofs.Common.{◌≡◌, inl, inr, ℕ, List, [], ◌++◌, refl, sym, ap, ◌∙◌, arith, append-nil, IsSome}
+use Rattle.pm_tasks.specs.declared.stage.DiskRefusal.TheVariants.{Files, DiskFault}
+use Rattle.pm_tasks.specs.declared.refusal.Refusal.{Refusal}
+use Rattle.pm_tasks.specs.declared.refusal.Refusal.TheVariants.{Words, Reading, Input, Disk, NoMemory}
+use Rattle.pm_tasks.specs.Causes.{Cause}
+use Rattle.pm_tasks.specs.Ends.{Ends, HasBegun}
+use Rattle.pm_tasks.specs.Meanings.{meaning}
+use Rattle.pm_tasks.specs.Refusals.{numbered_line_of}
+use Rattle.pm_tasks.specs.Sides.{SourceSide, SinkSide, DiskSide}
+use Rattle.pm_commands.proofs.Lookings.{untold_left}
+use Rattle.pm_tasks.proofs.Served.{took_some}
 
 pub out_of_memory : (words : List (List ℕ)) (s : SourceSide) (d : DiskSide) (e : Refusal) → Cause words s d e → IsSome (numbered_line_of e) → Cause words s d NoMemory
 out_of_memory words s d (Words usage) c some = (λ tells. (0, omega arith, c.1 tells), inl c.2)
 out_of_memory words s d (Input e) c some = (took_some s (meaning c.0.0.command).reads c.0.0.input c.0.0.got, inl c.1)
 out_of_memory words s d (Reading e) c some = cc
-out_of_memory words s d (Disk (Files e)) c some = (took_some s (meaning c.0.command).reads c.0.input c.0.got, inl c.2.0)
+out_of_memory words s d (Disk (Files e)) c some = (took_some s (meaning c.0.command).reads c.0.input c.0.got, inr (c.0, untold_left c.0.command c.0.input d e c.2.0))
 out_of_memory words s d (Disk DiskFault) c some = cc
 out_of_memory words s d NoMemory c some = cc
 

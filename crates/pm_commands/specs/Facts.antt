@@ -4,18 +4,20 @@ use Rattle.std.specs.Prelude.{◌≡◌, ◌⊎◌, ℕ, ◌<◌, ◌≤◌, Lis
 use Rattle.pcp_base.specs.Time.{Moment}
 use Rattle.pcp_model.specs.Disk.{Files, Holdings, CrashImage}
 use Rattle.pcp_outside.specs.Causes.{Rose}
-use Rattle.pm_commands.specs.declared.stage.InputRefusal.{InputRefusal}
-use Rattle.pm_commands.specs.declared.stage.FilesRefusal.{FilesRefusal}
-use Rattle.pm_commands.specs.declared.stage.FilesRefusal.TheVariants.{LaterDisk, Compressed, Nothing}
-use Rattle.pm_commands.specs.declared.words.Command.{Command}
-use Rattle.pm_commands.specs.CommandLine.{command_of}
-use Rattle.pm_commands.specs.Causes.{Asks, fault_of, Finds, IsReader}
-use Rattle.pm_commands.specs.Inputs.{input_limit, refusal_of}
-use Rattle.pm_commands.specs.Meaning.{Meaning}
-use Rattle.pm_commands.specs.Meanings.{meaning}
+use Rattle.pm_tasks.specs.declared.stage.InputRefusal.{InputRefusal}
+use Rattle.pm_tasks.specs.declared.stage.FilesRefusal.{FilesRefusal}
+use Rattle.pm_tasks.specs.declared.stage.FilesRefusal.TheVariants.{Unlogged, Compressed, Nothing}
+use Rattle.pm_tasks.specs.declared.words.Command.{Command}
+use Rattle.pm_tasks.specs.CommandLine.{command_of}
+use Rattle.pm_tasks.specs.Causes.{Asks, fault_of, Finds, IsReader}
+use Rattle.pm_tasks.specs.Inputs.{input_limit, refusal_of}
+use Rattle.pm_tasks.specs.Meaning.{Meaning}
+use Rattle.pm_tasks.specs.Meanings.{meaning}
 use Rattle.pcp_base.specs.declared.file.FileId.{FileId}
-use Rattle.pm_commands.specs.Refusals.{input_status, files_status}
-use Rattle.pm_commands.specs.Sides.{SourceSide, SinkSide, DiskSide, found, Untouched}
+use Rattle.pm_tasks.specs.declared.stage.ResultRefusal.{ResultRefusal}
+use Rattle.pm_tasks.specs.declared.stage.ResultRefusal.TheVariants.{NotLater, Changed}
+use Rattle.pm_tasks.specs.Refusals.{input_status, files_status, result_status}
+use Rattle.pm_tasks.specs.Sides.{SourceSide, SinkSide, DiskSide, found, Untouched}
 
 -- the words are a command that has nothing to do with the disk
 abbrev pub IsAside : List (List ℕ) → Type 0
@@ -30,9 +32,17 @@ pub record UsageIsExact (words : List (List ℕ)) (status : ℕ) : Type 0 where
   pub only : status ≡ 1 → (at : ℕ) × (command_of words ≡ Err at)
   pub always : (at : ℕ) → command_of words ≡ Err at → (status ≡ 1) ⊎ (status ≡ 9)
 
--- 7 exactly where a command that reads an input is given more than 16 MiB; one byte above the limit is taken, and no further one
-pub record LimitIsExact (words : List (List ℕ)) (s : SourceSide) (status : ℕ) : Type 0 where
-  pub only : status ≡ 7 → IsReader words × (s.tells → (input_limit < length s.left) × (s.after ≡ drop 16777217 s.left))
+-- the command of the words is given a good input, and turns away the files that it finds
+pub record TurnsAway (words : List (List ℕ)) (s : SourceSide) (d : DiskSide) (e : FilesRefusal) : Type 0 where
+  pub asks : Asks words s
+  pub good : fault_of asks ≡ None
+  pub uses : (meaning asks.command).uses_disk ≡ true
+  pub turned : d.tells → (meaning asks.command).turns_away asks.input (found d) e
+
+-- 7 where a command that reads an input is given more than 16 MiB; one byte above the limit is taken, and no further one. Else it
+-- comes only where a record is too long, or a file of the archive is full.
+pub record LimitIsExact (words : List (List ℕ)) (s : SourceSide) (d : DiskSide) (status : ℕ) : Type 0 where
+  pub only : status ≡ 7 → (IsReader words × (s.tells → (input_limit < length s.left) × (s.after ≡ drop 16777217 s.left))) ⊎ ((reason : ResultRefusal) × (result_status reason ≡ 7) × TurnsAway words s d (Unlogged reason))
   pub always : IsReader words → s.tells → input_limit < length s.left → (status ≡ 7) ⊎ ((status ≡ 9) ⊎ (status ≡ 3))
 
 -- what the source gives: all that it has left, within the limit, or nothing to a command that takes no input
@@ -56,18 +66,14 @@ pub record InputFaultIsExact (words : List (List ℕ)) (s : SourceSide) (status 
   pub only : status ≡ 2 → (e : InputRefusal) × (input_status e ≡ 2) × Finds words s e
   pub always : (a : Meets words s) → (e : InputRefusal) → input_status e ≡ 2 → refused_of a ≡ Some e → (status ≡ 2) ⊎ ((status ≡ 9) ⊎ (status ≡ 3))
 
--- the command of the words is given a good input, and turns away the files that it finds
-pub record TurnsAway (words : List (List ℕ)) (s : SourceSide) (d : DiskSide) (e : FilesRefusal) : Type 0 where
-  pub asks : Asks words s
-  pub good : fault_of asks ≡ None
-  pub uses : (meaning asks.command).uses_disk ≡ true
-  pub turned : d.tells → (meaning asks.command).turns_away asks.input (found d) e
-
--- 15 exactly where a file of the disk isn't empty; a disk that fails comes before
-pub record LaterIsExact (words : List (List ℕ)) (s : SourceSide) (d : DiskSide) (status : ℕ) : Type 0 where
-  pub only : status ≡ 15 → TurnsAway words s d LaterDisk
-  pub always : (a : Meets words s) → refused_of a ≡ None → d.tells → (meaning a.command).turns_away a.input (found d) LaterDisk
-      → (status ≡ 15) ⊎ ((status ≡ 9) ⊎ ((status ≡ 3) ⊎ (status ≡ 5)))
+-- 12 only where the result isn't later than all that the archive has, 13 only where that describes a metric otherwise. Where the
+-- archive doesn't take the result, the status is always that of the one reason: 12, 13, or 7 where a record is too long or a file
+-- full; a disk that fails comes before.
+pub record UnloggedIsExact (words : List (List ℕ)) (s : SourceSide) (d : DiskSide) (status : ℕ) : Type 0 where
+  pub not_later : status ≡ 12 → (last : Moment) × TurnsAway words s d (Unlogged (NotLater last))
+  pub changed : status ≡ 13 → (pmid : ℕ) × TurnsAway words s d (Unlogged (Changed pmid))
+  pub always : (a : Meets words s) → refused_of a ≡ None → d.tells → (reason : ResultRefusal) → (meaning a.command).turns_away a.input (found d) (Unlogged reason)
+      → (status ≡ result_status reason) ⊎ ((status ≡ 9) ⊎ ((status ≡ 3) ⊎ (status ≡ 5)))
 
 -- 6 only where the archive is turned away: a file stands wrapped, or a place fits no archive; always in the first case, unless the
 -- disk fails before
@@ -104,6 +110,6 @@ pub record IsGoodRun (words : List (List ℕ)) (s : SourceSide) (k : SinkSide) (
   pub sink_kept : Rose k.faults k.faults_after → ⊥
 
 -- each crash from now on leaves what the command of the words keeps
-pub record Keeps (words : List (List ℕ)) (s : SourceSide) (held : Holdings) : Type 0 where
+pub record Keeps (words : List (List ℕ)) (s : SourceSide) (before held : Holdings) : Type 0 where
   pub asks : Asks words s
-  pub each : (crash : Files) → CrashImage held crash → (meaning asks.command).keeps asks.input crash
+  pub each : (crash : Files) → CrashImage held crash → (meaning asks.command).keeps asks.input before crash

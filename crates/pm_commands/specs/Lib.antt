@@ -1,15 +1,2 @@
-pub mod Archives
-pub mod Causes
-pub mod CommandLine
-pub mod Ends
 pub mod Facts
-pub mod Inputs
 pub mod Laws
-pub mod Meaning
-pub mod Meanings
-pub mod Refusals
-pub mod Sides
-pub mod Streams
-pub mod Takes
-pub mod Writes
-pub mod commands

@@ -1,19 +1,13 @@
-//! The commands of the program `pcp`: the words of a command line, and for each command what it reads, what
-//! it writes to the archive and to its output, and with which status it ends. `offline` is the call that
-//! main makes.
+//! The call that the program `pcp` makes: `offline` runs the command of a command line, and answers the exit status, each with
+//! its cause.
 #![tactic(auto)]
 
-mod commands;
-mod inputs;
 mod laws;
-mod output;
-mod refusal;
-mod stage;
 mod top;
-mod words;
 
-pub use laws::readable_is_welcome;
-pub use refusal::Refusal;
-pub use stage::{DiskRefusal, FilesRefusal, InputRefusal, ReadRefusal, Stop, Usage};
+pub use laws::{readable_is_welcome, taking_is_welcome};
+pub use pm_tasks::{
+    Command, DiskRefusal, FilesRefusal, InputRefusal, OnceWords, ReadRefusal, Refusal,
+    ResultRefusal, Stop, Usage, ValueWords, read_words,
+};
 pub use top::offline;
-pub use words::{Command, OnceWords, ValueWords, read_words};

@@ -1,29 +1,21 @@
 //! The call that main makes.
 ghost use Rattle.std.specs.Prelude.{◌≡◌, ◌⊎◌, ◌≤◌, length, map, string_bytes, false};
-ghost use Rattle.pcp_model.specs.Disk.{IsSettled, contents_of};
+ghost use Rattle.pcp_model.specs.Disk.{CrashImage, IsSettled, contents_of};
 ghost use Rattle.pcp_outside.specs.Causes.{Rose};
-ghost use Rattle.pm_commands.specs.CommandLine.{FitsCommand};
-ghost use Rattle.pm_commands.specs.Ends.{Serves, Runs, Ends, EndsDone, MayLeave, MayBeLeft};
-ghost use Rattle.pm_commands.specs.Facts.{UsageIsExact, LimitIsExact, InputFaultIsExact, LaterIsExact, ArchiveFaultIsExact, NothingIsThere, IsAside, IsInputless, IsRefused, Unwritten, IsGoodRun, Keeps};
-ghost use Rattle.pm_commands.specs.Inputs.{input_limit};
-ghost use Rattle.pm_commands.specs.Meanings.{meaning};
-ghost use Rattle.pm_commands.specs.Sides.{source_side, sink_side, disk_side, Leaves};
-ghost use Rattle.pm_commands.specs.Takes.{MayTake, TakesLittle};
+ghost use Rattle.pm_tasks.specs.CommandLine.{FitsCommand};
+ghost use Rattle.pm_tasks.specs.Ends.{Serves, Runs, Ends, EndsDone, MayLeave, MayBeLeft};
+ghost use Rattle.pm_commands.specs.Facts.{UsageIsExact, LimitIsExact, InputFaultIsExact, UnloggedIsExact, ArchiveFaultIsExact, NothingIsThere, IsAside, IsInputless, IsRefused, Unwritten, IsGoodRun, Keeps};
+ghost use Rattle.pm_tasks.specs.Inputs.{input_limit};
+ghost use Rattle.pm_tasks.specs.Meanings.{meaning};
+ghost use Rattle.pm_tasks.specs.Since.{CommandSince, HasRecovered, HadRecovered, WordsSince};
+ghost use Rattle.pm_tasks.specs.Sides.{source_side, sink_side, disk_side, IsUnread, Leaves};
+ghost use Rattle.pm_tasks.specs.Takes.{MayTake, TakesLittle};
 
-use crate::commands::at::at;
-use crate::commands::dump::dump;
-use crate::commands::info::info;
-use crate::commands::mmv_dump::mmv_dump;
-use crate::commands::mmv_make::mmv_make;
-use crate::commands::once::once;
-use crate::commands::range::range;
-use crate::commands::recover::recover;
-use crate::commands::value::value;
-use crate::inputs::get_input;
-use crate::output::{Output, finish, told};
-use crate::refusal::Refusal;
-use crate::words::{Command, read_words};
 use pcp_outside::{Disk, Sink, Source};
+use pm_tasks::{
+    Command, Output, Refusal, at, dump, finish, get_input, info, mmv_dump, mmv_make, once, range,
+    read_words, recover, told, value,
+};
 use std::alloc::Global;
 
 // Does what a command asks for with its input. What it writes before it is done goes to the sink unless that has failed.
@@ -41,7 +33,9 @@ fn serve<O: Sink, D: Disk>(
     ensures serves { Serves (meaning command.now) input.now (sink_side O.Sink out.old out.new) failed.new (disk_side D.Disk disk.old disk.new) result }
     ensures aside { (meaning command.now).uses_disk ≡ false → disk.new ≡ disk.old }
     ensures any_moment { Leaves D.Disk disk.old disk.new (MayLeave (meaning command.now) input.now) }
+    ensures unread { IsUnread D.Disk disk.old → Leaves D.Disk disk.old disk.new CrashImage }
     ensures taken { D.tells → MayTake command.now (contents_of (D.held disk.old)) (D.taken disk.old) (D.taken disk.new) }
+    ensures since { D.tells → HasRecovered result → CommandSince D.Disk command.now input.now disk.old disk.new }
 {
     match command {
         Command::Once(asked) => once(alloc, asked, input, disk),
@@ -76,7 +70,9 @@ fn run<I: Source, O: Sink, D: Disk>(
     ensures aside { IsAside (map string_bytes words.now) → disk.new ≡ disk.old }
     ensures unasked { IsInputless (map string_bytes words.now) → input.new ≡ input.old }
     ensures any_moment { Leaves D.Disk disk.old disk.new (MayBeLeft (map string_bytes words.now) (source_side I.Source input.old input.new)) }
+    ensures unread { IsUnread D.Disk disk.old → Leaves D.Disk disk.old disk.new CrashImage }
     ensures taken { D.tells → TakesLittle (map string_bytes words.now) (contents_of (D.held disk.old)) (D.taken disk.old) (D.taken disk.new) }
+    ensures since { D.tells → HasRecovered result → WordsSince D.Disk (map string_bytes words.now) (source_side I.Source input.old input.new) disk.old disk.new }
 {
     let command = read_words(alloc, words)?;
     let bytes = get_input(alloc, &command, input)?;
@@ -95,7 +91,9 @@ fn answer<I: Source, O: Sink, D: Disk>(
     ensures aside { IsAside (map string_bytes words.now) → disk.new ≡ disk.old }
     ensures unasked { IsInputless (map string_bytes words.now) → input.new ≡ input.old }
     ensures any_moment { Leaves D.Disk disk.old disk.new (MayBeLeft (map string_bytes words.now) (source_side I.Source input.old input.new)) }
+    ensures unread { IsUnread D.Disk disk.old → Leaves D.Disk disk.old disk.new CrashImage }
     ensures taken { D.tells → TakesLittle (map string_bytes words.now) (contents_of (D.held disk.old)) (D.taken disk.old) (D.taken disk.new) }
+    ensures since { D.tells → HadRecovered result → WordsSince D.Disk (map string_bytes words.now) (source_side I.Source input.old input.new) disk.old disk.new }
 {
     let mut failed = false;
     match run(alloc, words, input, out, &mut failed, disk) {
@@ -114,10 +112,11 @@ fn answer<I: Source, O: Sink, D: Disk>(
 
 /// Runs the command that the words are, and answers the exit status; where it isn't 0, the last line of the output says
 /// why it ended. 0: done. 1: the words are no command. 2: the input is no image, or no layout text. 3, 4, 5: the source,
-/// the sink or the disk failed. 6: the archive is turned away. 7: the input is above 16 MiB. 9: memory was refused, before the
-/// first write to the disk, or of `recover` after the last. 11: nothing is there at the moment that was asked for.
-/// 15: files that aren't empty, which are gone on with later. What is looked at first comes first: the words, the input, the
-/// disk, the writes, the output.
+/// the sink or the disk failed. 6: the archive is turned away. 7: the input is above 16 MiB, or a record would be too long,
+/// or a file too long. 9: memory was refused: the files stand as they did, or as recovery left them, or the archive as it
+/// was opened. 11: nothing is there at the moment that was asked for. 12: the result isn't later than all that the archive
+/// has. 13: the archive describes a metric otherwise. What is looked at first comes first: the words, the input, the
+/// recovery of the disk, the run, the output.
 pub fn offline<I: Source, O: Sink, D: Disk>(
     alloc: Global,
     words: &[String],
@@ -138,8 +137,8 @@ pub fn offline<I: Source, O: Sink, D: Disk>(
     ensures read_fault { result ≡ 3 → Rose (I.faults input.old) (I.faults input.new) }
     ensures write_fault { result ≡ 4 → Rose (O.faults out.old) (O.faults out.new) }
     ensures disk_fault { result ≡ 5 → Rose (D.faults disk.old) (D.faults disk.new) }
-    ensures input_limit { LimitIsExact (map string_bytes words.now) (source_side I.Source input.old input.new) result }
-    ensures later { LaterIsExact (map string_bytes words.now) (source_side I.Source input.old input.new) (disk_side D.Disk disk.old disk.new) result }
+    ensures input_limit { LimitIsExact (map string_bytes words.now) (source_side I.Source input.old input.new) (disk_side D.Disk disk.old disk.new) result }
+    ensures unlogged { UnloggedIsExact (map string_bytes words.now) (source_side I.Source input.old input.new) (disk_side D.Disk disk.old disk.new) result }
     ensures nothing_there { NothingIsThere (map string_bytes words.now) (source_side I.Source input.old input.new) (disk_side D.Disk disk.old disk.new) result }
     ensures archive_fault { ArchiveFaultIsExact (map string_bytes words.now) (source_side I.Source input.old input.new) (disk_side D.Disk disk.old disk.new) result }
 
@@ -164,8 +163,15 @@ pub fn offline<I: Source, O: Sink, D: Disk>(
     // command allows over what was there.
     ensures any_moment { Leaves D.Disk disk.old disk.new (MayBeLeft (map string_bytes words.now) (source_side I.Source input.old input.new)) }
 
+    // Files that are no archive stay as they were.
+    ensures unread { IsUnread D.Disk disk.old → Leaves D.Disk disk.old disk.new CrashImage }
+
     // Once it has ended with 0, each crash leaves what the command keeps, until something else touches the disk.
-    ensures kept { result ≡ 0 → D.tells → Keeps (map string_bytes words.now) (source_side I.Source input.old input.new) (D.held disk.new) }
+    ensures kept { result ≡ 0 → D.tells → Keeps (map string_bytes words.now) (source_side I.Source input.old input.new) (D.held disk.old) (D.held disk.new) }
+
+    // `once` over any disk, settled or not: from the moment on at which recovery answered, a crash leaves all items of the start, and
+    // perhaps the new one.
+    ensures since { D.tells → HadRecovered result → WordsSince D.Disk (map string_bytes words.now) (source_side I.Source input.old input.new) disk.old disk.new }
 {
     answer(alloc, words, input, out, disk)
 }

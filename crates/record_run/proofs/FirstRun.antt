@@ -1,7 +1,8 @@
 -- Over files that hold nothing the run of an image makes the archive of its one result.
-use Rattle.std.proofs.Common.{◌≡◌, inl, inr, ⊎_elim, ℕ, zero, suc, ℤ, pos, negsuc, ◌+◌, ◌<◌, ◌≤◌, Bool, true, false, ◌&&◌, if◌then◌else◌, List, [], ◌∷◌, ◌++◌, length, map, Option, None, Some, refl, sym, ap, ap₂, ◌∙◌, subst, arith, length-append}
+use Rattle.std.proofs.Common.{◌≡◌, ◌≢◌, inl, inr, ⊎_elim, ℕ, zero, suc, ℤ, pos, negsuc, ◌+◌, ◌<◌, ◌≤◌, Bool, true, false, ◌&&◌, if◌then◌else◌, List, [], ◌∷◌, ◌++◌, length, map, Option, None, Some, refl, sym, ap, ap₂, ◌∙◌, subst, arith, length-append, cond}
 use Rattle.std.specs.Prelude.{Contains}
 use Rattle.std.specs.List.{AllByRecursion}
+use Rattle.std.proofs.Math.Dec.{eqb-zero-suc, eqb-suc-zero}
 use Rattle.std.proofs.Math.Path.{fun_ext}
 use Rattle.std.proofs.lemmas.Bool.{lt-ltb}
 use Rattle.pcp_base.specs.Time.{Moment}
@@ -16,13 +17,14 @@ use Rattle.pcp_model.specs.declared.records.MetaRecord.TheVariants.{Description,
 use Rattle.pcp_model.specs.Archive.{ArchiveContents, ArchiveReading, HasEntries, IsArchive, Reads, items_of}
 use Rattle.pcp_model.specs.Disk.{Files, IsEmpty}
 use Rattle.pcp_model.specs.Frame.{frame}
-use Rattle.pcp_model.specs.LabelFields.{LabelFields}
+use Rattle.pcp_model.specs.Described.{HoldsAt}
+use Rattle.pcp_model.specs.LabelFields.{FitsLabel, LabelFields}
 use Rattle.pcp_model.specs.Labels.{label}
 use Rattle.pcp_model.specs.Laws.{EndsWhole}
 use Rattle.pcp_model.specs.Payload.{IsItem, payload, payload_length, stamp_of}
 use Rattle.pcp_model.specs.Records.{entries}
 use Rattle.pcp_model.specs.Recovered.{Recovers}
-use Rattle.pcp_model.specs.Written.{created}
+use Rattle.pcp_model.specs.Written.{created, with_added}
 use Rattle.pcp_model.proofs.Cuts.{length_of_label}
 use Rattle.pcp_model.proofs.CutsOfAny.{length-entries}
 use Rattle.pcp_model.proofs.Lengths.{length-frame, length-label}
@@ -30,7 +32,7 @@ use Rattle.pcp_model.proofs.OneReading.{one_reading}
 use Rattle.pcp_model.proofs.Sound.{labelled_long}
 use Rattle.pcp_model.proofs.Spelled.{length-payload}
 use Rattle.archive_meta.specs.Facts.{fact_of}
-use Rattle.archive_meta.specs.Missing.{AreMissing, described_by, domains_of, framed_records, listed_from, taken, undescribed}
+use Rattle.archive_meta.specs.Missing.{AreMissing, AreMissingDomains, Lacks, described_by, domains_of, framed_records, listed_from, missing_descriptions, taken, undescribed}
 use Rattle.fetch_engine.specs.declared.fetch.Fetched.{Fetched}
 use Rattle.logger_core.specs.Created.{no_items}
 use Rattle.logger_core.specs.LogSteps.{base_files, base_number, crosses, with_run}
@@ -39,8 +41,37 @@ use Rattle.record_run.specs.Archives.{archive_of, files_with, flush_entry, recor
 use Rattle.record_run.specs.ImageRuns.{LogsOver, RunsTo, result_for, result_of}
 use Rattle.record_run.specs.Runs.{fetched_of, metrics_of}
 use Rattle.record_run.specs.Opening.{Opens, run_limit}
-use Rattle.record_run.proofs.Described.{missing_are}
-use Rattle.record_run.proofs.Logged.{fits_run, other_text}
+
+-- ---- the files of the archive
+
+fits_run : (stamp : Moment) → FitsLabel (run_label stamp)
+fits_run stamp = record { host = omega arith; zone = omega arith }
+
+other_text : (f : Fetched) (k : ℕ) → k ≢ 0 → archive_of f (Volume k) ≡ []
+other_text f zero h = absurd (h refl)
+other_text f (suc k) h =
+    let m : Files = with_added Meta (framed_records (records_of f)) (created (run_label f.result.stamp)) in
+    ap (λ b. cond b (m (Volume (suc k)) ++ frame (payload f.result)) (m (Volume (suc k)))) (eqb-zero-suc k)
+    ∙ ap (λ b. cond b (label (run_label f.result.stamp) (pos 0)) []) (eqb-suc-zero k)
+
+-- ---- what an archive without any record lacks
+
+nothing_holds : (i : ℕ) (t : Moment) (pairs : List (ℤ × List ℕ)) → HoldsAt [] i t pairs → ⊥
+nothing_holds i t pairs h = none h.before h.is
+  where
+    none : (before : List MetaRecord) → [] ≡ before ++ Domain h.stamp i pairs ∷ h.behind → ⊥
+    none [] e = cc
+    none (r ∷ before) e = cc
+
+only_these : (t : Moment) (ds : List (ℕ × List (ℤ × List ℕ))) (missing : List MetaRecord) → AreMissingDomains [] t ds missing → missing ≡ map (listed_from t) ds
+only_these t [] missing m = m
+only_these t (d ∷ ds) missing m =
+    ⊎_elim (λ (stands : HoldsAt [] d.0 t d.1 × AreMissingDomains [] t ds missing). absurd (nothing_holds d.0 t d.1 stands.0))
+    (λ (lacks : Lacks [] t d × ((more : List MetaRecord) × (missing ≡ listed_from t d ∷ more) × AreMissingDomains [] t ds more)).
+    lacks.1.1 ∙ ap (λ rs. listed_from t d ∷ rs) (only_these t ds lacks.1.0 lacks.1.2)) m
+
+missing_are : (f : Fetched) (missing : List MetaRecord) → AreMissing [] f.facts f.result missing → missing ≡ records_of f
+missing_are f missing m = m.is ∙ ap (λ ds. missing_descriptions [] f.facts.metrics f.result.sets ++ ds) (only_these f.result.stamp (domains_of f.facts f.result.sets) m.domains m.lacking)
 
 -- ---- the stamps of what is written
 

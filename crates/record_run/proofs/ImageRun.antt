@@ -10,7 +10,6 @@ use Rattle.pcp_model.proofs.OneReading.{one_reading}
 use Rattle.archive_recovery.specs.declared.outcome.Archive.{Archive}
 use Rattle.archive_recovery.specs.Halfway.{MayBeHalfway}
 use Rattle.archive_recovery.specs.Told.{WasRecovered}
-use Rattle.archive_recovery.proofs.Settled.{settled_begins}
 use Rattle.fetch_engine.specs.declared.fetch.Fetched.{Fetched}
 use Rattle.logger_core.specs.declared.fault.LogFault.{LogFault}
 use Rattle.logger_core.specs.Reopening.{IsLeft}
@@ -28,10 +27,6 @@ is_left files held archive recovered sure = record { files = files; recovered = 
 pub recovering_comes : (old : Holdings) (more : List Item) (image : Files) → MayBeHalfway old image → MayBeAfter more old image
 recovering_comes old more image may = λ settled r reads left recovered. halfway_comes (contents_of old) left r more reads recovered image (may settled r reads)
 
--- before it
-pub standing_may : (old : Holdings) (more : List Item) (image : Files) → CrashImage old image → MayBeAfter more old image
-standing_may old more image crash = λ settled r reads left recovered. halfway_comes (contents_of old) left r more reads recovered image (settled_begins old r image settled reads crash)
-
 module _ (start mid : Files) (archive : Archive) (w : WasRecovered start mid archive) where
   pub recovered_so : (r : ArchiveReading) → Reads start r → Recovers start r mid
   recovered_so r reads = subst (λ (q : ArchiveReading). Recovers start q mid) (one_reading start w.reading r w.was reads) w.recovered
@@ -44,6 +39,10 @@ module _ (start mid : Files) (archive : Archive) (w : WasRecovered start mid arc
 
   pub all_after : (more : List Item) (k : ℕ) (image : Files) → length more ≡ k → ComesBackTo more k mid image → IsAllAfter more start image
   all_after more k image many comes = λ r reads left recovered. back more k (length (scan r ++ more)) image comes r reads left recovered (omega (arith, length-append (scan r) more))
+
+  -- from the moment on at which recovery left these files
+  pub from_there : (more : List Item) (image : Files) → ComesBackTo more 0 mid image → ComesBack (start_of start w.reading mid) (scan w.reading ++ more) (length (scan w.reading)) image
+  from_there more image comes = back more 0 (length (scan w.reading)) image comes w.reading w.was mid w.recovered (omega arith)
 
   pub readable : Readable start
   readable = (w.reading, w.was)

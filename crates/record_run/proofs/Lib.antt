@@ -1,16 +1,11 @@
 pub mod ComeBack
-pub mod Described
 pub mod Enough
 pub mod FirstRun
 pub mod ImageLogged
 pub mod ImageRun
-pub mod Images
 pub mod Keys
-pub mod Logged
-pub mod NoneOrOne
+pub mod OneReason
 pub mod Openings
-pub mod Planned
 pub mod Results
 pub mod Sets
-pub mod Stages
 pub mod Values

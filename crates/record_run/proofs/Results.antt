@@ -5,16 +5,35 @@ use Rattle.std.proofs.lemmas.Bool.{eqb-false}
 use Rattle.pcp_base.specs.Results.{Fits}
 use Rattle.pcp_base.specs.Time.{Moment}
 use Rattle.mmv_format.specs.Images.{IsImage}
+use Rattle.mmv_layout.specs.Rows.{layout_of}
+use Rattle.mmv_writer.proofs.ImageDrafts.{layouts_are_drafts}
 use Rattle.fetch_engine.specs.declared.fetch.Fetched.{Fetched}
 use Rattle.fetch_engine.specs.declared.shot.Shot.{Shot}
+use Rattle.fetch_engine.specs.Answers.{set_of}
 use Rattle.fetch_engine.specs.Names.{names_of}
-use Rattle.fetch_engine.specs.Readings.{reading_of}
+use Rattle.fetch_engine.specs.Readings.{Reading, reading_of}
+use Rattle.fetch_engine.proofs.Bounds.{bounded}
 use Rattle.archive_meta.specs.Enough.{AreEnough}
 use Rattle.record_run.specs.ImageRuns.{IsResult, result_for, result_of}
 use Rattle.record_run.specs.Runs.{region_of, metrics_below, metrics_of, every_instance, fetched_from, fetched_of}
-use Rattle.record_run.proofs.Enough.{facts_are_enough}
-use Rattle.record_run.proofs.Images.{said}
-use Rattle.record_run.proofs.Planned.{metrics_are, is_none as no_metric}
+use Rattle.record_run.proofs.Enough.{AreSaid, facts_are_enough}
+
+many : (regions : List Reading) (pmids : List ℕ) → length (map (set_of regions every_instance) pmids) ≡ length pmids
+many regions [] = refl
+many regions (pmid ∷ pmids) = let more : length (map (set_of regions every_instance) pmids) ≡ length pmids = many regions pmids in omega arith
+
+pub as_many : (f : Fetched) (regions : List Reading) (pmids : List ℕ) (stamp : Moment) → f ≡ fetched_from regions pmids stamp → length f.result.sets ≡ length pmids
+as_many f regions pmids stamp is = ap (λ (g : Fetched). length g.result.sets) is ∙ many regions pmids
+
+metrics_are : (file words : List ℕ) (shot : Shot) (pmids : List ℕ) → shot ≡ region_of file words → pmids ≡ metrics_below (names_of (shot ∷ [])) (codes "mmv") → pmids ≡ metrics_of file words
+metrics_are file words shot pmids is are = are ∙ ap (λ (s : Shot). metrics_below (names_of (s ∷ [])) (codes "mmv")) is
+
+no_metric : (file words : List ℕ) (shot : Shot) (pmids : List ℕ) → shot ≡ region_of file words → pmids ≡ metrics_below (names_of (shot ∷ [])) (codes "mmv") → pmids ≡ [] → metrics_of file words ≡ []
+no_metric file words shot pmids is are none = sym (metrics_are file words shot pmids is are) ∙ none
+
+-- what an image says is what facts may tell
+said : (file words : List ℕ) → IsImage words → AreSaid (map reading_of (region_of file words ∷ []))
+said file words image = ((layouts_are_drafts words image, bounded words (layout_of words) image refl), tt)
 
 some_of : (pmids : List ℕ) (f : Fetched) → 0 < length pmids → Some f ≡ result_for pmids f
 some_of [] f some = absurd (omega (arith, some))

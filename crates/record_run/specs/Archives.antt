@@ -2,8 +2,6 @@
 use Rattle.std.specs.Prelude.{ℕ, List, [], ◌∷◌, ◌++◌, length, map, codes}
 use Rattle.pcp_base.specs.Time.{Moment}
 use Rattle.pcp_base.specs.declared.file.FileId.TheVariants.{Meta, Index, Volume}
-use Rattle.pcp_base.specs.declared.result.Item.{Item}
-use Rattle.pcp_base.specs.declared.result.Item.TheVariants.{Sample}
 use Rattle.pcp_model.specs.declared.records.Entry.{Entry}
 use Rattle.pcp_model.specs.declared.records.MetaRecord.{MetaRecord}
 use Rattle.pcp_model.specs.Disk.{Files}
@@ -44,7 +42,3 @@ files_with (pmid ∷ pmids) f = archive_of f
 -- the files after the run of an image over files that held nothing
 abbrev pub run_files : Moment → List ℕ → List ℕ → Files
 run_files stamp file words = files_with (metrics_of file words) (fetched_of stamp file words)
-
--- the item that is logged
-abbrev pub run_item : Moment → List ℕ → List ℕ → Item
-run_item stamp file words = Sample (fetched_of stamp file words).result

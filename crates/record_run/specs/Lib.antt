@@ -3,7 +3,7 @@ pub mod ImageCrashes
 pub mod ImageFaults
 pub mod ImageLogs
 pub mod ImageRuns
+pub mod OneReason
 pub mod Opening
-pub mod Pieces
 pub mod Runs
-pub mod Written
+pub mod SinceRecovery

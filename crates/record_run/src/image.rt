@@ -1,20 +1,17 @@
-//! The run of one image over any files.
+//! The run of one result over any files.
 ghost use Rattle.std.specs.Prelude.{◌≡◌, ◌≤◌, None, IfErr, IfOk, OnOk};
-ghost use Rattle.mmv_format.specs.Images.{IsImage};
 ghost use Rattle.pcp_model.specs.Archive.{Readable};
 ghost use Rattle.pcp_model.specs.Disk.{CrashImage, Files as AllFiles, IsSettled, contents_of};
 ghost use Rattle.pcp_outside.specs.Devices.{LeavesOnly};
 ghost use Rattle.record_run.specs.ImageCrashes.{IsAllAfter, MayBeAfter};
 ghost use Rattle.record_run.specs.ImageFaults.{IsRunFault, RunMayAnswer};
-ghost use Rattle.record_run.specs.ImageRuns.{AreResults, RunsTo, how_many, items_of_run, result_of};
+ghost use Rattle.record_run.specs.ImageRuns.{AreResults, RunsTo, how_many, items_of_run};
+ghost use Rattle.record_run.specs.SinceRecovery.{SinceRecovery};
 
 use crate::fault::RunFault;
 use crate::logging::log_over;
-use crate::run::result_once;
 use archive_recovery::recover;
 use fetch_engine::Fetched;
-use mmv_layout::Image;
-use pcp_base::{Stamp, Text};
 use pcp_outside::Disk;
 use std::alloc::Global;
 
@@ -36,6 +33,8 @@ pub fn log_result<D: Disk>(
     ensures stays { D.tells → OnOk result ((image : AllFiles) → CrashImage (D.held disk.new) image → IsAllAfter (items_of_run fetched.now) (contents_of (D.held disk.old)) image) }
     // A crash at any moment, over a settled disk, leaves all items of the start, and perhaps the new one.
     ensures any_moment { D.tells → LeavesOnly D.moment D.left_since disk.old disk.new (MayBeAfter (items_of_run fetched.now) (D.held disk.old)) }
+    // Over any disk, from the moment on at which recovery answered, a crash leaves all items of the start, and perhaps the new one.
+    ensures since { D.tells → SinceRecovery D.held D.moment D.left_since (items_of_run fetched.now) disk.old disk.new result }
     // Where the files can't be read nothing is written.
     ensures unread { D.tells → (Readable (contents_of (D.held disk.old)) → ⊥) → LeavesOnly D.moment D.left_since disk.old disk.new (CrashImage (D.held disk.old)) }
     // Which refusal it is, and what then stands.
@@ -54,34 +53,4 @@ pub fn log_result<D: Disk>(
         Ok(()) => Ok(1),
         Err(fault) => Err(RunFault::Logging(fault)),
     }
-}
-
-/// Runs an image over any files: the result of all its metrics at a moment is logged, if it has any and their names are accepted.
-/// All memory but a logger's is taken before the files are touched. It tells how many results were logged, 0 or 1.
-pub fn log_image<D: Disk>(
-    alloc: Global,
-    disk: &mut D,
-    stamp: Stamp,
-    file: &Text,
-    image: Image,
-) -> Result<u64, RunFault>
-    // The files are those of the run.
-    ensures done { D.tells → OnOk result (RunsTo (result_of stamp file.now image) (contents_of (D.held disk.old)) (contents_of (D.held disk.new))) }
-    ensures count { IfOk result (λ n. n ≡ how_many (result_of stamp file.now image)) }
-    ensures image { OnOk result (IsImage image) }
-    ensures unwrapped { D.tells → OnOk result (D.wrapped_file disk.old ≡ None) }
-    // All is settled, and a crash afterwards leaves all items.
-    ensures settled { D.tells → OnOk result (IsSettled (D.held disk.new)) }
-    ensures stays { D.tells → OnOk result ((crash : AllFiles) → CrashImage (D.held disk.new) crash → IsAllAfter (items_of_run (result_of stamp file.now image)) (contents_of (D.held disk.old)) crash) }
-    // A crash at any moment, over a settled disk, leaves all items of the start, and perhaps the new one.
-    ensures any_moment { D.tells → LeavesOnly D.moment D.left_since disk.old disk.new (MayBeAfter (items_of_run (result_of stamp file.now image)) (D.held disk.old)) }
-    // Where the files can't be read nothing is written.
-    ensures unread { D.tells → (Readable (contents_of (D.held disk.old)) → ⊥) → LeavesOnly D.moment D.left_since disk.old disk.new (CrashImage (D.held disk.old)) }
-    // Which refusal it is, and what then stands.
-    ensures fault { D.tells → IfErr result (IsRunFault (result_of stamp file.now image) (D.wrapped_file disk.old) (D.held disk.old) (D.held disk.new)) }
-    ensures cause { IfErr result (RunMayAnswer (D.faults disk.old) (D.faults disk.new)) }
-    ensures later { D.faults disk.old ≤ D.faults disk.new }
-{
-    let fetched = result_once(alloc, stamp, file, image)?;
-    log_result(alloc, disk, &fetched)
 }

@@ -11,7 +11,7 @@ ghost use Rattle.record_run.specs.Archives.{run_label};
 ghost use Rattle.record_run.specs.ImageCrashes.{ComesBackTo};
 ghost use Rattle.record_run.specs.Opening.{IsOpened, run_limit};
 
-use crate::plan::label_of;
+use crate::label::label_of;
 use archive_recovery::Archive;
 use logger_core::{LogFault, Logger};
 use pcp_base::Stamp;

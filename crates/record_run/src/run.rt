@@ -7,9 +7,8 @@ ghost use Rattle.fetch_engine.specs.Names.{names_of};
 ghost use Rattle.fetch_engine.specs.Readings.{reading_of, AreInOrder};
 ghost use Rattle.record_run.specs.ImageRuns.{AreResults, result_of};
 ghost use Rattle.record_run.specs.Runs.{metrics_below, fetched_from, region_of};
-ghost use Rattle.record_run.specs.Written.{IsPlanOf};
 
-use crate::plan::{Plan, plan_of, text_of};
+use crate::label::text_of;
 use fetch_engine::{Fetched, Shot, answer, names_of};
 use mmv_layout::Image;
 use pcp_base::{Duplicate, List, NoMemory, Pmid, Stamp, Text};
@@ -40,7 +39,7 @@ fn metrics_of(alloc: Global, shot: &Shot) -> Result<List<Pmid>, NoMemory>
 }
 
 /// What a region answers to a fetch with every instance, and what describes it.
-#[tactic(auto, using(crate::proofs::Planned::as_many))]
+#[tactic(auto, using(crate::proofs::Results::as_many))]
 fn fetch(alloc: Global, shot: &Shot, pmids: &[Pmid], stamp: Stamp) -> Result<Fetched, NoMemory>
     requires { AreInOrder (shot.now ∷ []) }
     ensures answer { IfOk result (λ fetched. fetched ≡ fetched_from (map reading_of (shot.now ∷ [])) pmids.now stamp) }
@@ -67,29 +66,6 @@ fn shot_of(alloc: Global, file: &Text, image: Image) -> Result<Shot, NoMemory>
         cluster,
         image: Some(image),
     })
-}
-
-/// The pieces of what the run of an image logs at a moment, over files that hold nothing: the image is served as the
-/// region FILE in its own cluster, and all metrics below `mmv` are logged, in the byte order of their names. Nothing is
-/// logged, and no file made, of an image without a metric, or whose names are refused.
-#[tactic(auto, using(crate::proofs::Planned::is_plan, crate::proofs::Planned::is_none))]
-pub fn plan_once(
-    alloc: Global,
-    stamp: Stamp,
-    file: &Text,
-    image: Image,
-) -> Result<Option<Plan>, NoMemory>
-    ensures plan { IfOk result (IsPlanOf stamp file.now image) }
-    ensures image { OnOk result (IsImage image) }
-{
-    let shot = shot_of(alloc, file, image)?;
-    let pmids = metrics_of(alloc, &shot)?;
-    if pmids.is_empty() {
-        return Ok(None);
-    }
-    let fetched = fetch(alloc, &shot, pmids.as_slice(), stamp)?;
-    let plan = plan_of(alloc, &fetched)?;
-    Ok(Some(plan))
 }
 
 /// The result that the run of an image logs at a moment, with the facts that describe it: the image is served as the region FILE

@@ -1,9 +1,11 @@
 -- Each end of a call by what ran and what was written.
 use Rattle.std.proofs.Common.{subst, ◌∙◌}
-use Rattle.pm_commands.specs.Streams.{IsSent}
+use Rattle.pm_tasks.specs.Streams.{IsSent}
 use Rattle.pm_commands.proofs.Memory.{ends_untold}
-use Rattle.pm_commands.proofs.Sending.{told_behind, told_no_more}
-use Rattle.pm_commands.proofs.Served.{finishes, refused_ends}
+use Rattle.pm_tasks.specs.Since.{HadRecovered}
+use Rattle.pm_tasks.proofs.Recovering.{by_status, never_nine}
+use Rattle.pm_tasks.proofs.Sending.{told_behind, told_no_more}
+use Rattle.pm_tasks.proofs.Served.{finishes, refused_ends}
 use Rattle.pm_commands.proofs.top.answer.Goals as goal
 
 pub returns-in-Ok-clause-ends : goal.returns-in-Ok-clause-ends
@@ -25,3 +27,15 @@ returns-in-Err-tell-clause-ends g c =
     let ran = c.in-Err.ensures.runs in
     ends_untold _ _ _ _ c.in-Err.refusal ran.front ran.stops c.in-Err-tell.ensures.numbered
     (λ tells. c.in-Err-tell.ensures.nothing tells ∙ (subst (IsSent _ ran.front) c.if-failed.false ran.sent).given tells)
+
+pub returns-in-Ok-clause-since : goal.returns-in-Ok-clause-since
+returns-in-Ok-clause-since g c = λ tells had. c.in-Ok.ensures.since tells tt
+
+pub returns-then-failed-clause-since : goal.returns-then-failed-clause-since
+returns-then-failed-clause-since g c = λ tells had. c.in-Err.ensures.since tells (by_status c.in-Err.refusal (subst HadRecovered c.status.ensures had))
+
+pub returns-in-Ok-tell-clause-since : goal.returns-in-Ok-tell-clause-since
+returns-in-Ok-tell-clause-since g c = λ tells had. c.in-Err.ensures.since tells (by_status c.in-Err.refusal (subst HadRecovered c.status-in-Ok-tell.ensures had))
+
+pub returns-in-Err-tell-clause-since : goal.returns-in-Err-tell-clause-since
+returns-in-Err-tell-clause-since g c = λ tells had. absurd (never_nine had)

@@ -1,14 +1,15 @@
 -- What a command may leave, told of the words and the source.
 use Rattle.std.proofs.Common.{rules, map, string_bytes, Global, List, ℕ, refl, subst, sym}
 use Rattle.pcp_outside.proofs.Crash.{weaker}
-use Rattle.pm_commands.specs.Causes.{Asks, Got}
-use Rattle.pm_commands.specs.Ends.{MayLeave, MayBeLeft}
-use Rattle.pm_commands.specs.Meanings.{meaning}
-use Rattle.pm_commands.specs.Sides.{SourceSide, SinkSide, DiskSide, source_side, sink_side, disk_side}
+use Rattle.pm_tasks.specs.Causes.{Asks, Got}
+use Rattle.pm_tasks.specs.Ends.{MayLeave, MayBeLeft}
+use Rattle.pm_tasks.specs.Meanings.{meaning}
+use Rattle.pm_tasks.specs.Sides.{SourceSide, SinkSide, DiskSide, source_side, sink_side, disk_side}
 use Rattle.pcp_model.specs.Disk.{contents_of}
-use Rattle.pm_commands.proofs.Sending.{unsent}
-use Rattle.pm_commands.proofs.Taken.{takes_nothing, takes_little}
-use Rattle.pm_commands.proofs.Served.{may_be_left, runs, runs_none, no_words, no_input}
+use Rattle.pm_tasks.proofs.Sending.{unsent}
+use Rattle.pm_tasks.proofs.Recovering.{no_words_yet, no_reading_yet}
+use Rattle.pm_tasks.proofs.Taken.{takes_nothing, takes_little}
+use Rattle.pm_tasks.proofs.Served.{may_be_left, runs, runs_none, no_words, no_input}
 use Rattle.pm_commands.proofs.top.run.Goals as goal
 
 pub returns-in_err-command-clause-runs : goal.returns-in_err-command-clause-runs
@@ -66,3 +67,21 @@ returns-in_err-bytes-clause-taken g c = λ tells. takes_nothing (map (string_byt
 
 pub returns-clause-taken : goal.returns-clause-taken
 returns-clause-taken g c = λ tells. takes_little (map (string_bytes {Z = Global}) c.args.words.now) c.in_ok-command.command (contents_of (g.D.Disk.held c.args.disk.now)) (g.D.Disk.taken c.args.disk.now) (g.D.Disk.taken c.serve.new.disk) c.in_ok-command.ensures.command (c.serve.ensures.taken tells)
+
+pub returns-in_err-command-clause-since : goal.returns-in_err-command-clause-since
+returns-in_err-command-clause-since g c = λ tells behind. absurd (no_words_yet c.in_err-command.field-0.0 (search (rules, behind)))
+
+pub returns-in_err-bytes-clause-since : goal.returns-in_err-bytes-clause-since
+returns-in_err-bytes-clause-since g c = λ tells behind. absurd (no_reading_yet c.in_err-bytes.field-0.0 (search (rules, behind)))
+
+pub returns-clause-since : goal.returns-clause-since
+returns-clause-since g c = λ tells behind.
+    let words = map (string_bytes {Z = Global}) c.args.words.now in
+    let s : SourceSide = source_side g.I.Source c.args.input.now c.get_input.new.input in
+    let a : Asks words s = record {
+      command = c.in_ok-command.command;
+      words_are = c.in_ok-command.ensures.command;
+      input = c.as_slice.result.now;
+      got = subst (λ (input : List ℕ). Got (meaning c.in_ok-command.command).reads s input) (sym c.as_slice.ensures) c.in_ok-bytes.ensures.got;
+    } in
+    (a, c.serve.ensures.since tells behind)

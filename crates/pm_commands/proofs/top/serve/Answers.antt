@@ -1,24 +1,25 @@
 -- What each command answers, told of the command that was asked for.
 use Rattle.std.proofs.Common.{rules, refl, subst, sym, Result, Err}
-use Rattle.pm_commands.specs.declared.output.Output.{Output}
-use Rattle.pm_commands.specs.declared.refusal.Refusal.{Refusal}
-use Rattle.pm_commands.specs.declared.refusal.Refusal.TheVariants.{Input as AtInput}
-use Rattle.pm_commands.specs.declared.words.Command.{Command}
-use Rattle.pm_commands.specs.declared.words.Command.TheVariants.{Once, MmvMake, MmvDump, Dump, Info, Recover, At, Range, Value}
+use Rattle.pm_tasks.specs.declared.output.Output.{Output}
+use Rattle.pm_tasks.specs.declared.refusal.Refusal.{Refusal}
+use Rattle.pm_tasks.specs.declared.refusal.Refusal.TheVariants.{Input as AtInput}
+use Rattle.pm_tasks.specs.declared.words.Command.{Command}
+use Rattle.pm_tasks.specs.declared.words.Command.TheVariants.{Once, MmvMake, MmvDump, Dump, Info, Recover, At, Range, Value}
 use Rattle.pcp_model.specs.Disk.{contents_of}
-use Rattle.pm_commands.specs.Archives.{nothing_before}
-use Rattle.pm_commands.specs.Ends.{Serves, MayLeave}
-use Rattle.pm_commands.specs.Meanings.{meaning}
-use Rattle.pm_commands.specs.Refusals.{stopped}
-use Rattle.pm_commands.specs.Sides.{SinkSide, DiskSide, Leaves, sink_side, disk_side}
-use Rattle.pm_commands.specs.Takes.{MayTake}
-use Rattle.pm_commands.specs.commands.at as at
-use Rattle.pm_commands.specs.commands.info as info
-use Rattle.pm_commands.specs.commands.range as range
-use Rattle.pm_commands.specs.commands.value as value
+use Rattle.pm_tasks.specs.Archives.{nothing_before}
+use Rattle.pm_tasks.specs.Ends.{Serves, MayLeave}
+use Rattle.pm_tasks.specs.Meanings.{meaning}
+use Rattle.pm_tasks.specs.Refusals.{stopped}
+use Rattle.pm_tasks.specs.Sides.{SinkSide, DiskSide, Leaves, sink_side, disk_side}
+use Rattle.pm_tasks.specs.Since.{CommandSince}
+use Rattle.pm_tasks.specs.Takes.{MayTake}
+use Rattle.pm_tasks.specs.commands.at as at
+use Rattle.pm_tasks.specs.commands.info as info
+use Rattle.pm_tasks.specs.commands.range as range
+use Rattle.pm_tasks.specs.commands.value as value
 use Rattle.pm_commands.proofs.Lookings.{info_fits, at_fits, range_fits, value_fits, look_serves, look_leaves, dump_serves}
-use Rattle.pm_commands.proofs.Sending.{unsent, serves_whole}
-use Rattle.pm_commands.proofs.Served.{unconverted}
+use Rattle.pm_tasks.proofs.Sending.{unsent, serves_whole}
+use Rattle.pm_tasks.proofs.Served.{unconverted}
 use Rattle.pm_commands.proofs.top.serve.Goals as goal
 
 pub returns-in-Once-clause-serves : goal.returns-in-Once-clause-serves
@@ -147,3 +148,57 @@ returns-in-At-clause-taken g c = λ tells. subst (λ (command : Command). MayTak
 
 pub returns-in-Range-clause-taken : goal.returns-in-Range-clause-taken
 returns-in-Range-clause-taken g c = λ tells. subst (λ (command : Command). MayTake command (contents_of (g.D.Disk.held c.args.disk.now)) (g.D.Disk.taken c.args.disk.now) (g.D.Disk.taken c.range.new.disk)) (sym c.in-Range.is) (c.range.ensures.taken tells)
+
+pub returns-in-Once-clause-unread : goal.returns-in-Once-clause-unread
+returns-in-Once-clause-unread g c = λ none tells. c.once.ensures.unread none tells
+
+pub returns-in-Dump-clause-unread : goal.returns-in-Dump-clause-unread
+returns-in-Dump-clause-unread g c = λ none tells. c.dump.ensures.looks.moments tells
+
+pub returns-in-Info-clause-unread : goal.returns-in-Info-clause-unread
+returns-in-Info-clause-unread g c = λ none tells. c.info.ensures.looks.moments tells
+
+pub returns-in-At-clause-unread : goal.returns-in-At-clause-unread
+returns-in-At-clause-unread g c = λ none tells. c.at.ensures.looks.moments tells
+
+pub returns-in-Range-clause-unread : goal.returns-in-Range-clause-unread
+returns-in-Range-clause-unread g c = λ none tells. c.range.ensures.looks.moments tells
+
+pub returns-in-Value-clause-unread : goal.returns-in-Value-clause-unread
+returns-in-Value-clause-unread g c = λ none tells. c.value.ensures.looks.moments tells
+
+pub returns-in-Recover-clause-unread : goal.returns-in-Recover-clause-unread
+returns-in-Recover-clause-unread g c = λ none tells. c.recover.ensures.unread none tells
+
+pub returns-in-Once-clause-since : goal.returns-in-Once-clause-since
+returns-in-Once-clause-since g c = λ tells behind. subst (λ (command : Command). CommandSince g.D.Disk command c.args.input.now c.args.disk.now c.once.new.disk) (sym c.in-Once.is) (c.once.ensures.since tells behind)
+
+pub returns-in-Dump-clause-since : goal.returns-in-Dump-clause-since
+returns-in-Dump-clause-since g c = λ tells behind. subst (λ (command : Command). CommandSince g.D.Disk command c.args.input.now c.args.disk.now c.dump.new.disk) (sym c.in-Dump.is) tt
+
+pub returns-in-Info-clause-since : goal.returns-in-Info-clause-since
+returns-in-Info-clause-since g c = λ tells behind. subst (λ (command : Command). CommandSince g.D.Disk command c.args.input.now c.args.disk.now c.info.new.disk) (sym c.in-Info.is) tt
+
+pub returns-in-Recover-clause-since : goal.returns-in-Recover-clause-since
+returns-in-Recover-clause-since g c = λ tells behind. subst (λ (command : Command). CommandSince g.D.Disk command c.args.input.now c.args.disk.now c.recover.new.disk) (sym c.in-Recover.is) tt
+
+pub returns-in-Value-clause-since : goal.returns-in-Value-clause-since
+returns-in-Value-clause-since g c = λ tells behind. subst (λ (command : Command). CommandSince g.D.Disk command c.args.input.now c.args.disk.now c.value.new.disk) (sym c.in-Value.is) tt
+
+pub returns-in_err-image-in-MmvMake-clause-since : goal.returns-in_err-image-in-MmvMake-clause-since
+returns-in_err-image-in-MmvMake-clause-since g c = λ tells behind. subst (λ (command : Command). CommandSince g.D.Disk command c.args.input.now c.args.disk.now c.args.disk.now) (sym c.in-MmvMake.is) tt
+
+pub returns-in_ok-image-in-MmvMake-clause-since : goal.returns-in_ok-image-in-MmvMake-clause-since
+returns-in_ok-image-in-MmvMake-clause-since g c = λ tells behind. subst (λ (command : Command). CommandSince g.D.Disk command c.args.input.now c.args.disk.now c.args.disk.now) (sym c.in-MmvMake.is) tt
+
+pub returns-in_err-text-in-MmvDump-clause-since : goal.returns-in_err-text-in-MmvDump-clause-since
+returns-in_err-text-in-MmvDump-clause-since g c = λ tells behind. subst (λ (command : Command). CommandSince g.D.Disk command c.args.input.now c.args.disk.now c.args.disk.now) (sym c.in-MmvDump.is) tt
+
+pub returns-in_ok-text-in-MmvDump-clause-since : goal.returns-in_ok-text-in-MmvDump-clause-since
+returns-in_ok-text-in-MmvDump-clause-since g c = λ tells behind. subst (λ (command : Command). CommandSince g.D.Disk command c.args.input.now c.args.disk.now c.args.disk.now) (sym c.in-MmvDump.is) tt
+
+pub returns-in-At-clause-since : goal.returns-in-At-clause-since
+returns-in-At-clause-since g c = λ tells behind. subst (λ (command : Command). CommandSince g.D.Disk command c.args.input.now c.args.disk.now c.at.new.disk) (sym c.in-At.is) tt
+
+pub returns-in-Range-clause-since : goal.returns-in-Range-clause-since
+returns-in-Range-clause-since g c = λ tells behind. subst (λ (command : Command). CommandSince g.D.Disk command c.args.input.now c.args.disk.now c.range.new.disk) (sym c.in-Range.is) tt

@@ -1,16 +1,20 @@
 -- The files are recovered, and the result logged over what is left.
-use Rattle.std.proofs.Common.{[], ◌∷◌, Option, sym, subst, refl}
+use Rattle.std.proofs.Common.{[], ◌∷◌, ◌++◌, length, Option, sym, subst, refl}
 use Rattle.pcp_base.specs.declared.result.Item.TheVariants.{Sample}
+use Rattle.pcp_model.specs.Archive.{scan}
 use Rattle.pcp_model.specs.Disk.{contents_of}
 use Rattle.pcp_outside.specs.Devices.{LeavesOnly}
 use Rattle.pcp_outside.proofs.Crash.{weaker}
 use Rattle.archive_recovery.specs.Halfway.{MayBeHalfway}
 use Rattle.fetch_engine.specs.declared.fetch.Fetched.{Fetched}
-use Rattle.logger_core.proofs.Calls.{run_then}
-use Rattle.record_run.specs.ImageCrashes.{ComesBackTo, IsAllAfter, MayBeAfter}
+use Rattle.logger_core.proofs.Calls.{no_call, run_then}
+use Rattle.record_run.specs.ImageCrashes.{ComesBack, ComesBackTo, IsAllAfter, MayBeAfter, start_of}
 use Rattle.record_run.specs.ImageFaults.{StopsIfAny}
 use Rattle.record_run.specs.ImageRuns.{RunsTo, items_of_run}
-use Rattle.record_run.proofs.ImageRun.{all_after, is_left, later_comes, logs_run, only_recovered, readable, recovering_comes, run_stops}
+use Rattle.record_run.specs.SinceRecovery.{FromRecovery}
+use Rattle.logger_core.proofs.AsFound.{same_files}
+use Rattle.record_run.proofs.Openings.{standing_comes}
+use Rattle.record_run.proofs.ImageRun.{all_after, from_there, is_left, later_comes, logs_run, only_recovered, readable, recovering_comes, run_stops}
 use Rattle.record_run.proofs.image.log_result.Goals as goal
 
 pub returns-in-Err-clause-any_moment : goal.returns-in-Err-clause-any_moment
@@ -109,3 +113,53 @@ returns-in-Err-log_over-clause-fault g c = λ tells.
       subst (λ (o : Option Fetched). StopsIfAny o (contents_of old) new c.in-Err-log_over.fault) (sym c.in-Some.is)
           (run_stops old mid new a c.in-Some.fetched c.in-Err-log_over.fault w (c.in-Err-log_over.ensures.fault tells left)),
     )
+
+pub returns-in-Ok-log_over-clause-since : goal.returns-in-Ok-log_over-clause-since
+returns-in-Ok-log_over-clause-since g c = λ tells.
+    let d = g.D.Disk in
+    let old = contents_of (d.held c.args.disk.now) in
+    let mid = contents_of (d.held c.recover.new.disk) in
+    let a = c.in-Ok.archive in
+    let w = c.in-Ok.ensures.recovered tells in
+    let sure = c.in-Ok.ensures.sure tells in
+    let left = is_left old (d.held c.recover.new.disk) a w sure in
+    let more = Sample c.in-Some.fetched.result ∷ [] in
+    subst (λ (o : Option Fetched). FromRecovery d.held d.moment d.left_since (items_of_run o) c.args.disk.now c.log_over.new.disk) (sym c.in-Some.is)
+    (record {
+      reading = w.reading; was = w.was; middle = c.recover.new.disk; later = (c.recover.ensures.any_moment tells).later; recovered = w.recovered; sure = sure;
+      since = weaker d.moment d.left_since d.held c.recover.new.disk c.log_over.new.disk (ComesBackTo more 0 mid) (ComesBack (start_of old w.reading mid) (scan w.reading ++ more) (length (scan w.reading)))
+          (c.log_over.ensures.any_moment tells left) (from_there old mid a w more);
+    })
+
+pub returns-in-Err-log_over-clause-since : goal.returns-in-Err-log_over-clause-since
+returns-in-Err-log_over-clause-since g c = λ tells.
+    let d = g.D.Disk in
+    let old = contents_of (d.held c.args.disk.now) in
+    let mid = contents_of (d.held c.recover.new.disk) in
+    let a = c.in-Ok.archive in
+    let w = c.in-Ok.ensures.recovered tells in
+    let sure = c.in-Ok.ensures.sure tells in
+    let left = is_left old (d.held c.recover.new.disk) a w sure in
+    let more = Sample c.in-Some.fetched.result ∷ [] in
+    subst (λ (o : Option Fetched). FromRecovery d.held d.moment d.left_since (items_of_run o) c.args.disk.now c.log_over.new.disk) (sym c.in-Some.is)
+    (record {
+      reading = w.reading; was = w.was; middle = c.recover.new.disk; later = (c.recover.ensures.any_moment tells).later; recovered = w.recovered; sure = sure;
+      since = weaker d.moment d.left_since d.held c.recover.new.disk c.log_over.new.disk (ComesBackTo more 0 mid) (ComesBack (start_of old w.reading mid) (scan w.reading ++ more) (length (scan w.reading)))
+          (c.log_over.ensures.any_moment tells left) (from_there old mid a w more);
+    })
+
+pub returns-in_default-clause-since : goal.returns-in_default-clause-since
+returns-in_default-clause-since g c = λ tells.
+    let d = g.D.Disk in
+    let held = d.held c.recover.new.disk in
+    let old = contents_of (d.held c.args.disk.now) in
+    let mid = contents_of held in
+    let a = c.in-Ok.archive in
+    let w = c.in-Ok.ensures.recovered tells in
+    let sure = c.in-Ok.ensures.sure tells in
+    subst (λ (o : Option Fetched). FromRecovery d.held d.moment d.left_since (items_of_run o) c.args.disk.now c.recover.new.disk) (sym c.in_default.is)
+    (record {
+      reading = w.reading; was = w.was; middle = c.recover.new.disk; later = (c.recover.ensures.any_moment tells).later; recovered = w.recovered; sure = sure;
+      since = no_call d g.met.D.Disk.only_now c.recover.new.disk (ComesBack (start_of old w.reading mid) (scan w.reading ++ []) (length (scan w.reading)))
+          (λ image crash. from_there old mid a w [] image (standing_comes held [] image (same_files held sure image crash)));
+    })

@@ -1,0 +1,11 @@
+pub mod Asking
+pub mod Components
+pub mod Dumped
+pub mod Logged
+pub mod Mended
+pub mod Recovering
+pub mod Refused
+pub mod Sending
+pub mod Served
+pub mod Taken
+pub mod Timed

@@ -1,0 +1,87 @@
+-- Which refusals come after recovery has answered.
+use Rattle.std.proofs.Common.{◌≡◌, ◌⊎◌, inl, inr, ℕ, List, sym, subst, arith, Option, Some, None, Result, Ok, Err}
+use Rattle.pcp_outside.specs.declared.disk.Disk.{Ghosts as DiskGhosts}
+use Rattle.archive_recovery.specs.declared.outcome.RecoverFault.{RecoverFault}
+use Rattle.archive_recovery.specs.declared.outcome.RecoverFault.TheVariants as recovering
+use Rattle.fetch_engine.specs.declared.fetch.Fetched.{Fetched}
+use Rattle.logger_core.specs.declared.fault.LogFault.{LogFault}
+use Rattle.record_run.specs.declared.fault.RunFault.{RunFault}
+use Rattle.record_run.specs.declared.fault.RunFault.TheVariants as running
+use Rattle.record_run.specs.ImageRuns.{items_of_run, result_of}
+use Rattle.record_run.specs.SinceRecovery.{FromRecovery, SinceRecovery}
+use Rattle.pm_tasks.specs.declared.stage.Stop.{Stop}
+use Rattle.pm_tasks.specs.declared.stage.Stop.TheVariants.{OutOfMemory, Refused}
+use Rattle.pm_tasks.specs.declared.stage.Usage.{Usage}
+use Rattle.pm_tasks.specs.declared.stage.ReadRefusal.{ReadRefusal}
+use Rattle.pm_tasks.specs.declared.stage.ReadRefusal.TheVariants.{ReadFault, InputLimit}
+use Rattle.pm_tasks.specs.declared.stage.InputRefusal.{InputRefusal}
+use Rattle.pm_tasks.specs.declared.stage.InputRefusal.TheVariants.{Image, Line}
+use Rattle.pm_tasks.specs.declared.stage.FilesRefusal.TheVariants.{Unlogged, Compressed, NotArchive, Nothing}
+use Rattle.pm_tasks.specs.declared.stage.DiskRefusal.TheVariants.{Files, DiskFault}
+use Rattle.pm_tasks.specs.declared.refusal.Refusal.{Refusal}
+use Rattle.pm_tasks.specs.declared.refusal.Refusal.TheVariants.{Words, Reading, Input, Disk, NoMemory}
+use Rattle.pm_tasks.specs.declared.output.Output.{Output}
+use Rattle.pm_tasks.specs.Refusals.{run_refusal, stopped, status_of}
+use Rattle.pm_tasks.specs.Since.{HasRecovered, HadRecovered}
+
+-- the words, the reading and the input are looked at before
+pub no_words_yet : (stop : Stop Usage) → HasRecovered (Err (stopped Words stop)) → ⊥
+no_words_yet OutOfMemory h = h
+no_words_yet (Refused usage) h = h
+
+pub no_reading_yet : (stop : Stop ReadRefusal) → HasRecovered (Err (stopped Reading stop)) → ⊥
+no_reading_yet OutOfMemory h = h
+no_reading_yet (Refused e) h = h
+
+pub no_input_yet : (stop : Stop InputRefusal) → HasRecovered (Err (stopped Input stop)) → ⊥
+no_input_yet OutOfMemory h = h
+no_input_yet (Refused e) h = h
+
+-- a fault of recovery itself
+recovery_not_behind : (fault : RecoverFault) → HasRecovered (Err (run_refusal (running.Recovery fault))) → ⊥
+recovery_not_behind (recovering.Compressed file) h = h
+recovery_not_behind (recovering.NotArchive file at) h = h
+recovery_not_behind recovering.DiskFault h = h
+recovery_not_behind recovering.NoMemory h = h
+
+module _ {D : Type 0} (g : DiskGhosts D) (o : Option Fetched) (old new : D) where
+  abbrev Since : Type 0
+  Since = FromRecovery g.held g.moment g.left_since (items_of_run o) old new
+
+  -- a run that was refused so
+  pub of_fault : (fault : RunFault) → SinceRecovery g.held g.moment g.left_since (items_of_run o) old new (Err fault) → HasRecovered (Err (run_refusal fault)) → Since
+  of_fault (running.Recovery fault) since h = absurd (recovery_not_behind fault h)
+  of_fault (running.Logging fault) since h = since
+  of_fault running.NoMemory since h = absurd h
+
+-- a refusal with such a status comes behind
+by_input : (e : InputRefusal) → HadRecovered (status_of (Input e)) → ⊥
+by_input (Image fault) (inl h) = cc
+by_input (Image fault) (inr (inl h)) = cc
+by_input (Image fault) (inr (inr (inl h))) = cc
+by_input (Image fault) (inr (inr (inr h))) = cc
+by_input (Line fault) (inl h) = cc
+by_input (Line fault) (inr (inl h)) = cc
+by_input (Line fault) (inr (inr (inl h))) = cc
+by_input (Line fault) (inr (inr (inr h))) = cc
+
+never : (n : ℕ) → (n ≡ 0 → ⊥) → (n ≡ 4 → ⊥) → (n ≡ 12 → ⊥) → (n ≡ 13 → ⊥) → HadRecovered n → ⊥
+never n a b c d (inl h) = a h
+never n a b c d (inr (inl h)) = b h
+never n a b c d (inr (inr (inl h))) = c h
+never n a b c d (inr (inr (inr h))) = d h
+
+pub by_status : (e : Refusal) → HadRecovered (status_of e) → HasRecovered (Err e)
+by_status (Words usage) h = never 1 (λ x. cc) (λ x. cc) (λ x. cc) (λ x. cc) h
+by_status (Reading ReadFault) h = never 3 (λ x. cc) (λ x. cc) (λ x. cc) (λ x. cc) h
+by_status (Reading InputLimit) h = never 7 (λ x. cc) (λ x. cc) (λ x. cc) (λ x. cc) h
+by_status (Input e) h = by_input e h
+by_status (Disk (Files (Unlogged reason))) h = tt
+by_status (Disk (Files (Compressed file))) h = never 6 (λ x. cc) (λ x. cc) (λ x. cc) (λ x. cc) h
+by_status (Disk (Files (NotArchive file at))) h = never 6 (λ x. cc) (λ x. cc) (λ x. cc) (λ x. cc) h
+by_status (Disk (Files (Nothing stamp))) h = never 11 (λ x. cc) (λ x. cc) (λ x. cc) (λ x. cc) h
+by_status (Disk DiskFault) h = never 5 (λ x. cc) (λ x. cc) (λ x. cc) (λ x. cc) h
+by_status NoMemory h = never 9 (λ x. cc) (λ x. cc) (λ x. cc) (λ x. cc) h
+
+pub never_nine : HadRecovered 9 → ⊥
+never_nine h = never 9 (λ x. cc) (λ x. cc) (λ x. cc) (λ x. cc) h

@@ -1,0 +1,14 @@
+-- The text so far is that of the items that were read, a front of it is sent, and the files are as they were.
+use Rattle.std.proofs.Common.{◌≡◌}
+use Rattle.pcp_model.specs.Disk.{contents_of}
+use Rattle.archive_window.specs.Looks.{Looks}
+use Rattle.pm_tasks.specs.Sides.{sink_side}
+use Rattle.pm_tasks.proofs.Dumped.{Going}
+use Rattle.pm_tasks.proofs.commands.dump.put_items.Given as goal
+
+abbrev pub invariant-loop : goal.invariant-loop
+invariant-loop g l = record {
+  looks : Looks g.D.Disk l.initial.disk l.disk;
+  same : l.reader ≡ l.initial.reader;
+  going : Going g.D.Disk.tells (contents_of (g.D.Disk.held l.initial.disk)) l.initial.reader l.place l.initial.page.items (sink_side g.O.Sink l.initial.out l.out) l.failed l.page.items;
+}

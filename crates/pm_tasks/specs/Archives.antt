@@ -1,0 +1,64 @@
+-- Commands that only read an archive: what they find of the files, why they turn files away, and that they leave the disk as
+-- it was.
+use Rattle.std.specs.Prelude.{◌≡◌, ◌⊎◌, ℕ, true, List, [], Some, None}
+use Rattle.pcp_base.specs.declared.result.Item.{Item}
+use Rattle.pcp_model.specs.Archive.{ArchiveReading, Reads, scan}
+use Rattle.pcp_model.specs.Sound.{IsSound}
+use Rattle.pcp_outside.specs.Causes.{Rose}
+use Rattle.archive_loading.specs.Loaded.{Loaded, IsOver}
+use Rattle.archive_loading.specs.LoadFaults.{NotLoaded}
+use Rattle.pm_tasks.specs.declared.stage.FilesRefusal.{FilesRefusal}
+use Rattle.pm_tasks.specs.declared.stage.FilesRefusal.TheVariants.{Unlogged, Compressed, NotArchive, Nothing}
+use Rattle.pm_tasks.specs.declared.stage.DiskRefusal.TheVariants.{Files as FilesAway, DiskFault}
+use Rattle.pm_tasks.specs.declared.refusal.Refusal.{Refusal}
+use Rattle.pm_tasks.specs.declared.refusal.Refusal.TheVariants.{Disk, NoMemory}
+use Rattle.pm_tasks.specs.Meaning.{Meaning}
+use Rattle.pm_tasks.specs.Sides.{DiskSide, Found, found, Untouched}
+
+-- no file stands wrapped, and apart from the records of its volumes this is the archive
+pub record IsLoaded (found : Found) (r : Loaded) : Type 0 where
+  pub unwrapped : found.wrapped ≡ None
+  pub over : IsOver found.files r
+
+-- a file stands wrapped, or apart from the records of volumes this place fits no archive
+abbrev pub IsNotLoaded : Found → FilesRefusal → Type 0
+IsNotLoaded found (Compressed file) = found.wrapped ≡ Some file
+IsNotLoaded found (NotArchive file at) = (found.wrapped ≡ None) × NotLoaded found.files file at
+IsNotLoaded found (Unlogged reason) = ⊥
+IsNotLoaded found (Nothing stamp) = ⊥
+
+-- files are turned away where they aren't loaded, or for what is found in an archive that was
+abbrev pub TurnedAfter : (Loaded → Found → FilesRefusal → Type 0) → Found → FilesRefusal → Type 0
+TurnedAfter why found e = IsNotLoaded found e ⊎ ((r : Loaded) × IsLoaded found r × why r found e)
+
+-- what is so of the scan where the files are a readable archive, or a sound one
+abbrev pub OverReadable : Found → (List Item → Type 0) → Type 0
+OverReadable found P = (reading : ArchiveReading) → Reads found.files reading → P (scan reading)
+
+abbrev pub OverSound : Found → (List Item → Type 0) → Type 0
+OverSound found P = (reading : ArchiveReading) → Reads found.files reading → IsSound found.files reading → P (scan reading)
+
+-- why such a command ends without a text: it turned the files away, the disk failed, or memory ran out
+abbrev pub TurnedAway : (Found → FilesRefusal → Type 0) → DiskSide → Refusal → Type 0
+TurnedAway turned d (Disk (FilesAway e)) = d.tells → turned (found d) e
+TurnedAway turned d (Disk DiskFault) = Rose d.faults d.faults_after
+TurnedAway turned d NoMemory = Unit {0}
+TurnedAway turned d _ = ⊥
+
+-- one that writes nothing before it is done
+abbrev pub nothing_before : DiskSide → List ℕ → Type 0
+nothing_before d front = front ≡ []
+
+-- a command that reads an archive and writes a text of it, of which it may have written a front where it is stopped
+abbrev pub looks : (Found → FilesRefusal → Type 0) → (Found → List ℕ → Type 0) → (DiskSide → List ℕ → Type 0) → Meaning
+looks turned said first = record {
+  reads = None;
+  uses_disk = true;
+  turns_away = λ input files e. turned files e;
+  done = λ input d. Untouched d;
+  says = λ input d text. d.tells → said (found d) text;
+  begins = λ input d front. first d front;
+  keeps = λ input held crash. Unit {0};
+  begun = λ status input d. ⊥;
+  may_leave = λ input held crash. ⊥;
+}

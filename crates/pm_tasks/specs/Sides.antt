@@ -1,0 +1,67 @@
+-- What a call found of each object outside, and left of it. Each side is named once, by its trait's ghosts.
+use Rattle.std.specs.Prelude.{◌≡◌, ℕ, List, Option}
+use Rattle.pcp_base.specs.declared.file.FileId.{FileId}
+use Rattle.pcp_model.specs.Archive.{Readable}
+use Rattle.pcp_model.specs.Disk.{Files, Holdings, contents_of}
+use Rattle.pcp_outside.specs.declared.streams.Source.{Ghosts as SourceGhosts}
+use Rattle.pcp_outside.specs.declared.streams.Sink.{Ghosts as SinkGhosts}
+use Rattle.pcp_outside.specs.declared.disk.Disk.{Ghosts as DiskGhosts}
+use Rattle.pcp_outside.specs.Devices.{LeavesOnly}
+
+-- of a source: what was left of it before and after, where it tells; and its count of faults
+pub record SourceSide : Type 1 where
+  pub tells : Type 0
+  pub left : List ℕ
+  pub after : List ℕ
+  pub faults : ℕ
+  pub faults_after : ℕ
+
+abbrev pub source_side : {I : Type 0} → SourceGhosts I → I → I → SourceSide
+source_side g old new = record { tells = g.tells; left = g.left old; after = g.left new; faults = g.faults old; faults_after = g.faults new }
+
+-- of a sink: what was written before and after
+pub record SinkSide : Type 1 where
+  pub tells : Type 0
+  pub written : List ℕ
+  pub after : List ℕ
+  pub faults : ℕ
+  pub faults_after : ℕ
+
+abbrev pub sink_side : {O : Type 0} → SinkGhosts O → O → O → SinkSide
+sink_side g old new = record { tells = g.tells; written = g.written old; after = g.written new; faults = g.faults old; faults_after = g.faults new }
+
+-- of a disk: what its files held before and after, and the first that stood wrapped before
+pub record DiskSide : Type 1 where
+  pub tells : Type 0
+  pub held : Holdings
+  pub wrapped : Option FileId
+  pub after : Holdings
+  pub faults : ℕ
+  pub faults_after : ℕ
+
+abbrev pub disk_side : {D : Type 0} → DiskGhosts D → D → D → DiskSide
+disk_side g old new = record { tells = g.tells; held = g.held old; wrapped = g.wrapped_file old; after = g.held new; faults = g.faults old; faults_after = g.faults new }
+
+-- the files that a call found, each whole, and the first that stood wrapped
+pub record Found : Type 0 where
+  pub files : Files
+  pub wrapped : Option FileId
+
+abbrev pub found : DiskSide → Found
+found d = record { files = contents_of d.held; wrapped = d.wrapped }
+
+-- nothing was taken of the source
+abbrev pub NotAsked : SourceSide → Type 0
+NotAsked s = s.tells → s.after ≡ s.left
+
+-- the disk holds what it held
+abbrev pub Untouched : DiskSide → Type 0
+Untouched d = d.tells → d.after ≡ d.held
+
+-- a crash at any moment of the call leaves only what P allows over what the disk held
+abbrev pub Leaves : {D : Type 0} → DiskGhosts D → D → D → (Holdings → Files → Type 0) → Type 0
+Leaves g old new P = g.tells → LeavesOnly g.moment g.left_since old new (P (g.held old))
+
+-- the files of a disk are no archive, and no creation that was stopped
+abbrev pub IsUnread : {D : Type 0} → DiskGhosts D → D → Type 0
+IsUnread g old = Readable (contents_of (g.held old)) → ⊥

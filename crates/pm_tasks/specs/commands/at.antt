@@ -1,0 +1,32 @@
+-- `at SEC USEC` writes the last item that isn't stamped after a moment: over a sound archive that of the scan, and over others that
+-- of the records where the index says.
+use Rattle.std.specs.Prelude.{◌≡◌, ℕ, List, Some, None}
+use Rattle.pcp_base.specs.Time.{Moment}
+use Rattle.pcp_base.specs.declared.result.Item.{Item}
+use Rattle.archive_reader.specs.Asked.{at_begin, IsAtFrom, IsAtFault}
+use Rattle.archive_loading.specs.Loaded.{Loaded}
+use Rattle.archive_reader.specs.Searches.{at as last_at}
+use Rattle.archive_reader.specs.declared.fault.ReaderFault.TheVariants as faults
+use Rattle.pm_print.specs.Items.{item_text}
+use Rattle.pm_tasks.specs.declared.stage.FilesRefusal.{FilesRefusal}
+use Rattle.pm_tasks.specs.declared.stage.FilesRefusal.TheVariants.{Unlogged, Compressed, NotArchive, Nothing}
+use Rattle.pm_tasks.specs.Archives.{IsLoaded, TurnedAfter, OverSound, looks, nothing_before}
+use Rattle.pm_tasks.specs.Meaning.{Meaning}
+use Rattle.pm_tasks.specs.Sides.{Found}
+
+-- where the search for it doesn't end: a record on the way is no item's, or it begins outside the records
+abbrev pub IsStopped : Moment → Loaded → Found → FilesRefusal → Type 0
+IsStopped t r found (NotArchive file place) = IsAtFault found.files r.volumes t (at_begin r t) (faults.NotArchive file place)
+IsStopped t r found (Nothing stamp) = (stamp ≡ t) × IsAtFrom found.files r.volumes t (at_begin r t) None × OverSound found (λ items. last_at t items ≡ None)
+IsStopped t r found (Compressed file) = ⊥
+IsStopped t r found (Unlogged reason) = ⊥
+
+abbrev pub turned : Moment → Found → FilesRefusal → Type 0
+turned t found e = TurnedAfter (IsStopped t) found e
+
+abbrev pub said : Moment → Found → List ℕ → Type 0
+said t found text = (r : Loaded) × IsLoaded found r × (x : Item) × IsAtFrom found.files r.volumes t (at_begin r t) (Some x)
+    × OverSound found (λ items. last_at t items ≡ Some x) × (text ≡ item_text r.records x)
+
+abbrev pub at : Moment → Meaning
+at t = looks (turned t) (said t) nothing_before

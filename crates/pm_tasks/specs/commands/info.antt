@@ -1,0 +1,18 @@
+-- `info` writes the descriptions of an archive.
+use Rattle.std.specs.Prelude.{◌≡◌, ℕ, List}
+use Rattle.archive_loading.specs.Loaded.{Loaded}
+use Rattle.pm_print.specs.Infos.{info_text}
+use Rattle.pm_tasks.specs.declared.stage.FilesRefusal.{FilesRefusal}
+use Rattle.pm_tasks.specs.Archives.{IsLoaded, IsNotLoaded, looks, nothing_before}
+use Rattle.pm_tasks.specs.Meaning.{Meaning}
+use Rattle.pm_tasks.specs.Sides.{Found}
+
+-- it turns files away only where they aren't loaded
+abbrev pub turned : Found → FilesRefusal → Type 0
+turned found e = IsNotLoaded found e
+
+abbrev pub said : Found → List ℕ → Type 0
+said found text = (r : Loaded) × IsLoaded found r × (text ≡ info_text r.records)
+
+abbrev pub info : Meaning
+info = looks turned said nothing_before

@@ -1,0 +1,32 @@
+-- `range SEC USEC SEC USEC` writes the items between two moments, both included: over a sound archive those of the scan, and over
+-- others those of the records from where the index says. Where there is none it writes nothing.
+use Rattle.std.specs.Prelude.{◌≡◌, ℕ, List}
+use Rattle.pcp_base.specs.Time.{Moment}
+use Rattle.pcp_base.specs.declared.result.Item.{Item}
+use Rattle.archive_reader.specs.Asked.{range_begin, IsRangeFrom, IsRangeFault}
+use Rattle.archive_loading.specs.Loaded.{Loaded}
+use Rattle.archive_reader.specs.Searches.{between}
+use Rattle.archive_reader.specs.declared.fault.ReaderFault.TheVariants as faults
+use Rattle.pm_print.specs.Items.{items_text}
+use Rattle.pm_tasks.specs.declared.stage.FilesRefusal.{FilesRefusal}
+use Rattle.pm_tasks.specs.declared.stage.FilesRefusal.TheVariants.{Unlogged, Compressed, NotArchive, Nothing}
+use Rattle.pm_tasks.specs.Archives.{IsLoaded, TurnedAfter, OverSound, looks, nothing_before}
+use Rattle.pm_tasks.specs.Meaning.{Meaning}
+use Rattle.pm_tasks.specs.Sides.{Found}
+
+-- where they aren't read to the end: a record on the way is no item's, or the search begins outside the records
+abbrev pub IsStopped : Moment → Moment → Loaded → Found → FilesRefusal → Type 0
+IsStopped from to r found (NotArchive file place) = IsRangeFault found.files r.volumes to (range_begin r from) (faults.NotArchive file place)
+IsStopped from to r found (Nothing stamp) = ⊥
+IsStopped from to r found (Compressed file) = ⊥
+IsStopped from to r found (Unlogged reason) = ⊥
+
+abbrev pub turned : Moment → Moment → Found → FilesRefusal → Type 0
+turned from to found e = TurnedAfter (IsStopped from to) found e
+
+abbrev pub said : Moment → Moment → Found → List ℕ → Type 0
+said from to found text = (r : Loaded) × IsLoaded found r × (items : List Item) × IsRangeFrom found.files r.volumes from to (range_begin r from) items
+    × OverSound found (λ all. between from to all ≡ items) × (text ≡ items_text r.records items)
+
+abbrev pub range : Moment → Moment → Meaning
+range from to = looks (turned from to) (said from to) nothing_before

@@ -1,0 +1,66 @@
+-- `value SEC USEC NAME` writes the values that a metric last had at a moment, and when.
+use Rattle.std.specs.Prelude.{◌≡◌, ℕ, Bool, true, false, if◌then◌else◌, List, [], ◌∷◌, Option, Some, None, bytes_eq}
+use Rattle.pcp_base.specs.Time.{Moment}
+use Rattle.pcp_base.specs.declared.result.ValueSet.{ValueSet}
+use Rattle.pcp_model.specs.declared.records.MetaRecord.{MetaRecord}
+use Rattle.archive_meta.specs.Said.{described, description_of, names_of}
+use Rattle.archive_loading.specs.Loaded.{Loaded}
+use Rattle.archive_reader.specs.Values.{IsValueAt, IsWholeFault, value_at}
+use Rattle.archive_reader.specs.declared.fault.ReaderFault.TheVariants as faults
+use Rattle.pm_print.specs.Items.{set_text}
+use Rattle.pm_tasks.specs.declared.stage.FilesRefusal.{FilesRefusal}
+use Rattle.pm_tasks.specs.declared.stage.FilesRefusal.TheVariants.{Unlogged, Compressed, NotArchive, Nothing}
+use Rattle.pm_tasks.specs.declared.words.ValueWords.{ValueWords}
+use Rattle.pm_tasks.specs.Archives.{IsLoaded, TurnedAfter, OverReadable, looks, nothing_before}
+use Rattle.pm_tasks.specs.Meaning.{Meaning}
+use Rattle.pm_tasks.specs.Sides.{Found}
+
+abbrev pub has_name : List ℕ → List (List ℕ) → Bool
+has_name name [] = false
+has_name name (n ∷ names) = if bytes_eq n name then true else has_name name names
+
+abbrev pub is_named : List ℕ → Option (List (List ℕ)) → Bool
+is_named name None = false
+is_named name (Some names) = has_name name names
+
+-- the first of these metrics that has a name
+abbrev pub first_named : List MetaRecord → List ℕ → List ℕ → Option ℕ
+first_named records name [] = None
+first_named records name (pmid ∷ pmids) = if is_named name (names_of (description_of pmid records)) then Some pmid else first_named records name pmids
+
+-- a name leads to the first metric that has it, in the order in which metrics are first described
+abbrev pub named : List MetaRecord → List ℕ → Option ℕ
+named records name = first_named records name (described records)
+
+-- the text of a metric's values at a moment
+abbrev pub HasValue : Found → Loaded → ℕ → Moment → List ℕ → Type 0
+HasValue found r pmid t text = (v : Moment × ValueSet) × IsValueAt found.files r.volumes pmid t (Some v)
+    × OverReadable found (λ items. value_at pmid t items ≡ Some v) × (text ≡ set_text r.records v.0 v.1)
+
+-- a record is no item's, or the metric has no values at the moment
+abbrev pub HasNoValue : ℕ → Moment → Loaded → Found → FilesRefusal → Type 0
+HasNoValue pmid t r found (NotArchive file place) = IsWholeFault found.files r.volumes (faults.NotArchive file place)
+HasNoValue pmid t r found (Nothing stamp) = (stamp ≡ t) × IsValueAt found.files r.volumes pmid t None × OverReadable found (λ items. value_at pmid t items ≡ None)
+HasNoValue pmid t r found (Compressed file) = ⊥
+HasNoValue pmid t r found (Unlogged reason) = ⊥
+
+-- no metric has the name, or it has no values at the moment
+abbrev pub HasNothing : Found → Loaded → Moment → Option ℕ → Type 0
+HasNothing found r t None = Unit {0}
+HasNothing found r t (Some pmid) = IsValueAt found.files r.volumes pmid t None × OverReadable found (λ items. value_at pmid t items ≡ None)
+
+-- where no values are found: a record is no item's, or there are none
+abbrev pub IsStopped : ValueWords → Loaded → Found → FilesRefusal → Type 0
+IsStopped asked r found (NotArchive file place) = IsWholeFault found.files r.volumes (faults.NotArchive file place)
+IsStopped asked r found (Nothing stamp) = (stamp ≡ asked.stamp) × HasNothing found r asked.stamp (named r.records asked.name)
+IsStopped asked r found (Compressed file) = ⊥
+IsStopped asked r found (Unlogged reason) = ⊥
+
+abbrev pub turned : ValueWords → Found → FilesRefusal → Type 0
+turned asked found e = TurnedAfter (IsStopped asked) found e
+
+abbrev pub said : ValueWords → Found → List ℕ → Type 0
+said asked found text = (r : Loaded) × IsLoaded found r × (pmid : ℕ) × (named r.records asked.name ≡ Some pmid) × HasValue found r pmid asked.stamp text
+
+abbrev pub value : ValueWords → Meaning
+value asked = looks (turned asked) (said asked) nothing_before

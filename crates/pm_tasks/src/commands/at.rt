@@ -1,0 +1,34 @@
+//! The command `at SEC USEC`: the last item that isn't stamped after a moment.
+ghost use Rattle.std.specs.Prelude.{IfOk, IfErr};
+ghost use Rattle.pcp_model.specs.Disk.{contents_of};
+ghost use Rattle.archive_window.specs.Looks.{Looks};
+ghost use Rattle.pm_tasks.specs.Archives.{TurnedAway};
+ghost use Rattle.pm_tasks.specs.Sides.{disk_side, found};
+ghost use Rattle.pm_tasks.specs.Takes.{TookAt};
+ghost use Rattle.pm_tasks.specs.commands.at.{turned, said};
+
+use crate::refusal::Refusal;
+use crate::stage::{DiskRefusal, FilesRefusal};
+use archive_reader::ArchiveReader;
+use pcp_base::{Bytes, Stamp};
+use pcp_outside::Disk;
+use pm_print::item_text;
+use std::alloc::Global;
+
+/// The item, as text.
+pub fn at<D: Disk>(alloc: Global, t: Stamp, disk: &mut D) -> Result<Bytes, Refusal>
+    ensures said { D.tells → IfOk result (said t (found (disk_side D.Disk disk.old disk.new))) }
+    ensures turned { IfErr result (TurnedAway (turned t) (disk_side D.Disk disk.old disk.new)) }
+    ensures taken { D.tells → TookAt t (contents_of (D.held disk.old)) (D.taken disk.old) (D.taken disk.new) }
+    ensures looks { Looks D.Disk disk.old disk.new }
+{
+    let mut reader = ArchiveReader::load(alloc, disk)?;
+    let found = reader.at(alloc, disk, t)?;
+    match &found {
+        Some(item) => {
+            let text = item_text(alloc, item, reader.meta())?;
+            Ok(text)
+        }
+        None => Err(Refusal::Disk(DiskRefusal::Files(FilesRefusal::Nothing { stamp: t }))),
+    }
+}

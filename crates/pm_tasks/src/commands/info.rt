@@ -1,0 +1,24 @@
+//! The command `info`: the descriptions of an archive.
+ghost use Rattle.std.specs.Prelude.{IfOk, IfErr};
+ghost use Rattle.archive_window.specs.Looks.{Looks};
+ghost use Rattle.pm_tasks.specs.Archives.{TurnedAway};
+ghost use Rattle.pm_tasks.specs.Sides.{disk_side, found};
+ghost use Rattle.pm_tasks.specs.commands.info.{turned, said};
+
+use crate::refusal::Refusal;
+use archive_reader::ArchiveReader;
+use pcp_base::Bytes;
+use pcp_outside::Disk;
+use pm_print::info_text;
+use std::alloc::Global;
+
+/// The descriptions of an archive, as text.
+pub fn info<D: Disk>(alloc: Global, disk: &mut D) -> Result<Bytes, Refusal>
+    ensures said { D.tells → IfOk result (said (found (disk_side D.Disk disk.old disk.new))) }
+    ensures turned { IfErr result (TurnedAway turned (disk_side D.Disk disk.old disk.new)) }
+    ensures looks { Looks D.Disk disk.old disk.new }
+{
+    let reader = ArchiveReader::load(alloc, disk)?;
+    let text = info_text(alloc, reader.meta())?;
+    Ok(text)
+}

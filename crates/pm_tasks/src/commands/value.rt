@@ -1,0 +1,115 @@
+//! The command `value SEC USEC NAME`: the values that a metric last had at a moment.
+ghost use Rattle.std.specs.Prelude.{◌≡◌, IfOk, IfErr, bytes_eq};
+ghost use Rattle.archive_meta.specs.Said.{description_of, names_of};
+ghost use Rattle.pcp_model.specs.Disk.{contents_of};
+ghost use Rattle.archive_window.specs.Looks.{Looks};
+ghost use Rattle.archive_loading.specs.Loaded.{IsOver};
+ghost use Rattle.pm_tasks.specs.Archives.{TurnedAway};
+ghost use Rattle.pm_tasks.specs.Sides.{disk_side, found};
+ghost use Rattle.pm_tasks.specs.declared.refusal.Refusal.TheVariants.{Disk};
+ghost use Rattle.pm_tasks.specs.declared.stage.DiskRefusal.TheVariants.{Files};
+ghost use Rattle.pm_tasks.specs.declared.stage.FilesRefusal.TheVariants.{Nothing};
+ghost use Rattle.pm_tasks.specs.commands.value.{has_name, is_named, first_named, named, HasValue, HasNoValue, turned, said};
+
+use crate::refusal::Refusal;
+use crate::stage::{DiskRefusal, FilesRefusal};
+use crate::words::ValueWords;
+use archive_meta::MetaState;
+use archive_reader::ArchiveReader;
+use pcp_base::{Bytes, NoMemory, Pmid, Stamp, Text};
+use pcp_outside::Disk;
+use pm_print::set_text;
+use std::alloc::Global;
+
+fn is_name(text: &Text, name: &[u8]) -> bool
+    ensures { result ≡ bytes_eq text.now name.now }
+{
+    text.as_slice() == name
+}
+
+fn has_name(names: &[Text], name: &[u8]) -> bool
+    ensures { result ≡ has_name name.now names.now }
+{
+    let mut index = 0;
+    while index < names.len() {
+        if is_name(&names[index], name) {
+            return true;
+        }
+        index += 1;
+    }
+    false
+}
+
+// Whether a metric has this name.
+fn is_named(meta: &MetaState, pmid: Pmid, name: &[u8]) -> bool
+    ensures { result ≡ is_named name.now (names_of (description_of pmid meta.now)) }
+{
+    match meta.names(pmid) {
+        Some(names) => has_name(names.as_slice(), name),
+        None => false,
+    }
+}
+
+fn first_named(meta: &MetaState, pmids: &[Pmid], name: &[u8]) -> Option<Pmid>
+    ensures { result ≡ first_named meta.now name.now pmids.now }
+{
+    let mut index = 0;
+    while index < pmids.len() {
+        if is_named(meta, pmids[index], name) {
+            return Some(pmids[index]);
+        }
+        index += 1;
+    }
+    None
+}
+
+// The metric that a name leads to.
+fn named(alloc: Global, meta: &MetaState, name: &[u8]) -> Result<Option<Pmid>, NoMemory>
+    ensures { IfOk result (λ pmid. pmid ≡ named meta.now name.now) }
+{
+    let pmids = meta.pmids(alloc)?;
+    Ok(first_named(meta, pmids.as_slice(), name))
+}
+
+fn nothing_at(stamp: Stamp) -> Refusal
+    ensures { result ≡ Disk (Files (Nothing stamp)) }
+{
+    Refusal::Disk(DiskRefusal::Files(FilesRefusal::Nothing { stamp }))
+}
+
+// The values of a metric and their stamp, as text.
+fn shown<D: Disk>(
+    alloc: Global,
+    disk: &mut D,
+    reader: &mut ArchiveReader,
+    pmid: Pmid,
+    stamp: Stamp,
+) -> Result<Bytes, Refusal>
+    requires { D.tells → IsOver (contents_of (D.held disk.old)) reader.old }
+    ensures said { D.tells → IfOk result (HasValue (found (disk_side D.Disk disk.old disk.new)) reader.old pmid stamp) }
+    ensures turned { IfErr result (TurnedAway (HasNoValue pmid stamp reader.old) (disk_side D.Disk disk.old disk.new)) }
+    ensures looks { Looks D.Disk disk.old disk.new }
+{
+    let found = reader.value_at(alloc, disk, pmid, stamp)?;
+    match &found {
+        Some((at, set)) => {
+            let text = set_text(alloc, *at, set, reader.meta())?;
+            Ok(text)
+        }
+        None => Err(nothing_at(stamp)),
+    }
+}
+
+/// The values and their stamp, as text.
+pub fn value<D: Disk>(alloc: Global, asked: &ValueWords, disk: &mut D) -> Result<Bytes, Refusal>
+    ensures said { D.tells → IfOk result (said asked.now (found (disk_side D.Disk disk.old disk.new))) }
+    ensures turned { IfErr result (TurnedAway (turned asked.now) (disk_side D.Disk disk.old disk.new)) }
+    ensures looks { Looks D.Disk disk.old disk.new }
+{
+    let mut reader = ArchiveReader::load(alloc, disk)?;
+    let pmid = named(alloc, reader.meta(), asked.name.as_slice())?;
+    match pmid {
+        Some(pmid) => shown(alloc, disk, &mut reader, pmid, asked.stamp),
+        None => Err(nothing_at(asked.stamp)),
+    }
+}

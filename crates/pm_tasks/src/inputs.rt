@@ -1,0 +1,59 @@
+//! What a command gets of the source: its whole input, read to its end before anything is made of it, or nothing.
+ghost use Rattle.std.specs.Prelude.{◌≡◌, IfOk, IfErr, IsSome, None, is_some};
+ghost use Rattle.pm_tasks.specs.Causes.{WasRead, Got, UnreadCause};
+ghost use Rattle.pm_tasks.specs.Meanings.{meaning};
+ghost use Rattle.pm_tasks.specs.Sides.{source_side};
+
+use crate::stage::{ReadRefusal, Stop};
+use crate::words::Command;
+use pcp_base::{Bytes, List};
+use pcp_outside::{ReadFault, Source, read_to_limit};
+use std::alloc::Global;
+
+const INPUT_LIMIT: usize = 16_777_216;
+
+// All of the input, of 16 MiB at most.
+fn read_input<I: Source>(alloc: Global, input: &mut I) -> Result<Bytes, Stop<ReadRefusal>>
+    ensures read { IfOk result (WasRead (source_side I.Source input.old input.new)) }
+    ensures cause { IfErr result (UnreadCause (source_side I.Source input.old input.new)) }
+{
+    match read_to_limit(alloc, input, INPUT_LIMIT) {
+        Ok(bytes) => Ok(bytes),
+        Err(ReadFault::NoMemory) => Err(Stop::OutOfMemory),
+        Err(ReadFault::Failed) => Err(Stop::Refused(ReadRefusal::ReadFault)),
+        Err(ReadFault::TooMuch) => Err(Stop::Refused(ReadRefusal::InputLimit)),
+    }
+}
+
+// Whether a command reads an input.
+fn takes_input(command: &Command) -> bool
+    ensures { result ≡ is_some (meaning command.now).reads }
+{
+    match command {
+        Command::Once(_) | Command::MmvMake | Command::MmvDump => true,
+        Command::Dump
+        | Command::Info
+        | Command::Recover
+        | Command::At(_)
+        | Command::Range(..)
+        | Command::Value(_) => false,
+    }
+}
+
+/// What a command gets of the source.
+pub fn get_input<I: Source>(
+    alloc: Global,
+    command: &Command,
+    input: &mut I,
+) -> Result<Bytes, Stop<ReadRefusal>>
+    ensures got { IfOk result (Got (meaning command.now).reads (source_side I.Source input.old input.new)) }
+    ensures reads { IfErr result (λ stop. IsSome (meaning command.now).reads) }
+    ensures cause { IfErr result (UnreadCause (source_side I.Source input.old input.new)) }
+    ensures unasked { (meaning command.now).reads ≡ None → input.new ≡ input.old }
+{
+    if takes_input(command) {
+        read_input(alloc, input)
+    } else {
+        Ok(List::empty(alloc))
+    }
+}
