@@ -126,7 +126,12 @@ returns-in-Ok-log_over-clause-since g c = λ tells.
     let more = Sample c.in-Some.fetched.result ∷ [] in
     subst (λ (o : Option Fetched). FromRecovery d.held d.moment d.left_since (items_of_run o) c.args.disk.now c.log_over.new.disk) (sym c.in-Some.is)
     (record {
-      reading = w.reading; was = w.was; middle = c.recover.new.disk; later = (c.recover.ensures.any_moment tells).later; recovered = w.recovered; sure = sure;
+      reading = w.reading;
+      was = w.was;
+      middle = c.recover.new.disk;
+      later = (c.recover.ensures.any_moment tells).later;
+      recovered = w.recovered;
+      sure = sure;
       since = weaker d.moment d.left_since d.held c.recover.new.disk c.log_over.new.disk (ComesBackTo more 0 mid) (ComesBack (start_of old w.reading mid) (scan w.reading ++ more) (length (scan w.reading)))
           (c.log_over.ensures.any_moment tells left) (from_there old mid a w more);
     })
@@ -143,7 +148,12 @@ returns-in-Err-log_over-clause-since g c = λ tells.
     let more = Sample c.in-Some.fetched.result ∷ [] in
     subst (λ (o : Option Fetched). FromRecovery d.held d.moment d.left_since (items_of_run o) c.args.disk.now c.log_over.new.disk) (sym c.in-Some.is)
     (record {
-      reading = w.reading; was = w.was; middle = c.recover.new.disk; later = (c.recover.ensures.any_moment tells).later; recovered = w.recovered; sure = sure;
+      reading = w.reading;
+      was = w.was;
+      middle = c.recover.new.disk;
+      later = (c.recover.ensures.any_moment tells).later;
+      recovered = w.recovered;
+      sure = sure;
       since = weaker d.moment d.left_since d.held c.recover.new.disk c.log_over.new.disk (ComesBackTo more 0 mid) (ComesBack (start_of old w.reading mid) (scan w.reading ++ more) (length (scan w.reading)))
           (c.log_over.ensures.any_moment tells left) (from_there old mid a w more);
     })
@@ -159,7 +169,12 @@ returns-in_default-clause-since g c = λ tells.
     let sure = c.in-Ok.ensures.sure tells in
     subst (λ (o : Option Fetched). FromRecovery d.held d.moment d.left_since (items_of_run o) c.args.disk.now c.recover.new.disk) (sym c.in_default.is)
     (record {
-      reading = w.reading; was = w.was; middle = c.recover.new.disk; later = (c.recover.ensures.any_moment tells).later; recovered = w.recovered; sure = sure;
+      reading = w.reading;
+      was = w.was;
+      middle = c.recover.new.disk;
+      later = (c.recover.ensures.any_moment tells).later;
+      recovered = w.recovered;
+      sure = sure;
       since = no_call d g.met.D.Disk.only_now c.recover.new.disk (ComesBack (start_of old w.reading mid) (scan w.reading ++ []) (length (scan w.reading)))
           (λ image crash. from_there old mid a w [] image (standing_comes held [] image (same_files held sure image crash)));
     })
