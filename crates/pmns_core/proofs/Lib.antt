@@ -1,3 +1,4 @@
+pub mod Apart
 pub mod Bytes
 pub mod Tables
 pub mod Slots

@@ -1,5 +1,5 @@
 -- What becomes of a name space when pairs are added: all of them, or none and the first that doesn't fit.
-use Rattle.std.specs.Prelude.{◌≡◌, ℕ, Bool, if◌then◌else◌, List, [], ◌∷◌, Option, Some, None, Result, Ok, Err}
+use Rattle.std.specs.Prelude.{◌≡◌, ℕ, Bool, true, false, if◌then◌else◌, List, [], ◌∷◌, Option, Some, None, Result, Ok, Err}
 use Rattle.std.specs.List.{list_any}
 use Rattle.pmns_core.specs.Order.{is_same, continues}
 use Rattle.pmns_core.specs.Pairs.{Pair, with_pair}
@@ -17,6 +17,10 @@ is_under pairs name = list_any (λ p. continues name p.0) pairs
 -- one that is there continues the name
 abbrev pub is_above : List Pair → List ℕ → Bool
 is_above pairs name = list_any (λ p. continues p.0 name) pairs
+
+-- no name that is there continues another that is
+abbrev pub AreApart : List Pair → Type 0
+AreApart pairs = (name other : List ℕ) → is_there pairs name ≡ true → is_there pairs other ≡ true → continues name other ≡ false
 
 -- why a name doesn't fit
 abbrev pub misfit : List Pair → List ℕ → Option NamesFault

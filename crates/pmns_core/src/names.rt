@@ -2,7 +2,7 @@
 
 ghost use Rattle.std.specs.Prelude.{◌≡◌, [], IfOk};
 ghost use Rattle.std.specs.Option.{option_copied};
-ghost use Rattle.pmns_core.specs.Adding.{Adds};
+ghost use Rattle.pmns_core.specs.Adding.{Adds, AreApart};
 ghost use Rattle.pmns_core.specs.Below.{below, children_of};
 ghost use Rattle.pmns_core.specs.Pairs.{least_name, pmid_of, IsInOrder};
 
@@ -26,6 +26,7 @@ pub struct Names {
 
 impl Model for Names {
     ghost use Rattle.std.specs.Prelude.{List as Sequence};
+    ghost use Rattle.pmns_core.specs.Adding.{AreApart};
     ghost use Rattle.pmns_core.specs.Pairs.{Pair};
     ghost use Rattle.pmns_core.specs.Tables.{pairs_of, Agree};
 
@@ -33,7 +34,7 @@ impl Model for Names {
 
     ghost view = { λ a. pairs_of a.table };
 
-    ghost invariant = { λ a. Agree a.table a.least };
+    ghost invariant = { λ a. Agree a.table a.least × AreApart (pairs_of a.table) };
 }
 
 impl Names {
@@ -49,6 +50,7 @@ impl Names {
 
     /// Adds all pairs or none. For the first pair that doesn't fit, `Duplicate` comes where its name is there
     /// already, and else `LeafAndNode` where it continues a name that is there or one continues it.
+    #[tactic(auto, using(crate::proofs::Apart::stay_apart))]
     pub fn add(&mut self, alloc: Global, pairs: &List<(Text, Pmid)>) -> Result<(), NamesFault>
         ensures { Adds result pairs.now self.old self.new }
     {
@@ -90,6 +92,8 @@ impl Names {
     pub fn traverse(&self, alloc: Global, name: &Text) -> Result<List<(Text, Pmid)>, NoMemory>
         ensures found { IfOk result (λ found. found ≡ below self.now name.now) }
         ensures order { IsInOrder self.now }
+        // No name that is there continues another.
+        ensures apart { AreApart self.now }
     {
         all_below(alloc, &self.table, name)
     }
