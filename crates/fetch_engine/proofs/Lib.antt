@@ -1,4 +1,5 @@
 pub mod Blocks
 pub mod Bounds
+pub mod Found
 pub mod Indexes
 pub mod Steps

@@ -1,4 +1,5 @@
 pub mod Answers
+pub mod Asks
 pub mod Bounds
 pub mod Fetches
 pub mod Indexes

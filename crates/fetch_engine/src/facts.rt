@@ -15,7 +15,7 @@ use std::alloc::Global;
 use std::collections::{BTreeMap, BTreeSet};
 
 /// The instances of a domain, by number and name.
-type Instances = List<(i32, Text)>;
+pub type Instances = List<(i32, Text)>;
 
 /// The type code that describes a kind; an elapsed time is a signed number of 64 bits.
 fn code_of(kind: Kind) -> u32
@@ -29,7 +29,7 @@ fn code_of(kind: Kind) -> u32
 }
 
 /// The description of a metric.
-fn desc_of(cluster: u32, pmid: Pmid, metric: &MetricRow) -> Desc
+pub fn desc_of(cluster: u32, pmid: Pmid, metric: &MetricRow) -> Desc
     requires cluster { cluster < 4096 }
     requires metric { FitsMetric metric.now }
     ensures { result ≡ desc_of cluster pmid metric.now }
@@ -147,7 +147,7 @@ fn domains_of(alloc: Global, metrics: &[(Desc, Text)]) -> Result<BTreeSet<InDom>
 }
 
 /// Instances by number.
-fn by_number(alloc: Global, instances: &[(i32, Text)]) -> Result<BTreeMap<i32, Text>, NoMemory>
+pub fn by_number(alloc: Global, instances: &[(i32, Text)]) -> Result<BTreeMap<i32, Text>, NoMemory>
     ensures { IfOk result (λ table. table.entries ≡ ascending instances.now) }
 {
     let mut table: BTreeMap<i32, Text> = BTreeMap::new(alloc);
@@ -159,7 +159,7 @@ fn by_number(alloc: Global, instances: &[(i32, Text)]) -> Result<BTreeMap<i32, T
 }
 
 /// The instances of a table.
-fn listed(alloc: Global, table: &BTreeMap<i32, Text>) -> Result<Instances, NoMemory>
+pub fn listed(alloc: Global, table: &BTreeMap<i32, Text>) -> Result<Instances, NoMemory>
     ensures { IfOk result (λ list. list ≡ table.now.entries) }
 {
     let mut list = List::empty(alloc);
@@ -169,7 +169,7 @@ fn listed(alloc: Global, table: &BTreeMap<i32, Text>) -> Result<Instances, NoMem
     Ok(list)
 }
 
-fn row_with(rows: &[IndomRow], serial: u32) -> Option<&IndomRow>
+pub fn row_with(rows: &[IndomRow], serial: u32) -> Option<&IndomRow>
     ensures { option_copied result ≡ find (λ row. row.serial == serial) rows.now }
 {
     rows.iter().find(|row| row.serial == serial)

@@ -3,6 +3,7 @@
 //! status -12389 for each of its metrics, and adds no name.
 #![tactic(auto)]
 
+mod asks;
 mod facts;
 mod fetch;
 mod index;
@@ -13,6 +14,7 @@ mod sets;
 mod shot;
 mod values;
 
+pub use asks::{AskFault, description, instances};
 pub use fetch::{FetchFault, Fetched, answer};
 pub use names::{Named, names_of};
 pub use shot::Shot;
