@@ -1,0 +1,11 @@
+pub mod Archives
+pub mod Closing
+pub mod Groups
+pub mod Journals
+pub mod Once
+pub mod PassSteps
+pub mod Regions
+pub mod Runs
+pub mod Slots
+pub mod Steps
+pub mod Summaries

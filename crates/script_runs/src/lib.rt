@@ -1,0 +1,8 @@
+//! What the run of a script makes of its regions and of an archive (pmlogger(1)): a plain fold over its lines, on states of
+//! regions and on whole files, without retries, caches or buffers. Its definitions say what each line writes, which results
+//! are logged, how the run ends, and which entries its passes made.
+#![tactic(auto)]
+
+mod ending;
+
+pub use ending::{Ending, LimitKind};
