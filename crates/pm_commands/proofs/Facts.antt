@@ -25,6 +25,7 @@ use Rattle.pm_tasks.specs.Meanings.{meaning}
 use Rattle.pm_tasks.specs.Refusals.{status_of, reading_status, input_status, files_status, result_status}
 use Rattle.pm_tasks.specs.Sides.{SourceSide, SinkSide, DiskSide, found, Untouched}
 use Rattle.pm_commands.proofs.Lookings.{one_reason, wrapped_first}
+use Rattle.pm_commands.proofs.Nothing.{never_done, nothing_first}
 
 module _ (words : List (List ℕ)) (s : SourceSide) (k : SinkSide) (d : DiskSide) where
   -- a refusal that has this cause
@@ -207,6 +208,9 @@ module _ (words : List (List ℕ)) (s : SourceSide) (k : SinkSide) (d : DiskSide
   not_welcome text run b e never tells turned =
       run.served.welcome tells e never (turned_here run.asks b e turned)
 
+  not_done : (text : List ℕ) → HasRun words s d text → (b : Meets words s) (stamp : Moment) → d.tells → (meaning b.command).turns_away b.input (found d) (Nothing stamp) → ⊥
+  not_done text run b stamp tells turned = never_done run.asks.command run.asks.input d text run.served tells stamp (turned_here run.asks b (Nothing stamp) turned)
+
   read_low : (e : ReadRefusal) → reading_status e ≤ 7
   read_low ReadFault = omega arith
   read_low InputLimit = omega arith
@@ -275,7 +279,12 @@ module _ (words : List (List ℕ)) (s : SourceSide) (k : SinkSide) (d : DiskSide
   nothing_only e c h = let x = of_files e 11 (omega arith) c h in nothing_files x.0 x.1 x.2
 
   pub nothing_is_there : (status : ℕ) → Ends words s k d status → NothingIsThere words s d status
-  nothing_is_there status ends = by_end status (λ n. n ≡ 11 → (stamp : Moment) × TurnsAway words s d (Nothing stamp)) ends (λ done h. cc) (λ untold h. cc) nothing_only
+  nothing_is_there status ends = record {
+    only = by_end status (λ n. n ≡ 11 → (stamp : Moment) × TurnsAway words s d (Nothing stamp)) ends (λ done h. cc) (λ untold h. cc) nothing_only;
+    always = by_end status (λ n. (b : Meets words s) → refused_of b ≡ None → d.tells → (stamp : Moment) → (meaning b.command).turns_away b.input (found d) (Nothing stamp) → (n ≡ 11) ⊎ ((n ≡ 9) ⊎ ((n ≡ 3) ⊎ (n ≡ 5)))) ends
+        (λ done b good tells stamp turned. absurd (not_done done.text done.run b stamp tells turned)) (λ untold b good tells stamp turned. absurd (not_done untold.text untold.run b stamp tells turned))
+        (λ e c b good tells stamp turned. turned_found 11 b good (λ a x also. nothing_first a.command a.input (found d) stamp x (turned_here a b (Nothing stamp) turned) (also tells)) e c);
+  }
 
   archive_only : (e : Refusal) → Caused e → status_of e ≡ 6 → (x : FilesRefusal) × (files_status x ≡ 6) × TurnsAway words s d x
   archive_only (Disk (FilesAway e)) c h = (e, h, turned_away e c)

@@ -1,4 +1,5 @@
+pub mod Facts
 pub mod Lookings
 pub mod Memory
-pub mod Facts
+pub mod Nothing
 pub mod Welcome

@@ -43,7 +43,7 @@ no_fault f reading reads r loaded file place why =
 good_values : (f : Found) (reading : ArchiveReading) → Reads f.files reading → (r : Loaded) → IsLoaded f r → (asked : ValueWords) (e : FilesRefusal) → value.IsStopped asked r f e → files_status e ≡ 11
 good_values f reading reads r loaded asked (Unlogged reason) why = absurd why
 good_values f reading reads r loaded asked (Compressed file) why = absurd why
-good_values f reading reads r loaded asked (NotArchive file place) why = absurd (no_fault f reading reads r loaded file place why)
+good_values f reading reads r loaded asked (NotArchive file place) why = absurd (no_fault f reading reads r loaded file place why.2)
 good_values f reading reads r loaded asked (Nothing stamp) why = refl
 
 pub welcomes : (f : Found) → Readable f.files → f.wrapped ≡ None → IsWelcome f

@@ -82,9 +82,11 @@ pub record ArchiveFaultIsExact (words : List (List ℕ)) (s : SourceSide) (d : D
   pub always : (a : Meets words s) → refused_of a ≡ None → d.tells → (file : FileId) → (meaning a.command).turns_away a.input (found d) (Compressed file)
       → (status ≡ 6) ⊎ ((status ≡ 9) ⊎ ((status ≡ 3) ⊎ (status ≡ 5)))
 
--- 11 only where nothing that was asked for is there
-abbrev pub NothingIsThere : List (List ℕ) → SourceSide → DiskSide → ℕ → Type 0
-NothingIsThere words s d status = status ≡ 11 → (stamp : Moment) × TurnsAway words s d (Nothing stamp)
+-- 11 exactly where nothing that was asked for is there; a disk that fails comes before
+pub record NothingIsThere (words : List (List ℕ)) (s : SourceSide) (d : DiskSide) (status : ℕ) : Type 0 where
+  pub only : status ≡ 11 → (stamp : Moment) × TurnsAway words s d (Nothing stamp)
+  pub always : (a : Meets words s) → refused_of a ≡ None → d.tells → (stamp : Moment) → (meaning a.command).turns_away a.input (found d) (Nothing stamp)
+      → (status ≡ 11) ⊎ ((status ≡ 9) ⊎ ((status ≡ 3) ⊎ (status ≡ 5)))
 
 -- it was refused, so that it wasn't done
 abbrev pub IsRefused : ℕ → Type 0

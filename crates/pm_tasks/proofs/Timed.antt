@@ -42,7 +42,7 @@ range_unwrapped files volumes to (Outside n offset) file why = why
 pub of_named : (asked : ValueWords) (pmid : ℕ) (r : Loaded) → value.named r.records asked.name ≡ Some pmid → (f : Found) (e : FilesRefusal) → value.HasNoValue pmid asked.stamp r f e → value.IsStopped asked r f e
 of_named asked pmid r is f (Unlogged reason) why = why
 of_named asked pmid r is f (Compressed file) why = why
-of_named asked pmid r is f (NotArchive file place) why = why
+of_named asked pmid r is f (NotArchive file place) why = (pmid, is, why)
 of_named asked pmid r is f (Nothing stamp) why = (why.0, subst (value.HasNothing f r asked.stamp) (sym is) (why.1, why.2))
 
 -- its text

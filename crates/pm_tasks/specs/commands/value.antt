@@ -49,9 +49,9 @@ abbrev pub HasNothing : Found → Loaded → Moment → Option ℕ → Type 0
 HasNothing found r t None = Unit {0}
 HasNothing found r t (Some pmid) = IsValueAt found.files r.volumes pmid t None × OverReadable found (λ items. value_at pmid t items ≡ None)
 
--- where no values are found: a record is no item's, or there are none
+-- where no values are found: no metric has the name; or, of the one that has it, a record is no item's, or there are none
 abbrev pub IsStopped : ValueWords → Loaded → Found → FilesRefusal → Type 0
-IsStopped asked r found (NotArchive file place) = IsWholeFault found.files r.volumes (faults.NotArchive file place)
+IsStopped asked r found (NotArchive file place) = (pmid : ℕ) × (named r.records asked.name ≡ Some pmid) × IsWholeFault found.files r.volumes (faults.NotArchive file place)
 IsStopped asked r found (Nothing stamp) = (stamp ≡ asked.stamp) × HasNothing found r asked.stamp (named r.records asked.name)
 IsStopped asked r found (Compressed file) = ⊥
 IsStopped asked r found (Unlogged reason) = ⊥
