@@ -27,6 +27,44 @@ use Rattle.pm_tasks.specs.Sides.{SourceSide, SinkSide, DiskSide, found, Untouche
 use Rattle.pm_commands.proofs.Lookings.{one_reason, wrapped_first}
 use Rattle.pm_commands.proofs.Nothing.{never_done, nothing_first}
 
+-- ---- which refusal of files has a status
+
+not_later_reason : (r : ResultRefusal) → result_status r ≡ 12 → (last : Moment) × (r ≡ NotLater last)
+not_later_reason (Large bytes) h = cc
+not_later_reason (NotLater last) h = (last, refl)
+not_later_reason (Changed pmid) h = cc
+not_later_reason (Full file bytes) h = cc
+
+changed_reason : (r : ResultRefusal) → result_status r ≡ 13 → (pmid : ℕ) × (r ≡ Changed pmid)
+changed_reason (Large bytes) h = cc
+changed_reason (NotLater last) h = cc
+changed_reason (Changed pmid) h = (pmid, refl)
+changed_reason (Full file bytes) h = cc
+
+no_reason : (r : ResultRefusal) → result_status r ≡ 11 → ⊥
+no_reason (Large bytes) h = cc
+no_reason (NotLater last) h = cc
+no_reason (Changed pmid) h = cc
+no_reason (Full file bytes) h = cc
+
+is_not_later : (x : FilesRefusal) → files_status x ≡ 12 → (last : Moment) × (x ≡ Unlogged (NotLater last))
+is_not_later (Unlogged reason) h = let r = not_later_reason reason h in (r.0, ap (λ (why : ResultRefusal). Unlogged why) r.1)
+is_not_later (Compressed file) h = cc
+is_not_later (NotArchive file at) h = cc
+is_not_later (Nothing stamp) h = cc
+
+is_changed : (x : FilesRefusal) → files_status x ≡ 13 → (pmid : ℕ) × (x ≡ Unlogged (Changed pmid))
+is_changed (Unlogged reason) h = let r = changed_reason reason h in (r.0, ap (λ (why : ResultRefusal). Unlogged why) r.1)
+is_changed (Compressed file) h = cc
+is_changed (NotArchive file at) h = cc
+is_changed (Nothing stamp) h = cc
+
+is_nothing : (x : FilesRefusal) → files_status x ≡ 11 → (stamp : Moment) × (x ≡ Nothing stamp)
+is_nothing (Unlogged reason) h = absurd (no_reason reason h)
+is_nothing (Compressed file) h = cc
+is_nothing (NotArchive file at) h = cc
+is_nothing (Nothing stamp) h = (stamp, refl)
+
 module _ (words : List (List ℕ)) (s : SourceSide) (k : SinkSide) (d : DiskSide) where
   -- a refusal that has this cause
   abbrev Caused : Refusal → Type 0
@@ -224,35 +262,17 @@ module _ (words : List (List ℕ)) (s : SourceSide) (k : SinkSide) (d : DiskSide
   of_files (Disk DiskFault) n high c h = absurd (omega (arith, high, h))
   of_files NoMemory n high c h = absurd (omega (arith, high, h))
 
-  not_later_files : (x : FilesRefusal) → files_status x ≡ 12 → TurnsAway words s d x → (last : Moment) × TurnsAway words s d (Unlogged (NotLater last))
-  not_later_files (Unlogged reason) h away = by reason h away
-    where
-      by : (r : ResultRefusal) → result_status r ≡ 12 → TurnsAway words s d (Unlogged r) → (last : Moment) × TurnsAway words s d (Unlogged (NotLater last))
-      by (Large bytes) h away = cc
-      by (NotLater last) h away = (last, away)
-      by (Changed pmid) h away = cc
-      by (Full file bytes) h away = cc
-  not_later_files (Compressed file) h away = cc
-  not_later_files (NotArchive file at) h away = cc
-  not_later_files (Nothing stamp) h away = cc
-
-  changed_files : (x : FilesRefusal) → files_status x ≡ 13 → TurnsAway words s d x → (pmid : ℕ) × TurnsAway words s d (Unlogged (Changed pmid))
-  changed_files (Unlogged reason) h away = by reason h away
-    where
-      by : (r : ResultRefusal) → result_status r ≡ 13 → TurnsAway words s d (Unlogged r) → (pmid : ℕ) × TurnsAway words s d (Unlogged (Changed pmid))
-      by (Large bytes) h away = cc
-      by (NotLater last) h away = cc
-      by (Changed pmid) h away = (pmid, away)
-      by (Full file bytes) h away = cc
-  changed_files (Compressed file) h away = cc
-  changed_files (NotArchive file at) h away = cc
-  changed_files (Nothing stamp) h away = cc
-
   not_later_only : (e : Refusal) → Caused e → status_of e ≡ 12 → (last : Moment) × TurnsAway words s d (Unlogged (NotLater last))
-  not_later_only e c h = let x = of_files e 12 (omega arith) c h in not_later_files x.0 x.1 x.2
+  not_later_only e c h =
+      let x = of_files e 12 (omega arith) c h in
+      let is = is_not_later x.0 x.1 in
+      (is.0, subst (λ (y : FilesRefusal). TurnsAway words s d y) is.1 x.2)
 
   changed_only : (e : Refusal) → Caused e → status_of e ≡ 13 → (pmid : ℕ) × TurnsAway words s d (Unlogged (Changed pmid))
-  changed_only e c h = let x = of_files e 13 (omega arith) c h in changed_files x.0 x.1 x.2
+  changed_only e c h =
+      let x = of_files e 13 (omega arith) c h in
+      let is = is_changed x.0 x.1 in
+      (is.0, subst (λ (y : FilesRefusal). TurnsAway words s d y) is.1 x.2)
 
   pub unlogged_is_exact : (status : ℕ) → Ends words s k d status → UnloggedIsExact words s d status
   unlogged_is_exact status ends = record {
@@ -263,20 +283,11 @@ module _ (words : List (List ℕ)) (s : SourceSide) (k : SinkSide) (d : DiskSide
         (λ e c b good tells reason turned. turned_found (result_status reason) b good (λ a x also. one_reason a.command a.input (found d) reason x (turned_here a b (Unlogged reason) turned) (also tells)) e c);
   }
 
-  not_eleven : (r : ResultRefusal) → result_status r ≡ 11 → ⊥
-  not_eleven (Large bytes) h = cc
-  not_eleven (NotLater last) h = cc
-  not_eleven (Changed pmid) h = cc
-  not_eleven (Full file bytes) h = cc
-
-  nothing_files : (x : FilesRefusal) → files_status x ≡ 11 → TurnsAway words s d x → (stamp : Moment) × TurnsAway words s d (Nothing stamp)
-  nothing_files (Unlogged reason) h away = absurd (not_eleven reason h)
-  nothing_files (Compressed file) h away = cc
-  nothing_files (NotArchive file at) h away = cc
-  nothing_files (Nothing stamp) h away = (stamp, away)
-
   nothing_only : (e : Refusal) → Caused e → status_of e ≡ 11 → (stamp : Moment) × TurnsAway words s d (Nothing stamp)
-  nothing_only e c h = let x = of_files e 11 (omega arith) c h in nothing_files x.0 x.1 x.2
+  nothing_only e c h =
+      let x = of_files e 11 (omega arith) c h in
+      let is = is_nothing x.0 x.1 in
+      (is.0, subst (λ (y : FilesRefusal). TurnsAway words s d y) is.1 x.2)
 
   pub nothing_is_there : (status : ℕ) → Ends words s k d status → NothingIsThere words s d status
   nothing_is_there status ends = record {
