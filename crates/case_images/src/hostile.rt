@@ -1,4 +1,5 @@
 //! Images that are changed at random: each is an image still, or has a named fault that lies in it.
+use byteorder::{ByteOrder, LittleEndian};
 use mmv_layout::{Image, ImageFault};
 use pcp_base::NoMemory;
 use std::alloc::Global;
@@ -93,12 +94,9 @@ fn next(seed: u64) -> u64 {
 
 // Puts a word at an index.
 fn put_word(bytes: &mut [u8], index: usize, word: u64) {
-    let mut at = index.saturating_mul(8);
-    for byte in &word.to_le_bytes() {
-        if let Some(place) = bytes.get_mut(at) {
-            *place = *byte;
-        }
-        at = at.saturating_add(1);
+    let at = index.saturating_mul(8);
+    if let Some(place) = bytes.get_mut(at..at.saturating_add(8)) {
+        LittleEndian::write_u64(place, word);
     }
 }
 
@@ -123,7 +121,9 @@ fn add_words(alloc: Global, input: &[u8], seed: u64) -> Result<Vec<u8>, NoMemory
     for _ in 0..seed % 64 {
         random = next(random);
         let word = random >> (random % 64) as u32;
-        bytes.extend_from_slice(&word.to_le_bytes())?;
+        let mut eight = [0; 8];
+        LittleEndian::write_u64(&mut eight, word);
+        bytes.extend_from_slice(&eight)?;
     }
     Ok(bytes)
 }
