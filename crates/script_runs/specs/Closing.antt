@@ -1,5 +1,5 @@
 -- How regions are left when a run ends, whatever ends it: open changes are finished, stints detached and readings ended.
-use Rattle.std.specs.Prelude.{ℕ, zero, suc, ◌+◌, List, [], ◌∷◌, length, map}
+use Rattle.std.specs.Prelude.{ℕ, zero, suc, ◌+◌, List, length, map}
 use Rattle.script_runs.specs.Regions.{Doing, ScriptRegion, doing_of}
 use Rattle.script_runs.specs.PassSteps.{detach, finish, end_reading}
 

@@ -1,13 +1,11 @@
 -- What the groups of a configuration ask for at a tick (pmlogger(1)). A group keeps the metrics that it has asked for, in the
 -- order in which they were first found.
-use Rattle.std.specs.Prelude.{◌≡◌, ℕ, ◌==◌, ◌+◌, Bool, true, false, nat_le, nat_lt, if◌then◌else◌, List, [], ◌∷◌, ◌++◌, map, fold, flat_map, Option, Some, None}
+use Rattle.std.specs.Prelude.{ℕ, ◌==◌, ◌+◌, Bool, false, nat_le, nat_lt, if◌then◌else◌, List, [], ◌∷◌, ◌++◌, map, fold, flat_map, Option, Some, None}
 use Rattle.std.specs.List.{list_any}
 use Rattle.pcp_base.specs.Time.{Moment, microseconds}
-use Rattle.mmv_format.specs.declared.rows.Layout.{Layout}
 use Rattle.pmns_core.specs.Pairs.{Pair}
 use Rattle.pmns_core.specs.Below.{below}
 use Rattle.fetch_engine.specs.declared.shot.Shot.{Shot}
-use Rattle.fetch_engine.specs.Names.{names_of}
 use Rattle.log_schedule.specs.declared.config.Group.{Group}
 use Rattle.log_schedule.specs.Instants.{Timetable, timetable_from}
 use Rattle.region_core.specs.State.{g1, g2}

@@ -9,3 +9,4 @@ pub mod Runs
 pub mod Slots
 pub mod Steps
 pub mod Summaries
+pub mod Worked

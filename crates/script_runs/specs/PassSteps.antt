@@ -1,5 +1,5 @@
 -- What a step makes of its region, and the line that it writes. A step whose condition fails makes nothing.
-use Rattle.std.specs.Prelude.{ℕ, ℤ, ◌+◌, ◌-◌, ◌^◌, ◌==◌, Bool, nat_lt, max, if◌then◌else◌, List, [], ◌∷◌, ◌++◌, length, codes, slice_index, Option, Some, None}
+use Rattle.std.specs.Prelude.{ℕ, ℤ, ◌+◌, ◌-◌, ◌^◌, ◌==◌, nat_lt, max, if◌then◌else◌, List, [], ◌∷◌, ◌++◌, length, codes, slice_index, Option, Some, None}
 use Rattle.text_lines.specs.Spelling.{number_part}
 use Rattle.region_core.specs.declared.act.Act.{Act}
 use Rattle.region_core.specs.declared.act.Act.TheVariants.{Load, Enter, Leave, Take, Begin, Put, End, Free}

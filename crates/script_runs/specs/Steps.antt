@@ -18,7 +18,7 @@ use Rattle.run_script.specs.declared.script.Script.{Script}
 use Rattle.script_runs.specs.declared.ending.Ending.{Ending}
 use Rattle.script_runs.specs.declared.ending.Ending.TheVariants as ends
 use Rattle.script_runs.specs.declared.ending.LimitKind.TheVariants as kinds
-use Rattle.script_runs.specs.Regions.{Doing, ScriptRegion, doing_of, words_at, made_regions}
+use Rattle.script_runs.specs.Regions.{Doing, ScriptRegion, doing_of, words_at}
 use Rattle.script_runs.specs.PassSteps as steps
 use Rattle.script_runs.specs.PassSteps.{Outcome, one_number}
 use Rattle.script_runs.specs.Groups.{Plan, shots_of, started, asking, asked_for}
@@ -60,14 +60,14 @@ pass_step script regions (lines.Done at k) = in_region regions at k steps.ends
 pass_step script regions (lines.Tick stamp) = Some (regions, [])
 pass_step script regions lines.Flush = Some (regions, [])
 
--- the regions behind steps, as far as ticks and flushes don't matter
-abbrev pub then_steps : Option Regions → (List ScriptRegion → Option (List ScriptRegion)) → Option (List ScriptRegion)
-then_steps None next = None
-then_steps (Some found) next = next found.0
+-- the regions behind steps, as far as ticks and flushes don't matter, and the lines that they write
+abbrev pub then_steps : List ℕ → Option Regions → (Regions → Option Regions) → Option Regions
+then_steps output None next = None
+then_steps output (Some found) next = next (found.0, output ++ found.1)
 
-abbrev pub regions_behind : Script → List (ℕ × Line) → List ScriptRegion → Option (List ScriptRegion)
-regions_behind script [] regions = Some regions
-regions_behind script (step ∷ steps) regions = then_steps (pass_step script regions step.1) (λ later. regions_behind script steps later)
+abbrev pub steps_behind : Script → List (ℕ × Line) → Regions → Option Regions
+steps_behind script [] found = Some found
+steps_behind script (step ∷ steps) found = then_steps found.1 (pass_step script found.0 step.1) (λ later. steps_behind script steps later)
 
 pub record PassGoes (script : Script) (s : RunState) (line : Line) (t : RunState) : Type 0 where
   pub found : Regions

@@ -4,5 +4,7 @@
 #![tactic(auto)]
 
 mod ending;
+mod laws;
 
 pub use ending::{Ending, LimitKind};
+pub use laws::worked_scripts;
