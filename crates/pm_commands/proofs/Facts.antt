@@ -29,17 +29,44 @@ use Rattle.pm_commands.proofs.Nothing.{never_done, nothing_first}
 
 -- ---- which refusal of files has a status
 
+seven_twelve : ◌≡◌ {A = ℕ} 7 12 → ⊥
+seven_twelve h = cc
+
+thirteen_twelve : ◌≡◌ {A = ℕ} 13 12 → ⊥
+thirteen_twelve h = cc
+
+seven_thirteen : ◌≡◌ {A = ℕ} 7 13 → ⊥
+seven_thirteen h = cc
+
+twelve_thirteen : ◌≡◌ {A = ℕ} 12 13 → ⊥
+twelve_thirteen h = cc
+
+six_twelve : ◌≡◌ {A = ℕ} 6 12 → ⊥
+six_twelve h = cc
+
+eleven_twelve : ◌≡◌ {A = ℕ} 11 12 → ⊥
+eleven_twelve h = cc
+
+six_thirteen : ◌≡◌ {A = ℕ} 6 13 → ⊥
+six_thirteen h = cc
+
+eleven_thirteen : ◌≡◌ {A = ℕ} 11 13 → ⊥
+eleven_thirteen h = cc
+
+six_eleven : ◌≡◌ {A = ℕ} 6 11 → ⊥
+six_eleven h = cc
+
 not_later_reason : (r : ResultRefusal) → result_status r ≡ 12 → (last : Moment) × (r ≡ NotLater last)
-not_later_reason (Large bytes) h = cc
+not_later_reason (Large bytes) h = absurd (seven_twelve h)
 not_later_reason (NotLater last) h = (last, refl)
-not_later_reason (Changed pmid) h = cc
-not_later_reason (Full file bytes) h = cc
+not_later_reason (Changed pmid) h = absurd (thirteen_twelve h)
+not_later_reason (Full file bytes) h = absurd (seven_twelve h)
 
 changed_reason : (r : ResultRefusal) → result_status r ≡ 13 → (pmid : ℕ) × (r ≡ Changed pmid)
-changed_reason (Large bytes) h = cc
-changed_reason (NotLater last) h = cc
+changed_reason (Large bytes) h = absurd (seven_thirteen h)
+changed_reason (NotLater last) h = absurd (twelve_thirteen h)
 changed_reason (Changed pmid) h = (pmid, refl)
-changed_reason (Full file bytes) h = cc
+changed_reason (Full file bytes) h = absurd (seven_thirteen h)
 
 no_reason : (r : ResultRefusal) → result_status r ≡ 11 → ⊥
 no_reason (Large bytes) h = cc
@@ -49,20 +76,20 @@ no_reason (Full file bytes) h = cc
 
 is_not_later : (x : FilesRefusal) → files_status x ≡ 12 → (last : Moment) × (x ≡ Unlogged (NotLater last))
 is_not_later (Unlogged reason) h = let r = not_later_reason reason h in (r.0, ap (λ (why : ResultRefusal). Unlogged why) r.1)
-is_not_later (Compressed file) h = cc
-is_not_later (NotArchive file at) h = cc
-is_not_later (Nothing stamp) h = cc
+is_not_later (Compressed file) h = absurd (six_twelve h)
+is_not_later (NotArchive file at) h = absurd (six_twelve h)
+is_not_later (Nothing stamp) h = absurd (eleven_twelve h)
 
 is_changed : (x : FilesRefusal) → files_status x ≡ 13 → (pmid : ℕ) × (x ≡ Unlogged (Changed pmid))
 is_changed (Unlogged reason) h = let r = changed_reason reason h in (r.0, ap (λ (why : ResultRefusal). Unlogged why) r.1)
-is_changed (Compressed file) h = cc
-is_changed (NotArchive file at) h = cc
-is_changed (Nothing stamp) h = cc
+is_changed (Compressed file) h = absurd (six_thirteen h)
+is_changed (NotArchive file at) h = absurd (six_thirteen h)
+is_changed (Nothing stamp) h = absurd (eleven_thirteen h)
 
 is_nothing : (x : FilesRefusal) → files_status x ≡ 11 → (stamp : Moment) × (x ≡ Nothing stamp)
 is_nothing (Unlogged reason) h = absurd (no_reason reason h)
-is_nothing (Compressed file) h = cc
-is_nothing (NotArchive file at) h = cc
+is_nothing (Compressed file) h = absurd (six_eleven h)
+is_nothing (NotArchive file at) h = absurd (six_eleven h)
 is_nothing (Nothing stamp) h = (stamp, refl)
 
 module _ (words : List (List ℕ)) (s : SourceSide) (k : SinkSide) (d : DiskSide) where
@@ -246,8 +273,8 @@ module _ (words : List (List ℕ)) (s : SourceSide) (k : SinkSide) (d : DiskSide
   not_welcome text run b e never tells turned =
       run.served.welcome tells e never (turned_here run.asks b e turned)
 
-  not_done : (text : List ℕ) → HasRun words s d text → (b : Meets words s) (stamp : Moment) → d.tells → (meaning b.command).turns_away b.input (found d) (Nothing stamp) → ⊥
-  not_done text run b stamp tells turned = never_done run.asks.command run.asks.input d text run.served tells stamp (turned_here run.asks b (Nothing stamp) turned)
+  not_nothing : (text : List ℕ) → HasRun words s d text → (b : Meets words s) (stamp : Moment) → d.tells → (meaning b.command).turns_away b.input (found d) (Nothing stamp) → ⊥
+  not_nothing text run b stamp tells turned = never_done run.asks.command run.asks.input d text run.served tells stamp (turned_here run.asks b (Nothing stamp) turned)
 
   read_low : (e : ReadRefusal) → reading_status e ≤ 7
   read_low ReadFault = omega arith
@@ -293,7 +320,7 @@ module _ (words : List (List ℕ)) (s : SourceSide) (k : SinkSide) (d : DiskSide
   nothing_is_there status ends = record {
     only = by_end status (λ n. n ≡ 11 → (stamp : Moment) × TurnsAway words s d (Nothing stamp)) ends (λ done h. cc) (λ untold h. cc) nothing_only;
     always = by_end status (λ n. (b : Meets words s) → refused_of b ≡ None → d.tells → (stamp : Moment) → (meaning b.command).turns_away b.input (found d) (Nothing stamp) → (n ≡ 11) ⊎ ((n ≡ 9) ⊎ ((n ≡ 3) ⊎ (n ≡ 5)))) ends
-        (λ done b good tells stamp turned. absurd (not_done done.text done.run b stamp tells turned)) (λ untold b good tells stamp turned. absurd (not_done untold.text untold.run b stamp tells turned))
+        (λ done b good tells stamp turned. absurd (not_nothing done.text done.run b stamp tells turned)) (λ untold b good tells stamp turned. absurd (not_nothing untold.text untold.run b stamp tells turned))
         (λ e c b good tells stamp turned. turned_found 11 b good (λ a x also. nothing_first a.command a.input (found d) stamp x (turned_here a b (Nothing stamp) turned) (also tells)) e c);
   }
 

@@ -41,7 +41,7 @@ one_load f r s a b = (load_answers_once f.files).kept s r b.over a.over
 
 -- ---- the last item not after a moment
 
-no_item : Found → Moment → Loaded → Type 0
+abbrev no_item : Found → Moment → Loaded → Type 0
 no_item f t r = IsAtFrom f.files r.volumes t (at_begin r t) None
 
 at_else : (t : Moment) (f : Found) (r : Loaded) → no_item f t r → (e : FilesRefusal) → at.IsStopped t r f e → files_status e ≡ 11
