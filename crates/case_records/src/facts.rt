@@ -15,6 +15,13 @@ pub fn desc_of(words: &mut Words<'_>) -> Option<Desc> {
     })
 }
 
+// A name, or `TEXT*COUNT` for a text so many times.
+fn name_of(alloc: Global, word: &str) -> Result<Text, NoMemory> {
+    let (text, count) = word.split_once('*').unwrap_or((word, "1"));
+    let count = count.parse::<usize>().unwrap_or(1);
+    text_of(alloc, text.repeat(alloc, count)?.as_str())
+}
+
 // Whether one more instance was named, `NUMBER NAME`.
 fn push_instance(
     alloc: Global,
@@ -24,7 +31,7 @@ fn push_instance(
     let Some(number) = words.signed() else {
         return Ok(false);
     };
-    pairs.push((number, text_of(alloc, words.next())?))?;
+    pairs.push((number, name_of(alloc, words.next())?))?;
     Ok(true)
 }
 
@@ -43,7 +50,7 @@ fn facts_of(alloc: Global, desc: Desc, words: &mut Words<'_>) -> Result<Facts, N
     let mut metrics = List::empty(alloc);
     let mut domains = List::empty(alloc);
     let indom = desc.indom;
-    metrics.push((desc, text_of(alloc, words.next())?))?;
+    metrics.push((desc, name_of(alloc, words.next())?))?;
     let pairs = pairs_of(alloc, words)?;
     if pairs.len() > 0 {
         domains.push((indom, pairs))?;
@@ -81,7 +88,7 @@ fn tell_fit(alloc: Global, told: Result<(), Changed>) -> Result<Vec<u8>, NoMemor
 }
 
 /// `meta fit PMID CODE DOMAIN SEMANTICS UNITS SEC USEC NAME NUMBER NAME ..` and `meta records_for` with the same words: the
-/// result of one metric at a moment, and its facts.
+/// result of one metric at a moment, and its facts. A name may be `TEXT*COUNT`, a text so many times.
 pub fn tell_needs(
     alloc: Global,
     state: &MetaState,

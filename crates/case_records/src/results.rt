@@ -2,6 +2,7 @@
 use crate::items::{write_item, write_result};
 use archive_volume::{decode_item, encode_item, encode_sample, put_mark, put_sample};
 use pcp_base::{Body, Duplicate, Item, NoMemory, PmResult, Stamp};
+use pcp_model::put_word;
 use result_form::{FormFault, decode, encode, fits, length, put_payload};
 use std::alloc::Global;
 
@@ -145,17 +146,16 @@ fn frame_again(alloc: Global, payload: &[u8]) -> Result<Option<Vec<u8>>, NoMemor
 fn many_pairs(alloc: Global, count: u32) -> Result<Vec<u8>, NoMemory> {
     let mut payload = Vec::new(alloc);
     for word in [100, 0, 1, 0x1180_0403, count, 1] {
-        payload.extend_from_slice(&u32::to_be_bytes(word))?;
+        put_word(&mut payload, word)?;
     }
     let first = count.saturating_mul(2).saturating_add(9);
     for pair in 0..count {
-        let place = first.saturating_add(pair.saturating_mul(2));
-        payload.extend_from_slice(&pair.to_be_bytes())?;
-        payload.extend_from_slice(&place.to_be_bytes())?;
+        put_word(&mut payload, pair)?;
+        put_word(&mut payload, first.saturating_add(pair.saturating_mul(2)))?;
     }
     for pair in 0..count {
-        payload.extend_from_slice(&0x0100_0008_u32.to_be_bytes())?;
-        payload.extend_from_slice(&pair.to_be_bytes())?;
+        put_word(&mut payload, 0x0100_0008)?;
+        put_word(&mut payload, pair)?;
     }
     Ok(payload)
 }
