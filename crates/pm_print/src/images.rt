@@ -1,8 +1,10 @@
 //! An image as its layout text and as its bytes.
 ghost use Rattle.std.specs.Prelude.{◌≡◌, ◌++◌, IfOk, OnOk};
+ghost use Rattle.std.specs.Int.{w64, to_le_bytes};
 ghost use Rattle.pm_print.specs.Bytes.{bytes_of};
 ghost use Rattle.pm_print.specs.Dumps.{dump_of};
 
+use byteorder::{ByteOrder, LittleEndian};
 use layout_text::layout_text;
 use mmv_layout::Image;
 use pcp_base::{Bytes, List, NoMemory};
@@ -19,6 +21,15 @@ pub fn image_text(alloc: Global, image: &Image) -> Result<Bytes, NoMemory>
     Ok(text)
 }
 
+// Adds the bytes of a word, the low byte first.
+fn put_word(bytes: &mut Vec<u8>, word: u64) -> Result<(), AllocError>
+    ensures { OnOk result (bytes.new.items ≡ bytes.old.items ++ to_le_bytes w64 word) }
+{
+    let mut eight = [0; 8];
+    LittleEndian::write_u64(&mut eight, word);
+    bytes.extend_from_slice(&eight)
+}
+
 // The bytes of words, the low byte of each first.
 #[tactic(auto, unfolding(crate::specs::Bytes::bytes_of))]
 fn bytes_of(alloc: Global, words: &[u64]) -> Result<Vec<u8>, AllocError>
@@ -26,7 +37,7 @@ fn bytes_of(alloc: Global, words: &[u64]) -> Result<Vec<u8>, AllocError>
 {
     let mut bytes = Vec::new(alloc);
     for word in words {
-        bytes.extend_from_slice(&word.to_le_bytes())?;
+        put_word(&mut bytes, *word)?;
     }
     Ok(bytes)
 }

@@ -1,9 +1,11 @@
 //! A value by the type code of its metric's description, if it has one.
 ghost use Rattle.std.specs.Prelude.{◌≡◌, ◌++◌, Some, None, decimal, OnOk, MatchOption};
 ghost use Rattle.std.specs.Fmt.{signed_decimal};
+ghost use Rattle.std.specs.Int.{w32, to_be_bytes};
 ghost use Rattle.pm_print.specs.Values.{hex_bytes, raw_text, before_zero, quoted_or, number_in, signed_or, number_or, word_text, block_text};
 ghost use Rattle.text_lines.specs.Spelling.{quoted_text};
 
+use byteorder::{BigEndian, ByteOrder};
 use itoa::Buffer;
 use memchr::memchr;
 use pcp_base::{NoMemory, be64};
@@ -83,6 +85,15 @@ fn put_ended(out: &mut Vec<u8>, bytes: &[u8]) -> Result<(), NoMemory>
     }
 }
 
+// The bytes of a word.
+fn put_raw_word(out: &mut Vec<u8>, word: u32) -> Result<(), NoMemory>
+    ensures { OnOk result (out.new.items ≡ out.old.items ++ raw_text (to_be_bytes w32 word)) }
+{
+    let mut bytes = [0; 4];
+    BigEndian::write_u32(&mut bytes, word);
+    put_raw(out, &bytes)
+}
+
 /// A value of 32 bits in its set.
 #[tactic(auto, unfolding(crate::specs::Values::word_text))]
 pub fn put_word(out: &mut Vec<u8>, code: Option<u32>, word: u32) -> Result<(), NoMemory>
@@ -91,7 +102,7 @@ pub fn put_word(out: &mut Vec<u8>, code: Option<u32>, word: u32) -> Result<(), N
     match code {
         Some(0) => put_signed(out, word.cast_signed() as i64),
         Some(1) => put_decimal(out, word as u64),
-        _ => put_raw(out, &word.to_be_bytes()),
+        _ => put_raw_word(out, word),
     }
 }
 
