@@ -5,4 +5,6 @@ pub mod Fetches
 pub mod Indexes
 pub mod Names
 pub mod Readings
+pub mod Servers
 pub mod Values
+pub mod Visits

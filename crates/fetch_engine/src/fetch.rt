@@ -16,7 +16,7 @@ use std::alloc::Global;
 use thiserror::Error;
 
 /// How many metrics a fetch may ask for.
-const LIMIT: usize = 1024;
+pub(crate) const LIMIT: usize = 1024;
 
 /// What a fetch answered, and what describes it.
 #[derive(Drop)]

@@ -1,0 +1,126 @@
+-- What reading regions tells: of each the layout that it showed, or that it was missed in three tries.
+use Rattle.std.specs.Prelude.{◌≡◌, ◌≢◌, ℕ, zero, suc, ◌<◌, ◌≤◌, List, [], ◌∷◌, fold, map, length, slice_index, Contains, All, Option, Some, None}
+use Rattle.pcp_base.specs.Time.{Moment}
+use Rattle.pcp_base.specs.declared.result.PmResult.{PmResult}
+use Rattle.pmns_core.specs.Pairs.{Pair}
+use Rattle.profile_filter.specs.Kept.{Settings}
+use Rattle.archive_meta.specs.declared.facts.Facts.{Facts}
+use Rattle.mmv_format.specs.declared.rows.Layout.{Layout}
+use Rattle.mmv_format.specs.declared.rows.Slot.{Slot}
+use Rattle.mmv_layout.specs.Form.{slots_of}
+use Rattle.mmv_layout.specs.Rows.{layout_of}
+use Rattle.region_core.specs.declared.mode.Mode.TheVariants.{Idle}
+use Rattle.region_core.specs.Readings.{Missed}
+use Rattle.region_rule.specs.declared.view.View.{View}
+use Rattle.region_rule.specs.Views.{opening_of}
+use Rattle.region_rule.specs.Reads.{WholeReading, ShowsIn, RefusedIn}
+use Rattle.region_rule.specs.Seats.{Token, IsSame}
+use Rattle.region_words.specs.Calls.{Loads}
+use Rattle.region_words.specs.Images.{mmv}
+use Rattle.fetch_engine.specs.Names.{with_region, with_missed}
+use Rattle.fetch_engine.specs.Answers.{answer_of, facts_of}
+use Rattle.fetch_engine.specs.Readings.{Reading}
+use Rattle.fetch_engine.specs.declared.server.Mounted.{Mounted}
+
+-- From the end of what v had seen on, the pass read this layout while the region had its generation and its form: the value of
+-- each value word was found by a load of the pass's own
+pub record ShowsLayout (v : View) (layout : Layout) (w : View) : Type 0 where
+  pub words : List ℕ
+  pub image : mmv.IsImage words
+  pub says : layout ≡ layout_of words
+  pub generation : ℕ
+  pub found : List (ℕ × ℕ)
+  pub shown : ShowsIn mmv v (record { generation = generation; form = mmv.form words; found = found }) w
+  pub values : (slot : Slot) → Contains (slots_of words) slot → Contains found (slot.word, slice_index words slot.word)
+
+-- a try that showed this layout: it loaded generation 2, some words and generation 1, and nothing else
+pub record ShowsAtOnce (v : View) (layout : Layout) (w : View) : Type 0 where
+  pub generation : ℕ
+  pub found : List (ℕ × ℕ)
+  pub loads : WholeReading mmv v generation found generation w
+  pub shows : ShowsLayout v layout w
+
+-- a try that was refused: the two numbers that it loaded differ
+pub record IsRefused (v w : View) : Type 0 where
+  pub first : ℕ
+  pub last : ℕ
+  pub found : List (ℕ × ℕ)
+  pub loads : WholeReading mmv v first found last w
+  pub differ : first ≢ last
+  pub again : RefusedIn v first last w
+
+-- so many tries one behind another, each refused
+abbrev pub AreRefused : ℕ → View → View → Type 0
+AreRefused zero v w = w ≡ v
+AreRefused (suc tries) v w = (u : View) × IsRefused v u × AreRefused tries u w
+
+-- a region was read in one of three tries, or missed in all three
+abbrev pub IsRead : View → Option Layout → View → Type 0
+IsRead v None w = AreRefused 3 v w
+IsRead v (Some layout) w = (tries : ℕ) × (tries < 3) × (u : View) × AreRefused tries v u × ShowsAtOnce u layout w
+
+-- A region that wasn't read was missed, and what was read is shown, from the end of what the pass had seen before the first try
+abbrev pub MissesAreMissed : Type 0
+MissesAreMissed = (v w : View) → IsRead v None w → Missed (opening_of v) w.seen (length v.seen) v.number
+
+abbrev pub ReadIsShown : Type 0
+ReadIsShown = (v w : View) (layout : Layout) → IsRead v (Some layout) w → ShowsLayout v layout w
+
+-- a pass did nothing but loads
+pub record IsLoaded (old new : Token) : Type 0 where
+  pub region : new.region ≡ old.region
+  pub loads : Loads old.view new.view
+
+-- and with them it read its region, or missed it
+pub record IsReadBy (old : Token) (layout : Option Layout) (new : Token) : Type 0 where
+  pub read : IsRead old.view layout new.view
+  pub stays : IsSame Idle Idle old new
+  pub loaded : IsLoaded old new
+
+-- the reading of a region by a pass
+pub record Visit : Type 0 where
+  pub row : Mounted
+  pub before : Token
+  pub reading : Reading
+  pub after : Token
+
+pub record IsVisit (visit : Visit) : Type 0 where
+  pub file : visit.reading.file ≡ visit.row.file
+  pub cluster : visit.reading.cluster ≡ visit.row.cluster
+  pub read : IsReadBy visit.before visit.reading.layout visit.after
+
+-- each region was read once, by its own pass
+pub record AreRead (rows : List Mounted) (old : List Token) (readings : List Reading) (new : List Token) : Type 0 where
+  pub visits : List Visit
+  pub each : All IsVisit visits
+  pub rows_are : map (λ (visit : Visit). visit.row) visits ≡ rows
+  pub old_are : map (λ (visit : Visit). visit.before) visits ≡ old
+  pub readings_are : map (λ (visit : Visit). visit.reading) visits ≡ readings
+  pub new_are : map (λ (visit : Visit). visit.after) visits ≡ new
+
+-- each pass did nothing but loads
+abbrev pub AreLoaded : List Token → List Token → Type 0
+AreLoaded [] [] = Unit {0}
+AreLoaded (old ∷ olds) (new ∷ news) = IsLoaded old new × AreLoaded olds news
+AreLoaded _ _ = ⊥
+
+-- a fetch was answered by one reading of each region
+pub record IsFetched (rows : List Mounted) (old : List Token) (profile : Settings) (pmids : List ℕ) (stamp : Moment) (result : PmResult) (facts : Facts) (new : List Token) : Type 0 where
+  pub few : length pmids ≤ 1024
+  pub readings : List Reading
+  pub read : AreRead rows old readings new
+  pub result_is : result ≡ answer_of readings profile pmids stamp
+  pub facts_are : facts ≡ facts_of readings result.sets
+
+-- the name space of what was read, and the clusters of the regions that were missed
+abbrev pub names_in : List Reading → List Pair
+names_in readings = fold with_region [] readings
+
+abbrev pub missed_in : List Reading → List ℕ
+missed_in readings = fold (λ clusters reading. with_missed clusters reading.cluster reading.layout) [] readings
+
+pub record AreNamed (rows : List Mounted) (old : List Token) (names : List Pair) (missing : List ℕ) (new : List Token) : Type 0 where
+  pub readings : List Reading
+  pub read : AreRead rows old readings new
+  pub names_are : names ≡ names_in readings
+  pub missing_are : missing ≡ missed_in readings

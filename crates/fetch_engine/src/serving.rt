@@ -1,0 +1,57 @@
+//! Fetches and name spaces of a server's regions.
+ghost use Rattle.std.specs.Prelude.{◌≡◌, ◌<◌, length, IfOk, IfErr, OnErr};
+ghost use Rattle.fetch_engine.specs.Fetches.{IsFetchFault};
+ghost use Rattle.fetch_engine.specs.Readings.{AreInOrder};
+ghost use Rattle.fetch_engine.specs.Servers.{IsSeated};
+ghost use Rattle.fetch_engine.specs.Visits.{AreLoaded, AreNamed, IsFetched};
+
+use crate::fetch::{FetchFault, Fetched, LIMIT, answer};
+use crate::names::{Named, names_of};
+use crate::seat::Seat;
+use crate::server::Server;
+use crate::visits::read_rows;
+use pcp_base::{NoMemory, Pmid, Stamp};
+use profile_filter::Profile;
+use std::alloc::Global;
+
+impl Server {
+    /// The answer of a fetch over one reading of each region (pmFetch(3)). Each is read by the seat's pass in at most three
+    /// tries; one that was missed in all three shows the status -12389 for each of its metrics. `TooMany` comes exactly above
+    /// 1,024 metrics, and then nothing is loaded. After any refusal the passes have made nothing but loads.
+    #[tactic(auto, using(crate::proofs::Visited::is_fetched, crate::proofs::Visited::in_order, crate::proofs::Visited::still_seated, crate::proofs::Visited::none_loaded))]
+    pub fn fetch(
+        &self,
+        alloc: Global,
+        seat: &mut Seat,
+        profile: &Profile,
+        pmids: &[Pmid],
+        stamp: Stamp,
+    ) -> Result<Fetched, FetchFault>
+        requires { IsSeated self.now seat.old.tokens }
+        ensures answer { IfOk result (λ fetched. IsFetched self.now seat.old.tokens profile.now pmids.now stamp fetched.result fetched.facts seat.new.tokens) }
+        ensures refused { IfErr result (IsFetchFault (length pmids.now)) }
+        ensures untouched { 1024 < length pmids.now → seat.new ≡ seat.old }
+        ensures loads { AreLoaded seat.old.tokens seat.new.tokens }
+        ensures seated { IsSeated self.now seat.new.tokens }
+    {
+        if pmids.len() > LIMIT {
+            let count = pmids.len() as u64;
+            return Err(FetchFault::TooMany { count });
+        }
+        let shots = read_rows(alloc, &self.mounted, &mut seat.passes)?;
+        answer(alloc, shots.as_slice(), profile, pmids, stamp)
+    }
+
+    /// The name space of one reading of each region (pmns(5)), and the clusters of the regions that were missed in three
+    /// tries. After a refusal the passes have made nothing but loads.
+    #[tactic(auto, using(crate::proofs::Visited::are_named, crate::proofs::Visited::in_order, crate::proofs::Visited::still_seated))]
+    pub fn names(&self, alloc: Global, seat: &mut Seat) -> Result<Named, NoMemory>
+        requires { IsSeated self.now seat.old.tokens }
+        ensures names { IfOk result (λ named. AreNamed self.now seat.old.tokens named.names named.missing seat.new.tokens) }
+        ensures loads { AreLoaded seat.old.tokens seat.new.tokens }
+        ensures seated { IsSeated self.now seat.new.tokens }
+    {
+        let shots = read_rows(alloc, &self.mounted, &mut seat.passes)?;
+        names_of(alloc, shots.as_slice())
+    }
+}

@@ -1,0 +1,10 @@
+pub mod Endings
+pub mod Many
+pub mod Moments
+pub mod Same
+pub mod Deeds
+pub mod Sets
+pub mod Taking
+pub mod Tellings
+pub mod Together
+pub mod Writable

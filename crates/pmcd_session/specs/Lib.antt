@@ -1,0 +1,9 @@
+pub mod Agents
+pub mod Clocking
+pub mod Contexts
+pub mod Going
+pub mod Pieces
+pub mod Replies
+pub mod Serving
+pub mod Sessions
+pub mod Telling

@@ -1,0 +1,105 @@
+-- Whole sessions: what was taken, what was written, and why a session ended.
+use Rattle.std.specs.Prelude.{◌≡◌, ◌⊎◌, ℕ, ◌<◌, false, List, [], ◌∷◌, ◌++◌, length}
+use Rattle.pcp_base.specs.Time.{Moment}
+use Rattle.pcp_outside.specs.declared.doors.SessionEnd.{SessionEnd}
+use Rattle.pcp_outside.specs.declared.doors.SessionEnd.TheVariants as ends
+use Rattle.pdu_codec.specs.Spelling.{pdu_bytes}
+use Rattle.pdu_stream.specs.Streams.{Splits, IsBegun, IsBad}
+use Rattle.pmcd_session.specs.declared.standing.Standing.{Standing}
+use Rattle.pmcd_session.specs.Contexts.{new_contexts}
+use Rattle.pmcd_session.specs.Replies.{greeting}
+use Rattle.pmcd_session.specs.Serving.{ReadsBy, DoesAll, AsksTheClock}
+
+-- a session begins with a client that isn't known, and contexts that keep every instance
+abbrev pub begun : {A : Type 0} → A → Standing A
+begun agent = record { is_met = false; contexts = new_contexts; agent = agent }
+
+-- The bytes that a session took from its source, the moments that it took from its clock, and the bytes of the greeting and
+-- of all replies to the PDUs that were served.
+pub record History : Type 0 where
+  pub taken : List ℕ
+  pub moments : List Moment
+  pub bytes : List ℕ
+
+-- no session takes more bytes
+abbrev pub most_taken : ℕ
+most_taken = 1099511627776
+
+-- These whole PDUs stand at the front of what was taken, and were served.
+pub record Served {A : Type 0} (reads : ReadsBy A) (first : A) (taken : List ℕ) (pdus : List (List ℕ)) (rest : List ℕ) (moments : List Moment) (bytes : List ℕ) (s : Standing A) : Type 0 where
+  pub stream : Splits taken pdus rest
+  pub replies : List ℕ
+  pub does : DoesAll reads (begun first) pdus (record { moments = moments; written = replies; after = s })
+  pub is : bytes ≡ pdu_bytes greeting ++ replies
+
+-- those were served behind which the rest stands
+pub record ServedTo {A : Type 0} (reads : ReadsBy A) (first : A) (h : History) (rest : List ℕ) (last : A) : Type 0 where
+  pub pdus : List (List ℕ)
+  pub s : Standing A
+  pub served : Served reads first h.taken pdus rest h.moments h.bytes s
+  pub stays : s.agent ≡ last
+
+-- those before a fetch were served, and for it the clock was asked and gave no moment
+pub record StopsAtClock {A : Type 0} (reads : ReadsBy A) (first : A) (h : History) (last : A) : Type 0 where
+  pub pdus : List (List ℕ)
+  pub fetch : List ℕ
+  pub rest : List ℕ
+  pub beyond : List ℕ
+  pub s : Standing A
+  pub served : Served reads first h.taken pdus rest h.moments h.bytes s
+  pub next : Splits rest (fetch ∷ []) beyond
+  pub asks : AsksTheClock s fetch
+  pub stays : s.agent ≡ last
+
+-- a fetch that came next had its moment, or no moment was taken
+abbrev pub ReachesNext : {A : Type 0} → Standing A → List ℕ → List Moment → Type 0
+ReachesNext s rest [] = Unit {0}
+ReachesNext s rest (moment ∷ []) = (fetch : List ℕ) × (beyond : List ℕ) × Splits rest (fetch ∷ []) beyond × AsksTheClock s fetch
+ReachesNext s rest moments = ⊥
+
+-- memory was refused, maybe while a next PDU was served
+pub record RunsOut {A : Type 0} (reads : ReadsBy A) (loads : A → A → Type 0) (first : A) (h : History) (last : A) : Type 0 where
+  pub pdus : List (List ℕ)
+  pub rest : List ℕ
+  pub moments : List Moment
+  pub reached : List Moment
+  pub s : Standing A
+  pub served : Served reads first h.taken pdus rest moments h.bytes s
+  pub all_moments : h.moments ≡ moments ++ reached
+  pub next : ReachesNext s rest reached
+  pub goes_on : (last ≡ s.agent) ⊎ loads s.agent last
+
+-- Why a session ended. All whole PDUs that were taken were served, but where the clock gave no moment, the sink failed, or
+-- memory was refused. Behind them stands nothing where the input ended between PDUs, the beginning of one where it ended
+-- inside, or a length word that no PDU has.
+abbrev pub Ends : {A : Type 0} → ReadsBy A → (A → A → Type 0) → A → History → A → SessionEnd → Type 0
+Ends reads loads first h last ends.Closed = ServedTo reads first h [] last × (length h.taken < most_taken)
+Ends reads loads first h last (ends.Torn n) = (rest : List ℕ) × ServedTo reads first h rest last × IsBegun rest × (n ≡ length rest) × (0 < n) × (length h.taken < most_taken)
+Ends reads loads first h last (ends.BadLength found) = (rest : List ℕ) × ServedTo reads first h rest last × IsBad rest found
+Ends reads loads first h last ends.ReadFault = (rest : List ℕ) × ServedTo reads first h rest last × IsBegun rest × (length h.taken < most_taken)
+Ends reads loads first h last ends.WriteFault = (rest : List ℕ) × ServedTo reads first h rest last
+Ends reads loads first h last ends.ClockFault = StopsAtClock reads first h last
+Ends reads loads first h last ends.ClockEnd = StopsAtClock reads first h last
+Ends reads loads first h last ends.Spent = (rest : List ℕ) × ServedTo reads first h rest last × IsBegun rest × (length h.taken ≡ most_taken)
+Ends reads loads first h last ends.NoMemory = RunsOut reads loads first h last
+
+-- some front of bytes was written
+abbrev pub WritesFront : List ℕ → List ℕ → List ℕ → Type 0
+WritesFront before after bytes = (front : List ℕ) × (unwritten : List ℕ) × (after ≡ before ++ front) × (bytes ≡ front ++ unwritten)
+
+-- all bytes were written, or some front of them where the sink failed or memory was refused
+abbrev pub WritesBy : SessionEnd → List ℕ → List ℕ → List ℕ → Type 0
+WritesBy ends.WriteFault before after bytes = WritesFront before after bytes
+WritesBy ends.NoMemory before after bytes = WritesFront before after bytes
+WritesBy end before after bytes = after ≡ before ++ bytes
+
+-- where the input ended, nothing is left of it
+abbrev pub EndsInput : SessionEnd → List ℕ → Type 0
+EndsInput ends.Closed left = left ≡ []
+EndsInput (ends.Torn n) left = left ≡ []
+EndsInput end left = Unit {0}
+
+-- where the clock's list had ended, no moment is left
+abbrev pub EndsClock : SessionEnd → List Moment → Type 0
+EndsClock ends.ClockEnd left = left ≡ []
+EndsClock end left = Unit {0}

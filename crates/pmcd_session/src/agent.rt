@@ -1,0 +1,74 @@
+//! Who reads the regions for a session.
+ghost use Rattle.std.specs.Prelude.{◌≡◌, ◌≤◌, length, ℕ, List as Sequence, Option, Some, None, IfOk};
+ghost use Rattle.fetch_engine.specs.Answers.{answer_of};
+ghost use Rattle.fetch_engine.specs.Asks.{desc_asked, instances_asked};
+ghost use Rattle.fetch_engine.specs.Readings.{Reading};
+ghost use Rattle.pmcd_session.specs.Agents.{Told};
+ghost use Rattle.pmcd_session.specs.Replies.{names_shown, missing_among};
+
+use fetch_engine::{AskFault, Named};
+use pcp_base::{Desc, InDom, List, NoMemory, PmResult, Pmid, Stamp, Text};
+use profile_filter::Profile;
+use std::alloc::Global;
+
+/// Who reads regions and tells what they show, as an agent of pmcd does (PMDA(3)). Each call reads anew.
+pub trait Agent {
+    /// The regions.
+    type Regions;
+
+    /// Whether the agent can read these regions.
+    ghost sits: { Self.Regions → Self → Type 0 };
+
+    /// These readings were made: of the regions that a number of a metric or of a domain needs, or of all, each read once
+    /// or missed.
+    ghost reads: { Self.Regions → Option ℕ → Self → Sequence Reading → Self → Type 0 };
+
+    /// What a call may leave behind, also where memory was refused.
+    ghost loads: { Self.Regions → Self → Self → Type 0 };
+
+    /// The values of metrics (pmFetch(3)).
+    fn fetch(
+        &mut self,
+        alloc: Global,
+        regions: &Self::Regions,
+        profile: &Profile,
+        pmids: &[Pmid],
+        stamp: Stamp,
+    ) -> Result<PmResult, NoMemory>
+        requires here { sits regions.now self.old }
+        requires few { length pmids.now ≤ 1024 }
+        ensures answer { IfOk result (λ answer. (readings : Sequence Reading) × reads regions.now None self.old readings self.new × (answer ≡ answer_of readings profile.now pmids.now stamp)) }
+        ensures loads { loads regions.now self.old self.new }
+        ensures here { sits regions.now self.new };
+
+    /// The name space (pmns(5)), and the clusters of the regions that were missed.
+    fn names(&mut self, alloc: Global, regions: &Self::Regions) -> Result<Named, NoMemory>
+        requires here { sits regions.now self.old }
+        ensures names { IfOk result (λ named. (readings : Sequence Reading) × reads regions.now None self.old readings self.new × (named.names ≡ names_shown readings) × (named.missing ≡ missing_among readings)) }
+        ensures loads { loads regions.now self.old self.new }
+        ensures here { sits regions.now self.new };
+
+    /// The description of a metric (pmLookupDesc(3)).
+    fn description(
+        &mut self,
+        alloc: Global,
+        regions: &Self::Regions,
+        pmid: Pmid,
+    ) -> Result<Desc, AskFault>
+        requires here { sits regions.now self.old }
+        ensures told { Told result (λ told. (readings : Sequence Reading) × reads regions.now (Some pmid) self.old readings self.new × (told ≡ desc_asked readings pmid)) }
+        ensures loads { loads regions.now self.old self.new }
+        ensures here { sits regions.now self.new };
+
+    /// The instances of a domain, in ascending number (pmGetInDom(3)).
+    fn instances(
+        &mut self,
+        alloc: Global,
+        regions: &Self::Regions,
+        indom: InDom,
+    ) -> Result<List<(i32, Text)>, AskFault>
+        requires here { sits regions.now self.old }
+        ensures told { Told result (λ told. (readings : Sequence Reading) × reads regions.now (Some indom) self.old readings self.new × (told ≡ instances_asked readings indom)) }
+        ensures loads { loads regions.now self.old self.new }
+        ensures here { sits regions.now self.new };
+}

@@ -1,0 +1,92 @@
+//! Requests that an agent tells the reply of: descriptions, instances and names.
+ghost use Rattle.std.specs.Prelude.{◌≡◌, List as Sequence, Some, None, [], IfOk, OnErr};
+ghost use Rattle.pdu_codec.specs.declared.pdu.Pdu.TheVariants.{DescReq, PmnsChild, PmnsTraverse};
+ghost use Rattle.fetch_engine.specs.Readings.{Reading};
+ghost use Rattle.pmcd_session.specs.Serving.{KeepsRest, Tells};
+ghost use Rattle.pmcd_session.specs.Telling.{ShowsNames};
+
+use crate::agent::Agent;
+use crate::replies::{child_reply, traverse_reply};
+use crate::standing::Standing;
+use fetch_engine::{AskFault, Named};
+use pcp_base::{NoMemory, Pmid, Text};
+use pdu_codec::Pdu;
+use pmns_core::Names;
+use std::alloc::Global;
+
+/// A region is missing.
+const AGAIN: i32 = -12389;
+
+/// The description of a metric.
+pub fn tell_description<A: Agent>(
+    alloc: Global,
+    regions: &A::Regions,
+    s: &mut Standing<A>,
+    pmid: Pmid,
+) -> Result<Pdu, NoMemory>
+    requires here { A.sits regions.now s.old.agent }
+    ensures told { IfOk result (λ reply. Tells (A.reads regions.now) s.old (DescReq pmid) (record { moments = []; reply = Some reply; after = s.new })) }
+    ensures loads { A.loads regions.now s.old.agent s.new.agent }
+    ensures here { A.sits regions.now s.new.agent }
+{
+    match s.agent.description(alloc, regions, pmid) {
+        Ok(desc) => Ok(Pdu::Desc(desc)),
+        Err(AskFault::Status(code)) => Ok(Pdu::Error { code }),
+        Err(AskFault::NoMemory) => Err(NoMemory),
+    }
+}
+
+/// The name space, or `None` while a region is missing.
+fn names_shown<A: Agent>(
+    alloc: Global,
+    regions: &A::Regions,
+    s: &mut Standing<A>,
+) -> Result<Option<Names>, NoMemory>
+    requires here { A.sits regions.now s.old.agent }
+    ensures shown { IfOk result (λ names. (readings : Sequence Reading) × A.reads regions.now None s.old.agent readings s.new.agent × ShowsNames readings names) }
+    ensures rest { KeepsRest s.old s.new }
+    ensures loads { A.loads regions.now s.old.agent s.new.agent }
+    ensures here { A.sits regions.now s.new.agent }
+{
+    let Named { names, missing } = s.agent.names(alloc, regions)?;
+    if !missing.is_empty() {
+        return Ok(None);
+    }
+    Ok(Some(names))
+}
+
+/// The components that continue a name.
+pub fn tell_children<A: Agent>(
+    alloc: Global,
+    regions: &A::Regions,
+    s: &mut Standing<A>,
+    name: &Text,
+) -> Result<Pdu, NoMemory>
+    requires here { A.sits regions.now s.old.agent }
+    ensures told { IfOk result (λ reply. Tells (A.reads regions.now) s.old (PmnsChild name.now) (record { moments = []; reply = Some reply; after = s.new })) }
+    ensures loads { A.loads regions.now s.old.agent s.new.agent }
+    ensures here { A.sits regions.now s.new.agent }
+{
+    match names_shown(alloc, regions, s)? {
+        Some(names) => child_reply(alloc, &names, name),
+        None => Ok(Pdu::Error { code: AGAIN }),
+    }
+}
+
+/// The names below a name.
+pub fn tell_below<A: Agent>(
+    alloc: Global,
+    regions: &A::Regions,
+    s: &mut Standing<A>,
+    name: &Text,
+) -> Result<Pdu, NoMemory>
+    requires here { A.sits regions.now s.old.agent }
+    ensures told { IfOk result (λ reply. Tells (A.reads regions.now) s.old (PmnsTraverse name.now) (record { moments = []; reply = Some reply; after = s.new })) }
+    ensures loads { A.loads regions.now s.old.agent s.new.agent }
+    ensures here { A.sits regions.now s.new.agent }
+{
+    match names_shown(alloc, regions, s)? {
+        Some(names) => traverse_reply(alloc, &names, name),
+        None => Ok(Pdu::Error { code: AGAIN }),
+    }
+}
