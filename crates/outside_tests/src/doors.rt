@@ -1,6 +1,8 @@
 //! The door in memory.
 use pcp_base::{List, Stamp};
-use pcp_outside::{Clock, Door, Failed, MemDoor, SessionEnd, Sink, Source};
+use pcp_outside::{
+    Clock, Door, Failed, ListClock, MemDisk, MemDoor, MemSink, MemSource, SessionEnd, Sink, Source,
+};
 use std::test::Fail;
 
 #[test]
@@ -24,4 +26,15 @@ fn a_door_in_memory_keeps_what_was_told(rt: HostRuntime) -> Result<(), Fail> {
     assert_eq!(rt; door.end_of(1), None);
     assert!(rt; matches!(door.next(), Err(Failed)));
     Ok(())
+}
+
+fn needs_send<T: Send>() {}
+
+#[test]
+fn what_a_session_has_may_be_sent(_rt: HostRuntime) {
+    needs_send::<MemDoor>();
+    needs_send::<MemSource>();
+    needs_send::<MemSink>();
+    needs_send::<ListClock>();
+    needs_send::<MemDisk>();
 }

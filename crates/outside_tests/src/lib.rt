@@ -9,4 +9,6 @@ mod doors;
 #[cfg(test)]
 mod files;
 #[cfg(test)]
+mod tcp;
+#[cfg(test)]
 mod times;
