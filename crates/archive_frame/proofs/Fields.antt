@@ -5,15 +5,16 @@ use Rattle.std.proofs.lemmas.Bool.{cases_lt}
 use Rattle.std.proofs.lemmas.List.{take_all, take-take, take-append-le, take-append-drop, length-append, length-take, length-drop, length-take-le, get_or-take, get_or-drop, get_or_past, get_or_append_left, get_or-append_right, get_or-replicate, get_or_at, length-replicate, drop_more, get_or_default}
 use Rattle.std.proofs.lemmas.List.Elements.{All-nil, All-cons}
 use Rattle.std.proofs.lemmas.Nat.{be_bytes_4}
+use Rattle.pcp_base.specs.Fields.{number_at}
+use Rattle.pcp_base.proofs.Bytes.{IsBytes}
 use Rattle.pcp_base.specs.Texts.{IsText, IsFirstZero}
 use Rattle.pcp_model.specs.Words.{word, length-word, zeros}
 use Rattle.pcp_model.specs.Labels.{HasText}
 use Rattle.archive_frame.specs.Misfits.{BeginsOne, IsFirstMisfit}
 use Rattle.archive_frame.specs.Labels.{IsUpTo, IsTextField, IsFieldFault}
 use Rattle.archive_frame.proofs.Misfits.{HasWidth, none_so_long}
-use Rattle.archive_frame.specs.Steps.{number_at}
 use Rattle.archive_frame.specs.declared.fault.FrameFault.TheVariants.{Label}
-use Rattle.archive_frame.proofs.Records.{IsBytes, word_at}
+use Rattle.archive_frame.proofs.Records.{word_at}
 
 -- ---- bytes that are given
 

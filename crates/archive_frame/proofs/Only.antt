@@ -2,11 +2,12 @@
 use Rattle.std.proofs.Common.{◌≡◌, ℕ, ◌+◌, ◌-◌, List, length, Result, Ok, Err, sym, ap, ◌∙◌, arith}
 use Rattle.std.specs.Prelude.{IfOk, IfErr}
 use Rattle.std.specs.List.{slice_range}
+use Rattle.pcp_base.specs.Fields.{number_at}
 use Rattle.archive_frame.specs.declared.fault.FrameFault.{FrameFault}
 use Rattle.archive_frame.specs.declared.fault.FrameFault.TheVariants.{Torn, Size, Lengths, Label, NoMemory}
 use Rattle.archive_frame.specs.declared.steps.Step.{Step}
 use Rattle.archive_frame.specs.declared.steps.Step.TheVariants.{End, Payload}
-use Rattle.archive_frame.specs.Steps.{Stands, number_at, IsForward, IsForwardFault, IsBack, IsBackFault}
+use Rattle.archive_frame.specs.Steps.{Stands, IsForward, IsForwardFault, IsBack, IsBackFault}
 use Rattle.archive_frame.proofs.Records.{Ends, stood}
 
 places : (from to next : ℕ) (from2 to2 next2 : ℕ) → from ≡ from2 → to ≡ to2 → next ≡ next2 → Payload from to next ≡ Payload from2 to2 next2

@@ -6,14 +6,13 @@ use Rattle.std.proofs.lemmas.List.{take_at, drop_at, drop-drop, take-append-drop
 use Rattle.std.proofs.lemmas.Bool.{cases_lt}
 use Rattle.std.proofs.lemmas.List.Folds.{drop_split}
 use Rattle.std.proofs.lemmas.Nat.{be_bytes_4}
+use Rattle.pcp_base.specs.Fields.{number_at}
+use Rattle.pcp_base.proofs.Bytes.{IsBytes}
 use Rattle.pcp_model.specs.Words.{word, length-word}
 use Rattle.pcp_model.specs.Frame.{frame, frames, IsFrameable}
 use Rattle.pcp_model.proofs.Lengths.{length-frame}
 use Rattle.pcp_model.proofs.Cuts.{number_of_word}
-use Rattle.archive_frame.specs.Steps.{Stands, number_at, IsSize}
-
-abbrev pub IsBytes : List ℕ → Type 0
-IsBytes bytes = (i : ℕ) → get_or bytes i 0 < 256
+use Rattle.archive_frame.specs.Steps.{Stands, IsSize}
 
 -- the word at a byte
 pub word_at : (bytes : List ℕ) (at : ℕ) → IsBytes bytes → at + 4 ≤ length bytes → word (number_at bytes at) ≡ take 4 (drop at bytes)

@@ -2,6 +2,7 @@
 use Rattle.std.specs.Prelude.{◌≡◌, ◌≢◌, ◌⊎◌, ℕ, ◌+◌, ◌-◌, ◌<◌, ◌≤◌, List, ◌++◌, length, take, drop}
 use Rattle.std.specs.Int.{w32, from_be_bytes}
 use Rattle.std.specs.List.{slice_range}
+use Rattle.pcp_base.specs.Fields.{number_at}
 use Rattle.pcp_model.specs.Frame.{frame, IsFrameable}
 use Rattle.archive_frame.specs.declared.fault.FrameFault.{FrameFault}
 use Rattle.archive_frame.specs.declared.fault.FrameFault.TheVariants.{Torn, Size, Lengths, Label, NoMemory}
@@ -16,10 +17,6 @@ pub record Stands (bytes payload : List ℕ) (first behind : ℕ) : Type 0 where
   pub is : bytes ≡ front ++ (frame payload ++ rest)
   pub begins : length front ≡ first
   pub ends : behind ≡ first + length payload + 8
-
--- the number of the word at a byte
-abbrev pub number_at : List ℕ → ℕ → ℕ
-number_at bytes at = from_be_bytes w32 (take 4 (drop at bytes))
 
 -- what a length word may say
 abbrev pub IsSize : ℕ → Type 0

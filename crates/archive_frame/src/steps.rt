@@ -1,7 +1,8 @@
 //! Steps from framed record to framed record.
 ghost use Rattle.std.specs.Prelude.{◌≡◌, ℕ, ◌+◌, ◌<◌, ◌≤◌, List, length, Result, Ok, IfOk, IfErr, MatchResult, MatchOption};
+ghost use Rattle.pcp_base.specs.Fields.{number_at};
 ghost use Rattle.archive_frame.specs.declared.steps.Step.TheVariants.{End, Payload};
-ghost use Rattle.archive_frame.specs.Steps.{number_at, IsSize, IsSizeFault, Stands, IsForward, IsForwardFault, IsBack, IsBackFault};
+ghost use Rattle.archive_frame.specs.Steps.{IsSize, IsSizeFault, Stands, IsForward, IsForwardFault, IsBack, IsBackFault};
 
 use crate::fault::FrameFault;
 use pcp_base::be32;

@@ -4,6 +4,7 @@ use Rattle.std.specs.Int.{w32}
 use Rattle.std.specs.List.{AllByRecursion}
 use Rattle.std.proofs.lemmas.Bool.{ltb-false, le-ltb}
 use Rattle.std.proofs.lemmas.List.{take_at, drop_at, drop-drop, take-append-drop, length-append, length-take-le}
+use Rattle.pcp_base.proofs.Bytes.{IsBytes, IsBytes-drop}
 use Rattle.pcp_base.specs.Fields.{be_field}
 use Rattle.pcp_base.specs.Texts.{IsText}
 use Rattle.pcp_base.specs.declared.desc.Desc.{Desc}
@@ -11,8 +12,7 @@ use Rattle.pcp_model.specs.Words.{word}
 use Rattle.pcp_model.specs.Records.{counted_name, counted_names, description, DescriptionInRange}
 use Rattle.archive_meta.specs.Decoding.{◌>>=◌, text_of, first_name, names_from, desc_in, description_in}
 use Rattle.archive_meta.proofs.ZeroBytes.{bind_some, some_is, past, text_is, text_clean}
-use Rattle.archive_frame.proofs.Records.{IsBytes}
-use Rattle.archive_meta.proofs.Fields.{IsBytes-drop, WordStands, field_takes, field_again, behind_word}
+use Rattle.archive_meta.proofs.Fields.{WordStands, field_takes, field_again, behind_word}
 
 pub record NameRead (bytes name : List ℕ) : Type 0 where
   pub is : bytes ≡ counted_name name ++ drop (4 + length name) bytes

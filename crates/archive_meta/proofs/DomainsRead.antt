@@ -5,14 +5,14 @@ use Rattle.std.specs.Int.{w32, cast_signed, cast_unsigned}
 use Rattle.std.specs.List.{AllByRecursion}
 use Rattle.std.proofs.lemmas.Bool.{ltb-true, ltb-false, lt-ltb, le-ltb}
 use Rattle.std.proofs.lemmas.List.{drop_at, drop-drop, length-append, length-drop}
+use Rattle.pcp_base.proofs.Bytes.{IsBytes, IsBytes-drop}
 use Rattle.pcp_base.specs.Fields.{be_field}
 use Rattle.pcp_base.specs.Time.{Moment, IsMoment}
 use Rattle.pcp_model.specs.Words.{word, signed_word, length-word, length-signed_word}
 use Rattle.pcp_model.specs.Records.{instance_words, word_bytes, domain_head, NameStands, NamesStand, IsDomain}
 use Rattle.archive_meta.specs.Decoding.{◌>>=◌, name_at, pair_at, pairs_from, stamp_in, instances_in, domain_in}
 use Rattle.archive_meta.proofs.ZeroBytes.{bind_some, some_is, past, only, name_stands, name_again, offset_within}
-use Rattle.archive_frame.proofs.Records.{IsBytes}
-use Rattle.archive_meta.proofs.Fields.{IsBytes-drop, WordStands, field_takes, field_again, behind_word, signed_is, signed_fits, unsigned_fits, signed_back, word_of_signed}
+use Rattle.archive_meta.proofs.Fields.{WordStands, field_takes, field_again, behind_word, signed_is, signed_fits, unsigned_fits, signed_back, word_of_signed}
 
 neither : (a b : Bool) → (a || b) ≡ false → (a ≡ false) × (b ≡ false)
 neither true b e = absurd cc

@@ -14,16 +14,14 @@ use Rattle.pcp_model.specs.declared.records.MetaRecord.{MetaRecord}
 use Rattle.pcp_model.specs.declared.records.MetaRecord.TheVariants.{Description, Domain, Other}
 use Rattle.pcp_model.specs.Described.{EachStamp, HoldsAt}
 use Rattle.archive_meta.specs.Order.{moment_order}
-use Rattle.archive_meta.specs.Kept.{is_stamped, stamped_at, HasMoments, IsLastEntry, HasNoEntry}
+use Rattle.archive_meta.specs.declared.moments.Listing.{Listing}
+use Rattle.archive_meta.specs.Kept.{listing, is_stamped, stamped_at, HasMoments, IsLastEntry, HasNoEntry}
 
 -- ---- the order
 
-abbrev Triple : Type 0
-Triple = ℕ × ℕ × ℕ
-
 -- a is not behind b
-abbrev pub Before : Triple → Triple → Type 0
-Before a b = (a.0 < b.0) ⊎ ((a.0 ≡ b.0) × ((a.1 < b.1) ⊎ ((a.1 ≡ b.1) × (a.2 ≤ b.2))))
+abbrev pub Before : Listing → Listing → Type 0
+Before a b = (a.indom < b.indom) ⊎ ((a.indom ≡ b.indom) × ((a.from < b.from) ⊎ ((a.from ≡ b.from) × (a.at ≤ b.at))))
 
 rank : (x y : ℕ) → MatchOrdering (nat_cmp x y) (x < y) (x ≡ y) (y < x)
 rank x y = ranked x y (nat_cmp x y) refl
@@ -54,32 +52,32 @@ regroup Equal p q = refl
 regroup Greater p q = refl
 
 -- the parts of the order, the first in front
-parts : (a b : Triple) → moment_order a b ≡ ordering_then (nat_cmp a.0 b.0) (ordering_then (nat_cmp a.1 b.1) (nat_cmp a.2 b.2))
-parts a b = regroup (nat_cmp a.0 b.0) (nat_cmp a.1 b.1) (nat_cmp a.2 b.2)
+parts : (a b : Listing) → moment_order a b ≡ ordering_then (nat_cmp a.indom b.indom) (ordering_then (nat_cmp a.from b.from) (nat_cmp a.at b.at))
+parts a b = regroup (nat_cmp a.indom b.indom) (nat_cmp a.from b.from) (nat_cmp a.at b.at)
 
 -- what the order's answers say
-pub before_from : (a b : Triple) → is_gt (moment_order a b) ≡ false → Before a b
+pub before_from : (a b : Listing) → is_gt (moment_order a b) ≡ false → Before a b
 before_from a b h =
-    elim (not_greater a.0 b.0 (nat_cmp a.0 b.0) (ordering_then (nat_cmp a.1 b.1) (nat_cmp a.2 b.2)) (rank a.0 b.0) (ap is_gt (sym (parts a b)) ∙ h)) [
+    elim (not_greater a.indom b.indom (nat_cmp a.indom b.indom) (ordering_then (nat_cmp a.from b.from) (nat_cmp a.at b.at)) (rank a.indom b.indom) (ap is_gt (sym (parts a b)) ∙ h)) [
       | inl lt ↦ inl lt
       | inr p ↦ inr (
         p.0,
-        elim (not_greater a.1 b.1 (nat_cmp a.1 b.1) (nat_cmp a.2 b.2) (rank a.1 b.1) p.1) [
+        elim (not_greater a.from b.from (nat_cmp a.from b.from) (nat_cmp a.at b.at) (rank a.from b.from) p.1) [
           | inl lt ↦ inl lt
-          | inr q ↦ inr (q.0, at_most a.2 b.2 (nat_cmp a.2 b.2) (rank a.2 b.2) q.1)
+          | inr q ↦ inr (q.0, at_most a.at b.at (nat_cmp a.at b.at) (rank a.at b.at) q.1)
         ],
       )
     ]
 
-pub behind_from : (a b : Triple) → is_lt (moment_order a b) ≡ false → Before b a
+pub behind_from : (a b : Listing) → is_lt (moment_order a b) ≡ false → Before b a
 behind_from a b h =
-    elim (not_less a.0 b.0 (nat_cmp a.0 b.0) (ordering_then (nat_cmp a.1 b.1) (nat_cmp a.2 b.2)) (rank a.0 b.0) (ap is_lt (sym (parts a b)) ∙ h)) [
+    elim (not_less a.indom b.indom (nat_cmp a.indom b.indom) (ordering_then (nat_cmp a.from b.from) (nat_cmp a.at b.at)) (rank a.indom b.indom) (ap is_lt (sym (parts a b)) ∙ h)) [
       | inl lt ↦ inl lt
       | inr p ↦ inr (
         sym p.0,
-        elim (not_less a.1 b.1 (nat_cmp a.1 b.1) (nat_cmp a.2 b.2) (rank a.1 b.1) p.1) [
+        elim (not_less a.from b.from (nat_cmp a.from b.from) (nat_cmp a.at b.at) (rank a.from b.from) p.1) [
           | inl lt ↦ inl lt
-          | inr q ↦ inr (sym q.0, at_least a.2 b.2 (nat_cmp a.2 b.2) (rank a.2 b.2) q.1)
+          | inr q ↦ inr (sym q.0, at_least a.at b.at (nat_cmp a.at b.at) (rank a.at b.at) q.1)
         ],
       )
     ]
@@ -96,9 +94,9 @@ low_then x y Equal rest r h more = more
 low_then x y Greater rest r h more = absurd (omega arith)
 
 -- within one domain, what is no later and stands no further behind is no greater
-pub not_greater_at : (indom : ℕ) (s t i k : ℕ) → s ≤ t → i ≤ k → is_gt (moment_order (indom, s, i) (indom, t, k)) ≡ false
+pub not_greater_at : (indom : ℕ) (s t i k : ℕ) → s ≤ t → i ≤ k → is_gt (moment_order (listing indom s i) (listing indom t k)) ≡ false
 not_greater_at indom s t i k a b =
-    ap is_gt (parts (indom, s, i) (indom, t, k)) ∙ low_then indom indom (nat_cmp indom indom) (ordering_then (nat_cmp s t) (nat_cmp i k)) (rank indom indom) (omega arith)
+    ap is_gt (parts (listing indom s i) (listing indom t k)) ∙ low_then indom indom (nat_cmp indom indom) (ordering_then (nat_cmp s t) (nat_cmp i k)) (rank indom indom) (omega arith)
     (low_then s t (nat_cmp s t) (nat_cmp i k) (rank s t) a (low i k (nat_cmp i k) (rank i k) b))
 
 tied : (a b : ℕ) → is_eq (nat_cmp a b) ≡ nat_eq a b
@@ -109,10 +107,10 @@ eq_then Less rest = refl
 eq_then Equal rest = refl
 eq_then Greater rest = refl
 
-pub same_entry : (a b : Triple) → is_eq (moment_order a b) ≡ (nat_eq a.0 b.0 && (nat_eq a.1 b.1 && nat_eq a.2 b.2))
+pub same_entry : (a b : Listing) → is_eq (moment_order a b) ≡ (nat_eq a.indom b.indom && (nat_eq a.from b.from && nat_eq a.at b.at))
 same_entry a b =
-    ap is_eq (parts a b) ∙ eq_then (nat_cmp a.0 b.0) (ordering_then (nat_cmp a.1 b.1) (nat_cmp a.2 b.2)) ∙ ap (λ x. x && is_eq (ordering_then (nat_cmp a.1 b.1) (nat_cmp a.2 b.2))) (tied a.0 b.0)
-    ∙ ap (λ x. nat_eq a.0 b.0 && x) (eq_then (nat_cmp a.1 b.1) (nat_cmp a.2 b.2) ∙ ap (λ x. x && is_eq (nat_cmp a.2 b.2)) (tied a.1 b.1) ∙ ap (λ x. nat_eq a.1 b.1 && x) (tied a.2 b.2))
+    ap is_eq (parts a b) ∙ eq_then (nat_cmp a.indom b.indom) (ordering_then (nat_cmp a.from b.from) (nat_cmp a.at b.at)) ∙ ap (λ x. x && is_eq (ordering_then (nat_cmp a.from b.from) (nat_cmp a.at b.at))) (tied a.indom b.indom)
+    ∙ ap (λ x. nat_eq a.indom b.indom && x) (eq_then (nat_cmp a.from b.from) (nat_cmp a.at b.at) ∙ ap (λ x. x && is_eq (nat_cmp a.at b.at)) (tied a.from b.from) ∙ ap (λ x. nat_eq a.from b.from && x) (tied a.at b.at))
 
 -- ---- one record more or less
 
@@ -141,17 +139,17 @@ stamped_push records r indom time k false e =
     ]
 
 -- a record that isn't a domain's
-pub moments_other : (old new : BTreeSet Triple) (records : List MetaRecord) (r : MetaRecord) → new.keys ≡ old.keys → ((indom time : ℕ) → is_stamped indom time r ≡ false) → HasMoments old records → HasMoments new (records ++ r ∷ [])
+pub moments_other : (old new : BTreeSet Listing) (records : List MetaRecord) (r : MetaRecord) → new.keys ≡ old.keys → ((indom time : ℕ) → is_stamped indom time r ≡ false) → HasMoments old records → HasMoments new (records ++ r ∷ [])
 moments_other old new records r same never h indom time at =
-    ap (λ ks. contains moment_order (record { keys = ks }) (indom, time, at)) same ∙ h indom time at ∙ by (nat_eq (length records) at) refl
+    ap (λ ks. contains moment_order (record { keys = ks }) (listing indom time at)) same ∙ h indom time at ∙ by (nat_eq (length records) at) refl
   where
     by : (b : Bool) → nat_eq (length records) at ≡ b → stamped_at indom time (slice_get records at) ≡ stamped_at indom time (slice_get (records ++ r ∷ []) at)
     by true e = ap (stamped_at indom time) (get_past records at (let s : length records ≡ at = eqb-true (length records) at e in omega arith)) ∙ sym (stamped_push records r indom time at true e ∙ never indom time)
     by false e = sym (stamped_push records r indom time at false e)
 
-pub moments_other_less : (old new : BTreeSet Triple) (records : List MetaRecord) (r : MetaRecord) → new.keys ≡ old.keys → ((indom time : ℕ) → is_stamped indom time r ≡ false) → HasMoments old (records ++ r ∷ []) → HasMoments new records
+pub moments_other_less : (old new : BTreeSet Listing) (records : List MetaRecord) (r : MetaRecord) → new.keys ≡ old.keys → ((indom time : ℕ) → is_stamped indom time r ≡ false) → HasMoments old (records ++ r ∷ []) → HasMoments new records
 moments_other_less old new records r same never h indom time at =
-    ap (λ ks. contains moment_order (record { keys = ks }) (indom, time, at)) same ∙ h indom time at ∙ by (nat_eq (length records) at) refl
+    ap (λ ks. contains moment_order (record { keys = ks }) (listing indom time at)) same ∙ h indom time at ∙ by (nat_eq (length records) at) refl
   where
     by : (b : Bool) → nat_eq (length records) at ≡ b → stamped_at indom time (slice_get (records ++ r ∷ []) at) ≡ stamped_at indom time (slice_get records at)
     by true e = stamped_push records r indom time at true e ∙ never indom time ∙ sym (ap (stamped_at indom time) (get_past records at (let s : length records ≡ at = eqb-true (length records) at e in omega arith)))
@@ -172,57 +170,57 @@ taken true true = refl
 taken true false = refl
 taken false y = refl
 
-module _ (old new : BTreeSet Triple) (records : List MetaRecord) (t : Moment) (indom : ℕ) (pairs : List (ℤ × List ℕ)) (at : ℕ) (here : length records ≡ at) where
+module _ (old new : BTreeSet Listing) (records : List MetaRecord) (t : Moment) (indom : ℕ) (pairs : List (ℤ × List ℕ)) (at : ℕ) (here : length records ≡ at) where
   none_here : (i time k : ℕ) → nat_eq (length records) k ≡ true → stamped_at i time (slice_get records k) ≡ false
   none_here i time k e = ap (stamped_at i time) (get_past records k (let s : length records ≡ k = eqb-true (length records) k e in omega arith))
 
-  test : (i time k : ℕ) → is_eq (moment_order (indom, microseconds t, at) (i, time, k)) ≡ (nat_eq indom i && (nat_eq (microseconds t) time && nat_eq (length records) k))
-  test i time k = same_entry (indom, microseconds t, at) (i, time, k) ∙ ap (λ n. nat_eq indom i && (nat_eq (microseconds t) time && nat_eq n k)) (sym here)
+  test : (i time k : ℕ) → is_eq (moment_order (listing indom (microseconds t) at) (listing i time k)) ≡ (nat_eq indom i && (nat_eq (microseconds t) time && nat_eq (length records) k))
+  test i time k = same_entry (listing indom (microseconds t) at) (listing i time k) ∙ ap (λ n. nat_eq indom i && (nat_eq (microseconds t) time && nat_eq n k)) (sym here)
 
-  pub moments_more : ((q : Triple) → contains moment_order new q ≡ cond (is_eq (moment_order (indom, microseconds t, at) q)) true (contains moment_order old q)) → HasMoments old records → HasMoments new (records ++ Domain t indom pairs ∷ [])
-  moments_more added h i time k = added (i, time, k) ∙ ap (λ b. cond b true (contains moment_order old (i, time, k))) (test i time k) ∙ by (nat_eq (length records) k) refl
+  pub moments_more : ((q : Listing) → contains moment_order new q ≡ cond (is_eq (moment_order (listing indom (microseconds t) at) q)) true (contains moment_order old q)) → HasMoments old records → HasMoments new (records ++ Domain t indom pairs ∷ [])
+  moments_more added h i time k = added (listing i time k) ∙ ap (λ b. cond b true (contains moment_order old (listing i time k))) (test i time k) ∙ by (nat_eq (length records) k) refl
     where
-      by : (b : Bool) → nat_eq (length records) k ≡ b → cond (nat_eq indom i && (nat_eq (microseconds t) time && b)) true (contains moment_order old (i, time, k)) ≡ stamped_at i time (slice_get (records ++ Domain t indom pairs ∷ []) k)
+      by : (b : Bool) → nat_eq (length records) k ≡ b → cond (nat_eq indom i && (nat_eq (microseconds t) time && b)) true (contains moment_order old (listing i time k)) ≡ stamped_at i time (slice_get (records ++ Domain t indom pairs ∷ []) k)
       by true e = ap (cond (nat_eq indom i && (nat_eq (microseconds t) time && true)) true) (h i time k ∙ none_here i time k e) ∙ all_of (nat_eq indom i) (nat_eq (microseconds t) time)
           ∙ sym (stamped_push records (Domain t indom pairs) i time k true e)
-      by false e = not_all (nat_eq indom i) (nat_eq (microseconds t) time) true (contains moment_order old (i, time, k)) ∙ h i time k ∙ sym (stamped_push records (Domain t indom pairs) i time k false e)
+      by false e = not_all (nat_eq indom i) (nat_eq (microseconds t) time) true (contains moment_order old (listing i time k)) ∙ h i time k ∙ sym (stamped_push records (Domain t indom pairs) i time k false e)
 
-  pub moments_less : ((q : Triple) → contains moment_order new q ≡ cond (is_eq (moment_order (indom, microseconds t, at) q)) false (contains moment_order old q)) → HasMoments old (records ++ Domain t indom pairs ∷ []) → HasMoments new records
-  moments_less removed h i time k = removed (i, time, k) ∙ ap (λ b. cond b false (contains moment_order old (i, time, k))) (test i time k) ∙ by (nat_eq (length records) k) refl
+  pub moments_less : ((q : Listing) → contains moment_order new q ≡ cond (is_eq (moment_order (listing indom (microseconds t) at) q)) false (contains moment_order old q)) → HasMoments old (records ++ Domain t indom pairs ∷ []) → HasMoments new records
+  moments_less removed h i time k = removed (listing i time k) ∙ ap (λ b. cond b false (contains moment_order old (listing i time k))) (test i time k) ∙ by (nat_eq (length records) k) refl
     where
-      by : (b : Bool) → nat_eq (length records) k ≡ b → cond (nat_eq indom i && (nat_eq (microseconds t) time && b)) false (contains moment_order old (i, time, k)) ≡ stamped_at i time (slice_get records k)
+      by : (b : Bool) → nat_eq (length records) k ≡ b → cond (nat_eq indom i && (nat_eq (microseconds t) time && b)) false (contains moment_order old (listing i time k)) ≡ stamped_at i time (slice_get records k)
       by true e = ap (cond (nat_eq indom i && (nat_eq (microseconds t) time && true)) false) (h i time k ∙ stamped_push records (Domain t indom pairs) i time k true e) ∙ taken (nat_eq indom i) (nat_eq (microseconds t) time)
           ∙ sym (none_here i time k e)
-      by false e = not_all (nat_eq indom i) (nat_eq (microseconds t) time) false (contains moment_order old (i, time, k)) ∙ h i time k ∙ stamped_push records (Domain t indom pairs) i time k false e
+      by false e = not_all (nat_eq indom i) (nat_eq (microseconds t) time) false (contains moment_order old (listing i time k)) ∙ h i time k ∙ stamped_push records (Domain t indom pairs) i time k false e
 
 -- ---- the last entry
 
 abbrev greatest_place : ℕ
-greatest_place = 18446744073709551615
+greatest_place = 4294967295
 
-module _ (moments : BTreeSet Triple) (indom time : ℕ) where
-  in_bound : (other place : ℕ) → other ≤ time → place < 18446744073709551616 → is_gt (moment_order (indom, other, place) (indom, time, greatest_place)) ≡ false
+module _ (moments : BTreeSet Listing) (indom time : ℕ) where
+  in_bound : (other place : ℕ) → other ≤ time → place < 4294967296 → is_gt (moment_order (listing indom other place) (listing indom time greatest_place)) ≡ false
   in_bound other place le few = not_greater_at indom other time place greatest_place le (omega arith)
 
-  module _ (key : Triple) (low_enough : is_gt (moment_order key (indom, time, greatest_place)) ≡ false)
-      (greatest : (q : Triple) → is_gt (moment_order q (indom, time, greatest_place)) ≡ false → contains moment_order moments q ≡ true → is_lt (moment_order key q) ≡ false) where
-    pub is_last : contains moment_order moments key ≡ true → key.0 ≡ indom → IsLastEntry moments indom time key.2
+  module _ (key : Listing) (low_enough : is_gt (moment_order key (listing indom time greatest_place)) ≡ false)
+      (greatest : (q : Listing) → is_gt (moment_order q (listing indom time greatest_place)) ≡ false → contains moment_order moments q ≡ true → is_lt (moment_order key q) ≡ false) where
+    pub is_last : contains moment_order moments key ≡ true → key.indom ≡ indom → IsLastEntry moments indom time key.at
     is_last there same = record {
-      from = key.1;
-      there = subst (λ i. contains moment_order moments (i, key.1, key.2) ≡ true) same there;
-      not_after = elim (before_from key (indom, time, greatest_place) low_enough) [ inl lt ↦ absurd (omega arith) | inr p ↦ elim p.1 [ inl lt ↦ omega arith | inr q ↦ omega arith ] ];
-      last = λ other place is le few. elim (behind_from key (indom, other, place) (greatest (indom, other, place) (in_bound other place le few) is)) [ inl lt ↦ absurd (omega arith) | inr p ↦ p.1 ];
+      from = key.from;
+      there = subst (λ i. contains moment_order moments (listing i key.from key.at) ≡ true) same there;
+      not_after = elim (before_from key (listing indom time greatest_place) low_enough) [ inl lt ↦ absurd (omega arith) | inr p ↦ elim p.1 [ inl lt ↦ omega arith | inr q ↦ omega arith ] ];
+      last = λ other place is le few. elim (behind_from key (listing indom other place) (greatest (listing indom other place) (in_bound other place le few) is)) [ inl lt ↦ absurd (omega arith) | inr p ↦ p.1 ];
     }
 
-    pub is_none : (key.0 ≡ indom → ⊥) → HasNoEntry moments indom time
+    pub is_none : (key.indom ≡ indom → ⊥) → HasNoEntry moments indom time
     is_none other_domain other place is le few =
-        elim (behind_from key (indom, other, place) (greatest (indom, other, place) (in_bound other place le few) is)) [
-          | inl lt ↦ elim (before_from key (indom, time, greatest_place) low_enough) [ inl less ↦ omega arith | inr p ↦ other_domain p.0 ]
+        elim (behind_from key (listing indom other place) (greatest (listing indom other place) (in_bound other place le few) is)) [
+          | inl lt ↦ elim (before_from key (listing indom time greatest_place) low_enough) [ inl less ↦ omega arith | inr p ↦ other_domain p.0 ]
           | inr p ↦ other_domain (sym p.0)
         ]
 
-  pub nothing_there : ((q : Triple) → is_gt (moment_order q (indom, time, greatest_place)) ≡ false → contains moment_order moments q ≡ false) → HasNoEntry moments indom time
-  nothing_there none other place is le few = let both : true ≡ false = sym is ∙ none (indom, other, place) (in_bound other place le few) in cc
+  pub nothing_there : ((q : Listing) → is_gt (moment_order q (listing indom time greatest_place)) ≡ false → contains moment_order moments q ≡ false) → HasNoEntry moments indom time
+  nothing_there none other place is le few = let both : true ≡ false = sym is ∙ none (listing indom other place) (in_bound other place le few) in cc
 
 -- ---- what holds at a moment
 
@@ -284,8 +282,8 @@ middle : (xs ys : List MetaRecord) (r : MetaRecord) → slice_get (xs ++ r ∷ y
 middle [] ys r = refl
 middle (x ∷ xs) ys r = middle xs ys r
 
-module _ (records : List MetaRecord) (moments : BTreeSet Triple) (indom : ℕ) (t : Moment) (has : HasMoments moments records) (few : length records < 18446744073709551616) where
-  entry_of : (k : ℕ) (s : Moment) (pairs : List (ℤ × List ℕ)) → slice_get records k ≡ Some (Domain s indom pairs) → contains moment_order moments (indom, microseconds s, k) ≡ true
+module _ (records : List MetaRecord) (moments : BTreeSet Listing) (indom : ℕ) (t : Moment) (has : HasMoments moments records) (few : length records < 4294967296) where
+  entry_of : (k : ℕ) (s : Moment) (pairs : List (ℤ × List ℕ)) → slice_get records k ≡ Some (Domain s indom pairs) → contains moment_order moments (listing indom (microseconds s) k) ≡ true
   entry_of k s pairs e = has indom (microseconds s) k ∙ ap (stamped_at indom (microseconds s)) e
       ∙ ap (λ b. b && nat_eq (microseconds s) (microseconds s)) (eq-eqb indom indom refl) ∙ eq-eqb (microseconds s) (microseconds s) refl
 

@@ -14,4 +14,5 @@ pub mod Places
 pub mod RecordsRead
 pub mod Taken
 pub mod Torn
+pub mod Woven
 pub mod ZeroBytes

@@ -3,6 +3,7 @@ use Rattle.std.proofs.Common.{◌≡◌, ◌≢◌, ℕ, ◌<◌, ◌≤◌, Boo
 use Rattle.std.specs.Prelude.{IfSome, MatchOption, IfOk, Result, Ok, Err}
 use Rattle.std.specs.Int.{w32, from_be_bytes}
 use Rattle.std.proofs.lemmas.Bool.{eqb-true, eqb-false, ne_eqb, ltb-false, le-ltb}
+use Rattle.pcp_base.proofs.Bytes.{IsBytes}
 use Rattle.pcp_base.specs.Fields.{be_field}
 use Rattle.pcp_base.specs.Time.{Moment}
 use Rattle.pcp_model.specs.Words.{word}
@@ -12,7 +13,6 @@ use Rattle.pcp_model.specs.Records.{IsRecord, description, domain_head, word_byt
 use Rattle.archive_meta.specs.Decoding.{◌>>=◌, description_in, domain_in, record_in, stamp_in, stamped_in}
 use Rattle.archive_meta.specs.Stamped.{IsStamped}
 use Rattle.archive_meta.proofs.ZeroBytes.{bind_some, some_is, past, only}
-use Rattle.archive_frame.proofs.Records.{IsBytes}
 use Rattle.archive_meta.proofs.Fields.{WordStands, field_takes, field_again, behind_word}
 use Rattle.archive_meta.proofs.DescriptionsRead.{description_takes, description_again}
 use Rattle.archive_meta.proofs.DomainsRead.{StampRead, stamp_takes, stamp_again, domain_takes, domain_again}

@@ -1,14 +1,16 @@
 -- What is kept beside the records, to find them: where each metric is first described, and where each domain's records
 -- stand, in order.
-use Rattle.std.specs.Prelude.{◌≡◌, ℕ, suc, ◌<◌, ◌≤◌, ◌⊎◌, Bool, true, false, ◌&&◌, nat_eq, if◌then◌else◌, List, [], ◌∷◌, ◌++◌, Option, Some, None, option_map, slice_get}
+use Rattle.std.specs.Prelude.{◌≡◌, ℕ, suc, ◌<◌, ◌≤◌, ◌⊎◌, Bool, true, false, ◌&&◌, nat_eq, if◌then◌else◌, List, [], ◌∷◌, ◌++◌, Option, Some, None, option_map, length, slice_get}
 use Rattle.std.specs.BTreeSet.{BTreeSet, contains}
 use Rattle.indexmap.specs.IndexMap.{IndexMap, get, keys}
 use Rattle.pcp_model.specs.declared.records.MetaRecord.{MetaRecord}
 use Rattle.pcp_model.specs.declared.records.MetaRecord.TheVariants.{Description, Domain, Other}
 use Rattle.pcp_base.specs.Time.{microseconds}
 use Rattle.pcp_model.specs.Records.{AreConsistent}
+use Rattle.archive_meta.specs.declared.moments.Listing.{Listing}
 use Rattle.archive_meta.specs.Order.{moment_order}
 use Rattle.archive_meta.specs.Said.{describes, described}
+use Rattle.archive_meta.specs.Woven.{woven, AreMarked}
 
 -- where the first record stands that describes a metric
 abbrev pub place : ℕ → List MetaRecord → Option ℕ
@@ -29,25 +31,35 @@ abbrev pub stamped_at : ℕ → ℕ → Option MetaRecord → Bool
 stamped_at indom time None = false
 stamped_at indom time (Some r) = is_stamped indom time r
 
--- the set has each record of a domain: the domain, the moment, and where the record stands
-abbrev pub HasMoments : BTreeSet (ℕ × ℕ × ℕ) → List MetaRecord → Type 0
-HasMoments moments records = (indom time at : ℕ) → contains moment_order moments (indom, time, at) ≡ stamped_at indom time (slice_get records at)
+abbrev pub listing : ℕ → ℕ → ℕ → Listing
+listing indom from at = record { indom = indom; at = at; from = from }
 
-pub record IsKept {S : Type 0} (records : List MetaRecord) (descriptions : IndexMap ℕ ℕ S) (moments : BTreeSet (ℕ × ℕ × ℕ)) : Type 0 where
-  pub consistent : AreConsistent records
+-- the set has each record of a domain: the domain, the moment, and where the record stands
+abbrev pub HasMoments : BTreeSet Listing → List MetaRecord → Type 0
+HasMoments moments records = (indom time at : ℕ) → contains moment_order moments (listing indom time at) ≡ stamped_at indom time (slice_get records at)
+
+-- what is kept beside records of which no place is above 2^32 - 1
+pub record IsKept {S : Type 0} (records : List MetaRecord) (descriptions : IndexMap ℕ ℕ S) (moments : BTreeSet Listing) : Type 0 where
+  pub few : length records < 4294967296
   pub metrics : HasDescriptions descriptions records
   pub domains : HasMoments moments records
 
+-- all records are told by those that are kept and by marks
+pub record IsState {S : Type 0} (records : List MetaRecord) (marks : List Bool) (descriptions : IndexMap ℕ ℕ S) (moments : BTreeSet Listing) : Type 0 where
+  pub kept : IsKept records descriptions moments
+  pub marked : AreMarked marks records
+  pub consistent : AreConsistent (woven marks records)
+
 -- the last of a domain's entries not after a time: no other of them is later, or as late and further behind
-pub record IsLastEntry (moments : BTreeSet (ℕ × ℕ × ℕ)) (indom time at : ℕ) : Type 0 where
+pub record IsLastEntry (moments : BTreeSet Listing) (indom time at : ℕ) : Type 0 where
   pub from : ℕ
-  pub there : contains moment_order moments (indom, from, at) ≡ true
+  pub there : contains moment_order moments (listing indom from at) ≡ true
   pub not_after : from ≤ time
-  pub last : (other place : ℕ) → contains moment_order moments (indom, other, place) ≡ true → other ≤ time → place < 18446744073709551616
+  pub last : (other place : ℕ) → contains moment_order moments (listing indom other place) ≡ true → other ≤ time → place < 4294967296
       → (other < from) ⊎ ((other ≡ from) × (place ≤ at))
 
-abbrev pub HasNoEntry : BTreeSet (ℕ × ℕ × ℕ) → ℕ → ℕ → Type 0
-HasNoEntry moments indom time = (other place : ℕ) → contains moment_order moments (indom, other, place) ≡ true → other ≤ time → place < 18446744073709551616 → ⊥
+abbrev pub HasNoEntry : BTreeSet Listing → ℕ → ℕ → Type 0
+HasNoEntry moments indom time = (other place : ℕ) → contains moment_order moments (listing indom other place) ≡ true → other ≤ time → place < 4294967296 → ⊥
 
 -- a metric's place is noted, unless it has one
 pub record NotesMetric {S : Type 0} (pmid at : ℕ) (old new : IndexMap ℕ ℕ S) : Type 0 where

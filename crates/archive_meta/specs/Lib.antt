@@ -11,3 +11,4 @@ pub mod Records
 pub mod Room
 pub mod Said
 pub mod Stamped
+pub mod Woven

@@ -1,5 +1,5 @@
 //! One record more, or less, in what is kept beside the records.
-ghost use Rattle.std.specs.Prelude.{◌≡◌, ◌↔◌, ℕ, ◌∷◌, [], ◌++◌, length, List as Sequence, IsTrue, OnOk, OnErr};
+ghost use Rattle.std.specs.Prelude.{◌≡◌, ◌↔◌, ◌<◌, ◌∷◌, [], ◌++◌, length, List as Sequence, IsTrue, OnOk, OnErr};
 ghost use Rattle.pcp_model.specs.declared.records.MetaRecord.{MetaRecord as Record};
 ghost use Rattle.pcp_model.specs.declared.records.MetaRecord.TheVariants.{Description};
 ghost use Rattle.archive_meta.specs.Kept.{HasDescriptions, HasMoments};
@@ -16,6 +16,7 @@ pub fn note(
     one: &MetaRecord,
     at: usize,
 ) -> Result<(), NoMemory>
+    requires { at < 4294967296 }
     ensures metrics { OnOk result ((records : Sequence Record) → length records ≡ at → HasDescriptions descriptions.old records → HasDescriptions descriptions.new (records ++ one.now ∷ [])) }
     ensures domains { OnOk result ((records : Sequence Record) → length records ≡ at → HasMoments moments.old records → HasMoments moments.new (records ++ one.now ∷ [])) }
     ensures same_metrics { OnErr result ((records : Sequence Record) → HasDescriptions descriptions.old records → HasDescriptions descriptions.new records) }
@@ -30,6 +31,7 @@ pub fn note(
 
 /// Forgets the record behind all others.
 pub fn forget(descriptions: &mut Descriptions, moments: &mut Moments, one: &MetaRecord, at: usize)
+    requires { at < 4294967296 }
     ensures metrics { (records : Sequence Record) → length records ≡ at → HasDescriptions descriptions.old (records ++ one.now ∷ []) → HasDescriptions descriptions.new records }
     ensures domains { (records : Sequence Record) → length records ≡ at → HasMoments moments.old (records ++ one.now ∷ []) → HasMoments moments.new records }
 {

@@ -5,7 +5,7 @@ ghost use Rattle.pcp_model.specs.Frame.{IsTorn};
 ghost use Rattle.pcp_model.specs.Records.{AreConsistent};
 ghost use Rattle.archive_meta.specs.Records.{AreRecords, Adds, AreFound, HasFront, IsFrontFault, IsWholeEnd};
 
-use crate::counting::records_at_most;
+use crate::counting::room_for;
 use crate::fault::MetaFault;
 use crate::framed::record_at;
 use crate::state::MetaState;
@@ -61,7 +61,7 @@ impl MetaState {
         // Which record it is.
         ensures fault { IfErr result (IsFrontFault [] bytes.now) }
     {
-        let mut meta = MetaState::with_room(alloc, records_at_most(bytes))?;
+        let mut meta = MetaState::with_room(alloc, room_for(bytes))?;
         let end = meta.add_front(alloc, bytes)?;
         Ok((meta, end))
     }

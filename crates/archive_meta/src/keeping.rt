@@ -1,16 +1,22 @@
 //! The records and what is kept beside them, as one: what is found, one record more, one less.
-ghost use Rattle.std.specs.Prelude.{◌≡◌, ℕ, ℤ, ◌-◌, ◌<◌, ◌∷◌, [], ◌++◌, length, take, slice_get, List as Sequence, OnOk, OnErr, MatchOption};
+ghost use Rattle.std.specs.Prelude.{◌≡◌, ◌↔◌, ℕ, ℤ, ◌-◌, ◌<◌, ◌∷◌, [], ◌++◌, length, take, slice_get, List as Sequence, IsTrue, OnOk, OnErr, MatchOption};
 ghost use Rattle.std.specs.Option.{option_copied};
+ghost use Rattle.pcp_model.specs.declared.records.MetaRecord.TheVariants.{Other};
 ghost use Rattle.pcp_model.specs.Described.{HoldsAt};
 ghost use Rattle.pcp_model.specs.Records.{AreConsistent};
 ghost use Rattle.archive_meta.specs.Said.{description_of, pairs_of};
-ghost use Rattle.archive_meta.specs.Kept.{HasDescriptions, HasMoments, IsKept};
+ghost use Rattle.archive_meta.specs.Kept.{HasDescriptions, HasMoments, IsKept, IsState};
+ghost use Rattle.archive_meta.specs.Woven.{woven};
 
 use crate::adding::{forget, note};
 use crate::descriptions::{Descriptions, place_of};
 use crate::moments::{Moments, last_moment};
 use pcp_base::{InDom, List, NoMemory, Pmid, Stamp, Text};
 use pcp_model::MetaRecord;
+
+/// The most records that are kept: their places are below it. A Meta of less than 2^31 bytes has far fewer; more are
+/// refused as want of memory.
+const MOST: usize = 4_294_967_295;
 
 /// The first record that describes a metric.
 pub fn description_of<'a>(
@@ -45,7 +51,7 @@ pub fn domain_at<'a>(
     t: Stamp,
 ) -> Option<&'a List<(i32, Text)>>
     requires moments { HasMoments moments.now records.now }
-    requires few { length records.now < 18446744073709551616 }
+    requires few { length records.now < 4294967296 }
     ensures { MatchOption (option_copied result) ((pairs : Sequence (ℤ × Sequence ℕ)) → HoldsAt records.now indom t pairs → ⊥) (HoldsAt records.now indom t) }
 {
     match last_moment(moments, indom, t) {
@@ -54,21 +60,23 @@ pub fn domain_at<'a>(
     }
 }
 
-/// One record more; a refusal changes nothing that is told.
-pub fn push(
+/// One record more among those that are kept; a refusal changes nothing that is told.
+fn keep(
     records: &mut List<MetaRecord>,
     descriptions: &mut Descriptions,
     moments: &mut Moments,
     one: MetaRecord,
 ) -> Result<(), NoMemory>
-    requires kept { IsKept records.old descriptions.old moments.old }
-    requires consistent { AreConsistent (records.old ++ one ∷ []) }
+    requires { IsKept records.old descriptions.old moments.old }
     ensures ok { OnOk result (records.new ≡ records.old ++ one ∷ []) }
     ensures err { OnErr result (records.new ≡ records.old) }
     ensures kept { OnOk result (IsKept records.new descriptions.new moments.new) }
     ensures still_kept { OnErr result (IsKept records.new descriptions.new moments.new) }
 {
     let at = records.len();
+    if at >= MOST {
+        return Err(NoMemory);
+    }
     records.push(one)?;
     match note(descriptions, moments, &records.as_slice()[at], at) {
         Ok(()) => Ok(()),
@@ -79,8 +87,8 @@ pub fn push(
     }
 }
 
-/// One record less, the last.
-fn pop(records: &mut List<MetaRecord>, descriptions: &mut Descriptions, moments: &mut Moments)
+/// One record less among those that are kept, the last.
+fn discard(records: &mut List<MetaRecord>, descriptions: &mut Descriptions, moments: &mut Moments)
     requires { IsKept records.old descriptions.old moments.old }
     ensures rest { records.new ≡ take (length records.old - 1) records.old }
     ensures kept { IsKept records.new descriptions.new moments.new }
@@ -92,20 +100,78 @@ fn pop(records: &mut List<MetaRecord>, descriptions: &mut Descriptions, moments:
     forget(descriptions, moments, &one, at);
 }
 
+fn is_other(one: &MetaRecord) -> bool
+    ensures { IsTrue result ↔ (one.now ≡ Other) }
+{
+    match one {
+        MetaRecord::Description(_, _) | MetaRecord::Domain(_, _, _) => false,
+        MetaRecord::Other => true,
+    }
+}
+
+/// One record more, with its mark; a refusal changes nothing that is told.
+pub fn push(
+    records: &mut List<MetaRecord>,
+    marks: &mut List<bool>,
+    descriptions: &mut Descriptions,
+    moments: &mut Moments,
+    one: MetaRecord,
+) -> Result<(), NoMemory>
+    requires state { IsState records.old marks.old descriptions.old moments.old }
+    requires consistent { AreConsistent (woven marks.old records.old ++ one ∷ []) }
+    ensures ok { OnOk result (woven marks.new records.new ≡ woven marks.old records.old ++ one ∷ []) }
+    ensures err { OnErr result (woven marks.new records.new ≡ woven marks.old records.old) }
+    ensures state { OnOk result (IsState records.new marks.new descriptions.new moments.new) }
+    ensures still { OnErr result (IsState records.new marks.new descriptions.new moments.new) }
+{
+    if is_other(&one) {
+        marks.push(false)?;
+        return Ok(());
+    }
+    marks.push(true)?;
+    match keep(records, descriptions, moments, one) {
+        Ok(()) => Ok(()),
+        Err(fault) => {
+            marks.pop();
+            Err(fault)
+        }
+    }
+}
+
+/// One record less, the last.
+fn pop(
+    records: &mut List<MetaRecord>,
+    marks: &mut List<bool>,
+    descriptions: &mut Descriptions,
+    moments: &mut Moments,
+)
+    requires { IsState records.old marks.old descriptions.old moments.old }
+    ensures rest { woven marks.new records.new ≡ take (length marks.old - 1) (woven marks.old records.old) }
+    ensures size { length marks.new ≡ length marks.old - 1 }
+    ensures state { IsState records.new marks.new descriptions.new moments.new }
+{
+    match marks.pop() {
+        Some(true) => discard(records, descriptions, moments),
+        Some(false) => (),
+        None => (),
+    }
+}
+
 /// Takes away the records behind the first so many.
 pub fn cut(
     records: &mut List<MetaRecord>,
+    marks: &mut List<bool>,
     descriptions: &mut Descriptions,
     moments: &mut Moments,
     count: usize,
 )
-    requires { IsKept records.old descriptions.old moments.old }
-    ensures rest { records.new ≡ take count records.old }
-    ensures kept { IsKept records.new descriptions.new moments.new }
+    requires { IsState records.old marks.old descriptions.old moments.old }
+    ensures rest { woven marks.new records.new ≡ take count (woven marks.old records.old) }
+    ensures state { IsState records.new marks.new descriptions.new moments.new }
 {
-    let mut left = records.len();
+    let mut left = marks.len();
     while left > count {
-        pop(records, descriptions, moments);
+        pop(records, marks, descriptions, moments);
         left -= 1;
     }
 }

@@ -28,6 +28,7 @@ mod writing;
 
 pub use facts::{Changed, Facts, RecordsFault};
 pub use fault::MetaFault;
+pub use fitting::has_values;
 pub use laws::{missing_records_describe, records_go_on};
 pub use reading::domain_stamp;
 pub use state::MetaState;

@@ -9,7 +9,7 @@ ghost use Rattle.archive_meta.specs.Records.{AreRecords, IsMetaFault, Adds, AreF
 ghost use Rattle.archive_meta.specs.Said.{description_of, desc_of, names_of, described};
 
 use crate::adding::is_description;
-use crate::counting::records_at_most;
+use crate::counting::{Room, room_for};
 use crate::descriptions::{Descriptions, all_metrics};
 use crate::fault::MetaFault;
 use crate::framed::record_at;
@@ -23,10 +23,12 @@ use std::alloc::Global;
 use std::collections::BTreeSet;
 use std::marker::Model;
 
-/// All records of Meta in the order of the file; no two describe one metric in two ways.
+/// All records of Meta in the order of the file; no two describe one metric in two ways. Records of other kinds aren't
+/// kept: for each record a mark says whether it is the next of those that are.
 #[derive(Drop)]
 pub struct MetaState {
     records: List<MetaRecord>,
+    marks: List<bool>,
     descriptions: Descriptions,
     moments: Moments,
 }
@@ -34,13 +36,14 @@ pub struct MetaState {
 impl Model for MetaState {
     ghost use Rattle.std.specs.Prelude.{List as Sequence};
     ghost use Rattle.pcp_model.specs.declared.records.MetaRecord.{MetaRecord as Record};
-    ghost use Rattle.archive_meta.specs.Kept.{IsKept};
+    ghost use Rattle.archive_meta.specs.Kept.{IsState};
+    ghost use Rattle.archive_meta.specs.Woven.{woven};
 
     ghost Value = { Sequence Record };
 
-    ghost view = { λ m. m.records };
+    ghost view = { λ m. woven m.marks m.records };
 
-    ghost invariant = { λ m. IsKept m.records m.descriptions m.moments };
+    ghost invariant = { λ m. IsState m.records m.marks m.descriptions m.moments };
 }
 
 impl MetaState {
@@ -50,18 +53,24 @@ impl MetaState {
     {
         MetaState {
             records: List::empty(alloc),
+            marks: List::empty(alloc),
             descriptions: IndexMap::with_hasher(alloc, WordHasher::new()),
             moments: BTreeSet::new(alloc),
         }
     }
 
     /// No records, with room for so many.
-    pub(crate) fn with_room(alloc: Global, count: usize) -> Result<MetaState, NoMemory>
+    pub(crate) fn with_room(alloc: Global, room: Room) -> Result<MetaState, NoMemory>
         ensures { IfOk result (λ m. m ≡ []) }
     {
         Ok(MetaState {
-            records: List::from_vec(Vec::with_capacity(alloc, count)?),
-            descriptions: IndexMap::with_capacity_and_hasher(alloc, count, WordHasher::new())?,
+            records: List::from_vec(Vec::with_capacity(alloc, room.kept)?),
+            marks: List::from_vec(Vec::with_capacity(alloc, room.records)?),
+            descriptions: IndexMap::with_capacity_and_hasher(
+                alloc,
+                room.described,
+                WordHasher::new(),
+            )?,
             moments: BTreeSet::new(alloc),
         })
     }
@@ -71,7 +80,7 @@ impl MetaState {
         ensures value { result ≡ length self.now }
         ensures consistent { AreConsistent self.now }
     {
-        self.records.len()
+        self.marks.len()
     }
 
     /// The first record that describes a metric.
@@ -111,6 +120,7 @@ impl MetaState {
     {
         push(
             &mut self.records,
+            &mut self.marks,
             &mut self.descriptions,
             &mut self.moments,
             one,
@@ -123,6 +133,7 @@ impl MetaState {
     {
         cut(
             &mut self.records,
+            &mut self.marks,
             &mut self.descriptions,
             &mut self.moments,
             count,
@@ -191,7 +202,7 @@ impl MetaState {
         // Which record it is.
         ensures fault { IfErr result (IsMetaFault [] bytes.now) }
     {
-        let mut meta = MetaState::with_room(alloc, records_at_most(bytes))?;
+        let mut meta = MetaState::with_room(alloc, room_for(bytes))?;
         match meta.extend(alloc, bytes) {
             Ok(()) => Ok(meta),
             Err(fault) => Err(fault),
@@ -222,7 +233,6 @@ impl MetaState {
     pub fn domain_at(&self, indom: InDom, t: Stamp) -> Option<&List<(i32, Text)>>
         ensures { MatchOption (option_copied result) ((pairs : Sequence (ℤ × Sequence ℕ)) → HoldsAt self.now indom t pairs → ⊥) (HoldsAt self.now indom t) }
     {
-        let _count = self.records.len();
         domain_at(&self.records, &self.moments, indom, t)
     }
 

@@ -1,21 +1,15 @@
 -- The last item not after a moment in which a metric has values.
 use Rattle.std.specs.Prelude.{◌≡◌, ℕ, Bool, true, false, ◌&&◌, nat_eq, if◌then◌else◌, List, [], ◌∷◌, Option, Some, None}
 use Rattle.pcp_base.specs.Time.{Moment}
-use Rattle.pcp_base.specs.declared.result.Body.{Body}
-use Rattle.pcp_base.specs.declared.result.Body.TheVariants.{InPlace, Blocks, Status}
 use Rattle.pcp_base.specs.declared.result.ValueSet.{ValueSet}
 use Rattle.pcp_base.specs.declared.result.Item.{Item}
 use Rattle.pcp_base.specs.declared.result.Item.TheVariants.{Sample, Mark}
 use Rattle.pcp_model.specs.Disk.{Files}
+use Rattle.archive_meta.specs.Facts.{has_values}
 use Rattle.archive_reader.specs.declared.fault.ReaderFault.{ReaderFault}
 use Rattle.archive_reader.specs.declared.fault.ReaderFault.TheVariants.{Compressed, NotArchive, DiskFault, NoMemory}
 use Rattle.archive_reader.specs.Searches.{or_else, is_after}
 use Rattle.archive_reader.specs.Walks.{AllFrom, StopsAt}
-
-abbrev pub has_values : Body → Bool
-has_values (InPlace pairs) = true
-has_values (Blocks pairs) = true
-has_values (Status n) = false
 
 -- a set shows values of this metric
 abbrev pub shows : ℕ → ValueSet → Bool

@@ -7,24 +7,15 @@ ghost use Rattle.pcp_outside.specs.Causes.{Rose};
 ghost use Rattle.archive_window.specs.Looks.{Looks};
 ghost use Rattle.archive_reader.specs.declared.fault.ReaderFault.TheVariants.{DiskFault};
 ghost use Rattle.archive_loading.specs.Loaded.{IsMeasured, IsReachable};
-ghost use Rattle.archive_reader.specs.Values.{has_values, shows, first_shown, value_in, is_there, later_of, IsLastValued, IsValueAt, IsWholeFault};
+ghost use Rattle.archive_reader.specs.Values.{shows, first_shown, value_in, is_there, later_of, IsLastValued, IsValueAt, IsWholeFault};
 
 use crate::fault::ReaderFault;
 use crate::segments::is_after;
 use crate::walking::{Step, walk};
-use pcp_base::{Body, Duplicate, Item, NoMemory, Pmid, Stamp, ValueSet};
+use archive_meta::has_values;
+use pcp_base::{Duplicate, Item, NoMemory, Pmid, Stamp, ValueSet};
 use pcp_outside::{Disk, FileId};
 use std::alloc::Global;
-
-fn has_values(body: &Body) -> bool
-    ensures { result ≡ has_values body.now }
-{
-    match body {
-        Body::InPlace(_) => true,
-        Body::Blocks(_) => true,
-        Body::Status(_) => false,
-    }
-}
 
 fn shows(set: &ValueSet, pmid: Pmid) -> bool
     ensures { result ≡ shows pmid set.now }
@@ -32,7 +23,7 @@ fn shows(set: &ValueSet, pmid: Pmid) -> bool
     if set.pmid.word() != pmid.word() {
         return false;
     }
-    has_values(&set.body)
+    has_values(set)
 }
 
 /// The first set with values of this metric.

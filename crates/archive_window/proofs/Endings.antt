@@ -5,6 +5,7 @@ use Rattle.std.specs.List.{slice_range}
 use Rattle.std.specs.Prelude.{IfOk, Option, Some, None}
 use Rattle.std.proofs.Math.Seq.{take-add}
 use Rattle.std.proofs.lemmas.List.{drop_at, take_all, take-take, drop-drop, length-append, length-take, length-drop}
+use Rattle.pcp_base.specs.Fields.{number_at}
 use Rattle.pcp_base.specs.declared.file.FileId.{FileId}
 use Rattle.pcp_base.specs.declared.file.FileId.TheVariants.{Meta, Index, Volume}
 use Rattle.pcp_base.specs.declared.memory.NoMemory.{NoMemory}
@@ -14,7 +15,7 @@ use Rattle.pcp_outside.specs.Devices.{Counts}
 use Rattle.archive_frame.specs.declared.fault.FrameFault.{FrameFault}
 use Rattle.archive_frame.specs.declared.steps.Step.{Step}
 use Rattle.archive_frame.specs.declared.steps.Step.TheVariants.{End, Payload}
-use Rattle.archive_frame.specs.Steps.{Stands, IsSize, number_at, IsBack}
+use Rattle.archive_frame.specs.Steps.{Stands, IsSize, IsBack}
 use Rattle.archive_frame.proofs.Records.{Ends, stood}
 use Rattle.archive_window.specs.declared.backward.Last.{Last}
 use Rattle.archive_window.specs.declared.backward.Last.TheVariants.{Nothing, Bad, Item as AnItem}

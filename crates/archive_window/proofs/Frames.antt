@@ -13,10 +13,11 @@ use Rattle.archive_frame.specs.declared.steps.Step.TheVariants.{End, Payload}
 use Rattle.result_form.specs.declared.fault.FormFault.{FormFault}
 use Rattle.result_form.specs.declared.fault.FormFault.TheVariants.{NoMemory as Refused}
 use Rattle.result_form.specs.Decoding.{Gives}
-use Rattle.archive_frame.specs.Steps.{Stands, IsSize, number_at, IsForward}
+use Rattle.archive_frame.specs.Steps.{Stands, IsSize, IsForward}
 use Rattle.pcp_model.proofs.Lengths.{length-frame}
 use Rattle.archive_frame.proofs.Records.{Ends, stood}
 use Rattle.std.specs.Prelude.{IfOk, Option, Some, None}
+use Rattle.pcp_base.specs.Fields.{number_at}
 use Rattle.pcp_base.specs.declared.memory.NoMemory.{NoMemory}
 use Rattle.archive_window.specs.Standing.{IsItemOf, IsItemIn, ItemStands, NoItemStands, NoFrameStands, IsSized, WasTaken}
 

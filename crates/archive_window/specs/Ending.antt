@@ -1,8 +1,9 @@
 -- What ends at an offset of a volume, behind its label.
 use Rattle.std.specs.Prelude.{◌≡◌, ℕ, ◌-◌, ◌≤◌, List, length}
+use Rattle.pcp_base.specs.Fields.{number_at}
 use Rattle.pcp_base.specs.declared.result.Item.{Item as AnItem}
 use Rattle.pcp_model.specs.Payload.{IsItem}
-use Rattle.archive_frame.specs.Steps.{Stands, number_at}
+use Rattle.archive_frame.specs.Steps.{Stands}
 use Rattle.archive_window.specs.Standing.{ItemStands}
 use Rattle.archive_window.specs.declared.backward.Last.{Last}
 use Rattle.archive_window.specs.declared.backward.Last.TheVariants.{Nothing, Bad, Item}

@@ -1,9 +1,10 @@
 -- What stands at an offset of a file, and what ends there.
 use Rattle.std.specs.Prelude.{◌≡◌, ◌⊎◌, ℕ, ◌+◌, ◌<◌, ◌≤◌, List, length, take, drop, Option, Some, None}
+use Rattle.pcp_base.specs.Fields.{number_at}
 use Rattle.pcp_base.specs.declared.result.Item.{Item as AnItem}
 use Rattle.pcp_model.specs.Frame.{IsTorn}
 use Rattle.pcp_model.specs.Payload.{IsItem}
-use Rattle.archive_frame.specs.Steps.{Stands, IsSize, number_at}
+use Rattle.archive_frame.specs.Steps.{Stands, IsSize}
 use Rattle.archive_window.specs.declared.forward.Taken.{Taken}
 use Rattle.archive_window.specs.declared.forward.Taken.TheVariants.{Torn, Wrong, Frame}
 use Rattle.archive_window.specs.declared.forward.Said.{Said}

@@ -1,8 +1,9 @@
 -- How many bytes of volumes a call takes.
 use Rattle.std.specs.Prelude.{◌≡◌, ◌⊎◌, ℕ, ◌+◌, ◌-◌, ◌≤◌, List, length}
+use Rattle.pcp_base.specs.Fields.{number_at}
 use Rattle.pcp_base.specs.declared.file.FileId.{FileId}
 use Rattle.pcp_base.specs.declared.file.FileId.TheVariants.{Meta, Index, Volume}
-use Rattle.archive_frame.specs.Steps.{IsSize, number_at}
+use Rattle.archive_frame.specs.Steps.{IsSize}
 
 -- of so many bytes of a file those that are a volume's
 abbrev pub volume_bytes : FileId → ℕ → ℕ

@@ -1,8 +1,9 @@
 //! The record that ends at an offset.
 ghost use Rattle.std.specs.Prelude.{◌≡◌, ◌+◌, ◌-◌, ◌<◌, ◌≤◌, ◌++◌, length, take, drop, IfOk, IfErr, OnOk};
+ghost use Rattle.pcp_base.specs.Fields.{number_at};
 ghost use Rattle.pcp_model.specs.Disk.{contents_of};
 ghost use Rattle.pcp_base.specs.declared.file.FileId.TheVariants.{Volume};
-ghost use Rattle.archive_frame.specs.Steps.{IsSize, number_at};
+ghost use Rattle.archive_frame.specs.Steps.{IsSize};
 ghost use Rattle.archive_window.specs.Ending.{IsLastRecord, IsTailed, IsWholeRecord};
 ghost use Rattle.archive_window.specs.Looks.{Looks, Blames};
 ghost use Rattle.archive_window.specs.Taking.{TookBack, TookBefore};

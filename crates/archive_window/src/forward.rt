@@ -1,9 +1,9 @@
 //! The record that begins at an offset.
 ghost use Rattle.std.specs.Prelude.{◌≡◌, ◌≢◌, ◌+◌, ◌-◌, ◌<◌, ◌≤◌, ◌++◌, ℕ, length, take, drop, [], IfOk, IfErr, IfSome, OnOk, MatchOption};
+ghost use Rattle.pcp_base.specs.Fields.{number_at};
 ghost use Rattle.pcp_model.specs.Disk.{contents_of};
 ghost use Rattle.pcp_base.specs.declared.file.FileId.TheVariants.{Volume};
 ghost use Rattle.result_form.specs.declared.fault.FormFault.TheVariants.{NoMemory as Refused};
-ghost use Rattle.archive_frame.specs.Steps.{number_at};
 ghost use Rattle.pcp_outside.specs.Devices.{IsNumbered};
 ghost use Rattle.archive_window.specs.Looks.{Looks, Blames};
 ghost use Rattle.archive_window.specs.Taking.{volume_bytes, Took, TookBehind};

@@ -1,5 +1,4 @@
-//! Tests of the commands over the system's files: a run writes there what it writes into memory, also beside many
-//! other files.
+//! Tests of the commands over the system's files: a run writes its archive there, also beside many other files.
 #![tactic(auto)]
 
 #[cfg(test)]

@@ -1,7 +1,8 @@
 -- Regions that were read one after another, each by its own pass.
 use Rattle.std.proofs.Common.{◌≡◌, ℕ, zero, suc, ◌+◌, ◌<◌, ◌≤◌, List, [], ◌∷◌, ◌++◌, length, take, drop, get_or, set, map, All, add-zero, sym, refl, ap, ap₂, ◌∙◌, subst, arith}
 use Rattle.std.proofs.lemmas.List.{map-append, take_more, take_more_set, take_all, length-set, drop-set-lt, get_or-drop}
-use Rattle.std.specs.Prelude.{option_map}
+use Rattle.std.specs.Prelude.{Option, None, Some, option_map, position, slice_get}
+use Rattle.std.proofs.lemmas.Option.{slice_get_read, slice_get_within, get_or_from_slice_get}
 use Rattle.std.proofs.lemmas.List.Elements.{All-append, All-nil, All-cons}
 use Rattle.std.proofs.lemmas.List.Folds.{fold-map}
 use Rattle.pcp_base.specs.Time.{Moment}
@@ -15,7 +16,7 @@ use Rattle.fetch_engine.specs.Answers.{answer_of, facts_of}
 use Rattle.fetch_engine.specs.Names.{names_of, missed_of, with_region, with_missed}
 use Rattle.fetch_engine.specs.Readings.{Reading, reading_of, AreInOrder, AscendFrom}
 use Rattle.fetch_engine.specs.Servers.{IsServer, IsSeated, RowsAscendFrom, regions_of}
-use Rattle.fetch_engine.specs.Visits.{IsReadBy, Visit, IsVisit, AreRead, IsLoaded, AreLoaded, AreNamed, IsFetched}
+use Rattle.fetch_engine.specs.Visits.{IsReadBy, Visit, IsVisit, AreRead, IsLoaded, AreLoaded, AreNamed, IsFetched, IsReadAt, IsReadIf, IsReadFor, lies_in}
 use Rattle.fetch_engine.specs.declared.server.Mounted.{Mounted}
 use Rattle.fetch_engine.specs.declared.shot.Shot.{Shot}
 use Rattle.fetch_engine.proofs.Places.{is_there, is_here}
@@ -195,3 +196,57 @@ are_named rows olds names missing news shots read names_are missing_are = record
   names_are = names_are ∙ sym (fold-map with_region reading_of [] shots);
   missing_are = missing_are ∙ sym (fold-map (λ clusters (reading : Reading). with_missed clusters reading.cluster reading.layout) reading_of [] shots);
 }
+
+-- One region alone
+
+pub none_for : (word : ℕ) (rows : List Mounted) (tokens : List Token) (shots : List Shot) → shots ≡ [] → position (lies_in word) rows ≡ None → IsReadFor word rows tokens (map reading_of shots) tokens
+none_for word rows tokens shots none nowhere =
+    subst (λ (p : Option ℕ). IsReadIf rows tokens p (map reading_of shots) tokens) (sym nowhere) (ap (λ (xs : List Shot). map reading_of xs) none, refl)
+
+pub one_for : (word : ℕ) (rows : List Mounted) (olds : List Token) (at : ℕ) (shots : List Shot) (shot : Shot) (before : Token) (row : Mounted) (after : Token)
+    → position (lies_in word) rows ≡ Some at → at < length rows → at < length olds → before ≡ get_or olds at before → row ≡ get_or rows at row
+    → shot.file ≡ row.file → shot.cluster ≡ row.cluster → IsReadBy before (option_map layout_of shot.image) after → shots ≡ shot ∷ []
+    → IsReadFor word rows olds (map reading_of shots) (set olds at after)
+one_for word rows olds at shots shot before row after here row_there token_there before_is row_is file cluster read is =
+    subst (λ (p : Option ℕ). IsReadIf rows olds p (map reading_of shots) (set olds at after)) (sym here)
+    (record {
+      visit = record { row = row; before = before; reading = reading_of shot; after = after };
+      is = record { file = file; cluster = cluster; read = read };
+      row_is = slice_get_read rows (length rows) at row refl row_there row_is;
+      old_is = slice_get_read olds (length olds) at before refl token_there before_is;
+      readings_are = ap (λ (xs : List Shot). map reading_of xs) is;
+      new_are = refl;
+    })
+
+pub loaded_for : (olds : List Token) (at : ℕ) (before after : Token) → at < length olds → before ≡ get_or olds at before → IsLoaded before after → AreLoaded olds (set olds at after)
+loaded_for olds at before after below is loaded = loaded_at olds olds at before after (none_loaded olds) below (subst (λ (t : Token). IsLoaded t after) is loaded)
+
+low_row : (rows : List Mounted) (at : ℕ) (row : Mounted) → All (λ (r : Mounted). r.cluster < 4096) rows → slice_get rows at ≡ Some row → row.cluster < 4096
+low_row rows at row low is =
+    subst (λ (r : Mounted). r.cluster < 4096) (get_or_from_slice_get rows at row row is) (low at row (slice_get_within rows at row is))
+
+one_in_order : (shots : List Shot) (reading : Reading) → reading.cluster < 4096 → map reading_of shots ≡ reading ∷ [] → AreInOrder shots
+one_in_order [] reading low is = absurd (nothing_more reading is)
+  where
+    nothing_more : (r : Reading) → [] ≡ r ∷ [] → ⊥
+    nothing_more r e = cc
+one_in_order (s ∷ []) reading low is =
+    let same : s.cluster ≡ reading.cluster = ap cluster_in is in
+    low_shot s (subst (λ (c : ℕ). c < 4096) (sym same) low)
+  where
+    cluster_in : List Reading → ℕ
+    cluster_in [] = 0
+    cluster_in (r ∷ rs) = r.cluster
+
+    low_shot : (shot : Shot) → shot.cluster < 4096 → AreInOrder (shot ∷ [])
+    low_shot shot below = record { clusters = All-cons (λ (x : Shot). x.cluster < 4096) shot [] below (All-nil (λ (x : Shot). x.cluster < 4096)); ascend = (omega arith, tt) }
+one_in_order (s ∷ t ∷ ts) reading low is = absurd (omega (arith, ap length is))
+
+if_in_order : (rows : List Mounted) (olds : List Token) (o : Option ℕ) (shots : List Shot) (news : List Token) → IsServer rows → IsReadIf rows olds o (map reading_of shots) news → AreInOrder shots
+if_in_order rows olds None [] news server h = record { clusters = All-nil (λ (x : Shot). x.cluster < 4096); ascend = tt }
+if_in_order rows olds None (s ∷ ss) news server h = absurd (omega (arith, ap length h.0))
+if_in_order rows olds (Some at) shots news server h =
+    one_in_order shots h.visit.reading (subst (λ (c : ℕ). c < 4096) (sym h.is.cluster) (low_row rows at h.visit.row server.clusters h.row_is)) h.readings_are
+
+pub in_order_for : (word : ℕ) (rows : List Mounted) (olds : List Token) (shots : List Shot) (news : List Token) → IsServer rows → IsReadFor word rows olds (map reading_of shots) news → AreInOrder shots
+in_order_for word rows olds shots news server h = if_in_order rows olds (position (lies_in word) rows) shots news server h

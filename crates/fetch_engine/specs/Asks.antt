@@ -48,3 +48,9 @@ abbrev pub Tells : {X : Type 0} → Result X AskFault → Result X ℤ → Type 
 Tells (Ok x) asked = asked ≡ Ok x
 Tells (Err (Status n)) asked = asked ≡ Err n
 Tells (Err NoMemory) asked = Unit {0}
+
+-- what a call told, or its status, has this, unless memory was refused
+abbrev pub Told : {X : Type 0} → Result X AskFault → (Result X ℤ → Type 0) → Type 0
+Told (Ok x) P = P (Ok x)
+Told (Err (Status n)) P = P (Err n)
+Told (Err NoMemory) P = Unit {0}

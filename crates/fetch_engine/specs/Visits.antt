@@ -1,5 +1,5 @@
 -- What reading regions tells: of each the layout that it showed, or that it was missed in three tries.
-use Rattle.std.specs.Prelude.{◌≡◌, ◌≢◌, ℕ, zero, suc, ◌<◌, ◌≤◌, List, [], ◌∷◌, fold, map, length, slice_index, Contains, All, Option, Some, None}
+use Rattle.std.specs.Prelude.{◌≡◌, ◌≢◌, ℕ, ◌+◌, ◌*◌, ◌/◌, ◌==◌, Bool, zero, suc, ◌<◌, ◌≤◌, List, [], ◌∷◌, fold, map, length, position, slice_get, slice_index, slice_set, Contains, All, Option, Some, None}
 use Rattle.pcp_base.specs.Time.{Moment}
 use Rattle.pcp_base.specs.declared.result.PmResult.{PmResult}
 use Rattle.pmns_core.specs.Pairs.{Pair}
@@ -97,6 +97,28 @@ pub record AreRead (rows : List Mounted) (old : List Token) (readings : List Rea
   pub old_are : map (λ (visit : Visit). visit.before) visits ≡ old
   pub readings_are : map (λ (visit : Visit). visit.reading) visits ≡ readings
   pub new_are : map (λ (visit : Visit). visit.after) visits ≡ new
+
+-- a number of a metric or of a domain lies in a region's cluster
+abbrev pub lies_in : ℕ → Mounted → Bool
+lies_in word row = word / 1024 == 70 * 4096 + row.cluster
+
+-- one region was read once, by its own pass, and no other one
+pub record IsReadAt (rows : List Mounted) (old : List Token) (at : ℕ) (readings : List Reading) (new : List Token) : Type 0 where
+  pub visit : Visit
+  pub is : IsVisit visit
+  pub row_is : slice_get rows at ≡ Some visit.row
+  pub old_is : slice_get old at ≡ Some visit.before
+  pub readings_are : readings ≡ visit.reading ∷ []
+  pub new_are : new ≡ slice_set old at visit.after
+
+-- that at a position, or none where there is no such region
+abbrev pub IsReadIf : List Mounted → List Token → Option ℕ → List Reading → List Token → Type 0
+IsReadIf rows old None readings new = (readings ≡ []) × (new ≡ old)
+IsReadIf rows old (Some at) readings new = IsReadAt rows old at readings new
+
+-- the region in whose cluster a number lies was read
+abbrev pub IsReadFor : ℕ → List Mounted → List Token → List Reading → List Token → Type 0
+IsReadFor word rows old readings new = IsReadIf rows old (position (lies_in word) rows) readings new
 
 -- each pass did nothing but loads
 abbrev pub AreLoaded : List Token → List Token → Type 0

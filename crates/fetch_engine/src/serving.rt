@@ -1,16 +1,18 @@
 //! Fetches and name spaces of a server's regions.
-ghost use Rattle.std.specs.Prelude.{◌≡◌, ◌<◌, length, IfOk, IfErr, OnErr};
+ghost use Rattle.std.specs.Prelude.{◌≡◌, ◌<◌, length, IfOk, IfErr, List as Sequence};
+ghost use Rattle.fetch_engine.specs.Asks.{desc_asked, instances_asked, Told};
 ghost use Rattle.fetch_engine.specs.Fetches.{IsFetchFault};
-ghost use Rattle.fetch_engine.specs.Readings.{AreInOrder};
+ghost use Rattle.fetch_engine.specs.Readings.{AreInOrder, Reading};
 ghost use Rattle.fetch_engine.specs.Servers.{IsSeated};
-ghost use Rattle.fetch_engine.specs.Visits.{AreLoaded, AreNamed, IsFetched};
+ghost use Rattle.fetch_engine.specs.Visits.{AreLoaded, AreNamed, IsFetched, IsReadFor};
 
+use crate::asks::{AskFault, description, instances};
 use crate::fetch::{FetchFault, Fetched, LIMIT, answer};
 use crate::names::{Named, names_of};
 use crate::seat::Seat;
 use crate::server::Server;
-use crate::visits::read_rows;
-use pcp_base::{NoMemory, Pmid, Stamp};
+use crate::visits::{read_for, read_rows};
+use pcp_base::{Desc, InDom, List, NoMemory, Pmid, Stamp, Text};
 use profile_filter::Profile;
 use std::alloc::Global;
 
@@ -53,5 +55,35 @@ impl Server {
     {
         let shots = read_rows(alloc, &self.mounted, &mut seat.passes)?;
         names_of(alloc, shots.as_slice())
+    }
+    /// The description of a metric over a reading of the region in whose cluster it lies (pmLookupDesc(3)), or a status: no
+    /// other region is read. After a refusal the passes have made nothing but loads.
+    #[tactic(auto, using(crate::proofs::Visited::in_order_for, crate::proofs::Visited::still_seated))]
+    pub fn description(&self, alloc: Global, seat: &mut Seat, pmid: Pmid) -> Result<Desc, AskFault>
+        requires { IsSeated self.now seat.old.tokens }
+        ensures told { Told result (λ told. (readings : Sequence Reading) × IsReadFor pmid self.now seat.old.tokens readings seat.new.tokens × (told ≡ desc_asked readings pmid)) }
+        ensures loads { AreLoaded seat.old.tokens seat.new.tokens }
+        ensures seated { IsSeated self.now seat.new.tokens }
+    {
+        let shots = read_for(alloc, &self.mounted, &mut seat.passes, pmid.word())?;
+        description(alloc, shots.as_slice(), pmid)
+    }
+
+    /// The instances of a domain in ascending number over a reading of the region in whose cluster it lies (pmGetInDom(3)),
+    /// or a status: no other region is read. After a refusal the passes have made nothing but loads.
+    #[tactic(auto, using(crate::proofs::Visited::in_order_for, crate::proofs::Visited::still_seated))]
+    pub fn instances(
+        &self,
+        alloc: Global,
+        seat: &mut Seat,
+        indom: InDom,
+    ) -> Result<List<(i32, Text)>, AskFault>
+        requires { IsSeated self.now seat.old.tokens }
+        ensures told { Told result (λ told. (readings : Sequence Reading) × IsReadFor indom self.now seat.old.tokens readings seat.new.tokens × (told ≡ instances_asked readings indom)) }
+        ensures loads { AreLoaded seat.old.tokens seat.new.tokens }
+        ensures seated { IsSeated self.now seat.new.tokens }
+    {
+        let shots = read_for(alloc, &self.mounted, &mut seat.passes, indom.word())?;
+        instances(alloc, shots.as_slice(), indom)
     }
 }

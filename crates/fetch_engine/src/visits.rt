@@ -1,9 +1,9 @@
 //! Reading all regions, each in at most three tries.
-ghost use Rattle.std.specs.Prelude.{◌≡◌, ◌⊎◌, ◌<◌, map, option_map, All, length, IfOk, OnErr};
+ghost use Rattle.std.specs.Prelude.{◌≡◌, ◌⊎◌, ◌<◌, ◌==◌, ◌/◌, ◌+◌, ◌*◌, ◌&&◌, nat_lt, map, option_map, All, length, position, IfOk, IfSome};
 ghost use Rattle.mmv_layout.specs.Rows.{layout_of};
 ghost use Rattle.fetch_engine.specs.Readings.{reading_of};
 ghost use Rattle.fetch_engine.specs.Servers.{IsSeated};
-ghost use Rattle.fetch_engine.specs.Visits.{AreLoaded, AreRead, IsLoaded, IsReadBy};
+ghost use Rattle.fetch_engine.specs.Visits.{AreLoaded, AreRead, IsLoaded, IsReadBy, IsReadFor, lies_in};
 
 use crate::server::Mounted;
 use crate::shot::Shot;
@@ -63,5 +63,42 @@ pub fn read_rows(
     for at in 0..rows.len() {
         shots.push(read_row(alloc, &rows[at], &mut passes[at])?)?;
     }
+    Ok(shots)
+}
+
+/// The position of the first region in whose cluster a number lies.
+fn position_in(rows: &[Mounted], word: u32) -> Option<usize>
+    ensures value { result ≡ position (λ row. nat_lt row.cluster 4096 && word / 1024 == 70 * 4096 + row.cluster) rows.now }
+    ensures bound { IfSome result (λ at. at < length rows.now) }
+{
+    rows.iter().position(|row| row.cluster < 4096 && word / 1024 == 70 * 4096 + row.cluster)
+}
+
+/// The position of the region in whose cluster a number lies.
+fn position_for(rows: &[Mounted], word: u32) -> Option<usize>
+    requires { All (λ row. row.cluster < 4096) rows.now }
+    ensures value { result ≡ position (lies_in word) rows.now }
+    ensures bound { IfSome result (λ at. at < length rows.now) }
+{
+    position_in(rows, word)
+}
+
+/// What was read of the region in whose cluster a number lies, if there is one; the others aren't read.
+pub fn read_for(
+    alloc: Global,
+    rows: &[Mounted],
+    passes: &mut Vec<Pass>,
+    word: u32,
+) -> Result<List<Shot>, NoMemory>
+    requires seated { IsSeated rows.now passes.old.items }
+    requires clusters { All (λ row. row.cluster < 4096) rows.now }
+    ensures read { IfOk result (λ shots. IsReadFor word rows.now passes.old.items (map reading_of shots) passes.new.items) }
+    ensures loads { AreLoaded passes.old.items passes.new.items }
+{
+    let mut shots = List::empty(alloc);
+    let Some(at) = position_for(rows, word) else {
+        return Ok(shots);
+    };
+    shots.push(read_row(alloc, &rows[at], &mut passes[at])?)?;
     Ok(shots)
 }

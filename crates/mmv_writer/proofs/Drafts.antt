@@ -11,9 +11,10 @@ use Rattle.mmv_format.specs.declared.rows.IndomRow.{IndomRow}
 use Rattle.mmv_format.specs.declared.rows.MetricRow.{MetricRow}
 use Rattle.mmv_format.specs.declared.rows.ValueRow.{ValueRow}
 use Rattle.mmv_format.specs.declared.rows.Layout.{Layout}
+use Rattle.mmv_format.specs.Entries.{is_serial}
 use Rattle.mmv_writer.specs.declared.fault.BuildFault.{BuildFault}
 use Rattle.mmv_writer.specs.declared.fault.BuildFault.TheVariants.{Name, Duplicate, Unknown, Serial, Item}
-use Rattle.mmv_writer.specs.Rules.{is_long, is_long_help, has_domain, is_serial, header_fault, indom_fault, is_instance_name, is_same_instance, has_same_instance, instance_fault, is_metric_name, is_same_metric, lacks_domain, unknown_or, metric_fault, has_instance, fits_instance, fits_kind, fits_metric, fits_some_metric, is_same_value, is_long_content, value_fault, text_fault}
+use Rattle.mmv_writer.specs.Rules.{is_long, is_long_help, has_domain, header_fault, indom_fault, is_instance_name, is_same_instance, has_same_instance, instance_fault, is_metric_name, is_same_metric, lacks_domain, unknown_or, metric_fault, has_instance, fits_instance, fits_kind, fits_metric, fits_some_metric, is_same_value, is_long_content, value_fault, text_fault}
 use Rattle.mmv_writer.specs.Draft.{Each, Apart, IsStored, IsString, IsHelp, IsNumber, IsInstance, IsDomain, HasDomain, IsMetric, IsContent, IsValue, is_same_serial, IsDraft, empty_draft, with_domain, add_instance, with_instance, with_metric, with_value, with_string}
 use Rattle.mmv_writer.proofs.Rows.{any_at, each_snoc, apart_snoc, any_longer, any_wider}
 

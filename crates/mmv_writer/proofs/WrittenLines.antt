@@ -16,7 +16,8 @@ use Rattle.layout_text.specs.Contents.{written_of}
 use Rattle.layout_text.proofs.ContentRanges.{content_stands}
 use Rattle.layout_text.specs.Laws.{IsNameByte, IsLineName, IsWritten}
 use Rattle.mmv_spelling.proofs.Positions.{first_passes}
-use Rattle.mmv_writer.specs.Rules.{is_serial, is_metric_name, fits_instance}
+use Rattle.mmv_format.specs.Entries.{is_serial}
+use Rattle.mmv_writer.specs.Rules.{is_metric_name, fits_instance}
 use Rattle.mmv_writer.specs.Draft.{Each, IsStored, IsHelp, IsNumber, IsDomain, HasDomain, IsContent}
 use Rattle.mmv_writer.specs.TextLaws.{HasFields}
 use Rattle.mmv_writer.proofs.TextDrafts.{tail_all, cons_all, no_all}

@@ -26,10 +26,11 @@ use Rattle.layout_text.proofs.LineBytes.{line_in_line}
 use Rattle.layout_text.proofs.LineReads.{line_is_read}
 use Rattle.mmv_spelling.specs.Spelling.{image_words}
 use Rattle.mmv_spelling.proofs.Positions.{first_passes}
+use Rattle.mmv_format.specs.Entries.{is_serial}
 use Rattle.mmv_writer.specs.declared.fault.BuildFault.{BuildFault}
 use Rattle.mmv_writer.specs.declared.fault.BuildFault.TheVariants.{Name, Duplicate, Unknown, Serial, Item, TooLarge}
 use Rattle.mmv_writer.specs.declared.line_fault.LineFault.TheVariants.{Build}
-use Rattle.mmv_writer.specs.Rules.{is_long_help, is_serial, has_domain, header_fault, indom_fault, is_instance_name, is_same_instance, has_same_instance, instance_fault, is_metric_name, is_same_metric, lacks_domain, unknown_or, metric_fault, fits_instance, fits_kind, fits_metric, fits_some_metric, is_same_value, is_long_content, value_fault, text_fault}
+use Rattle.mmv_writer.specs.Rules.{is_long_help, has_domain, header_fault, indom_fault, is_instance_name, is_same_instance, has_same_instance, instance_fault, is_metric_name, is_same_metric, lacks_domain, unknown_or, metric_fault, fits_instance, fits_kind, fits_metric, fits_some_metric, is_same_value, is_long_content, value_fault, text_fault}
 use Rattle.mmv_writer.specs.Draft.{Apart, IsString, IsHelp, IsInstance, IsDomain, HasDomain, IsMetric, IsContent, IsValue, is_same_serial, empty_draft, new_domain, with_domain, add_instance, with_instance, with_metric, with_value, with_string}
 use Rattle.mmv_writer.specs.Saying.{with_all_strings}
 use Rattle.mmv_writer.specs.Reading.{full_line_of, unless, kind_in, with_content, with_written, with_line, with_said, with_head, and_then, with_lines, draft_of, text_draft, sized, image_of, text_image}

@@ -8,9 +8,10 @@ use Rattle.mmv_format.specs.declared.rows.ValueRow.{ValueRow}
 use Rattle.mmv_format.specs.declared.rows.Content.{Content}
 use Rattle.mmv_format.specs.declared.rows.Content.TheVariants.{Number, Choice, Raw}
 use Rattle.mmv_format.specs.declared.rows.Layout.{Layout}
+use Rattle.mmv_format.specs.Entries.{is_serial}
 use Rattle.mmv_writer.specs.declared.fault.BuildFault.{BuildFault}
 use Rattle.mmv_writer.specs.declared.fault.BuildFault.TheVariants.{NoMemory}
-use Rattle.mmv_writer.specs.Rules.{is_long, is_serial, has_domain, is_instance_name, is_same_instance, is_metric_name, is_same_metric, fits_some_metric, is_same_value}
+use Rattle.mmv_writer.specs.Rules.{is_long, has_domain, is_instance_name, is_same_instance, is_metric_name, is_same_metric, fits_some_metric, is_same_value}
 
 -- all rows of a list meet a condition
 abbrev pub Each : {T : Type 0} → (T → Type 0) → List T → Type 0

@@ -7,6 +7,7 @@ use Rattle.pcp_base.specs.Codes.{code_of_kind}
 use Rattle.pcp_base.specs.Names.{spells}
 use Rattle.pcp_base.specs.declared.kind.Kind.{Kind}
 use Rattle.mmv_format.specs.Sizes.{is_version}
+use Rattle.mmv_format.specs.Entries.{is_serial}
 use Rattle.mmv_format.specs.declared.rows.IndomRow.{IndomRow}
 use Rattle.mmv_format.specs.declared.rows.MetricRow.{MetricRow}
 use Rattle.mmv_format.specs.declared.rows.ValueRow.{ValueRow}
@@ -27,10 +28,6 @@ is_long_help (Some text) = is_long text
 -- some domain has a serial
 abbrev pub has_domain : List IndomRow → ℕ → Bool
 has_domain indoms serial = list_any (λ row. row.serial == serial) indoms
-
--- a serial is 1 to 1023
-abbrev pub is_serial : ℕ → Bool
-is_serial serial = nat_le 1 serial && nat_le serial 1023
 
 -- a version that is written and a cluster of at most 4095 alone are taken
 abbrev pub header_fault : ℕ → ℕ → Option BuildFault

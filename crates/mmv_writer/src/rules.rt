@@ -1,7 +1,8 @@
 //! The rules of single rows.
 ghost use Rattle.std.specs.Prelude.{◌≡◌, ◌<◌, ◌&&◌, ◌==◌, ℕ, false, None, bytes_eq, slice_index};
 ghost use Rattle.std.specs.List.{list_any};
-ghost use Rattle.mmv_writer.specs.Rules.{is_long, is_long_help, is_serial, header_fault, is_instance_name, is_metric_name, fits_kind, is_long_content, text_fault};
+ghost use Rattle.mmv_format.specs.Entries.{is_serial};
+ghost use Rattle.mmv_writer.specs.Rules.{is_long, is_long_help, header_fault, is_instance_name, is_metric_name, fits_kind, is_long_content, text_fault};
 ghost use Rattle.mmv_writer.specs.Keys.{fits_domain};
 ghost use Rattle.mmv_writer.specs.Draft.{IsStored, IsHelp, IsContent, IsString};
 

@@ -1,5 +1,5 @@
-//! Tests of the outside over the system: adapters of readers and writers, the files of an archive in a folder, and
-//! the clock; and of the door in memory.
+//! Tests of the outside over the system: adapters of readers and writers, the files of an archive in a folder, a door over
+//! loopback and the clock.
 #![tactic(auto)]
 
 #[cfg(test)]

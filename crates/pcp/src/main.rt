@@ -2,6 +2,7 @@
 //! command, standard input and standard output are handed to the command, whose status is the program's.
 #![tactic(auto)]
 
+use pcp_listening::{first_bad_of_serve, is_serve, serve_clients};
 use pcp_outside::Sink;
 use pcp_system::{FileDisk, ReaderSource, WriterSink};
 use pm_commands::{Refusal, Stop, Usage, offline, read_words};
@@ -33,6 +34,9 @@ fn words_before_bad(rt: &(impl Env + Alloc<A = Global>)) -> Result<Vec<String>, 
 // Which word is the first bad one, where some word isn't UTF-8.
 fn first_bad_word(rt: &(impl Env + Alloc<A = Global>)) -> Result<usize, AllocError> {
     let words = words_before_bad(rt)?;
+    if is_serve(&words) {
+        return first_bad_of_serve(rt.alloc(), &words);
+    }
     match read_words(rt.alloc(), &words) {
         Ok(_) => Ok(words.len()),
         Err(Stop::Refused(usage)) => Ok(usage.at),
@@ -77,6 +81,9 @@ fn main(rt: HostRuntime) -> ExitCode {
         Err(_) => return ExitCode::from(9),
     };
     let mut input = ReaderSource::new(rt.reader());
+    if is_serve(command) {
+        return ExitCode::from(serve_clients(&rt, command, &mut input, &mut out));
+    }
     let mut disk = FileDisk::new(alloc, &rt, base);
     ExitCode::from(offline(alloc, command, &mut input, &mut out, &mut disk))
 }

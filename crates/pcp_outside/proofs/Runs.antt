@@ -8,7 +8,7 @@ use Rattle.std.proofs.Math.Seq.{take-add, drop-append_seam}
 pub record IsWritten (tells : Type 0) (done : ℕ) (piece before now : List ℕ) (faults_before faults_now : ℕ) : Type 0 where
   pub within : done ≤ length piece
   pub so_far : tells → now ≡ before ++ take done piece
-  pub later : faults_before ≤ faults_now
+  pub quiet : faults_now ≡ faults_before
 
 -- what a source held is what was taken, and what it has left
 pub record IsTaken (tells : Type 0) (limit : ℕ) (bytes before now : List ℕ) (faults_before faults_now : ℕ) : Type 0 where

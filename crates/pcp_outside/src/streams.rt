@@ -51,6 +51,7 @@ pub trait Sink {
 /// Writes all the bytes. Where the sink fails, some front of them is written.
 pub fn write_all<O: Sink>(out: &mut O, bytes: &[u8]) -> Result<(), Failed>
     ensures bytes { O.tells → PutsAll (O.written out.old) (O.written out.new) bytes.now result }
+    ensures quiet { OnOk result (O.faults out.new ≡ O.faults out.old) }
     ensures cause { HasCause (O.faults out.old) (O.faults out.new) result }
 {
     let mut done = 0;

@@ -1,7 +1,8 @@
-//! What the lines of a book act on: bytes, of which PDUs are read or that come as a stream.
+//! What the lines of a book act on: bytes, of which PDUs are read, or that come as a stream or from a client.
 use crate::pdus::tell_pdu;
 use crate::streams::tell_pieces;
 use case_book::{Answer, Kept, Line, Subject, Words};
+use case_sessions::{Given, tell_session};
 use pcp_base::NoMemory;
 use std::alloc::Global;
 
@@ -9,12 +10,14 @@ use std::alloc::Global;
 #[derive(Drop)]
 pub struct Scene {
     input: Vec<u8>,
+    given: Given,
 }
 
 impl Scene {
     pub fn new(alloc: Global) -> Scene {
         Scene {
             input: Vec::new(alloc),
+            given: Given::new(alloc),
         }
     }
 
@@ -37,6 +40,7 @@ impl Scene {
         let told = match line.word {
             "pdu" => tell_pdu(alloc, line.rest, &self.input)?,
             "pieces" => tell_pieces(alloc, Words::of(line.rest), &self.input)?,
+            "session" => tell_session(alloc, &self.given, &self.input, line.rest)?,
             _ => None,
         };
         let Some(told) = told else {
@@ -48,8 +52,9 @@ impl Scene {
 }
 
 impl Subject for Scene {
-    fn begin(&mut self, _alloc: Global) -> Result<(), NoMemory> {
+    fn begin(&mut self, alloc: Global) -> Result<(), NoMemory> {
         self.input.clear();
+        self.given = Given::new(alloc);
         Ok(())
     }
 
@@ -66,6 +71,7 @@ impl Subject for Scene {
                 self.add_input(alloc, kept, line.rest)
             }
             "more" => self.add_input(alloc, kept, line.rest),
+            "serve" | "moment" | "fail" => self.given.prepare(alloc, kept, line),
             _ => self.call(alloc, answer, line),
         }
     }

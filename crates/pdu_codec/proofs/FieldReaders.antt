@@ -6,16 +6,16 @@ use Rattle.std.proofs.lemmas.Bool.{cases_lt, ltb-true, ltb-false, le-ltb, eqb-tr
 use Rattle.std.proofs.lemmas.List.{take_at, take_all, length-append, length-drop, length-replicate, append-nil, get_or_append_left, get_or-append_right, get_or-replicate, get_or_past, get_or-drop, take-append-drop, drop-drop, drop_more, drop_all}
 use Rattle.std.proofs.lemmas.Option.{none-some, slice_get_within, slice_get-get_or, get_or_from_slice_get}
 use Rattle.std.proofs.lemmas.Nat.{be_bytes_4, from_be_bytes-to_be_bytes_4}
-use Rattle.pcp_base.specs.Fields.{be_field}
+use Rattle.pcp_base.proofs.Bytes.{IsBytes, IsBytes-drop}
+use Rattle.pcp_base.specs.Fields.{be_field, number_at}
 use Rattle.pcp_model.specs.Words.{word, signed_word, length-word, zeros}
 use Rattle.archive_frame.specs.Misfits.{BeginsOne}
 use Rattle.result_form.specs.Decoding.{or_short}
-use Rattle.result_form.proofs.Spans.{IsBytes, IsBytes-drop, word_takes, word_again, signed_is, signed_fits, unsigned_fits, signed_back, word_of_signed}
+use Rattle.result_form.proofs.Spans.{word_takes, word_again, signed_is, signed_fits, unsigned_fits, signed_back, word_of_signed}
 use Rattle.pdu_codec.specs.declared.fault.PduFault.{PduFault}
 use Rattle.pdu_codec.specs.declared.fault.PduFault.TheVariants.{Body}
 use Rattle.pdu_codec.specs.Reading.{◌>>=◌, or_end, word_at, signed_at, common, given_at, state_of, state_at}
 use Rattle.pdu_codec.specs.Grammar.{Is, Both, Given, Word, Signed, State, state_word}
-use Rattle.pdu_codec.specs.Faults.{number_at}
 use Rattle.pdu_codec.proofs.Misfits.{Stops, short_stops}
 use Rattle.pdu_codec.proofs.Misfits.{Some as Texts}
 use Rattle.pdu_codec.proofs.Readers.{StopsAt, Reads, Code, code, plain, next, same_grammar, same_reads, done, failed, ok_is, not_both, err_is}

@@ -2,9 +2,10 @@
 use Rattle.std.proofs.Common.{◌≡◌, ℕ, ◌+◌, ◌<◌, ◌≤◌, Some, None, List, ◌++◌, length, take, drop, Result, Ok, Err, refl, sym, ap, ◌∙◌, subst, append_assoc, arith, inl, inr}
 use Rattle.std.specs.Prelude.{◌⊎◌}
 use Rattle.std.proofs.lemmas.List.{take_at}
+use Rattle.pcp_base.specs.Fields.{number_at}
+use Rattle.pcp_base.proofs.Bytes.{IsBytes}
 use Rattle.pcp_model.specs.Words.{word}
 use Rattle.archive_frame.specs.Misfits.{IsFirstMisfit}
-use Rattle.result_form.proofs.Spans.{IsBytes}
 use Rattle.pdu_codec.specs.declared.fault.PduFault.{PduFault}
 use Rattle.pdu_codec.specs.declared.fault.PduFault.TheVariants.{Length, Unknown, Body, NoMemory}
 use Rattle.pdu_codec.specs.declared.pdu.Pdu.{Pdu}
@@ -13,7 +14,7 @@ use Rattle.pdu_codec.specs.declared.types.PduType.TheVariants as types
 use Rattle.pdu_codec.specs.Types.{code_of_type, type_of_code, type_of}
 use Rattle.pdu_codec.specs.Bodies.{IsPdu}
 use Rattle.pdu_codec.specs.Decoding.{pdu_in}
-use Rattle.pdu_codec.specs.Faults.{number_at, HasLength, IsLengthFault, SomeBody, IsBodyMisfit, IsFault}
+use Rattle.pdu_codec.specs.Faults.{HasLength, IsLengthFault, SomeBody, IsBodyMisfit, IsFault}
 use Rattle.pdu_codec.specs.Laws.{FaultsComeOnce}
 use Rattle.pdu_codec.proofs.Readers.{ok_is}
 use Rattle.pdu_codec.proofs.FieldReaders.{word_field}

@@ -4,9 +4,10 @@ use Rattle.std.specs.Prelude.{◌⊎◌, ◌≢◌, ◌&&◌, IfOk, IfErr}
 use Rattle.std.specs.Int.{w32, from_be_bytes}
 use Rattle.std.proofs.lemmas.Bool.{cases_lt, cases_eq, lt-ltb, eq-eqb, ne_eqb, le-leb, lt-leb, eqb-true, and_from, and_left, and_right, cond-true, cond-false}
 use Rattle.std.proofs.lemmas.List.{length-append, length-drop}
-use Rattle.pcp_base.specs.Fields.{be_field}
+use Rattle.pcp_base.proofs.Bytes.{IsBytes}
+use Rattle.pcp_base.specs.Fields.{be_field, number_at}
 use Rattle.pcp_model.specs.Words.{word, length-word}
-use Rattle.result_form.proofs.Spans.{IsBytes, behind_word}
+use Rattle.result_form.proofs.Spans.{behind_word}
 use Rattle.pdu_codec.specs.declared.fault.PduFault.{PduFault}
 use Rattle.pdu_codec.specs.declared.fault.PduFault.TheVariants.{Length, Unknown, Body, NoMemory}
 use Rattle.pdu_codec.specs.declared.pdu.Pdu.{Pdu}
@@ -15,7 +16,7 @@ use Rattle.pdu_codec.specs.declared.types.PduType.TheVariants as types
 use Rattle.pdu_codec.specs.Types.{code_of_type, type_of_code, type_of}
 use Rattle.pdu_codec.specs.Bodies.{body_of, IsPdu}
 use Rattle.pdu_codec.specs.Decoding.{known, type_in, head_in, head_of, body_at, ended, pdu_in}
-use Rattle.pdu_codec.specs.Faults.{number_at, HasLength, IsFault, IsPduFault}
+use Rattle.pdu_codec.specs.Faults.{HasLength, IsFault, IsPduFault}
 use Rattle.pdu_codec.specs.Reading.{◌>>=◌, Gives, or_end}
 use Rattle.pdu_codec.proofs.Readers.{bind_ok, failed, ok_is, err_is, not_both}
 use Rattle.pdu_codec.proofs.FieldReaders.{word_reads, word_field, word_found}

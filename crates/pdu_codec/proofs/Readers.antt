@@ -2,7 +2,8 @@
 -- stop being like any text.
 use Rattle.std.proofs.Common.{◌≡◌, ℕ, zero, suc, ◌+◌, ◌≤◌, List, [], ◌∷◌, ◌++◌, length, take, drop, Result, Ok, Err, refl, sym, ap, ◌∙◌, append_assoc, arith}
 use Rattle.std.proofs.lemmas.List.{take_at, length-append, length-drop}
-use Rattle.result_form.proofs.Spans.{IsBytes, Spans, nothing, joined, behind_text}
+use Rattle.pcp_base.proofs.Bytes.{IsBytes}
+use Rattle.result_form.proofs.Spans.{Spans, nothing, joined, behind_text}
 use Rattle.pdu_codec.specs.declared.fault.PduFault.{PduFault}
 use Rattle.pdu_codec.specs.declared.fault.PduFault.TheVariants.{Body}
 use Rattle.pdu_codec.specs.Reading.{◌>>=◌, many}

@@ -3,13 +3,13 @@ use Rattle.std.proofs.Common.{◌≡◌, ℕ, ◌+◌, ◌-◌, ◌<◌, ◌≤�
 use Rattle.std.specs.Prelude.{◌⊎◌}
 use Rattle.std.proofs.lemmas.Bool.{ltb-true, ltb-false, le-ltb}
 use Rattle.std.proofs.lemmas.List.{append-nil, drop_all, length-drop}
+use Rattle.pcp_base.proofs.Bytes.{IsBytes, IsBytes-drop}
 use Rattle.archive_frame.specs.Misfits.{IsFirstMisfit}
 use Rattle.pcp_base.specs.declared.result.PmResult.{PmResult}
 use Rattle.pcp_model.specs.Payload.{IsPayload}
 use Rattle.result_form.specs.declared.fault.FormFault.{FormFault}
 use Rattle.result_form.specs.declared.fault.FormFault.TheVariants as forms
 use Rattle.result_form.specs.Decoding.{decoded as payload_read, Gives as FormGives}
-use Rattle.result_form.proofs.Spans.{IsBytes, IsBytes-drop}
 use Rattle.result_form.proofs.Again.{payload_again}
 use Rattle.result_form.proofs.Whole.{payload_takes}
 use Rattle.pdu_codec.specs.declared.fault.PduFault.{PduFault}

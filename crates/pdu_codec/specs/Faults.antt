@@ -1,6 +1,7 @@
 -- Why bytes are no PDU: the first that holds is told.
 use Rattle.std.specs.Prelude.{◌≡◌, ◌≢◌, ◌⊎◌, ℕ, ◌+◌, ◌<◌, ◌≤◌, List, length, take, drop, Some, None}
 use Rattle.std.specs.Int.{w32, from_be_bytes}
+use Rattle.pcp_base.specs.Fields.{number_at}
 use Rattle.archive_frame.specs.Misfits.{IsFirstMisfit}
 use Rattle.pdu_codec.specs.declared.fault.PduFault.{PduFault}
 use Rattle.pdu_codec.specs.declared.fault.PduFault.TheVariants.{Length, Unknown, Body, NoMemory}
@@ -10,10 +11,6 @@ use Rattle.pdu_codec.specs.declared.types.PduType.TheVariants as types
 use Rattle.pdu_codec.specs.ResultMisfit.{result_misfit}
 use Rattle.pdu_codec.specs.Types.{type_of_code}
 use Rattle.pdu_codec.specs.Bodies.{body_of}
-
--- the number of the word at an offset
-abbrev pub number_at : List ℕ → ℕ → ℕ
-number_at bytes at = from_be_bytes w32 (take 4 (drop at bytes))
 
 -- the first word is the number of the bytes, and they have a header
 abbrev pub HasLength : List ℕ → Type 0

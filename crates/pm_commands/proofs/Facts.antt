@@ -1,29 +1,34 @@
 -- Each fact on a status follows from how the call ends, by cases on the refusal.
-use Rattle.std.proofs.Common.{◌≡◌, ◌⊎◌, inl, inr, ⊎_elim, ℕ, ◌<◌, ◌≤◌, List, length, drop, refl, sym, ap, ap₂, ◌∙◌, subst, arith, true, Option, Some, None, IsSome, Ok, Err}
+use Rattle.std.proofs.Common.{◌≡◌, ◌⊎◌, inl, inr, ⊎_elim, ℕ, ◌<◌, ◌≤◌, List, length, drop, refl, sym, ap, ap₂, ◌∙◌, subst, arith, true, Option, Some, None, IsSome, Result, Ok, Err}
 use Rattle.pcp_base.specs.declared.file.FileId.{FileId}
 use Rattle.pcp_base.specs.Time.{Moment}
 use Rattle.pcp_model.specs.Disk.{IsSettled}
 use Rattle.pcp_outside.specs.Causes.{Rose}
-use Rattle.pm_tasks.specs.declared.stage.ReadRefusal.{ReadRefusal}
-use Rattle.pm_tasks.specs.declared.stage.ReadRefusal.TheVariants.{ReadFault, InputLimit}
-use Rattle.pm_tasks.specs.declared.stage.InputRefusal.{InputRefusal}
-use Rattle.pm_tasks.specs.declared.stage.InputRefusal.TheVariants.{Image, Line}
-use Rattle.pm_tasks.specs.declared.stage.FilesRefusal.{FilesRefusal}
-use Rattle.pm_tasks.specs.declared.stage.FilesRefusal.TheVariants.{Unlogged, Compressed, NotArchive, Nothing}
-use Rattle.pm_tasks.specs.declared.stage.ResultRefusal.{ResultRefusal}
-use Rattle.pm_tasks.specs.declared.stage.ResultRefusal.TheVariants.{Large, NotLater, Changed, Full}
-use Rattle.pm_tasks.specs.declared.stage.DiskRefusal.TheVariants.{Files as FilesAway, DiskFault}
-use Rattle.pm_tasks.specs.declared.words.Command.{Command}
-use Rattle.pm_tasks.specs.declared.refusal.Refusal.{Refusal}
-use Rattle.pm_tasks.specs.declared.refusal.Refusal.TheVariants.{Words, Reading, Input, Disk, NoMemory}
-use Rattle.pm_tasks.specs.CommandLine.{command_of}
+use Rattle.mmv_faults.specs.Faults.{image_of}
+use Rattle.mmv_faults.specs.declared.fault.ImageFault.{ImageFault}
+use Rattle.mmv_writer.specs.Reading.{text_image}
+use Rattle.mmv_writer.specs.declared.line_fault.TextFault.{TextFault}
+use Rattle.pm_words.specs.declared.stage.ReadRefusal.{ReadRefusal}
+use Rattle.pm_words.specs.declared.stage.ReadRefusal.TheVariants.{ReadFault, InputLimit}
+use Rattle.pm_words.specs.declared.stage.InputRefusal.{InputRefusal}
+use Rattle.pm_words.specs.declared.stage.InputRefusal.TheVariants.{Image, Line}
+use Rattle.pm_words.specs.declared.stage.FilesRefusal.{FilesRefusal}
+use Rattle.pm_words.specs.declared.stage.FilesRefusal.TheVariants.{Unlogged, Compressed, NotArchive, Nothing}
+use Rattle.pm_words.specs.declared.stage.ResultRefusal.{ResultRefusal}
+use Rattle.pm_words.specs.declared.stage.ResultRefusal.TheVariants.{Large, NotLater, Changed, Full}
+use Rattle.pm_words.specs.declared.stage.DiskRefusal.TheVariants.{Files as FilesAway, DiskFault}
+use Rattle.pm_words.specs.declared.words.Command.{Command}
+use Rattle.pm_words.specs.declared.words.Command.TheVariants.{Once, MmvMake, MmvDump, Dump, Info, Recover, At, Range, Value}
+use Rattle.pm_words.specs.declared.refusal.Refusal.{Refusal}
+use Rattle.pm_words.specs.declared.refusal.Refusal.TheVariants.{Words, Reading, Input, Disk, NoMemory}
+use Rattle.pm_words.specs.CommandLine.{command_of}
 use Rattle.pm_tasks.specs.Causes.{Got, Asks, fault_of, IsReader, Finds, Left, Cause}
 use Rattle.pm_tasks.specs.Ends.{Ends, EndsDone, EndsUntold, HasRun, IsNever}
 use Rattle.pm_commands.specs.Facts.{UsageIsExact, LimitIsExact, InputFaultIsExact, UnloggedIsExact, ArchiveFaultIsExact, NothingIsThere, Given, Meets, refused_of, TurnsAway, IsRefused, Unwritten, IsGoodDisk, IsGoodRun, Keeps}
-use Rattle.pm_tasks.specs.Inputs.{input_limit, refusal_of}
+use Rattle.pm_words.specs.Inputs.{input_limit, image_refusal, text_refusal, refusal_of}
 use Rattle.pm_tasks.specs.Meanings.{meaning}
-use Rattle.pm_tasks.specs.Refusals.{status_of, reading_status, input_status, files_status, result_status}
-use Rattle.pm_tasks.specs.Sides.{SourceSide, SinkSide, DiskSide, found, Untouched}
+use Rattle.pm_words.specs.Refusals.{status_of, reading_status, input_status, files_status, result_status}
+use Rattle.pm_words.specs.Sides.{SourceSide, SinkSide, DiskSide, found, Untouched}
 use Rattle.pm_commands.proofs.Lookings.{one_reason, wrapped_first}
 use Rattle.pm_commands.proofs.Nothing.{never_done, nothing_first}
 
@@ -91,6 +96,26 @@ is_nothing (Unlogged reason) h = absurd (no_reason reason h)
 is_nothing (Compressed file) h = absurd (six_eleven h)
 is_nothing (NotArchive file at) h = absurd (six_eleven h)
 is_nothing (Nothing stamp) h = (stamp, refl)
+
+-- no command of these reads a script
+image_two : (r : Result (List ℕ) ImageFault) (e : InputRefusal) → image_refusal r ≡ Some e → input_status e ≡ 2
+image_two (Ok words) e h = cc
+image_two (Err fault) e h = let is : Image fault ≡ e = cc in subst (λ (x : InputRefusal). input_status x ≡ 2) is refl
+
+text_two : (r : Result (List ℕ) TextFault) (e : InputRefusal) → text_refusal r ≡ Some e → input_status e ≡ 2
+text_two (Ok words) e h = cc
+text_two (Err fault) e h = let is : Line fault ≡ e = cc in subst (λ (x : InputRefusal). input_status x ≡ 2) is refl
+
+reads_two : (command : Command) (input : List ℕ) (e : InputRefusal) → refusal_of (meaning command).reads input ≡ Some e → input_status e ≡ 2
+reads_two (Once asked) input e h = image_two (image_of input) e h
+reads_two MmvMake input e h = text_two (text_image input) e h
+reads_two MmvDump input e h = image_two (image_of input) e h
+reads_two Dump input e h = cc
+reads_two Info input e h = cc
+reads_two Recover input e h = cc
+reads_two (At t) input e h = cc
+reads_two (Range from to) input e h = cc
+reads_two (Value asked) input e h = cc
 
 module _ (words : List (List ℕ)) (s : SourceSide) (k : SinkSide) (d : DiskSide) where
   -- a refusal that has this cause
@@ -198,12 +223,11 @@ module _ (words : List (List ℕ)) (s : SourceSide) (k : SinkSide) (d : DiskSide
   turned_away : (e : FilesRefusal) → Caused (Disk (FilesAway e)) → TurnsAway words s d e
   turned_away e c = record { asks = c.0; good = c.1.0; uses = c.1.1; turned = c.2.1 }
 
-  input_two : (e : InputRefusal) → input_status e ≡ 2
-  input_two (Image fault) = refl
-  input_two (Line fault) = refl
+  input_two : (e : InputRefusal) → Finds words s e → input_status e ≡ 2
+  input_two e found = reads_two found.0.command found.0.input e found.1
 
-  input_never : (n : ℕ) → 2 < n → (e : InputRefusal) → input_status e ≡ n → ⊥
-  input_never n high e h = omega (arith, high, h, input_two e)
+  input_never : (n : ℕ) → 2 < n → (e : InputRefusal) → Finds words s e → input_status e ≡ n → ⊥
+  input_never n high e found h = omega (arith, high, h, input_two e found)
 
   abbrev LimitCause : Type 0
   LimitCause = (IsReader words × (s.tells → (input_limit < length s.left) × (s.after ≡ drop 16777217 s.left))) ⊎ ((reason : ResultRefusal) × (result_status reason ≡ 7) × TurnsAway words s d (Unlogged reason))
@@ -218,7 +242,7 @@ module _ (words : List (List ℕ)) (s : SourceSide) (k : SinkSide) (d : DiskSide
   limit_only (Words usage) c h = cc
   limit_only (Reading ReadFault) c h = cc
   limit_only (Reading InputLimit) c h = inl (c.0, c.1)
-  limit_only (Input e) c h = absurd (input_never 7 (omega arith) e h)
+  limit_only (Input e) c h = absurd (input_never 7 (omega arith) e c.0 h)
   limit_only (Disk (FilesAway e)) c h = limit_files e (turned_away e c) h
   limit_only (Disk DiskFault) c h = cc
   limit_only NoMemory c h = cc
@@ -284,7 +308,7 @@ module _ (words : List (List ℕ)) (s : SourceSide) (k : SinkSide) (d : DiskSide
   of_files : (e : Refusal) (n : ℕ) → 9 < n → Caused e → status_of e ≡ n → (x : FilesRefusal) × (files_status x ≡ n) × TurnsAway words s d x
   of_files (Words usage) n high c h = absurd (omega (arith, high, h))
   of_files (Reading e) n high c h = absurd (omega (arith, high, h, read_low e))
-  of_files (Input e) n high c h = absurd (omega (arith, high, h, input_two e))
+  of_files (Input e) n high c h = absurd (omega (arith, high, h, input_two e c.0))
   of_files (Disk (FilesAway e)) n high c h = (e, h, turned_away e c)
   of_files (Disk DiskFault) n high c h = absurd (omega (arith, high, h))
   of_files NoMemory n high c h = absurd (omega (arith, high, h))
@@ -330,7 +354,7 @@ module _ (words : List (List ℕ)) (s : SourceSide) (k : SinkSide) (d : DiskSide
   archive_only (Words usage) c h = cc
   archive_only (Reading ReadFault) c h = cc
   archive_only (Reading InputLimit) c h = cc
-  archive_only (Input e) c h = absurd (input_never 6 (omega arith) e h)
+  archive_only (Input e) c h = absurd (input_never 6 (omega arith) e c.0 h)
   archive_only NoMemory c h = cc
 
   pub archive_fault_is_exact : (status : ℕ) → Ends words s k d status → ArchiveFaultIsExact words s d status

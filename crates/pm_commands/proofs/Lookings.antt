@@ -7,23 +7,23 @@ use Rattle.pcp_outside.specs.declared.disk.Disk.{Ghosts as DiskGhosts}
 use Rattle.pcp_outside.proofs.Crash.{weaker}
 use Rattle.archive_window.specs.Looks.{Looks}
 use Rattle.archive_loading.specs.Loaded.{Loaded}
-use Rattle.pm_tasks.specs.declared.stage.FilesRefusal.{FilesRefusal}
-use Rattle.pm_tasks.specs.declared.stage.FilesRefusal.TheVariants.{Unlogged, Compressed, NotArchive, Nothing}
-use Rattle.pm_tasks.specs.declared.stage.ResultRefusal.{ResultRefusal}
-use Rattle.pm_tasks.specs.declared.stage.DiskRefusal.TheVariants.{Files as FilesAway, DiskFault}
-use Rattle.pm_tasks.specs.declared.refusal.Refusal.{Refusal}
-use Rattle.pm_tasks.specs.declared.refusal.Refusal.TheVariants.{Words, Reading, Input, Disk, NoMemory}
-use Rattle.pm_tasks.specs.declared.words.Command.{Command}
-use Rattle.pm_tasks.specs.declared.words.Command.TheVariants.{Once, MmvMake, MmvDump, Dump, Info, Recover, At, Range, Value}
-use Rattle.pm_tasks.specs.declared.words.ValueWords.{ValueWords}
+use Rattle.pm_words.specs.declared.stage.FilesRefusal.{FilesRefusal}
+use Rattle.pm_words.specs.declared.stage.FilesRefusal.TheVariants.{Unlogged, Compressed, NotArchive, Nothing}
+use Rattle.pm_words.specs.declared.stage.ResultRefusal.{ResultRefusal}
+use Rattle.pm_words.specs.declared.stage.DiskRefusal.TheVariants.{Files as FilesAway, DiskFault}
+use Rattle.pm_words.specs.declared.refusal.Refusal.{Refusal}
+use Rattle.pm_words.specs.declared.refusal.Refusal.TheVariants.{Words, Reading, Input, Disk, NoMemory}
+use Rattle.pm_words.specs.declared.words.Command.{Command}
+use Rattle.pm_words.specs.declared.words.Command.TheVariants.{Once, MmvMake, MmvDump, Dump, Info, Recover, At, Range, Value}
+use Rattle.pm_words.specs.declared.words.ValueWords.{ValueWords}
 use Rattle.pm_tasks.specs.Archives.{TurnedAfter, TurnedAway, looks, nothing_before}
 use Rattle.pm_tasks.specs.Causes.{Left, StopCause}
 use Rattle.pm_tasks.specs.Ends.{HasServed, Serves, IsNever, MayLeave, told_of}
-use Rattle.pm_tasks.specs.Meaning.{Meaning}
+use Rattle.pm_words.specs.Meaning.{Meaning}
 use Rattle.pm_tasks.specs.Meanings.{meaning}
-use Rattle.pm_tasks.specs.Refusals.{files_status, result_status}
-use Rattle.pm_tasks.specs.Sides.{SinkSide, DiskSide, Found, found, Untouched, Leaves}
-use Rattle.pm_tasks.specs.Streams.{IsSent}
+use Rattle.pm_words.specs.Refusals.{files_status, result_status}
+use Rattle.pm_words.specs.Sides.{SinkSide, DiskSide, Found, found, Untouched, Leaves}
+use Rattle.pm_words.specs.Streams.{IsSent}
 use Rattle.pm_tasks.specs.commands.at as at
 use Rattle.pm_tasks.specs.commands.dump as dump
 use Rattle.pm_tasks.specs.commands.info as info

@@ -1,13 +1,13 @@
 -- A refusal whose line could not be made ends as want of memory.
 use Rattle.std.proofs.Common.{◌≡◌, inl, inr, ℕ, List, [], ◌++◌, refl, sym, ap, ◌∙◌, arith, append-nil, IsSome}
-use Rattle.pm_tasks.specs.declared.stage.DiskRefusal.TheVariants.{Files, DiskFault}
-use Rattle.pm_tasks.specs.declared.refusal.Refusal.{Refusal}
-use Rattle.pm_tasks.specs.declared.refusal.Refusal.TheVariants.{Words, Reading, Input, Disk, NoMemory}
+use Rattle.pm_words.specs.declared.stage.DiskRefusal.TheVariants.{Files, DiskFault}
+use Rattle.pm_words.specs.declared.refusal.Refusal.{Refusal}
+use Rattle.pm_words.specs.declared.refusal.Refusal.TheVariants.{Words, Reading, Input, Disk, NoMemory}
 use Rattle.pm_tasks.specs.Causes.{Cause}
 use Rattle.pm_tasks.specs.Ends.{Ends, HasBegun}
 use Rattle.pm_tasks.specs.Meanings.{meaning}
-use Rattle.pm_tasks.specs.Refusals.{numbered_line_of}
-use Rattle.pm_tasks.specs.Sides.{SourceSide, SinkSide, DiskSide}
+use Rattle.pm_words.specs.Refusals.{numbered_line_of}
+use Rattle.pm_words.specs.Sides.{SourceSide, SinkSide, DiskSide}
 use Rattle.pm_commands.proofs.Lookings.{untold_left}
 use Rattle.pm_tasks.proofs.Served.{took_some}
 

@@ -10,16 +10,16 @@ use Rattle.archive_reader.specs.Values.{IsValueAt, IsWholeFault}
 use Rattle.archive_reader.specs.declared.fault.ReaderFault.TheVariants as faults
 use Rattle.archive_reader.proofs.Once.{at_answers_once, value_answers_once}
 use Rattle.archive_reader.proofs.OnceLoaded.{load_answers_once}
-use Rattle.pm_tasks.specs.declared.stage.FilesRefusal.{FilesRefusal}
-use Rattle.pm_tasks.specs.declared.stage.FilesRefusal.TheVariants.{Unlogged, Compressed, NotArchive, Nothing}
-use Rattle.pm_tasks.specs.declared.words.Command.{Command}
-use Rattle.pm_tasks.specs.declared.words.Command.TheVariants.{Once, MmvMake, MmvDump, Dump, Info, Recover, At, Range, Value}
-use Rattle.pm_tasks.specs.declared.words.ValueWords.{ValueWords}
+use Rattle.pm_words.specs.declared.stage.FilesRefusal.{FilesRefusal}
+use Rattle.pm_words.specs.declared.stage.FilesRefusal.TheVariants.{Unlogged, Compressed, NotArchive, Nothing}
+use Rattle.pm_words.specs.declared.words.Command.{Command}
+use Rattle.pm_words.specs.declared.words.Command.TheVariants.{Once, MmvMake, MmvDump, Dump, Info, Recover, At, Range, Value}
+use Rattle.pm_words.specs.declared.words.ValueWords.{ValueWords}
 use Rattle.pm_tasks.specs.Archives.{IsLoaded, IsNotLoaded}
 use Rattle.pm_tasks.specs.Ends.{HasServed}
 use Rattle.pm_tasks.specs.Meanings.{meaning}
-use Rattle.pm_tasks.specs.Refusals.{files_status}
-use Rattle.pm_tasks.specs.Sides.{DiskSide, Found, found}
+use Rattle.pm_words.specs.Refusals.{files_status}
+use Rattle.pm_words.specs.Sides.{DiskSide, Found, found}
 use Rattle.pm_tasks.specs.commands.at as at
 use Rattle.pm_tasks.specs.commands.value as value
 

@@ -7,13 +7,13 @@ use Rattle.archive_reader.proofs.Finds.{readable_stands}
 use Rattle.archive_reader.proofs.Loadable.{loads_readable}
 use Rattle.archive_reader.specs.declared.fault.ReaderFault.TheVariants as faults
 use Rattle.archive_reader.specs.Values.{IsWholeFault}
-use Rattle.pm_tasks.specs.declared.stage.FilesRefusal.{FilesRefusal}
-use Rattle.pm_tasks.specs.declared.stage.FilesRefusal.TheVariants.{Unlogged, Compressed, NotArchive, Nothing}
-use Rattle.pm_tasks.specs.declared.words.ValueWords.{ValueWords}
+use Rattle.pm_words.specs.declared.stage.FilesRefusal.{FilesRefusal}
+use Rattle.pm_words.specs.declared.stage.FilesRefusal.TheVariants.{Unlogged, Compressed, NotArchive, Nothing}
+use Rattle.pm_words.specs.declared.words.ValueWords.{ValueWords}
 use Rattle.pm_tasks.specs.Archives.{IsLoaded, IsNotLoaded}
 use Rattle.pm_commands.specs.Laws.{IsWelcome}
-use Rattle.pm_tasks.specs.Refusals.{files_status}
-use Rattle.pm_tasks.specs.Sides.{Found}
+use Rattle.pm_words.specs.Refusals.{files_status}
+use Rattle.pm_words.specs.Sides.{Found}
 use Rattle.pm_tasks.proofs.Refused.{takes_readable}
 use Rattle.pm_tasks.specs.commands.dump as dump
 use Rattle.pm_tasks.specs.commands.value as value

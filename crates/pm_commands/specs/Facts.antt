@@ -4,20 +4,20 @@ use Rattle.std.specs.Prelude.{◌≡◌, ◌⊎◌, ℕ, ◌<◌, ◌≤◌, Lis
 use Rattle.pcp_base.specs.Time.{Moment}
 use Rattle.pcp_model.specs.Disk.{Files, Holdings, CrashImage}
 use Rattle.pcp_outside.specs.Causes.{Rose}
-use Rattle.pm_tasks.specs.declared.stage.InputRefusal.{InputRefusal}
-use Rattle.pm_tasks.specs.declared.stage.FilesRefusal.{FilesRefusal}
-use Rattle.pm_tasks.specs.declared.stage.FilesRefusal.TheVariants.{Unlogged, Compressed, Nothing}
-use Rattle.pm_tasks.specs.declared.words.Command.{Command}
-use Rattle.pm_tasks.specs.CommandLine.{command_of}
+use Rattle.pm_words.specs.declared.stage.InputRefusal.{InputRefusal}
+use Rattle.pm_words.specs.declared.stage.FilesRefusal.{FilesRefusal}
+use Rattle.pm_words.specs.declared.stage.FilesRefusal.TheVariants.{Unlogged, Compressed, Nothing}
+use Rattle.pm_words.specs.declared.words.Command.{Command}
+use Rattle.pm_words.specs.CommandLine.{command_of}
 use Rattle.pm_tasks.specs.Causes.{Asks, fault_of, Finds, IsReader}
-use Rattle.pm_tasks.specs.Inputs.{input_limit, refusal_of}
-use Rattle.pm_tasks.specs.Meaning.{Meaning}
+use Rattle.pm_words.specs.Inputs.{input_limit, refusal_of}
+use Rattle.pm_words.specs.Meaning.{Meaning}
 use Rattle.pm_tasks.specs.Meanings.{meaning}
 use Rattle.pcp_base.specs.declared.file.FileId.{FileId}
-use Rattle.pm_tasks.specs.declared.stage.ResultRefusal.{ResultRefusal}
-use Rattle.pm_tasks.specs.declared.stage.ResultRefusal.TheVariants.{NotLater, Changed}
-use Rattle.pm_tasks.specs.Refusals.{input_status, files_status, result_status}
-use Rattle.pm_tasks.specs.Sides.{SourceSide, SinkSide, DiskSide, found, Untouched}
+use Rattle.pm_words.specs.declared.stage.ResultRefusal.{ResultRefusal}
+use Rattle.pm_words.specs.declared.stage.ResultRefusal.TheVariants.{NotLater, Changed}
+use Rattle.pm_words.specs.Refusals.{input_status, files_status, result_status}
+use Rattle.pm_words.specs.Sides.{SourceSide, SinkSide, DiskSide, found, Untouched}
 
 -- the words are a command that has nothing to do with the disk
 abbrev pub IsAside : List (List ℕ) → Type 0

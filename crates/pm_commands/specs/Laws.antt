@@ -4,10 +4,10 @@ use Rattle.std.specs.Prelude.{◌≡◌, Option, None}
 use Rattle.pcp_model.specs.Archive.{Readable}
 use Rattle.fetch_engine.specs.declared.fetch.Fetched.{Fetched}
 use Rattle.record_run.specs.OneReason.{Takes}
-use Rattle.pm_tasks.specs.declared.stage.FilesRefusal.{FilesRefusal}
-use Rattle.pm_tasks.specs.declared.words.ValueWords.{ValueWords}
-use Rattle.pm_tasks.specs.Refusals.{files_status}
-use Rattle.pm_tasks.specs.Sides.{Found}
+use Rattle.pm_words.specs.declared.stage.FilesRefusal.{FilesRefusal}
+use Rattle.pm_words.specs.declared.words.ValueWords.{ValueWords}
+use Rattle.pm_words.specs.Refusals.{files_status}
+use Rattle.pm_words.specs.Sides.{Found}
 use Rattle.pm_tasks.specs.commands.dump as dump
 use Rattle.pm_tasks.specs.commands.info as info
 use Rattle.pm_tasks.specs.commands.once as once

@@ -6,7 +6,7 @@ mod laws;
 mod top;
 
 pub use laws::{readable_is_welcome, taking_is_welcome};
-pub use pm_tasks::{
+pub use pm_words::{
     Command, DiskRefusal, FilesRefusal, InputRefusal, OnceWords, ReadRefusal, Refusal,
     ResultRefusal, Stop, Usage, ValueWords, read_words,
 };

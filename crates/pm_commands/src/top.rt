@@ -2,20 +2,21 @@
 ghost use Rattle.std.specs.Prelude.{◌≡◌, ◌⊎◌, ◌≤◌, length, map, string_bytes, false};
 ghost use Rattle.pcp_model.specs.Disk.{CrashImage, IsSettled, contents_of};
 ghost use Rattle.pcp_outside.specs.Causes.{Rose};
-ghost use Rattle.pm_tasks.specs.CommandLine.{FitsCommand};
+ghost use Rattle.pm_words.specs.CommandLine.{FitsCommand};
 ghost use Rattle.pm_tasks.specs.Ends.{Serves, Runs, Ends, EndsDone, MayLeave, MayBeLeft};
 ghost use Rattle.pm_commands.specs.Facts.{UsageIsExact, LimitIsExact, InputFaultIsExact, UnloggedIsExact, ArchiveFaultIsExact, NothingIsThere, IsAside, IsInputless, IsRefused, Unwritten, IsGoodRun, Keeps};
-ghost use Rattle.pm_tasks.specs.Inputs.{input_limit};
+ghost use Rattle.pm_words.specs.Inputs.{input_limit};
 ghost use Rattle.pm_tasks.specs.Meanings.{meaning};
 ghost use Rattle.pm_tasks.specs.Since.{CommandSince, HasRecovered, HadRecovered, WordsSince};
-ghost use Rattle.pm_tasks.specs.Sides.{source_side, sink_side, disk_side, IsUnread, Leaves};
+ghost use Rattle.pm_words.specs.Sides.{source_side, sink_side, disk_side, IsUnread, Leaves};
 ghost use Rattle.pm_tasks.specs.Takes.{MayTake, TakesLittle};
 
 use pcp_outside::{Disk, Sink, Source};
 use pm_tasks::{
-    Command, Output, Refusal, at, dump, finish, get_input, info, mmv_dump, mmv_make, once, range,
-    read_words, recover, told, value,
+    Output, at, dump, finish, get_input, info, mmv_dump, mmv_make, once, range, recover, told,
+    value,
 };
+use pm_words::{Command, Refusal, read_words};
 use std::alloc::Global;
 
 // Does what a command asks for with its input. What it writes before it is done goes to the sink unless that has failed.

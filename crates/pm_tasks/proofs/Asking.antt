@@ -9,14 +9,14 @@ use Rattle.archive_reader.specs.declared.fault.ReaderFault.{ReaderFault}
 use Rattle.archive_reader.specs.declared.fault.ReaderFault.TheVariants as faults
 use Rattle.archive_loading.specs.Loaded.{Loaded, IsOver}
 use Rattle.archive_reader.specs.LoadFaults.{IsLoadFault}
-use Rattle.pm_tasks.specs.declared.stage.FilesRefusal.{FilesRefusal}
-use Rattle.pm_tasks.specs.declared.stage.FilesRefusal.TheVariants.{Compressed, NotArchive}
-use Rattle.pm_tasks.specs.declared.stage.DiskRefusal.TheVariants.{Files as FilesAway, DiskFault}
-use Rattle.pm_tasks.specs.declared.refusal.Refusal.{Refusal}
-use Rattle.pm_tasks.specs.declared.refusal.Refusal.TheVariants.{Words, Reading, Input, Disk, NoMemory}
+use Rattle.pm_words.specs.declared.stage.FilesRefusal.{FilesRefusal}
+use Rattle.pm_words.specs.declared.stage.FilesRefusal.TheVariants.{Compressed, NotArchive}
+use Rattle.pm_words.specs.declared.stage.DiskRefusal.TheVariants.{Files as FilesAway, DiskFault}
+use Rattle.pm_words.specs.declared.refusal.Refusal.{Refusal}
+use Rattle.pm_words.specs.declared.refusal.Refusal.TheVariants.{Words, Reading, Input, Disk, NoMemory}
 use Rattle.pm_tasks.specs.Archives.{IsLoaded, IsNotLoaded, TurnedAfter, TurnedAway}
-use Rattle.pm_tasks.specs.Refusals.{reader_refusal}
-use Rattle.pm_tasks.specs.Sides.{Found, disk_side, found}
+use Rattle.pm_words.specs.Refusals.{reader_refusal}
+use Rattle.pm_words.specs.Sides.{Found, disk_side, found}
 
 module _ {D : Type 0} (g : DiskGhosts D) where
   -- the archive wasn't loaded

@@ -14,14 +14,14 @@ use Rattle.archive_reader.proofs.Readable.{standing_is_read}
 use Rattle.archive_reader.specs.Walks.{volumes_from, Leads, StepsOver}
 use Rattle.archive_reader.specs.declared.places.Place.{Place}
 use Rattle.pm_print.specs.Items.{item_text, items_text}
-use Rattle.pm_tasks.specs.declared.stage.FilesRefusal.{FilesRefusal}
-use Rattle.pm_tasks.specs.declared.stage.FilesRefusal.TheVariants.{Unlogged, Compressed, NotArchive, Nothing}
-use Rattle.pm_tasks.specs.declared.refusal.Refusal.{Refusal}
+use Rattle.pm_words.specs.declared.stage.FilesRefusal.{FilesRefusal}
+use Rattle.pm_words.specs.declared.stage.FilesRefusal.TheVariants.{Unlogged, Compressed, NotArchive, Nothing}
+use Rattle.pm_words.specs.declared.refusal.Refusal.{Refusal}
 use Rattle.pm_tasks.specs.Archives.{IsLoaded, TurnedAway}
-use Rattle.pm_tasks.specs.Refusals.{reader_refusal}
+use Rattle.pm_words.specs.Refusals.{reader_refusal}
 use Rattle.pcp_outside.specs.declared.streams.Sink.{Ghosts as SinkGhosts}
-use Rattle.pm_tasks.specs.Sides.{SinkSide, DiskSide, Found, sink_side, disk_side, found}
-use Rattle.pm_tasks.specs.Streams.{IsFront, IsSent, Turns}
+use Rattle.pm_words.specs.Sides.{SinkSide, DiskSide, Found, sink_side, disk_side, found}
+use Rattle.pm_words.specs.Streams.{IsFront, IsSent, Turns}
 use Rattle.pm_tasks.specs.commands.dump.{label_line, HasItems, BeginsWith, HasNext, BadNext, HasPut, HasPutSome, HasSaid, HasStopped, BadRecord}
 use Rattle.pm_tasks.proofs.Asking.{turned_on}
 use Rattle.pm_tasks.proofs.Sending.{unsent, sent_on}

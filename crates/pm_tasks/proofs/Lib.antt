@@ -1,5 +1,4 @@
 pub mod Asking
-pub mod Components
 pub mod Dumped
 pub mod Logged
 pub mod Mended

@@ -14,18 +14,18 @@ use Rattle.record_run.specs.ImageFaults.{IsRunFault, IsTurnedAway, LogStops, Run
 use Rattle.record_run.specs.ImageRuns.{RunsTo, how_many, items_of_run, result_of}
 use Rattle.record_run.specs.OneReason.{Takes, TakesNot}
 use Rattle.record_run.proofs.OneReason.{for_no_reason, for_one_reason, runs_taken}
-use Rattle.pm_tasks.specs.declared.stage.FilesRefusal.{FilesRefusal}
-use Rattle.pm_tasks.specs.declared.stage.FilesRefusal.TheVariants.{Unlogged, Compressed, NotArchive, Nothing}
-use Rattle.pm_tasks.specs.declared.stage.DiskRefusal.TheVariants.{Files as FilesAway, DiskFault}
-use Rattle.pm_tasks.specs.declared.stage.ResultRefusal.{ResultRefusal}
-use Rattle.pm_tasks.specs.declared.stage.ResultRefusal.TheVariants.{Large, NotLater, Changed, Full}
-use Rattle.pm_tasks.specs.declared.refusal.Refusal.TheVariants.{Disk}
-use Rattle.pm_tasks.specs.declared.words.OnceWords.{OnceWords}
+use Rattle.pm_words.specs.declared.stage.FilesRefusal.{FilesRefusal}
+use Rattle.pm_words.specs.declared.stage.FilesRefusal.TheVariants.{Unlogged, Compressed, NotArchive, Nothing}
+use Rattle.pm_words.specs.declared.stage.DiskRefusal.TheVariants.{Files as FilesAway, DiskFault}
+use Rattle.pm_words.specs.declared.stage.ResultRefusal.{ResultRefusal}
+use Rattle.pm_words.specs.declared.stage.ResultRefusal.TheVariants.{Large, NotLater, Changed, Full}
+use Rattle.pm_words.specs.declared.refusal.Refusal.TheVariants.{Disk}
+use Rattle.pm_words.specs.declared.words.OnceWords.{OnceWords}
 use Rattle.pm_tasks.specs.Causes.{StopCause}
 use Rattle.pm_tasks.specs.Ends.{HasServed, IsNever, MayLeave}
-use Rattle.pm_tasks.specs.Inputs.{refusal_of}
-use Rattle.pm_tasks.specs.Refusals.{files_status, result_status, run_refusal}
-use Rattle.pm_tasks.specs.Sides.{DiskSide, Found, found}
+use Rattle.pm_words.specs.Inputs.{refusal_of}
+use Rattle.pm_words.specs.Refusals.{files_status, result_status, run_refusal}
+use Rattle.pm_words.specs.Sides.{DiskSide, Found, found}
 use Rattle.pm_tasks.specs.commands.once.{once, IsImageInput, IsLogged, OfRun, OverLeft, Stands, StandsOpened, begun, count_line, fault_of_result, turned}
 use Rattle.pm_tasks.proofs.Mended.{all_settled, not_both}
 use Rattle.pm_tasks.proofs.Refused.{refused_is_none}

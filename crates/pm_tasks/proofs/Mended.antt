@@ -12,13 +12,13 @@ use Rattle.archive_recovery.specs.declared.outcome.RecoverFault.{RecoverFault}
 use Rattle.archive_recovery.specs.declared.outcome.RecoverFault.TheVariants as faults
 use Rattle.archive_recovery.specs.RecoverFaults.{IsRecoverFault}
 use Rattle.archive_recovery.specs.Told.{IsToldOf, WasRecovered}
-use Rattle.pm_tasks.specs.declared.stage.FilesRefusal.{FilesRefusal}
-use Rattle.pm_tasks.specs.declared.stage.FilesRefusal.TheVariants.{Unlogged, Compressed, NotArchive, Nothing}
-use Rattle.pm_tasks.specs.declared.refusal.Refusal.TheVariants.{NoMemory}
+use Rattle.pm_words.specs.declared.stage.FilesRefusal.{FilesRefusal}
+use Rattle.pm_words.specs.declared.stage.FilesRefusal.TheVariants.{Unlogged, Compressed, NotArchive, Nothing}
+use Rattle.pm_words.specs.declared.refusal.Refusal.TheVariants.{NoMemory}
 use Rattle.pm_tasks.specs.Causes.{StopCause}
 use Rattle.pm_tasks.specs.Ends.{HasServed, IsNever}
-use Rattle.pm_tasks.specs.Refusals.{recover_refusal, files_status}
-use Rattle.pm_tasks.specs.Sides.{DiskSide, Found, found, disk_side}
+use Rattle.pm_words.specs.Refusals.{recover_refusal, files_status}
+use Rattle.pm_words.specs.Sides.{DiskSide, Found, found, disk_side}
 use Rattle.pm_tasks.specs.commands.recover.{IsMendedSide, items_line, recover, turned}
 use Rattle.pm_tasks.proofs.Served.{left_alone, still_settled}
 

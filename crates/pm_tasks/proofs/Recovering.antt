@@ -5,23 +5,25 @@ use Rattle.archive_recovery.specs.declared.outcome.RecoverFault.{RecoverFault}
 use Rattle.archive_recovery.specs.declared.outcome.RecoverFault.TheVariants as recovering
 use Rattle.fetch_engine.specs.declared.fetch.Fetched.{Fetched}
 use Rattle.logger_core.specs.declared.fault.LogFault.{LogFault}
+use Rattle.run_script.specs.declared.fault.ScriptLineFault.{ScriptLineFault}
+use Rattle.run_script.specs.declared.fault.ScriptLineFault.TheVariants as script
 use Rattle.record_run.specs.declared.fault.RunFault.{RunFault}
 use Rattle.record_run.specs.declared.fault.RunFault.TheVariants as running
 use Rattle.record_run.specs.ImageRuns.{items_of_run, result_of}
 use Rattle.record_run.specs.SinceRecovery.{FromRecovery, SinceRecovery}
-use Rattle.pm_tasks.specs.declared.stage.Stop.{Stop}
-use Rattle.pm_tasks.specs.declared.stage.Stop.TheVariants.{OutOfMemory, Refused}
-use Rattle.pm_tasks.specs.declared.stage.Usage.{Usage}
-use Rattle.pm_tasks.specs.declared.stage.ReadRefusal.{ReadRefusal}
-use Rattle.pm_tasks.specs.declared.stage.ReadRefusal.TheVariants.{ReadFault, InputLimit}
-use Rattle.pm_tasks.specs.declared.stage.InputRefusal.{InputRefusal}
-use Rattle.pm_tasks.specs.declared.stage.InputRefusal.TheVariants.{Image, Line}
-use Rattle.pm_tasks.specs.declared.stage.FilesRefusal.TheVariants.{Unlogged, Compressed, NotArchive, Nothing}
-use Rattle.pm_tasks.specs.declared.stage.DiskRefusal.TheVariants.{Files, DiskFault}
-use Rattle.pm_tasks.specs.declared.refusal.Refusal.{Refusal}
-use Rattle.pm_tasks.specs.declared.refusal.Refusal.TheVariants.{Words, Reading, Input, Disk, NoMemory}
+use Rattle.pm_words.specs.declared.stage.Stop.{Stop}
+use Rattle.pm_words.specs.declared.stage.Stop.TheVariants.{OutOfMemory, Refused}
+use Rattle.pm_words.specs.declared.stage.Usage.{Usage}
+use Rattle.pm_words.specs.declared.stage.ReadRefusal.{ReadRefusal}
+use Rattle.pm_words.specs.declared.stage.ReadRefusal.TheVariants.{ReadFault, InputLimit}
+use Rattle.pm_words.specs.declared.stage.InputRefusal.{InputRefusal}
+use Rattle.pm_words.specs.declared.stage.InputRefusal.TheVariants.{Image, Line, Script}
+use Rattle.pm_words.specs.declared.stage.FilesRefusal.TheVariants.{Unlogged, Compressed, NotArchive, Nothing}
+use Rattle.pm_words.specs.declared.stage.DiskRefusal.TheVariants.{Files, DiskFault}
+use Rattle.pm_words.specs.declared.refusal.Refusal.{Refusal}
+use Rattle.pm_words.specs.declared.refusal.Refusal.TheVariants.{Words, Reading, Input, Disk, NoMemory}
 use Rattle.pm_tasks.specs.declared.output.Output.{Output}
-use Rattle.pm_tasks.specs.Refusals.{run_refusal, stopped, status_of}
+use Rattle.pm_words.specs.Refusals.{run_refusal, stopped, script_status, status_of}
 use Rattle.pm_tasks.specs.Since.{HasRecovered, HadRecovered}
 
 -- the words, the reading and the input are looked at before
@@ -55,6 +57,16 @@ module _ {D : Type 0} (g : DiskGhosts D) (o : Option Fetched) (old new : D) wher
   of_fault running.NoMemory since h = absurd h
 
 -- a refusal with such a status comes behind
+by_script : (fault : ScriptLineFault) → HadRecovered (script_status fault) → ⊥
+by_script (script.Line fault) (inl h) = cc
+by_script (script.Line fault) (inr (inl h)) = cc
+by_script (script.Line fault) (inr (inr (inl h))) = cc
+by_script (script.Line fault) (inr (inr (inr h))) = cc
+by_script script.Regions (inl h) = cc
+by_script script.Regions (inr (inl h)) = cc
+by_script script.Regions (inr (inr (inl h))) = cc
+by_script script.Regions (inr (inr (inr h))) = cc
+
 by_input : (e : InputRefusal) → HadRecovered (status_of (Input e)) → ⊥
 by_input (Image fault) (inl h) = cc
 by_input (Image fault) (inr (inl h)) = cc
@@ -64,6 +76,7 @@ by_input (Line fault) (inl h) = cc
 by_input (Line fault) (inr (inl h)) = cc
 by_input (Line fault) (inr (inr (inl h))) = cc
 by_input (Line fault) (inr (inr (inr h))) = cc
+by_input (Script fault) h = by_script fault.fault h
 
 never : (n : ℕ) → (n ≡ 0 → ⊥) → (n ≡ 4 → ⊥) → (n ≡ 12 → ⊥) → (n ≡ 13 → ⊥) → HadRecovered n → ⊥
 never n a b c d (inl h) = a h

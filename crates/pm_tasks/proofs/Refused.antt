@@ -21,9 +21,9 @@ use Rattle.archive_loading.specs.Loaded.{IsLabelled}
 use Rattle.archive_loading.specs.LoadFaults.{AreLabelledBelow}
 use Rattle.archive_reader.proofs.Loadable.{loads_readable}
 use Rattle.archive_recovery.specs.RecoverFaults.{IsRefused, AreWholeBelow, StopsInRecords}
-use Rattle.pm_tasks.specs.declared.stage.FilesRefusal.{FilesRefusal}
-use Rattle.pm_tasks.specs.declared.stage.FilesRefusal.TheVariants.{Unlogged, Compressed, NotArchive, Nothing}
-use Rattle.pm_tasks.specs.Sides.{Found}
+use Rattle.pm_words.specs.declared.stage.FilesRefusal.{FilesRefusal}
+use Rattle.pm_words.specs.declared.stage.FilesRefusal.TheVariants.{Unlogged, Compressed, NotArchive, Nothing}
+use Rattle.pm_words.specs.Sides.{Found}
 use Rattle.pm_tasks.specs.commands.recover.{turned}
 
 -- Items' records and other bytes are items' records and a torn end: where none begins the other bytes, they are that end.

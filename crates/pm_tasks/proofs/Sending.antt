@@ -5,13 +5,13 @@ use Rattle.std.proofs.Math.Seq.{take-append_seam, take-append-add}
 use Rattle.pcp_outside.specs.Causes.{Rose}
 use Rattle.pcp_outside.specs.declared.streams.Sink.{Ghosts as SinkGhosts}
 use Rattle.pm_tasks.specs.declared.output.Output.{Output}
-use Rattle.pm_tasks.specs.declared.refusal.Refusal.{Refusal}
+use Rattle.pm_words.specs.declared.refusal.Refusal.{Refusal}
 use Rattle.pm_tasks.specs.Causes.{StopCause}
 use Rattle.pm_tasks.specs.Ends.{HasServed, Serves, shown}
-use Rattle.pm_tasks.specs.Meaning.{Meaning}
-use Rattle.pm_tasks.specs.Refusals.{Wrote}
-use Rattle.pm_tasks.specs.Sides.{SinkSide, DiskSide, sink_side}
-use Rattle.pm_tasks.specs.Streams.{IsFront, IsSent, Sends}
+use Rattle.pm_words.specs.Meaning.{Meaning}
+use Rattle.pm_words.specs.Refusals.{Wrote}
+use Rattle.pm_words.specs.Sides.{SinkSide, DiskSide, sink_side}
+use Rattle.pm_words.specs.Streams.{IsFront, IsSent, Sends}
 
 -- a count that rose, counted from before, or up to a later moment
 pub rose_later : (a b c : ℕ) → a ≤ b → Rose b c → Rose a c

@@ -5,23 +5,23 @@ use Rattle.std.proofs.lemmas.List.{drop_all}
 use Rattle.pcp_model.specs.Disk.{Files, Holdings, CrashImage, IsSettled}
 use Rattle.pcp_outside.specs.declared.streams.Sink.{Ghosts as SinkGhosts}
 use Rattle.pm_tasks.specs.declared.output.Output.{Output}
-use Rattle.pm_tasks.specs.declared.refusal.Refusal.{Refusal}
-use Rattle.pm_tasks.specs.declared.refusal.Refusal.TheVariants.{Words, Reading, Input, Disk, NoMemory}
-use Rattle.pm_tasks.specs.declared.stage.InputRefusal.{InputRefusal}
-use Rattle.pm_tasks.specs.declared.stage.ReadRefusal.{ReadRefusal}
-use Rattle.pm_tasks.specs.declared.stage.Stop.{Stop}
-use Rattle.pm_tasks.specs.declared.stage.Stop.TheVariants.{OutOfMemory, Refused}
-use Rattle.pm_tasks.specs.declared.stage.Usage.{Usage}
-use Rattle.pm_tasks.specs.declared.words.Command.{Command}
+use Rattle.pm_words.specs.declared.refusal.Refusal.{Refusal}
+use Rattle.pm_words.specs.declared.refusal.Refusal.TheVariants.{Words, Reading, Input, Disk, NoMemory}
+use Rattle.pm_words.specs.declared.stage.InputRefusal.{InputRefusal}
+use Rattle.pm_words.specs.declared.stage.ReadRefusal.{ReadRefusal}
+use Rattle.pm_words.specs.declared.stage.Stop.{Stop}
+use Rattle.pm_words.specs.declared.stage.Stop.TheVariants.{OutOfMemory, Refused}
+use Rattle.pm_words.specs.declared.stage.Usage.{Usage}
+use Rattle.pm_words.specs.declared.words.Command.{Command}
 use Rattle.pm_tasks.specs.Causes.{Asks, Got, Left, StopCause, TookSome, UnreadCause, Cause}
-use Rattle.pm_tasks.specs.CommandLine.{command_of, Reads}
+use Rattle.pm_words.specs.CommandLine.{command_of, Reads}
 use Rattle.pm_tasks.specs.Ends.{HasRun, HasBegun, Serves, Runs, Told, Ends, MayLeave, MayBeLeft, shown}
-use Rattle.pm_tasks.specs.Inputs.{Refuses, input_limit}
-use Rattle.pm_tasks.specs.Meaning.{Meaning}
+use Rattle.pm_words.specs.Inputs.{Refuses, input_limit}
+use Rattle.pm_words.specs.Meaning.{Meaning}
 use Rattle.pm_tasks.specs.Meanings.{meaning}
-use Rattle.pm_tasks.specs.Refusals.{status_of, line_of, stopped}
-use Rattle.pm_tasks.specs.Sides.{SourceSide, SinkSide, DiskSide, NotAsked, Untouched, sink_side}
-use Rattle.pm_tasks.specs.Streams.{IsSent, Finishes}
+use Rattle.pm_words.specs.Refusals.{status_of, line_of, stopped}
+use Rattle.pm_words.specs.Sides.{SourceSide, SinkSide, DiskSide, NotAsked, Untouched, sink_side}
+use Rattle.pm_words.specs.Streams.{IsSent, Finishes}
 use Rattle.pm_tasks.proofs.Sending.{front_taken, sent_on}
 
 -- all of a source was taken

@@ -8,9 +8,9 @@ use Rattle.archive_loading.specs.Loaded.{Loaded, IsOver}
 use Rattle.archive_loading.specs.Takes.{TookLabels}
 use Rattle.archive_reader.specs.Asked.{at_begin, range_begin}
 use Rattle.archive_reader.specs.Takes.{TakesAt, TakesRange}
-use Rattle.pm_tasks.specs.declared.words.Command.{Command}
-use Rattle.pm_tasks.specs.declared.words.Command.TheVariants.{Once, MmvMake, MmvDump, Dump, Info, Recover, At, Range, Value}
-use Rattle.pm_tasks.specs.CommandLine.{command_of}
+use Rattle.pm_words.specs.declared.words.Command.{Command}
+use Rattle.pm_words.specs.declared.words.Command.TheVariants.{Once, MmvMake, MmvDump, Dump, Info, Recover, At, Range, Value}
+use Rattle.pm_words.specs.CommandLine.{command_of}
 use Rattle.pm_tasks.specs.Takes.{TookAsked, TookAt, TookRange, MayTake, TakesLittle}
 
 -- nothing was taken

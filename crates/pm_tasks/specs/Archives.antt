@@ -7,13 +7,13 @@ use Rattle.pcp_model.specs.Sound.{IsSound}
 use Rattle.pcp_outside.specs.Causes.{Rose}
 use Rattle.archive_loading.specs.Loaded.{Loaded, IsOver}
 use Rattle.archive_loading.specs.LoadFaults.{NotLoaded}
-use Rattle.pm_tasks.specs.declared.stage.FilesRefusal.{FilesRefusal}
-use Rattle.pm_tasks.specs.declared.stage.FilesRefusal.TheVariants.{Unlogged, Compressed, NotArchive, Nothing}
-use Rattle.pm_tasks.specs.declared.stage.DiskRefusal.TheVariants.{Files as FilesAway, DiskFault}
-use Rattle.pm_tasks.specs.declared.refusal.Refusal.{Refusal}
-use Rattle.pm_tasks.specs.declared.refusal.Refusal.TheVariants.{Disk, NoMemory}
-use Rattle.pm_tasks.specs.Meaning.{Meaning}
-use Rattle.pm_tasks.specs.Sides.{DiskSide, Found, found, Untouched}
+use Rattle.pm_words.specs.declared.stage.FilesRefusal.{FilesRefusal}
+use Rattle.pm_words.specs.declared.stage.FilesRefusal.TheVariants.{Unlogged, Compressed, NotArchive, Nothing}
+use Rattle.pm_words.specs.declared.stage.DiskRefusal.TheVariants.{Files as FilesAway, DiskFault}
+use Rattle.pm_words.specs.declared.refusal.Refusal.{Refusal}
+use Rattle.pm_words.specs.declared.refusal.Refusal.TheVariants.{Disk, NoMemory}
+use Rattle.pm_words.specs.Meaning.{Meaning}
+use Rattle.pm_words.specs.Sides.{DiskSide, Found, found, Untouched}
 
 -- no file stands wrapped, and apart from the records of its volumes this is the archive
 pub record IsLoaded (found : Found) (r : Loaded) : Type 0 where

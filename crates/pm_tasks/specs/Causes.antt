@@ -3,22 +3,22 @@
 use Rattle.std.specs.Prelude.{◌≡◌, ◌⊎◌, ℕ, ◌<◌, ◌≤◌, List, [], length, drop, true, Option, Some, None, IsSome, Ok, Err}
 use Rattle.pcp_model.specs.Disk.{IsSettled}
 use Rattle.pcp_outside.specs.Causes.{Rose}
-use Rattle.pm_tasks.specs.declared.stage.Stop.{Stop}
-use Rattle.pm_tasks.specs.declared.stage.Stop.TheVariants.{OutOfMemory, Refused}
-use Rattle.pm_tasks.specs.declared.stage.ReadRefusal.{ReadRefusal}
-use Rattle.pm_tasks.specs.declared.stage.ReadRefusal.TheVariants.{ReadFault, InputLimit}
-use Rattle.pm_tasks.specs.declared.stage.InputRefusal.{InputRefusal}
-use Rattle.pm_tasks.specs.declared.stage.DiskRefusal.{DiskRefusal}
-use Rattle.pm_tasks.specs.declared.stage.DiskRefusal.TheVariants.{Files, DiskFault}
-use Rattle.pm_tasks.specs.declared.refusal.Refusal.{Refusal}
-use Rattle.pm_tasks.specs.declared.refusal.Refusal.TheVariants.{Words, Reading, Input, Disk, NoMemory}
-use Rattle.pm_tasks.specs.declared.words.Command.{Command}
-use Rattle.pm_tasks.specs.CommandLine.{command_of}
-use Rattle.pm_tasks.specs.Inputs.{input_limit, refusal_of}
-use Rattle.pm_tasks.specs.Meaning.{Meaning}
+use Rattle.pm_words.specs.declared.stage.Stop.{Stop}
+use Rattle.pm_words.specs.declared.stage.Stop.TheVariants.{OutOfMemory, Refused}
+use Rattle.pm_words.specs.declared.stage.ReadRefusal.{ReadRefusal}
+use Rattle.pm_words.specs.declared.stage.ReadRefusal.TheVariants.{ReadFault, InputLimit}
+use Rattle.pm_words.specs.declared.stage.InputRefusal.{InputRefusal}
+use Rattle.pm_words.specs.declared.stage.DiskRefusal.{DiskRefusal}
+use Rattle.pm_words.specs.declared.stage.DiskRefusal.TheVariants.{Files, DiskFault}
+use Rattle.pm_words.specs.declared.refusal.Refusal.{Refusal}
+use Rattle.pm_words.specs.declared.refusal.Refusal.TheVariants.{Words, Reading, Input, Disk, NoMemory}
+use Rattle.pm_words.specs.declared.words.Command.{Command}
+use Rattle.pm_words.specs.CommandLine.{command_of}
+use Rattle.pm_words.specs.Inputs.{input_limit, refusal_of}
+use Rattle.pm_words.specs.Meaning.{Meaning}
 use Rattle.pm_tasks.specs.Meanings.{meaning}
-use Rattle.pm_tasks.specs.Refusals.{files_status}
-use Rattle.pm_tasks.specs.Sides.{SourceSide, DiskSide, found, NotAsked, Untouched}
+use Rattle.pm_words.specs.Refusals.{files_status}
+use Rattle.pm_words.specs.Sides.{SourceSide, DiskSide, found, NotAsked, Untouched}
 
 -- an input of at most 16 MiB was read to its end, and where the source tells, it's all that the source had left
 pub record WasRead (s : SourceSide) (input : List ℕ) : Type 0 where

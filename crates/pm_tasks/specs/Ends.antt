@@ -2,18 +2,18 @@
 use Rattle.std.specs.Prelude.{◌≡◌, ◌⊎◌, ℕ, Bool, List, [], ◌++◌, take, codes, None, Result, Ok, Err, IfOk, IfErr}
 use Rattle.pcp_model.specs.Disk.{Files, Holdings, CrashImage, IsSettled}
 use Rattle.pcp_outside.specs.Causes.{Rose}
-use Rattle.pm_tasks.specs.declared.stage.FilesRefusal.{FilesRefusal}
-use Rattle.pm_tasks.specs.declared.stage.FilesRefusal.TheVariants.{Unlogged, Compressed, NotArchive, Nothing}
-use Rattle.pm_tasks.specs.declared.refusal.Refusal.{Refusal}
+use Rattle.pm_words.specs.declared.stage.FilesRefusal.{FilesRefusal}
+use Rattle.pm_words.specs.declared.stage.FilesRefusal.TheVariants.{Unlogged, Compressed, NotArchive, Nothing}
+use Rattle.pm_words.specs.declared.refusal.Refusal.{Refusal}
 use Rattle.pm_tasks.specs.declared.output.Output.{Output}
 use Rattle.pm_tasks.specs.declared.output.Output.TheVariants.{Logged, NothingLogged, Made}
 use Rattle.pm_tasks.specs.Causes.{Asks, StopCause, Cause}
-use Rattle.pm_tasks.specs.Inputs.{refusal_of}
-use Rattle.pm_tasks.specs.Meaning.{Meaning}
+use Rattle.pm_words.specs.Inputs.{refusal_of}
+use Rattle.pm_words.specs.Meaning.{Meaning}
 use Rattle.pm_tasks.specs.Meanings.{meaning}
-use Rattle.pm_tasks.specs.Refusals.{status_of, line_of, Wrote}
-use Rattle.pm_tasks.specs.Sides.{SourceSide, SinkSide, DiskSide, found}
-use Rattle.pm_tasks.specs.Streams.{IsSent}
+use Rattle.pm_words.specs.Refusals.{status_of, line_of, Wrote}
+use Rattle.pm_words.specs.Sides.{SourceSide, SinkSide, DiskSide, found}
+use Rattle.pm_words.specs.Streams.{IsSent}
 
 -- what is written of an output
 abbrev pub shown : Output → List ℕ

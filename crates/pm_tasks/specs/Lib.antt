@@ -1,13 +1,7 @@
 pub mod Archives
 pub mod Causes
-pub mod CommandLine
 pub mod Ends
-pub mod Inputs
-pub mod Meaning
 pub mod Meanings
-pub mod Refusals
-pub mod Sides
 pub mod Since
-pub mod Streams
 pub mod Takes
 pub mod commands

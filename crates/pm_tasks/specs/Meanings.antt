@@ -1,7 +1,7 @@
 -- The meaning of each command.
-use Rattle.pm_tasks.specs.declared.words.Command.{Command}
-use Rattle.pm_tasks.specs.declared.words.Command.TheVariants.{Once, MmvMake, MmvDump, Dump, Info, Recover, At, Range, Value}
-use Rattle.pm_tasks.specs.Meaning.{Meaning}
+use Rattle.pm_words.specs.declared.words.Command.{Command}
+use Rattle.pm_words.specs.declared.words.Command.TheVariants.{Once, MmvMake, MmvDump, Dump, Info, Recover, At, Range, Value}
+use Rattle.pm_words.specs.Meaning.{Meaning}
 use Rattle.pm_tasks.specs.commands.at.{at}
 use Rattle.pm_tasks.specs.commands.dump.{dump}
 use Rattle.pm_tasks.specs.commands.info.{info}

@@ -7,9 +7,9 @@ use Rattle.archive_loading.specs.Loaded.{Loaded, IsOver}
 use Rattle.archive_loading.specs.Takes.{TookLabels}
 use Rattle.archive_reader.specs.Asked.{at_begin, range_begin}
 use Rattle.archive_reader.specs.Takes.{TakesAt, TakesRange}
-use Rattle.pm_tasks.specs.declared.words.Command.{Command}
-use Rattle.pm_tasks.specs.declared.words.Command.TheVariants.{Once, MmvMake, MmvDump, Dump, Info, Recover, At, Range, Value}
-use Rattle.pm_tasks.specs.CommandLine.{command_of}
+use Rattle.pm_words.specs.declared.words.Command.{Command}
+use Rattle.pm_words.specs.declared.words.Command.TheVariants.{Once, MmvMake, MmvDump, Dump, Info, Recover, At, Range, Value}
+use Rattle.pm_words.specs.CommandLine.{command_of}
 
 -- the labels alone, or also what a search takes of the archive that was loaded
 pub record TookAsked (files : Files) (Search : Loaded → ℕ → ℕ → Type 0) (before after : ℕ) : Type 0 where

@@ -2,12 +2,11 @@
 ghost use Rattle.std.specs.Prelude.{◌≡◌, IfOk, IfErr, IsSome, None, is_some};
 ghost use Rattle.pm_tasks.specs.Causes.{WasRead, Got, UnreadCause};
 ghost use Rattle.pm_tasks.specs.Meanings.{meaning};
-ghost use Rattle.pm_tasks.specs.Sides.{source_side};
+ghost use Rattle.pm_words.specs.Sides.{source_side};
 
-use crate::stage::{ReadRefusal, Stop};
-use crate::words::Command;
 use pcp_base::{Bytes, List};
 use pcp_outside::{ReadFault, Source, read_to_limit};
+use pm_words::{Command, ReadRefusal, Stop};
 use std::alloc::Global;
 
 const INPUT_LIMIT: usize = 16_777_216;

@@ -1,13 +1,10 @@
-//! What the commands of the program `pcp` do: the words of a command line, what a command reads, what it does with the files,
-//! what it writes to its output, and its refusals, each with its status and last line.
+//! What the commands of the program `pcp` do: what a command reads, what it does with the files, and what it writes to its
+//! output.
 #![tactic(auto)]
 
 mod commands;
 mod inputs;
 mod output;
-mod refusal;
-mod stage;
-mod words;
 
 pub use commands::at::at;
 pub use commands::dump::dump;
@@ -20,6 +17,3 @@ pub use commands::recover::recover;
 pub use commands::value::value;
 pub use inputs::get_input;
 pub use output::{Output, finish, told};
-pub use refusal::Refusal;
-pub use stage::{DiskRefusal, FilesRefusal, InputRefusal, ReadRefusal, ResultRefusal, Stop, Usage};
-pub use words::{Command, OnceWords, ValueWords, read_words};

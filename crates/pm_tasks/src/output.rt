@@ -1,12 +1,12 @@
 //! What a command writes when it is done, and how it goes to the sink.
 ghost use Rattle.std.specs.Prelude.{◌≡◌};
 ghost use Rattle.pm_tasks.specs.Ends.{shown, told_of};
-ghost use Rattle.pm_tasks.specs.Sides.{sink_side};
-ghost use Rattle.pm_tasks.specs.Streams.{Sends, Finishes};
+ghost use Rattle.pm_words.specs.Sides.{sink_side};
+ghost use Rattle.pm_words.specs.Streams.{Sends, Finishes};
 
-use crate::refusal::Refusal;
 use pcp_base::Bytes;
 use pcp_outside::{Sink, write_all};
+use pm_words::Refusal;
 
 /// What a command writes when it is done.
 #[derive(Drop)]

@@ -1,10 +1,15 @@
--- What an agent tells.
-use Rattle.std.specs.Prelude.{ℤ, Result, Ok, Err}
-use Rattle.fetch_engine.specs.declared.asks.AskFault.{AskFault}
-use Rattle.fetch_engine.specs.declared.asks.AskFault.TheVariants.{Status, NoMemory}
+-- What a seat at a server tells, as an agent.
+use Rattle.std.specs.Prelude.{ℕ, List, Option, Some, None}
+use Rattle.fetch_engine.specs.Readings.{Reading}
+use Rattle.fetch_engine.specs.Servers.{Seated}
+use Rattle.fetch_engine.specs.Visits.{AreLoaded, AreRead, IsReadFor}
+use Rattle.fetch_engine.specs.declared.server.Mounted.{Mounted}
 
--- what a call told, or its status, has this, unless memory was refused
-abbrev pub Told : {X : Type 0} → Result X AskFault → (Result X ℤ → Type 0) → Type 0
-Told (Ok x) P = P (Ok x)
-Told (Err (Status n)) P = P (Err n)
-Told (Err NoMemory) P = Unit {0}
+-- each region was read once by the seat's own pass, or the one alone in whose cluster a number lies
+abbrev pub ReadsRegions : List Mounted → Option ℕ → Seated → List Reading → Seated → Type 0
+ReadsRegions rows None old readings new = AreRead rows old.tokens readings new.tokens
+ReadsRegions rows (Some word) old readings new = IsReadFor word rows old.tokens readings new.tokens
+
+-- the seat's passes did nothing but loads
+abbrev pub LoadsRegions : Seated → Seated → Type 0
+LoadsRegions old new = AreLoaded old.tokens new.tokens

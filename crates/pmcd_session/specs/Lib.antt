@@ -6,4 +6,5 @@ pub mod Pieces
 pub mod Replies
 pub mod Serving
 pub mod Sessions
+pub mod Sides
 pub mod Telling

@@ -28,12 +28,18 @@ IsSendEnd ends.WriteFault = Unit {0}
 IsSendEnd ends.NoMemory = Unit {0}
 IsSendEnd end = ⊥
 
--- why a session ends by its clock or by its sink: no moment is left, or it failed
+-- a stream ends a session by a length word that no PDU has, or where memory is refused
+abbrev pub IsStreamEnd : SessionEnd → Type 0
+IsStreamEnd (ends.BadLength found) = Unit {0}
+IsStreamEnd ends.NoMemory = Unit {0}
+IsStreamEnd end = ⊥
+
+-- why a session ends while PDUs are served: no moment is left, or the clock or the sink failed; or else by the stream
 abbrev pub HasReason : Type 0 → List Moment → ℕ → ℕ → ℕ → ℕ → SessionEnd → Type 0
 HasReason tells left clock_before clock_after sink_before sink_after ends.ClockEnd = tells → left ≡ []
 HasReason tells left clock_before clock_after sink_before sink_after ends.ClockFault = Rose clock_before clock_after
 HasReason tells left clock_before clock_after sink_before sink_after ends.WriteFault = Rose sink_before sink_after
-HasReason tells left clock_before clock_after sink_before sink_after end = Unit {0}
+HasReason tells left clock_before clock_after sink_before sink_after end = IsStreamEnd end
 
 -- a PDU was served, and these are the bytes of its reply
 abbrev pub IsDone : {A : Type 0} → ReadsBy A → Standing A → List ℕ → List Moment → List ℕ → Standing A → Type 0

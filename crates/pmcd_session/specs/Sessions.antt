@@ -1,6 +1,7 @@
 -- Whole sessions: what was taken, what was written, and why a session ended.
-use Rattle.std.specs.Prelude.{◌≡◌, ◌⊎◌, ℕ, ◌<◌, false, List, [], ◌∷◌, ◌++◌, length}
+use Rattle.std.specs.Prelude.{◌≡◌, ◌⊎◌, ℕ, ◌<◌, ◌≤◌, false, Bool, List, [], ◌∷◌, ◌++◌, length, take, drop, filter, bytes_eq}
 use Rattle.pcp_base.specs.Time.{Moment}
+use Rattle.pcp_outside.specs.Causes.{Rose}
 use Rattle.pcp_outside.specs.declared.doors.SessionEnd.{SessionEnd}
 use Rattle.pcp_outside.specs.declared.doors.SessionEnd.TheVariants as ends
 use Rattle.pdu_codec.specs.Spelling.{pdu_bytes}
@@ -9,6 +10,7 @@ use Rattle.pmcd_session.specs.declared.standing.Standing.{Standing}
 use Rattle.pmcd_session.specs.Contexts.{new_contexts}
 use Rattle.pmcd_session.specs.Replies.{greeting}
 use Rattle.pmcd_session.specs.Serving.{ReadsBy, DoesAll, AsksTheClock}
+use Rattle.pmcd_session.specs.Sides.{SourceSide, SinkSide, ClockSide}
 
 -- a session begins with a client that isn't known, and contexts that keep every instance
 abbrev pub begun : {A : Type 0} → A → Standing A
@@ -93,13 +95,51 @@ WritesBy ends.WriteFault before after bytes = WritesFront before after bytes
 WritesBy ends.NoMemory before after bytes = WritesFront before after bytes
 WritesBy end before after bytes = after ≡ before ++ bytes
 
--- where the input ended, nothing is left of it
-abbrev pub EndsInput : SessionEnd → List ℕ → Type 0
-EndsInput ends.Closed left = left ≡ []
-EndsInput (ends.Torn n) left = left ≡ []
-EndsInput end left = Unit {0}
+-- What a session did. Where an object tells its content, this was taken from it, or written to it.
+pub record Runs {A : Type 0} (reads : ReadsBy A) (loads : A → A → Type 0) (first last : A) (source : SourceSide) (sink : SinkSide) (clock : ClockSide) (end : SessionEnd) : Type 0 where
+  pub history : History
+  pub took : source.tells → source.left ≡ history.taken ++ source.after
+  pub few : length history.taken ≤ most_taken
+  pub asked : clock.tells → clock.left ≡ history.moments ++ clock.after
+  pub wrote : sink.tells → WritesBy end sink.written sink.after history.bytes
+  pub ends : Ends reads loads first history last end
 
--- where the clock's list had ended, no moment is left
-abbrev pub EndsClock : SessionEnd → List Moment → Type 0
-EndsClock ends.ClockEnd left = left ≡ []
-EndsClock end left = Unit {0}
+-- Nothing is left of an input that ended, and no moment where the clock had none; and an object failed only where its count
+-- of faults rose.
+abbrev pub IsCaused : SourceSide → SinkSide → ClockSide → SessionEnd → Type 0
+IsCaused source sink clock ends.Closed = source.tells → source.after ≡ []
+IsCaused source sink clock (ends.Torn n) = source.tells → source.after ≡ []
+IsCaused source sink clock (ends.BadLength found) = Unit {0}
+IsCaused source sink clock ends.ReadFault = Rose source.faults source.faults_after
+IsCaused source sink clock ends.WriteFault = Rose sink.faults sink.faults_after
+IsCaused source sink clock ends.ClockFault = Rose clock.faults clock.faults_after
+IsCaused source sink clock ends.ClockEnd = clock.tells → clock.after ≡ []
+IsCaused source sink clock ends.Spent = Unit {0}
+IsCaused source sink clock ends.NoMemory = Unit {0}
+
+-- no count of faults falls
+pub record CountsOn (source : SourceSide) (sink : SinkSide) (clock : ClockSide) : Type 0 where
+  pub source_on : source.faults ≤ source.faults_after
+  pub sink_on : sink.faults ≤ sink.faults_after
+  pub clock_on : clock.faults ≤ clock.faults_after
+
+-- a PDU whose type is that of a fetch
+abbrev pub is_fetch : List ℕ → Bool
+is_fetch pdu = bytes_eq (take 4 (drop 4 pdu)) (0 ∷ 0 ∷ 112 ∷ 3 ∷ [])
+
+-- an input of whole PDUs, with fewer bytes than a session may take, and a moment for each fetch
+pub record IsAnswerable (input : List ℕ) (moments : List Moment) : Type 0 where
+  pub pdus : List (List ℕ)
+  pub whole : Splits input pdus []
+  pub few : length input < most_taken
+  pub enough : length (filter is_fetch pdus) ≤ length moments
+
+-- no object failed
+pub record NoneFailed (source : SourceSide) (sink : SinkSide) (clock : ClockSide) : Type 0 where
+  pub source_well : Rose source.faults source.faults_after → ⊥
+  pub sink_well : Rose sink.faults sink.faults_after → ⊥
+  pub clock_well : Rose clock.faults clock.faults_after → ⊥
+
+-- such an input is answered to its end, unless memory is refused
+abbrev pub Completes : SourceSide → SinkSide → ClockSide → SessionEnd → Type 0
+Completes source sink clock end = source.tells → clock.tells → IsAnswerable source.left clock.left → NoneFailed source sink clock → (end ≡ ends.Closed) ⊎ (end ≡ ends.NoMemory)

@@ -1,9 +1,8 @@
 //! Who reads the regions for a session.
 ghost use Rattle.std.specs.Prelude.{◌≡◌, ◌≤◌, length, ℕ, List as Sequence, Option, Some, None, IfOk};
 ghost use Rattle.fetch_engine.specs.Answers.{answer_of};
-ghost use Rattle.fetch_engine.specs.Asks.{desc_asked, instances_asked};
+ghost use Rattle.fetch_engine.specs.Asks.{Told, desc_asked, instances_asked};
 ghost use Rattle.fetch_engine.specs.Readings.{Reading};
-ghost use Rattle.pmcd_session.specs.Agents.{Told};
 ghost use Rattle.pmcd_session.specs.Replies.{names_shown, missing_among};
 
 use fetch_engine::{AskFault, Named};

@@ -41,6 +41,21 @@ impl Contexts {
         Ok(Contexts { profiles })
     }
 
+    // Each profile keeps every instance again.
+    fn renew_each(&mut self, alloc: Global)
+        ensures each { (k : ℕ) (d : Settings) → k < length self.new → get_or self.new k d ≡ keeps_all }
+        ensures many { length self.new ≡ 16 }
+    {
+        renew_all(alloc, &mut self.profiles);
+    }
+
+    /// Every context keeps every instance again.
+    pub fn renew(&mut self, alloc: Global)
+        ensures { self.new ≡ new_contexts }
+    {
+        self.renew_each(alloc);
+    }
+
     /// The profile of a context; `None` exactly for a number above 15.
     pub fn profile(&self, context: u32) -> Option<&Profile>
         ensures value { option_copied result ≡ slice_get self.now context }
@@ -68,5 +83,14 @@ impl Contexts {
         }
         self.profiles[context as usize] = profile;
         true
+    }
+}
+
+// Makes each profile one that keeps every instance.
+fn renew_all(alloc: Global, profiles: &mut [Profile])
+    ensures { (k : ℕ) (d : Settings) → k < length profiles.new → get_or profiles.new k d ≡ keeps_all }
+{
+    for profile in profiles.iter_mut() {
+        *profile = Profile::all(alloc);
     }
 }

@@ -4,17 +4,19 @@
 #![tactic(auto)]
 
 mod agent;
+mod answering;
 mod contexts;
+mod conversing;
 mod halt;
 mod replies;
 mod requests;
 mod seat;
+mod seated;
+mod sending;
 mod serving;
 mod standing;
 mod telling;
 
 pub use agent::Agent;
-pub use contexts::Contexts;
 pub use pcp_outside::SessionEnd;
-pub use seat::SessionSeat;
-pub use standing::Standing;
+pub use seat::{SessionSeat, session};

@@ -1,18 +1,22 @@
 //! Replies, and their bytes.
-ghost use Rattle.std.specs.Prelude.{◌≡◌, ◌∷◌, [], map, option_map, IfOk, Some};
+ghost use Rattle.std.specs.Prelude.{◌≡◌, ◌∷◌, [], find, map, option_map, IfOk, Some};
 ghost use Rattle.std.specs.Option.{option_copied};
+ghost use Rattle.std.specs.Ordering.{int_eq};
 ghost use Rattle.pdu_codec.specs.Spelling.{IsWritable};
 ghost use Rattle.pmns_core.specs.Below.{below, children_of};
 ghost use Rattle.pmns_core.specs.Pairs.{least_name, pmid_of};
 ghost use Rattle.pmcd_session.specs.Replies.{all_of, chosen, ids_reply, names_reply, no_metric, no_name, one_instance, protocol_error, greeting, reply_bytes, some_names};
 
-use pcp_base::{Bytes, Duplicate, InDom, List, NoMemory, Text};
+use pcp_base::{Bytes, Duplicate, InDom, List, NoMemory, Pmid, Text};
 use pdu_codec::{Pdu, encode, pdu_length};
 use pmns_core::Names;
 use std::alloc::Global;
 
 /// A name is not there, and none continues it.
 const NO_NAME: i32 = -12357;
+
+/// No metric has the number.
+const NO_METRIC: i32 = -12358;
 
 /// The domain has no instance of the number.
 const NO_INSTANCE: i32 = -12360;
@@ -58,6 +62,59 @@ fn one_instance(alloc: Global, indom: InDom, found: Option<&(i32, Text)>) -> Res
     let mut pairs = List::empty(alloc);
     pairs.push((pair.0, pair.1.copy(alloc)?))?;
     Ok(Pdu::Instance { indom, pairs })
+}
+
+/// The pair of a number.
+fn pair_with(pairs: &[(i32, Text)], instance: i32) -> Option<&(i32, Text)>
+    ensures { option_copied result ≡ find (λ pair. int_eq pair.0 instance) pairs.now }
+{
+    pairs.iter().find(|pair| pair.0 == instance)
+}
+
+/// All instances of a domain, for which -1 asks, or the one of a number.
+pub fn chosen(
+    alloc: Global,
+    indom: InDom,
+    instance: i32,
+    pairs: List<(i32, Text)>,
+) -> Result<Pdu, NoMemory>
+    ensures { IfOk result (λ reply. reply ≡ chosen indom instance pairs) }
+{
+    if instance == -1 {
+        return Ok(Pdu::Instance { indom, pairs });
+    }
+    one_instance(alloc, indom, pair_with(pairs.as_slice(), instance))
+}
+
+/// The identifier of each name, if all names are there.
+pub fn ids_reply(alloc: Global, names: &Names, asked: &[Text]) -> Result<Pdu, NoMemory>
+    ensures { IfOk result (λ reply. reply ≡ ids_reply (all_of (pmid_of names.now) asked.now)) }
+{
+    let mut pmids = List::empty(alloc);
+    for name in asked {
+        let Some(pmid) = names.find(name) else {
+            return Ok(Pdu::Error { code: NO_NAME });
+        };
+        pmids.push(pmid)?;
+    }
+    Ok(Pdu::PmnsIds { status: 0, pmids })
+}
+
+/// The least name of each identifier, if each has one.
+pub fn names_reply(alloc: Global, names: &Names, asked: &[Pmid]) -> Result<Pdu, NoMemory>
+    ensures { IfOk result (λ reply. reply ≡ names_reply no_metric (all_of (least_name names.now) asked.now)) }
+{
+    let mut found = List::empty(alloc);
+    for pmid in asked {
+        let Some(name) = names.name_of(*pmid) else {
+            return Ok(Pdu::Error { code: NO_METRIC });
+        };
+        found.push(name.copy(alloc)?)?;
+    }
+    Ok(Pdu::PmnsNames {
+        status: 0,
+        names: found,
+    })
 }
 
 /// The first parts of pairs.

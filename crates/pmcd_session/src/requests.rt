@@ -1,9 +1,32 @@
 //! What a client's bytes ask for.
-ghost use Rattle.std.specs.Prelude.{◌≡◌};
-ghost use Rattle.pmcd_session.specs.Serving.{may_fetch, needs_moment};
+ghost use Rattle.std.specs.Prelude.{◌≡◌, ◌≢◌, IfOk};
+ghost use Rattle.pmcd_session.specs.Serving.{Asks, may_fetch, needs_moment};
 
-use pcp_base::Pmid;
-use pdu_codec::Pdu;
+use pcp_base::{NoMemory, Pmid};
+use pdu_codec::{Pdu, PduFault, decode};
+use std::alloc::Global;
+
+/// Bytes that are no PDU ask for nothing.
+fn nothing_for(fault: PduFault) -> Result<Option<Pdu>, NoMemory>
+    ensures { IfOk result (λ asked. (asked ≡ None) × (fault ≢ PduFault.NoMemory)) }
+{
+    match fault {
+        PduFault::NoMemory => Err(NoMemory),
+        PduFault::Length { .. } => Ok(None),
+        PduFault::Unknown { .. } => Ok(None),
+        PduFault::Body { .. } => Ok(None),
+    }
+}
+
+/// The PDU that bytes are, or `None` where they are none.
+pub fn request_in(alloc: Global, bytes: &[u8]) -> Result<Option<Pdu>, NoMemory>
+    ensures { IfOk result (λ asked. Asks bytes.now asked) }
+{
+    match decode(alloc, bytes) {
+        Ok(pdu) => Ok(Some(pdu)),
+        Err(fault) => nothing_for(fault),
+    }
+}
 
 /// How many contexts there are.
 const CONTEXTS: u32 = 16;

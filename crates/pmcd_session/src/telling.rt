@@ -1,15 +1,15 @@
 //! Requests that an agent tells the reply of: descriptions, instances and names.
-ghost use Rattle.std.specs.Prelude.{◌≡◌, List as Sequence, Some, None, [], IfOk, OnErr};
-ghost use Rattle.pdu_codec.specs.declared.pdu.Pdu.TheVariants.{DescReq, PmnsChild, PmnsTraverse};
+ghost use Rattle.std.specs.Prelude.{◌≡◌, ℤ, List as Sequence, Some, None, [], IfOk};
+ghost use Rattle.pdu_codec.specs.declared.pdu.Pdu.TheVariants.{DescReq, InstanceReq, PmnsIds, PmnsNames, PmnsChild, PmnsTraverse};
 ghost use Rattle.fetch_engine.specs.Readings.{Reading};
 ghost use Rattle.pmcd_session.specs.Serving.{KeepsRest, Tells};
 ghost use Rattle.pmcd_session.specs.Telling.{ShowsNames};
 
 use crate::agent::Agent;
-use crate::replies::{child_reply, traverse_reply};
+use crate::replies::{child_reply, chosen, ids_reply, names_reply, traverse_reply};
 use crate::standing::Standing;
 use fetch_engine::{AskFault, Named};
-use pcp_base::{NoMemory, Pmid, Text};
+use pcp_base::{InDom, NoMemory, Pmid, Text};
 use pdu_codec::Pdu;
 use pmns_core::Names;
 use std::alloc::Global;
@@ -36,6 +36,26 @@ pub fn tell_description<A: Agent>(
     }
 }
 
+/// The instances of a domain, or the one of a number.
+pub fn tell_instances<A: Agent>(
+    alloc: Global,
+    regions: &A::Regions,
+    s: &mut Standing<A>,
+    indom: InDom,
+    instance: i32,
+) -> Result<Pdu, NoMemory>
+    requires here { A.sits regions.now s.old.agent }
+    ensures told { IfOk result (λ reply. Tells (A.reads regions.now) s.old (InstanceReq indom instance) (record { moments = []; reply = Some reply; after = s.new })) }
+    ensures loads { A.loads regions.now s.old.agent s.new.agent }
+    ensures here { A.sits regions.now s.new.agent }
+{
+    match s.agent.instances(alloc, regions, indom) {
+        Ok(pairs) => chosen(alloc, indom, instance, pairs),
+        Err(AskFault::Status(code)) => Ok(Pdu::Error { code }),
+        Err(AskFault::NoMemory) => Err(NoMemory),
+    }
+}
+
 /// The name space, or `None` while a region is missing.
 fn names_shown<A: Agent>(
     alloc: Global,
@@ -53,6 +73,42 @@ fn names_shown<A: Agent>(
         return Ok(None);
     }
     Ok(Some(names))
+}
+
+/// The identifiers of names; the status that a request has isn't looked at.
+pub fn tell_ids<A: Agent>(
+    alloc: Global,
+    regions: &A::Regions,
+    s: &mut Standing<A>,
+    asked: &[Text],
+) -> Result<Pdu, NoMemory>
+    requires here { A.sits regions.now s.old.agent }
+    ensures told { (status : ℤ) → IfOk result (λ reply. Tells (A.reads regions.now) s.old (PmnsNames status asked.now) (record { moments = []; reply = Some reply; after = s.new })) }
+    ensures loads { A.loads regions.now s.old.agent s.new.agent }
+    ensures here { A.sits regions.now s.new.agent }
+{
+    match names_shown(alloc, regions, s)? {
+        Some(names) => ids_reply(alloc, &names, asked),
+        None => Ok(Pdu::Error { code: AGAIN }),
+    }
+}
+
+/// The names of identifiers; the status that a request has isn't looked at.
+pub fn tell_names<A: Agent>(
+    alloc: Global,
+    regions: &A::Regions,
+    s: &mut Standing<A>,
+    asked: &[Pmid],
+) -> Result<Pdu, NoMemory>
+    requires here { A.sits regions.now s.old.agent }
+    ensures told { (status : ℤ) → IfOk result (λ reply. Tells (A.reads regions.now) s.old (PmnsIds status asked.now) (record { moments = []; reply = Some reply; after = s.new })) }
+    ensures loads { A.loads regions.now s.old.agent s.new.agent }
+    ensures here { A.sits regions.now s.new.agent }
+{
+    match names_shown(alloc, regions, s)? {
+        Some(names) => names_reply(alloc, &names, asked),
+        None => Ok(Pdu::Error { code: AGAIN }),
+    }
 }
 
 /// The components that continue a name.

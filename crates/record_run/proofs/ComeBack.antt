@@ -1,17 +1,17 @@
 -- Whatever a crash leaves of the run of an image comes back with its items.
-use Rattle.std.proofs.Common.{◌≡◌, inl, inr, ℕ, ◌+◌, ◌≤◌, List, [], ◌∷◌, ◌++◌, length, take, drop, min, zero, suc, refl, sym, ap, ap₂, ◌∙◌, subst, arith}
+use Rattle.std.proofs.Common.{◌≡◌, inl, inr, ℕ, ◌+◌, ◌≤◌, List, [], ◌∷◌, ◌++◌, length, take, drop, min, zero, suc, sym, ap, ap₂, ◌∙◌, subst, arith}
 use Rattle.std.specs.Prelude.{Contains}
 use Rattle.std.specs.List.{AllByRecursion}
 use Rattle.std.proofs.Math.Path.{fun_ext}
 use Rattle.std.proofs.Math.Seq.{take-append_seam}
 use Rattle.std.proofs.lemmas.List.{drop_all, length-take, take-append-le, take_min}
+use Rattle.pcp_base.specs.Time.{Moment}
 use Rattle.pcp_base.specs.declared.file.FileId.TheVariants.{Meta, Index, Volume}
 use Rattle.pcp_base.specs.declared.result.Item.{Item}
 use Rattle.pcp_model.specs.declared.records.MetaRecord.{MetaRecord}
 use Rattle.pcp_model.specs.Archive.{ArchiveContents, ArchiveReading, Reads, IsArchive, items_of, scan, records_in}
 use Rattle.pcp_model.specs.Described.{Described}
 use Rattle.pcp_model.specs.Disk.{Files, IsEmpty}
-use Rattle.pcp_model.specs.LabelFields.{LabelFields}
 use Rattle.pcp_model.specs.Recovered.{Recovers, recovered_reading}
 use Rattle.pcp_model.specs.Sound.{IsSound}
 use Rattle.pcp_model.proofs.Lists.{each-first, each-map}
@@ -29,8 +29,9 @@ use Rattle.logger_core.specs.Recovering.{HoldsFirst}
 use Rattle.logger_core.specs.Reopening.{as_found}
 use Rattle.logger_core.proofs.Recovered.{survivors_recovered}
 use Rattle.logger_core.proofs.Whole.{each_contained}
+use Rattle.script_runs.specs.Archives.{OpensFound, run_label}
+use Rattle.record_run.specs.Going.{AreApart}
 use Rattle.record_run.specs.ImageCrashes.{ComesBack, start_of}
-use Rattle.record_run.specs.Opening.{Opens}
 
 -- what recovery leaves is one thing, as a whole
 pub same_left : (files a b : Files) (r : ArchiveReading) → Recovers files r a → Recovers files r b → a ≡ b
@@ -127,22 +128,17 @@ each-both : {X : Type 0} (P Q R : X → Type 0) → ((x : X) → P x → Q x →
 each-both P Q R f [] p q = tt
 each-both P Q R f (x ∷ xs) p q = (f x p.0 q.0, each-both P Q R f xs p.1 q.1)
 
-abbrev Is : Item → Item → Type 0
-Is x y = y ≡ x
+-- what stands behind the items that there were is of the new ones
+behind_each : (P : Item → Type 0) (xs items : List Item) (q : ℕ) → AllByRecursion P items → AllByRecursion P (drop (length xs) (take q (xs ++ items)))
+behind_each P [] items q all = each-first P q items all
+behind_each P (z ∷ xs) items zero all = tt
+behind_each P (z ∷ xs) items (suc q) all = behind_each P xs items q all
 
-behind : (xs : List Item) (x : Item) (q : ℕ) → AllByRecursion (Is x) (drop (length xs) (take q (xs ++ x ∷ [])))
-behind [] x q = each-first (Is x) q (x ∷ []) (refl, tt)
-behind (z ∷ xs) x zero = tt
-behind (z ∷ xs) x (suc q) = behind xs x q
-
-one_behind : (xs ys : List Item) (x : Item) (q : ℕ) → ys ≡ take q (xs ++ x ∷ []) → AllByRecursion (Is x) (drop (length xs) ys)
-one_behind xs ys x q is = subst (λ (zs : List Item). AllByRecursion (Is x) (drop (length xs) zs)) (sym is) (behind xs x q)
-
-pub new_described : (s : Start) (x : Item) (a : ℕ) (image : Files) (w : Survives s (scan s.reading ++ x ∷ []) a image) → (Contains (scan s.reading) x → ⊥) → AllByRecursion (Described w.new.records) (drop (length (scan s.reading)) (items_of w.new.volumes))
-new_described s x a image w apart =
-    each-both (Is x) (λ (y : Item). WasDescribed s y → Described w.new.records y) (Described w.new.records)
-    (λ y same told. told (λ has. absurd (apart (subst (λ (z : Item). Contains (scan s.reading) z) same has)))) (drop (length (scan s.reading)) (items_of w.new.volumes))
-    (one_behind (scan s.reading) (items_of w.new.volumes) x w.q w.items)
+pub each_new : (s : Start) (items : List Item) (a : ℕ) (image : Files) (w : Survives s (scan s.reading ++ items) a image) → AreApart (scan s.reading) items → AllByRecursion (Described w.new.records) (drop (length (scan s.reading)) (items_of w.new.volumes))
+each_new s items a image w apart =
+    each-both (λ (y : Item). Contains (scan s.reading) y → ⊥) (λ (y : Item). WasDescribed s y → Described w.new.records y) (Described w.new.records)
+    (λ y other told. told (λ has. absurd (other has))) (drop (length (scan s.reading)) (items_of w.new.volumes))
+    (subst (λ (zs : List Item). AllByRecursion (λ y. Contains (scan s.reading) y → ⊥) (drop (length (scan s.reading)) zs)) (sym w.items) (behind_each (λ y. Contains (scan s.reading) y → ⊥) (scan s.reading) items w.q apart))
     (each-drop (λ (y : Item). WasDescribed s y → Described w.new.records y) (length (scan s.reading)) (items_of w.new.volumes) w.described)
 
 -- what survives without a new item survives with it
@@ -223,8 +219,8 @@ module _ (left files : Files) (r : ArchiveReading) (reads : Reads files r) (reco
     new = none_behind (records_in h.reading) (length (scan was)) (scan h.reading) (omega (arith, ap length h.none));
   }
 
-  module _ (l : LabelFields) (opened : Files) (c : ArchiveContents) where
-    of_new : IsEmpty left → c ≡ no_items l → (items_of c.volumes ≡ scan r) × IsStill (start_of files r left) (as_found opened c).start
+  module _ (stamp : Moment) (opened : Files) (c : ArchiveContents) where
+    of_new : IsEmpty left → c ≡ no_items (run_label stamp) → (items_of c.volumes ≡ scan r) × IsStill (start_of files r left) (as_found opened c).start
     of_new empty is = (
       ap (λ (d : ArchiveContents). items_of d.volumes) is ∙ sym (no_item empty),
       record {
@@ -246,11 +242,11 @@ module _ (left files : Files) (r : ArchiveReading) (reads : Reads files r) (reco
           },
         )
 
-    of_opened : Opens l left opened c → (items_of c.volumes ≡ scan r) × IsStill (start_of files r left) (as_found opened c).start
+    of_opened : OpensFound stamp left opened c → (items_of c.volumes ≡ scan r) × IsStill (start_of files r left) (as_found opened c).start
     of_opened (inl new) = of_new new.0 new.2
     of_opened (inr old) = of_old old.0 old.1
 
-    pub opened_comes : Opens l left opened c → (more : List Item) (k : ℕ) (image : Files) (w : Survives (as_found opened c).start (items_of c.volumes ++ more) (length (items_of c.volumes) + k) image)
+    pub opened_comes : OpensFound stamp left opened c → (more : List Item) (k : ℕ) (image : Files) (w : Survives (as_found opened c).start (items_of c.volumes ++ more) (length (items_of c.volumes) + k) image)
         → AllByRecursion (Described w.new.records) (drop (length (items_of c.volumes)) (items_of w.new.volumes)) → ComesBack (start_of files r left) (scan r ++ more) (length (scan r) + k) image
     opened_comes opens more k image w new =
         moved (start_of files r left) (as_found opened c).start (scan r ++ more) (length (scan r) + k) image (of_opened opens).1

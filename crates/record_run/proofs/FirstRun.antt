@@ -37,10 +37,11 @@ use Rattle.fetch_engine.specs.declared.fetch.Fetched.{Fetched}
 use Rattle.logger_core.specs.Created.{no_items}
 use Rattle.logger_core.specs.LogSteps.{base_files, base_number, crosses, with_run}
 use Rattle.logger_core.specs.Steps.{IsGreatest, IsStampIn, due, due_in, last_entry, up_to, where_behind, with_entry}
-use Rattle.record_run.specs.Archives.{archive_of, files_with, flush_entry, records_of, run_files, run_label, with_item}
+use Rattle.script_runs.specs.Archives.{OpensFound, run_label}
+use Rattle.script_runs.specs.Once.{once_limit}
+use Rattle.record_run.specs.Archives.{archive_of, files_with, flush_entry, records_of, run_files, with_item}
 use Rattle.record_run.specs.ImageRuns.{LogsOver, RunsTo, result_for, result_of}
 use Rattle.record_run.specs.Runs.{fetched_of, metrics_of}
-use Rattle.record_run.specs.Opening.{Opens, run_limit}
 
 -- ---- the files of the archive
 
@@ -171,7 +172,7 @@ module _ (f : Fetched) where
       (omega (arith, framed, volume_label, length-append (label l (pos 0)) (frame (payload f.result)), length-frame (payload f.result), length-payload f.result))
 
   module _ (left final : Files) (empty : IsEmpty left) (run : LogsOver left f final) where
-    is_new : Opens l left run.files run.contents → (run.files ≡ created l) × (run.contents ≡ no_items l)
+    is_new : OpensFound f.result.stamp left run.files run.contents → (run.files ≡ created l) × (run.contents ≡ no_items l)
     is_new (inl new) = (new.1, new.2)
     is_new (inr old) =
         absurd (let no : ArchiveReading.archive run.contents ≡ ArchiveReading.nothing = one_reading left (ArchiveReading.archive run.contents) ArchiveReading.nothing old.1 (record { meta = inl (empty Meta); index = empty Index; volumes = λ n. empty (Volume n) }) in cc)
@@ -191,8 +192,8 @@ module _ (f : Fetched) where
     stays : run.step.crossing ≡ false
     stays =
         run.step.crosses_is
-        ∙ ap₂ (λ (fs : Files) (n : ℕ). crosses run_limit (length (fs (Volume n))) (payload_length f.result + 8)) files_are number_is
-        ∙ ap (λ (n : ℕ). crosses run_limit n (payload_length f.result + 8)) volume_label
+        ∙ ap₂ (λ (fs : Files) (n : ℕ). crosses once_limit (length (fs (Volume n))) (payload_length f.result + 8)) files_are number_is
+        ∙ ap (λ (n : ℕ). crosses once_limit n (payload_length f.result + 8)) volume_label
 
     logged_is : run.logged ≡ with_item f
     logged_is = fun_ext (λ (g : FileId).

@@ -32,13 +32,13 @@ use Rattle.logger_core.specs.Steps.{IsGreatest}
 use Rattle.logger_core.proofs.Calls.{no_call, run_as}
 use Rattle.logger_core.proofs.Rests.{image_survives, survives_same}
 use Rattle.logger_core.proofs.Survival.{this_or_other}
-use Rattle.record_run.specs.Archives.{run_label}
+use Rattle.script_runs.specs.Once.{once_limit}
 use Rattle.record_run.specs.ImageCrashes.{ComesBackTo}
 use Rattle.record_run.specs.ImageFaults.{IsTurnedAway, LogStops, MayStop}
 use Rattle.record_run.specs.ImageLogs.{IsLoggedSurely, MaySurvive}
 use Rattle.record_run.specs.ImageRuns.{LogsOver}
-use Rattle.record_run.specs.Opening.{IsOpened, run_limit}
-use Rattle.record_run.proofs.ComeBack.{new_described, none_new, opened_comes, with_one}
+use Rattle.record_run.specs.Opening.{IsOpened}
+use Rattle.record_run.proofs.ComeBack.{each_new, none_new, opened_comes, with_one}
 use Rattle.record_run.proofs.FirstRun.{at_of}
 
 pub both_ok : {T E : Type 0} (r : Result T E) (A B C : Type 0) → (A → B → C) → OnOk r A → OnOk r B → OnOk r C
@@ -108,7 +108,7 @@ module _ {D : Type 0} (g : DiskGhosts D) (only_now : (disk : D) (c : Files) → 
       (λ (other : e ≢ DiskFault). subst (λ (d : D). LeavesOnly g.moment g.left_since disk d (MaySurvive m (Sample answer))) (sym (same other))
       (no_call g only_now disk (MaySurvive m (Sample answer)) (λ image crash. inl (image_survives m old.ends.volume (g.held disk) l.at.stands image crash)))) (failed_log old new answer facts (g.faults disk) (g.faults after) e may)
 
-not_closed : {A : Type 0} (b : Bool) → b ≡ true → b ≡ false → A
+pub not_closed : {A : Type 0} (b : Bool) → b ≡ true → b ≡ false → A
 not_closed b closed open_ = absurd (let no : true ≡ false = sym closed ∙ open_ in cc)
 
 pub log_stops : (old new : Kept) (answer : PmResult) (facts : Facts) (before after : ℕ) (e : LogFault) → old.closed ≡ false → LogMayAnswer old new answer facts before after e → MayStop old answer facts before after e
@@ -120,7 +120,7 @@ log_stops old new answer facts before after (Full file bytes) open_ may = may.2
 log_stops old new answer facts before after NoMemory open_ may = tt
 log_stops old new answer facts before after DiskFault open_ may = may.3
 
-rose_since : (start before after : ℕ) → start ≤ before → Rose before after → Rose start after
+pub rose_since : (start before after : ℕ) → start ≤ before → Rose before after → Rose start after
 rose_since start before after le (inl less) = inl (omega arith)
 rose_since start before after le (inr full) = inr full
 
@@ -162,7 +162,7 @@ stop_cause l answer facts start before after NoMemory le may = (λ e. cc, λ e. 
 stop_cause l answer facts start before after DiskFault le may = (λ e. cc, λ e. rose_since start before after le may)
 
 -- all is settled
-is_settled : (m : Meant) (number : ℕ) (held : Holdings) → Stands m number held → IsVolumeSure number held → IsSettled held
+pub is_settled : (m : Meant) (number : ℕ) (held : Holdings) → Stands m number held → IsVolumeSure number held → IsSettled held
 is_settled m number held at sure = record {
   meta = at.sure;
   index = inl at.indexed;
@@ -184,7 +184,7 @@ open_stops left f held before after (Full file bytes) may still = absurd may
 open_stops left f held before after NoMemory may still = record { sure = (still refl).0; stands = inl (still refl).1 }
 open_stops left f held before after DiskFault may still = tt
 
-module _ (left : Files) (f : Fetched) (kept : Kept) (between : Holdings) (o : IsOpened (run_label f.result.stamp) left kept between) (limit_is : kept.limit ≡ run_limit) where
+module _ (left : Files) (f : Fetched) (kept : Kept) (between : Holdings) (o : IsOpened f.result.stamp left kept between) (limit_is : kept.limit ≡ once_limit) where
   abbrev m : Meant
   m = as_found o.files o.contents
 
@@ -197,7 +197,7 @@ module _ (left : Files) (f : Fetched) (kept : Kept) (between : Holdings) (o : Is
       ends = kept.ends;
       ends_are = o.is.at.ends;
       last = o.is.at.stands.keeps.last;
-      refused = subst (λ (rs : List MetaRecord). IsRefused rs kept.ends run_limit f.result f.facts e) (sym o.is.records_are) (subst (λ (n : ℕ). IsRefused kept.records kept.ends n f.result f.facts e) limit_is refused);
+      refused = subst (λ (rs : List MetaRecord). IsRefused rs kept.ends once_limit f.result f.facts e) (sym o.is.records_are) (subst (λ (n : ℕ). IsRefused kept.records kept.ends n f.result f.facts e) limit_is refused);
     };
     stands = λ file. ap (λ (h : Holdings). contents_of h file) same ∙ o.is.at.stands.written file;
     sure = λ file. ap (λ (h : Holdings). (h file).rest) same ∙ o.sure file;
@@ -225,7 +225,7 @@ module _ (left : Files) (f : Fetched) (kept : Kept) (between : Holdings) (o : Is
     ends = kept.ends;
     ends_are = o.is.at.ends;
     last = o.is.at.stands.keeps.last;
-    loggable = subst (λ (rs : List MetaRecord). IsLoggable rs kept.ends run_limit f.result f.facts) (sym o.is.records_are) (subst (λ (n : ℕ). IsLoggable kept.records kept.ends n f.result f.facts) limit_is may);
+    loggable = subst (λ (rs : List MetaRecord). IsLoggable rs kept.ends once_limit f.result f.facts) (sym o.is.records_are) (subst (λ (n : ℕ). IsLoggable kept.records kept.ends n f.result f.facts) limit_is may);
     logged = s.logged.files;
     step = record {
       greatest = s.step.greatest;
@@ -251,11 +251,11 @@ module _ (left : Files) (f : Fetched) (kept : Kept) (between : Holdings) (o : Is
   -- with the new item, or without it
   come_with : (k : ℕ) (image : Files) → Survives m.start (items_in m ++ x ∷ []) (length (items_in m) + k) image → (Contains (items_in m) x → ⊥) → ComesBackTo (x ∷ []) k left image
   come_with k image w apart = λ files r reads recovered.
-      opened_comes left files r reads recovered (run_label f.result.stamp) o.files o.contents o.opens (x ∷ []) k image w (new_described m.start x (length (items_in m) + k) image w apart)
+      opened_comes left files r reads recovered f.result.stamp o.files o.contents o.opens (x ∷ []) k image w (each_new m.start (x ∷ []) (length (items_in m) + k) image w (apart, tt))
 
   come_without : (image : Files) → SurvivesOf m image → ComesBackTo (x ∷ []) 0 left image
   come_without image w = λ files r reads recovered.
-      opened_comes left files r reads recovered (run_label f.result.stamp) o.files o.contents o.opens (x ∷ []) 0 image (with_one m.start (items_in m) x m.acknowledged (length (items_in m) + 0) image w (omega arith)) (none_new m.start m.acknowledged image w)
+      opened_comes left files r reads recovered f.result.stamp o.files o.contents o.opens (x ∷ []) 0 image (with_one m.start (items_in m) x m.acknowledged (length (items_in m) + 0) image w (omega arith)) (none_new m.start m.acknowledged image w)
 
   pub survivor_comes : (image : Files) → MaySurvive m x image → ComesBackTo (x ∷ []) 0 left image
   survivor_comes image (inl w) = come_without image w

@@ -1,6 +1,9 @@
 pub mod ComeBack
 pub mod Enough
 pub mod FirstRun
+pub mod FlushLines
+pub mod Flushes
+pub mod Going
 pub mod ImageLogged
 pub mod ImageRun
 pub mod Keys

@@ -1,12 +1,12 @@
 -- The archive that the run of an image goes on with.
-use Rattle.std.proofs.Common.{◌≡◌, inl, inr, Bool, true, false, ◌+◌, List, ◌++◌, length, Option, None, Some, refl, sym, ap, ◌∙◌, subst, arith}
+use Rattle.std.proofs.Common.{◌≡◌, inl, inr, Bool, true, false, ℕ, ◌+◌, List, ◌++◌, length, Option, None, Some, refl, sym, ap, ◌∙◌, subst, arith}
 use Rattle.std.specs.Prelude.{is_some, not}
 use Rattle.std.proofs.Math.Path.{fun_ext}
 use Rattle.std.proofs.lemmas.Option.{none-some}
+use Rattle.pcp_base.specs.Time.{Moment}
 use Rattle.pcp_base.specs.declared.result.Item.{Item}
 use Rattle.pcp_model.specs.Archive.{ArchiveReading, IsArchive, scan}
 use Rattle.pcp_model.specs.Disk.{Files, Held, Holdings, IsEmpty, contents_of}
-use Rattle.pcp_model.specs.LabelFields.{LabelFields}
 use Rattle.pcp_model.specs.Recovered.{Recovers, recovered_reading}
 use Rattle.pcp_model.specs.Written.{created}
 use Rattle.archive_recovery.specs.declared.outcome.Archive.{Archive}
@@ -14,8 +14,9 @@ use Rattle.archive_recovery.specs.Told.{IsToldOf}
 use Rattle.logger_core.specs.Created.{HasNoItem, IsCreated, no_items}
 use Rattle.logger_core.specs.Meant.{Kept}
 use Rattle.logger_core.specs.Reopening.{IsLeft, IsReopened, SameFiles}
+use Rattle.script_runs.specs.Archives.{run_label}
 use Rattle.record_run.specs.ImageCrashes.{ComesBack, ComesBackTo, start_of}
-use Rattle.record_run.specs.Opening.{IsOpened, run_limit}
+use Rattle.record_run.specs.Opening.{IsOpened}
 use Rattle.record_run.proofs.ComeBack.{fewer, left_comes, no_item_comes}
 
 pub none_is : {T : Type 0} (o : Option T) (b : Bool) → is_some o ≡ not b → b ≡ true → o ≡ None
@@ -30,17 +31,17 @@ nothing_told files left (ArchiveReading.archive c) archive none recovered told =
 pub nothing_left : (archive : Archive) (held : Holdings) → archive.label ≡ None → IsLeft archive held → IsEmpty (contents_of held)
 nothing_left archive held none left = nothing_told left.files (contents_of held) left.recovered.reading archive none left.recovered.recovered left.recovered.told
 
-pub created_opens : (l : LabelFields) (archive : Archive) (old new : Holdings) (kept : Kept) → archive.label ≡ None → IsLeft archive old → IsCreated l run_limit kept new → IsOpened l (contents_of old) kept new
-created_opens l archive old new kept none left c = record {
-  files = created l;
-  contents = no_items l;
+pub created_opens : (stamp : Moment) (limit : ℕ) (archive : Archive) (old new : Holdings) (kept : Kept) → archive.label ≡ None → IsLeft archive old → IsCreated (run_label stamp) limit kept new → IsOpened stamp (contents_of old) kept new
+created_opens stamp limit archive old new kept none left c = record {
+  files = created (run_label stamp);
+  contents = no_items (run_label stamp);
   opens = inl (nothing_left archive old none left, refl, refl);
   is = c.is;
   sure = λ file. ap (λ (h : Held). h.rest) (c.labels file);
 }
 
-pub reopened_opens : (l : LabelFields) (archive : Archive) (old new : Holdings) (kept : Kept) → new ≡ old → IsLeft archive old → IsReopened run_limit kept new → IsOpened l (contents_of old) kept new
-reopened_opens l archive old new kept same left r = record {
+pub reopened_opens : (stamp : Moment) (limit : ℕ) (archive : Archive) (old new : Holdings) (kept : Kept) → new ≡ old → IsLeft archive old → IsReopened limit kept new → IsOpened stamp (contents_of old) kept new
+reopened_opens stamp limit archive old new kept same left r = record {
   files = contents_of new;
   contents = r.contents;
   opens = inr (ap (λ (h : Holdings). contents_of h) same, subst (λ (h : Holdings). IsArchive (contents_of h) r.contents) same r.is.at.stands.keeps.is);

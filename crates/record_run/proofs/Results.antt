@@ -15,10 +15,12 @@ use Rattle.fetch_engine.specs.Readings.{Reading, reading_of}
 use Rattle.fetch_engine.proofs.Bounds.{bounded}
 use Rattle.archive_meta.specs.Enough.{AreEnough}
 use Rattle.record_run.specs.ImageRuns.{IsResult, result_for, result_of}
-use Rattle.record_run.specs.Runs.{region_of, metrics_below, metrics_of, every_instance, fetched_from, fetched_of}
+use Rattle.script_runs.specs.Groups.{metrics_below}
+use Rattle.script_runs.specs.Steps.{every_instance, fetched_from}
+use Rattle.record_run.specs.Runs.{region_of, metrics_of, fetched_of}
 use Rattle.record_run.proofs.Enough.{AreSaid, facts_are_enough}
 
-many : (regions : List Reading) (pmids : List ℕ) → length (map (set_of regions every_instance) pmids) ≡ length pmids
+pub many : (regions : List Reading) (pmids : List ℕ) → length (map (set_of regions every_instance) pmids) ≡ length pmids
 many regions [] = refl
 many regions (pmid ∷ pmids) = let more : length (map (set_of regions every_instance) pmids) ≡ length pmids = many regions pmids in omega arith
 

@@ -1,22 +1,18 @@
 -- The archive of one result (LOGARCHIVE(5)), as whole files.
-use Rattle.std.specs.Prelude.{ℕ, List, [], ◌∷◌, ◌++◌, length, map, codes}
+use Rattle.std.specs.Prelude.{ℕ, List, [], ◌∷◌, ◌++◌, length, map}
 use Rattle.pcp_base.specs.Time.{Moment}
 use Rattle.pcp_base.specs.declared.file.FileId.TheVariants.{Meta, Index, Volume}
 use Rattle.pcp_model.specs.declared.records.Entry.{Entry}
 use Rattle.pcp_model.specs.declared.records.MetaRecord.{MetaRecord}
 use Rattle.pcp_model.specs.Disk.{Files}
 use Rattle.pcp_model.specs.Frame.{frame}
-use Rattle.pcp_model.specs.LabelFields.{LabelFields}
 use Rattle.pcp_model.specs.Payload.{payload}
 use Rattle.pcp_model.specs.Records.{entry}
 use Rattle.pcp_model.specs.Written.{created, with_added}
 use Rattle.archive_meta.specs.Missing.{missing_descriptions, domains_of, listed_from, framed_records}
 use Rattle.fetch_engine.specs.declared.fetch.Fetched.{Fetched}
+use Rattle.script_runs.specs.Archives.{run_label}
 use Rattle.record_run.specs.Runs.{metrics_of, fetched_of}
-
--- the archive begins with its result
-abbrev pub run_label : Moment → LabelFields
-run_label stamp = record { pid = 1; start = stamp; host = codes "localhost"; zone = codes "UTC" }
 
 -- What Meta says of a result where it said nothing before: the descriptions of its metrics with values in the order of
 -- the sets, and then their domains from its moment on.

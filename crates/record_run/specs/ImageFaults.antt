@@ -17,20 +17,20 @@ use Rattle.logger_core.specs.declared.fault.LogFault.TheVariants.{Closed, Large,
 use Rattle.logger_core.specs.Logging.{IsRefused}
 use Rattle.logger_core.specs.Meant.{AreEnds, Kept}
 use Rattle.logger_core.specs.Reopening.{as_found}
+use Rattle.script_runs.specs.Archives.{OpensFound}
+use Rattle.script_runs.specs.Once.{once_limit}
 use Rattle.record_run.specs.declared.fault.RunFault.{RunFault}
 use Rattle.record_run.specs.declared.fault.RunFault.TheVariants.{Recovery, Logging, NoMemory as OutOfMemory}
-use Rattle.record_run.specs.Archives.{run_label}
-use Rattle.record_run.specs.Opening.{Opens, run_limit}
 
 -- The archive that is opened over what recovery left doesn't take the result, for this reason.
 pub record IsUnloggable (left : Files) (f : Fetched) (e : LogFault) : Type 0 where
   pub files : Files
   pub contents : ArchiveContents
-  pub opens : Opens (run_label f.result.stamp) left files contents
+  pub opens : OpensFound f.result.stamp left files contents
   pub ends : Ends
   pub ends_are : AreEnds (as_found files contents) ends
   pub last : EndsWhole files contents ends.volume
-  pub refused : IsRefused contents.records ends run_limit f.result f.facts e
+  pub refused : IsRefused contents.records ends once_limit f.result f.facts e
 
 -- so it stands, every byte of it sure
 pub record IsTurnedAway (left : Files) (f : Fetched) (held : Holdings) (e : LogFault) : Type 0 where
@@ -41,7 +41,7 @@ pub record IsTurnedAway (left : Files) (f : Fetched) (held : Holdings) (e : LogF
 -- what recovery left stands, or the archive that was opened; every byte of it is sure
 pub record StandsStill (left : Files) (f : Fetched) (held : Holdings) : Type 0 where
   pub sure : (file : FileId) → (held file).rest ≡ []
-  pub stands : (contents_of held ≡ left) ⊎ ((files : Files) × (contents : ArchiveContents) × Opens (run_label f.result.stamp) left files contents × ((file : FileId) → contents_of held file ≡ files file))
+  pub stands : (contents_of held ≡ left) ⊎ ((files : Files) × (contents : ArchiveContents) × OpensFound f.result.stamp left files contents × ((file : FileId) → contents_of held file ≡ files file))
 
 -- why a result wasn't logged over what recovery left
 abbrev pub LogStops : Files → Fetched → Holdings → LogFault → Type 0

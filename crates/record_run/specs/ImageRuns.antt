@@ -19,8 +19,9 @@ use Rattle.logger_core.specs.LogSteps.{LogStep}
 use Rattle.logger_core.specs.Meant.{AreEnds}
 use Rattle.logger_core.specs.Reopening.{as_found}
 use Rattle.logger_core.specs.Steps.{FlushStep}
-use Rattle.record_run.specs.Archives.{run_files, run_label}
-use Rattle.record_run.specs.Opening.{Opens, run_limit}
+use Rattle.script_runs.specs.Archives.{OpensFound}
+use Rattle.script_runs.specs.Once.{once_limit}
+use Rattle.record_run.specs.Archives.{run_files}
 use Rattle.record_run.specs.Runs.{metrics_of, fetched_of}
 
 -- where no metric is asked for nothing is logged
@@ -55,15 +56,15 @@ items_of_run (Some f) = Sample f.result ∷ []
 pub record LogsOver (left : Files) (f : Fetched) (final : Files) : Type 0 where
   pub files : Files
   pub contents : ArchiveContents
-  pub opens : Opens (run_label f.result.stamp) left files contents
+  pub opens : OpensFound f.result.stamp left files contents
   -- the result may be logged
   pub ends : Ends
   pub ends_are : AreEnds (as_found files contents) ends
   pub last : EndsWhole files contents ends.volume
-  pub loggable : IsLoggable contents.records ends run_limit f.result f.facts
+  pub loggable : IsLoggable contents.records ends once_limit f.result f.facts
   -- the files with it, and what they are read as
   pub logged : Files
-  pub step : LogStep files contents ends.volume run_limit f.result f.facts logged
+  pub step : LogStep files contents ends.volume once_limit f.result f.facts logged
   pub now : ArchiveContents
   pub is : IsArchive logged now
   pub records : now.records ≡ contents.records ++ step.missing

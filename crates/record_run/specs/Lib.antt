@@ -1,4 +1,6 @@
 pub mod Archives
+pub mod Endings
+pub mod Going
 pub mod ImageCrashes
 pub mod ImageFaults
 pub mod ImageLogs

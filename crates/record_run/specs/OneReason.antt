@@ -11,10 +11,10 @@ use Rattle.logger_core.specs.declared.fault.LogFault.TheVariants.{NoMemory}
 use Rattle.logger_core.specs.Logging.{IsLoggable}
 use Rattle.logger_core.specs.Meant.{AreEnds}
 use Rattle.logger_core.specs.Reopening.{as_found}
-use Rattle.record_run.specs.Archives.{run_label}
+use Rattle.script_runs.specs.Archives.{OpensFound}
+use Rattle.script_runs.specs.Once.{once_limit}
 use Rattle.record_run.specs.ImageFaults.{IsUnloggable}
 use Rattle.record_run.specs.ImageRuns.{RunsTo}
-use Rattle.record_run.specs.Opening.{Opens, run_limit}
 
 -- The archive to which these files are recovered doesn't take the result, for this reason.
 pub record DoesNotTake (start : Files) (f : Fetched) (e : LogFault) : Type 0 where
@@ -32,11 +32,11 @@ pub record DoesTake (start : Files) (f : Fetched) : Type 0 where
   pub recovered : Recovers start reading left
   pub files : Files
   pub contents : ArchiveContents
-  pub opens : Opens (run_label f.result.stamp) left files contents
+  pub opens : OpensFound f.result.stamp left files contents
   pub ends : Ends
   pub ends_are : AreEnds (as_found files contents) ends
   pub last : EndsWhole files contents ends.volume
-  pub loggable : IsLoggable contents.records ends run_limit f.result f.facts
+  pub loggable : IsLoggable contents.records ends once_limit f.result f.facts
 
 -- where there is no result nothing is refused of files that can be read
 abbrev pub TakesNot : Files → Option Fetched → LogFault → Type 0

@@ -1,7 +1,7 @@
 //! The label of the archive that a run makes.
 ghost use Rattle.std.specs.Prelude.{◌≡◌, IfOk};
 ghost use Rattle.pcp_base.specs.Texts.{IsText};
-ghost use Rattle.record_run.specs.Archives.{run_label};
+ghost use Rattle.script_runs.specs.Archives.{run_label};
 
 use archive_frame::Label;
 use pcp_base::{List, NoMemory, Stamp, Text};

@@ -2,10 +2,14 @@
 //! one result of its group is logged by a logger, over any files: they are recovered, and the archive is created or gone on with.
 #![tactic(auto)]
 
+mod archive;
+mod ending;
 mod fault;
+mod flushing;
 mod image;
 mod label;
 mod laws;
+mod lines;
 mod logging;
 mod opening;
 mod run;

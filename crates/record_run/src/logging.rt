@@ -23,6 +23,9 @@ use logger_core::{LogFault, Logger};
 use pcp_outside::Disk;
 use std::alloc::Global;
 
+/// The volume limit of the run of one image, in bytes.
+const LIMIT: u64 = 1_073_741_824;
+
 /// Logs a result and flushes.
 fn log_surely<D: Disk>(
     alloc: Global,
@@ -59,6 +62,6 @@ pub(crate) fn log_over<D: Disk>(
     ensures cause { IfErr result (λ e. (e ≢ Closed) × (e ≡ DiskFault → Rose (D.faults disk.old) (D.faults disk.new))) }
     ensures later { D.faults disk.old ≤ D.faults disk.new }
 {
-    let mut logger = open(alloc, disk, archive, fetched.result.stamp)?;
+    let mut logger = open(alloc, disk, archive, fetched.result.stamp, LIMIT)?;
     log_surely(alloc, disk, &mut logger, fetched)
 }

@@ -1,4 +1,4 @@
-//! The archive that the run of an image goes on with: what recovery left, or where it left no label a new one.
+//! The archive that a run goes on with: what recovery left, or where it left no label a new one.
 ghost use Rattle.std.specs.Prelude.{◌≡◌, ◌≤◌, false, List as Sequence, IfOk, IfErr};
 ghost use Rattle.pcp_base.specs.declared.result.Item.{Item as Logged};
 ghost use Rattle.pcp_model.specs.Disk.{IsEmpty, contents_of};
@@ -7,9 +7,9 @@ ghost use Rattle.logger_core.specs.declared.fault.LogFault.TheVariants.{NoMemory
 ghost use Rattle.logger_core.specs.Created.{HasNoItem, IsCreated};
 ghost use Rattle.logger_core.specs.Refusals.{CreateMayAnswer};
 ghost use Rattle.logger_core.specs.Reopening.{IsLeft};
-ghost use Rattle.record_run.specs.Archives.{run_label};
+ghost use Rattle.script_runs.specs.Archives.{run_label};
 ghost use Rattle.record_run.specs.ImageCrashes.{ComesBackTo};
-ghost use Rattle.record_run.specs.Opening.{IsOpened, run_limit};
+ghost use Rattle.record_run.specs.Opening.{IsOpened};
 
 use crate::label::label_of;
 use archive_recovery::Archive;
@@ -18,20 +18,23 @@ use pcp_base::Stamp;
 use pcp_outside::Disk;
 use std::alloc::Global;
 
-/// The volume limit of the run of one image, in bytes.
-const LIMIT: u64 = 1_073_741_824;
-
 /// A new archive, which begins with its result.
-fn create<D: Disk>(alloc: Global, disk: &mut D, stamp: Stamp) -> Result<Logger, LogFault>
-    ensures opened { D.tells → IsEmpty (contents_of (D.held disk.old)) → IfOk result (λ l. IsCreated (run_label stamp) run_limit l (D.held disk.new)) }
-    ensures open_ { IfOk result (λ l. (l.limit ≡ run_limit) × (l.closed ≡ false)) }
+fn create<D: Disk>(
+    alloc: Global,
+    disk: &mut D,
+    stamp: Stamp,
+    limit: u64,
+) -> Result<Logger, LogFault>
+    requires limit { (1024 ≤ limit) × (limit ≤ 1073741824) }
+    ensures opened { D.tells → IsEmpty (contents_of (D.held disk.old)) → IfOk result (λ l. IsCreated (run_label stamp) limit l (D.held disk.new)) }
+    ensures open_ { IfOk result (λ l. (l.limit ≡ limit) × (l.closed ≡ false)) }
     ensures any_moment { D.tells → IsEmpty (contents_of (D.held disk.old)) → LeavesOnly D.moment D.left_since disk.old disk.new HasNoItem }
     ensures fault { IfErr result (λ e. CreateMayAnswer (D.faults disk.old) (D.faults disk.new) e) }
     ensures untouched { IfErr result (λ e. e ≡ Refused → disk.new ≡ disk.old) }
     ensures later { D.faults disk.old ≤ D.faults disk.new }
 {
     let label = label_of(alloc, stamp)?;
-    Logger::create(alloc, disk, &label, LIMIT)
+    Logger::create(alloc, disk, &label, limit)
 }
 
 /// The logger of the archive that recovery left, or of a new one where it left no label.
@@ -40,16 +43,18 @@ pub(crate) fn open<D: Disk>(
     disk: &mut D,
     archive: Archive,
     stamp: Stamp,
+    limit: u64,
 ) -> Result<Logger, LogFault>
-    ensures opened { D.tells → IsLeft archive (D.held disk.old) → IfOk result (λ l. IsOpened (run_label stamp) (contents_of (D.held disk.old)) l (D.held disk.new)) }
-    ensures open_ { IfOk result (λ l. (l.limit ≡ run_limit) × (l.closed ≡ false)) }
+    requires limit { (1024 ≤ limit) × (limit ≤ 1073741824) }
+    ensures opened { D.tells → IsLeft archive (D.held disk.old) → IfOk result (λ l. IsOpened stamp (contents_of (D.held disk.old)) l (D.held disk.new)) }
+    ensures open_ { IfOk result (λ l. (l.limit ≡ limit) × (l.closed ≡ false)) }
     ensures any_moment { D.tells → IsLeft archive (D.held disk.old) → (more : Sequence Logged) → LeavesOnly D.moment D.left_since disk.old disk.new (ComesBackTo more 0 (contents_of (D.held disk.old))) }
     ensures fault { IfErr result (λ e. CreateMayAnswer (D.faults disk.old) (D.faults disk.new) e) }
     ensures untouched { IfErr result (λ e. e ≡ Refused → disk.new ≡ disk.old) }
     ensures later { D.faults disk.old ≤ D.faults disk.new }
 {
     if archive.label.is_none() {
-        return create(alloc, disk, stamp);
+        return create(alloc, disk, stamp, limit);
     }
-    Logger::reopen(disk, archive, LIMIT)
+    Logger::reopen(disk, archive, limit)
 }

@@ -6,7 +6,9 @@ ghost use Rattle.mmv_format.specs.Images.{IsImage};
 ghost use Rattle.fetch_engine.specs.Names.{names_of};
 ghost use Rattle.fetch_engine.specs.Readings.{reading_of, AreInOrder};
 ghost use Rattle.record_run.specs.ImageRuns.{AreResults, result_of};
-ghost use Rattle.record_run.specs.Runs.{metrics_below, fetched_from, region_of};
+ghost use Rattle.record_run.specs.Runs.{region_of};
+ghost use Rattle.script_runs.specs.Groups.{metrics_below};
+ghost use Rattle.script_runs.specs.Steps.{fetched_from};
 
 use crate::label::text_of;
 use fetch_engine::{Fetched, Shot, answer, names_of};

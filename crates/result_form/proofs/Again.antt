@@ -5,6 +5,7 @@ use Rattle.std.specs.Int.{w32, cast_signed, cast_unsigned}
 use Rattle.std.specs.List.{AllByRecursion}
 use Rattle.std.proofs.lemmas.Bool.{le-ltb, lt-ltb, eq-eqb, ne_eqb, le-leb, lt-leb}
 use Rattle.std.proofs.lemmas.List.{take-append-drop, length-append, length-drop}
+use Rattle.pcp_base.proofs.Bytes.{IsBytes}
 use Rattle.pcp_base.specs.Time.{Moment, IsMoment}
 use Rattle.pcp_base.specs.Typed.{TypedBytes}
 use Rattle.pcp_base.specs.Results.{HasContent}
@@ -20,7 +21,7 @@ use Rattle.result_form.specs.declared.fields.Run.{Run}
 use Rattle.result_form.specs.declared.fields.Counted.{Counted}
 use Rattle.result_form.specs.declared.fields.Counted.TheVariants as counted
 use Rattle.result_form.specs.Decoding.{◌>>=◌, word_at, word_below, stamp_of, run_at, counted_at, run_end, end_of, set_end, sets_end, body_of, set_at, sets_from, decoded}
-use Rattle.result_form.proofs.Spans.{IsBytes, word_again, behind_word, unsigned_fits, signed_back, word_of_signed, status_word}
+use Rattle.result_form.proofs.Spans.{word_again, behind_word, unsigned_fits, signed_back, word_of_signed, status_word}
 use Rattle.result_form.proofs.Pairs.{values_again, blocks_again}
 use Rattle.result_form.proofs.Whole.{least_reach}
 

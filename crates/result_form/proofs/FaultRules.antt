@@ -3,6 +3,7 @@ use Rattle.std.proofs.Common.{◌≡◌, ℕ, ℤ, zero, suc, ◌+◌, ◌-◌, 
 use Rattle.std.specs.Prelude.{◌⊎◌, ◌||◌}
 use Rattle.std.specs.Int.{w32, cast_signed}
 use Rattle.std.proofs.lemmas.Bool.{lt-ltb, le-ltb, eq-eqb, ne_eqb}
+use Rattle.pcp_base.specs.Fields.{number_at}
 use Rattle.pcp_base.specs.Typed.{TypedBytes}
 use Rattle.result_form.specs.declared.fault.FormFault.{FormFault}
 use Rattle.result_form.specs.declared.fault.FormFault.TheVariants.{Short, Stamp, Count, Mode, Place, Block, Trailing}
@@ -10,7 +11,7 @@ use Rattle.result_form.specs.declared.fields.Run.{Run}
 use Rattle.result_form.specs.declared.fields.Counted.{Counted}
 use Rattle.result_form.specs.declared.fields.Counted.TheVariants as counted
 use Rattle.result_form.specs.Decoding.{◌>>=◌, or_short, word_at, word_below, run_at, counted_at, run_end, end_of, set_end, pair_at, typed, padded_size, block_at, placed_block, placed_pair}
-use Rattle.result_form.specs.Faults.{number_at, IsStatus, HasValues, HasMode, pairs_end, block_begin, block_size, block_end, LeadsIn, IsWhole}
+use Rattle.result_form.specs.Faults.{IsStatus, HasValues, HasMode, pairs_end, block_begin, block_size, block_end, LeadsIn, IsWhole}
 use Rattle.result_form.proofs.Again.{low_test, high_test}
 
 abbrev pub done : {A : Type 0} → A → Result A FormFault

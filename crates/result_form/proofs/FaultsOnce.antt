@@ -3,6 +3,8 @@ use Rattle.std.proofs.Common.{◌≡◌, ℕ, ℤ, zero, suc, ◌+◌, ◌-◌, 
 use Rattle.std.specs.Prelude.{◌⊎◌}
 use Rattle.std.specs.Int.{w32, cast_signed}
 use Rattle.std.proofs.lemmas.Bool.{cases_lt, lt-ltb}
+use Rattle.pcp_base.specs.Fields.{number_at}
+use Rattle.pcp_base.proofs.Bytes.{IsBytes}
 use Rattle.pcp_base.specs.Time.{Moment}
 use Rattle.pcp_base.specs.Typed.{TypedBytes}
 use Rattle.pcp_base.specs.declared.result.Body.TheVariants as bodies
@@ -12,9 +14,8 @@ use Rattle.pcp_model.specs.Payload.{IsPayload}
 use Rattle.result_form.specs.declared.fault.FormFault.{FormFault}
 use Rattle.result_form.specs.declared.fault.FormFault.TheVariants.{Short, Stamp, Count, Mode, Place, Block, Trailing, NoMemory}
 use Rattle.result_form.specs.Decoding.{◌>>=◌, word_below, stamp_of, set_end, sets_end, placed_pair, blocks_from, set_at, sets_from, decoded}
-use Rattle.result_form.specs.Faults.{number_at, IsStatus, HasValues, HasMode, HasBlocks, HasSeconds, HasStamp, HasHead, pairs_end, SetStands, SetsStand, IsPairWord, IsSetFault, IsSetsFault, block_end, IsPairFault, PairsReach, IsPairsFault, SetReaches, SetsReach, IsBlocksFault, IsHeadFault, IsEndFault, IsFault}
+use Rattle.result_form.specs.Faults.{IsStatus, HasValues, HasMode, HasBlocks, HasSeconds, HasStamp, HasHead, pairs_end, SetStands, SetsStand, IsPairWord, IsSetFault, IsSetsFault, block_end, IsPairFault, PairsReach, IsPairsFault, SetReaches, SetsReach, IsBlocksFault, IsHeadFault, IsEndFault, IsFault}
 use Rattle.result_form.specs.Laws.{FaultsComeOnce}
-use Rattle.result_form.proofs.Spans.{IsBytes}
 use Rattle.result_form.proofs.Again.{payload_again}
 use Rattle.result_form.proofs.Whole.{payload_takes}
 use Rattle.result_form.proofs.FaultRules.{done, failed, below_stands, below_ends, below_fails, ends_in_metric, ends_in_number, ends_in_mode, is_bad_mode, ends_in_pairs, leads_out, is_bad_block, block_stands, pair_found}

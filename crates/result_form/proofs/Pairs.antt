@@ -7,13 +7,14 @@ use Rattle.std.proofs.Math.Seq.{take-append-add}
 use Rattle.std.proofs.lemmas.Bool.{ltb-false, le-ltb}
 use Rattle.std.proofs.lemmas.List.{take_at, take-append-drop, length-append, length-take, length-drop}
 use Rattle.std.proofs.lemmas.Nat.{be_bytes_4}
+use Rattle.pcp_base.proofs.Bytes.{IsBytes, IsBytes-drop}
 use Rattle.pcp_base.specs.Typed.{TypedBytes}
 use Rattle.pcp_model.specs.Words.{word, signed_word, length-word, length-signed_word}
 use Rattle.pcp_model.specs.Payload.{three_bytes, block_head, block_length, place_byte, pair_blocks, value_pairs, place_pairs, reach, BlockStands, BlocksStand}
 use Rattle.result_form.specs.declared.fault.FormFault.{FormFault}
 use Rattle.result_form.specs.declared.fault.FormFault.TheVariants.{Place, Block}
 use Rattle.result_form.specs.Decoding.{◌>>=◌, word_at, pair_at, values_from, typed, padded_size, block_at, placed_block, placed_pair, blocks_from}
-use Rattle.result_form.proofs.Spans.{IsBytes, IsBytes-drop, bind_ok, guard_ok, ok_is, neither, Spans, nothing, joined, word_takes, word_again, behind_word, pair_takes, pair_again}
+use Rattle.result_form.proofs.Spans.{bind_ok, guard_ok, ok_is, neither, Spans, nothing, joined, word_takes, word_again, behind_word, pair_takes, pair_again}
 
 pub moved : (bytes : List ℕ) (at : ℕ) (text : List ℕ) (next other : ℕ) → next ≡ other → Spans bytes at text next → Spans bytes at text other
 moved bytes at text next other e s = subst (λ n. Spans bytes at text n) e s

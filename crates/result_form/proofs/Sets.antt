@@ -4,6 +4,7 @@ use Rattle.std.specs.Prelude.{◌⊎◌, FitsSigned, ◌||◌, ◌≤ℤ◌, pos
 use Rattle.std.specs.Int.{w32, cast_signed}
 use Rattle.std.specs.List.{AllByRecursion}
 use Rattle.std.proofs.lemmas.Bool.{eqb-true, eqb-false, leb-true, leb-false, or_cases}
+use Rattle.pcp_base.proofs.Bytes.{IsBytes}
 use Rattle.pcp_base.specs.Typed.{TypedBytes}
 use Rattle.pcp_base.specs.Results.{HasContent}
 use Rattle.pcp_base.specs.declared.result.Body.{Body}
@@ -16,7 +17,7 @@ use Rattle.result_form.specs.declared.fields.Run.{Run}
 use Rattle.result_form.specs.declared.fields.Counted.{Counted}
 use Rattle.result_form.specs.declared.fields.Counted.TheVariants as counted
 use Rattle.result_form.specs.Decoding.{◌>>=◌, word_at, run_at, counted_at, run_end, end_of, set_end, sets_end, values_from, blocks_from, body_of, set_at, sets_from}
-use Rattle.result_form.proofs.Spans.{IsBytes, bind_ok, guard_ok, only_ok, ok_is, neither, Spans, nothing, joined, word_takes, signed_is, signed_fits, status_low}
+use Rattle.result_form.proofs.Spans.{bind_ok, guard_ok, only_ok, ok_is, neither, Spans, nothing, joined, word_takes, signed_is, signed_fits, status_low}
 use Rattle.result_form.proofs.Pairs.{moved, values_takes, blocks_takes}
 
 either_way : {A : Type 0} (b : Bool) (x y z : A) → cond b x y ≡ z → ((b ≡ true) × (x ≡ z)) ⊎ ((b ≡ false) × (y ≡ z))

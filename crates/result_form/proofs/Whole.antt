@@ -3,6 +3,7 @@ use Rattle.std.proofs.Common.{◌≡◌, ℕ, ◌+◌, ◌<◌, ◌≤◌, cond,
 use Rattle.std.specs.Prelude.{IfOk}
 use Rattle.std.proofs.lemmas.Bool.{ltb-true, ltb-false}
 use Rattle.std.proofs.lemmas.List.{take_at}
+use Rattle.pcp_base.proofs.Bytes.{IsBytes}
 use Rattle.pcp_base.specs.Time.{Moment, IsMoment}
 use Rattle.pcp_base.specs.Typed.{TypedBytes}
 use Rattle.pcp_base.specs.declared.result.ValueSet.{ValueSet}
@@ -12,7 +13,7 @@ use Rattle.pcp_model.specs.Payload.{place_byte, block_length, blocks_of, set_wor
 use Rattle.result_form.specs.declared.fault.FormFault.{FormFault}
 use Rattle.result_form.specs.declared.fault.FormFault.TheVariants.{Stamp, Count, Trailing}
 use Rattle.result_form.specs.Decoding.{◌>>=◌, Gives, word_at, word_below, stamp_of, sets_end, sets_from, decoded}
-use Rattle.result_form.proofs.Spans.{IsBytes, bind_ok, guard_ok, only_ok, ok_is, Spans, joined, word_takes}
+use Rattle.result_form.proofs.Spans.{bind_ok, guard_ok, only_ok, ok_is, Spans, joined, word_takes}
 use Rattle.result_form.proofs.Sets.{sets_takes, sets_grow}
 
 below_ok : (bytes : List ℕ) (at bound n : ℕ) (fault : FormFault) → word_below bytes at bound fault ≡ Ok n → (word_at bytes at ≡ Ok n) × (n < bound)

@@ -2,14 +2,11 @@
 -- blocks in the order of the pairs that lead to them, and last where the payload ends.
 use Rattle.std.specs.Prelude.{◌≡◌, ◌⊎◌, ℕ, zero, suc, ◌+◌, ◌*◌, ◌%◌, ◌<◌, ◌≤◌, List, length, take, drop, max}
 use Rattle.std.specs.Int.{w32, from_be_bytes}
+use Rattle.pcp_base.specs.Fields.{number_at}
 use Rattle.pcp_model.specs.Payload.{place_byte}
 use Rattle.result_form.specs.Decoding.{padded_size}
 use Rattle.result_form.specs.declared.fault.FormFault.{FormFault}
 use Rattle.result_form.specs.declared.fault.FormFault.TheVariants.{Short, Stamp, Count, Mode, Place, Block, Trailing, NoMemory}
-
--- the number of the word at an offset
-abbrev pub number_at : List ℕ → ℕ → ℕ
-number_at bytes at = from_be_bytes w32 (take 4 (drop at bytes))
 
 -- ---- the words in front of the sets, each in its range
 

@@ -9,7 +9,7 @@ use crate::script::{RegionRow, Script};
 use log_schedule::{Config, Group};
 use mmv_layout::Image;
 use mmv_writer::{ReadTextError, read_text};
-use pcp_base::{List, NoMemory, Text, TextError};
+use pcp_base::{List, NoMemory, Text};
 use std::alloc::Global;
 
 // The end of an image's first line, and the rows before the values: a domain, the counters, and the domain's metric.
@@ -124,11 +124,7 @@ fn text_of(alloc: Global, bytes: &[u8]) -> Result<Text, NoMemory>
     requires { IsText bytes.now }
     ensures { IfOk result (λ text. text ≡ bytes.now) }
 {
-    match Text::build(alloc, bytes) {
-        Ok(text) => Ok(text),
-        Err(TextError::Zero(_)) => unreachable!(),
-        Err(TextError::NoMemory) => Err(NoMemory),
-    }
+    Ok(Text::of_clean(List::from_vec(Vec::from_slice(alloc, bytes)?)))
 }
 
 #[tactic(auto, unfolding(crate::specs::Generated::images))]

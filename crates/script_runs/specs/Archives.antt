@@ -44,13 +44,13 @@ abbrev pub run_label : Moment → LabelFields
 run_label stamp = record { pid = 1; start = stamp; host = codes "localhost"; zone = codes "UTC" }
 
 -- the first result opens what recovery left, or where it left no label a new archive
-abbrev pub OpensFound : Moment → Files → Written → Type 0
-OpensFound stamp left w =
-    (IsEmpty left × (w.files ≡ created (run_label stamp)) × (w.contents ≡ no_items (run_label stamp))) ⊎ ((w.files ≡ left) × IsArchive left w.contents)
+abbrev pub OpensFound : Moment → Files → Files → ArchiveContents → Type 0
+OpensFound stamp left files c =
+    (IsEmpty left × (files ≡ created (run_label stamp)) × (c ≡ no_items (run_label stamp))) ⊎ ((files ≡ left) × IsArchive left c)
 
 -- the archive into which a result is logged
 abbrev pub Opens : Moment → Stand → Written → Type 0
-Opens stamp (Stand.found left) w = OpensFound stamp left w × EndsWhole w.files w.contents w.volume
+Opens stamp (Stand.found left) w = OpensFound stamp left w.files w.contents × EndsWhole w.files w.contents w.volume
 Opens stamp (Stand.opened w) v = v ≡ w
 
 -- what a logger keeps in numbers of it

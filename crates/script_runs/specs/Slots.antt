@@ -1,7 +1,7 @@
 -- What a swap or an add of a script stores, by the layout that the words say: its slot has to be there, with a value of its
 -- kind.
-use Rattle.std.specs.Prelude.{ℕ, ℤ, negsuc, Bool, true, false, if◌then◌else◌, List, find, bytes_eq, option_map, Option, Some, None, unwrap_or}
-use Rattle.std.specs.Int.{w64, cast_unsigned}
+use Rattle.std.specs.Prelude.{ℕ, ℤ, pos, negsuc, unsigned_abs, ◌^◌, Bool, true, false, if◌then◌else◌, List, find, bytes_eq, option_map, Option, Some, None, unwrap_or}
+use Rattle.std.specs.Int.{int_rem_euclid}
 use Rattle.pcp_base.specs.declared.kind.Kind.{Kind}
 use Rattle.pcp_base.specs.declared.kind.Kind.TheVariants as kinds
 use Rattle.mmv_format.specs.declared.rows.Content.{Content}
@@ -54,9 +54,13 @@ holds_number kinds.I64 = true
 holds_number kinds.U64 = true
 holds_number _ = false
 
+-- a whole number modulo 2^64
+abbrev pub low_bits : ℤ → ℕ
+low_bits number = unsigned_abs (int_rem_euclid number (pos (2 ^ 64)))
+
 abbrev pub add_into : Option Slot → ℤ → Option Act
 add_into None number = None
-add_into (Some slot) number = if holds_number slot.kind then Some (Add slot.word (cast_unsigned w64 number)) else None
+add_into (Some slot) number = if holds_number slot.kind then Some (Add slot.word (low_bits number)) else None
 
 -- the add of a number, modulo 2^64, to a slot
 abbrev pub add_of : List ℕ → ℕ → Option ℤ → ℤ → Option Act

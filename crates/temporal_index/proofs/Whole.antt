@@ -3,13 +3,14 @@ use Rattle.std.proofs.Common.{◌≡◌, ℕ, zero, suc, ◌+◌, ◌*◌, ◌�
 use Rattle.std.specs.Prelude.{IfOk, IfErr}
 use Rattle.std.specs.List.{AllByRecursion}
 use Rattle.std.proofs.lemmas.List.{drop_all, drop_at, drop-drop, length-drop, length-append, append-nil}
+use Rattle.pcp_base.proofs.Bytes.{IsBytes}
 use Rattle.pcp_model.specs.declared.records.Entry.{Entry}
 use Rattle.pcp_model.specs.Records.{entry, entries, FitsEntry}
 use Rattle.pcp_model.proofs.Cuts.{length-entry}
 use Rattle.temporal_index.specs.declared.fault.IndexFault.{IndexFault}
 use Rattle.temporal_index.specs.declared.fault.IndexFault.TheVariants.{Entry as NoEntry, NoMemory}
 use Rattle.temporal_index.specs.Entries.{entry_at, followed, entries_from, begun, index_of, Gives, AreEntries, IsFirstFault, IsIndexFault}
-use Rattle.temporal_index.proofs.Fields.{IsBytes, Taken, entry_takes, entry_again}
+use Rattle.temporal_index.proofs.Fields.{Taken, entry_takes, entry_again}
 
 abbrev read : List Entry → Result (List Entry) ℕ
 read es = Ok es

@@ -8,11 +8,11 @@ use Rattle.archive_loading.specs.Loaded.{Loaded}
 use Rattle.archive_reader.specs.Searches.{at as last_at}
 use Rattle.archive_reader.specs.declared.fault.ReaderFault.TheVariants as faults
 use Rattle.pm_print.specs.Items.{item_text}
-use Rattle.pm_tasks.specs.declared.stage.FilesRefusal.{FilesRefusal}
-use Rattle.pm_tasks.specs.declared.stage.FilesRefusal.TheVariants.{Unlogged, Compressed, NotArchive, Nothing}
+use Rattle.pm_words.specs.declared.stage.FilesRefusal.{FilesRefusal}
+use Rattle.pm_words.specs.declared.stage.FilesRefusal.TheVariants.{Unlogged, Compressed, NotArchive, Nothing}
 use Rattle.pm_tasks.specs.Archives.{IsLoaded, TurnedAfter, OverSound, looks, nothing_before}
-use Rattle.pm_tasks.specs.Meaning.{Meaning}
-use Rattle.pm_tasks.specs.Sides.{Found}
+use Rattle.pm_words.specs.Meaning.{Meaning}
+use Rattle.pm_words.specs.Sides.{Found}
 
 -- where the search for it doesn't end: a record on the way is no item's, or it begins outside the records
 abbrev pub IsStopped : Moment → Loaded → Found → FilesRefusal → Type 0

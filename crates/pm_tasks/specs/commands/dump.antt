@@ -9,12 +9,12 @@ use Rattle.archive_loading.specs.Loaded.{Loaded}
 use Rattle.archive_reader.specs.Walks.{volumes_from, StepsOver, IsEnd, IsBad, Leads, AllFrom, StopsAt}
 use Rattle.archive_reader.specs.declared.places.Place.{Place}
 use Rattle.pm_print.specs.Items.{item_text, items_text}
-use Rattle.pm_tasks.specs.declared.stage.FilesRefusal.{FilesRefusal}
-use Rattle.pm_tasks.specs.declared.stage.FilesRefusal.TheVariants.{Unlogged, Compressed, NotArchive, Nothing}
+use Rattle.pm_words.specs.declared.stage.FilesRefusal.{FilesRefusal}
+use Rattle.pm_words.specs.declared.stage.FilesRefusal.TheVariants.{Unlogged, Compressed, NotArchive, Nothing}
 use Rattle.pm_tasks.specs.Archives.{IsLoaded, TurnedAfter, looks}
-use Rattle.pm_tasks.specs.Meaning.{Meaning}
-use Rattle.pm_tasks.specs.Sides.{SinkSide, DiskSide, Found, found}
-use Rattle.pm_tasks.specs.Streams.{IsFront, IsSent}
+use Rattle.pm_words.specs.Meaning.{Meaning}
+use Rattle.pm_words.specs.Sides.{SinkSide, DiskSide, Found, found}
+use Rattle.pm_words.specs.Streams.{IsFront, IsSent}
 
 -- `archive PID HOST ZONE`, or `archive none`
 abbrev pub label_line : Option LabelFields → List ℕ

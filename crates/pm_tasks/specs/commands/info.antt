@@ -2,10 +2,10 @@
 use Rattle.std.specs.Prelude.{◌≡◌, ℕ, List}
 use Rattle.archive_loading.specs.Loaded.{Loaded}
 use Rattle.pm_print.specs.Infos.{info_text}
-use Rattle.pm_tasks.specs.declared.stage.FilesRefusal.{FilesRefusal}
+use Rattle.pm_words.specs.declared.stage.FilesRefusal.{FilesRefusal}
 use Rattle.pm_tasks.specs.Archives.{IsLoaded, IsNotLoaded, looks, nothing_before}
-use Rattle.pm_tasks.specs.Meaning.{Meaning}
-use Rattle.pm_tasks.specs.Sides.{Found}
+use Rattle.pm_words.specs.Meaning.{Meaning}
+use Rattle.pm_words.specs.Sides.{Found}
 
 -- it turns files away only where they aren't loaded
 abbrev pub turned : Found → FilesRefusal → Type 0

@@ -1,8 +1,8 @@
 -- `mmv-make` reads a layout text and gives the image of it.
 use Rattle.mmv_writer.specs.Reading.{text_image}
 use Rattle.pm_print.specs.Bytes.{bytes_of}
-use Rattle.pm_tasks.specs.Inputs.{text_refusal, made_of}
-use Rattle.pm_tasks.specs.Meaning.{Meaning, converts}
+use Rattle.pm_words.specs.Inputs.{text_refusal, made_of}
+use Rattle.pm_words.specs.Meaning.{Meaning, converts}
 
 abbrev pub mmv_make : Meaning
 mmv_make = converts (λ input. text_refusal (text_image input)) (λ input. made_of bytes_of (text_image input))

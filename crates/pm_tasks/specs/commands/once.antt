@@ -13,15 +13,15 @@ use Rattle.record_run.specs.ImageCrashes.{IsAllAfter, MayBeAfter}
 use Rattle.record_run.specs.ImageFaults.{IsTurnedAway, StandsStill}
 use Rattle.record_run.specs.ImageRuns.{RunsTo, how_many, items_of_run, result_of}
 use Rattle.record_run.specs.OneReason.{TakesNot}
-use Rattle.pm_tasks.specs.declared.stage.FilesRefusal.{FilesRefusal}
-use Rattle.pm_tasks.specs.declared.stage.FilesRefusal.TheVariants.{Unlogged, Compressed, NotArchive, Nothing}
-use Rattle.pm_tasks.specs.declared.stage.ResultRefusal.{ResultRefusal}
-use Rattle.pm_tasks.specs.declared.stage.ResultRefusal.TheVariants.{Large, NotLater, Changed, Full}
-use Rattle.pm_tasks.specs.declared.words.OnceWords.{OnceWords}
-use Rattle.pm_tasks.specs.Inputs.{input_limit, image_refusal}
-use Rattle.pm_tasks.specs.Meaning.{Meaning}
-use Rattle.pm_tasks.specs.Refusals.{result_status}
-use Rattle.pm_tasks.specs.Sides.{DiskSide, Found}
+use Rattle.pm_words.specs.declared.stage.FilesRefusal.{FilesRefusal}
+use Rattle.pm_words.specs.declared.stage.FilesRefusal.TheVariants.{Unlogged, Compressed, NotArchive, Nothing}
+use Rattle.pm_words.specs.declared.stage.ResultRefusal.{ResultRefusal}
+use Rattle.pm_words.specs.declared.stage.ResultRefusal.TheVariants.{Large, NotLater, Changed, Full}
+use Rattle.pm_words.specs.declared.words.OnceWords.{OnceWords}
+use Rattle.pm_words.specs.Inputs.{input_limit, image_refusal}
+use Rattle.pm_words.specs.Meaning.{Meaning}
+use Rattle.pm_words.specs.Refusals.{result_status}
+use Rattle.pm_words.specs.Sides.{DiskSide, Found}
 
 -- an input is an image of these words, within the limit
 pub record IsImageInput (input words : List ℕ) : Type 0 where

@@ -7,10 +7,10 @@ use Rattle.pcp_model.specs.Disk.{Files, contents_of}
 use Rattle.pcp_model.specs.Recovered.{Recovers}
 use Rattle.archive_recovery.specs.Halfway.{MayBeHalfway}
 use Rattle.archive_recovery.specs.RecoverFaults.{IsRefused}
-use Rattle.pm_tasks.specs.declared.stage.FilesRefusal.{FilesRefusal}
-use Rattle.pm_tasks.specs.declared.stage.FilesRefusal.TheVariants.{Unlogged, Compressed, NotArchive, Nothing}
-use Rattle.pm_tasks.specs.Meaning.{Meaning}
-use Rattle.pm_tasks.specs.Sides.{DiskSide, Found}
+use Rattle.pm_words.specs.declared.stage.FilesRefusal.{FilesRefusal}
+use Rattle.pm_words.specs.declared.stage.FilesRefusal.TheVariants.{Unlogged, Compressed, NotArchive, Nothing}
+use Rattle.pm_words.specs.Meaning.{Meaning}
+use Rattle.pm_words.specs.Sides.{DiskSide, Found}
 
 -- a file stands wrapped, or this is the first place that fits no archive
 abbrev pub turned : Found → FilesRefusal → Type 0

@@ -8,12 +8,12 @@ use Rattle.archive_loading.specs.Loaded.{Loaded}
 use Rattle.archive_reader.specs.Values.{IsValueAt, IsWholeFault, value_at}
 use Rattle.archive_reader.specs.declared.fault.ReaderFault.TheVariants as faults
 use Rattle.pm_print.specs.Items.{set_text}
-use Rattle.pm_tasks.specs.declared.stage.FilesRefusal.{FilesRefusal}
-use Rattle.pm_tasks.specs.declared.stage.FilesRefusal.TheVariants.{Unlogged, Compressed, NotArchive, Nothing}
-use Rattle.pm_tasks.specs.declared.words.ValueWords.{ValueWords}
+use Rattle.pm_words.specs.declared.stage.FilesRefusal.{FilesRefusal}
+use Rattle.pm_words.specs.declared.stage.FilesRefusal.TheVariants.{Unlogged, Compressed, NotArchive, Nothing}
+use Rattle.pm_words.specs.declared.words.ValueWords.{ValueWords}
 use Rattle.pm_tasks.specs.Archives.{IsLoaded, TurnedAfter, OverReadable, looks, nothing_before}
-use Rattle.pm_tasks.specs.Meaning.{Meaning}
-use Rattle.pm_tasks.specs.Sides.{Found}
+use Rattle.pm_words.specs.Meaning.{Meaning}
+use Rattle.pm_words.specs.Sides.{Found}
 
 abbrev pub has_name : List ℕ → List (List ℕ) → Bool
 has_name name [] = false

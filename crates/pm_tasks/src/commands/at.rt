@@ -3,16 +3,15 @@ ghost use Rattle.std.specs.Prelude.{IfOk, IfErr};
 ghost use Rattle.pcp_model.specs.Disk.{contents_of};
 ghost use Rattle.archive_window.specs.Looks.{Looks};
 ghost use Rattle.pm_tasks.specs.Archives.{TurnedAway};
-ghost use Rattle.pm_tasks.specs.Sides.{disk_side, found};
+ghost use Rattle.pm_words.specs.Sides.{disk_side, found};
 ghost use Rattle.pm_tasks.specs.Takes.{TookAt};
 ghost use Rattle.pm_tasks.specs.commands.at.{turned, said};
 
-use crate::refusal::Refusal;
-use crate::stage::{DiskRefusal, FilesRefusal};
 use archive_reader::ArchiveReader;
 use pcp_base::{Bytes, Stamp};
 use pcp_outside::Disk;
 use pm_print::item_text;
+use pm_words::{DiskRefusal, FilesRefusal, Refusal};
 use std::alloc::Global;
 
 /// The item, as text.

@@ -2,14 +2,14 @@
 ghost use Rattle.std.specs.Prelude.{IfOk, IfErr};
 ghost use Rattle.archive_window.specs.Looks.{Looks};
 ghost use Rattle.pm_tasks.specs.Archives.{TurnedAway};
-ghost use Rattle.pm_tasks.specs.Sides.{disk_side, found};
+ghost use Rattle.pm_words.specs.Sides.{disk_side, found};
 ghost use Rattle.pm_tasks.specs.commands.info.{turned, said};
 
-use crate::refusal::Refusal;
 use archive_reader::ArchiveReader;
 use pcp_base::Bytes;
 use pcp_outside::Disk;
 use pm_print::info_text;
+use pm_words::Refusal;
 use std::alloc::Global;
 
 /// The descriptions of an archive, as text.

@@ -2,13 +2,13 @@
 ghost use Rattle.std.specs.Prelude.{◌≡◌, IfOk, IfErr, OnOk, None};
 ghost use Rattle.mmv_faults.specs.Faults.{image_of};
 ghost use Rattle.pm_print.specs.Dumps.{dump_of};
-ghost use Rattle.pm_tasks.specs.Inputs.{refusal_of, made_of, Refuses};
+ghost use Rattle.pm_words.specs.Inputs.{refusal_of, made_of, Refuses};
 ghost use Rattle.pm_tasks.specs.commands.mmv_dump.{mmv_dump as meaning_of_dump};
 
-use crate::stage::{InputRefusal, Stop};
 use mmv_layout::{Image, ImageFault};
 use pcp_base::Bytes;
 use pm_print::image_text;
+use pm_words::{InputRefusal, Stop};
 use std::alloc::Global;
 
 /// The layout text of an image.

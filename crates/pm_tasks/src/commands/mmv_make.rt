@@ -2,13 +2,13 @@
 ghost use Rattle.std.specs.Prelude.{◌≡◌, IfOk, IfErr, OnOk, None};
 ghost use Rattle.mmv_writer.specs.Reading.{text_image};
 ghost use Rattle.pm_print.specs.Bytes.{bytes_of};
-ghost use Rattle.pm_tasks.specs.Inputs.{refusal_of, made_of, Refuses};
+ghost use Rattle.pm_words.specs.Inputs.{refusal_of, made_of, Refuses};
 ghost use Rattle.pm_tasks.specs.commands.mmv_make.{mmv_make as meaning_of_make};
 
-use crate::stage::{InputRefusal, Stop};
 use mmv_writer::{ReadTextError, read_text};
 use pcp_base::Bytes;
 use pm_print::image_bytes;
+use pm_words::{InputRefusal, Stop};
 use std::alloc::Global;
 
 /// The image of a layout text, as bytes.

@@ -5,19 +5,17 @@ ghost use Rattle.pcp_model.specs.Disk.{CrashImage};
 ghost use Rattle.record_run.specs.ImageRuns.{AreResults, result_of};
 ghost use Rattle.pm_tasks.specs.Causes.{StopCause};
 ghost use Rattle.pm_tasks.specs.Ends.{HasServed, MayLeave, shown};
-ghost use Rattle.pm_tasks.specs.Inputs.{input_limit, refusal_of, Refuses};
-ghost use Rattle.pm_tasks.specs.Sides.{disk_side, IsUnread, Leaves};
+ghost use Rattle.pm_words.specs.Inputs.{input_limit, refusal_of, Refuses};
+ghost use Rattle.pm_words.specs.Sides.{disk_side, IsUnread, Leaves};
 ghost use Rattle.pm_tasks.specs.Since.{CommandSince, HasRecovered};
-ghost use Rattle.pm_tasks.specs.declared.words.Command.TheVariants.{Once};
+ghost use Rattle.pm_words.specs.declared.words.Command.TheVariants.{Once};
 ghost use Rattle.pm_tasks.specs.commands.once.{once as meaning_of_once, IsImageInput, count_line};
 
 use crate::output::Output;
-use crate::refusal::Refusal;
-use crate::stage::{InputRefusal, Stop};
-use crate::words::OnceWords;
 use fetch_engine::Fetched;
 use mmv_layout::{Image, ImageFault};
 use pcp_outside::Disk;
+use pm_words::{InputRefusal, OnceWords, Refusal, Stop};
 use record_run::{log_result, result_once};
 use std::alloc::Global;
 

@@ -4,16 +4,16 @@ ghost use Rattle.pcp_model.specs.Disk.{contents_of};
 ghost use Rattle.archive_window.specs.Looks.{Looks};
 ghost use Rattle.pm_print.specs.Items.{items_text};
 ghost use Rattle.pm_tasks.specs.Archives.{TurnedAway};
-ghost use Rattle.pm_tasks.specs.Sides.{disk_side, found};
+ghost use Rattle.pm_words.specs.Sides.{disk_side, found};
 ghost use Rattle.pm_tasks.specs.Takes.{TookRange};
 ghost use Rattle.pm_tasks.specs.commands.range.{turned, said};
 
-use crate::refusal::Refusal;
 use archive_meta::MetaState;
 use archive_reader::ArchiveReader;
 use pcp_base::{Bytes, Item, List, NoMemory, Stamp};
 use pcp_outside::Disk;
 use pm_print::put_item;
+use pm_words::Refusal;
 use std::alloc::Global;
 
 fn put_items(

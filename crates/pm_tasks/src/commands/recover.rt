@@ -3,14 +3,14 @@ ghost use Rattle.std.specs.Prelude.{◌≡◌, ℕ, List, IfOk, IfErr};
 ghost use Rattle.pcp_model.specs.Disk.{CrashImage};
 ghost use Rattle.pm_tasks.specs.Causes.{StopCause};
 ghost use Rattle.pm_tasks.specs.Ends.{HasServed, MayLeave, shown};
-ghost use Rattle.pm_tasks.specs.Sides.{disk_side, IsUnread, Leaves};
+ghost use Rattle.pm_words.specs.Sides.{disk_side, IsUnread, Leaves};
 ghost use Rattle.pm_tasks.specs.commands.recover.{recover as meaning_of_recover, items_line};
 
 use crate::output::Output;
-use crate::refusal::Refusal;
 use archive_recovery::recover as mend_archive;
 use pcp_base::{Bytes, List as Sequence, NoMemory};
 use pcp_outside::Disk;
+use pm_words::Refusal;
 use std::alloc::Global;
 
 // The line that tells how many items there are.

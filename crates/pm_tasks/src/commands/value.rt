@@ -5,20 +5,18 @@ ghost use Rattle.pcp_model.specs.Disk.{contents_of};
 ghost use Rattle.archive_window.specs.Looks.{Looks};
 ghost use Rattle.archive_loading.specs.Loaded.{IsOver};
 ghost use Rattle.pm_tasks.specs.Archives.{TurnedAway};
-ghost use Rattle.pm_tasks.specs.Sides.{disk_side, found};
-ghost use Rattle.pm_tasks.specs.declared.refusal.Refusal.TheVariants.{Disk};
-ghost use Rattle.pm_tasks.specs.declared.stage.DiskRefusal.TheVariants.{Files};
-ghost use Rattle.pm_tasks.specs.declared.stage.FilesRefusal.TheVariants.{Nothing};
+ghost use Rattle.pm_words.specs.Sides.{disk_side, found};
+ghost use Rattle.pm_words.specs.declared.refusal.Refusal.TheVariants.{Disk};
+ghost use Rattle.pm_words.specs.declared.stage.DiskRefusal.TheVariants.{Files};
+ghost use Rattle.pm_words.specs.declared.stage.FilesRefusal.TheVariants.{Nothing};
 ghost use Rattle.pm_tasks.specs.commands.value.{has_name, is_named, first_named, named, HasValue, HasNoValue, turned, said};
 
-use crate::refusal::Refusal;
-use crate::stage::{DiskRefusal, FilesRefusal};
-use crate::words::ValueWords;
 use archive_meta::MetaState;
 use archive_reader::ArchiveReader;
 use pcp_base::{Bytes, NoMemory, Pmid, Stamp, Text};
 use pcp_outside::Disk;
 use pm_print::set_text;
+use pm_words::{DiskRefusal, FilesRefusal, Refusal, ValueWords};
 use std::alloc::Global;
 
 fn is_name(text: &Text, name: &[u8]) -> bool

@@ -1,6 +1,7 @@
 use Rattle.std.proofs.Common.{◌≡◌, ◌+◌, ◌-◌, arith, refl, subst, sym}
 use Rattle.std.specs.List.{slice_range}
-use Rattle.archive_frame.specs.Steps.{Stands, number_at}
+use Rattle.pcp_base.specs.Fields.{number_at}
+use Rattle.archive_frame.specs.Steps.{Stands}
 use Rattle.archive_frame.proofs.Records.{stands}
 use Rattle.archive_frame.proofs.steps.back.Goals as goal
 

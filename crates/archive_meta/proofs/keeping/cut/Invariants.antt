@@ -1,13 +1,14 @@
 -- The first so many stay, and what is kept beside the records fits them.
 use Rattle.std.proofs.Common.{◌≡◌, length, take}
-use Rattle.archive_meta.specs.Kept.{IsKept}
+use Rattle.archive_meta.specs.Kept.{IsState}
+use Rattle.archive_meta.specs.Woven.{woven}
 use Rattle.archive_meta.proofs.keeping.cut.Given as goal
 
 abbrev pub invariant-loop-left : goal.invariant-loop-left
 invariant-loop-left l = record {
-  kept : IsKept l.records l.descriptions l.moments;
-  front : take l.count l.records ≡ take l.count l.initial.records;
-  size : l.left ≡ length l.records;
+  state : IsState l.records l.marks l.descriptions l.moments;
+  front : take l.count (woven l.marks l.records) ≡ take l.count (woven l.initial.marks l.initial.records);
+  size : l.left ≡ length l.marks;
 }
 
 abbrev pub decreases-loop-left : goal.decreases-loop-left

@@ -1,7 +1,8 @@
 use Rattle.std.proofs.Common.{◌≡◌, ◌+◌, ◌-◌, ◌<◌, ◌≤◌, ℕ, List, sym, ◌∙◌, subst, arith}
+use Rattle.pcp_base.specs.Fields.{number_at}
 use Rattle.pcp_base.specs.declared.file.FileId.TheVariants.{Volume}
 use Rattle.pcp_model.specs.Disk.{contents_of}
-use Rattle.archive_frame.specs.Steps.{IsSize, number_at}
+use Rattle.archive_frame.specs.Steps.{IsSize}
 use Rattle.archive_window.specs.Ending.{IsTailed, IsWholeRecord}
 use Rattle.archive_window.proofs.Endings.{last_alone, none_before, none_wrong, is_tailed, last_there}
 use Rattle.archive_window.proofs.backward.last_by.Goals as goal

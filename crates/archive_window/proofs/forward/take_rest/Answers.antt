@@ -1,6 +1,7 @@
 use Rattle.std.proofs.Common.{◌≡◌, ◌-◌, ℕ, ◌+◌, ◌≤◌, List, length, take, drop, refl, sym, ap, ◌∙◌, subst, arith}
+use Rattle.pcp_base.specs.Fields.{number_at}
 use Rattle.pcp_model.specs.Disk.{contents_of}
-use Rattle.archive_frame.specs.Steps.{IsSize, number_at}
+use Rattle.archive_frame.specs.Steps.{IsSize}
 use Rattle.archive_window.proofs.Frames.{no_frame, not_torn, taken_whole, sized_by}
 use Rattle.archive_window.proofs.forward.take_rest.Goals as goal
 

@@ -1,4 +1,4 @@
-use Rattle.std.proofs.Common.{length-drop, arith}
+use Rattle.std.proofs.Common.{◌∙◌, length-drop, arith}
 use Rattle.pcp_outside.proofs.Runs.{writes_on}
 use Rattle.pcp_outside.proofs.streams.write_all.Goals as goal
 
@@ -10,5 +10,5 @@ loop-done-preserved g c =
     record {
       within = omega (arith, length-drop done piece, c.in_ok-done.ensures.within);
       so_far = λ tells. writes_on (o.written c.args.out.now) (o.written c.loop-done.out) (o.written c.put.new.self) piece done c.in_ok-done.field-0 (c.loop-done.invariant.so_far tells) (c.in_ok-done.ensures.bytes tells);
-      later = omega (arith, c.loop-done.invariant.later, c.in_ok-done.ensures.cause.later);
+      quiet = c.in_ok-done.ensures.quiet ∙ c.loop-done.invariant.quiet;
     }

@@ -1,6 +1,6 @@
 -- Each end of a call by what ran and what was written.
 use Rattle.std.proofs.Common.{subst, ◌∙◌}
-use Rattle.pm_tasks.specs.Streams.{IsSent}
+use Rattle.pm_words.specs.Streams.{IsSent}
 use Rattle.pm_commands.proofs.Memory.{ends_untold}
 use Rattle.pm_tasks.specs.Since.{HadRecovered}
 use Rattle.pm_tasks.proofs.Recovering.{by_status, never_nine}

@@ -4,7 +4,7 @@ use Rattle.pcp_outside.proofs.Crash.{weaker}
 use Rattle.pm_tasks.specs.Causes.{Asks, Got}
 use Rattle.pm_tasks.specs.Ends.{MayLeave, MayBeLeft}
 use Rattle.pm_tasks.specs.Meanings.{meaning}
-use Rattle.pm_tasks.specs.Sides.{SourceSide, SinkSide, DiskSide, source_side, sink_side, disk_side}
+use Rattle.pm_words.specs.Sides.{SourceSide, SinkSide, DiskSide, source_side, sink_side, disk_side}
 use Rattle.pcp_model.specs.Disk.{contents_of}
 use Rattle.pm_tasks.proofs.Sending.{unsent}
 use Rattle.pm_tasks.proofs.Recovering.{no_words_yet, no_reading_yet}

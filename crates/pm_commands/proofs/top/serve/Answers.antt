@@ -1,16 +1,16 @@
 -- What each command answers, told of the command that was asked for.
 use Rattle.std.proofs.Common.{rules, refl, subst, sym, Result, Err}
 use Rattle.pm_tasks.specs.declared.output.Output.{Output}
-use Rattle.pm_tasks.specs.declared.refusal.Refusal.{Refusal}
-use Rattle.pm_tasks.specs.declared.refusal.Refusal.TheVariants.{Input as AtInput}
-use Rattle.pm_tasks.specs.declared.words.Command.{Command}
-use Rattle.pm_tasks.specs.declared.words.Command.TheVariants.{Once, MmvMake, MmvDump, Dump, Info, Recover, At, Range, Value}
+use Rattle.pm_words.specs.declared.refusal.Refusal.{Refusal}
+use Rattle.pm_words.specs.declared.refusal.Refusal.TheVariants.{Input as AtInput}
+use Rattle.pm_words.specs.declared.words.Command.{Command}
+use Rattle.pm_words.specs.declared.words.Command.TheVariants.{Once, MmvMake, MmvDump, Dump, Info, Recover, At, Range, Value}
 use Rattle.pcp_model.specs.Disk.{contents_of}
 use Rattle.pm_tasks.specs.Archives.{nothing_before}
 use Rattle.pm_tasks.specs.Ends.{Serves, MayLeave}
 use Rattle.pm_tasks.specs.Meanings.{meaning}
-use Rattle.pm_tasks.specs.Refusals.{stopped}
-use Rattle.pm_tasks.specs.Sides.{SinkSide, DiskSide, Leaves, sink_side, disk_side}
+use Rattle.pm_words.specs.Refusals.{stopped}
+use Rattle.pm_words.specs.Sides.{SinkSide, DiskSide, Leaves, sink_side, disk_side}
 use Rattle.pm_tasks.specs.Since.{CommandSince}
 use Rattle.pm_tasks.specs.Takes.{MayTake}
 use Rattle.pm_tasks.specs.commands.at as at

@@ -1,7 +1,7 @@
 -- The status tells whether the sink has failed.
 use Rattle.std.proofs.Common.{true, false, refl, subst}
-use Rattle.pm_tasks.specs.Sides.{sink_side}
-use Rattle.pm_tasks.specs.Streams.{Sends, Finishes}
+use Rattle.pm_words.specs.Sides.{sink_side}
+use Rattle.pm_words.specs.Streams.{Sends, Finishes}
 use Rattle.pm_tasks.proofs.output.finish.Goals as goal
 
 pub returns-then-gone : goal.returns-then-gone

@@ -5,9 +5,9 @@ use Rattle.pcp_model.specs.Disk.{contents_of}
 use Rattle.pcp_outside.proofs.Crash.{weaker}
 use Rattle.logger_core.specs.Created.{HasNoItem, IsCreated}
 use Rattle.logger_core.specs.Reopening.{IsReopened, SameFiles}
-use Rattle.record_run.specs.Archives.{run_label}
+use Rattle.script_runs.specs.Archives.{run_label}
 use Rattle.record_run.specs.ImageCrashes.{ComesBackTo}
-use Rattle.record_run.specs.Opening.{IsOpened, run_limit}
+use Rattle.record_run.specs.Opening.{IsOpened}
 use Rattle.record_run.proofs.Openings.{created_opens, creating_comes, none_is, nothing_left, reopened_opens, standing_comes}
 use Rattle.record_run.proofs.opening.open.Goals as goal
 
@@ -16,11 +16,12 @@ pub returns-then-is_none-clause-opened :
 returns-then-is_none-clause-opened g c = λ tells left.
     let d = g.D.Disk in
     let a = c.args.archive in
-    let l = run_label c.args.stamp in
+    let s = c.args.stamp in
+    let n = c.args.limit in
     let old = d.held c.args.disk.now in
     let new = d.held c.create.new.disk in
     let none : a.label ≡ None = none_is a.label c.is_none.result c.is_none.ensures c.if-is_none.true in
-    IfOk-weaker c.create.result (λ k. IsCreated l run_limit k new) (λ k. IsOpened l (contents_of old) k new) (λ k is. created_opens l a old new k none left is) (c.create.ensures.opened tells (nothing_left a old none left))
+    IfOk-weaker c.create.result (λ k. IsCreated (run_label s) n k new) (λ k. IsOpened s (contents_of old) k new) (λ k is. created_opens s n a old new k none left is) (c.create.ensures.opened tells (nothing_left a old none left))
 
 pub returns-then-is_none-clause-any_moment :
     goal.returns-then-is_none-clause-any_moment
@@ -35,10 +36,11 @@ pub returns-clause-opened : goal.returns-clause-opened
 returns-clause-opened g c = λ tells left.
     let d = g.D.Disk in
     let a = c.args.archive in
-    let l = run_label c.args.stamp in
+    let s = c.args.stamp in
+    let n = c.args.limit in
     let old = d.held c.args.disk.now in
     let new = d.held c.reopen.new.disk in
-    IfOk-weaker c.reopen.result (λ k. IsReopened run_limit k new) (λ k. IsOpened l (contents_of old) k new) (λ k is. reopened_opens l a old new k (ap d.held c.reopen.ensures.untouched) left is) (c.reopen.ensures.reopened tells left)
+    IfOk-weaker c.reopen.result (λ k. IsReopened n k new) (λ k. IsOpened s (contents_of old) k new) (λ k is. reopened_opens s n a old new k (ap d.held c.reopen.ensures.untouched) left is) (c.reopen.ensures.reopened tells left)
 
 pub returns-clause-any_moment : goal.returns-clause-any_moment
 returns-clause-any_moment g c = λ tells left more.

@@ -6,7 +6,7 @@ use Rattle.archive_window.proofs.Looking.{looks_on}
 use Rattle.archive_loading.specs.Loaded.{Loaded, IsOver}
 use Rattle.archive_reader.specs.Asked.{at_begin, IsAtFrom}
 use Rattle.pm_print.specs.Items.{item_text}
-use Rattle.pm_tasks.specs.Refusals.{reader_refusal}
+use Rattle.pm_words.specs.Refusals.{reader_refusal}
 use Rattle.pm_tasks.specs.commands.at.{turned, IsStopped}
 use Rattle.pm_tasks.proofs.Asking.{not_loaded, is_loaded, asked_turned, still_over}
 use Rattle.archive_reader.specs.Takes.{TakesAt}

@@ -1,7 +1,7 @@
 -- A full page went to the sink whole, and another stays.
 use Rattle.std.proofs.Common.{[], refl, sym, ap, subst, ◌∙◌, ◌++◌, append-nil}
-use Rattle.pm_tasks.specs.Sides.{sink_side}
-use Rattle.pm_tasks.specs.Streams.{Sends}
+use Rattle.pm_words.specs.Sides.{sink_side}
+use Rattle.pm_words.specs.Streams.{Sends}
 use Rattle.pm_tasks.proofs.Sending.{unmoved}
 use Rattle.pm_tasks.proofs.commands.dump.turn_page.Goals as goal
 

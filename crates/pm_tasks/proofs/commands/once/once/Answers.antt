@@ -4,7 +4,7 @@ use Rattle.pcp_outside.proofs.Crash.{weaker}
 use Rattle.record_run.specs.ImageCrashes.{MayBeAfter}
 use Rattle.record_run.specs.ImageRuns.{items_of_run}
 use Rattle.pm_tasks.specs.Ends.{MayLeave}
-use Rattle.pm_tasks.specs.Sides.{disk_side}
+use Rattle.pm_words.specs.Sides.{disk_side}
 use Rattle.pm_tasks.specs.commands.once.{once}
 use Rattle.fetch_engine.specs.declared.fetch.Fetched.{Fetched}
 use Rattle.record_run.specs.SinceRecovery.{FromRecovery}

@@ -5,7 +5,7 @@ use Rattle.archive_window.proofs.Looking.{looks_on}
 use Rattle.archive_loading.specs.Loaded.{Loaded, IsOver}
 use Rattle.archive_reader.specs.Asked.{range_begin, IsRangeFrom}
 use Rattle.pm_print.specs.Items.{items_text}
-use Rattle.pm_tasks.specs.Refusals.{reader_refusal}
+use Rattle.pm_words.specs.Refusals.{reader_refusal}
 use Rattle.pm_tasks.specs.commands.range.{turned, IsStopped}
 use Rattle.pm_tasks.proofs.Asking.{not_loaded, is_loaded, asked_turned, still_over}
 use Rattle.archive_reader.specs.Takes.{TakesRange}

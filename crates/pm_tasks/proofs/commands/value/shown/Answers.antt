@@ -5,7 +5,7 @@ use Rattle.archive_loading.specs.Loaded.{Loaded}
 use Rattle.archive_reader.specs.Values.{IsValueAt}
 use Rattle.pm_print.specs.Items.{set_text}
 use Rattle.pm_tasks.specs.Archives.{TurnedAway}
-use Rattle.pm_tasks.specs.Sides.{disk_side, found}
+use Rattle.pm_words.specs.Sides.{disk_side, found}
 use Rattle.pm_tasks.specs.commands.value.{HasNoValue}
 use Rattle.pm_tasks.proofs.Timed.{value_stops, value_scan}
 use Rattle.pm_tasks.proofs.commands.value.shown.Goals as goal

@@ -5,7 +5,7 @@ use Rattle.archive_window.proofs.Looking.{looks_on}
 use Rattle.archive_loading.specs.Loaded.{Loaded, IsOver}
 use Rattle.pm_tasks.specs.commands.value.{turned, named, HasNothing}
 use Rattle.pm_tasks.specs.Archives.{TurnedAway}
-use Rattle.pm_tasks.specs.Sides.{disk_side, found}
+use Rattle.pm_words.specs.Sides.{disk_side, found}
 use Rattle.pm_tasks.proofs.Asking.{not_loaded, is_loaded, still_over}
 use Rattle.pm_tasks.proofs.Timed.{said_of, turned_of}
 use Rattle.pm_tasks.proofs.commands.value.value.Goals as goal

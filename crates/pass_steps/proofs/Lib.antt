@@ -1,0 +1,5 @@
+pub mod Calling
+pub mod Ending
+pub mod Quiet
+pub mod Relays
+pub mod Slotted

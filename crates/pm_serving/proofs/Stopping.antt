@@ -1,0 +1,71 @@
+-- Why a call stops before a session is served, and what a call is said to have done that served.
+use Rattle.std.proofs.Common.{◌≡◌, ℕ, ◌≤◌, false, true, List, length, sym, ap, ◌∙◌, subst, arith, Option, Result, Err}
+use Rattle.std.proofs.lemmas.List.{drop_all, length-map}
+use Rattle.fetch_engine.specs.Servers.{Seated}
+use Rattle.fetch_engine.specs.declared.server.Mounted.{Mounted}
+use Rattle.pcp_outside.specs.declared.doors.Door.{Ghosts}
+use Rattle.pmcd_server.specs.Crews.{AreWorks}
+use Rattle.pmcd_server.specs.Works.{Work}
+use Rattle.pmcd_server.specs.declared.fault.ServeFault.{ServeFault}
+use Rattle.run_script.specs.declared.script.Script.{Script}
+use Rattle.pm_words.specs.Refusals.{stopped}
+use Rattle.pm_words.specs.Sides.{SourceSide}
+use Rattle.pm_words.specs.declared.refusal.Refusal.TheVariants.{Words, Reading, Input, Disk, NoMemory}
+use Rattle.pm_words.specs.declared.stage.InputRefusal.{InputRefusal}
+use Rattle.pm_words.specs.declared.stage.Stop.{Stop}
+use Rattle.pm_words.specs.declared.stage.Stop.TheVariants.{OutOfMemory, Refused}
+use Rattle.pm_serving.specs.declared.refusal.ServeRefusal.{ServeRefusal}
+use Rattle.pm_serving.specs.declared.refusal.ServeRefusal.TheVariants.{Before, Accept}
+use Rattle.pm_serving.specs.declared.served.Served.{Served}
+use Rattle.pm_serving.specs.Ends.{Asks, Cause, IsOrder, Ran, Refuses, Stops, broken}
+use Rattle.pm_serving.specs.Reading.{TookSome}
+use Rattle.pm_serving.specs.Refusals.{IsNumbered}
+use Rattle.pm_serving.specs.Scripts.{Answers, script_served}
+use Rattle.pm_serving.specs.Serving.{DoorsSide, Leaves}
+
+unlike : false ≡ true → ⊥
+unlike h = cc
+
+-- a seat for each seat
+pub as_many : {P In Out Time : Type 0} (rows : List Mounted) (door : Ghosts P In Out Time) (count : ℕ) (seats : List Seated) (doors : List P) (works : List (Work P)) (seats_after : List Seated) (doors_after : List P)
+    → AreWorks rows door count seats doors works seats_after doors_after → length seats_after ≡ length seats
+as_many {P} rows door count seats doors works seats_after doors_after w =
+    ap length w.end ∙ length-map works (λ (x : Work P). x.seat_after) ∙ sym (length-map works (λ (x : Work P). x.seat)) ∙ sym (ap length w.begin)
+
+module _ (words : List (List ℕ)) (s : SourceSide) where
+  -- all of an input within the limit was taken
+  pub took : Asks words s → s.tells → TookSome s
+  took a tells =
+      let told = a.read.told tells in
+      let within : length s.left ≤ 16777216 = subst (λ (bytes : List ℕ). length bytes ≤ 16777216) told.0 a.read.within in
+      (length s.left, omega arith, told.1 ∙ sym (drop_all (length s.left) s.left (omega arith)))
+
+  pub by_script : (a : Asks words s) (stop : Stop InputRefusal) → Answers (script_served a.input) (Err stop) → Cause words s (stopped (λ (e : InputRefusal). Input e) stop)
+  by_script a OutOfMemory why = took a
+  by_script a (Refused e) why = (why.0, why.2, (a, why.1))
+
+module _ {P In Out Time : Type 0} (words : List (List ℕ)) (s : SourceSide) (d : DoorsSide P In Out Time) (served : Option Served) where
+  abbrev pub ran_by : (count : ℕ) (script : Script) (outcome : ℕ → Result ℕ ServeFault) → IsOrder words s count script → Leaves d count script (outcome count) served → Ran words s d served outcome
+  ran_by count script outcome order leaves = record {
+    asks = order.asks;
+    script = script;
+    good = order.good;
+    leaves = subst (λ (n : ℕ). Leaves d n script (outcome n) served) (sym order.counted) leaves;
+  }
+
+  pub by_serving : (count : ℕ) (script : Script) → IsOrder words s count script → (e : ServeRefusal) → Stops d count script served e → Refuses words s d served e
+  by_serving count script order (Before (Words usage)) stops = absurd stops
+  by_serving count script order (Before (Reading e)) stops = absurd stops
+  by_serving count script order (Before (Input e)) stops = absurd stops
+  by_serving count script order (Before (Disk e)) stops = absurd stops
+  by_serving count script order (Before NoMemory) stops = (took words s order.asks, stops)
+  by_serving count script order Accept stops = ran_by count script broken order stops
+
+  -- a refusal that isn't told for want of memory
+  pub untold : (e : ServeRefusal) → IsNumbered e → Refuses words s d served e → Refuses words s d served (Before NoMemory)
+  untold (Before (Words usage)) numbered c = (λ tells. (0, omega arith, c.0.1 tells), c.1)
+  untold (Before (Reading e)) numbered c = absurd (unlike numbered)
+  untold (Before (Input e)) numbered c = (took words s c.0.2.0, c.1)
+  untold (Before (Disk e)) numbered c = absurd c.0
+  untold (Before NoMemory) numbered c = absurd (unlike numbered)
+  untold Accept numbered c = absurd numbered

@@ -1,0 +1,7 @@
+pub mod CommandWords
+pub mod Reading
+pub mod Scripts
+pub mod Refusals
+pub mod Serving
+pub mod Ends
+pub mod Facts

@@ -1,0 +1,51 @@
+-- What is left of a script's regions on which sessions were served.
+use Rattle.std.specs.Prelude.{◌≡◌, ℕ, ◌+◌, List, length, sum_by, Option, Some, None, Result, Ok, Err}
+use Rattle.pcp_outside.specs.declared.doors.Door.{Ghosts}
+use Rattle.pmcd_server.specs.Crews.{HasServed}
+use Rattle.pmcd_server.specs.declared.fault.ServeFault.{ServeFault}
+use Rattle.run_script.specs.declared.script.Script.{Script}
+use Rattle.script_passes.specs.Openings.{IsOpened}
+use Rattle.script_passes.specs.declared.opening.Opened.{Opened}
+use Rattle.pm_serving.specs.declared.served.Served.{Served}
+
+-- the doors of a call, before and after
+pub record DoorsSide (P In Out Time : Type 0) : Type 1 where
+  pub door : Ghosts P In Out Time
+  pub before : List P
+  pub after : List P
+
+abbrev pub doors_side : {P In Out Time : Type 0} → Ghosts P In Out Time → List P → List P → DoorsSide P In Out Time
+doors_side door old new = record { door = door; before = old; after = new }
+
+-- what opening a script gave, with contexts on the seats
+abbrev pub opened_as : Served → Opened
+opened_as served = record { server = served.server; passes = served.passes; seats = served.seats }
+
+-- of doors that tell, as many connections were taken in all, and as many reports told
+pub record AreCounted {P In Out Time : Type 0} (d : DoorsSide P In Out Time) (count : ℕ) : Type 0 where
+  pub connections : sum_by (λ p. length (d.door.left p)) d.before ≡ sum_by (λ p. length (d.door.left p)) d.after + count
+  pub reports : sum_by (λ p. length (d.door.reports p)) d.after ≡ sum_by (λ p. length (d.door.reports p)) d.before + count
+
+abbrev pub Counts : {P In Out Time : Type 0} → DoorsSide P In Out Time → Result ℕ ServeFault → Type 0
+Counts d (Ok count) = d.door.tells → AreCounted d count
+Counts d (Err fault) = Unit {0}
+
+-- The script was opened with four seats, and sessions were served on them; the server and the passes stay as they were opened.
+pub record Serving {P In Out Time : Type 0} (d : DoorsSide P In Out Time) (count : ℕ) (script : Script) (result : Result ℕ ServeFault) (served : Served) : Type 0 where
+  pub opened : Served
+  pub made : IsOpened script 4 (opened_as opened)
+  pub server : served.server ≡ opened.server
+  pub passes : served.passes ≡ opened.passes
+  pub serves : HasServed served.server d.door count opened.seats.items d.before served.seats.items d.after result
+  pub counts : Counts d result
+
+-- `served` has what is left
+pub record Leaves {P In Out Time : Type 0} (d : DoorsSide P In Out Time) (count : ℕ) (script : Script) (result : Result ℕ ServeFault) (served : Option Served) : Type 0 where
+  pub regions : Served
+  pub kept : served ≡ Some regions
+  pub serving : Serving d count script result regions
+
+-- nothing was served
+pub record IsUnserved {P In Out Time : Type 0} (d : DoorsSide P In Out Time) (served : Option Served) : Type 0 where
+  pub none : served ≡ None
+  pub doors : d.after ≡ d.before

@@ -1,0 +1,137 @@
+-- What the words of a command line ask for.
+use Rattle.std.specs.Prelude.{◌≡◌, ℕ, ◌+◌, ◌≤◌, Bool, false, ◌==◌, ◌&&◌, nat_le, nat_lt, if◌then◌else◌, List, [], ◌∷◌, length, Option, Some, None, Result, Ok, Err, codes, bytes_eq}
+use Rattle.std.specs.List.{list_all}
+use Rattle.pcp_base.specs.Names.{is_letter, is_name_byte}
+use Rattle.pcp_base.specs.Time.{Moment}
+use Rattle.text_lines.specs.Numbers.{number_of}
+use Rattle.pm_words.specs.declared.words.Command.{Command}
+use Rattle.pm_words.specs.declared.words.Command.TheVariants.{Once, MmvMake, MmvDump, Dump, Info, Recover, At, Range, Value}
+use Rattle.pm_words.specs.declared.stage.Stop.{Stop}
+use Rattle.pm_words.specs.declared.stage.Stop.TheVariants.{OutOfMemory, Refused}
+use Rattle.pm_words.specs.declared.stage.Usage.{Usage}
+
+infixl 10 ◌>>=◌
+abbrev pub ◌>>=◌ : {A B : Type 0} → Result A ℕ → (A → Result B ℕ) → Result B ℕ
+(Ok x) >>= f = f x
+(Err at) >>= f = Err at
+
+-- a value, and the words behind it; or the index of the word that has none
+abbrev pub at_index : {A : Type 0} → ℕ → List (List ℕ) → Option A → Result (A × List (List ℕ)) ℕ
+at_index at words None = Err at
+at_index at words (Some a) = Ok (a, words)
+
+-- what the next word says, at this index
+abbrev pub word_then : {A : Type 0} → (List ℕ → Option A) → ℕ → List (List ℕ) → Result (A × List (List ℕ)) ℕ
+word_then read at [] = Err at
+word_then read at (word ∷ words) = at_index at words (read word)
+
+-- no further word
+abbrev pub end_then : {A : Type 0} → A → ℕ → List (List ℕ) → Result A ℕ
+end_then a at [] = Ok a
+end_then a at (word ∷ words) = Err at
+
+abbrev pub below : ℕ → Option ℕ → Option ℕ
+below limit None = None
+below limit (Some n) = if nat_lt n limit then Some n else None
+
+-- a number from one to another, both included
+abbrev pub between : ℕ → ℕ → Option ℕ → Option ℕ
+between low high None = None
+between low high (Some n) = if nat_le low n && nat_le n high then Some n else None
+
+abbrev pub number_in : ℕ → ℕ → List ℕ → Option ℕ
+number_in low high word = between low high (number_of word)
+
+-- the seconds and microseconds of a stamp
+abbrev pub second_of : List ℕ → Option ℕ
+second_of word = below 2147483648 (number_of word)
+
+abbrev pub microsecond_of : List ℕ → Option ℕ
+microsecond_of word = below 1000000 (number_of word)
+
+-- a region's name: one component of a name, of at most 63 bytes
+abbrev pub file_of : List ℕ → Option (List ℕ)
+file_of [] = None
+file_of (b ∷ bs) = if is_letter b && list_all is_name_byte bs && nat_le (length (b ∷ bs)) 63 then Some (b ∷ bs) else None
+
+abbrev pub begins_with_dash : List ℕ → Bool
+begins_with_dash [] = false
+begins_with_dash (b ∷ bs) = b == 45
+
+-- a metric's name: any bytes that don't begin with `-`
+abbrev pub name_of : List ℕ → Option (List ℕ)
+name_of word = if begins_with_dash word then None else Some word
+
+-- SEC USEC FILE, from the word at index 1 on
+unfoldable pub once_of : List (List ℕ) → Result Command ℕ
+once_of words = do
+  sec ← word_then second_of 1 words
+  usec ← word_then microsecond_of 2 sec.1
+  file ← word_then file_of 3 usec.1
+  end_then (Once record { stamp = record { sec = sec.0; usec = usec.0 }; file = file.0 }) 4 file.1
+
+-- SEC USEC, from the word at an index on
+unfoldable pub stamp_then : ℕ → List (List ℕ) → Result (Moment × List (List ℕ)) ℕ
+stamp_then at words = do
+  sec ← word_then second_of at words
+  usec ← word_then microsecond_of (at + 1) sec.1
+  Ok (record { sec = sec.0; usec = usec.0 }, usec.1)
+
+-- SEC USEC; SEC USEC SEC USEC; SEC USEC NAME
+unfoldable pub at_of : List (List ℕ) → Result Command ℕ
+at_of words = do
+  t ← stamp_then 1 words
+  end_then (At t.0) 3 t.1
+
+unfoldable pub range_of : List (List ℕ) → Result Command ℕ
+range_of words = do
+  from ← stamp_then 1 words
+  to ← stamp_then 3 from.1
+  end_then (Range from.0 to.0) 5 to.1
+
+unfoldable pub value_of : List (List ℕ) → Result Command ℕ
+value_of words = do
+  t ← stamp_then 1 words
+  name ← word_then name_of 3 t.1
+  end_then (Value record { stamp = t.0; name = name.0 }) 4 name.1
+
+-- the commands over images and their texts, without a further word
+abbrev pub image_command_of : List ℕ → List (List ℕ) → Result Command ℕ
+image_command_of word words =
+    if bytes_eq word (codes "mmv-make") then end_then MmvMake 1 words else
+    if bytes_eq word (codes "mmv-dump") then end_then MmvDump 1 words else Err 0
+
+-- the commands over an archive, without a further word
+abbrev pub archive_command_of : List ℕ → List (List ℕ) → Result Command ℕ
+archive_command_of word words =
+    if bytes_eq word (codes "dump") then end_then Dump 1 words else
+    if bytes_eq word (codes "info") then end_then Info 1 words else
+    if bytes_eq word (codes "recover") then end_then Recover 1 words else image_command_of word words
+
+-- those that ask an archive by time
+abbrev pub timed_command_of : List ℕ → List (List ℕ) → Result Command ℕ
+timed_command_of word words =
+    if bytes_eq word (codes "at") then at_of words else
+    if bytes_eq word (codes "range") then range_of words else
+    if bytes_eq word (codes "value") then value_of words else archive_command_of word words
+
+-- The command, or the index of the first word that is bad or missing. A command that isn't known is bad at 0.
+abbrev pub command_of : List (List ℕ) → Result Command ℕ
+command_of [] = Err 0
+command_of (word ∷ words) = if bytes_eq word (codes "once") then once_of words else timed_command_of word words
+
+-- what a function over words answered, seen by view, is what the definition says
+abbrev pub Gives : {X Y : Type 0} → (X → Y) → Result X ℕ → Result Y ℕ → Type 0
+Gives view (Ok x) read = read ≡ Ok (view x)
+Gives view (Err at) read = read ≡ Err at
+
+-- what a parse of the words answered is what they say, unless memory ran out
+abbrev pub Reads : {A : Type 0} → Result A (Stop Usage) → Result A ℕ → Type 0
+Reads (Ok c) read = read ≡ Ok c
+Reads (Err (Refused usage)) read = read ≡ Err usage.at
+Reads (Err OutOfMemory) read = Unit {0}
+
+-- what the words of a command promise of it
+abbrev pub FitsCommand : Command → Type 0
+FitsCommand (Once asked) = length asked.file ≤ 63
+FitsCommand _ = Unit {0}

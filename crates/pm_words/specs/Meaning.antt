@@ -1,0 +1,41 @@
+-- What a command means: all that is its own. Its parts speak of whole inputs and of whole files.
+use Rattle.std.specs.Prelude.{◌≡◌, ℕ, Bool, false, List, [], Option, Some}
+use Rattle.pcp_model.specs.Disk.{Files, Holdings}
+use Rattle.pm_words.specs.declared.stage.InputRefusal.{InputRefusal}
+use Rattle.pm_words.specs.declared.stage.FilesRefusal.{FilesRefusal}
+use Rattle.pm_words.specs.Sides.{DiskSide, Found, Untouched}
+
+-- The first list of bytes of a part is the input, which is empty for a command that takes none.
+pub record Meaning : Type 1 where
+  -- what it reads: nothing, or an input, and why it doesn't read one
+  pub reads : Option (List ℕ → Option InputRefusal)
+  -- whether it has to do with the disk
+  pub uses_disk : Bool
+  -- which files it turns away, and why; over all others it succeeds
+  pub turns_away : List ℕ → Found → FilesRefusal → Type 0
+  -- what it has done to the files where it is done
+  pub done : List ℕ → DiskSide → Type 0
+  -- what it then writes to its output
+  pub says : List ℕ → DiskSide → List ℕ → Type 0
+  -- what it may have written to its output where it is stopped
+  pub begins : List ℕ → DiskSide → List ℕ → Type 0
+  -- what each crash leaves from then on, over what the disk held at the start
+  pub keeps : List ℕ → Holdings → Files → Type 0
+  -- what it leaves where it is stopped, with a status, after its first write
+  pub begun : ℕ → List ℕ → DiskSide → Type 0
+  -- what a crash at any moment of it may leave, beside what was there
+  pub may_leave : List ℕ → Holdings → Files → Type 0
+
+-- a command that makes its output of its input, and has nothing to do with the disk
+abbrev pub converts : (List ℕ → Option InputRefusal) → (List ℕ → List ℕ) → Meaning
+converts refuses make = record {
+  reads = Some refuses;
+  uses_disk = false;
+  turns_away = λ input files e. ⊥;
+  done = λ input d. Untouched d;
+  says = λ input d text. text ≡ make input;
+  begins = λ input d front. front ≡ [];
+  keeps = λ input held crash. Unit {0};
+  begun = λ status input d. ⊥;
+  may_leave = λ input held crash. ⊥;
+}

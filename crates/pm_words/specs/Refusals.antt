@@ -1,0 +1,187 @@
+-- How a command that is refused ends: its status and its last line, stage by stage.
+use Rattle.std.specs.Prelude.{◌≡◌, ◌⊎◌, ℕ, List, [], ◌∷◌, ◌++◌, take, Option, Some, None, unwrap_or, codes}
+use Rattle.std.specs.Fmt.{decimal}
+use Rattle.pcp_base.specs.declared.file.FileId.{FileId}
+use Rattle.pcp_base.specs.declared.file.FileId.TheVariants.{Meta, Index, Volume}
+use Rattle.pcp_outside.specs.Causes.{Rose}
+use Rattle.archive_reader.specs.declared.fault.ReaderFault.{ReaderFault}
+use Rattle.archive_reader.specs.declared.fault.ReaderFault.TheVariants as faults
+use Rattle.archive_recovery.specs.declared.outcome.RecoverFault.{RecoverFault}
+use Rattle.archive_recovery.specs.declared.outcome.RecoverFault.TheVariants as recovering
+use Rattle.pm_print.specs.FaultLines.{image_line, text_line}
+use Rattle.pm_print.specs.Sets.{pmid_text}
+use Rattle.run_script.specs.declared.fault.ScriptLineFault.{ScriptLineFault}
+use Rattle.run_script.specs.declared.fault.ScriptLineFault.TheVariants as script
+use Rattle.pm_words.specs.declared.stage.ResultRefusal.{ResultRefusal}
+use Rattle.pm_words.specs.declared.stage.ResultRefusal.TheVariants.{Large, NotLater, Changed, Full}
+use Rattle.logger_core.specs.declared.fault.LogFault.{LogFault}
+use Rattle.logger_core.specs.declared.fault.LogFault.TheVariants as logging
+use Rattle.record_run.specs.declared.fault.RunFault.{RunFault}
+use Rattle.record_run.specs.declared.fault.RunFault.TheVariants as running
+use Rattle.pm_words.specs.declared.stage.Stop.{Stop}
+use Rattle.pm_words.specs.declared.stage.Stop.TheVariants.{OutOfMemory, Refused}
+use Rattle.pm_words.specs.declared.stage.Usage.{Usage}
+use Rattle.pm_words.specs.declared.stage.ReadRefusal.{ReadRefusal}
+use Rattle.pm_words.specs.declared.stage.ReadRefusal.TheVariants.{ReadFault, InputLimit}
+use Rattle.pm_words.specs.declared.stage.InputRefusal.{InputRefusal}
+use Rattle.pm_words.specs.declared.stage.InputRefusal.TheVariants.{Image, Line, Script}
+use Rattle.pm_words.specs.declared.stage.FilesRefusal.{FilesRefusal}
+use Rattle.pm_words.specs.declared.stage.FilesRefusal.TheVariants.{Unlogged, Compressed, NotArchive, Nothing}
+use Rattle.pm_words.specs.declared.stage.DiskRefusal.{DiskRefusal}
+use Rattle.pm_words.specs.declared.stage.DiskRefusal.TheVariants.{Files, DiskFault}
+use Rattle.pm_words.specs.declared.refusal.Refusal.{Refusal}
+use Rattle.pm_words.specs.declared.refusal.Refusal.TheVariants.{Words, Reading, Input, Disk, NoMemory}
+
+-- the words
+abbrev pub usage_line : Usage → List ℕ
+usage_line usage = codes "usage " ++ (decimal usage.at ++ 10 ∷ [])
+
+-- the reading
+abbrev pub reading_status : ReadRefusal → ℕ
+reading_status ReadFault = 3
+reading_status InputLimit = 7
+
+abbrev pub reading_line : ReadRefusal → List ℕ
+reading_line ReadFault = codes "read fault\n"
+reading_line InputLimit = codes "limit input 16777217\n"
+
+-- the input; of a script that has too many regions the limit is told
+abbrev pub script_status : ScriptLineFault → ℕ
+script_status (script.Line fault) = 2
+script_status script.Regions = 7
+
+abbrev pub script_line : ℕ → ScriptLineFault → List ℕ
+script_line line (script.Line fault) = text_line line fault
+script_line line script.Regions = codes "limit regions 65\n"
+
+abbrev pub input_status : InputRefusal → ℕ
+input_status (Image fault) = 2
+input_status (Line fault) = 2
+input_status (Script fault) = script_status fault.fault
+
+abbrev pub input_line : InputRefusal → List ℕ
+input_line (Image fault) = image_line fault
+input_line (Line fault) = text_line fault.line fault.fault
+input_line (Script fault) = script_line fault.line fault.fault
+
+-- a result that isn't logged
+abbrev pub result_status : ResultRefusal → ℕ
+result_status (Large bytes) = 7
+result_status (NotLater last) = 12
+result_status (Changed pmid) = 13
+result_status (Full file bytes) = 7
+
+-- what of an archive is full
+abbrev pub part_name : FileId → List ℕ
+part_name Meta = codes "meta"
+part_name Index = codes "index"
+part_name (Volume k) = codes "volume"
+
+abbrev pub result_line : ResultRefusal → List ℕ
+result_line (Large bytes) = codes "limit record " ++ (decimal bytes ++ 10 ∷ [])
+result_line (NotLater last) = codes "not later " ++ (decimal last.sec ++ (32 ∷ (decimal last.usec ++ 10 ∷ [])))
+result_line (Changed pmid) = codes "changed " ++ (pmid_text pmid ++ 10 ∷ [])
+result_line (Full file bytes) = codes "limit " ++ (part_name file ++ (32 ∷ (decimal bytes ++ 10 ∷ [])))
+
+-- the files, and the disk
+abbrev pub files_status : FilesRefusal → ℕ
+files_status (Unlogged reason) = result_status reason
+files_status (Compressed file) = 6
+files_status (NotArchive file at) = 6
+files_status (Nothing stamp) = 11
+
+-- a file's name in a line
+abbrev pub file_name : FileId → List ℕ
+file_name Meta = codes "meta"
+file_name Index = codes "index"
+file_name (Volume k) = decimal k
+
+abbrev pub numbered_files_line : FilesRefusal → Option (List ℕ)
+numbered_files_line (Unlogged reason) = Some (result_line reason)
+numbered_files_line (Compressed file) = Some (codes "compressed " ++ (file_name file ++ 10 ∷ []))
+numbered_files_line (NotArchive file at) = Some (codes "not archive " ++ (file_name file ++ (32 ∷ (decimal at ++ 10 ∷ []))))
+numbered_files_line (Nothing stamp) = Some (codes "nothing at " ++ (decimal stamp.sec ++ (32 ∷ (decimal stamp.usec ++ 10 ∷ []))))
+
+abbrev pub plain_files_line : FilesRefusal → List ℕ
+plain_files_line (Unlogged reason) = []
+plain_files_line (Compressed file) = []
+plain_files_line (NotArchive file at) = []
+plain_files_line (Nothing stamp) = []
+
+abbrev pub disk_status : DiskRefusal → ℕ
+disk_status (Files e) = files_status e
+disk_status DiskFault = 5
+
+abbrev pub numbered_disk_line : DiskRefusal → Option (List ℕ)
+numbered_disk_line (Files e) = numbered_files_line e
+numbered_disk_line DiskFault = None
+
+abbrev pub plain_disk_line : DiskRefusal → List ℕ
+plain_disk_line (Files e) = plain_files_line e
+plain_disk_line DiskFault = codes "disk fault\n"
+
+-- all stages
+abbrev pub status_of : Refusal → ℕ
+status_of (Words usage) = 1
+status_of (Reading e) = reading_status e
+status_of (Input e) = input_status e
+status_of (Disk e) = disk_status e
+status_of NoMemory = 9
+
+abbrev pub numbered_line_of : Refusal → Option (List ℕ)
+numbered_line_of (Words usage) = Some (usage_line usage)
+numbered_line_of (Reading e) = None
+numbered_line_of (Input e) = Some (input_line e)
+numbered_line_of (Disk e) = numbered_disk_line e
+numbered_line_of NoMemory = None
+
+-- want of memory has no line
+abbrev pub plain_line_of : Refusal → List ℕ
+plain_line_of (Words usage) = []
+plain_line_of (Reading e) = reading_line e
+plain_line_of (Input e) = []
+plain_line_of (Disk e) = plain_disk_line e
+plain_line_of NoMemory = []
+
+-- the last line of a refusal
+abbrev pub line_of : Refusal → List ℕ
+line_of e = unwrap_or (numbered_line_of e) (plain_line_of e)
+
+-- a stage that stopped, as the refusal of the whole
+abbrev pub stopped : {E : Type 0} → (E → Refusal) → Stop E → Refusal
+stopped at OutOfMemory = NoMemory
+stopped at (Refused e) = at e
+
+-- a reader's fault, as a refusal
+abbrev pub reader_refusal : ReaderFault → Refusal
+reader_refusal (faults.Compressed file) = Disk (Files (Compressed file))
+reader_refusal (faults.NotArchive file at) = Disk (Files (NotArchive file at))
+reader_refusal faults.DiskFault = Disk DiskFault
+reader_refusal faults.NoMemory = NoMemory
+
+-- and a fault of recovery
+abbrev pub recover_refusal : RecoverFault → Refusal
+recover_refusal (recovering.Compressed file) = Disk (Files (Compressed file))
+recover_refusal (recovering.NotArchive file at) = Disk (Files (NotArchive file at))
+recover_refusal recovering.DiskFault = Disk DiskFault
+recover_refusal recovering.NoMemory = NoMemory
+
+-- and a fault of a logger, and of the run of an image
+abbrev pub log_refusal : LogFault → Refusal
+log_refusal logging.Closed = Disk DiskFault
+log_refusal (logging.Large bytes) = Disk (Files (Unlogged (Large bytes)))
+log_refusal (logging.NotLater last) = Disk (Files (Unlogged (NotLater last)))
+log_refusal (logging.Changed pmid) = Disk (Files (Unlogged (Changed pmid)))
+log_refusal (logging.Full file bytes) = Disk (Files (Unlogged (Full file bytes)))
+log_refusal logging.NoMemory = NoMemory
+log_refusal logging.DiskFault = Disk DiskFault
+
+abbrev pub run_refusal : RunFault → Refusal
+run_refusal (running.Recovery fault) = recover_refusal fault
+run_refusal (running.Logging fault) = log_refusal fault
+run_refusal running.NoMemory = NoMemory
+
+-- the line is written, or a front of it where the sink failed
+abbrev pub Wrote : ℕ → ℕ → List ℕ → List ℕ → List ℕ → Type 0
+Wrote faults_before faults_after before after line =
+    (after ≡ before ++ line) ⊎ (Rose faults_before faults_after × (n : ℕ) × (after ≡ before ++ take n line))

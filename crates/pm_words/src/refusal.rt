@@ -1,0 +1,227 @@
+//! The refusals of all stages as one, and how its last line is told.
+ghost use Rattle.std.specs.Prelude.{◌≡◌, IfOk, OnOk, OnErr, IsSome};
+ghost use Rattle.pm_words.specs.declared.refusal.Refusal.TheVariants.{Disk};
+ghost use Rattle.pm_words.specs.declared.stage.DiskRefusal.TheVariants.{Files};
+ghost use Rattle.pm_words.specs.declared.stage.FilesRefusal.TheVariants.{Unlogged};
+ghost use Rattle.pm_words.specs.Refusals.{log_refusal, status_of, numbered_line_of, plain_line_of, line_of, Wrote};
+
+use crate::stage::{
+    DiskRefusal, FilesRefusal, InputRefusal, ReadRefusal, ResultRefusal, Stop, Usage,
+};
+use archive_reader::ReaderFault;
+use archive_recovery::RecoverFault;
+use logger_core::LogFault;
+use pcp_base::{Bytes, NoMemory};
+use pcp_outside::{Sink, write_all};
+use record_run::RunFault;
+use std::alloc::Global;
+
+/// Why a command ended before it was done.
+#[derive(Clone, Copy, Debug, PartialEq, Eq)]
+pub enum Refusal {
+    /// The words are no command.
+    Words(Usage),
+    /// The input isn't read to its end.
+    Reading(ReadRefusal),
+    /// The input isn't what the command reads.
+    Input(InputRefusal),
+    /// The files are turned away, or the disk failed.
+    Disk(DiskRefusal),
+    NoMemory,
+}
+
+impl From<Stop<Usage>> for Refusal {
+    ghost use Rattle.pm_words.specs.Refusals.{stopped};
+    ghost use Rattle.pm_words.specs.declared.refusal.Refusal.TheVariants.{Words as AtWords};
+
+    ghost from_gives = { λ stop e. e ≡ stopped AtWords stop };
+
+    fn from(stop: Stop<Usage>) -> Refusal {
+        match stop {
+            Stop::OutOfMemory => Refusal::NoMemory,
+            Stop::Refused(usage) => Refusal::Words(usage),
+        }
+    }
+}
+
+impl From<Stop<ReadRefusal>> for Refusal {
+    ghost use Rattle.pm_words.specs.Refusals.{stopped};
+    ghost use Rattle.pm_words.specs.declared.refusal.Refusal.TheVariants.{Reading as AtReading};
+
+    ghost from_gives = { λ stop e. e ≡ stopped AtReading stop };
+
+    fn from(stop: Stop<ReadRefusal>) -> Refusal {
+        match stop {
+            Stop::OutOfMemory => Refusal::NoMemory,
+            Stop::Refused(refusal) => Refusal::Reading(refusal),
+        }
+    }
+}
+
+impl From<Stop<InputRefusal>> for Refusal {
+    ghost use Rattle.pm_words.specs.Refusals.{stopped};
+    ghost use Rattle.pm_words.specs.declared.refusal.Refusal.TheVariants.{Input as AtInput};
+
+    ghost from_gives = { λ stop e. e ≡ stopped AtInput stop };
+
+    fn from(stop: Stop<InputRefusal>) -> Refusal {
+        match stop {
+            Stop::OutOfMemory => Refusal::NoMemory,
+            Stop::Refused(refusal) => Refusal::Input(refusal),
+        }
+    }
+}
+
+impl From<DiskRefusal> for Refusal {
+    ghost use Rattle.pm_words.specs.declared.refusal.Refusal.TheVariants.{Disk as AtDisk};
+
+    ghost from_gives = { λ refusal e. e ≡ AtDisk refusal };
+
+    fn from(refusal: DiskRefusal) -> Refusal {
+        Refusal::Disk(refusal)
+    }
+}
+
+impl From<ReaderFault> for Refusal {
+    ghost use Rattle.pm_words.specs.Refusals.{reader_refusal};
+
+    ghost from_gives = { λ fault e. e ≡ reader_refusal fault };
+
+    fn from(fault: ReaderFault) -> Refusal {
+        match fault {
+            ReaderFault::Compressed { file } => {
+                Refusal::Disk(DiskRefusal::Files(FilesRefusal::Compressed { file }))
+            }
+            ReaderFault::NotArchive { file, at } => {
+                Refusal::Disk(DiskRefusal::Files(FilesRefusal::NotArchive { file, at }))
+            }
+            ReaderFault::DiskFault => Refusal::Disk(DiskRefusal::DiskFault),
+            ReaderFault::NoMemory => Refusal::NoMemory,
+        }
+    }
+}
+
+impl From<RecoverFault> for Refusal {
+    ghost use Rattle.pm_words.specs.Refusals.{recover_refusal};
+
+    ghost from_gives = { λ fault e. e ≡ recover_refusal fault };
+
+    fn from(fault: RecoverFault) -> Refusal {
+        match fault {
+            RecoverFault::Compressed { file } => {
+                Refusal::Disk(DiskRefusal::Files(FilesRefusal::Compressed { file }))
+            }
+            RecoverFault::NotArchive { file, at } => {
+                Refusal::Disk(DiskRefusal::Files(FilesRefusal::NotArchive { file, at }))
+            }
+            RecoverFault::DiskFault => Refusal::Disk(DiskRefusal::DiskFault),
+            RecoverFault::NoMemory => Refusal::NoMemory,
+        }
+    }
+}
+
+/// A logger's fault, as a refusal.
+fn of_log(fault: LogFault) -> Refusal
+    ensures { result ≡ log_refusal fault }
+{
+    match fault {
+        LogFault::Large { bytes } => unlogged(ResultRefusal::Large { bytes }),
+        LogFault::NotLater { last } => unlogged(ResultRefusal::NotLater { last }),
+        LogFault::Changed { pmid } => unlogged(ResultRefusal::Changed { pmid }),
+        LogFault::Full { file, bytes } => unlogged(ResultRefusal::Full { file, bytes }),
+        LogFault::NoMemory => Refusal::NoMemory,
+        // No logger is closed before it logs.
+        LogFault::Closed | LogFault::DiskFault => Refusal::Disk(DiskRefusal::DiskFault),
+    }
+}
+
+fn unlogged(reason: ResultRefusal) -> Refusal
+    ensures { result ≡ Disk (Files (Unlogged reason)) }
+{
+    Refusal::Disk(DiskRefusal::Files(FilesRefusal::Unlogged(reason)))
+}
+
+impl From<RunFault> for Refusal {
+    ghost use Rattle.pm_words.specs.Refusals.{run_refusal};
+
+    ghost from_gives = { λ fault e. e ≡ run_refusal fault };
+
+    fn from(fault: RunFault) -> Refusal {
+        match fault {
+            RunFault::Recovery(fault) => Refusal::from(fault),
+            RunFault::Logging(fault) => of_log(fault),
+            RunFault::NoMemory => Refusal::NoMemory,
+        }
+    }
+}
+
+impl From<NoMemory> for Refusal {
+    ghost use Rattle.pm_words.specs.declared.refusal.Refusal.TheVariants.{NoMemory as Stopped};
+
+    ghost from_gives = { λ _ e. e ≡ Stopped };
+
+    fn from(_error: NoMemory) -> Refusal {
+        Refusal::NoMemory
+    }
+}
+
+impl Refusal {
+    /// The exit status.
+    pub fn status(&self) -> u8
+        ensures { result ≡ status_of self.now }
+    {
+        match self {
+            Refusal::Words(_) => 1,
+            Refusal::Reading(refusal) => refusal.status(),
+            Refusal::Input(refusal) => refusal.status(),
+            Refusal::Disk(refusal) => refusal.status(),
+            Refusal::NoMemory => 9,
+        }
+    }
+
+    // The last line, where making it takes memory.
+    fn numbered_line(&self, alloc: Global) -> Result<Option<Bytes>, NoMemory>
+        ensures line { IfOk result (λ line. line ≡ numbered_line_of self.now) }
+        ensures numbered { OnErr result (IsSome (numbered_line_of self.now)) }
+    {
+        match self {
+            Refusal::Words(usage) => {
+                let line = usage.line(alloc)?;
+                Ok(Some(line))
+            }
+            Refusal::Input(refusal) => {
+                let line = refusal.line(alloc)?;
+                Ok(Some(line))
+            }
+            Refusal::Disk(refusal) => refusal.numbered_line(alloc),
+            Refusal::Reading(_) | Refusal::NoMemory => Ok(None),
+        }
+    }
+
+    // The last line, where it is always the same.
+    fn plain_line(&self) -> &'static [u8]
+        ensures { result.now ≡ plain_line_of self.now }
+    {
+        match self {
+            Refusal::Reading(refusal) => refusal.line(),
+            Refusal::Disk(refusal) => refusal.plain_line(),
+            Refusal::Words(_) | Refusal::Input(_) | Refusal::NoMemory => b"",
+        }
+    }
+
+    /// Writes the last line; where the sink fails, a front of it. Want of memory comes only where the line
+    /// has a number, and then nothing is written.
+    pub fn tell<O: Sink>(&self, alloc: Global, out: &mut O) -> Result<(), NoMemory>
+        ensures wrote { O.tells → OnOk result (Wrote (O.faults out.old) (O.faults out.new) (O.written out.old) (O.written out.new) (line_of self.now)) }
+        ensures nothing { O.tells → OnErr result (O.written out.new ≡ O.written out.old) }
+        ensures numbered { OnErr result (IsSome (numbered_line_of self.now)) }
+    {
+        let line = self.numbered_line(alloc)?;
+        let bytes = match &line {
+            Some(text) => text.as_slice(),
+            None => self.plain_line(),
+        };
+        let _ = write_all(out, bytes);
+        Ok(())
+    }
+}

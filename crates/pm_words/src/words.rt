@@ -1,0 +1,289 @@
+//! The words of a command line, read as the command that they ask for.
+ghost use Rattle.std.specs.Prelude.{◌≡◌, ◌<◌, ◌≤◌, length, map, string_bytes, Ok, IfOk};
+ghost use Rattle.pcp_base.specs.Texts.{IsText};
+ghost use Rattle.pcp_base.specs.Time.{IsMoment};
+ghost use Rattle.pm_words.specs.CommandLine.{Reads, Gives, FitsCommand, command_of, end_then, once_of, image_command_of, archive_command_of, timed_command_of, stamp_then, at_of, range_of, value_of, second_of, microsecond_of, file_of, begins_with_dash, name_of, word_then};
+
+use crate::stage::{Stop, Usage};
+use pcp_base::{Bytes, List, NoMemory, Stamp, Text, TextError, is_component};
+use std::alloc::Global;
+use text_lines::read_number;
+
+/// What the words of a command line ask for.
+#[derive(Drop)]
+pub enum Command {
+    /// `once SEC USEC FILE`: log one result of an image.
+    Once(OnceWords),
+    /// `mmv-make`: make the image of a layout text.
+    MmvMake,
+    /// `mmv-dump`: write the layout text of an image.
+    MmvDump,
+    /// `dump`: write an archive's label and all its items.
+    Dump,
+    /// `info`: write an archive's descriptions.
+    Info,
+    /// `recover`: mend an archive that was stopped anywhere, and write how many items it has.
+    Recover,
+    /// `at SEC USEC`: write the last item that isn't after a moment.
+    At(Stamp),
+    /// `range SEC USEC SEC USEC`: write the items between two moments.
+    Range(Stamp, Stamp),
+    /// `value SEC USEC NAME`: write the values that a metric last had at a moment.
+    Value(ValueWords),
+}
+
+/// When the result is logged, and the region's name: one component of a name, of at most 63 bytes.
+#[derive(Drop)]
+pub struct OnceWords {
+    pub stamp: Stamp,
+    pub file: Text,
+}
+
+/// When values are asked for, and the metric's name, whatever its bytes.
+#[derive(Drop)]
+pub struct ValueWords {
+    pub stamp: Stamp,
+    pub name: Bytes,
+}
+
+impl From<usize> for Stop<Usage> {
+    ghost use Rattle.pm_words.specs.declared.stage.Stop.TheVariants.{Refused};
+
+    ghost from_gives = { λ at stop. stop ≡ Refused record { at = at } };
+
+    fn from(at: usize) -> Stop<Usage> {
+        Stop::Refused(Usage { at })
+    }
+}
+
+// The first word's seconds, below 2^31, and the words behind it.
+fn seconds_at(words: &[String], at: usize) -> Result<(u32, &[String]), usize>
+    ensures word { Gives (λ x. (x.0, map string_bytes x.1.now)) result (word_then second_of at (map string_bytes words.now)) }
+    ensures range { IfOk result (λ x. x.0 < 2147483648) }
+{
+    let [word, rest @ ..] = words else {
+        return Err(at);
+    };
+    match read_number(word.as_bytes()) {
+        Some(sec) if sec < 2_147_483_648 => Ok((sec as u32, rest)),
+        _ => Err(at),
+    }
+}
+
+// The first word's microseconds, below 1,000,000, and the words behind it.
+fn microseconds_at(words: &[String], at: usize) -> Result<(u32, &[String]), usize>
+    ensures word { Gives (λ x. (x.0, map string_bytes x.1.now)) result (word_then microsecond_of at (map string_bytes words.now)) }
+    ensures range { IfOk result (λ x. x.0 < 1000000) }
+{
+    let [word, rest @ ..] = words else {
+        return Err(at);
+    };
+    match read_number(word.as_bytes()) {
+        Some(usec) if usec < 1_000_000 => Ok((usec as u32, rest)),
+        _ => Err(at),
+    }
+}
+
+// The first word as a region's name, and the words behind it.
+#[tactic(auto, using(crate::proofs::Components::component_clean))]
+fn file_at(words: &[String], at: usize) -> Result<(&[u8], &[String]), usize>
+    ensures word { Gives (λ x. (x.0.now, map string_bytes x.1.now)) result (word_then file_of at (map string_bytes words.now)) }
+    ensures text { IfOk result (λ x. IsText x.0.now) }
+    ensures short { IfOk result (λ x. length x.0.now ≤ 63) }
+{
+    let [word, rest @ ..] = words else {
+        return Err(at);
+    };
+    let bytes = word.as_bytes();
+    if bytes.len() > 63 || !is_component(bytes) {
+        return Err(at);
+    }
+    Ok((bytes, rest))
+}
+
+// That there is no further word.
+fn end_at(words: &[String], at: usize) -> Result<(), usize>
+    ensures { Gives (λ x. x) result (end_then tt at (map string_bytes words.now)) }
+{
+    if words.is_empty() { Ok(()) } else { Err(at) }
+}
+
+#[tactic(auto, unfolding(crate::specs::CommandLine::once_of))]
+fn once_words(alloc: Global, words: &[String]) -> Result<Command, Stop<Usage>>
+    ensures command { Reads result (once_of (map string_bytes words.now)) }
+    ensures fits { IfOk result FitsCommand }
+{
+    let (sec, rest) = seconds_at(words, 1)?;
+    let (usec, rest) = microseconds_at(rest, 2)?;
+    let (name, rest) = file_at(rest, 3)?;
+    end_at(rest, 4)?;
+    let Some(stamp) = Stamp::build(sec, usec) else {
+        return Err(Stop::Refused(Usage { at: 2 }));
+    };
+    match Text::build(alloc, name) {
+        Ok(file) => Ok(Command::Once(OnceWords { stamp, file })),
+        Err(TextError::NoMemory) => Err(Stop::OutOfMemory),
+        Err(TextError::Zero(_)) => Err(Stop::Refused(Usage { at: 3 })),
+    }
+}
+
+// The first two words as a stamp's seconds and microseconds, and the words behind them.
+#[tactic(auto, unfolding(crate::specs::CommandLine::stamp_then))]
+fn moment_at(words: &[String], at: usize) -> Result<(u32, u32, &[String]), usize>
+    requires { at ≤ 3 }
+    ensures word { Gives (λ x. (record { sec = x.0; usec = x.1 }, map string_bytes x.2.now)) result (stamp_then at (map string_bytes words.now)) }
+    ensures range { IfOk result (λ x. IsMoment record { sec = x.0; usec = x.1 }) }
+{
+    let (sec, rest) = seconds_at(words, at)?;
+    let (usec, rest) = microseconds_at(rest, at + 1)?;
+    Ok((sec, usec, rest))
+}
+
+// The stamp of seconds and microseconds in their ranges.
+fn stamp_of(sec: u32, usec: u32) -> Result<Stamp, usize>
+    requires { IsMoment record { sec = sec; usec = usec } }
+    ensures { result ≡ Ok record { sec = sec; usec = usec } }
+{
+    match Stamp::build(sec, usec) {
+        Some(stamp) => Ok(stamp),
+        None => Err(0),
+    }
+}
+
+fn begins_with_dash(bytes: &[u8]) -> bool
+    ensures { result ≡ begins_with_dash bytes.now }
+{
+    match bytes {
+        [first, ..] => *first == b'-',
+        [] => false,
+    }
+}
+
+// The first word as a metric's name, and the words behind it. One that begins with `-` is bad.
+fn name_at(words: &[String], at: usize) -> Result<(&[u8], &[String]), usize>
+    ensures { Gives (λ x. (x.0.now, map string_bytes x.1.now)) result (word_then name_of at (map string_bytes words.now)) }
+{
+    let [word, rest @ ..] = words else {
+        return Err(at);
+    };
+    let bytes = word.as_bytes();
+    if begins_with_dash(bytes) {
+        return Err(at);
+    }
+    Ok((bytes, rest))
+}
+
+#[tactic(auto, unfolding(crate::specs::CommandLine::at_of))]
+fn at_words(words: &[String]) -> Result<Command, usize>
+    ensures command { Gives (λ command. command) result (at_of (map string_bytes words.now)) }
+    ensures fits { IfOk result FitsCommand }
+{
+    let (sec, usec, rest) = moment_at(words, 1)?;
+    end_at(rest, 3)?;
+    let stamp = stamp_of(sec, usec)?;
+    Ok(Command::At(stamp))
+}
+
+#[tactic(auto, unfolding(crate::specs::CommandLine::range_of))]
+fn range_words(words: &[String]) -> Result<Command, usize>
+    ensures command { Gives (λ command. command) result (range_of (map string_bytes words.now)) }
+    ensures fits { IfOk result FitsCommand }
+{
+    let (from_sec, from_usec, rest) = moment_at(words, 1)?;
+    let (to_sec, to_usec, rest) = moment_at(rest, 3)?;
+    end_at(rest, 5)?;
+    let from = stamp_of(from_sec, from_usec)?;
+    let to = stamp_of(to_sec, to_usec)?;
+    Ok(Command::Range(from, to))
+}
+
+fn bytes_of(alloc: Global, bytes: &[u8]) -> Result<Bytes, NoMemory>
+    ensures { IfOk result (λ copy. copy ≡ bytes.now) }
+{
+    let copy = Vec::from_slice(alloc, bytes)?;
+    Ok(List::from_vec(copy))
+}
+
+#[tactic(auto, unfolding(crate::specs::CommandLine::value_of))]
+fn value_words(alloc: Global, words: &[String]) -> Result<Command, Stop<Usage>>
+    ensures command { Reads result (value_of (map string_bytes words.now)) }
+    ensures fits { IfOk result FitsCommand }
+{
+    let (sec, usec, rest) = moment_at(words, 1)?;
+    let (name, rest) = name_at(rest, 3)?;
+    end_at(rest, 4)?;
+    let stamp = stamp_of(sec, usec)?;
+    let name = bytes_of(alloc, name)?;
+    Ok(Command::Value(ValueWords { stamp, name }))
+}
+
+// A command over images and their texts, which has no further word.
+fn image_words(name: &[u8], words: &[String]) -> Result<Command, usize>
+    ensures command { Gives (λ command. command) result (image_command_of name.now (map string_bytes words.now)) }
+    ensures fits { IfOk result FitsCommand }
+{
+    if name == b"mmv-make".as_slice() {
+        end_at(words, 1)?;
+        return Ok(Command::MmvMake);
+    }
+    if name == b"mmv-dump".as_slice() {
+        end_at(words, 1)?;
+        return Ok(Command::MmvDump);
+    }
+    Err(0)
+}
+
+// A command over an archive.
+fn archive_words(name: &[u8], words: &[String]) -> Result<Command, usize>
+    ensures command { Gives (λ command. command) result (archive_command_of name.now (map string_bytes words.now)) }
+    ensures fits { IfOk result FitsCommand }
+{
+    if name == b"dump".as_slice() {
+        end_at(words, 1)?;
+        return Ok(Command::Dump);
+    }
+    if name == b"info".as_slice() {
+        end_at(words, 1)?;
+        return Ok(Command::Info);
+    }
+    if name == b"recover".as_slice() {
+        end_at(words, 1)?;
+        return Ok(Command::Recover);
+    }
+    image_words(name, words)
+}
+
+// A command that asks an archive by time, or another.
+fn timed_words(alloc: Global, name: &[u8], words: &[String]) -> Result<Command, Stop<Usage>>
+    ensures command { Reads result (timed_command_of name.now (map string_bytes words.now)) }
+    ensures fits { IfOk result FitsCommand }
+{
+    if name == b"at".as_slice() {
+        let command = at_words(words)?;
+        return Ok(command);
+    }
+    if name == b"range".as_slice() {
+        let command = range_words(words)?;
+        return Ok(command);
+    }
+    if name == b"value".as_slice() {
+        return value_words(alloc, words);
+    }
+    let command = archive_words(name, words)?;
+    Ok(command)
+}
+
+/// The command that the words are, or the index of the first word that is bad or missing. A command that
+/// isn't known is bad at 0.
+pub fn read_words(alloc: Global, words: &[String]) -> Result<Command, Stop<Usage>>
+    ensures command { Reads result (command_of (map string_bytes words.now)) }
+    ensures fits { IfOk result FitsCommand }
+{
+    let [name, rest @ ..] = words else {
+        return Err(Stop::Refused(Usage { at: 0 }));
+    };
+    if name.as_bytes() == b"once".as_slice() {
+        return once_words(alloc, rest);
+    }
+    timed_words(alloc, name.as_bytes(), rest)
+}

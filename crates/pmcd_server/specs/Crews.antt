@@ -1,0 +1,56 @@
+-- All workers together: one for each seat and the door at its position.
+use Rattle.std.specs.Prelude.{◌≡◌, ◌≢◌, ◌⊎◌, ℕ, ◌+◌, ◌≤◌, List, [], ◌∷◌, length, map, sum_by, Result, Ok, Err}
+use Rattle.std.specs.List.{AllByRecursion, flat_map}
+use Rattle.fetch_engine.specs.declared.server.Mounted.{Mounted}
+use Rattle.pcp_outside.specs.Causes.{Rose}
+use Rattle.pcp_outside.specs.declared.doors.Door.{Ghosts}
+use Rattle.pmcd_server.specs.declared.fault.ServeFault.{ServeFault}
+use Rattle.pmcd_server.specs.declared.fault.ServeFault.TheVariants.{Accept, NoMemory}
+use Rattle.pmcd_server.specs.Draws.{AreBelow}
+use Rattle.pmcd_server.specs.Places.{Drawer}
+use Rattle.fetch_engine.specs.Servers.{Seated}
+use Rattle.pmcd_server.specs.Works.{HasDrawnAll, IsWork, Nowhere, Work}
+
+-- what each did with its seat and its door
+pub record AreWorks {P In Out Time : Type 0} (rows : List Mounted) (d : Ghosts P In Out Time) (count : ℕ) (seats : List Seated) (doors : List P) (works : List (Work P)) (seats_after : List Seated) (doors_after : List P) : Type 0 where
+  pub begin : seats ≡ map (λ w. w.seat) works
+  pub at : doors ≡ map (λ w. w.door) works
+  pub end : seats_after ≡ map (λ w. w.seat_after) works
+  pub leave : doors_after ≡ map (λ w. w.door_after) works
+  pub each : AllByRecursion (IsWork rows d count) works
+
+-- the places that they drew
+abbrev pub places_of : {P : Type 0} → List (Work P) → List ℕ
+places_of works = flat_map (λ w. w.places) works
+
+-- These places were drawn, and numbers beyond them all.
+pub record DrewAll {P : Type 0} (count : ℕ) (works : List (Work P)) (beyond : List ℕ) (before after : Drawer) : Type 0 where
+  pub word : after.word ≡ before.word
+  pub room : after.left + length after.drawn ≡ before.left + length before.drawn
+  pub drawn : (weigh : ℕ → ℕ) → sum_by weigh after.drawn ≡ sum_by weigh before.drawn + (sum_by weigh (places_of works) + sum_by weigh beyond)
+  pub far : AllByRecursion (λ n. count ≤ n) beyond
+  pub ends : AllByRecursion (λ w. HasDrawnAll count w.places beyond w.failure) works
+
+-- no door failed
+abbrev pub NoneFailed : {P : Type 0} → List (Work P) → Type 0
+NoneFailed works = AllByRecursion (λ w. w.failure ≡ Nowhere) works
+
+-- some door failed
+abbrev pub SomeFailed : {P : Type 0} → List (Work P) → Type 0
+SomeFailed [] = ⊥
+SomeFailed (w ∷ ws) = (w.failure ≢ Nowhere) ⊎ SomeFailed ws
+
+-- some door's count of faults rose
+abbrev pub SomeRose : {P In Out Time : Type 0} → Ghosts P In Out Time → List P → List P → Type 0
+SomeRose d [] after = ⊥
+SomeRose d (p ∷ ps) [] = ⊥
+SomeRose d (p ∷ ps) (q ∷ qs) = Rose (d.faults p) (d.faults q) ⊎ SomeRose d ps qs
+
+-- All places were drawn, and for each of them a session was served; or a door failed; or nothing was begun for want of memory.
+-- The places drawn are the numbers from 0 upwards, each once.
+abbrev pub HasServed : {P In Out Time : Type 0} → List Mounted → Ghosts P In Out Time → ℕ → List Seated → List P → List Seated → List P → Result ℕ ServeFault → Type 0
+HasServed {P} rows d count seats doors seats_after doors_after (Ok n) =
+    (n ≡ count) × (works : List (Work P)) × AreWorks rows d count seats doors works seats_after doors_after × NoneFailed works × AreBelow (places_of works) count
+HasServed {P} rows d count seats doors seats_after doors_after (Err Accept) =
+    (works : List (Work P)) × AreWorks rows d count seats doors works seats_after doors_after × SomeFailed works × (n : ℕ) × (n ≤ count) × AreBelow (places_of works) n
+HasServed rows d count seats doors seats_after doors_after (Err NoMemory) = (seats_after ≡ seats) × (doors_after ≡ doors)

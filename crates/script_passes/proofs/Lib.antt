@@ -1,0 +1,12 @@
+pub mod Counting
+pub mod Crewing
+pub mod Finals
+pub mod Gathering
+pub mod Idling
+pub mod OpeningHands
+pub mod OpeningServer
+pub mod Openings
+pub mod Placing
+pub mod Seated
+pub mod Sweeping
+pub mod Turning

@@ -1,0 +1,38 @@
+-- What opening a script's regions makes: each on its image, with fresh passes.
+use Rattle.std.specs.Prelude.{◌≡◌, ℕ, ◌+◌, ◌<◌, ◌≤◌, List, ◌++◌, length, map, slice_get, Option, Some}
+use Rattle.std.specs.Global.{Vec}
+use Rattle.region_rule.specs.Calls.{fresh_from}
+use Rattle.region_rule.specs.Seats.{Token}
+use Rattle.fetch_engine.specs.Servers.{Seated, IsSeated}
+use Rattle.fetch_engine.specs.declared.server.Mounted.{Mounted}
+use Rattle.run_script.specs.declared.script.RegionRow.{RegionRow}
+use Rattle.run_script.specs.declared.script.Script.{Script}
+use Rattle.script_passes.specs.declared.opening.Opened.{Opened}
+use Rattle.script_passes.specs.Crews.{ServesScript}
+
+-- each region has room for its own passes and a pass of each seat
+abbrev pub HaveRoom : List RegionRow → ℕ → Type 0
+HaveRoom rows seats = (i : ℕ) (row : RegionRow) → slice_get rows i ≡ Some row → row.passes + seats ≤ 256
+
+-- the pass of each seat in the region at a position
+abbrev pub passes_at : ℕ → List Seated → List (Option Token)
+passes_at j seats = map (λ seat. slice_get seat.tokens j) seats
+
+-- a region with its passes: those of the script have the first numbers, and those of the seats the last, by seat
+pub record IsMadeAt (seats : List Seated) (at : ℕ) (mounted : Mounted) (own : List Token) : Type 0 where
+  pub some : 0 < length own
+  pub passes : mounted.region.passes ≡ length own + length seats
+  pub seated : List Token
+  pub seats_are : map Some seated ≡ passes_at at seats
+  pub fresh : own ++ seated ≡ fresh_from mounted.region 0 (length own + length seats)
+
+-- the regions of a script with their passes and seats, in ascending cluster
+pub record AreMade (script : Script) (server : List Mounted) (passes : List (Vec Token)) (seats : List Seated) : Type 0 where
+  pub serves : ServesScript script (length seats) server
+  pub lists : length passes ≡ length server
+  pub seated : (s : ℕ) (seat : Seated) → slice_get seats s ≡ Some seat → IsSeated server seat.tokens
+  pub each : (j : ℕ) (mounted : Mounted) (own : Vec Token) → slice_get server j ≡ Some mounted → slice_get passes j ≡ Some own → IsMadeAt seats j mounted own.items
+
+pub record IsOpened (script : Script) (seats : ℕ) (opened : Opened) : Type 0 where
+  pub seats_are : length opened.seats.items ≡ seats
+  pub made : AreMade script opened.server opened.passes.items opened.seats.items

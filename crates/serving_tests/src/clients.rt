@@ -1,0 +1,198 @@
+//! Clients that come in over loopback.
+use pcp_base::List;
+use pcp_listening::serve_clients;
+use pcp_outside::{MemSink, SureSource};
+use pcp_system::TcpDoor;
+use pm_serving::run_serve;
+use std::alloc::{Alloc, AllocError, Global};
+use std::io::{Read, Write};
+use std::net::{Net, Shutdown, SocketAddr, TcpListener, TcpStream};
+use std::sync::Wait;
+use std::test::Fail;
+use std::thread::Threads;
+use std::time::Clock;
+use std::{io, thread};
+
+const SCRIPT: &[u8] = b"image D\nmmv 1 5 0 0 1\nindom 1 - -\ninstance 1 0 \"a\"\n\
+metric per 4 u32 counter 00100000 1 - -\nvalue 4 0 3\nend\nregion app D 64 3\nstart\n";
+
+// CREDS, then PROFILE, FETCH, DESC_REQ, INSTANCE_REQ, PMNS_NAMES, PMNS_CHILD and PMNS_TRAVERSE.
+const ASKED: &[u8] =
+    b"\x00\x00\x00\x14\x00\x00\x70\x0c\x00\x00\x00\x00\x00\x00\x00\x01\x01\x02\x00\x00\x00\x00\x00\x30\
+\x00\x00\x70\x02\x00\x00\x00\x00\x00\x00\x00\x00\x00\x00\x00\x00\x00\x00\x00\x01\x00\x00\x00\x00\
+\x11\x80\x04\x01\x00\x00\x00\x01\x00\x00\x00\x01\x00\x00\x00\x00\x00\x00\x00\x00\x00\x00\x00\x20\
+\x00\x00\x70\x03\x00\x00\x00\x00\x00\x00\x00\x00\x00\x00\x00\x00\x00\x00\x00\x00\x00\x00\x00\x01\
+\x11\x80\x04\x04\x00\x00\x00\x10\x00\x00\x70\x04\x00\x00\x00\x00\x11\x80\x04\x04\x00\x00\x00\x14\
+\x00\x00\x70\x06\x00\x00\x00\x00\x11\x80\x04\x01\xff\xff\xff\xff\x00\x00\x00\x24\x00\x00\x70\x0e\
+\x00\x00\x00\x00\x00\x00\x00\x00\x00\x00\x00\x01\x00\x00\x00\x0b\x6d\x6d\x76\x2e\x61\x70\x70\x2e\
+\x70\x65\x72\x00\x00\x00\x00\x14\x00\x00\x70\x0f\x00\x00\x00\x00\x00\x00\x00\x03\x6d\x6d\x76\x00\
+\x00\x00\x00\x14\x00\x00\x70\x10\x00\x00\x00\x00\x00\x00\x00\x03\x6d\x6d\x76\x00";
+
+// The greeting, and the RESULT up to its stamp.
+const FRONT: &[u8] =
+    b"\x00\x00\x00\x10\x00\x00\x70\x00\x00\x00\x00\x00\x00\x00\x00\x00\x00\x00\x00\x2c\x00\x00\x70\x01\
+\x00\x00\x00\x00";
+
+// The RESULT's set, and all other replies.
+const REST: &[u8] =
+    b"\x00\x00\x00\x01\x11\x80\x04\x04\x00\x00\x00\x01\x00\x00\x00\x00\x00\x00\x00\x00\x00\x00\x00\x03\
+\x00\x00\x00\x20\x00\x00\x70\x05\x00\x00\x00\x00\x11\x80\x04\x04\x00\x00\x00\x01\x11\x80\x04\x01\
+\x00\x00\x00\x01\x00\x10\x00\x00\x00\x00\x00\x20\x00\x00\x70\x07\x00\x00\x00\x00\x11\x80\x04\x01\
+\x00\x00\x00\x01\x00\x00\x00\x00\x00\x00\x00\x01\x61\x00\x00\x00\x00\x00\x00\x18\x00\x00\x70\x0d\
+\x00\x00\x00\x00\x00\x00\x00\x00\x00\x00\x00\x01\x11\x80\x04\x04\x00\x00\x00\x1c\x00\x00\x70\x0e\
+\x00\x00\x00\x00\x00\x00\x00\x00\x00\x00\x00\x01\x00\x00\x00\x03\x61\x70\x70\x00\x00\x00\x00\x24\
+\x00\x00\x70\x0e\x00\x00\x00\x00\x00\x00\x00\x00\x00\x00\x00\x01\x00\x00\x00\x0b\x6d\x6d\x76\x2e\
+\x61\x70\x70\x2e\x70\x65\x72\x00";
+
+// CREDS and DESC_REQ, which are answered by 48 bytes with the greeting.
+const KNOWN: &[u8] =
+    b"\x00\x00\x00\x14\x00\x00\x70\x0c\x00\x00\x00\x00\x00\x00\x00\x01\x01\x02\x00\x00\x00\x00\x00\x10\
+\x00\x00\x70\x04\x00\x00\x00\x00\x11\x80\x04\x04";
+
+fn words_of(alloc: Global, line: &str) -> Result<Vec<String>, AllocError> {
+    let mut words = Vec::new(alloc);
+    for word in line.split(' ') {
+        words.push(word.to_string(alloc)?)?;
+    }
+    Ok(words)
+}
+
+// Serves so many clients of a listener. Gives the output where that is done.
+fn serve_all<R: Threads + Wait + Clock + Send + Sync>(
+    rt: &R,
+    alloc: Global,
+    listener: &TcpListener,
+    line: &str,
+) -> Result<Option<Vec<u8>>, AllocError> {
+    let words = words_of(alloc, line)?;
+    let mut input = SureSource::new(List::from_vec(SCRIPT.to_vec(alloc)?));
+    let mut out = MemSink::new(alloc, List::empty(alloc));
+    let mut doors = [
+        TcpDoor::new(listener, rt),
+        TcpDoor::new(listener, rt),
+        TcpDoor::new(listener, rt),
+        TcpDoor::new(listener, rt),
+    ];
+    let mut served = None;
+    match run_serve(
+        rt,
+        alloc,
+        &words,
+        &mut input,
+        &mut out,
+        &mut doors,
+        &mut served,
+    ) {
+        0 => Ok(Some(out.bytes().to_vec(alloc)?)),
+        _ => Ok(None),
+    }
+}
+
+// Sends all requests, and reads all replies.
+fn ask_all<R: Net<Stream = TcpStream>>(
+    rt: &R,
+    alloc: Global,
+    address: SocketAddr,
+) -> io::Result<Vec<u8>> {
+    let mut client = TcpStream::connect(rt, address)?;
+    client.write_all(ASKED)?;
+    client.shutdown(Shutdown::Write)?;
+    let mut told = Vec::new(alloc);
+    client.read_to_end(&mut told)?;
+    Ok(told)
+}
+
+// Whether 48 bytes come in at most 1,000,000 tries.
+fn is_answered(client: &mut TcpStream) -> bool {
+    let mut buffer = [0u8; 64];
+    let mut had = 0usize;
+    for _ in 0..1_000_000 {
+        match client.read(&mut buffer) {
+            Ok(0) => return false,
+            Ok(count) => had = had.saturating_add(count),
+            Err(_) => thread::yield_now(),
+        }
+        if had >= 48 {
+            return true;
+        }
+    }
+    false
+}
+
+// Whether a second client is answered while a first one, which was answered, has its connection open.
+fn ask_beside<R: Net<Stream = TcpStream>>(rt: &R, address: SocketAddr) -> io::Result<bool> {
+    let mut first = TcpStream::connect(rt, address)?;
+    let mut second = TcpStream::connect(rt, address)?;
+    first.write_all(KNOWN)?;
+    let mut told = [0u8; 48];
+    first.read_exact(&mut told)?;
+    second.write_all(KNOWN)?;
+    second.set_nonblocking(true)?;
+    Ok(is_answered(&mut second))
+}
+
+#[test]
+fn a_client_is_answered(rt: HostRuntime) -> Result<(), Fail> {
+    let alloc = rt.alloc();
+    let listener = TcpListener::bind(&rt, "127.0.0.1:0")?;
+    let address = listener.local_addr()?;
+    let (told, output) = thread::join(
+        &rt,
+        || ask_all(&rt, alloc, address),
+        || serve_all(&rt, alloc, &listener, "serve 1"),
+    );
+    let told = told?;
+    assert_eq!(rt; told.get(..28), Some(FRONT));
+    assert_eq!(rt; told.get(36..), Some(REST));
+    let output = output?;
+    assert_eq!(rt; output.as_deref(), Some(b"served 1\n".as_slice()));
+    Ok(())
+}
+
+#[test]
+fn two_sessions(rt: HostRuntime) -> Result<(), Fail> {
+    let alloc = rt.alloc();
+    let listener = TcpListener::bind(&rt, "127.0.0.1:0")?;
+    let address = listener.local_addr()?;
+    let (answered, output) = thread::join(
+        &rt,
+        || ask_beside(&rt, address),
+        || serve_all(&rt, alloc, &listener, "serve 2"),
+    );
+    assert_eq!(rt; answered?, true);
+    let output = output?;
+    assert_eq!(rt; output.as_deref(), Some(b"served 2\n".as_slice()));
+    Ok(())
+}
+
+// What `serve` at this port answers and writes.
+fn serve_at_port<R>(rt: &R, alloc: Global, port: u16) -> Result<(u8, Vec<u8>), AllocError>
+where
+    R: Net<Listener = TcpListener, Stream = TcpStream>
+        + Threads
+        + Wait
+        + Clock
+        + Alloc<A = Global>
+        + Send
+        + Sync,
+{
+    let line = format!(in alloc; "serve {port} 1")?;
+    let words = words_of(alloc, line.as_str())?;
+    let mut input = SureSource::new(List::from_vec(SCRIPT.to_vec(alloc)?));
+    let mut out = MemSink::new(alloc, List::empty(alloc));
+    let status = serve_clients(rt, &words, &mut input, &mut out);
+    Ok((status, out.bytes().to_vec(alloc)?))
+}
+
+#[test]
+fn a_port_must_be_free(rt: HostRuntime) -> Result<(), Fail> {
+    let alloc = rt.alloc();
+    let listener = TcpListener::bind(&rt, "127.0.0.1:0")?;
+    let (status, written) = serve_at_port(&rt, alloc, listener.local_addr()?.port())?;
+    assert_eq!(rt; status, 22);
+    assert_eq!(rt; written.as_slice(), b"listen fault\n".as_slice());
+    let (status, written) = serve_at_port(&rt, alloc, 0)?;
+    assert_eq!(rt; status, 1);
+    assert_eq!(rt; written.as_slice(), b"usage 1\n".as_slice());
+    Ok(())
+}
