@@ -45,7 +45,8 @@ fn call(
     sink: &mut PieceSink,
     disk: &mut MemDisk,
 ) -> u8 {
-    offline(alloc, words, source, sink, disk)
+    let mut opened = None;
+    offline(alloc, words, source, sink, disk, &mut opened)
 }
 
 // Puts the status and the output.

@@ -63,7 +63,8 @@ fn recover(alloc: Global, disk: &mut MemDisk) -> Result<Vec<u8>, NoMemory> {
     words.push(String::from_str(alloc, "recover")?)?;
     let mut source = MemSource::new(List::empty(alloc), List::empty(alloc));
     let mut sink = MemSink::new(alloc, List::empty(alloc));
-    let _status = offline(alloc, &words, &mut source, &mut sink, disk);
+    let mut opened = None;
+    let _status = offline(alloc, &words, &mut source, &mut sink, disk, &mut opened);
     Ok(sink.bytes().to_vec(alloc)?)
 }
 

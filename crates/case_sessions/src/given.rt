@@ -3,10 +3,12 @@ use case_book::{Kept, Line, Words};
 use pcp_base::{NoMemory, Stamp};
 use std::alloc::Global;
 
-/// The text of a script, whose regions are served; the moments of the clock; and the calls that fail, by their numbers.
+/// The text of a script, whose regions are served; the place, in ascending cluster, of the region that is in change meanwhile, to the
+/// script's last image; the moments of the clock; and the calls that fail, by their numbers.
 #[derive(Drop)]
 pub struct Given {
     pub script: Vec<u8>,
+    pub changed: Option<u32>,
     pub moments: Vec<Stamp>,
     pub source_fails: Vec<u64>,
     pub sink_fails: Vec<u64>,
@@ -17,6 +19,7 @@ impl Given {
     pub fn new(alloc: Global) -> Given {
         Given {
             script: Vec::new(alloc),
+            changed: None,
             moments: Vec::new(alloc),
             source_fails: Vec::new(alloc),
             sink_fails: Vec::new(alloc),
@@ -48,6 +51,12 @@ impl Given {
         Ok(true)
     }
 
+    // `change N`: the region at a place, from 0 on.
+    fn set_changed(&mut self, mut words: Words<'_>) -> Result<bool, NoMemory> {
+        self.changed = words.number();
+        Ok(self.changed.is_some())
+    }
+
     // `serve LITERAL`
     fn set_script(&mut self, alloc: Global, kept: &Kept, rest: &str) -> Result<bool, NoMemory> {
         match kept.read(alloc, rest)? {
@@ -68,6 +77,7 @@ impl Given {
     ) -> Result<bool, NoMemory> {
         match line.word {
             "serve" => self.set_script(alloc, kept, line.rest),
+            "change" => self.set_changed(Words::of(line.rest)),
             "moment" => self.add_moment(Words::of(line.rest)),
             "fail" => self.add_fail(Words::of(line.rest)),
             _ => Ok(false),

@@ -1,8 +1,10 @@
 //! Sessions, and what came of them.
+ghost use Rattle.std.specs.Prelude.{IfSome};
 ghost use Rattle.fetch_engine.specs.Servers.{IsSeated};
+ghost use Rattle.case_sessions.specs.Openings.{CanChange};
 
 use crate::given::Given;
-use crate::opening::open;
+use crate::opening::{Changer, Opening, open};
 use case_book::Words;
 use case_outside::PieceSource;
 use fetch_engine::Server;
@@ -65,41 +67,88 @@ fn serve(
     Ok(told)
 }
 
-// A session over regions that are opened for it; None where the script is none.
+// Serves a session while a region is in change. None where no change begins.
+fn serve_beside(
+    alloc: Global,
+    server: &Server,
+    seat: &mut SessionSeat,
+    changer: Changer,
+    given: &Given,
+    input: &[u8],
+    most: usize,
+) -> Result<Option<Vec<u8>>, NoMemory>
+    requires seated { IsSeated server.now seat.old.tokens }
+    requires changer { CanChange server.now changer }
+    ensures seated { IsSeated server.now seat.new.tokens }
+{
+    let Some(region) = server.region(changer.at) else {
+        return Ok(None);
+    };
+    match region.begin_change(changer.pass, changer.image, 0) {
+        Ok(change) => {
+            let told = serve(alloc, server, seat, given, input, most);
+            let _pass = change.finish(region);
+            Ok(Some(told?))
+        }
+        Err(_) => Ok(None),
+    }
+}
+
+// Serves a first session, beside a change where one is asked for. None where no change begins.
+fn serve_first(
+    alloc: Global,
+    server: &Server,
+    seat: &mut SessionSeat,
+    changer: Option<Changer>,
+    given: &Given,
+    input: &[u8],
+    most: usize,
+) -> Result<Option<Vec<u8>>, NoMemory>
+    requires seated { IsSeated server.now seat.old.tokens }
+    requires changer { IfSome changer (CanChange server.now) }
+    ensures seated { IsSeated server.now seat.new.tokens }
+{
+    match changer {
+        Some(changer) => serve_beside(alloc, server, seat, changer, given, input, most),
+        None if given.changed.is_some() => Ok(None),
+        None => Ok(Some(serve(alloc, server, seat, given, input, most)?)),
+    }
+}
+
+// A session over regions that are opened for it, or two on one seat over the same input, the second behind the change.
+// None where the script is none, or no change begins that is asked for.
 fn served(
     alloc: Global,
     given: &Given,
     input: &[u8],
     most: usize,
+    is_again: bool,
 ) -> Result<Option<Vec<u8>>, NoMemory> {
-    let Some((server, mut seat)) = open(alloc, &given.script)? else {
+    let Some(opening) = open(alloc, &given.script, given.changed)? else {
         return Ok(None);
     };
-    Ok(Some(serve(alloc, &server, &mut seat, given, input, most)?))
-}
-
-// `session N again`: two sessions one after another on one seat, over the same input.
-fn served_twice(
-    alloc: Global,
-    given: &Given,
-    input: &[u8],
-    most: usize,
-) -> Result<Option<Vec<u8>>, NoMemory> {
-    let Some((server, mut seat)) = open(alloc, &given.script)? else {
+    let Opening {
+        server,
+        mut seat,
+        changer,
+    } = opening;
+    let first = serve_first(alloc, &server, &mut seat, changer, given, input, most)?;
+    let Some(mut told) = first else {
         return Ok(None);
     };
-    let mut told = serve(alloc, &server, &mut seat, given, input, most)?;
-    told.extend_from_slice(&serve(alloc, &server, &mut seat, given, input, most)?)?;
+    if is_again {
+        told.extend_from_slice(&serve(alloc, &server, &mut seat, given, input, most)?)?;
+    }
     Ok(Some(told))
 }
 
 // `session each`: the same is told however many bytes come at once; else at which number it differs.
 fn served_each(alloc: Global, given: &Given, input: &[u8]) -> Result<Option<Vec<u8>>, NoMemory> {
-    let Some(first) = served(alloc, given, input, 1)? else {
+    let Some(first) = served(alloc, given, input, 1, false)? else {
         return Ok(None);
     };
     for most in 2..input.len().saturating_add(1) {
-        let told = served(alloc, given, input, most)?;
+        let told = served(alloc, given, input, most, false)?;
         if told.as_deref() != Some(first.as_slice()) {
             return Ok(Some(format!(in alloc; "differs in pieces of {most}\n")?.into_bytes()));
         }
@@ -111,7 +160,7 @@ fn served_each(alloc: Global, given: &Given, input: &[u8]) -> Result<Option<Vec<
 fn served_torn(alloc: Global, given: &Given, input: &[u8]) -> Result<Option<Vec<u8>>, NoMemory> {
     let mut out = Vec::new(alloc);
     for count in 0..input.len() {
-        let Some(told) = served(alloc, given, input.get(..count).unwrap_or(input), 5)? else {
+        let Some(told) = served(alloc, given, input.get(..count).unwrap_or(input), 5, false)? else {
             return Ok(None);
         };
         let length = told.iter().position(|byte| *byte == 10).unwrap_or(0);
@@ -141,8 +190,8 @@ pub fn tell_session(
         return Ok(None);
     };
     match words.next() {
-        "" => served(alloc, given, input, most),
-        "again" => served_twice(alloc, given, input, most),
+        "" => served(alloc, given, input, most, false),
+        "again" => served(alloc, given, input, most, true),
         _ => Ok(None),
     }
 }

@@ -23,7 +23,8 @@ fn run<D: Disk>(alloc: Global, line: &str, input: &[u8], disk: &mut D) -> Result
     }
     let mut source = SureSource::new(List::from_vec(input.to_vec(alloc)?));
     let mut sink = MemSink::new(alloc, List::empty(alloc));
-    match offline(alloc, &words, &mut source, &mut sink, disk) {
+    let mut opened = None;
+    match offline(alloc, &words, &mut source, &mut sink, disk, &mut opened) {
         0 => Ok(sink.bytes().to_vec(alloc)?),
         _ => Err(Fail::new("the run failed")),
     }

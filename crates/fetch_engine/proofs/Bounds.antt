@@ -2,6 +2,7 @@
 use Rattle.std.proofs.Common.{◌≡◌, ℕ, zero, suc, ◌+◌, ◌<◌, ◌≤◌, Bool, true, false, List, [], ◌∷◌, length, Some, None, sym, subst, refl, arith, cond, nat_eq, nat_le, All}
 use Rattle.std.proofs.lemmas.List.Elements.{All-append}
 use Rattle.mmv_format.specs.Fields.{number64, text_at, byte_at}
+use Rattle.mmv_format.specs.declared.rows.Content.{Content}
 use Rattle.mmv_format.specs.declared.rows.Content.TheVariants.{Number, Choice, Raw}
 use Rattle.mmv_format.specs.declared.rows.ValueRow.{ValueRow}
 use Rattle.mmv_format.specs.Sizes.{string_size}
@@ -13,6 +14,7 @@ use Rattle.mmv_format.proofs.Below.{both_left, both_right}
 use Rattle.mmv_layout.specs.Rows.{list_below, metric_row, metrics_of, serial_of, content_of, value_row, values_of, string_text, type_of, layout_of}
 use Rattle.mmv_layout.proofs.Goods.{le_of, eq_of, some_at, or_right, good_metric, good_indom}
 use Rattle.fetch_engine.specs.Bounds.{FitsSerial, FitsMetric, FitsContent, IsBounded}
+use Rattle.fetch_engine.specs.Numbers.{content_at}
 
 -- rows of which each fits all fit
 all_rows : {X : Type 0} (P : X → Type 0) (n : ℕ) (row : ℕ → X) → ((i : ℕ) → i < n → P (row i)) → All P (list_below n row)
@@ -24,7 +26,7 @@ all_rows {X = X} P (suc n) row each = All-append P (list_below n row) (row n ∷
     one x fits zero d h = fits
     one x fits (suc k) d h = absurd (omega arith)
 
-text_length : (words : List ℕ) (at n : ℕ) → length (text_at words at n) ≤ n
+pub text_length : (words : List ℕ) (at n : ℕ) → length (text_at words at n) ≤ n
 unfolding text_at
 text_length words at zero = omega arith
 text_length words at (suc n) = here (nat_eq (byte_at words at) 0) (text_length words (at + 1) n)
@@ -78,6 +80,10 @@ content_fits words value = here (nat_le (type_of words value) 3) (nat_eq (type_o
     here false true = text_length words (extra_in_value words value) string_size
     here false false = tt
 
+-- the content in a row
+pub fits_at : (words : List ℕ) (number : ℕ) (content : Content) → content ≡ content_at words number → FitsContent content
+fits_at words number content is = subst FitsContent (sym is) (content_fits words (value_at words number))
+
 metrics_fit : (words : List ℕ) → is_image words ≡ true → All FitsMetric (metrics_of words)
 unfolding metrics_of
 metrics_fit words h = all_rows FitsMetric (metric_count words) (λ i. metric_row words (metric_at words i)) (λ i below. metric_fits words i h below)
@@ -86,7 +92,7 @@ values_fit : (words : List ℕ) → All (λ (row : ValueRow). FitsContent row.co
 unfolding values_of value_row
 values_fit words = all_rows (λ (row : ValueRow). FitsContent row.content) (value_count words) (λ i. value_row words (value_at words i)) (λ i below. content_fits words (value_at words i))
 
-whole : (words : List ℕ) → is_image words ≡ true → IsBounded (layout_of words)
+pub whole : (words : List ℕ) → is_image words ≡ true → IsBounded (layout_of words)
 unfolding layout_of
 whole words h = record { metrics = metrics_fit words h; values = values_fit words }
 

@@ -1,4 +1,4 @@
--- Tables of metrics and values by item, as they grow row by row.
+-- Tables of metrics by item, as they grow row by row.
 use Rattle.std.proofs.Common.{◌≡◌, ℕ, ℤ, Bool, true, false, List, [], ◌∷◌, ◌++◌, ◌+◌, ◌<◌, length, take, get_or, Option, Some, None, is_some, ap, sym, subst, ◌∙◌, refl, cond, nat_eq, All, fold, suc, arith}
 use Rattle.std.specs.Prelude.{IfSome}
 use Rattle.std.specs.List.{find}
@@ -17,7 +17,7 @@ use Rattle.mmv_format.specs.declared.rows.MetricRow.{MetricRow}
 use Rattle.mmv_format.specs.declared.rows.ValueRow.{ValueRow}
 use Rattle.fetch_engine.specs.Answers.{metric_with}
 use Rattle.fetch_engine.specs.Bounds.{FitsContent, FitsMetric}
-use Rattle.fetch_engine.specs.Indexes.{entries_at, HasMetrics, HasValues}
+use Rattle.fetch_engine.specs.Indexes.{HasMetrics}
 use Rattle.fetch_engine.specs.Values.{instance_in, with_value, values_with}
 
 none_is : {X : Type 0} (o : Option X) → option_or o None ≡ o
@@ -57,26 +57,6 @@ metrics_step old new rows k row d below is has keeps item =
     ∙ ap (λ (s : MetricRow). metric_with item (take k rows ++ s ∷ [])) is
     ∙ ap (metric_with item) (sym (take_more rows k d below))
 
--- a value that was kept is among those of its item
-pub value_kept : (old mid new : BTreeMap ℕ (BTreeMap ℤ Content)) (values more : BTreeMap ℤ Content) (row : ValueRow) → values.entries ≡ entries_at (get nat_cmp old row.item)
-    → ((other : ℕ) → nat_eq row.item other ≡ false → get nat_cmp mid other ≡ get nat_cmp old other) → more.entries ≡ insert_entry int_cmp values.entries (instance_in row) row.content
-    → ((q : ℕ) → get nat_cmp new q ≡ cond (is_eq (nat_cmp row.item q)) (Some more) (get nat_cmp mid q))
-    → (item : ℕ) → entries_at (get nat_cmp new item) ≡ with_value item (entries_at (get nat_cmp old item)) row
-value_kept old mid new values more row taken others added after item =
-    ap entries_at (after item) ∙ ap (λ b. entries_at (cond b (Some more) (get nat_cmp mid item))) (sym (unsigned_ties row.item item)) ∙ here (nat_eq row.item item) refl
-  where
-    here : (b : Bool) → nat_eq row.item item ≡ b → entries_at (cond b (Some more) (get nat_cmp mid item)) ≡ cond b (insert_entry int_cmp (entries_at (get nat_cmp old item)) (instance_in row) row.content) (entries_at (get nat_cmp old item))
-    here true e =
-        added ∙ ap (λ es. insert_entry int_cmp es (instance_in row) row.content) (taken ∙ ap (λ k. entries_at (get nat_cmp old k)) (eqb-true row.item item e))
-    here false e = ap entries_at (others item e)
-
--- the next of many values
-pub values_step : (old new : BTreeMap ℕ (BTreeMap ℤ Content)) (rows : List ValueRow) (k : ℕ) (row d : ValueRow) → k < length rows → row ≡ get_or rows k d → HasValues old (take k rows)
-    → ((item : ℕ) → entries_at (get nat_cmp new item) ≡ with_value item (entries_at (get nat_cmp old item)) row) → HasValues new (take (k + 1) rows)
-values_step old new rows k row d below is has keeps item =
-    keeps item ∙ ap (λ es. with_value item es row) (has item) ∙ ap (with_value item (values_with item (take k rows))) is
-    ∙ sym (fold_more (with_value item) [] rows k d below)
-
 -- what holds of each item holds of the one that is found
 pub find_fits : {X : Type 0} (P : X → Type 0) (p : X → Bool) (xs : List X) → All P xs → IfSome (find p xs) P
 find_fits P p [] h = tt
@@ -88,19 +68,3 @@ find_fits P p (x ∷ xs) h = here (p x) (h 0 x (omega arith)) (find_fits P p xs 
 
 pub metric_fits : (item : ℕ) (rows : List MetricRow) (found : Option MetricRow) → All FitsMetric rows → found ≡ metric_with item rows → IfSome found FitsMetric
 metric_fits item rows found fit is = subst (λ (o : Option MetricRow). IfSome o FitsMetric) (sym is) (find_fits FitsMetric (λ (m : MetricRow). nat_eq m.item item) rows fit)
-
-kept_fit : (item : ℕ) (values : List (ℤ × Content)) (rows : List ValueRow) → All FitsContent (values_of values) → All (λ (row : ValueRow). FitsContent row.content) rows → All FitsContent (values_of (fold (with_value item) values rows))
-kept_fit item values [] v r = v
-kept_fit item values (row ∷ rows) v r = kept_fit item (with_value item values row) rows (here (nat_eq row.item item)) (λ k d below. r (suc k) d (omega arith))
-  where
-    here : (b : Bool) → All FitsContent (values_of (cond b (insert_entry int_cmp values (instance_in row) row.content) values))
-    here true = All-values-insert_entry int_cmp (instance_in row) row.content FitsContent values v (r 0 row (omega arith))
-    here false = v
-
-none_fit : All FitsContent []
-none_fit k d below = absurd (omega arith)
-
-pub values_fit : (item : ℕ) (rows : List ValueRow) (found : Option (BTreeMap ℤ Content)) → All (λ (row : ValueRow). FitsContent row.content) rows → entries_at found ≡ values_with item rows
-    → IfSome found (λ (values : BTreeMap ℤ Content). All FitsContent (values_of values.entries))
-values_fit item rows None fit is = tt
-values_fit item rows (Some values) fit is = subst (λ (es : List (ℤ × Content)). All FitsContent (values_of es)) (sym is) (kept_fit item [] rows none_fit fit)

@@ -1,5 +1,5 @@
 -- What tries of reading a region tell of its journal.
-use Rattle.std.proofs.Common.{◌≡◌, ◌⊎◌, inl, inr, ℕ, zero, suc, ◌+◌, ◌<◌, ◌≤◌, List, [], ◌∷◌, ◌++◌, length, slice_index, Contains, Some, None, append-nil, length-append, sym, refl, ap, ◌∙◌, subst, arith}
+use Rattle.std.proofs.Common.{◌≡◌, ◌⊎◌, inl, inr, ℕ, zero, suc, ◌+◌, ◌<◌, ◌≤◌, List, [], ◌∷◌, ◌++◌, length, slice_index, Contains, Option, Some, None, append-nil, length-append, sym, refl, ap, ◌∙◌, subst, arith}
 use Rattle.mmv_format.specs.declared.rows.Slot.{Slot}
 use Rattle.mmv_layout.specs.Form.{slots_of}
 use Rattle.mmv_layout.specs.Rows.{layout_of}
@@ -18,6 +18,8 @@ use Rattle.region_rule.proofs.Showing.{Follows, follows_reads, reads_more, numbe
 use Rattle.region_words.specs.Calls.{Loads}
 use Rattle.region_words.specs.Images.{mmv}
 use Rattle.region_words.proofs.Inside.{slots_below}
+use Rattle.std.specs.Prelude.{option_map}
+use Rattle.fetch_engine.specs.Kept.{ShowsTold, TryFails, TryStays}
 use Rattle.fetch_engine.specs.Visits.{ShowsLayout, ShowsAtOnce, IsRefused, AreRefused, IsLoaded, IsReadBy, MissesAreMissed, ReadIsShown}
 
 -- Loads
@@ -50,7 +52,7 @@ refused_more (suc n) v u w h r = (h.0, h.1, refused_more n h.0 u w h.2 r)
 -- Journals
 
 -- what is told of a later view is told of an earlier one of the same pass
-opening_same : (v u : View) → Follows v u → opening_of u ≡ opening_of v
+pub opening_same : (v u : View) → Follows v u → opening_of u ≡ opening_of v
 opening_same v u f = λ j. opening (f.start j) (f.passes j)
 
 longer_seen : (v u : View) → Follows v u → length v.seen ≤ length u.seen
@@ -87,7 +89,7 @@ pub misses_are_missed : MissesAreMissed
 misses_are_missed v w h = again_times 3 v w h
 
 -- what is shown since a later position is shown since an earlier one
-shown_since : (v u w : View) (reading : Reading mmv) → Follows v u → ShowsIn mmv u reading w → ShowsIn mmv v reading w
+pub shown_since : (v u w : View) (reading : Reading mmv) → Follows v u → ShowsIn mmv u reading w → ShowsIn mmv v reading w
 shown_since v u w reading f s =
     let moved : Shown mmv (opening_of v) w.seen (length u.seen) v.number reading =
     subst (λ (t : State). Shown mmv t w.seen (length u.seen) v.number reading) (opening_same v u f)
@@ -178,9 +180,9 @@ pub record HasFailed (n : ℕ) (a b : Token) : Type 0 where
 pub none_failed : (a : Token) → HasFailed 0 a a
 none_failed a = record { tried = inl (refl, refl); refused = refl; loaded = unloaded a }
 
-fails_again : (n : ℕ) (a b c : Token) (first last : ℕ) → HasFailed n a b → ReadsAgain mmv b.view first last c.view → IsSame Idle Idle b c → HasFailed (n + 1) a c
-fails_again n a b c first last f r s =
-    let refused : IsRefused b.view c.view = refuses b.view c.view first last r in
+-- one more try, of whichever kind
+pub fails_try : (n : ℕ) (a b c : Token) → HasFailed n a b → IsRefused b.view c.view → IsSame Idle Idle b c → HasFailed (n + 1) a c
+fails_try n a b c f refused s =
     let loads : IsLoaded b c = record { region = s.region; loads = whole_loads b.view c.view refused.first refused.last refused.found refused.loads } in
     let next : suc n ≡ n + 1 = omega arith in
     let more : AreRefused (suc n) a.view c.view = refused_more n a.view b.view c.view f.refused refused in
@@ -189,6 +191,9 @@ fails_again n a b c first last f r s =
       refused = subst (λ (k : ℕ). AreRefused k a.view c.view) next more;
       loaded = loaded_trans a b c f.loaded loads;
     }
+
+fails_again : (n : ℕ) (a b c : Token) (first last : ℕ) → HasFailed n a b → ReadsAgain mmv b.view first last c.view → IsSame Idle Idle b c → HasFailed (n + 1) a c
+fails_again n a b c first last f r s = fails_try n a b c f (refuses b.view c.view first last r) s
 
 pub fails_so : (n : ℕ) (a b c : Token) (fault : ReadFault) (first last : ℕ) → HasFailed n a b → ReadsNot mmv b.view c.view fault → StaysIdle b c fault → fault ≡ Again first last → HasFailed (n + 1) a c
 fails_so n a b c fault first last f r s is =
@@ -206,6 +211,18 @@ succeeds n a b c words few f r s = record {
   stays = tried_more n a b c f.tried s;
   loaded = shown_loaded n a b c words f r s;
 }
+
+pub shows_told : (n : ℕ) (a b c : Token) (kept : Option (List ℕ)) → n < 3 → HasFailed n a b → ShowsTold b.view kept c.view → IsSame Idle Idle b c → IsReadBy a (option_map layout_of kept) c
+shows_told n a b c None few f shows s = absurd shows
+shows_told n a b c (Some words) few f shows s = record {
+  read = (n, few, b.view, f.refused, shows);
+  stays = tried_more n a b c f.tried s;
+  loaded = loaded_trans a b c f.loaded (record { region = s.region; loads = whole_loads b.view c.view shows.generation shows.generation shows.found shows.loads });
+}
+
+pub fails_by : (n : ℕ) (a b c : Token) (fault : ReadFault) (first last : ℕ) → HasFailed n a b → TryFails b.view c.view fault → TryStays b c fault → fault ≡ Again first last → HasFailed (n + 1) a c
+fails_by n a b c fault first last f r s is =
+    fails_try n a b c f (subst (λ (x : ReadFault). TryFails b.view c.view x) is r) (subst (λ (x : ReadFault). TryStays b c x) is s)
 
 pub gives_up : (a b : Token) → HasFailed 3 a b → IsReadBy a None b
 gives_up a b f = record { read = f.refused; stays = tried_thrice f.tried; loaded = f.loaded }

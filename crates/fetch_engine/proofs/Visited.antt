@@ -16,7 +16,7 @@ use Rattle.fetch_engine.specs.Answers.{answer_of, facts_of}
 use Rattle.fetch_engine.specs.Names.{names_of, missed_of, with_region, with_missed}
 use Rattle.fetch_engine.specs.Readings.{Reading, reading_of, AreInOrder, AscendFrom}
 use Rattle.fetch_engine.specs.Servers.{IsServer, IsSeated, RowsAscendFrom, regions_of}
-use Rattle.fetch_engine.specs.Visits.{IsReadBy, Visit, IsVisit, AreRead, IsLoaded, AreLoaded, AreNamed, IsFetched, IsReadAt, IsReadIf, IsReadFor, lies_in}
+use Rattle.fetch_engine.specs.Visits.{IsReadBy, Visit, IsVisit, AreRead, IsLoaded, AreLoaded, AreNamed, IsAnswered, IsFetched, IsReadAt, IsReadIf, IsReadFor, lies_in}
 use Rattle.fetch_engine.specs.declared.server.Mounted.{Mounted}
 use Rattle.fetch_engine.specs.declared.shot.Shot.{Shot}
 use Rattle.fetch_engine.proofs.Places.{is_there, is_here}
@@ -131,6 +131,14 @@ one_read i rows olds news shots shot before row after more h seated below before
     (one_more_read i rows olds news shots shot before row after h below (omega arith) (file ∙ ap (λ (r : Mounted). r.file) row_is) (cluster ∙ ap (λ (r : Mounted). r.cluster) row_is)
     (subst (λ (t : Token). IsReadBy t (option_map layout_of shot.image) after) before_is read))
 
+-- what was read of the next region is put in its place
+pub next_read : (i : ℕ) (rows : List Mounted) (olds news : List Token) (shots : List Shot) (shot : Shot) (before : Token) (row : Mounted) (after : Token)
+    → HasRead i rows olds news (map reading_of (take i shots)) → IsSeated rows olds → i < length rows → i < length shots → before ≡ get_or news i before → row ≡ get_or rows i row
+    → shot.file ≡ row.file → shot.cluster ≡ row.cluster → IsReadBy before (option_map layout_of shot.image) after
+    → HasRead (i + 1) rows olds (set news i after) (map reading_of (take (i + 1) (set shots i shot)))
+next_read i rows olds news shots shot before row after h seated below there before_is row_is file cluster read =
+    one_read i rows olds news (take i shots) shot before row after (take (i + 1) (set shots i shot)) h seated below before_is row_is file cluster read (take_more_set shots i shot there)
+
 -- all were read
 pub all_read : (rows : List Mounted) (olds news : List Token) (readings : List Reading) → length olds ≡ length rows → HasRead (length rows) rows olds news readings → AreRead rows olds readings news
 all_read rows olds news readings many h =
@@ -138,6 +146,11 @@ all_read rows olds news readings many h =
     subst (λ (xs : List Mounted). AreRead xs olds readings news) (take_all (length rows) rows (omega arith))
     (subst (λ (xs : List Token). AreRead (take (length rows) rows) xs readings news) (take_all (length rows) olds (omega arith))
     (subst (λ (xs : List Token). AreRead (take (length rows) rows) (take (length rows) olds) readings xs) (take_all (length rows) news (omega arith)) h.read))
+
+pub all_shots_read : (rows : List Mounted) (olds news : List Token) (shots : List Shot) → length olds ≡ length rows → length shots ≡ length rows → HasRead (length rows) rows olds news (map reading_of (take (length rows) shots))
+    → AreRead rows olds (map reading_of shots) news
+all_shots_read rows olds news shots many wide h =
+    all_read rows olds news (map reading_of shots) many (subst (λ (xs : List Shot). HasRead (length rows) rows olds news (map reading_of xs)) (take_all (length rows) shots (omega arith)) h)
 
 -- Clusters
 
@@ -187,6 +200,11 @@ pub is_fetched : (rows : List Mounted) (olds : List Token) (profile : Settings) 
     → IsFetched rows olds profile pmids stamp result facts news
 is_fetched rows olds profile pmids stamp result facts news shots few read answer facts_are =
     record { few = few; readings = map reading_of shots; read = read; result_is = answer; facts_are = facts_are }
+
+pub is_answered : (rows : List Mounted) (olds : List Token) (profile : Settings) (pmids : List ℕ) (stamp : Moment) (result : PmResult) (news : List Token) (shots : List Shot)
+    → length pmids ≤ 1024 → AreRead rows olds (map reading_of shots) news → result ≡ answer_of (map reading_of shots) profile pmids stamp
+    → IsAnswered rows olds profile pmids stamp result news
+is_answered rows olds profile pmids stamp result news shots few read answer = record { few = few; readings = map reading_of shots; read = read; result_is = answer }
 
 pub are_named : (rows : List Mounted) (olds : List Token) (names : List Pair) (missing : List ℕ) (news : List Token) (shots : List Shot)
     → AreRead rows olds (map reading_of shots) news → names ≡ names_of shots → missing ≡ missed_of shots → AreNamed rows olds names missing news

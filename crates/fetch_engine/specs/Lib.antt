@@ -3,7 +3,9 @@ pub mod Asks
 pub mod Bounds
 pub mod Fetches
 pub mod Indexes
+pub mod Kept
 pub mod Names
+pub mod Numbers
 pub mod Readings
 pub mod Servers
 pub mod Values

@@ -134,6 +134,13 @@ pub record IsFetched (rows : List Mounted) (old : List Token) (profile : Setting
   pub result_is : result ≡ answer_of readings profile pmids stamp
   pub facts_are : facts ≡ facts_of readings result.sets
 
+-- and so it is without what describes it
+pub record IsAnswered (rows : List Mounted) (old : List Token) (profile : Settings) (pmids : List ℕ) (stamp : Moment) (result : PmResult) (new : List Token) : Type 0 where
+  pub few : length pmids ≤ 1024
+  pub readings : List Reading
+  pub read : AreRead rows old readings new
+  pub result_is : result ≡ answer_of readings profile pmids stamp
+
 -- the name space of what was read, and the clusters of the regions that were missed
 abbrev pub names_in : List Reading → List Pair
 names_in readings = fold with_region [] readings

@@ -1,9 +1,10 @@
 //! What describes a fetch's answer: its metrics and their instance domains (pmLookupDesc(3), pmGetInDom(3)).
-ghost use Rattle.std.specs.Prelude.{◌≡◌, ◌==◌, ◌++◌, ◌<◌, find, IfOk, OnOk};
+ghost use Rattle.std.specs.Prelude.{◌≡◌, ◌==◌, ◌++◌, ◌<◌, find, map, IfOk, OnOk};
 ghost use Rattle.std.specs.Option.{option_copied};
 ghost use Rattle.archive_meta.specs.Facts.{has_values};
 ghost use Rattle.fetch_engine.specs.Answers.{ascending, code_of, desc_of, domains_in, domains_of, fact_of, facts_of, instances_of, layout_fact, layout_instances, metrics_in, row_instances, shown_of, with_indom, with_shown};
 ghost use Rattle.fetch_engine.specs.Bounds.{FitsMetric};
+ghost use Rattle.fetch_engine.specs.Readings.{reading_of};
 
 use crate::pairs::full_name;
 use crate::reading::{Known, region_of};
@@ -50,7 +51,7 @@ fn push_fact(
     region: &Known,
     pmid: Pmid,
 ) -> Result<(), NoMemory>
-    ensures { OnOk result (metrics.new ≡ metrics.old ++ layout_fact region.now.cluster region.now.file pmid region.now.layout) }
+    ensures { OnOk result (metrics.new ≡ metrics.old ++ layout_fact region.now.cluster region.now.file pmid (reading_of region.now).layout) }
 {
     let Some(told) = &region.told else {
         return Ok(());
@@ -58,7 +59,7 @@ fn push_fact(
     let Some(metric) = told.metric(pmid.item()) else {
         return Ok(());
     };
-    let name = full_name(alloc, &region.file, told.layout().flags, &metric.name)?;
+    let name = full_name(alloc, &region.file, told.flags(), &metric.name)?;
     metrics.push((desc_of(region.cluster, pmid, metric), name))
 }
 
@@ -69,7 +70,7 @@ fn push_fact_of(
     regions: &[Known],
     pmid: Pmid,
 ) -> Result<(), NoMemory>
-    ensures { OnOk result (metrics.new ≡ metrics.old ++ fact_of regions.now pmid) }
+    ensures { OnOk result (metrics.new ≡ metrics.old ++ fact_of (map reading_of regions.now) pmid) }
 {
     match region_of(regions, pmid.word()) {
         Some(region) => push_fact(alloc, metrics, region, pmid),
@@ -115,7 +116,7 @@ fn metrics_in(
     regions: &[Known],
     pmids: &BTreeSet<Pmid>,
 ) -> Result<List<(Desc, Text)>, NoMemory>
-    ensures { IfOk result (λ metrics. metrics ≡ metrics_in regions.now pmids.now.keys) }
+    ensures { IfOk result (λ metrics. metrics ≡ metrics_in (map reading_of regions.now) pmids.now.keys) }
 {
     let mut metrics = List::empty(alloc);
     for pmid in pmids {
@@ -187,17 +188,17 @@ fn row_instances(alloc: Global, rows: &[IndomRow], serial: u32) -> Result<Instan
 
 /// The instances of a domain of a region, in ascending number.
 fn region_instances(alloc: Global, region: &Known, serial: u32) -> Result<Instances, NoMemory>
-    ensures { IfOk result (λ list. list ≡ layout_instances serial region.now.layout) }
+    ensures { IfOk result (λ list. list ≡ layout_instances serial (reading_of region.now).layout) }
 {
     match &region.told {
-        Some(told) => row_instances(alloc, told.layout().indoms.as_slice(), serial),
+        Some(told) => row_instances(alloc, told.indoms(), serial),
         None => Ok(List::empty(alloc)),
     }
 }
 
 /// The instances of a domain, in ascending number.
 fn instances_of(alloc: Global, regions: &[Known], indom: InDom) -> Result<Instances, NoMemory>
-    ensures { IfOk result (λ list. list ≡ instances_of regions.now indom) }
+    ensures { IfOk result (λ list. list ≡ instances_of (map reading_of regions.now) indom) }
 {
     let word = indom.word();
     match region_of(regions, word) {
@@ -212,7 +213,7 @@ fn domains_in(
     regions: &[Known],
     indoms: &BTreeSet<InDom>,
 ) -> Result<List<(InDom, Instances)>, NoMemory>
-    ensures { IfOk result (λ domains. domains ≡ domains_in regions.now indoms.now.keys) }
+    ensures { IfOk result (λ domains. domains ≡ domains_in (map reading_of regions.now) indoms.now.keys) }
 {
     let mut domains = List::empty(alloc);
     for indom in indoms {
@@ -225,7 +226,7 @@ fn domains_in(
 /// What describes the sets with values: each of their metrics once, with its name, and each of their domains once, with
 /// all of its instances.
 pub fn facts_of(alloc: Global, regions: &[Known], sets: &[ValueSet]) -> Result<Facts, NoMemory>
-    ensures { IfOk result (λ facts. facts ≡ facts_of regions.now sets.now) }
+    ensures { IfOk result (λ facts. facts ≡ facts_of (map reading_of regions.now) sets.now) }
 {
     let pmids = shown_of(alloc, sets)?;
     let metrics = metrics_in(alloc, regions, &pmids)?;

@@ -1,12 +1,12 @@
 //! The answer of a fetch over what was read of regions.
-ghost use Rattle.std.specs.Prelude.{◌≡◌, ◌<◌, ◌≤◌, length, map, MatchResult};
+ghost use Rattle.std.specs.Prelude.{◌≡◌, ◌<◌, ◌≤◌, length, map, IfOk, MatchResult};
 ghost use Rattle.fetch_engine.specs.Answers.{answer_of, facts_of};
 ghost use Rattle.fetch_engine.specs.Fetches.{IsFetchFault};
 ghost use Rattle.fetch_engine.specs.Readings.{reading_of, AreInOrder};
 ghost use Rattle.fetch_engine.specs.declared.fetch.FetchFault.TheVariants.{NoMemory as Refused};
 
 use crate::facts::facts_of;
-use crate::reading::all_known;
+use crate::reading::{Known, all_known};
 use crate::sets::sets_of;
 use crate::shot::Shot;
 use archive_meta::Facts;
@@ -43,6 +43,22 @@ impl From<NoMemory> for FetchFault {
     }
 }
 
+/// The answer over what is known of regions.
+pub(crate) fn answer_of(
+    alloc: Global,
+    regions: &[Known],
+    profile: &Profile,
+    pmids: &[Pmid],
+    stamp: Stamp,
+) -> Result<Fetched, NoMemory>
+    ensures { IfOk result (λ fetched. (fetched.result ≡ answer_of (map reading_of regions.now) profile.now pmids.now stamp) × (fetched.facts ≡ facts_of (map reading_of regions.now) fetched.result.sets)) }
+{
+    let sets = sets_of(alloc, regions, profile, pmids)?;
+    let facts = facts_of(alloc, regions, sets.as_slice())?;
+    let result = PmResult { stamp, sets };
+    Ok(Fetched { result, facts })
+}
+
 /// The sets of the metrics that are asked for, in the order asked, and what describes them (pmFetch(3)). `TooMany` comes
 /// exactly above 1,024 metrics. A region that was missed shows the status -12389 for each of its metrics, a number that
 /// no region has -12358, and a metric of a kind that isn't converted -12362. The profile decides which instances of a
@@ -64,8 +80,5 @@ pub fn answer(
         return Err(FetchFault::TooMany { count });
     }
     let regions = all_known(alloc, shots)?;
-    let sets = sets_of(alloc, regions.as_slice(), profile, pmids)?;
-    let facts = facts_of(alloc, regions.as_slice(), sets.as_slice())?;
-    let result = PmResult { stamp, sets };
-    Ok(Fetched { result, facts })
+    Ok(answer_of(alloc, regions.as_slice(), profile, pmids, stamp)?)
 }

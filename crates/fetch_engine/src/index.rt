@@ -1,18 +1,18 @@
-//! Metrics and values of a region by item, each in one pass over its section.
-ghost use Rattle.std.specs.Prelude.{◌≡◌, ◌==◌, ℕ, false, if◌then◌else◌, Some, None, IfOk, OnOk};
+//! Metrics, and the rows of values, of a region by item, each in one pass over its section.
+ghost use Rattle.std.specs.Prelude.{◌≡◌, ◌==◌, ℕ, false, if◌then◌else◌, Some, None, IfOk, OnOk, length, map};
 ghost use Rattle.std.specs.Option.{option_or};
 ghost use Rattle.std.specs.Ordering.{nat_cmp};
 ghost use Rattle.std.specs.BTreeMap.{get};
-ghost use Rattle.fetch_engine.specs.Indexes.{entries_at, HasMetrics, HasValues};
-ghost use Rattle.fetch_engine.specs.Values.{with_value};
+ghost use Rattle.fetch_engine.specs.Indexes.{HasMetrics};
+ghost use Rattle.fetch_engine.specs.Numbers.{HasNumbers, counted, numbers_at, subject_of, with_number};
 
-use mmv_layout::{Content, MetricRow, ValueRow};
+use mmv_layout::{MetricRow, ValueRow};
 use pcp_base::{Duplicate, NoMemory};
 use std::alloc::Global;
 use std::collections::BTreeMap;
 
-/// Contents by instance.
-pub type Values = BTreeMap<i32, Content>;
+/// The numbers of values' rows by instance.
+pub type RowNumbers = BTreeMap<i32, u32>;
 
 fn copy_metric(alloc: Global, row: &MetricRow) -> Result<MetricRow, NoMemory>
     ensures { IfOk result (λ made. made ≡ row.now) }
@@ -27,16 +27,6 @@ fn copy_metric(alloc: Global, row: &MetricRow) -> Result<MetricRow, NoMemory>
         short: row.short.copy(alloc)?,
         long: row.long.copy(alloc)?,
     })
-}
-
-fn copy_content(alloc: Global, content: &Content) -> Result<Content, NoMemory>
-    ensures { IfOk result (λ made. made ≡ content.now) }
-{
-    match content {
-        Content::Number(number) => Ok(Content::Number(*number)),
-        Content::Choice(text) => Ok(Content::Choice(text.copy(alloc)?)),
-        Content::Raw(number, extra) => Ok(Content::Raw(*number, *extra)),
-    }
 }
 
 /// Keeps a metric, unless one of its item was kept before.
@@ -69,39 +59,46 @@ pub fn metrics_by_item(
     Ok(table)
 }
 
-/// Takes the values of an item out of a table.
-fn take_values(alloc: Global, table: &mut BTreeMap<u32, Values>, item: u32) -> Values
-    ensures values { result.entries ≡ entries_at (get nat_cmp table.old item) }
+/// Takes the rows of an item out of a table.
+fn take_rows(alloc: Global, table: &mut BTreeMap<u32, RowNumbers>, item: u32) -> RowNumbers
+    ensures rows { result.entries ≡ numbers_at (get nat_cmp table.old item) }
     ensures others { (other : ℕ) → (item == other) ≡ false → get nat_cmp table.new other ≡ get nat_cmp table.old other }
 {
     match table.remove(&item) {
-        Some(values) => values,
+        Some(rows) => rows,
         None => BTreeMap::new(alloc),
     }
 }
 
-/// Keeps a value under its item and instance.
-fn keep_value(
+/// Keeps the number of a value's row under its item and instance.
+#[tactic(auto, using(crate::proofs::Numbers::row_kept))]
+fn keep_row(
     alloc: Global,
-    table: &mut BTreeMap<u32, Values>,
+    table: &mut BTreeMap<u32, RowNumbers>,
     row: &ValueRow,
+    number: u32,
 ) -> Result<(), NoMemory>
-    ensures { OnOk result ((item : ℕ) → entries_at (get nat_cmp table.new item) ≡ with_value item (entries_at (get nat_cmp table.old item)) row.now) }
+    ensures { OnOk result ((item : ℕ) → numbers_at (get nat_cmp table.new item) ≡ with_number item (numbers_at (get nat_cmp table.old item)) (number, subject_of row.now)) }
 {
-    let content = copy_content(alloc, &row.content)?;
-    let mut values = take_values(alloc, table, row.item);
-    values.insert(row.instance.unwrap_or(-1), content)?;
-    table.insert(row.item, values)?;
+    let mut rows = take_rows(alloc, table, row.item);
+    rows.insert(row.instance.unwrap_or(-1), number)?;
+    table.insert(row.item, rows)?;
     Ok(())
 }
 
-/// The values by item, and those of each item by instance.
-pub fn values_by_item(alloc: Global, rows: &[ValueRow]) -> Result<BTreeMap<u32, Values>, NoMemory>
-    ensures { IfOk result (λ table. HasValues table rows.now) }
+/// The rows by item, and those of each item by instance.
+#[tactic(auto, using(crate::proofs::Numbers::rows_step, crate::proofs::Numbers::all_rows_kept))]
+pub fn rows_by_item(
+    alloc: Global,
+    rows: &[ValueRow],
+    count: u32,
+) -> Result<BTreeMap<u32, RowNumbers>, NoMemory>
+    requires { count ≡ length rows.now }
+    ensures { IfOk result (λ table. HasNumbers table (counted 0 (map subject_of rows.now))) }
 {
-    let mut table: BTreeMap<u32, Values> = BTreeMap::new(alloc);
-    for row in rows {
-        keep_value(alloc, &mut table, row)?;
+    let mut table: BTreeMap<u32, RowNumbers> = BTreeMap::new(alloc);
+    for number in 0..count {
+        keep_row(alloc, &mut table, &rows[number as usize], number)?;
     }
     Ok(table)
 }

@@ -17,6 +17,7 @@ mod server;
 mod serving;
 mod sets;
 mod shot;
+mod told;
 mod values;
 mod visits;
 

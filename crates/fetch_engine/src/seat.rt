@@ -7,27 +7,33 @@ ghost use Rattle.region_rule.specs.Tokens.{note_of};
 ghost use Rattle.region_words.specs.Images.{mmv};
 ghost use Rattle.fetch_engine.specs.Servers.{ChangesAt, IsRegionAt, IsSeated};
 
+use crate::reading::Known;
 use crate::server::Server;
 use region_words::{Note, Pass};
 use std::marker::Model;
 
-/// A pass of each region of a server, in ascending cluster. It may go to another thread.
+/// A pass of each region of a server, in ascending cluster, and what a fetch read of each last, as long as it serves. It may go
+/// to another thread.
 #[derive(Drop)]
 pub struct Seat {
     pub(crate) passes: Vec<Pass>,
+    pub(crate) known: Vec<Known>,
 }
 
 impl Model for Seat {
+    ghost use Rattle.fetch_engine.specs.Kept.{AreKept};
     ghost use Rattle.fetch_engine.specs.Servers.{Seated};
 
     ghost Value = { Seated };
 
     ghost view = { λ a. record { tokens = a.passes.items } };
+
+    ghost invariant = { λ a. AreKept a.passes.items a.known.items };
 }
 
 impl Seat {
     /// A note of what the seat's pass of the region at a position has seen.
-    #[tactic(auto, using(crate::proofs::Places::is_there, crate::proofs::Places::is_here, crate::proofs::Places::seated_by))]
+    #[tactic(auto, using(crate::proofs::Places::is_there, crate::proofs::Places::is_here, crate::proofs::Places::seated_by, crate::proofs::Holding::kept_noted))]
     pub fn note(&mut self, server: &Server, index: u32) -> Note
         requires seated { IsSeated server.now self.old.tokens }
         requires there { index < length server.now }
@@ -39,7 +45,7 @@ impl Seat {
     }
 
     /// The seat's pass of the region at a position takes the longer of what it and the note have seen.
-    #[tactic(auto, using(crate::proofs::Places::is_there, crate::proofs::Places::is_here, crate::proofs::Places::seated_by))]
+    #[tactic(auto, using(crate::proofs::Places::is_there, crate::proofs::Places::is_here, crate::proofs::Places::seated_by, crate::proofs::Holding::kept_learned))]
     pub fn learn(&mut self, server: &Server, index: u32, note: Note)
         requires seated { IsSeated server.now self.old.tokens }
         requires there { index < length server.now }
@@ -53,7 +59,7 @@ impl Seat {
 
     /// Ends another pass of the region at a position: the seat's pass keeps the list of its entries, which are all it made,
     /// and the lists that it had kept.
-    #[tactic(auto, using(crate::proofs::Places::is_there, crate::proofs::Places::is_here, crate::proofs::Places::seated_by))]
+    #[tactic(auto, using(crate::proofs::Places::is_there, crate::proofs::Places::is_here, crate::proofs::Places::seated_by, crate::proofs::Holding::kept_gathered))]
     pub fn gather(&mut self, server: &Server, index: u32, ended: Pass)
         requires seated { IsSeated server.now self.old.tokens }
         requires there { index < length server.now }

@@ -1,12 +1,14 @@
 //! Regions that are served under their clusters and FILEs.
-ghost use Rattle.std.specs.Prelude.{◌≡◌, [], length, slice_get, option_map, bytes_eq, List as Sequence, take, Some, MatchResult, MatchOption};
+ghost use Rattle.std.specs.Prelude.{◌≡◌, [], length, slice_get, option_map, bytes_eq, List as Sequence, take, Some, All, IfOk, MatchResult, MatchOption, ◌<◌};
 ghost use Rattle.std.specs.Option.{option_copied};
 ghost use Rattle.std.specs.List.{list_any};
+ghost use Rattle.fetch_engine.specs.Kept.{AreUnknown};
 ghost use Rattle.fetch_engine.specs.Servers.{IsSeated, IsServerOf, has_cluster, has_file, has_wrong_cluster, has_wrong_file, server_fault, spells_component, wrong_cluster, wrong_file};
 ghost use Rattle.fetch_engine.specs.declared.server.Mounted.{Mounted as Row};
 
+use crate::reading::Known;
 use crate::seat::Seat;
-use pcp_base::{NoMemory, Text, is_component};
+use pcp_base::{Duplicate, NoMemory, Text, is_component};
 use region_words::{Pass, Region};
 use std::alloc::Global;
 use std::marker::Model;
@@ -129,6 +131,22 @@ fn server_fault(rows: &[Mounted]) -> Option<ServerFault>
     Some(ServerFault::File { index })
 }
 
+/// Regions of which nothing is known yet.
+fn none_known(alloc: Global, rows: &[Mounted]) -> Result<Vec<Known>, NoMemory>
+    requires { All (λ row. row.cluster < 4096) rows.now }
+    ensures { IfOk result (λ known. AreUnknown (length rows.now) known.items) }
+{
+    let mut known = Vec::new(alloc);
+    for row in rows {
+        known.push(Known {
+            file: row.file.copy(alloc)?,
+            cluster: row.cluster,
+            told: None,
+        })?;
+    }
+    Ok(known)
+}
+
 impl Server {
     /// The server of these regions, which may stand in any order.
     pub fn new(mounted: Vec<Mounted>) -> Result<Server, ServerFault>
@@ -151,10 +169,14 @@ impl Server {
     }
 
     /// A seat with these passes, one of each region in ascending cluster.
-    pub fn seat(&self, _alloc: Global, passes: Vec<Pass>) -> Result<Seat, (Vec<Pass>, NoMemory)>
+    #[tactic(auto, using(crate::proofs::Holding::unknown_kept, crate::proofs::Places::is_there))]
+    pub fn seat(&self, alloc: Global, passes: Vec<Pass>) -> Result<Seat, (Vec<Pass>, NoMemory)>
         requires { IsSeated self.now passes.items }
         ensures { MatchResult result (λ seat. seat.tokens ≡ passes.items) (λ refused. refused.0.items ≡ passes.items) }
     {
-        Ok(Seat { passes })
+        match none_known(alloc, &self.mounted) {
+            Ok(known) => Ok(Seat { passes, known }),
+            Err(NoMemory) => Err((passes, NoMemory)),
+        }
     }
 }

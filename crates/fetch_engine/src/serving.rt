@@ -4,15 +4,16 @@ ghost use Rattle.fetch_engine.specs.Asks.{desc_asked, instances_asked, Told};
 ghost use Rattle.fetch_engine.specs.Fetches.{IsFetchFault};
 ghost use Rattle.fetch_engine.specs.Readings.{AreInOrder, Reading};
 ghost use Rattle.fetch_engine.specs.Servers.{IsSeated};
-ghost use Rattle.fetch_engine.specs.Visits.{AreLoaded, AreNamed, IsFetched, IsReadFor};
+ghost use Rattle.fetch_engine.specs.Visits.{AreLoaded, AreNamed, IsAnswered, IsFetched, IsReadFor};
 
 use crate::asks::{AskFault, description, instances};
-use crate::fetch::{FetchFault, Fetched, LIMIT, answer};
+use crate::fetch::{FetchFault, Fetched, LIMIT, answer_of};
 use crate::names::{Named, names_of};
 use crate::seat::Seat;
 use crate::server::Server;
-use crate::visits::{read_for, read_rows};
-use pcp_base::{Desc, InDom, List, NoMemory, Pmid, Stamp, Text};
+use crate::sets::sets_of;
+use crate::visits::{read_all, read_for, read_rows};
+use pcp_base::{Desc, InDom, List, NoMemory, PmResult, Pmid, Stamp, Text};
 use profile_filter::Profile;
 use std::alloc::Global;
 
@@ -20,7 +21,7 @@ impl Server {
     /// The answer of a fetch over one reading of each region (pmFetch(3)). Each is read by the seat's pass in at most three
     /// tries; one that was missed in all three shows the status -12389 for each of its metrics. `TooMany` comes exactly above
     /// 1,024 metrics, and then nothing is loaded. After any refusal the passes have made nothing but loads.
-    #[tactic(auto, using(crate::proofs::Visited::is_fetched, crate::proofs::Visited::in_order, crate::proofs::Visited::still_seated, crate::proofs::Visited::none_loaded))]
+    #[tactic(auto, using(crate::proofs::Visited::is_fetched, crate::proofs::Visited::still_seated, crate::proofs::Visited::none_loaded))]
     pub fn fetch(
         &self,
         alloc: Global,
@@ -40,13 +41,39 @@ impl Server {
             let count = pmids.len() as u64;
             return Err(FetchFault::TooMany { count });
         }
-        let shots = read_rows(alloc, &self.mounted, &mut seat.passes)?;
-        answer(alloc, shots.as_slice(), profile, pmids, stamp)
+        read_all(alloc, &self.mounted, &mut seat.passes, &mut seat.known)?;
+        Ok(answer_of(alloc, &seat.known, profile, pmids, stamp)?)
+    }
+
+    /// The answer of a fetch without what describes it, over one reading of each region, as `fetch` has it.
+    #[tactic(auto, using(crate::proofs::Visited::is_answered, crate::proofs::Visited::still_seated, crate::proofs::Visited::none_loaded))]
+    pub fn result(
+        &self,
+        alloc: Global,
+        seat: &mut Seat,
+        profile: &Profile,
+        pmids: &[Pmid],
+        stamp: Stamp,
+    ) -> Result<PmResult, FetchFault>
+        requires { IsSeated self.now seat.old.tokens }
+        ensures answer { IfOk result (λ told. IsAnswered self.now seat.old.tokens profile.now pmids.now stamp told seat.new.tokens) }
+        ensures refused { IfErr result (IsFetchFault (length pmids.now)) }
+        ensures untouched { 1024 < length pmids.now → seat.new ≡ seat.old }
+        ensures loads { AreLoaded seat.old.tokens seat.new.tokens }
+        ensures seated { IsSeated self.now seat.new.tokens }
+    {
+        if pmids.len() > LIMIT {
+            let count = pmids.len() as u64;
+            return Err(FetchFault::TooMany { count });
+        }
+        read_all(alloc, &self.mounted, &mut seat.passes, &mut seat.known)?;
+        let sets = sets_of(alloc, &seat.known, profile, pmids)?;
+        Ok(PmResult { stamp, sets })
     }
 
     /// The name space of one reading of each region (pmns(5)), and the clusters of the regions that were missed in three
     /// tries. After a refusal the passes have made nothing but loads.
-    #[tactic(auto, using(crate::proofs::Visited::are_named, crate::proofs::Visited::in_order, crate::proofs::Visited::still_seated))]
+    #[tactic(auto, using(crate::proofs::Visited::are_named, crate::proofs::Visited::in_order, crate::proofs::Visited::still_seated, crate::proofs::Holding::still_kept))]
     pub fn names(&self, alloc: Global, seat: &mut Seat) -> Result<Named, NoMemory>
         requires { IsSeated self.now seat.old.tokens }
         ensures names { IfOk result (λ named. AreNamed self.now seat.old.tokens named.names named.missing seat.new.tokens) }
@@ -58,7 +85,7 @@ impl Server {
     }
     /// The description of a metric over a reading of the region in whose cluster it lies (pmLookupDesc(3)), or a status: no
     /// other region is read. After a refusal the passes have made nothing but loads.
-    #[tactic(auto, using(crate::proofs::Visited::in_order_for, crate::proofs::Visited::still_seated))]
+    #[tactic(auto, using(crate::proofs::Visited::in_order_for, crate::proofs::Visited::still_seated, crate::proofs::Holding::still_kept))]
     pub fn description(&self, alloc: Global, seat: &mut Seat, pmid: Pmid) -> Result<Desc, AskFault>
         requires { IsSeated self.now seat.old.tokens }
         ensures told { Told result (λ told. (readings : Sequence Reading) × IsReadFor pmid self.now seat.old.tokens readings seat.new.tokens × (told ≡ desc_asked readings pmid)) }
@@ -71,7 +98,7 @@ impl Server {
 
     /// The instances of a domain in ascending number over a reading of the region in whose cluster it lies (pmGetInDom(3)),
     /// or a status: no other region is read. After a refusal the passes have made nothing but loads.
-    #[tactic(auto, using(crate::proofs::Visited::in_order_for, crate::proofs::Visited::still_seated))]
+    #[tactic(auto, using(crate::proofs::Visited::in_order_for, crate::proofs::Visited::still_seated, crate::proofs::Holding::still_kept))]
     pub fn instances(
         &self,
         alloc: Global,

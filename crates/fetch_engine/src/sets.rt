@@ -1,12 +1,15 @@
 //! The set of a metric that was asked for (pmFetch(3)).
 ghost use Rattle.std.specs.Prelude.{◌≡◌, ◌<◌, map, option_map, IfOk};
+ghost use Rattle.mmv_layout.specs.Rows.{layout_of};
 ghost use Rattle.fetch_engine.specs.Answers.{body_of, layout_body, metric_body, metric_with, set_of};
 ghost use Rattle.fetch_engine.specs.Bounds.{FitsSerial};
 ghost use Rattle.fetch_engine.specs.Names.{served_word};
+ghost use Rattle.fetch_engine.specs.Readings.{reading_of};
 
-use crate::index::Values;
+use crate::index::RowNumbers;
 use crate::pairs::served_word;
-use crate::reading::{Known, Told, region_of};
+use crate::reading::{Known, region_of};
+use crate::told::Told;
 use crate::values::stored;
 use mmv_layout::MetricRow;
 use pcp_base::{Body, InDom, List, NoMemory, Pmid, ValueSet};
@@ -41,17 +44,17 @@ fn metric_body(
     item: u32,
 ) -> Result<Body, NoMemory>
     requires { cluster < 4096 }
-    ensures { IfOk result (λ body. body ≡ metric_body profile.now cluster told.now (metric_with item told.now.metrics)) }
+    ensures { IfOk result (λ body. body ≡ metric_body profile.now cluster (layout_of told.now) (metric_with item (layout_of told.now).metrics)) }
 {
     let Some(metric) = told.metric(item) else {
         return Ok(Body::Status(UNKNOWN));
     };
     let indom = indom_in(cluster, metric.serial);
-    match told.values(metric.item) {
-        Some(values) => stored(alloc, metric.kind, profile, &indom, values),
+    match told.numbers(metric.item) {
+        Some(numbers) => stored(alloc, metric.kind, profile, &indom, told.words(), numbers),
         None => {
-            let none: Values = BTreeMap::new(alloc);
-            stored(alloc, metric.kind, profile, &indom, &none)
+            let none: RowNumbers = BTreeMap::new(alloc);
+            stored(alloc, metric.kind, profile, &indom, told.words(), &none)
         }
     }
 }
@@ -63,7 +66,7 @@ fn region_body(
     pmid: Pmid,
     region: &Known,
 ) -> Result<Body, NoMemory>
-    ensures { IfOk result (λ body. body ≡ layout_body profile.now region.now.cluster pmid region.now.layout) }
+    ensures { IfOk result (λ body. body ≡ layout_body profile.now region.now.cluster pmid (reading_of region.now).layout) }
 {
     match &region.told {
         Some(told) => metric_body(alloc, profile, region.cluster, told, pmid.item()),
@@ -77,7 +80,7 @@ fn body_of(
     profile: &Profile,
     pmid: Pmid,
 ) -> Result<Body, NoMemory>
-    ensures { IfOk result (λ body. body ≡ body_of regions.now profile.now pmid) }
+    ensures { IfOk result (λ body. body ≡ body_of (map reading_of regions.now) profile.now pmid) }
 {
     match region_of(regions, pmid.word()) {
         Some(region) => region_body(alloc, profile, pmid, region),
@@ -92,7 +95,7 @@ pub fn sets_of(
     profile: &Profile,
     pmids: &[Pmid],
 ) -> Result<List<ValueSet>, NoMemory>
-    ensures { IfOk result (λ sets. sets ≡ map (set_of regions.now profile.now) pmids.now) }
+    ensures { IfOk result (λ sets. sets ≡ map (set_of (map reading_of regions.now) profile.now) pmids.now) }
 {
     let mut sets = List::empty(alloc);
     for pmid in pmids {

@@ -1,11 +1,14 @@
 //! The values of a metric as a set shows them (pmFetch(3)).
-ghost use Rattle.std.specs.Prelude.{◌≡◌, ◌++◌, flat_map, All, IfOk, OnOk};
-ghost use Rattle.std.specs.Map.{values_of};
+ghost use Rattle.std.specs.Prelude.{◌≡◌, ◌++◌, flat_map, IfOk, OnOk};
 ghost use Rattle.fetch_engine.specs.Bounds.{FitsContent};
+ghost use Rattle.fetch_engine.specs.Numbers.{content_at, contents_at};
 ghost use Rattle.fetch_engine.specs.Values.{block_of, bytes_of, blocks_of, keeps, shown_block, shown_word, stored, word_of, words_of};
 
-use crate::index::Values;
+use crate::index::RowNumbers;
 use byteorder::{BigEndian, ByteOrder};
+use mmv_format::{
+    STRING_SIZE, extra_in_value, metric_of, text_at, type_in_metric, value_at, value_in_value,
+};
 use mmv_layout::Content;
 use pcp_base::{Block, Body, Bytes, InDom, Kind, List, NoMemory};
 use profile_filter::Profile;
@@ -19,6 +22,25 @@ fn keeps(profile: &Profile, indom: &Option<InDom>, instance: i32) -> bool
         Some(indom) => profile.includes(*indom, instance),
         None => true,
     }
+}
+
+/// The content of the value in a row, by the type of its metric.
+#[tactic(auto, using(crate::proofs::Bounds::fits_at), unfolding(mmv_layout::specs::Rows::content_of))]
+fn content_at(alloc: Global, words: &[u64], number: u32) -> Result<Content, NoMemory>
+    ensures value { IfOk result (λ content. content ≡ content_at words.now number) }
+    ensures fits { IfOk result FitsContent }
+{
+    let value = value_at(words, number);
+    let code = type_in_metric(words, metric_of(words, value) as u128);
+    let (number, extra) = (value_in_value(words, value), extra_in_value(words, value));
+    if code <= 3 {
+        return Ok(Content::Number(number));
+    }
+    if code != 6 {
+        return Ok(Content::Raw(number, extra));
+    }
+    let text = text_at(alloc, words, extra as u128, STRING_SIZE as u32)?;
+    Ok(Content::Choice(text))
 }
 
 /// The low 32 bits of a number.
@@ -64,23 +86,26 @@ fn block_of(alloc: Global, code: u8, content: &Content) -> Result<Block, NoMemor
     Ok(block)
 }
 
-/// Adds the word of a value, if the profile keeps it.
+/// Adds the word of the value in a row, if the profile keeps it.
 fn push_word(
+    alloc: Global,
     pairs: &mut List<(i32, u32)>,
     profile: &Profile,
     indom: &Option<InDom>,
     instance: i32,
-    content: &Content,
+    words: &[u64],
+    number: u32,
 ) -> Result<(), NoMemory>
-    ensures { OnOk result (pairs.new ≡ pairs.old ++ shown_word profile.now indom.now (instance, content.now)) }
+    ensures { OnOk result (pairs.new ≡ pairs.old ++ shown_word profile.now indom.now (instance, content_at words.now number)) }
 {
     if !keeps(profile, indom, instance) {
         return Ok(());
     }
-    pairs.push((instance, word_of(content)))
+    let content = content_at(alloc, words, number)?;
+    pairs.push((instance, word_of(&content)))
 }
 
-/// Adds the block of a value, if the profile keeps it.
+/// Adds the block of the value in a row, if the profile keeps it.
 fn push_block(
     alloc: Global,
     pairs: &mut List<(i32, Block)>,
@@ -88,15 +113,16 @@ fn push_block(
     indom: &Option<InDom>,
     code: u8,
     instance: i32,
-    content: &Content,
+    words: &[u64],
+    number: u32,
 ) -> Result<(), NoMemory>
-    requires { FitsContent content.now }
-    ensures { OnOk result (pairs.new ≡ pairs.old ++ shown_block profile.now indom.now code (instance, content.now)) }
+    ensures { OnOk result (pairs.new ≡ pairs.old ++ shown_block profile.now indom.now code (instance, content_at words.now number)) }
 {
     if !keeps(profile, indom, instance) {
         return Ok(());
     }
-    let block = block_of(alloc, code, content)?;
+    let content = content_at(alloc, words, number)?;
+    let block = block_of(alloc, code, &content)?;
     pairs.push((instance, block))
 }
 
@@ -105,13 +131,14 @@ fn shown_words(
     alloc: Global,
     profile: &Profile,
     indom: &Option<InDom>,
-    values: &Values,
+    words: &[u64],
+    numbers: &RowNumbers,
 ) -> Result<List<(i32, u32)>, NoMemory>
-    ensures { IfOk result (λ pairs. pairs ≡ flat_map (shown_word profile.now indom.now) values.now.entries) }
+    ensures { IfOk result (λ pairs. pairs ≡ flat_map (shown_word profile.now indom.now) (contents_at words.now numbers.now.entries)) }
 {
     let mut pairs = List::empty(alloc);
-    for (instance, content) in values {
-        push_word(&mut pairs, profile, indom, *instance, content)?;
+    for (instance, number) in numbers {
+        push_word(alloc, &mut pairs, profile, indom, *instance, words, *number)?;
     }
     Ok(pairs)
 }
@@ -122,14 +149,16 @@ fn shown_blocks(
     profile: &Profile,
     indom: &Option<InDom>,
     code: u8,
-    values: &Values,
+    words: &[u64],
+    numbers: &RowNumbers,
 ) -> Result<List<(i32, Block)>, NoMemory>
-    requires { All FitsContent (values_of values.now.entries) }
-    ensures { IfOk result (λ pairs. pairs ≡ flat_map (shown_block profile.now indom.now code) values.now.entries) }
+    ensures { IfOk result (λ pairs. pairs ≡ flat_map (shown_block profile.now indom.now code) (contents_at words.now numbers.now.entries)) }
 {
     let mut pairs = List::empty(alloc);
-    for (instance, content) in values {
-        push_block(alloc, &mut pairs, profile, indom, code, *instance, content)?;
+    for (instance, number) in numbers {
+        push_block(
+            alloc, &mut pairs, profile, indom, code, *instance, words, *number,
+        )?;
     }
     Ok(pairs)
 }
@@ -138,11 +167,12 @@ fn words_of(
     alloc: Global,
     profile: &Profile,
     indom: &Option<InDom>,
-    values: &Values,
+    words: &[u64],
+    numbers: &RowNumbers,
 ) -> Result<Body, NoMemory>
-    ensures { IfOk result (λ body. body ≡ words_of profile.now indom.now values.now.entries) }
+    ensures { IfOk result (λ body. body ≡ words_of profile.now indom.now (contents_at words.now numbers.now.entries)) }
 {
-    let pairs = shown_words(alloc, profile, indom, values)?;
+    let pairs = shown_words(alloc, profile, indom, words, numbers)?;
     if pairs.is_empty() {
         return Ok(Body::Status(0));
     }
@@ -154,34 +184,34 @@ fn blocks_of(
     profile: &Profile,
     indom: &Option<InDom>,
     code: u8,
-    values: &Values,
+    words: &[u64],
+    numbers: &RowNumbers,
 ) -> Result<Body, NoMemory>
-    requires { All FitsContent (values_of values.now.entries) }
-    ensures { IfOk result (λ body. body ≡ blocks_of profile.now indom.now code values.now.entries) }
+    ensures { IfOk result (λ body. body ≡ blocks_of profile.now indom.now code (contents_at words.now numbers.now.entries)) }
 {
-    let pairs = shown_blocks(alloc, profile, indom, code, values)?;
+    let pairs = shown_blocks(alloc, profile, indom, code, words, numbers)?;
     if pairs.is_empty() {
         return Ok(Body::Status(0));
     }
     Ok(Body::Blocks(pairs))
 }
 
-/// The set's body of a metric's kind.
+/// The set's body of a metric's kind, with the values in these rows of an image.
 pub fn stored(
     alloc: Global,
     kind: Kind,
     profile: &Profile,
     indom: &Option<InDom>,
-    values: &Values,
+    words: &[u64],
+    numbers: &RowNumbers,
 ) -> Result<Body, NoMemory>
-    requires { All FitsContent (values_of values.now.entries) }
-    ensures { IfOk result (λ body. body ≡ stored kind profile.now indom.now values.now.entries) }
+    ensures { IfOk result (λ body. body ≡ stored kind profile.now indom.now (contents_at words.now numbers.now.entries)) }
 {
     match kind {
-        Kind::I32 | Kind::U32 => words_of(alloc, profile, indom, values),
-        Kind::I64 => blocks_of(alloc, profile, indom, 2, values),
-        Kind::U64 => blocks_of(alloc, profile, indom, 3, values),
-        Kind::Text => blocks_of(alloc, profile, indom, 6, values),
+        Kind::I32 | Kind::U32 => words_of(alloc, profile, indom, words, numbers),
+        Kind::I64 => blocks_of(alloc, profile, indom, 2, words, numbers),
+        Kind::U64 => blocks_of(alloc, profile, indom, 3, words, numbers),
+        Kind::Text => blocks_of(alloc, profile, indom, 6, words, numbers),
         Kind::Float | Kind::Double | Kind::Elapsed => Ok(Body::Status(-12362)),
     }
 }

@@ -85,5 +85,7 @@ fn main(rt: HostRuntime) -> ExitCode {
         return ExitCode::from(serve_clients(&rt, command, &mut input, &mut out));
     }
     let mut disk = FileDisk::new(alloc, &rt, base);
-    ExitCode::from(offline(alloc, command, &mut input, &mut out, &mut disk))
+    let mut opened = None;
+    let status = offline(alloc, command, &mut input, &mut out, &mut disk, &mut opened);
+    ExitCode::from(status)
 }

@@ -71,7 +71,7 @@ impl Subject for Scene {
                 self.add_input(alloc, kept, line.rest)
             }
             "more" => self.add_input(alloc, kept, line.rest),
-            "serve" | "moment" | "fail" => self.given.prepare(alloc, kept, line),
+            "serve" | "change" | "moment" | "fail" => self.given.prepare(alloc, kept, line),
             _ => self.call(alloc, answer, line),
         }
     }

@@ -1,121 +1,103 @@
 -- Each fact on a status follows from how the call ends, by cases on the refusal.
-use Rattle.std.proofs.Common.{◌≡◌, ◌⊎◌, inl, inr, ⊎_elim, ℕ, ◌<◌, ◌≤◌, List, length, drop, refl, sym, ap, ap₂, ◌∙◌, subst, arith, true, Option, Some, None, IsSome, Result, Ok, Err}
+use Rattle.std.proofs.Common.{◌≡◌, ◌⊎◌, inl, inr, ⊎_elim, ℕ, ◌<◌, ◌≤◌, List, length, drop, refl, sym, ap, ap₂, ◌∙◌, subst, arith, true, Option, Some, None, IsSome, Ok, Err}
 use Rattle.pcp_base.specs.declared.file.FileId.{FileId}
 use Rattle.pcp_base.specs.Time.{Moment}
 use Rattle.pcp_model.specs.Disk.{IsSettled}
 use Rattle.pcp_outside.specs.Causes.{Rose}
-use Rattle.mmv_faults.specs.Faults.{image_of}
-use Rattle.mmv_faults.specs.declared.fault.ImageFault.{ImageFault}
-use Rattle.mmv_writer.specs.Reading.{text_image}
-use Rattle.mmv_writer.specs.declared.line_fault.TextFault.{TextFault}
 use Rattle.pm_words.specs.declared.stage.ReadRefusal.{ReadRefusal}
 use Rattle.pm_words.specs.declared.stage.ReadRefusal.TheVariants.{ReadFault, InputLimit}
 use Rattle.pm_words.specs.declared.stage.InputRefusal.{InputRefusal}
-use Rattle.pm_words.specs.declared.stage.InputRefusal.TheVariants.{Image, Line}
+use Rattle.pm_words.specs.declared.stage.InputRefusal.TheVariants.{Image, Line, Script}
 use Rattle.pm_words.specs.declared.stage.FilesRefusal.{FilesRefusal}
-use Rattle.pm_words.specs.declared.stage.FilesRefusal.TheVariants.{Unlogged, Compressed, NotArchive, Nothing}
-use Rattle.pm_words.specs.declared.stage.ResultRefusal.{ResultRefusal}
-use Rattle.pm_words.specs.declared.stage.ResultRefusal.TheVariants.{Large, NotLater, Changed, Full}
+use Rattle.pm_words.specs.declared.stage.FilesRefusal.TheVariants.{Run, Compressed, NotArchive, Nothing}
+use Rattle.run_script.specs.declared.fault.ScriptLineFault.{ScriptLineFault}
+use Rattle.run_script.specs.declared.fault.ScriptLineFault.TheVariants as script
+use Rattle.pm_words.specs.declared.stage.RunRefusal.{RunRefusal}
+use Rattle.pm_words.specs.declared.stage.RunRefusal.TheVariants.{Condition, Limit, NotLater, Changed}
 use Rattle.pm_words.specs.declared.stage.DiskRefusal.TheVariants.{Files as FilesAway, DiskFault}
 use Rattle.pm_words.specs.declared.words.Command.{Command}
-use Rattle.pm_words.specs.declared.words.Command.TheVariants.{Once, MmvMake, MmvDump, Dump, Info, Recover, At, Range, Value}
 use Rattle.pm_words.specs.declared.refusal.Refusal.{Refusal}
 use Rattle.pm_words.specs.declared.refusal.Refusal.TheVariants.{Words, Reading, Input, Disk, NoMemory}
 use Rattle.pm_words.specs.CommandLine.{command_of}
-use Rattle.pm_tasks.specs.Causes.{Got, Asks, fault_of, IsReader, Finds, Left, Cause}
-use Rattle.pm_tasks.specs.Ends.{Ends, EndsDone, EndsUntold, HasRun, IsNever}
-use Rattle.pm_commands.specs.Facts.{UsageIsExact, LimitIsExact, InputFaultIsExact, UnloggedIsExact, ArchiveFaultIsExact, NothingIsThere, Given, Meets, refused_of, TurnsAway, IsRefused, Unwritten, IsGoodDisk, IsGoodRun, Keeps}
-use Rattle.pm_words.specs.Inputs.{input_limit, image_refusal, text_refusal, refusal_of}
+use Rattle.pm_tasks.specs.Causes.{Got, Asks, fault_of, IsReader, Finds, Cause}
+use Rattle.pm_words.specs.Serving.{Left, IsNever}
+use Rattle.pm_tasks.specs.Ends.{Ends, EndsDone, EndsUntold, HasRun}
+use Rattle.pm_commands.specs.Facts.{UsageIsExact, LimitIsExact, InputFaultIsExact, RunIsExact, ArchiveFaultIsExact, NothingIsThere, Given, Meets, refused_of, TurnsAway, IsRefused, Unwritten, IsGoodDisk, IsGoodRun, Keeps, ComesOfRun, OpensRegions}
+use Rattle.script_passes.specs.declared.opening.Opened.{Opened}
+use Rattle.pm_tasks.specs.Regions.{AsksRun, RunsScript}
+use Rattle.pm_runs.specs.Regions.{HasRegions}
+use Rattle.pm_words.specs.Inputs.{input_limit, refusal_of}
 use Rattle.pm_tasks.specs.Meanings.{meaning}
-use Rattle.pm_words.specs.Refusals.{status_of, reading_status, input_status, files_status, result_status}
+use Rattle.pm_words.specs.Refusals.{status_of, reading_status, input_status, script_status, files_status, run_status}
 use Rattle.pm_words.specs.Sides.{SourceSide, SinkSide, DiskSide, found, Untouched}
 use Rattle.pm_commands.proofs.Lookings.{one_reason, wrapped_first}
 use Rattle.pm_commands.proofs.Nothing.{never_done, nothing_first}
 
 -- ---- which refusal of files has a status
 
-seven_twelve : ◌≡◌ {A = ℕ} 7 12 → ⊥
-seven_twelve h = cc
+-- no status of input, run or files is another
+input_not : (n : ℕ) → (n ≡ 2 → ⊥) → (n ≡ 7 → ⊥) → (e : InputRefusal) → input_status e ≡ n → ⊥
+input_not n two seven (Image fault) h = two (sym h)
+input_not n two seven (Line fault) h = two (sym h)
+input_not n two seven (Script fault) h = of_fault fault.fault h
+  where
+    of_fault : (fault : ScriptLineFault) → script_status fault ≡ n → ⊥
+    of_fault (script.Line found) h = two (sym h)
+    of_fault script.Regions h = seven (sym h)
 
-thirteen_twelve : ◌≡◌ {A = ℕ} 13 12 → ⊥
-thirteen_twelve h = cc
+run_not : (n : ℕ) → (n ≡ 2 → ⊥) → (n ≡ 7 → ⊥) → (n ≡ 12 → ⊥) → (n ≡ 13 → ⊥) → (reason : RunRefusal) → run_status reason ≡ n → ⊥
+run_not n two seven twelve thirteen (Condition line) h = two (sym h)
+run_not n two seven twelve thirteen (Limit what number) h = seven (sym h)
+run_not n two seven twelve thirteen (NotLater last) h = twelve (sym h)
+run_not n two seven twelve thirteen (Changed pmid) h = thirteen (sym h)
 
-seven_thirteen : ◌≡◌ {A = ℕ} 7 13 → ⊥
-seven_thirteen h = cc
+files_not : (n : ℕ) → (n ≡ 2 → ⊥) → (n ≡ 6 → ⊥) → (n ≡ 7 → ⊥) → (n ≡ 11 → ⊥) → (n ≡ 12 → ⊥) → (n ≡ 13 → ⊥) → (x : FilesRefusal) → files_status x ≡ n → ⊥
+files_not n two six seven eleven twelve thirteen (Run reason) h = run_not n two seven twelve thirteen reason h
+files_not n two six seven eleven twelve thirteen (Compressed file) h = six (sym h)
+files_not n two six seven eleven twelve thirteen (NotArchive file at) h = six (sym h)
+files_not n two six seven eleven twelve thirteen (Nothing stamp) h = eleven (sym h)
 
-twelve_thirteen : ◌≡◌ {A = ℕ} 12 13 → ⊥
-twelve_thirteen h = cc
+condition_reason : (r : RunRefusal) → run_status r ≡ 2 → (line : ℕ) × (r ≡ Condition line)
+condition_reason (Condition line) h = (line, refl)
+condition_reason (Limit what number) h = absurd (omega (arith, h))
+condition_reason (NotLater last) h = absurd (omega (arith, h))
+condition_reason (Changed pmid) h = absurd (omega (arith, h))
 
-six_twelve : ◌≡◌ {A = ℕ} 6 12 → ⊥
-six_twelve h = cc
-
-eleven_twelve : ◌≡◌ {A = ℕ} 11 12 → ⊥
-eleven_twelve h = cc
-
-six_thirteen : ◌≡◌ {A = ℕ} 6 13 → ⊥
-six_thirteen h = cc
-
-eleven_thirteen : ◌≡◌ {A = ℕ} 11 13 → ⊥
-eleven_thirteen h = cc
-
-six_eleven : ◌≡◌ {A = ℕ} 6 11 → ⊥
-six_eleven h = cc
-
-not_later_reason : (r : ResultRefusal) → result_status r ≡ 12 → (last : Moment) × (r ≡ NotLater last)
-not_later_reason (Large bytes) h = absurd (seven_twelve h)
+not_later_reason : (r : RunRefusal) → run_status r ≡ 12 → (last : Moment) × (r ≡ NotLater last)
+not_later_reason (Condition line) h = absurd (omega (arith, h))
+not_later_reason (Limit what number) h = absurd (omega (arith, h))
 not_later_reason (NotLater last) h = (last, refl)
-not_later_reason (Changed pmid) h = absurd (thirteen_twelve h)
-not_later_reason (Full file bytes) h = absurd (seven_twelve h)
+not_later_reason (Changed pmid) h = absurd (omega (arith, h))
 
-changed_reason : (r : ResultRefusal) → result_status r ≡ 13 → (pmid : ℕ) × (r ≡ Changed pmid)
-changed_reason (Large bytes) h = absurd (seven_thirteen h)
-changed_reason (NotLater last) h = absurd (twelve_thirteen h)
+changed_reason : (r : RunRefusal) → run_status r ≡ 13 → (pmid : ℕ) × (r ≡ Changed pmid)
+changed_reason (Condition line) h = absurd (omega (arith, h))
+changed_reason (Limit what number) h = absurd (omega (arith, h))
+changed_reason (NotLater last) h = absurd (omega (arith, h))
 changed_reason (Changed pmid) h = (pmid, refl)
-changed_reason (Full file bytes) h = absurd (seven_thirteen h)
 
-no_reason : (r : ResultRefusal) → result_status r ≡ 11 → ⊥
-no_reason (Large bytes) h = cc
-no_reason (NotLater last) h = cc
-no_reason (Changed pmid) h = cc
-no_reason (Full file bytes) h = cc
+is_condition : (x : FilesRefusal) → files_status x ≡ 2 → (line : ℕ) × (x ≡ Run (Condition line))
+is_condition (Run reason) h = let r = condition_reason reason h in (r.0, ap (λ (why : RunRefusal). Run why) r.1)
+is_condition (Compressed file) h = absurd (omega (arith, h))
+is_condition (NotArchive file at) h = absurd (omega (arith, h))
+is_condition (Nothing stamp) h = absurd (omega (arith, h))
 
-is_not_later : (x : FilesRefusal) → files_status x ≡ 12 → (last : Moment) × (x ≡ Unlogged (NotLater last))
-is_not_later (Unlogged reason) h = let r = not_later_reason reason h in (r.0, ap (λ (why : ResultRefusal). Unlogged why) r.1)
-is_not_later (Compressed file) h = absurd (six_twelve h)
-is_not_later (NotArchive file at) h = absurd (six_twelve h)
-is_not_later (Nothing stamp) h = absurd (eleven_twelve h)
+is_not_later : (x : FilesRefusal) → files_status x ≡ 12 → (last : Moment) × (x ≡ Run (NotLater last))
+is_not_later (Run reason) h = let r = not_later_reason reason h in (r.0, ap (λ (why : RunRefusal). Run why) r.1)
+is_not_later (Compressed file) h = absurd (omega (arith, h))
+is_not_later (NotArchive file at) h = absurd (omega (arith, h))
+is_not_later (Nothing stamp) h = absurd (omega (arith, h))
 
-is_changed : (x : FilesRefusal) → files_status x ≡ 13 → (pmid : ℕ) × (x ≡ Unlogged (Changed pmid))
-is_changed (Unlogged reason) h = let r = changed_reason reason h in (r.0, ap (λ (why : ResultRefusal). Unlogged why) r.1)
-is_changed (Compressed file) h = absurd (six_thirteen h)
-is_changed (NotArchive file at) h = absurd (six_thirteen h)
-is_changed (Nothing stamp) h = absurd (eleven_thirteen h)
+is_changed : (x : FilesRefusal) → files_status x ≡ 13 → (pmid : ℕ) × (x ≡ Run (Changed pmid))
+is_changed (Run reason) h = let r = changed_reason reason h in (r.0, ap (λ (why : RunRefusal). Run why) r.1)
+is_changed (Compressed file) h = absurd (omega (arith, h))
+is_changed (NotArchive file at) h = absurd (omega (arith, h))
+is_changed (Nothing stamp) h = absurd (omega (arith, h))
 
 is_nothing : (x : FilesRefusal) → files_status x ≡ 11 → (stamp : Moment) × (x ≡ Nothing stamp)
-is_nothing (Unlogged reason) h = absurd (no_reason reason h)
-is_nothing (Compressed file) h = absurd (six_eleven h)
-is_nothing (NotArchive file at) h = absurd (six_eleven h)
+is_nothing (Run reason) h = absurd (run_not 11 (λ k. omega (arith, k)) (λ k. omega (arith, k)) (λ k. omega (arith, k)) (λ k. omega (arith, k)) reason h)
+is_nothing (Compressed file) h = absurd (omega (arith, h))
+is_nothing (NotArchive file at) h = absurd (omega (arith, h))
 is_nothing (Nothing stamp) h = (stamp, refl)
-
--- no command of these reads a script
-image_two : (r : Result (List ℕ) ImageFault) (e : InputRefusal) → image_refusal r ≡ Some e → input_status e ≡ 2
-image_two (Ok words) e h = cc
-image_two (Err fault) e h = let is : Image fault ≡ e = cc in subst (λ (x : InputRefusal). input_status x ≡ 2) is refl
-
-text_two : (r : Result (List ℕ) TextFault) (e : InputRefusal) → text_refusal r ≡ Some e → input_status e ≡ 2
-text_two (Ok words) e h = cc
-text_two (Err fault) e h = let is : Line fault ≡ e = cc in subst (λ (x : InputRefusal). input_status x ≡ 2) is refl
-
-reads_two : (command : Command) (input : List ℕ) (e : InputRefusal) → refusal_of (meaning command).reads input ≡ Some e → input_status e ≡ 2
-reads_two (Once asked) input e h = image_two (image_of input) e h
-reads_two MmvMake input e h = text_two (text_image input) e h
-reads_two MmvDump input e h = image_two (image_of input) e h
-reads_two Dump input e h = cc
-reads_two Info input e h = cc
-reads_two Recover input e h = cc
-reads_two (At t) input e h = cc
-reads_two (Range from to) input e h = cc
-reads_two (Value asked) input e h = cc
 
 module _ (words : List (List ℕ)) (s : SourceSide) (k : SinkSide) (d : DiskSide) where
   -- a refusal that has this cause
@@ -190,10 +172,20 @@ module _ (words : List (List ℕ)) (s : SourceSide) (k : SinkSide) (d : DiskSide
   by_end status P (inr (inr refused)) f g h = subst P (sym refused.status_is) (h refused.refusal refused.cause)
 
   usage_only : (e : Refusal) → Caused e → status_of e ≡ 1 → (at : ℕ) × (command_of words ≡ Err at)
-  usage_only e c h = grind arith
+  usage_only (Words usage) c h = (usage.at, c.0)
+  usage_only (Reading ReadFault) c h = absurd (omega (arith, h))
+  usage_only (Reading InputLimit) c h = absurd (omega (arith, h))
+  usage_only (Input e) c h = absurd (input_not 1 (λ k. omega (arith, k)) (λ k. omega (arith, k)) e h)
+  usage_only (Disk (FilesAway x)) c h = absurd (files_not 1 (λ k. omega (arith, k)) (λ k. omega (arith, k)) (λ k. omega (arith, k)) (λ k. omega (arith, k)) (λ k. omega (arith, k)) (λ k. omega (arith, k)) x h)
+  usage_only (Disk DiskFault) c h = absurd (omega (arith, h))
+  usage_only NoMemory c h = absurd (omega (arith, h))
 
   usage_found : (e : Refusal) → Caused e → (at : ℕ) → command_of words ≡ Err at → (status_of e ≡ 1) ⊎ (status_of e ≡ 9)
-  usage_found e c at bad = grind (arith, apart)
+  usage_found (Words usage) c at bad = inl refl
+  usage_found (Reading e) c at bad = absurd (apart at bad c.0.0 c.0.1)
+  usage_found (Input e) c at bad = absurd (apart at bad c.0.0.command c.0.0.words_are)
+  usage_found (Disk e) c at bad = absurd (apart at bad c.0.command c.0.words_are)
+  usage_found NoMemory c at bad = inr refl
 
   pub usage_is_exact : (status : ℕ) → Ends words s k d status → UsageIsExact words status
   usage_is_exact status ends = record {
@@ -203,19 +195,40 @@ module _ (words : List (List ℕ)) (s : SourceSide) (k : SinkSide) (d : DiskSide
   }
 
   read_rose : (e : Refusal) → Caused e → status_of e ≡ 3 → Rose s.faults s.faults_after
-  read_rose e c h = grind arith
+  read_rose (Words usage) c h = absurd (omega (arith, h))
+  read_rose (Reading ReadFault) c h = c.1.0
+  read_rose (Reading InputLimit) c h = absurd (omega (arith, h))
+  read_rose (Input e) c h = absurd (input_not 3 (λ k. omega (arith, k)) (λ k. omega (arith, k)) e h)
+  read_rose (Disk (FilesAway x)) c h = absurd (files_not 3 (λ k. omega (arith, k)) (λ k. omega (arith, k)) (λ k. omega (arith, k)) (λ k. omega (arith, k)) (λ k. omega (arith, k)) (λ k. omega (arith, k)) x h)
+  read_rose (Disk DiskFault) c h = absurd (omega (arith, h))
+  read_rose NoMemory c h = absurd (omega (arith, h))
 
   pub read_fault_rose : (status : ℕ) → Ends words s k d status → status ≡ 3 → Rose s.faults s.faults_after
   read_fault_rose status ends = by_end status (λ n. n ≡ 3 → Rose s.faults s.faults_after) ends (λ done h. cc) (λ untold h. cc) read_rose
 
   disk_rose : (e : Refusal) → Caused e → status_of e ≡ 5 → Rose d.faults d.faults_after
-  disk_rose e c h = grind arith
+  disk_rose (Words usage) c h = absurd (omega (arith, h))
+  disk_rose (Reading ReadFault) c h = absurd (omega (arith, h))
+  disk_rose (Reading InputLimit) c h = absurd (omega (arith, h))
+  disk_rose (Input e) c h = absurd (input_not 5 (λ k. omega (arith, k)) (λ k. omega (arith, k)) e h)
+  disk_rose (Disk (FilesAway x)) c h = absurd (files_not 5 (λ k. omega (arith, k)) (λ k. omega (arith, k)) (λ k. omega (arith, k)) (λ k. omega (arith, k)) (λ k. omega (arith, k)) (λ k. omega (arith, k)) x h)
+  disk_rose (Disk DiskFault) c h = c.2.1
+  disk_rose NoMemory c h = absurd (omega (arith, h))
 
   pub disk_fault_rose : (status : ℕ) → Ends words s k d status → status ≡ 5 → Rose d.faults d.faults_after
   disk_fault_rose status ends = by_end status (λ n. n ≡ 5 → Rose d.faults d.faults_after) ends (λ done h. cc) (λ untold h. cc) disk_rose
 
+  not_four : (e : Refusal) → status_of e ≡ 4 → ⊥
+  not_four (Words usage) h = omega (arith, h)
+  not_four (Reading ReadFault) h = omega (arith, h)
+  not_four (Reading InputLimit) h = omega (arith, h)
+  not_four (Input e) h = input_not 4 (λ k. omega (arith, k)) (λ k. omega (arith, k)) e h
+  not_four (Disk (FilesAway x)) h = files_not 4 (λ k. omega (arith, k)) (λ k. omega (arith, k)) (λ k. omega (arith, k)) (λ k. omega (arith, k)) (λ k. omega (arith, k)) (λ k. omega (arith, k)) x h
+  not_four (Disk DiskFault) h = omega (arith, h)
+  not_four NoMemory h = omega (arith, h)
+
   write_rose : (e : Refusal) → Caused e → status_of e ≡ 4 → Rose k.faults k.faults_after
-  write_rose e c h = grind arith
+  write_rose e c h = absurd (not_four e h)
 
   pub write_fault_rose : (status : ℕ) → Ends words s k d status → status ≡ 4 → Rose k.faults k.faults_after
   write_fault_rose status ends = by_end status (λ n. n ≡ 4 → Rose k.faults k.faults_after) ends (λ done h. cc) (λ untold h. untold.rose) write_rose
@@ -223,29 +236,23 @@ module _ (words : List (List ℕ)) (s : SourceSide) (k : SinkSide) (d : DiskSide
   turned_away : (e : FilesRefusal) → Caused (Disk (FilesAway e)) → TurnsAway words s d e
   turned_away e c = record { asks = c.0; good = c.1.0; uses = c.1.1; turned = c.2.1 }
 
-  input_two : (e : InputRefusal) → Finds words s e → input_status e ≡ 2
-  input_two e found = reads_two found.0.command found.0.input e found.1
-
-  input_never : (n : ℕ) → 2 < n → (e : InputRefusal) → Finds words s e → input_status e ≡ n → ⊥
-  input_never n high e found h = omega (arith, high, h, input_two e found)
-
   abbrev LimitCause : Type 0
-  LimitCause = (IsReader words × (s.tells → (input_limit < length s.left) × (s.after ≡ drop 16777217 s.left))) ⊎ ((reason : ResultRefusal) × (result_status reason ≡ 7) × TurnsAway words s d (Unlogged reason))
+  LimitCause = (IsReader words × (s.tells → (input_limit < length s.left) × (s.after ≡ drop 16777217 s.left))) ⊎ (((e : InputRefusal) × (input_status e ≡ 7) × Finds words s e) ⊎ ((reason : RunRefusal) × (run_status reason ≡ 7) × TurnsAway words s d (Run reason)))
 
   limit_files : (e : FilesRefusal) → TurnsAway words s d e → files_status e ≡ 7 → LimitCause
-  limit_files (Unlogged reason) away h = inr (reason, h, away)
-  limit_files (Compressed file) away h = cc
-  limit_files (NotArchive file at) away h = cc
-  limit_files (Nothing stamp) away h = cc
+  limit_files (Run reason) away h = inr (inr (reason, h, away))
+  limit_files (Compressed file) away h = absurd (omega (arith, h))
+  limit_files (NotArchive file at) away h = absurd (omega (arith, h))
+  limit_files (Nothing stamp) away h = absurd (omega (arith, h))
 
   limit_only : (e : Refusal) → Caused e → status_of e ≡ 7 → LimitCause
-  limit_only (Words usage) c h = cc
-  limit_only (Reading ReadFault) c h = cc
+  limit_only (Words usage) c h = absurd (omega (arith, h))
+  limit_only (Reading ReadFault) c h = absurd (omega (arith, h))
   limit_only (Reading InputLimit) c h = inl (c.0, c.1)
-  limit_only (Input e) c h = absurd (input_never 7 (omega arith) e c.0 h)
+  limit_only (Input e) c h = inr (inl (e, h, c.0))
   limit_only (Disk (FilesAway e)) c h = limit_files e (turned_away e c) h
-  limit_only (Disk DiskFault) c h = cc
-  limit_only NoMemory c h = cc
+  limit_only (Disk DiskFault) c h = absurd (omega (arith, h))
+  limit_only NoMemory c h = absurd (omega (arith, h))
 
   limit_found : (e : Refusal) → Caused e → IsReader words → s.tells → input_limit < length s.left → (status_of e ≡ 7) ⊎ ((status_of e ≡ 9) ⊎ (status_of e ≡ 3))
   limit_found (Words usage) c reader tells above = absurd (apart usage.at c.0 reader.0 reader.1)
@@ -262,17 +269,34 @@ module _ (words : List (List ℕ)) (s : SourceSide) (k : SinkSide) (d : DiskSide
         (λ done reader tells above. absurd (was_above done.run.asks reader tells above)) (λ untold reader tells above. absurd (was_above untold.run.asks reader tells above)) limit_found;
   }
 
-  input_only : (e : Refusal) → Caused e → status_of e ≡ 2 → (f : InputRefusal) × (input_status f ≡ 2) × Finds words s f
-  input_only e c h = grind arith
+  abbrev InputCause : Type 0
+  InputCause = ((e : InputRefusal) × (input_status e ≡ 2) × Finds words s e) ⊎ ((line : ℕ) × TurnsAway words s d (Run (Condition line)))
 
-  input_found : (e : Refusal) → Caused e → (b : Meets words s) → (f : InputRefusal) → input_status f ≡ 2 → refused_of b ≡ Some f → (status_of e ≡ 2) ⊎ ((status_of e ≡ 9) ⊎ (status_of e ≡ 3))
-  input_found e c b f two bad = grind (arith, apart, not_met, found_same, found_good)
+  condition_only : (x : FilesRefusal) → TurnsAway words s d x → files_status x ≡ 2 → InputCause
+  condition_only x away h = let is = is_condition x h in inr (is.0, subst (λ (y : FilesRefusal). TurnsAway words s d y) is.1 away)
 
-  pub input_fault_is_exact : (status : ℕ) → Ends words s k d status → InputFaultIsExact words s status
+  input_only : (e : Refusal) → Caused e → status_of e ≡ 2 → InputCause
+  input_only (Words usage) c h = absurd (omega (arith, h))
+  input_only (Reading ReadFault) c h = absurd (omega (arith, h))
+  input_only (Reading InputLimit) c h = absurd (omega (arith, h))
+  input_only (Input e) c h = inl (e, h, c.0)
+  input_only (Disk (FilesAway e)) c h = condition_only e (turned_away e c) h
+  input_only (Disk DiskFault) c h = absurd (omega (arith, h))
+  input_only NoMemory c h = absurd (omega (arith, h))
+
+  input_found : (e : Refusal) → Caused e → (b : Meets words s) → (f : InputRefusal) → refused_of b ≡ Some f → (status_of e ≡ input_status f) ⊎ ((status_of e ≡ 9) ⊎ (status_of e ≡ 3))
+  input_found (Words usage) c b f bad = absurd (apart usage.at c.0 b.command b.words_are)
+  input_found (Reading ReadFault) c b f bad = inr (inr refl)
+  input_found (Reading InputLimit) c b f bad = absurd (not_met c.0 (λ tells. (c.1 tells).0) b)
+  input_found (Input e) c b f bad = inl (ap input_status (found_same c.0.0 b e f c.0.1 bad))
+  input_found (Disk e) c b f bad = absurd (found_good c.0 b f c.1.0 bad)
+  input_found NoMemory c b f bad = inr (inl refl)
+
+  pub input_fault_is_exact : (status : ℕ) → Ends words s k d status → InputFaultIsExact words s d status
   input_fault_is_exact status ends = record {
-    only = by_end status (λ n. n ≡ 2 → (f : InputRefusal) × (input_status f ≡ 2) × Finds words s f) ends (λ done h. cc) (λ untold h. cc) input_only;
-    always = by_end status (λ n. (b : Meets words s) → (f : InputRefusal) → input_status f ≡ 2 → refused_of b ≡ Some f → (n ≡ 2) ⊎ ((n ≡ 9) ⊎ (n ≡ 3))) ends
-        (λ done b f two bad. absurd (found_good done.run.asks b f done.run.served.good bad)) (λ untold b f two bad. absurd (found_good untold.run.asks b f untold.run.served.good bad)) input_found;
+    only = by_end status (λ n. n ≡ 2 → InputCause) ends (λ done h. absurd (omega (arith, h))) (λ untold h. absurd (omega (arith, h))) input_only;
+    always = by_end status (λ n. (b : Meets words s) → (f : InputRefusal) → refused_of b ≡ Some f → (n ≡ input_status f) ⊎ ((n ≡ 9) ⊎ (n ≡ 3))) ends
+        (λ done b f bad. absurd (found_good done.run.asks b f done.run.served.good bad)) (λ untold b f bad. absurd (found_good untold.run.asks b f untold.run.served.good bad)) input_found;
   }
 
   -- a file refusal that a command of the words has, told of the command that got its input
@@ -308,30 +332,30 @@ module _ (words : List (List ℕ)) (s : SourceSide) (k : SinkSide) (d : DiskSide
   of_files : (e : Refusal) (n : ℕ) → 9 < n → Caused e → status_of e ≡ n → (x : FilesRefusal) × (files_status x ≡ n) × TurnsAway words s d x
   of_files (Words usage) n high c h = absurd (omega (arith, high, h))
   of_files (Reading e) n high c h = absurd (omega (arith, high, h, read_low e))
-  of_files (Input e) n high c h = absurd (omega (arith, high, h, input_two e c.0))
+  of_files (Input e) n high c h = absurd (input_not n (λ k. omega (arith, high, k)) (λ k. omega (arith, high, k)) e h)
   of_files (Disk (FilesAway e)) n high c h = (e, h, turned_away e c)
   of_files (Disk DiskFault) n high c h = absurd (omega (arith, high, h))
   of_files NoMemory n high c h = absurd (omega (arith, high, h))
 
-  not_later_only : (e : Refusal) → Caused e → status_of e ≡ 12 → (last : Moment) × TurnsAway words s d (Unlogged (NotLater last))
+  not_later_only : (e : Refusal) → Caused e → status_of e ≡ 12 → (last : Moment) × TurnsAway words s d (Run (NotLater last))
   not_later_only e c h =
       let x = of_files e 12 (omega arith) c h in
       let is = is_not_later x.0 x.1 in
       (is.0, subst (λ (y : FilesRefusal). TurnsAway words s d y) is.1 x.2)
 
-  changed_only : (e : Refusal) → Caused e → status_of e ≡ 13 → (pmid : ℕ) × TurnsAway words s d (Unlogged (Changed pmid))
+  changed_only : (e : Refusal) → Caused e → status_of e ≡ 13 → (pmid : ℕ) × TurnsAway words s d (Run (Changed pmid))
   changed_only e c h =
       let x = of_files e 13 (omega arith) c h in
       let is = is_changed x.0 x.1 in
       (is.0, subst (λ (y : FilesRefusal). TurnsAway words s d y) is.1 x.2)
 
-  pub unlogged_is_exact : (status : ℕ) → Ends words s k d status → UnloggedIsExact words s d status
-  unlogged_is_exact status ends = record {
-    not_later = by_end status (λ n. n ≡ 12 → (last : Moment) × TurnsAway words s d (Unlogged (NotLater last))) ends (λ done h. cc) (λ untold h. cc) not_later_only;
-    changed = by_end status (λ n. n ≡ 13 → (pmid : ℕ) × TurnsAway words s d (Unlogged (Changed pmid))) ends (λ done h. cc) (λ untold h. cc) changed_only;
-    always = by_end status (λ n. (b : Meets words s) → refused_of b ≡ None → d.tells → (reason : ResultRefusal) → (meaning b.command).turns_away b.input (found d) (Unlogged reason) → (n ≡ result_status reason) ⊎ ((n ≡ 9) ⊎ ((n ≡ 3) ⊎ (n ≡ 5)))) ends
-        (λ done b good tells reason turned. absurd (not_welcome done.text done.run b (Unlogged reason) tt tells turned)) (λ untold b good tells reason turned. absurd (not_welcome untold.text untold.run b (Unlogged reason) tt tells turned))
-        (λ e c b good tells reason turned. turned_found (result_status reason) b good (λ a x also. one_reason a.command a.input (found d) reason x (turned_here a b (Unlogged reason) turned) (also tells)) e c);
+  pub run_is_exact : (status : ℕ) → Ends words s k d status → RunIsExact words s d status
+  run_is_exact status ends = record {
+    not_later = by_end status (λ n. n ≡ 12 → (last : Moment) × TurnsAway words s d (Run (NotLater last))) ends (λ done h. cc) (λ untold h. cc) not_later_only;
+    changed = by_end status (λ n. n ≡ 13 → (pmid : ℕ) × TurnsAway words s d (Run (Changed pmid))) ends (λ done h. cc) (λ untold h. cc) changed_only;
+    always = by_end status (λ n. (b : Meets words s) → refused_of b ≡ None → d.tells → (reason : RunRefusal) → (meaning b.command).turns_away b.input (found d) (Run reason) → (n ≡ run_status reason) ⊎ ((n ≡ 9) ⊎ ((n ≡ 3) ⊎ (n ≡ 5)))) ends
+        (λ done b good tells reason turned. absurd (not_welcome done.text done.run b (Run reason) tt tells turned)) (λ untold b good tells reason turned. absurd (not_welcome untold.text untold.run b (Run reason) tt tells turned))
+        (λ e c b good tells reason turned. turned_found (run_status reason) b good (λ a x also. one_reason a.command a.input (found d) reason x (turned_here a b (Run reason) turned) (also tells)) e c);
   }
 
   nothing_only : (e : Refusal) → Caused e → status_of e ≡ 11 → (stamp : Moment) × TurnsAway words s d (Nothing stamp)
@@ -350,12 +374,12 @@ module _ (words : List (List ℕ)) (s : SourceSide) (k : SinkSide) (d : DiskSide
 
   archive_only : (e : Refusal) → Caused e → status_of e ≡ 6 → (x : FilesRefusal) × (files_status x ≡ 6) × TurnsAway words s d x
   archive_only (Disk (FilesAway e)) c h = (e, h, turned_away e c)
-  archive_only (Disk DiskFault) c h = cc
-  archive_only (Words usage) c h = cc
-  archive_only (Reading ReadFault) c h = cc
-  archive_only (Reading InputLimit) c h = cc
-  archive_only (Input e) c h = absurd (input_never 6 (omega arith) e c.0 h)
-  archive_only NoMemory c h = cc
+  archive_only (Disk DiskFault) c h = absurd (omega (arith, h))
+  archive_only (Words usage) c h = absurd (omega (arith, h))
+  archive_only (Reading ReadFault) c h = absurd (omega (arith, h))
+  archive_only (Reading InputLimit) c h = absurd (omega (arith, h))
+  archive_only (Input e) c h = absurd (input_not 6 (λ k. omega (arith, k)) (λ k. omega (arith, k)) e h)
+  archive_only NoMemory c h = absurd (omega (arith, h))
 
   pub archive_fault_is_exact : (status : ℕ) → Ends words s k d status → ArchiveFaultIsExact words s d status
   archive_fault_is_exact status ends = record {
@@ -419,7 +443,13 @@ module _ (words : List (List ℕ)) (s : SourceSide) (k : SinkSide) (d : DiskSide
   completes status ends = by_end status (λ n. IsGoodRun words s k d → (n ≡ 0) ⊎ ((n ≡ 9) ⊎ (n ≡ 11))) ends (λ done good. inl refl) (λ untold good. absurd (good.sink_kept untold.rose)) completed
 
   not_done : (e : Refusal) → Caused e → status_of e ≡ 0 → ⊥
-  not_done e c h = grind arith
+  not_done (Words usage) c h = omega (arith, h)
+  not_done (Reading ReadFault) c h = omega (arith, h)
+  not_done (Reading InputLimit) c h = omega (arith, h)
+  not_done (Input e) c h = input_not 0 (λ k. omega (arith, k)) (λ k. omega (arith, k)) e h
+  not_done (Disk (FilesAway x)) c h = files_not 0 (λ k. omega (arith, k)) (λ k. omega (arith, k)) (λ k. omega (arith, k)) (λ k. omega (arith, k)) (λ k. omega (arith, k)) (λ k. omega (arith, k)) x h
+  not_done (Disk DiskFault) c h = omega (arith, h)
+  not_done NoMemory c h = omega (arith, h)
 
   -- where the status is 0
   pub is_done : (status : ℕ) → Ends words s k d status → status ≡ 0 → EndsDone words s k d
@@ -446,3 +476,50 @@ module _ (words : List (List ℕ)) (s : SourceSide) (k : SinkSide) (d : DiskSide
   keeps status ends zero tells =
       let done : EndsDone words s k d = is_done status ends zero in
       record { asks = done.run.asks; each = done.run.served.kept tells }
+
+  -- ---- the regions
+
+  module _ (opened : Option Opened) where
+    good_regions : (e : Refusal) → Caused e → (AsksRun words → HasRegions (Err e) opened) → (b : Meets words s) → refused_of b ≡ None → RunsScript b.command → IsSome opened ⊎ ((status_of e ≡ 9) ⊎ (status_of e ≡ 3))
+    good_regions (Words usage) c has b good runs = absurd (apart usage.at c.0 b.command b.words_are)
+    good_regions (Reading ReadFault) c has b good runs = inr (inr refl)
+    good_regions (Reading InputLimit) c has b good runs = absurd (not_met c.0 (λ tells. (c.1 tells).0) b)
+    good_regions (Input e) c has b good runs = absurd (found_bad c.0.0 b e c.0.1 good)
+    good_regions (Disk e) c has b good runs = inl (has (b.command, b.words_are, runs))
+    good_regions NoMemory c has b good runs = inr (inl refl)
+
+    not_of_run : (n : ℕ) → (n ≡ 0 → ⊥) → (n ≡ 4 → ⊥) → (n ≡ 5 → ⊥) → (n ≡ 6 → ⊥) → (n ≡ 12 → ⊥) → (n ≡ 13 → ⊥) → ComesOfRun n → ⊥
+    not_of_run n zero four five six twelve thirteen (inl h) = zero h
+    not_of_run n zero four five six twelve thirteen (inr (inl h)) = four h
+    not_of_run n zero four five six twelve thirteen (inr (inr (inl h))) = five h
+    not_of_run n zero four five six twelve thirteen (inr (inr (inr (inl h)))) = six h
+    not_of_run n zero four five six twelve thirteen (inr (inr (inr (inr (inl h))))) = twelve h
+    not_of_run n zero four five six twelve thirteen (inr (inr (inr (inr (inr h))))) = thirteen h
+
+    input_not_run : (e : InputRefusal) → ComesOfRun (input_status e) → ⊥
+    input_not_run e h = not_of_run (input_status e) (λ k. input_not 0 (λ j. omega (arith, j)) (λ j. omega (arith, j)) e k) (λ k. input_not 4 (λ j. omega (arith, j)) (λ j. omega (arith, j)) e k)
+        (λ k. input_not 5 (λ j. omega (arith, j)) (λ j. omega (arith, j)) e k) (λ k. input_not 6 (λ j. omega (arith, j)) (λ j. omega (arith, j)) e k)
+        (λ k. input_not 12 (λ j. omega (arith, j)) (λ j. omega (arith, j)) e k) (λ k. input_not 13 (λ j. omega (arith, j)) (λ j. omega (arith, j)) e k) h
+
+    never_of_run : (n : ℕ) → (n ≡ 1) ⊎ ((n ≡ 3) ⊎ ((n ≡ 7) ⊎ (n ≡ 9))) → ComesOfRun n → ⊥
+    never_of_run n (inl is) h = not_of_run n (λ k. omega (arith, is, k)) (λ k. omega (arith, is, k)) (λ k. omega (arith, is, k)) (λ k. omega (arith, is, k)) (λ k. omega (arith, is, k)) (λ k. omega (arith, is, k)) h
+    never_of_run n (inr (inl is)) h = not_of_run n (λ k. omega (arith, is, k)) (λ k. omega (arith, is, k)) (λ k. omega (arith, is, k)) (λ k. omega (arith, is, k)) (λ k. omega (arith, is, k)) (λ k. omega (arith, is, k)) h
+    never_of_run n (inr (inr (inl is))) h = not_of_run n (λ k. omega (arith, is, k)) (λ k. omega (arith, is, k)) (λ k. omega (arith, is, k)) (λ k. omega (arith, is, k)) (λ k. omega (arith, is, k)) (λ k. omega (arith, is, k)) h
+    never_of_run n (inr (inr (inr is))) h = not_of_run n (λ k. omega (arith, is, k)) (λ k. omega (arith, is, k)) (λ k. omega (arith, is, k)) (λ k. omega (arith, is, k)) (λ k. omega (arith, is, k)) (λ k. omega (arith, is, k)) h
+
+    ran_regions : (e : Refusal) → (AsksRun words → HasRegions (Err e) opened) → AsksRun words → ComesOfRun (status_of e) → IsSome opened
+    ran_regions (Words usage) has asks h = absurd (never_of_run 1 (inl refl) h)
+    ran_regions (Reading ReadFault) has asks h = absurd (never_of_run 3 (inr (inl refl)) h)
+    ran_regions (Reading InputLimit) has asks h = absurd (never_of_run 7 (inr (inr (inl refl))) h)
+    ran_regions (Input e) has asks h = absurd (input_not_run e h)
+    ran_regions (Disk e) has asks h = has asks
+    ran_regions NoMemory has asks h = absurd (never_of_run 9 (inr (inr (inr refl))) h)
+
+    pub refused_opens : (e : Refusal) → Caused e → (AsksRun words → HasRegions (Err e) opened) → (status : ℕ) → status ≡ status_of e → OpensRegions words s opened status
+    refused_opens e c has status is = subst (OpensRegions words s opened) (sym is) (record { good = good_regions e c has; ran = ran_regions e has })
+
+    pub done_opens : (text : List ℕ) → (AsksRun words → HasRegions (Ok text) opened) → (status : ℕ) → OpensRegions words s opened status
+    done_opens output has status = record { good = λ b good runs. inl (has (b.command, b.words_are, runs)); ran = λ asks h. has asks }
+
+    pub untold_opens : OpensRegions words s opened 9
+    untold_opens = record { good = λ b good runs. inr (inl refl); ran = λ asks h. absurd (never_of_run 9 (inr (inr (inr refl))) h) }

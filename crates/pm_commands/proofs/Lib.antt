@@ -2,4 +2,5 @@ pub mod Facts
 pub mod Lookings
 pub mod Memory
 pub mod Nothing
+pub mod Opening
 pub mod Welcome

@@ -1,5 +1,5 @@
 -- Commands that only read an archive: how they end, and which refusals of files go together.
-use Rattle.std.proofs.Common.{◌≡◌, ◌⊎◌, inl, inr, ⊎_elim, arith, ℕ, Bool, List, [], ◌++◌, refl, sym, ◌∙◌, Option, Some, None, Result, Ok, Err, IfOk, IfErr, OnErr}
+use Rattle.std.proofs.Common.{◌≡◌, ◌⊎◌, inl, inr, ⊎_elim, arith, ℕ, Bool, List, [], ◌++◌, refl, sym, ◌∙◌, Option, Some, None, Result, Ok, Err, IfOk, IfErr, OnErr, IsSome}
 use Rattle.pcp_base.specs.Time.{Moment}
 use Rattle.pcp_base.specs.declared.file.FileId.{FileId}
 use Rattle.pcp_model.specs.Disk.{CrashImage}
@@ -8,35 +8,38 @@ use Rattle.pcp_outside.proofs.Crash.{weaker}
 use Rattle.archive_window.specs.Looks.{Looks}
 use Rattle.archive_loading.specs.Loaded.{Loaded}
 use Rattle.pm_words.specs.declared.stage.FilesRefusal.{FilesRefusal}
-use Rattle.pm_words.specs.declared.stage.FilesRefusal.TheVariants.{Unlogged, Compressed, NotArchive, Nothing}
-use Rattle.pm_words.specs.declared.stage.ResultRefusal.{ResultRefusal}
+use Rattle.pm_words.specs.declared.stage.FilesRefusal.TheVariants.{Run, Compressed, NotArchive, Nothing}
+use Rattle.pm_words.specs.declared.stage.RunRefusal.{RunRefusal}
+use Rattle.pm_words.specs.declared.stage.RunRefusal.TheVariants.{Condition, Limit, NotLater, Changed}
 use Rattle.pm_words.specs.declared.stage.DiskRefusal.TheVariants.{Files as FilesAway, DiskFault}
 use Rattle.pm_words.specs.declared.refusal.Refusal.{Refusal}
 use Rattle.pm_words.specs.declared.refusal.Refusal.TheVariants.{Words, Reading, Input, Disk, NoMemory}
 use Rattle.pm_words.specs.declared.words.Command.{Command}
-use Rattle.pm_words.specs.declared.words.Command.TheVariants.{Once, MmvMake, MmvDump, Dump, Info, Recover, At, Range, Value}
+use Rattle.pm_words.specs.declared.words.Command.TheVariants.{Once, Replay, Make, MmvMake, MmvDump, Dump, Info, Recover, At, Range, Value}
 use Rattle.pm_words.specs.declared.words.ValueWords.{ValueWords}
 use Rattle.pm_tasks.specs.Archives.{TurnedAfter, TurnedAway, looks, nothing_before}
-use Rattle.pm_tasks.specs.Causes.{Left, StopCause}
-use Rattle.pm_tasks.specs.Ends.{HasServed, Serves, IsNever, MayLeave, told_of}
+use Rattle.pm_words.specs.Serving.{Left, StopCause, HasServed, Serves, IsNever, MayLeave}
 use Rattle.pm_words.specs.Meaning.{Meaning}
 use Rattle.pm_tasks.specs.Meanings.{meaning}
-use Rattle.pm_words.specs.Refusals.{files_status, result_status}
+use Rattle.pm_words.specs.Refusals.{files_status, numbered_line_of, run_status}
 use Rattle.pm_words.specs.Sides.{SinkSide, DiskSide, Found, found, Untouched, Leaves}
 use Rattle.pm_words.specs.Streams.{IsSent}
 use Rattle.pm_tasks.specs.commands.at as at
 use Rattle.pm_tasks.specs.commands.dump as dump
 use Rattle.pm_tasks.specs.commands.info as info
-use Rattle.pm_tasks.proofs.Logged.{once_unlogged, once_untold, once_wrapped}
-use Rattle.pm_tasks.proofs.Mended.{recover_wrapped}
+use Rattle.pm_runs.proofs.Mended.{recover_wrapped}
+use Rattle.pm_runs.proofs.Scripted.{run_begins_untold, run_refused, run_untold, run_wrapped}
+use Rattle.pm_runs.specs.commands.make.{making}
+use Rattle.pm_runs.specs.commands.once.{logging}
 use Rattle.pm_tasks.specs.commands.range as range
+use Rattle.pm_runs.specs.commands.replay.{replaying}
 use Rattle.pm_tasks.specs.commands.value as value
-use Rattle.pm_tasks.proofs.Served.{still_settled, left_alone}
+use Rattle.pm_words.proofs.Serving.{still_settled, left_alone}
 
 -- over which files such a command refuses, and over which it writes a text
 pub record FitsLook (turned : Found → FilesRefusal → Type 0) (said : Found → List ℕ → Type 0) : Type 0 where
   -- none speaks of a result that isn't logged
-  pub never_unlogged : (f : Found) (reason : ResultRefusal) → turned f (Unlogged reason) → ⊥
+  pub never_unlogged : (f : Found) (reason : RunRefusal) → turned f (Run reason) → ⊥
   -- a file stands wrapped where one says so, and none does where a text was written
   pub wrapped : (f : Found) (file : FileId) → turned f (Compressed file) → f.wrapped ≡ Some file
   pub unwrapped : (f : Found) (text : List ℕ) → said f text → f.wrapped ≡ None
@@ -55,7 +58,7 @@ neither : {A B : Type 0} → (A → ⊥) → (B → ⊥) → A ⊎ B → ⊥
 neither f g t = ⊎_elim f g t
 
 -- a command that turns files away for what it finds in an archive that was loaded
-asked_fits : (why : Loaded → Found → FilesRefusal → Type 0) (said : Found → List ℕ → Type 0) → ((r : Loaded) (f : Found) (reason : ResultRefusal) → why r f (Unlogged reason) → ⊥) → ((r : Loaded) (f : Found) (file : FileId) → why r f (Compressed file) → ⊥)
+asked_fits : (why : Loaded → Found → FilesRefusal → Type 0) (said : Found → List ℕ → Type 0) → ((r : Loaded) (f : Found) (reason : RunRefusal) → why r f (Run reason) → ⊥) → ((r : Loaded) (f : Found) (file : FileId) → why r f (Compressed file) → ⊥)
     → ((f : Found) (text : List ℕ) → said f text → f.wrapped ≡ None) → FitsLook (TurnedAfter why) said
 asked_fits why said unlogged wrapped unwrapped = record {
   never_unlogged = λ f reason t. neither (λ n. n) (λ b. unlogged b.0 f reason b.2) t;
@@ -81,14 +84,14 @@ not_both w file none some = let e : None ≡ Some file = sym none ∙ some in cc
 
 module _ (turned : Found → FilesRefusal → Type 0) (said : Found → List ℕ → Type 0) (first : DiskSide → List ℕ → Type 0) (fits : FitsLook turned said) where
   never_turned : (f : Found) (text : List ℕ) → said f text → (e : FilesRefusal) → IsNever e → turned f e → ⊥
-  never_turned f text s (Unlogged reason) never t = fits.never_unlogged f reason t
+  never_turned f text s (Run reason) never t = fits.never_unlogged f reason t
   never_turned f text s (Compressed file) never t = not_both f.wrapped file (fits.unwrapped f text s) (fits.wrapped f file t)
   never_turned f text s (NotArchive file place) never t = never
   never_turned f text s (Nothing stamp) never t = never
 
   -- where a file stands wrapped, the archive is turned away
   look_wrapped : (f : Found) (file : FileId) (e : FilesRefusal) → turned f (Compressed file) → turned f e → files_status e ≡ 6
-  look_wrapped f file (Unlogged reason) w t = absurd (fits.never_unlogged f reason t)
+  look_wrapped f file (Run reason) w t = absurd (fits.never_unlogged f reason t)
   look_wrapped f file (Compressed other) w t = refl
   look_wrapped f file (NotArchive other place) w t = refl
   look_wrapped f file (Nothing stamp) w t = absurd (not_both f.wrapped file (fits.nothing f stamp t) (fits.wrapped f file w))
@@ -115,7 +118,7 @@ module _ (turned : Found → FilesRefusal → Type 0) (said : Found → List ℕ
 
   -- what such a command answers that writes nothing before it is done
   pub look_serves : (input : List ℕ) (k : SinkSide) (failed : Bool) (d : DiskSide) (result : Result (List ℕ) Refusal) → Untouched d → IsSent k [] failed → first d [] → (d.tells → IfOk result (said (found d))) → IfErr result (TurnedAway turned d)
-      → Serves (looks turned said first) input k failed d (told_of result)
+      → Serves (looks turned said first) input k failed d result
   look_serves input k failed d (Ok text) still sent begun told away = record { front = []; sent = sent; done = look_served input d text still told; stops = tt }
   look_serves input k failed d (Err e) still sent begun told away = record { front = []; sent = sent; done = tt; stops = (look_stops input d e still away, begun) }
 
@@ -125,14 +128,16 @@ look_leaves g m input a b looks = λ tells. weaker g.moment g.left_since g.held 
 
 -- of `dump`, whose text goes on behind what was sent
 pub dump_serves : (input : List ℕ) (k : SinkSide) (failed : Bool) (d : DiskSide) (result : Result (List ℕ) Refusal) → Untouched d → IfOk result (dump.HasSaid k failed d) → OnErr result (dump.HasStopped k failed d) → IfErr result (TurnedAway dump.turned d)
-    → Serves dump.dump input k failed d (told_of result)
+    → Serves dump.dump input k failed d result
 dump_serves input k failed d (Ok text) still has stopped away = record { front = has.front; sent = has.sent; done = look_served dump.turned dump.said dump.begun dump_fits input d (has.front ++ text) still has.whole; stops = tt }
 dump_serves input k failed d (Err e) still has stopped away =
     record { front = stopped.front; sent = stopped.sent; done = tt; stops = (look_stops dump.turned dump.said dump.begun dump_fits input d e still away, stopped.so_far) }
 
 -- where the archive doesn't take the result, nothing else is refused
-pub one_reason : (command : Command) (input : List ℕ) (f : Found) (reason : ResultRefusal) (e : FilesRefusal) → (meaning command).turns_away input f (Unlogged reason) → (meaning command).turns_away input f e → files_status e ≡ result_status reason
-one_reason (Once asked) input f reason e unlogged t = once_unlogged asked input f reason e unlogged t
+pub one_reason : (command : Command) (input : List ℕ) (f : Found) (reason : RunRefusal) (e : FilesRefusal) → (meaning command).turns_away input f (Run reason) → (meaning command).turns_away input f e → files_status e ≡ run_status reason
+one_reason (Once asked) input f reason e refused t = run_refused (logging asked) input f reason e refused t
+one_reason (Replay volume) input f reason e refused t = run_refused (replaying volume) input f reason e refused t
+one_reason (Make asked) input f reason e refused t = run_refused (making asked) input f reason e refused t
 one_reason MmvMake input f reason e unlogged t = absurd unlogged
 one_reason MmvDump input f reason e unlogged t = absurd unlogged
 one_reason Dump input f reason e unlogged t = absurd (dump_fits.never_unlogged f reason unlogged)
@@ -144,7 +149,9 @@ one_reason (Value asked) input f reason e unlogged away = absurd ((value_fits as
 
 -- where a file stands wrapped, the archive is turned away
 pub wrapped_first : (command : Command) (input : List ℕ) (f : Found) (file : FileId) (e : FilesRefusal) → (meaning command).turns_away input f (Compressed file) → (meaning command).turns_away input f e → files_status e ≡ 6
-wrapped_first (Once asked) input f file e w t = once_wrapped asked input f file e w t
+wrapped_first (Once asked) input f file e w t = run_wrapped (logging asked) input f file e w t
+wrapped_first (Replay volume) input f file e w t = run_wrapped (replaying volume) input f file e w t
+wrapped_first (Make asked) input f file e w t = run_wrapped (making asked) input f file e w t
 wrapped_first MmvMake input f file e w t = absurd w
 wrapped_first MmvDump input f file e w t = absurd w
 wrapped_first Dump input f file e w t = look_wrapped dump.turned dump.said dump.begun dump_fits f file e w t
@@ -156,11 +163,22 @@ wrapped_first (Value asked) input f file e w away = look_wrapped (value.turned a
 
 -- ---- a refusal of files whose line wants memory
 
+run_not_five : (reason : RunRefusal) → run_status reason ≡ 5 → ⊥
+run_not_five (Condition line) h = omega (arith, h)
+run_not_five (Limit what number) h = omega (arith, h)
+run_not_five (NotLater last) h = omega (arith, h)
+run_not_five (Changed pmid) h = omega (arith, h)
+
 never_five : (e : FilesRefusal) → files_status e ≡ 5 → ⊥
-never_five e h = grind arith
+never_five (Run reason) h = run_not_five reason h
+never_five (Compressed file) h = omega (arith, h)
+never_five (NotArchive file at) h = omega (arith, h)
+never_five (Nothing stamp) h = omega (arith, h)
 
 begun_untold : (command : Command) (input : List ℕ) (d : DiskSide) (e : FilesRefusal) → (meaning command).begun (files_status e) input d → (meaning command).begun 9 input d
-begun_untold (Once asked) input d e begun = once_untold asked input d (files_status e) (never_five e) begun
+begun_untold (Once asked) input d e begun = run_untold (logging asked) input d (files_status e) (never_five e) begun
+begun_untold (Replay volume) input d e begun = run_untold (replaying volume) input d (files_status e) (never_five e) begun
+begun_untold (Make asked) input d e begun = run_untold (making asked) input d (files_status e) (never_five e) begun
 begun_untold MmvMake input d e begun = begun
 begun_untold MmvDump input d e begun = begun
 begun_untold Dump input d e begun = begun
@@ -175,3 +193,17 @@ untold_left command input d e left = record {
   files = ⊎_elim (λ (still : Untouched d). inl still) (λ (begun : (meaning command).begun (files_status e) input d). inr (begun_untold command input d e begun)) left.files;
   settled = λ other. left.settled (never_five e);
 }
+
+-- what was written before its line
+pub begins_untold : (command : Command) (input : List ℕ) (d : DiskSide) (e : Refusal) (front : List ℕ) → IsSome (numbered_line_of e) → (meaning command).begins input d e front → (meaning command).begins input d NoMemory front
+begins_untold (Once asked) input d e front some b = run_begins_untold (logging asked) input d e front some b
+begins_untold (Replay volume) input d e front some b = run_begins_untold (replaying volume) input d e front some b
+begins_untold (Make asked) input d e front some b = run_begins_untold (making asked) input d e front some b
+begins_untold MmvMake input d e front some b = b
+begins_untold MmvDump input d e front some b = b
+begins_untold Dump input d e front some b = b
+begins_untold Info input d e front some b = b
+begins_untold Recover input d e front some b = b
+begins_untold (At t) input d e front some b = b
+begins_untold (Range from to) input d e front some b = b
+begins_untold (Value asked) input d e front some b = b

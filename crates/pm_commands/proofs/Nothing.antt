@@ -2,21 +2,19 @@
 use Rattle.std.proofs.Common.{◌≡◌, ◌⊎◌, inl, inr, ⊎_elim, ℕ, List, refl, sym, ◌∙◌, subst, Option, Some, None}
 use Rattle.pcp_base.specs.Time.{Moment}
 use Rattle.pcp_base.specs.declared.file.FileId.{FileId}
-use Rattle.pcp_base.specs.declared.result.Item.{Item}
 use Rattle.pcp_base.specs.declared.result.ValueSet.{ValueSet}
 use Rattle.archive_loading.specs.Loaded.{Loaded}
-use Rattle.archive_reader.specs.Asked.{at_begin, IsAtFrom, IsAtFault}
-use Rattle.archive_reader.specs.Values.{IsValueAt, IsWholeFault}
-use Rattle.archive_reader.specs.declared.fault.ReaderFault.TheVariants as faults
+use Rattle.archive_reader.specs.Asked.{at_begin, IsAtFrom}
+use Rattle.archive_reader.specs.Values.{IsValueAt}
 use Rattle.archive_reader.proofs.Once.{at_answers_once, value_answers_once}
 use Rattle.archive_reader.proofs.OnceLoaded.{load_answers_once}
 use Rattle.pm_words.specs.declared.stage.FilesRefusal.{FilesRefusal}
-use Rattle.pm_words.specs.declared.stage.FilesRefusal.TheVariants.{Unlogged, Compressed, NotArchive, Nothing}
+use Rattle.pm_words.specs.declared.stage.FilesRefusal.TheVariants.{Run, Compressed, NotArchive, Nothing}
 use Rattle.pm_words.specs.declared.words.Command.{Command}
-use Rattle.pm_words.specs.declared.words.Command.TheVariants.{Once, MmvMake, MmvDump, Dump, Info, Recover, At, Range, Value}
+use Rattle.pm_words.specs.declared.words.Command.TheVariants.{Once, Replay, Make, MmvMake, MmvDump, Dump, Info, Recover, At, Range, Value}
 use Rattle.pm_words.specs.declared.words.ValueWords.{ValueWords}
 use Rattle.pm_tasks.specs.Archives.{IsLoaded, IsNotLoaded}
-use Rattle.pm_tasks.specs.Ends.{HasServed}
+use Rattle.pm_words.specs.Serving.{HasServed}
 use Rattle.pm_tasks.specs.Meanings.{meaning}
 use Rattle.pm_words.specs.Refusals.{files_status}
 use Rattle.pm_words.specs.Sides.{DiskSide, Found, found}
@@ -31,7 +29,7 @@ none_or_some A x o none some = let e : None ≡ Some x = sym none ∙ some in cc
 
 -- files that are loaded aren't refused, and are loaded in one way
 not_refused : (f : Found) (r : Loaded) → IsLoaded f r → (e : FilesRefusal) → IsNotLoaded f e → ⊥
-not_refused f r loaded (Unlogged reason) n = n
+not_refused f r loaded (Run reason) n = n
 not_refused f r loaded (Compressed file) n = wrapped_not f.wrapped file loaded.unwrapped n
 not_refused f r loaded (NotArchive file place) n = (load_answers_once f.files).apart r file place loaded.over n.1
 not_refused f r loaded (Nothing stamp) n = n
@@ -45,7 +43,7 @@ abbrev no_item : Found → Moment → Loaded → Type 0
 no_item f t r = IsAtFrom f.files r.volumes t (at_begin r t) None
 
 at_else : (t : Moment) (f : Found) (r : Loaded) → no_item f t r → (e : FilesRefusal) → at.IsStopped t r f e → files_status e ≡ 11
-at_else t f r none (Unlogged reason) why = absurd why
+at_else t f r none (Run reason) why = absurd why
 at_else t f r none (Compressed file) why = absurd why
 at_else t f r none (NotArchive file place) why = absurd ((at_answers_once f.files r t).apart None file place none why)
 at_else t f r none (Nothing stamp) why = refl
@@ -64,7 +62,7 @@ at_said t f stamp text (inr b) said =
 -- ---- the values that a metric last had
 
 value_else : (asked : ValueWords) (f : Found) (r : Loaded) (o : Option ℕ) → value.named r.records asked.name ≡ o → value.HasNothing f r asked.stamp o → (e : FilesRefusal) → value.IsStopped asked r f e → files_status e ≡ 11
-value_else asked f r o is none (Unlogged reason) why = absurd why
+value_else asked f r o is none (Run reason) why = absurd why
 value_else asked f r o is none (Compressed file) why = absurd why
 value_else asked f r None is none (NotArchive file place) why = absurd (none_or_some ℕ why.0 (value.named r.records asked.name) is why.1)
 value_else asked f r (Some pmid) is none (NotArchive file place) why = absurd ((value_answers_once f.files r pmid asked.stamp).apart None file place none.0 why.2)
@@ -101,6 +99,8 @@ no_such f g t = ⊎_elim f g t
 
 pub nothing_first : (command : Command) (input : List ℕ) (f : Found) (stamp : Moment) (e : FilesRefusal) → (meaning command).turns_away input f (Nothing stamp) → (meaning command).turns_away input f e → files_status e ≡ 11
 nothing_first (Once asked) input f stamp e n t = absurd n.2
+nothing_first (Replay volume) input f stamp e n t = absurd n.2
+nothing_first (Make asked) input f stamp e n t = absurd n.2
 nothing_first MmvMake input f stamp e n t = absurd n
 nothing_first MmvDump input f stamp e n t = absurd n
 nothing_first Dump input f stamp e n t = absurd (no_such (λ (a : ⊥). a) (λ b. b.2) n)
@@ -112,6 +112,8 @@ nothing_first (Value asked) input f stamp e n other = value_nothing asked f stam
 
 pub never_done : (command : Command) (input : List ℕ) (d : DiskSide) (text : List ℕ) → HasServed (meaning command) input d text → d.tells → (stamp : Moment) → (meaning command).turns_away input (found d) (Nothing stamp) → ⊥
 never_done (Once asked) input d text served tells stamp n = n.2
+never_done (Replay volume) input d text served tells stamp n = n.2
+never_done (Make asked) input d text served tells stamp n = n.2
 never_done MmvMake input d text served tells stamp n = n
 never_done MmvDump input d text served tells stamp n = n
 never_done Dump input d text served tells stamp n = no_such (λ (a : ⊥). a) (λ b. b.2) n

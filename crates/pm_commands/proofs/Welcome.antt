@@ -8,13 +8,13 @@ use Rattle.archive_reader.proofs.Loadable.{loads_readable}
 use Rattle.archive_reader.specs.declared.fault.ReaderFault.TheVariants as faults
 use Rattle.archive_reader.specs.Values.{IsWholeFault}
 use Rattle.pm_words.specs.declared.stage.FilesRefusal.{FilesRefusal}
-use Rattle.pm_words.specs.declared.stage.FilesRefusal.TheVariants.{Unlogged, Compressed, NotArchive, Nothing}
+use Rattle.pm_words.specs.declared.stage.FilesRefusal.TheVariants.{Run, Compressed, NotArchive, Nothing}
 use Rattle.pm_words.specs.declared.words.ValueWords.{ValueWords}
 use Rattle.pm_tasks.specs.Archives.{IsLoaded, IsNotLoaded}
 use Rattle.pm_commands.specs.Laws.{IsWelcome}
 use Rattle.pm_words.specs.Refusals.{files_status}
 use Rattle.pm_words.specs.Sides.{Found}
-use Rattle.pm_tasks.proofs.Refused.{takes_readable}
+use Rattle.pm_runs.proofs.Refused.{takes_readable}
 use Rattle.pm_tasks.specs.commands.dump as dump
 use Rattle.pm_tasks.specs.commands.value as value
 
@@ -22,13 +22,13 @@ not_both : (w : Option FileId) (file : FileId) → w ≡ None → w ≡ Some fil
 not_both w file none some = let e : None ≡ Some file = sym none ∙ some in cc
 
 is_loaded : (f : Found) → Readable f.files → f.wrapped ≡ None → (e : FilesRefusal) → IsNotLoaded f e → ⊥
-is_loaded f readable unwrapped (Unlogged reason) why = why
+is_loaded f readable unwrapped (Run reason) why = why
 is_loaded f readable unwrapped (Compressed file) why = not_both f.wrapped file unwrapped why
 is_loaded f readable unwrapped (NotArchive file place) why = loads_readable f.files file place readable why.1
 is_loaded f readable unwrapped (Nothing stamp) why = why
 
 good_records : (f : Found) (reading : ArchiveReading) → Reads f.files reading → (r : Loaded) → IsLoaded f r → (e : FilesRefusal) → dump.BadRecord r f e → ⊥
-good_records f reading reads r loaded (Unlogged reason) why = why
+good_records f reading reads r loaded (Run reason) why = why
 good_records f reading reads r loaded (Compressed file) why = why
 good_records f reading reads r loaded (NotArchive file place) why =
     let bad = why.1 in
@@ -41,7 +41,7 @@ no_fault f reading reads r loaded file place why =
     (readable_stands f.files reading r reads loaded.over).good why.0 bad.last bad.to file place bad.leads bad.bad
 
 good_values : (f : Found) (reading : ArchiveReading) → Reads f.files reading → (r : Loaded) → IsLoaded f r → (asked : ValueWords) (e : FilesRefusal) → value.IsStopped asked r f e → files_status e ≡ 11
-good_values f reading reads r loaded asked (Unlogged reason) why = absurd why
+good_values f reading reads r loaded asked (Run reason) why = absurd why
 good_values f reading reads r loaded asked (Compressed file) why = absurd why
 good_values f reading reads r loaded asked (NotArchive file place) why = absurd (no_fault f reading reads r loaded file place why.2)
 good_values f reading reads r loaded asked (Nothing stamp) why = refl

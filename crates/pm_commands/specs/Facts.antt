@@ -1,22 +1,24 @@
 -- What a status says, fact by fact. "Always" yields to want of memory (9) and to a read that failed before (3), which no
 -- clause can foresee.
-use Rattle.std.specs.Prelude.{◌≡◌, ◌⊎◌, ℕ, ◌<◌, ◌≤◌, List, [], length, drop, true, false, Option, Some, None, Ok, Err}
+use Rattle.std.specs.Prelude.{◌≡◌, ◌⊎◌, ℕ, ◌<◌, ◌≤◌, List, [], length, drop, true, false, Option, Some, None, IsSome, Ok, Err}
 use Rattle.pcp_base.specs.Time.{Moment}
 use Rattle.pcp_model.specs.Disk.{Files, Holdings, CrashImage}
 use Rattle.pcp_outside.specs.Causes.{Rose}
 use Rattle.pm_words.specs.declared.stage.InputRefusal.{InputRefusal}
 use Rattle.pm_words.specs.declared.stage.FilesRefusal.{FilesRefusal}
-use Rattle.pm_words.specs.declared.stage.FilesRefusal.TheVariants.{Unlogged, Compressed, Nothing}
+use Rattle.pm_words.specs.declared.stage.FilesRefusal.TheVariants.{Run, Compressed, Nothing}
 use Rattle.pm_words.specs.declared.words.Command.{Command}
 use Rattle.pm_words.specs.CommandLine.{command_of}
 use Rattle.pm_tasks.specs.Causes.{Asks, fault_of, Finds, IsReader}
 use Rattle.pm_words.specs.Inputs.{input_limit, refusal_of}
 use Rattle.pm_words.specs.Meaning.{Meaning}
+use Rattle.script_passes.specs.declared.opening.Opened.{Opened}
 use Rattle.pm_tasks.specs.Meanings.{meaning}
+use Rattle.pm_tasks.specs.Regions.{AsksRun, RunsScript}
 use Rattle.pcp_base.specs.declared.file.FileId.{FileId}
-use Rattle.pm_words.specs.declared.stage.ResultRefusal.{ResultRefusal}
-use Rattle.pm_words.specs.declared.stage.ResultRefusal.TheVariants.{NotLater, Changed}
-use Rattle.pm_words.specs.Refusals.{input_status, files_status, result_status}
+use Rattle.pm_words.specs.declared.stage.RunRefusal.{RunRefusal}
+use Rattle.pm_words.specs.declared.stage.RunRefusal.TheVariants.{Condition, NotLater, Changed}
+use Rattle.pm_words.specs.Refusals.{input_status, files_status, run_status}
 use Rattle.pm_words.specs.Sides.{SourceSide, SinkSide, DiskSide, found, Untouched}
 
 -- the words are a command that has nothing to do with the disk
@@ -40,9 +42,11 @@ pub record TurnsAway (words : List (List ℕ)) (s : SourceSide) (d : DiskSide) (
   pub turned : d.tells → (meaning asks.command).turns_away asks.input (found d) e
 
 -- 7 where a command that reads an input is given more than 16 MiB; one byte above the limit is taken, and no further one. Else it
--- comes only where a record is too long, or a file of the archive is full.
+-- comes only where a script has too many regions, a tick asks for too many metrics, a record is too long, or a file of the archive is
+-- full.
 pub record LimitIsExact (words : List (List ℕ)) (s : SourceSide) (d : DiskSide) (status : ℕ) : Type 0 where
-  pub only : status ≡ 7 → (IsReader words × (s.tells → (input_limit < length s.left) × (s.after ≡ drop 16777217 s.left))) ⊎ ((reason : ResultRefusal) × (result_status reason ≡ 7) × TurnsAway words s d (Unlogged reason))
+  pub only : status ≡ 7 → (IsReader words × (s.tells → (input_limit < length s.left) × (s.after ≡ drop 16777217 s.left)))
+      ⊎ (((e : InputRefusal) × (input_status e ≡ 7) × Finds words s e) ⊎ ((reason : RunRefusal) × (run_status reason ≡ 7) × TurnsAway words s d (Run reason)))
   pub always : IsReader words → s.tells → input_limit < length s.left → (status ≡ 7) ⊎ ((status ≡ 9) ⊎ (status ≡ 3))
 
 -- what the source gives: all that it has left, within the limit, or nothing to a command that takes no input
@@ -61,19 +65,20 @@ pub record Meets (words : List (List ℕ)) (s : SourceSide) : Type 0 where
 abbrev pub refused_of : {words : List (List ℕ)} {s : SourceSide} → Meets words s → Option InputRefusal
 refused_of a = refusal_of (meaning a.command).reads a.input
 
--- 2 exactly where the input isn't what the command reads: no image, or no layout text
-pub record InputFaultIsExact (words : List (List ℕ)) (s : SourceSide) (status : ℕ) : Type 0 where
-  pub only : status ≡ 2 → (e : InputRefusal) × (input_status e ≡ 2) × Finds words s e
-  pub always : (a : Meets words s) → (e : InputRefusal) → input_status e ≡ 2 → refused_of a ≡ Some e → (status ≡ 2) ⊎ ((status ≡ 9) ⊎ (status ≡ 3))
+-- 2 only where the input isn't what the command reads: no image, no layout text, or no script; or where the condition of a script's
+-- line fails in the run. An input that is refused always has its refusal's status: 2, or 7 where a script has too many regions.
+pub record InputFaultIsExact (words : List (List ℕ)) (s : SourceSide) (d : DiskSide) (status : ℕ) : Type 0 where
+  pub only : status ≡ 2 → ((e : InputRefusal) × (input_status e ≡ 2) × Finds words s e) ⊎ ((line : ℕ) × TurnsAway words s d (Run (Condition line)))
+  pub always : (a : Meets words s) → (e : InputRefusal) → refused_of a ≡ Some e → (status ≡ input_status e) ⊎ ((status ≡ 9) ⊎ (status ≡ 3))
 
--- 12 only where the result isn't later than all that the archive has, 13 only where that describes a metric otherwise. Where the
--- archive doesn't take the result, the status is always that of the one reason: 12, 13, or 7 where a record is too long or a file
--- full; a disk that fails comes before.
-pub record UnloggedIsExact (words : List (List ℕ)) (s : SourceSide) (d : DiskSide) (status : ℕ) : Type 0 where
-  pub not_later : status ≡ 12 → (last : Moment) × TurnsAway words s d (Unlogged (NotLater last))
-  pub changed : status ≡ 13 → (pmid : ℕ) × TurnsAway words s d (Unlogged (Changed pmid))
-  pub always : (a : Meets words s) → refused_of a ≡ None → d.tells → (reason : ResultRefusal) → (meaning a.command).turns_away a.input (found d) (Unlogged reason)
-      → (status ≡ result_status reason) ⊎ ((status ≡ 9) ⊎ ((status ≡ 3) ⊎ (status ≡ 5)))
+-- 12 only where a result isn't later than all that the archive has, 13 only where that describes a metric otherwise. Where the run
+-- ends before its end, the status is always that of the one reason: 2 where a line's condition fails, 12, 13, or 7 where there is too
+-- much of something; a disk that fails comes before.
+pub record RunIsExact (words : List (List ℕ)) (s : SourceSide) (d : DiskSide) (status : ℕ) : Type 0 where
+  pub not_later : status ≡ 12 → (last : Moment) × TurnsAway words s d (Run (NotLater last))
+  pub changed : status ≡ 13 → (pmid : ℕ) × TurnsAway words s d (Run (Changed pmid))
+  pub always : (a : Meets words s) → refused_of a ≡ None → d.tells → (reason : RunRefusal) → (meaning a.command).turns_away a.input (found d) (Run reason)
+      → (status ≡ run_status reason) ⊎ ((status ≡ 9) ⊎ ((status ≡ 3) ⊎ (status ≡ 5)))
 
 -- 6 only where the archive is turned away: a file stands wrapped, or a place fits no archive; always in the first case, unless the
 -- disk fails before
@@ -115,3 +120,12 @@ pub record IsGoodRun (words : List (List ℕ)) (s : SourceSide) (k : SinkSide) (
 pub record Keeps (words : List (List ℕ)) (s : SourceSide) (before held : Holdings) : Type 0 where
   pub asks : Asks words s
   pub each : (crash : Files) → CrashImage held crash → (meaning asks.command).keeps asks.input before crash
+
+-- Where the run of a script began, and memory didn't run out, the regions are there on which it was run: the input was good, or the
+-- status comes of no stage before the run.
+abbrev pub ComesOfRun : ℕ → Type 0
+ComesOfRun status = (status ≡ 0) ⊎ ((status ≡ 4) ⊎ ((status ≡ 5) ⊎ ((status ≡ 6) ⊎ ((status ≡ 12) ⊎ (status ≡ 13)))))
+
+pub record OpensRegions (words : List (List ℕ)) (s : SourceSide) (opened : Option Opened) (status : ℕ) : Type 0 where
+  pub good : (a : Meets words s) → refused_of a ≡ None → RunsScript a.command → IsSome opened ⊎ ((status ≡ 9) ⊎ (status ≡ 3))
+  pub ran : AsksRun words → ComesOfRun status → IsSome opened

@@ -1,17 +1,23 @@
--- Over which archives the commands that read one, or go on with it, are done: none that is readable is turned away, nor one that
--- takes the result, unless a file stands wrapped.
-use Rattle.std.specs.Prelude.{◌≡◌, Option, None}
+-- Over which files commands are done: no readable archive is turned away by one that reads it, nor files over which the run of a
+-- script comes to its end, unless a file stands wrapped; and that a script runs to one end.
+use Rattle.std.specs.Prelude.{◌≡◌, ℕ, List, None}
+use Rattle.pcp_base.specs.declared.result.Item.{Item}
 use Rattle.pcp_model.specs.Archive.{Readable}
-use Rattle.fetch_engine.specs.declared.fetch.Fetched.{Fetched}
-use Rattle.record_run.specs.OneReason.{Takes}
+use Rattle.pcp_model.specs.Disk.{Files}
+use Rattle.run_script.specs.declared.script.Script.{Script}
+use Rattle.script_runs.specs.declared.ending.Ending.{Ending}
+use Rattle.script_runs.specs.declared.ending.Ending.TheVariants as ends
+use Rattle.script_runs.specs.Regions.{ScriptRegion}
+use Rattle.script_runs.specs.Runs.{RunsTo}
 use Rattle.pm_words.specs.declared.stage.FilesRefusal.{FilesRefusal}
 use Rattle.pm_words.specs.declared.words.ValueWords.{ValueWords}
 use Rattle.pm_words.specs.Refusals.{files_status}
 use Rattle.pm_words.specs.Sides.{Found}
+use Rattle.pm_runs.specs.Scripts as scripts
+use Rattle.pm_runs.specs.Scripts.{IsOne, Leads}
 use Rattle.pm_tasks.specs.commands.dump as dump
 use Rattle.pm_tasks.specs.commands.info as info
-use Rattle.pm_tasks.specs.commands.once as once
-use Rattle.pm_tasks.specs.commands.recover as recover
+use Rattle.pm_runs.specs.commands.recover as recover
 use Rattle.pm_tasks.specs.commands.value as value
 
 pub record IsWelcome (f : Found) : Type 0 where
@@ -23,6 +29,10 @@ pub record IsWelcome (f : Found) : Type 0 where
 abbrev pub ReadableIsWelcome : Type 0
 ReadableIsWelcome = (f : Found) → Readable f.files → f.wrapped ≡ None → IsWelcome f
 
--- `once` turns no archive away that takes its result
-abbrev pub TakingIsWelcome : Type 0
-TakingIsWelcome = (f : Found) (o : Option Fetched) → Takes f.files o → f.wrapped ≡ None → (e : FilesRefusal) → once.turned f o e → ⊥
+-- a command that runs a script turns no files away over which the run comes to its end
+abbrev pub DoneIsWelcome : Type 0
+DoneIsWelcome = (f : Found) (script : Script) (limit : ℕ) (output : List ℕ) (items : List Item) (final : Files) → Leads script limit f.files ends.Done output items final → f.wrapped ≡ None → (e : FilesRefusal) → scripts.turned limit f script e → ⊥
+
+-- a script runs over files to one end, with one output, the same items, regions and files
+abbrev pub OneEnd : Type 0
+OneEnd = (script : Script) (limit : ℕ) (start : Files) (a b : Ending) (o p : List ℕ) (i j : List Item) (r s : List ScriptRegion) (f g : Files) → RunsTo script limit start a o i r f → RunsTo script limit start b p j s g → IsOne a b o p i j r s f g

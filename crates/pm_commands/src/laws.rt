@@ -1,5 +1,5 @@
 //! Laws of the commands' meanings. Each is the contract of a function without parameters, which does nothing.
-ghost use Rattle.pm_commands.specs.Laws.{ReadableIsWelcome, TakingIsWelcome};
+ghost use Rattle.pm_commands.specs.Laws.{DoneIsWelcome, OneEnd, ReadableIsWelcome};
 
 /// A readable archive of which no file stands wrapped is turned away by no command that reads it whole, nor by
 /// recovery.
@@ -7,7 +7,12 @@ pub fn readable_is_welcome()
     ensures { ReadableIsWelcome }
 {}
 
-/// An archive that takes the result of `once`, and of which no file stands wrapped, isn't turned away by it.
-pub fn taking_is_welcome()
-    ensures { TakingIsWelcome }
+/// Files over which a script's run comes to its end, and of which none stands wrapped, aren't turned away by a command that runs it.
+pub fn done_is_welcome()
+    ensures { DoneIsWelcome }
+{}
+
+/// A script runs over files to one end, with one output, and the same items, regions and files.
+pub fn one_end()
+    ensures { OneEnd }
 {}

@@ -5,9 +5,9 @@
 mod laws;
 mod top;
 
-pub use laws::{readable_is_welcome, taking_is_welcome};
+pub use laws::{done_is_welcome, one_end, readable_is_welcome};
 pub use pm_words::{
-    Command, DiskRefusal, FilesRefusal, InputRefusal, OnceWords, ReadRefusal, Refusal,
-    ResultRefusal, Stop, Usage, ValueWords, read_words,
+    Command, DiskRefusal, FilesRefusal, InputRefusal, MakeWords, OnceWords, ReadRefusal, Refusal,
+    RunRefusal, Stop, Usage, ValueWords, read_words,
 };
 pub use top::offline;

@@ -18,7 +18,7 @@ use Rattle.pm_serving.specs.declared.refusal.ServeRefusal.{ServeRefusal}
 use Rattle.pm_serving.specs.declared.refusal.ServeRefusal.TheVariants.{Before, Accept}
 use Rattle.pm_serving.specs.declared.served.Served.{Served}
 use Rattle.pm_serving.specs.Ends.{Asks, Cause, IsOrder, Ran, Refuses, Stops, broken}
-use Rattle.pm_serving.specs.Reading.{TookSome}
+use Rattle.pm_words.specs.Reading.{TookSome}
 use Rattle.pm_serving.specs.Refusals.{IsNumbered}
 use Rattle.pm_serving.specs.Scripts.{Answers, script_served}
 use Rattle.pm_serving.specs.Serving.{DoorsSide, Leaves}

@@ -15,7 +15,7 @@ use Rattle.pm_serving.specs.declared.refusal.ServeRefusal.{ServeRefusal}
 use Rattle.pm_serving.specs.declared.refusal.ServeRefusal.TheVariants.{Before, Accept}
 use Rattle.pm_serving.specs.declared.served.Served.{Served}
 use Rattle.pm_serving.specs.CommandWords.{count_of}
-use Rattle.pm_serving.specs.Reading.{WasRead, ReadCause, TookSome}
+use Rattle.pm_words.specs.Reading.{WasRead, ReadCause, TookSome}
 use Rattle.pm_serving.specs.Refusals.{serving_status, serving_line, served_line}
 use Rattle.pm_serving.specs.Scripts.{script_served}
 use Rattle.pm_serving.specs.Serving.{DoorsSide, IsUnserved, Leaves}

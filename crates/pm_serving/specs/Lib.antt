@@ -1,5 +1,4 @@
 pub mod CommandWords
-pub mod Reading
 pub mod Scripts
 pub mod Refusals
 pub mod Serving

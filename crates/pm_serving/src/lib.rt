@@ -2,7 +2,6 @@
 //! seats beside each other (pmcd(1)). It answers the exit status, each with its cause, and leaves the regions on which it served.
 #![tactic(auto)]
 
-mod inputs;
 mod refusal;
 mod scripts;
 mod served;

@@ -11,7 +11,7 @@ use pm_words::Refusal;
 use std::alloc::Global;
 
 /// Why a call that serves ended before it was done.
-#[derive(Clone, Copy, Debug, PartialEq, Eq)]
+#[derive(Clone, Copy)]
 pub enum ServeRefusal {
     /// Before a session was served: by the words, the input or want of memory.
     Before(Refusal),

@@ -10,14 +10,13 @@ ghost use Rattle.pm_words.specs.Sides.{source_side, sink_side};
 ghost use Rattle.run_script.specs.Rules.{KeepsRules};
 ghost use Rattle.script_passes.specs.Openings.{HaveRoom};
 
-use crate::inputs::read_input;
 use crate::refusal::ServeRefusal;
 use crate::scripts::read_script;
 use crate::served::{Served, open};
 use crate::words::read_count;
 use pcp_base::{Bytes, List, NoMemory};
 use pcp_outside::{Door, Sink, Source, write_all};
-use pm_words::{Refusal, Usage};
+use pm_words::{Refusal, Usage, read_input};
 use pmcd_server::{ServeFault, serve};
 use run_script::Script;
 use std::alloc::Global;

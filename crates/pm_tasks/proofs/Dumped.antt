@@ -15,7 +15,7 @@ use Rattle.archive_reader.specs.Walks.{volumes_from, Leads, StepsOver}
 use Rattle.archive_reader.specs.declared.places.Place.{Place}
 use Rattle.pm_print.specs.Items.{item_text, items_text}
 use Rattle.pm_words.specs.declared.stage.FilesRefusal.{FilesRefusal}
-use Rattle.pm_words.specs.declared.stage.FilesRefusal.TheVariants.{Unlogged, Compressed, NotArchive, Nothing}
+use Rattle.pm_words.specs.declared.stage.FilesRefusal.TheVariants.{Run, Compressed, NotArchive, Nothing}
 use Rattle.pm_words.specs.declared.refusal.Refusal.{Refusal}
 use Rattle.pm_tasks.specs.Archives.{IsLoaded, TurnedAway}
 use Rattle.pm_words.specs.Refusals.{reader_refusal}
@@ -24,7 +24,7 @@ use Rattle.pm_words.specs.Sides.{SinkSide, DiskSide, Found, sink_side, disk_side
 use Rattle.pm_words.specs.Streams.{IsFront, IsSent, Turns}
 use Rattle.pm_tasks.specs.commands.dump.{label_line, HasItems, BeginsWith, HasNext, BadNext, HasPut, HasPutSome, HasSaid, HasStopped, BadRecord}
 use Rattle.pm_tasks.proofs.Asking.{turned_on}
-use Rattle.pm_tasks.proofs.Sending.{unsent, sent_on}
+use Rattle.pm_words.proofs.Sending.{unsent, sent_on}
 
 more_text : (records : List MetaRecord) (items : List Item) (x : Item) → items_text records (items ++ x ∷ []) ≡ items_text records items ++ item_text records x
 more_text records [] x = append-nil (item_text records x)
@@ -99,7 +99,7 @@ module _ {O : Type 0} (g : SinkGhosts O) (tells : Type 0) (files : Files) (r : L
   }
 
 bad_record : (r : Loaded) (p : Place) (f : Found) (before text : List ℕ) → IsSoFar f.files r p before text → (e : FilesRefusal) → BadNext r p f e → BadRecord r f e
-bad_record r p f before text so (Unlogged reason) bad = absurd bad
+bad_record r p f before text so (Run reason) bad = absurd bad
 bad_record r p f before text so (Compressed file) bad = absurd bad
 bad_record r p f before text so (Nothing stamp) bad = absurd bad
 bad_record r p f before text so (NotArchive file at) bad = (so.items, record { last = volumes_from p.volume r.volumes; to = p.offset; leads = so.leads; bad = bad })

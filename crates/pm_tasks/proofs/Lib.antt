@@ -1,10 +1,5 @@
 pub mod Asking
 pub mod Dumped
-pub mod Logged
-pub mod Mended
-pub mod Recovering
-pub mod Refused
-pub mod Sending
 pub mod Served
 pub mod Taken
 pub mod Timed

@@ -2,9 +2,8 @@
 use Rattle.std.proofs.Common.{◌≡◌, inl, inr, ⊎_elim, ℕ, ◌≤◌, Option, Some, None, Bool, true, false, List, [], ◌++◌, length, Result, Ok, Err, IsSome, refl, ap, ◌∙◌, subst, sym, arith}
 use Rattle.std.specs.Prelude.{if◌then◌else◌}
 use Rattle.std.proofs.lemmas.List.{drop_all}
-use Rattle.pcp_model.specs.Disk.{Files, Holdings, CrashImage, IsSettled}
+use Rattle.pcp_model.specs.Disk.{Files, Holdings, CrashImage}
 use Rattle.pcp_outside.specs.declared.streams.Sink.{Ghosts as SinkGhosts}
-use Rattle.pm_tasks.specs.declared.output.Output.{Output}
 use Rattle.pm_words.specs.declared.refusal.Refusal.{Refusal}
 use Rattle.pm_words.specs.declared.refusal.Refusal.TheVariants.{Words, Reading, Input, Disk, NoMemory}
 use Rattle.pm_words.specs.declared.stage.InputRefusal.{InputRefusal}
@@ -13,16 +12,16 @@ use Rattle.pm_words.specs.declared.stage.Stop.{Stop}
 use Rattle.pm_words.specs.declared.stage.Stop.TheVariants.{OutOfMemory, Refused}
 use Rattle.pm_words.specs.declared.stage.Usage.{Usage}
 use Rattle.pm_words.specs.declared.words.Command.{Command}
-use Rattle.pm_tasks.specs.Causes.{Asks, Got, Left, StopCause, TookSome, UnreadCause, Cause}
+use Rattle.pm_tasks.specs.Causes.{Asks, Got, TookSome, UnreadCause, Cause}
+use Rattle.pm_words.specs.Serving.{StopCause, Serves, MayLeave}
 use Rattle.pm_words.specs.CommandLine.{command_of, Reads}
-use Rattle.pm_tasks.specs.Ends.{HasRun, HasBegun, Serves, Runs, Told, Ends, MayLeave, MayBeLeft, shown}
-use Rattle.pm_words.specs.Inputs.{Refuses, input_limit}
-use Rattle.pm_words.specs.Meaning.{Meaning}
+use Rattle.pm_tasks.specs.Ends.{HasRun, HasBegun, Runs, Told, Ends, MayBeLeft}
+use Rattle.pm_words.specs.Inputs.{input_limit}
 use Rattle.pm_tasks.specs.Meanings.{meaning}
 use Rattle.pm_words.specs.Refusals.{status_of, line_of, stopped}
 use Rattle.pm_words.specs.Sides.{SourceSide, SinkSide, DiskSide, NotAsked, Untouched, sink_side}
 use Rattle.pm_words.specs.Streams.{IsSent, Finishes}
-use Rattle.pm_tasks.proofs.Sending.{front_taken, sent_on}
+use Rattle.pm_words.proofs.Sending.{front_taken, sent_on}
 
 -- all of a source was taken
 all_taken : (s : SourceSide) → length s.left ≤ input_limit → s.after ≡ [] → TookSome s
@@ -33,14 +32,6 @@ pub took_some : (s : SourceSide) (reads : Option (List ℕ → Option InputRefus
 took_some s None input got tells = (0, omega arith, got.1 tells)
 took_some s (Some refuses) input got tells = all_taken s (subst (λ bytes. length bytes ≤ input_limit) (got.told tells).0 got.within) (got.told tells).1
 
--- a disk that holds what it held is settled if it was
-pub still_settled : (d : DiskSide) → Untouched d → d.tells → IsSettled d.held → IsSettled d.after
-still_settled d still tells settled = subst IsSettled (sym (still tells)) settled
-
--- stopped before the first write
-pub left_alone : (m : Meaning) (status : ℕ) (input : List ℕ) (d : DiskSide) → Untouched d → Left m status input d
-left_alone m status input d still = record { files = inl still; settled = λ other. still_settled d still }
-
 -- a refusal of what was got
 pub stop_cause : (words : List (List ℕ)) (s : SourceSide) (d : DiskSide) (a : Asks words s) (e : Refusal) → StopCause (meaning a.command) a.input d e → Cause words s d e
 stop_cause words s d a (Input e) c = ((a, c.0), c.1)
@@ -48,40 +39,47 @@ stop_cause words s d a (Disk e) c = (a, c.0, c.1)
 stop_cause words s d a NoMemory c = (took_some s (meaning a.command).reads a.input a.got, inr (a, c))
 stop_cause words s d a _ c = absurd c
 
+-- and what was written before it
+asked_begun : (words : List (List ℕ)) (s : SourceSide) (d : DiskSide) (a : Asks words s) (e : Refusal) (front : List ℕ) → StopCause (meaning a.command) a.input d e → (meaning a.command).begins a.input d e front → HasBegun words s d e front
+asked_begun words s d a (Input e) front c begins = (a, begins)
+asked_begun words s d a (Disk e) front c begins = (a, begins)
+asked_begun words s d a NoMemory front c begins = inr (a, begins)
+asked_begun words s d a (Words usage) front c begins = absurd c
+asked_begun words s d a (Reading e) front c begins = absurd c
+
 -- the same of what a command answered
-pub runs : (words : List (List ℕ)) (s : SourceSide) (k : SinkSide) (failed : Bool) (d : DiskSide) (a : Asks words s) (result : Result Output Refusal)
+pub runs : (words : List (List ℕ)) (s : SourceSide) (k : SinkSide) (failed : Bool) (d : DiskSide) (a : Asks words s) (result : Result (List ℕ) Refusal)
     → Serves (meaning a.command) a.input k failed d result → Runs words s k failed d result
-runs words s k failed d a (Ok output) serves = record { front = serves.front; sent = serves.sent; done = record { asks = a; served = serves.done }; stops = tt }
+runs words s k failed d a (Ok text) serves = record { front = serves.front; sent = serves.sent; done = record { asks = a; served = serves.done }; stops = tt }
 runs words s k failed d a (Err e) serves = record {
   front = serves.front;
   sent = serves.sent;
   done = tt;
-  stops = (stop_cause words s d a e serves.stops.0, inr (a, serves.stops.1));
+  stops = (stop_cause words s d a e serves.stops.0, asked_begun words s d a e serves.front serves.stops.0 serves.stops.1);
 }
 
 -- stopped before anything was asked for
-pub runs_none : (words : List (List ℕ)) (s : SourceSide) (k : SinkSide) (failed : Bool) (d : DiskSide) (e : Refusal) → IsSent k [] failed → Cause words s d e → Runs words s k failed d (Err e)
-runs_none words s k failed d e sent cause = record { front = []; sent = sent; done = tt; stops = (cause, inl refl) }
+pub runs_none : (words : List (List ℕ)) (s : SourceSide) (k : SinkSide) (failed : Bool) (d : DiskSide) (e : Refusal) → IsSent k [] failed → Cause words s d e → HasBegun words s d e [] → Runs words s k failed d (Err e)
+runs_none words s k failed d e sent cause begun = record { front = []; sent = sent; done = tt; stops = (cause, begun) }
 
 -- the words are none
 pub no_words : (words : List (List ℕ)) (s : SourceSide) (d : DiskSide) (stop : Stop Usage) → Reads (Err stop) (command_of words) → NotAsked s → Untouched d → Cause words s d (stopped Words stop)
 no_words words s d OutOfMemory reads unasked still = (λ tells. (0, omega arith, unasked tells), inl still)
 no_words words s d (Refused usage) reads unasked still = (reads, unasked, still)
 
+pub no_words_begun : (words : List (List ℕ)) (s : SourceSide) (d : DiskSide) (stop : Stop Usage) → HasBegun words s d (stopped Words stop) []
+no_words_begun words s d OutOfMemory = inl refl
+no_words_begun words s d (Refused usage) = refl
+
+pub no_input_begun : (words : List (List ℕ)) (s : SourceSide) (d : DiskSide) (stop : Stop ReadRefusal) → HasBegun words s d (stopped Reading stop) []
+no_input_begun words s d OutOfMemory = inl refl
+no_input_begun words s d (Refused e) = refl
+
 -- the input isn't read
 pub no_input : (words : List (List ℕ)) (s : SourceSide) (d : DiskSide) (command : Command) (stop : Stop ReadRefusal) → command_of words ≡ Ok command → IsSome (meaning command).reads → UnreadCause s stop → Untouched d
     → Cause words s d (stopped Reading stop)
 no_input words s d command OutOfMemory is some cause still = (cause, inl still)
 no_input words s d command (Refused e) is some cause still = ((command, is, some), cause, still)
-
--- what was got isn't what the command reads
-pub no_good : (m : Meaning) (input : List ℕ) (d : DiskSide) (stop : Stop InputRefusal) → Refuses m.reads input stop → Untouched d → StopCause m input d (stopped Input stop)
-no_good m input d OutOfMemory refuses still = left_alone m 9 input d still
-no_good m input d (Refused e) refuses still = (refuses, still)
-
--- a command that is refused its input
-pub unconverted : (m : Meaning) (input : List ℕ) (k : SinkSide) (failed : Bool) (d : DiskSide) (stop : Stop InputRefusal) → IsSent k [] failed → m.begins input d [] → Untouched d → Refuses m.reads input stop → Serves m input k failed d (Err (stopped Input stop))
-unconverted m input k failed d stop sent nothing still refuses = record { front = []; sent = sent; done = tt; stops = (no_good m input d stop refuses still, nothing) }
 
 pub may_be_left : (words : List (List ℕ)) (s : SourceSide) (held : Holdings) (a : Asks words s) (crash : Files) → MayLeave (meaning a.command) a.input held crash → MayBeLeft words s held crash
 may_be_left words s held a crash may = ⊎_elim (λ (was : CrashImage held crash). inl was) (λ (left : (meaning a.command).may_leave a.input held crash). inr (a, left)) may
@@ -99,13 +97,13 @@ finished_ends words s k d text true run sent = inr (inl (
   },
 ))
 
-pub finishes : {O : Type 0} (g : SinkGhosts O) (words : List (List ℕ)) (s : SourceSide) (d : DiskSide) (a b c : O) (failed : Bool) (output : Output) (status : ℕ) → Runs words s (sink_side g a b) failed d (Ok output) → Finishes (sink_side g b c) failed (shown output) status
+pub finishes : {O : Type 0} (g : SinkGhosts O) (words : List (List ℕ)) (s : SourceSide) (d : DiskSide) (a b c : O) (failed : Bool) (text : List ℕ) (status : ℕ) → Runs words s (sink_side g a b) failed d (Ok text) → Finishes (sink_side g b c) failed text status
     → Ends words s (sink_side g a c) d status
-finishes g words s d a b c failed output status runs (now, sends, is) =
+finishes g words s d a b c failed text status runs (now, sends, is) =
     subst (Ends words s (sink_side g a c) d) (sym is)
-    (finished_ends words s (sink_side g a c) d (runs.front ++ shown output) now runs.done (sent_on g a b c runs.front (shown output) failed now runs.sent sends))
+    (finished_ends words s (sink_side g a c) d (runs.front ++ text) now runs.done (sent_on g a b c runs.front text failed now runs.sent sends))
 
 -- the end of a refusal whose line was written, or a front of it
-pub refused_ends : (words : List (List ℕ)) (s : SourceSide) (k : SinkSide) (d : DiskSide) (status : ℕ) (e : Refusal) (front : List ℕ) → status ≡ status_of e → Cause words s d e × HasBegun words s d front → Told k (front ++ line_of e)
+pub refused_ends : (words : List (List ℕ)) (s : SourceSide) (k : SinkSide) (d : DiskSide) (status : ℕ) (e : Refusal) (front : List ℕ) → status ≡ status_of e → Cause words s d e × HasBegun words s d e front → Told k (front ++ line_of e)
     → Ends words s k d status
 refused_ends words s k d status e front is stops told = inr (inr (record { refusal = e; status_is = is; cause = stops.0; front = front; begun = stops.1; told = told }))

@@ -9,7 +9,7 @@ use Rattle.archive_loading.specs.Takes.{TookLabels}
 use Rattle.archive_reader.specs.Asked.{at_begin, range_begin}
 use Rattle.archive_reader.specs.Takes.{TakesAt, TakesRange}
 use Rattle.pm_words.specs.declared.words.Command.{Command}
-use Rattle.pm_words.specs.declared.words.Command.TheVariants.{Once, MmvMake, MmvDump, Dump, Info, Recover, At, Range, Value}
+use Rattle.pm_words.specs.declared.words.Command.TheVariants.{Once, Replay, Make, MmvMake, MmvDump, Dump, Info, Recover, At, Range, Value}
 use Rattle.pm_words.specs.CommandLine.{command_of}
 use Rattle.pm_tasks.specs.Takes.{TookAsked, TookAt, TookRange, MayTake, TakesLittle}
 
@@ -24,6 +24,8 @@ may_take_nothing : (command : Command) (files : Files) (n : ℕ) → MayTake com
 may_take_nothing (At t) files n = none_asked files (λ r. TakesAt files r.volumes t (at_begin r t)) n
 may_take_nothing (Range from to) files n = none_asked files (λ r. TakesRange files r.volumes to (range_begin r from)) n
 may_take_nothing (Once asked) files n = tt
+may_take_nothing (Replay volume) files n = tt
+may_take_nothing (Make asked) files n = tt
 may_take_nothing MmvMake files n = tt
 may_take_nothing MmvDump files n = tt
 may_take_nothing Dump files n = tt

@@ -8,7 +8,7 @@ use Rattle.pcp_outside.specs.Causes.{Rose}
 use Rattle.archive_loading.specs.Loaded.{Loaded, IsOver}
 use Rattle.archive_loading.specs.LoadFaults.{NotLoaded}
 use Rattle.pm_words.specs.declared.stage.FilesRefusal.{FilesRefusal}
-use Rattle.pm_words.specs.declared.stage.FilesRefusal.TheVariants.{Unlogged, Compressed, NotArchive, Nothing}
+use Rattle.pm_words.specs.declared.stage.FilesRefusal.TheVariants.{Run, Compressed, NotArchive, Nothing}
 use Rattle.pm_words.specs.declared.stage.DiskRefusal.TheVariants.{Files as FilesAway, DiskFault}
 use Rattle.pm_words.specs.declared.refusal.Refusal.{Refusal}
 use Rattle.pm_words.specs.declared.refusal.Refusal.TheVariants.{Disk, NoMemory}
@@ -24,7 +24,7 @@ pub record IsLoaded (found : Found) (r : Loaded) : Type 0 where
 abbrev pub IsNotLoaded : Found → FilesRefusal → Type 0
 IsNotLoaded found (Compressed file) = found.wrapped ≡ Some file
 IsNotLoaded found (NotArchive file at) = (found.wrapped ≡ None) × NotLoaded found.files file at
-IsNotLoaded found (Unlogged reason) = ⊥
+IsNotLoaded found (Run reason) = ⊥
 IsNotLoaded found (Nothing stamp) = ⊥
 
 -- files are turned away where they aren't loaded, or for what is found in an archive that was
@@ -57,7 +57,7 @@ looks turned said first = record {
   turns_away = λ input files e. turned files e;
   done = λ input d. Untouched d;
   says = λ input d text. d.tells → said (found d) text;
-  begins = λ input d front. first d front;
+  begins = λ input d e front. first d front;
   keeps = λ input held crash. Unit {0};
   begun = λ status input d. ⊥;
   may_leave = λ input held crash. ⊥;

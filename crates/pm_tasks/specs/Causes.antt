@@ -1,24 +1,20 @@
 -- Why a command is refused, stage by stage. Causes are cumulative: each says also that all that is looked at before it
 -- was good. The words are looked at first, then the input, then the disk; want of memory may come at any place.
 use Rattle.std.specs.Prelude.{◌≡◌, ◌⊎◌, ℕ, ◌<◌, ◌≤◌, List, [], length, drop, true, Option, Some, None, IsSome, Ok, Err}
-use Rattle.pcp_model.specs.Disk.{IsSettled}
 use Rattle.pcp_outside.specs.Causes.{Rose}
 use Rattle.pm_words.specs.declared.stage.Stop.{Stop}
 use Rattle.pm_words.specs.declared.stage.Stop.TheVariants.{OutOfMemory, Refused}
 use Rattle.pm_words.specs.declared.stage.ReadRefusal.{ReadRefusal}
 use Rattle.pm_words.specs.declared.stage.ReadRefusal.TheVariants.{ReadFault, InputLimit}
 use Rattle.pm_words.specs.declared.stage.InputRefusal.{InputRefusal}
-use Rattle.pm_words.specs.declared.stage.DiskRefusal.{DiskRefusal}
-use Rattle.pm_words.specs.declared.stage.DiskRefusal.TheVariants.{Files, DiskFault}
 use Rattle.pm_words.specs.declared.refusal.Refusal.{Refusal}
 use Rattle.pm_words.specs.declared.refusal.Refusal.TheVariants.{Words, Reading, Input, Disk, NoMemory}
 use Rattle.pm_words.specs.declared.words.Command.{Command}
 use Rattle.pm_words.specs.CommandLine.{command_of}
 use Rattle.pm_words.specs.Inputs.{input_limit, refusal_of}
-use Rattle.pm_words.specs.Meaning.{Meaning}
 use Rattle.pm_tasks.specs.Meanings.{meaning}
-use Rattle.pm_words.specs.Refusals.{files_status}
-use Rattle.pm_words.specs.Sides.{SourceSide, DiskSide, found, NotAsked, Untouched}
+use Rattle.pm_words.specs.Sides.{SourceSide, DiskSide, NotAsked, Untouched}
+use Rattle.pm_words.specs.Serving.{DiskCause, Left}
 
 -- an input of at most 16 MiB was read to its end, and where the source tells, it's all that the source had left
 pub record WasRead (s : SourceSide) (input : List ℕ) : Type 0 where
@@ -62,25 +58,6 @@ ReadCause s InputLimit = s.tells → (input_limit < length s.left) × (s.after �
 abbrev pub UnreadCause : SourceSide → Stop ReadRefusal → Type 0
 UnreadCause s OutOfMemory = s.tells → TookSome s
 UnreadCause s (Refused e) = ReadCause s e
-
--- What is left of the disk where a command is stopped with a status: what it held, or what the command says of a stop
--- after its first write. But for a disk fault it is settled if it was.
-pub record Left (m : Meaning) (status : ℕ) (input : List ℕ) (d : DiskSide) : Type 0 where
-  pub files : Untouched d ⊎ m.begun status input d
-  pub settled : (status ≡ 5 → ⊥) → d.tells → IsSettled d.held → IsSettled d.after
-
--- why a command that uses the disk stops at it; files that are turned away stay as they were, or as the command says of a stop
--- after its first write
-abbrev pub DiskCause : Meaning → List ℕ → DiskSide → DiskRefusal → Type 0
-DiskCause m input d (Files e) = Left m (files_status e) input d × (d.tells → m.turns_away input (found d) e)
-DiskCause m input d DiskFault = Left m 5 input d × Rose d.faults d.faults_after
-
--- why a command that got its input stops
-abbrev pub StopCause : Meaning → List ℕ → DiskSide → Refusal → Type 0
-StopCause m input d (Input e) = (refusal_of m.reads input ≡ Some e) × Untouched d
-StopCause m input d (Disk e) = ((refusal_of m.reads input ≡ None) × (m.uses_disk ≡ true)) × DiskCause m input d e
-StopCause m input d NoMemory = Left m 9 input d
-StopCause m input d _ = ⊥
 
 -- Why a call is refused.
 abbrev pub Cause : List (List ℕ) → SourceSide → DiskSide → Refusal → Type 0

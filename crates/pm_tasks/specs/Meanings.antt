@@ -1,19 +1,23 @@
 -- The meaning of each command.
 use Rattle.pm_words.specs.declared.words.Command.{Command}
-use Rattle.pm_words.specs.declared.words.Command.TheVariants.{Once, MmvMake, MmvDump, Dump, Info, Recover, At, Range, Value}
+use Rattle.pm_words.specs.declared.words.Command.TheVariants.{Once, Replay, Make, MmvMake, MmvDump, Dump, Info, Recover, At, Range, Value}
 use Rattle.pm_words.specs.Meaning.{Meaning}
 use Rattle.pm_tasks.specs.commands.at.{at}
 use Rattle.pm_tasks.specs.commands.dump.{dump}
 use Rattle.pm_tasks.specs.commands.info.{info}
+use Rattle.pm_runs.specs.commands.make.{make}
 use Rattle.pm_tasks.specs.commands.mmv_dump.{mmv_dump}
 use Rattle.pm_tasks.specs.commands.mmv_make.{mmv_make}
-use Rattle.pm_tasks.specs.commands.once.{once}
-use Rattle.pm_tasks.specs.commands.recover.{recover}
+use Rattle.pm_runs.specs.commands.once.{once}
+use Rattle.pm_runs.specs.commands.recover.{recover}
 use Rattle.pm_tasks.specs.commands.range.{range}
+use Rattle.pm_runs.specs.commands.replay.{replay}
 use Rattle.pm_tasks.specs.commands.value.{value}
 
 abbrev pub meaning : Command → Meaning
 meaning (Once asked) = once asked
+meaning (Replay volume) = replay volume
+meaning (Make asked) = make asked
 meaning MmvMake = mmv_make
 meaning MmvDump = mmv_dump
 meaning Dump = dump

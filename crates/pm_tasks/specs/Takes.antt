@@ -8,7 +8,7 @@ use Rattle.archive_loading.specs.Takes.{TookLabels}
 use Rattle.archive_reader.specs.Asked.{at_begin, range_begin}
 use Rattle.archive_reader.specs.Takes.{TakesAt, TakesRange}
 use Rattle.pm_words.specs.declared.words.Command.{Command}
-use Rattle.pm_words.specs.declared.words.Command.TheVariants.{Once, MmvMake, MmvDump, Dump, Info, Recover, At, Range, Value}
+use Rattle.pm_words.specs.declared.words.Command.TheVariants.{Once, Replay, Make, MmvMake, MmvDump, Dump, Info, Recover, At, Range, Value}
 use Rattle.pm_words.specs.CommandLine.{command_of}
 
 -- the labels alone, or also what a search takes of the archive that was loaded
@@ -29,6 +29,8 @@ abbrev pub MayTake : Command → Files → ℕ → ℕ → Type 0
 MayTake (At t) files before after = TookAt t files before after
 MayTake (Range from to) files before after = TookRange from to files before after
 MayTake (Once asked) files before after = Unit {0}
+MayTake (Replay volume) files before after = Unit {0}
+MayTake (Make asked) files before after = Unit {0}
 MayTake MmvMake files before after = Unit {0}
 MayTake MmvDump files before after = Unit {0}
 MayTake Dump files before after = Unit {0}

@@ -3,7 +3,5 @@ pub mod dump
 pub mod info
 pub mod mmv_dump
 pub mod mmv_make
-pub mod once
 pub mod range
-pub mod recover
 pub mod value

@@ -5,7 +5,5 @@ pub(crate) mod dump;
 pub(crate) mod info;
 pub(crate) mod mmv_dump;
 pub(crate) mod mmv_make;
-pub(crate) mod once;
 pub(crate) mod range;
-pub(crate) mod recover;
 pub(crate) mod value;

@@ -29,8 +29,9 @@ fn takes_input(command: &Command) -> bool
     ensures { result ≡ is_some (meaning command.now).reads }
 {
     match command {
-        Command::Once(_) | Command::MmvMake | Command::MmvDump => true,
-        Command::Dump
+        Command::Once(_) | Command::Replay(_) | Command::MmvMake | Command::MmvDump => true,
+        Command::Make(_)
+        | Command::Dump
         | Command::Info
         | Command::Recover
         | Command::At(_)

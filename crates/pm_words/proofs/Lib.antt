@@ -1,1 +1,4 @@
-pub mod Components
+mod Components
+pub mod Recovering
+pub mod Sending
+pub mod Serving

@@ -1,11 +1,11 @@
 -- What the words of a command line ask for.
 use Rattle.std.specs.Prelude.{◌≡◌, ℕ, ◌+◌, ◌≤◌, Bool, false, ◌==◌, ◌&&◌, nat_le, nat_lt, if◌then◌else◌, List, [], ◌∷◌, length, Option, Some, None, Result, Ok, Err, codes, bytes_eq}
 use Rattle.std.specs.List.{list_all}
-use Rattle.pcp_base.specs.Names.{is_letter, is_name_byte}
+use Rattle.pcp_base.specs.Names.{IsComponent, is_letter, is_name_byte}
 use Rattle.pcp_base.specs.Time.{Moment}
 use Rattle.text_lines.specs.Numbers.{number_of}
 use Rattle.pm_words.specs.declared.words.Command.{Command}
-use Rattle.pm_words.specs.declared.words.Command.TheVariants.{Once, MmvMake, MmvDump, Dump, Info, Recover, At, Range, Value}
+use Rattle.pm_words.specs.declared.words.Command.TheVariants.{Once, Replay, Make, MmvMake, MmvDump, Dump, Info, Recover, At, Range, Value}
 use Rattle.pm_words.specs.declared.stage.Stop.{Stop}
 use Rattle.pm_words.specs.declared.stage.Stop.TheVariants.{OutOfMemory, Refused}
 use Rattle.pm_words.specs.declared.stage.Usage.{Usage}
@@ -42,6 +42,16 @@ between low high (Some n) = if nat_le low n && nat_le n high then Some n else No
 abbrev pub number_in : ℕ → ℕ → List ℕ → Option ℕ
 number_in low high word = between low high (number_of word)
 
+-- a volume limit in bytes; how many ticks a script is made of; the number that it is made of
+abbrev pub volume_of : List ℕ → Option ℕ
+volume_of = number_in 1024 1073741824
+
+abbrev pub ticks_of : List ℕ → Option ℕ
+ticks_of = number_in 1 100000
+
+abbrev pub seed_of : List ℕ → Option ℕ
+seed_of = number_in 0 18446744073709551615
+
 -- the seconds and microseconds of a stamp
 abbrev pub second_of : List ℕ → Option ℕ
 second_of word = below 2147483648 (number_of word)
@@ -69,6 +79,20 @@ once_of words = do
   usec ← word_then microsecond_of 2 sec.1
   file ← word_then file_of 3 usec.1
   end_then (Once record { stamp = record { sec = sec.0; usec = usec.0 }; file = file.0 }) 4 file.1
+
+-- VOLUME
+unfoldable pub replay_of : List (List ℕ) → Result Command ℕ
+replay_of words = do
+  volume ← word_then volume_of 1 words
+  end_then (Replay volume.0) 2 volume.1
+
+-- NUMBER TICKS VOLUME
+unfoldable pub make_of : List (List ℕ) → Result Command ℕ
+make_of words = do
+  number ← word_then seed_of 1 words
+  ticks ← word_then ticks_of 2 number.1
+  volume ← word_then volume_of 3 ticks.1
+  end_then (Make record { number = number.0; ticks = ticks.0; volume = volume.0 }) 4 volume.1
 
 -- SEC USEC, from the word at an index on
 unfoldable pub stamp_then : ℕ → List (List ℕ) → Result (Moment × List (List ℕ)) ℕ
@@ -115,10 +139,17 @@ timed_command_of word words =
     if bytes_eq word (codes "range") then range_of words else
     if bytes_eq word (codes "value") then value_of words else archive_command_of word words
 
+-- those that run something over an archive
+abbrev pub run_command_of : List ℕ → List (List ℕ) → Result Command ℕ
+run_command_of word words =
+    if bytes_eq word (codes "once") then once_of words else
+    if bytes_eq word (codes "replay") then replay_of words else
+    if bytes_eq word (codes "make") then make_of words else timed_command_of word words
+
 -- The command, or the index of the first word that is bad or missing. A command that isn't known is bad at 0.
 abbrev pub command_of : List (List ℕ) → Result Command ℕ
 command_of [] = Err 0
-command_of (word ∷ words) = if bytes_eq word (codes "once") then once_of words else timed_command_of word words
+command_of (word ∷ words) = run_command_of word words
 
 -- what a function over words answered, seen by view, is what the definition says
 abbrev pub Gives : {X Y : Type 0} → (X → Y) → Result X ℕ → Result Y ℕ → Type 0
@@ -133,5 +164,7 @@ Reads (Err OutOfMemory) read = Unit {0}
 
 -- what the words of a command promise of it
 abbrev pub FitsCommand : Command → Type 0
-FitsCommand (Once asked) = length asked.file ≤ 63
+FitsCommand (Once asked) = (length asked.file ≤ 63) × IsComponent asked.file
+FitsCommand (Replay volume) = (1024 ≤ volume) × (volume ≤ 1073741824)
+FitsCommand (Make asked) = (1 ≤ asked.ticks) × (asked.ticks ≤ 100000) × (1024 ≤ asked.volume) × (asked.volume ≤ 1073741824)
 FitsCommand _ = Unit {0}

@@ -3,6 +3,7 @@ use Rattle.std.specs.Prelude.{◌≡◌, ℕ, Bool, false, List, [], Option, Som
 use Rattle.pcp_model.specs.Disk.{Files, Holdings}
 use Rattle.pm_words.specs.declared.stage.InputRefusal.{InputRefusal}
 use Rattle.pm_words.specs.declared.stage.FilesRefusal.{FilesRefusal}
+use Rattle.pm_words.specs.declared.refusal.Refusal.{Refusal}
 use Rattle.pm_words.specs.Sides.{DiskSide, Found, Untouched}
 
 -- The first list of bytes of a part is the input, which is empty for a command that takes none.
@@ -17,8 +18,8 @@ pub record Meaning : Type 1 where
   pub done : List ℕ → DiskSide → Type 0
   -- what it then writes to its output
   pub says : List ℕ → DiskSide → List ℕ → Type 0
-  -- what it may have written to its output where it is stopped
-  pub begins : List ℕ → DiskSide → List ℕ → Type 0
+  -- what it has written to its output before the last line where it is stopped for a reason
+  pub begins : List ℕ → DiskSide → Refusal → List ℕ → Type 0
   -- what each crash leaves from then on, over what the disk held at the start
   pub keeps : List ℕ → Holdings → Files → Type 0
   -- what it leaves where it is stopped, with a status, after its first write
@@ -34,7 +35,7 @@ converts refuses make = record {
   turns_away = λ input files e. ⊥;
   done = λ input d. Untouched d;
   says = λ input d text. text ≡ make input;
-  begins = λ input d front. front ≡ [];
+  begins = λ input d e front. front ≡ [];
   keeps = λ input held crash. Unit {0};
   begun = λ status input d. ⊥;
   may_leave = λ input held crash. ⊥;

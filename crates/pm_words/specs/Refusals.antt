@@ -10,14 +10,15 @@ use Rattle.archive_recovery.specs.declared.outcome.RecoverFault.{RecoverFault}
 use Rattle.archive_recovery.specs.declared.outcome.RecoverFault.TheVariants as recovering
 use Rattle.pm_print.specs.FaultLines.{image_line, text_line}
 use Rattle.pm_print.specs.Sets.{pmid_text}
+use Rattle.mmv_writer.specs.declared.line_fault.LineFault.TheVariants as lines
 use Rattle.run_script.specs.declared.fault.ScriptLineFault.{ScriptLineFault}
 use Rattle.run_script.specs.declared.fault.ScriptLineFault.TheVariants as script
-use Rattle.pm_words.specs.declared.stage.ResultRefusal.{ResultRefusal}
-use Rattle.pm_words.specs.declared.stage.ResultRefusal.TheVariants.{Large, NotLater, Changed, Full}
-use Rattle.logger_core.specs.declared.fault.LogFault.{LogFault}
-use Rattle.logger_core.specs.declared.fault.LogFault.TheVariants as logging
-use Rattle.record_run.specs.declared.fault.RunFault.{RunFault}
-use Rattle.record_run.specs.declared.fault.RunFault.TheVariants as running
+use Rattle.script_runs.specs.declared.ending.Ending.{Ending}
+use Rattle.script_runs.specs.declared.ending.Ending.TheVariants as ends
+use Rattle.script_runs.specs.declared.ending.LimitKind.{LimitKind}
+use Rattle.script_runs.specs.declared.ending.LimitKind.TheVariants as kinds
+use Rattle.pm_words.specs.declared.stage.RunRefusal.{RunRefusal}
+use Rattle.pm_words.specs.declared.stage.RunRefusal.TheVariants.{Condition, Limit, NotLater, Changed}
 use Rattle.pm_words.specs.declared.stage.Stop.{Stop}
 use Rattle.pm_words.specs.declared.stage.Stop.TheVariants.{OutOfMemory, Refused}
 use Rattle.pm_words.specs.declared.stage.Usage.{Usage}
@@ -26,7 +27,7 @@ use Rattle.pm_words.specs.declared.stage.ReadRefusal.TheVariants.{ReadFault, Inp
 use Rattle.pm_words.specs.declared.stage.InputRefusal.{InputRefusal}
 use Rattle.pm_words.specs.declared.stage.InputRefusal.TheVariants.{Image, Line, Script}
 use Rattle.pm_words.specs.declared.stage.FilesRefusal.{FilesRefusal}
-use Rattle.pm_words.specs.declared.stage.FilesRefusal.TheVariants.{Unlogged, Compressed, NotArchive, Nothing}
+use Rattle.pm_words.specs.declared.stage.FilesRefusal.TheVariants.{Run, Compressed, NotArchive, Nothing}
 use Rattle.pm_words.specs.declared.stage.DiskRefusal.{DiskRefusal}
 use Rattle.pm_words.specs.declared.stage.DiskRefusal.TheVariants.{Files, DiskFault}
 use Rattle.pm_words.specs.declared.refusal.Refusal.{Refusal}
@@ -64,28 +65,30 @@ input_line (Image fault) = image_line fault
 input_line (Line fault) = text_line fault.line fault.fault
 input_line (Script fault) = script_line fault.line fault.fault
 
--- a result that isn't logged
-abbrev pub result_status : ResultRefusal → ℕ
-result_status (Large bytes) = 7
-result_status (NotLater last) = 12
-result_status (Changed pmid) = 13
-result_status (Full file bytes) = 7
+-- a run that ends before its end
+abbrev pub run_status : RunRefusal → ℕ
+run_status (Condition line) = 2
+run_status (Limit what number) = 7
+run_status (NotLater last) = 12
+run_status (Changed pmid) = 13
 
--- what of an archive is full
-abbrev pub part_name : FileId → List ℕ
-part_name Meta = codes "meta"
-part_name Index = codes "index"
-part_name (Volume k) = codes "volume"
+-- what there is too much of
+abbrev pub limit_name : LimitKind → List ℕ
+limit_name kinds.Sets = codes "sets"
+limit_name kinds.Record = codes "record"
+limit_name kinds.Meta = codes "meta"
+limit_name kinds.Index = codes "index"
+limit_name kinds.Volume = codes "volume"
 
-abbrev pub result_line : ResultRefusal → List ℕ
-result_line (Large bytes) = codes "limit record " ++ (decimal bytes ++ 10 ∷ [])
-result_line (NotLater last) = codes "not later " ++ (decimal last.sec ++ (32 ∷ (decimal last.usec ++ 10 ∷ [])))
-result_line (Changed pmid) = codes "changed " ++ (pmid_text pmid ++ 10 ∷ [])
-result_line (Full file bytes) = codes "limit " ++ (part_name file ++ (32 ∷ (decimal bytes ++ 10 ∷ [])))
+abbrev pub run_line : RunRefusal → List ℕ
+run_line (Condition line) = text_line line lines.Condition
+run_line (Limit what number) = codes "limit " ++ (limit_name what ++ (32 ∷ (decimal number ++ 10 ∷ [])))
+run_line (NotLater last) = codes "not later " ++ (decimal last.sec ++ (32 ∷ (decimal last.usec ++ 10 ∷ [])))
+run_line (Changed pmid) = codes "changed " ++ (pmid_text pmid ++ 10 ∷ [])
 
 -- the files, and the disk
 abbrev pub files_status : FilesRefusal → ℕ
-files_status (Unlogged reason) = result_status reason
+files_status (Run reason) = run_status reason
 files_status (Compressed file) = 6
 files_status (NotArchive file at) = 6
 files_status (Nothing stamp) = 11
@@ -97,13 +100,13 @@ file_name Index = codes "index"
 file_name (Volume k) = decimal k
 
 abbrev pub numbered_files_line : FilesRefusal → Option (List ℕ)
-numbered_files_line (Unlogged reason) = Some (result_line reason)
+numbered_files_line (Run reason) = Some (run_line reason)
 numbered_files_line (Compressed file) = Some (codes "compressed " ++ (file_name file ++ 10 ∷ []))
 numbered_files_line (NotArchive file at) = Some (codes "not archive " ++ (file_name file ++ (32 ∷ (decimal at ++ 10 ∷ []))))
 numbered_files_line (Nothing stamp) = Some (codes "nothing at " ++ (decimal stamp.sec ++ (32 ∷ (decimal stamp.usec ++ 10 ∷ []))))
 
 abbrev pub plain_files_line : FilesRefusal → List ℕ
-plain_files_line (Unlogged reason) = []
+plain_files_line (Run reason) = []
 plain_files_line (Compressed file) = []
 plain_files_line (NotArchive file at) = []
 plain_files_line (Nothing stamp) = []
@@ -166,20 +169,24 @@ recover_refusal (recovering.NotArchive file at) = Disk (Files (NotArchive file a
 recover_refusal recovering.DiskFault = Disk DiskFault
 recover_refusal recovering.NoMemory = NoMemory
 
--- and a fault of a logger, and of the run of an image
-abbrev pub log_refusal : LogFault → Refusal
-log_refusal logging.Closed = Disk DiskFault
-log_refusal (logging.Large bytes) = Disk (Files (Unlogged (Large bytes)))
-log_refusal (logging.NotLater last) = Disk (Files (Unlogged (NotLater last)))
-log_refusal (logging.Changed pmid) = Disk (Files (Unlogged (Changed pmid)))
-log_refusal (logging.Full file bytes) = Disk (Files (Unlogged (Full file bytes)))
-log_refusal logging.NoMemory = NoMemory
-log_refusal logging.DiskFault = Disk DiskFault
+-- and the end of a script's run, if it is none; a run without a clock doesn't end by it
+abbrev pub ending_refusal : Ending → Option Refusal
+ending_refusal ends.Done = None
+ending_refusal (ends.Condition line) = Some (Disk (Files (Run (Condition line))))
+ending_refusal ends.DiskFault = Some (Disk DiskFault)
+ending_refusal (ends.NotArchive file at) = Some (Disk (Files (NotArchive file at)))
+ending_refusal (ends.Compressed file) = Some (Disk (Files (Compressed file)))
+ending_refusal (ends.Limit what number) = Some (Disk (Files (Run (Limit what number))))
+ending_refusal (ends.ClockEnd samples) = None
+ending_refusal (ends.ClockFault samples) = None
+ending_refusal ends.NoMemory = Some NoMemory
+ending_refusal (ends.NotLater last) = Some (Disk (Files (Run (NotLater last))))
+ending_refusal (ends.Changed pmid) = Some (Disk (Files (Run (Changed pmid))))
 
-abbrev pub run_refusal : RunFault → Refusal
-run_refusal (running.Recovery fault) = recover_refusal fault
-run_refusal (running.Logging fault) = log_refusal fault
-run_refusal running.NoMemory = NoMemory
+abbrev pub NoClock : Ending → Type 0
+NoClock (ends.ClockEnd samples) = ⊥
+NoClock (ends.ClockFault samples) = ⊥
+NoClock _ = Unit {0}
 
 -- the line is written, or a front of it where the sink failed
 abbrev pub Wrote : ℕ → ℕ → List ℕ → List ℕ → List ℕ → Type 0

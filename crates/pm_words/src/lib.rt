@@ -1,10 +1,15 @@
-//! The words of a command line of the program `pcp`, and its refusals, each with its status and last line.
+//! The words of a command line of the program `pcp` and its input; what a command means, and how it ends: its output, or a
+//! refusal with its status and last line.
 #![tactic(auto)]
 
+mod inputs;
+mod output;
 mod refusal;
 mod stage;
 mod words;
 
-pub use refusal::Refusal;
-pub use stage::{DiskRefusal, FilesRefusal, InputRefusal, ReadRefusal, ResultRefusal, Stop, Usage};
-pub use words::{Command, OnceWords, ValueWords, read_words};
+pub use inputs::read_input;
+pub use output::{finish, send};
+pub use refusal::{Refusal, of_ending};
+pub use stage::{DiskRefusal, FilesRefusal, InputRefusal, ReadRefusal, RunRefusal, Stop, Usage};
+pub use words::{Command, MakeWords, OnceWords, ValueWords, read_words};

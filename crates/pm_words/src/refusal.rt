@@ -2,22 +2,20 @@
 ghost use Rattle.std.specs.Prelude.{◌≡◌, IfOk, OnOk, OnErr, IsSome};
 ghost use Rattle.pm_words.specs.declared.refusal.Refusal.TheVariants.{Disk};
 ghost use Rattle.pm_words.specs.declared.stage.DiskRefusal.TheVariants.{Files};
-ghost use Rattle.pm_words.specs.declared.stage.FilesRefusal.TheVariants.{Unlogged};
-ghost use Rattle.pm_words.specs.Refusals.{log_refusal, status_of, numbered_line_of, plain_line_of, line_of, Wrote};
+ghost use Rattle.pm_words.specs.declared.stage.FilesRefusal.TheVariants.{Run};
+ghost use Rattle.pm_words.specs.declared.stage.RunRefusal.TheVariants.{Limit};
+ghost use Rattle.pm_words.specs.Refusals.{ending_refusal, NoClock, status_of, numbered_line_of, plain_line_of, line_of, Wrote};
 
-use crate::stage::{
-    DiskRefusal, FilesRefusal, InputRefusal, ReadRefusal, ResultRefusal, Stop, Usage,
-};
+use crate::stage::{DiskRefusal, FilesRefusal, InputRefusal, ReadRefusal, RunRefusal, Stop, Usage};
 use archive_reader::ReaderFault;
 use archive_recovery::RecoverFault;
-use logger_core::LogFault;
 use pcp_base::{Bytes, NoMemory};
 use pcp_outside::{Sink, write_all};
-use record_run::RunFault;
+use script_runs::{Ending, LimitKind};
 use std::alloc::Global;
 
 /// Why a command ended before it was done.
-#[derive(Clone, Copy, Debug, PartialEq, Eq)]
+#[derive(Clone, Copy)]
 pub enum Refusal {
     /// The words are no command.
     Words(Usage),
@@ -120,38 +118,38 @@ impl From<RecoverFault> for Refusal {
     }
 }
 
-/// A logger's fault, as a refusal.
-fn of_log(fault: LogFault) -> Refusal
-    ensures { result ≡ log_refusal fault }
+fn too_much(what: LimitKind, number: u64) -> Refusal
+    ensures { result ≡ Disk (Files (Run (Limit what number))) }
 {
-    match fault {
-        LogFault::Large { bytes } => unlogged(ResultRefusal::Large { bytes }),
-        LogFault::NotLater { last } => unlogged(ResultRefusal::NotLater { last }),
-        LogFault::Changed { pmid } => unlogged(ResultRefusal::Changed { pmid }),
-        LogFault::Full { file, bytes } => unlogged(ResultRefusal::Full { file, bytes }),
-        LogFault::NoMemory => Refusal::NoMemory,
-        // No logger is closed before it logs.
-        LogFault::Closed | LogFault::DiskFault => Refusal::Disk(DiskRefusal::DiskFault),
-    }
+    run(RunRefusal::Limit { what, number })
 }
 
-fn unlogged(reason: ResultRefusal) -> Refusal
-    ensures { result ≡ Disk (Files (Unlogged reason)) }
+fn run(reason: RunRefusal) -> Refusal
+    ensures { result ≡ Disk (Files (Run reason)) }
 {
-    Refusal::Disk(DiskRefusal::Files(FilesRefusal::Unlogged(reason)))
+    Refusal::Disk(DiskRefusal::Files(FilesRefusal::Run(reason)))
 }
 
-impl From<RunFault> for Refusal {
-    ghost use Rattle.pm_words.specs.Refusals.{run_refusal};
-
-    ghost from_gives = { λ fault e. e ≡ run_refusal fault };
-
-    fn from(fault: RunFault) -> Refusal {
-        match fault {
-            RunFault::Recovery(fault) => Refusal::from(fault),
-            RunFault::Logging(fault) => of_log(fault),
-            RunFault::NoMemory => Refusal::NoMemory,
-        }
+/// The refusal of a run of a script that ended so, if it is one. The run has no clock.
+pub fn of_ending(ending: Ending) -> Option<Refusal>
+    requires { NoClock ending }
+    ensures { result ≡ ending_refusal ending }
+{
+    match ending {
+        Ending::Done => None,
+        Ending::Condition { line } => Some(run(RunRefusal::Condition { line })),
+        Ending::DiskFault => Some(Refusal::Disk(DiskRefusal::DiskFault)),
+        Ending::NotArchive { file, at } => Some(Refusal::Disk(DiskRefusal::Files(
+            FilesRefusal::NotArchive { file, at },
+        ))),
+        Ending::Compressed { file } => Some(Refusal::Disk(DiskRefusal::Files(
+            FilesRefusal::Compressed { file },
+        ))),
+        Ending::Limit { what, number } => Some(too_much(what, number)),
+        Ending::NoMemory => Some(Refusal::NoMemory),
+        Ending::NotLater { last } => Some(run(RunRefusal::NotLater { last })),
+        Ending::Changed { pmid } => Some(run(RunRefusal::Changed { pmid })),
+        Ending::ClockEnd { .. } | Ending::ClockFault { .. } => unreachable!(),
     }
 }
 

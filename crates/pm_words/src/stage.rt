@@ -1,15 +1,16 @@
 //! What each stage of a command refuses: the words, the reading of the input, the input, and the disk; with the exit
 //! status and the last line of each refusal.
 ghost use Rattle.std.specs.Prelude.{◌≡◌, Some, IfOk, OnErr, IsSome, string_bytes};
-ghost use Rattle.pm_words.specs.Refusals.{usage_line, reading_status, reading_line, input_status, input_line, file_name, files_status, numbered_files_line, plain_files_line, disk_status, numbered_disk_line, plain_disk_line, part_name, result_status, result_line, script_status, script_line};
+ghost use Rattle.pm_words.specs.Refusals.{usage_line, reading_status, reading_line, input_status, input_line, file_name, files_status, numbered_files_line, plain_files_line, disk_status, numbered_disk_line, plain_disk_line, run_status, limit_name, run_line, script_status, script_line};
 ghost use Rattle.pm_words.specs.declared.stage.FilesRefusal.TheVariants.{Compressed, NotArchive, Nothing};
-ghost use Rattle.pm_words.specs.declared.stage.ResultRefusal.TheVariants.{Large, NotLater, Changed, Full};
+ghost use Rattle.pm_words.specs.declared.stage.RunRefusal.TheVariants.{Limit, NotLater, Changed};
 
 use mmv_layout::ImageFault;
-use mmv_writer::TextFault;
+use mmv_writer::{LineFault, TextFault};
 use pcp_base::{Bytes, FileId, List, NoMemory, Pmid, Stamp};
 use pm_print::{image_fault_text, line_fault_text};
 use run_script::{ScriptFault, ScriptLineFault};
+use script_runs::LimitKind;
 use std::alloc::{AllocError, Global};
 
 /// Why a stage stops: memory ran out, or a refusal of its own.
@@ -138,51 +139,67 @@ fn script_line(alloc: Global, fault: &ScriptFault) -> Result<Bytes, NoMemory>
     }
 }
 
-/// Why a result isn't logged.
-#[derive(Clone, Copy, Debug, PartialEq, Eq)]
-pub enum ResultRefusal {
-    /// Its record, or one of Meta that it needs, would have so many bytes.
-    Large { bytes: u64 },
-    /// It isn't stamped after all that the archive has; this is the greatest stamp.
+/// Why a run ends before its end.
+#[derive(Clone, Copy)]
+pub enum RunRefusal {
+    /// The condition of this line of its script fails.
+    Condition { line: u32 },
+    /// So many are too many.
+    Limit { what: LimitKind, number: u64 },
+    /// A result isn't stamped after all that the archive has; this is the greatest stamp.
     NotLater { last: Stamp },
     /// The archive describes the metric otherwise.
     Changed { pmid: Pmid },
-    /// The file would have so many bytes, or it is volume 10,000.
-    Full { file: FileId, bytes: u64 },
 }
 
-impl ResultRefusal {
+impl RunRefusal {
     pub fn status(&self) -> u8
-        ensures { result ≡ result_status self.now }
+        ensures { result ≡ run_status self.now }
     {
         match self {
-            ResultRefusal::Large { .. } | ResultRefusal::Full { .. } => 7,
-            ResultRefusal::NotLater { .. } => 12,
-            ResultRefusal::Changed { .. } => 13,
+            RunRefusal::Condition { .. } => 2,
+            RunRefusal::Limit { .. } => 7,
+            RunRefusal::NotLater { .. } => 12,
+            RunRefusal::Changed { .. } => 13,
         }
     }
 
     fn line(&self, alloc: Global) -> Result<Bytes, NoMemory>
-        ensures { IfOk result (λ line. line ≡ result_line self.now) }
+        ensures { IfOk result (λ line. line ≡ run_line self.now) }
     {
         match self {
-            ResultRefusal::Large { bytes } => large_line(alloc, *bytes),
-            ResultRefusal::NotLater { last } => not_later_line(alloc, *last),
-            ResultRefusal::Changed { pmid } => changed_line(alloc, *pmid),
-            ResultRefusal::Full { file, bytes } => full_line(alloc, *file, *bytes),
+            RunRefusal::Condition { line } => {
+                line_fault_text(alloc, *line as u64, &LineFault::Condition)
+            }
+            RunRefusal::Limit { what, number } => limit_line(alloc, *what, *number),
+            RunRefusal::NotLater { last } => not_later_line(alloc, *last),
+            RunRefusal::Changed { pmid } => changed_line(alloc, *pmid),
         }
     }
 }
 
-fn large_line(alloc: Global, bytes: u64) -> Result<Bytes, NoMemory>
-    ensures { IfOk result (λ line. line ≡ result_line (Large bytes)) }
+fn limit_name(what: LimitKind) -> &'static str
+    ensures { result.now ≡ limit_name what }
 {
-    let line = format!(in alloc; "limit record {bytes}\n")?;
+    match what {
+        LimitKind::Sets => "sets",
+        LimitKind::Record => "record",
+        LimitKind::Meta => "meta",
+        LimitKind::Index => "index",
+        LimitKind::Volume => "volume",
+    }
+}
+
+fn limit_line(alloc: Global, what: LimitKind, number: u64) -> Result<Bytes, NoMemory>
+    ensures { IfOk result (λ line. line ≡ run_line (Limit what number)) }
+{
+    let name = limit_name(what);
+    let line = format!(in alloc; "limit {name} {number}\n")?;
     Ok(List::from_vec(line.into_bytes()))
 }
 
 fn not_later_line(alloc: Global, last: Stamp) -> Result<Bytes, NoMemory>
-    ensures { IfOk result (λ line. line ≡ result_line (NotLater last)) }
+    ensures { IfOk result (λ line. line ≡ run_line (NotLater last)) }
 {
     let sec = last.sec();
     let usec = last.usec();
@@ -192,7 +209,7 @@ fn not_later_line(alloc: Global, last: Stamp) -> Result<Bytes, NoMemory>
 
 #[tactic(auto, unfolding(pm_print::specs::Sets::pmid_text))]
 fn changed_line(alloc: Global, pmid: Pmid) -> Result<Bytes, NoMemory>
-    ensures { IfOk result (λ line. line ≡ result_line (Changed pmid)) }
+    ensures { IfOk result (λ line. line ≡ run_line (Changed pmid)) }
 {
     let domain = pmid.domain();
     let cluster = pmid.cluster();
@@ -201,30 +218,11 @@ fn changed_line(alloc: Global, pmid: Pmid) -> Result<Bytes, NoMemory>
     Ok(List::from_vec(line.into_bytes()))
 }
 
-// What of an archive is full.
-fn part_name(file: FileId) -> &'static str
-    ensures { result.now ≡ part_name file }
-{
-    match file {
-        FileId::Meta => "meta",
-        FileId::Index => "index",
-        FileId::Volume(_) => "volume",
-    }
-}
-
-fn full_line(alloc: Global, file: FileId, bytes: u64) -> Result<Bytes, NoMemory>
-    ensures { IfOk result (λ line. line ≡ result_line (Full file bytes)) }
-{
-    let part = part_name(file);
-    let line = format!(in alloc; "limit {part} {bytes}\n")?;
-    Ok(List::from_vec(line.into_bytes()))
-}
-
 /// Why a command turns files away, or finds nothing in them.
-#[derive(Clone, Copy, Debug, PartialEq, Eq)]
+#[derive(Clone, Copy)]
 pub enum FilesRefusal {
-    /// The archive doesn't take the result.
-    Unlogged(ResultRefusal),
+    /// The run over the files ends before its end.
+    Run(RunRefusal),
     /// The file stands under its name with `.xz` or `.gz` added.
     Compressed { file: FileId },
     /// The file fits no archive from this byte on.
@@ -238,7 +236,7 @@ impl FilesRefusal {
         ensures { result ≡ files_status self.now }
     {
         match self {
-            FilesRefusal::Unlogged(reason) => reason.status(),
+            FilesRefusal::Run(reason) => reason.status(),
             FilesRefusal::Compressed { .. } | FilesRefusal::NotArchive { .. } => 6,
             FilesRefusal::Nothing { .. } => 11,
         }
@@ -250,7 +248,7 @@ impl FilesRefusal {
         ensures numbered { OnErr result (IsSome (numbered_files_line self.now)) }
     {
         match self {
-            FilesRefusal::Unlogged(reason) => {
+            FilesRefusal::Run(reason) => {
                 let line = reason.line(alloc)?;
                 Ok(Some(line))
             }
@@ -274,7 +272,7 @@ impl FilesRefusal {
         ensures { result.now ≡ plain_files_line self.now }
     {
         match self {
-            FilesRefusal::Unlogged(_)
+            FilesRefusal::Run(_)
             | FilesRefusal::Compressed { .. }
             | FilesRefusal::NotArchive { .. }
             | FilesRefusal::Nothing { .. } => b"",
@@ -321,7 +319,7 @@ fn nothing_line(alloc: Global, stamp: Stamp) -> Result<Bytes, NoMemory>
 }
 
 /// Why a command stops at the disk.
-#[derive(Clone, Copy, Debug, PartialEq, Eq)]
+#[derive(Clone, Copy)]
 pub enum DiskRefusal {
     /// Its files are turned away.
     Files(FilesRefusal),

@@ -1,8 +1,9 @@
 //! The words of a command line, read as the command that they ask for.
 ghost use Rattle.std.specs.Prelude.{◌≡◌, ◌<◌, ◌≤◌, length, map, string_bytes, Ok, IfOk};
+ghost use Rattle.pcp_base.specs.Names.{IsComponent};
 ghost use Rattle.pcp_base.specs.Texts.{IsText};
 ghost use Rattle.pcp_base.specs.Time.{IsMoment};
-ghost use Rattle.pm_words.specs.CommandLine.{Reads, Gives, FitsCommand, command_of, end_then, once_of, image_command_of, archive_command_of, timed_command_of, stamp_then, at_of, range_of, value_of, second_of, microsecond_of, file_of, begins_with_dash, name_of, word_then};
+ghost use Rattle.pm_words.specs.CommandLine.{Reads, Gives, FitsCommand, command_of, run_command_of, end_then, number_in, volume_of, once_of, replay_of, make_of, image_command_of, archive_command_of, timed_command_of, stamp_then, at_of, range_of, value_of, second_of, microsecond_of, file_of, begins_with_dash, name_of, word_then};
 
 use crate::stage::{Stop, Usage};
 use pcp_base::{Bytes, List, NoMemory, Stamp, Text, TextError, is_component};
@@ -14,6 +15,10 @@ use text_lines::read_number;
 pub enum Command {
     /// `once SEC USEC FILE`: log one result of an image.
     Once(OnceWords),
+    /// `replay VOLUME`: run a script, with this volume limit in bytes.
+    Replay(u64),
+    /// `make NUMBER TICKS VOLUME`: run the script that a number makes.
+    Make(MakeWords),
     /// `mmv-make`: make the image of a layout text.
     MmvMake,
     /// `mmv-dump`: write the layout text of an image.
@@ -37,6 +42,14 @@ pub enum Command {
 pub struct OnceWords {
     pub stamp: Stamp,
     pub file: Text,
+}
+
+/// The number that a script is made of, how many ticks it has, and the volume limit in bytes.
+#[derive(Drop)]
+pub struct MakeWords {
+    pub number: u64,
+    pub ticks: u32,
+    pub volume: u64,
 }
 
 /// When values are asked for, and the metric's name, whatever its bytes.
@@ -90,6 +103,7 @@ fn file_at(words: &[String], at: usize) -> Result<(&[u8], &[String]), usize>
     ensures word { Gives (λ x. (x.0.now, map string_bytes x.1.now)) result (word_then file_of at (map string_bytes words.now)) }
     ensures text { IfOk result (λ x. IsText x.0.now) }
     ensures short { IfOk result (λ x. length x.0.now ≤ 63) }
+    ensures component { IfOk result (λ x. IsComponent x.0.now) }
 {
     let [word, rest @ ..] = words else {
         return Err(at);
@@ -106,6 +120,58 @@ fn end_at(words: &[String], at: usize) -> Result<(), usize>
     ensures { Gives (λ x. x) result (end_then tt at (map string_bytes words.now)) }
 {
     if words.is_empty() { Ok(()) } else { Err(at) }
+}
+
+// The first word as a number in a range, and the words behind it.
+fn number_at(words: &[String], at: usize, low: u64, high: u64) -> Result<(u64, &[String]), usize>
+    ensures word { Gives (λ x. (x.0, map string_bytes x.1.now)) result (word_then (number_in low high) at (map string_bytes words.now)) }
+    ensures low { IfOk result (λ x. low ≤ x.0) }
+    ensures high { IfOk result (λ x. x.0 ≤ high) }
+{
+    let [word, rest @ ..] = words else {
+        return Err(at);
+    };
+    match read_number(word.as_bytes()) {
+        Some(number) if low as u128 <= number && number <= high as u128 => {
+            Ok((number as u64, rest))
+        }
+        _ => Err(at),
+    }
+}
+
+// The first word as a volume limit, and the words behind it.
+fn volume_at(words: &[String], at: usize) -> Result<(u64, &[String]), usize>
+    ensures word { Gives (λ x. (x.0, map string_bytes x.1.now)) result (word_then volume_of at (map string_bytes words.now)) }
+    ensures low { IfOk result (λ x. 1024 ≤ x.0) }
+    ensures high { IfOk result (λ x. x.0 ≤ 1073741824) }
+{
+    number_at(words, at, 1024, 1_073_741_824)
+}
+
+#[tactic(auto, unfolding(crate::specs::CommandLine::replay_of))]
+fn replay_words(words: &[String]) -> Result<Command, usize>
+    ensures command { Gives (λ command. command) result (replay_of (map string_bytes words.now)) }
+    ensures fits { IfOk result FitsCommand }
+{
+    let (volume, rest) = volume_at(words, 1)?;
+    end_at(rest, 2)?;
+    Ok(Command::Replay(volume))
+}
+
+#[tactic(auto, unfolding(crate::specs::CommandLine::make_of))]
+fn make_words(words: &[String]) -> Result<Command, usize>
+    ensures command { Gives (λ command. command) result (make_of (map string_bytes words.now)) }
+    ensures fits { IfOk result FitsCommand }
+{
+    let (number, rest) = number_at(words, 1, 0, 18_446_744_073_709_551_615)?;
+    let (ticks, rest) = number_at(rest, 2, 1, 100_000)?;
+    let (volume, rest) = volume_at(rest, 3)?;
+    end_at(rest, 4)?;
+    Ok(Command::Make(MakeWords {
+        number,
+        ticks: ticks as u32,
+        volume,
+    }))
 }
 
 #[tactic(auto, unfolding(crate::specs::CommandLine::once_of))]
@@ -273,6 +339,25 @@ fn timed_words(alloc: Global, name: &[u8], words: &[String]) -> Result<Command, 
     Ok(command)
 }
 
+// A command that runs something over an archive, or another.
+fn run_words(alloc: Global, name: &[u8], words: &[String]) -> Result<Command, Stop<Usage>>
+    ensures command { Reads result (run_command_of name.now (map string_bytes words.now)) }
+    ensures fits { IfOk result FitsCommand }
+{
+    if name == b"once".as_slice() {
+        return once_words(alloc, words);
+    }
+    if name == b"replay".as_slice() {
+        let command = replay_words(words)?;
+        return Ok(command);
+    }
+    if name == b"make".as_slice() {
+        let command = make_words(words)?;
+        return Ok(command);
+    }
+    timed_words(alloc, name, words)
+}
+
 /// The command that the words are, or the index of the first word that is bad or missing. A command that
 /// isn't known is bad at 0.
 pub fn read_words(alloc: Global, words: &[String]) -> Result<Command, Stop<Usage>>
@@ -282,8 +367,5 @@ pub fn read_words(alloc: Global, words: &[String]) -> Result<Command, Stop<Usage
     let [name, rest @ ..] = words else {
         return Err(Stop::Refused(Usage { at: 0 }));
     };
-    if name.as_bytes() == b"once".as_slice() {
-        return once_words(alloc, rest);
-    }
-    timed_words(alloc, name.as_bytes(), rest)
+    run_words(alloc, name.as_bytes(), rest)
 }

@@ -30,8 +30,8 @@ impl Agent for Seat {
         pmids: &[Pmid],
         stamp: Stamp,
     ) -> Result<PmResult, NoMemory> {
-        match regions.fetch(alloc, self, profile, pmids, stamp) {
-            Ok(fetched) => Ok(fetched.result),
+        match regions.result(alloc, self, profile, pmids, stamp) {
+            Ok(result) => Ok(result),
             Err(FetchFault::NoMemory) => Err(NoMemory),
             Err(FetchFault::TooMany { count: _count }) => unreachable!(),
         }

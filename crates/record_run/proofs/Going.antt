@@ -41,7 +41,7 @@ use Rattle.script_runs.specs.Archives.{Written, Stand, OpensFound, Opens, EndsAr
 use Rattle.record_run.specs.declared.archive.RunArchive.{RunArchive}
 use Rattle.record_run.specs.declared.archive.Standing.{Standing}
 use Rattle.record_run.specs.declared.archive.Standing.TheVariants.{Found, Open, Lost}
-use Rattle.record_run.specs.Going.{AreApart, FlushesRun, IsGoing, IsOpen, IsStanding, LogFails, OpenMayAnswer, StaysOpen, TurnsAway, meant}
+use Rattle.record_run.specs.Going.{AreApart, FlushesRun, IsGoing, IsOpen, IsStanding, IsUnclosed, IsWorking, LogFails, OpenMayAnswer, StaysOpen, TurnsAway, meant}
 use Rattle.record_run.specs.ImageCrashes.{ComesBack, ComesBackTo, start_of}
 use Rattle.record_run.specs.ImageLogs.{MaySurvive}
 use Rattle.record_run.specs.Opening.{IsOpened}
@@ -380,3 +380,27 @@ pub flush_on : (r : Result (Unit {0}) LogFault) (left : Files) (limit : ℕ) (it
     → OnOk r (FlushesRun left items least stand (record { standing = Open now; limit = limit; logged = n }) held)
 flush_on (Ok u) left limit items least stand kept now between held n st counted some done open_ sure = flush_does left limit items least stand kept now between held n st counted some done open_.0 open_.1 sure
 flush_on (Err e) left limit items least stand kept now between held n st counted some done open_ sure = tt
+
+-- what is no fault of a disk closes no logger
+same_logger : (old new : Kept) → new ≡ old → old.closed ≡ false → (new.closed ≡ false) × (new.limit ≡ old.limit)
+same_logger old new same open_ = (ap (λ (k : Kept). k.closed) same ∙ open_, ap (λ (k : Kept). k.limit) same)
+
+pub open_still : (old new : Kept) (answer : PmResult) (facts : Facts) (before after : ℕ) (e : LogFault) → old.closed ≡ false → LogMayAnswer old new answer facts before after e → e ≢ DiskFault → (new.closed ≡ false) × (new.limit ≡ old.limit)
+open_still old new answer facts before after Closed open_ may other = not_closed old.closed may.0 open_
+open_still old new answer facts before after (Large bytes) open_ may other = same_logger old new may.1 open_
+open_still old new answer facts before after (NotLater last) open_ may other = same_logger old new may.1 open_
+open_still old new answer facts before after (Changed pmid) open_ may other = same_logger old new may.1 open_
+open_still old new answer facts before after (Full file bytes) open_ may other = same_logger old new may.1 open_
+open_still old new answer facts before after NoMemory open_ may other = same_logger old new may.1 open_
+open_still old new answer facts before after DiskFault open_ may other = absurd (other refl)
+
+pub working_unclosed : (limit : ℕ) (standing : Standing) → IsWorking limit standing → IsUnclosed limit standing
+working_unclosed limit (Found archive) working = tt
+working_unclosed limit (Open kept) working = working
+working_unclosed limit Lost working = tt
+
+-- but for one that was not opened it goes on
+pub unclosed_working : (limit : ℕ) (standing : Standing) → standing ≢ Lost → IsUnclosed limit standing → IsWorking limit standing
+unclosed_working limit (Found archive) other unclosed = tt
+unclosed_working limit (Open kept) other unclosed = unclosed
+unclosed_working limit Lost other unclosed = absurd (other refl)

@@ -96,7 +96,7 @@ one_lacking records t (d ∷ ds) a b (inr x) (inl y) = absurd (not_lacking recor
 one_lacking records t (d ∷ ds) a b (inr (lacks, (more, is, m))) (inr (also, (others, are, n))) =
     is ∙ ap (λ (rs : List MetaRecord). listed_from t d ∷ rs) (one_lacking records t ds more others m n) ∙ sym are
 
-one_missing : (records : List MetaRecord) (facts : Facts) (answer : PmResult) (a b : List MetaRecord) → AreMissing records facts answer a → AreMissing records facts answer b → a ≡ b
+pub one_missing : (records : List MetaRecord) (facts : Facts) (answer : PmResult) (a b : List MetaRecord) → AreMissing records facts answer a → AreMissing records facts answer b → a ≡ b
 one_missing records facts answer a b x y =
     x.is ∙ ap (λ (ds : List MetaRecord). missing_descriptions records facts.metrics answer.sets ++ ds) (one_lacking records answer.stamp (domains_of facts answer.sets) x.domains y.domains x.lacking y.lacking) ∙ sym y.is
 
@@ -248,16 +248,16 @@ all_timely files l [] are = tt
 all_timely files l (v ∷ []) are = each-append IsTimely v.1 [] (last_timely (files (Volume v.0)) l v.0 v.1 are) tt
 all_timely files l (v ∷ w ∷ vs) are = each-append IsTimely v.1 (items_of (w ∷ vs)) (each_read IsItem IsTimely item_timely are.0.payloads v.1 are.0.read) (all_timely files l (w ∷ vs) are.2)
 
-archive_timely : (files : Files) (c : ArchiveContents) → IsArchive files c → (t : Moment) → IsStampIn c t → IsMoment t
+pub archive_timely : (files : Files) (c : ArchiveContents) → IsArchive files c → (t : Moment) → IsStampIn c t → IsMoment t
 archive_timely files c is t (inl (x, has, same)) = subst IsMoment same (at_of IsTimely (items_of c.volumes) x (all_timely files c.label c.volumes is.volumes) has)
 archive_timely files c is t (inr (indom, pairs, has)) =
     at_of IsTimelyRecord c.records (Domain t indom pairs) (each_read IsRecord IsTimelyRecord record_timely is.meta.holds.payloads c.records is.meta.holds.read) has
 
-none_stamped : (l : LabelFields) (t : Moment) → IsStampIn (no_items l) t → ⊥
+pub none_stamped : (l : LabelFields) (t : Moment) → IsStampIn (no_items l) t → ⊥
 none_stamped l t (inl (x, has, same)) = omega (arith, has.1)
 none_stamped l t (inr (indom, pairs, has)) = omega (arith, has.1)
 
-one_moment : (s t : Moment) → IsMoment s → IsMoment t → microseconds s ≡ microseconds t → s ≡ t
+pub one_moment : (s t : Moment) → IsMoment s → IsMoment t → microseconds s ≡ microseconds t → s ≡ t
 one_moment s t in_range also same =
     let sec : s.sec ≡ t.sec = omega (arith, in_range.usec, also.usec, same) in
     let usec : s.usec ≡ t.usec = omega (arith, in_range.usec, also.usec, same) in
@@ -267,7 +267,7 @@ not_above : (c : ArchiveContents) (s t : Moment) → IsStampIn c s → NoItemAft
 not_above c s t (inl (x, has, same)) items domains = subst (λ (m : Moment). microseconds m ≤ microseconds t) same (at_of (IsItemBy t) (items_of c.volumes) x items has)
 not_above c s t (inr (indom, pairs, has)) items domains = at_of (IsRecordBy t) c.records (Domain s indom pairs) domains has
 
-one_greatest : (c : ArchiveContents) → ((t : Moment) → IsStampIn c t → IsMoment t) → (a b : Option Moment) → IsGreatest c a → IsGreatest c b → a ≡ b
+pub one_greatest : (c : ArchiveContents) → ((t : Moment) → IsStampIn c t → IsMoment t) → (a b : Option Moment) → IsGreatest c a → IsGreatest c b → a ≡ b
 one_greatest c timely None None x y = refl
 one_greatest c timely None (Some t) x y = absurd (x t y.0)
 one_greatest c timely (Some s) None x y = absurd (y s x.0)
@@ -288,10 +288,10 @@ last_number [] (v ∷ b) m n xs ys same = absurd (omega (arith, ap length same, 
 last_number (v ∷ a) [] m n xs ys same = absurd (omega (arith, ap length same, length-append a ((m, xs) ∷ [])))
 last_number (v ∷ a) (w ∷ b) m n xs ys same = last_number a b m n xs ys (let e : a ++ (m, xs) ∷ [] ≡ b ++ (n, ys) ∷ [] = cc in e)
 
-one_contents : (files : Files) (c d : ArchiveContents) → IsArchive files c → IsArchive files d → c ≡ d
+pub one_contents : (files : Files) (c d : ArchiveContents) → IsArchive files c → IsArchive files d → c ≡ d
 one_contents files c d x y = let same : ArchiveReading.archive c ≡ ArchiveReading.archive d = one_reading files (ArchiveReading.archive c) (ArchiveReading.archive d) x y in cc
 
-no_archive : (files : Files) (c : ArchiveContents) → IsEmpty files → IsArchive files c → ⊥
+pub no_archive : (files : Files) (c : ArchiveContents) → IsEmpty files → IsArchive files c → ⊥
 no_archive files c empty is =
     let no : ArchiveReading.archive c ≡ ArchiveReading.nothing = one_reading files (ArchiveReading.archive c) ArchiveReading.nothing is (record { meta = inl (empty Meta); index = empty Index; volumes = λ n. empty (Volume n) }) in cc
 
@@ -312,7 +312,7 @@ module _ (files : Files) (c : ArchiveContents) (timely : (t : Moment) → IsStam
   one_volume : a.volume ≡ b.volume
   one_volume = last_number w.before v.before a.volume b.volume w.items v.items (sym w.are ∙ v.are)
 
-  one_ends : a ≡ b
+  pub one_ends : a ≡ b
   one_ends =
       ap (λ (n : ℕ). ends n a.index a.volume a.length a.greatest a.entry a.logged a.acknowledged) (x.meta ∙ sym y.meta)
       ∙ ap (λ (n : ℕ). ends b.meta n a.volume a.length a.greatest a.entry a.logged a.acknowledged) (x.index ∙ sym y.index)
@@ -349,7 +349,7 @@ one_unloggable left f a b ra rb x y =
     (refused_again f.result.stamp left x.files y.files x.contents y.contents x.opens y.opens x.ends y.ends x.ends_are y.ends_are x.last y.last f.result f.facts b y.refused)
 
 -- files are recovered to one archive
-recovered_once : (start a b : Files) (r s : ArchiveReading) → Reads start r → Reads start s → Recovers start r a → Recovers start s b → b ≡ a
+pub recovered_once : (start a b : Files) (r s : ArchiveReading) → Reads start r → Reads start s → Recovers start r a → Recovers start s b → b ≡ a
 recovered_once start a b r s x y in_a in_b = same_left start b a r (subst (λ (q : ArchiveReading). Recovers start q b) (one_reading start s r y x) in_b) in_a
 
 pub for_one_reason : (start : Files) (o : Option Fetched) (a b : LogFault) → a ≢ NoMemory → b ≢ NoMemory → TakesNot start o a → TakesNot start o b → a ≡ b

@@ -70,6 +70,12 @@ IsWorking limit (Found archive) = Unit {0}
 IsWorking limit (Open kept) = (kept.closed ≡ false) × (kept.limit ≡ limit)
 IsWorking limit Lost = ⊥
 
+-- no fault of a disk has come; opening may have been refused
+abbrev pub IsUnclosed : ℕ → Standing → Type 0
+IsUnclosed limit (Found archive) = Unit {0}
+IsUnclosed limit (Open kept) = (kept.closed ≡ false) × (kept.limit ≡ limit)
+IsUnclosed limit Lost = Unit {0}
+
 -- the archive is open, and nothing of the run was logged since
 pub record IsOpen (left : Files) (limit : ℕ) (items : List Item) (least : ℕ) (stand : Stand) (stamp : Moment) (kept : Kept) (held : Holdings) : Type 0 where
   pub old : Written

@@ -7,7 +7,7 @@ ghost use Rattle.pcp_outside.specs.Causes.{Rose};
 ghost use Rattle.pcp_outside.specs.Devices.{LeavesOnly};
 ghost use Rattle.logger_core.specs.declared.fault.LogFault.TheVariants.{Closed, DiskFault, NoMemory as Refused};
 ghost use Rattle.script_runs.specs.Archives.{Stand};
-ghost use Rattle.record_run.specs.Going.{FlushesRun, IsOpen, IsStanding, IsWorking, KeepsRun, LogFails, LogsRun, OpenMayAnswer};
+ghost use Rattle.record_run.specs.Going.{FlushesRun, IsOpen, IsStanding, IsUnclosed, IsWorking, KeepsRun, LogFails, LogsRun, OpenMayAnswer};
 ghost use Rattle.record_run.specs.ImageCrashes.{ComesBackTo};
 ghost use Rattle.record_run.specs.ImageRuns.{IsResult};
 
@@ -22,7 +22,7 @@ use std::mem;
 
 /// Where the archive of a run stands.
 #[derive(Drop)]
-pub(crate) enum Standing {
+pub enum Standing {
     /// As recovery left it.
     Found(Archive),
     /// A logger goes on with it.
@@ -33,10 +33,10 @@ pub(crate) enum Standing {
 
 /// The archive of a run, with its volume limit in bytes, and how many results the run has logged.
 #[derive(Drop)]
-pub(crate) struct RunArchive {
-    pub(crate) standing: Standing,
-    pub(crate) limit: u64,
-    pub(crate) logged: u64,
+pub struct RunArchive {
+    pub standing: Standing,
+    pub limit: u64,
+    pub logged: u64,
 }
 
 /// The logger of the archive, which the first result opens.
@@ -66,7 +66,7 @@ fn logger_of<D: Disk>(
 
 impl RunArchive {
     /// Logs a result of the run, which has sets that fit and are described.
-    pub(crate) fn log<D: Disk>(
+    pub fn log<D: Disk>(
         &mut self,
         alloc: Global,
         disk: &mut D,
@@ -81,8 +81,12 @@ impl RunArchive {
         ensures count { OnOk result (self.new.logged ≡ self.old.logged + 1) }
         ensures same_count { OnErr result (self.new.logged ≡ self.old.logged) }
         ensures working { IsWorking self.old.limit self.old.standing → OnOk result (IsWorking self.new.limit self.new.standing) }
+        ensures unclosed { IsWorking self.old.limit self.old.standing → IfErr result (λ e. e ≢ DiskFault → IsUnclosed self.new.limit self.new.standing) }
         ensures any_moment { D.tells → (left : AllFiles) (items : Sequence Logged) (least : ℕ) (stand : Stand) → KeepsRun left items least stand self.old (D.held disk.old) → (more : Sequence Logged)
             → LeavesOnly D.moment D.left_since disk.old disk.new (ComesBackTo (items ++ Sample fetched.now.result ∷ more) 0 left) }
+        // A refusal that is no fault of the disk leaves none of the result.
+        ensures refused { D.tells → (left : AllFiles) (items : Sequence Logged) (least : ℕ) (stand : Stand) → KeepsRun left items least stand self.old (D.held disk.old)
+            → IfErr result (λ e. e ≢ DiskFault → LeavesOnly D.moment D.left_since disk.old disk.new (ComesBackTo items 0 left)) }
         ensures fault { D.tells → (left : AllFiles) (items : Sequence Logged) (least : ℕ) (stand : Stand) → KeepsRun left items least stand self.old (D.held disk.old)
             → IfErr result (LogFails left items least stand fetched.now self.new (D.held disk.new)) }
         ensures cause { IsWorking self.old.limit self.old.standing → IfErr result (λ e. (e ≢ Closed) × (e ≡ DiskFault → Rose (D.faults disk.old) (D.faults disk.new))) }
@@ -100,7 +104,7 @@ impl RunArchive {
     }
 
     /// Flushes, where the run has logged a result.
-    pub(crate) fn flush<D: Disk>(&mut self, disk: &mut D) -> Result<(), LogFault>
+    pub fn flush<D: Disk>(&mut self, disk: &mut D) -> Result<(), LogFault>
         ensures done { D.tells → (left : AllFiles) (items : Sequence Logged) (least : ℕ) (stand : Stand) → KeepsRun left items least stand self.old (D.held disk.old)
             → OnOk result (FlushesRun left items least stand self.new (D.held disk.new)) }
         ensures limit { self.new.limit ≡ self.old.limit }

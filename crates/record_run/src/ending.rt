@@ -21,7 +21,7 @@ fn full(file: FileId, bytes: u64) -> Ending
 }
 
 /// How a run ends whose result is refused so.
-pub(crate) fn told(fault: LogFault) -> Ending
+pub fn told(fault: LogFault) -> Ending
     ensures { result ≡ told fault }
 {
     match fault {

@@ -14,9 +14,13 @@ mod logging;
 mod opening;
 mod run;
 
+pub use archive::{RunArchive, Standing};
+pub use ending::told;
 pub use fault::RunFault;
+pub use flushing::flush_line;
 pub use image::log_result;
 pub use laws::{
     first_run_makes_the_archive, not_taken_for_one_reason, runs_are_taken, taken_for_no_reason,
 };
+pub use lines::put_count;
 pub use run::result_once;

@@ -17,12 +17,7 @@ fn count_line(alloc: Global, name: &[u8], number: u64) -> Result<Vec<u8>, NoMemo
 }
 
 /// Writes the line of a word and a number, or nothing of it.
-pub(crate) fn put_count(
-    alloc: Global,
-    out: &mut Vec<u8>,
-    name: &[u8],
-    number: u64,
-) -> Result<(), NoMemory>
+pub fn put_count(alloc: Global, out: &mut Vec<u8>, name: &[u8], number: u64) -> Result<(), NoMemory>
     ensures ok { OnOk result (out.new.items ≡ out.old.items ++ one_number name.now number) }
     ensures err { OnErr result (out.new.items ≡ out.old.items) }
 {

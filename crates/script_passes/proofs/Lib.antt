@@ -1,3 +1,6 @@
+pub mod AlikeAnswers
+pub mod AlikeRows
+pub mod Begun
 pub mod Counting
 pub mod Crewing
 pub mod Finals
@@ -7,6 +10,13 @@ pub mod OpeningHands
 pub mod OpeningServer
 pub mod Openings
 pub mod Placing
+pub mod ReadingLooks
+pub mod ReadingOrder
+pub mod ReadingRuns
+pub mod Returning
 pub mod Seated
+pub mod Sorting
+pub mod Starting
 pub mod Sweeping
 pub mod Turning
+pub mod Unopened

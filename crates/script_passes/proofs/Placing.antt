@@ -21,7 +21,7 @@ use Rattle.pass_steps.specs.declared.worker.Worker.{Worker}
 use Rattle.pass_steps.specs.Works.{Step, line_of}
 use Rattle.pass_steps.proofs.Calling.{set_there}
 use Rattle.script_passes.specs.declared.running.Running.{Running}
-use Rattle.script_passes.specs.Crews.{cluster_of, clusters_in, ServesScript, IsPlace, IsCrew, IsAlone, Stands, IsFollowed, IsManned, Alone, Follows}
+use Rattle.script_passes.specs.Crews.{cluster_of, clusters_in, ServesScript, IsPlace, IsCrew, IsAlone, Stands, IsFollowed, IsAtWork, IsManned, Alone, Follows}
 use Rattle.script_passes.specs.Runs.{HasDone, WasCut}
 use Rattle.script_passes.specs.Turns.{Answer, Took, ActsAt, IsCrewAt}
 use Rattle.script_passes.proofs.Crewing.{get_set_same, get_set_other, get_map, same_or_other}
@@ -288,3 +288,7 @@ cluster_at script i row image cluster keeps e f g =
 -- a line that was run, and not written
 pub cut_by : (Standing : List ScriptRegion → Type 0) (regions : List ScriptRegion) (old new : List ℕ) (step here : Option Regions) (said : Said) → HasDone Standing regions here (Ok (Some said)) → step ≡ here → new ≡ old → WasCut Standing regions old new step
 cut_by Standing regions old new step here said done e f = (f, inr ((done.0, line_of said), e ∙ done.1, done.2))
+
+-- a manned server is at work
+pub at_work : (server : List Mounted) (running : Running) (seat : List Token) → IsManned server running seat → IsAtWork server running
+at_work server running seat manned = record { clusters = manned.clusters; as_many = manned.as_many }

@@ -87,6 +87,11 @@ pub record IsFollowed (r : ScriptRegion) (mounted : Mounted) (crew : List Worker
 abbrev pub clusters_in : List Mounted → List ℕ
 clusters_in server = map (λ (mounted : Mounted). mounted.cluster) server
 
+-- each region has its cluster and passes
+pub record IsAtWork (server : List Mounted) (running : Running) : Type 0 where
+  pub clusters : running.clusters.items ≡ clusters_in server
+  pub as_many : length running.crews.items ≡ length server
+
 -- this holds of each region with its passes
 abbrev pub AtCrews : (Mounted → List Worker → Token → Type 0) → List Mounted → List (Vec Worker) → List Token → Type 0
 AtCrews P server crews seat = (j : ℕ) (mounted : Mounted) (crew : Vec Worker) (logger : Token)

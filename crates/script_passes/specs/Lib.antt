@@ -1,3 +1,4 @@
+pub mod Alike
 pub mod Crews
 pub mod Turns
 pub mod Sweeps
@@ -5,3 +6,4 @@ pub mod Openings
 pub mod Makings
 pub mod Seen
 pub mod Runs
+pub mod Lines

@@ -7,8 +7,12 @@ use Rattle.fetch_engine.specs.Servers.{Seated, IsSeated}
 use Rattle.fetch_engine.specs.declared.server.Mounted.{Mounted}
 use Rattle.run_script.specs.declared.script.RegionRow.{RegionRow}
 use Rattle.run_script.specs.declared.script.Script.{Script}
+use Rattle.pass_steps.specs.declared.worker.Worker.{Worker}
+use Rattle.pass_steps.specs.declared.worker.Worker.TheVariants as workers
 use Rattle.script_passes.specs.declared.opening.Opened.{Opened}
 use Rattle.script_passes.specs.Crews.{ServesScript}
+use Rattle.script_passes.specs.Sweeps.{AreIdle}
+use Rattle.script_passes.specs.Turns.{IsCrewAt}
 
 -- each region has room for its own passes and a pass of each seat
 abbrev pub HaveRoom : List RegionRow → ℕ → Type 0
@@ -36,3 +40,22 @@ pub record AreMade (script : Script) (server : List Mounted) (passes : List (Vec
 pub record IsOpened (script : Script) (seats : ℕ) (opened : Opened) : Type 0 where
   pub seats_are : length opened.seats.items ≡ seats
   pub made : AreMade script opened.server opened.passes.items opened.seats.items
+
+-- Beginning a run with what was opened
+
+-- passes none of which does anything
+abbrev pub idle_crew : List Token → List Worker
+idle_crew passes = map (λ pass. workers.Idle pass) passes
+
+-- each list of passes as a crew
+abbrev pub AreCrews : List (Vec Token) → List (Vec Worker) → Type 0
+AreCrews passes crews = map (λ (crew : Vec Worker). crew.items) crews ≡ map (λ (own : Vec Token). idle_crew own.items) passes
+
+-- crews of the first regions of a server, none of whose passes does anything
+abbrev pub AreIdleAt : List Mounted → List (Vec Worker) → List Token → Type 0
+AreIdleAt server crews seat = (j : ℕ) (crew : Vec Worker) → slice_get crews j ≡ Some crew → IsCrewAt server j crew.items seat × AreIdle crew.items
+
+-- each pass of a seat is of the same region, and has seen the same
+abbrev pub SeesTheSame : List Token → List Token → Type 0
+SeesTheSame old new = (j : ℕ) (before after : Token) → slice_get old j ≡ Some before → slice_get new j ≡ Some after
+    → (after.region ≡ before.region) × (after.view.seen ≡ before.view.seen)

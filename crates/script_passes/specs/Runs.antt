@@ -1,8 +1,17 @@
 -- What the run of a line makes, by the step that it is in a run as a fold.
-use Rattle.std.specs.Prelude.{◌≡◌, ◌⊎◌, ℕ, Bool, true, false, List, ◌++◌, Option, Some, None, Ok, Err}
+use Rattle.std.specs.Prelude.{◌≡◌, ◌⊎◌, ℕ, Bool, true, false, List, ◌++◌, map, Option, Some, None, Ok, Err}
+use Rattle.pcp_base.specs.Time.{Moment}
+use Rattle.region_rule.specs.Seats.{Token}
+use Rattle.fetch_engine.specs.Readings.{reading_of}
+use Rattle.fetch_engine.specs.declared.fetch.Fetched.{Fetched}
+use Rattle.fetch_engine.specs.declared.server.Mounted.{Mounted}
+use Rattle.run_script.specs.declared.script.Script.{Script}
+use Rattle.script_runs.specs.Groups.{shots_of}
 use Rattle.script_runs.specs.Regions.{ScriptRegion}
-use Rattle.script_runs.specs.Steps.{Regions}
+use Rattle.script_runs.specs.Steps.{Regions, fetched_from}
 use Rattle.pass_steps.specs.Works.{line_of}
+use Rattle.script_passes.specs.declared.running.Running.{Running}
+use Rattle.script_passes.specs.Crews.{Follows}
 use Rattle.script_passes.specs.Turns.{Answer}
 
 -- What a call made of a run's regions, whose step is this
@@ -20,3 +29,11 @@ HasRun Stands regions old new _ _ = ⊥
 -- memory was refused: nothing is written, and the line was run, or nothing was done
 abbrev pub WasCut : (List ScriptRegion → Type 0) → List ScriptRegion → List ℕ → List ℕ → Option Regions → Type 0
 WasCut Stands regions old new step = (new ≡ old) × (Stands regions ⊎ ((found : Regions) × (step ≡ Some found) × Stands found.0))
+
+-- what a run shows of these metrics at this moment
+abbrev pub fetched_of : List ScriptRegion → List ℕ → Moment → Fetched
+fetched_of regions pmids now = fetched_from (map reading_of (shots_of regions)) pmids now
+
+-- a run that was followed is followed as it was, and this holds of it
+abbrev pub KeepsFollowing : List Mounted → Running → List Token → List Token → (List ScriptRegion → Type 0) → Type 0
+KeepsFollowing server running old new Says = (script : Script) (regions : List ScriptRegion) → Follows script server running old regions → Follows script server running new regions × Says regions

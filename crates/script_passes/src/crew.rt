@@ -104,7 +104,7 @@ fn end_all(alloc: Global, crew: &mut Vec<Worker>, server: &Server, seat: &mut Se
 }
 
 /// Gathers all passes of a crew, none of which does anything.
-fn gather_all(crew: Vec<Worker>, server: &Server, seat: &mut Seat, at: u32)
+pub fn gather_all(crew: Vec<Worker>, server: &Server, seat: &mut Seat, at: u32)
     requires seated { IsSeated server.now seat.old.tokens }
     requires crew { IsCrewAt server.now at crew.items seat.old.tokens }
     requires idle { AreIdle crew.items }

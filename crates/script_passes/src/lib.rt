@@ -3,10 +3,14 @@
 //! nobody else acted, and that each region's journal is that of the run as a fold.
 #![tactic(auto)]
 
+mod beginning;
 mod crew;
+mod laws;
 mod lines;
 mod opening;
+mod reading;
 mod running;
 
+pub use laws::alike_answers_alike;
 pub use opening::{Opened, open_script};
 pub use running::Running;

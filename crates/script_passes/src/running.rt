@@ -1,5 +1,5 @@
 //! The regions of a script while its lines are run.
-ghost use Rattle.std.specs.Prelude.{◌≡◌, ◌==◌, ◌<◌, MatchResult, length, List as Sequence};
+ghost use Rattle.std.specs.Prelude.{◌≡◌, ◌==◌, ◌<◌, ◌∷◌, [], IfOk, OnErr, MatchResult, length, List as Sequence};
 ghost use Rattle.std.specs.List.{list_all, position};
 ghost use Rattle.fetch_engine.specs.Servers.{IsSeated};
 ghost use Rattle.fetch_engine.specs.declared.server.Mounted.{Mounted};
@@ -7,19 +7,22 @@ ghost use Rattle.region_rule.specs.Seats.{Token};
 ghost use Rattle.run_script.specs.Rules.{KeepsRules, IsPlaced, HasPass};
 ghost use Rattle.run_script.specs.declared.script.Script.{Script as Lines};
 ghost use Rattle.script_runs.specs.Closing.{closed_regions};
-ghost use Rattle.script_runs.specs.Regions.{ScriptRegion};
+ghost use Rattle.script_runs.specs.Regions.{ScriptRegion, made_regions};
 ghost use Rattle.script_runs.specs.Runs.{are_idle};
 ghost use Rattle.script_runs.specs.Steps.{pass_step, in_region};
 ghost use Rattle.pass_steps.specs.Works.{step_of};
-ghost use Rattle.script_passes.specs.Crews.{Alone, Follows, IsManned, IsPlace, ServesScript, clusters_in, rests};
+ghost use Rattle.script_passes.specs.Crews.{Alone, Follows, IsAtWork, IsManned, IsPlace, ServesScript, rests};
+ghost use Rattle.script_passes.specs.Openings.{AreMade};
 ghost use Rattle.script_passes.specs.Runs.{HasDone, HasRun, WasCut};
 ghost use Rattle.script_passes.specs.Seen.{HaveSeen};
 
+use crate::beginning::{clusters_of, crews_of};
 use crate::crew::{act, close_crew};
 use crate::lines::deed_of;
 use fetch_engine::{Seat, Server};
 use pass_steps::{Deed, Said, Worker};
 use pcp_base::NoMemory;
+use region_words::Pass;
 use run_script::{Line, Script};
 use std::alloc::Global;
 
@@ -45,11 +48,35 @@ fn is_idle(crew: &[Worker]) -> bool
 }
 
 impl Running {
+    /// Takes the passes that were opened for a script. Where memory is refused nothing was done.
+    pub fn begin(
+        alloc: Global,
+        script: &Script,
+        server: &Server,
+        seat: &mut Seat,
+        passes: Vec<Vec<Pass>>,
+    ) -> Result<Running, NoMemory>
+        requires rules { KeepsRules script.now }
+        requires made { AreMade script.now server.now passes.items (seat.old ∷ []) }
+        ensures manned { IfOk result (λ running. IsManned server.now running seat.new.tokens) }
+        ensures follows { IfOk result (λ running. Follows script.now server.now running seat.new.tokens (made_regions script.now)) }
+        ensures refused { OnErr result (HaveSeen script.now (closed_regions (made_regions script.now)) server.now seat.new.tokens) }
+        ensures seated { IsSeated server.now seat.new.tokens }
+    {
+        let Ok(clusters) = clusters_of(alloc, script) else {
+            return Err(NoMemory);
+        };
+        let Ok(crews) = crews_of(alloc, server, seat, passes) else {
+            return Err(NoMemory);
+        };
+        Ok(Running { clusters, crews })
+    }
+
     /// The position at which a region of the script is served.
     fn place(&self, server: &Server, script: &Script, region: u32) -> u32
         requires rules { KeepsRules script.now }
         requires serves { ServesScript script.now 1 server.now }
-        requires clusters { self.now.clusters.items ≡ clusters_in server.now }
+        requires manned { IsAtWork server.now self.now }
         requires there { region < length script.now.regions }
         ensures { IsPlace script.now server.now region result }
     {
@@ -128,8 +155,7 @@ impl Running {
     pub fn is_idle(&self, server: &Server, script: &Script) -> bool
         requires rules { KeepsRules script.now }
         requires serves { ServesScript script.now 1 server.now }
-        requires clusters { self.now.clusters.items ≡ clusters_in server.now }
-        requires as_many { length self.now.crews.items ≡ length server.now }
+        requires manned { IsAtWork server.now self.now }
         ensures { (seat : Sequence Token) (regions : Sequence ScriptRegion) → IsManned server.now self.now seat → Follows script.now server.now self.now seat regions → result ≡ are_idle regions }
     {
         for region in 0..script.regions.len() as u32 {

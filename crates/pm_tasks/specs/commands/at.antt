@@ -9,7 +9,7 @@ use Rattle.archive_reader.specs.Searches.{at as last_at}
 use Rattle.archive_reader.specs.declared.fault.ReaderFault.TheVariants as faults
 use Rattle.pm_print.specs.Items.{item_text}
 use Rattle.pm_words.specs.declared.stage.FilesRefusal.{FilesRefusal}
-use Rattle.pm_words.specs.declared.stage.FilesRefusal.TheVariants.{Unlogged, Compressed, NotArchive, Nothing}
+use Rattle.pm_words.specs.declared.stage.FilesRefusal.TheVariants.{Run, Compressed, NotArchive, Nothing}
 use Rattle.pm_tasks.specs.Archives.{IsLoaded, TurnedAfter, OverSound, looks, nothing_before}
 use Rattle.pm_words.specs.Meaning.{Meaning}
 use Rattle.pm_words.specs.Sides.{Found}
@@ -19,7 +19,7 @@ abbrev pub IsStopped : Moment → Loaded → Found → FilesRefusal → Type 0
 IsStopped t r found (NotArchive file place) = IsAtFault found.files r.volumes t (at_begin r t) (faults.NotArchive file place)
 IsStopped t r found (Nothing stamp) = (stamp ≡ t) × IsAtFrom found.files r.volumes t (at_begin r t) None × OverSound found (λ items. last_at t items ≡ None)
 IsStopped t r found (Compressed file) = ⊥
-IsStopped t r found (Unlogged reason) = ⊥
+IsStopped t r found (Run reason) = ⊥
 
 abbrev pub turned : Moment → Found → FilesRefusal → Type 0
 turned t found e = TurnedAfter (IsStopped t) found e

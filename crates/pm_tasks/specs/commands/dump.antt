@@ -10,7 +10,7 @@ use Rattle.archive_reader.specs.Walks.{volumes_from, StepsOver, IsEnd, IsBad, Le
 use Rattle.archive_reader.specs.declared.places.Place.{Place}
 use Rattle.pm_print.specs.Items.{item_text, items_text}
 use Rattle.pm_words.specs.declared.stage.FilesRefusal.{FilesRefusal}
-use Rattle.pm_words.specs.declared.stage.FilesRefusal.TheVariants.{Unlogged, Compressed, NotArchive, Nothing}
+use Rattle.pm_words.specs.declared.stage.FilesRefusal.TheVariants.{Run, Compressed, NotArchive, Nothing}
 use Rattle.pm_tasks.specs.Archives.{IsLoaded, TurnedAfter, looks}
 use Rattle.pm_words.specs.Meaning.{Meaning}
 use Rattle.pm_words.specs.Sides.{SinkSide, DiskSide, Found, found}
@@ -32,7 +32,7 @@ HasItems files r items = AllFrom files r.volumes 132 items
 abbrev pub BadRecord : Loaded → Found → FilesRefusal → Type 0
 BadRecord r found (NotArchive file at) = (items : List Item) × StopsAt found.files r.volumes 132 items file at
 BadRecord r found (Compressed file) = ⊥
-BadRecord r found (Unlogged reason) = ⊥
+BadRecord r found (Run reason) = ⊥
 BadRecord r found (Nothing stamp) = ⊥
 
 -- files are turned away where they aren't loaded, or where a record is no item's
@@ -68,7 +68,7 @@ HasNext files r p q before after false = IsEnd files (volumes_from p.volume r.vo
 abbrev pub BadNext : Loaded → Place → Found → FilesRefusal → Type 0
 BadNext r p found (NotArchive file at) = IsBad found.files (volumes_from p.volume r.volumes) p.offset file at
 BadNext r p found (Compressed file) = ⊥
-BadNext r p found (Unlogged reason) = ⊥
+BadNext r p found (Run reason) = ⊥
 BadNext r p found (Nothing stamp) = ⊥
 
 -- Of all steps: the texts of all items stand behind what was there; the front of that went to the sink, and the rest waits.

@@ -9,7 +9,7 @@ use Rattle.archive_reader.specs.Searches.{between}
 use Rattle.archive_reader.specs.declared.fault.ReaderFault.TheVariants as faults
 use Rattle.pm_print.specs.Items.{items_text}
 use Rattle.pm_words.specs.declared.stage.FilesRefusal.{FilesRefusal}
-use Rattle.pm_words.specs.declared.stage.FilesRefusal.TheVariants.{Unlogged, Compressed, NotArchive, Nothing}
+use Rattle.pm_words.specs.declared.stage.FilesRefusal.TheVariants.{Run, Compressed, NotArchive, Nothing}
 use Rattle.pm_tasks.specs.Archives.{IsLoaded, TurnedAfter, OverSound, looks, nothing_before}
 use Rattle.pm_words.specs.Meaning.{Meaning}
 use Rattle.pm_words.specs.Sides.{Found}
@@ -19,7 +19,7 @@ abbrev pub IsStopped : Moment → Moment → Loaded → Found → FilesRefusal �
 IsStopped from to r found (NotArchive file place) = IsRangeFault found.files r.volumes to (range_begin r from) (faults.NotArchive file place)
 IsStopped from to r found (Nothing stamp) = ⊥
 IsStopped from to r found (Compressed file) = ⊥
-IsStopped from to r found (Unlogged reason) = ⊥
+IsStopped from to r found (Run reason) = ⊥
 
 abbrev pub turned : Moment → Moment → Found → FilesRefusal → Type 0
 turned from to found e = TurnedAfter (IsStopped from to) found e

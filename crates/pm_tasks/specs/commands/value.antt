@@ -9,7 +9,7 @@ use Rattle.archive_reader.specs.Values.{IsValueAt, IsWholeFault, value_at}
 use Rattle.archive_reader.specs.declared.fault.ReaderFault.TheVariants as faults
 use Rattle.pm_print.specs.Items.{set_text}
 use Rattle.pm_words.specs.declared.stage.FilesRefusal.{FilesRefusal}
-use Rattle.pm_words.specs.declared.stage.FilesRefusal.TheVariants.{Unlogged, Compressed, NotArchive, Nothing}
+use Rattle.pm_words.specs.declared.stage.FilesRefusal.TheVariants.{Run, Compressed, NotArchive, Nothing}
 use Rattle.pm_words.specs.declared.words.ValueWords.{ValueWords}
 use Rattle.pm_tasks.specs.Archives.{IsLoaded, TurnedAfter, OverReadable, looks, nothing_before}
 use Rattle.pm_words.specs.Meaning.{Meaning}
@@ -42,7 +42,7 @@ abbrev pub HasNoValue : ℕ → Moment → Loaded → Found → FilesRefusal →
 HasNoValue pmid t r found (NotArchive file place) = IsWholeFault found.files r.volumes (faults.NotArchive file place)
 HasNoValue pmid t r found (Nothing stamp) = (stamp ≡ t) × IsValueAt found.files r.volumes pmid t None × OverReadable found (λ items. value_at pmid t items ≡ None)
 HasNoValue pmid t r found (Compressed file) = ⊥
-HasNoValue pmid t r found (Unlogged reason) = ⊥
+HasNoValue pmid t r found (Run reason) = ⊥
 
 -- no metric has the name, or it has no values at the moment
 abbrev pub HasNothing : Found → Loaded → Moment → Option ℕ → Type 0
@@ -54,7 +54,7 @@ abbrev pub IsStopped : ValueWords → Loaded → Found → FilesRefusal → Type
 IsStopped asked r found (NotArchive file place) = (pmid : ℕ) × (named r.records asked.name ≡ Some pmid) × IsWholeFault found.files r.volumes (faults.NotArchive file place)
 IsStopped asked r found (Nothing stamp) = (stamp ≡ asked.stamp) × HasNothing found r asked.stamp (named r.records asked.name)
 IsStopped asked r found (Compressed file) = ⊥
-IsStopped asked r found (Unlogged reason) = ⊥
+IsStopped asked r found (Run reason) = ⊥
 
 abbrev pub turned : ValueWords → Found → FilesRefusal → Type 0
 turned asked found e = TurnedAfter (IsStopped asked) found e

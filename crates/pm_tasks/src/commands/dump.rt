@@ -8,13 +8,12 @@ ghost use Rattle.pm_words.specs.Sides.{sink_side, disk_side};
 ghost use Rattle.pm_words.specs.Streams.{Turns};
 ghost use Rattle.pm_tasks.specs.commands.dump.{label_line, turned, HasNext, BadNext, HasPut, HasPutSome, HasSaid, HasStopped, BadRecord};
 
-use crate::output::send;
 use archive_reader::{ArchiveReader, Place};
 use pcp_base::{Bytes, List, NoMemory};
 use pcp_model::Label;
 use pcp_outside::{Disk, Sink};
 use pm_print::put_item;
-use pm_words::Refusal;
+use pm_words::{Refusal, send};
 use std::alloc::Global;
 
 // How many bytes are written at once, or a little more.

@@ -1,7 +1,6 @@
 -- The regions so far.
-use Rattle.std.proofs.Common.{◌≡◌, take, map}
-use Rattle.fetch_engine.specs.Readings.{reading_of}
+use Rattle.std.proofs.Common.{◌≡◌, take}
 use Rattle.fetch_engine.proofs.reading.all_known.Given as goal
 
 abbrev pub invariant-loop-shot : goal.invariant-loop-shot
-invariant-loop-shot l = l.known ≡ map reading_of (take l.shot-index l.shots)
+invariant-loop-shot l = l.known ≡ take l.shot-index l.shots

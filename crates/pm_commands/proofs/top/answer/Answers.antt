@@ -1,15 +1,19 @@
 -- Each end of a call by what ran and what was written.
-use Rattle.std.proofs.Common.{subst, ◌∙◌}
-use Rattle.pm_words.specs.Streams.{IsSent}
+use Rattle.std.proofs.Common.{ℕ, List, subst, ◌∙◌}
+use Rattle.pm_words.specs.Sides.{disk_side, sink_side}
+use Rattle.pm_words.specs.Streams.{Finishes, IsSent}
+use Rattle.pm_commands.proofs.Facts.{done_opens, refused_opens, untold_opens}
 use Rattle.pm_commands.proofs.Memory.{ends_untold}
-use Rattle.pm_tasks.specs.Since.{HadRecovered}
-use Rattle.pm_tasks.proofs.Recovering.{by_status, never_nine}
-use Rattle.pm_tasks.proofs.Sending.{told_behind, told_no_more}
+use Rattle.pm_words.specs.Serving.{HadRecovered}
+use Rattle.pm_words.proofs.Recovering.{by_status, never_nine}
+use Rattle.pm_words.proofs.Sending.{told_behind, told_no_more}
 use Rattle.pm_tasks.proofs.Served.{finishes, refused_ends}
 use Rattle.pm_commands.proofs.top.answer.Goals as goal
 
 pub returns-in-Ok-clause-ends : goal.returns-in-Ok-clause-ends
-returns-in-Ok-clause-ends g c = finishes g.O.Sink _ _ _ c.args.out.now c.run.new.out c.finish.new.out c.run.new.failed c.in-Ok.output c.finish.result c.in-Ok.ensures.runs c.finish.ensures
+returns-in-Ok-clause-ends g c =
+    let sent = subst (λ (text : List ℕ). Finishes (sink_side g.O.Sink c.run.new.out c.finish.new.out) c.run.new.failed text c.finish.result) c.as_slice.ensures c.finish.ensures in
+    finishes g.O.Sink _ _ _ c.args.out.now c.run.new.out c.finish.new.out c.run.new.failed c.in-Ok.text c.finish.result c.in-Ok.ensures.runs sent
 
 pub returns-then-failed-clause-ends : goal.returns-then-failed-clause-ends
 returns-then-failed-clause-ends g c =
@@ -39,3 +43,15 @@ returns-in-Ok-tell-clause-since g c = λ tells had. c.in-Err.ensures.since tells
 
 pub returns-in-Err-tell-clause-since : goal.returns-in-Err-tell-clause-since
 returns-in-Err-tell-clause-since g c = λ tells had. absurd (never_nine had)
+
+pub returns-in-Ok-clause-regions : goal.returns-in-Ok-clause-regions
+returns-in-Ok-clause-regions g c = done_opens _ _ (sink_side g.O.Sink c.args.out.now c.args.out.now) (disk_side g.D.Disk c.args.disk.now c.args.disk.now) _ c.in-Ok.text c.in-Ok.ensures.regions c.finish.result
+
+pub returns-then-failed-clause-regions : goal.returns-then-failed-clause-regions
+returns-then-failed-clause-regions g c = refused_opens _ _ (sink_side g.O.Sink c.args.out.now c.args.out.now) _ _ c.in-Err.refusal c.in-Err.ensures.runs.stops.0 c.in-Err.ensures.regions c.status.result c.status.ensures
+
+pub returns-in-Ok-tell-clause-regions : goal.returns-in-Ok-tell-clause-regions
+returns-in-Ok-tell-clause-regions g c = refused_opens _ _ (sink_side g.O.Sink c.args.out.now c.args.out.now) _ _ c.in-Err.refusal c.in-Err.ensures.runs.stops.0 c.in-Err.ensures.regions c.status-in-Ok-tell.result c.status-in-Ok-tell.ensures
+
+pub returns-in-Err-tell-clause-regions : goal.returns-in-Err-tell-clause-regions
+returns-in-Err-tell-clause-regions g c = untold_opens _ _ (sink_side g.O.Sink c.args.out.now c.args.out.now) (disk_side g.D.Disk c.args.disk.now c.args.disk.now) _

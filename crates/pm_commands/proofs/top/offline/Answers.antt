@@ -1,5 +1,5 @@
 -- Each fact on the status follows from how the call ends.
-use Rattle.pm_commands.proofs.Facts.{usage_is_exact, read_fault_rose, write_fault_rose, disk_fault_rose, limit_is_exact, input_fault_is_exact, unlogged_is_exact, archive_fault_is_exact, nothing_is_there, unwritten, completes, is_done, settles, keeps}
+use Rattle.pm_commands.proofs.Facts.{usage_is_exact, read_fault_rose, write_fault_rose, disk_fault_rose, limit_is_exact, input_fault_is_exact, run_is_exact, archive_fault_is_exact, nothing_is_there, unwritten, completes, is_done, settles, keeps}
 use Rattle.pm_commands.proofs.top.offline.Goals as goal
 
 pub returns-clause-done : goal.returns-clause-done
@@ -23,8 +23,8 @@ returns-clause-disk_fault g c = disk_fault_rose _ _ _ _ c.answer.result c.answer
 pub returns-clause-input_limit : goal.returns-clause-input_limit
 returns-clause-input_limit g c = limit_is_exact _ _ _ _ c.answer.result c.answer.ensures.ends
 
-pub returns-clause-unlogged : goal.returns-clause-unlogged
-returns-clause-unlogged g c = unlogged_is_exact _ _ _ _ c.answer.result c.answer.ensures.ends
+pub returns-clause-run_refused : goal.returns-clause-run_refused
+returns-clause-run_refused g c = run_is_exact _ _ _ _ c.answer.result c.answer.ensures.ends
 
 pub returns-clause-unwritten : goal.returns-clause-unwritten
 returns-clause-unwritten g c = unwritten _ _ _ _ c.answer.result c.answer.ensures.ends

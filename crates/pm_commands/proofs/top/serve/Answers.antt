@@ -1,16 +1,15 @@
 -- What each command answers, told of the command that was asked for.
-use Rattle.std.proofs.Common.{rules, refl, subst, sym, Result, Err}
-use Rattle.pm_tasks.specs.declared.output.Output.{Output}
-use Rattle.pm_words.specs.declared.refusal.Refusal.{Refusal}
+use Rattle.std.proofs.Common.{rules, refl, subst, sym, Err}
 use Rattle.pm_words.specs.declared.refusal.Refusal.TheVariants.{Input as AtInput}
 use Rattle.pm_words.specs.declared.words.Command.{Command}
-use Rattle.pm_words.specs.declared.words.Command.TheVariants.{Once, MmvMake, MmvDump, Dump, Info, Recover, At, Range, Value}
+use Rattle.pm_words.specs.declared.words.Command.TheVariants.{Once, Make, MmvMake, MmvDump, Dump, Info, Recover, At, Range, Value}
 use Rattle.pcp_model.specs.Disk.{contents_of}
 use Rattle.pm_tasks.specs.Archives.{nothing_before}
-use Rattle.pm_tasks.specs.Ends.{Serves, MayLeave}
+use Rattle.pm_words.specs.Serving.{Serves, MayLeave}
 use Rattle.pm_tasks.specs.Meanings.{meaning}
 use Rattle.pm_words.specs.Refusals.{stopped}
 use Rattle.pm_words.specs.Sides.{SinkSide, DiskSide, Leaves, sink_side, disk_side}
+use Rattle.pm_tasks.specs.Regions.{CommandRan, RunsScript}
 use Rattle.pm_tasks.specs.Since.{CommandSince}
 use Rattle.pm_tasks.specs.Takes.{MayTake}
 use Rattle.pm_tasks.specs.commands.at as at
@@ -18,8 +17,8 @@ use Rattle.pm_tasks.specs.commands.info as info
 use Rattle.pm_tasks.specs.commands.range as range
 use Rattle.pm_tasks.specs.commands.value as value
 use Rattle.pm_commands.proofs.Lookings.{info_fits, at_fits, range_fits, value_fits, look_serves, look_leaves, dump_serves}
-use Rattle.pm_tasks.proofs.Sending.{unsent, serves_whole}
-use Rattle.pm_tasks.proofs.Served.{unconverted}
+use Rattle.pm_words.proofs.Sending.{unsent, serves_whole, with_nothing}
+use Rattle.pm_words.proofs.Serving.{unconverted}
 use Rattle.pm_commands.proofs.top.serve.Goals as goal
 
 pub returns-in-Once-clause-serves : goal.returns-in-Once-clause-serves
@@ -27,7 +26,10 @@ returns-in-Once-clause-serves g c =
     let k : SinkSide = sink_side g.O.Sink c.args.out.now c.args.out.now in
     let d : DiskSide = disk_side g.D.Disk c.args.disk.now c.once.new.disk in
     subst (λ (command : Command). Serves (meaning command) c.args.input.now k c.args.failed.now d c.once.result) (sym c.in-Once.is)
-    (serves_whole (meaning (Once c.in-Once.asked)) c.args.input.now k c.args.failed.now d c.once.result (unsent g.O.Sink c.args.out.now c.args.failed.now c.requires.fresh) refl c.once.ensures.served c.once.ensures.cause)
+    (serves_whole (meaning (Once c.in-Once.asked)) c.args.input.now k c.args.failed.now d c.once.result (unsent g.O.Sink c.args.out.now c.args.failed.now c.requires.fresh) c.once.ensures.served c.once.ensures.cause)
+
+pub returns-in-Once-clause-any_moment : goal.returns-in-Once-clause-any_moment
+returns-in-Once-clause-any_moment g c = subst (λ (command : Command). Leaves g.D.Disk c.args.disk.now c.once.new.disk (MayLeave (meaning command) c.args.input.now)) (sym c.in-Once.is) c.once.ensures.any_moment
 
 pub returns-in_err-image-in-MmvMake-clause-serves : goal.returns-in_err-image-in-MmvMake-clause-serves
 returns-in_err-image-in-MmvMake-clause-serves g c =
@@ -51,9 +53,8 @@ pub returns-in-Dump-clause-serves : goal.returns-in-Dump-clause-serves
 returns-in-Dump-clause-serves g c =
     let k : SinkSide = sink_side g.O.Sink c.args.out.now c.dump.new.out in
     let d : DiskSide = disk_side g.D.Disk c.args.disk.now c.dump.new.disk in
-    subst (λ (command : Command). Serves (meaning command) c.args.input.now k c.dump.new.failed d c.told.result) (sym c.in-Dump.is)
-    (subst (λ (result : Result Output Refusal). Serves (meaning Dump) c.args.input.now k c.dump.new.failed d result) (sym c.told.ensures)
-    (dump_serves c.args.input.now k c.dump.new.failed d c.dump.result (λ tells. c.dump.ensures.looks.held tells) c.dump.ensures.said c.dump.ensures.stops c.dump.ensures.turned))
+    subst (λ (command : Command). Serves (meaning command) c.args.input.now k c.dump.new.failed d c.dump.result) (sym c.in-Dump.is)
+    (dump_serves c.args.input.now k c.dump.new.failed d c.dump.result (λ tells. c.dump.ensures.looks.held tells) c.dump.ensures.said c.dump.ensures.stops c.dump.ensures.turned)
 
 pub returns-in-Dump-clause-any_moment : goal.returns-in-Dump-clause-any_moment
 returns-in-Dump-clause-any_moment g c = look_leaves g.D.Disk (meaning c.args.command.now) c.args.input.now c.args.disk.now c.dump.new.disk c.dump.ensures.looks
@@ -62,10 +63,9 @@ pub returns-in-Info-clause-serves : goal.returns-in-Info-clause-serves
 returns-in-Info-clause-serves g c =
     let k : SinkSide = sink_side g.O.Sink c.args.out.now c.args.out.now in
     let d : DiskSide = disk_side g.D.Disk c.args.disk.now c.info.new.disk in
-    subst (λ (command : Command). Serves (meaning command) c.args.input.now k c.args.failed.now d c.told-in-Info.result) (sym c.in-Info.is)
-    (subst (λ (result : Result Output Refusal). Serves (meaning Info) c.args.input.now k c.args.failed.now d result) (sym c.told-in-Info.ensures)
+    subst (λ (command : Command). Serves (meaning command) c.args.input.now k c.args.failed.now d c.info.result) (sym c.in-Info.is)
     (look_serves info.turned info.said nothing_before info_fits c.args.input.now k c.args.failed.now d c.info.result (λ tells. c.info.ensures.looks.held tells) (unsent g.O.Sink c.args.out.now c.args.failed.now c.requires.fresh) refl
-    (λ tells. c.info.ensures.said tells) c.info.ensures.turned))
+    (λ tells. c.info.ensures.said tells) c.info.ensures.turned)
 
 pub returns-in-Info-clause-any_moment : goal.returns-in-Info-clause-any_moment
 returns-in-Info-clause-any_moment g c = look_leaves g.D.Disk (meaning c.args.command.now) c.args.input.now c.args.disk.now c.info.new.disk c.info.ensures.looks
@@ -75,7 +75,8 @@ returns-in-Recover-clause-serves g c =
     let k : SinkSide = sink_side g.O.Sink c.args.out.now c.args.out.now in
     let d : DiskSide = disk_side g.D.Disk c.args.disk.now c.recover.new.disk in
     subst (λ (command : Command). Serves (meaning command) c.args.input.now k c.args.failed.now d c.recover.result) (sym c.in-Recover.is)
-    (serves_whole (meaning Recover) c.args.input.now k c.args.failed.now d c.recover.result (unsent g.O.Sink c.args.out.now c.args.failed.now c.requires.fresh) refl (c.recover.ensures.served c.args.input.now) (c.recover.ensures.cause c.args.input.now))
+    (serves_whole (meaning Recover) c.args.input.now k c.args.failed.now d c.recover.result (unsent g.O.Sink c.args.out.now c.args.failed.now c.requires.fresh) (c.recover.ensures.served c.args.input.now)
+    (with_nothing (meaning Recover) c.args.input.now d c.recover.result (λ e. refl) (c.recover.ensures.cause c.args.input.now)))
 
 pub returns-in-Recover-clause-any_moment : goal.returns-in-Recover-clause-any_moment
 returns-in-Recover-clause-any_moment g c = subst (λ (command : Command). Leaves g.D.Disk c.args.disk.now c.recover.new.disk (MayLeave (meaning command) c.args.input.now)) (sym c.in-Recover.is) (c.recover.ensures.any_moment c.args.input.now)
@@ -84,10 +85,9 @@ pub returns-in-At-clause-serves : goal.returns-in-At-clause-serves
 returns-in-At-clause-serves g c =
     let k : SinkSide = sink_side g.O.Sink c.args.out.now c.args.out.now in
     let d : DiskSide = disk_side g.D.Disk c.args.disk.now c.at.new.disk in
-    subst (λ (command : Command). Serves (meaning command) c.args.input.now k c.args.failed.now d c.told-in-At.result) (sym c.in-At.is)
-    (subst (λ (result : Result Output Refusal). Serves (meaning (At c.in-At.t)) c.args.input.now k c.args.failed.now d result) (sym c.told-in-At.ensures)
+    subst (λ (command : Command). Serves (meaning command) c.args.input.now k c.args.failed.now d c.at.result) (sym c.in-At.is)
     (look_serves (at.turned c.in-At.t) (at.said c.in-At.t) nothing_before (at_fits c.in-At.t) c.args.input.now k c.args.failed.now d c.at.result (λ tells. c.at.ensures.looks.held tells) (unsent g.O.Sink c.args.out.now c.args.failed.now c.requires.fresh) refl
-    (λ tells. c.at.ensures.said tells) c.at.ensures.turned))
+    (λ tells. c.at.ensures.said tells) c.at.ensures.turned)
 
 pub returns-in-At-clause-any_moment : goal.returns-in-At-clause-any_moment
 returns-in-At-clause-any_moment g c = look_leaves g.D.Disk (meaning c.args.command.now) c.args.input.now c.args.disk.now c.at.new.disk c.at.ensures.looks
@@ -96,10 +96,9 @@ pub returns-in-Range-clause-serves : goal.returns-in-Range-clause-serves
 returns-in-Range-clause-serves g c =
     let k : SinkSide = sink_side g.O.Sink c.args.out.now c.args.out.now in
     let d : DiskSide = disk_side g.D.Disk c.args.disk.now c.range.new.disk in
-    subst (λ (command : Command). Serves (meaning command) c.args.input.now k c.args.failed.now d c.told-in-Range.result) (sym c.in-Range.is)
-    (subst (λ (result : Result Output Refusal). Serves (meaning (Range c.in-Range.from c.in-Range.to)) c.args.input.now k c.args.failed.now d result) (sym c.told-in-Range.ensures)
+    subst (λ (command : Command). Serves (meaning command) c.args.input.now k c.args.failed.now d c.range.result) (sym c.in-Range.is)
     (look_serves (range.turned c.in-Range.from c.in-Range.to) (range.said c.in-Range.from c.in-Range.to) nothing_before (range_fits c.in-Range.from c.in-Range.to) c.args.input.now k c.args.failed.now d c.range.result (λ tells. c.range.ensures.looks.held tells) (unsent g.O.Sink c.args.out.now c.args.failed.now c.requires.fresh) refl
-    (λ tells. c.range.ensures.said tells) c.range.ensures.turned))
+    (λ tells. c.range.ensures.said tells) c.range.ensures.turned)
 
 pub returns-in-Range-clause-any_moment : goal.returns-in-Range-clause-any_moment
 returns-in-Range-clause-any_moment g c = look_leaves g.D.Disk (meaning c.args.command.now) c.args.input.now c.args.disk.now c.range.new.disk c.range.ensures.looks
@@ -108,10 +107,9 @@ pub returns-in-Value-clause-serves : goal.returns-in-Value-clause-serves
 returns-in-Value-clause-serves g c =
     let k : SinkSide = sink_side g.O.Sink c.args.out.now c.args.out.now in
     let d : DiskSide = disk_side g.D.Disk c.args.disk.now c.value.new.disk in
-    subst (λ (command : Command). Serves (meaning command) c.args.input.now k c.args.failed.now d c.told-in-Value.result) (sym c.in-Value.is)
-    (subst (λ (result : Result Output Refusal). Serves (meaning (Value c.in-Value.asked)) c.args.input.now k c.args.failed.now d result) (sym c.told-in-Value.ensures)
+    subst (λ (command : Command). Serves (meaning command) c.args.input.now k c.args.failed.now d c.value.result) (sym c.in-Value.is)
     (look_serves (value.turned c.in-Value.asked) (value.said c.in-Value.asked) nothing_before (value_fits c.in-Value.asked) c.args.input.now k c.args.failed.now d c.value.result (λ tells. c.value.ensures.looks.held tells) (unsent g.O.Sink c.args.out.now c.args.failed.now c.requires.fresh) refl
-    (λ tells. c.value.ensures.said tells) c.value.ensures.turned))
+    (λ tells. c.value.ensures.said tells) c.value.ensures.turned)
 
 pub returns-in-Value-clause-any_moment : goal.returns-in-Value-clause-any_moment
 returns-in-Value-clause-any_moment g c = look_leaves g.D.Disk (meaning c.args.command.now) c.args.input.now c.args.disk.now c.value.new.disk c.value.ensures.looks
@@ -202,3 +200,118 @@ returns-in-At-clause-since g c = λ tells behind. subst (λ (command : Command).
 
 pub returns-in-Range-clause-since : goal.returns-in-Range-clause-since
 returns-in-Range-clause-since g c = λ tells behind. subst (λ (command : Command). CommandSince g.D.Disk command c.args.input.now c.args.disk.now c.range.new.disk) (sym c.in-Range.is) tt
+
+pub returns-in-Replay-clause-serves : goal.returns-in-Replay-clause-serves
+returns-in-Replay-clause-serves g c =
+    let k : SinkSide = sink_side g.O.Sink c.args.out.now c.replay.new.out in
+    let d : DiskSide = disk_side g.D.Disk c.args.disk.now c.replay.new.disk in
+    subst (λ (command : Command). Serves (meaning command) c.args.input.now k c.replay.new.failed d c.replay.result) (sym c.in-Replay.is) c.replay.ensures.serves
+
+pub returns-in-Make-clause-serves : goal.returns-in-Make-clause-serves
+returns-in-Make-clause-serves g c =
+    let k : SinkSide = sink_side g.O.Sink c.args.out.now c.args.out.now in
+    let d : DiskSide = disk_side g.D.Disk c.args.disk.now c.make.new.disk in
+    subst (λ (command : Command). Serves (meaning command) c.args.input.now k c.args.failed.now d c.make.result) (sym c.in-Make.is)
+    (serves_whole (meaning (Make c.in-Make.asked)) c.args.input.now k c.args.failed.now d c.make.result (unsent g.O.Sink c.args.out.now c.args.failed.now c.requires.fresh) (c.make.ensures.served c.args.input.now) (c.make.ensures.cause c.args.input.now))
+
+pub returns-in-Replay-clause-any_moment : goal.returns-in-Replay-clause-any_moment
+returns-in-Replay-clause-any_moment g c = subst (λ (command : Command). Leaves g.D.Disk c.args.disk.now c.replay.new.disk (MayLeave (meaning command) c.args.input.now)) (sym c.in-Replay.is) c.replay.ensures.any_moment
+
+pub returns-in-Replay-clause-unread : goal.returns-in-Replay-clause-unread
+returns-in-Replay-clause-unread g c = λ none tells. c.replay.ensures.unread none tells
+
+pub returns-in-Replay-clause-taken : goal.returns-in-Replay-clause-taken
+returns-in-Replay-clause-taken g c = λ tells. subst (λ (command : Command). MayTake command (contents_of (g.D.Disk.held c.args.disk.now)) (g.D.Disk.taken c.args.disk.now) (g.D.Disk.taken c.replay.new.disk)) (sym c.in-Replay.is) tt
+
+pub returns-in-Replay-clause-since : goal.returns-in-Replay-clause-since
+returns-in-Replay-clause-since g c = λ tells behind. subst (λ (command : Command). CommandSince g.D.Disk command c.args.input.now c.args.disk.now c.replay.new.disk) (sym c.in-Replay.is) (c.replay.ensures.since tells behind)
+
+pub returns-in-Replay-clause-ran : goal.returns-in-Replay-clause-ran
+returns-in-Replay-clause-ran g c = subst (λ (command : Command). CommandRan command c.args.input.now (disk_side g.D.Disk c.args.disk.now c.replay.new.disk) c.replay.new.opened) (sym c.in-Replay.is) c.replay.ensures.ran
+
+pub returns-in-Replay-clause-regions : goal.returns-in-Replay-clause-regions
+returns-in-Replay-clause-regions g c = λ runs. c.replay.ensures.regions
+
+pub returns-in-Make-clause-any_moment : goal.returns-in-Make-clause-any_moment
+returns-in-Make-clause-any_moment g c = subst (λ (command : Command). Leaves g.D.Disk c.args.disk.now c.make.new.disk (MayLeave (meaning command) c.args.input.now)) (sym c.in-Make.is) (c.make.ensures.any_moment c.args.input.now)
+
+pub returns-in-Make-clause-unread : goal.returns-in-Make-clause-unread
+returns-in-Make-clause-unread g c = λ none tells. c.make.ensures.unread none tells
+
+pub returns-in-Make-clause-taken : goal.returns-in-Make-clause-taken
+returns-in-Make-clause-taken g c = λ tells. subst (λ (command : Command). MayTake command (contents_of (g.D.Disk.held c.args.disk.now)) (g.D.Disk.taken c.args.disk.now) (g.D.Disk.taken c.make.new.disk)) (sym c.in-Make.is) tt
+
+pub returns-in-Make-clause-since : goal.returns-in-Make-clause-since
+returns-in-Make-clause-since g c = λ tells behind. subst (λ (command : Command). CommandSince g.D.Disk command c.args.input.now c.args.disk.now c.make.new.disk) (sym c.in-Make.is) ((c.make.ensures.since c.args.input.now) tells behind)
+
+pub returns-in-Make-clause-ran : goal.returns-in-Make-clause-ran
+returns-in-Make-clause-ran g c = subst (λ (command : Command). CommandRan command c.args.input.now (disk_side g.D.Disk c.args.disk.now c.make.new.disk) c.make.new.opened) (sym c.in-Make.is) (c.make.ensures.ran c.args.input.now)
+
+pub returns-in-Make-clause-regions : goal.returns-in-Make-clause-regions
+returns-in-Make-clause-regions g c = λ runs. c.make.ensures.regions
+
+pub returns-in-Once-clause-ran : goal.returns-in-Once-clause-ran
+returns-in-Once-clause-ran g c = subst (λ (command : Command). CommandRan command c.args.input.now (disk_side g.D.Disk c.args.disk.now c.once.new.disk) c.once.new.opened) (sym c.in-Once.is) c.once.ensures.ran
+
+pub returns-in-Once-clause-regions : goal.returns-in-Once-clause-regions
+returns-in-Once-clause-regions g c = λ runs. c.once.ensures.regions
+
+pub returns-in-Dump-clause-ran : goal.returns-in-Dump-clause-ran
+returns-in-Dump-clause-ran g c = subst (λ (command : Command). CommandRan command c.args.input.now (disk_side g.D.Disk c.args.disk.now c.dump.new.disk) c.args.opened.now) (sym c.in-Dump.is) c.requires.closed
+
+pub returns-in-Dump-clause-regions : goal.returns-in-Dump-clause-regions
+returns-in-Dump-clause-regions g c = λ runs. absurd (subst RunsScript c.in-Dump.is runs)
+
+pub returns-in-Info-clause-ran : goal.returns-in-Info-clause-ran
+returns-in-Info-clause-ran g c = subst (λ (command : Command). CommandRan command c.args.input.now (disk_side g.D.Disk c.args.disk.now c.info.new.disk) c.args.opened.now) (sym c.in-Info.is) c.requires.closed
+
+pub returns-in-Info-clause-regions : goal.returns-in-Info-clause-regions
+returns-in-Info-clause-regions g c = λ runs. absurd (subst RunsScript c.in-Info.is runs)
+
+pub returns-in-Recover-clause-ran : goal.returns-in-Recover-clause-ran
+returns-in-Recover-clause-ran g c = subst (λ (command : Command). CommandRan command c.args.input.now (disk_side g.D.Disk c.args.disk.now c.recover.new.disk) c.args.opened.now) (sym c.in-Recover.is) c.requires.closed
+
+pub returns-in-Recover-clause-regions : goal.returns-in-Recover-clause-regions
+returns-in-Recover-clause-regions g c = λ runs. absurd (subst RunsScript c.in-Recover.is runs)
+
+pub returns-in-At-clause-ran : goal.returns-in-At-clause-ran
+returns-in-At-clause-ran g c = subst (λ (command : Command). CommandRan command c.args.input.now (disk_side g.D.Disk c.args.disk.now c.at.new.disk) c.args.opened.now) (sym c.in-At.is) c.requires.closed
+
+pub returns-in-At-clause-regions : goal.returns-in-At-clause-regions
+returns-in-At-clause-regions g c = λ runs. absurd (subst RunsScript c.in-At.is runs)
+
+pub returns-in-Range-clause-ran : goal.returns-in-Range-clause-ran
+returns-in-Range-clause-ran g c = subst (λ (command : Command). CommandRan command c.args.input.now (disk_side g.D.Disk c.args.disk.now c.range.new.disk) c.args.opened.now) (sym c.in-Range.is) c.requires.closed
+
+pub returns-in-Range-clause-regions : goal.returns-in-Range-clause-regions
+returns-in-Range-clause-regions g c = λ runs. absurd (subst RunsScript c.in-Range.is runs)
+
+pub returns-in-Value-clause-ran : goal.returns-in-Value-clause-ran
+returns-in-Value-clause-ran g c = subst (λ (command : Command). CommandRan command c.args.input.now (disk_side g.D.Disk c.args.disk.now c.value.new.disk) c.args.opened.now) (sym c.in-Value.is) c.requires.closed
+
+pub returns-in-Value-clause-regions : goal.returns-in-Value-clause-regions
+returns-in-Value-clause-regions g c = λ runs. absurd (subst RunsScript c.in-Value.is runs)
+
+pub returns-in_err-image-in-MmvMake-clause-ran : goal.returns-in_err-image-in-MmvMake-clause-ran
+returns-in_err-image-in-MmvMake-clause-ran g c = subst (λ (command : Command). CommandRan command c.args.input.now (disk_side g.D.Disk c.args.disk.now c.args.disk.now) c.args.opened.now) (sym c.in-MmvMake.is) c.requires.closed
+
+pub returns-in_err-image-in-MmvMake-clause-regions : goal.returns-in_err-image-in-MmvMake-clause-regions
+returns-in_err-image-in-MmvMake-clause-regions g c = λ runs. absurd (subst RunsScript c.in-MmvMake.is runs)
+
+pub returns-in_ok-image-in-MmvMake-clause-ran : goal.returns-in_ok-image-in-MmvMake-clause-ran
+returns-in_ok-image-in-MmvMake-clause-ran g c = subst (λ (command : Command). CommandRan command c.args.input.now (disk_side g.D.Disk c.args.disk.now c.args.disk.now) c.args.opened.now) (sym c.in-MmvMake.is) c.requires.closed
+
+pub returns-in_ok-image-in-MmvMake-clause-regions : goal.returns-in_ok-image-in-MmvMake-clause-regions
+returns-in_ok-image-in-MmvMake-clause-regions g c = λ runs. absurd (subst RunsScript c.in-MmvMake.is runs)
+
+pub returns-in_err-text-in-MmvDump-clause-ran : goal.returns-in_err-text-in-MmvDump-clause-ran
+returns-in_err-text-in-MmvDump-clause-ran g c = subst (λ (command : Command). CommandRan command c.args.input.now (disk_side g.D.Disk c.args.disk.now c.args.disk.now) c.args.opened.now) (sym c.in-MmvDump.is) c.requires.closed
+
+pub returns-in_err-text-in-MmvDump-clause-regions : goal.returns-in_err-text-in-MmvDump-clause-regions
+returns-in_err-text-in-MmvDump-clause-regions g c = λ runs. absurd (subst RunsScript c.in-MmvDump.is runs)
+
+pub returns-in_ok-text-in-MmvDump-clause-ran : goal.returns-in_ok-text-in-MmvDump-clause-ran
+returns-in_ok-text-in-MmvDump-clause-ran g c = subst (λ (command : Command). CommandRan command c.args.input.now (disk_side g.D.Disk c.args.disk.now c.args.disk.now) c.args.opened.now) (sym c.in-MmvDump.is) c.requires.closed
+
+pub returns-in_ok-text-in-MmvDump-clause-regions : goal.returns-in_ok-text-in-MmvDump-clause-regions
+returns-in_ok-text-in-MmvDump-clause-regions g c = λ runs. absurd (subst RunsScript c.in-MmvDump.is runs)

@@ -2,7 +2,7 @@
 use Rattle.std.proofs.Common.{rules, map, string_bytes, Global, List, ℕ, refl, sym, subst}
 use Rattle.pm_words.specs.Sides.{SourceSide, source_side}
 use Rattle.pm_serving.specs.Ends.{Asks}
-use Rattle.pm_serving.specs.Reading.{WasRead}
+use Rattle.pm_words.specs.Reading.{WasRead}
 use Rattle.pm_serving.proofs.Stopping.{by_script}
 use Rattle.pm_serving.proofs.top.prepare.Goals as goal
 

@@ -2,7 +2,7 @@
 use Rattle.std.proofs.Common.{[], refl, sym, ap, subst, ◌∙◌, ◌++◌, append-nil}
 use Rattle.pm_words.specs.Sides.{sink_side}
 use Rattle.pm_words.specs.Streams.{Sends}
-use Rattle.pm_tasks.proofs.Sending.{unmoved}
+use Rattle.pm_words.proofs.Sending.{unmoved}
 use Rattle.pm_tasks.proofs.commands.dump.turn_page.Goals as goal
 
 pub returns-then-not-is_full : goal.returns-then-not-is_full

@@ -1,7 +1,10 @@
 -- The archive is opened, and the result logged.
-use Rattle.std.proofs.Common.{◌≡◌, ◌≢◌, [], ◌∷◌, ◌++◌, ◌+◌, false, sym, ap, subst, arith, length-append}
-use Rattle.std.proofs.lemmas.Result.{on_ok_weaker}
+use Rattle.std.proofs.Common.{◌≡◌, ◌≢◌, List, [], ◌∷◌, ◌++◌, ◌+◌, ◌∙◌, false, Result, Ok, Err, sym, ap, subst, arith, append-nil, length-append}
+use Rattle.std.specs.Prelude.{IfErr}
+use Rattle.std.proofs.lemmas.Result.{IfErr-weaker, on_ok_weaker}
+use Rattle.pcp_base.specs.declared.result.Item.{Item}
 use Rattle.pcp_base.specs.declared.result.Item.TheVariants.{Sample}
+use Rattle.pcp_outside.specs.Devices.{LeavesOnly}
 use Rattle.logger_core.specs.declared.fault.LogFault.{LogFault}
 use Rattle.logger_core.specs.declared.fault.LogFault.TheVariants.{DiskFault}
 use Rattle.logger_core.specs.Logging.{IsLoggable, IsLogged, LogMayAnswer}
@@ -9,12 +12,36 @@ use Rattle.logger_core.proofs.Calls.{run_then}
 use Rattle.record_run.specs.declared.archive.RunArchive.{RunArchive}
 use Rattle.record_run.specs.declared.archive.Standing.{Standing}
 use Rattle.record_run.specs.declared.archive.Standing.TheVariants.{Open}
-use Rattle.record_run.specs.Going.{IsOpen, IsStanding, LogFails, LogsRun, meant}
+use Rattle.record_run.specs.Going.{IsOpen, IsStanding, IsWorking, LogFails, LogsRun, meant}
 use Rattle.record_run.specs.ImageCrashes.{ComesBackTo}
 use Rattle.record_run.specs.ImageLogs.{MaySurvive}
-use Rattle.record_run.proofs.Going.{log_fails, logged_runs, may_survive, new_comes}
+use Rattle.record_run.proofs.Going.{log_fails, logged_runs, may_survive, new_comes, open_still}
 use Rattle.record_run.proofs.ImageLogged.{both_err, both_ok}
 use Rattle.record_run.proofs.archive.RunArchive.log.Goals as goal
+
+every_err : {T E : Type 0} (r : Result T E) (Q : E → Type 0) → ((e : E) → Q e) → IfErr r Q
+every_err (Ok v) Q each = tt
+every_err (Err e) Q each = each e
+
+pub returns-in_err-logger-clause-refused : goal.returns-in_err-logger-clause-refused
+returns-in_err-logger-clause-refused g c = λ tells left items least stand k.
+    let d = g.D.Disk in
+    let n = c.args.self.now.limit in
+    let st = subst (λ (s : Standing). IsStanding left n items least stand s (d.held c.args.disk.now)) (sym c.replace-standing.ensures.value) k.standing in
+    every_err c.from_residual.result (λ (e : LogFault). e ≢ DiskFault → LeavesOnly d.moment d.left_since c.args.disk.now c.logger_of.new.disk (ComesBackTo items 0 left))
+    (λ e other.
+    subst (λ (xs : List Item). LeavesOnly d.moment d.left_since c.args.disk.now c.logger_of.new.disk (ComesBackTo xs 0 left)) (append-nil items) (c.logger_of.ensures.any_moment tells left items least stand st []))
+
+pub returns-else-is_ok-clause-refused : goal.returns-else-is_ok-clause-refused
+returns-else-is_ok-clause-refused g c = λ tells left items least stand k.
+    let d = g.D.Disk in
+    let n = c.args.self.now.limit in
+    let st = subst (λ (s : Standing). IsStanding left n items least stand s (d.held c.args.disk.now)) (sym c.replace-standing.ensures.value) k.standing in
+    let opened : LeavesOnly d.moment d.left_since c.args.disk.now c.logger_of.new.disk (ComesBackTo items 0 left) =
+    subst (λ (xs : List Item). LeavesOnly d.moment d.left_since c.args.disk.now c.logger_of.new.disk (ComesBackTo xs 0 left)) (append-nil items) (c.logger_of.ensures.any_moment tells left items least stand st []) in
+    IfErr-weaker c.log-answer.result (λ (e : LogFault). e ≢ DiskFault → c.log-answer.new.disk ≡ c.logger_of.new.disk)
+    (λ (e : LogFault). e ≢ DiskFault → LeavesOnly d.moment d.left_since c.args.disk.now c.log-answer.new.disk (ComesBackTo items 0 left))
+    (λ e still other. subst (λ (now : g.row.D.Denot). LeavesOnly d.moment d.left_since c.args.disk.now now (ComesBackTo items 0 left)) (sym (still other)) opened) c.log-answer.ensures.untouched
 
 pub returns-in_err-logger-clause-any_moment : goal.returns-in_err-logger-clause-any_moment
 returns-in_err-logger-clause-any_moment g c = λ tells left items least stand k more.
@@ -110,3 +137,15 @@ returns-else-is_ok-clause-fault g c = λ tells left items least stand k.
     (λ (e : LogFault). LogFails left items least stand f run new e)
     (λ e may still. log_fails left n items least f w logger between o.going c.args.self.now.logged k.counted stand o.opens now new (d.faults c.logger_of.new.disk) (d.faults c.log-answer.new.disk) e may (λ other. ap d.held (still other)))
     c.log-answer.ensures.fault c.log-answer.ensures.untouched
+
+pub returns-else-is_ok-clause-unclosed : goal.returns-else-is_ok-clause-unclosed
+returns-else-is_ok-clause-unclosed g c = λ working.
+    let d = g.D.Disk in
+    let f = c.args.fetched.now in
+    let logger = c.in_ok-logger.logger in
+    let now = c.log-answer.new.self in
+    let before = d.faults c.logger_of.new.disk in
+    let after = d.faults c.log-answer.new.disk in
+    let open_ = c.in_ok-logger.ensures.open_ (subst (λ (s : Standing). IsWorking c.args.self.now.limit s) (sym c.replace-standing.ensures.value) working) in
+    IfErr-weaker c.log-answer.result (λ (e : LogFault). LogMayAnswer logger now f.result f.facts before after e) (λ (e : LogFault). e ≢ DiskFault → (now.closed ≡ false) × (now.limit ≡ c.args.self.now.limit))
+    (λ e may other. let o = open_still logger now f.result f.facts before after e open_.1 may other in (o.0, o.1 ∙ open_.0)) c.log-answer.ensures.fault

@@ -9,12 +9,12 @@ use Rattle.script_passes.proofs.Turning.{was_there}
 use Rattle.script_passes.proofs.running.Running.is_idle.Goals as goal
 
 pub returns-then-not-is_idle : goal.returns-then-not-is_idle
-returns-then-not-is_idle c = not_idle c.args.script.now c.args.server.now c.args.self.now c.loop-region.region c.place-at.result c.place-at.ensures c.index.result.now (was_there c.args.self.now.crews.items c.place-at.result c.index.result.now c.index.result.now (let w = slice_get_within c.args.server.now c.place-at.result c.place-at.ensures.mounted c.place-at.ensures.there in let m = c.requires.as_many in omega arith) c.index.ensures refl) (sym (c.is_idle.ensures ∙ ap (λ (l : List Worker). list_all rests l) c.deref.ensures.value) ∙ c.if-not-is_idle.true)
+returns-then-not-is_idle c = not_idle c.args.script.now c.args.server.now c.args.self.now c.loop-region.region c.place-at.result c.place-at.ensures c.index.result.now (was_there c.args.self.now.crews.items c.place-at.result c.index.result.now c.index.result.now (let w = slice_get_within c.args.server.now c.place-at.result c.place-at.ensures.mounted c.place-at.ensures.there in let m = c.requires.manned.as_many in omega arith) c.index.ensures refl) (sym (c.is_idle.ensures ∙ ap (λ (l : List Worker). list_all rests l) c.deref.ensures.value) ∙ c.if-not-is_idle.true)
 
 pub loop-region-preserved : goal.loop-region-preserved
 loop-region-preserved c =
     subst (λ (n : ℕ). IdleSoFar c.args.script.now c.args.server.now c.args.self.now n) (plus_one c.loop-region.region)
-    (idle_more c.args.script.now c.args.server.now c.args.self.now c.loop-region.region c.place-at.result c.place-at.ensures c.index.result.now (was_there c.args.self.now.crews.items c.place-at.result c.index.result.now c.index.result.now (let w = slice_get_within c.args.server.now c.place-at.result c.place-at.ensures.mounted c.place-at.ensures.there in let m = c.requires.as_many in omega arith) c.index.ensures refl) (sym (c.is_idle.ensures ∙ ap (λ (l : List Worker). list_all rests l) c.deref.ensures.value) ∙ c.if-not-is_idle.false) c.loop-region.invariant)
+    (idle_more c.args.script.now c.args.server.now c.args.self.now c.loop-region.region c.place-at.result c.place-at.ensures c.index.result.now (was_there c.args.self.now.crews.items c.place-at.result c.index.result.now c.index.result.now (let w = slice_get_within c.args.server.now c.place-at.result c.place-at.ensures.mounted c.place-at.ensures.there in let m = c.requires.manned.as_many in omega arith) c.index.ensures refl) (sym (c.is_idle.ensures ∙ ap (λ (l : List Worker). list_all rests l) c.deref.ensures.value) ∙ c.if-not-is_idle.false) c.loop-region.invariant)
 
 pub returns : goal.returns
 returns c =

@@ -1,0 +1,4 @@
+pub mod Regions
+pub mod Running
+pub mod Scripts
+pub mod commands

@@ -1,0 +1,164 @@
+-- Commands that run a script over any files: which script an input is, what its run makes of the files, what is written of it, and
+-- what stands where it ends before its end.
+use Rattle.std.specs.Prelude.{◌≡◌, ◌⊎◌, ℕ, ◌≤◌, true, List, [], ◌++◌, length, take, Option, Some, None}
+use Rattle.pcp_base.specs.declared.result.Item.{Item}
+use Rattle.pcp_model.specs.Archive.{ArchiveReading, Reads}
+use Rattle.pcp_model.specs.Disk.{Files, IsSettled, contents_of}
+use Rattle.pcp_model.specs.Recovered.{Recovers}
+use Rattle.archive_recovery.specs.RecoverFaults.{IsRefused}
+use Rattle.run_script.specs.declared.script.Script.{Script}
+use Rattle.script_runs.specs.declared.ending.Ending.{Ending}
+use Rattle.script_runs.specs.declared.ending.Ending.TheVariants as ends
+use Rattle.script_runs.specs.Regions.{ScriptRegion}
+use Rattle.script_runs.specs.Runs.{LinesRun, RunsTo, StopsBehind, beginning}
+use Rattle.script_runs.specs.Steps.{RunState}
+use Rattle.script_replays.specs.Replays.{IsRecovered, OnItsWay}
+use Rattle.pcp_outside.specs.declared.disk.Disk.{Ghosts as DiskGhosts}
+use Rattle.record_run.specs.SinceRecovery.{FromRecovery}
+use Rattle.record_run.specs.ImageCrashes.{IsAllAfter, MayBeAfter}
+use Rattle.pm_words.specs.declared.stage.InputRefusal.{InputRefusal}
+use Rattle.pm_words.specs.declared.stage.FilesRefusal.{FilesRefusal}
+use Rattle.pm_words.specs.declared.stage.FilesRefusal.TheVariants.{Run, Compressed, NotArchive, Nothing}
+use Rattle.pm_words.specs.declared.stage.DiskRefusal.{DiskRefusal}
+use Rattle.pm_words.specs.declared.stage.DiskRefusal.TheVariants.{Files as FilesAway, DiskFault}
+use Rattle.pm_words.specs.declared.stage.RunRefusal.{RunRefusal}
+use Rattle.pm_words.specs.declared.stage.RunRefusal.TheVariants.{Condition, Limit, NotLater, Changed}
+use Rattle.pm_words.specs.declared.refusal.Refusal.{Refusal}
+use Rattle.pm_words.specs.declared.refusal.Refusal.TheVariants.{Words, Reading, Input, Disk, NoMemory}
+use Rattle.pm_words.specs.Meaning.{Meaning}
+use Rattle.pm_words.specs.Refusals.{run_status}
+use Rattle.pm_words.specs.Sides.{DiskSide, Found}
+
+-- what is its own of such a command
+pub record Runner : Type 1 where
+  -- what it reads, and why it doesn't read an input
+  pub reads : Option (List ℕ → Option InputRefusal)
+  -- the script of an input that it reads
+  pub script : List ℕ → Option Script
+  -- the volume limit
+  pub limit : ℕ
+  -- what it writes where so many results were logged, the run wrote these lines, and these are the files
+  pub says : Script → ℕ → List ℕ → Files → List ℕ → Type 0
+  -- what it writes of the run's lines where the run ended before
+  pub front : List ℕ → List ℕ
+
+-- what is so of the script of an input
+abbrev pub OfScript : Runner → List ℕ → (Script → Type 0) → Type 0
+OfScript c input P = (script : Script) × (c.script input ≡ Some script) × P script
+
+-- how a run ends that is refused so
+abbrev pub ending_of : RunRefusal → Ending
+ending_of (Condition line) = ends.Condition line
+ending_of (Limit what number) = ends.Limit what number
+ending_of (NotLater last) = ends.NotLater last
+ending_of (Changed pmid) = ends.Changed pmid
+
+-- a script runs over files to an ending, with these lines written, these items logged, and these files
+pub record Leads (script : Script) (limit : ℕ) (start : Files) (ending : Ending) (output : List ℕ) (items : List Item) (final : Files) : Type 0 where
+  pub regions : List ScriptRegion
+  pub runs : RunsTo script limit start ending output items regions final
+
+-- two runs that end so are one
+pub record IsOne (a b : Ending) (o p : List ℕ) (i j : List Item) (r s : List ScriptRegion) (f g : Files) : Type 0 where
+  pub ending : a ≡ b
+  pub output : o ≡ p
+  pub items : i ≡ j
+  pub regions : r ≡ s
+  pub files : f ≡ g
+
+-- it stops behind some of its lines, before its end
+pub record Halts (script : Script) (limit : ℕ) (start : Files) (output : List ℕ) (items : List Item) (final : Files) : Type 0 where
+  pub reading : ArchiveReading
+  pub was : Reads start reading
+  pub left : Files
+  pub recovered : Recovers start reading left
+  pub regions : List ScriptRegion
+  pub stops : StopsBehind script limit left output items regions final
+
+-- Some first lines were run over what recovery leaves: of the lines that they write a front is written, and their items are logged, or
+-- also what the next line asks for.
+pub record RanFirst (script : Script) (limit : ℕ) (start : Files) (output : List ℕ) (items : List Item) : Type 0 where
+  pub left : Files
+  pub recovered : IsRecovered start left
+  pub count : ℕ
+  pub within : count ≤ length script.steps
+  pub ending : Ending
+  pub last : RunState
+  pub lines_run : LinesRun (record script { steps = take count script.steps }) limit (take count script.steps) (beginning script left) ending last
+  pub more : List ℕ
+  pub output_is : last.output ≡ output ++ more
+  pub items_are : (items ≡ last.items) ⊎ OnItsWay script last count items
+
+-- a file stands wrapped, this is the first place that fits no archive, or the run over these files ends so
+abbrev pub turned : ℕ → Found → Script → FilesRefusal → Type 0
+turned limit found script (Compressed file) = found.wrapped ≡ Some file
+turned limit found script (NotArchive file at) = (found.wrapped ≡ None) × IsRefused found.files file at
+turned limit found script (Run reason) = (found.wrapped ≡ None) × (output : List ℕ) × (items : List Item) × (final : Files) × Leads script limit found.files (ending_of reason) output items final
+turned limit found script (Nothing stamp) = ⊥
+
+-- the run came to its end: the files are its files, all is settled, and this is to be written
+pub record HasRunTo (c : Runner) (script : Script) (d : DiskSide) (text : List ℕ) : Type 0 where
+  pub output : List ℕ
+  pub items : List Item
+  pub leads : Leads script c.limit (contents_of d.held) ends.Done output items (contents_of d.after)
+  pub says : c.says script (length items) output (contents_of d.after) text
+
+-- The lines that a run has written before a refusal's line, and the files: where it is refused by itself they are those of the run.
+-- Where memory ran out or the disk failed, a front is written of those of some first lines; a run that has ended may want memory for
+-- its last line.
+abbrev pub EndsWith : Script → ℕ → DiskSide → Ending → List ℕ → Type 0
+EndsWith script limit d ending output = (items : List Item) × Leads script limit (contents_of d.held) ending output items (contents_of d.after)
+
+abbrev pub HaltsWith : Script → ℕ → DiskSide → List ℕ → Type 0
+HaltsWith script limit d output = (items : List Item) × Halts script limit (contents_of d.held) output items (contents_of d.after)
+
+abbrev pub WantsWith : Script → ℕ → DiskSide → List ℕ → Type 0
+WantsWith script limit d output = HaltsWith script limit d output ⊎ ((ending : Ending) × EndsWith script limit d ending output)
+
+abbrev pub StoppedAt : Script → ℕ → DiskSide → DiskRefusal → List ℕ → Type 0
+StoppedAt script limit d (FilesAway (Run reason)) output = EndsWith script limit d (ending_of reason) output
+StoppedAt script limit d (FilesAway (Compressed file)) output = output ≡ []
+StoppedAt script limit d (FilesAway (NotArchive file at)) output = output ≡ []
+StoppedAt script limit d (FilesAway (Nothing stamp)) output = ⊥
+StoppedAt script limit d DiskFault output = (output ≡ []) ⊎ ((items : List Item) × RanFirst script limit (contents_of d.held) output items)
+
+-- what such a command has written before the line of a refusal
+abbrev pub Begins : Runner → List ℕ → DiskSide → Refusal → List ℕ → Type 0
+Begins c input d (Words usage) front = front ≡ []
+Begins c input d (Reading e) front = front ≡ []
+Begins c input d (Input e) front = front ≡ []
+Begins c input d (Disk e) front = (output : List ℕ) × (front ≡ c.front output) × (d.tells → OfScript c input (λ script. StoppedAt script c.limit d e output))
+Begins c input d NoMemory front = (front ≡ []) ⊎ ((output : List ℕ) × (front ≡ c.front output) × (d.tells → (output ≡ []) ⊎ OfScript c input (λ script. WantsWith script c.limit d output)))
+
+-- What stands where it is stopped after the first write. After a disk fault the run is on its way.
+abbrev pub Begun : ℕ → ℕ → Script → DiskSide → Type 0
+Begun limit status script d =
+    (status ≡ 5) ⊎ (((status ≡ 9) × (d.tells → (d.after ≡ d.held) ⊎ ((output : List ℕ) × WantsWith script limit d output)))
+    ⊎ ((reason : RunRefusal) × (status ≡ run_status reason) × (d.tells → (output : List ℕ) × EndsWith script limit d (ending_of reason) output)))
+
+-- the items that a run logs, or the first of them
+abbrev pub LogsFirst : Script → ℕ → Files → List Item → Type 0
+LogsFirst script limit start items =
+    (items ≡ []) ⊎ (((output : List ℕ) × RanFirst script limit start output items) ⊎ ((ending : Ending) × (output : List ℕ) × (final : Files) × Leads script limit start ending output items final))
+
+-- what a crash leaves once the run has come to its end
+abbrev pub KeepsAll : Script → ℕ → Files → Files → Type 0
+KeepsAll script limit start crash =
+    (output : List ℕ) × (items : List Item) × (final : Files) × Leads script limit start ends.Done output items final × IsAllAfter items start crash
+
+abbrev pub runs_script : Runner → Meaning
+runs_script c = record {
+  reads = c.reads;
+  uses_disk = true;
+  turns_away = λ input found e. OfScript c input (λ script. turned c.limit found script e);
+  done = λ input d. d.tells → (d.wrapped ≡ None) × IsSettled d.after;
+  says = λ input d text. d.tells → OfScript c input (λ script. HasRunTo c script d text);
+  begins = λ input d e front. Begins c input d e front;
+  keeps = λ input held crash. OfScript c input (λ script. KeepsAll script c.limit (contents_of held) crash);
+  begun = λ status input d. OfScript c input (λ script. Begun c.limit status script d);
+  may_leave = λ input held crash. OfScript c input (λ script. (items : List Item) × LogsFirst script c.limit (contents_of held) items × MayBeAfter items held crash);
+}
+
+-- from the moment on at which recovery answered, of a script's run that logged these items
+abbrev pub ScriptSince : {D : Type 0} → DiskGhosts D → Runner → List ℕ → D → D → Type 0
+ScriptSince g c input old new = OfScript c input (λ script. (items : List Item) × LogsFirst script c.limit (contents_of (g.held old)) items × FromRecovery g.held g.moment g.left_since items old new)

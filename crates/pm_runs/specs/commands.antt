@@ -1,0 +1,4 @@
+pub mod make
+pub mod once
+pub mod recover
+pub mod replay

@@ -1,0 +1,51 @@
+-- `recover` mends an archive that was stopped anywhere, and writes how many items it has.
+use Rattle.std.specs.Prelude.{◌≡◌, ◌⊎◌, ℕ, true, List, [], ◌∷◌, ◌++◌, length, codes, Some, None}
+use Rattle.std.specs.Fmt.{decimal}
+use Rattle.pcp_base.specs.declared.file.FileId.{FileId}
+use Rattle.pcp_model.specs.Archive.{ArchiveReading, Reads, scan}
+use Rattle.pcp_model.specs.Disk.{Files, contents_of}
+use Rattle.pcp_model.specs.Recovered.{Recovers}
+use Rattle.archive_recovery.specs.Halfway.{MayBeHalfway}
+use Rattle.archive_recovery.specs.RecoverFaults.{IsRefused}
+use Rattle.pm_words.specs.declared.stage.FilesRefusal.{FilesRefusal}
+use Rattle.pm_words.specs.declared.stage.FilesRefusal.TheVariants.{Run, Compressed, NotArchive, Nothing}
+use Rattle.pm_words.specs.Meaning.{Meaning}
+use Rattle.pm_words.specs.Sides.{DiskSide, Found}
+
+-- a file stands wrapped, or this is the first place that fits no archive
+abbrev pub turned : Found → FilesRefusal → Type 0
+turned found (Compressed file) = found.wrapped ≡ Some file
+turned found (NotArchive file at) = (found.wrapped ≡ None) × IsRefused found.files file at
+turned found (Run reason) = ⊥
+turned found (Nothing stamp) = ⊥
+
+-- the files were read, and what is left is what recovery leaves, all of it sure
+pub record IsMendedSide (d : DiskSide) : Type 0 where
+  pub reading : ArchiveReading
+  pub was : Reads (contents_of d.held) reading
+  pub recovered : Recovers (contents_of d.held) reading (contents_of d.after)
+  pub sure : (file : FileId) → (d.after file).rest ≡ []
+
+abbrev pub items_line : ℕ → List ℕ
+items_line n = codes "items " ++ (decimal n ++ 10 ∷ [])
+
+-- how many items the scan has
+abbrev pub said : Files → List ℕ → Type 0
+said files text = (r : ArchiveReading) × Reads files r × (text ≡ items_line (length (scan r)))
+
+-- After a disk fault recovery may be on its way; where memory is wanting for the line, it is done.
+abbrev pub begun : ℕ → DiskSide → Type 0
+begun status d = (status ≡ 5) ⊎ ((status ≡ 9) × (d.tells → IsMendedSide d))
+
+abbrev pub recover : Meaning
+recover = record {
+  reads = None;
+  uses_disk = true;
+  turns_away = λ input files e. turned files e;
+  done = λ input d. d.tells → IsMendedSide d;
+  says = λ input d text. d.tells → said (contents_of d.held) text;
+  begins = λ input d e front. front ≡ [];
+  keeps = λ input held crash. Unit {0};
+  begun = λ status input d. begun status d;
+  may_leave = λ input held crash. MayBeHalfway held crash;
+}

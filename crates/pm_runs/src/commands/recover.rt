@@ -1,0 +1,32 @@
+//! The command `recover`: an archive that was stopped anywhere is mended.
+ghost use Rattle.std.specs.Prelude.{◌≡◌, ℕ, List, IfOk, IfErr};
+ghost use Rattle.pcp_model.specs.Disk.{CrashImage};
+ghost use Rattle.pm_words.specs.Serving.{StopCause, HasServed, MayLeave};
+ghost use Rattle.pm_words.specs.Sides.{disk_side, IsUnread, Leaves};
+ghost use Rattle.pm_runs.specs.commands.recover.{recover as meaning_of_recover, items_line};
+
+use archive_recovery::recover as mend_archive;
+use pcp_base::{Bytes, List as Sequence, NoMemory};
+use pcp_outside::Disk;
+use pm_words::Refusal;
+use std::alloc::Global;
+
+// The line that tells how many items there are.
+fn items_line(alloc: Global, items: u64) -> Result<Bytes, NoMemory>
+    ensures { IfOk result (λ line. line ≡ items_line items) }
+{
+    let line = format!(in alloc; "items {items}\n")?;
+    Ok(Sequence::from_vec(line.into_bytes()))
+}
+
+/// Mends the archive, whatever the input, and tells how many items it has.
+pub fn recover<D: Disk>(alloc: Global, disk: &mut D) -> Result<Bytes, Refusal>
+    ensures served { (input : List ℕ) → IfOk result (HasServed meaning_of_recover input (disk_side D.Disk disk.old disk.new)) }
+    ensures cause { (input : List ℕ) → IfErr result (StopCause meaning_of_recover input (disk_side D.Disk disk.old disk.new)) }
+    ensures any_moment { (input : List ℕ) → Leaves D.Disk disk.old disk.new (MayLeave meaning_of_recover input) }
+    ensures unread { IsUnread D.Disk disk.old → Leaves D.Disk disk.old disk.new CrashImage }
+{
+    let archive = mend_archive(alloc, disk)?;
+    let line = items_line(alloc, archive.items)?;
+    Ok(line)
+}

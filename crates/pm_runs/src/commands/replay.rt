@@ -1,0 +1,66 @@
+//! The command `replay VOLUME`: a script is read and run, over any files.
+ghost use Rattle.std.specs.Prelude.{◌≡◌, ◌≤◌, length, IfErr, IfOk, OnOk, None, Some, false};
+ghost use Rattle.pcp_model.specs.Disk.{CrashImage};
+ghost use Rattle.run_script.specs.Rules.{KeepsRules};
+ghost use Rattle.pm_words.specs.Serving.{MayLeave, Serves, HasRecovered};
+ghost use Rattle.pm_runs.specs.Regions.{HasRegions, RanRegions};
+ghost use Rattle.pm_runs.specs.Scripts.{ScriptSince};
+ghost use Rattle.pm_runs.specs.commands.replay.{replay as meaning_of_replay, replaying};
+ghost use Rattle.pm_words.specs.Inputs.{input_limit, refusal_of, Refuses};
+ghost use Rattle.pm_words.specs.Sides.{disk_side, sink_side, IsUnread, Leaves};
+
+use crate::running::run_script;
+use pcp_base::Bytes;
+use pcp_outside::{Disk, Sink};
+use pm_words::{InputRefusal, Refusal, Stop, of_ending, send};
+use run_script::{ReadScriptError, Script};
+use script_passes::Opened;
+use std::alloc::Global;
+
+// The script of an input.
+fn read_script(alloc: Global, volume: u64, input: &[u8]) -> Result<Script, Stop<InputRefusal>>
+    requires within { length input.now ≤ input_limit }
+    ensures script { IfOk result (λ script. (replaying volume).script input.now ≡ Some script) }
+    ensures rules { IfOk result KeepsRules }
+    ensures good { OnOk result (refusal_of (meaning_of_replay volume).reads input.now ≡ None) }
+    ensures cause { IfErr result (Refuses (meaning_of_replay volume).reads input.now) }
+{
+    match Script::read(alloc, input) {
+        Ok(script) => Ok(script),
+        Err(ReadScriptError::NoMemory) => Err(Stop::OutOfMemory),
+        Err(ReadScriptError::Fault(fault)) => Err(Stop::Refused(InputRefusal::Script(fault))),
+    }
+}
+
+/// Runs the script of an input, over any files. The lines of a run that is refused go to the sink before the refusal.
+pub fn replay<O: Sink, D: Disk>(
+    alloc: Global,
+    volume: u64,
+    input: &[u8],
+    out: &mut O,
+    failed: &mut bool,
+    disk: &mut D,
+    opened: &mut Option<Opened>,
+) -> Result<Bytes, Refusal>
+    requires low { 1024 ≤ volume }
+    requires high { volume ≤ 1073741824 }
+    requires within { length input.now ≤ input_limit }
+    requires fresh { failed.old ≡ false }
+    requires closed { opened.old ≡ None }
+    ensures serves { Serves (meaning_of_replay volume) input.now (sink_side O.Sink out.old out.new) failed.new (disk_side D.Disk disk.old disk.new) result }
+    ensures any_moment { Leaves D.Disk disk.old disk.new (MayLeave (meaning_of_replay volume) input.now) }
+    ensures unread { IsUnread D.Disk disk.old → Leaves D.Disk disk.old disk.new CrashImage }
+    ensures since { D.tells → HasRecovered result → ScriptSince D.Disk (replaying volume) input.now disk.old disk.new }
+    ensures ran { RanRegions (replaying volume) input.now (disk_side D.Disk disk.old disk.new) opened.new }
+    ensures regions { HasRegions result opened.new }
+{
+    let script = read_script(alloc, volume, input)?;
+    let replayed = run_script(alloc, script, volume, disk, opened)?;
+    match of_ending(replayed.ending) {
+        None => Ok(replayed.output),
+        Some(refusal) => {
+            *failed = send(out, *failed, replayed.output.as_slice());
+            Err(refusal)
+        }
+    }
+}

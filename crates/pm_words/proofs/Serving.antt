@@ -1,0 +1,30 @@
+-- A command that stops before its first write.
+use Rattle.std.proofs.Common.{inl, ℕ, Bool, List, [], Err, sym, subst}
+use Rattle.pcp_model.specs.Disk.{IsSettled}
+use Rattle.pm_words.specs.declared.refusal.Refusal.TheVariants.{Input}
+use Rattle.pm_words.specs.declared.stage.InputRefusal.{InputRefusal}
+use Rattle.pm_words.specs.declared.stage.Stop.{Stop}
+use Rattle.pm_words.specs.declared.stage.Stop.TheVariants.{OutOfMemory, Refused}
+use Rattle.pm_words.specs.Inputs.{Refuses}
+use Rattle.pm_words.specs.Meaning.{Meaning}
+use Rattle.pm_words.specs.Refusals.{stopped}
+use Rattle.pm_words.specs.Serving.{Left, Serves, StopCause}
+use Rattle.pm_words.specs.Sides.{SinkSide, DiskSide, Untouched}
+use Rattle.pm_words.specs.Streams.{IsSent}
+
+-- a disk that holds what it held is settled if it was
+pub still_settled : (d : DiskSide) → Untouched d → d.tells → IsSettled d.held → IsSettled d.after
+still_settled d still tells settled = subst IsSettled (sym (still tells)) settled
+
+-- stopped before the first write
+pub left_alone : (m : Meaning) (status : ℕ) (input : List ℕ) (d : DiskSide) → Untouched d → Left m status input d
+left_alone m status input d still = record { files = inl still; settled = λ other. still_settled d still }
+
+-- what was got isn't what the command reads
+pub no_good : (m : Meaning) (input : List ℕ) (d : DiskSide) (stop : Stop InputRefusal) → Refuses m.reads input stop → Untouched d → StopCause m input d (stopped Input stop)
+no_good m input d OutOfMemory refuses still = left_alone m 9 input d still
+no_good m input d (Refused e) refuses still = (refuses, still)
+
+-- a command that is refused its input
+pub unconverted : (m : Meaning) (input : List ℕ) (k : SinkSide) (failed : Bool) (d : DiskSide) (stop : Stop InputRefusal) → IsSent k [] failed → m.begins input d (stopped Input stop) [] → Untouched d → Refuses m.reads input stop → Serves m input k failed d (Err (stopped Input stop))
+unconverted m input k failed d stop sent nothing still refuses = record { front = []; sent = sent; done = tt; stops = (no_good m input d stop refuses still, nothing) }

@@ -1,0 +1,16 @@
+pub mod Behind
+pub mod BehindLast
+pub mod Causes
+pub mod Fetching
+pub mod Finals
+pub mod FlushGoes
+pub mod Flushed
+pub mod Matches
+pub mod OneSeat
+pub mod PassLines
+pub mod Recovering
+pub mod Stopped
+pub mod TickGoes
+pub mod TickStops
+pub mod Ticked
+pub mod Ticking

@@ -1,0 +1,6 @@
+pub mod Finals
+pub mod Lasts
+pub mod Lines
+pub mod Replays
+pub mod States
+pub mod Ticking
