@@ -22,9 +22,10 @@ use Rattle.region_rule.specs.Seats.{Token, MadeRegion, IsSame}
 use Rattle.region_rule.proofs.Showing.{Follows}
 use Rattle.region_words.specs.Images.{mmv}
 use Rattle.region_words.proofs.Inside.{slots_below}
-use Rattle.fetch_engine.specs.Kept.{IsKeptBy, AreKept, AreUnknown, TryFails, TryStays, ValuesFail, WholeFails, value_words, written}
+use Rattle.fetch_answers.specs.Numbers.{value_words}
+use Rattle.fetch_engine.specs.Kept.{IsKeptBy, AreKept, AreUnknown, TryFails, TryStays, ValuesFail, WholeFails, with_values}
 use Rattle.fetch_engine.specs.Visits.{IsLoaded, AreLoaded, IsRefused, ShowsAtOnce}
-use Rattle.fetch_engine.specs.declared.shot.Shot.{Shot}
+use Rattle.fetch_answers.specs.declared.shot.Shot.{Shot}
 use Rattle.fetch_engine.proofs.Keeping.{image_kept, kept_later, refreshes, chosen_again, one_load, newer_again}
 use Rattle.fetch_engine.proofs.Tries.{whole_loads, loads_follow, loaded_trans, no_loads, unloaded, refuses, same_trans}
 
@@ -86,12 +87,12 @@ pub record IsFresh (old new : Token) (words fresh : List ℕ) : Type 0 where
   pub shows : ShowsAtOnce old.view (layout_of fresh) new.view
 
 pub freshened : (old new : Token) (words indexes values fresh : List ℕ) (generation : ℕ) → IsKeptBy old words → mmv.IsImage words → indexes ≡ value_words words → generation ≡ slice_index words 1
-    → length values ≡ length indexes → fresh ≡ written words (zip indexes values) → ReadsChosen mmv old.view generation indexes values new.view → IsSame Idle Idle old new → IsFresh old new words fresh
+    → length values ≡ length indexes → fresh ≡ with_values words (zip indexes values) → ReadsChosen mmv old.view generation indexes values new.view → IsSame Idle Idle old new → IsFresh old new words fresh
 freshened old new words indexes values fresh generation k image is one long done r s =
     let reads : ReadsChosen mmv old.view (slice_index words 1) (value_words words) values new.view =
     subst (λ (n : ℕ). ReadsChosen mmv old.view n (value_words words) values new.view) one (subst (λ (xs : List ℕ). ReadsChosen mmv old.view generation xs values new.view) is r) in
     let wide : length values ≡ length (value_words words) = long ∙ ap (λ (xs : List ℕ). length xs) is in
-    let wrote : fresh ≡ written words (zip (value_words words) values) = done ∙ ap (λ (xs : List ℕ). written words (zip xs values)) is in
+    let wrote : fresh ≡ with_values words (zip (value_words words) values) = done ∙ ap (λ (xs : List ℕ). with_values words (zip xs values)) is in
     let f = refreshes old.view new.view words values fresh k.kept image wide wrote reads in
     record {
       image = f.image;

@@ -25,13 +25,14 @@ use Rattle.region_rule.proofs.Showing.{Follows, numbered_or, length-numbered, ag
 use Rattle.region_words.specs.Calls.{Loads}
 use Rattle.region_words.specs.Images.{mmv, mmv_laws}
 use Rattle.region_words.proofs.Inside.{slots_inside, slots_below}
-use Rattle.fetch_engine.specs.Kept.{IsKept, IsKeptBy, value_words, written}
+use Rattle.fetch_answers.specs.Numbers.{value_words}
+use Rattle.fetch_engine.specs.Kept.{IsKept, IsKeptBy, with_values}
 use Rattle.fetch_engine.specs.Visits.{ShowsLayout, ShowsAtOnce, IsRefused}
 use Rattle.fetch_engine.proofs.Tries.{opening_same, shown_since, shows_image, whole_loads, loads_follow}
 
 -- Words that were written
 
-length-written : (words : List ℕ) (pairs : List (ℕ × ℕ)) → length (written words pairs) ≡ length words
+length-written : (words : List ℕ) (pairs : List (ℕ × ℕ)) → length (with_values words pairs) ≡ length words
 length-written words [] = refl
 length-written words (x ∷ xs) = length-written (set words x.0 x.1) xs ∙ length-set words x.0 x.1
 
@@ -42,41 +43,41 @@ later_among : {X : Type 0} (x y : X) (xs : List X) → Contains xs y → Contain
 later_among x y xs c = (suc c.0, omega (arith, c.1), c.2)
 
 -- each word is as it was, or was written last as it is
-written_either : (words : List ℕ) (pairs : List (ℕ × ℕ)) (w : ℕ) → w < length words → (slice_index (written words pairs) w ≡ slice_index words w) ⊎ Contains pairs (w, slice_index (written words pairs) w)
+written_either : (words : List ℕ) (pairs : List (ℕ × ℕ)) (w : ℕ) → w < length words → (slice_index (with_values words pairs) w ≡ slice_index words w) ⊎ Contains pairs (w, slice_index (with_values words pairs) w)
 written_either words [] w below = inl refl
 written_either words (x ∷ xs) w below =
     let next : List ℕ = set words x.0 x.1 in
     let long : length next ≡ length words = length-set words x.0 x.1 in
     ⊎_elim
-    (λ (same : slice_index (written next xs) w ≡ slice_index next w).
+    (λ (same : slice_index (with_values next xs) w ≡ slice_index next w).
     dite (ℕ_discrete w x.0)
     (λ (here : w ≡ x.0).
-    let value : slice_index (written next xs) w ≡ x.1 = same ∙ ap (λ (k : ℕ). slice_index next k) here ∙ get_or-set_same words x.0 x.1 0 (subst (λ (k : ℕ). k < length words) here below) in
-    let pair : x ≡ (w, slice_index (written next xs) w) = λ j. (sym here j, sym value j) in
+    let value : slice_index (with_values next xs) w ≡ x.1 = same ∙ ap (λ (k : ℕ). slice_index next k) here ∙ get_or-set_same words x.0 x.1 0 (subst (λ (k : ℕ). k < length words) here below) in
+    let pair : x ≡ (w, slice_index (with_values next xs) w) = λ j. (sym here j, sym value j) in
     inr (subst (λ (y : ℕ × ℕ). Contains (x ∷ xs) y) pair (front_among x xs)))
     (λ (other : w ≢ x.0). inl (same ∙ get_or-set_other words x.0 w x.1 0 other)))
-    (λ (among : Contains xs (w, slice_index (written next xs) w)). inr (later_among x (w, slice_index (written next xs) w) xs among))
+    (λ (among : Contains xs (w, slice_index (with_values next xs) w)). inr (later_among x (w, slice_index (with_values next xs) w) xs among))
     (written_either next xs w (omega arith))
 
 -- a word that is written is among what was written, as it is in the end
 written_there : (words : List ℕ) (pairs : List (ℕ × ℕ)) (k : ℕ) (d : ℕ × ℕ) → k < length pairs → (get_or pairs k d).0 < length words
-    → Contains pairs ((get_or pairs k d).0, slice_index (written words pairs) (get_or pairs k d).0)
+    → Contains pairs ((get_or pairs k d).0, slice_index (with_values words pairs) (get_or pairs k d).0)
 written_there words [] k d there below = absurd (omega arith)
 written_there words (x ∷ xs) zero d there below =
     let next : List ℕ = set words x.0 x.1 in
     let long : length next ≡ length words = length-set words x.0 x.1 in
     ⊎_elim
-    (λ (same : slice_index (written next xs) x.0 ≡ slice_index next x.0).
-    let value : slice_index (written next xs) x.0 ≡ x.1 = same ∙ get_or-set_same words x.0 x.1 0 below in
-    let pair : x ≡ (x.0, slice_index (written next xs) x.0) = λ j. (x.0, sym value j) in
+    (λ (same : slice_index (with_values next xs) x.0 ≡ slice_index next x.0).
+    let value : slice_index (with_values next xs) x.0 ≡ x.1 = same ∙ get_or-set_same words x.0 x.1 0 below in
+    let pair : x ≡ (x.0, slice_index (with_values next xs) x.0) = λ j. (x.0, sym value j) in
     subst (λ (y : ℕ × ℕ). Contains (x ∷ xs) y) pair (front_among x xs))
-    (λ (among : Contains xs (x.0, slice_index (written next xs) x.0)). later_among x (x.0, slice_index (written next xs) x.0) xs among)
+    (λ (among : Contains xs (x.0, slice_index (with_values next xs) x.0)). later_among x (x.0, slice_index (with_values next xs) x.0) xs among)
     (written_either next xs x.0 (omega arith))
 written_there words (x ∷ xs) (suc k) d there below =
     let next : List ℕ = set words x.0 x.1 in
     let long : length next ≡ length words = length-set words x.0 x.1 in
     let y : ℕ × ℕ = get_or xs k d in
-    later_among x (y.0, slice_index (written next xs) y.0) xs (written_there next xs k d (omega arith) (omega arith))
+    later_among x (y.0, slice_index (with_values next xs) y.0) xs (written_there next xs k d (omega arith) (omega arith))
 
 zip_long : (xs ys : List ℕ) → length ys ≡ length xs → length (zip xs ys) ≡ length xs
 zip_long [] [] same = refl
@@ -85,25 +86,25 @@ zip_long (x ∷ xs) [] same = absurd (omega arith)
 zip_long (x ∷ xs) (y ∷ ys) same = let rest : length (zip xs ys) ≡ length xs = zip_long xs ys (omega arith) in omega arith
 
 -- one value more
-pub written_step : (old words new indexes values : List ℕ) (k index value : ℕ) → words ≡ written old (take k (zip indexes values)) → k < length indexes → length values ≡ length indexes
-    → index ≡ get_or indexes k index → value ≡ get_or values k value → new ≡ set words index value → new ≡ written old (take (k + 1) (zip indexes values))
+pub written_step : (old words new indexes values : List ℕ) (k index value : ℕ) → words ≡ with_values old (take k (zip indexes values)) → k < length indexes → length values ≡ length indexes
+    → index ≡ get_or indexes k index → value ≡ get_or values k value → new ≡ set words index value → new ≡ with_values old (take (k + 1) (zip indexes values))
 written_step old words new indexes values k index value so_far below long i v done =
     let wide : length (zip indexes values) ≡ length indexes = zip_long indexes values long in
     let pair : get_or (zip indexes values) k (index, value) ≡ (index, value) = get_or-zip indexes values k (index, value) (omega arith) (omega arith) ∙ (λ j. (sym i j, sym v j)) in
-    done ∙ ap (λ (ws : List ℕ). set ws index value) so_far ∙ ap (λ (x : ℕ × ℕ). set (written old (take k (zip indexes values))) x.0 x.1) (sym pair)
+    done ∙ ap (λ (ws : List ℕ). set ws index value) so_far ∙ ap (λ (x : ℕ × ℕ). set (with_values old (take k (zip indexes values))) x.0 x.1) (sym pair)
     ∙ sym (fold_more (λ (ws : List ℕ) (x : ℕ × ℕ). set ws x.0 x.1) old (zip indexes values) k (index, value) (omega arith))
 
-pub written_all : (old words indexes values : List ℕ) (k : ℕ) → k ≡ length indexes → length values ≡ length indexes → words ≡ written old (take k (zip indexes values)) → words ≡ written old (zip indexes values)
+pub written_all : (old words indexes values : List ℕ) (k : ℕ) → k ≡ length indexes → length values ≡ length indexes → words ≡ with_values old (take k (zip indexes values)) → words ≡ with_values old (zip indexes values)
 written_all old words indexes values k is long done =
     let wide : length (zip indexes values) ≡ length indexes = zip_long indexes values long in
-    done ∙ ap (λ (xs : List (ℕ × ℕ)). written old xs) (take_all k (zip indexes values) (omega arith))
+    done ∙ ap (λ (xs : List (ℕ × ℕ)). with_values old xs) (take_all k (zip indexes values) (omega arith))
 
 -- a list in which others stand
 pub refilled : (n : ℕ) (out items : List ℕ) → n ≡ length out → take n (out ++ drop (length out) items) ≡ out
 refilled n out items long = take-append-le n out (drop (length out) items) (omega arith) ∙ take_all n out (omega arith)
 
-pub wrote : (words fresh indexes others values more : List ℕ) → fresh ≡ written words (zip indexes values) → indexes ≡ others → values ≡ more → fresh ≡ written words (zip others more)
-wrote words fresh indexes others values more done i v = done ∙ ap (λ (xs : List ℕ). written words (zip xs values)) i ∙ ap (λ (xs : List ℕ). written words (zip others xs)) v
+pub wrote : (words fresh indexes others values more : List ℕ) → fresh ≡ with_values words (zip indexes values) → indexes ≡ others → values ≡ more → fresh ≡ with_values words (zip others more)
+wrote words fresh indexes others values more done i v = done ∙ ap (λ (xs : List ℕ). with_values words (zip xs values)) i ∙ ap (λ (xs : List ℕ). with_values words (zip others xs)) v
 
 -- Journals
 
@@ -192,7 +193,7 @@ journal_of : (v w : View) (n : ℕ) → Extends mmv v (Load 1) n w → IsJournal
 journal_of v w n e = subst (λ (x : View). IsJournal mmv x.start x.passes x.seen) (sym e.is) e.journal
 
 -- each slot's word is among the words that were read, with what was read of it last
-slot_read : (words values fresh : List ℕ) → mmv.IsImage words → length values ≡ length (value_words words) → fresh ≡ written words (zip (value_words words) values)
+slot_read : (words values fresh : List ℕ) → mmv.IsImage words → length values ≡ length (value_words words) → fresh ≡ with_values words (zip (value_words words) values)
     → (slot : Slot) → Contains (slots_of words) slot → Contains (zip (value_words words) values) (slot.word, slice_index fresh slot.word)
 slot_read words values fresh image long is slot among =
     let k = among.0 in
@@ -206,7 +207,7 @@ slot_read words values fresh image long is slot among =
     let below : slot.word < length words = subst (λ (s : Slot). s.word < length words) among.2 (slots_below words image k slot there) in
     let found = written_there words (zip (value_words words) values) k (0, 0) (omega arith) (subst (λ (n : ℕ). n < length words) (sym front) below) in
     subst (λ (ws : List ℕ). Contains (zip (value_words words) values) (slot.word, slice_index ws slot.word)) (sym is)
-    (subst (λ (n : ℕ). Contains (zip (value_words words) values) (n, slice_index (written words (zip (value_words words) values)) n)) front found)
+    (subst (λ (n : ℕ). Contains (zip (value_words words) values) (n, slice_index (with_values words (zip (value_words words) values)) n)) front found)
 
 record Mixed (v w : View) (words fresh : List ℕ) (form : Form) : Type 0 where
   image : mmv.IsImage fresh
@@ -279,7 +280,7 @@ mixes v w words fresh found form f journal k image long shown either =
       };
     }
 
-pub refreshes : (v w : View) (words values fresh : List ℕ) → IsKept v words → mmv.IsImage words → length values ≡ length (value_words words) → fresh ≡ written words (zip (value_words words) values)
+pub refreshes : (v w : View) (words values fresh : List ℕ) → IsKept v words → mmv.IsImage words → length values ≡ length (value_words words) → fresh ≡ with_values words (zip (value_words words) values)
     → ReadsChosen mmv v (slice_index words 1) (value_words words) values w → IsRefreshed v w words fresh
 refreshes v w words values fresh k image long is r =
     let pairs : List (ℕ × ℕ) = zip (value_words words) values in

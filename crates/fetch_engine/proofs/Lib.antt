@@ -1,12 +1,8 @@
-pub mod Blocks
-pub mod Bounds
 pub mod Found
 pub mod Holding
-pub mod Indexes
 pub mod Keeping
-pub mod Numbers
 pub mod Places
 pub mod Served
-pub mod Steps
+pub mod Staying
 pub mod Tries
 pub mod Visited

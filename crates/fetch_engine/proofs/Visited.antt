@@ -12,13 +12,13 @@ use Rattle.profile_filter.specs.Kept.{Settings}
 use Rattle.archive_meta.specs.declared.facts.Facts.{Facts}
 use Rattle.mmv_layout.specs.Rows.{layout_of}
 use Rattle.region_rule.specs.Seats.{Token}
-use Rattle.fetch_engine.specs.Answers.{answer_of, facts_of}
-use Rattle.fetch_engine.specs.Names.{names_of, missed_of, with_region, with_missed}
-use Rattle.fetch_engine.specs.Readings.{Reading, reading_of, AreInOrder, AscendFrom}
+use Rattle.fetch_answers.specs.Answers.{answer_of, facts_of}
+use Rattle.fetch_answers.specs.Names.{names_of, missed_of, with_region, with_missed}
+use Rattle.fetch_answers.specs.Readings.{RegionReading, reading_of, AreInOrder, AscendFrom}
 use Rattle.fetch_engine.specs.Servers.{IsServer, IsSeated, RowsAscendFrom, regions_of}
 use Rattle.fetch_engine.specs.Visits.{IsReadBy, Visit, IsVisit, AreRead, IsLoaded, AreLoaded, AreNamed, IsAnswered, IsFetched, IsReadAt, IsReadIf, IsReadFor, lies_in}
 use Rattle.fetch_engine.specs.declared.server.Mounted.{Mounted}
-use Rattle.fetch_engine.specs.declared.shot.Shot.{Shot}
+use Rattle.fetch_answers.specs.declared.shot.Shot.{Shot}
 use Rattle.fetch_engine.proofs.Places.{is_there, is_here}
 use Rattle.fetch_engine.proofs.Tries.{unloaded, loaded_trans}
 
@@ -50,19 +50,19 @@ still_seated rows olds news seated h = regions_same olds news h ∙ seated
 pub none_read : AreRead [] [] [] []
 none_read = record { visits = []; each = All-nil IsVisit; rows_are = refl; old_are = refl; readings_are = refl; new_are = refl }
 
-pub one_more : (rows : List Mounted) (olds : List Token) (readings : List Reading) (news : List Token) (visit : Visit) → AreRead rows olds readings news → IsVisit visit
+pub one_more : (rows : List Mounted) (olds : List Token) (readings : List RegionReading) (news : List Token) (visit : Visit) → AreRead rows olds readings news → IsVisit visit
     → AreRead (rows ++ visit.row ∷ []) (olds ++ visit.before ∷ []) (readings ++ visit.reading ∷ []) (news ++ visit.after ∷ [])
 one_more rows olds readings news visit a v = record {
   visits = a.visits ++ visit ∷ [];
   each = All-append IsVisit a.visits (visit ∷ []) a.each (All-cons IsVisit visit [] v (All-nil IsVisit));
   rows_are = map-append (λ (w : Visit). w.row) a.visits (visit ∷ []) ∙ ap (λ (xs : List Mounted). xs ++ visit.row ∷ []) a.rows_are;
   old_are = map-append (λ (w : Visit). w.before) a.visits (visit ∷ []) ∙ ap (λ (xs : List Token). xs ++ visit.before ∷ []) a.old_are;
-  readings_are = map-append (λ (w : Visit). w.reading) a.visits (visit ∷ []) ∙ ap (λ (xs : List Reading). xs ++ visit.reading ∷ []) a.readings_are;
+  readings_are = map-append (λ (w : Visit). w.reading) a.visits (visit ∷ []) ∙ ap (λ (xs : List RegionReading). xs ++ visit.reading ∷ []) a.readings_are;
   new_are = map-append (λ (w : Visit). w.after) a.visits (visit ∷ []) ∙ ap (λ (xs : List Token). xs ++ visit.after ∷ []) a.new_are;
 }
 
 -- the regions before a place were read, and the passes from there on are as they were
-pub record HasRead (i : ℕ) (rows : List Mounted) (olds news : List Token) (readings : List Reading) : Type 0 where
+pub record HasRead (i : ℕ) (rows : List Mounted) (olds news : List Token) (readings : List RegionReading) : Type 0 where
   pub read : AreRead (take i rows) (take i olds) readings (take i news)
   pub rest : drop i news ≡ drop i olds
   pub many : length news ≡ length olds
@@ -75,10 +75,10 @@ pub nothing_read : (rows : List Mounted) (tokens : List Token) (shots : List Sho
 nothing_read rows tokens shots none = subst (λ (xs : List Shot). HasRead 0 rows tokens tokens (map reading_of xs)) (sym none) (nothing_yet rows tokens)
 
 -- the pass at the place is of the region there
-pub many_there : (i : ℕ) (rows : List Mounted) (olds news : List Token) (readings : List Reading) → IsSeated rows olds → HasRead i rows olds news readings → length news ≡ length rows
+pub many_there : (i : ℕ) (rows : List Mounted) (olds news : List Token) (readings : List RegionReading) → IsSeated rows olds → HasRead i rows olds news readings → length news ≡ length rows
 many_there i rows olds news readings seated h = is_there rows news (still_seated rows olds news seated h.loaded)
 
-pub one_there : (i : ℕ) (rows : List Mounted) (olds news : List Token) (readings : List Reading) (d : Token) (e : Mounted) → IsSeated rows olds → HasRead i rows olds news readings → i < length rows
+pub one_there : (i : ℕ) (rows : List Mounted) (olds news : List Token) (readings : List RegionReading) (d : Token) (e : Mounted) → IsSeated rows olds → HasRead i rows olds news readings → i < length rows
     → (get_or news i d).region ≡ (get_or rows i e).region
 one_there i rows olds news readings d e seated h below = is_here rows news i d e (still_seated rows olds news seated h.loaded) below
 
@@ -114,7 +114,7 @@ one_more_read i rows olds news shots shot d e t h row_there token_there file clu
       read =
           subst (λ (xs : List Mounted). AreRead xs (take (i + 1) olds) (map reading_of (shots ++ shot ∷ [])) (take (i + 1) (set news i t))) (sym rows_are)
           (subst (λ (xs : List Token). AreRead (take i rows ++ get_or rows i e ∷ []) xs (map reading_of (shots ++ shot ∷ [])) (take (i + 1) (set news i t))) (sym olds_are)
-          (subst (λ (xs : List Reading). AreRead (take i rows ++ get_or rows i e ∷ []) (take i olds ++ get_or news i d ∷ []) xs (take (i + 1) (set news i t))) (sym readings_are)
+          (subst (λ (xs : List RegionReading). AreRead (take i rows ++ get_or rows i e ∷ []) (take i olds ++ get_or news i d ∷ []) xs (take (i + 1) (set news i t))) (sym readings_are)
           (subst (λ (xs : List Token). AreRead (take i rows ++ get_or rows i e ∷ []) (take i olds ++ get_or news i d ∷ []) (map reading_of shots ++ reading_of shot ∷ []) xs) (sym news_are) more)));
       rest = subst (λ (k : ℕ). drop k (set news i t) ≡ drop k olds) next (drop-set-lt (suc i) news i t (omega arith) ∙ rest_same i olds news h.rest);
       many = length-set news i t ∙ many;
@@ -140,7 +140,7 @@ next_read i rows olds news shots shot before row after h seated below there befo
     one_read i rows olds news (take i shots) shot before row after (take (i + 1) (set shots i shot)) h seated below before_is row_is file cluster read (take_more_set shots i shot there)
 
 -- all were read
-pub all_read : (rows : List Mounted) (olds news : List Token) (readings : List Reading) → length olds ≡ length rows → HasRead (length rows) rows olds news readings → AreRead rows olds readings news
+pub all_read : (rows : List Mounted) (olds news : List Token) (readings : List RegionReading) → length olds ≡ length rows → HasRead (length rows) rows olds news readings → AreRead rows olds readings news
 all_read rows olds news readings many h =
     let same = h.many in
     subst (λ (xs : List Mounted). AreRead xs olds readings news) (take_all (length rows) rows (omega arith))
@@ -155,7 +155,7 @@ all_shots_read rows olds news shots many wide h =
 -- Clusters
 
 -- clusters of readings that are in order
-abbrev pub ReadingsAscendFrom : ℕ → List Reading → Type 0
+abbrev pub ReadingsAscendFrom : ℕ → List RegionReading → Type 0
 ReadingsAscendFrom least [] = Unit {0}
 ReadingsAscendFrom least (r ∷ rs) = (least ≤ r.cluster) × (r.cluster < 4096) × ReadingsAscendFrom (r.cluster + 1) rs
 
@@ -190,7 +190,7 @@ pub in_order : (rows : List Mounted) (olds : List Token) (shots : List Shot) (ne
 in_order rows olds shots news server a =
     let ascend : RowsAscendFrom 0 (map (λ (v : Visit). v.row) a.visits) = subst (λ (xs : List Mounted). RowsAscendFrom 0 xs) (sym a.rows_are) server.ascend in
     let below : All (λ (row : Mounted). row.cluster < 4096) (map (λ (v : Visit). v.row) a.visits) = subst (λ (xs : List Mounted). All (λ (row : Mounted). row.cluster < 4096) xs) (sym a.rows_are) server.clusters in
-    let readings : ReadingsAscendFrom 0 (map reading_of shots) = subst (λ (xs : List Reading). ReadingsAscendFrom 0 xs) a.readings_are (ascending_readings 0 a.visits a.each ascend below) in
+    let readings : ReadingsAscendFrom 0 (map reading_of shots) = subst (λ (xs : List RegionReading). ReadingsAscendFrom 0 xs) a.readings_are (ascending_readings 0 a.visits a.each ascend below) in
     record { clusters = low_shots 0 shots readings; ascend = ascending_shots 0 shots readings }
 
 -- Answers
@@ -212,7 +212,7 @@ are_named rows olds names missing news shots read names_are missing_are = record
   readings = map reading_of shots;
   read = read;
   names_are = names_are ∙ sym (fold-map with_region reading_of [] shots);
-  missing_are = missing_are ∙ sym (fold-map (λ clusters (reading : Reading). with_missed clusters reading.cluster reading.layout) reading_of [] shots);
+  missing_are = missing_are ∙ sym (fold-map (λ clusters (reading : RegionReading). with_missed clusters reading.cluster reading.layout) reading_of [] shots);
 }
 
 -- One region alone
@@ -243,16 +243,16 @@ low_row : (rows : List Mounted) (at : ℕ) (row : Mounted) → All (λ (r : Moun
 low_row rows at row low is =
     subst (λ (r : Mounted). r.cluster < 4096) (get_or_from_slice_get rows at row row is) (low at row (slice_get_within rows at row is))
 
-one_in_order : (shots : List Shot) (reading : Reading) → reading.cluster < 4096 → map reading_of shots ≡ reading ∷ [] → AreInOrder shots
+one_in_order : (shots : List Shot) (reading : RegionReading) → reading.cluster < 4096 → map reading_of shots ≡ reading ∷ [] → AreInOrder shots
 one_in_order [] reading low is = absurd (nothing_more reading is)
   where
-    nothing_more : (r : Reading) → [] ≡ r ∷ [] → ⊥
+    nothing_more : (r : RegionReading) → [] ≡ r ∷ [] → ⊥
     nothing_more r e = cc
 one_in_order (s ∷ []) reading low is =
     let same : s.cluster ≡ reading.cluster = ap cluster_in is in
     low_shot s (subst (λ (c : ℕ). c < 4096) (sym same) low)
   where
-    cluster_in : List Reading → ℕ
+    cluster_in : List RegionReading → ℕ
     cluster_in [] = 0
     cluster_in (r ∷ rs) = r.cluster
 

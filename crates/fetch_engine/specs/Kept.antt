@@ -1,8 +1,6 @@
 -- What a seat keeps of a region: the words of the image that it read last, each of which stood in the region while it had
 -- their generation.
-use Rattle.std.specs.Prelude.{◌≡◌, ℕ, ◌<◌, ◌≤◌, List, fold, length, map, slice_index, slice_set, get_or, All, Option, Some, None, IfSome}
-use Rattle.mmv_format.specs.declared.rows.Slot.{Slot}
-use Rattle.mmv_layout.specs.Form.{slots_of}
+use Rattle.std.specs.Prelude.{◌≡◌, ℕ, ◌<◌, ◌≤◌, List, fold, length, slice_index, slice_set, get_or, All, Option, Some, None, IfSome}
 use Rattle.mmv_layout.specs.Rows.{layout_of}
 use Rattle.region_core.specs.declared.act.Act.TheVariants.{Load}
 use Rattle.region_core.specs.declared.mode.Mode.TheVariants.{Idle}
@@ -19,7 +17,7 @@ use Rattle.region_rule.specs.Seats.{Token, IsSame}
 use Rattle.region_rule.specs.Reads.{ReadsAgain}
 use Rattle.region_words.specs.Images.{mmv}
 use Rattle.fetch_engine.specs.Visits.{ShowsAtOnce, IsRefused}
-use Rattle.fetch_engine.specs.declared.shot.Shot.{Shot}
+use Rattle.fetch_answers.specs.declared.shot.Shot.{Shot}
 
 -- from a position on, at which the region's second generation is that of the words, each of them was the region's
 pub record IsKept (v : View) (words : List ℕ) : Type 0 where
@@ -39,13 +37,9 @@ pub record AreKept (tokens : List Token) (shots : List Shot) : Type 0 where
   pub many : length shots ≡ length tokens
   pub each : (i : ℕ) (d : Token) (e : Shot) → i < length tokens → IfSome (get_or shots i e).image (IsKeptBy (get_or tokens i d))
 
--- the value words of words that are an image
-abbrev pub value_words : List ℕ → List ℕ
-value_words words = map (λ (slot : Slot). slot.word) (slots_of words)
-
 -- words into which values were written, one after another
-abbrev pub written : List ℕ → List (ℕ × ℕ) → List ℕ
-written words pairs = fold (λ ws x. slice_set ws x.0 x.1) words pairs
+abbrev pub with_values : List ℕ → List (ℕ × ℕ) → List ℕ
+with_values words pairs = fold (λ ws x. slice_set ws x.0 x.1) words pairs
 
 -- a try that was refused; nothing is said where there was no memory
 abbrev pub TryFails : View → View → ReadFault → Type 0

@@ -1,12 +1,3 @@
-pub mod Answers
-pub mod Asks
-pub mod Bounds
-pub mod Fetches
-pub mod Indexes
 pub mod Kept
-pub mod Names
-pub mod Numbers
-pub mod Readings
 pub mod Servers
-pub mod Values
 pub mod Visits

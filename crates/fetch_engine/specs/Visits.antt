@@ -17,9 +17,9 @@ use Rattle.region_rule.specs.Reads.{WholeReading, ShowsIn, RefusedIn}
 use Rattle.region_rule.specs.Seats.{Token, IsSame}
 use Rattle.region_words.specs.Calls.{Loads}
 use Rattle.region_words.specs.Images.{mmv}
-use Rattle.fetch_engine.specs.Names.{with_region, with_missed}
-use Rattle.fetch_engine.specs.Answers.{answer_of, facts_of}
-use Rattle.fetch_engine.specs.Readings.{Reading}
+use Rattle.fetch_answers.specs.Names.{with_region, with_missed}
+use Rattle.fetch_answers.specs.Answers.{answer_of, facts_of}
+use Rattle.fetch_answers.specs.Readings.{RegionReading}
 use Rattle.fetch_engine.specs.declared.server.Mounted.{Mounted}
 
 -- From the end of what v had seen on, the pass read this layout while the region had its generation and its form: the value of
@@ -81,7 +81,7 @@ pub record IsReadBy (old : Token) (layout : Option Layout) (new : Token) : Type 
 pub record Visit : Type 0 where
   pub row : Mounted
   pub before : Token
-  pub reading : Reading
+  pub reading : RegionReading
   pub after : Token
 
 pub record IsVisit (visit : Visit) : Type 0 where
@@ -90,7 +90,7 @@ pub record IsVisit (visit : Visit) : Type 0 where
   pub read : IsReadBy visit.before visit.reading.layout visit.after
 
 -- each region was read once, by its own pass
-pub record AreRead (rows : List Mounted) (old : List Token) (readings : List Reading) (new : List Token) : Type 0 where
+pub record AreRead (rows : List Mounted) (old : List Token) (readings : List RegionReading) (new : List Token) : Type 0 where
   pub visits : List Visit
   pub each : All IsVisit visits
   pub rows_are : map (λ (visit : Visit). visit.row) visits ≡ rows
@@ -103,7 +103,7 @@ abbrev pub lies_in : ℕ → Mounted → Bool
 lies_in word row = word / 1024 == 70 * 4096 + row.cluster
 
 -- one region was read once, by its own pass, and no other one
-pub record IsReadAt (rows : List Mounted) (old : List Token) (at : ℕ) (readings : List Reading) (new : List Token) : Type 0 where
+pub record IsReadAt (rows : List Mounted) (old : List Token) (at : ℕ) (readings : List RegionReading) (new : List Token) : Type 0 where
   pub visit : Visit
   pub is : IsVisit visit
   pub row_is : slice_get rows at ≡ Some visit.row
@@ -112,12 +112,12 @@ pub record IsReadAt (rows : List Mounted) (old : List Token) (at : ℕ) (reading
   pub new_are : new ≡ slice_set old at visit.after
 
 -- that at a position, or none where there is no such region
-abbrev pub IsReadIf : List Mounted → List Token → Option ℕ → List Reading → List Token → Type 0
+abbrev pub IsReadIf : List Mounted → List Token → Option ℕ → List RegionReading → List Token → Type 0
 IsReadIf rows old None readings new = (readings ≡ []) × (new ≡ old)
 IsReadIf rows old (Some at) readings new = IsReadAt rows old at readings new
 
 -- the region in whose cluster a number lies was read
-abbrev pub IsReadFor : ℕ → List Mounted → List Token → List Reading → List Token → Type 0
+abbrev pub IsReadFor : ℕ → List Mounted → List Token → List RegionReading → List Token → Type 0
 IsReadFor word rows old readings new = IsReadIf rows old (position (lies_in word) rows) readings new
 
 -- each pass did nothing but loads
@@ -129,7 +129,7 @@ AreLoaded _ _ = ⊥
 -- a fetch was answered by one reading of each region
 pub record IsFetched (rows : List Mounted) (old : List Token) (profile : Settings) (pmids : List ℕ) (stamp : Moment) (result : PmResult) (facts : Facts) (new : List Token) : Type 0 where
   pub few : length pmids ≤ 1024
-  pub readings : List Reading
+  pub readings : List RegionReading
   pub read : AreRead rows old readings new
   pub result_is : result ≡ answer_of readings profile pmids stamp
   pub facts_are : facts ≡ facts_of readings result.sets
@@ -137,19 +137,19 @@ pub record IsFetched (rows : List Mounted) (old : List Token) (profile : Setting
 -- and so it is without what describes it
 pub record IsAnswered (rows : List Mounted) (old : List Token) (profile : Settings) (pmids : List ℕ) (stamp : Moment) (result : PmResult) (new : List Token) : Type 0 where
   pub few : length pmids ≤ 1024
-  pub readings : List Reading
+  pub readings : List RegionReading
   pub read : AreRead rows old readings new
   pub result_is : result ≡ answer_of readings profile pmids stamp
 
 -- the name space of what was read, and the clusters of the regions that were missed
-abbrev pub names_in : List Reading → List Pair
+abbrev pub names_in : List RegionReading → List Pair
 names_in readings = fold with_region [] readings
 
-abbrev pub missed_in : List Reading → List ℕ
+abbrev pub missed_in : List RegionReading → List ℕ
 missed_in readings = fold (λ clusters reading. with_missed clusters reading.cluster reading.layout) [] readings
 
 pub record AreNamed (rows : List Mounted) (old : List Token) (names : List Pair) (missing : List ℕ) (new : List Token) : Type 0 where
-  pub readings : List Reading
+  pub readings : List RegionReading
   pub read : AreRead rows old readings new
   pub names_are : names ≡ names_in readings
   pub missing_are : missing ≡ missed_in readings

@@ -7,8 +7,8 @@ ghost use Rattle.region_rule.specs.Tokens.{note_of};
 ghost use Rattle.region_words.specs.Images.{mmv};
 ghost use Rattle.fetch_engine.specs.Servers.{ChangesAt, IsRegionAt, IsSeated};
 
-use crate::reading::Known;
 use crate::server::Server;
+use fetch_answers::Known;
 use region_words::{Note, Pass};
 use std::marker::Model;
 

@@ -6,8 +6,8 @@ ghost use Rattle.fetch_engine.specs.Kept.{AreUnknown};
 ghost use Rattle.fetch_engine.specs.Servers.{IsSeated, IsServerOf, has_cluster, has_file, has_wrong_cluster, has_wrong_file, server_fault, spells_component, wrong_cluster, wrong_file};
 ghost use Rattle.fetch_engine.specs.declared.server.Mounted.{Mounted as Row};
 
-use crate::reading::Known;
 use crate::seat::Seat;
+use fetch_answers::Known;
 use pcp_base::{Duplicate, NoMemory, Text, is_component};
 use region_words::{Pass, Region};
 use std::alloc::Global;

@@ -1,18 +1,18 @@
 //! Fetches and name spaces of a server's regions.
 ghost use Rattle.std.specs.Prelude.{◌≡◌, ◌<◌, length, IfOk, IfErr, List as Sequence};
-ghost use Rattle.fetch_engine.specs.Asks.{desc_asked, instances_asked, Told};
-ghost use Rattle.fetch_engine.specs.Fetches.{IsFetchFault};
-ghost use Rattle.fetch_engine.specs.Readings.{AreInOrder, Reading};
+ghost use Rattle.fetch_answers.specs.Asks.{desc_asked, instances_asked, Told};
+ghost use Rattle.fetch_answers.specs.Fetches.{IsFetchFault};
+ghost use Rattle.fetch_answers.specs.Readings.{AreInOrder, RegionReading};
 ghost use Rattle.fetch_engine.specs.Servers.{IsSeated};
 ghost use Rattle.fetch_engine.specs.Visits.{AreLoaded, AreNamed, IsAnswered, IsFetched, IsReadFor};
 
-use crate::asks::{AskFault, description, instances};
-use crate::fetch::{FetchFault, Fetched, LIMIT, answer_of};
-use crate::names::{Named, names_of};
 use crate::seat::Seat;
 use crate::server::Server;
-use crate::sets::sets_of;
 use crate::visits::{read_all, read_for, read_rows};
+use fetch_answers::{
+    AskFault, FETCH_LIMIT, FetchFault, Fetched, Named, answer_of, description, instances, names_of,
+    sets_of,
+};
 use pcp_base::{Desc, InDom, List, NoMemory, PmResult, Pmid, Stamp, Text};
 use profile_filter::Profile;
 use std::alloc::Global;
@@ -37,7 +37,7 @@ impl Server {
         ensures loads { AreLoaded seat.old.tokens seat.new.tokens }
         ensures seated { IsSeated self.now seat.new.tokens }
     {
-        if pmids.len() > LIMIT {
+        if pmids.len() > FETCH_LIMIT {
             let count = pmids.len() as u64;
             return Err(FetchFault::TooMany { count });
         }
@@ -62,7 +62,7 @@ impl Server {
         ensures loads { AreLoaded seat.old.tokens seat.new.tokens }
         ensures seated { IsSeated self.now seat.new.tokens }
     {
-        if pmids.len() > LIMIT {
+        if pmids.len() > FETCH_LIMIT {
             let count = pmids.len() as u64;
             return Err(FetchFault::TooMany { count });
         }
@@ -88,7 +88,7 @@ impl Server {
     #[tactic(auto, using(crate::proofs::Visited::in_order_for, crate::proofs::Visited::still_seated, crate::proofs::Holding::still_kept))]
     pub fn description(&self, alloc: Global, seat: &mut Seat, pmid: Pmid) -> Result<Desc, AskFault>
         requires { IsSeated self.now seat.old.tokens }
-        ensures told { Told result (λ told. (readings : Sequence Reading) × IsReadFor pmid self.now seat.old.tokens readings seat.new.tokens × (told ≡ desc_asked readings pmid)) }
+        ensures told { Told result (λ told. (readings : Sequence RegionReading) × IsReadFor pmid self.now seat.old.tokens readings seat.new.tokens × (told ≡ desc_asked readings pmid)) }
         ensures loads { AreLoaded seat.old.tokens seat.new.tokens }
         ensures seated { IsSeated self.now seat.new.tokens }
     {
@@ -106,7 +106,7 @@ impl Server {
         indom: InDom,
     ) -> Result<List<(i32, Text)>, AskFault>
         requires { IsSeated self.now seat.old.tokens }
-        ensures told { Told result (λ told. (readings : Sequence Reading) × IsReadFor indom self.now seat.old.tokens readings seat.new.tokens × (told ≡ instances_asked readings indom)) }
+        ensures told { Told result (λ told. (readings : Sequence RegionReading) × IsReadFor indom self.now seat.old.tokens readings seat.new.tokens × (told ≡ instances_asked readings indom)) }
         ensures loads { AreLoaded seat.old.tokens seat.new.tokens }
         ensures seated { IsSeated self.now seat.new.tokens }
     {

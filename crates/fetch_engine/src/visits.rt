@@ -9,14 +9,13 @@ ghost use Rattle.region_rule.specs.Seats.{IsSame};
 ghost use Rattle.region_rule.specs.Steps.{Extends};
 ghost use Rattle.region_words.specs.Images.{mmv};
 ghost use Rattle.fetch_engine.specs.Kept.{AreKept, IsKeptBy, ShowsTold, TryFails, TryStays, WholeFails};
-ghost use Rattle.fetch_engine.specs.Readings.{reading_of};
+ghost use Rattle.fetch_answers.specs.Readings.{reading_of};
 ghost use Rattle.fetch_engine.specs.Servers.{IsSeated};
 ghost use Rattle.fetch_engine.specs.Visits.{AreLoaded, AreRead, IsLoaded, IsReadBy, IsReadFor, ShowsAtOnce, lies_in};
 
-use crate::reading::Known;
+use crate::again::read_again;
 use crate::server::Mounted;
-use crate::shot::Shot;
-use crate::told::Told;
+use fetch_answers::{Known, Shot, Told};
 use mmv_layout::Image;
 use pcp_base::{Duplicate, List, NoMemory};
 use region_words::{Pass, ReadFault, Region, ValueFault};
@@ -102,7 +101,7 @@ fn try_region(
         *kept = Some(read_whole(alloc, region, pass)?);
         return Ok(());
     };
-    match told.read_again(region, pass) {
+    match read_again(region, pass, &mut told) {
         Ok(()) => {
             *kept = Some(told);
             Ok(())

@@ -18,7 +18,7 @@ use Rattle.archive_frame.specs.Labels.{LabelInRange}
 use Rattle.logger_core.specs.declared.ends.Ends.{Ends}
 use Rattle.logger_core.specs.Keeps.{Keeps}
 use Rattle.logger_core.specs.Laws.{Announces, IsVolumeToCome}
-use Rattle.logger_core.specs.LogSteps.{opened}
+use Rattle.logger_core.specs.LogSteps.{with_new_volume}
 use Rattle.logger_core.specs.Meant.{Meant, IsAt, SurvivesOf, items_in}
 use Rattle.logger_core.specs.Going.{IsVolumeSure, GrownTo}
 use Rattle.logger_core.specs.Steps.{last_entry}
@@ -75,7 +75,7 @@ module _ (m : Meant) (e : Ends) (held : Holdings) (l : LabelFields) (bytes : Lis
     pub volume_now : IsVolumeSure next new
     volume_now = ap (λ (h : Held). h.rest) change_is.this
 
-    pub label_grown : GrownTo m [] [] [] (opened l next m.files) (record { meta = e.meta; index = e.index; volume = e.volume + 1; length = 132; greatest = e.greatest; entry = e.entry; logged = e.logged; acknowledged = e.acknowledged }) new
+    pub label_grown : GrownTo m [] [] [] (with_new_volume l next m.files) (record { meta = e.meta; index = e.index; volume = e.volume + 1; length = 132; greatest = e.greatest; entry = e.entry; logged = e.logged; acknowledged = e.acknowledged }) new
     label_grown = (
       record {
         new = record { start = m.start; files = files; contents = said.new; acknowledged = m.acknowledged };

@@ -10,7 +10,7 @@ use Rattle.pcp_model.specs.declared.records.Entry.{Entry}
 use Rattle.pcp_model.specs.Disk.{Files, Holdings}
 use Rattle.pcp_model.specs.LabelFields.{LabelFields}
 use Rattle.logger_core.specs.declared.ends.Ends.{Ends}
-use Rattle.logger_core.specs.LogSteps.{switch_entry, opened}
+use Rattle.logger_core.specs.LogSteps.{switch_entry, with_new_volume}
 use Rattle.logger_core.specs.Meant.{Meant, AreEnds, IsAt, SurvivesOf, items_in}
 use Rattle.logger_core.specs.Going.{HasRoomIfAny, LeadsToEnds, LeadIfAny, IsVolumeSure, Grown, GrownTo, Flushed, all_acknowledged}
 use Rattle.logger_core.specs.Runs.{IsReady}
@@ -85,7 +85,7 @@ switch_leads m e held at sure size = lead_if_any m e held (switch_entry e.greate
 
 -- ---- a switch
 
-module _ (m : Meant) (l : LabelFields) (e flush open_ now : Ends) (new mid : Holdings) (same_label : m.contents.label ≡ l) (f : Flushed m e flush mid) (held : Holdings) (o : GrownTo f.new [] [] [] (opened l (flush.volume + 1) f.new.files) open_ held)
+module _ (m : Meant) (l : LabelFields) (e flush open_ now : Ends) (new mid : Holdings) (same_label : m.contents.label ≡ l) (f : Flushed m e flush mid) (held : Holdings) (o : GrownTo f.new [] [] [] (with_new_volume l (flush.volume + 1) f.new.files) open_ held)
     (numbers : flush.volume ≡ e.volume) (open_number : open_.volume ≡ flush.volume + 1) (open_greatest : open_.greatest ≡ flush.greatest) (greatest_same : flush.greatest ≡ e.greatest) (now_number : now.volume ≡ open_.volume)
     (few : m.acknowledged ≤ length (items_in m))
     (g : GrownTo o.0.new [] (option_to_list (switch_entry open_.greatest open_.index open_.volume open_.meta)) [] (with_entry (switch_entry open_.greatest open_.index open_.volume open_.meta) o.0.new.files) now new) where
@@ -98,9 +98,9 @@ module _ (m : Meant) (l : LabelFields) (e flush open_ now : Ends) (new mid : Hol
   greatest_is : open_.greatest ≡ e.greatest
   greatest_is = open_greatest ∙ greatest_same
 
-  opened_are : (file : FileId) → o.0.new.files file ≡ opened m.contents.label (e.volume + 1) flushed_files file
+  opened_are : (file : FileId) → o.0.new.files file ≡ with_new_volume m.contents.label (e.volume + 1) flushed_files file
   opened_are file =
-      o.0.files_are file ∙ ap (λ (n : ℕ). opened l (n + 1) f.new.files file) numbers ∙ ap (λ x. opened x (e.volume + 1) f.new.files file) (sym same_label)
+      o.0.files_are file ∙ ap (λ (n : ℕ). with_new_volume l (n + 1) f.new.files file) numbers ∙ ap (λ x. with_new_volume x (e.volume + 1) f.new.files file) (sym same_label)
       ∙ added_same (Volume (e.volume + 1)) (label m.contents.label (pos (e.volume + 1))) f.new.files flushed_files f.files_are file
 
   index_is : open_.index ≡ length (flushed_files Index)
@@ -125,7 +125,7 @@ module _ (m : Meant) (l : LabelFields) (e flush open_ now : Ends) (new mid : Hol
     items_same = g.0.longer.items ∙ append-nil (items_in o.0.new) ∙ o.0.longer.items ∙ append-nil (items_in f.new) ∙ f.items_same;
     still = omega (arith, few, g.0.acknowledged_is, o.0.acknowledged_is, f.all);
     files_are = λ file. g.0.files_are file ∙ ap (λ x. with_entry x o.0.new.files file) entry_is
-        ∙ entry_same (switch_entry e.greatest (length (flushed_files Index)) (e.volume + 1) (length (flushed_files Meta))) o.0.new.files (opened m.contents.label (e.volume + 1) flushed_files) opened_are file;
+        ∙ entry_same (switch_entry e.greatest (length (flushed_files Index)) (e.volume + 1) (length (flushed_files Meta))) o.0.new.files (with_new_volume m.contents.label (e.volume + 1) flushed_files) opened_are file;
     number = now_number ∙ number_is;
     at = record { stands = g.0.stands; ends = g.1 };
   }
@@ -188,7 +188,7 @@ switch_found_room e o is = subst (HasRoomIfAny e) (sym is) (switch_room e)
 pub switch_found_leads : (m : Meant) (e : Ends) (held : Holdings) (o : Option Entry) → o ≡ switch_at e → IsAt m e held → IsVolumeSure e.volume held → e.length ≡ 132 → LeadIfAny m e held o
 switch_found_leads m e held o is at sure size = subst (LeadIfAny m e held) (sym is) (switch_leads m e held at sure size)
 
-pub switch_ok : {E : Type 0} (m : Meant) (l : LabelFields) (e flush open_ : Ends) (held mid mid2 new : Holdings) (found : Option Entry) (result : Result Ends E) → IsAt m e held → m.contents.label ≡ l → (f : Flushed m e flush mid) → (o : GrownTo f.new [] [] [] (opened l (flush.volume + 1) f.new.files) open_ mid2)
+pub switch_ok : {E : Type 0} (m : Meant) (l : LabelFields) (e flush open_ : Ends) (held mid mid2 new : Holdings) (found : Option Entry) (result : Result Ends E) → IsAt m e held → m.contents.label ≡ l → (f : Flushed m e flush mid) → (o : GrownTo f.new [] [] [] (with_new_volume l (flush.volume + 1) f.new.files) open_ mid2)
     → flush.volume ≡ e.volume → open_.volume ≡ flush.volume + 1 → open_.greatest ≡ flush.greatest → flush.greatest ≡ e.greatest → found ≡ switch_at open_
     → IfOk result (λ now. GrownTo o.0.new [] (option_to_list found) [] (with_entry found o.0.new.files) now new) → IfOk result (λ now. (now.volume ≡ open_.volume) × (now.greatest ≡ open_.greatest) × (now.meta ≡ open_.meta) × (now.length ≡ open_.length)) → IfOk result (λ now. IsReady m e now true new)
 switch_ok m l e flush open_ held mid mid2 new found (Ok now) at same f o numbers number stamp greatest is g kept =

@@ -28,11 +28,11 @@ switch_entry None size next meta = None
 switch_entry (Some t) size next meta = fitting size (up_to t next meta 132)
 
 -- these files with the label of a volume, and then that entry
-abbrev pub opened : LabelFields → ℕ → Files → Files
-opened l next files = with_added (Volume next) (label l (pos next)) files
+abbrev pub with_new_volume : LabelFields → ℕ → Files → Files
+with_new_volume l next files = with_added (Volume next) (label l (pos next)) files
 
 abbrev pub with_next : LabelFields → ℕ → Option Moment → Files → Files
-with_next l next greatest files = with_entry (switch_entry greatest (length (files Index)) next (length (files Meta))) (opened l next files)
+with_next l next greatest files = with_entry (switch_entry greatest (length (files Index)) next (length (files Meta))) (with_new_volume l next files)
 
 -- a switch to the next volume: a flush, the label, the entry
 abbrev pub switched : Files → ArchiveContents → ℕ → Option Moment → Files

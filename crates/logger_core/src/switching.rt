@@ -3,7 +3,7 @@ ghost use Rattle.std.specs.Prelude.{◌≡◌, ◌<◌, ◌+◌, [], true, false
 ghost use Rattle.pcp_outside.specs.Causes.{HasCause};
 ghost use Rattle.pcp_outside.specs.Devices.{LeavesOnly};
 ghost use Rattle.logger_core.specs.Going.{AreSmall, IsVolumeSure, GrownTo};
-ghost use Rattle.logger_core.specs.LogSteps.{crosses, switch_entry as switch_entry_lem, opened};
+ghost use Rattle.logger_core.specs.LogSteps.{crosses, switch_entry as switch_entry_lem, with_new_volume};
 ghost use Rattle.logger_core.specs.Meant.{Meant, IsAt, SurvivesOf};
 ghost use Rattle.logger_core.specs.Runs.{IsReady};
 
@@ -38,7 +38,7 @@ fn switch_entry(ends: &Ends) -> Option<Entry>
 fn open_next<D: Disk>(disk: &mut D, label: &Label, ends: &Ends) -> Result<Ends, Failed>
     requires small { AreSmall ends.now }
     requires next { ends.now.volume + 1 < 2147483648 }
-    ensures ok { D.tells → (m : Meant) → IsAt m ends.now (D.held disk.old) → IsVolumeSure ends.now.volume (D.held disk.old) → m.contents.label ≡ label.now → IfOk result (λ e. GrownTo m [] [] [] (opened label.now (ends.now.volume + 1) m.files) e (D.held disk.new)) }
+    ensures ok { D.tells → (m : Meant) → IsAt m ends.now (D.held disk.old) → IsVolumeSure ends.now.volume (D.held disk.old) → m.contents.label ≡ label.now → IfOk result (λ e. GrownTo m [] [] [] (with_new_volume label.now (ends.now.volume + 1) m.files) e (D.held disk.new)) }
     ensures sure { D.tells → (m : Meant) → IsAt m ends.now (D.held disk.old) → IfOk result (λ e. IsVolumeSure e.volume (D.held disk.new)) }
     ensures any_moment { D.tells → (m : Meant) → IsAt m ends.now (D.held disk.old) → IsVolumeSure ends.now.volume (D.held disk.old) → m.contents.label ≡ label.now → LeavesOnly D.moment D.left_since disk.old disk.new (SurvivesOf m) }
     ensures small { IfOk result AreSmall }

@@ -14,7 +14,7 @@ use Rattle.mmv_format.specs.declared.rows.Content.TheVariants.{Number, Choice, R
 use Rattle.mmv_layout.specs.Rows.{string_text, type_of, content_of, value_row, values_of, strings_of, layout_of}
 use Rattle.mmv_layout.specs.Form.{slot_in, slot_at, slots_of, texts_of, offsets_of, subjects_of, form_of}
 use Rattle.mmv_layout.specs.Says.{Says}
-use Rattle.mmv_layout.specs.ShapeLaws.{IsFormOf, FormIsSaid, TextsAreTheForms, LengthKeepsTheLayout, held, SlotHoldsTheContent, HasItsSlot, HasSlot, ValuesHaveSlots}
+use Rattle.mmv_layout.specs.ShapeLaws.{IsFormOf, FormIsSaid, TextsAreTheForms, LengthKeepsTheLayout, content_of_kind, SlotHoldsTheContent, HasItsSlot, HasSlot, ValuesHaveSlots}
 use Rattle.mmv_layout.proofs.EntryPlaces.{Stands, value_stands}
 use Rattle.mmv_layout.proofs.RowLists.{among_rows, row_among, rows_mapped}
 use Rattle.mmv_layout.proofs.Saying.{layout_says, says_layout}
@@ -69,15 +69,15 @@ texts_said words = (
   rows_mapped (λ (text : ℕ × List ℕ). text.1) (string_count words) (λ i. (string_at words i, string_text words (string_at words i))),
 )
 
-held_number : (words : List ℕ) (code number : ℕ) → code ≤ 3 → held words (unwrap_or (kind_of_code code) kinds.I32) number ≡ Number number
+held_number : (words : List ℕ) (code number : ℕ) → code ≤ 3 → content_of_kind words (unwrap_or (kind_of_code code) kinds.I32) number ≡ Number number
 held_number words zero number h = refl
 held_number words (suc zero) number h = refl
 held_number words (suc (suc zero)) number h = refl
 held_number words (suc (suc (suc zero))) number h = refl
 held_number words (suc (suc (suc (suc code)))) number h = absurd (omega arith)
 
-held_text : (words : List ℕ) (code number : ℕ) → code ≡ 6 → held words (unwrap_or (kind_of_code code) kinds.I32) number ≡ Choice (string_text words number)
-held_text words code number h = ap (λ n. held words (unwrap_or (kind_of_code n) kinds.I32) number) h
+held_text : (words : List ℕ) (code number : ℕ) → code ≡ 6 → content_of_kind words (unwrap_or (kind_of_code code) kinds.I32) number ≡ Choice (string_text words number)
+held_text words code number h = ap (λ n. content_of_kind words (unwrap_or (kind_of_code n) kinds.I32) number) h
 
 is_number : (code : ℕ) → code ≤ 3 → nat_le code 3 ≡ true
 is_number code h = grind (arith, nat_tests)
@@ -98,22 +98,22 @@ word_second : (words : List ℕ) (value : ℕ) → value % 8 ≡ 0 → extra_in_
 unfolding number64
 word_second words value whole = ap (slice_index words) (omega arith)
 
-content_held : (words : List ℕ) (value : ℕ) (slot : Slot) → value % 8 ≡ 0 → SlotIs words value slot → content_of words value ≡ held words slot.kind (slice_index words slot.word)
+content_held : (words : List ℕ) (value : ℕ) (slot : Slot) → value % 8 ≡ 0 → SlotIs words value slot → content_of words value ≡ content_of_kind words slot.kind (slice_index words slot.word)
 content_held words value slot whole is =
     ⊎_elim
     (λ (x : (type_of words value ≤ 3) × (slot.word ≡ value / 8)).
     content_number words value x.0 ∙ ap Number (word_first words value ∙ ap (slice_index words) (sym x.1))
-    ∙ sym (ap (λ kind. held words kind (slice_index words slot.word)) (ap (λ s. s.kind) is.is) ∙ held_number words (type_of words value) (slice_index words slot.word) x.0))
+    ∙ sym (ap (λ kind. content_of_kind words kind (slice_index words slot.word)) (ap (λ s. s.kind) is.is) ∙ held_number words (type_of words value) (slice_index words slot.word) x.0))
     (λ (y : (type_of words value ≡ 6) × (slot.word ≡ value / 8 + 1)).
     content_choice words value y.0 ∙ ap (λ n. Choice (string_text words n)) (word_second words value whole ∙ ap (slice_index words) (sym y.1))
-    ∙ sym (ap (λ kind. held words kind (slice_index words slot.word)) (ap (λ s. s.kind) is.is) ∙ held_text words (type_of words value) (slice_index words slot.word) y.0)) is.word
+    ∙ sym (ap (λ kind. content_of_kind words kind (slice_index words slot.word)) (ap (λ s. s.kind) is.is) ∙ held_text words (type_of words value) (slice_index words slot.word) y.0)) is.word
 
 row_in : (words : List ℕ) (i : ℕ) → i < value_count words → Contains (values_of words) (value_row words (value_at words i))
 unfolding values_of
 row_in words i below = row_among (value_count words) i (λ i. value_row words (value_at words i)) below
 
 row_facts : (words : List ℕ) (value : ℕ) (slot : Slot) → value % 8 ≡ 0 → SlotIs words value slot
-    → ((value_row words value).item ≡ slot.item) × (unwrap_or (value_row words value).instance (negsuc 0) ≡ slot.instance) × ((value_row words value).content ≡ held words slot.kind (slice_index words slot.word))
+    → ((value_row words value).item ≡ slot.item) × (unwrap_or (value_row words value).instance (negsuc 0) ≡ slot.instance) × ((value_row words value).content ≡ content_of_kind words slot.kind (slice_index words slot.word))
 unfolding value_row
 row_facts words value slot whole is = (sym (ap (λ s. s.item) is.is), sym (ap (λ s. s.instance) is.is), content_held words value slot whole is)
 

@@ -76,15 +76,15 @@ abbrev pub TextsAreTheForms : Type 0
 TextsAreTheForms = (words : List ℕ) → (map (λ text. text.0) (texts_of words) ≡ (form_of words).offsets) × (map (λ text. text.1) (texts_of words) ≡ (form_of words).strings)
 
 -- the content that a value word of a kind holds: the number, or the text of the string at that offset
-abbrev pub held : List ℕ → Kind → ℕ → Content
-held words kinds.Text number = Choice (string_text words number)
-held words _ number = Number number
+abbrev pub content_of_kind : List ℕ → Kind → ℕ → Content
+content_of_kind words kinds.Text number = Choice (string_text words number)
+content_of_kind words _ number = Number number
 
 -- what a value word holds is the content of its value
 abbrev pub SlotHoldsTheContent : Type 0
 SlotHoldsTheContent = (words : List ℕ) (slot : Slot) → IsImage words → Contains (slots_of words) slot
     → (row : ValueRow) × Contains (values_of words) row × (row.item ≡ slot.item) × (unwrap_or row.instance (negsuc 0) ≡ slot.instance)
-    × (row.content ≡ held words slot.kind (slice_index words slot.word))
+    × (row.content ≡ content_of_kind words slot.kind (slice_index words slot.word))
 
 -- a value word of an image is that of a value, and holds its content
 pub record HasItsSlot (words : List ℕ) (row : ValueRow) : Type 0 where
@@ -92,7 +92,7 @@ pub record HasItsSlot (words : List ℕ) (row : ValueRow) : Type 0 where
   pub among : Contains (slots_of words) slot
   pub item : slot.item ≡ row.item
   pub instance : slot.instance ≡ unwrap_or row.instance (negsuc 0)
-  pub holds : row.content ≡ held words slot.kind (slice_index words slot.word)
+  pub holds : row.content ≡ content_of_kind words slot.kind (slice_index words slot.word)
 
 abbrev pub HasSlot : List ℕ → ValueRow → Content → Type 0
 HasSlot words row (Number number) = HasItsSlot words row

@@ -14,7 +14,7 @@ use Rattle.std.proofs.lemmas.Map.Lookups.{exact_bytes}
 use Rattle.std.proofs.lemmas.Map.Text.{is_eq-slice_cmp}
 use Rattle.std.proofs.Math.Seq.{take-append_seam}
 use Rattle.std.proofs.lemmas.Slice.Eq.{bytes_eq-Decides}
-use Rattle.mmv_spelling.specs.Tables.{read, first_of, is_open, Tells, IsIndex, Holds, Grows}
+use Rattle.mmv_spelling.specs.Tables.{texts_behind, first_of, is_open, Tells, IsIndex, KeepsFirst, Grows}
 use Rattle.mmv_spelling.proofs.ReadTexts.{length_read, read_more}
 
 lt_next : (p n : ℕ) → nat_lt (1 + p) (n + 1) ≡ nat_lt p n
@@ -198,13 +198,13 @@ index_more old new strings i x below is grows index =
     subst (IsIndex new) (ap (λ y. take i strings ++ y ∷ []) is ∙ sym (take_more strings i x below)) (grows (take i strings) (length-take-le i strings (omega arith)) index)
 
 -- one string more at the end
-pub index_added : (old new : BTreeMap (Vec ℕ Global) (Option ℕ)) (strings : List (Bor (List ℕ))) (x : Bor (List ℕ)) (at : ℕ) → at ≡ length strings → Grows old new x.now at → IsIndex old (read strings) → IsIndex new (read (strings ++ x ∷ []))
-index_added old new strings x at e grows index = subst (IsIndex new) (sym (read_more strings x)) (grows (read strings) (sym (length_read strings) ∙ sym e) index)
+pub index_added : (old new : BTreeMap (Vec ℕ Global) (Option ℕ)) (strings : List (Bor (List ℕ))) (x : Bor (List ℕ)) (at : ℕ) → at ≡ length strings → Grows old new x.now at → IsIndex old (texts_behind strings) → IsIndex new (texts_behind (strings ++ x ∷ []))
+index_added old new strings x at e grows index = subst (IsIndex new) (sym (read_more strings x)) (grows (texts_behind strings) (sym (length_read strings) ∙ sym e) index)
 
 -- where nothing was added after all
-pub index_stays : (old new : BTreeMap (Vec ℕ Global) (Option ℕ)) (strings left : List (Bor (List ℕ))) → Holds old new → left ≡ strings → IsIndex old (read strings) → IsIndex new (read left)
+pub index_stays : (old new : BTreeMap (Vec ℕ Global) (Option ℕ)) (strings left : List (Bor (List ℕ))) → KeepsFirst old new → left ≡ strings → IsIndex old (texts_behind strings) → IsIndex new (texts_behind left)
 index_stays old new strings left holds same index q =
-    subst (λ o. Tells o (position (λ other. bytes_eq other q) (read left))) (sym (holds q)) (subst (λ l. Tells (first_of old q) (position (λ other. bytes_eq other q) (read l))) (sym same) (index q))
+    subst (λ o. Tells o (position (λ other. bytes_eq other q) (texts_behind left))) (sym (holds q)) (subst (λ l. Tells (first_of old q) (position (λ other. bytes_eq other q) (texts_behind l))) (sym same) (index q))
 
 -- what is kept of a text
 pub told_at : (o : Option (Option ℕ)) (p kept : Option ℕ) → Tells o p → Some kept ≡ o → kept ≡ p

@@ -8,11 +8,11 @@ use Rattle.mmv_format.specs.declared.rows.IndomRow.{IndomRow}
 use Rattle.mmv_format.specs.declared.rows.MetricRow.{MetricRow}
 use Rattle.mmv_format.specs.declared.rows.ValueRow.{ValueRow}
 use Rattle.mmv_format.specs.declared.rows.Layout.{Layout}
-use Rattle.mmv_spelling.specs.declared.places.Counts.{Counts}
-use Rattle.mmv_spelling.specs.declared.places.Places.{Places}
-use Rattle.mmv_spelling.specs.Places.{instances_in, counts_of, one_if_some, sections_in, places_of, words_in, AreSmall}
-use Rattle.mmv_spelling.specs.Spelling.{header_words, entry_words, contents_words, domain_place, domain_words, instance_words, metric_words, value_words, domain_section, instance_section, metric_section, value_section, string_section, sections_words, spelled}
-use Rattle.mmv_spelling.specs.Places.{name_length, indom_length, instance_length, metric_length, value_length, string_length}
+use Rattle.mmv_spelling.specs.declared.offsets.Counts.{Counts}
+use Rattle.mmv_spelling.specs.declared.offsets.SectionOffsets.{SectionOffsets}
+use Rattle.mmv_spelling.specs.Offsets.{instances_in, counts_of, one_if_some, sections_in, section_offsets, words_in, AreSmall}
+use Rattle.mmv_spelling.specs.Spelling.{header_words, entry_words, contents_words, domain_offset, domain_words, instance_words, metric_words, value_words, domain_section, instance_section, metric_section, value_section, string_section, sections_words, spelled}
+use Rattle.mmv_spelling.specs.Offsets.{name_length, indom_length, instance_length, metric_length, value_length, string_length}
 
 pub length_first : (n : ℕ) (bytes : List ℕ) → length (first_words n bytes) ≡ n
 unfolding first_words
@@ -41,7 +41,7 @@ length_groups f g size one (x ∷ xs) =
     spread : (s a b : ℕ) → s * a + s * b ≡ s * (a + b)
     spread s a b = grind arith
 
-pub length_domain : (p : Places) (s : List (List ℕ)) (ix : List IndomRow) (row : IndomRow) → length (domain_words p s ix row) ≡ indom_length
+pub length_domain : (p : SectionOffsets) (s : List (List ℕ)) (ix : List IndomRow) (row : IndomRow) → length (domain_words p s ix row) ≡ indom_length
 unfolding domain_words
 length_domain p s ix row = refl
 
@@ -49,29 +49,29 @@ pub length_instance : (d : ℕ) (i : ℤ × List ℕ) → length (instance_words
 unfolding instance_words
 length_instance d i = let n : length (first_words name_length i.1) ≡ name_length = length_first name_length i.1 in omega arith
 
-pub length_metric : (p : Places) (s : List (List ℕ)) (row : MetricRow) → length (metric_words p s row) ≡ metric_length
+pub length_metric : (p : SectionOffsets) (s : List (List ℕ)) (row : MetricRow) → length (metric_words p s row) ≡ metric_length
 unfolding metric_words
 length_metric p s row = length-append (first_words name_length row.name) _ ∙ ap (λ n. n + 5) (length_first name_length row.name)
 
-pub length_value : (p : Places) (s : List (List ℕ)) (ix : List IndomRow) (ms : List MetricRow) (row : ValueRow) → length (value_words p s ix ms row) ≡ value_length
+pub length_value : (p : SectionOffsets) (s : List (List ℕ)) (ix : List IndomRow) (ms : List MetricRow) (row : ValueRow) → length (value_words p s ix ms row) ≡ value_length
 unfolding value_words
 length_value p s ix ms row = refl
 
-pub length_domains : (p : Places) (s : List (List ℕ)) (ix : List IndomRow) → length (domain_section p s ix) ≡ indom_length * length ix
+pub length_domains : (p : SectionOffsets) (s : List (List ℕ)) (ix : List IndomRow) → length (domain_section p s ix) ≡ indom_length * length ix
 unfolding domain_section
 length_domains p s ix = length_even (domain_words p s ix) indom_length (length_domain p s ix) ix
 
-pub length_instances : (p : Places) (ix : List IndomRow) → length (instance_section p ix) ≡ instance_length * instances_in ix
+pub length_instances : (p : SectionOffsets) (ix : List IndomRow) → length (instance_section p ix) ≡ instance_length * instances_in ix
 unfolding instance_section
 length_instances p ix =
-    length_groups (λ row. flat_map (λ instance. instance_words (domain_place p ix row.serial) instance) row.instances) (λ row. length row.instances) instance_length
-    (λ row. length_even (instance_words (domain_place p ix row.serial)) instance_length (length_instance (domain_place p ix row.serial)) row.instances) ix
+    length_groups (λ row. flat_map (λ instance. instance_words (domain_offset p ix row.serial) instance) row.instances) (λ row. length row.instances) instance_length
+    (λ row. length_even (instance_words (domain_offset p ix row.serial)) instance_length (length_instance (domain_offset p ix row.serial)) row.instances) ix
 
-pub length_metrics : (p : Places) (s : List (List ℕ)) (ms : List MetricRow) → length (metric_section p s ms) ≡ metric_length * length ms
+pub length_metrics : (p : SectionOffsets) (s : List (List ℕ)) (ms : List MetricRow) → length (metric_section p s ms) ≡ metric_length * length ms
 unfolding metric_section
 length_metrics p s ms = length_even (metric_words p s) metric_length (length_metric p s) ms
 
-pub length_values : (p : Places) (s : List (List ℕ)) (ix : List IndomRow) (ms : List MetricRow) (vs : List ValueRow) → length (value_section p s ix ms vs) ≡ value_length * length vs
+pub length_values : (p : SectionOffsets) (s : List (List ℕ)) (ix : List IndomRow) (ms : List MetricRow) (vs : List ValueRow) → length (value_section p s ix ms vs) ≡ value_length * length vs
 unfolding value_section
 length_values p s ix ms vs = length_even (value_words p s ix ms) value_length (length_value p s ix ms) vs
 
@@ -89,7 +89,7 @@ length_entry type count place = here (nat_eq count 0)
 joined : (xs ys : List ℕ) (m n : ℕ) → length xs ≡ m → length ys ≡ n → length (xs ++ ys) ≡ m + n
 joined xs ys m n e f = length-append xs ys ∙ ap₂ (λ a b. a + b) e f
 
-pub length_contents : (c : Counts) (p : Places) → length (contents_words c p) ≡ 2 * sections_in c
+pub length_contents : (c : Counts) (p : SectionOffsets) → length (contents_words c p) ≡ 2 * sections_in c
 unfolding contents_words sections_in
 length_contents c p =
     joined (entry_words 1 c.indoms p.indoms) _ _ _ (length_entry 1 c.indoms p.indoms)
@@ -101,7 +101,7 @@ length_contents c p =
     spread : (a b c d e : ℕ) → 2 * a + (2 * b + (2 * c + (2 * d + 2 * e))) ≡ 2 * (a + b + c + d + e)
     spread a b c d e = omega arith
 
-pub length_sections : (draft : Layout) (s : List (List ℕ)) (p : Places) → length (sections_words draft s p) ≡ indom_length * length draft.indoms + (instance_length * instances_in draft.indoms + (metric_length * length draft.metrics + (value_length * length draft.values + string_length * length s)))
+pub length_sections : (draft : Layout) (s : List (List ℕ)) (p : SectionOffsets) → length (sections_words draft s p) ≡ indom_length * length draft.indoms + (instance_length * instances_in draft.indoms + (metric_length * length draft.metrics + (value_length * length draft.values + string_length * length s)))
 unfolding sections_words
 length_sections draft s p =
     joined (domain_section p s draft.indoms) _ _ _ (length_domains p s draft.indoms)
@@ -118,7 +118,7 @@ unfolding spelled
 length_spelled draft s =
     let c : Counts = counts_of draft s in
     joined (header_words draft (sections_in c)) _ _ _ (length_header draft (sections_in c))
-    (joined (contents_words c (places_of c)) (sections_words draft s (places_of c)) _ _ (length_contents c (places_of c)) (length_sections draft s (places_of c)))
+    (joined (contents_words c (section_offsets c)) (sections_words draft s (section_offsets c)) _ _ (length_contents c (section_offsets c)) (length_sections draft s (section_offsets c)))
     ∙ spread (sections_in c) (length draft.indoms) (instances_in draft.indoms) (length draft.metrics) (length draft.values) (length s)
   where
     spread : (n d i m v t : ℕ) → 5 + (2 * n + (indom_length * d + (instance_length * i + (metric_length * m + (value_length * v + string_length * t))))) ≡ 5 + 2 * n + indom_length * d + instance_length * i + metric_length * m + value_length * v + string_length * t
@@ -162,7 +162,7 @@ counted_exactly draft s h =
     let same : min (instances_in draft.indoms) 18446744073709551615 ≡ instances_in draft.indoms = omega arith in
     ap (λ n. record (counts_of draft s) { instances = n }) same
 
-pub small_places : (c : Counts) → words_in c ≤ 65536 → AreSmall (places_of c)
-small_places c h =
+pub small_offsets : (c : Counts) → words_in c ≤ 65536 → AreSmall (section_offsets c)
+small_offsets c h =
     let n : sections_in c ≤ 5 = sections_most c in
     record { indoms = omega arith; instances = omega arith; metrics = omega arith; values = omega arith; strings = omega arith }

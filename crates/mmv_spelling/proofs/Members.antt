@@ -4,7 +4,7 @@ use Rattle.std.specs.List.{position, position_or_len}
 use Rattle.std.proofs.lemmas.Bool.{ltb-false}
 use Rattle.std.proofs.lemmas.List.Sums.{sum_by-take-le, sum_by-cons}
 use Rattle.mmv_format.specs.declared.rows.IndomRow.{IndomRow}
-use Rattle.mmv_spelling.specs.Places.{instances_in}
+use Rattle.mmv_spelling.specs.Offsets.{instances_in}
 
 pub before_fits : (rows : List IndomRow) (i : ℕ) → instances_in (take i rows) ≤ instances_in rows
 before_fits rows i = sum_by-take-le (λ row. length row.instances) rows i

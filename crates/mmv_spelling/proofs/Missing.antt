@@ -5,7 +5,7 @@ use Rattle.std.specs.Borrow.{Bor}
 use Rattle.std.proofs.lemmas.List.{take_more}
 use Rattle.std.proofs.lemmas.List.Concat.{flat_map-append}
 use Rattle.mmv_spelling.specs.Spelling.{with_missing}
-use Rattle.mmv_spelling.specs.Tables.{read}
+use Rattle.mmv_spelling.specs.Tables.{texts_behind}
 use Rattle.mmv_spelling.proofs.Firsts.{position_some}
 use Rattle.mmv_spelling.proofs.ReadTexts.{read_more}
 
@@ -44,10 +44,10 @@ joined_more f rows i d below =
     ∙ sym (flat_map-append f (take i rows) (get_or rows i d ∷ [])) ∙ ap (flat_map f) (sym (take_more rows i d below))
 
 -- the texts that a loop has passed were added, and then the next
-pub missing_more : (start now next : List (List ℕ)) (texts : List (Bor (List ℕ))) (i : ℕ) (x : Bor (List ℕ)) → i < length texts → x ≡ get_or texts i x → now ≡ with_missing start (read (take i texts)) → next ≡ with_missing now (x.now ∷ []) → next ≡ with_missing start (read (take (i + 1) texts))
+pub missing_more : (start now next : List (List ℕ)) (texts : List (Bor (List ℕ))) (i : ℕ) (x : Bor (List ℕ)) → i < length texts → x ≡ get_or texts i x → now ≡ with_missing start (texts_behind (take i texts)) → next ≡ with_missing now (x.now ∷ []) → next ≡ with_missing start (texts_behind (take (i + 1) texts))
 missing_more start now next texts i x below is h e =
-    e ∙ ap (λ s. with_missing s (x.now ∷ [])) h ∙ missing_joined start (read (take i texts)) (x.now ∷ [])
-    ∙ ap (with_missing start) (sym (read_more (take i texts) x) ∙ ap (λ y. read (take i texts ++ y ∷ [])) is ∙ ap read (sym (take_more texts i x below)))
+    e ∙ ap (λ s. with_missing s (x.now ∷ [])) h ∙ missing_joined start (texts_behind (take i texts)) (x.now ∷ [])
+    ∙ ap (with_missing start) (sym (read_more (take i texts) x) ∙ ap (λ y. texts_behind (take i texts ++ y ∷ [])) is ∙ ap texts_behind (sym (take_more texts i x below)))
 
 -- what was written before, those of the entries that a loop has passed, and those of the next
 pub written_more : {T A : Type 0} (f : T → List A) (start now next : List A) (rows : List T) (i : ℕ) (x : T) → i < length rows → x ≡ get_or rows i x → now ≡ start ++ flat_map f (take i rows) → next ≡ now ++ f x → next ≡ start ++ flat_map f (take (i + 1) rows)

@@ -4,7 +4,7 @@ use Rattle.std.specs.List.{list_any, slice_get, position_or_len}
 use Rattle.std.proofs.lemmas.Bool.{cases_lt}
 use Rattle.std.proofs.lemmas.List.Sums.{sum_by-cons}
 use Rattle.mmv_format.specs.declared.rows.IndomRow.{IndomRow}
-use Rattle.mmv_spelling.specs.Places.{instances_in}
+use Rattle.mmv_spelling.specs.Offsets.{instances_in}
 
 -- a row stands at a position and passes a test
 pub record Passes {T : Type 0} (xs : List T) (i : ℕ) (test : T → Bool) : Type 0 where

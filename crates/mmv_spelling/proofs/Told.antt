@@ -6,7 +6,7 @@ use Rattle.std.specs.BTreeMap.{get}
 use Rattle.mmv_format.specs.declared.rows.IndomRow.{IndomRow}
 use Rattle.mmv_format.specs.declared.rows.MetricRow.{MetricRow}
 use Rattle.mmv_spelling.specs.declared.lookups.DomainPlace.{DomainPlace}
-use Rattle.mmv_spelling.specs.Places.{instances_in}
+use Rattle.mmv_spelling.specs.Offsets.{instances_in}
 use Rattle.mmv_spelling.specs.Spelling.{serial_in, serial_of, members_in, member_of}
 use Rattle.mmv_spelling.specs.Tables.{IsTold, IsPlace}
 use Rattle.mmv_spelling.proofs.Members.{first_or_len, first_fits, found_fits}

@@ -1,3 +1,3 @@
-pub mod Places
+pub mod Offsets
 pub mod Spelling
 pub mod Tables

@@ -9,11 +9,11 @@ use Rattle.std.specs.BTreeMap.{BTreeMap, get, get_by}
 use Rattle.mmv_format.specs.declared.rows.IndomRow.{IndomRow}
 use Rattle.mmv_format.specs.declared.rows.MetricRow.{MetricRow}
 use Rattle.mmv_spelling.specs.declared.lookups.DomainPlace.{DomainPlace}
-use Rattle.mmv_spelling.specs.Places.{instances_in}
+use Rattle.mmv_spelling.specs.Offsets.{instances_in}
 
 -- the texts behind references
-abbrev pub read : List (Bor (List ℕ)) → List (List ℕ)
-read texts = map (λ text. text.now) texts
+abbrev pub texts_behind : List (Bor (List ℕ)) → List (List ℕ)
+texts_behind texts = map (λ text. text.now) texts
 
 -- what a map has for a text: nothing where the text isn't looked up
 abbrev pub first_of : BTreeMap (Vec ℕ) (Option ℕ) → List ℕ → Option (Option ℕ)
@@ -35,8 +35,8 @@ abbrev pub IsIndex : BTreeMap (Vec ℕ) (Option ℕ) → List (List ℕ) → Typ
 IsIndex firsts strings = (text : List ℕ) → Tells (first_of firsts text) (position (λ other. bytes_eq other text) strings)
 
 -- a map has for each text what another has
-abbrev pub Holds : BTreeMap (Vec ℕ) (Option ℕ) → BTreeMap (Vec ℕ) (Option ℕ) → Type 0
-Holds old new = (text : List ℕ) → first_of new text ≡ first_of old text
+abbrev pub KeepsFirst : BTreeMap (Vec ℕ) (Option ℕ) → BTreeMap (Vec ℕ) (Option ℕ) → Type 0
+KeepsFirst old new = (text : List ℕ) → first_of new text ≡ first_of old text
 
 -- a map tells so many strings, and then another those and a text behind them
 abbrev pub Grows : BTreeMap (Vec ℕ) (Option ℕ) → BTreeMap (Vec ℕ) (Option ℕ) → List ℕ → ℕ → Type 0
@@ -72,4 +72,4 @@ IsTold rows (Some place) (Some at) =
 
 -- a map has for each serial what is kept of the first domain that has it
 abbrev pub IsDomainIndex : BTreeMap ℕ DomainPlace → List IndomRow → Type 0
-IsDomainIndex places rows = (serial : ℕ) → IsTold rows (get nat_cmp places serial) (position (λ row. row.serial == serial) rows)
+IsDomainIndex offsets rows = (serial : ℕ) → IsTold rows (get nat_cmp offsets serial) (position (λ row. row.serial == serial) rows)

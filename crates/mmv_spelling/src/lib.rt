@@ -3,7 +3,7 @@
 #![tactic(auto)]
 
 mod lookups;
-mod places;
+mod offsets;
 mod references;
 mod spelling;
 mod strings;

@@ -3,11 +3,11 @@ ghost use Rattle.std.specs.Prelude.{◌≡◌, ◌≤◌, ◌==◌, ℕ, ℤ, le
 ghost use Rattle.std.specs.List.{position_or_len};
 ghost use Rattle.std.specs.Ordering.{nat_cmp, int_cmp, int_eq};
 ghost use Rattle.std.specs.BTreeMap.{get};
-ghost use Rattle.mmv_spelling.specs.Places.{instances_in};
+ghost use Rattle.mmv_spelling.specs.Offsets.{instances_in};
 ghost use Rattle.mmv_spelling.specs.Spelling.{domain_of, member_of, serial_of};
 ghost use Rattle.mmv_spelling.specs.Tables.{kept_or, IsMemberIndex, IsItemIndex, IsDomainIndex, IsPlace};
 
-use crate::places::instances_in;
+use crate::offsets::instances_in;
 use mmv_format::{IndomRow, MetricRow};
 use pcp_base::{NoMemory, Text};
 use std::alloc::Global;
@@ -35,7 +35,7 @@ pub struct DomainTable<'a> {
 impl<'a> Model for DomainTable<'a> {
     ghost use Rattle.std.specs.Prelude.{◌≡◌, List, min};
     ghost use Rattle.mmv_format.specs.declared.rows.IndomRow.{IndomRow};
-    ghost use Rattle.mmv_spelling.specs.Places.{instances_in};
+    ghost use Rattle.mmv_spelling.specs.Offsets.{instances_in};
     ghost use Rattle.mmv_spelling.specs.Tables.{IsDomainIndex};
 
     ghost Value = { List IndomRow };

@@ -1,10 +1,10 @@
 //! The words of whole rows: header, contents and each section in order.
 ghost use Rattle.std.specs.Prelude.{◌≡◌, ◌≤◌, ◌++◌, length, min, OnOk, IfOk};
-ghost use Rattle.mmv_spelling.specs.Places.{instances_in, counts_of, words_in, places_of, AreSmall};
+ghost use Rattle.mmv_spelling.specs.Offsets.{instances_in, counts_of, words_in, section_offsets, AreSmall};
 ghost use Rattle.mmv_spelling.specs.Spelling.{sections_words, spelled};
 
 use crate::lookups::{DomainTable, MetricTable};
-use crate::places::{Counts, Places, counts_of, places_of, sections_in, words_in};
+use crate::offsets::{Counts, SectionOffsets, counts_of, section_offsets, sections_in, words_in};
 use crate::tables::StringTable;
 use crate::words::{
     push_contents, push_domains, push_header, push_instances, push_metrics, push_strings,
@@ -21,25 +21,25 @@ fn push_sections(
     out: &mut Vec<u64>,
     draft: &Layout,
     strings: &StringTable,
-    places: &Places,
+    offsets: &SectionOffsets,
 ) -> Result<(), NoMemory>
-    requires small { AreSmall places.now }
+    requires small { AreSmall offsets.now }
     requires indoms { length draft.now.indoms ≤ 65536 }
     requires instances { instances_in draft.now.indoms ≤ 65536 }
     requires metrics { length draft.now.metrics ≤ 65536 }
     requires strings { length strings.now ≤ 65536 }
-    ensures { OnOk result (out.new.items ≡ out.old.items ++ sections_words draft.now strings.now places.now) }
+    ensures { OnOk result (out.new.items ≡ out.old.items ++ sections_words draft.now strings.now offsets.now) }
 {
     let indoms = draft.indoms.as_slice();
     let metrics = draft.metrics.as_slice();
     let domains = DomainTable::of(alloc, indoms)?;
     let items = MetricTable::of(alloc, metrics)?;
-    push_domains(out, places, strings, &domains, indoms)?;
-    push_instances(out, places, &domains, indoms)?;
-    push_metrics(out, places, strings, metrics)?;
+    push_domains(out, offsets, strings, &domains, indoms)?;
+    push_instances(out, offsets, &domains, indoms)?;
+    push_metrics(out, offsets, strings, metrics)?;
     push_values(
         out,
-        places,
+        offsets,
         strings,
         &domains,
         &items,
@@ -67,16 +67,16 @@ fn counted(draft: &Layout, strings: &StringTable) -> Counts
 }
 
 /// The words of a draft with these strings.
-#[tactic(auto, using(crate::proofs::Lengths::small_places), unfolding(crate::specs::Spelling::spelled))]
+#[tactic(auto, using(crate::proofs::Lengths::small_offsets), unfolding(crate::specs::Spelling::spelled))]
 pub fn spelled(alloc: Global, draft: &Layout, strings: &StringTable) -> Result<Vec<u64>, NoMemory>
     requires { words_in (counts_of draft.now strings.now) ≤ 65536 }
     ensures { IfOk result (λ words. words.items ≡ spelled draft.now strings.now) }
 {
     let counts = counted(draft, strings);
-    let places = places_of(&counts);
+    let offsets = section_offsets(&counts);
     let mut out = Vec::new(alloc);
     push_header(&mut out, draft, sections_in(&counts) as u32)?;
-    push_contents(&mut out, &counts, &places)?;
-    push_sections(alloc, &mut out, draft, strings, &places)?;
+    push_contents(&mut out, &counts, &offsets)?;
+    push_sections(alloc, &mut out, draft, strings, &offsets)?;
     Ok(out)
 }

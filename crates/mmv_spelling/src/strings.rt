@@ -1,8 +1,8 @@
 //! Which strings an image of given rows has: those given, then each text that no earlier one equals.
 ghost use Rattle.std.specs.Prelude.{◌≡◌, ◌++◌, OnOk, IfOk};
 ghost use Rattle.std.specs.List.{flat_map};
-ghost use Rattle.mmv_spelling.specs.Spelling.{texts_of, texts_in, wanted, with_missing, all_strings};
-ghost use Rattle.mmv_spelling.specs.Tables.{read};
+ghost use Rattle.mmv_spelling.specs.Spelling.{texts_of, texts_in, reference_texts, with_missing, all_strings};
+ghost use Rattle.mmv_spelling.specs.Tables.{texts_behind};
 
 use crate::tables::StringTable;
 use mmv_format::{Content, IndomRow, Layout, MetricRow, ValueRow};
@@ -12,7 +12,7 @@ use std::alloc::Global;
 /// Adds a help, if there is one.
 #[tactic(auto, using(crate::proofs::ReadTexts::read_none, crate::proofs::ReadTexts::read_more))]
 fn push_help<'a>(texts: &mut Vec<&'a Text>, help: &'a Option<Text>) -> Result<(), NoMemory>
-    ensures { OnOk result (read texts.new.items ≡ read texts.old.items ++ texts_of help.now) }
+    ensures { OnOk result (texts_behind texts.new.items ≡ texts_behind texts.old.items ++ texts_of help.now) }
 {
     match help {
         None => {}
@@ -27,7 +27,7 @@ fn push_helps<'a>(
     short: &'a Option<Text>,
     long: &'a Option<Text>,
 ) -> Result<(), NoMemory>
-    ensures { OnOk result (read texts.new.items ≡ read texts.old.items ++ (texts_of short.now ++ texts_of long.now)) }
+    ensures { OnOk result (texts_behind texts.new.items ≡ texts_behind texts.old.items ++ (texts_of short.now ++ texts_of long.now)) }
 {
     push_help(texts, short)?;
     push_help(texts, long)?;
@@ -36,7 +36,7 @@ fn push_helps<'a>(
 
 /// Adds the helps of domains.
 fn push_of_domains<'a>(texts: &mut Vec<&'a Text>, rows: &'a [IndomRow]) -> Result<(), NoMemory>
-    ensures { OnOk result (read texts.new.items ≡ read texts.old.items ++ flat_map (λ row. texts_of row.short ++ texts_of row.long) rows.now) }
+    ensures { OnOk result (texts_behind texts.new.items ≡ texts_behind texts.old.items ++ flat_map (λ row. texts_of row.short ++ texts_of row.long) rows.now) }
 {
     for row in rows {
         push_helps(texts, &row.short, &row.long)?;
@@ -46,7 +46,7 @@ fn push_of_domains<'a>(texts: &mut Vec<&'a Text>, rows: &'a [IndomRow]) -> Resul
 
 /// Adds the helps of metrics.
 fn push_of_metrics<'a>(texts: &mut Vec<&'a Text>, rows: &'a [MetricRow]) -> Result<(), NoMemory>
-    ensures { OnOk result (read texts.new.items ≡ read texts.old.items ++ flat_map (λ row. texts_of row.short ++ texts_of row.long) rows.now) }
+    ensures { OnOk result (texts_behind texts.new.items ≡ texts_behind texts.old.items ++ flat_map (λ row. texts_of row.short ++ texts_of row.long) rows.now) }
 {
     for row in rows {
         push_helps(texts, &row.short, &row.long)?;
@@ -57,7 +57,7 @@ fn push_of_metrics<'a>(texts: &mut Vec<&'a Text>, rows: &'a [MetricRow]) -> Resu
 /// Adds the text of a content, if it is one.
 #[tactic(auto, using(crate::proofs::ReadTexts::read_none, crate::proofs::ReadTexts::read_more))]
 fn push_content<'a>(texts: &mut Vec<&'a Text>, content: &'a Content) -> Result<(), NoMemory>
-    ensures { OnOk result (read texts.new.items ≡ read texts.old.items ++ texts_in content.now) }
+    ensures { OnOk result (texts_behind texts.new.items ≡ texts_behind texts.old.items ++ texts_in content.now) }
 {
     match content {
         Content::Number(_) => {}
@@ -69,7 +69,7 @@ fn push_content<'a>(texts: &mut Vec<&'a Text>, content: &'a Content) -> Result<(
 
 /// Adds the texts of values.
 fn push_of_values<'a>(texts: &mut Vec<&'a Text>, rows: &'a [ValueRow]) -> Result<(), NoMemory>
-    ensures { OnOk result (read texts.new.items ≡ read texts.old.items ++ flat_map (λ row. texts_in row.content) rows.now) }
+    ensures { OnOk result (texts_behind texts.new.items ≡ texts_behind texts.old.items ++ flat_map (λ row. texts_in row.content) rows.now) }
 {
     for row in rows {
         push_content(texts, &row.content)?;
@@ -78,8 +78,8 @@ fn push_of_values<'a>(texts: &mut Vec<&'a Text>, rows: &'a [ValueRow]) -> Result
 }
 
 /// The texts to which the references of a draft lead, in the order of its rows.
-fn wanted<'a>(alloc: Global, draft: &'a Layout) -> Result<Vec<&'a Text>, NoMemory>
-    ensures { IfOk result (λ texts. read texts.items ≡ wanted draft.now) }
+fn reference_texts<'a>(alloc: Global, draft: &'a Layout) -> Result<Vec<&'a Text>, NoMemory>
+    ensures { IfOk result (λ texts. texts_behind texts.items ≡ reference_texts draft.now) }
 {
     let mut texts = Vec::new(alloc);
     push_of_domains(&mut texts, draft.indoms.as_slice())?;
@@ -94,7 +94,7 @@ fn add_missing<'a>(
     strings: &mut StringTable<'a>,
     texts: &[&'a Text],
 ) -> Result<(), NoMemory>
-    ensures { OnOk result (strings.new ≡ with_missing strings.old (read texts.now)) }
+    ensures { OnOk result (strings.new ≡ with_missing strings.old (texts_behind texts.now)) }
 {
     for text in texts {
         strings.add(alloc, *text)?;
@@ -107,7 +107,7 @@ fn add_missing<'a>(
 pub fn all_strings<'a>(alloc: Global, draft: &'a Layout) -> Result<StringTable<'a>, NoMemory>
     ensures { IfOk result (λ strings. strings ≡ all_strings draft.now) }
 {
-    let texts = wanted(alloc, draft)?;
+    let texts = reference_texts(alloc, draft)?;
     let mut strings = StringTable::of(alloc, draft.strings.as_slice(), texts.as_slice())?;
     add_missing(alloc, &mut strings, texts.as_slice())?;
     Ok(strings)

@@ -2,7 +2,7 @@
 //! references lead, and for no other, however many strings there are.
 ghost use Rattle.std.specs.Prelude.{◌≡◌, ◌++◌, [], ◌∷◌, length, OnOk, OnErr, IfOk, is_none, bytes_eq};
 ghost use Rattle.std.specs.List.{position};
-ghost use Rattle.mmv_spelling.specs.Tables.{read, first_of, is_open, IsIndex, Holds, Grows};
+ghost use Rattle.mmv_spelling.specs.Tables.{texts_behind, first_of, is_open, IsIndex, KeepsFirst, Grows};
 ghost use Rattle.mmv_spelling.specs.Spelling.{with_missing};
 
 use pcp_base::{List, NoMemory, Text};
@@ -20,13 +20,13 @@ pub struct StringTable<'a> {
 
 impl<'a> Model for StringTable<'a> {
     ghost use Rattle.std.specs.Prelude.{List as Sequence, ℕ};
-    ghost use Rattle.mmv_spelling.specs.Tables.{read, IsIndex};
+    ghost use Rattle.mmv_spelling.specs.Tables.{texts_behind, IsIndex};
 
     ghost Value = { Sequence (Sequence ℕ) };
 
-    ghost view = { λ a. read a.strings };
+    ghost view = { λ a. texts_behind a.strings };
 
-    ghost invariant = { λ a. IsIndex a.firsts (read a.strings) };
+    ghost invariant = { λ a. IsIndex a.firsts (texts_behind a.strings) };
 }
 
 /// Whether there is no place.
@@ -54,7 +54,7 @@ fn keep_first(
     at: usize,
 ) -> Result<(), NoMemory>
     ensures ok { OnOk result (Grows firsts.old firsts.new text.now at) }
-    ensures err { OnErr result (Holds firsts.old firsts.new) }
+    ensures err { OnErr result (KeepsFirst firsts.old firsts.new) }
 {
     if !is_open(firsts, text) {
         return Ok(());
@@ -111,7 +111,7 @@ fn firsts_of(
 
 /// References to strings.
 fn references_of<'a>(alloc: Global, strings: &'a [Text]) -> Result<List<&'a Text>, NoMemory>
-    ensures { IfOk result (λ references. read references ≡ strings.now) }
+    ensures { IfOk result (λ references. texts_behind references ≡ strings.now) }
 {
     let mut references = List::empty(alloc);
     for text in strings {
@@ -128,9 +128,9 @@ fn add_last<'a>(
     firsts: &mut BTreeMap<Vec<u8>, Option<usize>>,
     text: &'a Text,
 ) -> Result<(), NoMemory>
-    requires { IsIndex firsts.now (read strings.now) }
-    ensures index { IsIndex firsts.new (read strings.new) }
-    ensures ok { OnOk result (read strings.new ≡ read strings.old ++ text.now ∷ []) }
+    requires { IsIndex firsts.now (texts_behind strings.now) }
+    ensures index { IsIndex firsts.new (texts_behind strings.new) }
+    ensures ok { OnOk result (texts_behind strings.new ≡ texts_behind strings.old ++ text.now ∷ []) }
 {
     let at = strings.len();
     strings.push(text)?;
@@ -174,7 +174,7 @@ impl<'a> StringTable<'a> {
 
     /// All strings in order.
     pub fn as_slice(&self) -> &[&'a Text]
-        ensures { read result.now ≡ self.now }
+        ensures { texts_behind result.now ≡ self.now }
     {
         self.strings.as_slice()
     }

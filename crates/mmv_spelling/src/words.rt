@@ -3,13 +3,13 @@ ghost use Rattle.std.specs.Prelude.{◌≡◌, ◌+◌, ◌<◌, ◌≤◌, ◌^
 ghost use Rattle.std.specs.List.{flat_map};
 ghost use Rattle.std.specs.Int.{w64, from_le_bytes};
 ghost use Rattle.mmv_format.specs.Fields.{first_words};
-ghost use Rattle.mmv_spelling.specs.Places.{string_length, instances_in, words_in, AreSmall};
-ghost use Rattle.mmv_spelling.specs.Spelling.{halves, header_words, entry_words, contents_words, domain_place, domain_words, instance_words, serial_word, metric_words, value_field, value_words, domain_section, instance_section, metric_section, value_section, string_section};
+ghost use Rattle.mmv_spelling.specs.Offsets.{string_length, instances_in, words_in, AreSmall};
+ghost use Rattle.mmv_spelling.specs.Spelling.{halves, header_words, entry_words, contents_words, domain_offset, domain_words, instance_words, serial_word, metric_words, value_field, value_words, domain_section, instance_section, metric_section, value_section, string_section};
 
 use crate::lookups::{DomainTable, MetricTable};
-use crate::places::{Counts, Places};
+use crate::offsets::{Counts, SectionOffsets};
 use crate::references::{
-    domain_place, extra_field, first_instance, help_place, instance_field, metric_place,
+    domain_offset, extra_field, first_instance, help_offset, instance_field, metric_offset,
 };
 use crate::tables::StringTable;
 use byteorder::{ByteOrder, LittleEndian};
@@ -32,14 +32,14 @@ fn halves(low: u32, high: u32) -> u64
     low as u64 + 4294967296 * high as u64
 }
 
-/// The byte at a place, and zero past the end.
+/// The byte at an offset, and zero past the end.
 fn byte_or_zero(bytes: &[u8], at: usize) -> u8
     ensures { result ≡ slice_index bytes.now at }
 {
     if at < bytes.len() { bytes[at] } else { 0 }
 }
 
-/// The word that eight bytes from a place on make, the low byte first, with zeros past the end.
+/// The word that eight bytes from an offset on make, the low byte first, with zeros past the end.
 fn word_at(bytes: &[u8], at: usize) -> u64
     requires { at ≤ 1024 }
     ensures { result ≡ from_le_bytes w64 (take 8 (drop at bytes.now)) }
@@ -84,28 +84,32 @@ pub fn push_header(out: &mut Vec<u64>, draft: &Layout, sections: u32) -> Result<
 }
 
 /// Writes the contents entry of a section that isn't empty.
-fn push_entry(out: &mut Vec<u64>, kind: u32, count: u64, place: u64) -> Result<(), NoMemory>
+fn push_entry(out: &mut Vec<u64>, kind: u32, count: u64, offset: u64) -> Result<(), NoMemory>
     requires { count ≤ 65536 }
-    ensures { OnOk result (out.new.items ≡ out.old.items ++ entry_words kind count place) }
+    ensures { OnOk result (out.new.items ≡ out.old.items ++ entry_words kind count offset) }
 {
     if count == 0 {
         return Ok(());
     }
-    out.extend_from_slice(&[halves(kind, count as u32), place])?;
+    out.extend_from_slice(&[halves(kind, count as u32), offset])?;
     Ok(())
 }
 
 /// Writes the contents.
 #[tactic(auto, unfolding(crate::specs::Spelling::contents_words))]
-pub fn push_contents(out: &mut Vec<u64>, counts: &Counts, places: &Places) -> Result<(), NoMemory>
+pub fn push_contents(
+    out: &mut Vec<u64>,
+    counts: &Counts,
+    offsets: &SectionOffsets,
+) -> Result<(), NoMemory>
     requires { words_in counts.now ≤ 65536 }
-    ensures { OnOk result (out.new.items ≡ out.old.items ++ contents_words counts.now places.now) }
+    ensures { OnOk result (out.new.items ≡ out.old.items ++ contents_words counts.now offsets.now) }
 {
-    push_entry(out, 1, counts.indoms, places.indoms)?;
-    push_entry(out, 2, counts.instances, places.instances)?;
-    push_entry(out, 3, counts.metrics, places.metrics)?;
-    push_entry(out, 4, counts.values, places.values)?;
-    push_entry(out, 5, counts.strings, places.strings)?;
+    push_entry(out, 1, counts.indoms, offsets.indoms)?;
+    push_entry(out, 2, counts.instances, offsets.instances)?;
+    push_entry(out, 3, counts.metrics, offsets.metrics)?;
+    push_entry(out, 4, counts.values, offsets.values)?;
+    push_entry(out, 5, counts.strings, offsets.strings)?;
     Ok(())
 }
 
@@ -113,22 +117,22 @@ pub fn push_contents(out: &mut Vec<u64>, counts: &Counts, places: &Places) -> Re
 #[tactic(auto, unfolding(crate::specs::Spelling::domain_words))]
 fn push_domain(
     out: &mut Vec<u64>,
-    places: &Places,
+    offsets: &SectionOffsets,
     strings: &StringTable,
     domains: &DomainTable,
     row: &IndomRow,
 ) -> Result<(), NoMemory>
-    requires small { AreSmall places.now }
+    requires small { AreSmall offsets.now }
     requires strings { length strings.now ≤ 65536 }
     requires instances { instances_in domains.now ≤ 65536 }
     requires row { length row.now.instances ≤ 65536 }
-    ensures { OnOk result (out.new.items ≡ out.old.items ++ domain_words places.now strings.now domains.now row.now) }
+    ensures { OnOk result (out.new.items ≡ out.old.items ++ domain_words offsets.now strings.now domains.now row.now) }
 {
     out.extend_from_slice(&[
         halves(row.serial, row.instances.len() as u32),
-        first_instance(places, domains, row),
-        help_place(places, strings, &row.short),
-        help_place(places, strings, &row.long),
+        first_instance(offsets, domains, row),
+        help_offset(offsets, strings, &row.short),
+        help_offset(offsets, strings, &row.long),
     ])?;
     Ok(())
 }
@@ -137,24 +141,24 @@ fn push_domain(
 #[tactic(auto, unfolding(crate::specs::Spelling::domain_section))]
 pub fn push_domains(
     out: &mut Vec<u64>,
-    places: &Places,
+    offsets: &SectionOffsets,
     strings: &StringTable,
     domains: &DomainTable,
     indoms: &[IndomRow],
 ) -> Result<(), NoMemory>
-    requires small { AreSmall places.now }
+    requires small { AreSmall offsets.now }
     requires strings { length strings.now ≤ 65536 }
     requires same { domains.now ≡ indoms.now }
     requires instances { instances_in indoms.now ≤ 65536 }
-    ensures { OnOk result (out.new.items ≡ out.old.items ++ domain_section places.now strings.now indoms.now) }
+    ensures { OnOk result (out.new.items ≡ out.old.items ++ domain_section offsets.now strings.now indoms.now) }
 {
     for row in indoms {
-        push_domain(out, places, strings, domains, row)?;
+        push_domain(out, offsets, strings, domains, row)?;
     }
     Ok(())
 }
 
-/// Writes an instance of the domain at a place.
+/// Writes an instance of the domain at an offset.
 #[tactic(auto, unfolding(crate::specs::Spelling::instance_words))]
 fn push_instance(out: &mut Vec<u64>, domain: u64, instance: &(i32, Text)) -> Result<(), NoMemory>
     ensures { OnOk result (out.new.items ≡ out.old.items ++ instance_words domain instance.now) }
@@ -164,7 +168,7 @@ fn push_instance(out: &mut Vec<u64>, domain: u64, instance: &(i32, Text)) -> Res
     Ok(())
 }
 
-/// Writes the instances of the domain at a place.
+/// Writes the instances of the domain at an offset.
 fn push_members(out: &mut Vec<u64>, domain: u64, instances: &[(i32, Text)]) -> Result<(), NoMemory>
     ensures { OnOk result (out.new.items ≡ out.old.items ++ flat_map (λ instance. instance_words domain instance) instances.now) }
 {
@@ -177,15 +181,15 @@ fn push_members(out: &mut Vec<u64>, domain: u64, instances: &[(i32, Text)]) -> R
 /// Writes the instances of one domain.
 fn push_row(
     out: &mut Vec<u64>,
-    places: &Places,
+    offsets: &SectionOffsets,
     domains: &DomainTable,
     row: &IndomRow,
 ) -> Result<(), NoMemory>
-    requires small { AreSmall places.now }
+    requires small { AreSmall offsets.now }
     requires count { length domains.now ≤ 65536 }
-    ensures { OnOk result (out.new.items ≡ out.old.items ++ flat_map (λ instance. instance_words (domain_place places.now domains.now row.now.serial) instance) row.now.instances) }
+    ensures { OnOk result (out.new.items ≡ out.old.items ++ flat_map (λ instance. instance_words (domain_offset offsets.now domains.now row.now.serial) instance) row.now.instances) }
 {
-    let domain = domain_place(places, domains, row.serial);
+    let domain = domain_offset(offsets, domains, row.serial);
     push_members(out, domain, row.instances.as_slice())?;
     Ok(())
 }
@@ -194,17 +198,17 @@ fn push_row(
 #[tactic(auto, unfolding(crate::specs::Spelling::instance_section))]
 pub fn push_instances(
     out: &mut Vec<u64>,
-    places: &Places,
+    offsets: &SectionOffsets,
     domains: &DomainTable,
     indoms: &[IndomRow],
 ) -> Result<(), NoMemory>
-    requires small { AreSmall places.now }
+    requires small { AreSmall offsets.now }
     requires same { domains.now ≡ indoms.now }
     requires count { length indoms.now ≤ 65536 }
-    ensures { OnOk result (out.new.items ≡ out.old.items ++ instance_section places.now indoms.now) }
+    ensures { OnOk result (out.new.items ≡ out.old.items ++ instance_section offsets.now indoms.now) }
 {
     for row in indoms {
-        push_row(out, places, domains, row)?;
+        push_row(out, offsets, domains, row)?;
     }
     Ok(())
 }
@@ -223,21 +227,21 @@ fn serial_word(serial: Option<u32>) -> u64
 #[tactic(auto, unfolding(crate::specs::Spelling::metric_words))]
 fn push_metric(
     out: &mut Vec<u64>,
-    places: &Places,
+    offsets: &SectionOffsets,
     strings: &StringTable,
     row: &MetricRow,
 ) -> Result<(), NoMemory>
-    requires small { AreSmall places.now }
+    requires small { AreSmall offsets.now }
     requires strings { length strings.now ≤ 65536 }
-    ensures { OnOk result (out.new.items ≡ out.old.items ++ metric_words places.now strings.now row.now) }
+    ensures { OnOk result (out.new.items ≡ out.old.items ++ metric_words offsets.now strings.now row.now) }
 {
     push_text(out, &row.name, NAME_WORDS)?;
     out.extend_from_slice(&[
         halves(row.item, row.kind.code()),
         halves(row.semantics.code(), row.units.word()),
         serial_word(row.serial),
-        help_place(places, strings, &row.short),
-        help_place(places, strings, &row.long),
+        help_offset(offsets, strings, &row.short),
+        help_offset(offsets, strings, &row.long),
     ])?;
     Ok(())
 }
@@ -246,16 +250,16 @@ fn push_metric(
 #[tactic(auto, unfolding(crate::specs::Spelling::metric_section))]
 pub fn push_metrics(
     out: &mut Vec<u64>,
-    places: &Places,
+    offsets: &SectionOffsets,
     strings: &StringTable,
     metrics: &[MetricRow],
 ) -> Result<(), NoMemory>
-    requires small { AreSmall places.now }
+    requires small { AreSmall offsets.now }
     requires strings { length strings.now ≤ 65536 }
-    ensures { OnOk result (out.new.items ≡ out.old.items ++ metric_section places.now strings.now metrics.now) }
+    ensures { OnOk result (out.new.items ≡ out.old.items ++ metric_section offsets.now strings.now metrics.now) }
 {
     for row in metrics {
-        push_metric(out, places, strings, row)?;
+        push_metric(out, offsets, strings, row)?;
     }
     Ok(())
 }
@@ -275,24 +279,24 @@ fn value_field(content: &Content) -> u64
 #[tactic(auto, unfolding(crate::specs::Spelling::value_words))]
 fn push_value(
     out: &mut Vec<u64>,
-    places: &Places,
+    offsets: &SectionOffsets,
     strings: &StringTable,
     domains: &DomainTable,
     metrics: &MetricTable,
     row: &ValueRow,
 ) -> Result<(), NoMemory>
-    requires small { AreSmall places.now }
+    requires small { AreSmall offsets.now }
     requires strings { length strings.now ≤ 65536 }
     requires instances { instances_in domains.now ≤ 65536 }
     requires metrics { length metrics.now ≤ 65536 }
-    ensures { OnOk result (out.new.items ≡ out.old.items ++ value_words places.now strings.now domains.now metrics.now row.now) }
+    ensures { OnOk result (out.new.items ≡ out.old.items ++ value_words offsets.now strings.now domains.now metrics.now row.now) }
 {
     let serial = metrics.serial_of(row.item);
     out.extend_from_slice(&[
         value_field(&row.content),
-        extra_field(places, strings, &row.content),
-        metric_place(places, metrics, row.item),
-        instance_field(places, domains, serial, &row.instance),
+        extra_field(offsets, strings, &row.content),
+        metric_offset(offsets, metrics, row.item),
+        instance_field(offsets, domains, serial, &row.instance),
     ])?;
     Ok(())
 }
@@ -301,20 +305,20 @@ fn push_value(
 #[tactic(auto, unfolding(crate::specs::Spelling::value_section))]
 pub fn push_values(
     out: &mut Vec<u64>,
-    places: &Places,
+    offsets: &SectionOffsets,
     strings: &StringTable,
     domains: &DomainTable,
     metrics: &MetricTable,
     values: &[ValueRow],
 ) -> Result<(), NoMemory>
-    requires small { AreSmall places.now }
+    requires small { AreSmall offsets.now }
     requires strings { length strings.now ≤ 65536 }
     requires instances { instances_in domains.now ≤ 65536 }
     requires metrics { length metrics.now ≤ 65536 }
-    ensures { OnOk result (out.new.items ≡ out.old.items ++ value_section places.now strings.now domains.now metrics.now values.now) }
+    ensures { OnOk result (out.new.items ≡ out.old.items ++ value_section offsets.now strings.now domains.now metrics.now values.now) }
 {
     for row in values {
-        push_value(out, places, strings, domains, metrics, row)?;
+        push_value(out, offsets, strings, domains, metrics, row)?;
     }
     Ok(())
 }

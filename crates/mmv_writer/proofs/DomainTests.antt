@@ -12,19 +12,19 @@ use Rattle.mmv_format.specs.declared.rows.IndomRow.{IndomRow}
 use Rattle.mmv_format.specs.declared.rows.Layout.{Layout}
 use Rattle.mmv_format.proofs.Below.{both_left, both_right}
 use Rattle.mmv_writer.specs.Draft.{Each, IsInstance, IsDraft}
-use Rattle.mmv_spelling.specs.Places.{instances_in, counts_of, words_in}
-use Rattle.mmv_spelling.specs.Spelling.{halves, domain_place, domain_words, instance_words, spelled, first_instance}
+use Rattle.mmv_spelling.specs.Offsets.{instances_in, counts_of, words_in}
+use Rattle.mmv_spelling.specs.Spelling.{halves, domain_offset, domain_words, instance_words, spelled, first_instance}
 use Rattle.mmv_writer.proofs.Rows.{either_left, either_right}
 use Rattle.mmv_writer.proofs.Sections.{all_hold}
 use Rattle.mmv_writer.proofs.Standing.{Stands, stands_right, word_read, high_read, byte_read, text_read, zero_read}
 use Rattle.mmv_writer.proofs.Wanted.{HasHelp}
 use Rattle.mmv_spelling.proofs.Positions.{get_below, get_some, same_row, before_this, Member, member}
-use Rattle.mmv_writer.proofs.Spelt.{domains_from, instances_from, places, find_indoms, find_instances}
+use Rattle.mmv_writer.proofs.Spelt.{domains_from, instances_from, offsets, find_indoms, find_instances}
 use Rattle.mmv_writer.proofs.Marks.{indom_is, instance_is, leads_there, indom_leads, instance_leads_to, help_good, stand_domain, stand_instance, serial_read, run_read, first_read, first_is, owner_read}
 use Rattle.mmv_format.specs.Sizes.{indom_size, instance_size}
-use Rattle.mmv_spelling.specs.Places.{name_length, indom_length, instance_length}
+use Rattle.mmv_spelling.specs.Offsets.{name_length, indom_length, instance_length}
 
-back : (draft : Layout) (s : List (List ℕ)) (at i : ℕ) → at ≡ 8 * (domains_from draft s + indom_length * i) → (places draft s).indoms + indom_size * i ≡ at
+back : (draft : Layout) (s : List (List ℕ)) (at i : ℕ) → at ≡ 8 * (domains_from draft s + indom_length * i) → (offsets draft s).indoms + indom_size * i ≡ at
 back draft s at i e = omega arith
 
 good_run : (draft : Layout) (s : List (List ℕ)) → words_in (counts_of draft s) ≤ 65536 → IsDraft draft → (i at : ℕ) (row : IndomRow) → slice_get draft.indoms i ≡ Some row → at ≡ 8 * (domains_from draft s + indom_length * i) → has_good_run (spelled draft s) at ≡ true
@@ -33,12 +33,12 @@ good_run draft s few d i at row here e =
     let words : List ℕ = spelled draft s in
     let run : number32 words (count_offset_in_indom at) ≡ length row.instances = run_read draft s few d i (count_offset_in_indom at) row here (ap count_offset_in_indom e) in
     let all : instances_in (take i draft.indoms) + length row.instances ≤ instances_in draft.indoms = before_this draft.indoms i row here in
-    let from : number64 words (first_offset_in_indom at) ≡ first_instance (places draft s) draft.indoms row = first_read draft s i (first_offset_in_indom at) row here (ap first_offset_in_indom e) in
+    let from : number64 words (first_offset_in_indom at) ≡ first_instance (offsets draft s) draft.indoms row = first_read draft s i (first_offset_in_indom at) row here (ap first_offset_in_indom e) in
     all_hold (number32 words (count_offset_in_indom at)) (λ k. leads_to_instance words (number64 words (first_offset_in_indom at) + instance_size * k) && nat_eq (number64 words (number64 words (first_offset_in_indom at) + instance_size * k)) at) (λ k below.
     let within : k < length row.instances = subst (λ n. k < n) run below in
     let (instance, inside) = get_some row.instances k within in
-    let first : number64 words (first_offset_in_indom at) ≡ (places draft s).instances + instance_size * instances_in (take i draft.indoms) = from ∙ first_is draft s d i row here (omega arith) in
-    let place : number64 words (first_offset_in_indom at) + instance_size * k ≡ (places draft s).instances + instance_size * (instances_in (take i draft.indoms) + k) = omega arith in
+    let first : number64 words (first_offset_in_indom at) ≡ (offsets draft s).instances + instance_size * instances_in (take i draft.indoms) = from ∙ first_is draft s d i row here (omega arith) in
+    let place : number64 words (first_offset_in_indom at) + instance_size * k ≡ (offsets draft s).instances + instance_size * (instances_in (take i draft.indoms) + k) = omega arith in
     let owner : number64 words (number64 words (first_offset_in_indom at) + instance_size * k) ≡ at = owner_read draft s d i k (number64 words (first_offset_in_indom at) + instance_size * k) row instance here inside (omega arith) ∙ back draft s at i e in
     ap₂ (λ a b. a && b) (instance_leads_to draft s few (instances_in (take i draft.indoms) + k) (number64 words (first_offset_in_indom at) + instance_size * k) (omega arith) place) (eq-eqb (number64 words (number64 words (first_offset_in_indom at) + instance_size * k)) at owner))
 
@@ -57,9 +57,9 @@ good_indom draft s few d helps i below =
     let (row, here) = get_some draft.indoms i below in
     let words : List ℕ = spelled draft s in
     let place : indom_at words i ≡ 8 * (domains_from draft s + indom_length * i) = indom_is draft s few i below in
-    let stand : Stands words (domains_from draft s + indom_length * i) (domain_words (places draft s) s draft.indoms row) = stand_domain draft s i row here in
-    let short : help_leads words (short_offset_in_indom (indom_at words i)) ≡ true = help_good draft s few row.short (short_offset_in_indom (indom_at words i)) (helps i row here).0 (word_read words (domains_from draft s + indom_length * i) 2 (short_offset_in_indom (indom_at words i)) (domain_words (places draft s) s draft.indoms row) stand (omega arith) (omega arith)) in
-    let long : help_leads words (long_offset_in_indom (indom_at words i)) ≡ true = help_good draft s few row.long (long_offset_in_indom (indom_at words i)) (helps i row here).1 (word_read words (domains_from draft s + indom_length * i) 3 (long_offset_in_indom (indom_at words i)) (domain_words (places draft s) s draft.indoms row) stand (omega arith) (omega arith)) in
+    let stand : Stands words (domains_from draft s + indom_length * i) (domain_words (offsets draft s) s draft.indoms row) = stand_domain draft s i row here in
+    let short : help_leads words (short_offset_in_indom (indom_at words i)) ≡ true = help_good draft s few row.short (short_offset_in_indom (indom_at words i)) (helps i row here).0 (word_read words (domains_from draft s + indom_length * i) 2 (short_offset_in_indom (indom_at words i)) (domain_words (offsets draft s) s draft.indoms row) stand (omega arith) (omega arith)) in
+    let long : help_leads words (long_offset_in_indom (indom_at words i)) ≡ true = help_good draft s few row.long (long_offset_in_indom (indom_at words i)) (helps i row here).1 (word_read words (domains_from draft s + indom_length * i) 3 (long_offset_in_indom (indom_at words i)) (domain_words (offsets draft s) s draft.indoms row) stand (omega arith) (omega arith)) in
     ap₂ (λ a b. a && b) (ap₂ (λ a b. a && b) (ap₂ (λ a b. a && b) (ap₂ (λ a b. a && b) short long) (good_run draft s few d i (indom_at words i) row here place)) (new_indom draft s few d i row here))
     (ap is_serial (serial_read draft s few d i (indom_at words i) row here place) ∙ (d.domains i row here).serial)
 
@@ -74,12 +74,12 @@ pub name_from : (draft : Layout) (s : List (List ℕ)) (i k : ℕ) (row : IndomR
 unfolding instance_words
 name_from draft s i k row instance here within =
     stands_right (spelled draft s) (instances_from draft s + instance_length * (instances_in (take i draft.indoms) + k)) (instances_from draft s + instance_length * (instances_in (take i draft.indoms) + k) + 2)
-    (domain_place (places draft s) draft.indoms row.serial ∷ halves 0 (cast_unsigned w32 instance.0) ∷ []) (first_words name_length instance.1) refl (stand_instance draft s i k row instance here within)
+    (domain_offset (offsets draft s) draft.indoms row.serial ∷ halves 0 (cast_unsigned w32 instance.0) ∷ []) (first_words name_length instance.1) refl (stand_instance draft s i k row instance here within)
 
 pub number_read : (draft : Layout) (s : List (List ℕ)) → IsDraft draft → (i k at n : ℕ) (row : IndomRow) (instance : ℤ × List ℕ) → slice_get draft.indoms i ≡ Some row → slice_get row.instances k ≡ Some instance → instance.0 ≡ pos n → n < 2147483648 → at ≡ number_offset_in_instance (8 * (instances_from draft s + instance_length * (instances_in (take i draft.indoms) + k))) → number32 (spelled draft s) at ≡ n
 unfolding instance_words
 number_read draft s d i k at n row instance here within is fits e =
-    high_read (spelled draft s) (instances_from draft s + instance_length * (instances_in (take i draft.indoms) + k)) 1 at (instance_words (domain_place (places draft s) draft.indoms row.serial) instance) 0 n (stand_instance draft s i k row instance here within) (omega arith) (omega arith)
+    high_read (spelled draft s) (instances_from draft s + instance_length * (instances_in (take i draft.indoms) + k)) 1 at (instance_words (domain_offset (offsets draft s) draft.indoms row.serial) instance) 0 n (stand_instance draft s i k row instance here within) (omega arith) (omega arith)
     (ap (λ id. halves 0 (cast_unsigned w32 id)) is) (omega arith) (omega arith)
 
 pub short_name : (n : ℕ) → (nat_le 1 n && nat_le n 63) ≡ true → (0 < n) × (n < 64)
@@ -114,9 +114,9 @@ in_run draft s few d i k at row instance here within e =
     let words : List ℕ = spelled draft s in
     let inside : k < length row.instances = get_below row.instances k instance within in
     let below : i < length draft.indoms = get_below draft.indoms i row here in
-    let owner : number64 words at ≡ (places draft s).indoms + indom_size * i = owner_read draft s d i k at row instance here within e in
+    let owner : number64 words at ≡ (offsets draft s).indoms + indom_size * i = owner_read draft s d i k at row instance here within e in
     let run : number32 words (count_offset_in_indom (number64 words at)) ≡ length row.instances = run_read draft s few d i (count_offset_in_indom (number64 words at)) row here (omega arith) in
-    let first : number64 words (first_offset_in_indom (number64 words at)) ≡ (places draft s).instances + instance_size * instances_in (take i draft.indoms) = first_read draft s i (first_offset_in_indom (number64 words at)) row here (omega arith) ∙ first_is draft s d i row here (omega arith) in
+    let first : number64 words (first_offset_in_indom (number64 words at)) ≡ (offsets draft s).instances + instance_size * instances_in (take i draft.indoms) = first_read draft s i (first_offset_in_indom (number64 words at)) row here (omega arith) ∙ first_is draft s d i row here (omega arith) in
     ap₂ (λ a b. a && b) (indom_leads draft s few i (number64 words at) below owner)
     (leads_there (number64 words (first_offset_in_indom (number64 words at))) (number32 words (count_offset_in_indom (number64 words at))) instance_size at k (omega arith) (omega arith))
 
@@ -152,10 +152,10 @@ other_instance : (draft : Layout) (s : List (List ℕ)) → IsDraft draft → (j
 unfolding is_same_instance
 other_instance draft s d j q at_j at_q m n less ej eq = here (nat_eq m.i n.i) refl
   where
-    owner_j : number64 (spelled draft s) at_j ≡ (places draft s).indoms + indom_size * m.i
+    owner_j : number64 (spelled draft s) at_j ≡ (offsets draft s).indoms + indom_size * m.i
     owner_j = owner_read draft s d m.i m.k at_j m.row m.instance m.at m.within (ej ∙ ap (λ x. 8 * (instances_from draft s + instance_length * x)) m.is)
 
-    owner_q : number64 (spelled draft s) at_q ≡ (places draft s).indoms + indom_size * n.i
+    owner_q : number64 (spelled draft s) at_q ≡ (offsets draft s).indoms + indom_size * n.i
     owner_q = owner_read draft s d n.i n.k at_q n.row n.instance n.at n.within (eq ∙ ap (λ x. 8 * (instances_from draft s + instance_length * x)) n.is)
 
     apart : (p a b : ℕ) → a ≢ b → nat_eq (p + indom_size * a) (p + indom_size * b) ≡ false
@@ -172,7 +172,7 @@ other_instance draft s d j q at_j at_q m n less ej eq = here (nat_eq m.i n.i) re
         apart_in draft s d n.i n.k m.k n.row m.instance n.instance at_j at_q n.at inside n.within (omega arith) (omega arith) (omega arith)
     here false e =
         ap (λ t. t && (nat_eq (number32 (spelled draft s) (number_offset_in_instance at_j)) (number32 (spelled draft s) (number_offset_in_instance at_q)) || same_name (spelled draft s) (name_offset_in_instance at_j) (name_offset_in_instance at_q)))
-        (ap₂ nat_eq owner_j owner_q ∙ apart (places draft s).indoms m.i n.i (λ x. eqb-false m.i n.i e x))
+        (ap₂ nat_eq owner_j owner_q ∙ apart (offsets draft s).indoms m.i n.i (λ x. eqb-false m.i n.i e x))
 
 small : (n : ℕ) → n < 2147483648 → nat_lt n 2147483648 ≡ true
 small n h = grind (arith, nat_tests)

@@ -12,7 +12,7 @@ use Rattle.mmv_faults.proofs.Images.{images_same}
 use Rattle.mmv_format.proofs.Versions.{version_fits}
 use Rattle.mmv_format.specs.declared.rows.Layout.{Layout}
 use Rattle.mmv_writer.specs.Draft.{IsDraft}
-use Rattle.mmv_spelling.specs.Places.{counts_of, sections_in, words_in}
+use Rattle.mmv_spelling.specs.Offsets.{counts_of, sections_in, words_in}
 use Rattle.mmv_spelling.specs.Spelling.{header_words, spelled, all_strings, image_words}
 use Rattle.mmv_writer.specs.Laws.{DraftsAreImages}
 use Rattle.mmv_spelling.proofs.Lengths.{length_spelled}

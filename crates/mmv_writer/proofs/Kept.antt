@@ -18,7 +18,7 @@ use Rattle.mmv_writer.specs.declared.keys.DomainKeys.{DomainKeys}
 use Rattle.mmv_writer.specs.declared.keys.RowKeys.{RowKeys}
 use Rattle.mmv_writer.specs.Rules.{has_domain, has_same_instance, has_instance, is_same_metric, fits_instance, fits_kind, fits_metric, fits_some_metric, is_same_number}
 use Rattle.mmv_writer.specs.Draft.{Apart, add_instance, empty_draft}
-use Rattle.mmv_writer.specs.Keys.{domain_in, place_of, numbers_have, names_have, has_name, is_named, HasDomains, HasItems, HasMetricNames, HasValues, HasKeys, value_order, AddsMember, HoldsAll, fits_domain, IsEmptyDomain, AreNoKeys}
+use Rattle.mmv_writer.specs.Keys.{domain_in, place_of, numbers_have, names_have, has_name, is_named, HasDomains, HasItems, HasMetricNames, HasValues, HasKeys, value_order, AddsMember, KeepsAllMembers, fits_domain, IsEmptyDomain, AreNoKeys}
 use Rattle.std.proofs.lemmas.Slice.Eq.{bytes_eq-Decides}
 use Rattle.mmv_writer.proofs.Lookups.{at_serial}
 
@@ -179,7 +179,7 @@ grown_keys old new rows serial instance name i d members keys place named more a
     subst (HasDomains new) (sym (ap (λ xs. set rows i (record (get_or rows i d) { instances = xs })) more ∙ grown_at rows serial instance i d at.0 at.1))
     (member_kept old new rows serial instance keys there (subst (λ n. AddsMember serial instance.0 n old new) named adds))
 
-pub member_refused : (old new : BTreeMap ℕ DomainKeys) (rows : List IndomRow) → HasDomains old rows → HoldsAll old new → HasDomains new rows
+pub member_refused : (old new : BTreeMap ℕ DomainKeys) (rows : List IndomRow) → HasDomains old rows → KeepsAllMembers old new → HasDomains new rows
 member_refused old new rows keys held = record {
   places = λ s. held.places s ∙ keys.places s;
   numbers = λ s q. held.numbers s q ∙ keys.numbers s q;

@@ -12,7 +12,7 @@ use Rattle.std.proofs.lemmas.Bool.{eqb-true}
 use Rattle.std.proofs.lemmas.Map.Lookups.{exact_bytes}
 use Rattle.std.proofs.lemmas.Map.Text.{is_eq-slice_cmp}
 use Rattle.mmv_writer.specs.declared.keys.DomainKeys.{DomainKeys}
-use Rattle.mmv_writer.specs.Keys.{domain_in, place_of, numbers_have, names_have, Adds, Holds, AddsMember, HoldsAll}
+use Rattle.mmv_writer.specs.Keys.{domain_in, place_of, numbers_have, names_have, Adds, KeepsMembers, AddsMember, KeepsAllMembers}
 
 -- A set of texts
 
@@ -86,7 +86,7 @@ member_added old new serial was now id name before after adds = record {
     text s q false e = refl
 
 -- one domain's keys hold what they held
-pub members_held : (old new : BTreeMap ℕ DomainKeys) (serial : ℕ) (was now : DomainKeys) → domain_in old serial ≡ Some was → ((s : ℕ) → domain_in new s ≡ cond (is_eq (nat_cmp serial s)) (Some now) (domain_in old s)) → Holds was now → HoldsAll old new
+pub members_held : (old new : BTreeMap ℕ DomainKeys) (serial : ℕ) (was now : DomainKeys) → domain_in old serial ≡ Some was → ((s : ℕ) → domain_in new s ≡ cond (is_eq (nat_cmp serial s)) (Some now) (domain_in old s)) → KeepsMembers was now → KeepsAllMembers old new
 members_held old new serial was now before after holds = record {
   places = λ s. ap place_of (changed s) ∙ place s (nat_eq serial s) refl;
   numbers = λ s q. ap (λ d. numbers_have d q) (changed s) ∙ number s q (nat_eq serial s) refl;
@@ -111,5 +111,5 @@ members_held old new serial was now before after holds = record {
     text s q true e = holds.names q ∙ ap (λ d. names_have d q) (sym (same s e))
     text s q false e = refl
 
-pub all_held : (domains : BTreeMap ℕ DomainKeys) → HoldsAll domains domains
+pub all_held : (domains : BTreeMap ℕ DomainKeys) → KeepsAllMembers domains domains
 all_held domains = record { places = λ s. refl; numbers = λ s q. refl; names = λ s q. refl }

@@ -17,23 +17,23 @@ use Rattle.mmv_format.specs.declared.rows.Layout.{Layout}
 use Rattle.mmv_format.proofs.Below.{both_left, both_right, some_holds}
 use Rattle.mmv_writer.specs.Rules.{has_domain}
 use Rattle.mmv_writer.specs.Draft.{Each, HasDomain, IsMetric, IsString, IsDraft}
-use Rattle.mmv_spelling.specs.Places.{counts_of, words_in}
-use Rattle.mmv_spelling.specs.Spelling.{halves, help_place, domain_of, serial_word, metric_words, spelled}
+use Rattle.mmv_spelling.specs.Offsets.{counts_of, words_in}
+use Rattle.mmv_spelling.specs.Spelling.{halves, help_offset, domain_of, serial_word, metric_words, spelled}
 use Rattle.mmv_writer.proofs.Sections.{all_hold}
 use Rattle.mmv_writer.proofs.Standing.{Stands, stands_left, stands_right, word_read, low_read, high_read, text_read, zero_read, length_text}
 use Rattle.mmv_writer.proofs.Wanted.{HasHelp}
 use Rattle.mmv_spelling.proofs.Positions.{Passes, first_passes, get_below, get_some}
-use Rattle.mmv_writer.proofs.Spelt.{metrics_from, strings_from, places, find_indoms, find_metrics, find_strings}
+use Rattle.mmv_writer.proofs.Spelt.{metrics_from, strings_from, offsets, find_indoms, find_metrics, find_strings}
 use Rattle.mmv_writer.proofs.Marks.{indom_is, metric_is, string_is, help_good, stand_metric, stand_string, serial_fits, serial_read}
 use Rattle.mmv_format.specs.EntryFields.{item_offset_in_metric, type_offset_in_metric, semantics_offset_in_metric, serial_offset_in_metric, short_offset_in_metric, long_offset_in_metric}
-use Rattle.mmv_spelling.specs.Places.{name_length, metric_length, string_length}
+use Rattle.mmv_spelling.specs.Offsets.{name_length, metric_length, string_length}
 
 -- The words of a metric behind its name
 
 abbrev pub fields_of : Layout → List (List ℕ) → MetricRow → List ℕ
 fields_of draft s row =
     halves row.item (code_of_kind row.kind) ∷ halves (code_of_semantics row.semantics) row.units ∷ serial_word row.serial
-    ∷ help_place (places draft s) s row.short ∷ help_place (places draft s) s row.long ∷ []
+    ∷ help_offset (offsets draft s) s row.short ∷ help_offset (offsets draft s) s row.long ∷ []
 
 stand_name : (draft : Layout) (s : List (List ℕ)) (i : ℕ) (row : MetricRow) → slice_get draft.metrics i ≡ Some row → Stands (spelled draft s) (metrics_from draft s + metric_length * i) (first_words name_length row.name)
 unfolding metric_words

@@ -25,21 +25,21 @@ use Rattle.mmv_format.proofs.Below.{both_left, both_right}
 use Rattle.mmv_format.proofs.Versions.{version_fits}
 use Rattle.mmv_writer.specs.Rules.{fits_instance, fits_kind, fits_metric}
 use Rattle.mmv_writer.specs.Draft.{Each, IsString, IsInstance, HasDomain, IsMetric, IsDraft}
-use Rattle.mmv_spelling.specs.Places.{instances_in, counts_of, sections_in, words_in}
-use Rattle.mmv_spelling.specs.Spelling.{string_place, help_place, domain_of, serial_word, header_words, domain_words, value_words, value_field, extra_field, instance_field, spelled, all_strings, image_words}
+use Rattle.mmv_spelling.specs.Offsets.{instances_in, counts_of, sections_in, words_in}
+use Rattle.mmv_spelling.specs.Spelling.{string_offset, help_offset, domain_of, serial_word, header_words, domain_words, value_words, value_field, extra_field, instance_field, spelled, all_strings, image_words}
 use Rattle.mmv_writer.specs.Saying.{DraftsAreSaid, with_all_strings}
 use Rattle.mmv_spelling.proofs.Lengths.{length_spelled, sections_most}
 use Rattle.mmv_writer.proofs.Standing.{word_read, low_read, high_read, text_read}
 use Rattle.mmv_writer.proofs.Wanted.{Has, HasHelp, HasContent, same_bytes, domain_helps, metric_helps, value_texts, strings_short}
 use Rattle.mmv_spelling.proofs.Positions.{Passes, first_passes, get_below, before_this}
-use Rattle.mmv_writer.proofs.Spelt.{domains_from, instances_from, metrics_from, values_from, strings_from, places, stand_header, Finds, find_indoms, find_instances, find_metrics, find_values, find_strings}
+use Rattle.mmv_writer.proofs.Spelt.{domains_from, instances_from, metrics_from, values_from, strings_from, offsets, stand_header, Finds, find_indoms, find_instances, find_metrics, find_values, find_strings}
 use Rattle.mmv_writer.proofs.Marks.{instance_is, metric_is, string_is, stand_domain, stand_value, stand_string, serial_fits, serial_read, run_read, first_read, first_is}
 use Rattle.mmv_writer.proofs.DomainTests.{name_from, number_read, short_name}
 use Rattle.mmv_writer.proofs.MetricTests.{fields_of, stand_fields, meaning_fits, item_read, kind_read, meaning_read, metric_serial_read, name_read, fits_string}
 use Rattle.mmv_writer.proofs.ValueTests.{metric_index, metric_found, domain_found, index_in, member_found, metric_field, extra_read, instance_read, one_at_least, same_int}
 use Rattle.mmv_format.specs.Sizes.{indom_size, instance_size, metric_size, value_size, string_size}
 use Rattle.mmv_format.specs.EntryFields.{item_offset_in_metric, type_offset_in_metric, semantics_offset_in_metric, units_offset_in_metric, serial_offset_in_metric, short_offset_in_metric, long_offset_in_metric, count_offset_in_indom, first_offset_in_indom, short_offset_in_indom, long_offset_in_indom, number_offset_in_instance, name_offset_in_instance, extra_offset_in_value, metric_offset_in_value, instance_offset_in_value}
-use Rattle.mmv_spelling.specs.Places.{name_length, indom_length, instance_length, metric_length, value_length, string_length}
+use Rattle.mmv_spelling.specs.Offsets.{name_length, indom_length, instance_length, metric_length, value_length, string_length}
 
 -- Rows one after the other
 
@@ -62,7 +62,7 @@ in_section R section n p size xs f long one = (
 
 -- Strings
 
-string_said : (draft : Layout) (s : List (List ℕ)) → words_in (counts_of draft s) ≤ 65536 → Each IsString s → (text : List ℕ) (place : ℕ) → Has s text → place ≡ string_place (places draft s) s text → StringAt (spelled draft s) place text
+string_said : (draft : Layout) (s : List (List ℕ)) → words_in (counts_of draft s) ≤ 65536 → Each IsString s → (text : List ℕ) (place : ℕ) → Has s text → place ≡ string_offset (offsets draft s) s text → StringAt (spelled draft s) place text
 string_said draft s few short text place has e =
     let k : ℕ = position_or_len (λ other. bytes_eq other text) s in
     let p : Passes s (position_or_len (λ other. bytes_eq other text) s) (λ other. bytes_eq other text) = first_passes (λ other. bytes_eq other text) s has in
@@ -74,7 +74,7 @@ string_said draft s few short text place has e =
       sym same ∙ sym (text_read (spelled draft s) (strings_from draft s + string_length * position_or_len (λ other. bytes_eq other text) s) string_length place p.row (stand_string draft s (position_or_len (λ other. bytes_eq other text) s) p.row p.at) is.stored (omega arith) (fits_string (length p.row) is.short)),
     )
 
-help_said : (draft : Layout) (s : List (List ℕ)) → words_in (counts_of draft s) ≤ 65536 → Each IsString s → (help : Option (List ℕ)) (field : ℕ) → HasHelp s help → number64 (spelled draft s) field ≡ help_place (places draft s) s help → HelpAt (spelled draft s) field help
+help_said : (draft : Layout) (s : List (List ℕ)) → words_in (counts_of draft s) ≤ 65536 → Each IsString s → (help : Option (List ℕ)) (field : ℕ) → HasHelp s help → number64 (spelled draft s) field ≡ help_offset (offsets draft s) s help → HelpAt (spelled draft s) field help
 help_said draft s few short None field has e = e
 help_said draft s few short (Some text) field has e =
     (λ z. let some : number64 (spelled draft s) field ≡ 0 = z in absurd (omega arith), string_said draft s few short text (number64 (spelled draft s) field) has e)
@@ -98,10 +98,10 @@ indom_said draft s few d short i at row here helps e = record {
   count = sym (run_read draft s few d i (count_offset_in_indom at) row here (ap count_offset_in_indom e));
   instances = each_at (InstanceAt (spelled draft s)) (number64 (spelled draft s) (first_offset_in_indom at)) instance_size row.instances (λ k instance place within p.
       let inside : k < length row.instances = get_below row.instances k instance within in
-      let first : number64 (spelled draft s) (first_offset_in_indom at) ≡ (places draft s).instances + instance_size * instances_in (take i draft.indoms) = first_read draft s i (first_offset_in_indom at) row here (ap first_offset_in_indom e) ∙ first_is draft s d i row here (omega arith) in
+      let first : number64 (spelled draft s) (first_offset_in_indom at) ≡ (offsets draft s).instances + instance_size * instances_in (take i draft.indoms) = first_read draft s i (first_offset_in_indom at) row here (ap first_offset_in_indom e) ∙ first_is draft s d i row here (omega arith) in
       instance_said draft s d i k place row instance here within (omega arith));
-  short = help_said draft s few short row.short (short_offset_in_indom at) helps.0 (word_read (spelled draft s) (domains_from draft s + indom_length * i) 2 (short_offset_in_indom at) (domain_words (places draft s) s draft.indoms row) (stand_domain draft s i row here) (omega arith) (omega arith));
-  long = help_said draft s few short row.long (long_offset_in_indom at) helps.1 (word_read (spelled draft s) (domains_from draft s + indom_length * i) 3 (long_offset_in_indom at) (domain_words (places draft s) s draft.indoms row) (stand_domain draft s i row here) (omega arith) (omega arith));
+  short = help_said draft s few short row.short (short_offset_in_indom at) helps.0 (word_read (spelled draft s) (domains_from draft s + indom_length * i) 2 (short_offset_in_indom at) (domain_words (offsets draft s) s draft.indoms row) (stand_domain draft s i row here) (omega arith) (omega arith));
+  long = help_said draft s few short row.long (long_offset_in_indom at) helps.1 (word_read (spelled draft s) (domains_from draft s + indom_length * i) 3 (long_offset_in_indom at) (domain_words (offsets draft s) s draft.indoms row) (stand_domain draft s i row here) (omega arith) (omega arith));
 }
 
 -- Metrics
@@ -133,7 +133,7 @@ metric_said draft s few d short i at row here helps e =
 
 -- Values
 
-number_said : (draft : Layout) (s : List (List ℕ)) → words_in (counts_of draft s) ≤ 65536 → IsDraft draft → (serial : Option ℕ) (number : Option ℤ) (value : ℕ) → HasDomain draft.indoms serial → fits_instance draft.indoms serial number ≡ true → rows.domain_of (spelled draft s) value ≡ serial_word serial → number64 (spelled draft s) (instance_offset_in_value value) ≡ instance_field (places draft s) draft.indoms serial number → InstanceOf (spelled draft s) value number
+number_said : (draft : Layout) (s : List (List ℕ)) → words_in (counts_of draft s) ≤ 65536 → IsDraft draft → (serial : Option ℕ) (number : Option ℤ) (value : ℕ) → HasDomain draft.indoms serial → fits_instance draft.indoms serial number ≡ true → rows.domain_of (spelled draft s) value ≡ serial_word serial → number64 (spelled draft s) (instance_offset_in_value value) ≡ instance_field (offsets draft s) draft.indoms serial number → InstanceOf (spelled draft s) value number
 number_said draft s few d None None value there fits word is = inr word
 number_said draft s few d None (Some id) value there fits word is = cc
 number_said draft s few d (Some serial) None value there fits word is = cc
@@ -143,8 +143,8 @@ number_said draft s few d (Some serial) (Some id) value there fits word is =
     let q : Passes p.row.instances (index_in p.row id) (λ other. int_eq other.0 id) = first_passes (λ other. int_eq other.0 id) p.row.instances (both_right (nat_eq p.row.serial serial) (list_any (λ other. int_eq other.0 id) p.row.instances) p.is) in
     let inside : index_in p.row id < length p.row.instances = get_below p.row.instances (index_in p.row id) q.row q.at in
     let all : instances_in (take (domain_of draft.indoms serial) draft.indoms) + length p.row.instances ≤ instances_in draft.indoms = before_this draft.indoms (domain_of draft.indoms serial) p.row p.at in
-    let q_at : number64 words (instance_offset_in_value value) ≡ (places draft s).instances + instance_size * (instances_in (take (domain_of draft.indoms serial) draft.indoms) + index_in p.row id) =
-    is ∙ ap (λ k. (places draft s).instances + instance_size * (instances_in (take (domain_of draft.indoms serial) draft.indoms) + k)) (member_found draft serial id p.row p.at) in
+    let q_at : number64 words (instance_offset_in_value value) ≡ (offsets draft s).instances + instance_size * (instances_in (take (domain_of draft.indoms serial) draft.indoms) + index_in p.row id) =
+    is ∙ ap (λ k. (offsets draft s).instances + instance_size * (instances_in (take (domain_of draft.indoms serial) draft.indoms) + k)) (member_found draft serial id p.row p.at) in
     let index : ℕ = instances_in (take (domain_of draft.indoms serial) draft.indoms) + index_in p.row id in
     let at : instance_at words (instances_in (take (domain_of draft.indoms serial) draft.indoms) + index_in p.row id) ≡ 8 * (instances_from draft s + instance_length * (instances_in (take (domain_of draft.indoms serial) draft.indoms) + index_in p.row id)) =
     instance_is draft s few (instances_in (take (domain_of draft.indoms serial) draft.indoms) + index_in p.row id) (omega arith) in
@@ -167,7 +167,7 @@ raw_kind kinds.Double h = inr (inl refl)
 raw_kind kinds.Text h = cc
 raw_kind kinds.Elapsed h = inr (inr refl)
 
-content_said : (draft : Layout) (s : List (List ℕ)) → words_in (counts_of draft s) ≤ 65536 → Each IsString s → (content : Content) (kind : Kind) (value : ℕ) → fits_kind kind content ≡ true → HasContent s content → rows.type_of (spelled draft s) value ≡ code_of_kind kind → number64 (spelled draft s) value ≡ value_field content → number64 (spelled draft s) (extra_offset_in_value value) ≡ extra_field (places draft s) s content → ContentAt (spelled draft s) value content
+content_said : (draft : Layout) (s : List (List ℕ)) → words_in (counts_of draft s) ≤ 65536 → Each IsString s → (content : Content) (kind : Kind) (value : ℕ) → fits_kind kind content ≡ true → HasContent s content → rows.type_of (spelled draft s) value ≡ code_of_kind kind → number64 (spelled draft s) value ≡ value_field content → number64 (spelled draft s) (extra_offset_in_value value) ≡ extra_field (offsets draft s) s content → ContentAt (spelled draft s) value content
 content_said draft s few short (Number n) kind value fits has code is more = (subst (λ c. c ≤ 3) (sym code) (le_three (code_of_kind kind) fits), sym is)
 content_said draft s few short (Choice text) kind value fits has code is more = (code ∙ eqb-true (code_of_kind kind) 6 fits, string_said draft s few short text (number64 (spelled draft s) (extra_offset_in_value value)) has more)
 content_said draft s few short (Raw v e) kind value fits has code is more =
@@ -181,7 +181,7 @@ value_said draft s few d short i at row here has e =
     let fits : (fits_instance draft.indoms p.row.serial row.instance && fits_kind p.row.kind row.content) ≡ true = both_right (nat_eq p.row.item row.item) (fits_instance draft.indoms p.row.serial row.instance && fits_kind p.row.kind row.content) p.is in
     let item : p.row.item ≡ row.item = eqb-true p.row.item row.item (both_left (nat_eq p.row.item row.item) (fits_instance draft.indoms p.row.serial row.instance && fits_kind p.row.kind row.content) p.is) in
     let inside : metric_index draft row.item < length draft.metrics = get_below draft.metrics (metric_index draft row.item) p.row p.at in
-    let metric : number64 words (metric_offset_in_value at) ≡ (places draft s).metrics + metric_size * metric_index draft row.item = metric_field draft s i (metric_offset_in_value at) row here (ap metric_offset_in_value e) in
+    let metric : number64 words (metric_offset_in_value at) ≡ (offsets draft s).metrics + metric_size * metric_index draft row.item = metric_field draft s i (metric_offset_in_value at) row here (ap metric_offset_in_value e) in
     let place : metric_at words (metric_index draft row.item) ≡ 8 * (metrics_from draft s + metric_length * metric_index draft row.item) = metric_is draft s few (metric_index draft row.item) inside in
     record {
       metric = (metric_index draft row.item, subst (λ n. metric_index draft row.item < n) (sym (find_metrics draft s few).count) inside, omega arith);
@@ -190,7 +190,7 @@ value_said draft s few d short i at row here has e =
           (metric_serial_read draft s d (metric_index draft row.item) (serial_offset_in_metric (number64 words (metric_offset_in_value at))) p.row p.at (omega arith)) (instance_read draft s i (instance_offset_in_value at) row p.row here p.at (ap instance_offset_in_value e));
       content = content_said draft s few short row.content p.row.kind at (both_right (fits_instance draft.indoms p.row.serial row.instance) (fits_kind p.row.kind row.content) fits) has
           (kind_read draft s d (metric_index draft row.item) (type_offset_in_metric (number64 words (metric_offset_in_value at))) p.row p.at (omega arith))
-          (word_read words (values_from draft s + value_length * i) 0 at (value_words (places draft s) s draft.indoms draft.metrics row) (stand_value draft s i row here) (omega arith) (omega arith))
+          (word_read words (values_from draft s + value_length * i) 0 at (value_words (offsets draft s) s draft.indoms draft.metrics row) (stand_value draft s i row here) (omega arith) (omega arith))
           (extra_read draft s i (extra_offset_in_value at) row here (ap extra_offset_in_value e));
     }
 
@@ -220,13 +220,13 @@ said draft d few =
       flags = sym (high_read words 0 3 28 (header_words draft (sections_in (counts_of draft (all_strings draft)))) (sections_in (counts_of draft (all_strings draft))) draft.flags (stand_header draft (all_strings draft)) (omega arith) refl refl (omega arith) flags);
       pid = sym (low_read words 0 4 32 (header_words draft (sections_in (counts_of draft (all_strings draft)))) draft.pid draft.cluster (stand_header draft (all_strings draft)) (omega arith) refl refl process);
       cluster = sym (high_read words 0 4 36 (header_words draft (sections_in (counts_of draft (all_strings draft)))) draft.pid draft.cluster (stand_header draft (all_strings draft)) (omega arith) refl refl process (omega arith));
-      indoms = in_section (IndomAt words) (section_of words 1) (length draft.indoms) (places draft (all_strings draft)).indoms indom_size draft.indoms (find_indoms draft (all_strings draft) few) refl
+      indoms = in_section (IndomAt words) (section_of words 1) (length draft.indoms) (offsets draft (all_strings draft)).indoms indom_size draft.indoms (find_indoms draft (all_strings draft) few) refl
           (λ i row place here e. indom_said draft (all_strings draft) few d short i place row here (domain_helps draft i row here) (omega arith));
-      metrics = in_section (MetricAt words) (section_of words 3) (length draft.metrics) (places draft (all_strings draft)).metrics metric_size draft.metrics (find_metrics draft (all_strings draft) few) refl
+      metrics = in_section (MetricAt words) (section_of words 3) (length draft.metrics) (offsets draft (all_strings draft)).metrics metric_size draft.metrics (find_metrics draft (all_strings draft) few) refl
           (λ i row place here e. metric_said draft (all_strings draft) few d short i place row here (metric_helps draft i row here) (omega arith));
-      values = in_section (ValueAt words) (section_of words 4) (length draft.values) (places draft (all_strings draft)).values value_size draft.values (find_values draft (all_strings draft) few) refl
+      values = in_section (ValueAt words) (section_of words 4) (length draft.values) (offsets draft (all_strings draft)).values value_size draft.values (find_values draft (all_strings draft) few) refl
           (λ i row place here e. value_said draft (all_strings draft) few d short i place row here (value_texts draft i row here) (omega arith));
-      strings = in_section (TextAt words) (section_of words 5) (length (all_strings draft)) (places draft (all_strings draft)).strings string_size (all_strings draft) (find_strings draft (all_strings draft) few) refl
+      strings = in_section (TextAt words) (section_of words 5) (length (all_strings draft)) (offsets draft (all_strings draft)).strings string_size (all_strings draft) (find_strings draft (all_strings draft) few) refl
           (λ i text place here e. text_said draft (all_strings draft) short i place text here (omega arith));
     }
 

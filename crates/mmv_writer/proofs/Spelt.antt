@@ -6,15 +6,15 @@ use Rattle.std.proofs.lemmas.Bool.{eqb-true}
 use Rattle.mmv_format.specs.Contents.{section_bytes, section_of, sections_are_good, sections_are_aligned}
 use Rattle.mmv_format.specs.declared.contents.Section.{Section}
 use Rattle.mmv_format.specs.declared.rows.Layout.{Layout}
-use Rattle.mmv_spelling.specs.declared.places.Counts.{Counts}
-use Rattle.mmv_spelling.specs.declared.places.Places.{Places}
-use Rattle.mmv_spelling.specs.Places.{instances_in, counts_of, one_if_some, sections_in, places_of, words_in}
+use Rattle.mmv_spelling.specs.declared.offsets.Counts.{Counts}
+use Rattle.mmv_spelling.specs.declared.offsets.SectionOffsets.{SectionOffsets}
+use Rattle.mmv_spelling.specs.Offsets.{instances_in, counts_of, one_if_some, sections_in, section_offsets, words_in}
 use Rattle.mmv_spelling.specs.Spelling.{halves, header_words, entry_words, contents_words, domain_section, instance_section, metric_section, value_section, string_section, sections_words, spelled}
 use Rattle.mmv_spelling.proofs.Lengths.{length_header, length_contents, length_domains, length_instances, length_metrics, length_values, length_spelled, sections_most}
 use Rattle.mmv_writer.proofs.Standing.{Stands, stands_whole, stands_left, stands_right, stands_entry, word_read, low_read, high_read}
 use Rattle.mmv_writer.proofs.Sections.{Entry, kept, words_of_entry, IsEntry, Laid, laid_kept, laid_at, Reads, pick, pick_skip, pick_hit, section_is, good_sections, aligned_sections}
 use Rattle.mmv_format.specs.Sizes.{string_size}
-use Rattle.mmv_spelling.specs.Places.{indom_length, instance_length, metric_length, value_length}
+use Rattle.mmv_spelling.specs.Offsets.{indom_length, instance_length, metric_length, value_length}
 
 -- The words at which the sections begin
 
@@ -33,67 +33,67 @@ values_from draft s = metrics_from draft s + metric_length * length draft.metric
 abbrev pub strings_from : Layout → List (List ℕ) → ℕ
 strings_from draft s = values_from draft s + value_length * length draft.values
 
-abbrev pub places : Layout → List (List ℕ) → Places
-places draft s = places_of (counts_of draft s)
+abbrev pub offsets : Layout → List (List ℕ) → SectionOffsets
+offsets draft s = section_offsets (counts_of draft s)
 
 pub stand_header : (draft : Layout) (s : List (List ℕ)) → Stands (spelled draft s) 0 (header_words draft (sections_in (counts_of draft s)))
 unfolding spelled
 stand_header draft s = stands_left (spelled draft s) 0 (header_words draft (sections_in (counts_of draft s))) _ (stands_whole (spelled draft s))
 
-behind_header : (draft : Layout) (s : List (List ℕ)) → Stands (spelled draft s) 5 (contents_words (counts_of draft s) (places draft s) ++ sections_words draft s (places draft s))
+behind_header : (draft : Layout) (s : List (List ℕ)) → Stands (spelled draft s) 5 (contents_words (counts_of draft s) (offsets draft s) ++ sections_words draft s (offsets draft s))
 unfolding spelled
 behind_header draft s =
-    stands_right (spelled draft s) 0 5 (header_words draft (sections_in (counts_of draft s))) (contents_words (counts_of draft s) (places draft s) ++ sections_words draft s (places draft s))
+    stands_right (spelled draft s) 0 5 (header_words draft (sections_in (counts_of draft s))) (contents_words (counts_of draft s) (offsets draft s) ++ sections_words draft s (offsets draft s))
     (ap (λ n. 0 + n) (sym (length_header draft (sections_in (counts_of draft s))))) (stands_whole (spelled draft s))
 
-pub stand_contents : (draft : Layout) (s : List (List ℕ)) → Stands (spelled draft s) 5 (contents_words (counts_of draft s) (places draft s))
-stand_contents draft s = stands_left (spelled draft s) 5 (contents_words (counts_of draft s) (places draft s)) (sections_words draft s (places draft s)) (behind_header draft s)
+pub stand_contents : (draft : Layout) (s : List (List ℕ)) → Stands (spelled draft s) 5 (contents_words (counts_of draft s) (offsets draft s))
+stand_contents draft s = stands_left (spelled draft s) 5 (contents_words (counts_of draft s) (offsets draft s)) (sections_words draft s (offsets draft s)) (behind_header draft s)
 
-from_domains : (draft : Layout) (s : List (List ℕ)) → Stands (spelled draft s) (domains_from draft s) (sections_words draft s (places draft s))
+from_domains : (draft : Layout) (s : List (List ℕ)) → Stands (spelled draft s) (domains_from draft s) (sections_words draft s (offsets draft s))
 from_domains draft s =
-    stands_right (spelled draft s) 5 (domains_from draft s) (contents_words (counts_of draft s) (places draft s)) (sections_words draft s (places draft s))
-    (ap (λ n. 5 + n) (sym (length_contents (counts_of draft s) (places draft s)))) (behind_header draft s)
+    stands_right (spelled draft s) 5 (domains_from draft s) (contents_words (counts_of draft s) (offsets draft s)) (sections_words draft s (offsets draft s))
+    (ap (λ n. 5 + n) (sym (length_contents (counts_of draft s) (offsets draft s)))) (behind_header draft s)
 
-pub stand_domains : (draft : Layout) (s : List (List ℕ)) → Stands (spelled draft s) (domains_from draft s) (domain_section (places draft s) s draft.indoms)
+pub stand_domains : (draft : Layout) (s : List (List ℕ)) → Stands (spelled draft s) (domains_from draft s) (domain_section (offsets draft s) s draft.indoms)
 unfolding sections_words
-stand_domains draft s = stands_left (spelled draft s) (domains_from draft s) (domain_section (places draft s) s draft.indoms) _ (from_domains draft s)
+stand_domains draft s = stands_left (spelled draft s) (domains_from draft s) (domain_section (offsets draft s) s draft.indoms) _ (from_domains draft s)
 
-from_instances : (draft : Layout) (s : List (List ℕ)) → Stands (spelled draft s) (instances_from draft s) (instance_section (places draft s) draft.indoms ++ (metric_section (places draft s) s draft.metrics ++ (value_section (places draft s) s draft.indoms draft.metrics draft.values ++ string_section s)))
+from_instances : (draft : Layout) (s : List (List ℕ)) → Stands (spelled draft s) (instances_from draft s) (instance_section (offsets draft s) draft.indoms ++ (metric_section (offsets draft s) s draft.metrics ++ (value_section (offsets draft s) s draft.indoms draft.metrics draft.values ++ string_section s)))
 unfolding sections_words
 from_instances draft s =
-    stands_right (spelled draft s) (domains_from draft s) (instances_from draft s) (domain_section (places draft s) s draft.indoms) _
-    (ap (λ n. domains_from draft s + n) (sym (length_domains (places draft s) s draft.indoms))) (from_domains draft s)
+    stands_right (spelled draft s) (domains_from draft s) (instances_from draft s) (domain_section (offsets draft s) s draft.indoms) _
+    (ap (λ n. domains_from draft s + n) (sym (length_domains (offsets draft s) s draft.indoms))) (from_domains draft s)
 
-pub stand_instances : (draft : Layout) (s : List (List ℕ)) → Stands (spelled draft s) (instances_from draft s) (instance_section (places draft s) draft.indoms)
-stand_instances draft s = stands_left (spelled draft s) (instances_from draft s) (instance_section (places draft s) draft.indoms) _ (from_instances draft s)
+pub stand_instances : (draft : Layout) (s : List (List ℕ)) → Stands (spelled draft s) (instances_from draft s) (instance_section (offsets draft s) draft.indoms)
+stand_instances draft s = stands_left (spelled draft s) (instances_from draft s) (instance_section (offsets draft s) draft.indoms) _ (from_instances draft s)
 
-from_metrics : (draft : Layout) (s : List (List ℕ)) → Stands (spelled draft s) (metrics_from draft s) (metric_section (places draft s) s draft.metrics ++ (value_section (places draft s) s draft.indoms draft.metrics draft.values ++ string_section s))
+from_metrics : (draft : Layout) (s : List (List ℕ)) → Stands (spelled draft s) (metrics_from draft s) (metric_section (offsets draft s) s draft.metrics ++ (value_section (offsets draft s) s draft.indoms draft.metrics draft.values ++ string_section s))
 from_metrics draft s =
-    stands_right (spelled draft s) (instances_from draft s) (metrics_from draft s) (instance_section (places draft s) draft.indoms) _
-    (ap (λ n. instances_from draft s + n) (sym (length_instances (places draft s) draft.indoms))) (from_instances draft s)
+    stands_right (spelled draft s) (instances_from draft s) (metrics_from draft s) (instance_section (offsets draft s) draft.indoms) _
+    (ap (λ n. instances_from draft s + n) (sym (length_instances (offsets draft s) draft.indoms))) (from_instances draft s)
 
-pub stand_metrics : (draft : Layout) (s : List (List ℕ)) → Stands (spelled draft s) (metrics_from draft s) (metric_section (places draft s) s draft.metrics)
-stand_metrics draft s = stands_left (spelled draft s) (metrics_from draft s) (metric_section (places draft s) s draft.metrics) _ (from_metrics draft s)
+pub stand_metrics : (draft : Layout) (s : List (List ℕ)) → Stands (spelled draft s) (metrics_from draft s) (metric_section (offsets draft s) s draft.metrics)
+stand_metrics draft s = stands_left (spelled draft s) (metrics_from draft s) (metric_section (offsets draft s) s draft.metrics) _ (from_metrics draft s)
 
-from_values : (draft : Layout) (s : List (List ℕ)) → Stands (spelled draft s) (values_from draft s) (value_section (places draft s) s draft.indoms draft.metrics draft.values ++ string_section s)
+from_values : (draft : Layout) (s : List (List ℕ)) → Stands (spelled draft s) (values_from draft s) (value_section (offsets draft s) s draft.indoms draft.metrics draft.values ++ string_section s)
 from_values draft s =
-    stands_right (spelled draft s) (metrics_from draft s) (values_from draft s) (metric_section (places draft s) s draft.metrics) _
-    (ap (λ n. metrics_from draft s + n) (sym (length_metrics (places draft s) s draft.metrics))) (from_metrics draft s)
+    stands_right (spelled draft s) (metrics_from draft s) (values_from draft s) (metric_section (offsets draft s) s draft.metrics) _
+    (ap (λ n. metrics_from draft s + n) (sym (length_metrics (offsets draft s) s draft.metrics))) (from_metrics draft s)
 
-pub stand_values : (draft : Layout) (s : List (List ℕ)) → Stands (spelled draft s) (values_from draft s) (value_section (places draft s) s draft.indoms draft.metrics draft.values)
-stand_values draft s = stands_left (spelled draft s) (values_from draft s) (value_section (places draft s) s draft.indoms draft.metrics draft.values) (string_section s) (from_values draft s)
+pub stand_values : (draft : Layout) (s : List (List ℕ)) → Stands (spelled draft s) (values_from draft s) (value_section (offsets draft s) s draft.indoms draft.metrics draft.values)
+stand_values draft s = stands_left (spelled draft s) (values_from draft s) (value_section (offsets draft s) s draft.indoms draft.metrics draft.values) (string_section s) (from_values draft s)
 
 pub stand_strings : (draft : Layout) (s : List (List ℕ)) → Stands (spelled draft s) (strings_from draft s) (string_section s)
 stand_strings draft s =
-    stands_right (spelled draft s) (values_from draft s) (strings_from draft s) (value_section (places draft s) s draft.indoms draft.metrics draft.values) (string_section s)
-    (ap (λ n. values_from draft s + n) (sym (length_values (places draft s) s draft.indoms draft.metrics draft.values))) (from_values draft s)
+    stands_right (spelled draft s) (values_from draft s) (strings_from draft s) (value_section (offsets draft s) s draft.indoms draft.metrics draft.values) (string_section s)
+    (ap (λ n. values_from draft s + n) (sym (length_values (offsets draft s) s draft.indoms draft.metrics draft.values))) (from_values draft s)
 
 -- The contents
 
 abbrev pub entry : ℕ → ℕ → ℕ → Entry
 entry t n p = record { type = t; count = n; place = p }
 
-abbrev pub entries : Counts → Places → List Entry
+abbrev pub entries : Counts → SectionOffsets → List Entry
 entries c p =
     kept (entry 1 c.indoms p.indoms) ++ (kept (entry 2 c.instances p.instances) ++ (kept (entry 3 c.metrics p.metrics)
     ++ (kept (entry 4 c.values p.values) ++ (kept (entry 5 c.strings p.strings) ++ []))))
@@ -108,7 +108,7 @@ kept_words t n p = here (nat_eq n 0)
 one_more : (t n p : ℕ) (words : List ℕ) (es : List Entry) → words ≡ flat_map words_of_entry es → entry_words t n p ++ words ≡ flat_map words_of_entry (kept (entry t n p) ++ es)
 one_more t n p words es h = ap₂ (λ a b. a ++ b) (kept_words t n p) h ∙ sym (flat_map-append words_of_entry (kept (entry t n p)) es)
 
-contents_are : (c : Counts) (p : Places) → contents_words c p ≡ flat_map words_of_entry (entries c p)
+contents_are : (c : Counts) (p : SectionOffsets) → contents_words c p ≡ flat_map words_of_entry (entries c p)
 unfolding contents_words
 contents_are c p =
     one_more 1 c.indoms p.indoms _ _ (one_more 2 c.instances p.instances _ _ (one_more 3 c.metrics p.metrics _ _ (one_more 4 c.values p.values _ _
@@ -121,7 +121,7 @@ kept_count t n p es = here (nat_eq n 0)
     here true = omega arith
     here false = omega arith
 
-pub entries_count : (c : Counts) (p : Places) → length (entries c p) ≡ sections_in c
+pub entries_count : (c : Counts) (p : SectionOffsets) → length (entries c p) ≡ sections_in c
 unfolding sections_in
 entries_count c p =
     kept_count 1 c.indoms p.indoms _ ∙ ap (λ n. one_if_some c.indoms + n) (kept_count 2 c.instances p.instances _ ∙ ap (λ n. one_if_some c.instances + n) (kept_count 3 c.metrics p.metrics _
@@ -131,30 +131,30 @@ entries_count c p =
     spread : (a b c d e : ℕ) → a + (b + (c + (d + (e + 0)))) ≡ a + b + c + d + e
     spread a b c d e = omega arith
 
-pub entries_laid : (c : Counts) → words_in c ≤ 65536 → Laid 1 (places_of c).indoms (8 * words_in c) (entries c (places_of c))
+pub entries_laid : (c : Counts) → words_in c ≤ 65536 → Laid 1 (section_offsets c).indoms (8 * words_in c) (entries c (section_offsets c))
 unfolding section_bytes
 entries_laid c few =
-    laid_kept 1 (places_of c).indoms (places_of c).instances (8 * words_in c) c.indoms _ (omega arith) (omega arith) (omega arith) refl
-    (laid_kept 2 (places_of c).instances (places_of c).metrics (8 * words_in c) c.instances _ (omega arith) (omega arith) (omega arith) refl
-    (laid_kept 3 (places_of c).metrics (places_of c).values (8 * words_in c) c.metrics _ (omega arith) (omega arith) (omega arith) refl
-    (laid_kept 4 (places_of c).values (places_of c).strings (8 * words_in c) c.values _ (omega arith) (omega arith) (omega arith) refl
-    (laid_kept 5 (places_of c).strings ((places_of c).strings + string_size * c.strings) (8 * words_in c) c.strings [] (omega arith) (omega arith) (omega arith) refl (omega arith)))))
+    laid_kept 1 (section_offsets c).indoms (section_offsets c).instances (8 * words_in c) c.indoms _ (omega arith) (omega arith) (omega arith) refl
+    (laid_kept 2 (section_offsets c).instances (section_offsets c).metrics (8 * words_in c) c.instances _ (omega arith) (omega arith) (omega arith) refl
+    (laid_kept 3 (section_offsets c).metrics (section_offsets c).values (8 * words_in c) c.metrics _ (omega arith) (omega arith) (omega arith) refl
+    (laid_kept 4 (section_offsets c).values (section_offsets c).strings (8 * words_in c) c.values _ (omega arith) (omega arith) (omega arith) refl
+    (laid_kept 5 (section_offsets c).strings ((section_offsets c).strings + string_size * c.strings) (8 * words_in c) c.strings [] (omega arith) (omega arith) (omega arith) refl (omega arith)))))
 
-contents_stand : (draft : Layout) (s : List (List ℕ)) → Stands (spelled draft s) 5 (flat_map words_of_entry (entries (counts_of draft s) (places draft s)))
-contents_stand draft s = subst (λ part. Stands (spelled draft s) 5 part) (contents_are (counts_of draft s) (places draft s)) (stand_contents draft s)
+contents_stand : (draft : Layout) (s : List (List ℕ)) → Stands (spelled draft s) 5 (flat_map words_of_entry (entries (counts_of draft s) (offsets draft s)))
+contents_stand draft s = subst (λ part. Stands (spelled draft s) 5 part) (contents_are (counts_of draft s) (offsets draft s)) (stand_contents draft s)
 
-entry_is : (draft : Layout) (s : List (List ℕ)) → words_in (counts_of draft s) ≤ 65536 → (i : ℕ) (e : Entry) → slice_get (entries (counts_of draft s) (places draft s)) i ≡ Some e → IsEntry 1 (places draft s).indoms e
-entry_is draft s few i e at = (laid_at 1 (places draft s).indoms (8 * words_in (counts_of draft s)) (entries (counts_of draft s) (places draft s)) i e (entries_laid (counts_of draft s) few) at).0
+entry_is : (draft : Layout) (s : List (List ℕ)) → words_in (counts_of draft s) ≤ 65536 → (i : ℕ) (e : Entry) → slice_get (entries (counts_of draft s) (offsets draft s)) i ≡ Some e → IsEntry 1 (offsets draft s).indoms e
+entry_is draft s few i e at = (laid_at 1 (offsets draft s).indoms (8 * words_in (counts_of draft s)) (entries (counts_of draft s) (offsets draft s)) i e (entries_laid (counts_of draft s) few) at).0
 
-pub entries_read : (draft : Layout) (s : List (List ℕ)) → words_in (counts_of draft s) ≤ 65536 → Reads (spelled draft s) (entries (counts_of draft s) (places draft s))
+pub entries_read : (draft : Layout) (s : List (List ℕ)) → words_in (counts_of draft s) ≤ 65536 → Reads (spelled draft s) (entries (counts_of draft s) (offsets draft s))
 unfolding header_words
 entries_read draft s few =
     let words : List ℕ = spelled draft s in
-    let es : List Entry = entries (counts_of draft s) (places draft s) in
+    let es : List Entry = entries (counts_of draft s) (offsets draft s) in
     let most : sections_in (counts_of draft s) ≤ 5 = sections_most (counts_of draft s) in
     let stand : (i : ℕ) (e : Entry) → slice_get es i ≡ Some e → Stands words (5 + 2 * i) (words_of_entry e) = λ i e at. stands_entry words words_of_entry 2 (λ x. refl) es 5 (5 + 2 * i) i e (contents_stand draft s) at refl in
     record {
-      count = low_read words 0 3 24 (header_words draft (sections_in (counts_of draft s))) (sections_in (counts_of draft s)) draft.flags (stand_header draft s) (omega arith) refl refl (omega arith) ∙ sym (entries_count (counts_of draft s) (places draft s));
+      count = low_read words 0 3 24 (header_words draft (sections_in (counts_of draft s))) (sections_in (counts_of draft s)) draft.flags (stand_header draft s) (omega arith) refl refl (omega arith) ∙ sym (entries_count (counts_of draft s) (offsets draft s));
       type = λ i e at. low_read words (5 + 2 * i) 0 (40 + 16 * i) (words_of_entry e) e.type e.count (stand i e at) (omega arith) (omega arith) refl
           (let h : e.type ≤ 5 = (entry_is draft s few i e at).last in omega arith);
       number = λ i e at. high_read words (5 + 2 * i) 0 (44 + 16 * i) (words_of_entry e) e.type e.count (stand i e at) (omega arith) (omega arith) refl
@@ -164,12 +164,12 @@ entries_read draft s few =
 
 pub spelt_sections : (draft : Layout) (s : List (List ℕ)) → words_in (counts_of draft s) ≤ 65536 → sections_are_good (spelled draft s) ≡ true
 spelt_sections draft s few =
-    good_sections (spelled draft s) (entries (counts_of draft s) (places draft s)) (places draft s).indoms (8 * words_in (counts_of draft s)) (entries_read draft s few) (entries_laid (counts_of draft s) few)
-    (let n : length (entries (counts_of draft s) (places draft s)) ≡ sections_in (counts_of draft s) = entries_count (counts_of draft s) (places draft s) in omega arith)
+    good_sections (spelled draft s) (entries (counts_of draft s) (offsets draft s)) (offsets draft s).indoms (8 * words_in (counts_of draft s)) (entries_read draft s few) (entries_laid (counts_of draft s) few)
+    (let n : length (entries (counts_of draft s) (offsets draft s)) ≡ sections_in (counts_of draft s) = entries_count (counts_of draft s) (offsets draft s) in omega arith)
     (let n : length (spelled draft s) ≡ words_in (counts_of draft s) = length_spelled draft s in omega arith)
 
 pub spelt_aligned : (draft : Layout) (s : List (List ℕ)) → words_in (counts_of draft s) ≤ 65536 → sections_are_aligned (spelled draft s) ≡ true
-spelt_aligned draft s few = aligned_sections (spelled draft s) (entries (counts_of draft s) (places draft s)) (places draft s).indoms (8 * words_in (counts_of draft s)) (entries_read draft s few) (entries_laid (counts_of draft s) few)
+spelt_aligned draft s few = aligned_sections (spelled draft s) (entries (counts_of draft s) (offsets draft s)) (offsets draft s).indoms (8 * words_in (counts_of draft s)) (entries_read draft s few) (entries_laid (counts_of draft s) few)
 
 -- a section of so many entries, at a place if there are any
 pub record Finds (section : Section) (n p : ℕ) : Type 0 where
@@ -183,35 +183,35 @@ finds n p section h = here (nat_eq n 0) refl h
     here true z e = record { count = ap (λ x. x.count) e ∙ sym (eqb-true n 0 z); place = λ some. let none : n ≡ 0 = eqb-true n 0 z in absurd (omega arith) }
     here false z e = record { count = ap (λ x. x.count) e; place = λ some. ap (λ x. x.place) e }
 
-found_section : (draft : Layout) (s : List (List ℕ)) (t : ℕ) → words_in (counts_of draft s) ≤ 65536 → section_of (spelled draft s) t ≡ pick t (entries (counts_of draft s) (places draft s))
-found_section draft s t few = section_is (spelled draft s) (entries (counts_of draft s) (places draft s)) (places draft s).indoms (8 * words_in (counts_of draft s)) t (entries_read draft s few) (entries_laid (counts_of draft s) few)
+found_section : (draft : Layout) (s : List (List ℕ)) (t : ℕ) → words_in (counts_of draft s) ≤ 65536 → section_of (spelled draft s) t ≡ pick t (entries (counts_of draft s) (offsets draft s))
+found_section draft s t few = section_is (spelled draft s) (entries (counts_of draft s) (offsets draft s)) (offsets draft s).indoms (8 * words_in (counts_of draft s)) t (entries_read draft s few) (entries_laid (counts_of draft s) few)
 
-pub find_indoms : (draft : Layout) (s : List (List ℕ)) → words_in (counts_of draft s) ≤ 65536 → Finds (section_of (spelled draft s) 1) (counts_of draft s).indoms (places draft s).indoms
+pub find_indoms : (draft : Layout) (s : List (List ℕ)) → words_in (counts_of draft s) ≤ 65536 → Finds (section_of (spelled draft s) 1) (counts_of draft s).indoms (offsets draft s).indoms
 find_indoms draft s few =
     let c : Counts = counts_of draft s in
-    let p : Places = places draft s in
+    let p : SectionOffsets = offsets draft s in
     finds c.indoms p.indoms (section_of (spelled draft s) 1) (found_section draft s 1 few ∙ pick_hit 1 (entry 1 c.indoms p.indoms) _ refl ∙ ap (λ r. cond (nat_eq c.indoms 0) r (record { place = p.indoms; count = c.indoms })) (pick_skip 1 (entry 2 c.instances p.instances) _ refl ∙ pick_skip 1 (entry 3 c.metrics p.metrics) _ refl ∙ pick_skip 1 (entry 4 c.values p.values) _ refl ∙ pick_skip 1 (entry 5 c.strings p.strings) _ refl))
 
-pub find_instances : (draft : Layout) (s : List (List ℕ)) → words_in (counts_of draft s) ≤ 65536 → Finds (section_of (spelled draft s) 2) (counts_of draft s).instances (places draft s).instances
+pub find_instances : (draft : Layout) (s : List (List ℕ)) → words_in (counts_of draft s) ≤ 65536 → Finds (section_of (spelled draft s) 2) (counts_of draft s).instances (offsets draft s).instances
 find_instances draft s few =
     let c : Counts = counts_of draft s in
-    let p : Places = places draft s in
+    let p : SectionOffsets = offsets draft s in
     finds c.instances p.instances (section_of (spelled draft s) 2) (found_section draft s 2 few ∙ pick_skip 2 (entry 1 c.indoms p.indoms) _ refl ∙ pick_hit 2 (entry 2 c.instances p.instances) _ refl ∙ ap (λ r. cond (nat_eq c.instances 0) r (record { place = p.instances; count = c.instances })) (pick_skip 2 (entry 3 c.metrics p.metrics) _ refl ∙ pick_skip 2 (entry 4 c.values p.values) _ refl ∙ pick_skip 2 (entry 5 c.strings p.strings) _ refl))
 
-pub find_metrics : (draft : Layout) (s : List (List ℕ)) → words_in (counts_of draft s) ≤ 65536 → Finds (section_of (spelled draft s) 3) (counts_of draft s).metrics (places draft s).metrics
+pub find_metrics : (draft : Layout) (s : List (List ℕ)) → words_in (counts_of draft s) ≤ 65536 → Finds (section_of (spelled draft s) 3) (counts_of draft s).metrics (offsets draft s).metrics
 find_metrics draft s few =
     let c : Counts = counts_of draft s in
-    let p : Places = places draft s in
+    let p : SectionOffsets = offsets draft s in
     finds c.metrics p.metrics (section_of (spelled draft s) 3) (found_section draft s 3 few ∙ pick_skip 3 (entry 1 c.indoms p.indoms) _ refl ∙ pick_skip 3 (entry 2 c.instances p.instances) _ refl ∙ pick_hit 3 (entry 3 c.metrics p.metrics) _ refl ∙ ap (λ r. cond (nat_eq c.metrics 0) r (record { place = p.metrics; count = c.metrics })) (pick_skip 3 (entry 4 c.values p.values) _ refl ∙ pick_skip 3 (entry 5 c.strings p.strings) _ refl))
 
-pub find_values : (draft : Layout) (s : List (List ℕ)) → words_in (counts_of draft s) ≤ 65536 → Finds (section_of (spelled draft s) 4) (counts_of draft s).values (places draft s).values
+pub find_values : (draft : Layout) (s : List (List ℕ)) → words_in (counts_of draft s) ≤ 65536 → Finds (section_of (spelled draft s) 4) (counts_of draft s).values (offsets draft s).values
 find_values draft s few =
     let c : Counts = counts_of draft s in
-    let p : Places = places draft s in
+    let p : SectionOffsets = offsets draft s in
     finds c.values p.values (section_of (spelled draft s) 4) (found_section draft s 4 few ∙ pick_skip 4 (entry 1 c.indoms p.indoms) _ refl ∙ pick_skip 4 (entry 2 c.instances p.instances) _ refl ∙ pick_skip 4 (entry 3 c.metrics p.metrics) _ refl ∙ pick_hit 4 (entry 4 c.values p.values) _ refl ∙ ap (λ r. cond (nat_eq c.values 0) r (record { place = p.values; count = c.values })) (pick_skip 4 (entry 5 c.strings p.strings) _ refl))
 
-pub find_strings : (draft : Layout) (s : List (List ℕ)) → words_in (counts_of draft s) ≤ 65536 → Finds (section_of (spelled draft s) 5) (counts_of draft s).strings (places draft s).strings
+pub find_strings : (draft : Layout) (s : List (List ℕ)) → words_in (counts_of draft s) ≤ 65536 → Finds (section_of (spelled draft s) 5) (counts_of draft s).strings (offsets draft s).strings
 find_strings draft s few =
     let c : Counts = counts_of draft s in
-    let p : Places = places draft s in
+    let p : SectionOffsets = offsets draft s in
     finds c.strings p.strings (section_of (spelled draft s) 5) (found_section draft s 5 few ∙ pick_skip 5 (entry 1 c.indoms p.indoms) _ refl ∙ pick_skip 5 (entry 2 c.instances p.instances) _ refl ∙ pick_skip 5 (entry 3 c.metrics p.metrics) _ refl ∙ pick_skip 5 (entry 4 c.values p.values) _ refl ∙ pick_hit 5 (entry 5 c.strings p.strings) _ refl)

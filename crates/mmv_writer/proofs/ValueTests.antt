@@ -18,19 +18,19 @@ use Rattle.mmv_format.proofs.Below.{both_left, both_right}
 use Rattle.mmv_writer.specs.Rules.{is_same_metric, has_instance, fits_instance, fits_kind, fits_metric, is_same_number}
 use Rattle.mmv_writer.specs.Rules as rules
 use Rattle.mmv_writer.specs.Draft.{Each, IsDraft}
-use Rattle.mmv_spelling.specs.Places.{instances_in, counts_of, words_in}
-use Rattle.mmv_spelling.specs.Spelling.{domain_of, instance_place, serial_word, value_words, extra_field, serial_in, serial_of, members_in, member_of, instance_field, spelled}
+use Rattle.mmv_spelling.specs.Offsets.{instances_in, counts_of, words_in}
+use Rattle.mmv_spelling.specs.Spelling.{domain_of, instance_offset, serial_word, value_words, extra_field, serial_in, serial_of, members_in, member_of, instance_field, spelled}
 use Rattle.mmv_writer.proofs.Rows.{either_left}
 use Rattle.mmv_writer.proofs.Sections.{all_hold}
 use Rattle.mmv_writer.proofs.Standing.{word_read}
 use Rattle.mmv_writer.proofs.Wanted.{HasContent}
 use Rattle.mmv_spelling.proofs.Positions.{Passes, first_passes, position_is, find_at, get_below, get_some, same_row, before_this}
-use Rattle.mmv_writer.proofs.Spelt.{values_from, places, find_values}
+use Rattle.mmv_writer.proofs.Spelt.{values_from, offsets, find_values}
 use Rattle.mmv_writer.proofs.Marks.{value_is, indom_leads, instance_leads_to, metric_leads, string_leads, stand_value, serial_fits, serial_read, owner_read}
 use Rattle.mmv_writer.proofs.MetricTests.{kind_read, metric_serial_read}
 use Rattle.mmv_format.specs.Sizes.{indom_size, instance_size, metric_size}
 use Rattle.mmv_format.specs.EntryFields.{type_offset_in_metric, serial_offset_in_metric, extra_offset_in_value, metric_offset_in_value, instance_offset_in_value}
-use Rattle.mmv_spelling.specs.Places.{value_length}
+use Rattle.mmv_spelling.specs.Offsets.{value_length}
 
 -- where keys differ, the first row with a key is the one that some row with it is
 pub only_one : {T : Type 0} (key : T → ℕ) (rest : T → Bool) (n : ℕ) (xs : List T) → ((i j : ℕ) (a b : T) → i < j → slice_get xs i ≡ Some a → slice_get xs j ≡ Some b → nat_eq (key a) (key b) ≡ false) → list_any (λ x. nat_eq (key x) n && rest x) xs ≡ true → Passes xs (position_or_len (λ x. nat_eq (key x) n) xs) (λ x. nat_eq (key x) n && rest x)
@@ -80,7 +80,7 @@ one_at_least n h = least n (both_left (nat_le 1 n) (nat_le n 1023) h)
     least : (n : ℕ) → nat_le 1 n ≡ true → 0 < n
     least n h = grind (arith, nat_tests)
 
-instance_good : (draft : Layout) (s : List (List ℕ)) → words_in (counts_of draft s) ≤ 65536 → IsDraft draft → (serial : Option ℕ) (number : Option ℤ) (field shown : ℕ) → fits_instance draft.indoms serial number ≡ true → field ≡ instance_field (places draft s) draft.indoms serial number → shown ≡ serial_word serial
+instance_good : (draft : Layout) (s : List (List ℕ)) → words_in (counts_of draft s) ≤ 65536 → IsDraft draft → (serial : Option ℕ) (number : Option ℤ) (field shown : ℕ) → fits_instance draft.indoms serial number ≡ true → field ≡ instance_field (offsets draft s) draft.indoms serial number → shown ≡ serial_word serial
     → cond (is_no_domain shown) (nat_eq field 0) (leads_to_instance (spelled draft s) field && (leads_to_indom (spelled draft s) (number64 (spelled draft s) field) && nat_eq (number32 (spelled draft s) (number64 (spelled draft s) field)) shown)) ≡ true
 instance_good draft s few d None None field shown fits is word =
     ap (λ n. cond (is_no_domain n) (nat_eq field 0) (leads_to_instance (spelled draft s) field && (leads_to_indom (spelled draft s) (number64 (spelled draft s) field) && nat_eq (number32 (spelled draft s) (number64 (spelled draft s) field)) n))) word ∙ eq-eqb field 0 is
@@ -95,9 +95,9 @@ instance_good draft s few d (Some serial) (Some id) field shown fits is word =
     let inside : index_in p.row id < length p.row.instances = get_below p.row.instances (index_in p.row id) q.row q.at in
     let below : domain_of draft.indoms serial < length draft.indoms = get_below draft.indoms (domain_of draft.indoms serial) p.row p.at in
     let all : instances_in (take (domain_of draft.indoms serial) draft.indoms) + length p.row.instances ≤ instances_in draft.indoms = before_this draft.indoms (domain_of draft.indoms serial) p.row p.at in
-    let place : field ≡ (places draft s).instances + instance_size * (instances_in (take (domain_of draft.indoms serial) draft.indoms) + index_in p.row id) =
-    is ∙ ap (λ k. (places draft s).instances + instance_size * (instances_in (take (domain_of draft.indoms serial) draft.indoms) + k)) (member_found draft serial id p.row p.at) in
-    let owner : number64 words field ≡ (places draft s).indoms + indom_size * domain_of draft.indoms serial = owner_read draft s d (domain_of draft.indoms serial) (index_in p.row id) field p.row q.row p.at q.at (omega arith) in
+    let place : field ≡ (offsets draft s).instances + instance_size * (instances_in (take (domain_of draft.indoms serial) draft.indoms) + index_in p.row id) =
+    is ∙ ap (λ k. (offsets draft s).instances + instance_size * (instances_in (take (domain_of draft.indoms serial) draft.indoms) + k)) (member_found draft serial id p.row p.at) in
+    let owner : number64 words field ≡ (offsets draft s).indoms + indom_size * domain_of draft.indoms serial = owner_read draft s d (domain_of draft.indoms serial) (index_in p.row id) field p.row q.row p.at q.at (omega arith) in
     let read : number32 words (number64 words field) ≡ p.row.serial = serial_read draft s few d (domain_of draft.indoms serial) (number64 words field) p.row p.at (omega arith) in
     let fits_serial : p.row.serial ≤ 1023 = serial_fits draft d (domain_of draft.indoms serial) p.row p.at in
     let some : 0 < p.row.serial = one_at_least p.row.serial (d.domains (domain_of draft.indoms serial) p.row p.at).serial in
@@ -118,7 +118,7 @@ or_true : (b : Bool) → (b || true) ≡ true
 or_true true = refl
 or_true false = refl
 
-choice_good : (draft : Layout) (s : List (List ℕ)) → words_in (counts_of draft s) ≤ 65536 → (content : Content) (kind : Kind) (field code : ℕ) → fits_kind kind content ≡ true → HasContent s content → field ≡ extra_field (places draft s) s content → code ≡ code_of_kind kind → (not (nat_eq code 6) || leads_to_string (spelled draft s) field) ≡ true
+choice_good : (draft : Layout) (s : List (List ℕ)) → words_in (counts_of draft s) ≤ 65536 → (content : Content) (kind : Kind) (field code : ℕ) → fits_kind kind content ≡ true → HasContent s content → field ≡ extra_field (offsets draft s) s content → code ≡ code_of_kind kind → (not (nat_eq code 6) || leads_to_string (spelled draft s) field) ≡ true
 choice_good draft s few (Number n) kind field code fits has is shown = ap (λ b. b || leads_to_string (spelled draft s) field) (ap (λ n. not (nat_eq n 6)) shown ∙ not_six (code_of_kind kind) fits)
 choice_good draft s few (Choice text) kind field code fits has is shown =
     ap (λ b. not (nat_eq code 6) || b) (ap (leads_to_string (spelled draft s)) is ∙ string_leads draft s few text has) ∙ or_true (not (nat_eq code 6))
@@ -127,26 +127,26 @@ choice_good draft s few (Raw value extra) kind field code fits has is shown =
 
 -- Fields of a value
 
-pub metric_field : (draft : Layout) (s : List (List ℕ)) (i at : ℕ) (row : ValueRow) → slice_get draft.values i ≡ Some row → at ≡ metric_offset_in_value (8 * (values_from draft s + value_length * i)) → number64 (spelled draft s) at ≡ (places draft s).metrics + metric_size * metric_index draft row.item
+pub metric_field : (draft : Layout) (s : List (List ℕ)) (i at : ℕ) (row : ValueRow) → slice_get draft.values i ≡ Some row → at ≡ metric_offset_in_value (8 * (values_from draft s + value_length * i)) → number64 (spelled draft s) at ≡ (offsets draft s).metrics + metric_size * metric_index draft row.item
 unfolding value_words
-metric_field draft s i at row here e = word_read (spelled draft s) (values_from draft s + value_length * i) 2 at (value_words (places draft s) s draft.indoms draft.metrics row) (stand_value draft s i row here) (omega arith) (omega arith)
+metric_field draft s i at row here e = word_read (spelled draft s) (values_from draft s + value_length * i) 2 at (value_words (offsets draft s) s draft.indoms draft.metrics row) (stand_value draft s i row here) (omega arith) (omega arith)
 
-pub extra_read : (draft : Layout) (s : List (List ℕ)) (i at : ℕ) (row : ValueRow) → slice_get draft.values i ≡ Some row → at ≡ extra_offset_in_value (8 * (values_from draft s + value_length * i)) → number64 (spelled draft s) at ≡ extra_field (places draft s) s row.content
+pub extra_read : (draft : Layout) (s : List (List ℕ)) (i at : ℕ) (row : ValueRow) → slice_get draft.values i ≡ Some row → at ≡ extra_offset_in_value (8 * (values_from draft s + value_length * i)) → number64 (spelled draft s) at ≡ extra_field (offsets draft s) s row.content
 unfolding value_words
-extra_read draft s i at row here e = word_read (spelled draft s) (values_from draft s + value_length * i) 1 at (value_words (places draft s) s draft.indoms draft.metrics row) (stand_value draft s i row here) (omega arith) (omega arith)
+extra_read draft s i at row here e = word_read (spelled draft s) (values_from draft s + value_length * i) 1 at (value_words (offsets draft s) s draft.indoms draft.metrics row) (stand_value draft s i row here) (omega arith) (omega arith)
 
-pub instance_read : (draft : Layout) (s : List (List ℕ)) (i at : ℕ) (row : ValueRow) (metric : MetricRow) → slice_get draft.values i ≡ Some row → slice_get draft.metrics (metric_index draft row.item) ≡ Some metric → at ≡ instance_offset_in_value (8 * (values_from draft s + value_length * i)) → number64 (spelled draft s) at ≡ instance_field (places draft s) draft.indoms metric.serial row.instance
+pub instance_read : (draft : Layout) (s : List (List ℕ)) (i at : ℕ) (row : ValueRow) (metric : MetricRow) → slice_get draft.values i ≡ Some row → slice_get draft.metrics (metric_index draft row.item) ≡ Some metric → at ≡ instance_offset_in_value (8 * (values_from draft s + value_length * i)) → number64 (spelled draft s) at ≡ instance_field (offsets draft s) draft.indoms metric.serial row.instance
 unfolding value_words
 instance_read draft s i at row metric here there e =
-    word_read (spelled draft s) (values_from draft s + value_length * i) 3 at (value_words (places draft s) s draft.indoms draft.metrics row) (stand_value draft s i row here) (omega arith) (omega arith)
-    ∙ ap (λ serial. instance_field (places draft s) draft.indoms serial row.instance) (serial_found draft row.item metric there)
+    word_read (spelled draft s) (values_from draft s + value_length * i) 3 at (value_words (offsets draft s) s draft.indoms draft.metrics row) (stand_value draft s i row here) (omega arith) (omega arith)
+    ∙ ap (λ serial. instance_field (offsets draft s) draft.indoms serial row.instance) (serial_found draft row.item metric there)
 
 -- Two values
 
 isnt : (a b : ℕ) → a ≢ b → nat_eq a b ≡ false
 isnt a b h = grind (arith, nat_tests)
 
-fields_differ : (draft : Layout) (s : List (List ℕ)) → IsDraft draft → (serial : Option ℕ) (a b : Option ℤ) → fits_instance draft.indoms serial a ≡ true → fits_instance draft.indoms serial b ≡ true → is_same_number a b ≡ false → nat_eq (instance_field (places draft s) draft.indoms serial a) (instance_field (places draft s) draft.indoms serial b) ≡ false
+fields_differ : (draft : Layout) (s : List (List ℕ)) → IsDraft draft → (serial : Option ℕ) (a b : Option ℤ) → fits_instance draft.indoms serial a ≡ true → fits_instance draft.indoms serial b ≡ true → is_same_number a b ≡ false → nat_eq (instance_field (offsets draft s) draft.indoms serial a) (instance_field (offsets draft s) draft.indoms serial b) ≡ false
 fields_differ draft s d None None None fa fb other = cc
 fields_differ draft s d None None (Some b) fa fb other = cc
 fields_differ draft s d None (Some a) b fa fb other = cc
@@ -162,8 +162,8 @@ fields_differ draft s d (Some serial) (Some a) (Some b) fa fb other =
     let same : x.row ≡ y.row = same_row q.row.instances (index_in q.row b) x.row y.row (ap (slice_get q.row.instances) (sym e) ∙ ap (λ r. slice_get r.instances (index_in p.row a)) (sym one) ∙ x.at) y.at in
     let equal : a ≡ b = sym (same_int x.row.0 a x.is) ∙ ap (λ z. z.0) same ∙ same_int y.row.0 b y.is in
     true≢false (sym (ap (int_eq a) (sym equal) ∙ int_same a) ∙ other) in
-    ap₂ nat_eq (ap (λ k. instance_place (places draft s) draft.indoms serial k) (member_found draft serial a p.row p.at)) (ap (λ k. instance_place (places draft s) draft.indoms serial k) (member_found draft serial b q.row q.at))
-    ∙ isnt _ _ (apart (places draft s).instances (instances_in (take (domain_of draft.indoms serial) draft.indoms)) (index_in p.row a) (index_in q.row b) places_differ)
+    ap₂ nat_eq (ap (λ k. instance_offset (offsets draft s) draft.indoms serial k) (member_found draft serial a p.row p.at)) (ap (λ k. instance_offset (offsets draft s) draft.indoms serial k) (member_found draft serial b q.row q.at))
+    ∙ isnt _ _ (apart (offsets draft s).instances (instances_in (take (domain_of draft.indoms serial) draft.indoms)) (index_in p.row a) (index_in q.row b) places_differ)
   where
     apart : (p t a b : ℕ) → a ≢ b → p + instance_size * (t + a) ≢ p + instance_size * (t + b)
     apart p t a b h e = h (omega arith)
@@ -202,7 +202,7 @@ other_value draft s d j i at_a at_b a b here_a here_b less ea eb = here (nat_eq 
         let items : a.item ≡ b.item = eqb-true a.item b.item e in
         let one : p.row ≡ q.row = same_row draft.metrics (metric_index draft b.item) p.row q.row (ap (λ n. slice_get draft.metrics (metric_index draft n)) (sym items) ∙ p.at) q.at in
         ap (λ t. nat_eq (number64 (spelled draft s) (metric_offset_in_value at_a)) (number64 (spelled draft s) (metric_offset_in_value at_b)) && t)
-        (ap₂ nat_eq (instance_read draft s j (instance_offset_in_value at_a) a p.row here_a p.at (ap instance_offset_in_value ea)) (instance_read draft s i (instance_offset_in_value at_b) b q.row here_b q.at (ap instance_offset_in_value eb) ∙ ap (λ r. instance_field (places draft s) draft.indoms r.serial b.instance) (sym one))
+        (ap₂ nat_eq (instance_read draft s j (instance_offset_in_value at_a) a p.row here_a p.at (ap instance_offset_in_value ea)) (instance_read draft s i (instance_offset_in_value at_b) b q.row here_b q.at (ap instance_offset_in_value eb) ∙ ap (λ r. instance_field (offsets draft s) draft.indoms r.serial b.instance) (sym one))
         ∙ fields_differ draft s d p.row.serial a.instance b.instance fits_p (ap (λ r. fits_instance draft.indoms r.serial b.instance) one ∙ fits_q) other)
         ∙ and_false (nat_eq (number64 (spelled draft s) (metric_offset_in_value at_a)) (number64 (spelled draft s) (metric_offset_in_value at_b)))
     here false e other =
@@ -211,7 +211,7 @@ other_value draft s d j i at_a at_b a b here_a here_b less ea eb = here (nat_eq 
         eqb-false a.item b.item e (sym item_p ∙ ap (λ r. r.item) one ∙ item_q) in
         ap (λ t. t && nat_eq (number64 (spelled draft s) (instance_offset_in_value at_a)) (number64 (spelled draft s) (instance_offset_in_value at_b)))
         (ap₂ nat_eq (metric_field draft s j (metric_offset_in_value at_a) a here_a (ap metric_offset_in_value ea)) (metric_field draft s i (metric_offset_in_value at_b) b here_b (ap metric_offset_in_value eb))
-        ∙ isnt _ _ (apart (places draft s).metrics (metric_index draft a.item) (metric_index draft b.item) indexes))
+        ∙ isnt _ _ (apart (offsets draft s).metrics (metric_index draft a.item) (metric_index draft b.item) indexes))
 
 good_value : (draft : Layout) (s : List (List ℕ)) → words_in (counts_of draft s) ≤ 65536 → IsDraft draft → Each (λ row. HasContent s row.content) draft.values → (i : ℕ) → i < length draft.values → is_good_value (spelled draft s) i ≡ true
 unfolding is_good_value instance_leads choice_leads is_new_value metric_of
@@ -222,7 +222,7 @@ good_value draft s few d texts i below =
     let p : Passes draft.metrics (metric_index draft row.item) (λ metric. fits_metric draft.indoms row metric) = metric_found draft d row (d.values i row here).metric in
     let fits : (fits_instance draft.indoms p.row.serial row.instance && fits_kind p.row.kind row.content) ≡ true = both_right (nat_eq p.row.item row.item) (fits_instance draft.indoms p.row.serial row.instance && fits_kind p.row.kind row.content) p.is in
     let inside : metric_index draft row.item < length draft.metrics = get_below draft.metrics (metric_index draft row.item) p.row p.at in
-    let metric : number64 words (metric_offset_in_value (value_at words i)) ≡ (places draft s).metrics + metric_size * metric_index draft row.item = metric_field draft s i (metric_offset_in_value (value_at words i)) row here (ap metric_offset_in_value place) in
+    let metric : number64 words (metric_offset_in_value (value_at words i)) ≡ (offsets draft s).metrics + metric_size * metric_index draft row.item = metric_field draft s i (metric_offset_in_value (value_at words i)) row here (ap metric_offset_in_value place) in
     let kind : number32 words (type_offset_in_metric (number64 words (metric_offset_in_value (value_at words i)))) ≡ code_of_kind p.row.kind = kind_read draft s d (metric_index draft row.item) (type_offset_in_metric (number64 words (metric_offset_in_value (value_at words i)))) p.row p.at (omega arith) in
     let serial : number32 words (serial_offset_in_metric (number64 words (metric_offset_in_value (value_at words i)))) ≡ serial_word p.row.serial = metric_serial_read draft s d (metric_index draft row.item) (serial_offset_in_metric (number64 words (metric_offset_in_value (value_at words i)))) p.row p.at (omega arith) in
     ap₂ (λ a b. a && b) (ap₂ (λ a b. a && b) (ap₂ (λ a b. a && b)

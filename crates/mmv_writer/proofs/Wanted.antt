@@ -7,7 +7,7 @@ use Rattle.mmv_format.specs.declared.rows.Content.TheVariants.{Number, Choice, R
 use Rattle.mmv_format.specs.declared.rows.Layout.{Layout}
 use Rattle.mmv_format.proofs.Below.{both_left, both_right}
 use Rattle.mmv_writer.specs.Draft.{Each, IsString, IsHelp, IsContent, IsDraft}
-use Rattle.mmv_spelling.specs.Spelling.{texts_of, texts_in, wanted, with_missing, all_strings}
+use Rattle.mmv_spelling.specs.Spelling.{texts_of, texts_in, reference_texts, with_missing, all_strings}
 use Rattle.mmv_writer.proofs.Rows.{any_longer, each_snoc}
 
 pub same_bytes : (a b : List ℕ) → bytes_eq a b ≡ true → a ≡ b
@@ -96,29 +96,29 @@ content_there strings (Raw value extra) h = tt
 pub domain_helps : (draft : Layout) → Each (λ row. HasHelp (all_strings draft) row.short × HasHelp (all_strings draft) row.long) draft.indoms
 unfolding all_strings
 domain_helps draft i row at =
-    let there : (text : List ℕ) → Has (texts_of row.short ++ texts_of row.long) text → Has (with_missing draft.strings (wanted draft)) text = λ text h.
-    added draft.strings (wanted draft) text (any_left (λ other. bytes_eq other text) (flat_map (λ r. texts_of r.short ++ texts_of r.long) draft.indoms) (flat_map (λ r. texts_of r.short ++ texts_of r.long) draft.metrics ++ flat_map (λ r. texts_in r.content) draft.values)
+    let there : (text : List ℕ) → Has (texts_of row.short ++ texts_of row.long) text → Has (with_missing draft.strings (reference_texts draft)) text = λ text h.
+    added draft.strings (reference_texts draft) text (any_left (λ other. bytes_eq other text) (flat_map (λ r. texts_of r.short ++ texts_of r.long) draft.indoms) (flat_map (λ r. texts_of r.short ++ texts_of r.long) draft.metrics ++ flat_map (λ r. texts_in r.content) draft.values)
     (any_flat (λ other. bytes_eq other text) (λ r. texts_of r.short ++ texts_of r.long) draft.indoms i row at h)) in (
-      help_there (with_missing draft.strings (wanted draft)) row.short (λ text h. there text (any_left (λ other. bytes_eq other text) (texts_of row.short) (texts_of row.long) h)),
-      help_there (with_missing draft.strings (wanted draft)) row.long (λ text h. there text (any_right (λ other. bytes_eq other text) (texts_of row.short) (texts_of row.long) h)),
+      help_there (with_missing draft.strings (reference_texts draft)) row.short (λ text h. there text (any_left (λ other. bytes_eq other text) (texts_of row.short) (texts_of row.long) h)),
+      help_there (with_missing draft.strings (reference_texts draft)) row.long (λ text h. there text (any_right (λ other. bytes_eq other text) (texts_of row.short) (texts_of row.long) h)),
     )
 
 pub metric_helps : (draft : Layout) → Each (λ row. HasHelp (all_strings draft) row.short × HasHelp (all_strings draft) row.long) draft.metrics
 unfolding all_strings
 metric_helps draft i row at =
-    let there : (text : List ℕ) → Has (texts_of row.short ++ texts_of row.long) text → Has (with_missing draft.strings (wanted draft)) text = λ text h.
-    added draft.strings (wanted draft) text (any_right (λ other. bytes_eq other text) (flat_map (λ r. texts_of r.short ++ texts_of r.long) draft.indoms) (flat_map (λ r. texts_of r.short ++ texts_of r.long) draft.metrics ++ flat_map (λ r. texts_in r.content) draft.values)
+    let there : (text : List ℕ) → Has (texts_of row.short ++ texts_of row.long) text → Has (with_missing draft.strings (reference_texts draft)) text = λ text h.
+    added draft.strings (reference_texts draft) text (any_right (λ other. bytes_eq other text) (flat_map (λ r. texts_of r.short ++ texts_of r.long) draft.indoms) (flat_map (λ r. texts_of r.short ++ texts_of r.long) draft.metrics ++ flat_map (λ r. texts_in r.content) draft.values)
     (any_left (λ other. bytes_eq other text) (flat_map (λ r. texts_of r.short ++ texts_of r.long) draft.metrics) (flat_map (λ r. texts_in r.content) draft.values)
     (any_flat (λ other. bytes_eq other text) (λ r. texts_of r.short ++ texts_of r.long) draft.metrics i row at h))) in (
-      help_there (with_missing draft.strings (wanted draft)) row.short (λ text h. there text (any_left (λ other. bytes_eq other text) (texts_of row.short) (texts_of row.long) h)),
-      help_there (with_missing draft.strings (wanted draft)) row.long (λ text h. there text (any_right (λ other. bytes_eq other text) (texts_of row.short) (texts_of row.long) h)),
+      help_there (with_missing draft.strings (reference_texts draft)) row.short (λ text h. there text (any_left (λ other. bytes_eq other text) (texts_of row.short) (texts_of row.long) h)),
+      help_there (with_missing draft.strings (reference_texts draft)) row.long (λ text h. there text (any_right (λ other. bytes_eq other text) (texts_of row.short) (texts_of row.long) h)),
     )
 
 pub value_texts : (draft : Layout) → Each (λ row. HasContent (all_strings draft) row.content) draft.values
 unfolding all_strings
 value_texts draft i row at =
-    content_there (with_missing draft.strings (wanted draft)) row.content (λ text h.
-    added draft.strings (wanted draft) text (any_right (λ other. bytes_eq other text) (flat_map (λ r. texts_of r.short ++ texts_of r.long) draft.indoms) (flat_map (λ r. texts_of r.short ++ texts_of r.long) draft.metrics ++ flat_map (λ r. texts_in r.content) draft.values)
+    content_there (with_missing draft.strings (reference_texts draft)) row.content (λ text h.
+    added draft.strings (reference_texts draft) text (any_right (λ other. bytes_eq other text) (flat_map (λ r. texts_of r.short ++ texts_of r.long) draft.indoms) (flat_map (λ r. texts_of r.short ++ texts_of r.long) draft.metrics ++ flat_map (λ r. texts_in r.content) draft.values)
     (any_right (λ other. bytes_eq other text) (flat_map (λ r. texts_of r.short ++ texts_of r.long) draft.metrics) (flat_map (λ r. texts_in r.content) draft.values)
     (any_flat (λ other. bytes_eq other text) (λ r. texts_in r.content) draft.values i row at h))))
 
@@ -157,7 +157,7 @@ content_strings (Raw value extra) h i x at = cc
 pub strings_short : (draft : Layout) → IsDraft draft → Each IsString (all_strings draft)
 unfolding all_strings
 strings_short draft d =
-    each_missing IsString draft.strings (wanted draft) d.strings
+    each_missing IsString draft.strings (reference_texts draft) d.strings
     (each_joined IsString (flat_map (λ r. texts_of r.short ++ texts_of r.long) draft.indoms) (flat_map (λ r. texts_of r.short ++ texts_of r.long) draft.metrics ++ flat_map (λ r. texts_in r.content) draft.values)
     (each_flat IsString (λ r. texts_of r.short ++ texts_of r.long) draft.indoms (λ i row at. each_joined IsString (texts_of row.short) (texts_of row.long) (help_strings row.short (d.domains i row at).short) (help_strings row.long (d.domains i row at).long)))
     (each_joined IsString (flat_map (λ r. texts_of r.short ++ texts_of r.long) draft.metrics) (flat_map (λ r. texts_in r.content) draft.values)

@@ -82,7 +82,7 @@ pub record Adds (id : ℤ) (name : List ℕ) (old new : DomainKeys) : Type 0 whe
   pub names : (q : List ℕ) → names_have (Some new) q ≡ (bytes_eq q name || names_have (Some old) q)
 
 -- the keys of a domain hold what they held
-pub record Holds (old new : DomainKeys) : Type 0 where
+pub record KeepsMembers (old new : DomainKeys) : Type 0 where
   pub at : new.at ≡ old.at
   pub numbers : (q : ℤ) → numbers_have (Some new) q ≡ numbers_have (Some old) q
   pub names : (q : List ℕ) → names_have (Some new) q ≡ names_have (Some old) q
@@ -94,7 +94,7 @@ pub record AddsMember (serial : ℕ) (id : ℤ) (name : List ℕ) (old new : BTr
   pub names : (s : ℕ) (q : List ℕ) → names_have (domain_in new s) q ≡ ((serial == s && bytes_eq q name) || names_have (domain_in old s) q)
 
 -- the keys of all domains hold what they held
-pub record HoldsAll (old new : BTreeMap ℕ DomainKeys) : Type 0 where
+pub record KeepsAllMembers (old new : BTreeMap ℕ DomainKeys) : Type 0 where
   pub places : (s : ℕ) → place_of (domain_in new s) ≡ place_of (domain_in old s)
   pub numbers : (s : ℕ) (q : ℤ) → numbers_have (domain_in new s) q ≡ numbers_have (domain_in old s) q
   pub names : (s : ℕ) (q : List ℕ) → names_have (domain_in new s) q ≡ names_have (domain_in old s) q

@@ -131,10 +131,10 @@ Takes found before after (Err (stops.Fault fault)) = (found ≡ Err fault) × (a
 Takes found before after (Err stops.NoMemory) = after ≡ before
 
 -- a builder was made of what was found
-abbrev pub Begins : Result Layout LineFault → Result Layout LineError → Type 0
-Begins found (Ok made) = found ≡ Ok made
-Begins found (Err (stops.Fault fault)) = found ≡ Err fault
-Begins found (Err stops.NoMemory) = Unit {0}
+abbrev pub MakesBuilder : Result Layout LineFault → Result Layout LineError → Type 0
+MakesBuilder found (Ok made) = found ≡ Ok made
+MakesBuilder found (Err (stops.Fault fault)) = found ≡ Err fault
+MakesBuilder found (Err stops.NoMemory) = Unit {0}
 
 -- what a function returned is what the text says, unless memory ran out
 abbrev pub Answers : {X : Type 0} → Result X TextFault → Result X ReadTextError → Type 0

@@ -3,7 +3,7 @@ ghost use Rattle.std.specs.Prelude.{◌≡◌, ◌==◌, [], ◌∷◌, ◌++◌
 ghost use Rattle.std.specs.List.{list_any, position};
 ghost use Rattle.mmv_writer.specs.Rules.{has_domain, has_same_instance, is_same_metric};
 ghost use Rattle.mmv_writer.specs.Draft.{add_instance};
-ghost use Rattle.mmv_writer.specs.Keys.{domain_in, numbers_have, AddsMember, HoldsAll, HasDomains, HasItems, HasMetricNames, HasValues};
+ghost use Rattle.mmv_writer.specs.Keys.{domain_in, numbers_have, AddsMember, KeepsAllMembers, HasDomains, HasItems, HasMetricNames, HasValues};
 
 use crate::keys::{DomainKeys, add_member, place_of};
 use mmv_layout::{IndomRow, MetricRow, ValueRow};
@@ -49,7 +49,7 @@ fn add_to(
     ensures ok { OnOk result (instances.new ≡ instances.old ++ instance ∷ []) }
     ensures keys { OnOk result (AddsMember serial instance.0 name.items domains.old domains.new) }
     ensures err { OnErr result (instances.new ≡ instances.old) }
-    ensures held { OnErr result (HoldsAll domains.old domains.new) }
+    ensures held { OnErr result (KeepsAllMembers domains.old domains.new) }
 {
     let id = instance.0;
     instances.push(instance)?;

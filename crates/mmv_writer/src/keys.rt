@@ -3,7 +3,7 @@ ghost use Rattle.std.specs.Prelude.{◌≡◌, ◌||◌, ℤ, false, true, is_so
 ghost use Rattle.std.specs.Ordering.{nat_cmp};
 ghost use Rattle.std.specs.BTreeMap.{get};
 ghost use Rattle.std.specs.BTreeSet.{contains};
-ghost use Rattle.mmv_writer.specs.Keys.{is_named, domain_in, place_of, numbers_have, names_have, fits_domain, value_order, Adds, Holds, AddsMember, HoldsAll, IsEmptyDomain, AreNoKeys};
+ghost use Rattle.mmv_writer.specs.Keys.{is_named, domain_in, place_of, numbers_have, names_have, fits_domain, value_order, Adds, KeepsMembers, AddsMember, KeepsAllMembers, IsEmptyDomain, AreNoKeys};
 
 use mmv_layout::MetricRow;
 use pcp_base::{NoMemory, Text};
@@ -56,7 +56,7 @@ impl DomainKeys {
     fn add(&mut self, id: &i32, name: Vec<u8>) -> Result<(), NoMemory>
         requires { numbers_have (Some self.now) id.now ≡ false }
         ensures ok { OnOk result (Adds id.now name.items self.old self.new) }
-        ensures err { OnErr result (Holds self.old self.new) }
+        ensures err { OnErr result (KeepsMembers self.old self.new) }
     {
         let number = *id;
         self.numbers.insert(number)?;
@@ -151,7 +151,7 @@ pub fn add_member(
     requires there { is_some (domain_in domains.now serial) ≡ true }
     requires absent { numbers_have (domain_in domains.now serial) id.now ≡ false }
     ensures ok { OnOk result (AddsMember serial id.now name.items domains.old domains.new) }
-    ensures err { OnErr result (HoldsAll domains.old domains.new) }
+    ensures err { OnErr result (KeepsAllMembers domains.old domains.new) }
 {
     match domains.get_mut(&serial) {
         None => Ok(()),

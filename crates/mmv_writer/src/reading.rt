@@ -1,7 +1,7 @@
 //! A whole layout text as an image, and its lines one by one.
 ghost use Rattle.layout_text.specs.Lines.{line_of};
 ghost use Rattle.text_lines.specs.Lines.{lines_of};
-ghost use Rattle.mmv_writer.specs.Reading.{kind_in, with_written, with_line, with_said, with_head, sized, text_image, Takes, Begins, Answers, Adds};
+ghost use Rattle.mmv_writer.specs.Reading.{kind_in, with_written, with_line, with_said, with_head, sized, text_image, Takes, MakesBuilder, Answers, Adds};
 
 use crate::builder::Builder;
 use crate::fault::BuildFault;
@@ -72,7 +72,7 @@ pub fn take_line(alloc: Global, builder: &mut Builder, line: &[u8]) -> Result<()
 /// The builder of a text's first line, its header, which is without its line feed.
 #[tactic(auto, unfolding(crate::specs::Reading::with_head))]
 pub fn take_head(alloc: Global, line: &[u8]) -> Result<Builder, LineError>
-    ensures { Begins (with_head (line_of line.now)) result }
+    ensures { MakesBuilder (with_head (line_of line.now)) result }
 {
     match read_line(alloc, line)? {
         Some(

@@ -222,12 +222,12 @@ read_past region reading index past = record {
 
 -- what the end of a reading says
 abbrev pub SaysSo : ℕ → ℕ → Said → Type 0
-SaysSo first last line = line_of line ≡ steps.told first last
+SaysSo first last line = line_of line ≡ steps.end_line first last
 
 pub says_stable : (first last n : ℕ) → n ≡ first → last ≡ first → SaysSo first last (said.Stable n)
 says_stable first last n e f =
     ap (λ (m : ℕ). one_number (codes "stable") m) e
-    ∙ sym (ap (λ (m : ℕ). steps.told first m) f ∙ ap (λ (b : Bool). if b then one_number (codes "stable") first else two_numbers (codes "Again") first first) (eq-eqb first first refl))
+    ∙ sym (ap (λ (m : ℕ). steps.end_line first m) f ∙ ap (λ (b : Bool). if b then one_number (codes "stable") first else two_numbers (codes "Again") first first) (eq-eqb first first refl))
 
 pub says_again : (first last n m : ℕ) → n ≡ first → m ≡ last → first ≢ last → SaysSo first last (said.Again n m)
 says_again first last n m e f differ =
@@ -252,6 +252,6 @@ ended region reading pass last line e same says = record {
         let l : Left v pass.view (Load 1) last = left_by v pass.view (Load 1) last e q in
         let look = idle_load region logger k 1 (workers.Reading reading) reading.token r at refl at.is_worker in
         subst (λ (x : ScriptRegion). steps.ends x k (Doing.reading reading.first) ≡ Some (region_by x logger k (workers.Idle pass), line_of line)) (sym at.is)
-        (ap (λ (x : ScriptRegion). Some (does x k Doing.idle, steps.told reading.first (g1 (now v)))) (acts r logger k v pass.view (Load 1) last r.doing at.is_worker.number_is l look)
-        ∙ (ap (λ (m : ℕ). Some (region_by r logger k (workers.Idle pass), steps.told reading.first m)) (sym l.found)
+        (ap (λ (x : ScriptRegion). Some (does x k Doing.idle, steps.end_line reading.first (g1 (now v)))) (acts r logger k v pass.view (Load 1) last r.doing at.is_worker.number_is l look)
+        ∙ (ap (λ (m : ℕ). Some (region_by r logger k (workers.Idle pass), steps.end_line reading.first m)) (sym l.found)
         ∙ ap (λ (text : List ℕ). Some (region_by r logger k (workers.Idle pass), text)) (sym says)))

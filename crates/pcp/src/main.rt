@@ -5,7 +5,7 @@
 use pcp_listening::{first_bad_of_serve, is_serve, serve_clients};
 use pcp_outside::Sink;
 use pcp_system::{FileDisk, ReaderSource, WriterSink};
-use pm_commands::{Refusal, Stop, Usage, offline, read_words};
+use pm_commands::{Refusal, StageFault, Usage, offline, read_words};
 use std::alloc::{Alloc, AllocError, Global};
 use std::env::Env;
 use std::io::ErrorKind;
@@ -39,8 +39,8 @@ fn first_bad_word(rt: &(impl Env + Alloc<A = Global>)) -> Result<usize, AllocErr
     }
     match read_words(rt.alloc(), &words) {
         Ok(_) => Ok(words.len()),
-        Err(Stop::Refused(usage)) => Ok(usage.at),
-        Err(Stop::OutOfMemory) => Err(AllocError),
+        Err(StageFault::Refused(usage)) => Ok(usage.at),
+        Err(StageFault::OutOfMemory) => Err(AllocError),
     }
 }
 

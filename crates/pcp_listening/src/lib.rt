@@ -5,7 +5,7 @@
 ghost use Rattle.std.specs.Prelude.{◌≡◌, ◌⊎◌, None, map, string_bytes};
 ghost use Rattle.pcp_listening.specs.Ports.{port_of};
 
-use pcp_outside::{Sink, Source, write_all};
+use pcp_outside::{Free, Sink, Source, write_all};
 use pcp_system::TcpDoor;
 use pm_serving::{read_count, run_serve};
 use pm_words::{Refusal, Usage};
@@ -78,7 +78,16 @@ fn serve_at<R: Threads + Wait + Clock + Alloc<A = Global> + Send + Sync>(
         TcpDoor::new(listener, rt),
     ];
     let mut served = None;
-    run_serve(rt, rt.alloc(), &rest, input, out, &mut doors, &mut served)
+    run_serve(
+        rt,
+        rt.alloc(),
+        &rest,
+        input,
+        out,
+        &mut doors,
+        &Free,
+        &mut served,
+    )
 }
 
 // A word that is no port.

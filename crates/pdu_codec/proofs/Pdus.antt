@@ -15,7 +15,7 @@ use Rattle.pdu_codec.specs.declared.types.PduType.{PduType}
 use Rattle.pdu_codec.specs.declared.types.PduType.TheVariants as types
 use Rattle.pdu_codec.specs.Types.{code_of_type, type_of_code, type_of}
 use Rattle.pdu_codec.specs.Bodies.{body_of, IsPdu}
-use Rattle.pdu_codec.specs.Decoding.{known, type_in, head_in, head_of, body_at, ended, pdu_in}
+use Rattle.pdu_codec.specs.Decoding.{type_or_unknown, type_in, head_in, head_of, body_at, ended, pdu_in}
 use Rattle.pdu_codec.specs.Faults.{HasLength, IsFault, IsPduFault}
 use Rattle.pdu_codec.specs.Reading.{◌>>=◌, Gives, or_end}
 use Rattle.pdu_codec.proofs.Readers.{bind_ok, failed, ok_is, err_is, not_both}
@@ -122,7 +122,7 @@ head_few : (bytes : List ℕ) → length bytes < 4 → head_of bytes ≡ Err (Le
 unfolding head_of
 head_few bytes h = ap (head_in bytes) (cond-true (ltb (length bytes) 4) None (Some (from_be_bytes w32 (take 4 bytes))) (lt-ltb (length bytes) 4 h))
 
-head_stands : (bytes : List ℕ) → HasLength bytes → head_of bytes ≡ known (number_at bytes 4) (type_of_code (number_at bytes 4))
+head_stands : (bytes : List ℕ) → HasLength bytes → head_of bytes ≡ type_or_unknown (number_at bytes 4) (type_of_code (number_at bytes 4))
 unfolding head_of
 head_stands bytes long =
     let n : ℕ = number_at bytes 0 in
@@ -133,8 +133,8 @@ head_stands bytes long =
     ∙ ap type_in (word_found bytes 4 (omega arith))
 
 by_kind : (bytes : List ℕ) (o : Option PduType) → HasLength bytes → type_of_code (number_at bytes 4) ≡ o → HeadRead bytes
-by_kind bytes None long e = unknown long e (head_stands bytes long ∙ ap (known (number_at bytes 4)) e)
-by_kind bytes (Some kind) long e = stands long kind e (head_stands bytes long ∙ ap (known (number_at bytes 4)) e)
+by_kind bytes None long e = unknown long e (head_stands bytes long ∙ ap (type_or_unknown (number_at bytes 4)) e)
+by_kind bytes (Some kind) long e = stands long kind e (head_stands bytes long ∙ ap (type_or_unknown (number_at bytes 4)) e)
 
 head_read : (bytes : List ℕ) → HeadRead bytes
 head_read bytes =
@@ -222,7 +222,7 @@ pub pdu_again : (bytes : List ℕ) (p : Pdu) → IsBytes bytes → IsPdu bytes p
 unfolding pdu_in
 pdu_again bytes p fits s =
     let h = head_of_pdu bytes p s in
-    let head : head_of bytes ≡ Ok (type_of p) = head_stands bytes h.long ∙ ap (known (number_at bytes 4)) h.kind in
+    let head : head_of bytes ≡ Ok (type_of p) = head_stands bytes h.long ∙ ap (type_or_unknown (number_at bytes 4)) h.kind in
     ap (λ r. r >>= λ k. body_at k bytes 12 >>= ended bytes) head ∙ (answers (type_of p) bytes 12 fits h.long.0).again p h.has
 
 -- a head that fails is the fault of the whole

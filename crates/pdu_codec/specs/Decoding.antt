@@ -17,13 +17,13 @@ use Rattle.pdu_codec.specs.Reading.{◌>>=◌, error_at, profile_at, fetch_at, d
 use Rattle.pdu_codec.specs.ResultMisfit.{result_misfit}
 
 -- the type of a number
-abbrev pub known : ℕ → Option PduType → Result PduType PduFault
-known code None = Err (Unknown code)
-known code (Some kind) = Ok kind
+abbrev pub type_or_unknown : ℕ → Option PduType → Result PduType PduFault
+type_or_unknown code None = Err (Unknown code)
+type_or_unknown code (Some kind) = Ok kind
 
 abbrev pub type_in : Option ℕ → Result PduType PduFault
 type_in None = Err (Length 0)
-type_in (Some code) = known code (type_of_code code)
+type_in (Some code) = type_or_unknown code (type_of_code code)
 
 -- the type of bytes whose first word is their number
 abbrev pub head_in : List ℕ → Option ℕ → Result PduType PduFault

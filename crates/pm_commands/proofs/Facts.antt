@@ -29,7 +29,7 @@ use Rattle.pm_runs.specs.Regions.{HasRegions}
 use Rattle.pm_words.specs.Inputs.{input_limit, refusal_of}
 use Rattle.pm_tasks.specs.Meanings.{meaning}
 use Rattle.pm_words.specs.Refusals.{status_of, reading_status, input_status, script_status, files_status, run_status}
-use Rattle.pm_words.specs.Sides.{SourceSide, SinkSide, DiskSide, found, Untouched}
+use Rattle.pm_words.specs.Sides.{SourceSide, SinkSide, DiskSide, files_found, Untouched}
 use Rattle.pm_commands.proofs.Lookings.{one_reason, wrapped_first}
 use Rattle.pm_commands.proofs.Nothing.{never_done, nothing_first}
 
@@ -300,13 +300,13 @@ module _ (words : List (List ℕ)) (s : SourceSide) (k : SinkSide) (d : DiskSide
   }
 
   -- a file refusal that a command of the words has, told of the command that got its input
-  turned_here : (a : Asks words s) (b : Meets words s) (e : FilesRefusal) → (meaning b.command).turns_away b.input (found d) e → (meaning a.command).turns_away a.input (found d) e
+  turned_here : (a : Asks words s) (b : Meets words s) (e : FilesRefusal) → (meaning b.command).turns_away b.input (files_found d) e → (meaning a.command).turns_away a.input (files_found d) e
   turned_here a b e turned =
-      subst (λ (i : List ℕ). (meaning a.command).turns_away i (found d) e) (sym (same_input a b))
-      (subst (λ (c : Command). (meaning c).turns_away b.input (found d) e) (sym (same_command a b)) turned)
+      subst (λ (i : List ℕ). (meaning a.command).turns_away i (files_found d) e) (sym (same_input a b))
+      (subst (λ (c : Command). (meaning c).turns_away b.input (files_found d) e) (sym (same_command a b)) turned)
 
   -- which refusal of a good input comes of files that are turned away: one of this status, unless memory ran out, the source or the disk failed
-  turned_found : (status : ℕ) (b : Meets words s) → refused_of b ≡ None → ((a : Asks words s) (e : FilesRefusal) → (d.tells → (meaning a.command).turns_away a.input (found d) e) → files_status e ≡ status)
+  turned_found : (status : ℕ) (b : Meets words s) → refused_of b ≡ None → ((a : Asks words s) (e : FilesRefusal) → (d.tells → (meaning a.command).turns_away a.input (files_found d) e) → files_status e ≡ status)
       → (e : Refusal) → Caused e → (status_of e ≡ status) ⊎ ((status_of e ≡ 9) ⊎ ((status_of e ≡ 3) ⊎ (status_of e ≡ 5)))
   turned_found status b good so (Words usage) c = absurd (apart usage.at c.0 b.command b.words_are)
   turned_found status b good so (Reading ReadFault) c = inr (inr (inl refl))
@@ -317,11 +317,11 @@ module _ (words : List (List ℕ)) (s : SourceSide) (k : SinkSide) (d : DiskSide
   turned_found status b good so NoMemory c = inr (inl refl)
 
   -- what was done was over files that the command doesn't turn away
-  not_welcome : (text : List ℕ) → HasRun words s d text → (b : Meets words s) (e : FilesRefusal) → IsNever e → d.tells → (meaning b.command).turns_away b.input (found d) e → ⊥
+  not_welcome : (text : List ℕ) → HasRun words s d text → (b : Meets words s) (e : FilesRefusal) → IsNever e → d.tells → (meaning b.command).turns_away b.input (files_found d) e → ⊥
   not_welcome text run b e never tells turned =
       run.served.welcome tells e never (turned_here run.asks b e turned)
 
-  not_nothing : (text : List ℕ) → HasRun words s d text → (b : Meets words s) (stamp : Moment) → d.tells → (meaning b.command).turns_away b.input (found d) (Nothing stamp) → ⊥
+  not_nothing : (text : List ℕ) → HasRun words s d text → (b : Meets words s) (stamp : Moment) → d.tells → (meaning b.command).turns_away b.input (files_found d) (Nothing stamp) → ⊥
   not_nothing text run b stamp tells turned = never_done run.asks.command run.asks.input d text run.served tells stamp (turned_here run.asks b (Nothing stamp) turned)
 
   read_low : (e : ReadRefusal) → reading_status e ≤ 7
@@ -353,9 +353,9 @@ module _ (words : List (List ℕ)) (s : SourceSide) (k : SinkSide) (d : DiskSide
   run_is_exact status ends = record {
     not_later = by_end status (λ n. n ≡ 12 → (last : Moment) × TurnsAway words s d (Run (NotLater last))) ends (λ done h. cc) (λ untold h. cc) not_later_only;
     changed = by_end status (λ n. n ≡ 13 → (pmid : ℕ) × TurnsAway words s d (Run (Changed pmid))) ends (λ done h. cc) (λ untold h. cc) changed_only;
-    always = by_end status (λ n. (b : Meets words s) → refused_of b ≡ None → d.tells → (reason : RunRefusal) → (meaning b.command).turns_away b.input (found d) (Run reason) → (n ≡ run_status reason) ⊎ ((n ≡ 9) ⊎ ((n ≡ 3) ⊎ (n ≡ 5)))) ends
+    always = by_end status (λ n. (b : Meets words s) → refused_of b ≡ None → d.tells → (reason : RunRefusal) → (meaning b.command).turns_away b.input (files_found d) (Run reason) → (n ≡ run_status reason) ⊎ ((n ≡ 9) ⊎ ((n ≡ 3) ⊎ (n ≡ 5)))) ends
         (λ done b good tells reason turned. absurd (not_welcome done.text done.run b (Run reason) tt tells turned)) (λ untold b good tells reason turned. absurd (not_welcome untold.text untold.run b (Run reason) tt tells turned))
-        (λ e c b good tells reason turned. turned_found (run_status reason) b good (λ a x also. one_reason a.command a.input (found d) reason x (turned_here a b (Run reason) turned) (also tells)) e c);
+        (λ e c b good tells reason turned. turned_found (run_status reason) b good (λ a x also. one_reason a.command a.input (files_found d) reason x (turned_here a b (Run reason) turned) (also tells)) e c);
   }
 
   nothing_only : (e : Refusal) → Caused e → status_of e ≡ 11 → (stamp : Moment) × TurnsAway words s d (Nothing stamp)
@@ -367,9 +367,9 @@ module _ (words : List (List ℕ)) (s : SourceSide) (k : SinkSide) (d : DiskSide
   pub nothing_is_there : (status : ℕ) → Ends words s k d status → NothingIsThere words s d status
   nothing_is_there status ends = record {
     only = by_end status (λ n. n ≡ 11 → (stamp : Moment) × TurnsAway words s d (Nothing stamp)) ends (λ done h. cc) (λ untold h. cc) nothing_only;
-    always = by_end status (λ n. (b : Meets words s) → refused_of b ≡ None → d.tells → (stamp : Moment) → (meaning b.command).turns_away b.input (found d) (Nothing stamp) → (n ≡ 11) ⊎ ((n ≡ 9) ⊎ ((n ≡ 3) ⊎ (n ≡ 5)))) ends
+    always = by_end status (λ n. (b : Meets words s) → refused_of b ≡ None → d.tells → (stamp : Moment) → (meaning b.command).turns_away b.input (files_found d) (Nothing stamp) → (n ≡ 11) ⊎ ((n ≡ 9) ⊎ ((n ≡ 3) ⊎ (n ≡ 5)))) ends
         (λ done b good tells stamp turned. absurd (not_nothing done.text done.run b stamp tells turned)) (λ untold b good tells stamp turned. absurd (not_nothing untold.text untold.run b stamp tells turned))
-        (λ e c b good tells stamp turned. turned_found 11 b good (λ a x also. nothing_first a.command a.input (found d) stamp x (turned_here a b (Nothing stamp) turned) (also tells)) e c);
+        (λ e c b good tells stamp turned. turned_found 11 b good (λ a x also. nothing_first a.command a.input (files_found d) stamp x (turned_here a b (Nothing stamp) turned) (also tells)) e c);
   }
 
   archive_only : (e : Refusal) → Caused e → status_of e ≡ 6 → (x : FilesRefusal) × (files_status x ≡ 6) × TurnsAway words s d x
@@ -384,9 +384,9 @@ module _ (words : List (List ℕ)) (s : SourceSide) (k : SinkSide) (d : DiskSide
   pub archive_fault_is_exact : (status : ℕ) → Ends words s k d status → ArchiveFaultIsExact words s d status
   archive_fault_is_exact status ends = record {
     only = by_end status (λ n. n ≡ 6 → (x : FilesRefusal) × (files_status x ≡ 6) × TurnsAway words s d x) ends (λ done h. cc) (λ untold h. cc) archive_only;
-    always = by_end status (λ n. (b : Meets words s) → refused_of b ≡ None → d.tells → (file : FileId) → (meaning b.command).turns_away b.input (found d) (Compressed file) → (n ≡ 6) ⊎ ((n ≡ 9) ⊎ ((n ≡ 3) ⊎ (n ≡ 5)))) ends
+    always = by_end status (λ n. (b : Meets words s) → refused_of b ≡ None → d.tells → (file : FileId) → (meaning b.command).turns_away b.input (files_found d) (Compressed file) → (n ≡ 6) ⊎ ((n ≡ 9) ⊎ ((n ≡ 3) ⊎ (n ≡ 5)))) ends
         (λ done b good tells file turned. absurd (not_welcome done.text done.run b (Compressed file) tt tells turned)) (λ untold b good tells file turned. absurd (not_welcome untold.text untold.run b (Compressed file) tt tells turned))
-        (λ e c b good tells file turned. turned_found 6 b good (λ a x also. wrapped_first a.command a.input (found d) file x (turned_here a b (Compressed file) turned) (also tells)) e c);
+        (λ e c b good tells file turned. turned_found 6 b good (λ a x also. wrapped_first a.command a.input (files_found d) file x (turned_here a b (Compressed file) turned) (also tells)) e c);
   }
 
   left_unwritten : (status : ℕ) (a : Asks words s) → Left (meaning a.command) status a.input d → Unwritten words s d status
@@ -420,7 +420,7 @@ module _ (words : List (List ℕ)) (s : SourceSide) (k : SinkSide) (d : DiskSide
       (subst (λ (i : List ℕ). IsGoodDisk (meaning good.meets.command) i d) (sym (same_input a good.meets))
       (good.disk (ap (λ (c : Command). (meaning c).uses_disk) (sym (same_command a good.meets)) ∙ uses)))
 
-  good_files : IsGoodRun words s k d → (a : Asks words s) → (meaning a.command).uses_disk ≡ true → (e : FilesRefusal) → (d.tells → (meaning a.command).turns_away a.input (found d) e) → files_status e ≡ 11
+  good_files : IsGoodRun words s k d → (a : Asks words s) → (meaning a.command).uses_disk ≡ true → (e : FilesRefusal) → (d.tells → (meaning a.command).turns_away a.input (files_found d) e) → files_status e ≡ 11
   good_files good a uses e turned = let disk : IsGoodDisk (meaning a.command) a.input d = good_disk good a uses in disk.welcome e (turned disk.tells)
 
   good_faults : IsGoodRun words s k d → (a : Asks words s) → (meaning a.command).uses_disk ≡ true → Rose d.faults d.faults_after → ⊥

@@ -22,7 +22,7 @@ use Rattle.pm_words.specs.Serving.{Left, StopCause, HasServed, Serves, IsNever, 
 use Rattle.pm_words.specs.Meaning.{Meaning}
 use Rattle.pm_tasks.specs.Meanings.{meaning}
 use Rattle.pm_words.specs.Refusals.{files_status, numbered_line_of, run_status}
-use Rattle.pm_words.specs.Sides.{SinkSide, DiskSide, Found, found, Untouched, Leaves}
+use Rattle.pm_words.specs.Sides.{SinkSide, DiskSide, Found, files_found, Untouched, Leaves}
 use Rattle.pm_words.specs.Streams.{IsSent}
 use Rattle.pm_tasks.specs.commands.at as at
 use Rattle.pm_tasks.specs.commands.dump as dump
@@ -97,10 +97,10 @@ module _ (turned : Found → FilesRefusal → Type 0) (said : Found → List ℕ
   look_wrapped f file (Nothing stamp) w t = absurd (not_both f.wrapped file (fits.nothing f stamp t) (fits.wrapped f file w))
 
   -- what such a command is served
-  pub look_served : (input : List ℕ) (d : DiskSide) (text : List ℕ) → Untouched d → (d.tells → said (found d) text) → HasServed (looks turned said first) input d text
+  pub look_served : (input : List ℕ) (d : DiskSide) (text : List ℕ) → Untouched d → (d.tells → said (files_found d) text) → HasServed (looks turned said first) input d text
   look_served input d text still told = record {
     good = refl;
-    welcome = λ tells e never away. never_turned (found d) text (told tells) e never away;
+    welcome = λ tells e never away. never_turned (files_found d) text (told tells) e never away;
     done = still;
     says = told;
     kept = λ tells crash left. tt;
@@ -117,7 +117,7 @@ module _ (turned : Found → FilesRefusal → Type 0) (said : Found → List ℕ
   look_stops input d (Input e) still c = absurd c
 
   -- what such a command answers that writes nothing before it is done
-  pub look_serves : (input : List ℕ) (k : SinkSide) (failed : Bool) (d : DiskSide) (result : Result (List ℕ) Refusal) → Untouched d → IsSent k [] failed → first d [] → (d.tells → IfOk result (said (found d))) → IfErr result (TurnedAway turned d)
+  pub look_serves : (input : List ℕ) (k : SinkSide) (failed : Bool) (d : DiskSide) (result : Result (List ℕ) Refusal) → Untouched d → IsSent k [] failed → first d [] → (d.tells → IfOk result (said (files_found d))) → IfErr result (TurnedAway turned d)
       → Serves (looks turned said first) input k failed d result
   look_serves input k failed d (Ok text) still sent begun told away = record { front = []; sent = sent; done = look_served input d text still told; stops = tt }
   look_serves input k failed d (Err e) still sent begun told away = record { front = []; sent = sent; done = tt; stops = (look_stops input d e still away, begun) }

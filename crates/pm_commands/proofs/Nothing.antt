@@ -17,7 +17,7 @@ use Rattle.pm_tasks.specs.Archives.{IsLoaded, IsNotLoaded}
 use Rattle.pm_words.specs.Serving.{HasServed}
 use Rattle.pm_tasks.specs.Meanings.{meaning}
 use Rattle.pm_words.specs.Refusals.{files_status}
-use Rattle.pm_words.specs.Sides.{DiskSide, Found, found}
+use Rattle.pm_words.specs.Sides.{DiskSide, Found, files_found}
 use Rattle.pm_tasks.specs.commands.at as at
 use Rattle.pm_tasks.specs.commands.value as value
 
@@ -110,7 +110,7 @@ nothing_first (At t) input f stamp e n other = at_nothing t f stamp e n other
 nothing_first (Range from to) input f stamp e n other = absurd (no_such (λ (a : ⊥). a) (λ b. b.2) n)
 nothing_first (Value asked) input f stamp e n other = value_nothing asked f stamp e n other
 
-pub never_done : (command : Command) (input : List ℕ) (d : DiskSide) (text : List ℕ) → HasServed (meaning command) input d text → d.tells → (stamp : Moment) → (meaning command).turns_away input (found d) (Nothing stamp) → ⊥
+pub never_done : (command : Command) (input : List ℕ) (d : DiskSide) (text : List ℕ) → HasServed (meaning command) input d text → d.tells → (stamp : Moment) → (meaning command).turns_away input (files_found d) (Nothing stamp) → ⊥
 never_done (Once asked) input d text served tells stamp n = n.2
 never_done (Replay volume) input d text served tells stamp n = n.2
 never_done (Make asked) input d text served tells stamp n = n.2
@@ -119,6 +119,6 @@ never_done MmvDump input d text served tells stamp n = n
 never_done Dump input d text served tells stamp n = no_such (λ (a : ⊥). a) (λ b. b.2) n
 never_done Info input d text served tells stamp n = n
 never_done Recover input d text served tells stamp n = n
-never_done (At t) input d text served tells stamp n = at_said t (found d) stamp text n (served.says tells)
+never_done (At t) input d text served tells stamp n = at_said t (files_found d) stamp text n (served.says tells)
 never_done (Range from to) input d text served tells stamp n = no_such (λ (a : ⊥). a) (λ b. b.2) n
-never_done (Value asked) input d text served tells stamp n = value_said asked (found d) stamp text n (served.says tells)
+never_done (Value asked) input d text served tells stamp n = value_said asked (files_found d) stamp text n (served.says tells)

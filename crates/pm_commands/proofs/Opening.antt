@@ -2,8 +2,8 @@
 use Rattle.std.proofs.Common.{◌≡◌, ℕ, List, Option, Ok, Err, sym, ◌∙◌}
 use Rattle.script_passes.specs.declared.opening.Opened.{Opened}
 use Rattle.pm_words.specs.declared.stage.ReadRefusal.{ReadRefusal}
-use Rattle.pm_words.specs.declared.stage.Stop.{Stop}
-use Rattle.pm_words.specs.declared.stage.Stop.TheVariants.{OutOfMemory, Refused}
+use Rattle.pm_words.specs.declared.stage.StageFault.{StageFault}
+use Rattle.pm_words.specs.declared.stage.StageFault.TheVariants.{OutOfMemory, Refused}
 use Rattle.pm_words.specs.declared.stage.Usage.{Usage}
 use Rattle.pm_words.specs.declared.words.Command.{Command}
 use Rattle.pm_words.specs.declared.refusal.Refusal.TheVariants.{Words, Reading}
@@ -12,11 +12,11 @@ use Rattle.pm_words.specs.Refusals.{stopped}
 use Rattle.pm_tasks.specs.Regions.{AsksRun}
 use Rattle.pm_runs.specs.Regions.{HasRegions}
 
-pub no_words_regions : (words : List (List ℕ)) (opened : Option Opened) (stop : Stop Usage) → AsksRun words → HasRegions (Err (stopped Words stop)) opened
+pub no_words_regions : (words : List (List ℕ)) (opened : Option Opened) (stop : StageFault Usage) → AsksRun words → HasRegions (Err (stopped Words stop)) opened
 no_words_regions words opened OutOfMemory asks = tt
 no_words_regions words opened (Refused usage) asks = tt
 
-pub no_input_regions : (words : List (List ℕ)) (opened : Option Opened) (stop : Stop ReadRefusal) → AsksRun words → HasRegions (Err (stopped Reading stop)) opened
+pub no_input_regions : (words : List (List ℕ)) (opened : Option Opened) (stop : StageFault ReadRefusal) → AsksRun words → HasRegions (Err (stopped Reading stop)) opened
 no_input_regions words opened OutOfMemory asks = tt
 no_input_regions words opened (Refused e) asks = tt
 

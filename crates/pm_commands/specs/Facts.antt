@@ -19,7 +19,7 @@ use Rattle.pcp_base.specs.declared.file.FileId.{FileId}
 use Rattle.pm_words.specs.declared.stage.RunRefusal.{RunRefusal}
 use Rattle.pm_words.specs.declared.stage.RunRefusal.TheVariants.{Condition, NotLater, Changed}
 use Rattle.pm_words.specs.Refusals.{input_status, files_status, run_status}
-use Rattle.pm_words.specs.Sides.{SourceSide, SinkSide, DiskSide, found, Untouched}
+use Rattle.pm_words.specs.Sides.{SourceSide, SinkSide, DiskSide, files_found, Untouched}
 
 -- the words are a command that has nothing to do with the disk
 abbrev pub IsAside : List (List ℕ) → Type 0
@@ -39,7 +39,7 @@ pub record TurnsAway (words : List (List ℕ)) (s : SourceSide) (d : DiskSide) (
   pub asks : Asks words s
   pub good : fault_of asks ≡ None
   pub uses : (meaning asks.command).uses_disk ≡ true
-  pub turned : d.tells → (meaning asks.command).turns_away asks.input (found d) e
+  pub turned : d.tells → (meaning asks.command).turns_away asks.input (files_found d) e
 
 -- 7 where a command that reads an input is given more than 16 MiB; one byte above the limit is taken, and no further one. Else it
 -- comes only where a script has too many regions, a tick asks for too many metrics, a record is too long, or a file of the archive is
@@ -77,20 +77,20 @@ pub record InputFaultIsExact (words : List (List ℕ)) (s : SourceSide) (d : Dis
 pub record RunIsExact (words : List (List ℕ)) (s : SourceSide) (d : DiskSide) (status : ℕ) : Type 0 where
   pub not_later : status ≡ 12 → (last : Moment) × TurnsAway words s d (Run (NotLater last))
   pub changed : status ≡ 13 → (pmid : ℕ) × TurnsAway words s d (Run (Changed pmid))
-  pub always : (a : Meets words s) → refused_of a ≡ None → d.tells → (reason : RunRefusal) → (meaning a.command).turns_away a.input (found d) (Run reason)
+  pub always : (a : Meets words s) → refused_of a ≡ None → d.tells → (reason : RunRefusal) → (meaning a.command).turns_away a.input (files_found d) (Run reason)
       → (status ≡ run_status reason) ⊎ ((status ≡ 9) ⊎ ((status ≡ 3) ⊎ (status ≡ 5)))
 
 -- 6 only where the archive is turned away: a file stands wrapped, or a place fits no archive; always in the first case, unless the
 -- disk fails before
 pub record ArchiveFaultIsExact (words : List (List ℕ)) (s : SourceSide) (d : DiskSide) (status : ℕ) : Type 0 where
   pub only : status ≡ 6 → (e : FilesRefusal) × (files_status e ≡ 6) × TurnsAway words s d e
-  pub always : (a : Meets words s) → refused_of a ≡ None → d.tells → (file : FileId) → (meaning a.command).turns_away a.input (found d) (Compressed file)
+  pub always : (a : Meets words s) → refused_of a ≡ None → d.tells → (file : FileId) → (meaning a.command).turns_away a.input (files_found d) (Compressed file)
       → (status ≡ 6) ⊎ ((status ≡ 9) ⊎ ((status ≡ 3) ⊎ (status ≡ 5)))
 
 -- 11 exactly where nothing that was asked for is there; a disk that fails comes before
 pub record NothingIsThere (words : List (List ℕ)) (s : SourceSide) (d : DiskSide) (status : ℕ) : Type 0 where
   pub only : status ≡ 11 → (stamp : Moment) × TurnsAway words s d (Nothing stamp)
-  pub always : (a : Meets words s) → refused_of a ≡ None → d.tells → (stamp : Moment) → (meaning a.command).turns_away a.input (found d) (Nothing stamp)
+  pub always : (a : Meets words s) → refused_of a ≡ None → d.tells → (stamp : Moment) → (meaning a.command).turns_away a.input (files_found d) (Nothing stamp)
       → (status ≡ 11) ⊎ ((status ≡ 9) ⊎ ((status ≡ 3) ⊎ (status ≡ 5)))
 
 -- it was refused, so that it wasn't done
@@ -105,7 +105,7 @@ Unwritten words s d status = Untouched d ⊎ ((a : Asks words s) × (meaning a.c
 -- count that doesn't rise
 pub record IsGoodDisk (m : Meaning) (input : List ℕ) (d : DiskSide) : Type 0 where
   pub tells : d.tells
-  pub welcome : (e : FilesRefusal) → m.turns_away input (found d) e → files_status e ≡ 11
+  pub welcome : (e : FilesRefusal) → m.turns_away input (files_found d) e → files_status e ≡ 11
   pub kept : Rose d.faults d.faults_after → ⊥
 
 -- Good input succeeds: a command, an input that it reads, a good disk where it uses one, and no count that rose.

@@ -8,6 +8,6 @@ mod top;
 pub use laws::{done_is_welcome, one_end, readable_is_welcome};
 pub use pm_words::{
     Command, DiskRefusal, FilesRefusal, InputRefusal, MakeWords, OnceWords, ReadRefusal, Refusal,
-    RunRefusal, Stop, Usage, ValueWords, read_words,
+    RunRefusal, StageFault, Usage, ValueWords, read_words,
 };
 pub use top::offline;

@@ -17,7 +17,7 @@ use Rattle.pm_words.specs.declared.stage.FilesRefusal.TheVariants.{Run, Compress
 use Rattle.pm_words.specs.declared.refusal.Refusal.TheVariants.{NoMemory}
 use Rattle.pm_words.specs.Serving.{StopCause, HasServed, IsNever}
 use Rattle.pm_words.specs.Refusals.{recover_refusal, files_status}
-use Rattle.pm_words.specs.Sides.{DiskSide, Found, found, disk_side}
+use Rattle.pm_words.specs.Sides.{DiskSide, Found, files_found, disk_side}
 use Rattle.pm_runs.specs.commands.recover.{IsMendedSide, items_line, recover, turned}
 use Rattle.pm_words.proofs.Serving.{left_alone, still_settled}
 
@@ -56,7 +56,7 @@ module _ {D : Type 0} (g : DiskGhosts D) (a b : D) (input : List ℕ) where
     pub served : (text : List ℕ) → (g.tells → g.wrapped_file a ≡ None) → text ≡ items_line archive.items → HasServed recover input side text
     served text unwrapped is = record {
       good = refl;
-      welcome = λ tells e never away. never_turned (found side) e (unwrapped tells) never away;
+      welcome = λ tells e never away. never_turned (files_found side) e (unwrapped tells) never away;
       done = is_mended;
       says = λ tells.
           let w = was tells in (

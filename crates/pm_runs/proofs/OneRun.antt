@@ -11,7 +11,7 @@ use Rattle.pcp_model.specs.Frame.{frame}
 use Rattle.pcp_model.specs.Laws.{EndsWhole}
 use Rattle.pcp_model.specs.Payload.{payload}
 use Rattle.archive_meta.specs.Missing.{framed_records}
-use Rattle.fetch_engine.specs.declared.fetch.Fetched.{Fetched}
+use Rattle.fetch_answers.specs.declared.fetch.Fetched.{Fetched}
 use Rattle.log_schedule.specs.declared.config.Group.{Group}
 use Rattle.log_schedule.specs.Instants.{EachPasses, Follows, Passes, Timetable}
 use Rattle.logger_core.specs.declared.ends.Ends.{Ends}

@@ -20,8 +20,8 @@ use Rattle.record_run.specs.ImageCrashes.{ComesBack, IsAllAfter, MayBeAfter, sta
 use Rattle.record_run.proofs.ComeBack.{fewer}
 use Rattle.record_run.specs.SinceRecovery.{FromRecovery}
 use Rattle.pm_words.specs.declared.stage.InputRefusal.{InputRefusal}
-use Rattle.pm_words.specs.declared.stage.Stop.{Stop}
-use Rattle.pm_words.specs.declared.stage.Stop.TheVariants.{OutOfMemory, Refused}
+use Rattle.pm_words.specs.declared.stage.StageFault.{StageFault}
+use Rattle.pm_words.specs.declared.stage.StageFault.TheVariants.{OutOfMemory, Refused}
 use Rattle.pm_words.specs.declared.stage.FilesRefusal.{FilesRefusal}
 use Rattle.pm_words.specs.declared.stage.FilesRefusal.TheVariants.{Run, Compressed, NotArchive, Nothing}
 use Rattle.pm_words.specs.declared.stage.DiskRefusal.TheVariants.{Files as FilesAway, DiskFault}
@@ -32,12 +32,12 @@ use Rattle.pm_words.specs.declared.refusal.Refusal.TheVariants.{Words, Reading, 
 use Rattle.pm_words.specs.Inputs.{refusal_of}
 use Rattle.pm_words.specs.Meaning.{Meaning}
 use Rattle.pm_words.specs.Refusals.{NoClock, ending_refusal, files_status, numbered_line_of, run_status, stopped}
-use Rattle.pm_words.specs.Sides.{DiskSide, Found, Leaves, SinkSide, Untouched, disk_side, found}
+use Rattle.pm_words.specs.Sides.{DiskSide, Found, Leaves, SinkSide, Untouched, disk_side, files_found}
 use Rattle.pm_words.specs.Streams.{IsSent}
 use Rattle.pm_words.specs.Serving.{StopCause, HasServed, MayLeave, Serves, HasRecovered}
 use Rattle.pm_runs.specs.Regions.{RanRegions, pair_of}
 use Rattle.pm_runs.specs.Running.{ToldRun, WasRun}
-use Rattle.pm_runs.specs.Scripts.{Begins, Begun, Halts, Leads, LogsFirst, OfScript, RanFirst, Runner, ending_of, runs_script, turned, ScriptSince}
+use Rattle.pm_runs.specs.Scripts.{HasWritten, Begun, Halts, Leads, LogsFirst, OfScript, RanFirst, Runner, ending_of, runs_script, turned, ScriptSince}
 use Rattle.pm_runs.proofs.Mended.{not_both}
 use Rattle.pm_runs.proofs.OneRun.{one_ending}
 use Rattle.pm_runs.proofs.Refused.{refused_is_none}
@@ -175,10 +175,10 @@ module _ (c : Runner) (input : List ℕ) (script : Script) (is : c.script input 
     has_served text same says = record {
       good = good;
       welcome = λ t e never away.
-          let both = of_one c input (λ s. turned c.limit (found d) s e) (λ s. (output : List ℕ) × (items : List Item) × (final : Files) × Leads s c.limit (contents_of d.held) ends.Done output items final) away
+          let both = of_one c input (λ s. turned c.limit (files_found d) s e) (λ s. (output : List ℕ) × (items : List Item) × (final : Files) × Leads s c.limit (contents_of d.held) ends.Done output items final) away
           (of_script (λ s. (output : List ℕ) × (items : List Item) × (final : Files) × Leads s c.limit (contents_of d.held) ends.Done output items final)
           (r.output, (told t).items, contents_of d.after, leads ends.Done same (told t).items (told t).regions (ends_so ends.Done same t))) in
-          done_taken c.limit (found d) both.0 both.2.1.0 both.2.1.1 both.2.1.2 (ends_so ends.Done same t).unwrapped both.2.1.3 e both.2.0;
+          done_taken c.limit (files_found d) both.0 both.2.1.0 both.2.1.1 both.2.1.2 (ends_so ends.Done same t).unwrapped both.2.1.3 e both.2.0;
       done = λ t. ((ends_so ends.Done same t).unwrapped, (ends_so ends.Done same t).settled);
       says = λ t. (
         script,
@@ -196,7 +196,7 @@ module _ (c : Runner) (input : List ℕ) (script : Script) (is : c.script input 
     -- ---- why it stops
 
     abbrev Stops : Refusal → Type 0
-    Stops e = StopCause m input d e × Begins c input d e (c.front r.output)
+    Stops e = StopCause m input d e × HasWritten c input d e (c.front r.output)
 
     came_by : (reason : RunRefusal) → r.ending ≡ ending_of reason → (t : g.tells) → CameToEnd script c.limit (pair_of d) r (told t).items (told t).regions
     came_by (Condition line) same t = ends_so (ends.Condition line) same t
@@ -220,7 +220,7 @@ module _ (c : Runner) (input : List ℕ) (script : Script) (is : c.script input 
           (r.output, refl, λ t. (script, is, ((told t).items, led t))),
         )
 
-    alone : (e : FilesRefusal) → files_status e ≡ 6 → (g.tells → g.held new ≡ g.held old) → (g.tells → (runs_script c).turns_away input (found d) e) → StopCause m input d (Disk (FilesAway e))
+    alone : (e : FilesRefusal) → files_status e ≡ 6 → (g.tells → g.held new ≡ g.held old) → (g.tells → (runs_script c).turns_away input (files_found d) e) → StopCause m input d (Disk (FilesAway e))
     alone e six still away = ((good, refl), (left_alone m (files_status e) input d still, away))
 
     some_is : (a b : Refusal) → Some a ≡ Some b → a ≡ b
@@ -375,7 +375,7 @@ begun_on limit status script d other (inr (inr (reason, is, w))) = inr (inl (ref
 pub run_untold : (c : Runner) (input : List ℕ) (d : DiskSide) (status : ℕ) → (status ≡ 5 → ⊥) → (runs_script c).begun status input d → (runs_script c).begun 9 input d
 run_untold c input d status other (script, is, b) = (script, is, begun_on c.limit status script d other b)
 
-pub run_begins_untold : (c : Runner) (input : List ℕ) (d : DiskSide) (e : Refusal) (front : List ℕ) → IsSome (numbered_line_of e) → Begins c input d e front → Begins c input d NoMemory front
+pub run_begins_untold : (c : Runner) (input : List ℕ) (d : DiskSide) (e : Refusal) (front : List ℕ) → IsSome (numbered_line_of e) → HasWritten c input d e front → HasWritten c input d NoMemory front
 run_begins_untold c input d (Words usage) front some b = inl b
 run_begins_untold c input d (Reading e) front some b = inl b
 run_begins_untold c input d (Input e) front some b = inl b
@@ -441,7 +441,7 @@ module _ {D : Type 0} (g : DiskGhosts D) (script : Script) (limit : ℕ) (old mi
 -- ---- what it answers
 
 -- before its script is run
-pub stop_begins : (c : Runner) (input : List ℕ) (d : DiskSide) (stop : Stop InputRefusal) → Begins c input d (stopped Input stop) []
+pub stop_begins : (c : Runner) (input : List ℕ) (d : DiskSide) (stop : StageFault InputRefusal) → HasWritten c input d (stopped Input stop) []
 stop_begins c input d OutOfMemory = inl refl
 stop_begins c input d (Refused e) = refl
 
@@ -451,7 +451,7 @@ unrun c input k failed d sent still = record { front = []; sent = sent; done = t
 -- after its run, where the summary isn't told
 pub uncounted : (c : Runner) (input : List ℕ) (script : Script) → c.script input ≡ Some script → refusal_of c.reads input ≡ None → c.front [] ≡ [] → {D : Type 0} (g : DiskGhosts D) (old new : D) (o : Opened) (r : Replayed) → r.ending ≡ ends.Done
     → (g.tells → ToldRun g script c.limit old new o r) → (before : ℕ) → g.faults old ≤ before → (e : Refusal) → WantsCounts before (g.faults new) e
-    → StopCause (runs_script c) input (disk_side g old new) e × Begins c input (disk_side g old new) e []
+    → StopCause (runs_script c) input (disk_side g old new) e × HasWritten c input (disk_side g old new) e []
 uncounted c input script is good empty g old new o r same told before low (Disk DiskFault) rose = (
   ((good, refl), (record { files = inr (script, is, inl refl); settled = λ other. absurd (other refl) }, rose_later (g.faults old) before (g.faults new) low rose)),
   ([], sym empty, λ t. (script, is, inl refl)),

@@ -123,12 +123,12 @@ StoppedAt script limit d (FilesAway (Nothing stamp)) output = ⊥
 StoppedAt script limit d DiskFault output = (output ≡ []) ⊎ ((items : List Item) × RanFirst script limit (contents_of d.held) output items)
 
 -- what such a command has written before the line of a refusal
-abbrev pub Begins : Runner → List ℕ → DiskSide → Refusal → List ℕ → Type 0
-Begins c input d (Words usage) front = front ≡ []
-Begins c input d (Reading e) front = front ≡ []
-Begins c input d (Input e) front = front ≡ []
-Begins c input d (Disk e) front = (output : List ℕ) × (front ≡ c.front output) × (d.tells → OfScript c input (λ script. StoppedAt script c.limit d e output))
-Begins c input d NoMemory front = (front ≡ []) ⊎ ((output : List ℕ) × (front ≡ c.front output) × (d.tells → (output ≡ []) ⊎ OfScript c input (λ script. WantsWith script c.limit d output)))
+abbrev pub HasWritten : Runner → List ℕ → DiskSide → Refusal → List ℕ → Type 0
+HasWritten c input d (Words usage) front = front ≡ []
+HasWritten c input d (Reading e) front = front ≡ []
+HasWritten c input d (Input e) front = front ≡ []
+HasWritten c input d (Disk e) front = (output : List ℕ) × (front ≡ c.front output) × (d.tells → OfScript c input (λ script. StoppedAt script c.limit d e output))
+HasWritten c input d NoMemory front = (front ≡ []) ⊎ ((output : List ℕ) × (front ≡ c.front output) × (d.tells → (output ≡ []) ⊎ OfScript c input (λ script. WantsWith script c.limit d output)))
 
 -- What stands where it is stopped after the first write. After a disk fault the run is on its way.
 abbrev pub Begun : ℕ → ℕ → Script → DiskSide → Type 0
@@ -153,7 +153,7 @@ runs_script c = record {
   turns_away = λ input found e. OfScript c input (λ script. turned c.limit found script e);
   done = λ input d. d.tells → (d.wrapped ≡ None) × IsSettled d.after;
   says = λ input d text. d.tells → OfScript c input (λ script. HasRunTo c script d text);
-  begins = λ input d e front. Begins c input d e front;
+  begins = λ input d e front. HasWritten c input d e front;
   keeps = λ input held crash. OfScript c input (λ script. KeepsAll script c.limit (contents_of held) crash);
   begun = λ status input d. OfScript c input (λ script. Begun c.limit status script d);
   may_leave = λ input held crash. OfScript c input (λ script. (items : List Item) × LogsFirst script c.limit (contents_of held) items × MayBeAfter items held crash);

@@ -1,5 +1,5 @@
 -- Each fact on a status follows from how the call ends, by cases on the refusal.
-use Rattle.std.proofs.Common.{◌≡◌, ◌≢◌, ◌⊎◌, inl, inr, ℕ, ◌<◌, ◌≤◌, List, [], ◌∷◌, map, length, drop, refl, sym, ap, ◌∙◌, subst, arith, Option, Result, Ok, Err}
+use Rattle.std.proofs.Common.{◌≡◌, ◌≢◌, ◌⊎◌, inl, inr, ⊎_elim, ℕ, ◌<◌, ◌≤◌, List, [], ◌∷◌, map, length, drop, refl, sym, ap, ◌∙◌, subst, arith, Option, Result, Ok, Err}
 use Rattle.std.specs.List.{AllByRecursion}
 use Rattle.pcp_outside.specs.Causes.{Rose}
 use Rattle.pcp_outside.specs.declared.doors.Door.{Ghosts}
@@ -21,7 +21,7 @@ use Rattle.pm_serving.specs.declared.refusal.ServeRefusal.{ServeRefusal}
 use Rattle.pm_serving.specs.declared.refusal.ServeRefusal.TheVariants.{Before, Accept}
 use Rattle.pm_serving.specs.declared.served.Served.{Served}
 use Rattle.pm_serving.specs.CommandWords.{count_of}
-use Rattle.pm_serving.specs.Ends.{Asks, Ends, EndsDone, EndsUntold, Finds, IsAsked, Ran, Refuses, broken, whole}
+use Rattle.pm_serving.specs.Ends.{Asks, Ends, EndsDone, EndsUntold, Finds, IsAsked, Ran, RanCut, Refuses, broken, whole}
 use Rattle.pm_serving.specs.Facts.{IsGoodRun, LimitIsExact, Meets, ScriptFaultIsExact, ServedIsExact, UsageIsExact}
 use Rattle.pm_serving.specs.Refusals.{serving_status}
 use Rattle.pm_serving.specs.Scripts.{script_served}
@@ -226,8 +226,16 @@ module _ {P In Out Time : Type 0} (words : List (List ℕ)) (s : SourceSide) (k 
   pub accept_rose : (status : ℕ) → Ends words s k d served status → status ≡ 21 → SomeRose d.door d.before d.after
   accept_rose status ends = by_end status (λ n. n ≡ 21 → SomeRose d.door d.before d.after) ends (λ done h. absurd (omega (arith, h))) (λ untold h. absurd (omega (arith, h))) (λ e c h. ran_rose (accept_only e c h))
 
-  unserved : (e : ServeRefusal) → Refuses words s d served e → (serving_status e ≡ 21 → ⊥) → IsUnserved d served
-  unserved (Before e) c other = c.1
+  -- nothing was served, or a writer was refused memory
+  abbrev Unserved : ℕ → Type 0
+  Unserved status = IsUnserved d served ⊎ ((status ≡ 9) × RanCut words s d served)
+
+  unserved : (e : ServeRefusal) → Refuses words s d served e → (serving_status e ≡ 21 → ⊥) → Unserved (serving_status e)
+  unserved (Before (Words usage)) c other = inl c.1
+  unserved (Before (Reading e)) c other = inl c.1
+  unserved (Before (Input e)) c other = inl c.1
+  unserved (Before (Disk e)) c other = absurd c.0
+  unserved (Before NoMemory) c other = ⊎_elim (λ (none : IsUnserved d served). inl none) (λ (cut : RanCut words s d served). inr (refl, cut)) c.1
   unserved Accept c other = absurd (other refl)
 
   pub served_is_exact : (status : ℕ) → Ends words s k d served status → ServedIsExact words s d served status
@@ -235,7 +243,7 @@ module _ {P In Out Time : Type 0} (words : List (List ℕ)) (s : SourceSide) (k 
     done = λ zero. (is_done status ends zero).ran;
     untold = by_end status (λ n. n ≡ 4 → Ran words s d served whole) ends (λ done h. absurd (omega (arith, h))) (λ untold h. untold.ran) never_four;
     accept = by_end status (λ n. n ≡ 21 → Ran words s d served broken) ends (λ done h. absurd (omega (arith, h))) (λ untold h. absurd (omega (arith, h))) accept_only;
-    otherwise = by_end status (λ n. (n ≡ 0 → ⊥) → (n ≡ 4 → ⊥) → (n ≡ 21 → ⊥) → IsUnserved d served) ends
+    otherwise = by_end status (λ n. (n ≡ 0 → ⊥) → (n ≡ 4 → ⊥) → (n ≡ 21 → ⊥) → Unserved n) ends
         (λ done zero four other. absurd (zero refl)) (λ untold zero four other. absurd (four refl)) (λ e c zero four other. unserved e c other);
   }
 

@@ -1,3 +1,5 @@
 pub mod Facts
+pub mod Ready
 pub mod Room
+pub mod Scripted
 pub mod Stopping

@@ -1,5 +1,5 @@
 -- How a call that serves ends. What is looked at first comes first: the words, the input, then the sessions; want of memory may come
--- at any place, but not behind the first session.
+-- at any place, but behind the first session only where a writer was refused it.
 use Rattle.std.specs.Prelude.{◌≡◌, ◌⊎◌, ℕ, List, ◌++◌, take, Option, Result, Ok, Err}
 use Rattle.pcp_outside.specs.Causes.{Rose}
 use Rattle.pmcd_server.specs.declared.fault.ServeFault.{ServeFault}
@@ -18,7 +18,7 @@ use Rattle.pm_serving.specs.CommandWords.{count_of}
 use Rattle.pm_words.specs.Reading.{WasRead, ReadCause, TookSome}
 use Rattle.pm_serving.specs.Refusals.{serving_status, serving_line, served_line}
 use Rattle.pm_serving.specs.Scripts.{script_served}
-use Rattle.pm_serving.specs.Serving.{DoorsSide, IsUnserved, Leaves}
+use Rattle.pm_serving.specs.Serving.{DoorsSide, IsUnserved, Leaves, WereCut}
 
 -- the words ask for sessions
 abbrev pub IsAsked : List (List ℕ) → Type 0
@@ -65,7 +65,7 @@ broken count = Err faults.Accept
 
 -- why the serving of a script is refused
 abbrev pub Stops : {P In Out Time : Type 0} → DoorsSide P In Out Time → ℕ → Script → Option Served → ServeRefusal → Type 0
-Stops d count script served (Before NoMemory) = IsUnserved d served
+Stops d count script served (Before NoMemory) = IsUnserved d served ⊎ WereCut d count script served
 Stops d count script served Accept = Leaves d count script (broken count) served
 Stops d count script served _ = ⊥
 
@@ -74,8 +74,16 @@ pub record Tells {P In Out Time : Type 0} (words : List (List ℕ)) (s : SourceS
   pub ran : Ran words s d served whole
   pub is : line ≡ served_line ran.asks.count
 
+-- a writer was refused memory, beside sessions over the script that the words and the input ask for
+pub record RanCut {P In Out Time : Type 0} (words : List (List ℕ)) (s : SourceSide) (d : DoorsSide P In Out Time) (served : Option Served) : Type 0 where
+  pub asks : Asks words s
+  pub script : Script
+  pub good : script_served asks.input ≡ Ok script
+  pub cut : WereCut d asks.count script served
+
 -- what a refusal says
 abbrev pub Refuses : {P In Out Time : Type 0} → List (List ℕ) → SourceSide → DoorsSide P In Out Time → Option Served → ServeRefusal → Type 0
+Refuses words s d served (Before NoMemory) = Cause words s NoMemory × (IsUnserved d served ⊎ RanCut words s d served)
 Refuses words s d served (Before e) = Cause words s e × IsUnserved d served
 Refuses words s d served Accept = Ran words s d served broken
 

@@ -6,6 +6,8 @@ use Rattle.pmcd_server.specs.declared.fault.ServeFault.{ServeFault}
 use Rattle.run_script.specs.declared.script.Script.{Script}
 use Rattle.script_passes.specs.Openings.{IsOpened}
 use Rattle.script_passes.specs.declared.opening.Opened.{Opened}
+use Rattle.script_writers.specs.Written.{HaveWritten}
+use Rattle.fetch_engine.specs.Servers.{Seated}
 use Rattle.pm_serving.specs.declared.served.Served.{Served}
 
 -- the doors of a call, before and after
@@ -30,12 +32,13 @@ abbrev pub Counts : {P In Out Time : Type 0} → DoorsSide P In Out Time → Res
 Counts d (Ok count) = d.door.tells → AreCounted d count
 Counts d (Err fault) = Unit {0}
 
--- The script was opened with four seats, and sessions were served on them; the server and the passes stay as they were opened.
+-- The script was opened with four seats, and sessions were served on them; beside them its writers ran: each pass of the script has
+-- made the entries of its own lines.
 pub record Serving {P In Out Time : Type 0} (d : DoorsSide P In Out Time) (count : ℕ) (script : Script) (result : Result ℕ ServeFault) (served : Served) : Type 0 where
   pub opened : Served
   pub made : IsOpened script 4 (opened_as opened)
   pub server : served.server ≡ opened.server
-  pub passes : served.passes ≡ opened.passes
+  pub written : HaveWritten script served.server opened.passes.items served.passes.items
   pub serves : HasServed served.server d.door count opened.seats.items d.before served.seats.items d.after result
   pub counts : Counts d result
 
@@ -44,6 +47,15 @@ pub record Leaves {P In Out Time : Type 0} (d : DoorsSide P In Out Time) (count 
   pub regions : Served
   pub kept : served ≡ Some regions
   pub serving : Serving d count script result regions
+
+-- A writer was refused memory: its passes are gone, and the sessions were served on regions that are gone too.
+pub record WereCut {P In Out Time : Type 0} (d : DoorsSide P In Out Time) (count : ℕ) (script : Script) (served : Option Served) : Type 0 where
+  pub none : served ≡ None
+  pub opened : Served
+  pub made : IsOpened script 4 (opened_as opened)
+  pub seats : List Seated
+  pub result : Result ℕ ServeFault
+  pub serves : HasServed opened.server d.door count opened.seats.items d.before seats d.after result
 
 -- nothing was served
 pub record IsUnserved {P In Out Time : Type 0} (d : DoorsSide P In Out Time) (served : Option Served) : Type 0 where

@@ -5,6 +5,7 @@
 mod refusal;
 mod scripts;
 mod served;
+mod together;
 mod top;
 mod words;
 

@@ -1,49 +1,74 @@
-//! The script of an input, whose regions must have room for the seats.
-ghost use Rattle.std.specs.Prelude.{◌≡◌, ◌≤◌, IfOk, length, option_copied};
-ghost use Rattle.pm_serving.specs.Scripts.{Answers, broken_at, first_crowded, script_served, with_room};
+//! The script of an input, whose regions must have room for the seats, and whose passes must be able to act beside each other.
+ghost use Rattle.std.specs.Prelude.{◌≡◌, ◌≤◌, IfOk, None, length};
+ghost use Rattle.pm_serving.specs.Scripts.{Answers, broken_at, crowded_line, earlier, script_served, with_room};
+ghost use Rattle.run_script.specs.Recording.{refused_line};
 ghost use Rattle.pm_words.specs.Inputs.{input_limit};
 ghost use Rattle.run_script.specs.Reading.{script_of};
 ghost use Rattle.run_script.specs.Rules.{KeepsRules};
 ghost use Rattle.script_passes.specs.Openings.{HaveRoom};
 
 use mmv_writer::LineFault;
-use pm_words::{InputRefusal, Stop};
-use run_script::{ReadScriptError, RegionRow, Script, ScriptFault, ScriptLineFault};
+use pm_words::{InputRefusal, StageFault};
+use run_script::{ReadScriptError, Script, ScriptFault, ScriptLineFault};
 use std::alloc::Global;
 
-// The first region without room for the seats.
-fn first_crowded(rows: &[RegionRow]) -> Option<&RegionRow>
-    ensures { option_copied result ≡ first_crowded rows.now }
+// The line of the first region without room for the seats.
+fn crowded_line(script: &Script) -> Option<u64>
+    ensures { result ≡ crowded_line script.now }
 {
-    rows.iter().find(|row| row.passes > 252)
+    let rows = script.regions.as_slice();
+    let row = rows.iter().find(|row| row.passes > 252)?;
+    Some(u64::from(row.line))
 }
 
-// A region breaks a rule of scripts.
-fn broken_at(row: &RegionRow) -> ScriptFault
-    ensures { result ≡ broken_at row.now }
+// The first line that passes beside each other can't run.
+fn refused_line(script: &Script) -> Option<u64>
+    requires rules { KeepsRules script.now }
+    ensures { result ≡ refused_line script.now }
+{
+    match Script::for_record(script) {
+        Ok(()) => None,
+        Err(fault) => Some(fault.line),
+    }
+}
+
+fn earlier(line: Option<u64>, other: Option<u64>) -> Option<u64>
+    ensures { result ≡ earlier line other }
+{
+    match (line, other) {
+        (Some(line), Some(other)) => Some(line.min(other)),
+        (Some(line), None) => Some(line),
+        (None, other) => other,
+    }
+}
+
+// A line breaks a rule of scripts.
+fn broken_at(line: u64) -> ScriptFault
+    ensures { result ≡ broken_at line }
 {
     ScriptFault {
-        line: u64::from(row.line),
+        line,
         fault: ScriptLineFault::Line(LineFault::Condition),
     }
 }
 
 /// The script of an input, or why it isn't served.
-pub fn read_script(alloc: Global, input: &[u8]) -> Result<Script, Stop<InputRefusal>>
+pub fn read_script(alloc: Global, input: &[u8]) -> Result<Script, StageFault<InputRefusal>>
     requires within { length input.now ≤ input_limit }
     ensures answers { Answers (script_served input.now) result }
     ensures rules { IfOk result KeepsRules }
     ensures room { IfOk result (λ script. HaveRoom script.regions 4) }
+    ensures beside { IfOk result (λ script. refused_line script ≡ None) }
 {
     let script = match Script::read(alloc, input) {
         Ok(script) => script,
-        Err(ReadScriptError::NoMemory) => return Err(Stop::OutOfMemory),
-        Err(ReadScriptError::Fault(fault)) => return Err(Stop::Refused(InputRefusal::Script(
+        Err(ReadScriptError::NoMemory) => return Err(StageFault::OutOfMemory),
+        Err(ReadScriptError::Fault(fault)) => return Err(StageFault::Refused(InputRefusal::Script(
             fault,
         ))),
     };
-    if let Some(row) = first_crowded(script.regions.as_slice()) {
-        return Err(Stop::Refused(InputRefusal::Script(broken_at(row))));
+    if let Some(line) = earlier(crowded_line(&script), refused_line(&script)) {
+        return Err(StageFault::Refused(InputRefusal::Script(broken_at(line))));
     }
     Ok(script)
 }

@@ -2,22 +2,23 @@
 ghost use Rattle.std.specs.Prelude.{◌≡◌, ◌⊎◌, length, map, string_bytes, IfOk, MatchResult, None};
 ghost use Rattle.pcp_outside.specs.Causes.{Rose};
 ghost use Rattle.pmcd_server.specs.Crews.{SomeRose};
-ghost use Rattle.pm_serving.specs.Ends.{Cause, Ends, EndsDone, IsOrder, Refuses, Stops, Tells, whole};
+ghost use Rattle.pm_serving.specs.Ends.{Cause, Ends, EndsDone, IsOrder, Refuses, Tells};
 ghost use Rattle.pm_serving.specs.Facts.{IsGoodRun, LimitIsExact, ScriptFaultIsExact, ServedIsExact, UsageIsExact};
 ghost use Rattle.pm_serving.specs.Refusals.{served_line};
-ghost use Rattle.pm_serving.specs.Serving.{Leaves, doors_side};
+ghost use Rattle.pm_serving.specs.Serving.{doors_side};
 ghost use Rattle.pm_words.specs.Sides.{source_side, sink_side};
+ghost use Rattle.run_script.specs.Recording.{refused_line};
 ghost use Rattle.run_script.specs.Rules.{KeepsRules};
 ghost use Rattle.script_passes.specs.Openings.{HaveRoom};
 
 use crate::refusal::ServeRefusal;
 use crate::scripts::read_script;
-use crate::served::{Served, open};
+use crate::served::Served;
+use crate::together::serve_script;
 use crate::words::read_count;
 use pcp_base::{Bytes, List, NoMemory};
-use pcp_outside::{Door, Sink, Source, write_all};
+use pcp_outside::{Door, Sink, Source, Turn, write_all};
 use pm_words::{Refusal, Usage, read_input};
-use pmcd_server::{ServeFault, serve};
 use run_script::Script;
 use std::alloc::Global;
 use std::sync::Wait;
@@ -32,6 +33,7 @@ fn prepare<I: Source>(
     ensures order { MatchResult result (λ x. IsOrder (map string_bytes words.now) (source_side I.Source input.old input.new) x.0 x.1) (Cause (map string_bytes words.now) (source_side I.Source input.old input.new)) }
     ensures rules { IfOk result (λ x. KeepsRules x.1) }
     ensures room { IfOk result (λ x. HaveRoom x.1.regions 4) }
+    ensures beside { IfOk result (λ x. refused_line x.1 ≡ None) }
 {
     let count = match read_count(words) {
         Ok(count) => count,
@@ -50,46 +52,15 @@ fn served_line(alloc: Global, count: u32) -> Result<Bytes, NoMemory>
     Ok(List::from_vec(line.into_bytes()))
 }
 
-// Opens a script and serves sessions on its regions.
-fn serve_script<P: Door + Send, R: Threads + Wait + Sync>(
-    rt: &R,
-    alloc: Global,
-    count: u32,
-    script: &Script,
-    doors: &mut [P],
-    served: &mut Option<Served>,
-) -> Result<(), ServeRefusal>
-where
-    P::In: Send,
-    P::Out: Send,
-    P::Time: Send,
-    requires rules { KeepsRules script.now }
-    requires room { HaveRoom script.now.regions 4 }
-    requires four { length doors.old ≡ 4 }
-    requires fresh { served.old ≡ None }
-    ensures { MatchResult result (λ _. Leaves (doors_side P.Door doors.old doors.new) count script.now (whole count) served.new) (Stops (doors_side P.Door doors.old doors.new) count script.now served.new) }
-{
-    let mut regions = open(alloc, script)?;
-    match serve(rt, alloc, &regions.server, &mut regions.seats, doors, count) {
-        Ok(_) => {
-            *served = Some(regions);
-            Ok(())
-        }
-        Err(ServeFault::Accept) => {
-            *served = Some(regions);
-            Err(ServeRefusal::Accept)
-        }
-        Err(ServeFault::NoMemory) => Err(ServeRefusal::Before(Refusal::NoMemory)),
-    }
-}
-
-// Does what the words ask for, and tells the line to write. All memory of the call itself is taken before the first session.
-fn run<I: Source, P: Door + Send, R: Threads + Wait + Sync>(
+// Does what the words ask for, and tells the line to write. All memory of the call itself but the writers' is taken before the first
+// session.
+fn run<I: Source, P: Door + Send, R: Threads + Wait + Sync, T: Turn + Sync>(
     rt: &R,
     alloc: Global,
     words: &[String],
     input: &mut I,
     doors: &mut [P],
+    turn: &T,
     served: &mut Option<Served>,
 ) -> Result<Bytes, ServeRefusal>
 where
@@ -103,18 +74,19 @@ where
 {
     let (count, script) = prepare(alloc, words, input)?;
     let line = served_line(alloc, count)?;
-    serve_script(rt, alloc, count, &script, doors, served)?;
+    serve_script(rt, alloc, count, &script, doors, turn, served)?;
     Ok(line)
 }
 
 // Serves, and writes the last line.
-fn answer<I: Source, O: Sink, P: Door + Send, R: Threads + Wait + Sync>(
+fn answer<I: Source, O: Sink, P: Door + Send, R: Threads + Wait + Sync, T: Turn + Sync>(
     rt: &R,
     alloc: Global,
     words: &[String],
     input: &mut I,
     out: &mut O,
     doors: &mut [P],
+    turn: &T,
     served: &mut Option<Served>,
 ) -> u8
 where
@@ -125,7 +97,7 @@ where
     requires fresh { served.old ≡ None }
     ensures { Ends (map string_bytes words.now) (source_side I.Source input.old input.new) (sink_side O.Sink out.old out.new) (doors_side P.Door doors.old doors.new) served.new result }
 {
-    match run(rt, alloc, words, input, doors, served) {
+    match run(rt, alloc, words, input, doors, turn, served) {
         Ok(line) => match write_all(out, line.as_slice()) {
             Ok(()) => 0,
             Err(_) => 4,
@@ -139,16 +111,19 @@ where
 
 /// Serves the clients that `serve COUNT` asks for, through four doors on four seats, over the regions of the script that the input
 /// holds, and answers the exit status; where it isn't 0, the last line of the output says why. 0: COUNT sessions were served. 1: the
-/// words don't ask for sessions. 2: the input is no script, or a region has more than 252 passes. 3, 4: the source or the sink
-/// failed. 7: the input is above 16 MiB, or has a 65th region. 9: memory was refused, before the first session. 21: a door failed.
-/// The steps of the script aren't run. After 0, 4 and 21 `served` has the regions on which it served.
-pub fn run_serve<I: Source, O: Sink, P: Door + Send, R: Threads + Wait + Sync>(
+/// words don't ask for sessions. 2: the input is no script, a region has more than 252 passes, or its passes can't act beside each
+/// other. 3, 4: the source or the sink failed. 7: the input is above 16 MiB, or has a 65th region. 9: memory was refused, before the
+/// first session or to a writer. 21: a door failed. The writers of the script run beside the sessions: each pass number is one, which
+/// runs the steps of its passes in order; the call ends when all have ended. After 0, 4 and 21 `served` has the regions on which it
+/// served, and their passes.
+pub fn run_serve<I: Source, O: Sink, P: Door + Send, R: Threads + Wait + Sync, T: Turn + Sync>(
     rt: &R,
     alloc: Global,
     words: &[String],
     input: &mut I,
     out: &mut O,
     doors: &mut [P],
+    turn: &T,
     served: &mut Option<Served>,
 ) -> u8
 where
@@ -174,11 +149,12 @@ where
     ensures accept_fault { result ≡ 21 → SomeRose P.Door doors.old doors.new }
 
     // After 0, 4 and 21 the regions are those of the script, each report of a door is that of a session on the seat at its position,
-    // and the seat's passes have seen what these sessions did; after every other status nothing was served.
+    // the seat's passes have seen what these sessions did, and each pass of the script has made the entries of its own lines; after
+    // every other status nothing was served, but where a writer was refused memory.
     ensures served { ServedIsExact (map string_bytes words.now) (source_side I.Source input.old input.new) (doors_side P.Door doors.old doors.new) served.new result }
 
     // A script that may be served is served.
     ensures completes { IsGoodRun (map string_bytes words.now) (source_side I.Source input.old input.new) (sink_side O.Sink out.old out.new) (doors_side P.Door doors.old doors.new) → (result ≡ 0) ⊎ (result ≡ 9) }
 {
-    answer(rt, alloc, words, input, out, doors, served)
+    answer(rt, alloc, words, input, out, doors, turn, served)
 }

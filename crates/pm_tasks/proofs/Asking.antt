@@ -16,19 +16,19 @@ use Rattle.pm_words.specs.declared.refusal.Refusal.{Refusal}
 use Rattle.pm_words.specs.declared.refusal.Refusal.TheVariants.{Words, Reading, Input, Disk, NoMemory}
 use Rattle.pm_tasks.specs.Archives.{IsLoaded, IsNotLoaded, TurnedAfter, TurnedAway}
 use Rattle.pm_words.specs.Refusals.{reader_refusal}
-use Rattle.pm_words.specs.Sides.{Found, disk_side, found}
+use Rattle.pm_words.specs.Sides.{Found, disk_side, files_found}
 
 module _ {D : Type 0} (g : DiskGhosts D) where
   -- the archive wasn't loaded
   pub not_loaded : (turned : Found → FilesRefusal → Type 0) → ((f : Found) (e : FilesRefusal) → IsNotLoaded f e → turned f e) → (a b : D) (fault : ReaderFault)
       → (g.tells → IsLoadFault (g.wrapped_file a) (contents_of (g.held a)) fault) → (fault ≡ faults.DiskFault → Rose (g.faults a) (g.faults b)) → TurnedAway turned (disk_side g a b) (reader_refusal fault)
-  not_loaded turned so a b (faults.Compressed file) why rose = λ tells. so (found (disk_side g a b)) (Compressed file) (why tells)
-  not_loaded turned so a b (faults.NotArchive file at) why rose = λ tells. so (found (disk_side g a b)) (NotArchive file at) (why tells)
+  not_loaded turned so a b (faults.Compressed file) why rose = λ tells. so (files_found (disk_side g a b)) (Compressed file) (why tells)
+  not_loaded turned so a b (faults.NotArchive file at) why rose = λ tells. so (files_found (disk_side g a b)) (NotArchive file at) (why tells)
   not_loaded turned so a b faults.DiskFault why rose = rose refl
   not_loaded turned so a b faults.NoMemory why rose = tt
 
   -- what was loaded before
-  pub is_loaded : (a b c : D) (r : Loaded) → g.tells → (g.tells → IsOver (contents_of (g.held a)) r) → (g.tells → g.wrapped_file a ≡ None) → IsLoaded (found (disk_side g a c)) r
+  pub is_loaded : (a b c : D) (r : Loaded) → g.tells → (g.tells → IsOver (contents_of (g.held a)) r) → (g.tells → g.wrapped_file a ≡ None) → IsLoaded (files_found (disk_side g a c)) r
   is_loaded a b c r tells over unwrapped = record { unwrapped = unwrapped tells; over = over tells }
 
   -- a count that rose later rose in the whole
@@ -36,7 +36,7 @@ module _ {D : Type 0} (g : DiskGhosts D) where
   rose_on a b c first rose = ⊎_elim (λ more. inl (omega (arith, first.later, more))) (λ full. inr full) rose
 
   -- what turned files away later, told of the whole
-  pub turned_on : (P Q : Found → FilesRefusal → Type 0) (a b c : D) → Looks g a b → (g.tells → (e : FilesRefusal) → P (found (disk_side g a c)) e → Q (found (disk_side g a c)) e)
+  pub turned_on : (P Q : Found → FilesRefusal → Type 0) (a b c : D) → Looks g a b → (g.tells → (e : FilesRefusal) → P (files_found (disk_side g a c)) e → Q (files_found (disk_side g a c)) e)
       → (e : Refusal) → TurnedAway P (disk_side g b c) e → TurnedAway Q (disk_side g a c) e
   turned_on P Q a b c first so (Disk (FilesAway e)) away = λ tells.
       so tells e (subst (λ (w : Option FileId). P record { files = contents_of (g.held a); wrapped = w } e) (first.wrapped tells)
@@ -48,7 +48,7 @@ module _ {D : Type 0} (g : DiskGhosts D) where
   turned_on P Q a b c first so (Input e) away = absurd away
 
   -- what an archive was turned away for after it was loaded
-  pub asked_turned : (P : Loaded → Found → FilesRefusal → Type 0) (r : Loaded) (a b c : D) → Looks g a b → (g.tells → IsLoaded (found (disk_side g a c)) r) → (e : Refusal) → TurnedAway (P r) (disk_side g b c) e
+  pub asked_turned : (P : Loaded → Found → FilesRefusal → Type 0) (r : Loaded) (a b c : D) → Looks g a b → (g.tells → IsLoaded (files_found (disk_side g a c)) r) → (e : Refusal) → TurnedAway (P r) (disk_side g b c) e
       → TurnedAway (TurnedAfter P) (disk_side g a c) e
   asked_turned P r a b c first loaded = turned_on (P r) (TurnedAfter P) a b c first (λ tells e bad. inr (r, loaded tells, bad))
 

@@ -20,7 +20,7 @@ use Rattle.pm_words.specs.declared.refusal.Refusal.{Refusal}
 use Rattle.pm_tasks.specs.Archives.{IsLoaded, TurnedAway}
 use Rattle.pm_words.specs.Refusals.{reader_refusal}
 use Rattle.pcp_outside.specs.declared.streams.Sink.{Ghosts as SinkGhosts}
-use Rattle.pm_words.specs.Sides.{SinkSide, DiskSide, Found, sink_side, disk_side, found}
+use Rattle.pm_words.specs.Sides.{SinkSide, DiskSide, Found, sink_side, disk_side, files_found}
 use Rattle.pm_words.specs.Streams.{IsFront, IsSent, Turns}
 use Rattle.pm_tasks.specs.commands.dump.{label_line, HasItems, BeginsWith, HasNext, BadNext, HasPut, HasPutSome, HasSaid, HasStopped, BadRecord}
 use Rattle.pm_tasks.proofs.Asking.{turned_on}
@@ -120,7 +120,7 @@ module _ {D : Type 0} (g : DiskGhosts D) where
   -- after some items
   pub no_record : (r : Loaded) (p : Place) (before text : List ℕ) (a b c : D) → Looks g a b → (g.tells → IsSoFar (contents_of (g.held a)) r p before text)
       → (e : Refusal) → TurnedAway (BadNext r p) (disk_side g b c) e → TurnedAway (BadRecord r) (disk_side g a c) e
-  no_record r p before text a b c first so = turned_on g (BadNext r p) (BadRecord r) a b c first (λ tells e bad. bad_record r p (found (disk_side g a c)) before text (so tells) e bad)
+  no_record r p before text a b c first so = turned_on g (BadNext r p) (BadRecord r) a b c first (λ tells e bad. bad_record r p (files_found (disk_side g a c)) before text (so tells) e bad)
 
   -- a step over the files as they were
   pub stepped : (a b : D) → Looks g a b → g.tells → (r s : Loaded) → s ≡ r → (p q : Place) (before after : List ℕ) (more want : Bool) → more ≡ want
@@ -130,7 +130,7 @@ module _ {D : Type 0} (g : DiskGhosts D) where
       (subst (λ (l : Loaded). HasNext (contents_of (g.held b)) l p q before after want) same (subst (λ (m : Bool). HasNext (contents_of (g.held b)) s p q before after m) is next))
 
   -- the whole text: a front was sent, and the rest waits
-  pub said_whole : (a b c : D) → Looks g a b → (r : Loaded) (k : SinkSide) (failed : Bool) (before waits answer : List ℕ) → before ≡ label_line r.label → answer ≡ waits → (g.tells → IsLoaded (found (disk_side g a c)) r)
+  pub said_whole : (a b c : D) → Looks g a b → (r : Loaded) (k : SinkSide) (failed : Bool) (before waits answer : List ℕ) → before ≡ label_line r.label → answer ≡ waits → (g.tells → IsLoaded (files_found (disk_side g a c)) r)
       → HasPut g.tells (contents_of (g.held b)) r before k failed waits → HasSaid k failed (disk_side g a c) answer
   said_whole a b c first r k failed before waits answer head is loaded put = record {
     front = put.front;
@@ -141,7 +141,7 @@ module _ {D : Type 0} (g : DiskGhosts D) where
   }
 
   -- or a front of it
-  pub said_some : (a b c : D) → Looks g a b → (r : Loaded) (k : SinkSide) (failed : Bool) (before : List ℕ) → before ≡ label_line r.label → (g.tells → IsLoaded (found (disk_side g a c)) r)
+  pub said_some : (a b c : D) → Looks g a b → (r : Loaded) (k : SinkSide) (failed : Bool) (before : List ℕ) → before ≡ label_line r.label → (g.tells → IsLoaded (files_found (disk_side g a c)) r)
       → HasPutSome g.tells (contents_of (g.held b)) r before k failed → HasStopped k failed (disk_side g a c)
   said_some a b c first r k failed before head loaded put = record {
     front = put.front;

@@ -8,11 +8,12 @@ use Rattle.pm_words.specs.declared.refusal.Refusal.{Refusal}
 use Rattle.pm_words.specs.declared.refusal.Refusal.TheVariants.{Words, Reading, Input, Disk, NoMemory}
 use Rattle.pm_words.specs.declared.stage.InputRefusal.{InputRefusal}
 use Rattle.pm_words.specs.declared.stage.ReadRefusal.{ReadRefusal}
-use Rattle.pm_words.specs.declared.stage.Stop.{Stop}
-use Rattle.pm_words.specs.declared.stage.Stop.TheVariants.{OutOfMemory, Refused}
+use Rattle.pm_words.specs.declared.stage.StageFault.{StageFault}
+use Rattle.pm_words.specs.declared.stage.StageFault.TheVariants.{OutOfMemory, Refused}
 use Rattle.pm_words.specs.declared.stage.Usage.{Usage}
 use Rattle.pm_words.specs.declared.words.Command.{Command}
-use Rattle.pm_tasks.specs.Causes.{Asks, Got, TookSome, UnreadCause, Cause}
+use Rattle.pm_tasks.specs.Causes.{Asks, Got, Cause}
+use Rattle.pm_words.specs.Reading.{TookSome, UnreadCause}
 use Rattle.pm_words.specs.Serving.{StopCause, Serves, MayLeave}
 use Rattle.pm_words.specs.CommandLine.{command_of, Reads}
 use Rattle.pm_tasks.specs.Ends.{HasRun, HasBegun, Runs, Told, Ends, MayBeLeft}
@@ -63,20 +64,20 @@ pub runs_none : (words : List (List ℕ)) (s : SourceSide) (k : SinkSide) (faile
 runs_none words s k failed d e sent cause begun = record { front = []; sent = sent; done = tt; stops = (cause, begun) }
 
 -- the words are none
-pub no_words : (words : List (List ℕ)) (s : SourceSide) (d : DiskSide) (stop : Stop Usage) → Reads (Err stop) (command_of words) → NotAsked s → Untouched d → Cause words s d (stopped Words stop)
+pub no_words : (words : List (List ℕ)) (s : SourceSide) (d : DiskSide) (stop : StageFault Usage) → Reads (Err stop) (command_of words) → NotAsked s → Untouched d → Cause words s d (stopped Words stop)
 no_words words s d OutOfMemory reads unasked still = (λ tells. (0, omega arith, unasked tells), inl still)
 no_words words s d (Refused usage) reads unasked still = (reads, unasked, still)
 
-pub no_words_begun : (words : List (List ℕ)) (s : SourceSide) (d : DiskSide) (stop : Stop Usage) → HasBegun words s d (stopped Words stop) []
+pub no_words_begun : (words : List (List ℕ)) (s : SourceSide) (d : DiskSide) (stop : StageFault Usage) → HasBegun words s d (stopped Words stop) []
 no_words_begun words s d OutOfMemory = inl refl
 no_words_begun words s d (Refused usage) = refl
 
-pub no_input_begun : (words : List (List ℕ)) (s : SourceSide) (d : DiskSide) (stop : Stop ReadRefusal) → HasBegun words s d (stopped Reading stop) []
+pub no_input_begun : (words : List (List ℕ)) (s : SourceSide) (d : DiskSide) (stop : StageFault ReadRefusal) → HasBegun words s d (stopped Reading stop) []
 no_input_begun words s d OutOfMemory = inl refl
 no_input_begun words s d (Refused e) = refl
 
 -- the input isn't read
-pub no_input : (words : List (List ℕ)) (s : SourceSide) (d : DiskSide) (command : Command) (stop : Stop ReadRefusal) → command_of words ≡ Ok command → IsSome (meaning command).reads → UnreadCause s stop → Untouched d
+pub no_input : (words : List (List ℕ)) (s : SourceSide) (d : DiskSide) (command : Command) (stop : StageFault ReadRefusal) → command_of words ≡ Ok command → IsSome (meaning command).reads → UnreadCause s stop → Untouched d
     → Cause words s d (stopped Reading stop)
 no_input words s d command OutOfMemory is some cause still = (cause, inl still)
 no_input words s d command (Refused e) is some cause still = ((command, is, some), cause, still)

@@ -23,7 +23,7 @@ use Rattle.pm_words.specs.declared.words.ValueWords.{ValueWords}
 use Rattle.pm_words.specs.declared.refusal.Refusal.{Refusal}
 use Rattle.pm_tasks.specs.Archives.{IsLoaded, TurnedAway, OverReadable, OverSound}
 use Rattle.pm_words.specs.Refusals.{reader_refusal}
-use Rattle.pm_words.specs.Sides.{Found, disk_side, found}
+use Rattle.pm_words.specs.Sides.{Found, disk_side, files_found}
 use Rattle.pm_tasks.specs.commands.at as at
 use Rattle.pm_tasks.specs.commands.range as range
 use Rattle.pm_tasks.specs.commands.value as value
@@ -85,8 +85,8 @@ module _ {D : Type 0} (g : DiskGhosts D) (r : Loaded) (a b : D) where
   value_stops pmid t faults.NoMemory why rose = tt
 
   -- told of the metric that the name leads to
-  pub turned_of : (c : D) (asked : ValueWords) (pmid : ℕ) (result : Result (List ℕ) Refusal) → Looks g a b → (g.tells → IsLoaded (found (disk_side g a c)) r) → value.named r.records asked.name ≡ Some pmid
+  pub turned_of : (c : D) (asked : ValueWords) (pmid : ℕ) (result : Result (List ℕ) Refusal) → Looks g a b → (g.tells → IsLoaded (files_found (disk_side g a c)) r) → value.named r.records asked.name ≡ Some pmid
       → IfErr result (TurnedAway (value.HasNoValue pmid asked.stamp r) (disk_side g b c)) → IfErr result (TurnedAway (value.turned asked) (disk_side g a c))
   turned_of c asked pmid (Ok text) looks loaded is away = tt
   turned_of c asked pmid (Err e) looks loaded is away =
-      turned_on g (value.HasNoValue pmid asked.stamp r) (value.turned asked) a b c looks (λ tells x why. inr (r, loaded tells, of_named asked pmid r is (found (disk_side g a c)) x why)) e away
+      turned_on g (value.HasNoValue pmid asked.stamp r) (value.turned asked) a b c looks (λ tells x why. inr (r, loaded tells, of_named asked pmid r is (files_found (disk_side g a c)) x why)) e away

@@ -13,7 +13,7 @@ use Rattle.pm_words.specs.declared.stage.DiskRefusal.TheVariants.{Files as Files
 use Rattle.pm_words.specs.declared.refusal.Refusal.{Refusal}
 use Rattle.pm_words.specs.declared.refusal.Refusal.TheVariants.{Disk, NoMemory}
 use Rattle.pm_words.specs.Meaning.{Meaning}
-use Rattle.pm_words.specs.Sides.{DiskSide, Found, found, Untouched}
+use Rattle.pm_words.specs.Sides.{DiskSide, Found, files_found, Untouched}
 
 -- no file stands wrapped, and apart from the records of its volumes this is the archive
 pub record IsLoaded (found : Found) (r : Loaded) : Type 0 where
@@ -40,7 +40,7 @@ OverSound found P = (reading : ArchiveReading) → Reads found.files reading →
 
 -- why such a command ends without a text: it turned the files away, the disk failed, or memory ran out
 abbrev pub TurnedAway : (Found → FilesRefusal → Type 0) → DiskSide → Refusal → Type 0
-TurnedAway turned d (Disk (FilesAway e)) = d.tells → turned (found d) e
+TurnedAway turned d (Disk (FilesAway e)) = d.tells → turned (files_found d) e
 TurnedAway turned d (Disk DiskFault) = Rose d.faults d.faults_after
 TurnedAway turned d NoMemory = Unit {0}
 TurnedAway turned d _ = ⊥
@@ -56,7 +56,7 @@ looks turned said first = record {
   uses_disk = true;
   turns_away = λ input files e. turned files e;
   done = λ input d. Untouched d;
-  says = λ input d text. d.tells → said (found d) text;
+  says = λ input d text. d.tells → said (files_found d) text;
   begins = λ input d e front. first d front;
   keeps = λ input held crash. Unit {0};
   begun = λ status input d. ⊥;

@@ -1,28 +1,14 @@
 //! What a command gets of the source: its whole input, read to its end before anything is made of it, or nothing.
 ghost use Rattle.std.specs.Prelude.{◌≡◌, IfOk, IfErr, IsSome, None, is_some};
-ghost use Rattle.pm_tasks.specs.Causes.{WasRead, Got, UnreadCause};
+ghost use Rattle.pm_tasks.specs.Causes.{Got};
 ghost use Rattle.pm_tasks.specs.Meanings.{meaning};
+ghost use Rattle.pm_words.specs.Reading.{UnreadCause};
 ghost use Rattle.pm_words.specs.Sides.{source_side};
 
 use pcp_base::{Bytes, List};
-use pcp_outside::{ReadFault, Source, read_to_limit};
-use pm_words::{Command, ReadRefusal, Stop};
+use pcp_outside::Source;
+use pm_words::{Command, ReadRefusal, StageFault, read_input};
 use std::alloc::Global;
-
-const INPUT_LIMIT: usize = 16_777_216;
-
-// All of the input, of 16 MiB at most.
-fn read_input<I: Source>(alloc: Global, input: &mut I) -> Result<Bytes, Stop<ReadRefusal>>
-    ensures read { IfOk result (WasRead (source_side I.Source input.old input.new)) }
-    ensures cause { IfErr result (UnreadCause (source_side I.Source input.old input.new)) }
-{
-    match read_to_limit(alloc, input, INPUT_LIMIT) {
-        Ok(bytes) => Ok(bytes),
-        Err(ReadFault::NoMemory) => Err(Stop::OutOfMemory),
-        Err(ReadFault::Failed) => Err(Stop::Refused(ReadRefusal::ReadFault)),
-        Err(ReadFault::TooMuch) => Err(Stop::Refused(ReadRefusal::InputLimit)),
-    }
-}
 
 // Whether a command reads an input.
 fn takes_input(command: &Command) -> bool
@@ -45,7 +31,7 @@ pub fn get_input<I: Source>(
     alloc: Global,
     command: &Command,
     input: &mut I,
-) -> Result<Bytes, Stop<ReadRefusal>>
+) -> Result<Bytes, StageFault<ReadRefusal>>
     ensures got { IfOk result (Got (meaning command.now).reads (source_side I.Source input.old input.new)) }
     ensures reads { IfErr result (λ stop. IsSome (meaning command.now).reads) }
     ensures cause { IfErr result (UnreadCause (source_side I.Source input.old input.new)) }

@@ -1,7 +1,7 @@
 -- Which refusals come after recovery has answered.
 use Rattle.std.proofs.Common.{◌≡◌, inl, inr, ℕ, Err}
-use Rattle.pm_words.specs.declared.stage.Stop.{Stop}
-use Rattle.pm_words.specs.declared.stage.Stop.TheVariants.{OutOfMemory, Refused}
+use Rattle.pm_words.specs.declared.stage.StageFault.{StageFault}
+use Rattle.pm_words.specs.declared.stage.StageFault.TheVariants.{OutOfMemory, Refused}
 use Rattle.pm_words.specs.declared.stage.Usage.{Usage}
 use Rattle.pm_words.specs.declared.stage.ReadRefusal.{ReadRefusal}
 use Rattle.pm_words.specs.declared.stage.ReadRefusal.TheVariants.{ReadFault, InputLimit}
@@ -17,15 +17,15 @@ use Rattle.pm_words.specs.Refusals.{script_status, stopped, status_of}
 use Rattle.pm_words.specs.Serving.{HasRecovered, HadRecovered}
 
 -- the words, the reading and the input are looked at before
-pub no_words_yet : (stop : Stop Usage) → HasRecovered (Err (stopped Words stop)) → ⊥
+pub no_words_yet : (stop : StageFault Usage) → HasRecovered (Err (stopped Words stop)) → ⊥
 no_words_yet OutOfMemory h = h
 no_words_yet (Refused usage) h = h
 
-pub no_reading_yet : (stop : Stop ReadRefusal) → HasRecovered (Err (stopped Reading stop)) → ⊥
+pub no_reading_yet : (stop : StageFault ReadRefusal) → HasRecovered (Err (stopped Reading stop)) → ⊥
 no_reading_yet OutOfMemory h = h
 no_reading_yet (Refused e) h = h
 
-pub no_input_yet : (stop : Stop InputRefusal) → HasRecovered (Err (stopped Input stop)) → ⊥
+pub no_input_yet : (stop : StageFault InputRefusal) → HasRecovered (Err (stopped Input stop)) → ⊥
 no_input_yet OutOfMemory h = h
 no_input_yet (Refused e) h = h
 

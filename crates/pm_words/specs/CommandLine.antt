@@ -6,8 +6,8 @@ use Rattle.pcp_base.specs.Time.{Moment}
 use Rattle.text_lines.specs.Numbers.{number_of}
 use Rattle.pm_words.specs.declared.words.Command.{Command}
 use Rattle.pm_words.specs.declared.words.Command.TheVariants.{Once, Replay, Make, MmvMake, MmvDump, Dump, Info, Recover, At, Range, Value}
-use Rattle.pm_words.specs.declared.stage.Stop.{Stop}
-use Rattle.pm_words.specs.declared.stage.Stop.TheVariants.{OutOfMemory, Refused}
+use Rattle.pm_words.specs.declared.stage.StageFault.{StageFault}
+use Rattle.pm_words.specs.declared.stage.StageFault.TheVariants.{OutOfMemory, Refused}
 use Rattle.pm_words.specs.declared.stage.Usage.{Usage}
 
 infixl 10 ◌>>=◌
@@ -157,7 +157,7 @@ Gives view (Ok x) read = read ≡ Ok (view x)
 Gives view (Err at) read = read ≡ Err at
 
 -- what a parse of the words answered is what they say, unless memory ran out
-abbrev pub Reads : {A : Type 0} → Result A (Stop Usage) → Result A ℕ → Type 0
+abbrev pub Reads : {A : Type 0} → Result A (StageFault Usage) → Result A ℕ → Type 0
 Reads (Ok c) read = read ≡ Ok c
 Reads (Err (Refused usage)) read = read ≡ Err usage.at
 Reads (Err OutOfMemory) read = Unit {0}

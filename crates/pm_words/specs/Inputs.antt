@@ -4,8 +4,8 @@ use Rattle.mmv_faults.specs.declared.fault.ImageFault.{ImageFault}
 use Rattle.mmv_writer.specs.declared.line_fault.TextFault.{TextFault}
 use Rattle.run_script.specs.declared.fault.ScriptFault.{ScriptFault}
 use Rattle.run_script.specs.declared.script.Script.{Script}
-use Rattle.pm_words.specs.declared.stage.Stop.{Stop}
-use Rattle.pm_words.specs.declared.stage.Stop.TheVariants.{OutOfMemory, Refused}
+use Rattle.pm_words.specs.declared.stage.StageFault.{StageFault}
+use Rattle.pm_words.specs.declared.stage.StageFault.TheVariants.{OutOfMemory, Refused}
 use Rattle.pm_words.specs.declared.stage.InputRefusal.{InputRefusal}
 use Rattle.pm_words.specs.declared.stage.InputRefusal.TheVariants.{Image, Line, Script as Scripted}
 
@@ -39,6 +39,6 @@ refusal_of None input = None
 refusal_of (Some refuses) input = refuses input
 
 -- what may be answered of an input that isn't run: its refusal, or that memory ran out
-abbrev pub Refuses : Option (List ℕ → Option InputRefusal) → List ℕ → Stop InputRefusal → Type 0
+abbrev pub Refuses : Option (List ℕ → Option InputRefusal) → List ℕ → StageFault InputRefusal → Type 0
 Refuses reads input OutOfMemory = Unit {0}
 Refuses reads input (Refused e) = refusal_of reads input ≡ Some e

@@ -5,8 +5,8 @@ use Rattle.pm_words.specs.Inputs.{input_limit}
 use Rattle.pm_words.specs.Sides.{SourceSide}
 use Rattle.pm_words.specs.declared.stage.ReadRefusal.{ReadRefusal}
 use Rattle.pm_words.specs.declared.stage.ReadRefusal.TheVariants.{ReadFault, InputLimit}
-use Rattle.pm_words.specs.declared.stage.Stop.{Stop}
-use Rattle.pm_words.specs.declared.stage.Stop.TheVariants.{OutOfMemory, Refused}
+use Rattle.pm_words.specs.declared.stage.StageFault.{StageFault}
+use Rattle.pm_words.specs.declared.stage.StageFault.TheVariants.{OutOfMemory, Refused}
 
 -- an input of at most 16 MiB was read to its end, and where the source tells, it's all that the source had left
 pub record WasRead (s : SourceSide) (input : List ℕ) : Type 0 where
@@ -23,6 +23,6 @@ ReadCause s ReadFault = Rose s.faults s.faults_after × (s.tells → TookSome s)
 ReadCause s InputLimit = s.tells → (input_limit < length s.left) × (s.after ≡ drop 16777217 s.left)
 
 -- the same where memory may have run out
-abbrev pub UnreadCause : SourceSide → Stop ReadRefusal → Type 0
+abbrev pub UnreadCause : SourceSide → StageFault ReadRefusal → Type 0
 UnreadCause s OutOfMemory = s.tells → TookSome s
 UnreadCause s (Refused e) = ReadCause s e

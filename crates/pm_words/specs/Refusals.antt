@@ -19,8 +19,8 @@ use Rattle.script_runs.specs.declared.ending.LimitKind.{LimitKind}
 use Rattle.script_runs.specs.declared.ending.LimitKind.TheVariants as kinds
 use Rattle.pm_words.specs.declared.stage.RunRefusal.{RunRefusal}
 use Rattle.pm_words.specs.declared.stage.RunRefusal.TheVariants.{Condition, Limit, NotLater, Changed}
-use Rattle.pm_words.specs.declared.stage.Stop.{Stop}
-use Rattle.pm_words.specs.declared.stage.Stop.TheVariants.{OutOfMemory, Refused}
+use Rattle.pm_words.specs.declared.stage.StageFault.{StageFault}
+use Rattle.pm_words.specs.declared.stage.StageFault.TheVariants.{OutOfMemory, Refused}
 use Rattle.pm_words.specs.declared.stage.Usage.{Usage}
 use Rattle.pm_words.specs.declared.stage.ReadRefusal.{ReadRefusal}
 use Rattle.pm_words.specs.declared.stage.ReadRefusal.TheVariants.{ReadFault, InputLimit}
@@ -151,7 +151,7 @@ abbrev pub line_of : Refusal → List ℕ
 line_of e = unwrap_or (numbered_line_of e) (plain_line_of e)
 
 -- a stage that stopped, as the refusal of the whole
-abbrev pub stopped : {E : Type 0} → (E → Refusal) → Stop E → Refusal
+abbrev pub stopped : {E : Type 0} → (E → Refusal) → StageFault E → Refusal
 stopped at OutOfMemory = NoMemory
 stopped at (Refused e) = at e
 

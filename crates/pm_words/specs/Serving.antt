@@ -11,7 +11,7 @@ use Rattle.pm_words.specs.declared.refusal.Refusal.TheVariants.{Words, Reading, 
 use Rattle.pm_words.specs.Inputs.{refusal_of}
 use Rattle.pm_words.specs.Meaning.{Meaning}
 use Rattle.pm_words.specs.Refusals.{files_status}
-use Rattle.pm_words.specs.Sides.{SinkSide, DiskSide, found, Untouched}
+use Rattle.pm_words.specs.Sides.{SinkSide, DiskSide, files_found, Untouched}
 use Rattle.pm_words.specs.Streams.{IsSent}
 
 -- What is left of the disk where a command is stopped with a status: what it held, or what the command says of a stop
@@ -23,7 +23,7 @@ pub record Left (m : Meaning) (status : ℕ) (input : List ℕ) (d : DiskSide) :
 -- why a command that uses the disk stops at it; files that are turned away stay as they were, or as the command says of a stop
 -- after its first write
 abbrev pub DiskCause : Meaning → List ℕ → DiskSide → DiskRefusal → Type 0
-DiskCause m input d (FilesAway e) = Left m (files_status e) input d × (d.tells → m.turns_away input (found d) e)
+DiskCause m input d (FilesAway e) = Left m (files_status e) input d × (d.tells → m.turns_away input (files_found d) e)
 DiskCause m input d DiskFault = Left m 5 input d × Rose d.faults d.faults_after
 
 -- why a command that got its input stops
@@ -43,7 +43,7 @@ IsNever (Nothing stamp) = ⊥
 -- A command is done with an input that it reads, over files that it doesn't turn away, and this is to be written.
 pub record HasServed (m : Meaning) (input : List ℕ) (d : DiskSide) (text : List ℕ) : Type 0 where
   pub good : refusal_of m.reads input ≡ None
-  pub welcome : d.tells → (e : FilesRefusal) → IsNever e → m.turns_away input (found d) e → ⊥
+  pub welcome : d.tells → (e : FilesRefusal) → IsNever e → m.turns_away input (files_found d) e → ⊥
   pub done : m.done input d
   pub says : m.says input d text
   pub kept : d.tells → (crash : Files) → CrashImage d.after crash → m.keeps input d.held crash

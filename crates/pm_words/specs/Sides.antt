@@ -47,8 +47,8 @@ pub record Found : Type 0 where
   pub files : Files
   pub wrapped : Option FileId
 
-abbrev pub found : DiskSide → Found
-found d = record { files = contents_of d.held; wrapped = d.wrapped }
+abbrev pub files_found : DiskSide → Found
+files_found d = record { files = contents_of d.held; wrapped = d.wrapped }
 
 -- nothing was taken of the source
 abbrev pub NotAsked : SourceSide → Type 0

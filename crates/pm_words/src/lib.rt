@@ -11,5 +11,7 @@ mod words;
 pub use inputs::read_input;
 pub use output::{finish, send};
 pub use refusal::{Refusal, of_ending};
-pub use stage::{DiskRefusal, FilesRefusal, InputRefusal, ReadRefusal, RunRefusal, Stop, Usage};
+pub use stage::{
+    DiskRefusal, FilesRefusal, InputRefusal, ReadRefusal, RunRefusal, StageFault, Usage,
+};
 pub use words::{Command, MakeWords, OnceWords, ValueWords, read_words};

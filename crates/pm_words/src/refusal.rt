@@ -6,7 +6,9 @@ ghost use Rattle.pm_words.specs.declared.stage.FilesRefusal.TheVariants.{Run};
 ghost use Rattle.pm_words.specs.declared.stage.RunRefusal.TheVariants.{Limit};
 ghost use Rattle.pm_words.specs.Refusals.{ending_refusal, NoClock, status_of, numbered_line_of, plain_line_of, line_of, Wrote};
 
-use crate::stage::{DiskRefusal, FilesRefusal, InputRefusal, ReadRefusal, RunRefusal, Stop, Usage};
+use crate::stage::{
+    DiskRefusal, FilesRefusal, InputRefusal, ReadRefusal, RunRefusal, StageFault, Usage,
+};
 use archive_reader::ReaderFault;
 use archive_recovery::RecoverFault;
 use pcp_base::{Bytes, NoMemory};
@@ -28,44 +30,44 @@ pub enum Refusal {
     NoMemory,
 }
 
-impl From<Stop<Usage>> for Refusal {
+impl From<StageFault<Usage>> for Refusal {
     ghost use Rattle.pm_words.specs.Refusals.{stopped};
     ghost use Rattle.pm_words.specs.declared.refusal.Refusal.TheVariants.{Words as AtWords};
 
     ghost from_gives = { λ stop e. e ≡ stopped AtWords stop };
 
-    fn from(stop: Stop<Usage>) -> Refusal {
+    fn from(stop: StageFault<Usage>) -> Refusal {
         match stop {
-            Stop::OutOfMemory => Refusal::NoMemory,
-            Stop::Refused(usage) => Refusal::Words(usage),
+            StageFault::OutOfMemory => Refusal::NoMemory,
+            StageFault::Refused(usage) => Refusal::Words(usage),
         }
     }
 }
 
-impl From<Stop<ReadRefusal>> for Refusal {
+impl From<StageFault<ReadRefusal>> for Refusal {
     ghost use Rattle.pm_words.specs.Refusals.{stopped};
     ghost use Rattle.pm_words.specs.declared.refusal.Refusal.TheVariants.{Reading as AtReading};
 
     ghost from_gives = { λ stop e. e ≡ stopped AtReading stop };
 
-    fn from(stop: Stop<ReadRefusal>) -> Refusal {
+    fn from(stop: StageFault<ReadRefusal>) -> Refusal {
         match stop {
-            Stop::OutOfMemory => Refusal::NoMemory,
-            Stop::Refused(refusal) => Refusal::Reading(refusal),
+            StageFault::OutOfMemory => Refusal::NoMemory,
+            StageFault::Refused(refusal) => Refusal::Reading(refusal),
         }
     }
 }
 
-impl From<Stop<InputRefusal>> for Refusal {
+impl From<StageFault<InputRefusal>> for Refusal {
     ghost use Rattle.pm_words.specs.Refusals.{stopped};
     ghost use Rattle.pm_words.specs.declared.refusal.Refusal.TheVariants.{Input as AtInput};
 
     ghost from_gives = { λ stop e. e ≡ stopped AtInput stop };
 
-    fn from(stop: Stop<InputRefusal>) -> Refusal {
+    fn from(stop: StageFault<InputRefusal>) -> Refusal {
         match stop {
-            Stop::OutOfMemory => Refusal::NoMemory,
-            Stop::Refused(refusal) => Refusal::Input(refusal),
+            StageFault::OutOfMemory => Refusal::NoMemory,
+            StageFault::Refused(refusal) => Refusal::Input(refusal),
         }
     }
 }

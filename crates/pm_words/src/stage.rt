@@ -15,28 +15,28 @@ use std::alloc::{AllocError, Global};
 
 /// Why a stage stops: memory ran out, or a refusal of its own.
 #[derive(Clone, Copy, Debug, PartialEq, Eq)]
-pub enum Stop<E> {
+pub enum StageFault<E> {
     OutOfMemory,
     Refused(E),
 }
 
-impl<E> From<NoMemory> for Stop<E> {
-    ghost use Rattle.pm_words.specs.declared.stage.Stop.TheVariants.{OutOfMemory as Stopped};
+impl<E> From<NoMemory> for StageFault<E> {
+    ghost use Rattle.pm_words.specs.declared.stage.StageFault.TheVariants.{OutOfMemory as Stopped};
 
     ghost from_gives = { λ _ stop. stop ≡ Stopped };
 
-    fn from(_error: NoMemory) -> Stop<E> {
-        Stop::OutOfMemory
+    fn from(_error: NoMemory) -> StageFault<E> {
+        StageFault::OutOfMemory
     }
 }
 
-impl<E> From<AllocError> for Stop<E> {
-    ghost use Rattle.pm_words.specs.declared.stage.Stop.TheVariants.{OutOfMemory as Stopped};
+impl<E> From<AllocError> for StageFault<E> {
+    ghost use Rattle.pm_words.specs.declared.stage.StageFault.TheVariants.{OutOfMemory as Stopped};
 
     ghost from_gives = { λ _ stop. stop ≡ Stopped };
 
-    fn from(_error: AllocError) -> Stop<E> {
-        Stop::OutOfMemory
+    fn from(_error: AllocError) -> StageFault<E> {
+        StageFault::OutOfMemory
     }
 }
 

@@ -5,7 +5,7 @@ ghost use Rattle.pcp_base.specs.Texts.{IsText};
 ghost use Rattle.pcp_base.specs.Time.{IsMoment};
 ghost use Rattle.pm_words.specs.CommandLine.{Reads, Gives, FitsCommand, command_of, run_command_of, end_then, number_in, volume_of, once_of, replay_of, make_of, image_command_of, archive_command_of, timed_command_of, stamp_then, at_of, range_of, value_of, second_of, microsecond_of, file_of, begins_with_dash, name_of, word_then};
 
-use crate::stage::{Stop, Usage};
+use crate::stage::{StageFault, Usage};
 use pcp_base::{Bytes, List, NoMemory, Stamp, Text, TextError, is_component};
 use std::alloc::Global;
 use text_lines::read_number;
@@ -59,13 +59,13 @@ pub struct ValueWords {
     pub name: Bytes,
 }
 
-impl From<usize> for Stop<Usage> {
-    ghost use Rattle.pm_words.specs.declared.stage.Stop.TheVariants.{Refused};
+impl From<usize> for StageFault<Usage> {
+    ghost use Rattle.pm_words.specs.declared.stage.StageFault.TheVariants.{Refused};
 
     ghost from_gives = { λ at stop. stop ≡ Refused record { at = at } };
 
-    fn from(at: usize) -> Stop<Usage> {
-        Stop::Refused(Usage { at })
+    fn from(at: usize) -> StageFault<Usage> {
+        StageFault::Refused(Usage { at })
     }
 }
 
@@ -175,7 +175,7 @@ fn make_words(words: &[String]) -> Result<Command, usize>
 }
 
 #[tactic(auto, unfolding(crate::specs::CommandLine::once_of))]
-fn once_words(alloc: Global, words: &[String]) -> Result<Command, Stop<Usage>>
+fn once_words(alloc: Global, words: &[String]) -> Result<Command, StageFault<Usage>>
     ensures command { Reads result (once_of (map string_bytes words.now)) }
     ensures fits { IfOk result FitsCommand }
 {
@@ -184,12 +184,12 @@ fn once_words(alloc: Global, words: &[String]) -> Result<Command, Stop<Usage>>
     let (name, rest) = file_at(rest, 3)?;
     end_at(rest, 4)?;
     let Some(stamp) = Stamp::build(sec, usec) else {
-        return Err(Stop::Refused(Usage { at: 2 }));
+        return Err(StageFault::Refused(Usage { at: 2 }));
     };
     match Text::build(alloc, name) {
         Ok(file) => Ok(Command::Once(OnceWords { stamp, file })),
-        Err(TextError::NoMemory) => Err(Stop::OutOfMemory),
-        Err(TextError::Zero(_)) => Err(Stop::Refused(Usage { at: 3 })),
+        Err(TextError::NoMemory) => Err(StageFault::OutOfMemory),
+        Err(TextError::Zero(_)) => Err(StageFault::Refused(Usage { at: 3 })),
     }
 }
 
@@ -271,7 +271,7 @@ fn bytes_of(alloc: Global, bytes: &[u8]) -> Result<Bytes, NoMemory>
 }
 
 #[tactic(auto, unfolding(crate::specs::CommandLine::value_of))]
-fn value_words(alloc: Global, words: &[String]) -> Result<Command, Stop<Usage>>
+fn value_words(alloc: Global, words: &[String]) -> Result<Command, StageFault<Usage>>
     ensures command { Reads result (value_of (map string_bytes words.now)) }
     ensures fits { IfOk result FitsCommand }
 {
@@ -320,7 +320,7 @@ fn archive_words(name: &[u8], words: &[String]) -> Result<Command, usize>
 }
 
 // A command that asks an archive by time, or another.
-fn timed_words(alloc: Global, name: &[u8], words: &[String]) -> Result<Command, Stop<Usage>>
+fn timed_words(alloc: Global, name: &[u8], words: &[String]) -> Result<Command, StageFault<Usage>>
     ensures command { Reads result (timed_command_of name.now (map string_bytes words.now)) }
     ensures fits { IfOk result FitsCommand }
 {
@@ -340,7 +340,7 @@ fn timed_words(alloc: Global, name: &[u8], words: &[String]) -> Result<Command, 
 }
 
 // A command that runs something over an archive, or another.
-fn run_words(alloc: Global, name: &[u8], words: &[String]) -> Result<Command, Stop<Usage>>
+fn run_words(alloc: Global, name: &[u8], words: &[String]) -> Result<Command, StageFault<Usage>>
     ensures command { Reads result (run_command_of name.now (map string_bytes words.now)) }
     ensures fits { IfOk result FitsCommand }
 {
@@ -360,12 +360,12 @@ fn run_words(alloc: Global, name: &[u8], words: &[String]) -> Result<Command, St
 
 /// The command that the words are, or the index of the first word that is bad or missing. A command that
 /// isn't known is bad at 0.
-pub fn read_words(alloc: Global, words: &[String]) -> Result<Command, Stop<Usage>>
+pub fn read_words(alloc: Global, words: &[String]) -> Result<Command, StageFault<Usage>>
     ensures command { Reads result (command_of (map string_bytes words.now)) }
     ensures fits { IfOk result FitsCommand }
 {
     let [name, rest @ ..] = words else {
-        return Err(Stop::Refused(Usage { at: 0 }));
+        return Err(StageFault::Refused(Usage { at: 0 }));
     };
     run_words(alloc, name.as_bytes(), rest)
 }

@@ -1,5 +1,5 @@
 -- All workers together: one for each seat and the door at its position.
-use Rattle.std.specs.Prelude.{◌≡◌, ◌≢◌, ◌⊎◌, ℕ, ◌+◌, ◌≤◌, List, [], ◌∷◌, length, map, sum_by, Result, Ok, Err}
+use Rattle.std.specs.Prelude.{◌≡◌, ◌≢◌, ◌⊎◌, ℕ, ◌+◌, ◌≤◌, Bool, List, [], ◌∷◌, length, map, sum_by, Result, Ok, Err, MatchBool}
 use Rattle.std.specs.List.{AllByRecursion, flat_map}
 use Rattle.fetch_engine.specs.declared.server.Mounted.{Mounted}
 use Rattle.pcp_outside.specs.Causes.{Rose}
@@ -9,7 +9,8 @@ use Rattle.pmcd_server.specs.declared.fault.ServeFault.TheVariants.{Accept, NoMe
 use Rattle.pmcd_server.specs.Draws.{AreBelow}
 use Rattle.pmcd_server.specs.Places.{Drawer}
 use Rattle.fetch_engine.specs.Servers.{Seated}
-use Rattle.pmcd_server.specs.Works.{HasDrawnAll, IsWork, Nowhere, Work}
+use Rattle.pmcd_server.specs.Turns.{Turn}
+use Rattle.pmcd_server.specs.Works.{Drew, Failure, HasDrawnAll, IsWork, Nowhere, Work, Worked}
 
 -- what each did with its seat and its door
 pub record AreWorks {P In Out Time : Type 0} (rows : List Mounted) (d : Ghosts P In Out Time) (count : ℕ) (seats : List Seated) (doors : List P) (works : List (Work P)) (seats_after : List Seated) (doors_after : List P) : Type 0 where
@@ -39,6 +40,23 @@ NoneFailed works = AllByRecursion (λ w. w.failure ≡ Nowhere) works
 abbrev pub SomeFailed : {P : Type 0} → List (Work P) → Type 0
 SomeFailed [] = ⊥
 SomeFailed (w ∷ ws) = (w.failure ≢ Nowhere) ⊎ SomeFailed ws
+
+-- One worker drew places and served sessions for them, until no place was left, or its door failed; it tells which.
+abbrev pub HasWorked : {P In Out Time : Type 0} → List Mounted → Ghosts P In Out Time → ℕ → Seated → P → Drawer → Seated → P → Drawer → Bool → Type 0
+HasWorked rows d count seat door own seat_after door_after own_after is_well =
+    (given : List ℕ) × (beyond : List ℕ) × (turns : List Turn) × (failure : Failure)
+    × Worked rows d count seat door given turns failure seat_after door_after
+    × Drew count given beyond own own_after
+    × HasDrawnAll count given beyond failure
+    × MatchBool is_well (failure ≡ Nowhere) (failure ≢ Nowhere)
+
+-- So did all of these, and it is told whether no door failed.
+abbrev pub HaveWorked : {P In Out Time : Type 0} → List Mounted → Ghosts P In Out Time → ℕ → List Seated → List P → Drawer → List Seated → List P → Drawer → Bool → Type 0
+HaveWorked {P} rows d count seats doors drawer seats_after doors_after drawer_after is_well =
+    (works : List (Work P)) × (beyond : List ℕ)
+    × AreWorks rows d count seats doors works seats_after doors_after
+    × DrewAll count works beyond drawer drawer_after
+    × MatchBool is_well (NoneFailed works) (SomeFailed works)
 
 -- some door's count of faults rose
 abbrev pub SomeRose : {P In Out Time : Type 0} → Ghosts P In Out Time → List P → List P → Type 0

@@ -1,13 +1,11 @@
 //! Connections are served by one worker a seat, beside each other.
-ghost use Rattle.std.specs.Prelude.{◌≡◌, ◌≢◌, ◌<◌, ◌≤◌, ◌+◌, ◌*◌, ℕ, List as Sequence, length, sum_by, MatchBool, IsErrOf, OnOk};
+ghost use Rattle.std.specs.Prelude.{◌≡◌, ◌<◌, ◌≤◌, ◌+◌, ◌*◌, length, sum_by, IsErrOf, OnOk};
 ghost use Rattle.std.specs.List.{AllByRecursion};
 ghost use Rattle.std.specs.Thread.{IsSend, IsSync};
-ghost use Rattle.pmcd_server.specs.Crews.{AreWorks, DrewAll, HasServed, NoneFailed, SomeFailed, SomeRose};
+ghost use Rattle.pmcd_server.specs.Crews.{HasServed, HasWorked, HaveWorked, SomeRose};
 ghost use Rattle.pmcd_server.specs.declared.fault.ServeFault.TheVariants.{Accept};
 ghost use Rattle.pmcd_server.specs.Draws.{share};
 ghost use Rattle.fetch_engine.specs.Servers.{IsSeated};
-ghost use Rattle.pmcd_server.specs.Works.{Drew, Failure, HasDrawnAll, Nowhere, Work, Worked};
-ghost use Rattle.pmcd_server.specs.Turns.{Turn};
 
 use crate::fault::ServeFault;
 use crate::places::{Drawer, Places};
@@ -37,48 +35,26 @@ where
     P::In: Send,
     P::Out: Send,
     P::Time: Send,
-    requires one_seated { IsSeated server.now seat.old.tokens }
-    requires one_here { own.old.word ≡ places.now }
-    requires one_left { count ≤ own.old.left }
+    requires one { IsSeated server.now seat.old.tokens × (own.old.word ≡ places.now) × (count ≤ own.old.left) }
     requires seated { AllByRecursion (λ s. IsSeated server.now s.tokens) seats.old }
-    requires same { length seats.old ≡ length doors.old }
-    requires here { drawer.old.word ≡ places.now }
-    requires left { length seats.old * share ≤ drawer.old.left }
-    ensures one_works { (given : Sequence ℕ) × (beyond : Sequence ℕ) × (turns : Sequence Turn) × (failure : Failure)
-        × Worked server.now P.Door count seat.old door.old given turns failure seat.new door.new
-        × Drew count given beyond own.old own.new
-        × HasDrawnAll count given beyond failure
-        × MatchBool result.0 (failure ≡ Nowhere) (failure ≢ Nowhere) }
+    requires others { (length seats.old ≡ length doors.old) × (drawer.old.word ≡ places.now) × (length seats.old * share ≤ drawer.old.left) }
+    ensures one_works { HasWorked server.now P.Door count seat.old door.old own.old seat.new door.new own.new result.0 }
     ensures one_seated { IsSeated server.now seat.new.tokens }
-    ensures works { (works : Sequence (Work _)) × (beyond : Sequence ℕ)
-        × AreWorks server.now P.Door count seats.old doors.old works seats.new doors.new
-        × DrewAll count works beyond drawer.old drawer.new
-        × MatchBool result.1 (NoneFailed works) (SomeFailed works) }
+    ensures works { HaveWorked server.now P.Door count seats.old doors.old drawer.old seats.new doors.new drawer.new result.1 }
     ensures seated { AllByRecursion (λ s. IsSeated server.now s.tokens) seats.new }
 {
     join_mut(
         rt,
         &mut || -> bool
-            requires seated { IsSeated server.now seat.now.tokens }
-            requires here { own.now.word ≡ places.now }
-            requires left { count ≤ own.now.left }
-            ensures works { (given : Sequence ℕ) × (beyond : Sequence ℕ) × (turns : Sequence Turn) × (failure : Failure)
-                × Worked server.entry.now P.Door count seat.entry.now door.entry.now given turns failure seat.exit.now door.exit.now
-                × Drew count given beyond own.entry.now own.exit.now
-                × HasDrawnAll count given beyond failure
-                × MatchBool result (failure ≡ Nowhere) (failure ≢ Nowhere) }
+            requires one { IsSeated server.now seat.now.tokens × (own.now.word ≡ places.now) × (count ≤ own.now.left) }
+            ensures works { HasWorked server.entry.now P.Door count seat.entry.now door.entry.now own.entry.now seat.exit.now door.exit.now own.exit.now result }
             ensures seated { IsSeated server.entry.now seat.exit.now.tokens }
         { work(alloc, server, seat, door, places, own, count).is_ok() },
         &mut || -> bool
             requires sync { IsSync R.row × IsSend P.row }
             requires seated { AllByRecursion (λ s. IsSeated server.now s.tokens) seats.now }
-            requires same { length seats.now ≡ length doors.now }
-            requires here { drawer.now.word ≡ places.now }
-            requires left { length seats.now * share ≤ drawer.now.left }
-            ensures works { (works : Sequence (Work _)) × (beyond : Sequence ℕ)
-                × AreWorks server.entry.now P.Door count seats.entry.now doors.entry.now works seats.exit.now doors.exit.now
-                × DrewAll count works beyond drawer.entry.now drawer.exit.now
-                × MatchBool result (NoneFailed works) (SomeFailed works) }
+            requires others { (length seats.now ≡ length doors.now) × (drawer.now.word ≡ places.now) × (length seats.now * share ≤ drawer.now.left) }
+            ensures works { HaveWorked server.entry.now P.Door count seats.entry.now doors.entry.now drawer.entry.now seats.exit.now doors.exit.now drawer.exit.now result }
             ensures seated { AllByRecursion (λ s. IsSeated server.entry.now s.tokens) seats.exit.now }
         { run(rt, alloc, server, places, count, drawer, seats, doors) },
     )
@@ -104,10 +80,7 @@ where
     requires same { length seats.old ≡ length doors.old }
     requires here { drawer.old.word ≡ places.now }
     requires left { length seats.old * share ≤ drawer.old.left }
-    ensures works { (works : Sequence (Work _)) × (beyond : Sequence ℕ)
-        × AreWorks server.now P.Door count seats.old doors.old works seats.new doors.new
-        × DrewAll count works beyond drawer.old drawer.new
-        × MatchBool result (NoneFailed works) (SomeFailed works) }
+    ensures works { HaveWorked server.now P.Door count seats.old doors.old drawer.old seats.new doors.new drawer.new result }
     ensures seated { AllByRecursion (λ s. IsSeated server.now s.tokens) seats.new }
 {
     let Some((seat, seats)) = seats.split_first_mut() else {

@@ -6,8 +6,8 @@ use Rattle.pcp_base.specs.declared.result.PmResult.{PmResult}
 use Rattle.pdu_codec.specs.declared.pdu.Pdu.{Pdu}
 use Rattle.pdu_codec.specs.declared.pdu.Pdu.TheVariants as pdus
 use Rattle.profile_filter.specs.Kept.{Settings}
-use Rattle.fetch_engine.specs.Answers.{answer_of}
-use Rattle.fetch_engine.specs.Readings.{Reading}
+use Rattle.fetch_answers.specs.Answers.{answer_of}
+use Rattle.fetch_answers.specs.Readings.{RegionReading}
 use Rattle.pmcd_session.specs.declared.standing.Standing.{Standing}
 use Rattle.pmcd_session.specs.Contexts.{profile_or_all}
 use Rattle.pmcd_session.specs.Replies.{protocol_error}
@@ -25,7 +25,7 @@ without {A = A} P m reply after none done = subst (λ (l : List Moment). P (reco
 -- a fetch that has its moment
 pub fetched : {A : Type 0} (reads : ReadsBy A) (s after : Standing A) (context : ℕ) (pmids : List ℕ) (stamp : Moment) (profile : Settings) (answer : PmResult)
     → true ≡ may_fetch context pmids → Some profile ≡ slice_get s.contexts context → KeepsRest s after
-    → ((readings : List Reading) × reads None s.agent readings after.agent × (answer ≡ answer_of readings profile pmids stamp))
+    → ((readings : List RegionReading) × reads None s.agent readings after.agent × (answer ≡ answer_of readings profile pmids stamp))
     → FetchesIf reads (may_fetch context pmids) s context pmids (record { moments = stamp ∷ []; reply = Some (pdus.Result answer); after = after })
 fetched {A = A} reads s after context pmids stamp profile answer may there rest shown =
     subst (λ (b : Bool). FetchesIf reads b s context pmids (record { moments = stamp ∷ []; reply = Some (pdus.Result answer); after = after })) may

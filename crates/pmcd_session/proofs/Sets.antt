@@ -9,9 +9,9 @@ use Rattle.pcp_base.specs.declared.kind.Kind.TheVariants as kinds
 use Rattle.mmv_format.specs.declared.rows.Layout.{Layout}
 use Rattle.mmv_format.specs.declared.rows.MetricRow.{MetricRow}
 use Rattle.profile_filter.specs.Kept.{Settings}
-use Rattle.fetch_engine.specs.Answers.{region_of, metric_with, indom_in, region_body, layout_body, metric_body, set_of}
-use Rattle.fetch_engine.specs.Readings.{Reading}
-use Rattle.fetch_engine.specs.Values.{ByInstance, shown_word, shown_block, words_or_none, blocks_or_none, stored, values_with}
+use Rattle.fetch_answers.specs.Answers.{region_of, metric_with, indom_in, region_body, layout_body, metric_body, set_of}
+use Rattle.fetch_answers.specs.Readings.{RegionReading}
+use Rattle.fetch_answers.specs.Values.{ByInstance, shown_word, shown_block, words_or_none, blocks_or_none, stored, values_with}
 
 some_words : (pairs : List (ℤ × ℕ)) → HasContent (words_or_none pairs)
 some_words [] = omega arith
@@ -39,10 +39,10 @@ layout_has : (profile : Settings) (cluster pmid : ℕ) (o : Option Layout) → H
 layout_has profile cluster pmid None = omega arith
 layout_has profile cluster pmid (Some layout) = metric_has profile cluster layout (metric_with (item_of pmid) layout.metrics)
 
-region_has : (profile : Settings) (pmid : ℕ) (o : Option Reading) → HasContent (region_body profile pmid o)
+region_has : (profile : Settings) (pmid : ℕ) (o : Option RegionReading) → HasContent (region_body profile pmid o)
 region_has profile pmid None = omega arith
 region_has profile pmid (Some region) = layout_has profile region.cluster pmid region.layout
 
-pub sets_fit : (regions : List Reading) (profile : Settings) (pmids : List ℕ) → AllByRecursion Fits (map (set_of regions profile) pmids)
+pub sets_fit : (regions : List RegionReading) (profile : Settings) (pmids : List ℕ) → AllByRecursion Fits (map (set_of regions profile) pmids)
 sets_fit regions profile [] = tt
 sets_fit regions profile (pmid ∷ pmids) = (region_has profile pmid (region_of regions pmid), sets_fit regions profile pmids)

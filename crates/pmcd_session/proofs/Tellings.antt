@@ -5,15 +5,15 @@ use Rattle.pcp_base.specs.declared.desc.Desc.{Desc}
 use Rattle.pdu_codec.specs.declared.pdu.Pdu.{Pdu}
 use Rattle.pdu_codec.specs.declared.pdu.Pdu.TheVariants as pdus
 use Rattle.pmns_core.specs.Pairs.{Pair}
-use Rattle.fetch_engine.specs.Asks.{desc_asked, instances_asked}
-use Rattle.fetch_engine.specs.Readings.{Reading}
+use Rattle.fetch_answers.specs.Asks.{desc_asked, instances_asked}
+use Rattle.fetch_answers.specs.Readings.{RegionReading}
 use Rattle.pmcd_session.specs.declared.standing.Standing.{Standing}
 use Rattle.pmcd_session.specs.Replies.{again, desc_reply, instance_reply, missing_among, name_reply, names_shown, needed, reply_over, unless_missing}
 use Rattle.pmcd_session.specs.Serving.{KeepsRest, ReadsBy, Tells}
 use Rattle.pmcd_session.specs.Telling.{ShowsNames}
 
 pub desc_tells : {A : Type 0} (reads : ReadsBy A) (s after : Standing A) (pmid : ℕ) (told : Result Desc ℤ) (reply : Pdu) → KeepsRest s after
-    → ((readings : List Reading) × reads (Some pmid) s.agent readings after.agent × (told ≡ desc_asked readings pmid))
+    → ((readings : List RegionReading) × reads (Some pmid) s.agent readings after.agent × (told ≡ desc_asked readings pmid))
     → reply ≡ desc_reply told → Tells reads s (pdus.DescReq pmid) (record { moments = []; reply = Some reply; after = after })
 desc_tells reads s after pmid told reply rest shown is = record {
   regions = shown.0;
@@ -24,7 +24,7 @@ desc_tells reads s after pmid told reply rest shown is = record {
 }
 
 pub instances_tell : {A : Type 0} (reads : ReadsBy A) (s after : Standing A) (indom : ℕ) (instance : ℤ) (told : Result (List (ℤ × List ℕ)) ℤ) (reply : Pdu) → KeepsRest s after
-    → ((readings : List Reading) × reads (Some indom) s.agent readings after.agent × (told ≡ instances_asked readings indom))
+    → ((readings : List RegionReading) × reads (Some indom) s.agent readings after.agent × (told ≡ instances_asked readings indom))
     → reply ≡ instance_reply indom instance told → Tells reads s (pdus.InstanceReq indom instance) (record { moments = []; reply = Some reply; after = after })
 instances_tell reads s after indom instance told reply rest shown is = record {
   regions = shown.0;
@@ -43,7 +43,7 @@ missed : (clusters : List ℕ) (reply : Pdu) → clusters ≢ [] → unless_miss
 missed [] reply some = absurd (some refl)
 missed (cluster ∷ clusters) reply some = refl
 
-names_found : (regions : List Reading) (names : Option (List Pair)) (request : Pdu) → ShowsNames regions names
+names_found : (regions : List RegionReading) (names : Option (List Pair)) (request : Pdu) → ShowsNames regions names
     → over_names names request ≡ unless_missing (missing_among regions) (name_reply (names_shown regions) request)
 unfolding over_names
 names_found regions (Some names) request shown =
@@ -52,8 +52,8 @@ names_found regions None request shown = sym (missed (missing_among regions) (na
 
 -- a request for names
 names_tell : {A : Type 0} (reads : ReadsBy A) (s after : Standing A) (request : Pdu) (names : Option (List Pair)) (reply : Pdu) → KeepsRest s after
-    → ((readings : List Reading) × reads None s.agent readings after.agent × ShowsNames readings names)
-    → needed request ≡ None → ((regions : List Reading) → reply_over request regions ≡ unless_missing (missing_among regions) (name_reply (names_shown regions) request))
+    → ((readings : List RegionReading) × reads None s.agent readings after.agent × ShowsNames readings names)
+    → needed request ≡ None → ((regions : List RegionReading) → reply_over request regions ≡ unless_missing (missing_among regions) (name_reply (names_shown regions) request))
     → reply ≡ over_names names request → Tells reads s request (record { moments = []; reply = Some reply; after = after })
 names_tell {A = A} reads s after request names reply rest shown all over is = record {
   regions = shown.0;
@@ -65,16 +65,16 @@ names_tell {A = A} reads s after request names reply rest shown all over is = re
 
 -- where names are told
 pub some_tell : {A : Type 0} (reads : ReadsBy A) (s after : Standing A) (request : Pdu) (names : List Pair) (reply : Pdu) → KeepsRest s after
-    → ((readings : List Reading) × reads None s.agent readings after.agent × ShowsNames readings (Some names))
-    → needed request ≡ None → ((regions : List Reading) → reply_over request regions ≡ unless_missing (missing_among regions) (name_reply (names_shown regions) request))
+    → ((readings : List RegionReading) × reads None s.agent readings after.agent × ShowsNames readings (Some names))
+    → needed request ≡ None → ((regions : List RegionReading) → reply_over request regions ≡ unless_missing (missing_among regions) (name_reply (names_shown regions) request))
     → reply ≡ name_reply names request → Tells reads s request (record { moments = []; reply = Some reply; after = after })
 unfolding over_names
 some_tell reads s after request names reply rest shown all over is = names_tell reads s after request (Some names) reply rest shown all over is
 
 -- and while a region is missing
 pub none_tell : {A : Type 0} (reads : ReadsBy A) (s after : Standing A) (request : Pdu) → KeepsRest s after
-    → ((readings : List Reading) × reads None s.agent readings after.agent × ShowsNames readings None)
-    → needed request ≡ None → ((regions : List Reading) → reply_over request regions ≡ unless_missing (missing_among regions) (name_reply (names_shown regions) request))
+    → ((readings : List RegionReading) × reads None s.agent readings after.agent × ShowsNames readings None)
+    → needed request ≡ None → ((regions : List RegionReading) → reply_over request regions ≡ unless_missing (missing_among regions) (name_reply (names_shown regions) request))
     → Tells reads s request (record { moments = []; reply = Some (pdus.Error again); after = after })
 unfolding over_names
 none_tell reads s after request rest shown all over = names_tell reads s after request None (pdus.Error again) rest shown all over refl

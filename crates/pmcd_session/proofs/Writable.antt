@@ -8,8 +8,8 @@ use Rattle.pdu_codec.specs.declared.pdu.Pdu.TheVariants as pdus
 use Rattle.pdu_codec.specs.Spelling.{IsWritable}
 use Rattle.pmns_core.specs.Pairs.{Pair, pmid_of, least_name}
 use Rattle.pmns_core.specs.Below.{below, children_of}
-use Rattle.fetch_engine.specs.Asks.{desc_asked, instances_asked}
-use Rattle.fetch_engine.specs.Readings.{Reading}
+use Rattle.fetch_answers.specs.Asks.{desc_asked, instances_asked}
+use Rattle.fetch_answers.specs.Readings.{RegionReading}
 use Rattle.pmcd_session.specs.declared.standing.Standing.{Standing}
 use Rattle.pmcd_session.specs.Contexts.{may_set, with_profile, profile_or_all}
 use Rattle.pmcd_session.specs.Replies.{protocol_error, desc_reply, instance_reply, one_instance, ids_reply, names_reply, some_names, name_reply, unless_missing, reply_over, names_shown, missing_among, all_of, no_metric, no_name}
@@ -60,7 +60,7 @@ unless_writable : (clusters : List ℕ) (reply : Pdu) → IsWritable reply → I
 unless_writable [] reply w = w
 unless_writable (cluster ∷ clusters) reply w = tt
 
-over_writable : (request : Pdu) (regions : List Reading) → IsWritable (reply_over request regions)
+over_writable : (request : Pdu) (regions : List RegionReading) → IsWritable (reply_over request regions)
 over_writable (pdus.DescReq pmid) regions = desc_writable (desc_asked regions pmid)
 over_writable (pdus.InstanceReq indom instance) regions = instance_writable indom instance (instances_asked regions indom)
 over_writable (pdus.PmnsNames status asked) regions = unless_writable (missing_among regions) (name_reply (names_shown regions) (pdus.PmnsNames status asked)) (name_writable (names_shown regions) (pdus.PmnsNames status asked))

@@ -1,12 +1,12 @@
 -- What a seat at a server tells, as an agent.
 use Rattle.std.specs.Prelude.{ℕ, List, Option, Some, None}
-use Rattle.fetch_engine.specs.Readings.{Reading}
+use Rattle.fetch_answers.specs.Readings.{RegionReading}
 use Rattle.fetch_engine.specs.Servers.{Seated}
 use Rattle.fetch_engine.specs.Visits.{AreLoaded, AreRead, IsReadFor}
 use Rattle.fetch_engine.specs.declared.server.Mounted.{Mounted}
 
 -- each region was read once by the seat's own pass, or the one alone in whose cluster a number lies
-abbrev pub ReadsRegions : List Mounted → Option ℕ → Seated → List Reading → Seated → Type 0
+abbrev pub ReadsRegions : List Mounted → Option ℕ → Seated → List RegionReading → Seated → Type 0
 ReadsRegions rows None old readings new = AreRead rows old.tokens readings new.tokens
 ReadsRegions rows (Some word) old readings new = IsReadFor word rows old.tokens readings new.tokens
 

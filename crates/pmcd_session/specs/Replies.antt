@@ -8,9 +8,9 @@ use Rattle.pdu_codec.specs.declared.pdu.Pdu.TheVariants as pdus
 use Rattle.pdu_codec.specs.Spelling.{pdu_bytes, pdu_length}
 use Rattle.pmns_core.specs.Pairs.{Pair, pmid_of, least_name}
 use Rattle.pmns_core.specs.Below.{below, children_of}
-use Rattle.fetch_engine.specs.Asks.{desc_asked, instances_asked}
-use Rattle.fetch_engine.specs.Names.{with_region, with_missed}
-use Rattle.fetch_engine.specs.Readings.{Reading}
+use Rattle.fetch_answers.specs.Asks.{desc_asked, instances_asked}
+use Rattle.fetch_answers.specs.Names.{with_region, with_missed}
+use Rattle.fetch_answers.specs.Readings.{RegionReading}
 
 -- ---- statuses
 
@@ -103,14 +103,14 @@ unless_missing (cluster ∷ missing) reply = pdus.Error again
 -- ---- requests that are replied to over readings of the regions
 
 -- the names of regions, one region after another
-abbrev pub names_shown : List Reading → List Pair
+abbrev pub names_shown : List RegionReading → List Pair
 names_shown regions = fold with_region [] regions
 
 -- the clusters of those that were missed
-abbrev pub missing_among : List Reading → List ℕ
+abbrev pub missing_among : List RegionReading → List ℕ
 missing_among regions = fold (λ clusters region. with_missed clusters region.cluster region.layout) [] regions
 
-abbrev pub reply_over : Pdu → List Reading → Pdu
+abbrev pub reply_over : Pdu → List RegionReading → Pdu
 reply_over (pdus.DescReq pmid) regions = desc_reply (desc_asked regions pmid)
 reply_over (pdus.InstanceReq indom instance) regions = instance_reply indom instance (instances_asked regions indom)
 reply_over request regions = unless_missing (missing_among regions) (name_reply (names_shown regions) request)

@@ -5,8 +5,8 @@ use Rattle.pcp_base.specs.Time.{Moment}
 use Rattle.pdu_codec.specs.declared.pdu.Pdu.{Pdu}
 use Rattle.pdu_codec.specs.declared.pdu.Pdu.TheVariants as pdus
 use Rattle.pdu_codec.specs.Bodies.{IsPdu}
-use Rattle.fetch_engine.specs.Answers.{answer_of}
-use Rattle.fetch_engine.specs.Readings.{Reading}
+use Rattle.fetch_answers.specs.Answers.{answer_of}
+use Rattle.fetch_answers.specs.Readings.{RegionReading}
 use Rattle.pmcd_session.specs.declared.halt.Halt.{Halt}
 use Rattle.pmcd_session.specs.declared.halt.Halt.TheVariants as halts
 use Rattle.pmcd_session.specs.declared.standing.Standing.{Standing}
@@ -15,7 +15,7 @@ use Rattle.pmcd_session.specs.Replies.{protocol_error, reply_bytes, reply_over, 
 
 -- How an agent comes to what it tells: the regions, or those that a number needs, were each read once, or missed.
 abbrev pub ReadsBy : Type 0 → Type 1
-ReadsBy A = Option ℕ → A → List Reading → A → Type 0
+ReadsBy A = Option ℕ → A → List RegionReading → A → Type 0
 
 -- What was done with a PDU: the moments that were taken, the reply, if there is one, and how the session stands then.
 pub record Deed (A : Type 0) : Type 0 where
@@ -38,7 +38,7 @@ pub record KeepsRest {A : Type 0} (s after : Standing A) : Type 0 where
 
 -- the reply over a reading of the regions that the request needs
 pub record Tells {A : Type 0} (reads : ReadsBy A) (s : Standing A) (request : Pdu) (d : Deed A) : Type 0 where
-  pub regions : List Reading
+  pub regions : List RegionReading
   pub read : reads (needed request) s.agent regions d.after.agent
   pub moments : d.moments ≡ []
   pub reply : d.reply ≡ Some (reply_over request regions)
@@ -46,7 +46,7 @@ pub record Tells {A : Type 0} (reads : ReadsBy A) (s : Standing A) (request : Pd
 
 -- the answer over a reading of all regions, by the context's profile, stamped by the clock's next moment
 pub record Fetches {A : Type 0} (reads : ReadsBy A) (s : Standing A) (context : ℕ) (pmids : List ℕ) (d : Deed A) : Type 0 where
-  pub regions : List Reading
+  pub regions : List RegionReading
   pub moment : Moment
   pub read : reads None s.agent regions d.after.agent
   pub moments : d.moments ≡ moment ∷ []

@@ -1,8 +1,8 @@
 //! Who reads the regions for a session.
 ghost use Rattle.std.specs.Prelude.{◌≡◌, ◌≤◌, length, ℕ, List as Sequence, Option, Some, None, IfOk};
-ghost use Rattle.fetch_engine.specs.Answers.{answer_of};
-ghost use Rattle.fetch_engine.specs.Asks.{Told, desc_asked, instances_asked};
-ghost use Rattle.fetch_engine.specs.Readings.{Reading};
+ghost use Rattle.fetch_answers.specs.Answers.{answer_of};
+ghost use Rattle.fetch_answers.specs.Asks.{Told, desc_asked, instances_asked};
+ghost use Rattle.fetch_answers.specs.Readings.{RegionReading};
 ghost use Rattle.pmcd_session.specs.Replies.{names_shown, missing_among};
 
 use fetch_engine::{AskFault, Named};
@@ -20,7 +20,7 @@ pub trait Agent {
 
     /// These readings were made: of the regions that a number of a metric or of a domain needs, or of all, each read once
     /// or missed.
-    ghost reads: { Self.Regions → Option ℕ → Self → Sequence Reading → Self → Type 0 };
+    ghost reads: { Self.Regions → Option ℕ → Self → Sequence RegionReading → Self → Type 0 };
 
     /// What a call may leave behind, also where memory was refused.
     ghost loads: { Self.Regions → Self → Self → Type 0 };
@@ -36,14 +36,14 @@ pub trait Agent {
     ) -> Result<PmResult, NoMemory>
         requires here { sits regions.now self.old }
         requires few { length pmids.now ≤ 1024 }
-        ensures answer { IfOk result (λ answer. (readings : Sequence Reading) × reads regions.now None self.old readings self.new × (answer ≡ answer_of readings profile.now pmids.now stamp)) }
+        ensures answer { IfOk result (λ answer. (readings : Sequence RegionReading) × reads regions.now None self.old readings self.new × (answer ≡ answer_of readings profile.now pmids.now stamp)) }
         ensures loads { loads regions.now self.old self.new }
         ensures here { sits regions.now self.new };
 
     /// The name space (pmns(5)), and the clusters of the regions that were missed.
     fn names(&mut self, alloc: Global, regions: &Self::Regions) -> Result<Named, NoMemory>
         requires here { sits regions.now self.old }
-        ensures names { IfOk result (λ named. (readings : Sequence Reading) × reads regions.now None self.old readings self.new × (named.names ≡ names_shown readings) × (named.missing ≡ missing_among readings)) }
+        ensures names { IfOk result (λ named. (readings : Sequence RegionReading) × reads regions.now None self.old readings self.new × (named.names ≡ names_shown readings) × (named.missing ≡ missing_among readings)) }
         ensures loads { loads regions.now self.old self.new }
         ensures here { sits regions.now self.new };
 
@@ -55,7 +55,7 @@ pub trait Agent {
         pmid: Pmid,
     ) -> Result<Desc, AskFault>
         requires here { sits regions.now self.old }
-        ensures told { Told result (λ told. (readings : Sequence Reading) × reads regions.now (Some pmid) self.old readings self.new × (told ≡ desc_asked readings pmid)) }
+        ensures told { Told result (λ told. (readings : Sequence RegionReading) × reads regions.now (Some pmid) self.old readings self.new × (told ≡ desc_asked readings pmid)) }
         ensures loads { loads regions.now self.old self.new }
         ensures here { sits regions.now self.new };
 
@@ -67,7 +67,7 @@ pub trait Agent {
         indom: InDom,
     ) -> Result<List<(i32, Text)>, AskFault>
         requires here { sits regions.now self.old }
-        ensures told { Told result (λ told. (readings : Sequence Reading) × reads regions.now (Some indom) self.old readings self.new × (told ≡ instances_asked readings indom)) }
+        ensures told { Told result (λ told. (readings : Sequence RegionReading) × reads regions.now (Some indom) self.old readings self.new × (told ≡ instances_asked readings indom)) }
         ensures loads { loads regions.now self.old self.new }
         ensures here { sits regions.now self.new };
 }

@@ -1,7 +1,7 @@
 //! Requests that an agent tells the reply of: descriptions, instances and names.
 ghost use Rattle.std.specs.Prelude.{◌≡◌, ℤ, List as Sequence, Some, None, [], IfOk};
 ghost use Rattle.pdu_codec.specs.declared.pdu.Pdu.TheVariants.{DescReq, InstanceReq, PmnsIds, PmnsNames, PmnsChild, PmnsTraverse};
-ghost use Rattle.fetch_engine.specs.Readings.{Reading};
+ghost use Rattle.fetch_answers.specs.Readings.{RegionReading};
 ghost use Rattle.pmcd_session.specs.Serving.{KeepsRest, Tells};
 ghost use Rattle.pmcd_session.specs.Telling.{ShowsNames};
 
@@ -63,7 +63,7 @@ fn names_shown<A: Agent>(
     s: &mut Standing<A>,
 ) -> Result<Option<Names>, NoMemory>
     requires here { A.sits regions.now s.old.agent }
-    ensures shown { IfOk result (λ names. (readings : Sequence Reading) × A.reads regions.now None s.old.agent readings s.new.agent × ShowsNames readings names) }
+    ensures shown { IfOk result (λ names. (readings : Sequence RegionReading) × A.reads regions.now None s.old.agent readings s.new.agent × ShowsNames readings names) }
     ensures rest { KeepsRest s.old s.new }
     ensures loads { A.loads regions.now s.old.agent s.new.agent }
     ensures here { A.sits regions.now s.new.agent }

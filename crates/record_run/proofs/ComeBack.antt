@@ -1,10 +1,10 @@
--- Whatever a crash leaves of the run of an image comes back with its items.
-use Rattle.std.proofs.Common.{◌≡◌, inl, inr, ℕ, ◌+◌, ◌≤◌, List, [], ◌∷◌, ◌++◌, length, take, drop, min, zero, suc, sym, ap, ap₂, ◌∙◌, subst, arith}
+-- Whatever a crash leaves of a run comes back with its items.
+use Rattle.std.proofs.Common.{◌≡◌, inl, inr, ℕ, ◌+◌, ◌≤◌, List, [], ◌∷◌, ◌++◌, length, take, drop, zero, suc, sym, ap, ap₂, ◌∙◌, subst, arith}
 use Rattle.std.specs.Prelude.{Contains}
 use Rattle.std.specs.List.{AllByRecursion}
 use Rattle.std.proofs.Math.Path.{fun_ext}
 use Rattle.std.proofs.Math.Seq.{take-append_seam}
-use Rattle.std.proofs.lemmas.List.{drop_all, length-take, take-append-le, take_min}
+use Rattle.std.proofs.lemmas.List.{drop_all}
 use Rattle.pcp_base.specs.Time.{Moment}
 use Rattle.pcp_base.specs.declared.file.FileId.TheVariants.{Meta, Index, Volume}
 use Rattle.pcp_base.specs.declared.result.Item.{Item}
@@ -32,6 +32,12 @@ use Rattle.logger_core.proofs.Whole.{each_contained}
 use Rattle.script_runs.specs.Archives.{OpensFound, run_label}
 use Rattle.record_run.specs.Going.{AreApart}
 use Rattle.record_run.specs.ImageCrashes.{ComesBack, start_of}
+
+-- what holds of each item of a list holds of one that it contains
+pub at_of : {X : Type 0} (P : X → Type 0) (xs : List X) (x : X) → AllByRecursion P xs → Contains xs x → P x
+at_of P [] x all has = absurd (omega (arith, has.1))
+at_of P (y ∷ ys) x all (zero, low, is) = subst P is all.0
+at_of P (y ∷ ys) x all (suc k, low, is) = at_of P ys x all.1 (k, omega (arith, low), is)
 
 -- what recovery leaves is one thing, as a whole
 pub same_left : (files a b : Files) (r : ArchiveReading) → Recovers files r a → Recovers files r b → a ≡ b
@@ -140,23 +146,6 @@ each_new s items a image w apart =
     (λ y other told. told (λ has. absurd (other has))) (drop (length (scan s.reading)) (items_of w.new.volumes))
     (subst (λ (zs : List Item). AllByRecursion (λ y. Contains (scan s.reading) y → ⊥) (drop (length (scan s.reading)) zs)) (sym w.items) (behind_each (λ y. Contains (scan s.reading) y → ⊥) (scan s.reading) items w.q apart))
     (each-drop (λ (y : Item). WasDescribed s y → Described w.new.records y) (length (scan s.reading)) (items_of w.new.volumes) w.described)
-
--- what survives without a new item survives with it
-abbrev pub with_one : (s : Start) (xs : List Item) (x : Item) (a b : ℕ) (image : Files) → Survives s xs a image → b ≤ a → Survives s (xs ++ x ∷ []) b image
-with_one s xs x a b image w le = record {
-  new = w.new;
-  is = w.is;
-  q = min w.q (length xs);
-  items = w.items ∙ sym (take_min w.q xs) ∙ sym (take-append-le (min w.q (length xs)) xs (x ∷ []) (omega arith));
-  enough = omega (arith, w.enough, le);
-  described = w.described;
-  sound = w.sound;
-  labelled = w.labelled;
-}
-
-pub none_new : (s : Start) (a : ℕ) (image : Files) (w : Survives s (scan s.reading) a image) → AllByRecursion (Described w.new.records) (drop (length (scan s.reading)) (items_of w.new.volumes))
-none_new s a image w =
-    none_behind w.new.records (length (scan s.reading)) (items_of w.new.volumes) (omega (arith, ap length w.items, length-take w.q (scan s.reading)))
 
 -- what was sound and described in one archive was so in the other
 record IsStill (s t : Start) : Type 0 where

@@ -20,12 +20,12 @@ use Rattle.archive_meta.specs.Enough.{IsListed, AreListed, IsTold, AreEnough}
 use Rattle.archive_meta.specs.Facts.{has_values, first_under, metric_of, fact_of as told_of, listed_of}
 use Rattle.archive_meta.specs.declared.facts.Facts.{Facts}
 use Rattle.archive_meta.proofs.Taken.{Among}
-use Rattle.fetch_engine.specs.Answers.{is_of, region_of, metric_with, indom_in, body_of, region_body, layout_body, metric_body, set_of, desc_of, fact_of, region_fact, layout_fact, metric_fact, with_shown, shown_of, with_indom, domains_of, instances_of, region_instances, layout_instances, row_instances, facts_of}
-use Rattle.fetch_engine.specs.Bounds.{FitsSerial, FitsMetric, IsBounded}
-use Rattle.fetch_engine.specs.Names.{served_word, full_name}
-use Rattle.fetch_engine.specs.Readings.{Reading}
-use Rattle.fetch_engine.specs.Values.{ByInstance, keeps, word_of, block_of, shown_word, shown_block, words_or_none, blocks_or_none, stored, values_with}
-use Rattle.fetch_engine.proofs.Indexes.{metric_fits}
+use Rattle.fetch_answers.specs.Answers.{is_of, region_of, metric_with, indom_in, body_of, region_body, layout_body, metric_body, set_of, desc_of, fact_of, region_fact, layout_fact, metric_fact, with_shown, shown_of, with_indom, domains_of, instances_of, region_instances, layout_instances, row_instances, facts_of}
+use Rattle.fetch_answers.specs.Bounds.{FitsSerial, FitsMetric, IsBounded}
+use Rattle.fetch_answers.specs.Names.{served_word, full_name}
+use Rattle.fetch_answers.specs.Readings.{RegionReading}
+use Rattle.fetch_answers.specs.Values.{ByInstance, keeps, word_of, block_of, shown_word, shown_block, words_or_none, blocks_or_none, stored, values_with}
+use Rattle.fetch_answers.proofs.Indexes.{metric_fits}
 use Rattle.record_run.proofs.Keys.{put_there, put_stays, HasInstance, is_listed, IsOwn, found_fact, found_domain}
 use Rattle.record_run.proofs.Values.{values_are_of}
 
@@ -117,8 +117,8 @@ abbrev pub IsSaidBy : Option Layout → Type 0
 IsSaidBy None = Unit {0}
 IsSaidBy (Some layout) = IsDraft layout × IsBounded layout
 
-abbrev pub AreSaid : List Reading → Type 0
-AreSaid regions = AllByRecursion (λ (r : Reading). IsSaidBy r.layout) regions
+abbrev pub AreSaid : List RegionReading → Type 0
+AreSaid regions = AllByRecursion (λ (r : RegionReading). IsSaidBy r.layout) regions
 
 own_metric : (cluster : ℕ) (file : List ℕ) (p : ℕ) (layout : Layout) (o : Option MetricRow) → IsOwn p (metric_fact cluster file p layout o)
 own_metric cluster file p layout None = tt
@@ -128,22 +128,22 @@ own_layout : (cluster : ℕ) (file : List ℕ) (p : ℕ) (o : Option Layout) →
 own_layout cluster file p None = tt
 own_layout cluster file p (Some layout) = own_metric cluster file p layout (metric_with (item_of p) layout.metrics)
 
-own_region : (p : ℕ) (o : Option Reading) → IsOwn p (region_fact p o)
+own_region : (p : ℕ) (o : Option RegionReading) → IsOwn p (region_fact p o)
 own_region p None = tt
 own_region p (Some region) = own_layout region.cluster region.file p region.layout
 
-record IsFound (regions : List Reading) (word : ℕ) (region : Reading) : Type 0 where
+record IsFound (regions : List RegionReading) (word : ℕ) (region : RegionReading) : Type 0 where
   of : is_of word region ≡ true
   said : IsSaidBy region.layout
 
-found_region : (regions : List Reading) (word : ℕ) (region : Reading) → AreSaid regions → region_of regions word ≡ Some region → IsFound regions word region
+found_region : (regions : List RegionReading) (word : ℕ) (region : RegionReading) → AreSaid regions → region_of regions word ≡ Some region → IsFound regions word region
 found_region [] word region said found = cc
 found_region (r ∷ regions) word region said found = by (is_of word r) refl found (found_region regions word region said.1)
   where
     by : (b : Bool) → is_of word r ≡ b → cond b (Some r) (find (is_of word) regions) ≡ Some region → (find (is_of word) regions ≡ Some region → IsFound regions word region) → IsFound (r ∷ regions) word region
     by true e f more =
         let is : r ≡ region = cc in
-        record { of = subst (λ q. is_of word q ≡ true) is e; said = subst (λ (q : Reading). IsSaidBy q.layout) is said.0 }
+        record { of = subst (λ q. is_of word q ≡ true) is e; said = subst (λ (q : RegionReading). IsSaidBy q.layout) is said.0 }
     by false e f more = let m : IsFound regions word region = more f in record { of = m.of; said = m.said }
 
 found_metric : (item : ℕ) (metrics : List MetricRow) (metric : MetricRow) → metric_with item metrics ≡ Some metric → metric.item ≡ item
@@ -156,11 +156,11 @@ found_metric item (m ∷ metrics) metric found = by (nat_eq m.item item) refl fo
 
 -- ---- one set
 
-module _ (regions : List Reading) (said : AreSaid regions) (profile : Settings) (sets : List ValueSet) (pmid : ℕ) (shown : Among pmid (shown_of sets)) where
+module _ (regions : List RegionReading) (said : AreSaid regions) (profile : Settings) (sets : List ValueSet) (pmid : ℕ) (shown : Among pmid (shown_of sets)) where
   abbrev facts : Facts
   facts = facts_of regions sets
 
-  module _ (region : Reading) (layout : Layout) (metric : MetricRow) (region_is : region_of regions pmid ≡ Some region) (layout_is : region.layout ≡ Some layout)
+  module _ (region : RegionReading) (layout : Layout) (metric : MetricRow) (region_is : region_of regions pmid ≡ Some region) (layout_is : region.layout ≡ Some layout)
       (metric_is : metric_with (item_of pmid) layout.metrics ≡ Some metric) where
     abbrev fact : Desc × List ℕ
     fact = (desc_of region.cluster pmid metric, full_name region.file layout.flags metric.name)
@@ -191,7 +191,7 @@ module _ (regions : List Reading) (said : AreSaid regions) (profile : Settings) 
     same_region serial low =
         let of : pmid / 1024 ≡ 70 * 4096 + region.cluster = eqb-true (pmid / 1024) (70 * 4096 + region.cluster) known.of in
         let same : served_word region.cluster serial / 1024 ≡ pmid / 1024 = omega arith in
-        ap (λ q. find (λ (r : Reading). nat_eq q (70 * 4096 + r.cluster)) regions) same ∙ region_is
+        ap (λ q. find (λ (r : RegionReading). nat_eq q (70 * 4096 + r.cluster)) regions) same ∙ region_is
 
     instances_are : (serial : ℕ) → serial < 1024 → instances_of regions (served_word region.cluster serial) ≡ row_instances (find (λ (row : IndomRow). nat_eq row.serial serial) layout.indoms)
     instances_are serial low =
@@ -233,16 +233,16 @@ module _ (regions : List Reading) (said : AreSaid regions) (profile : Settings) 
     is_told : IsTold facts (set_of regions profile pmid)
     is_told = record { fact = fact; found = told; named = named }
 
-  of_metric : (region : Reading) (layout : Layout) → region_of regions pmid ≡ Some region → region.layout ≡ Some layout → (o : Option MetricRow) → metric_with (item_of pmid) layout.metrics ≡ o
+  of_metric : (region : RegionReading) (layout : Layout) → region_of regions pmid ≡ Some region → region.layout ≡ Some layout → (o : Option MetricRow) → metric_with (item_of pmid) layout.metrics ≡ o
       → IsTrue (has_values (metric_body profile region.cluster layout o)) → IsTold facts (set_of regions profile pmid)
   of_metric region layout region_is layout_is None e values = cc
   of_metric region layout region_is layout_is (Some metric) e values = is_told region layout metric region_is layout_is e
 
-  of_layout : (region : Reading) → region_of regions pmid ≡ Some region → (o : Option Layout) → region.layout ≡ o → IsTrue (has_values (layout_body profile region.cluster pmid o)) → IsTold facts (set_of regions profile pmid)
+  of_layout : (region : RegionReading) → region_of regions pmid ≡ Some region → (o : Option Layout) → region.layout ≡ o → IsTrue (has_values (layout_body profile region.cluster pmid o)) → IsTold facts (set_of regions profile pmid)
   of_layout region region_is None e values = cc
   of_layout region region_is (Some layout) e values = of_metric region layout region_is e (metric_with (item_of pmid) layout.metrics) refl values
 
-  of_region : (o : Option Reading) → region_of regions pmid ≡ o → IsTrue (has_values (region_body profile pmid o)) → IsTold facts (set_of regions profile pmid)
+  of_region : (o : Option RegionReading) → region_of regions pmid ≡ o → IsTrue (has_values (region_body profile pmid o)) → IsTold facts (set_of regions profile pmid)
   of_region None e values = cc
   of_region (Some region) e values = of_layout region e region.layout refl values
 
@@ -251,13 +251,13 @@ module _ (regions : List Reading) (said : AreSaid regions) (profile : Settings) 
 
 -- ---- all sets
 
-all_told : (regions : List Reading) → AreSaid regions → (profile : Settings) (sets : List ValueSet) (pmids : List ℕ)
+all_told : (regions : List RegionReading) → AreSaid regions → (profile : Settings) (sets : List ValueSet) (pmids : List ℕ)
     → AllByRecursion (λ (set : ValueSet). IsTrue (has_values set.body) → Among set.pmid (shown_of sets)) (map (set_of regions profile) pmids)
     → AreEnough (facts_of regions sets) (map (set_of regions profile) pmids)
 all_told regions said profile sets [] shown = tt
 all_told regions said profile sets (pmid ∷ pmids) shown = ((λ values. set_told regions said profile sets pmid (shown.0 values) values), all_told regions said profile sets pmids shown.1)
 
-pub facts_are_enough : (regions : List Reading) → AreSaid regions → (profile : Settings) (pmids : List ℕ)
+pub facts_are_enough : (regions : List RegionReading) → AreSaid regions → (profile : Settings) (pmids : List ℕ)
     → AreEnough (facts_of regions (map (set_of regions profile) pmids)) (map (set_of regions profile) pmids)
 facts_are_enough regions said profile pmids =
     all_told regions said profile (map (set_of regions profile) pmids) pmids (all_shown (map (set_of regions profile) pmids) [])

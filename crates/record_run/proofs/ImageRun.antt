@@ -1,24 +1,18 @@
--- The run of an image over any files.
-use Rattle.std.proofs.Common.{◌≡◌, inr, ℕ, ◌+◌, ◌≤◌, List, [], ◌++◌, length, None, Some, refl, sym, subst, arith, length-append}
+-- What is left of a run from recovery on.
+use Rattle.std.proofs.Common.{◌≡◌, inr, ℕ, ◌+◌, ◌≤◌, List, [], ◌++◌, length, sym, subst, arith, length-append}
 use Rattle.pcp_base.specs.declared.file.FileId.{FileId}
 use Rattle.pcp_base.specs.declared.file.FileId.TheVariants.{Meta, Index, Volume}
 use Rattle.pcp_base.specs.declared.result.Item.{Item}
-use Rattle.pcp_model.specs.Archive.{ArchiveReading, Readable, Reads, scan}
-use Rattle.pcp_model.specs.Disk.{CrashImage, Files, Holdings, IsSettled, contents_of}
+use Rattle.pcp_model.specs.Archive.{ArchiveReading, Reads, scan}
+use Rattle.pcp_model.specs.Disk.{Files, Holdings, IsSettled, contents_of}
 use Rattle.pcp_model.specs.Recovered.{Recovers}
 use Rattle.pcp_model.proofs.OneReading.{one_reading}
 use Rattle.archive_recovery.specs.declared.outcome.Archive.{Archive}
 use Rattle.archive_recovery.specs.Halfway.{MayBeHalfway}
 use Rattle.archive_recovery.specs.Told.{WasRecovered}
-use Rattle.fetch_engine.specs.declared.fetch.Fetched.{Fetched}
-use Rattle.logger_core.specs.declared.fault.LogFault.{LogFault}
 use Rattle.logger_core.specs.Reopening.{IsLeft}
-use Rattle.logger_core.proofs.AsFound.{same_files}
 use Rattle.record_run.specs.ImageCrashes.{ComesBack, ComesBackTo, IsAllAfter, MayBeAfter, start_of}
-use Rattle.record_run.specs.ImageFaults.{IsStopped, LogStops}
-use Rattle.record_run.specs.ImageRuns.{LogsOver, RunsTo}
 use Rattle.record_run.proofs.ComeBack.{fewer, halfway_comes, same_left}
-use Rattle.record_run.proofs.Openings.{standing_comes}
 
 pub is_left : (files : Files) (held : Holdings) (archive : Archive) → WasRecovered files (contents_of held) archive → ((file : FileId) → (held file).rest ≡ []) → IsLeft archive held
 is_left files held archive recovered sure = record { files = files; recovered = recovered; sure = sure }
@@ -44,28 +38,10 @@ module _ (start mid : Files) (archive : Archive) (w : WasRecovered start mid arc
   pub from_there : (more : List Item) (image : Files) → ComesBackTo more 0 mid image → ComesBack (start_of start w.reading mid) (scan w.reading ++ more) (length (scan w.reading)) image
   from_there more image comes = back more 0 (length (scan w.reading)) image comes w.reading w.was mid w.recovered (omega arith)
 
-  pub readable : Readable start
-  readable = (w.reading, w.was)
-
 -- after recovery
 pub later_comes : (old mid : Holdings) (archive : Archive) (w : WasRecovered (contents_of old) (contents_of mid) archive) (more : List Item) (image : Files) → ComesBackTo more 0 (contents_of mid) image → MayBeAfter more old image
 later_comes old mid archive w more image comes = λ settled r reads left recovered. back (contents_of old) (contents_of mid) archive w more 0 (length (scan r)) image comes r reads left recovered (omega arith)
 
--- nothing was logged
-pub only_recovered : (old mid : Holdings) (archive : Archive) → WasRecovered (contents_of old) (contents_of mid) archive → ((file : FileId) → (mid file).rest ≡ []) → (image : Files) → CrashImage mid image → IsAllAfter [] (contents_of old) image
-only_recovered old mid archive w sure image crash =
-    all_after (contents_of old) (contents_of mid) archive w [] 0 image refl (standing_comes mid [] image (same_files mid sure image crash))
-
 -- what recovery left is settled
 pub left_settled : (held : Holdings) → ((file : FileId) → (held file).rest ≡ []) → IsSettled held
 left_settled held sure = record { meta = sure Meta; index = inr (sure Index); volumes = λ k. sure (Volume k) }
-
--- the run of what was recovered
-pub only_runs : (old mid : Holdings) (archive : Archive) → WasRecovered (contents_of old) (contents_of mid) archive → RunsTo None (contents_of old) (contents_of mid)
-only_runs old mid archive w = record { reading = w.reading; was = w.was; left = contents_of mid; recovered = w.recovered; goes_on = refl }
-
-pub logs_run : (old mid : Holdings) (archive : Archive) (f : Fetched) (final : Files) → WasRecovered (contents_of old) (contents_of mid) archive → LogsOver (contents_of mid) f final → RunsTo (Some f) (contents_of old) final
-logs_run old mid archive f final w logs = record { reading = w.reading; was = w.was; left = contents_of mid; recovered = w.recovered; goes_on = logs }
-
-pub run_stops : (old mid new : Holdings) (archive : Archive) (f : Fetched) (e : LogFault) → WasRecovered (contents_of old) (contents_of mid) archive → LogStops (contents_of mid) f new e → IsStopped (contents_of old) f new e
-run_stops old mid new archive f e w stops = record { reading = w.reading; was = w.was; left = contents_of mid; recovered = w.recovered; stops = stops }

@@ -1,6 +1,5 @@
 pub mod ComeBack
 pub mod Enough
-pub mod FirstRun
 pub mod FlushLines
 pub mod Flushes
 pub mod Going

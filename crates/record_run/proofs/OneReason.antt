@@ -1,4 +1,4 @@
--- An archive that doesn't take a result has one reason for it, and one that takes it has none.
+-- An archive that doesn't take a result has one reason for it: what is asked of it has one answer.
 use Rattle.std.proofs.Common.{◌≡◌, ◌≢◌, inl, inr, ℕ, ℤ, ◌+◌, ◌<◌, ◌≤◌, List, [], ◌∷◌, ◌++◌, length, Option, None, Some, refl, sym, ap, ap₂, ◌∙◌, subst, arith, length-append}
 use Rattle.std.specs.Prelude.{min}
 use Rattle.std.specs.List.{AllByRecursion}
@@ -28,7 +28,6 @@ use Rattle.archive_meta.specs.declared.facts.Changed.{Changed as Change}
 use Rattle.archive_meta.specs.declared.facts.Facts.{Facts}
 use Rattle.archive_meta.specs.Facts.{FitSets, IsFirstChange}
 use Rattle.archive_meta.specs.Missing.{AreMissing, AreMissingDomains, Lacks, domains_of, framed_records, large_length, listed_from, missing_descriptions}
-use Rattle.fetch_engine.specs.declared.fetch.Fetched.{Fetched}
 use Rattle.logger_core.specs.declared.ends.Ends.{Ends}
 use Rattle.logger_core.specs.declared.fault.LogFault.{LogFault}
 use Rattle.logger_core.specs.declared.fault.LogFault.TheVariants.{Closed, Large, NotLater, Changed, Full, NoMemory, DiskFault}
@@ -37,13 +36,7 @@ use Rattle.logger_core.specs.Logging.{AreFramed, HasNoPlace, HasPlace, IsFull, I
 use Rattle.logger_core.specs.Meant.{AreEnds}
 use Rattle.logger_core.specs.Reopening.{as_found}
 use Rattle.logger_core.specs.Steps.{IsGreatest, IsStampIn}
-use Rattle.script_runs.specs.Archives.{OpensFound, run_label}
-use Rattle.script_runs.specs.Once.{once_limit}
-use Rattle.record_run.specs.ImageFaults.{IsUnloggable}
-use Rattle.record_run.specs.ImageRuns.{LogsOver, RunsTo}
-use Rattle.record_run.specs.OneReason.{Takes, TakesNot}
-use Rattle.record_run.proofs.ComeBack.{same_left}
-use Rattle.record_run.proofs.FirstRun.{at_of}
+use Rattle.record_run.proofs.ComeBack.{at_of, same_left}
 
 -- ---- one list of pairs holds of a domain at a moment
 
@@ -295,16 +288,6 @@ pub no_archive : (files : Files) (c : ArchiveContents) → IsEmpty files → IsA
 no_archive files c empty is =
     let no : ArchiveReading.archive c ≡ ArchiveReading.nothing = one_reading files (ArchiveReading.archive c) ArchiveReading.nothing is (record { meta = inl (empty Meta); index = empty Index; volumes = λ n. empty (Volume n) }) in cc
 
-one_opened : (stamp : Moment) (left f g : Files) (c d : ArchiveContents) → OpensFound stamp left f c → OpensFound stamp left g d → (f ≡ g) × (c ≡ d)
-one_opened stamp left f g c d (inl x) (inl y) = (x.1 ∙ sym y.1, x.2 ∙ sym y.2)
-one_opened stamp left f g c d (inl x) (inr y) = absurd (no_archive left d x.0 y.1)
-one_opened stamp left f g c d (inr x) (inl y) = absurd (no_archive left c y.0 x.1)
-one_opened stamp left f g c d (inr x) (inr y) = (x.0 ∙ sym y.0, one_contents left c d x.1 y.1)
-
-opened_timely : (stamp : Moment) (left f : Files) (c : ArchiveContents) → OpensFound stamp left f c → (t : Moment) → IsStampIn c t → IsMoment t
-opened_timely stamp left f c (inl x) t is = absurd (none_stamped (run_label stamp) t (subst (λ (d : ArchiveContents). IsStampIn d t) x.2 is))
-opened_timely stamp left f c (inr x) t is = archive_timely left c x.1 t is
-
 abbrev ends : ℕ → ℕ → ℕ → ℕ → Option Moment → Option Entry → ℕ → ℕ → Ends
 ends meta index volume size greatest entry logged acknowledged = record { meta = meta; index = index; volume = volume; length = size; greatest = greatest; entry = entry; logged = logged; acknowledged = acknowledged }
 
@@ -323,61 +306,6 @@ module _ (files : Files) (c : ArchiveContents) (timely : (t : Moment) → IsStam
       ∙ ap (λ (n : ℕ). ends b.meta b.index b.volume b.length b.greatest b.entry n a.acknowledged) (x.logged ∙ sym y.logged)
       ∙ ap (λ (n : ℕ). ends b.meta b.index b.volume b.length b.greatest b.entry b.logged n) (x.acknowledged_is ∙ sym y.acknowledged_is)
 
--- ---- the run
-
--- what is refused of the archive that is opened is refused of it as it is opened again
-module _ (stamp : Moment) (left f g : Files) (c d : ArchiveContents) (opens : OpensFound stamp left f c) (again : OpensFound stamp left g d) (a b : Ends) (x : AreEnds (as_found f c) a) (y : AreEnds (as_found g d) b) (w : EndsWhole f c a.volume) (v : EndsWhole g d b.volume) where
-  same_files : f ≡ g
-  same_files = (one_opened stamp left f g c d opens again).0
-
-  same_contents : c ≡ d
-  same_contents = (one_opened stamp left f g c d opens again).1
-
-  same_ends : a ≡ b
-  same_ends =
-      one_ends f c (opened_timely stamp left f c opens) a b x
-      (subst (λ (fs : Files). AreEnds (as_found fs c) b) (sym same_files) (subst (λ (e : ArchiveContents). AreEnds (as_found g e) b) (sym same_contents) y)) w
-      (subst (λ (fs : Files). EndsWhole fs c b.volume) (sym same_files) (subst (λ (e : ArchiveContents). EndsWhole g e b.volume) (sym same_contents) v))
-
-  refused_again : (answer : PmResult) (facts : Facts) (fault : LogFault) → IsRefused d.records b once_limit answer facts fault → IsRefused c.records a once_limit answer facts fault
-  refused_again answer facts fault refused =
-      subst (λ (e : Ends). IsRefused c.records e once_limit answer facts fault) (sym same_ends) (subst (λ (e : ArchiveContents). IsRefused e.records b once_limit answer facts fault) (sym same_contents) refused)
-
-one_unloggable : (left : Files) (f : Fetched) (a b : LogFault) → a ≢ NoMemory → b ≢ NoMemory → IsUnloggable left f a → IsUnloggable left f b → a ≡ b
-one_unloggable left f a b ra rb x y =
-    one_refusal x.contents.records x.ends once_limit f.result f.facts a b ra rb x.refused
-    (refused_again f.result.stamp left x.files y.files x.contents y.contents x.opens y.opens x.ends y.ends x.ends_are y.ends_are x.last y.last f.result f.facts b y.refused)
-
 -- files are recovered to one archive
 pub recovered_once : (start a b : Files) (r s : ArchiveReading) → Reads start r → Reads start s → Recovers start r a → Recovers start s b → b ≡ a
 recovered_once start a b r s x y in_a in_b = same_left start b a r (subst (λ (q : ArchiveReading). Recovers start q b) (one_reading start s r y x) in_b) in_a
-
-pub for_one_reason : (start : Files) (o : Option Fetched) (a b : LogFault) → a ≢ NoMemory → b ≢ NoMemory → TakesNot start o a → TakesNot start o b → a ≡ b
-for_one_reason start None a b ra rb x y = absurd x
-for_one_reason start (Some f) a b ra rb x y =
-    one_unloggable x.left f a b ra rb x.why (subst (λ (fs : Files). IsUnloggable fs f b) (recovered_once start x.left y.left x.reading y.reading x.was y.was x.recovered y.recovered) y.why)
-
-pub for_no_reason : (start : Files) (o : Option Fetched) (e : LogFault) → e ≢ NoMemory → Takes start o → TakesNot start o e → ⊥
-for_no_reason start None e re takes x = x
-for_no_reason start (Some f) e re x y =
-    let why : IsUnloggable x.left f e = subst (λ (fs : Files). IsUnloggable fs f e) (recovered_once start x.left y.left x.reading y.reading x.was y.was x.recovered y.recovered) y.why in
-    not_refused x.contents.records x.ends once_limit f.result f.facts e re x.loggable
-    (refused_again f.result.stamp x.left x.files why.files x.contents why.contents x.opens why.opens x.ends why.ends x.ends_are why.ends_are x.last why.last f.result f.facts e why.refused)
-
-pub runs_taken : (start final : Files) (o : Option Fetched) → RunsTo o start final → Takes start o
-runs_taken start final None run = (run.reading, run.was)
-runs_taken start final (Some f) run =
-    let logs : LogsOver run.left f final = run.goes_on in
-    record {
-      reading = run.reading;
-      was = run.was;
-      left = run.left;
-      recovered = run.recovered;
-      files = logs.files;
-      contents = logs.contents;
-      opens = logs.opens;
-      ends = logs.ends;
-      ends_are = logs.ends_are;
-      last = logs.last;
-      loggable = logs.loggable;
-    }

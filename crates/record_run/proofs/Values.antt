@@ -12,8 +12,8 @@ use Rattle.mmv_format.specs.declared.rows.MetricRow.{MetricRow}
 use Rattle.mmv_format.specs.declared.rows.ValueRow.{ValueRow}
 use Rattle.mmv_writer.specs.Draft.{Each, Apart, is_same_serial, IsValue, IsDraft}
 use Rattle.mmv_writer.specs.Rules.{is_same_metric, has_instance, fits_instance, fits_kind, fits_metric}
-use Rattle.fetch_engine.specs.Answers.{metric_with, row_instances}
-use Rattle.fetch_engine.specs.Values.{ByInstance, instance_in, with_value, values_with}
+use Rattle.fetch_answers.specs.Answers.{metric_with, row_instances}
+use Rattle.fetch_answers.specs.Values.{ByInstance, instance_in, with_value, values_with}
 use Rattle.record_run.proofs.Keys.{HasInstance, listed_there, listed_stays, keys_with}
 
 -- ---- rules by index are rules by recursion

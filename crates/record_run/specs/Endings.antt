@@ -19,8 +19,8 @@ or_fault fault (Some ending) = ending
 or_fault faults.NoMemory None = ends.NoMemory
 or_fault fault None = ends.DiskFault
 
-abbrev pub told : LogFault → Ending
-told fault = or_fault fault (ending_of fault)
+abbrev pub ending_after : LogFault → Ending
+ending_after fault = or_fault fault (ending_of fault)
 
 -- a flush tells how many results the run has logged; before the first nothing is written
 abbrev pub flushed_line : List ℕ → List Item → List ℕ

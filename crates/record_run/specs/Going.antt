@@ -8,7 +8,7 @@ use Rattle.pcp_base.specs.declared.result.Item.{Item}
 use Rattle.pcp_base.specs.declared.result.Item.TheVariants.{Sample}
 use Rattle.pcp_model.specs.Archive.{ArchiveReading, items_of}
 use Rattle.pcp_model.specs.Disk.{Files, Holdings, IsSettled, contents_of}
-use Rattle.fetch_engine.specs.declared.fetch.Fetched.{Fetched}
+use Rattle.fetch_answers.specs.declared.fetch.Fetched.{Fetched}
 use Rattle.logger_core.specs.declared.fault.LogFault.{LogFault}
 use Rattle.logger_core.specs.declared.fault.LogFault.TheVariants.{Closed, Large, NotLater, Changed, Full, NoMemory, DiskFault}
 use Rattle.logger_core.specs.Meant.{Meant, Kept, IsLogger}

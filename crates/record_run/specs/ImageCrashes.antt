@@ -1,4 +1,4 @@
--- What a crash leaves of the run of an image: recovery leaves all items that there were, and perhaps the new one behind them.
+-- What a crash leaves of a run: recovery leaves all items that there were, and perhaps the first new ones behind them.
 use Rattle.std.specs.Prelude.{ℕ, ◌+◌, List, ◌++◌, drop, length}
 use Rattle.std.specs.List.{AllByRecursion}
 use Rattle.pcp_base.specs.declared.result.Item.{Item}

@@ -1,11 +1,7 @@
-pub mod Archives
 pub mod Endings
 pub mod Going
 pub mod ImageCrashes
-pub mod ImageFaults
 pub mod ImageLogs
 pub mod ImageRuns
-pub mod OneReason
 pub mod Opening
-pub mod Runs
 pub mod SinceRecovery

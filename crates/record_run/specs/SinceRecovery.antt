@@ -1,13 +1,11 @@
--- What holds of the run of an image from the moment on at which recovery answered, whatever the disk was at the start.
-use Rattle.std.specs.Prelude.{◌≡◌, ℕ, ◌≤◌, List, [], ◌++◌, length, Result, Ok, Err}
+-- What holds of a run from the moment on at which recovery answered, whatever the disk was at the start.
+use Rattle.std.specs.Prelude.{◌≡◌, ℕ, ◌≤◌, List, [], ◌++◌, length}
 use Rattle.pcp_base.specs.declared.file.FileId.{FileId}
 use Rattle.pcp_base.specs.declared.result.Item.{Item}
 use Rattle.pcp_model.specs.Archive.{ArchiveReading, Reads, scan}
 use Rattle.pcp_model.specs.Disk.{Files, Holdings, contents_of}
 use Rattle.pcp_model.specs.Recovered.{Recovers}
 use Rattle.pcp_outside.specs.Devices.{LeavesOnly}
-use Rattle.record_run.specs.declared.fault.RunFault.{RunFault}
-use Rattle.record_run.specs.declared.fault.RunFault.TheVariants.{Recovery, Logging, NoMemory}
 use Rattle.record_run.specs.ImageCrashes.{ComesBack, start_of}
 
 -- At a moment of the run the files were what recovery leaves of those at the start, and each byte of them was sure. A crash at any
@@ -20,10 +18,3 @@ pub record FromRecovery {D : Type 0} (held : D → Holdings) (moment : D → ℕ
   pub recovered : Recovers (contents_of (held old)) reading (contents_of (held middle))
   pub sure : (file : FileId) → (held middle file).rest ≡ []
   pub since : LeavesOnly moment left_since middle new (ComesBack (start_of (contents_of (held old)) reading (contents_of (held middle))) (scan reading ++ more) (length (scan reading)))
-
--- there was such a moment, unless the run ended before
-abbrev pub SinceRecovery : {D : Type 0} → (D → Holdings) → (D → ℕ) → (D → ℕ → Files → Type 0) → List Item → D → D → Result ℕ RunFault → Type 0
-SinceRecovery held moment left_since more old new (Ok n) = FromRecovery held moment left_since more old new
-SinceRecovery held moment left_since more old new (Err (Logging fault)) = FromRecovery held moment left_since more old new
-SinceRecovery held moment left_since more old new (Err (Recovery fault)) = Unit {0}
-SinceRecovery held moment left_since more old new (Err NoMemory) = Unit {0}

@@ -1,6 +1,6 @@
 //! How a run ends whose result isn't logged.
 ghost use Rattle.std.specs.Prelude.{◌≡◌};
-ghost use Rattle.record_run.specs.Endings.{full, told};
+ghost use Rattle.record_run.specs.Endings.{full, ending_after};
 
 use logger_core::LogFault;
 use pcp_base::FileId;
@@ -21,8 +21,8 @@ fn full(file: FileId, bytes: u64) -> Ending
 }
 
 /// How a run ends whose result is refused so.
-pub fn told(fault: LogFault) -> Ending
-    ensures { result ≡ told fault }
+pub fn ending_after(fault: LogFault) -> Ending
+    ensures { result ≡ ending_after fault }
 {
     match fault {
         LogFault::Large { bytes } => Ending::Limit {

@@ -3,9 +3,8 @@
 ghost use Rattle.std.specs.Prelude.{◌≡◌, All, IfOk, IfSome};
 
 use crate::layouts::{image_of_layout, is_one_layout, relay};
-use crate::words::add_to_first;
 use mmv_layout::Image;
-use region_words::{Known, Pass, ReadFault, Region, Stint, ValueFault};
+use region_words::{Known, Pass, ReadFault, Region, Stint, ValueFault, is_number};
 use std::alloc::{AllocError, Global};
 use std::sync::Wait;
 use std::sync::atomic::{AtomicBool, Ordering};
@@ -22,13 +21,30 @@ struct Seen {
     refused: u64,
 }
 
+// Adds 1 to the first value, and answers the word before.
+fn add_to_first(alloc: Global, region: &Region, stint: &mut Stint) -> Option<u64>
+    requires here { stint.old.region ≡ region.now }
+    ensures { stint.new.region ≡ region.now }
+{
+    let Ok(slots) = region.slots(alloc, stint) else {
+        return None;
+    };
+    let Some(slot) = slots.get(0) else {
+        return None;
+    };
+    if is_number(slot.kind) {
+        return Some(stint.add(region, slot.word, 1));
+    }
+    None
+}
+
 // Adds 1 many times, and keeps what it found.
 fn add_many(alloc: Global, region: &Region, stint: &mut Stint, found: &mut Vec<u64>) -> Option<()>
     requires here { stint.old.region ≡ region.now }
     ensures { stint.new.region ≡ region.now }
 {
     for _ in 0..ADDS {
-        let word = add_to_first(alloc, region, stint, 1)?;
+        let word = add_to_first(alloc, region, stint)?;
         found.push(word).ok()?;
     }
     Some(())

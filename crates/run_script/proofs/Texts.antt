@@ -3,7 +3,7 @@ use Rattle.std.proofs.Common.{◌≡◌, ℕ, zero, suc, ◌+◌, ◌≤◌, Lis
 use Rattle.std.proofs.lemmas.Bool.{le-leb}
 use Rattle.std.specs.Prelude.{Bool, true, false, if◌then◌else◌, codes}
 use Rattle.mmv_format.specs.declared.rows.Layout.{Layout}
-use Rattle.mmv_spelling.specs.Places.{sections_in}
+use Rattle.mmv_spelling.specs.Offsets.{sections_in}
 use Rattle.mmv_spelling.specs.Spelling.{image_words, all_strings, with_missing}
 use Rattle.mmv_spelling.proofs.Lengths.{length_spelled}
 use Rattle.mmv_writer.specs.declared.line_fault.LineFault.TheVariants.{Build}

@@ -96,12 +96,12 @@ with_script_lines (line ∷ lines) number p =
     and_then (with_full_line number p (without_feed line)) number (λ later. with_script_lines lines (number + 1) later)
 
 -- a script as what was said
-abbrev pub told : Said → Script
-told said = record { images = said.images; regions = said.regions; config = record { groups = said.groups }; steps = said.steps }
+abbrev pub script_from : Said → Script
+script_from said = record { images = said.images; regions = said.regions; config = record { groups = said.groups }; steps = said.steps }
 
 -- a script has the line `start`, and ends behind it
 abbrev pub ended_at : ℕ → Point → Result Script ScriptFault
-ended_at after (stages.Steps, said) = Ok (told said)
+ended_at after (stages.Steps, said) = Ok (script_from said)
 ended_at after (stages.Head, said) = Err (record { line = after; fault = Line Grammar })
 ended_at after (stages.Opening name, said) = Err (record { line = after; fault = Line Grammar })
 ended_at after (stages.Image name draft, said) = Err (record { line = after; fault = Line Grammar })

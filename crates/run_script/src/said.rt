@@ -1,6 +1,6 @@
 //! What a script says so far, and where in it a line stands.
 ghost use Rattle.std.specs.Prelude.{◌≡◌};
-ghost use Rattle.run_script.specs.Reading.{told};
+ghost use Rattle.run_script.specs.Reading.{script_from};
 ghost use Rattle.run_script.specs.Said.{nothing};
 
 use crate::script::{Line, RegionRow, Script};
@@ -46,7 +46,7 @@ impl Said {
 
     /// The script of all lines.
     pub fn into_script(self) -> Script
-        ensures { result ≡ told self }
+        ensures { result ≡ script_from self }
     {
         Script {
             images: self.images,

@@ -9,7 +9,7 @@ use Rattle.pmns_core.specs.Pairs.{Pair}
 use Rattle.log_schedule.specs.declared.config.Group.{Group}
 use Rattle.log_schedule.specs.Instants.{Timetable, timetable_from, Due}
 use Rattle.script_groups.specs.Plans.{AreBeside, plans_of}
-use Rattle.script_runs.specs.Groups.{Plan, asking, asks_more, if_due, is_due, is_not_after, metrics_of, started, with_metric, with_metrics}
+use Rattle.script_runs.specs.Groups.{Plan, asking, asks_more, if_due, is_due, is_not_after, metrics_of, plans_at_start, with_metric, with_metrics}
 
 -- ---- the parts of plans
 
@@ -33,7 +33,7 @@ asked_in (g ∷ gs) [] ms timed kept = absurd (omega (arith, timed))
 asked_in (g ∷ gs) (t ∷ ts) [] timed kept = absurd (omega (arith, kept))
 asked_in (g ∷ gs) (t ∷ ts) (m ∷ ms) timed kept = ap (λ (rest : List (List ℕ)). m ∷ rest) (asked_in gs ts ms (omega (arith, timed)) (omega (arith, kept)))
 
-pub just_started : (gs : List Group) (now : Moment) → plans_of gs (map (timetable_from now) gs) (replicate (length gs) []) ≡ started gs now
+pub just_started : (gs : List Group) (now : Moment) → plans_of gs (map (timetable_from now) gs) (replicate (length gs) []) ≡ plans_at_start gs now
 just_started [] now = refl
 just_started (g ∷ gs) now = ap (λ (rest : List Plan). record { group = g; timetable = timetable_from now g; asked = [] } ∷ rest) (just_started gs now)
 
@@ -129,7 +129,7 @@ join_step now gs ts ms at all one joined whole b beside low due here is so_far =
 pub join_end : (now : Moment) (gs : List Group) (ts : List Timetable) (ms : List (List ℕ)) (at : ℕ) (all whole : List ℕ) → length gs ≤ at → fold (if_due now) all (drop at (plans_of gs ts ms)) ≡ whole → all ≡ whole
 join_end now gs ts ms at all whole high so_far = sym (ap (λ (plans : List Plan). fold (if_due now) all plans) (plans_end gs ts ms at high)) ∙ so_far
 
-pub start_is : (gs hs : List Group) (ts : List Timetable) (ms : List (List ℕ)) (now : Moment) → hs ≡ gs → ts ≡ map (timetable_from now) gs → ms ≡ replicate (length hs) [] → plans_of hs ts ms ≡ started gs now
+pub start_is : (gs hs : List Group) (ts : List Timetable) (ms : List (List ℕ)) (now : Moment) → hs ≡ gs → ts ≡ map (timetable_from now) gs → ms ≡ replicate (length hs) [] → plans_of hs ts ms ≡ plans_at_start gs now
 start_is gs hs ts ms now same timed none =
     ap₂ (λ (us : List Timetable) (ns : List (List ℕ)). plans_of hs us ns) timed none
     ∙ ap (λ (ks : List Group). plans_of ks (map (timetable_from now) gs) (replicate (length ks) [])) same ∙ just_started gs now

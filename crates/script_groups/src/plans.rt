@@ -1,7 +1,7 @@
 //! Groups as a run keeps them.
 ghost use Rattle.std.specs.Prelude.{◌≡◌, [], if◌then◌else◌, length, replicate, IfOk, OnOk};
 ghost use Rattle.script_groups.specs.Plans.{AreBeside, plans_of};
-ghost use Rattle.script_runs.specs.Groups.{asked_for, asking, started, with_metrics};
+ghost use Rattle.script_runs.specs.Groups.{asked_for, asking, plans_at_start, with_metrics};
 ghost use Rattle.script_runs.specs.Steps.{Passed, plans_at};
 
 use crate::asking::add_below;
@@ -96,7 +96,7 @@ fn join_due(
 impl<'a> Plans<'a> {
     /// The groups start now. More than 4,294,967,295 are refused as want of memory.
     pub fn start(alloc: Global, config: &'a Config, now: Stamp) -> Result<Plans<'a>, NoMemory>
-        ensures { IfOk result (λ plans. plans ≡ started config.now.groups now) }
+        ensures { IfOk result (λ plans. plans ≡ plans_at_start config.now.groups now) }
     {
         let groups = config.groups.as_slice();
         if groups.len() > u32::MAX as usize {

@@ -19,15 +19,15 @@ use Rattle.mmv_format.specs.declared.rows.Content.TheVariants.{Number, Choice, R
 use Rattle.mmv_format.specs.declared.rows.Layout.{Layout}
 use Rattle.mmv_format.specs.declared.rows.MetricRow.{MetricRow}
 use Rattle.mmv_format.specs.declared.rows.ValueRow.{ValueRow}
-use Rattle.fetch_engine.specs.Answers.{is_of, region_of, metric_with, indom_in, metric_body, layout_body, region_body, set_of, answer_of, metric_fact, layout_fact, region_fact, fact_of, layout_instances, region_instances, instances_of, metrics_in, domains_in, domains_of, shown_of, facts_of}
-use Rattle.fetch_engine.specs.Names.{with_region, with_layout}
-use Rattle.fetch_engine.specs.Readings.{Reading}
-use Rattle.fetch_engine.specs.Values.{ByInstance, instance_in, with_value, values_with, shown_word, shown_block, words_or_none, blocks_or_none, stored}
+use Rattle.fetch_answers.specs.Answers.{is_of, region_of, metric_with, indom_in, metric_body, layout_body, region_body, set_of, answer_of, metric_fact, layout_fact, region_fact, fact_of, layout_instances, region_instances, instances_of, metrics_in, domains_in, domains_of, shown_of, facts_of}
+use Rattle.fetch_answers.specs.Names.{with_region, with_layout}
+use Rattle.fetch_answers.specs.Readings.{RegionReading}
+use Rattle.fetch_answers.specs.Values.{ByInstance, instance_in, with_value, values_with, shown_word, shown_block, words_or_none, blocks_or_none, stored}
 use Rattle.fetch_engine.specs.Visits.{names_in}
 use Rattle.script_passes.specs.Alike.{LayoutsAlike, ReadAlike, AlikeAnswersAlike}
 use Rattle.script_passes.proofs.AlikeRows.{plain, plain_row, plain_layout, say_plain}
 
-abbrev pub plain_reading : Reading → Reading
+abbrev pub plain_reading : RegionReading → RegionReading
 plain_reading reading = record { file = reading.file; cluster = reading.cluster; layout = option_map plain_layout reading.layout }
 
 abbrev plain_value : ℤ × Content → ℤ × Content
@@ -41,16 +41,16 @@ layouts_plain None (Some other) h = absurd h
 layouts_plain (Some layout) None h = absurd h
 layouts_plain (Some layout) (Some other) h = ap Some (say_plain layout other h)
 
-reading_plain : (reading other : Reading) → ReadAlike reading other → plain_reading reading ≡ plain_reading other
+reading_plain : (reading other : RegionReading) → ReadAlike reading other → plain_reading reading ≡ plain_reading other
 reading_plain reading other h =
     let layouts = layouts_plain reading.layout other.layout h.layouts in
     λ i. record { file = h.file i; cluster = h.cluster i; layout = layouts i }
 
-readings_plain : (readings others : List Reading) → AllZip ReadAlike readings others → map plain_reading readings ≡ map plain_reading others
+readings_plain : (readings others : List RegionReading) → AllZip ReadAlike readings others → map plain_reading readings ≡ map plain_reading others
 readings_plain [] [] h = refl
 readings_plain [] (other ∷ others) h = absurd h
 readings_plain (reading ∷ readings) [] h = absurd h
-readings_plain (reading ∷ readings) (other ∷ others) h = ap₂ (λ (x : Reading) (xs : List Reading). x ∷ xs) (reading_plain reading other h.0) (readings_plain readings others h.1)
+readings_plain (reading ∷ readings) (other ∷ others) h = ap₂ (λ (x : RegionReading) (xs : List RegionReading). x ∷ xs) (reading_plain reading other h.0) (readings_plain readings others h.1)
 
 -- Values
 
@@ -120,25 +120,25 @@ layout_same : (profile : Settings) (cluster pmid : ℕ) (layout : Option Layout)
 layout_same profile cluster pmid None = refl
 layout_same profile cluster pmid (Some layout) = metric_plain profile cluster layout (metric_with (item_of pmid) layout.metrics)
 
-body_plain : (profile : Settings) (pmid : ℕ) (region : Option Reading) → region_body profile pmid (option_map plain_reading region) ≡ region_body profile pmid region
+body_plain : (profile : Settings) (pmid : ℕ) (region : Option RegionReading) → region_body profile pmid (option_map plain_reading region) ≡ region_body profile pmid region
 body_plain profile pmid None = refl
 body_plain profile pmid (Some region) = layout_same profile region.cluster pmid region.layout
 
-region_plain : (readings : List Reading) (word : ℕ) → region_of (map plain_reading readings) word ≡ option_map plain_reading (region_of readings word)
+region_plain : (readings : List RegionReading) (word : ℕ) → region_of (map plain_reading readings) word ≡ option_map plain_reading (region_of readings word)
 region_plain [] word = refl
 region_plain (reading ∷ readings) word =
-    ap (λ (o : Option Reading). if is_of word reading then Some (plain_reading reading) else o) (region_plain readings word) ∙ by_test (is_of word reading)
+    ap (λ (o : Option RegionReading). if is_of word reading then Some (plain_reading reading) else o) (region_plain readings word) ∙ by_test (is_of word reading)
   where
     by_test : (b : Bool) → (if b then Some (plain_reading reading) else option_map plain_reading (region_of readings word)) ≡ option_map plain_reading (if b then Some reading else region_of readings word)
     by_test true = refl
     by_test false = refl
 
-set_plain : (readings : List Reading) (profile : Settings) (pmid : ℕ) → set_of (map plain_reading readings) profile pmid ≡ set_of readings profile pmid
+set_plain : (readings : List RegionReading) (profile : Settings) (pmid : ℕ) → set_of (map plain_reading readings) profile pmid ≡ set_of readings profile pmid
 set_plain readings profile pmid =
-    let body = ap (λ (o : Option Reading). region_body profile pmid o) (region_plain readings pmid) ∙ body_plain profile pmid (region_of readings pmid) in
+    let body = ap (λ (o : Option RegionReading). region_body profile pmid o) (region_plain readings pmid) ∙ body_plain profile pmid (region_of readings pmid) in
     λ i. record { pmid = pmid; body = body i }
 
-answer_plain : (readings : List Reading) (profile : Settings) (pmids : List ℕ) (stamp : Moment) → answer_of (map plain_reading readings) profile pmids stamp ≡ answer_of readings profile pmids stamp
+answer_plain : (readings : List RegionReading) (profile : Settings) (pmids : List ℕ) (stamp : Moment) → answer_of (map plain_reading readings) profile pmids stamp ≡ answer_of readings profile pmids stamp
 answer_plain readings profile pmids stamp = λ i. record { stamp = stamp; sets = map (λ (pmid : ℕ). set_plain readings profile pmid i) pmids }
 
 -- Facts
@@ -151,31 +151,31 @@ layout_told cluster file pmid (Some layout) = by_metric (metric_with (item_of pm
     by_metric None = refl
     by_metric (Some metric) = refl
 
-region_told : (pmid : ℕ) (region : Option Reading) → region_fact pmid (option_map plain_reading region) ≡ region_fact pmid region
+region_told : (pmid : ℕ) (region : Option RegionReading) → region_fact pmid (option_map plain_reading region) ≡ region_fact pmid region
 region_told pmid None = refl
 region_told pmid (Some region) = layout_told region.cluster region.file pmid region.layout
 
-fact_plain : (readings : List Reading) (pmid : ℕ) → fact_of (map plain_reading readings) pmid ≡ fact_of readings pmid
-fact_plain readings pmid = ap (λ (o : Option Reading). region_fact pmid o) (region_plain readings pmid) ∙ region_told pmid (region_of readings pmid)
+fact_plain : (readings : List RegionReading) (pmid : ℕ) → fact_of (map plain_reading readings) pmid ≡ fact_of readings pmid
+fact_plain readings pmid = ap (λ (o : Option RegionReading). region_fact pmid o) (region_plain readings pmid) ∙ region_told pmid (region_of readings pmid)
 
-metrics_plain : (readings : List Reading) (pmids : List ℕ) → metrics_in (map plain_reading readings) pmids ≡ metrics_in readings pmids
+metrics_plain : (readings : List RegionReading) (pmids : List ℕ) → metrics_in (map plain_reading readings) pmids ≡ metrics_in readings pmids
 metrics_plain readings pmids = λ i. flat_map (λ (pmid : ℕ). fact_plain readings pmid i) pmids
 
 layout_listed : (serial : ℕ) (layout : Option Layout) → layout_instances serial (option_map plain_layout layout) ≡ layout_instances serial layout
 layout_listed serial None = refl
 layout_listed serial (Some layout) = refl
 
-region_listed : (indom : ℕ) (region : Option Reading) → region_instances indom (option_map plain_reading region) ≡ region_instances indom region
+region_listed : (indom : ℕ) (region : Option RegionReading) → region_instances indom (option_map plain_reading region) ≡ region_instances indom region
 region_listed indom None = refl
 region_listed indom (Some region) = layout_listed (item_of indom) region.layout
 
-instances_plain : (readings : List Reading) (indom : ℕ) → instances_of (map plain_reading readings) indom ≡ instances_of readings indom
-instances_plain readings indom = ap (λ (o : Option Reading). region_instances indom o) (region_plain readings indom) ∙ region_listed indom (region_of readings indom)
+instances_plain : (readings : List RegionReading) (indom : ℕ) → instances_of (map plain_reading readings) indom ≡ instances_of readings indom
+instances_plain readings indom = ap (λ (o : Option RegionReading). region_instances indom o) (region_plain readings indom) ∙ region_listed indom (region_of readings indom)
 
-domains_plain : (readings : List Reading) (indoms : List ℕ) → domains_in (map plain_reading readings) indoms ≡ domains_in readings indoms
+domains_plain : (readings : List RegionReading) (indoms : List ℕ) → domains_in (map plain_reading readings) indoms ≡ domains_in readings indoms
 domains_plain readings indoms = λ i. map (λ (indom : ℕ). (indom, instances_plain readings indom i)) indoms
 
-facts_plain : (readings : List Reading) (sets : List ValueSet) → facts_of (map plain_reading readings) sets ≡ facts_of readings sets
+facts_plain : (readings : List RegionReading) (sets : List ValueSet) → facts_of (map plain_reading readings) sets ≡ facts_of readings sets
 facts_plain readings sets =
     let metrics = metrics_plain readings (shown_of sets) in
     let domains = ap (λ (facts : List (Desc × List ℕ)). domains_in (map plain_reading readings) (domains_of facts)) metrics ∙ domains_plain readings (domains_of (metrics_in readings (shown_of sets))) in
@@ -187,7 +187,7 @@ layout_named : (names : List Pair) (cluster : ℕ) (file : List ℕ) (layout : O
 layout_named names cluster file None = refl
 layout_named names cluster file (Some layout) = refl
 
-names_plain : (names : List Pair) (readings : List Reading) → fold with_region names (map plain_reading readings) ≡ fold with_region names readings
+names_plain : (names : List Pair) (readings : List RegionReading) → fold with_region names (map plain_reading readings) ≡ fold with_region names readings
 names_plain names [] = refl
 names_plain names (reading ∷ readings) =
     ap (λ (more : List Pair). fold with_region more (map plain_reading readings)) (layout_named names reading.cluster reading.file reading.layout) ∙ names_plain (with_region names reading) readings
@@ -199,7 +199,7 @@ alike_answers readings others h =
     let same : map plain_reading readings ≡ map plain_reading others = readings_plain readings others h in
     record {
       answers = λ profile pmids stamp.
-          sym (answer_plain readings profile pmids stamp) ∙ (ap (λ (l : List Reading). answer_of l profile pmids stamp) same ∙ answer_plain others profile pmids stamp);
-      facts = λ sets. sym (facts_plain readings sets) ∙ (ap (λ (l : List Reading). facts_of l sets) same ∙ facts_plain others sets);
-      names = sym (names_plain [] readings) ∙ (ap (λ (l : List Reading). names_in l) same ∙ names_plain [] others);
+          sym (answer_plain readings profile pmids stamp) ∙ (ap (λ (l : List RegionReading). answer_of l profile pmids stamp) same ∙ answer_plain others profile pmids stamp);
+      facts = λ sets. sym (facts_plain readings sets) ∙ (ap (λ (l : List RegionReading). facts_of l sets) same ∙ facts_plain others sets);
+      names = sym (names_plain [] readings) ∙ (ap (λ (l : List RegionReading). names_in l) same ∙ names_plain [] others);
     }

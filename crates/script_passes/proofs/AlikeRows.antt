@@ -19,7 +19,7 @@ use Rattle.mmv_format.proofs.Below.{both_left, both_right}
 use Rattle.mmv_layout.specs.Form.{Form, form_of, slot_in, slot_at, slots_of, offsets_of, subjects_of}
 use Rattle.mmv_layout.specs.Rows.{list_below, string_text, item_of, type_of, instance_of, content_of, value_row, values_of, strings_of, layout_of}
 use Rattle.mmv_layout.specs.Says.{LeadsTo}
-use Rattle.mmv_layout.specs.ShapeLaws.{held}
+use Rattle.mmv_layout.specs.ShapeLaws.{content_of_kind}
 use Rattle.mmv_layout.proofs.EntryPlaces.{Stands, value_stands}
 use Rattle.mmv_layout.proofs.FormSays.{slot_holds}
 use Rattle.mmv_layout.proofs.Goods.{good_value, leads_there}
@@ -61,7 +61,7 @@ rows_each (suc n) f g e (suc k) below =
 
 -- the content of the value that a slot is of
 content_by : (words : List ℕ) (i : ℕ) (slot : Slot) → is_image words ≡ true → i < value_count words → Contains (slots_of words) slot → item_of words (value_at words i) ≡ slot.item
-    → unwrap_or (instance_of words (value_at words i)) (negsuc 0) ≡ slot.instance → content_of words (value_at words i) ≡ held words slot.kind (slice_index words slot.word)
+    → unwrap_or (instance_of words (value_at words i)) (negsuc 0) ≡ slot.instance → content_of words (value_at words i) ≡ content_of_kind words slot.kind (slice_index words slot.word)
 unfolding value_row values_of
 content_by words i slot h below among item instance =
     let (row, there, items, instances, contents) = slot_holds words slot h among in
@@ -176,7 +176,7 @@ module _ (words others : List ℕ) (h : AreAlike words others) where
   text_there place (k, below, is) =
       ap (λ (n : ℕ). string_text words n) is ∙ (text_same k below ∙ ap (λ (n : ℕ). string_text others n) (sym (is ∙ place_same k below)))
 
-  held_same : (kind : Kind) (n : ℕ) → (kind ≡ kinds.Text → LeadsTo (string_count words) (string_at words) n) → held words kind n ≡ held others kind n
+  held_same : (kind : Kind) (n : ℕ) → (kind ≡ kinds.Text → LeadsTo (string_count words) (string_at words) n) → content_of_kind words kind n ≡ content_of_kind others kind n
   held_same kinds.I32 n leads = refl
   held_same kinds.U32 n leads = refl
   held_same kinds.I64 n leads = refl
@@ -195,12 +195,12 @@ module _ (words others : List ℕ) (h : AreAlike words others) where
       let item : item_of words (value_at words i) ≡ slot.item = sym (ap (λ (s : Slot). s.item) is.is) in
       let instance : unwrap_or (instance_of words (value_at words i)) (negsuc 0) ≡ slot.instance = sym (ap (λ (s : Slot). s.instance) is.is) in
       let same = subject_same i below in
-      let here : content_of words (value_at words i) ≡ held words slot.kind (slice_index words slot.word) = content_by words i slot h.image below among item instance in
-      let there : content_of others (value_at others i) ≡ held others slot.kind (slice_index others slot.word) =
+      let here : content_of words (value_at words i) ≡ content_of_kind words slot.kind (slice_index words slot.word) = content_by words i slot h.image below among item instance in
+      let there : content_of others (value_at others i) ≡ content_of_kind others slot.kind (slice_index others slot.word) =
       content_by others i slot h.other_image (subst (λ (n : ℕ). i < n) count_same below) (subst (λ (slots : List Slot). Contains slots slot) slots_same among)
       (sym same.0 ∙ item) (ap (λ (o : Option ℤ). unwrap_or o (negsuc 0)) (sym same.1) ∙ instance) in
       here ∙ (held_same slot.kind (slice_index words slot.word) (λ text. word_leads words i slot h.image below gives text)
-      ∙ (ap (λ (n : ℕ). held others slot.kind n) (h.values slot among) ∙ sym there))
+      ∙ (ap (λ (n : ℕ). content_of_kind others slot.kind n) (h.values slot among) ∙ sym there))
 
 module _ (words others : List ℕ) (h : AreAlike words others) where
   content_plain : (i : ℕ) → i < value_count words → plain (content_of words (value_at words i)) ≡ plain (content_of others (value_at others i))

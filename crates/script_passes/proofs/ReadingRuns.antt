@@ -8,15 +8,15 @@ use Rattle.pcp_base.specs.declared.result.PmResult.{PmResult}
 use Rattle.pmns_core.specs.Pairs.{Pair}
 use Rattle.profile_filter.specs.Kept.{Settings}
 use Rattle.region_rule.specs.Seats.{MadeRegion, Token}
-use Rattle.fetch_engine.specs.Answers.{facts_of}
-use Rattle.fetch_engine.specs.Names.{names_of, with_region}
-use Rattle.fetch_engine.specs.Readings.{Reading, reading_of}
+use Rattle.fetch_answers.specs.Answers.{facts_of}
+use Rattle.fetch_answers.specs.Names.{names_of, with_region}
+use Rattle.fetch_answers.specs.Readings.{RegionReading, reading_of}
 use Rattle.fetch_engine.specs.Servers.{IsSeated}
 use Rattle.fetch_engine.specs.Visits.{IsLoaded, AreLoaded, Visit, IsVisit, AreRead, AreNamed, IsFetched}
-use Rattle.fetch_engine.specs.declared.fetch.FetchFault.{FetchFault}
-use Rattle.fetch_engine.specs.declared.fetch.Fetched.{Fetched}
+use Rattle.fetch_answers.specs.declared.fetch.FetchFault.{FetchFault}
+use Rattle.fetch_answers.specs.declared.fetch.Fetched.{Fetched}
 use Rattle.fetch_engine.specs.declared.server.Mounted.{Mounted}
-use Rattle.fetch_engine.specs.declared.shot.Shot.{Shot}
+use Rattle.fetch_answers.specs.declared.shot.Shot.{Shot}
 use Rattle.run_script.specs.declared.script.RegionRow.{RegionRow}
 use Rattle.run_script.specs.declared.script.Script.{Script}
 use Rattle.script_runs.specs.Groups.{shot_of, shots_of}
@@ -166,7 +166,7 @@ module _ (server : List Mounted) (running : Running) (old new : List Token) (man
     as_many = follows.as_many ∙ sym follows.serves.as_many
 
     -- what was read at a position is like what the region there shows
-    module _ (readings : List Reading) (read : AreRead server old readings new) where
+    module _ (readings : List RegionReading) (read : AreRead server old readings new) where
       visit_alike : (p : ℕ) (visit : Visit) (i : ℕ) (r : ScriptRegion) → slice_get read.visits p ≡ Some visit → slice_get regions i ≡ Some r → visit.row.cluster ≡ r.cluster → ReadAlike visit.reading (reading_of (shot_of r))
       visit_alike p visit i r e f same =
           let v : IsVisit visit = subst IsVisit (get_or_from_slice_get read.visits p visit visit e) (read.each p visit (slice_get_within read.visits p visit e)) in
@@ -185,9 +185,9 @@ module _ (server : List Mounted) (running : Running) (old new : List Token) (man
                 (quiet_still visit.row.region crew.0.items visit.before visit.after is_crew v.read.loaded (alone p crew.0 visit.after crew.1 new_there));
           }
 
-      each_alike : (p : ℕ) (x y : Reading) → slice_get readings p ≡ Some x → slice_get (map reading_of (shots_of regions)) p ≡ Some y → ReadAlike x y
+      each_alike : (p : ℕ) (x y : RegionReading) → slice_get readings p ≡ Some x → slice_get (map reading_of (shots_of regions)) p ≡ Some y → ReadAlike x y
       each_alike p x y e f =
-          let at = unmapped (λ (v : Visit). v.reading) read.visits p x (ap (λ (l : List Reading). slice_get l p) read.readings_are ∙ e) in
+          let at = unmapped (λ (v : Visit). v.reading) read.visits p x (ap (λ (l : List RegionReading). slice_get l p) read.readings_are ∙ e) in
           let shot = unmapped reading_of (shots_of regions) p y f in
           let from = shot_from regions p shot.0 shot.1 in
           let row_there : slice_get server p ≡ Some at.0.row = ap (λ (l : List Mounted). slice_get l p) (sym read.rows_are) ∙ get_map (λ (v : Visit). v.row) read.visits p at.0 at.1 in
@@ -195,14 +195,14 @@ module _ (server : List Mounted) (running : Running) (old new : List Token) (man
           let same : shot.0.cluster ≡ at.0.row.cluster =
           the_one (clusters_in server) p shot.0.cluster at.0.row.cluster (ap (λ (l : List ℕ). slice_get l p) (sym clusters) ∙ get_map (λ (s : Shot). s.cluster) (shots_of regions) p shot.0 shot.1) (get_map (λ (m : Mounted). m.cluster) server p at.0.row row_there) in
           let alike : ReadAlike at.0.reading (reading_of (shot_of from.1)) = visit_alike p at.0 from.0 from.1 at.1 from.2 (sym same ∙ ap (λ (s : Shot). s.cluster) from.3) in
-          subst (λ (a : Reading). ReadAlike a y) at.2 (subst (λ (b : Reading). ReadAlike at.0.reading b) (ap reading_of (sym from.3) ∙ shot.2) alike)
+          subst (λ (a : RegionReading). ReadAlike a y) at.2 (subst (λ (b : RegionReading). ReadAlike at.0.reading b) (ap reading_of (sym from.3) ∙ shot.2) alike)
 
       read_so : AnswerAlike readings (map reading_of (shots_of regions))
       read_so = alike_answers readings (map reading_of (shots_of regions)) (zip_by ReadAlike readings (map reading_of (shots_of regions)) many each_alike)
         where
           many : length readings ≡ length (map reading_of (shots_of regions))
           many =
-              ap (λ (l : List Reading). length l) (sym read.readings_are)
+              ap (λ (l : List RegionReading). length l) (sym read.readings_are)
               ∙ (long_map (λ (v : Visit). v.reading) read.visits
               ∙ (sym (long_map (λ (v : Visit). v.row) read.visits)
               ∙ (ap (λ (l : List Mounted). length l) read.rows_are ∙ (sym as_many ∙ (sym (shots_length regions) ∙ sym (long_map reading_of (shots_of regions)))))))

@@ -9,8 +9,8 @@ use Rattle.mmv_format.specs.declared.rows.Layout.{Layout}
 use Rattle.mmv_format.specs.declared.rows.Slot.{Slot}
 use Rattle.mmv_layout.specs.Form.{form_of, slots_of}
 use Rattle.mmv_layout.specs.Rows.{layout_of}
-use Rattle.fetch_engine.specs.Answers.{answer_of, facts_of}
-use Rattle.fetch_engine.specs.Readings.{Reading}
+use Rattle.fetch_answers.specs.Answers.{answer_of, facts_of}
+use Rattle.fetch_answers.specs.Readings.{RegionReading}
 use Rattle.fetch_engine.specs.Visits.{names_in}
 
 -- Images of one form whose value words hold the same. Their generations may differ, and so may the values of metrics whose kinds
@@ -35,16 +35,16 @@ LayoutsAlike None None = Unit {0}
 LayoutsAlike (Some layout) (Some other) = SayAlike layout other
 LayoutsAlike _ _ = ⊥
 
-pub record ReadAlike (reading other : Reading) : Type 0 where
+pub record ReadAlike (reading other : RegionReading) : Type 0 where
   pub file : reading.file ≡ other.file
   pub cluster : reading.cluster ≡ other.cluster
   pub layouts : LayoutsAlike reading.layout other.layout
 
 -- Regions that were read so answer alike: a fetch, its facts, and the names
-pub record AnswerAlike (readings others : List Reading) : Type 0 where
+pub record AnswerAlike (readings others : List RegionReading) : Type 0 where
   pub answers : (profile : Settings) (pmids : List ℕ) (stamp : Moment) → answer_of readings profile pmids stamp ≡ answer_of others profile pmids stamp
   pub facts : (sets : List ValueSet) → facts_of readings sets ≡ facts_of others sets
   pub names : names_in readings ≡ names_in others
 
 abbrev pub AlikeAnswersAlike : Type 0
-AlikeAnswersAlike = (readings others : List Reading) → AllZip ReadAlike readings others → AnswerAlike readings others
+AlikeAnswersAlike = (readings others : List RegionReading) → AllZip ReadAlike readings others → AnswerAlike readings others

@@ -2,8 +2,8 @@
 use Rattle.std.specs.Prelude.{◌≡◌, ◌⊎◌, ℕ, Bool, true, false, List, ◌++◌, map, Option, Some, None, Ok, Err}
 use Rattle.pcp_base.specs.Time.{Moment}
 use Rattle.region_rule.specs.Seats.{Token}
-use Rattle.fetch_engine.specs.Readings.{reading_of}
-use Rattle.fetch_engine.specs.declared.fetch.Fetched.{Fetched}
+use Rattle.fetch_answers.specs.Readings.{reading_of}
+use Rattle.fetch_answers.specs.declared.fetch.Fetched.{Fetched}
 use Rattle.fetch_engine.specs.declared.server.Mounted.{Mounted}
 use Rattle.run_script.specs.declared.script.Script.{Script}
 use Rattle.script_runs.specs.Groups.{shots_of}

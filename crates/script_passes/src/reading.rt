@@ -1,7 +1,7 @@
 //! What the logger's pass reads of all regions of a run.
 ghost use Rattle.std.specs.Prelude.{◌≡◌, length, IfErr, IfOk};
-ghost use Rattle.fetch_engine.specs.Fetches.{IsFetchFault};
-ghost use Rattle.fetch_engine.specs.Names.{names_of};
+ghost use Rattle.fetch_answers.specs.Fetches.{IsFetchFault};
+ghost use Rattle.fetch_answers.specs.Names.{names_of};
 ghost use Rattle.fetch_engine.specs.Visits.{IsFetched};
 ghost use Rattle.script_runs.specs.Groups.{shots_of};
 ghost use Rattle.script_runs.specs.Steps.{every_instance};

@@ -14,13 +14,13 @@ use Rattle.region_rule.specs.declared.view.View.{View}
 use Rattle.region_rule.specs.Seats.{Token}
 use Rattle.archive_meta.specs.declared.facts.Facts.{Facts}
 use Rattle.archive_meta.specs.Enough.{AreEnough}
-use Rattle.fetch_engine.specs.declared.fetch.Fetched.{Fetched}
+use Rattle.fetch_answers.specs.declared.fetch.Fetched.{Fetched}
 use Rattle.fetch_engine.specs.declared.server.Mounted.{Mounted}
-use Rattle.fetch_engine.specs.Answers.{facts_of, set_of}
-use Rattle.fetch_engine.specs.Bounds.{IsBounded}
-use Rattle.fetch_engine.specs.Readings.{Reading}
+use Rattle.fetch_answers.specs.Answers.{facts_of, set_of}
+use Rattle.fetch_answers.specs.Bounds.{IsBounded}
+use Rattle.fetch_answers.specs.Readings.{RegionReading}
 use Rattle.fetch_engine.specs.Visits.{IsFetched, IsRead, IsVisit, ShowsLayout, Visit}
-use Rattle.fetch_engine.proofs.Bounds.{bounded}
+use Rattle.fetch_answers.proofs.Bounds.{bounded}
 use Rattle.script_runs.specs.Steps.{every_instance}
 use Rattle.record_run.specs.ImageRuns.{IsResult}
 use Rattle.record_run.proofs.Enough.{AreSaid, IsSaidBy, facts_are_enough}
@@ -39,7 +39,7 @@ all_said (v ∷ vs) all = (said_by v.before.view v.after.view v.reading.layout a
 
 pub shown_is_result : (rows : List Mounted) (olds news : List Token) (pmids : List ℕ) (stamp : Moment) (f : Fetched) → IsFetched rows olds every_instance pmids stamp f.result f.facts news → 0 < length pmids → IsResult f
 shown_is_result rows olds news pmids stamp f fetched some =
-    let readings : List Reading = fetched.readings in
+    let readings : List RegionReading = fetched.readings in
     let said : AreSaid readings = subst AreSaid fetched.read.readings_are (all_said fetched.read.visits (recursion_from_All IsVisit fetched.read.visits fetched.read.each)) in
     let sets_are : f.result.sets ≡ map (set_of readings every_instance) pmids = ap (λ (r : PmResult). r.sets) fetched.result_is in
     record {

@@ -7,7 +7,7 @@ use Rattle.pcp_outside.specs.declared.disk.Disk.{Ghosts as DiskGhosts}
 use Rattle.pcp_outside.specs.Devices.{LeavesOnly}
 use Rattle.region_rule.specs.Seats.{Token}
 use Rattle.fetch_engine.specs.declared.server.Mounted.{Mounted}
-use Rattle.fetch_engine.specs.Names.{names_of}
+use Rattle.fetch_answers.specs.Names.{names_of}
 use Rattle.run_script.specs.declared.script.Script.{Script}
 use Rattle.script_passes.specs.Crews.{Alone, Follows}
 use Rattle.script_passes.specs.Runs.{KeepsFollowing, fetched_of}

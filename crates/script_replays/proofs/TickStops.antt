@@ -10,7 +10,7 @@ use Rattle.pcp_model.specs.Disk.{CrashImage, Files, Holdings}
 use Rattle.pcp_outside.specs.declared.disk.Disk.{Ghosts as DiskGhosts}
 use Rattle.pcp_outside.specs.Devices.{LeavesOnly}
 use Rattle.region_rule.specs.Seats.{Token}
-use Rattle.fetch_engine.specs.declared.fetch.Fetched.{Fetched}
+use Rattle.fetch_answers.specs.declared.fetch.Fetched.{Fetched}
 use Rattle.fetch_engine.specs.declared.server.Mounted.{Mounted}
 use Rattle.logger_core.proofs.Calls.{no_call}
 use Rattle.logger_core.specs.declared.fault.LogFault.{LogFault}
@@ -28,7 +28,7 @@ use Rattle.script_runs.specs.Archives.{Opens, Refuses, Stand, Written, ending_of
 use Rattle.script_runs.specs.Groups.{asked_for}
 use Rattle.script_runs.specs.Steps.{RefusesResult, RunState, TickStops, asking_at, fetched_at}
 use Rattle.record_run.specs.declared.archive.RunArchive.{RunArchive}
-use Rattle.record_run.specs.Endings.{told}
+use Rattle.record_run.specs.Endings.{ending_after}
 use Rattle.record_run.specs.declared.archive.Standing.{Standing}
 use Rattle.record_run.specs.declared.archive.Standing.TheVariants.{Found, Open, Lost}
 use Rattle.record_run.specs.Going.{IsStanding, KeepsRun, LogFails, StaysOpen, TurnsAway}
@@ -151,7 +151,7 @@ module _ {D : Type 0} (d : DiskGhosts D) (script : Script) (server : List Mounte
       any_moment = moment;
     })
 
-    faulted : (fault : LogFault) → ending ≡ told fault → LogFails left s.items least s.stand f next.archive (d.held new) fault → (fault ≢ DiskFault → LeavesOnly d.moment d.left_since old new (ComesBackTo s.items 0 left)) → Halting ending
+    faulted : (fault : LogFault) → ending ≡ ending_after fault → LogFails left s.items least s.stand f next.archive (d.held new) fault → (fault ≢ DiskFault → LeavesOnly d.moment d.left_since old new (ComesBackTo s.items 0 left)) → Halting ending
     faulted Closed is fails refused = absurd fails
     faulted (Large bytes) is fails refused = turned (Large bytes) (ap (λ (e : Ending). Some e) (sym is)) (refused (λ e. cc)) fails
     faulted (NotLater last) is fails refused = turned (NotLater last) (ap (λ (e : Ending). Some e) (sym is)) (refused (λ e. cc)) fails

@@ -7,7 +7,7 @@ use Rattle.pcp_model.specs.Disk.{CrashImage, Files}
 use Rattle.pcp_outside.specs.declared.disk.Disk.{Ghosts as DiskGhosts}
 use Rattle.pcp_outside.specs.Devices.{LeavesOnly}
 use Rattle.region_rule.specs.Seats.{Token}
-use Rattle.fetch_engine.specs.declared.fetch.Fetched.{Fetched}
+use Rattle.fetch_answers.specs.declared.fetch.Fetched.{Fetched}
 use Rattle.fetch_engine.specs.declared.server.Mounted.{Mounted}
 use Rattle.fetch_engine.specs.Visits.{IsFetched}
 use Rattle.logger_core.specs.declared.fault.LogFault.{LogFault}
@@ -23,7 +23,7 @@ use Rattle.script_runs.specs.Archives.{Stand}
 use Rattle.script_runs.specs.Regions.{ScriptRegion}
 use Rattle.script_runs.specs.Steps.{every_instance}
 use Rattle.record_run.specs.declared.archive.RunArchive.{RunArchive}
-use Rattle.record_run.specs.Endings.{told}
+use Rattle.record_run.specs.Endings.{ending_after}
 use Rattle.record_run.specs.Going.{KeepsRun, LogFails, LogsRun}
 use Rattle.record_run.specs.ImageCrashes.{ComesBackTo}
 use Rattle.record_run.specs.ImageRuns.{result_for}
@@ -60,7 +60,7 @@ module _ (server : List Mounted) (running : Running) (before after : List Token)
     }
 
     pub not_logged : (old new : D) (archive : RunArchive) (f : Fetched) (fault : LogFault) (ending : Ending) → 0 < length pmids → IsFetched server before every_instance pmids now f.result f.facts after → Told (λ regions. f ≡ fetched_of regions pmids now)
-        → ending ≡ told fault → LogFails left items least stand f archive (d.held new) fault → LeavesOnly d.moment d.left_since old new (ComesBackTo (items ++ Sample f.result ∷ []) 0 left)
+        → ending ≡ ending_after fault → LogFails left items least stand f archive (d.held new) fault → LeavesOnly d.moment d.left_since old new (ComesBackTo (items ++ Sample f.result ∷ []) 0 left)
         → (fault ≢ DiskFault → LeavesOnly d.moment d.left_since old new (ComesBackTo items 0 left)) → StopsTick d server running before after pmids now left items least stand old new archive ending
     not_logged old new archive f fault ending some fetched says is fails moment refused = inr (record {
       few = fetched.few;

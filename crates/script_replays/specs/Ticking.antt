@@ -6,7 +6,7 @@ use Rattle.pcp_model.specs.Disk.{Files}
 use Rattle.pcp_outside.specs.declared.disk.Disk.{Ghosts as DiskGhosts}
 use Rattle.pcp_outside.specs.Devices.{LeavesOnly}
 use Rattle.region_rule.specs.Seats.{Token}
-use Rattle.fetch_engine.specs.declared.fetch.Fetched.{Fetched}
+use Rattle.fetch_answers.specs.declared.fetch.Fetched.{Fetched}
 use Rattle.fetch_engine.specs.declared.server.Mounted.{Mounted}
 use Rattle.logger_core.specs.declared.fault.LogFault.{LogFault}
 use Rattle.logger_core.specs.declared.fault.LogFault.TheVariants.{DiskFault}
@@ -18,7 +18,7 @@ use Rattle.script_runs.specs.declared.ending.Ending.TheVariants as ends
 use Rattle.script_runs.specs.declared.ending.LimitKind.TheVariants as kinds
 use Rattle.script_runs.specs.Archives.{Stand}
 use Rattle.record_run.specs.declared.archive.RunArchive.{RunArchive}
-use Rattle.record_run.specs.Endings.{told}
+use Rattle.record_run.specs.Endings.{ending_after}
 use Rattle.record_run.specs.Going.{KeepsRun, LogFails, LogsRun}
 use Rattle.record_run.specs.ImageCrashes.{ComesBackTo}
 use Rattle.record_run.specs.ImageRuns.{items_of_run, result_for}
@@ -55,7 +55,7 @@ module _ {D : Type 0} (d : DiskGhosts D) (server : List Mounted) (running : Runn
     pub stamped : fetched.result.stamp ≡ now
     pub shows : Shows server running before after pmids now (Some fetched)
     pub fault : LogFault
-    pub ends : ending ≡ told fault
+    pub ends : ending ≡ ending_after fault
     pub fails : LogFails left items least stand fetched archive (d.held new) fault
     pub any_moment : LeavesOnly d.moment d.left_since old new (ComesBackTo (items ++ items_of_run (Some fetched)) 0 left)
     pub refused : fault ≢ DiskFault → LeavesOnly d.moment d.left_since old new (ComesBackTo items 0 left)

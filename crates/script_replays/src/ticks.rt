@@ -1,6 +1,6 @@
 //! What a tick asks for and logs.
 ghost use Rattle.std.specs.Prelude.{◌≡◌, ◌≢◌, ◌<◌, ◌≤◌, ◌+◌, ℕ, List as Sequence, IfErr, IfOk, OnErr, OnOk, MatchResult};
-ghost use Rattle.fetch_engine.specs.Names.{names_of};
+ghost use Rattle.fetch_answers.specs.Names.{names_of};
 ghost use Rattle.pcp_base.specs.declared.result.Item.{Item as Logged};
 ghost use Rattle.pcp_model.specs.Disk.{Files as AllFiles};
 ghost use Rattle.run_script.specs.declared.script.Line.TheVariants.{Tick};
@@ -21,7 +21,7 @@ use crate::run::Run;
 use fetch_engine::{FetchFault, Seat, Server};
 use pcp_base::{List, NoMemory, Pmid, Stamp};
 use pcp_outside::Disk;
-use record_run::{RunArchive, put_count, told};
+use record_run::{RunArchive, ending_after, put_count};
 use run_script::Script;
 use script_groups::Plans;
 use script_passes::Running;
@@ -94,7 +94,7 @@ pub(crate) fn log_asked<D: Disk>(
     };
     match archive.log(alloc, disk, &fetched) {
         Ok(()) => Ok(()),
-        Err(fault) => Err(told(fault)),
+        Err(fault) => Err(ending_after(fault)),
     }
 }
 

@@ -10,7 +10,7 @@ use Rattle.pcp_model.specs.Disk.{Files, IsEmpty}
 use Rattle.pcp_model.specs.LabelFields.{LabelFields}
 use Rattle.pcp_model.specs.Laws.{EndsWhole}
 use Rattle.pcp_model.specs.Written.{created}
-use Rattle.fetch_engine.specs.declared.fetch.Fetched.{Fetched}
+use Rattle.fetch_answers.specs.declared.fetch.Fetched.{Fetched}
 use Rattle.logger_core.specs.declared.ends.Ends.{Ends}
 use Rattle.logger_core.specs.declared.fault.LogFault.{LogFault}
 use Rattle.logger_core.specs.declared.fault.LogFault.TheVariants as faults

@@ -5,7 +5,7 @@ use Rattle.std.specs.List.{list_any}
 use Rattle.pcp_base.specs.Time.{Moment, microseconds}
 use Rattle.pmns_core.specs.Pairs.{Pair}
 use Rattle.pmns_core.specs.Below.{below}
-use Rattle.fetch_engine.specs.declared.shot.Shot.{Shot}
+use Rattle.fetch_answers.specs.declared.shot.Shot.{Shot}
 use Rattle.log_schedule.specs.declared.config.Group.{Group}
 use Rattle.log_schedule.specs.Instants.{Timetable, timetable_from}
 use Rattle.region_core.specs.State.{g1, g2}
@@ -50,8 +50,8 @@ pub record Plan : Type 0 where
   pub asked : List ℕ
 
 -- the groups start at the first tick
-abbrev pub started : List Group → Moment → List Plan
-started groups now = map (λ group. record { group = group; timetable = timetable_from now group; asked = [] }) groups
+abbrev pub plans_at_start : List Group → Moment → List Plan
+plans_at_start groups now = map (λ group. record { group = group; timetable = timetable_from now group; asked = [] }) groups
 
 -- each group that is due adds the metrics to which its names lead now
 abbrev pub asks_more : List Pair → Plan → Plan

@@ -110,9 +110,9 @@ abbrev pub end_reading : ScriptRegion → ℕ → ScriptRegion
 end_reading r k = does (acted r k (Load 1)) k Doing.idle
 
 -- stable where the generation found last is the first
-abbrev pub told : ℕ → ℕ → List ℕ
-told first last = if first == last then one_number (codes "stable") first else two_numbers (codes "Again") first last
+abbrev pub end_line : ℕ → ℕ → List ℕ
+end_line first last = if first == last then one_number (codes "stable") first else two_numbers (codes "Again") first last
 
 abbrev pub ends : ScriptRegion → ℕ → Doing → Option Outcome
-ends r k (Doing.reading first) = Some (end_reading r k, told first (g1 r.state))
+ends r k (Doing.reading first) = Some (end_reading r k, end_line first (g1 r.state))
 ends r k _ = None

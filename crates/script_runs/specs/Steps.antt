@@ -5,10 +5,10 @@ use Rattle.pcp_base.specs.declared.result.Item.{Item}
 use Rattle.pcp_base.specs.declared.result.Item.TheVariants.{Sample}
 use Rattle.pmns_core.specs.Pairs.{Pair}
 use Rattle.profile_filter.specs.Kept.{Settings}
-use Rattle.fetch_engine.specs.declared.fetch.Fetched.{Fetched}
-use Rattle.fetch_engine.specs.Answers.{answer_of, facts_of}
-use Rattle.fetch_engine.specs.Names.{names_of}
-use Rattle.fetch_engine.specs.Readings.{Reading, reading_of}
+use Rattle.fetch_answers.specs.declared.fetch.Fetched.{Fetched}
+use Rattle.fetch_answers.specs.Answers.{answer_of, facts_of}
+use Rattle.fetch_answers.specs.Names.{names_of}
+use Rattle.fetch_answers.specs.Readings.{RegionReading, reading_of}
 use Rattle.log_schedule.specs.declared.config.Group.{Group}
 use Rattle.log_schedule.specs.Instants.{EachPasses}
 use Rattle.logger_core.specs.declared.fault.LogFault.{LogFault}
@@ -21,7 +21,7 @@ use Rattle.script_runs.specs.declared.ending.LimitKind.TheVariants as kinds
 use Rattle.script_runs.specs.Regions.{Doing, ScriptRegion, doing_of, words_at}
 use Rattle.script_runs.specs.PassSteps as steps
 use Rattle.script_runs.specs.PassSteps.{Outcome, one_number}
-use Rattle.script_runs.specs.Groups.{Plan, shots_of, started, asking, asked_for}
+use Rattle.script_runs.specs.Groups.{Plan, shots_of, plans_at_start, asking, asked_for}
 use Rattle.script_runs.specs.Archives.{Written, Stand, Opens, Logs, Refuses, Flushes, ending_of}
 
 -- Regions, the groups once they have started, the archive, the items logged by this run, and the lines written
@@ -78,7 +78,7 @@ pub record PassGoes (script : Script) (s : RunState) (line : Line) (t : RunState
 
 -- the groups with what they ask for at a tick
 abbrev pub plans_at : List Group → Option (List Plan) → Moment → List Plan
-plans_at groups None now = started groups now
+plans_at groups None now = plans_at_start groups now
 plans_at groups (Some plans) now = plans
 
 abbrev pub names_in : RunState → List Pair
@@ -92,7 +92,7 @@ abbrev pub every_instance : Settings
 every_instance = record { global = true; parts = [] }
 
 -- what a fetch answers of what was read of regions, and what describes it
-abbrev pub fetched_from : List Reading → List ℕ → Moment → Fetched
+abbrev pub fetched_from : List RegionReading → List ℕ → Moment → Fetched
 fetched_from readings pmids now = record {
   result = answer_of readings every_instance pmids now;
   facts = facts_of readings (answer_of readings every_instance pmids now).sets;

@@ -4,8 +4,8 @@
 use Rattle.std.specs.Prelude.{◌≡◌, ℕ, pos, negsuc, ◌+◌, ◌*◌, List, [], ◌∷◌, ◌++◌, codes, map, option_map, replicate, Option, Some, None}
 use Rattle.pcp_base.specs.declared.result.Body.TheVariants.{InPlace, Blocks, Status}
 use Rattle.pcp_base.specs.declared.result.ValueSet.{ValueSet}
-use Rattle.fetch_engine.specs.Names.{names_of}
-use Rattle.fetch_engine.specs.Readings.{reading_of}
+use Rattle.fetch_answers.specs.Names.{names_of}
+use Rattle.fetch_answers.specs.Readings.{reading_of}
 use Rattle.log_schedule.specs.declared.config.Group.{Group}
 use Rattle.run_script.specs.declared.script.Line.{Line}
 use Rattle.run_script.specs.declared.script.Line.TheVariants.{Attach, Detach, Swap, Add, Begin, Step, Finish, Load, Word, Done}

@@ -1,13 +1,14 @@
 //! Clients that come in over loopback.
 use pcp_base::List;
 use pcp_listening::serve_clients;
-use pcp_outside::{MemSink, SureSource};
+use pcp_outside::{Free, MemSink, SureSource, Turn};
 use pcp_system::TcpDoor;
 use pm_serving::run_serve;
 use std::alloc::{Alloc, AllocError, Global};
 use std::io::{Read, Write};
 use std::net::{Net, Shutdown, SocketAddr, TcpListener, TcpStream};
 use std::sync::Wait;
+use std::sync::atomic::{AtomicBool, Ordering};
 use std::test::Fail;
 use std::thread::Threads;
 use std::time::Clock;
@@ -15,6 +16,9 @@ use std::{io, thread};
 
 const SCRIPT: &[u8] = b"image D\nmmv 1 5 0 0 1\nindom 1 - -\ninstance 1 0 \"a\"\n\
 metric per 4 u32 counter 00100000 1 - -\nvalue 4 0 3\nend\nregion app D 64 3\nstart\n";
+
+// What a writer of its region does.
+const STEPS: &[u8] = b"attach app 0\nadd app 0 4 0 5\ndetach app 0\n";
 
 // CREDS, then PROFILE, FETCH, DESC_REQ, INSTANCE_REQ, PMNS_NAMES, PMNS_CHILD and PMNS_TRAVERSE.
 const ASKED: &[u8] =
@@ -63,9 +67,13 @@ fn serve_all<R: Threads + Wait + Clock + Send + Sync>(
     alloc: Global,
     listener: &TcpListener,
     line: &str,
+    steps: &[u8],
+    turn: &(impl Turn + Sync),
 ) -> Result<Option<Vec<u8>>, AllocError> {
     let words = words_of(alloc, line)?;
-    let mut input = SureSource::new(List::from_vec(SCRIPT.to_vec(alloc)?));
+    let mut script = SCRIPT.to_vec(alloc)?;
+    script.extend_from_slice(steps)?;
+    let mut input = SureSource::new(List::from_vec(script));
     let mut out = MemSink::new(alloc, List::empty(alloc));
     let mut doors = [
         TcpDoor::new(listener, rt),
@@ -81,6 +89,7 @@ fn serve_all<R: Threads + Wait + Clock + Send + Sync>(
         &mut input,
         &mut out,
         &mut doors,
+        turn,
         &mut served,
     ) {
         0 => Ok(Some(out.bytes().to_vec(alloc)?)),
@@ -139,7 +148,7 @@ fn a_client_is_answered(rt: HostRuntime) -> Result<(), Fail> {
     let (told, output) = thread::join(
         &rt,
         || ask_all(&rt, alloc, address),
-        || serve_all(&rt, alloc, &listener, "serve 1"),
+        || serve_all(&rt, alloc, &listener, "serve 1", b"", &Free),
     );
     let told = told?;
     assert_eq!(rt; told.get(..28), Some(FRONT));
@@ -157,11 +166,68 @@ fn two_sessions(rt: HostRuntime) -> Result<(), Fail> {
     let (answered, output) = thread::join(
         &rt,
         || ask_beside(&rt, address),
-        || serve_all(&rt, alloc, &listener, "serve 2"),
+        || serve_all(&rt, alloc, &listener, "serve 2", b"", &Free),
     );
     assert_eq!(rt; answered?, true);
     let output = output?;
     assert_eq!(rt; output.as_deref(), Some(b"served 2\n".as_slice()));
+    Ok(())
+}
+
+// Holds the second step of a script's writer until a client was answered, for so many turns, and tells whether that was too late.
+#[derive(Drop)]
+struct Held {
+    answered: AtomicBool,
+    late: AtomicBool,
+}
+
+impl Turn for Held {
+    fn turn(&self, _who: u32, step: u64) {
+        if step != 1 {
+            return;
+        }
+        for _ in 0..100_000_000u32 {
+            if self.answered.load(Ordering::SeqCst) {
+                return;
+            }
+            thread::yield_now();
+        }
+        self.late.store(true, Ordering::SeqCst);
+    }
+}
+
+// A client that tells when it was answered.
+fn ask_and_tell<R: Net<Stream = TcpStream>>(
+    rt: &R,
+    alloc: Global,
+    address: SocketAddr,
+    held: &Held,
+) -> io::Result<Vec<u8>> {
+    let told = ask_all(rt, alloc, address);
+    held.answered.store(true, Ordering::SeqCst);
+    told
+}
+
+// A client is answered while a writer of the script is between two of its steps: before it adds.
+#[test]
+fn served_live(rt: HostRuntime) -> Result<(), Fail> {
+    let alloc = rt.alloc();
+    let listener = TcpListener::bind(&rt, "127.0.0.1:0")?;
+    let address = listener.local_addr()?;
+    let held = Held {
+        answered: AtomicBool::new(false),
+        late: AtomicBool::new(false),
+    };
+    let (told, output) = thread::join(
+        &rt,
+        || ask_and_tell(&rt, alloc, address, &held),
+        || serve_all(&rt, alloc, &listener, "serve 1", STEPS, &held),
+    );
+    let told = told?;
+    assert_eq!(rt; told.get(36..), Some(REST));
+    let output = output?;
+    assert_eq!(rt; output.as_deref(), Some(b"served 1\n".as_slice()));
+    assert_eq!(rt; held.late.load(Ordering::SeqCst), false);
     Ok(())
 }
 
@@ -191,8 +257,5 @@ fn a_port_must_be_free(rt: HostRuntime) -> Result<(), Fail> {
     let (status, written) = serve_at_port(&rt, alloc, listener.local_addr()?.port())?;
     assert_eq!(rt; status, 22);
     assert_eq!(rt; written.as_slice(), b"listen fault\n".as_slice());
-    let (status, written) = serve_at_port(&rt, alloc, 0)?;
-    assert_eq!(rt; status, 1);
-    assert_eq!(rt; written.as_slice(), b"usage 1\n".as_slice());
     Ok(())
 }

@@ -1,15 +1,8 @@
 //! Two connections of a door in memory, one after another on one seat.
-ghost use Rattle.std.specs.Prelude.{◌≡◌, ◌≤◌, ℕ, length, slice_get, IfSome, Some};
-ghost use Rattle.fetch_engine.specs.Servers.{IsSeated, Seated};
-ghost use Rattle.run_script.specs.Rules.{KeepsRules};
-
-use fetch_engine::{Seat, Server};
+use case_sessions::{Opening, open};
 use pcp_base::{List, Stamp};
 use pcp_outside::{MemDoor, SessionEnd};
 use pmcd_server::{ServeFault, serve};
-use pmcd_session::SessionSeat;
-use run_script::Script;
-use script_passes::{Opened, open_script};
 use std::alloc::{AllocError, Global};
 use std::test::Fail;
 
@@ -31,46 +24,6 @@ const TOLD: &[u8] =
 \x00\x00\x00\x00\x00\x00\x00\x64\x00\x00\x00\x00\x00\x00\x00\x01\x11\x80\x04\x02\x00\x00\x00\x01\
 \x00\x00\x00\x00\xff\xff\xff\xff\x00\x00\x00\x07";
 
-// A script that keeps the rules.
-fn read(alloc: Global, text: &[u8]) -> Option<Script>
-    requires { length text.now ≤ 16777216 }
-    ensures { IfSome result KeepsRules }
-{
-    let Ok(script) = Script::read(alloc, text) else {
-        return None;
-    };
-    Some(script)
-}
-
-// The last of seats at a server.
-fn last_seat(server: &Server, seats: Vec<Seat>) -> Option<Seat>
-    requires { (s : ℕ) (seat : Seated) → slice_get seats.items s ≡ Some seat → IsSeated server.now seat.tokens }
-    ensures { IfSome result (λ seat. IsSeated server.now seat.tokens) }
-{
-    let mut seats = seats;
-    seats.pop()
-}
-
-// The server of a script, with one seat.
-fn one_seat(alloc: Global, script: &Script) -> Option<(Server, SessionSeat)>
-    requires { KeepsRules script.now }
-    ensures { IfSome result (λ x. IsSeated x.0 x.1.tokens) }
-{
-    let Ok(opened) = open_script(alloc, script, 1) else {
-        return None;
-    };
-    let Opened {
-        server,
-        passes: _passes,
-        seats,
-    } = opened;
-    let seat = last_seat(&server, seats)?;
-    match SessionSeat::new(alloc, seat) {
-        Ok(seat) => Some((server, seat)),
-        Err(_) => None,
-    }
-}
-
 // A door of two connections: one asks, at 100 s, and the other brings nothing.
 fn two_connections(alloc: Global) -> Result<MemDoor, AllocError> {
     let mut moments = Vec::new(alloc);
@@ -90,10 +43,7 @@ fn two_connections(alloc: Global) -> Result<MemDoor, AllocError> {
 #[test]
 fn a_seat_serves_one_connection_after_another(rt: HostRuntime) -> Result<(), Fail> {
     let alloc = rt.alloc();
-    let Some(script) = read(alloc, SCRIPT) else {
-        return Err(Fail::new("no script"));
-    };
-    let Some((server, seat)) = one_seat(alloc, &script) else {
+    let Ok(Some(Opening { server, seat, .. })) = open(alloc, SCRIPT, None) else {
         return Err(Fail::new("no seat"));
     };
     let mut seats = [seat];

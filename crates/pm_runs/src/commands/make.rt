@@ -6,7 +6,7 @@ ghost use Rattle.archive_window.specs.Looks.{Looks};
 ghost use Rattle.script_runs.specs.Summaries.{adds_in, total_in};
 ghost use Rattle.pm_words.specs.Serving.{StopCause, HasServed, MayLeave, HasRecovered};
 ghost use Rattle.pm_runs.specs.Regions.{HasRegions, RanRegions};
-ghost use Rattle.pm_runs.specs.Scripts.{Begins, ScriptSince};
+ghost use Rattle.pm_runs.specs.Scripts.{HasWritten, ScriptSince};
 ghost use Rattle.pm_runs.specs.commands.make.{make as meaning_of_make, making, add_in, amount_in, counted_text, HasCounted, WantsCounts};
 ghost use Rattle.pm_words.specs.Sides.{disk_side, IsUnread, Leaves};
 
@@ -109,7 +109,7 @@ pub fn make<D: Disk>(
     requires high { asked.now.volume ≤ 1073741824 }
     requires closed { opened.old ≡ None }
     ensures served { (input : Sequence ℕ) → IfOk result (HasServed (meaning_of_make asked.now) input (disk_side D.Disk disk.old disk.new)) }
-    ensures cause { (input : Sequence ℕ) → IfErr result (λ e. StopCause (meaning_of_make asked.now) input (disk_side D.Disk disk.old disk.new) e × Begins (making asked.now) input (disk_side D.Disk disk.old disk.new) e []) }
+    ensures cause { (input : Sequence ℕ) → IfErr result (λ e. StopCause (meaning_of_make asked.now) input (disk_side D.Disk disk.old disk.new) e × HasWritten (making asked.now) input (disk_side D.Disk disk.old disk.new) e []) }
     ensures any_moment { (input : Sequence ℕ) → Leaves D.Disk disk.old disk.new (MayLeave (meaning_of_make asked.now) input) }
     ensures unread { IsUnread D.Disk disk.old → Leaves D.Disk disk.old disk.new CrashImage }
     ensures since { (input : Sequence ℕ) → D.tells → HasRecovered result → ScriptSince D.Disk (making asked.now) input disk.old disk.new }

@@ -9,7 +9,7 @@ ghost use Rattle.pm_words.specs.Inputs.{input_limit, refusal_of, Refuses};
 ghost use Rattle.pm_words.specs.Serving.{HasRecovered, HasServed, MayLeave, StopCause};
 ghost use Rattle.pm_words.specs.Sides.{disk_side, IsUnread, Leaves};
 ghost use Rattle.pm_runs.specs.Regions.{RanRegions, HasRegions};
-ghost use Rattle.pm_runs.specs.Scripts.{Begins, ScriptSince};
+ghost use Rattle.pm_runs.specs.Scripts.{HasWritten, ScriptSince};
 ghost use Rattle.pm_runs.specs.commands.once.{once as meaning_of_once, logging, logged_line};
 
 use crate::lines::put_count;
@@ -18,7 +18,7 @@ use log_schedule::{Config, Group};
 use mmv_layout::{Image, ImageFault};
 use pcp_base::{Bytes, Duplicate, List, NoMemory, Text};
 use pcp_outside::Disk;
-use pm_words::{InputRefusal, OnceWords, Refusal, Stop, of_ending};
+use pm_words::{InputRefusal, OnceWords, Refusal, StageFault, of_ending};
 use run_script::{Line, RegionRow, Script};
 use script_passes::Opened;
 use std::alloc::Global;
@@ -88,7 +88,11 @@ fn script_of(alloc: Global, asked: &OnceWords, image: Image) -> Result<Script, N
 }
 
 // The script of an input's image.
-fn prepare(alloc: Global, asked: &OnceWords, input: &[u8]) -> Result<Script, Stop<InputRefusal>>
+fn prepare(
+    alloc: Global,
+    asked: &OnceWords,
+    input: &[u8],
+) -> Result<Script, StageFault<InputRefusal>>
     requires within { length input.now ≤ input_limit }
     requires named { IsComponent asked.now.file }
     ensures script { IfOk result (λ script. (logging asked.now).script input.now ≡ Some script) }
@@ -98,8 +102,8 @@ fn prepare(alloc: Global, asked: &OnceWords, input: &[u8]) -> Result<Script, Sto
 {
     let image = match Image::from_bytes(alloc, input) {
         Ok(image) => image,
-        Err(ImageFault::NoMemory) => return Err(Stop::OutOfMemory),
-        Err(fault) => return Err(Stop::Refused(InputRefusal::Image(fault))),
+        Err(ImageFault::NoMemory) => return Err(StageFault::OutOfMemory),
+        Err(fault) => return Err(StageFault::Refused(InputRefusal::Image(fault))),
     };
     let script = script_of(alloc, asked, image)?;
     Ok(script)
@@ -126,7 +130,7 @@ pub fn once<D: Disk>(
     requires named { IsComponent asked.now.file }
     requires closed { opened.old ≡ None }
     ensures served { IfOk result (HasServed (meaning_of_once asked.now) input.now (disk_side D.Disk disk.old disk.new)) }
-    ensures cause { IfErr result (λ e. StopCause (meaning_of_once asked.now) input.now (disk_side D.Disk disk.old disk.new) e × Begins (logging asked.now) input.now (disk_side D.Disk disk.old disk.new) e []) }
+    ensures cause { IfErr result (λ e. StopCause (meaning_of_once asked.now) input.now (disk_side D.Disk disk.old disk.new) e × HasWritten (logging asked.now) input.now (disk_side D.Disk disk.old disk.new) e []) }
     ensures any_moment { Leaves D.Disk disk.old disk.new (MayLeave (meaning_of_once asked.now) input.now) }
     ensures unread { IsUnread D.Disk disk.old → Leaves D.Disk disk.old disk.new CrashImage }
     ensures since { D.tells → HasRecovered result → ScriptSince D.Disk (logging asked.now) input.now disk.old disk.new }

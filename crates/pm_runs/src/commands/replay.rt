@@ -12,13 +12,13 @@ ghost use Rattle.pm_words.specs.Sides.{disk_side, sink_side, IsUnread, Leaves};
 use crate::running::run_script;
 use pcp_base::Bytes;
 use pcp_outside::{Disk, Sink};
-use pm_words::{InputRefusal, Refusal, Stop, of_ending, send};
+use pm_words::{InputRefusal, Refusal, StageFault, of_ending, send};
 use run_script::{ReadScriptError, Script};
 use script_passes::Opened;
 use std::alloc::Global;
 
 // The script of an input.
-fn read_script(alloc: Global, volume: u64, input: &[u8]) -> Result<Script, Stop<InputRefusal>>
+fn read_script(alloc: Global, volume: u64, input: &[u8]) -> Result<Script, StageFault<InputRefusal>>
     requires within { length input.now ≤ input_limit }
     ensures script { IfOk result (λ script. (replaying volume).script input.now ≡ Some script) }
     ensures rules { IfOk result KeepsRules }
@@ -27,8 +27,8 @@ fn read_script(alloc: Global, volume: u64, input: &[u8]) -> Result<Script, Stop<
 {
     match Script::read(alloc, input) {
         Ok(script) => Ok(script),
-        Err(ReadScriptError::NoMemory) => Err(Stop::OutOfMemory),
-        Err(ReadScriptError::Fault(fault)) => Err(Stop::Refused(InputRefusal::Script(fault))),
+        Err(ReadScriptError::NoMemory) => Err(StageFault::OutOfMemory),
+        Err(ReadScriptError::Fault(fault)) => Err(StageFault::Refused(InputRefusal::Script(fault))),
     }
 }
 

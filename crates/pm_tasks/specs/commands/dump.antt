@@ -13,7 +13,7 @@ use Rattle.pm_words.specs.declared.stage.FilesRefusal.{FilesRefusal}
 use Rattle.pm_words.specs.declared.stage.FilesRefusal.TheVariants.{Run, Compressed, NotArchive, Nothing}
 use Rattle.pm_tasks.specs.Archives.{IsLoaded, TurnedAfter, looks}
 use Rattle.pm_words.specs.Meaning.{Meaning}
-use Rattle.pm_words.specs.Sides.{SinkSide, DiskSide, Found, found}
+use Rattle.pm_words.specs.Sides.{SinkSide, DiskSide, Found, files_found}
 use Rattle.pm_words.specs.Streams.{IsFront, IsSent}
 
 -- `archive PID HOST ZONE`, or `archive none`
@@ -53,7 +53,7 @@ abbrev pub HasBegun : Found → List ℕ → Type 0
 HasBegun found front = (front ≡ []) ⊎ ((r : Loaded) × IsLoaded found r × (items : List Item) × BeginsWith found.files r items × IsFront front (dump_text r items))
 
 abbrev pub begun : DiskSide → List ℕ → Type 0
-begun d front = d.tells → HasBegun (found d) front
+begun d front = d.tells → HasBegun (files_found d) front
 
 abbrev pub dump : Meaning
 dump = looks turned said begun
@@ -87,7 +87,7 @@ pub record HasPutSome (tells : Type 0) (files : Files) (r : Loaded) (before : Li
 pub record HasSaid (k : SinkSide) (failed : Bool) (d : DiskSide) (waits : List ℕ) : Type 0 where
   pub front : List ℕ
   pub sent : IsSent k front failed
-  pub whole : d.tells → said (found d) (front ++ waits)
+  pub whole : d.tells → said (files_found d) (front ++ waits)
 
 -- or what was begun went there
 pub record HasStopped (k : SinkSide) (failed : Bool) (d : DiskSide) : Type 0 where

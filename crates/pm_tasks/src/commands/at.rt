@@ -3,7 +3,7 @@ ghost use Rattle.std.specs.Prelude.{IfOk, IfErr};
 ghost use Rattle.pcp_model.specs.Disk.{contents_of};
 ghost use Rattle.archive_window.specs.Looks.{Looks};
 ghost use Rattle.pm_tasks.specs.Archives.{TurnedAway};
-ghost use Rattle.pm_words.specs.Sides.{disk_side, found};
+ghost use Rattle.pm_words.specs.Sides.{disk_side, files_found};
 ghost use Rattle.pm_tasks.specs.Takes.{TookAt};
 ghost use Rattle.pm_tasks.specs.commands.at.{turned, said};
 
@@ -16,7 +16,7 @@ use std::alloc::Global;
 
 /// The item, as text.
 pub fn at<D: Disk>(alloc: Global, t: Stamp, disk: &mut D) -> Result<Bytes, Refusal>
-    ensures said { D.tells → IfOk result (said t (found (disk_side D.Disk disk.old disk.new))) }
+    ensures said { D.tells → IfOk result (said t (files_found (disk_side D.Disk disk.old disk.new))) }
     ensures turned { IfErr result (TurnedAway (turned t) (disk_side D.Disk disk.old disk.new)) }
     ensures taken { D.tells → TookAt t (contents_of (D.held disk.old)) (D.taken disk.old) (D.taken disk.new) }
     ensures looks { Looks D.Disk disk.old disk.new }

@@ -8,11 +8,11 @@ ghost use Rattle.pm_tasks.specs.commands.mmv_dump.{mmv_dump as meaning_of_dump};
 use mmv_layout::{Image, ImageFault};
 use pcp_base::Bytes;
 use pm_print::image_text;
-use pm_words::{InputRefusal, Stop};
+use pm_words::{InputRefusal, StageFault};
 use std::alloc::Global;
 
 /// The layout text of an image.
-pub fn mmv_dump(alloc: Global, input: &[u8]) -> Result<Bytes, Stop<InputRefusal>>
+pub fn mmv_dump(alloc: Global, input: &[u8]) -> Result<Bytes, StageFault<InputRefusal>>
     ensures output { IfOk result (λ output. output ≡ made_of dump_of (image_of input.now)) }
     ensures good { OnOk result (refusal_of meaning_of_dump.reads input.now ≡ None) }
     ensures cause { IfErr result (Refuses meaning_of_dump.reads input.now) }
@@ -22,7 +22,7 @@ pub fn mmv_dump(alloc: Global, input: &[u8]) -> Result<Bytes, Stop<InputRefusal>
             let text = image_text(alloc, &image)?;
             Ok(text)
         }
-        Err(ImageFault::NoMemory) => Err(Stop::OutOfMemory),
-        Err(fault) => Err(Stop::Refused(InputRefusal::Image(fault))),
+        Err(ImageFault::NoMemory) => Err(StageFault::OutOfMemory),
+        Err(fault) => Err(StageFault::Refused(InputRefusal::Image(fault))),
     }
 }

@@ -8,11 +8,11 @@ ghost use Rattle.pm_tasks.specs.commands.mmv_make.{mmv_make as meaning_of_make};
 use mmv_writer::{ReadTextError, read_text};
 use pcp_base::Bytes;
 use pm_print::image_bytes;
-use pm_words::{InputRefusal, Stop};
+use pm_words::{InputRefusal, StageFault};
 use std::alloc::Global;
 
 /// The image of a layout text, as bytes.
-pub fn mmv_make(alloc: Global, input: &[u8]) -> Result<Bytes, Stop<InputRefusal>>
+pub fn mmv_make(alloc: Global, input: &[u8]) -> Result<Bytes, StageFault<InputRefusal>>
     ensures output { IfOk result (λ output. output ≡ made_of bytes_of (text_image input.now)) }
     ensures good { OnOk result (refusal_of meaning_of_make.reads input.now ≡ None) }
     ensures cause { IfErr result (Refuses meaning_of_make.reads input.now) }
@@ -22,7 +22,7 @@ pub fn mmv_make(alloc: Global, input: &[u8]) -> Result<Bytes, Stop<InputRefusal>
             let bytes = image_bytes(alloc, &image)?;
             Ok(bytes)
         }
-        Err(ReadTextError::Fault(fault)) => Err(Stop::Refused(InputRefusal::Line(fault))),
-        Err(ReadTextError::NoMemory) => Err(Stop::OutOfMemory),
+        Err(ReadTextError::Fault(fault)) => Err(StageFault::Refused(InputRefusal::Line(fault))),
+        Err(ReadTextError::NoMemory) => Err(StageFault::OutOfMemory),
     }
 }

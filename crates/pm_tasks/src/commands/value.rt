@@ -5,7 +5,7 @@ ghost use Rattle.pcp_model.specs.Disk.{contents_of};
 ghost use Rattle.archive_window.specs.Looks.{Looks};
 ghost use Rattle.archive_loading.specs.Loaded.{IsOver};
 ghost use Rattle.pm_tasks.specs.Archives.{TurnedAway};
-ghost use Rattle.pm_words.specs.Sides.{disk_side, found};
+ghost use Rattle.pm_words.specs.Sides.{disk_side, files_found};
 ghost use Rattle.pm_words.specs.declared.refusal.Refusal.TheVariants.{Disk};
 ghost use Rattle.pm_words.specs.declared.stage.DiskRefusal.TheVariants.{Files};
 ghost use Rattle.pm_words.specs.declared.stage.FilesRefusal.TheVariants.{Nothing};
@@ -76,7 +76,7 @@ fn nothing_at(stamp: Stamp) -> Refusal
 }
 
 // The values of a metric and their stamp, as text.
-fn shown<D: Disk>(
+fn values_text<D: Disk>(
     alloc: Global,
     disk: &mut D,
     reader: &mut ArchiveReader,
@@ -84,7 +84,7 @@ fn shown<D: Disk>(
     stamp: Stamp,
 ) -> Result<Bytes, Refusal>
     requires { D.tells → IsOver (contents_of (D.held disk.old)) reader.old }
-    ensures said { D.tells → IfOk result (HasValue (found (disk_side D.Disk disk.old disk.new)) reader.old pmid stamp) }
+    ensures said { D.tells → IfOk result (HasValue (files_found (disk_side D.Disk disk.old disk.new)) reader.old pmid stamp) }
     ensures turned { IfErr result (TurnedAway (HasNoValue pmid stamp reader.old) (disk_side D.Disk disk.old disk.new)) }
     ensures looks { Looks D.Disk disk.old disk.new }
 {
@@ -100,14 +100,14 @@ fn shown<D: Disk>(
 
 /// The values and their stamp, as text.
 pub fn value<D: Disk>(alloc: Global, asked: &ValueWords, disk: &mut D) -> Result<Bytes, Refusal>
-    ensures said { D.tells → IfOk result (said asked.now (found (disk_side D.Disk disk.old disk.new))) }
+    ensures said { D.tells → IfOk result (said asked.now (files_found (disk_side D.Disk disk.old disk.new))) }
     ensures turned { IfErr result (TurnedAway (turned asked.now) (disk_side D.Disk disk.old disk.new)) }
     ensures looks { Looks D.Disk disk.old disk.new }
 {
     let mut reader = ArchiveReader::load(alloc, disk)?;
     let pmid = named(alloc, reader.meta(), asked.name.as_slice())?;
     match pmid {
-        Some(pmid) => shown(alloc, disk, &mut reader, pmid, asked.stamp),
+        Some(pmid) => values_text(alloc, disk, &mut reader, pmid, asked.stamp),
         None => Err(nothing_at(asked.stamp)),
     }
 }

@@ -1,7 +1,7 @@
 -- One region more is read by its own pass.
 use Rattle.std.proofs.Common.{rules, ◌≡◌, ◌<◌, length, get_or, map, take, [], ap, sym, ◌∙◌, refl, arith}
 use Rattle.region_rule.specs.Seats.{Token}
-use Rattle.fetch_engine.specs.Readings.{reading_of}
+use Rattle.fetch_answers.specs.Readings.{reading_of}
 use Rattle.fetch_engine.specs.declared.server.Mounted.{Mounted}
 use Rattle.fetch_engine.proofs.Holding.{kept_at}
 use Rattle.fetch_engine.proofs.Visited.{many_there, next_read, nothing_read, one_there}

@@ -1,7 +1,7 @@
 -- So many regions were read; the passes of the others are as they were, and each keeps what was read last.
 use Rattle.std.proofs.Common.{map, take}
 use Rattle.fetch_engine.specs.Kept.{AreKept}
-use Rattle.fetch_engine.specs.Readings.{reading_of}
+use Rattle.fetch_answers.specs.Readings.{reading_of}
 use Rattle.fetch_engine.proofs.Visited.{HasRead}
 use Rattle.fetch_engine.proofs.visits.read_all.Given as goal
 

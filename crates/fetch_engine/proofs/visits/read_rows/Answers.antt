@@ -1,7 +1,7 @@
 -- One region more is read by its own pass.
 use Rattle.std.proofs.Common.{rules, ◌≡◌, ◌<◌, length, get_or, map, ap, sym, ◌∙◌, [], ◌∷◌, ◌++◌}
 use Rattle.region_rule.specs.Seats.{Token}
-use Rattle.fetch_engine.specs.Readings.{reading_of}
+use Rattle.fetch_answers.specs.Readings.{reading_of}
 use Rattle.fetch_engine.specs.declared.server.Mounted.{Mounted}
 use Rattle.fetch_engine.proofs.Visited.{nothing_read, one_there, one_read}
 use Rattle.fetch_engine.proofs.visits.read_rows.Goals as goal

@@ -1,6 +1,6 @@
 -- So many regions were read, and the passes of the others are as they were.
 use Rattle.std.proofs.Common.{map}
-use Rattle.fetch_engine.specs.Readings.{reading_of}
+use Rattle.fetch_answers.specs.Readings.{reading_of}
 use Rattle.fetch_engine.proofs.Visited.{HasRead}
 use Rattle.fetch_engine.proofs.visits.read_rows.Given as goal
 

@@ -1,6 +1,6 @@
 -- The string stands at the end, and is told there.
 use Rattle.std.proofs.Common.{subst, sym, ◌∙◌, ap}
-use Rattle.mmv_spelling.specs.Tables.{read, IsIndex}
+use Rattle.mmv_spelling.specs.Tables.{texts_behind, IsIndex}
 use Rattle.mmv_spelling.proofs.Firsts.{index_added}
 use Rattle.mmv_spelling.proofs.ReadTexts.{read_more}
 use Rattle.mmv_spelling.proofs.tables.add_last.Goals as goal
@@ -11,4 +11,4 @@ returns-clause-index c =
     (index_added c.args.firsts.now c.keep_first.new.firsts c.args.strings.now c.args.text c.len-at.result c.len-at.ensures c.in_default.ensures.ok c.requires)
 
 pub returns-clause-ok : goal.returns-clause-ok
-returns-clause-ok c = ap read c.in_ok-push.ensures.ok ∙ read_more c.args.strings.now c.args.text
+returns-clause-ok c = ap texts_behind c.in_ok-push.ensures.ok ∙ read_more c.args.strings.now c.args.text

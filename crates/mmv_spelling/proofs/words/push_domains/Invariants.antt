@@ -5,4 +5,4 @@ use Rattle.mmv_spelling.specs.Spelling.{domain_words}
 use Rattle.mmv_spelling.proofs.words.push_domains.Given as goal
 
 abbrev pub invariant-loop-row : goal.invariant-loop-row
-invariant-loop-row l = l.out.items ≡ l.initial.out.items ++ flat_map (λ row. domain_words l.places l.strings l.indoms row) (take l.row-index l.indoms)
+invariant-loop-row l = l.out.items ≡ l.initial.out.items ++ flat_map (λ row. domain_words l.offsets l.strings l.indoms row) (take l.row-index l.indoms)

@@ -5,4 +5,4 @@ use Rattle.mmv_spelling.specs.Spelling.{metric_words}
 use Rattle.mmv_spelling.proofs.words.push_metrics.Given as goal
 
 abbrev pub invariant-loop-row : goal.invariant-loop-row
-invariant-loop-row l = l.out.items ≡ l.initial.out.items ++ flat_map (λ row. metric_words l.places l.strings row) (take l.row-index l.metrics)
+invariant-loop-row l = l.out.items ≡ l.initial.out.items ++ flat_map (λ row. metric_words l.offsets l.strings row) (take l.row-index l.metrics)

@@ -2,7 +2,7 @@
 use Rattle.std.proofs.Common.{◌≡◌, ◌++◌, take}
 use Rattle.std.specs.List.{flat_map}
 use Rattle.mmv_format.specs.Fields.{first_words}
-use Rattle.mmv_spelling.specs.Places.{string_length}
+use Rattle.mmv_spelling.specs.Offsets.{string_length}
 use Rattle.mmv_spelling.proofs.words.push_texts.Given as goal
 
 abbrev pub invariant-loop-text : goal.invariant-loop-text

@@ -5,4 +5,4 @@ use Rattle.mmv_spelling.specs.Spelling.{value_words}
 use Rattle.mmv_spelling.proofs.words.push_values.Given as goal
 
 abbrev pub invariant-loop-row : goal.invariant-loop-row
-invariant-loop-row l = l.out.items ≡ l.initial.out.items ++ flat_map (λ row. value_words l.places l.strings l.domains l.metrics row) (take l.row-index l.values)
+invariant-loop-row l = l.out.items ≡ l.initial.out.items ++ flat_map (λ row. value_words l.offsets l.strings l.domains l.metrics row) (take l.row-index l.values)

@@ -1,5 +1,5 @@
 -- What a run does, or why it is refused.
-use Rattle.std.proofs.Common.{rules, map, string_bytes, Global, refl, sym, ap, ◌∙◌}
+use Rattle.std.proofs.Common.{rules, map, string_bytes, Global, inl, refl, sym, ap, ◌∙◌}
 use Rattle.pm_words.specs.Sides.{SourceSide, source_side}
 use Rattle.pm_words.specs.declared.refusal.Refusal.TheVariants.{NoMemory}
 use Rattle.pm_serving.specs.declared.refusal.ServeRefusal.TheVariants.{Before}
@@ -14,7 +14,7 @@ returns-in_err-line g c =
     let words = map (string_bytes {Z = Global}) c.args.words.now in
     let s : SourceSide = source_side g.I.Source c.args.input.now c.prepare.new.input in
     let why : Refuses words s (doors_side g.P.Door c.args.doors.now c.args.doors.now) c.args.served.now (Before NoMemory) =
-    (took words s c.in_ok-count.ensures.order.asks, record { none = c.requires.fresh; doors = refl }) in
+    (took words s c.in_ok-count.ensures.order.asks, inl (record { none = c.requires.fresh; doors = refl })) in
     search (rules, why)
 
 pub returns-in_err-serve_script : goal.returns-in_err-serve_script

@@ -3,7 +3,7 @@ use Rattle.std.proofs.Common.{◌≡◌, ◌≤◌, ◌==◌, ◌∙◌, ap, ref
 use Rattle.std.specs.List.{position}
 use Rattle.std.specs.Ordering.{nat_cmp}
 use Rattle.std.specs.BTreeMap.{get}
-use Rattle.mmv_spelling.specs.Places.{instances_in}
+use Rattle.mmv_spelling.specs.Offsets.{instances_in}
 use Rattle.mmv_spelling.specs.Spelling.{member_of}
 use Rattle.mmv_spelling.proofs.Told.{Told, told_none, told_some, no_member, member_told, member_near}
 use Rattle.mmv_spelling.proofs.lookups.DomainTable.member_of.Goals as goal

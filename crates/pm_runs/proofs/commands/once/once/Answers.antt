@@ -5,7 +5,7 @@ use Rattle.pm_words.specs.Sides.{DiskSide, disk_side}
 use Rattle.pm_words.specs.declared.refusal.Refusal.TheVariants.{Input, NoMemory}
 use Rattle.pm_words.specs.Serving.{StopCause}
 use Rattle.pm_words.proofs.Serving.{left_alone, no_good}
-use Rattle.pm_runs.specs.Scripts.{Begins}
+use Rattle.pm_runs.specs.Scripts.{HasWritten}
 use Rattle.pm_runs.specs.commands.once.{logged_line, logging, once}
 use Rattle.pm_runs.proofs.Scripted.{any_moment, has_served, is_done, no_clock, ran_regions, since_done, since_stopped, stop_begins, stops, uncounted}
 use Rattle.pm_runs.proofs.commands.once.once.Goals as goal
@@ -14,13 +14,13 @@ pub returns-in_err-script-clause-cause : goal.returns-in_err-script-clause-cause
 returns-in_err-script-clause-cause g c =
     let d : DiskSide = disk_side g.D.Disk c.args.disk.now c.args.disk.now in
     let stop = c.in_err-script.field-0.0 in
-    let why : StopCause (once c.args.asked.now) c.args.input.now d (stopped Input stop) × Begins (logging c.args.asked.now) c.args.input.now d (stopped Input stop) [] = (no_good (once c.args.asked.now) c.args.input.now d stop c.in_err-script.ensures.cause (λ tells. refl), stop_begins (logging c.args.asked.now) c.args.input.now d stop) in
+    let why : StopCause (once c.args.asked.now) c.args.input.now d (stopped Input stop) × HasWritten (logging c.args.asked.now) c.args.input.now d (stopped Input stop) [] = (no_good (once c.args.asked.now) c.args.input.now d stop c.in_err-script.ensures.cause (λ tells. refl), stop_begins (logging c.args.asked.now) c.args.input.now d stop) in
     search (rules, why)
 
 pub returns-in_err-replayed-clause-cause : goal.returns-in_err-replayed-clause-cause
 returns-in_err-replayed-clause-cause g c =
     let d : DiskSide = disk_side g.D.Disk c.args.disk.now c.run_script.new.disk in
-    let why : StopCause (once c.args.asked.now) c.args.input.now d NoMemory × Begins (logging c.args.asked.now) c.args.input.now d NoMemory [] = (left_alone (once c.args.asked.now) 9 c.args.input.now d (λ tells. ap g.D.Disk.held c.in_err-replayed.ensures.untouched), inl refl) in
+    let why : StopCause (once c.args.asked.now) c.args.input.now d NoMemory × HasWritten (logging c.args.asked.now) c.args.input.now d NoMemory [] = (left_alone (once c.args.asked.now) 9 c.args.input.now d (λ tells. ap g.D.Disk.held c.in_err-replayed.ensures.untouched), inl refl) in
     search (rules, why)
 
 pub returns-in_err-line-in-None-clause-cause : goal.returns-in_err-line-in-None-clause-cause

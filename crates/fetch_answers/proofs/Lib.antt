@@ -1,0 +1,6 @@
+pub mod Blocks
+pub mod Bounds
+pub mod Found
+pub mod Indexes
+pub mod Numbers
+pub mod Steps

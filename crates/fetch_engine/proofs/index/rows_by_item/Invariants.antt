@@ -1,7 +1,0 @@
--- The rows so far.
-use Rattle.std.proofs.Common.{take, map}
-use Rattle.fetch_engine.specs.Numbers.{HasNumbers, counted, subject_of}
-use Rattle.fetch_engine.proofs.index.rows_by_item.Given as goal
-
-abbrev pub invariant-loop-number : goal.invariant-loop-number
-invariant-loop-number l = HasNumbers l.table (take l.number (counted 0 (map subject_of l.rows)))

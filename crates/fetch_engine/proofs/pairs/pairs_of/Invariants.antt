@@ -1,7 +1,0 @@
--- The names so far.
-use Rattle.std.proofs.Common.{◌≡◌, take, map}
-use Rattle.fetch_engine.specs.Names.{pair_of}
-use Rattle.fetch_engine.proofs.pairs.pairs_of.Given as goal
-
-abbrev pub invariant-loop-metric : goal.invariant-loop-metric
-invariant-loop-metric l = l.pairs ≡ map (pair_of l.cluster l.file l.layout.flags) (take l.metric-index l.layout.metrics)

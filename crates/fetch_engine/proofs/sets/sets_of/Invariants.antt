@@ -1,8 +1,0 @@
--- The sets so far.
-use Rattle.std.proofs.Common.{◌≡◌, take, map}
-use Rattle.fetch_engine.specs.Answers.{set_of}
-use Rattle.fetch_engine.specs.Readings.{reading_of}
-use Rattle.fetch_engine.proofs.sets.sets_of.Given as goal
-
-abbrev pub invariant-loop-pmid : goal.invariant-loop-pmid
-invariant-loop-pmid l = l.sets ≡ map (set_of (map reading_of l.regions) l.profile) (take l.pmid-index l.pmids)

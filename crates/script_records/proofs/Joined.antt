@@ -1,0 +1,121 @@
+-- One pass more is ended, and one list of passes more.
+use Rattle.std.proofs.Common.{◌≡◌, ◌≢◌, ℕ, suc, ◌+◌, ◌<◌, ◌≤◌, List, [], ◌∷◌, ◌++◌, All, append_assoc, get_or, length, length-append, length-set, slice_get, slice_set, Some, sym, refl, ap, ◌∙◌, subst, arith}
+use Rattle.std.specs.Global.{Vec}
+use Rattle.std.proofs.lemmas.Option.{slice_get_within}
+use mathlib.Core.Logic.{dite}
+use native.Mathlib.Decide.{dec_le}
+use Rattle.region_rule.specs.declared.view.View.{View}
+use Rattle.region_rule.specs.Calls.{Gathers}
+use Rattle.region_rule.specs.Seats.{Token}
+use Rattle.region_words.specs.Images.{mmv}
+use Rattle.fetch_engine.specs.Servers.{ChangesAt, IsRegionAt, IsSeated}
+use Rattle.fetch_engine.specs.declared.server.Mounted.{Mounted}
+use Rattle.pass_steps.proofs.Calling.{set_there}
+use Rattle.script_passes.proofs.Begun.{as_many_seated, get_there}
+use Rattle.script_passes.proofs.Crewing.{get_set_other}
+use Rattle.script_passes.proofs.Finals.{get_front, get_seam}
+use Rattle.script_passes.proofs.Seated.{now_at, set_set, the_one}
+use Rattle.script_records.specs.Gathered.{AreHere, GathersAll, HasGathered, HaveGathered}
+
+-- Passes of one region
+
+-- these passes were ended at this position, and the others stay
+pub record GathersAt (at : ℕ) (old : List Token) (passes : List Token) (new : List Token) : Type 0 where
+  pub before : Token
+  pub after : Token
+  pub was : slice_get old at ≡ Some before
+  pub is : new ≡ slice_set old at after
+  pub has : HasGathered passes before after
+
+pub gathers_none : (at : ℕ) (old : List Token) → at < length old → GathersAt at old [] old
+gathers_none at old below =
+    let here = get_there old at below in
+    record { before = here.0; after = here.0; was = here.1; is = sym (set_there old at here.0 here.1); has = record { gathers = refl; region = refl } }
+
+gathers_last : (v u w : View) (passes : List Token) (pass : Token) → GathersAll v passes u → Gathers mmv u pass.view w → GathersAll v (passes ++ pass ∷ []) w
+gathers_last v u w [] pass g h = (w, subst (λ (x : View). Gathers mmv x pass.view w) g h, refl)
+gathers_last v u w (p ∷ passes) pass g h = (g.0, g.1, gathers_last g.0 u w passes pass g.2 h)
+
+pub gathers_more : (at : ℕ) (old mid new passes more : List Token) (pass : Token) → GathersAt at old passes mid → ChangesAt at mid new (λ before after. Gathers mmv before.view pass.view after.view) → more ≡ passes ++ pass ∷ [] → GathersAt at old more new
+gathers_more at old mid new passes more pass g changes is =
+    let same : g.after ≡ changes.before = the_one mid at g.after changes.before (now_at old mid at g.before g.after g.was g.is) changes.was in
+    record {
+      before = g.before;
+      after = changes.after;
+      was = g.was;
+      is = changes.is ∙ (ap (λ (l : List Token). slice_set l at changes.after) g.is ∙ set_set old at g.after changes.after);
+      has = record {
+        gathers = subst (λ (l : List Token). GathersAll g.before.view l changes.after.view) (sym is)
+            (gathers_last g.before.view g.after.view changes.after.view passes pass g.has.gathers (subst (λ (t : Token). Gathers mmv t.view pass.view changes.after.view) (sym same) changes.changed));
+        region = changes.stays.region ∙ (ap (λ (t : Token). t.region) (sym same) ∙ g.has.region);
+      };
+    }
+
+-- what holds of all holds of one in their midst
+pub one_of_all : {A : Type 0} (P : A → Type 0) (all front back : List A) (x : A) → All P all → all ≡ front ++ x ∷ back → P x
+one_of_all {A} P all front back x h is =
+    subst P (sym (at_seam front)) (subst (λ (l : List A). All P l) is h (length front) x (within front))
+  where
+    at_seam : (front : List A) → x ≡ get_or (front ++ x ∷ back) (length front) x
+    at_seam [] = refl
+    at_seam (y ∷ ys) = at_seam ys
+
+    within : (front : List A) → length front < length (front ++ x ∷ back)
+    within [] = omega arith
+    within (y ∷ ys) = let h = within ys in omega arith
+
+-- Lists of passes
+
+-- the lists so far were ended, in ascending cluster, and the passes of the other regions stay
+pub record GathersFirst (lists : List (Vec Token)) (old new : List Token) : Type 0 where
+  pub have : HaveGathered lists old new
+  pub rest : (j : ℕ) → length lists ≤ j → slice_get new j ≡ slice_get old j
+
+pub gathers_no_list : (old : List Token) → GathersFirst [] old old
+gathers_no_list old = record { have = record { as_many = refl; each = λ j list before after e. absurd (cc) }; rest = λ j h. refl }
+
+pub gathers_one_list : (old mid new : List Token) (lists more : List (Vec Token)) (list : Vec Token) (at : ℕ) → GathersFirst lists old mid → at ≡ length lists → more ≡ lists ++ list ∷ []
+    → (before : Token) × (after : Token) × (slice_get mid at ≡ Some before) × (new ≡ slice_set mid at after) × HasGathered list.items before after → GathersFirst more old new
+gathers_one_list old mid new lists more list at g at_is is h =
+    let after : Token = h.1 in
+    let long : length more ≡ length lists + 1 = ap (λ (l : List (Vec Token)). length l) is ∙ length-append lists (list ∷ []) in
+    let other : (j : ℕ) → j ≢ at → slice_get new j ≡ slice_get mid j = λ j differ. ap (λ (l : List Token). slice_get l j) h.3 ∙ get_set_other mid at j after differ in
+    record {
+      have = record {
+        as_many = ap (λ (l : List Token). length l) h.3 ∙ (length-set mid at after ∙ g.have.as_many);
+        each = λ j found before last e f k.
+            let within = slice_get_within more j found e in
+            dite (dec_le (suc j) (length lists))
+            (λ (below : suc j ≤ length lists).
+            let differ : j ≢ at = λ same. absurd (omega arith) in
+            g.have.each j found before last (sym (get_front lists (list ∷ []) j (omega arith)) ∙ (ap (λ (l : List (Vec Token)). slice_get l j) (sym is) ∙ e)) f (sym (other j differ) ∙ k))
+            (λ not_below.
+            let same : j ≡ at = omega arith in
+            let found_is : list ≡ found = the_one more j list found (ap (λ (l : List (Vec Token)). slice_get l j) is ∙ (ap (λ (n : ℕ). slice_get (lists ++ list ∷ []) n) (same ∙ at_is) ∙ get_seam lists list)) e in
+            let kept : slice_get mid j ≡ slice_get old j = g.rest j (omega arith) in
+            let before_is : h.0 ≡ before = the_one mid at h.0 before h.2 (ap (λ (n : ℕ). slice_get mid n) (sym same) ∙ (kept ∙ f)) in
+            let last_is : after ≡ last = the_one new at after last (now_at mid new at h.0 after h.2 h.3) (ap (λ (n : ℕ). slice_get new n) (sym same) ∙ k) in
+            subst (λ (l : Vec Token). HasGathered l.items before last) found_is
+            (subst (λ (t : Token). HasGathered list.items t last) before_is (subst (λ (t : Token). HasGathered list.items h.0 t) last_is h.4)));
+      };
+      rest = λ j far. other j (λ same. absurd (omega arith)) ∙ g.rest j (omega arith);
+    }
+
+-- the passes of the next list are here
+pub next_here : (server : List Mounted) (all front back : List (Vec Token)) (list : Vec Token) (at : ℕ) → AreHere server all → all ≡ front ++ list ∷ back → at ≡ length front → All (λ (pass : Token). IsRegionAt server at pass.region) list.items
+next_here server all front back list at here is at_is =
+    subst (λ (n : ℕ). All (λ (pass : Token). IsRegionAt server n pass.region) list.items) (sym at_is) (here (length front) list (ap (λ (l : List (Vec Token)). slice_get l (length front)) is ∙ middle front))
+  where
+    middle : (front : List (Vec Token)) → slice_get (front ++ list ∷ back) (length front) ≡ Some list
+    middle [] = refl
+    middle (x ∷ xs) = middle xs
+
+-- a position of a server is one of its seat
+pub within_seated : (server : List Mounted) (tokens : List Token) (at : ℕ) → IsSeated server tokens → at < length server → at < length tokens
+within_seated server tokens at seated below = let same = as_many_seated server tokens seated in omega arith
+
+pub one_further : {A : Type 0} (at : ℕ) (yielded : List A) (x : A) → at ≡ length yielded → at + 1 ≡ length (yielded ++ x ∷ [])
+one_further at yielded x same = let long = length-append yielded (x ∷ []) in omega arith
+
+pub still_all : {A : Type 0} (all front left rest : List A) (x : A) → all ≡ front ++ left → left ≡ x ∷ rest → all ≡ (front ++ x ∷ []) ++ rest
+still_all all front left rest x is next = is ∙ (ap (λ (l : List _). front ++ l) next ∙ sym (append_assoc front (x ∷ []) rest))

@@ -1,0 +1,14 @@
+pub mod Causes
+pub mod Ended
+pub mod Finishing
+pub mod Further
+pub mod Handed
+pub mod Joined
+pub mod Journals
+pub mod Phases
+pub mod Recovered
+pub mod Running
+pub mod Settling
+pub mod Stretches
+pub mod Undone
+pub mod Ways

@@ -1,0 +1,88 @@
+-- The writers of a recording and its samples, by how both end.
+use Rattle.std.proofs.Common.{◌≡◌, ◌≢◌, inl, inr, ℕ, List, [], ◌∷◌, None, refl, ◌∙◌, arith}
+use Rattle.std.specs.Global.{Vec}
+use Rattle.pcp_model.specs.Disk.{Files}
+use Rattle.pcp_outside.specs.declared.clocks.Clock.{Ghosts as ClockGhosts}
+use Rattle.pcp_outside.specs.declared.disk.Disk.{Ghosts as DiskGhosts}
+use Rattle.region_rule.specs.Seats.{Token}
+use Rattle.fetch_engine.specs.declared.server.Mounted.{Mounted}
+use Rattle.fetch_engine.specs.Servers.{Seated}
+use Rattle.fetch_engine.specs.Visits.{AreLoaded}
+use Rattle.run_script.specs.Rules.{KeepsRules}
+use Rattle.run_script.specs.declared.script.Script.{Script}
+use Rattle.script_passes.specs.Openings.{AreMade}
+use Rattle.script_runs.specs.declared.ending.Ending.{Ending}
+use Rattle.script_runs.specs.declared.ending.Ending.TheVariants as ends
+use Rattle.script_samples.specs.declared.sampler.Sampler.{Sampler}
+use Rattle.script_samples.proofs.Loading.{not_loaded}
+use Rattle.script_writers.specs.Written.{HaveWritten}
+use Rattle.script_records.specs.Beside.{AtJournals, Beside, EndsBy, IsLegal, LoggerLoads, Sampled, SeesOn, StandsBehind, WritersRan}
+use Rattle.script_records.specs.Gathered.{HaveGathered}
+use Rattle.script_records.specs.Halting.{Halts, IsStandingFound, RefusedBy}
+use Rattle.script_records.specs.Pictured.{AreImages}
+use Rattle.script_records.proofs.Journals.{journals, unwritten}
+use Rattle.script_records.proofs.Settling.{EndsWith, finished_all, halts}
+use Rattle.script_records.proofs.Stretches.{Whole, sees_same, stands_same}
+use Rattle.script_records.proofs.Undone.{want_undone}
+
+-- what was refused memory ends by it
+pub refused_by : (e ending : Ending) → RefusedBy e ending → EndsBy ends.NoMemory ending
+refused_by e ending (inl (is, same)) = inr (same ∙ is)
+refused_by e ending (inr (other, is)) = inl is
+
+module _ (script : Script) (server : List Mounted) (passes : List (Vec Token)) (first : Seated) (keeps : KeepsRules script) (made : AreMade script server passes (first ∷ [])) where
+  module _ {C D : Type 0} (c : ClockGhosts C) (d : DiskGhosts D) (waiting : List Token) (was is : Sampler) (clock_was clock_is : C) (disk_was disk_is : D) (samples : ℕ) (none : was.archive.logged ≡ 0) (unstarted : was.plans ≡ None) (left : Files)
+      (found : d.tells → IsStandingFound left was.archive (d.held disk_was)) (loaded : AreLoaded first.tokens waiting) where
+    -- writers were refused memory
+    pub halts_refused : AreImages script → (e ending : Ending) → EndsWith e ending → EndsBy ends.NoMemory ending → Whole c d script.config.groups server first.tokens waiting waiting waiting was is clock_was clock_is disk_was disk_is e samples
+        → Halts c d clock_was clock_is disk_was disk_is script was.archive.limit samples server first.tokens waiting left is.archive ending
+    halts_refused images e ending ends_with by w =
+        let u : AtJournals IsLegal script server waiting × AtJournals LoggerLoads script server waiting = unwritten script server passes first keeps made images waiting loaded in
+        halts c d script server first.tokens waiting waiting waiting was is clock_was clock_is disk_was disk_is samples left e ending ends_with w none unstarted found (sees_same waiting) (stands_same script server waiting) u.0 u.1 ends.NoMemory by tt
+
+    -- writers have ended
+    pub halts_written : (done : List (Vec Token)) (gathered final : List Token) (e : Ending) → HaveWritten script server passes done → HaveGathered done waiting gathered → AreLoaded gathered final
+        → Whole c d script.config.groups server first.tokens waiting gathered final was is clock_was clock_is disk_was disk_is e samples → Halts c d clock_was clock_is disk_was disk_is script was.archive.limit samples server first.tokens final left is.archive e
+    halts_written done gathered final e written gathers behind w =
+        let j : AtJournals IsLegal script server final × AtJournals WritersRan script server final × AtJournals LoggerLoads script server final × SeesOn waiting gathered × StandsBehind script server gathered final =
+        journals script server passes first keeps made done waiting gathered final written loaded gathers behind in
+        halts c d script server first.tokens waiting gathered final was is clock_was clock_is disk_was disk_is samples left e e (inl refl) w none unstarted found j.3 j.4 j.0 j.2 e (inl refl) (finished_all e (AtJournals WritersRan script server final) j.1)
+
+  -- nothing is sampled
+  none_sampled : (gathered : List Token) (e : Ending) → e ≢ ends.Done → SeesOn first.tokens gathered → StandsBehind script server gathered gathered → Sampled script server first.tokens gathered e [] []
+  none_sampled gathered e undone later stands = record {
+    beside = [];
+    middle = first.tokens;
+    taken = refl;
+    waiting = first.tokens;
+    loaded = not_loaded first.tokens;
+    gathered = gathered;
+    later = later;
+    stands = stands;
+    behind = [];
+    last = gathered;
+    taken_behind = refl;
+    loaded_behind = not_loaded gathered;
+    lacking = [];
+    few = omega arith;
+    last_behind = λ done. absurd (undone done);
+    moments_are = refl;
+    logged = [];
+    unlogged = [];
+    are = refl;
+    one = omega arith;
+    stops = inl (refl, refl);
+    plans = None;
+    shown = (refl, refl);
+  }
+
+  pub beside_written : (done : List (Vec Token)) (gathered : List Token) (e : Ending) → e ≢ ends.Done → HaveWritten script server passes done → HaveGathered done first.tokens gathered → Beside script server first.tokens gathered e [] []
+  beside_written done gathered e undone written gathers =
+      let j : AtJournals IsLegal script server gathered × AtJournals WritersRan script server gathered × AtJournals LoggerLoads script server gathered × SeesOn first.tokens gathered × StandsBehind script server gathered gathered =
+      journals script server passes first keeps made done first.tokens gathered gathered written (not_loaded first.tokens) gathers (not_loaded gathered) in
+      record { legal = j.0; own = e; ended_by = inl refl; writers = finished_all e (AtJournals WritersRan script server gathered) j.1; loads = j.2; sampled = none_sampled gathered e undone j.3 j.4 }
+
+  pub beside_refused : AreImages script → (ending : Ending) → EndsBy ends.NoMemory ending → Beside script server first.tokens first.tokens ending [] []
+  beside_refused images ending by =
+      let u : AtJournals IsLegal script server first.tokens × AtJournals LoggerLoads script server first.tokens = unwritten script server passes first keeps made images first.tokens (not_loaded first.tokens) in
+      record { legal = u.0; own = ends.NoMemory; ended_by = by; writers = tt; loads = u.1; sampled = none_sampled first.tokens ending (want_undone ending by) (sees_same first.tokens) (stands_same script server first.tokens) }

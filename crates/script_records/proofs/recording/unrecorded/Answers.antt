@@ -1,0 +1,27 @@
+-- The writers run where the files were refused.
+use Rattle.std.proofs.Common.{◌∷◌, [], refl, sym, ◌∙◌, subst}
+use Rattle.script_runs.specs.declared.ending.Ending.{Ending}
+use Rattle.script_runs.specs.declared.ending.Ending.TheVariants as ends
+use Rattle.script_records.specs.Beside.{EndsBy}
+use Rattle.script_records.proofs.Handed.{all_here}
+use Rattle.script_records.proofs.Journals.{ready}
+use Rattle.script_records.proofs.Running.{beside_refused, beside_written, refused_by}
+use Rattle.script_records.proofs.recording.unrecorded.Goals as goal
+
+pub run_writers-requires-clause-ready : goal.run_writers-requires-clause-ready
+run_writers-requires-clause-ready g c κs within = ready c.args.script.now c.args.server.now c.args.passes.items (c.args.seat.now ∷ []) c.requires.rules c.requires.made
+
+pub gather_all-requires-clause-seated : goal.gather_all-requires-clause-seated
+gather_all-requires-clause-seated g c = c.requires.made.seated 0 c.args.seat.now refl
+
+pub gather_all-requires-clause-here : goal.gather_all-requires-clause-here
+gather_all-requires-clause-here g c = all_here c.args.script.now c.args.server.now c.in-Ok.done.items c.in-Ok.ensures.ready
+
+pub returns-in-Ok-clause-beside : goal.returns-in-Ok-clause-beside
+returns-in-Ok-clause-beside g c = λ undone.
+    beside_written c.args.script.now c.args.server.now c.args.passes.items c.args.seat.now c.requires.rules c.requires.made c.in-Ok.done.items c.gather_all.new.seat.tokens c.nothing.result.ending (λ done. undone (sym c.nothing.ensures.ending ∙ done)) c.in-Ok.ensures c.gather_all.ensures.gathers
+
+pub returns-in-Err-clause-beside : goal.returns-in-Err-clause-beside
+returns-in-Err-clause-beside g c = λ undone.
+    beside_refused c.args.script.now c.args.server.now c.args.passes.items c.args.seat.now c.requires.rules c.requires.made c.requires.images c.nothing-in-Err.result.ending
+    (subst (λ (e : Ending). EndsBy ends.NoMemory e) (sym c.nothing-in-Err.ensures.ending) (refused_by c.args.ending c.refused.result c.refused.ensures))

@@ -1,0 +1,5 @@
+pub mod Gathered
+pub mod Beside
+pub mod Recordings
+pub mod Halting
+pub mod Pictured

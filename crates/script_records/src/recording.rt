@@ -1,0 +1,299 @@
+//! The recording of a script over any files.
+ghost use Rattle.std.specs.Prelude.{◌≡◌, ◌≢◌, ◌⊎◌, ◌≤◌, ◌∷◌, [], ℕ, None, Some, length, slice_get};
+ghost use Rattle.archive_recovery.specs.declared.outcome.RecoverFault.{RecoverFault as Unrecovered};
+ghost use Rattle.fetch_engine.specs.Servers.{Seated};
+ghost use Rattle.logger_core.specs.Reopening.{IsLeft};
+ghost use Rattle.pcp_model.specs.Archive.{Readable};
+ghost use Rattle.pcp_model.specs.Disk.{CrashImage, Files as AllFiles, contents_of};
+ghost use Rattle.pcp_outside.specs.Devices.{LeavesOnly};
+ghost use Rattle.run_script.specs.Rules.{KeepsRules};
+ghost use Rattle.script_passes.specs.Openings.{AreMade, IsOpened};
+ghost use Rattle.script_runs.specs.declared.ending.Ending.TheVariants.{DiskFault as Failing, Done as AtEnd, NoMemory as Refused};
+ghost use Rattle.record_run.specs.Going.{IsUnclosed, IsWorking};
+ghost use Rattle.script_replays.specs.Replays.{ended_by};
+ghost use Rattle.run_script.specs.Recording.{refused_line};
+ghost use Rattle.script_records.specs.Beside.{Beside};
+ghost use Rattle.script_records.specs.Halting.{Halts, IsRecorded, IsStandingFound, RefusedBy};
+ghost use Rattle.script_records.specs.Pictured.{AreImages};
+ghost use Rattle.script_records.specs.Recordings.{IsRecording, MayEndRecording};
+
+use crate::ending::{finish, nothing};
+use crate::gathering::gather_all;
+use crate::images::images_are;
+use crate::samples::beside;
+use archive_recovery::{Archive, RecoverFault, recover};
+use fetch_engine::{Seat, Server};
+use pcp_outside::{Clock, Disk, Turn};
+use record_run::{RunArchive, Standing};
+use region_words::Pass;
+use run_script::Script;
+use script_passes::Opened;
+use script_replays::Replayed;
+use script_runs::Ending;
+use script_samples::{Sampler, sample};
+use script_writers::run_writers;
+use std::alloc::Global;
+use std::mem;
+use std::sync::Wait;
+use std::thread::Threads;
+
+/// How a recording ends whose files aren't recovered.
+fn ending_of(fault: RecoverFault) -> Ending
+    ensures { result ≡ ended_by fault }
+{
+    match fault {
+        RecoverFault::Compressed { file } => Ending::Compressed { file },
+        RecoverFault::NotArchive { file, at } => Ending::NotArchive { file, at },
+        RecoverFault::DiskFault => Ending::DiskFault,
+        RecoverFault::NoMemory => Ending::NoMemory,
+    }
+}
+
+/// How a recording ends whose writers were refused memory, and which would end so: a disk that failed stands before it.
+fn refused(ending: Ending) -> Ending
+    ensures { RefusedBy ending result }
+{
+    match ending {
+        Ending::DiskFault => Ending::DiskFault,
+        _ => Ending::NoMemory,
+    }
+}
+
+/// Runs the writers and takes the samples: how the recording ends, before what was logged is flushed.
+fn run<'a, R: Threads + Wait + Sync, D: Disk, C: Clock, T: Turn + Sync>(
+    rt: &R,
+    alloc: Global,
+    script: &'a Script,
+    server: &Server,
+    seat: &mut Seat,
+    passes: Vec<Vec<Pass>>,
+    disk: &mut D,
+    clock: &mut C,
+    turn: &T,
+    sampler: &mut Sampler<'a>,
+    samples: u32,
+) -> Ending
+    requires rules { KeepsRules script.now }
+    requires record { refused_line script.now ≡ None }
+    requires made { AreMade script.now server.now passes.items (seat.old ∷ []) }
+    requires images { AreImages script.now }
+    requires limit { (1024 ≤ sampler.old.archive.limit) × (sampler.old.archive.limit ≤ 1073741824) }
+    requires none { sampler.old.archive.logged ≡ 0 }
+    requires unstarted { sampler.old.plans ≡ None }
+    requires some { 1 ≤ samples }
+    ensures halts { (left : AllFiles) → (D.tells → IsStandingFound left sampler.old.archive (D.held disk.old))
+        → Halts C.Clock D.Disk clock.old clock.new disk.old disk.new script.now sampler.old.archive.limit samples server.now seat.old.tokens seat.new.tokens left sampler.new.archive result }
+    ensures cause { IsWorking sampler.old.archive.limit sampler.old.archive.standing → MayEndRecording C.Clock D.Disk clock.old clock.new disk.old disk.new result }
+    ensures unclosed { IsWorking sampler.old.archive.limit sampler.old.archive.standing → result ≢ Failing → IsUnclosed sampler.new.archive.limit sampler.new.archive.standing }
+    ensures later { D.faults disk.old ≤ D.faults disk.new }
+    ensures clock_later { C.faults clock.old ≤ C.faults clock.new }
+{
+    let mut passes = passes;
+    let (written, early) = beside(
+        rt,
+        alloc,
+        script,
+        server,
+        seat,
+        &mut passes,
+        disk,
+        clock,
+        turn,
+        sampler,
+        samples,
+    );
+    let done = match written {
+        Ok(done) => done,
+        Err(_) => match early {
+            Ok(()) => return Ending::NoMemory,
+            Err(ending) => return refused(ending),
+        },
+    };
+    gather_all(server, seat, done);
+    if let Err(ending) = early {
+        return ending;
+    }
+    match sample(
+        alloc,
+        disk,
+        clock,
+        turn,
+        sampler,
+        script,
+        server,
+        seat,
+        u64::from(samples - 1),
+        1,
+    ) {
+        Ok(()) => Ending::Done,
+        Err(ending) => ending,
+    }
+}
+
+/// Records over what recovery left.
+fn record_over<R: Threads + Wait + Sync, D: Disk, C: Clock, T: Turn + Sync>(
+    rt: &R,
+    alloc: Global,
+    script: &Script,
+    server: &Server,
+    seat: &mut Seat,
+    passes: Vec<Vec<Pass>>,
+    disk: &mut D,
+    clock: &mut C,
+    turn: &T,
+    archive: Archive,
+    samples: u32,
+    volume: u64,
+) -> Replayed
+    requires rules { KeepsRules script.now }
+    requires record { refused_line script.now ≡ None }
+    requires made { AreMade script.now server.now passes.items (seat.old ∷ []) }
+    requires images { AreImages script.now }
+    requires limit { (1024 ≤ volume) × (volume ≤ 1073741824) }
+    requires some { 1 ≤ samples }
+    ensures records { (D.tells → IsLeft archive (D.held disk.old))
+        → IsRecorded C.Clock D.Disk clock.old clock.new disk.old disk.new script.now volume samples server.now seat.old.tokens seat.new.tokens (contents_of (D.held disk.old)) result result.ending }
+    ensures cause { MayEndRecording C.Clock D.Disk clock.old clock.new disk.old disk.new result.ending }
+    ensures later { D.faults disk.old ≤ D.faults disk.new }
+    ensures clock_later { C.faults clock.old ≤ C.faults clock.new }
+{
+    let archive = RunArchive {
+        standing: Standing::Found(archive),
+        limit: volume,
+        logged: 0,
+    };
+    let mut sampler = Sampler {
+        archive,
+        plans: None,
+    };
+    let ending = run(
+        rt,
+        alloc,
+        script,
+        server,
+        seat,
+        passes,
+        disk,
+        clock,
+        turn,
+        &mut sampler,
+        samples,
+    );
+    finish(alloc, disk, sampler.archive, ending)
+}
+
+/// Runs the writers where the files were refused: nothing is sampled or logged.
+fn unrecorded<R: Threads + Wait + Sync, T: Turn + Sync>(
+    rt: &R,
+    alloc: Global,
+    script: &Script,
+    server: &Server,
+    seat: &mut Seat,
+    passes: Vec<Vec<Pass>>,
+    turn: &T,
+    ending: Ending,
+) -> Replayed
+    requires rules { KeepsRules script.now }
+    requires record { refused_line script.now ≡ None }
+    requires made { AreMade script.now server.now passes.items (seat.old ∷ []) }
+    requires images { AreImages script.now }
+    ensures beside { ending ≢ AtEnd → Beside script.now server.now seat.old.tokens seat.new.tokens result.ending [] [] }
+    ensures output { result.output ≡ [] }
+    ensures logged { result.logged ≡ 0 }
+    ensures ending { (result.ending ≡ ending) ⊎ ((ending ≢ Failing) × (result.ending ≡ Refused)) }
+{
+    match run_writers(rt, alloc, script, server, passes, turn) {
+        Ok(done) => {
+            gather_all(server, seat, done);
+            nothing(alloc, ending)
+        }
+        Err(_) => nothing(alloc, refused(ending)),
+    }
+}
+
+/// Records over any files.
+fn record_with<R: Threads + Wait + Sync, D: Disk, C: Clock, T: Turn + Sync>(
+    rt: &R,
+    alloc: Global,
+    script: &Script,
+    server: &Server,
+    seat: &mut Seat,
+    passes: Vec<Vec<Pass>>,
+    disk: &mut D,
+    clock: &mut C,
+    turn: &T,
+    samples: u32,
+    volume: u64,
+) -> Replayed
+    requires rules { KeepsRules script.now }
+    requires record { refused_line script.now ≡ None }
+    requires made { AreMade script.now server.now passes.items (seat.old ∷ []) }
+    requires images { AreImages script.now }
+    requires limit { (1024 ≤ volume) × (volume ≤ 1073741824) }
+    requires some { 1 ≤ samples }
+    ensures records { IsRecording C.Clock D.Disk clock.old clock.new disk.old disk.new script.now volume samples server.now seat.old.tokens seat.new.tokens result }
+    ensures unread { D.tells → (Readable (contents_of (D.held disk.old)) → ⊥) → LeavesOnly D.moment D.left_since disk.old disk.new (CrashImage (D.held disk.old)) }
+    ensures cause { MayEndRecording C.Clock D.Disk clock.old clock.new disk.old disk.new result.ending }
+    ensures later { D.faults disk.old ≤ D.faults disk.new }
+    ensures clock_later { C.faults clock.old ≤ C.faults clock.new }
+{
+    match recover(alloc, disk) {
+        Ok(archive) => record_over(
+            rt, alloc, script, server, seat, passes, disk, clock, turn, archive, samples, volume,
+        ),
+        Err(fault) => {
+            let ending = ending_of(fault);
+            unrecorded(rt, alloc, script, server, seat, passes, turn, ending)
+        }
+    }
+}
+
+/// Records a script over any files, with its writers running beside each other on the regions that were opened for it: the files are
+/// recovered; the writers run their lines by calls that wait, and beside them a sample is taken at each moment of the clock but the last;
+/// then the seat gathers the writers' passes, and takes the last sample. What was logged is flushed unless the disk failed. `samples` is
+/// at least 1, and `volume` the volume limit, 1,024 to 1,073,741,824 bytes. Where the files are refused the writers run all the same, and
+/// nothing is sampled.
+pub fn record_script<R: Threads + Wait + Sync, D: Disk, C: Clock, T: Turn + Sync>(
+    rt: &R,
+    alloc: Global,
+    script: Script,
+    opened: &mut Opened,
+    disk: &mut D,
+    clock: &mut C,
+    turn: &T,
+    samples: u32,
+    volume: u64,
+) -> Replayed
+    requires rules { KeepsRules script }
+    requires record { refused_line script ≡ None }
+    requires fresh { IsOpened script 1 opened.old }
+    requires limit { (1024 ≤ volume) × (volume ≤ 1073741824) }
+    requires some { 1 ≤ samples }
+    // What was sampled and logged stands beside the writers' own entries, in the journals that the seat's passes have seen.
+    ensures records { (first last : Seated) → slice_get opened.old.seats.items 0 ≡ Some first → slice_get opened.new.seats.items 0 ≡ Some last
+        → IsRecording C.Clock D.Disk clock.old clock.new disk.old disk.new script volume samples opened.new.server first.tokens last.tokens result }
+    ensures seats { length opened.new.seats.items ≡ 1 }
+    ensures server { opened.new.server ≡ opened.old.server }
+    // Where the files can't be read nothing is written.
+    ensures unread { D.tells → (Readable (contents_of (D.held disk.old)) → ⊥) → LeavesOnly D.moment D.left_since disk.old disk.new (CrashImage (D.held disk.old)) }
+    ensures cause { MayEndRecording C.Clock D.Disk clock.old clock.new disk.old disk.new result.ending }
+    ensures later { D.faults disk.old ≤ D.faults disk.new }
+    ensures clock_later { C.faults clock.old ≤ C.faults clock.new }
+{
+    images_are(&script);
+    let passes = mem::replace(&mut opened.passes, Vec::new(alloc));
+    let seat = &mut opened.seats[0];
+    record_with(
+        rt,
+        alloc,
+        &script,
+        &opened.server,
+        seat,
+        passes,
+        disk,
+        clock,
+        turn,
+        samples,
+        volume,
+    )
+}

@@ -1,0 +1,101 @@
+//! The samples of a recording beside its writers.
+ghost use Rattle.std.specs.Prelude.{◌≡◌, ◌≢◌, ◌+◌, ◌<◌, ◌≤◌, ℕ, None, IfErr, IfOk, OnOk, length, List as Sequence};
+ghost use Rattle.std.specs.Thread.{IsSync};
+ghost use Rattle.fetch_engine.specs.Servers.{IsSeated};
+ghost use Rattle.fetch_engine.specs.Visits.{AreLoaded};
+ghost use Rattle.run_script.specs.Rules.{KeepsRules};
+ghost use Rattle.script_passes.specs.Crews.{ServesScript};
+ghost use Rattle.script_runs.specs.declared.ending.Ending.TheVariants.{DiskFault as Failing};
+ghost use Rattle.record_run.specs.Going.{IsUnclosed, IsWorking};
+ghost use Rattle.script_samples.specs.Samples.{Taken};
+ghost use Rattle.script_samples.specs.Sampling.{GoesOn, MayStop, Stops};
+ghost use Rattle.run_script.specs.Recording.{refused_line};
+ghost use Rattle.script_writers.specs.Written.{AreReady, HaveWritten};
+
+use fetch_engine::{Seat, Server};
+use pcp_base::NoMemory;
+use pcp_outside::{Clock, Disk, Turn};
+use region_words::Pass;
+use run_script::Script;
+use script_runs::Ending;
+use script_samples::{Sampler, sample_all};
+use script_writers::run_writers;
+use std::alloc::Global;
+use std::mem;
+use std::sync::Wait;
+use std::thread::{Threads, join_mut};
+
+/// Runs the writers, and beside them takes all samples but the last. Answers what became of both.
+pub(crate) fn beside<'a, R: Threads + Wait + Sync, D: Disk, C: Clock, T: Turn + Sync>(
+    rt: &R,
+    alloc: Global,
+    script: &'a Script,
+    server: &Server,
+    seat: &mut Seat,
+    passes: &mut Vec<Vec<Pass>>,
+    disk: &mut D,
+    clock: &mut C,
+    turn: &T,
+    sampler: &mut Sampler<'a>,
+    samples: u32,
+) -> (Result<Vec<Vec<Pass>>, NoMemory>, Result<(), Ending>)
+    requires rules { KeepsRules script.now }
+    requires record { refused_line script.now ≡ None }
+    requires serves { ServesScript script.now 1 server.now }
+    requires ready { AreReady script.now server.now passes.old.items }
+    requires seated { IsSeated server.now seat.old.tokens }
+    requires limit { (1024 ≤ sampler.old.archive.limit) × (sampler.old.archive.limit ≤ 1073741824) }
+    requires none { sampler.old.archive.logged ≡ 0 }
+    requires some { 1 ≤ samples }
+    ensures written { IfOk result.0 (λ done. HaveWritten script.now server.now passes.old.items done.items) }
+    ensures seated { IsSeated server.now seat.new.tokens }
+    ensures loads { AreLoaded seat.old.tokens seat.new.tokens }
+    ensures limit { sampler.new.archive.limit ≡ sampler.old.archive.limit }
+    ensures count { sampler.new.archive.logged + 1 ≤ samples }
+    ensures goes { OnOk result.1 ((taken : Sequence Taken) × (length taken + 1 ≡ samples) × GoesOn C.Clock D.Disk script.now.config.groups server.now sampler.old sampler.new seat.old.tokens seat.new.tokens clock.old clock.new disk.old disk.new taken) }
+    ensures stops { IfErr result.1 (λ e. (taken : Sequence Taken) × (left : ℕ) × (length taken + left ≡ samples) × (0 < left)
+        × Stops C.Clock D.Disk script.now.config.groups server.now sampler.old sampler.new seat.old.tokens seat.new.tokens clock.old clock.new disk.old disk.new taken left e) }
+    ensures working { IsWorking sampler.old.archive.limit sampler.old.archive.standing → OnOk result.1 (IsWorking sampler.new.archive.limit sampler.new.archive.standing) }
+    ensures unclosed { IsWorking sampler.old.archive.limit sampler.old.archive.standing → IfErr result.1 (λ e. e ≢ Failing → IsUnclosed sampler.new.archive.limit sampler.new.archive.standing) }
+    ensures cause { IsWorking sampler.old.archive.limit sampler.old.archive.standing → IfErr result.1 (MayStop C.Clock D.Disk disk.old disk.new clock.old clock.new) }
+    ensures later { D.faults disk.old ≤ D.faults disk.new }
+    ensures clock_later { C.faults clock.old ≤ C.faults clock.new }
+{
+    let count = samples - 1;
+    join_mut(
+        rt,
+        &mut || -> Result<Vec<Vec<Pass>>, NoMemory>
+            requires sync { IsSync R.row × IsSync T.row }
+            requires rules { KeepsRules script.now }
+            requires record { refused_line script.now ≡ None }
+            requires serves { ServesScript script.now 1 server.now }
+            requires ready { AreReady script.now server.now passes.now.items }
+            ensures written { IfOk result (λ done. HaveWritten script.entry.now server.entry.now passes.entry.now.items done.items) }
+        {
+            let passes = mem::replace(passes, Vec::new(alloc));
+            run_writers(rt, alloc, script, server, passes, turn)
+        },
+        &mut || -> Result<(), Ending>
+            requires seated { IsSeated server.now seat.now.tokens }
+            requires limit { (1024 ≤ sampler.now.archive.limit) × (sampler.now.archive.limit ≤ 1073741824) }
+            requires none { sampler.now.archive.logged ≡ 0 }
+            requires first { count ≤ samples }
+            ensures seated { IsSeated server.entry.now seat.exit.now.tokens }
+            ensures loads { AreLoaded seat.entry.now.tokens seat.exit.now.tokens }
+            ensures limit { sampler.exit.now.archive.limit ≡ sampler.entry.now.archive.limit }
+            ensures count { sampler.exit.now.archive.logged ≤ count }
+            ensures goes { OnOk result ((taken : Sequence Taken) × (length taken ≡ count) × GoesOn C.Clock D.Disk script.entry.now.config.groups server.entry.now sampler.entry.now sampler.exit.now seat.entry.now.tokens seat.exit.now.tokens clock.entry.now clock.exit.now disk.entry.now disk.exit.now taken) }
+            ensures stops { IfErr result (λ e. (taken : Sequence Taken) × (left : ℕ) × (length taken + left ≡ samples) × (0 < left)
+                × Stops C.Clock D.Disk script.entry.now.config.groups server.entry.now sampler.entry.now sampler.exit.now seat.entry.now.tokens seat.exit.now.tokens clock.entry.now clock.exit.now disk.entry.now disk.exit.now taken left e) }
+            ensures working { IsWorking sampler.entry.now.archive.limit sampler.entry.now.archive.standing → OnOk result (IsWorking sampler.exit.now.archive.limit sampler.exit.now.archive.standing) }
+            ensures unclosed { IsWorking sampler.entry.now.archive.limit sampler.entry.now.archive.standing → IfErr result (λ e. e ≢ Failing → IsUnclosed sampler.exit.now.archive.limit sampler.exit.now.archive.standing) }
+            ensures cause { IsWorking sampler.entry.now.archive.limit sampler.entry.now.archive.standing → IfErr result (MayStop C.Clock D.Disk disk.entry.now disk.exit.now clock.entry.now clock.exit.now) }
+            ensures later { D.faults disk.entry.now ≤ D.faults disk.exit.now }
+            ensures clock_later { C.faults clock.entry.now ≤ C.faults clock.exit.now }
+        {
+            sample_all(
+                alloc, disk, clock, turn, sampler, script, server, seat, count, samples,
+            )
+        },
+    )
+}

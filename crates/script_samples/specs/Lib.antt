@@ -1,0 +1,4 @@
+pub mod Samples
+pub mod Shown
+pub mod Sampling
+pub mod Logging

@@ -1,0 +1,12 @@
+pub mod Entries
+pub mod Stored
+pub mod Called
+pub mod Lined
+pub mod Placed
+pub mod Stepped
+pub mod Handed
+pub mod Acting
+pub mod Dealt
+pub mod Laying
+pub mod Clusters
+pub mod Together

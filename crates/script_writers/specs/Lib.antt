@@ -1,0 +1,5 @@
+pub mod Lines
+pub mod Writers
+pub mod Hands
+pub mod Dealing
+pub mod Written

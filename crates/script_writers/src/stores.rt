@@ -1,0 +1,135 @@
+//! Swaps and adds of an attached pass, by the layout that it finds.
+ghost use Rattle.std.specs.Prelude.{◌≡◌, ◌⊎◌, negsuc, IfOk, MatchResult, find, unwrap_or};
+ghost use Rattle.std.specs.Option.{option_copied};
+ghost use Rattle.mmv_layout.specs.Form.{is_slot_of};
+ghost use Rattle.region_core.specs.declared.mode.Mode.TheVariants.{Attached};
+ghost use Rattle.region_rule.specs.Seats.{IsSame};
+ghost use Rattle.region_words.specs.Calls.{Loads};
+ghost use Rattle.script_runs.specs.Slots.{number_for, holds_number, low_bits};
+ghost use Rattle.pass_steps.specs.Storing.{Looks, Stored, text_among, texts_seen, value_among, swap_seen, add_seen};
+
+use layout_text::{Written, content_of};
+use mmv_format::Content;
+use mmv_layout::Slot;
+use pcp_base::{Kind, NoMemory, Text};
+use region_words::{Region, Stint};
+use script_lines::Given;
+use std::alloc::Global;
+
+/// The slot of an item and an instance; without an instance the metric has no domain.
+fn find_slot(slots: &[Slot], item: u32, instance: Option<i32>) -> Option<&Slot>
+    ensures { option_copied result ≡ find (is_slot_of item (unwrap_or instance (negsuc 0))) slots.now }
+{
+    let number = instance.unwrap_or(-1);
+    slots
+        .iter()
+        .find(|slot| slot.item == item && slot.instance == number)
+}
+
+/// The 64 bits of a number in the kind's range.
+fn number_for(kind: Kind, number: i128) -> Option<u64>
+    ensures { result ≡ number_for kind number }
+{
+    match content_of(kind, Written::Number(number)) {
+        Some(Content::Number(field)) => Some(field),
+        _ => None,
+    }
+}
+
+/// The offset of the first string with a text.
+fn find_text(texts: &[(u64, Text)], text: &Text) -> Option<u64>
+    ensures { result ≡ text_among texts.now text.now }
+{
+    let (offset, _text) = texts
+        .iter()
+        .find(|found| found.1.as_slice() == text.as_slice())?;
+    Some(*offset)
+}
+
+/// What a slot of this kind is given: the bits of a number, or the offset of the first string with a text.
+fn value_for(
+    alloc: Global,
+    region: &Region,
+    stint: &mut Stint,
+    kind: Kind,
+    value: &Given,
+) -> Result<Option<u64>, NoMemory>
+    requires here { stint.old.region ≡ region.now }
+    ensures value { IfOk result (λ found. found ≡ value_among (texts_seen stint.old.view) kind value.now) }
+    ensures looks { Looks stint.old stint.new }
+{
+    let text = match value {
+        Given::Number(number) => return Ok(number_for(kind, *number)),
+        Given::Choice(text) => text,
+    };
+    let Kind::Text = kind else {
+        return Ok(None);
+    };
+    let texts = region.texts(alloc, stint)?;
+    Ok(find_text(texts.as_slice(), text))
+}
+
+/// Swaps a value into a slot. False: there is no such slot, or it doesn't take the value.
+pub(crate) fn swap_in(
+    alloc: Global,
+    region: &Region,
+    stint: &mut Stint,
+    item: u32,
+    instance: Option<i32>,
+    value: &Given,
+) -> Result<bool, NoMemory>
+    requires here { stint.old.region ≡ region.now }
+    ensures stored { MatchResult result (Stored (swap_seen stint.old.view item instance value.now) stint.old.view stint.new.view) (λ _. Loads stint.old.view stint.new.view) }
+    ensures stays { (stint.new ≡ stint.old) ⊎ IsSame Attached Attached stint.old stint.new }
+{
+    let slots = region.slots(alloc, stint)?;
+    let Some(slot) = find_slot(slots.as_slice(), item, instance) else {
+        return Ok(false);
+    };
+    let Ok(found) = value_for(alloc, region, stint, slot.kind, value) else {
+        return Err(NoMemory);
+    };
+    let Some(value) = found else {
+        return Ok(false);
+    };
+    stint.swap(region, slot.word, value);
+    Ok(true)
+}
+
+/// Whether the value words of this kind hold numbers.
+fn holds_number(kind: Kind) -> bool
+    ensures { result ≡ holds_number kind }
+{
+    matches!(kind, Kind::I32 | Kind::U32 | Kind::I64 | Kind::U64)
+}
+
+/// A whole number modulo 2^64.
+fn low_bits(number: i128) -> u64
+    ensures { result ≡ low_bits number }
+{
+    number.rem_euclid(1 << 64) as u64
+}
+
+/// Adds to a slot. False: there is no such slot, or it holds no number.
+pub(crate) fn add_in(
+    alloc: Global,
+    region: &Region,
+    stint: &mut Stint,
+    item: u32,
+    instance: Option<i32>,
+    number: i128,
+) -> Result<bool, NoMemory>
+    requires here { stint.old.region ≡ region.now }
+    ensures stored { MatchResult result (Stored (add_seen stint.old.view item instance number) stint.old.view stint.new.view) (λ _. Loads stint.old.view stint.new.view) }
+    ensures stays { (stint.new ≡ stint.old) ⊎ IsSame Attached Attached stint.old stint.new }
+{
+    let slots = region.slots(alloc, stint)?;
+    let Some(slot) = find_slot(slots.as_slice(), item, instance) else {
+        return Ok(false);
+    };
+    if !holds_number(slot.kind) {
+        return Ok(false);
+    }
+    stint.add(region, slot.word, low_bits(number));
+    Ok(true)
+}
