@@ -100,6 +100,7 @@ module _ {C D : Type 0} (c : ClockGhosts C) (d : DiskGhosts D) (clock_was clock_
     counts = counts_as samples h.moments h.results r ending archive.logged h.took (subst (λ (e : Ending). TellsEnd e r.output archive.logged) (ended ∙ sym is) f.told) h.counted;
     clock = h.clock;
     came = λ tells other. absurd (other is);
+    why = h.why;
     tried = h.tried;
     tried_are = h.tried_are;
     any_moment = λ tells. subst (λ (now : D). LeavesOnly d.moment d.left_since middle now (ComesBackTo (items_of_results h.tried) 0 left)) (sym still) (h.any_moment tells);
@@ -136,6 +137,7 @@ module _ {C D : Type 0} (c : ClockGhosts C) (d : DiskGhosts D) (clock_was clock_
       counts = counts_as samples h.moments h.results r ending archive.logged h.took (told_as ending is) h.counted;
       clock = h.clock;
       came = λ tells other. came_over ending (λ may. may) (λ failing. well (sym is ∙ failing)) tells;
+      why = h.why;
       tried = h.results;
       tried_are = tried_same h.beside.sampled ending;
       any_moment = leaves;
@@ -152,6 +154,7 @@ module _ {C D : Type 0} (c : ClockGhosts C) (d : DiskGhosts D) (clock_was clock_
       counts = told_as ends.DiskFault is;
       clock = h.clock;
       came = λ tells other. absurd (other refl);
+      why = λ tells. tt;
       tried = h.results;
       tried_are = inl refl;
       any_moment = leaves;
@@ -168,6 +171,7 @@ module _ {C D : Type 0} (c : ClockGhosts C) (d : DiskGhosts D) (clock_was clock_
       counts = told_as ends.NoMemory is;
       clock = h.clock;
       came = λ tells other. came_over ends.NoMemory (λ may. tt) (λ failing. let no : ends.NoMemory ≡ ends.DiskFault = sym is ∙ failing in cc) tells;
+      why = λ tells. tt;
       tried = h.results;
       tried_are = refl;
       any_moment = leaves;

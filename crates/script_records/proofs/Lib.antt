@@ -9,6 +9,7 @@ pub mod Phases
 pub mod Recovered
 pub mod Running
 pub mod Settling
+pub mod Stopping
 pub mod Stretches
 pub mod Undone
 pub mod Ways

@@ -30,6 +30,7 @@ use Rattle.script_samples.proofs.Joined.{logs_but_joined, logs_joined, shown_joi
 use Rattle.script_samples.proofs.Loading.{not_loaded}
 use Rattle.script_records.specs.Beside.{StopsLogging}
 use Rattle.script_records.specs.Halting.{EndsSamples, Took}
+use Rattle.script_records.proofs.Stopping.{AsksMany, NoRefusal, asked_why}
 
 -- what a fault of the archive ends by
 full_stops : (file : FileId) (bytes : ℕ) → StopsLogging (full_of file bytes) × EndsSamples (full_of file bytes) × ((samples count : ℕ) → Took samples count (full_of file bytes))
@@ -52,11 +53,12 @@ some_result (pmid ∷ pmids) f some = refl
 
 -- What is logged
 
-module _ {C D : Type 0} (c : ClockGhosts C) (d : DiskGhosts D) (groups : List Group) (plans : Option (List Plan)) (clock_was clock_is : C) (disk_was disk_is : D) (was is : RunArchive) where
-  -- all that these samples show was logged
-  pub record Went (e : Ending) (unlogged : List Taken) (lacking : List Moment) (results : List Fetched) : Type 0 where
+module _ {C D : Type 0} (c : ClockGhosts C) (d : DiskGhosts D) (groups : List Group) (server : List Mounted) (plans : Option (List Plan)) (clock_was clock_is : C) (disk_was disk_is : D) (was is : RunArchive) where
+  -- all that these samples show was logged; at a moment that lacks one, names may have been read from these passes to those
+  pub record Went (before after : List Token) (e : Ending) (unlogged : List Taken) (lacking : List Moment) (results : List Fetched) (later : Option (List Plan)) : Type 0 where
     pub none : unlogged ≡ []
     pub lacks : (lacking ≡ []) ⊎ StopsLogging e
+    pub why : NoRefusal e ⊎ AsksMany groups server before after e lacking later
     pub logs : OverAny d was disk_was disk_is (λ left items stand. LogsAll d left was.limit items stand disk_was disk_is results is)
 
   -- what the last of them shows was not
@@ -69,7 +71,7 @@ module _ {C D : Type 0} (c : ClockGhosts C) (d : DiskGhosts D) (groups : List Gr
     pub shows : shown_by groups later s ≡ Some f
     pub logs : OverAny d was disk_was disk_is (λ left items stand. LogsAllBut d left was.limit items stand disk_was disk_is results f fault is)
 
-  pub record Yields (e : Ending) (samples : List Taken) (lacking : List Moment) : Type 0 where
+  pub record Yields (before after : List Token) (e : Ending) (samples : List Taken) (lacking : List Moment) : Type 0 where
     pub logged : List Taken
     pub unlogged : List Taken
     pub are : samples ≡ logged ++ unlogged
@@ -78,7 +80,7 @@ module _ {C D : Type 0} (c : ClockGhosts C) (d : DiskGhosts D) (groups : List Gr
     pub results : List Fetched
     pub later : Option (List Plan)
     pub shown : AreShown groups plans logged results later
-    pub how : Went e unlogged lacking results ⊎ Failed e unlogged results later
+    pub how : Went before after e unlogged lacking results later ⊎ Failed e unlogged results later
     pub counted : is.logged ≡ was.logged + length results
 
 -- moments taken one behind another
@@ -103,15 +105,15 @@ module _ {C D : Type 0} (c : ClockGhosts C) (d : DiskGhosts D) (groups : List Gr
       logs_but_joined d left first.archive.limit items stand disk_first disk_middle disk_last one.results gs middle.archive last.archive a f fault
       (subst (λ (n : ℕ). LogsAllBut d left n (items ++ items_of_results one.results) a.last disk_middle disk_last gs f fault last.archive) limit_same (two tells left (items ++ items_of_results one.results) a.least a.last a.keeps))
 
-  module _ (e : Ending) (unlogged : List Taken) (lacking : List Moment) (gs : List Fetched) (later : Option (List Plan)) where
-    how_joined : Went c d groups middle.plans clock_middle clock_last disk_middle disk_last middle.archive last.archive e unlogged lacking gs ⊎ Failed c d groups middle.plans clock_middle clock_last disk_middle disk_last middle.archive last.archive e unlogged gs later
-        → Went c d groups first.plans clock_first clock_last disk_first disk_last first.archive last.archive e unlogged lacking (one.results ++ gs) ⊎ Failed c d groups first.plans clock_first clock_last disk_first disk_last first.archive last.archive e unlogged (one.results ++ gs) later
-    how_joined (inl w) = inl (record { none = w.none; lacks = w.lacks; logs = went_joined gs w.logs })
+  module _ (before after : List Token) (e : Ending) (unlogged : List Taken) (lacking : List Moment) (gs : List Fetched) (later : Option (List Plan)) where
+    how_joined : Went c d groups server middle.plans clock_middle clock_last disk_middle disk_last middle.archive last.archive before after e unlogged lacking gs later ⊎ Failed c d groups server middle.plans clock_middle clock_last disk_middle disk_last middle.archive last.archive e unlogged gs later
+        → Went c d groups server first.plans clock_first clock_last disk_first disk_last first.archive last.archive before after e unlogged lacking (one.results ++ gs) later ⊎ Failed c d groups server first.plans clock_first clock_last disk_first disk_last first.archive last.archive e unlogged (one.results ++ gs) later
+    how_joined (inl w) = inl (record { none = w.none; lacks = w.lacks; why = w.why; logs = went_joined gs w.logs })
     how_joined (inr w) = inr (record { s = w.s; one = w.one; fault = w.fault; why = w.why; f = w.f; shows = w.shows; logs = failed_joined gs w.f w.fault w.logs })
 
-  pub yields_joined : (e : Ending) (ys : List Taken) (lacking : List Moment) → Yields c d groups middle.plans clock_middle clock_last disk_middle disk_last middle.archive last.archive e ys lacking
-      → Yields c d groups first.plans clock_first clock_last disk_first disk_last first.archive last.archive e (xs ++ ys) lacking
-  yields_joined e ys lacking y = record {
+  pub yields_joined : (before after : List Token) (e : Ending) (ys : List Taken) (lacking : List Moment) → Yields c d groups server middle.plans clock_middle clock_last disk_middle disk_last middle.archive last.archive before after e ys lacking
+      → Yields c d groups server first.plans clock_first clock_last disk_first disk_last first.archive last.archive before after e (xs ++ ys) lacking
+  yields_joined before after e ys lacking y = record {
     logged = xs ++ y.logged;
     unlogged = y.unlogged;
     are = ap (λ (zs : List Taken). xs ++ zs) y.are ∙ sym (append_assoc xs y.logged y.unlogged);
@@ -120,7 +122,7 @@ module _ {C D : Type 0} (c : ClockGhosts C) (d : DiskGhosts D) (groups : List Gr
     results = one.results ++ y.results;
     later = y.later;
     shown = shown_joined groups xs y.logged first.plans middle.plans y.later one.results y.results one.shown y.shown;
-    how = how_joined e y.unlogged lacking y.results y.later y.how;
+    how = how_joined before after e y.unlogged lacking y.results y.later y.how;
     counted = omega (arith, one.counted, y.counted, length-append one.results y.results);
   }
 
@@ -137,10 +139,11 @@ module _ {C D : Type 0} (c : ClockGhosts C) (d : DiskGhosts D) (groups : List Gr
     pub few : length samples + length lacking ≤ most + 1
     pub so_ends : EndsSamples e
     pub took : (before all : ℕ) → before + most + left ≡ all → Took all (before + (length samples + length lacking)) e
-    pub yields : Yields c d groups was.plans clock_was clock_is disk_was disk_is was.archive is.archive e samples lacking
+    pub yields : Yields c d groups server was.plans clock_was clock_is disk_was disk_is was.archive is.archive middle seat_is e samples lacking
 
-  pub goes_yields : (e : Ending) (samples : List Taken) → GoesOn c d groups server was is seat_was seat_is clock_was clock_is disk_was disk_is samples → Yields c d groups was.plans clock_was clock_is disk_was disk_is was.archive is.archive e samples []
-  goes_yields e samples goes = record {
+  pub goes_yields : (before after : List Token) (e : Ending) (samples : List Taken) → NoRefusal e → GoesOn c d groups server was is seat_was seat_is clock_was clock_is disk_was disk_is samples
+      → Yields c d groups server was.plans clock_was clock_is disk_was disk_is was.archive is.archive before after e samples []
+  goes_yields before after e samples unrefused goes = record {
     logged = samples;
     unlogged = [];
     are = sym (append-nil samples);
@@ -149,13 +152,13 @@ module _ {C D : Type 0} (c : ClockGhosts C) (d : DiskGhosts D) (groups : List Gr
     results = goes.results;
     later = is.plans;
     shown = goes.shown;
-    how = inl (record { none = refl; lacks = inl refl; logs = goes.logs });
+    how = inl (record { none = refl; lacks = inl refl; why = inl unrefused; logs = goes.logs });
     counted = goes.counted;
   }
 
-  pub goes_phase : (e : Ending) (samples : List Taken) (most left : ℕ) → length samples ≡ most → EndsSamples e → ((before all : ℕ) → before + most + left ≡ all → Took all (before + (length samples + 0)) e)
+  pub goes_phase : (e : Ending) (samples : List Taken) (most left : ℕ) → length samples ≡ most → EndsSamples e → NoRefusal e → ((before all : ℕ) → before + most + left ≡ all → Took all (before + (length samples + 0)) e)
       → GoesOn c d groups server was is seat_was seat_is clock_was clock_is disk_was disk_is samples → Phase e most left
-  goes_phase e samples most left many own took goes = record {
+  goes_phase e samples most left many own unrefused took goes = record {
     samples = samples;
     middle = seat_is;
     taken = goes.taken;
@@ -164,12 +167,12 @@ module _ {C D : Type 0} (c : ClockGhosts C) (d : DiskGhosts D) (groups : List Gr
     few = omega (arith, many);
     so_ends = own;
     took = took;
-    yields = goes_yields e samples goes;
+    yields = goes_yields seat_is seat_is e samples unrefused goes;
   }
 
-  before_end : (e : Ending) (left : ℕ) → (e ≡ ends.ClockEnd left) ⊎ (e ≡ ends.ClockFault left) → 0 < left → (samples : List Taken) (before all : ℕ) → before + length samples + left ≡ all → EndsSamples e × Took all (before + (length samples + 0)) e
-  before_end e left (inl is_end) some samples before all sum = subst (λ (x : Ending). EndsSamples x × Took all (before + (length samples + 0)) x) (sym is_end) (tt, (omega (arith, sum), some))
-  before_end e left (inr is_end) some samples before all sum = subst (λ (x : Ending). EndsSamples x × Took all (before + (length samples + 0)) x) (sym is_end) (tt, (omega (arith, sum), some))
+  before_end : (e : Ending) (left : ℕ) → (e ≡ ends.ClockEnd left) ⊎ (e ≡ ends.ClockFault left) → 0 < left → (samples : List Taken) (before all : ℕ) → before + length samples + left ≡ all → EndsSamples e × NoRefusal e × Took all (before + (length samples + 0)) e
+  before_end e left (inl is_end) some samples before all sum = subst (λ (x : Ending). EndsSamples x × NoRefusal x × Took all (before + (length samples + 0)) x) (sym is_end) (tt, tt, (omega (arith, sum), some))
+  before_end e left (inr is_end) some samples before all sum = subst (λ (x : Ending). EndsSamples x × NoRefusal x × Took all (before + (length samples + 0)) x) (sym is_end) (tt, tt, (omega (arith, sum), some))
 
   asked : {A B : Type 0} (e : Ending) {many : ℕ} → (e ≡ ends.NoMemory) ⊎ (A × B × (e ≡ ends.Limit kinds.Sets many)) → StopsLogging e × EndsSamples e × ((samples count : ℕ) → Took samples count e)
   asked {A} {B} e {many} (inl is_end) = subst (λ (x : Ending). StopsLogging x × EndsSamples x × ((samples count : ℕ) → Took samples count x)) (sym is_end) (tt, tt, λ samples count. tt)
@@ -177,7 +180,8 @@ module _ {C D : Type 0} (c : ClockGhosts C) (d : DiskGhosts D) (groups : List Gr
 
   pub stops_phase : (e : Ending) (samples : List Taken) (left : ℕ) → 0 < left → Stops c d groups server was is seat_was seat_is clock_was clock_is disk_was disk_is samples left e → Phase e (length samples) left
   stops_phase e samples left some (inl b) =
-      goes_phase e samples (length samples) left refl (before_end e left b.why some samples 0 (0 + length samples + left) refl).0 (λ before all sum. (before_end e left b.why some samples before all sum).1) b.goes
+      let ends_so : EndsSamples e × NoRefusal e × Took (0 + length samples + left) (0 + (length samples + 0)) e = before_end e left b.why some samples 0 (0 + length samples + left) refl in
+      goes_phase e samples (length samples) left refl ends_so.0 ends_so.1 (λ before all sum. (before_end e left b.why some samples before all sum).2) b.goes
   stops_phase e samples left some (inr (inl a)) = record {
     samples = samples;
     middle = a.middle;
@@ -196,7 +200,7 @@ module _ {C D : Type 0} (c : ClockGhosts C) (d : DiskGhosts D) (groups : List Gr
       results = a.results;
       later = a.plans;
       shown = a.shown;
-      how = inl (record { none = refl; lacks = inr (asked e a.why).0; logs = a.logs });
+      how = inl (record { none = refl; lacks = inr (asked e a.why).0; why = asked_why groups server a.middle seat_is e a.stamp a.names a.plans a.why; logs = a.logs });
       counted = a.counted;
     };
   }

@@ -24,12 +24,14 @@ use Rattle.script_runs.specs.declared.ending.Ending.TheVariants as ends
 use Rattle.record_run.specs.ImageCrashes.{ComesBack, ComesBackTo, MayBeAfter, start_of}
 use Rattle.record_run.proofs.ImageRun.{all_after, from_there, later_comes, recovering_comes}
 use Rattle.script_replays.specs.declared.replayed.Replayed.{Replayed}
-use Rattle.script_replays.specs.Replays.{Since, SinceRecovered, disk_pair, ended_by}
+use Rattle.script_replays.specs.Replays.{IsRecovered, Since, SinceRecovered, disk_pair, ended_by}
 use Rattle.script_samples.specs.Shown.{items_of_results}
 use Rattle.script_records.specs.Beside.{Beside}
 use Rattle.script_records.specs.Halting.{CameOver, EndsSamples, IsRecorded}
 use Rattle.script_records.specs.Recordings.{CameTo, Counts, IsRecording, Records}
+use Rattle.script_records.specs.Stopping.{WhyStopped}
 use Rattle.script_records.proofs.Settling.{tried_same}
+use Rattle.script_records.proofs.Stopping.{why_over}
 
 -- what recovery made
 pub record WasDone {D : Type 0} (d : DiskGhosts D) (old mid : D) (archive : Archive) : Type 0 where
@@ -45,11 +47,14 @@ module _ {C D : Type 0} (c : ClockGhosts C) (d : DiskGhosts D) (only_now : (disk
     abbrev left : Files
     left = contents_of (d.held mid)
 
+    recovers : WasDone d old mid archive → IsRecovered (contents_of (d.held old)) left
+    recovers done = record { reading = done.w.reading; was = done.w.was; recovered = done.w.recovered }
+
     came_to : (results : List Fetched) (e : Ending) → WasDone d old mid archive → CameOver limit left results e (d.held new) → CameTo limit (disk_pair d old new) results e
     came_to results e done o = record {
       unwrapped = done.unwrapped;
       left = left;
-      recovered = record { reading = done.w.reading; was = done.w.was; recovered = done.w.recovered };
+      recovered = recovers done;
       files = o.files;
       settled = o.settled;
       survive = λ image crash. all_after (contents_of (d.held old)) left archive done.w (items_of_results results) (length (items_of_results results)) image refl (o.survive image crash);
@@ -90,6 +95,8 @@ module _ {C D : Type 0} (c : ClockGhosts C) (d : DiskGhosts D) (only_now : (disk
       counts = f.counts;
       clock = f.clock;
       runs = λ tells. records_end f.results r.ending f.so_ends (done tells) (f.came tells);
+      why = λ tells.
+          why_over f.beside.sampled limit (λ (files : Files). files ≡ left) (IsRecovered (contents_of (d.held old))) (λ files is. subst (λ (fs : Files). IsRecovered (contents_of (d.held old)) fs) (sym is) (recovers (done tells))) r.ending (f.why tells);
       tried = f.tried;
       tried_are = f.tried_are;
       any_moment = λ tells.
@@ -113,8 +120,11 @@ module _ {C D : Type 0} (c : ClockGhosts C) (d : DiskGhosts D) (only_now : (disk
   -- ---- nothing was recorded
 
   module _ (new : D) (still : c.left clock_was ≡ c.left clock_is) (beside : Beside script server first final r.ending [] []) (nothing : r.output ≡ []) (none : r.logged ≡ 0) (half : d.tells → LeavesOnly d.moment d.left_since old new (MayBeHalfway (d.held old))) where
-    refused_as : (e : Ending) → r.ending ≡ e → Counts samples [] [] r e → (d.tells → Records limit (disk_pair d old new) [] e) → (d.tells → SinceRecovered d [] old new e) → IsRecording c d clock_was clock_is old new script limit samples server first final r
-    refused_as e is counts records since = record {
+    abbrev Why : Ending → Type 0
+    Why e = WhyStopped beside.sampled limit (IsRecovered (contents_of (d.held old))) e
+
+    refused_as : (e : Ending) → r.ending ≡ e → Counts samples [] [] r e → Why e → (d.tells → Records limit (disk_pair d old new) [] e) → (d.tells → SinceRecovered d [] old new e) → IsRecording c d clock_was clock_is old new script limit samples server first final r
+    refused_as e is counts why records since = record {
       moments = [];
       results = [];
       beside = beside;
@@ -122,6 +132,7 @@ module _ {C D : Type 0} (c : ClockGhosts C) (d : DiskGhosts D) (only_now : (disk
       counts = subst (λ (x : Ending). Counts samples [] [] r x) (sym is) counts;
       clock = λ tells. still;
       runs = λ tells. subst (λ (x : Ending). Records limit (disk_pair d old new) [] x) (sym is) (records tells);
+      why = λ tells. subst (λ (x : Ending). Why x) (sym is) why;
       tried = [];
       tried_are = tried_same beside.sampled r.ending;
       any_moment = λ tells. weaker d.moment d.left_since d.held old new (MayBeHalfway (d.held old)) (MayBeAfter [] (d.held old)) (half tells) (recovering_comes (d.held old) []);
@@ -130,12 +141,12 @@ module _ {C D : Type 0} (c : ClockGhosts C) (d : DiskGhosts D) (only_now : (disk
 
     module _ (fault : RecoverFault) (cause : d.tells → IsRecoverFault (d.wrapped_file old) (contents_of (d.held old)) fault) (same : d.tells → fault ≢ recovery.DiskFault → d.held new ≡ d.held old) where
       wanted : fault ≢ recovery.DiskFault → r.ending ≡ ends.NoMemory → IsRecording c d clock_was clock_is old new script limit samples server first final r
-      wanted other is = refused_as ends.NoMemory is nothing (λ tells. inl (record { stays = same tells other; none = refl })) (λ tells. inl (refl, same tells other))
+      wanted other is = refused_as ends.NoMemory is nothing tt (λ tells. inl (record { stays = same tells other; none = refl })) (λ tells. inl (refl, same tells other))
 
     unrecovered : (fault : RecoverFault) → r.ending ≡ ended_by fault → (d.tells → IsRecoverFault (d.wrapped_file old) (contents_of (d.held old)) fault) → (d.tells → fault ≢ recovery.DiskFault → d.held new ≡ d.held old) → IsRecording c d clock_was clock_is old new script limit samples server first final r
-    unrecovered (recovery.Compressed file) is cause same = refused_as (ends.Compressed file) is nothing (λ tells. (cause tells, record { stays = same tells (λ e. cc); none = refl })) (λ tells. tt)
-    unrecovered (recovery.NotArchive file at) is cause same = refused_as (ends.NotArchive file at) is nothing (λ tells. (cause tells, record { stays = same tells (λ e. cc); none = refl })) (λ tells. tt)
-    unrecovered recovery.DiskFault is cause same = refused_as ends.DiskFault is nothing (λ tells. tt) (λ tells. inl (refl, half tells))
+    unrecovered (recovery.Compressed file) is cause same = refused_as (ends.Compressed file) is nothing tt (λ tells. (cause tells, record { stays = same tells (λ e. cc); none = refl })) (λ tells. tt)
+    unrecovered (recovery.NotArchive file at) is cause same = refused_as (ends.NotArchive file at) is nothing tt (λ tells. (cause tells, record { stays = same tells (λ e. cc); none = refl })) (λ tells. tt)
+    unrecovered recovery.DiskFault is cause same = refused_as ends.DiskFault is nothing tt (λ tells. tt) (λ tells. inl (refl, half tells))
     unrecovered recovery.NoMemory is cause same = wanted recovery.NoMemory cause same (λ e. cc) is
 
     pub record_refused : (fault : RecoverFault) → (r.ending ≡ ended_by fault) ⊎ ((ended_by fault ≢ ends.DiskFault) × (r.ending ≡ ends.NoMemory)) → (d.tells → IsRecoverFault (d.wrapped_file old) (contents_of (d.held old)) fault) → (d.tells → fault ≢ recovery.DiskFault → d.held new ≡ d.held old)

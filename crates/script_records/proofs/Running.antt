@@ -31,14 +31,14 @@ refused_by e ending (inl (is, same)) = inr (same ∙ is)
 refused_by e ending (inr (other, is)) = inl is
 
 module _ (script : Script) (server : List Mounted) (passes : List (Vec Token)) (first : Seated) (keeps : KeepsRules script) (made : AreMade script server passes (first ∷ [])) where
-  module _ {C D : Type 0} (c : ClockGhosts C) (d : DiskGhosts D) (waiting : List Token) (was is : Sampler) (clock_was clock_is : C) (disk_was disk_is : D) (samples : ℕ) (none : was.archive.logged ≡ 0) (unstarted : was.plans ≡ None) (left : Files)
+  module _ {C D : Type 0} (c : ClockGhosts C) (d : DiskGhosts D) (waiting : List Token) (was is : Sampler) (clock_was clock_is : C) (disk_was disk_is : D) (samples : ℕ) (limit_same : is.archive.limit ≡ was.archive.limit) (none : was.archive.logged ≡ 0) (unstarted : was.plans ≡ None) (left : Files)
       (found : d.tells → IsStandingFound left was.archive (d.held disk_was)) (loaded : AreLoaded first.tokens waiting) where
     -- writers were refused memory
     pub halts_refused : AreImages script → (e ending : Ending) → EndsWith e ending → EndsBy ends.NoMemory ending → Whole c d script.config.groups server first.tokens waiting waiting waiting was is clock_was clock_is disk_was disk_is e samples
         → Halts c d clock_was clock_is disk_was disk_is script was.archive.limit samples server first.tokens waiting left is.archive ending
     halts_refused images e ending ends_with by w =
         let u : AtJournals IsLegal script server waiting × AtJournals LoggerLoads script server waiting = unwritten script server passes first keeps made images waiting loaded in
-        halts c d script server first.tokens waiting waiting waiting was is clock_was clock_is disk_was disk_is samples left e ending ends_with w none unstarted found (sees_same waiting) (stands_same script server waiting) u.0 u.1 ends.NoMemory by tt
+        halts c d script server first.tokens waiting waiting waiting was is clock_was clock_is disk_was disk_is samples left e ending ends_with w limit_same none unstarted found (sees_same waiting) (stands_same script server waiting) u.0 u.1 ends.NoMemory by tt
 
     -- writers have ended
     pub halts_written : (done : List (Vec Token)) (gathered final : List Token) (e : Ending) → HaveWritten script server passes done → HaveGathered done waiting gathered → AreLoaded gathered final
@@ -46,7 +46,7 @@ module _ (script : Script) (server : List Mounted) (passes : List (Vec Token)) (
     halts_written done gathered final e written gathers behind w =
         let j : AtJournals IsLegal script server final × AtJournals WritersRan script server final × AtJournals LoggerLoads script server final × SeesOn waiting gathered × StandsBehind script server gathered final =
         journals script server passes first keeps made done waiting gathered final written loaded gathers behind in
-        halts c d script server first.tokens waiting gathered final was is clock_was clock_is disk_was disk_is samples left e e (inl refl) w none unstarted found j.3 j.4 j.0 j.2 e (inl refl) (finished_all e (AtJournals WritersRan script server final) j.1)
+        halts c d script server first.tokens waiting gathered final was is clock_was clock_is disk_was disk_is samples left e e (inl refl) w limit_same none unstarted found j.3 j.4 j.0 j.2 e (inl refl) (finished_all e (AtJournals WritersRan script server final) j.1)
 
   -- nothing is sampled
   none_sampled : (gathered : List Token) (e : Ending) → e ≢ ends.Done → SeesOn first.tokens gathered → StandsBehind script server gathered gathered → Sampled script server first.tokens gathered e [] []

@@ -1,5 +1,5 @@
 -- How the samples of a recording leave its archive.
-use Rattle.std.proofs.Common.{◌≡◌, ◌≢◌, ◌⊎◌, inl, inr, ℕ, ◌+◌, List, [], ◌∷◌, ◌++◌, length, Option, None, refl, sym, ap, ◌∙◌, subst, arith}
+use Rattle.std.proofs.Common.{◌≡◌, ◌≢◌, ◌⊎◌, inl, inr, ℕ, ◌+◌, List, [], ◌∷◌, ◌++◌, length, Option, None, Some, refl, sym, ap, ◌∙◌, subst, arith}
 use Rattle.std.proofs.lemmas.List.{map-append}
 use Rattle.pcp_base.specs.Time.{Moment}
 use Rattle.pcp_base.specs.declared.file.FileId.TheVariants as files
@@ -18,11 +18,11 @@ use Rattle.logger_core.specs.declared.fault.LogFault.TheVariants as faults
 use Rattle.run_script.specs.declared.script.Script.{Script}
 use Rattle.script_runs.specs.declared.ending.Ending.{Ending}
 use Rattle.script_runs.specs.declared.ending.Ending.TheVariants as ends
-use Rattle.script_runs.specs.Archives.{Opens, Stand, Written, full_of}
+use Rattle.script_runs.specs.Archives.{Opens, Refuses, Stand, Written, ending_of, full_of}
 use Rattle.script_runs.specs.Groups.{Plan}
 use Rattle.record_run.specs.declared.archive.RunArchive.{RunArchive}
 use Rattle.record_run.specs.Endings.{ending_after}
-use Rattle.record_run.specs.Going.{LogFails, StaysFound, StaysOpen}
+use Rattle.record_run.specs.Going.{LogFails, StaysFound, StaysOpen, TurnsAway}
 use Rattle.record_run.specs.ImageCrashes.{ComesBackTo}
 use Rattle.script_replays.specs.Finals.{IsKept}
 use Rattle.script_samples.specs.declared.sampler.Sampler.{Sampler}
@@ -32,8 +32,10 @@ use Rattle.script_samples.specs.Shown.{AreShown, LogsEach, items_of_results}
 use Rattle.script_records.specs.Beside.{AtJournals, EndsBy, Finished, IsLegal, LoggerLoads, Sampled, SeesOn, StandsBehind, StopsLogging, WritersRan}
 use Rattle.script_records.specs.Halting.{EndsSamples, Halts, IsStandingFound, OpenedFor, RefusedBy, StandsAfter, Took}
 use Rattle.script_records.specs.Recordings.{MayHaveOpened, Tried}
+use Rattle.script_records.specs.Stopping.{WhyStopped}
 use Rattle.script_records.proofs.Ended.{is_failing}
 use Rattle.script_records.proofs.Phases.{Failed, Went, Yields, told_stops}
+use Rattle.script_records.proofs.Stopping.{AsksMany, NoRefusal, fault_why, turned_why, unrefused}
 use Rattle.script_records.proofs.Stretches.{Whole}
 use Rattle.script_records.proofs.Undone.{want_undone}
 
@@ -157,16 +159,16 @@ stamps_many [] lacking = omega arith
 stamps_many (x ∷ xs) lacking = let rest = stamps_many xs lacking in omega (arith, rest)
 
 module _ {C D : Type 0} (c : ClockGhosts C) (d : DiskGhosts D) (script : Script) (server : List Mounted) (first waiting gathered final : List Token) (was is : Sampler) (clock_was clock_is : C) (disk_was disk_is : D) (samples : ℕ) (left : Files) (e ending : Ending) (ends_with : EndsWith e ending)
-    (w : Whole c d script.config.groups server first waiting gathered final was is clock_was clock_is disk_was disk_is e samples) (none : was.archive.logged ≡ 0) (unstarted : was.plans ≡ None) (found : d.tells → IsStandingFound left was.archive (d.held disk_was))
+    (w : Whole c d script.config.groups server first waiting gathered final was is clock_was clock_is disk_was disk_is e samples) (limit_same : is.archive.limit ≡ was.archive.limit) (none : was.archive.logged ≡ 0) (unstarted : was.plans ≡ None) (found : d.tells → IsStandingFound left was.archive (d.held disk_was))
     (later : SeesOn waiting gathered) (stands : StandsBehind script server gathered final) (legal : AtJournals IsLegal script server final) (loads : AtJournals LoggerLoads script server final) (own : Ending) (ended_by : EndsBy own ending) (writers : Finished own (AtJournals WritersRan script server final)) where
-  abbrev y : Yields c d script.config.groups was.plans clock_was clock_is disk_was disk_is was.archive is.archive e (w.beside ++ w.behind) w.lacking
+  abbrev y : Yields c d script.config.groups server was.plans clock_was clock_is disk_was disk_is was.archive is.archive w.before w.after e (w.beside ++ w.behind) w.lacking
   y = w.yields
 
   abbrev moments : List Moment
   moments = stamps_of (w.beside ++ w.behind) ++ w.lacking
 
   abbrev How : Type 0
-  How = Went c d script.config.groups was.plans clock_was clock_is disk_was disk_is was.archive is.archive e y.unlogged w.lacking y.results ⊎ Failed c d script.config.groups was.plans clock_was clock_is disk_was disk_is was.archive is.archive e y.unlogged y.results y.later
+  How = Went c d script.config.groups server was.plans clock_was clock_is disk_was disk_is was.archive is.archive w.before w.after e y.unlogged w.lacking y.results y.later ⊎ Failed c d script.config.groups server was.plans clock_was clock_is disk_was disk_is was.archive is.archive e y.unlogged y.results y.later
 
   stops_by : StopsLogging e → StopsLogging ending
   stops_by stops = with_last (λ (x : Ending). StopsLogging x) e ending ends_with tt stops
@@ -205,6 +207,40 @@ module _ {C D : Type 0} (c : ClockGhosts C) (d : DiskGhosts D) (script : Script)
     plans = y.later;
     shown = subst (λ (p : Option (List Plan)). AreShown script.config.groups p y.logged y.results y.later) unstarted y.shown;
   }
+
+  abbrev Why : Ending → Type 0
+  Why x = WhyStopped sampled was.archive.limit (λ (files : Files). files ≡ left) x
+
+  why_asked : NoRefusal e ⊎ AsksMany script.config.groups server w.before w.after e w.lacking y.later → Why e
+  why_asked (inl none) = unrefused sampled was.archive.limit (λ (files : Files). files ≡ left) e none
+  why_asked (inr a) = subst (λ (x : Ending). Why x) (sym a.is)
+      (inl (record { stamp = a.stamp; lacks = a.lacks; before = w.before; after = w.after; names = a.names; read = a.read; place = w.place; many = a.many; what_is = refl; number_is = refl }))
+
+  module _ (failed : Failed c d script.config.groups server was.plans clock_was clock_is disk_was disk_is was.archive is.archive e y.unlogged y.results y.later)
+      (a : LogsAllBut d left was.archive.limit [] (Stand.found left) disk_was disk_is y.results failed.f failed.fault is.archive) where
+    why_failed : NoRefusal (ending_after failed.fault) ⊎ (TurnsAway left (items_of_results y.results) a.least a.last failed.f failed.fault is.archive (d.held disk_is) × (ending_of failed.fault ≡ Some (ending_after failed.fault))) → Why (ending_after failed.fault)
+    why_failed (inl none) = unrefused sampled was.archive.limit (λ (files : Files). files ≡ left) (ending_after failed.fault) none
+    why_failed (inr (turns, is_so)) = turned_why sampled was.archive.limit (λ (files : Files). files ≡ left) (ending_after failed.fault) (record {
+      sample = failed.s;
+      one = failed.one;
+      shows = failed.f;
+      shown = failed.shows;
+      left = left;
+      found = refl;
+      last = a.last;
+      logs = a.logs;
+      old = turns.stays.old;
+      opens = turns.stays.opens;
+      fault = failed.fault;
+      refuses = subst (λ (n : ℕ). Refuses n failed.f turns.stays.old failed.fault) limit_same turns.refuses;
+      ends_so = is_so;
+    })
+
+  why : How → d.tells → Why e
+  why (inl went) tells = why_asked went.why
+  why (inr failed) tells =
+      let a : LogsAllBut d left was.archive.limit [] (Stand.found left) disk_was disk_is y.results failed.f failed.fault is.archive = failed.logs tells left [] 0 (Stand.found left) (found tells) in
+      subst (λ (x : Ending). Why x) (sym failed.why) (why_failed failed a (fault_why left (items_of_results y.results) a.least a.last failed.f is.archive (d.held disk_is) failed.fault a.fails))
 
   record Tries : Type 0 where
     pub tried : List Fetched
@@ -247,6 +283,7 @@ module _ {C D : Type 0} (c : ClockGhosts C) (d : DiskGhosts D) (script : Script)
         clock = y.moments;
         kept = kept y.how;
         counted = λ other. omega (arith, none, y.counted);
+        why = λ tells. with_last (λ (x : Ending). Why x) e ending ends_with tt (why y.how tells);
         tried = t.tried;
         tried_are = t.are;
         any_moment = t.any_moment;

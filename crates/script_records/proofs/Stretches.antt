@@ -1,5 +1,5 @@
 -- The samples beside the writers, and the one behind them.
-use Rattle.std.proofs.Common.{◌≡◌, ◌≢◌, ℕ, ◌+◌, ◌<◌, ◌≤◌, List, [], ◌∷◌, ◌++◌, length, refl, sym, ap, ◌∙◌, subst, arith, append-nil, length-append}
+use Rattle.std.proofs.Common.{◌≡◌, ◌≢◌, ◌⊎◌, inl, inr, ℕ, ◌+◌, ◌<◌, ◌≤◌, List, [], ◌∷◌, ◌++◌, length, refl, sym, ap, ◌∙◌, subst, arith, append-nil, length-append}
 use Rattle.std.proofs.lemmas.Option.{same_Some}
 use Rattle.pcp_base.specs.Time.{Moment}
 use Rattle.pcp_outside.specs.declared.clocks.Clock.{Ghosts as ClockGhosts}
@@ -39,10 +39,13 @@ module _ {C D : Type 0} (c : ClockGhosts C) (d : DiskGhosts D) (groups : List Gr
     pub loaded_behind : AreLoaded last final
     pub lacking : List Moment
     pub few : length behind + length lacking ≤ 1
+    pub before : List Token
+    pub after : List Token
+    pub place : ((before ≡ middle) × (after ≡ waiting)) ⊎ ((before ≡ last) × (after ≡ final))
     pub last_behind : e ≡ ends.Done → length behind ≡ 1
     pub so_ends : EndsSamples e
     pub took : Took samples (length (beside ++ behind) + length lacking) e
-    pub yields : Yields c d groups was.plans clock_was clock_is disk_was disk_is was.archive is.archive e (beside ++ behind) lacking
+    pub yields : Yields c d groups server was.plans clock_was clock_is disk_was disk_is was.archive is.archive before after e (beside ++ behind) lacking
 
 module _ {C D : Type 0} (c : ClockGhosts C) (d : DiskGhosts D) (groups : List Group) (server : List Mounted) (first waiting gathered : List Token) (was is : Sampler) (clock_was clock_is : C) (disk_was disk_is : D) where
   -- no sample stands behind the writers
@@ -58,10 +61,13 @@ module _ {C D : Type 0} (c : ClockGhosts C) (d : DiskGhosts D) (groups : List Gr
     loaded_behind = not_loaded gathered;
     lacking = p.lacking;
     few = omega (arith, p.yields.one);
+    before = p.middle;
+    after = waiting;
+    place = inl (refl, refl);
     last_behind = λ done. absurd (undone done);
     so_ends = p.so_ends;
     took = subst (λ (n : ℕ). Took samples n e) (omega (arith, length-append p.samples [])) (p.took 0 samples (omega (arith, sum)));
-    yields = subst (λ (xs : List Taken). Yields c d groups was.plans clock_was clock_is disk_was disk_is was.archive is.archive e xs p.lacking) (sym (append-nil p.samples)) p.yields;
+    yields = subst (λ (xs : List Taken). Yields c d groups server was.plans clock_was clock_is disk_was disk_is was.archive is.archive p.middle waiting e xs p.lacking) (sym (append-nil p.samples)) p.yields;
   }
 
   -- sampling stopped beside them
@@ -74,7 +80,7 @@ module _ {C D : Type 0} (c : ClockGhosts C) (d : DiskGhosts D) (groups : List Gr
   pub wanted_whole : (taken : List Taken) (samples : ℕ) → length taken + 1 ≡ samples → GoesOn c d groups server was is first waiting clock_was clock_is disk_was disk_is taken
       → Whole c d groups server first waiting gathered gathered was is clock_was clock_is disk_was disk_is ends.NoMemory samples
   wanted_whole taken samples sum goes =
-      whole_of ends.NoMemory (length taken) 1 samples sum (goes_phase c d groups server was is first waiting clock_was clock_is disk_was disk_is ends.NoMemory taken (length taken) 1 refl tt (λ before all many. tt) goes) (λ done. cc)
+      whole_of ends.NoMemory (length taken) 1 samples sum (goes_phase c d groups server was is first waiting clock_was clock_is disk_was disk_is ends.NoMemory taken (length taken) 1 refl tt tt (λ before all many. tt) goes) (λ done. cc)
 
 module _ {C D : Type 0} (c : ClockGhosts C) (d : DiskGhosts D) (groups : List Group) (server : List Mounted) (first waiting gathered final : List Token) (was mid is : Sampler) (clock_was clock_mid clock_is : C) (disk_was disk_mid disk_is : D) (limit_same : mid.archive.limit ≡ was.archive.limit)
     (taken : List Taken) (samples : ℕ) (sum : length taken + 1 ≡ samples) (goes : GoesOn c d groups server was mid first waiting clock_was clock_mid disk_was disk_mid taken) where
@@ -82,7 +88,7 @@ module _ {C D : Type 0} (c : ClockGhosts C) (d : DiskGhosts D) (groups : List Gr
   Behind e = Whole c d groups server first waiting gathered final was is clock_was clock_is disk_was disk_is e samples
 
   joined_whole : (e : Ending) (behind : List Taken) (last : List Token) (lacking : List Moment) → AreTaken server gathered behind last → AreLoaded last final → length behind + length lacking ≤ 1 → (e ≡ ends.Done → length behind ≡ 1) → EndsSamples e → Took samples (length taken + (length behind + length lacking)) e
-      → Yields c d groups mid.plans clock_mid clock_is disk_mid disk_is mid.archive is.archive e behind lacking → Behind e
+      → Yields c d groups server mid.plans clock_mid clock_is disk_mid disk_is mid.archive is.archive last final e behind lacking → Behind e
   joined_whole e behind last lacking taken_behind loaded few last_behind own took yields = record {
     beside = taken;
     middle = waiting;
@@ -94,10 +100,13 @@ module _ {C D : Type 0} (c : ClockGhosts C) (d : DiskGhosts D) (groups : List Gr
     loaded_behind = loaded;
     lacking = lacking;
     few = few;
+    before = last;
+    after = final;
+    place = inr (refl, refl);
     last_behind = last_behind;
     so_ends = own;
     took = subst (λ (n : ℕ). Took samples n e) (omega (arith, length-append taken behind)) took;
-    yields = yields_joined c d groups server was mid is first waiting clock_was clock_mid clock_is disk_was disk_mid disk_is taken limit_same goes e behind lacking yields;
+    yields = yields_joined c d groups server was mid is first waiting clock_was clock_mid clock_is disk_was disk_mid disk_is taken limit_same goes last final e behind lacking yields;
   }
 
   -- and it stopped behind them
@@ -109,4 +118,4 @@ module _ {C D : Type 0} (c : ClockGhosts C) (d : DiskGhosts D) (groups : List Gr
   -- or the last one was taken
   pub done_behind : (s : Taken) → GoesOn c d groups server mid is gathered final clock_mid clock_is disk_mid disk_is (s ∷ []) → Behind ends.Done
   done_behind s more =
-      joined_whole ends.Done (s ∷ []) final [] more.taken (not_loaded final) (omega arith) (λ done. refl) tt (omega (arith, sum)) (goes_yields c d groups server mid is gathered final clock_mid clock_is disk_mid disk_is ends.Done (s ∷ []) more)
+      joined_whole ends.Done (s ∷ []) final [] more.taken (not_loaded final) (omega arith) (λ done. refl) tt (omega (arith, sum)) (goes_yields c d groups server mid is gathered final clock_mid clock_is disk_mid disk_is final final ends.Done (s ∷ []) tt more)

@@ -1,5 +1,5 @@
 -- The ways in which a recording comes to its last flush.
-use Rattle.std.proofs.Common.{◌≡◌, inl, ℕ, ◌+◌, ◌<◌, List, [], ◌∷◌, length, None, Result, Ok, Err, refl, subst}
+use Rattle.std.proofs.Common.{◌≡◌, inl, ℕ, ◌+◌, ◌<◌, List, [], ◌∷◌, length, None, Result, Ok, Err, refl, ◌∙◌, subst}
 use Rattle.std.specs.Global.{Vec}
 use Rattle.std.specs.Result.{IfErr, IfOk, OnOk}
 use Rattle.pcp_model.specs.Disk.{Files}
@@ -28,7 +28,7 @@ use Rattle.script_records.proofs.Settling.{refused_with}
 use Rattle.script_records.proofs.Stretches.{done_behind, stopped_behind, stopped_whole, wanted_whole}
 
 module _ (script : Script) (server : List Mounted) (passes : List (Vec Token)) (first : Seated) (keeps : KeepsRules script) (made : AreMade script server passes (first ∷ [])) where
-  module _ {C D : Type 0} (c : ClockGhosts C) (d : DiskGhosts D) (waiting : List Token) (was mid : Sampler) (clock_was clock_mid : C) (disk_was disk_mid : D) (samples : ℕ) (none : was.archive.logged ≡ 0) (unstarted : was.plans ≡ None) (left : Files)
+  module _ {C D : Type 0} (c : ClockGhosts C) (d : DiskGhosts D) (waiting : List Token) (was mid : Sampler) (clock_was clock_mid : C) (disk_was disk_mid : D) (samples : ℕ) (limit_same : mid.archive.limit ≡ was.archive.limit) (none : was.archive.logged ≡ 0) (unstarted : was.plans ≡ None) (left : Files)
       (found : d.tells → IsStandingFound left was.archive (d.held disk_was)) (loaded : AreLoaded first.tokens waiting) where
     abbrev groups : List Group
     groups = script.config.groups
@@ -42,32 +42,32 @@ module _ (script : Script) (server : List Mounted) (passes : List (Vec Token)) (
     -- writers were refused memory
     pub run_wanted : AreImages script → Went → Halts c d clock_was clock_mid disk_was disk_mid script was.archive.limit samples server first.tokens waiting left mid.archive ends.NoMemory
     run_wanted images (taken, sum, goes) =
-        halts_refused script server passes first keeps made c d waiting was mid clock_was clock_mid disk_was disk_mid samples none unstarted left found loaded images ends.NoMemory ends.NoMemory (inl refl) (inl refl)
+        halts_refused script server passes first keeps made c d waiting was mid clock_was clock_mid disk_was disk_mid samples limit_same none unstarted left found loaded images ends.NoMemory ends.NoMemory (inl refl) (inl refl)
         (wanted_whole c d groups server first.tokens waiting waiting was mid clock_was clock_mid disk_was disk_mid taken samples sum goes)
 
     pub run_refused : AreImages script → (e ending : Ending) → RefusedBy e ending → Beside e → Halts c d clock_was clock_mid disk_was disk_mid script was.archive.limit samples server first.tokens waiting left mid.archive ending
     run_refused images e ending by (taken, still, sum, some, stops) =
-        halts_refused script server passes first keeps made c d waiting was mid clock_was clock_mid disk_was disk_mid samples none unstarted left found loaded images e ending (refused_with e ending by) (refused_by e ending by)
+        halts_refused script server passes first keeps made c d waiting was mid clock_was clock_mid disk_was disk_mid samples limit_same none unstarted left found loaded images e ending (refused_with e ending by) (refused_by e ending by)
         (stopped_whole c d groups server first.tokens waiting waiting was mid clock_was clock_mid disk_was disk_mid e taken still samples sum some stops)
 
     module _ (done : List (Vec Token)) (gathered : List Token) (written : HaveWritten script server passes done) (gathers : HaveGathered done waiting gathered) where
       -- sampling stopped beside them
       pub run_stopped : (e : Ending) → Beside e → Halts c d clock_was clock_mid disk_was disk_mid script was.archive.limit samples server first.tokens gathered left mid.archive e
       run_stopped e (taken, still, sum, some, stops) =
-          halts_written script server passes first keeps made c d waiting was mid clock_was clock_mid disk_was disk_mid samples none unstarted left found loaded done gathered gathered e written gathers (not_loaded gathered)
+          halts_written script server passes first keeps made c d waiting was mid clock_was clock_mid disk_was disk_mid samples limit_same none unstarted left found loaded done gathered gathered e written gathers (not_loaded gathered)
           (stopped_whole c d groups server first.tokens waiting gathered was mid clock_was clock_mid disk_was disk_mid e taken still samples sum some stops)
 
-      module _ (final : List Token) (is : Sampler) (clock_is : C) (disk_is : D) (behind : AreLoaded gathered final) (limit_same : mid.archive.limit ≡ was.archive.limit) where
+      module _ (final : List Token) (is : Sampler) (clock_is : C) (disk_is : D) (behind : AreLoaded gathered final) (limit_last : is.archive.limit ≡ mid.archive.limit) where
         -- or at the last sample
         pub run_last : (e : Ending) → Went → Stops c d groups server mid is gathered final clock_mid clock_is disk_mid disk_is [] 1 e → Halts c d clock_was clock_is disk_was disk_is script was.archive.limit samples server first.tokens final left is.archive e
         run_last e (taken, sum, goes) stops =
-            halts_written script server passes first keeps made c d waiting was is clock_was clock_is disk_was disk_is samples none unstarted left found loaded done gathered final e written gathers behind
+            halts_written script server passes first keeps made c d waiting was is clock_was clock_is disk_was disk_is samples (limit_last ∙ limit_same) none unstarted left found loaded done gathered final e written gathers behind
             (stopped_behind c d groups server first.tokens waiting gathered final was mid is clock_was clock_mid clock_is disk_was disk_mid disk_is limit_same taken samples sum goes e stops)
 
         -- or all were taken
         pub run_done : Went → (s : Taken) × GoesOn c d groups server mid is gathered final clock_mid clock_is disk_mid disk_is (s ∷ []) → Halts c d clock_was clock_is disk_was disk_is script was.archive.limit samples server first.tokens final left is.archive ends.Done
         run_done (taken, sum, goes) (s, more) =
-            halts_written script server passes first keeps made c d waiting was is clock_was clock_is disk_was disk_is samples none unstarted left found loaded done gathered final ends.Done written gathers behind
+            halts_written script server passes first keeps made c d waiting was is clock_was clock_is disk_was disk_is samples (limit_last ∙ limit_same) none unstarted left found loaded done gathered final ends.Done written gathers behind
             (done_behind c d groups server first.tokens waiting gathered final was mid is clock_was clock_mid clock_is disk_was disk_mid disk_is limit_same taken samples sum goes s more)
 
 -- What is told of an answer

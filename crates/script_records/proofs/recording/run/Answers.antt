@@ -21,13 +21,13 @@ pub returns-in-Ok-early-clause-halts : goal.returns-in-Ok-early-clause-halts
 returns-in-Ok-early-clause-halts g c = λ left found.
     let b = c.beside-written in
     run_wanted c.args.script.now c.args.server.now c.args.passes.items c.args.seat.now c.requires.rules c.requires.made g.C.Clock g.D.Disk b.new.seat.tokens c.args.sampler.now b.new.sampler c.args.clock.now b.new.clock c.args.disk.now b.new.disk c.args.samples
-    c.requires.none c.requires.unstarted left found b.ensures.loads c.requires.images (ok_so b.result.1 c.in-Ok-early.field-0 c.in-Ok-early.is b.ensures.goes)
+    b.ensures.limit c.requires.none c.requires.unstarted left found b.ensures.loads c.requires.images (ok_so b.result.1 c.in-Ok-early.field-0 c.in-Ok-early.is b.ensures.goes)
 
 pub returns-in-Err-early-clause-halts : goal.returns-in-Err-early-clause-halts
 returns-in-Err-early-clause-halts g c = λ left found.
     let b = c.beside-written in
     run_refused c.args.script.now c.args.server.now c.args.passes.items c.args.seat.now c.requires.rules c.requires.made g.C.Clock g.D.Disk b.new.seat.tokens c.args.sampler.now b.new.sampler c.args.clock.now b.new.clock c.args.disk.now b.new.disk c.args.samples
-    c.requires.none c.requires.unstarted left found b.ensures.loads c.requires.images c.in-Err-early.ending c.refused.result c.refused.ensures
+    b.ensures.limit c.requires.none c.requires.unstarted left found b.ensures.loads c.requires.images c.in-Err-early.ending c.refused.result c.refused.ensures
     (err_told b.result.1 c.in-Err-early.ending
     (λ (e : Ending). (taken : List Taken) × (still : ℕ) × (length taken + still ≡ c.args.samples) × (0 < still)
     × Stops g.C.Clock g.D.Disk c.args.script.now.config.groups c.args.server.now c.args.sampler.now b.new.sampler c.args.seat.now.tokens b.new.seat.tokens c.args.clock.now b.new.clock c.args.disk.now b.new.disk taken still e)
@@ -43,7 +43,7 @@ pub returns-in-Err-early-2-clause-halts : goal.returns-in-Err-early-2-clause-hal
 returns-in-Err-early-2-clause-halts g c = λ left found.
     let b = c.beside-written in
     run_stopped c.args.script.now c.args.server.now c.args.passes.items c.args.seat.now c.requires.rules c.requires.made g.C.Clock g.D.Disk b.new.seat.tokens c.args.sampler.now b.new.sampler c.args.clock.now b.new.clock c.args.disk.now b.new.disk c.args.samples
-    c.requires.none c.requires.unstarted left found b.ensures.loads c.in-Ok.done.items c.gather_all.new.seat.tokens
+    b.ensures.limit c.requires.none c.requires.unstarted left found b.ensures.loads c.in-Ok.done.items c.gather_all.new.seat.tokens
     (ok_told b.result.0 c.in-Ok.done (λ (done : Vec (Vec Token)). HaveWritten c.args.script.now c.args.server.now c.args.passes.items done.items) c.in-Ok.is b.ensures.written) c.gather_all.ensures.gathers c.in-Err-early-2.ending
     (err_told b.result.1 c.in-Err-early-2.ending
     (λ (e : Ending). (taken : List Taken) × (still : ℕ) × (length taken + still ≡ c.args.samples) × (0 < still)
@@ -54,14 +54,14 @@ pub returns-in-Ok-sample-clause-halts : goal.returns-in-Ok-sample-clause-halts
 returns-in-Ok-sample-clause-halts g c = λ left found.
     let b = c.beside-written in
     run_done c.args.script.now c.args.server.now c.args.passes.items c.args.seat.now c.requires.rules c.requires.made g.C.Clock g.D.Disk b.new.seat.tokens c.args.sampler.now b.new.sampler c.args.clock.now b.new.clock c.args.disk.now b.new.disk c.args.samples
-    c.requires.none c.requires.unstarted left found b.ensures.loads c.in-Ok.done.items c.gather_all.new.seat.tokens
+    b.ensures.limit c.requires.none c.requires.unstarted left found b.ensures.loads c.in-Ok.done.items c.gather_all.new.seat.tokens
     (ok_told b.result.0 c.in-Ok.done (λ (done : Vec (Vec Token)). HaveWritten c.args.script.now c.args.server.now c.args.passes.items done.items) c.in-Ok.is b.ensures.written) c.gather_all.ensures.gathers c.sample.new.seat.tokens c.sample.new.sampler
-    c.sample.new.clock c.sample.new.disk c.sample.ensures.loads b.ensures.limit (ok_so b.result.1 c.in_default.field-0 c.in_default.is b.ensures.goes) c.in-Ok-sample.ensures.goes
+    c.sample.new.clock c.sample.new.disk c.sample.ensures.loads c.sample.ensures.limit (ok_so b.result.1 c.in_default.field-0 c.in_default.is b.ensures.goes) c.in-Ok-sample.ensures.goes
 
 pub returns-clause-halts : goal.returns-clause-halts
 returns-clause-halts g c = λ left found.
     let b = c.beside-written in
     run_last c.args.script.now c.args.server.now c.args.passes.items c.args.seat.now c.requires.rules c.requires.made g.C.Clock g.D.Disk b.new.seat.tokens c.args.sampler.now b.new.sampler c.args.clock.now b.new.clock c.args.disk.now b.new.disk c.args.samples
-    c.requires.none c.requires.unstarted left found b.ensures.loads c.in-Ok.done.items c.gather_all.new.seat.tokens
+    b.ensures.limit c.requires.none c.requires.unstarted left found b.ensures.loads c.in-Ok.done.items c.gather_all.new.seat.tokens
     (ok_told b.result.0 c.in-Ok.done (λ (done : Vec (Vec Token)). HaveWritten c.args.script.now c.args.server.now c.args.passes.items done.items) c.in-Ok.is b.ensures.written) c.gather_all.ensures.gathers c.sample.new.seat.tokens c.sample.new.sampler
-    c.sample.new.clock c.sample.new.disk c.sample.ensures.loads b.ensures.limit c.in-Err-sample.ending (ok_so b.result.1 c.in_default.field-0 c.in_default.is b.ensures.goes) c.in-Err-sample.ensures.stops
+    c.sample.new.clock c.sample.new.disk c.sample.ensures.loads c.sample.ensures.limit c.in-Err-sample.ending (ok_so b.result.1 c.in_default.field-0 c.in_default.is b.ensures.goes) c.in-Err-sample.ensures.stops
