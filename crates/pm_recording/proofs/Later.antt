@@ -1,0 +1,194 @@
+-- Over moments that rise, and stand behind every stamp there, no result comes too early for the archive.
+use Rattle.std.proofs.Common.{◌≡◌, inl, inr, ℕ, ℤ, suc, ◌<◌, ◌≤◌, List, [], ◌∷◌, ◌++◌, map, Contains, Option, Some, None, refl, sym, ap, ◌∙◌, subst, arith, append_assoc}
+use Rattle.std.specs.List.{AllByRecursion}
+use Rattle.pcp_base.specs.Time.{Moment, microseconds}
+use Rattle.pcp_base.specs.declared.desc.Desc.{Desc}
+use Rattle.pcp_base.specs.declared.file.FileId.{FileId}
+use Rattle.pcp_base.specs.declared.file.FileId.TheVariants as files
+use Rattle.pcp_base.specs.declared.result.Item.TheVariants.{Sample}
+use Rattle.pcp_base.specs.declared.result.PmResult.{PmResult}
+use Rattle.pcp_model.specs.declared.records.MetaRecord.{MetaRecord}
+use Rattle.pcp_model.specs.declared.records.MetaRecord.TheVariants.{Description, Domain, Other}
+use Rattle.pcp_model.specs.Archive.{ArchiveContents, items_of}
+use Rattle.pcp_model.specs.Disk.{Files}
+use Rattle.pcp_model.specs.Payload.{stamp_of}
+use Rattle.pcp_model.specs.Sound.{IsItemBy, IsRecordBy, NoDomainAfter, NoItemAfter}
+use Rattle.pcp_model.proofs.Lists.{each-append, each-map}
+use Rattle.region_rule.specs.Seats.{Token}
+use Rattle.archive_meta.specs.declared.facts.Facts.{Facts}
+use Rattle.archive_meta.specs.Facts.{fact_of}
+use Rattle.archive_meta.specs.Missing.{AreMissing, AreMissingDomains, described_by, domains_of, missing_descriptions, taken, undescribed}
+use Rattle.fetch_answers.specs.declared.fetch.Fetched.{Fetched}
+use Rattle.fetch_engine.specs.declared.server.Mounted.{Mounted}
+use Rattle.log_schedule.specs.declared.config.Group.{Group}
+use Rattle.logger_core.specs.declared.fault.LogFault.{LogFault}
+use Rattle.logger_core.specs.declared.fault.LogFault.TheVariants as faults
+use Rattle.logger_core.specs.Logging.{IsLater}
+use Rattle.logger_core.specs.Steps.{IsGreatest, IsStampIn}
+use Rattle.logger_core.proofs.Whole.{each_contained}
+use Rattle.run_script.specs.declared.script.Script.{Script}
+use Rattle.script_runs.specs.declared.ending.Ending.{Ending}
+use Rattle.script_runs.specs.declared.ending.Ending.TheVariants as ends
+use Rattle.script_runs.specs.Archives.{Logs, Opens, Refuses, Stand, Written, ending_of, run_label}
+use Rattle.script_runs.specs.Groups.{Plan}
+use Rattle.record_run.specs.ImageRuns.{result_for}
+use Rattle.record_run.proofs.ComeBack.{at_of}
+use Rattle.record_run.proofs.OneReason.{none_stamped}
+use Rattle.script_replays.specs.Replays.{IsRecovered}
+use Rattle.script_samples.specs.Samples.{Taken, stamps_of}
+use Rattle.script_samples.specs.Shown.{AreShown, LogsEach, shown_by, with_result}
+use Rattle.script_records.specs.Beside.{Sampled}
+use Rattle.script_records.specs.Stopping.{IsTurnedAway}
+use Rattle.pm_recording.specs.Good.{AreLater, AreRising}
+
+-- ---- what is logged has the greatest stamp
+
+record_by : (last t : Moment) → microseconds last < microseconds t → (r : MetaRecord) → IsRecordBy last r → IsRecordBy t r
+record_by last t later (Description d names) by = tt
+record_by last t later (Domain s i pairs) by = omega (arith, by, later)
+record_by last t later Other by = tt
+
+no_record : (c : ArchiveContents) (t : Moment) → IsGreatest c None → (r : MetaRecord) → Contains c.records r → IsRecordBy t r
+no_record c t none (Description d names) there = tt
+no_record c t none (Domain s i pairs) there = absurd (none s (inr (i, pairs, there)))
+no_record c t none Other there = tt
+
+items_by : (c : ArchiveContents) (g : Option Moment) (t : Moment) → IsGreatest c g → IsLater g t → NoItemAfter t (items_of c.volumes)
+items_by c None t none later = each-map (λ x. Contains (items_of c.volumes) x) (IsItemBy t) (λ x there. absurd (none (stamp_of x) (inl (x, there, refl)))) (items_of c.volumes) (each_contained (items_of c.volumes))
+items_by c (Some last) t is later = each-map (IsItemBy last) (IsItemBy t) (λ x by. omega (arith, by, later)) (items_of c.volumes) is.1
+
+domains_by : (c : ArchiveContents) (g : Option Moment) (t : Moment) → IsGreatest c g → IsLater g t → NoDomainAfter t c.records
+domains_by c None t none later = each-map (λ r. Contains c.records r) (IsRecordBy t) (no_record c t none) c.records (each_contained c.records)
+domains_by c (Some last) t is later = each-map (IsRecordBy last) (IsRecordBy t) (record_by last t later) c.records is.2
+
+described : (t : Moment) (facts : List (Desc × List ℕ)) → NoDomainAfter t (map described_by facts)
+described t [] = tt
+described t (f ∷ fs) = (tt, described t fs)
+
+listed : (t : Moment) (records : List MetaRecord) (ds : List (ℕ × List (ℤ × List ℕ))) (missing : List MetaRecord) → AreMissingDomains records t ds missing → NoDomainAfter t missing
+listed t records [] missing none = subst (NoDomainAfter t) (sym none) tt
+listed t records (d ∷ ds) missing (inl held) = listed t records ds missing held.1
+listed t records (d ∷ ds) missing (inr lacks) = subst (NoDomainAfter t) (sym lacks.1.1) (omega arith, listed t records ds lacks.1.0 lacks.1.2)
+
+missing_by : (records : List MetaRecord) (facts : Facts) (answer : PmResult) (missing : List MetaRecord) → AreMissing records facts answer missing → NoDomainAfter answer.stamp missing
+missing_by records facts answer missing needed =
+    subst (NoDomainAfter answer.stamp) (sym needed.is) (each-append (IsRecordBy answer.stamp) (missing_descriptions records facts.metrics answer.sets) needed.domains
+    (described answer.stamp (taken (fact_of facts.metrics) (undescribed records answer.sets)))
+    (listed answer.stamp records (domains_of facts answer.sets) needed.domains needed.lacking))
+
+not_above : (c : ArchiveContents) (s t : Moment) → IsStampIn c s → NoItemAfter t (items_of c.volumes) → NoDomainAfter t c.records → microseconds s ≤ microseconds t
+not_above c s t (inl (x, has, same)) items domains = subst (λ (m : Moment). microseconds m ≤ microseconds t) same (at_of (IsItemBy t) (items_of c.volumes) x items has)
+not_above c s t (inr (indom, pairs, has)) items domains = at_of (IsRecordBy t) c.records (Domain s indom pairs) domains has
+
+module _ (limit : ℕ) (f : Fetched) (old new : Written) (logs : Logs limit f old new) where
+  abbrev now : Moment
+  now = f.result.stamp
+
+  items_now : NoItemAfter now (items_of new.contents.volumes)
+  items_now = subst (NoItemAfter now) (sym logs.items) (each-append (IsItemBy now) (items_of old.contents.volumes) (Sample f.result ∷ [])
+      (items_by old.contents logs.ends.greatest now logs.ends_are.are.greatest logs.loggable.later) (omega arith, tt))
+
+  domains_now : NoDomainAfter now new.contents.records
+  domains_now = subst (NoDomainAfter now) (sym logs.records) (each-append (IsRecordBy now) old.contents.records logs.step.missing
+      (domains_by old.contents logs.ends.greatest now logs.ends_are.are.greatest logs.loggable.later)
+      (missing_by old.contents.records f.facts f.result logs.step.missing logs.step.needed))
+
+  logged_last : (s : Moment) → IsStampIn new.contents s → microseconds s ≤ microseconds now
+  logged_last s is = not_above new.contents s now is items_now domains_now
+
+-- ---- what stands is stamped before a moment
+
+module _ (now : Moment) where
+  abbrev IsEarlier : Moment → Type 0
+  IsEarlier t = microseconds t < microseconds now
+
+  abbrev Earlier : Stand → Type 0
+  Earlier stand = (stamp : Moment) (w : Written) → Opens stamp stand w → (t : Moment) → IsStampIn w.contents t → IsEarlier t
+
+  found_earlier : (start left : Files) (moments : List Moment) → AreLater start moments → IsRecovered start left → Contains moments now → Earlier (Stand.found left)
+  found_earlier start left moments later recovered has stamp w (inl x, whole) t is = absurd (none_stamped (run_label stamp) t (subst (λ (c : ArchiveContents). IsStampIn c t) x.2 is))
+  found_earlier start left moments later recovered has stamp w (inr x, whole) t is = later left w.contents recovered x.1 t now is has
+
+  logged_earlier : (limit : ℕ) (f : Fetched) (old new : Written) → Logs limit f old new → IsEarlier f.result.stamp → Earlier (Stand.opened new)
+  logged_earlier limit f old new logs before stamp w same t is =
+      let by = logged_last limit f old new logs t (subst (λ (v : Written). IsStampIn v.contents t) same is) in omega (arith, by, before)
+
+  all_earlier : (limit : ℕ) (stand : Stand) (results : List Fetched) (last : Stand) → LogsEach limit stand results last → AllByRecursion (λ (f : Fetched). IsEarlier f.result.stamp) results → Earlier stand → Earlier last
+  all_earlier limit stand [] last same before here = subst Earlier (sym same) here
+  all_earlier limit stand (f ∷ results) last (old, new, opens, logs, more) before here = all_earlier limit (Stand.opened new) results last more before.1 (logged_earlier limit f old new logs before.0)
+
+-- ---- the results of samples have their stamps
+
+shows_now : (pmids : List ℕ) (f shows : Fetched) → result_for pmids f ≡ Some shows → shows.result.stamp ≡ f.result.stamp
+shows_now [] f shows is = absurd (cc)
+shows_now (p ∷ pmids) f shows is = let same : f ≡ shows = cc in ap (λ (x : Fetched). x.result.stamp) (sym same)
+
+stamp_shown : (groups : List Group) (plans : Option (List Plan)) (s : Taken) (shows : Fetched) → shown_by groups plans s ≡ Some shows → shows.result.stamp ≡ s.stamp
+stamp_shown groups plans s shows is = shows_now _ _ shows is
+
+module _ (P : Moment → Type 0) where
+  abbrev HaveResults : List Fetched → Type 0
+  HaveResults results = AllByRecursion (λ (f : Fetched). P f.result.stamp) results
+
+  with_one : (o : Option Fetched) (rest : List Fetched) → ((f : Fetched) → o ≡ Some f → P f.result.stamp) → HaveResults rest → HaveResults (with_result o rest)
+  with_one None rest this others = others
+  with_one (Some f) rest this others = (this f refl, others)
+
+  results_have : (groups : List Group) (plans : Option (List Plan)) (samples : List Taken) (results : List Fetched) (later : Option (List Plan)) → AreShown groups plans samples results later → AllByRecursion P (stamps_of samples) → HaveResults results
+  results_have groups plans [] results later shown all = subst HaveResults (sym shown.0) tt
+  results_have groups plans (s ∷ samples) results later (next, rest, few, passed, is, more) all =
+      subst HaveResults (sym is) (with_one (shown_by groups plans s) rest (λ f shows. subst P (sym (stamp_shown groups plans s f shows)) all.0) (results_have groups (Some next) samples rest later more all.1))
+
+-- ---- the last moment
+
+stamps-append : (samples more : List Taken) → stamps_of (samples ++ more) ≡ stamps_of samples ++ stamps_of more
+stamps-append [] more = refl
+stamps-append (s ∷ samples) more = ap (λ (l : List Moment). s.stamp ∷ l) (stamps-append samples more)
+
+has_between : (before : List Moment) (t : Moment) (behind : List Moment) → Contains (before ++ t ∷ behind) t
+has_between [] t behind = (0, omega arith, refl)
+has_between (x ∷ before) t behind = let more = has_between before t behind in (suc more.0, omega (arith, more.1), more.2)
+
+rising_front : (before : List Moment) (t : Moment) (behind : List Moment) → AreRising (before ++ t ∷ behind) → AllByRecursion (IsEarlier t) before
+rising_front [] t behind rising = tt
+rising_front (x ∷ []) t behind rising = (rising.0, tt)
+rising_front (x ∷ y ∷ before) t behind rising = let rest = rising_front (y ∷ before) t behind rising.1 in (omega (arith, rising.0, rest.0), rest)
+
+-- no other fault ends so
+full_apart : (file : FileId) (bytes : ℕ) (last : Moment) → ending_of (faults.Full file bytes) ≡ Some (ends.NotLater last) → ⊥
+full_apart files.Meta bytes last is = cc
+full_apart files.Index bytes last is = cc
+full_apart (files.Volume n) bytes last is = cc
+
+too_early : (limit : ℕ) (f : Fetched) (w : Written) (fault : LogFault) (last : Moment) → Refuses limit f w fault → ending_of fault ≡ Some (ends.NotLater last) → (t : Moment) × IsStampIn w.contents t × (microseconds f.result.stamp ≤ microseconds t)
+too_early limit f w (faults.NotLater t) last refuses is =
+    let greatest : IsGreatest w.contents (Some t) = subst (λ (g : Option Moment). IsGreatest w.contents g) refuses.refused.2 refuses.ends_are.are.greatest in (t, greatest.0, refuses.refused.3)
+too_early limit f w (faults.Large bytes) last refuses is = absurd (cc)
+too_early limit f w (faults.Changed pmid) last refuses is = absurd (cc)
+too_early limit f w (faults.Full file bytes) last refuses is = absurd (full_apart file bytes last is)
+too_early limit f w faults.Closed last refuses is = absurd (cc)
+too_early limit f w faults.NoMemory last refuses is = absurd (cc)
+too_early limit f w faults.DiskFault last refuses is = absurd (cc)
+
+module _ {script : Script} {server : List Mounted} {first final : List Token} {ending : Ending} {moments : List Moment} {results : List Fetched} (sampled : Sampled script server first final ending moments results)
+    (limit : ℕ) (start : Files) (all rest : List Moment) (are : all ≡ moments ++ rest) where
+  -- the moments in front of a sample that logs nothing, which is the last one
+  placed : (sample : Taken) → sampled.unlogged ≡ sample ∷ [] → all ≡ stamps_of sampled.logged ++ sample.stamp ∷ (sampled.lacking ++ rest)
+  placed sample one =
+      let stamps : stamps_of (sampled.beside ++ sampled.behind) ≡ stamps_of sampled.logged ++ sample.stamp ∷ [] =
+      ap stamps_of (sampled.are ∙ ap (λ (l : List Taken). sampled.logged ++ l) one) ∙ stamps-append sampled.logged (sample ∷ []) in
+      are ∙ ap (λ (l : List Moment). l ++ rest) (sampled.moments_are ∙ ap (λ (l : List Moment). l ++ sampled.lacking) stamps ∙ append_assoc (stamps_of sampled.logged) (sample.stamp ∷ []) sampled.lacking)
+      ∙ append_assoc (stamps_of sampled.logged) (sample.stamp ∷ sampled.lacking) rest
+
+  pub not_late : AreRising all → AreLater start all → (last : Moment) → IsTurnedAway sampled limit (IsRecovered start) (ends.NotLater last) → ⊥
+  not_late rising later last away =
+      let now = away.sample.stamp in
+      let place = placed away.sample away.one in
+      let front : AllByRecursion (IsEarlier now) (stamps_of sampled.logged) = rising_front (stamps_of sampled.logged) now (sampled.lacking ++ rest) (subst AreRising place rising) in
+      let has : Contains all now = subst (λ (l : List Moment). Contains l now) (sym place) (has_between (stamps_of sampled.logged) now (sampled.lacking ++ rest)) in
+      let before = results_have (IsEarlier now) script.config.groups None sampled.logged results sampled.plans sampled.shown front in
+      let earlier = all_earlier now limit (Stand.found away.left) results away.last away.logs before (found_earlier now start away.left all later away.found has) in
+      let found = too_early limit away.shows away.old away.fault last away.refuses away.ends_so in
+      let low : microseconds found.0 < microseconds now = earlier away.shows.result.stamp away.old away.opens found.0 found.1 in
+      let high : microseconds now ≤ microseconds found.0 = subst (λ (t : Moment). microseconds t ≤ microseconds found.0) (stamp_shown script.config.groups sampled.plans away.sample away.shows away.shown) found.2 in
+      omega (arith, low, high)

@@ -1,0 +1,6 @@
+pub mod Completes
+pub mod Endings
+pub mod Facts
+pub mod Kept
+pub mod Later
+pub mod Stopping
