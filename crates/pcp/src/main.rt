@@ -4,8 +4,9 @@
 
 use pcp_listening::{first_bad_of_serve, is_serve, serve_clients};
 use pcp_outside::Sink;
-use pcp_system::{FileDisk, ReaderSource, WriterSink};
+use pcp_system::{FileDisk, Pace, ReaderSource, SystemClock, WriterSink};
 use pm_commands::{Refusal, StageFault, Usage, offline, read_words};
+use pm_recording::{is_record, read_record_words, run_record};
 use std::alloc::{Alloc, AllocError, Global};
 use std::env::Env;
 use std::io::ErrorKind;
@@ -36,6 +37,12 @@ fn first_bad_word(rt: &(impl Env + Alloc<A = Global>)) -> Result<usize, AllocErr
     let words = words_before_bad(rt)?;
     if is_serve(&words) {
         return first_bad_of_serve(rt.alloc(), &words);
+    }
+    if is_record(&words) {
+        return match read_record_words(&words) {
+            Ok(_) => Ok(words.len()),
+            Err(at) => Ok(at),
+        };
     }
     match read_words(rt.alloc(), &words) {
         Ok(_) => Ok(words.len()),
@@ -86,6 +93,20 @@ fn main(rt: HostRuntime) -> ExitCode {
     }
     let mut disk = FileDisk::new(alloc, &rt, base);
     let mut opened = None;
+    if is_record(command) {
+        let status = run_record(
+            &rt,
+            alloc,
+            command,
+            &mut input,
+            &mut out,
+            &mut disk,
+            &mut SystemClock::new(&rt),
+            &Pace::new(&rt),
+            &mut opened,
+        );
+        return ExitCode::from(status);
+    }
     let status = offline(alloc, command, &mut input, &mut out, &mut disk, &mut opened);
     ExitCode::from(status)
 }

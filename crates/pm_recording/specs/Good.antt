@@ -1,0 +1,72 @@
+-- What a recording needs to be done: a script that may be recorded, files that can be read, a clock whose moments come one after
+-- another and after every stamp there, samples that are taken, and no count that rose.
+use Rattle.std.specs.Prelude.{◌≡◌, ℕ, ◌<◌, ◌≤◌, List, [], ◌∷◌, length, Contains, Option, None, Ok}
+use Rattle.pcp_base.specs.Time.{Moment, microseconds}
+use Rattle.pcp_model.specs.Archive.{ArchiveContents, IsArchive, Readable}
+use Rattle.pcp_model.specs.Disk.{Files, contents_of}
+use Rattle.pcp_outside.specs.Causes.{Rose}
+use Rattle.logger_core.specs.Steps.{IsStampIn}
+use Rattle.run_script.specs.declared.script.Script.{Script}
+use Rattle.script_passes.specs.declared.opening.Opened.{Opened}
+use Rattle.script_replays.specs.Replays.{IsRecovered}
+use Rattle.script_runs.specs.declared.ending.Ending.{Ending}
+use Rattle.script_runs.specs.declared.ending.Ending.TheVariants as ends
+use Rattle.script_runs.specs.declared.ending.LimitKind.{LimitKind}
+use Rattle.script_records.specs.Stopping.{AsksTooMany, IsTurnedAway}
+use Rattle.pm_words.specs.Inputs.{input_limit}
+use Rattle.pm_words.specs.Sides.{SourceSide, SinkSide}
+use Rattle.pm_recording.specs.Ends.{IsAsked, Ran}
+use Rattle.pm_recording.specs.Recording.{RunSide}
+use Rattle.pm_recording.specs.Scripts.{script_recorded}
+
+-- the words ask for a recording, and the source gives an input within the limit
+pub record Meets (words : List (List ℕ)) (s : SourceSide) : Type 0 where
+  pub asked : IsAsked words
+  pub tells : s.tells
+  pub within : length s.left ≤ input_limit
+
+-- Files
+
+-- no file stands wrapped, and they are those of an archive or of a creation that was stopped
+pub record IsGoodDisk {C D : Type 0} (o : RunSide C D) : Type 0 where
+  pub tells : o.disk.tells
+  pub unwrapped : o.disk.wrapped_file o.disk_was ≡ None
+  pub readable : Readable (contents_of (o.disk.held o.disk_was))
+  pub kept : Rose (o.disk.faults o.disk_was) (o.disk.faults o.disk_is) → ⊥
+
+-- Moments
+
+-- each is after the one before
+abbrev pub AreRising : List Moment → Type 0
+AreRising [] = Unit {0}
+AreRising (t ∷ []) = Unit {0}
+AreRising (t ∷ u ∷ moments) = (microseconds t < microseconds u) × AreRising (u ∷ moments)
+
+-- and after every stamp of what recovery leaves of the files
+abbrev pub AreLater : Files → List Moment → Type 0
+AreLater start moments = (left : Files) (c : ArchiveContents) → IsRecovered start left → IsArchive left c → (t now : Moment) → IsStampIn c t → Contains moments now → microseconds t < microseconds now
+
+-- the clock tells moments that come so, whether they are enough or not
+pub record IsGoodClock {C D : Type 0} (o : RunSide C D) : Type 0 where
+  pub tells : o.clock.tells
+  pub rising : AreRising (o.clock.left o.clock_was)
+  pub later : AreLater (contents_of (o.disk.held o.disk_was)) (o.clock.left o.clock_was)
+  pub kept : Rose (o.clock.faults o.clock_was) (o.clock.faults o.clock_is) → ⊥
+
+-- What is shown
+
+-- No sample asks for too many metrics, none shows one that the archive describes otherwise, and what each shows has its place there.
+pub record IsWelcome {C D : Type 0} {words : List (List ℕ)} {s : SourceSide} {o : RunSide C D} {opened : Option Opened} {ending : Ending} (ran : Ran words s o opened ending) : Type 0 where
+  pub few : (what : LimitKind) (number : ℕ) → AsksTooMany ran.has.was.recording.beside.sampled what number → ⊥
+  pub small : (what : LimitKind) (number : ℕ) → IsTurnedAway ran.has.was.recording.beside.sampled ran.asks.asked.volume (IsRecovered (contents_of (o.disk.held o.disk_was))) (ends.Limit what number) → ⊥
+  pub same : (pmid : ℕ) → IsTurnedAway ran.has.was.recording.beside.sampled ran.asks.asked.volume (IsRecovered (contents_of (o.disk.held o.disk_was))) (ends.Changed pmid) → ⊥
+
+pub record IsGoodRun {C D : Type 0} (words : List (List ℕ)) (s : SourceSide) (k : SinkSide) (o : RunSide C D) (opened : Option Opened) : Type 0 where
+  pub meets : Meets words s
+  pub script : Script
+  pub good : script_recorded s.left ≡ Ok script
+  pub disk : IsGoodDisk o
+  pub clock : IsGoodClock o
+  pub welcome : (ending : Ending) (ran : Ran words s o opened ending) → IsWelcome ran
+  pub source_kept : Rose s.faults s.faults_after → ⊥
+  pub sink_kept : Rose k.faults k.faults_after → ⊥

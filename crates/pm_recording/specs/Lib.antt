@@ -1,0 +1,7 @@
+pub mod CommandWords
+pub mod Scripts
+pub mod Refusals
+pub mod Recording
+pub mod Ends
+pub mod Good
+pub mod Facts

@@ -1,0 +1,52 @@
+-- What is left of a script's regions on which it was recorded, and of the clock and the disk.
+use Rattle.std.specs.Prelude.{◌≡◌, length, slice_get, Option, Some, None}
+use Rattle.pcp_model.specs.Disk.{CrashImage}
+use Rattle.pcp_outside.specs.declared.clocks.Clock.{Ghosts as ClockGhosts}
+use Rattle.pcp_outside.specs.declared.disk.Disk.{Ghosts as DiskGhosts}
+use Rattle.fetch_engine.specs.Servers.{Seated}
+use Rattle.run_script.specs.declared.script.Script.{Script}
+use Rattle.script_passes.specs.Openings.{IsOpened}
+use Rattle.script_passes.specs.declared.opening.Opened.{Opened}
+use Rattle.script_replays.specs.declared.replayed.Replayed.{Replayed}
+use Rattle.script_records.specs.Recordings.{IsRecording, MayEndRecording}
+use Rattle.pm_words.specs.Sides.{IsUnread, Leaves}
+use Rattle.pm_recording.specs.declared.words.RecordWords.{RecordWords}
+
+-- the clock and the disk of a call, before and after
+pub record RunSide (C D : Type 0) : Type 1 where
+  pub clock : ClockGhosts C
+  pub disk : DiskGhosts D
+  pub clock_was : C
+  pub clock_is : C
+  pub disk_was : D
+  pub disk_is : D
+
+abbrev pub run_side : {C D : Type 0} → ClockGhosts C → DiskGhosts D → C → C → D → D → RunSide C D
+run_side clock disk clock_was clock_is disk_was disk_is = record { clock = clock; disk = disk; clock_was = clock_was; clock_is = clock_is; disk_was = disk_was; disk_is = disk_is }
+
+-- The script was opened with one seat, and recorded on what was opened, which is left: its writers ran, the seat sampled beside and
+-- behind them, and what was logged is in the files.
+pub record WasRecorded {C D : Type 0} (o : RunSide C D) (asked : RecordWords) (script : Script) (left : Opened) (r : Replayed) : Type 0 where
+  pub opened : Opened
+  pub made : IsOpened script 1 opened
+  pub server : left.server ≡ opened.server
+  pub seats : length left.seats.items ≡ 1
+  pub first : Seated
+  pub first_is : slice_get opened.seats.items 0 ≡ Some first
+  pub last : Seated
+  pub last_is : slice_get left.seats.items 0 ≡ Some last
+  pub recording : IsRecording o.clock o.disk o.clock_was o.clock_is o.disk_was o.disk_is script asked.volume asked.samples left.server first.tokens last.tokens r
+  pub cause : MayEndRecording o.clock o.disk o.clock_was o.clock_is o.disk_was o.disk_is r.ending
+  pub unread : IsUnread o.disk o.disk_was → Leaves o.disk o.disk_was o.disk_is CrashImage
+
+-- `opened` has what is left
+pub record HasRecorded {C D : Type 0} (o : RunSide C D) (asked : RecordWords) (script : Script) (opened : Option Opened) (r : Replayed) : Type 0 where
+  pub left : Opened
+  pub kept : opened ≡ Some left
+  pub was : WasRecorded o asked script left r
+
+-- nothing was opened, and neither the disk nor the clock was touched
+pub record IsUnrun {C D : Type 0} (o : RunSide C D) (opened : Option Opened) : Type 0 where
+  pub none : opened ≡ None
+  pub disk : o.disk_is ≡ o.disk_was
+  pub clock : o.clock_is ≡ o.clock_was

@@ -1,0 +1,14 @@
+//! The call that the program `pcp` makes for `record SAMPLES VOLUME` (pmlogger(1)): the regions of a script are opened, its writers
+//! run beside each other while a seat samples, and what is sampled is logged into the archive. It answers the exit status, each with
+//! its cause, and leaves the regions on which it recorded.
+#![tactic(auto)]
+
+mod refusal;
+mod running;
+mod scripts;
+mod top;
+mod words;
+
+pub use refusal::RecordRefusal;
+pub use top::run_record;
+pub use words::{RecordWords, is_record, read_record_words};

@@ -1,0 +1,54 @@
+//! The recording of a script on regions that are opened for it.
+ghost use Rattle.std.specs.Prelude.{◌≡◌, IfOk, OnErr};
+ghost use Rattle.pm_recording.specs.CommandWords.{FitsRecord};
+ghost use Rattle.pm_recording.specs.Recording.{HasRecorded, run_side};
+ghost use Rattle.run_script.specs.Recording.{refused_line};
+ghost use Rattle.run_script.specs.Rules.{KeepsRules};
+
+use crate::words::RecordWords;
+use pcp_base::NoMemory;
+use pcp_outside::{Clock, Disk, Turn};
+use run_script::Script;
+use script_passes::{Opened, open_script};
+use script_records::record_script;
+use script_replays::Replayed;
+use std::alloc::Global;
+use std::sync::Wait;
+use std::thread::Threads;
+
+const SEATS: u32 = 1;
+
+/// Opens the regions of a script and records it on them, over any files; the regions are handed out, however the recording ends.
+pub(crate) fn record_on<D: Disk, C: Clock, T: Turn + Sync, R: Threads + Wait + Sync>(
+    rt: &R,
+    alloc: Global,
+    asked: RecordWords,
+    script: Script,
+    disk: &mut D,
+    clock: &mut C,
+    turn: &T,
+    opened: &mut Option<Opened>,
+) -> Result<Replayed, NoMemory>
+    requires fits { FitsRecord asked }
+    requires rules { KeepsRules script }
+    requires beside { refused_line script ≡ None }
+    ensures recorded { IfOk result (HasRecorded (run_side C.Clock D.Disk clock.old clock.new disk.old disk.new) asked script opened.new) }
+    ensures untouched { OnErr result (disk.new ≡ disk.old) }
+    ensures unasked { OnErr result (clock.new ≡ clock.old) }
+    ensures unopened { OnErr result (opened.new ≡ opened.old) }
+{
+    let mut regions = open_script(alloc, &script, SEATS)?;
+    let recorded = record_script(
+        rt,
+        alloc,
+        script,
+        &mut regions,
+        disk,
+        clock,
+        turn,
+        asked.samples,
+        asked.volume,
+    );
+    *opened = Some(regions);
+    Ok(recorded)
+}

@@ -1,0 +1,30 @@
+//! The script of an input, whose passes must be able to act beside each other.
+ghost use Rattle.std.specs.Prelude.{◌≡◌, ◌≤◌, IfOk, None, length};
+ghost use Rattle.pm_recording.specs.Scripts.{Answers, script_recorded};
+ghost use Rattle.pm_words.specs.Inputs.{input_limit};
+ghost use Rattle.run_script.specs.Recording.{refused_line};
+ghost use Rattle.run_script.specs.Rules.{KeepsRules};
+
+use pm_words::{InputRefusal, StageFault};
+use run_script::{ReadScriptError, Script};
+use std::alloc::Global;
+
+/// The script of an input, or why it isn't recorded.
+pub(crate) fn read_script(alloc: Global, input: &[u8]) -> Result<Script, StageFault<InputRefusal>>
+    requires within { length input.now ≤ input_limit }
+    ensures answers { Answers (script_recorded input.now) result }
+    ensures rules { IfOk result KeepsRules }
+    ensures beside { IfOk result (λ script. refused_line script ≡ None) }
+{
+    let script = match Script::read(alloc, input) {
+        Ok(script) => script,
+        Err(ReadScriptError::NoMemory) => return Err(StageFault::OutOfMemory),
+        Err(ReadScriptError::Fault(fault)) => return Err(StageFault::Refused(InputRefusal::Script(
+            fault,
+        ))),
+    };
+    match Script::for_record(&script) {
+        Ok(()) => Ok(script),
+        Err(fault) => Err(StageFault::Refused(InputRefusal::Script(fault))),
+    }
+}
