@@ -1,11 +1,14 @@
 //! The program `pcp BASE COMMAND WORDS`: the archive whose files' names begin with BASE, the words of the
-//! command, standard input and standard output are handed to the command, whose status is the program's.
+//! command, standard input and standard output are handed to the command, whose status is the program's. A lone `--help` prints the help.
 #![tactic(auto)]
 
+use pcp_help::{asks_help, write_help};
 use pcp_listening::{first_bad_of_serve, is_serve, serve_clients};
 use pcp_outside::Sink;
+use pcp_recording::{first_bad_of_record, record_samples};
 use pcp_system::{FileDisk, ReaderSource, WriterSink};
 use pm_commands::{Refusal, StageFault, Usage, offline, read_words};
+use pm_recording::is_record;
 use std::alloc::{Alloc, AllocError, Global};
 use std::env::Env;
 use std::io::ErrorKind;
@@ -36,6 +39,9 @@ fn first_bad_word(rt: &(impl Env + Alloc<A = Global>)) -> Result<usize, AllocErr
     let words = words_before_bad(rt)?;
     if is_serve(&words) {
         return first_bad_of_serve(rt.alloc(), &words);
+    }
+    if is_record(&words) {
+        return Ok(first_bad_of_record(&words));
     }
     match read_words(rt.alloc(), &words) {
         Ok(_) => Ok(words.len()),
@@ -73,6 +79,9 @@ fn main(rt: HostRuntime) -> ExitCode {
         Ok(all) => all,
         Err(_) => return ExitCode::from(9),
     };
+    if asks_help(&all) {
+        return ExitCode::from(write_help(alloc, &mut out));
+    }
     let [_, base, command @ ..] = all.as_slice() else {
         return usage(&rt, &mut out, 0);
     };
@@ -85,6 +94,11 @@ fn main(rt: HostRuntime) -> ExitCode {
         return ExitCode::from(serve_clients(&rt, command, &mut input, &mut out));
     }
     let mut disk = FileDisk::new(alloc, &rt, base);
+    if is_record(command) {
+        let screen = rt.stderr();
+        let status = record_samples(&rt, command, &mut input, &mut out, disk, &screen);
+        return ExitCode::from(status);
+    }
     let mut opened = None;
     let status = offline(alloc, command, &mut input, &mut out, &mut disk, &mut opened);
     ExitCode::from(status)

@@ -2,4 +2,6 @@
 #![tactic(auto)]
 
 #[cfg(test)]
+mod progress;
+#[cfg(test)]
 mod recordings;

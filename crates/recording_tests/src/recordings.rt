@@ -1,65 +1,61 @@
 //! Recordings of a script whose two writers add to one counter.
-ghost use Rattle.std.specs.Prelude.{◌≡◌, ◌≤◌, IfOk, IfSome, None, length};
-ghost use Rattle.run_script.specs.Recording.{refused_line};
-ghost use Rattle.run_script.specs.Rules.{KeepsRules};
-
-use pcp_base::{FileId, List, NoMemory, Stamp};
-use pcp_outside::{Free, LOGGER, ListClock, MemDisk, Turn};
-use run_script::{ReadScriptError, Script};
-use script_passes::open_script;
-use script_records::record_script;
-use script_replays::Replayed;
-use script_runs::Ending;
-use std::alloc::Global;
+use pcp_base::{FileId, List, Stamp};
+use pcp_outside::{Free, LOGGER, ListClock, MemDisk, MemSink, SureSource, Turn};
+use pm_recording::run_record;
+use std::alloc::{AllocError, Global};
 use std::sync::Wait;
 use std::sync::atomic::{AtomicBool, AtomicU64, Ordering};
 use std::test::Fail;
 use std::thread::{self, Threads};
 
-const SCRIPT: &[u8] =
+// Three images, and a region that opens on the first.
+pub const HEAD: &[u8] =
     b"image A\nmmv 1 5 0 0 1\nmetric hits 2 i32 counter 00100000 - - -\nvalue 2 - 7\nend\n\
-region app A 32 3\nlog mandatory on every 1 sec { mmv }\nstart\n\
-attach app 0\nadd app 0 2 - 5\ndetach app 0\nattach app 1\nadd app 1 2 - 5\ndetach app 1\n";
+image B\nmmv 1 1 0 0 1\nmetric hits 2 i32 counter 00100000 - - -\nvalue 2 - 9\nend\n\
+image C\nmmv 1 1 0 0 1\nmetric misses 3 i32 counter 00100000 - - -\nvalue 3 - 1\nend\n\
+region app A 32 3\nlog mandatory on every 1 sec { mmv }\nstart\n";
 
-fn read(alloc: Global, text: &[u8]) -> Result<Script, ReadScriptError>
-    requires { length text.now ≤ 16777216 }
-    ensures { IfOk result KeepsRules }
-{
-    let script = Script::read(alloc, text)?;
-    Ok(script)
+pub const STEPS: &[u8] =
+    b"attach app 0\nadd app 0 2 - 5\ndetach app 0\nattach app 1\nadd app 1 2 - 5\ndetach app 1\n";
+
+// What a run came to.
+#[derive(Drop)]
+struct Ran {
+    status: u8,
+    out: MemSink,
+    disk: MemDisk,
 }
 
-// The script, where it is read and a recording takes it.
-fn script(alloc: Global) -> Option<Script>
-    ensures rules { IfSome result KeepsRules }
-    ensures record { IfSome result (λ script. refused_line script ≡ None) }
-{
-    if SCRIPT.len() > 16_777_216 {
-        return None;
+/// The words of a line.
+pub fn words_of(alloc: Global, line: &str) -> Result<Vec<String>, AllocError> {
+    let mut words = Vec::new(alloc);
+    for word in line.split(' ') {
+        words.push(word.to_string(alloc)?)?;
     }
-    let Ok(script) = read(alloc, SCRIPT) else {
-        return None;
-    };
-    match Script::for_record(&script) {
-        Ok(()) => Some(script),
-        Err(_) => None,
-    }
+    Ok(words)
 }
 
-// Records the script on an empty disk at moments of whole seconds, where these calls of the clock fail.
+/// An input of the head and these steps.
+pub fn input_of(alloc: Global, steps: &[u8]) -> Result<SureSource, AllocError> {
+    let mut script = HEAD.to_vec(alloc)?;
+    script.extend_from_slice(steps)?;
+    Ok(SureSource::new(List::from_vec(script)))
+}
+
+// Runs the words over these steps and an empty disk, at moments of whole seconds, where these calls of the clock fail.
 fn record<R: Threads + Wait + Sync>(
     rt: &R,
     alloc: Global,
+    line: &str,
+    steps: &[u8],
     seconds: &[u32],
     fails: &[u64],
-    samples: u32,
     turn: &(impl Turn + Sync),
-) -> Result<Option<(Replayed, MemDisk)>, NoMemory>
-    requires { 1 ≤ samples }
-{
-    let Some(script) = script(alloc) else {
-        return Ok(None);
-    };
+) -> Result<Ran, AllocError> {
+    let words = words_of(alloc, line)?;
+    let mut input = input_of(alloc, steps)?;
+    let mut out = MemSink::new(alloc, List::empty(alloc));
+    let mut disk = MemDisk::new(alloc, List::empty(alloc));
     let mut moments = Vec::new(alloc);
     for second in seconds {
         if let Some(moment) = Stamp::build(*second, 0) {
@@ -68,30 +64,35 @@ fn record<R: Threads + Wait + Sync>(
     }
     let fails = List::from_vec(fails.to_vec(alloc)?);
     let mut clock = ListClock::new(List::from_vec(moments), fails);
-    let mut disk = MemDisk::new(alloc, List::empty(alloc));
-    let mut opened = open_script(alloc, &script, 1)?;
-    let recorded = record_script(
+    let mut opened = None;
+    let status = run_record(
         rt,
         alloc,
-        script,
-        &mut opened,
+        &words,
+        &mut input,
+        &mut out,
         &mut disk,
         &mut clock,
         turn,
-        samples,
-        1_048_576,
+        &mut opened,
     );
-    Ok(Some((recorded, disk)))
+    Ok(Ran { status, out, disk })
 }
 
 #[test]
 fn two_writers_add_to_one_counter(rt: HostRuntime) -> Result<(), Fail> {
-    let Some((recorded, disk)) = record(&rt, rt.alloc(), &[100], &[], 1, &Free)? else {
-        return Err(Fail::new("no script"));
-    };
-    assert_eq!(rt; matches!(recorded.ending, Ending::Done), true);
-    assert_eq!(rt; recorded.output.as_slice(), b"logged 1\n".as_slice());
-    let volume = disk.bytes(FileId::Volume(0));
+    let ran = record(
+        &rt,
+        rt.alloc(),
+        "record 1 1048576",
+        STEPS,
+        &[100],
+        &[],
+        &Free,
+    )?;
+    assert_eq!(rt; ran.status, 0);
+    assert_eq!(rt; ran.out.bytes(), b"logged 1\n".as_slice());
+    let volume = ran.disk.bytes(FileId::Volume(0));
     assert_eq!(rt; volume.len(), 172);
     // The null instance and its value, before the last length word.
     let pair = b"\xff\xff\xff\xff\x00\x00\x00\x11".as_slice();
@@ -101,16 +102,39 @@ fn two_writers_add_to_one_counter(rt: HostRuntime) -> Result<(), Fail> {
 
 #[test]
 fn clock_ends_and_fails(rt: HostRuntime) -> Result<(), Fail> {
-    let ended = record(&rt, rt.alloc(), &[], &[], 1, &Free)?;
-    let failed = record(&rt, rt.alloc(), &[100], &[1], 1, &Free)?;
-    let (Some((ended, left)), Some((failed, left_too))) = (ended, failed) else {
-        return Err(Fail::new("no script"));
-    };
-    let is_end = matches!(ended.ending, Ending::ClockEnd { left: 1 });
-    let is_fault = matches!(failed.ending, Ending::ClockFault { left: 1 });
-    assert_eq!(rt; (is_end, is_fault), (true, true));
+    let ended = record(&rt, rt.alloc(), "record 1 1048576", STEPS, &[], &[], &Free)?;
+    assert_eq!(rt; ended.status, 8);
+    assert_eq!(rt; ended.out.bytes(), b"clock end 1\n".as_slice());
+    let failed = record(
+        &rt,
+        rt.alloc(),
+        "record 1 1048576",
+        STEPS,
+        &[100],
+        &[1],
+        &Free,
+    )?;
+    assert_eq!(rt; failed.status, 20);
+    assert_eq!(rt; failed.out.bytes(), b"clock fault 1\n".as_slice());
     // Nothing was done to any file.
-    assert_eq!(rt; (left.moments(), left_too.moments()), (0, 0));
+    assert_eq!(rt; (ended.disk.moments(), failed.disk.moments()), (0, 0));
+    Ok(())
+}
+
+#[test]
+fn a_reading_is_no_step_of_a_writer(rt: HostRuntime) -> Result<(), Fail> {
+    let steps = b"load app 0\ndone app 0\n";
+    let ran = record(
+        &rt,
+        rt.alloc(),
+        "record 1 1048576",
+        steps,
+        &[100],
+        &[],
+        &Free,
+    )?;
+    assert_eq!(rt; ran.status, 2);
+    assert_eq!(rt; ran.out.bytes(), b"input line 19 Condition\n".as_slice());
     Ok(())
 }
 
@@ -147,11 +171,17 @@ fn beside(rt: HostRuntime) -> Result<(), Fail> {
         called: AtomicU64::new(0),
         late: AtomicBool::new(false),
     };
-    let Some((recorded, _)) = record(&rt, rt.alloc(), &[100, 101], &[], 2, &held)? else {
-        return Err(Fail::new("no script"));
-    };
+    let ran = record(
+        &rt,
+        rt.alloc(),
+        "record 2 1048576",
+        STEPS,
+        &[100, 101],
+        &[],
+        &held,
+    )?;
     assert_eq!(rt; held.late.load(Ordering::SeqCst), false);
-    assert_eq!(rt; matches!(recorded.ending, Ending::Done), true);
-    assert_eq!(rt; recorded.output.as_slice(), b"logged 2\n".as_slice());
+    assert_eq!(rt; ran.status, 0);
+    assert_eq!(rt; ran.out.bytes(), b"logged 2\n".as_slice());
     Ok(())
 }

@@ -1,0 +1,32 @@
+//! The help names each command with its words.
+use crate::write_help;
+use pcp_base::List;
+use pcp_outside::MemSink;
+use std::test::Fail;
+
+const LINES: [&str; 13] = [
+    "\n  once SEC USEC FILE ",
+    "\n  replay VOLUME ",
+    "\n  make NUMBER TICKS VOLUME ",
+    "\n  record SAMPLES VOLUME ",
+    "\n  serve PORT COUNT ",
+    "\n  recover ",
+    "\n  dump ",
+    "\n  at SEC USEC ",
+    "\n  range SEC USEC SEC USEC ",
+    "\n  value SEC USEC NAME ",
+    "\n  info ",
+    "\n  mmv-make ",
+    "\n  mmv-dump ",
+];
+
+#[test]
+fn help_names_the_commands(rt: HostRuntime) -> Result<(), Fail> {
+    let mut sink = MemSink::new(rt.alloc(), List::empty(rt.alloc()));
+    assert_eq!(rt; write_help(rt.alloc(), &mut sink), 0);
+    let text = str::from_utf8(sink.bytes())?;
+    for line in LINES {
+        assert!(rt; text.contains(line), "{line} of {text}");
+    }
+    Ok(())
+}

@@ -1,0 +1,159 @@
+//! What a recording has logged so far, counted at its disk and told before each of its samples.
+ghost use Rattle.std.specs.Prelude.{◌≡◌, ◌≤◌, ℕ, length, take, drop, IfOk, OnOk};
+ghost use Rattle.pcp_model.specs.Disk.{CrashImage, bytes_of};
+ghost use Rattle.pcp_outside.specs.Causes.{HasCause, capped};
+ghost use Rattle.pcp_outside.specs.Devices.{Appends, Counts, Cuts, Elapses, IsNumbered, IsVolumes, Syncs, length_of};
+
+use pcp_outside::{Disk, Failed, FileId, LOGGER, Turn};
+use std::io::Print;
+use std::sync::atomic::{AtomicU64, Ordering};
+
+/// What was logged: how many results, and how many bytes of all files.
+#[derive(Drop)]
+pub struct Progress {
+    results: AtomicU64,
+    bytes: AtomicU64,
+}
+
+impl Progress {
+    pub fn new() -> Progress {
+        Progress {
+            results: AtomicU64::new(0),
+            bytes: AtomicU64::new(0),
+        }
+    }
+}
+
+/// A disk whose appends are counted.
+#[derive(Drop)]
+pub struct CountedDisk<'a, D: Disk + Drop> {
+    disk: D,
+    // One more than the greatest number of a volume that isn't empty: what is appended first to a volume is its label.
+    volumes: u32,
+    progress: &'a Progress,
+}
+
+impl<'a, D: Disk + Drop> CountedDisk<'a, D> {
+    pub fn new(disk: D, progress: &'a Progress) -> CountedDisk<'a, D> {
+        CountedDisk {
+            disk,
+            volumes: 0,
+            progress,
+        }
+    }
+
+    // Counts what was appended; each result is appended at once.
+    fn count(&mut self, file: FileId, bytes: usize)
+        ensures { self.new.disk ≡ self.old.disk }
+    {
+        self.progress
+            .bytes
+            .fetch_add(bytes as u64, Ordering::SeqCst);
+        let FileId::Volume(number) = file else {
+            return;
+        };
+        if number < self.volumes {
+            self.progress.results.fetch_add(1, Ordering::SeqCst);
+        } else {
+            self.volumes = number.saturating_add(1);
+        }
+    }
+}
+
+impl<'a, D: Disk + Drop> Disk for CountedDisk<'a, D> {
+    ghost tells = { D.tells };
+
+    ghost held = { λ d. D.held d.disk };
+
+    ghost wrapped_file = { λ d. D.wrapped_file d.disk };
+
+    ghost taken = { λ d. D.taken d.disk };
+
+    ghost moment = { λ d. D.moment d.disk };
+
+    ghost left_since = { λ d. D.left_since d.disk };
+
+    ghost faults = { λ d. D.faults d.disk };
+
+    ghost counts_now = { λ d. D.counts_now d.disk };
+
+    ghost only_now = { λ d. D.only_now d.disk };
+
+    fn len(&mut self, file: FileId) -> Result<u64, Failed> {
+        self.disk.len(file)
+    }
+
+    fn volumes(&mut self) -> Result<u32, Failed> {
+        let volumes = self.disk.volumes()?;
+        self.volumes = volumes;
+        Ok(volumes)
+    }
+
+    fn wrapped(&mut self) -> Result<Option<FileId>, Failed> {
+        self.disk.wrapped()
+    }
+
+    fn read(&mut self, file: FileId, at: u64, buffer: &mut [u8]) -> Result<(), Failed> {
+        self.disk.read(file, at, buffer)
+    }
+
+    fn append(&mut self, file: FileId, bytes: &[u8]) -> Result<(), Failed> {
+        self.disk.append(file, bytes)?;
+        self.count(file, bytes.len());
+        Ok(())
+    }
+
+    fn sync(&mut self, file: FileId) -> Result<(), Failed> {
+        self.disk.sync(file)
+    }
+
+    fn cut(&mut self, file: FileId, len: u64) -> Result<(), Failed> {
+        self.disk.cut(file, len)?;
+        if let (FileId::Volume(number), 0) = (file, len) {
+            self.volumes = self.volumes.min(number);
+        }
+        Ok(())
+    }
+}
+
+/// Turns of which some are told on a screen: before each of so many samples its number, and what was logged before it. Where there is
+/// no such number nothing is told, and where the screen fails nothing else changes.
+#[derive(Drop)]
+pub struct ToldTurn<'a, T: Turn + Drop, P: Print> {
+    turn: T,
+    screen: &'a P,
+    samples: Option<u32>,
+    progress: &'a Progress,
+}
+
+impl<'a, T: Turn + Drop, P: Print> ToldTurn<'a, T, P> {
+    pub fn new(turn: T, screen: &'a P, samples: Option<u32>, progress: &'a Progress) -> Self {
+        ToldTurn {
+            turn,
+            screen,
+            samples,
+            progress,
+        }
+    }
+
+    fn tell(&self, step: u64, samples: u32) {
+        let number = step.saturating_add(1);
+        let results = self.progress.results.load(Ordering::SeqCst);
+        let bytes = self.progress.bytes.load(Ordering::SeqCst);
+        let _ = println!(self.screen;
+            "sample {number} of {samples}: results {results}, bytes {bytes}"
+        );
+    }
+}
+
+impl<'a, T: Turn + Drop, P: Print> Turn for ToldTurn<'a, T, P> {
+    fn turn(&self, who: u32, step: u64) {
+        self.turn.turn(who, step);
+        if who != LOGGER {
+            return;
+        }
+        if let Some(samples) = self.samples {
+            self.tell(step, samples);
+        }
+    }
+}

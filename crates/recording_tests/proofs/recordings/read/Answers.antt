@@ -1,6 +1,0 @@
--- A script that is read keeps the rules.
-use Rattle.run_script.proofs.Ruled.{scripts_are_ruled}
-use Rattle.recording_tests.proofs.recordings.read.Goals as goal
-
-pub returns : goal.returns
-returns c = scripts_are_ruled c.args.text.now c.in_ok-script.script c.in_ok-script.ensures
