@@ -9,9 +9,6 @@ use clap::Command;
 use pcp_outside::{Sink, write_all};
 use std::alloc::{AllocError, Global};
 
-#[cfg(test)]
-mod tests;
-
 const USAGE: &str = "pcp BASE COMMAND\n       pcp --help";
 
 const ENDING: &str =

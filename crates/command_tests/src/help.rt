@@ -1,6 +1,6 @@
 //! The help names each command with its words.
-use crate::write_help;
 use pcp_base::List;
+use pcp_help::write_help;
 use pcp_outside::MemSink;
 use std::test::Fail;
 
