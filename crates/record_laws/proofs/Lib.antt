@@ -1,0 +1,6 @@
+pub mod Behind
+pub mod Counted
+pub mod Last
+pub mod Places
+pub mod Reading
+pub mod Summing

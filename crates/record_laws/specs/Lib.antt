@@ -1,0 +1,4 @@
+pub mod Beside
+pub mod Closing
+pub mod Counters
+pub mod Sums
