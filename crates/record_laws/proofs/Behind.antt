@@ -27,7 +27,7 @@ abbrev pub AreLoads : List Entry → Type 0
 AreLoads entries = All (λ (e : Entry). is_load e.act ≡ true) entries
 
 -- a load leaves the state
-load_still : (s : State) (k : ℕ) (act : Act) → is_load act ≡ true → after s k act ≡ s
+pub load_still : (s : State) (k : ℕ) (act : Act) → is_load act ≡ true → after s k act ≡ s
 load_still s k (Load w) e = refl
 load_still s k (Swap w v) e = absurd (cc)
 load_still s k (Add w d) e = absurd (cc)
@@ -39,10 +39,10 @@ load_still s k (Put w v) e = absurd (cc)
 load_still s k (End n) e = absurd (cc)
 load_still s k Free e = absurd (cc)
 
-first_load : (e : Entry) (es : List Entry) → AreLoads (e ∷ es) → is_load e.act ≡ true
+pub first_load : (e : Entry) (es : List Entry) → AreLoads (e ∷ es) → is_load e.act ≡ true
 first_load e es h = All-head (λ (x : Entry). is_load x.act ≡ true) e es h
 
-other_loads : (e : Entry) (es : List Entry) → AreLoads (e ∷ es) → AreLoads es
+pub other_loads : (e : Entry) (es : List Entry) → AreLoads (e ∷ es) → AreLoads es
 other_loads e es h = All-tail (λ (x : Entry). is_load x.act ≡ true) e es h
 
 pub loads_keep : (s : State) (es : List Entry) → AreLoads es → state s es ≡ s
@@ -64,10 +64,10 @@ loads_behind [] ys h = h
 loads_behind (x ∷ xs) ys h = loads_behind xs ys (other_loads x (xs ++ ys) h)
 
 -- the entries of a pass, by the first one
-own_mine : (e : Entry) (es : List Entry) (n : ℕ) → e.by ≡ n → own n (e ∷ es) ≡ e ∷ own n es
+pub own_mine : (e : Entry) (es : List Entry) (n : ℕ) → e.by ≡ n → own n (e ∷ es) ≡ e ∷ own n es
 own_mine e es n same = ap (λ (b : Bool). own_then b e (own n es)) (eq-eqb e.by n same)
 
-own_other : (e : Entry) (es : List Entry) (n : ℕ) → e.by ≢ n → own n (e ∷ es) ≡ own n es
+pub own_other : (e : Entry) (es : List Entry) (n : ℕ) → e.by ≢ n → own n (e ∷ es) ≡ own n es
 own_other e es n differ = ap (λ (b : Bool). own_then b e (own n es)) (ne_eqb e.by n differ)
 
 -- where one pass alone has entries, which are loads, all are

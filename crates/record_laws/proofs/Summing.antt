@@ -69,10 +69,10 @@ summed s w opened sum (e ∷ es) below h =
 
 -- Each word stays one of 64 bits
 
-abbrev AreWords : State → Type 0
+abbrev pub AreWords : State → Type 0
 AreWords s = (u : ℕ) → IsWord (word s u)
 
-put_word : (words : List ℕ) (w v : ℕ) → IsWord v → ((u : ℕ) → IsWord (slice_index words u)) → (u : ℕ) → IsWord (slice_index (set words w v) u)
+pub put_word : (words : List ℕ) (w v : ℕ) → IsWord v → ((u : ℕ) → IsWord (slice_index words u)) → (u : ℕ) → IsWord (slice_index (set words w v) u)
 put_word [] w v fits h u = h u
 put_word (x ∷ xs) zero v fits h zero = fits
 put_word (x ∷ xs) zero v fits h (suc u) = h (suc u)
@@ -95,7 +95,7 @@ module _ (S : Shaping) where
   words_after s k (End n) a h = put_word s.words 2 n (subst IsWord a.ready.1 (h 1)) h
   words_after s k Free a h = h
 
-  words_run : (s : State) (es : List Entry) → IsLegal S s es → AreWords s → AreWords (state s es)
+  pub words_run : (s : State) (es : List Entry) → IsLegal S s es → AreWords s → AreWords (state s es)
   words_run s [] l h = h
   words_run s (e ∷ es) l h = words_run (after s e.by e.act) es l.1 (words_after s e.by e.act l.0 h)
 

@@ -4,7 +4,7 @@ ghost use Rattle.record_laws.specs.Counters.{CountersAreSums, WordsAreSums};
 
 /// After a recording that came to its end the last sample shows of each region exactly what the region's words say once every writer has
 /// ended: each numeric value, under the region's last layout, as it stands in the end; and what is logged last is what these words answer.
-#[tactic(auto, using(crate::proofs::Last::last_sample))]
+#[tactic(auto, using(crate::proofs::Last::last_sample, crate::proofs::Relaid::relaid, crate::proofs::Owned::good_lines))]
 pub fn last_sample_is_exact()
     ensures { LastSampleIsExact }
 {}
