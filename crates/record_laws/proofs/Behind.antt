@@ -59,7 +59,7 @@ loads_before : (xs ys : List Entry) → AreLoads (xs ++ ys) → AreLoads xs
 loads_before [] ys h = All-nil (λ (x : Entry). is_load x.act ≡ true)
 loads_before (x ∷ xs) ys h = All-cons (λ (e : Entry). is_load e.act ≡ true) x xs (first_load x (xs ++ ys) h) (loads_before xs ys (other_loads x (xs ++ ys) h))
 
-loads_behind : (xs ys : List Entry) → AreLoads (xs ++ ys) → AreLoads ys
+pub loads_behind : (xs ys : List Entry) → AreLoads (xs ++ ys) → AreLoads ys
 loads_behind [] ys h = h
 loads_behind (x ∷ xs) ys h = loads_behind xs ys (other_loads x (xs ++ ys) h)
 

@@ -25,7 +25,7 @@ use Rattle.script_runs.specs.declared.ending.Ending.{Ending}
 use Rattle.script_runs.specs.declared.ending.Ending.TheVariants as ends
 use Rattle.script_writers.specs.Hands.{IsServedAt}
 use Rattle.script_writers.proofs.Placed.{made_at}
-use Rattle.record_laws.specs.Beside.{AtJournals, Beside, EndsBy, Finished, WritersRan, start_of}
+use Rattle.script_records.specs.Beside.{AtJournals, Beside, EndsBy, Finished, WritersRan, start_of}
 use Rattle.record_laws.specs.Closing.{closing_words}
 use Rattle.record_laws.specs.Counters.{WordsAreSums, IsCounted, CountersAreSums}
 use Rattle.record_laws.proofs.Behind.{image_end, stable_end}

@@ -1,8 +1,10 @@
 pub mod Behind
 pub mod Counted
+pub mod Forms
 pub mod Last
 pub mod Owned
 pub mod Places
 pub mod Reading
 pub mod Relaid
+pub mod Suited
 pub mod Summing

@@ -99,7 +99,7 @@ none_attaches k s es a =
 
 -- a store
 
-abbrev IsStore : Act → Type 0
+abbrev pub IsStore : Act → Type 0
 IsStore (Swap w v) = Unit {0}
 IsStore (Add w d) = Unit {0}
 IsStore act = ⊥

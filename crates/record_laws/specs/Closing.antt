@@ -21,7 +21,7 @@ use Rattle.script_runs.specs.Steps.{fetched_from}
 use Rattle.script_runs.specs.declared.ending.Ending.TheVariants as ends
 use Rattle.script_samples.specs.Samples.{Taken}
 use Rattle.script_samples.specs.Shown.{AreShown, pmids_by, with_result}
-use Rattle.record_laws.specs.Beside.{Beside, Sampled, start_of}
+use Rattle.script_records.specs.Beside.{Beside, Sampled, start_of}
 
 -- the words of a region at the end of its journal, which is what the seat's pass has seen
 abbrev pub closing_words : Mounted → Token → List ℕ

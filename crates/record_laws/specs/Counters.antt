@@ -16,7 +16,7 @@ use Rattle.script_passes.specs.Crews.{ServesScript}
 use Rattle.script_runs.specs.declared.ending.Ending.{Ending}
 use Rattle.script_runs.specs.declared.ending.Ending.TheVariants as ends
 use Rattle.script_writers.specs.Hands.{IsServedAt}
-use Rattle.record_laws.specs.Beside.{Beside, start_of}
+use Rattle.script_records.specs.Beside.{Beside, start_of}
 use Rattle.record_laws.specs.Closing.{closing_words}
 use Rattle.record_laws.specs.Sums.{IsSum}
 

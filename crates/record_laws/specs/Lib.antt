@@ -1,4 +1,3 @@
-pub mod Beside
 pub mod Closing
 pub mod Counters
 pub mod Sums
