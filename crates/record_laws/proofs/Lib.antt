@@ -1,5 +1,6 @@
 pub mod Behind
 pub mod Counted
+pub mod Fitting
 pub mod Forms
 pub mod Last
 pub mod Owned
@@ -8,3 +9,5 @@ pub mod Reading
 pub mod Relaid
 pub mod Suited
 pub mod Summing
+pub mod Unlost
+pub mod Wrote

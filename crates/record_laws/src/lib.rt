@@ -4,4 +4,4 @@
 
 mod laws;
 
-pub use laws::{counters_are_sums, last_sample_is_exact, words_are_sums};
+pub use laws::{counters_are_sums, last_sample_is_exact, no_line_is_lost, words_are_sums};
