@@ -1,0 +1,13 @@
+pub mod Behind
+pub mod Counted
+pub mod Fitting
+pub mod Forms
+pub mod Last
+pub mod Owned
+pub mod Places
+pub mod Reading
+pub mod Relaid
+pub mod Suited
+pub mod Summing
+pub mod Unlost
+pub mod Wrote

@@ -1,0 +1,4 @@
+pub mod Closing
+pub mod Counters
+pub mod Sums
+pub mod Whole
