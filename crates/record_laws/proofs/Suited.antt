@@ -36,7 +36,7 @@ pairs_same (x ∷ xs) (y ∷ ys) e f =
     tail_same a b xs ys e = cc
 
 module _ (words others : List ℕ) (same : form_of words ≡ form_of others) where
-  slots_same : slots_of words ≡ slots_of others
+  pub slots_same : slots_of words ≡ slots_of others
   unfolding form_of
   slots_same = ap (λ (f : Form). f.slots) same
 
