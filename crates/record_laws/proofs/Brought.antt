@@ -1,12 +1,12 @@
 -- The last change of a region's layout stores each word of its image.
-use Rattle.std.proofs.Common.{◌≡◌, ◌≢◌, ◌⊎◌, inl, inr, ⊎_elim, ℕ, zero, suc, ◌+◌, ◌-◌, ◌<◌, ◌≤◌, ◌==◌, Bool, true, false, eqb, eq-eqb, if◌then◌else◌, List, [], ◌∷◌, ◌++◌, drop, length, length-drop, map, slice_index, Option, Some, None, sym, refl, ap, ◌∙◌, subst, arith}
+use Rattle.std.proofs.Common.{◌≡◌, ◌≢◌, ◌⊎◌, inl, inr, ℕ, suc, ◌+◌, ◌<◌, ◌≤◌, Bool, eq-eqb, if◌then◌else◌, List, [], ◌∷◌, ◌++◌, drop, length, length-drop, map, slice_index, Some, None, sym, refl, ap, ◌∙◌, arith}
 use mathlib.Core.Logic.{dite}
 use native.Mathlib.Decide.{ℕ_discrete}
 use Rattle.region_core.specs.declared.act.Act.{Act}
-use Rattle.region_core.specs.declared.act.Act.TheVariants.{Begin, Put, End, Free}
+use Rattle.region_core.specs.declared.act.Act.TheVariants.{Put, End, Free}
 use Rattle.region_core.specs.declared.act.Entry.{Entry}
 use Rattle.region_core.specs.Journal.{own}
-use Rattle.region_rule.specs.Changes.{puts_at, puts_left}
+use Rattle.region_rule.specs.Changes.{puts_at}
 use Rattle.region_rule.specs.Steps.{entry}
 use Rattle.record_laws.specs.Sums.{IsStored, stored_by}
 use Rattle.record_laws.proofs.Behind.{own_mine, own_other}

@@ -1,11 +1,11 @@
 -- The numbers of a region at the end of a recording.
-use Rattle.std.proofs.Common.{◌≡◌, ◌≢◌, ◌⊎◌, inl, inr, ⊎_elim, ℕ, ◌+◌, ◌<◌, List, [], ◌∷◌, ◌++◌, append_assoc, append-nil, length, slice_get, slice_index, Contains, Some, None, sym, refl, ap, ◌∙◌, subst, arith}
+use Rattle.std.proofs.Common.{◌≡◌, ◌≢◌, inl, inr, ⊎_elim, ℕ, ◌+◌, ◌<◌, List, [], ◌∷◌, ◌++◌, append_assoc, append-nil, length, slice_get, slice_index, Contains, Some, None, sym, refl, ap, ◌∙◌, subst, arith}
 use Rattle.pcp_base.specs.Time.{Moment}
 use Rattle.pcp_base.specs.declared.kind.Kind.{Kind}
 use Rattle.pcp_base.specs.declared.kind.Kind.TheVariants as kinds
 use Rattle.mmv_format.specs.declared.rows.Content.TheVariants.{Number}
 use Rattle.mmv_format.specs.declared.rows.Slot.{Slot}
-use Rattle.mmv_layout.specs.Form.{Form, form_of, slots_of}
+use Rattle.mmv_layout.specs.Form.{form_of, slots_of}
 use Rattle.mmv_layout.specs.Rows.{layout_of}
 use Rattle.mmv_layout.specs.ShapeLaws.{Takes, TakesAs, content_of_kind}
 use Rattle.mmv_layout.proofs.FormSays.{slot_holds}
@@ -117,13 +117,13 @@ module _ (script : Script) (server : List Mounted) (first final : List Token) (m
       let whole : log ≡ before ++ entry k (Begin n) ∷ (mid ++ []) = is ∙ ap (λ (es : List Entry). before ++ entry k (Begin n) ∷ es) (sym (append-nil mid)) in
       let end : state (start_of at.mounted) log ≡ state t mid = ap (λ (es : List Entry). state (start_of at.mounted) es) is ∙ state-append (start_of at.mounted) before (entry k (Begin n) ∷ mid) in
       let c : Changed mmv mmv_laws May at.mounted.region.words at.mounted.region.passes at.row.passes log (b.legal i j at token there) passes_are (b.loads i j at token there)
-          (words_start script server first final ends.Done moments results keeps refused images words serves b own_end i j at token there)
-          (held_images script server first final ends.Done moments results keeps refused images words serves b own_end i j at token there)
-          (good script server first final ends.Done moments results keeps refused images words serves b own_end i j at token there) k n mid [] t =
+      (words_start script server first final ends.Done moments results keeps refused images words serves b own_end i j at token there)
+      (held_images script server first final ends.Done moments results keeps refused images words serves b own_end i j at token there)
+      (good script server first final ends.Done moments results keeps refused images words serves b own_end i j at token there) k n mid [] t =
       changed_at mmv mmv_laws May at.mounted.region.words at.mounted.region.passes at.row.passes log (b.legal i j at token there) passes_are (b.loads i j at token there)
-          (words_start script server first final ends.Done moments results keeps refused images words serves b own_end i j at token there)
-          (held_images script server first final ends.Done moments results keeps refused images words serves b own_end i j at token there)
-          (good script server first final ends.Done moments results keeps refused images words serves b own_end i j at token there) before k n mid [] whole none (subst IsStable end stable) in
+      (words_start script server first final ends.Done moments results keeps refused images words serves b own_end i j at token there)
+      (held_images script server first final ends.Done moments results keeps refused images words serves b own_end i j at token there)
+      (good script server first final ends.Done moments results keeps refused images words serves b own_end i j at token there) before k n mid [] whole none (subst IsStable end stable) in
       let form : form_of closed ≡ form_of c.image = ap (λ (s : State). form_of s.words) end ∙ c.form in
       let there_too : Contains (slots_of c.image) slot = subst (λ (slots : List Slot). Contains slots slot) (slots_same closed c.image form) among in
       let below : slot.word < length c.image = subst (λ (s : Slot). s.word < length c.image) there_too.2 (slots_below c.image c.may.0 there_too.0 slot there_too.1) in

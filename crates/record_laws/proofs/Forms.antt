@@ -1,15 +1,15 @@
 -- The form of a region's words wherever the generations agree, and how high its generations are.
-use Rattle.std.proofs.Common.{◌≡◌, ◌≢◌, ◌⊎◌, inl, inr, ⊎_elim, ℕ, zero, suc, ◌+◌, ◌-◌, ◌*◌, ◌^◌, ◌<◌, ◌≤◌, Bool, true, false, List, [], ◌∷◌, ◌++◌, append_assoc, length, map, max, replicate, set, slice_index, length-set, get_or-set_same, get_or-set_other, sym, refl, ap, ◌∙◌, subst, arith}
+use Rattle.std.proofs.Common.{◌≡◌, ◌≢◌, ◌⊎◌, inl, inr, ⊎_elim, ℕ, zero, suc, ◌+◌, ◌-◌, ◌*◌, ◌^◌, ◌<◌, ◌≤◌, true, false, List, [], ◌∷◌, ◌++◌, append_assoc, length, map, max, set, slice_index, length-set, get_or-set_same, get_or-set_other, sym, refl, ap, ◌∙◌, subst, arith}
 use Rattle.std.proofs.lemmas.List.{length-replicate}
 use mathlib.Core.Logic.{dite}
-use native.Mathlib.Decide.{ℕ_discrete, dec_le}
+use native.Mathlib.Decide.{ℕ_discrete}
 use Rattle.region_core.specs.declared.act.Act.{Act}
 use Rattle.region_core.specs.declared.act.Act.TheVariants.{Load, Swap, Add, Enter, Leave, Take, Begin, Put, End, Free}
 use Rattle.region_core.specs.declared.act.Entry.{Entry}
 use Rattle.region_core.specs.declared.mode.Mode.TheVariants.{Idle, Changing}
 use Rattle.region_core.specs.Journal.{state, own, IsLegal, IsJournal}
-use Rattle.region_core.specs.Shape.{Shaping, IsShape, IsWord}
-use Rattle.region_core.specs.State.{State, word, g1, g2, after, opening, IsAllowed, IsIn, IsStable}
+use Rattle.region_core.specs.Shape.{Shaping, IsShape}
+use Rattle.region_core.specs.State.{State, g1, g2, after, opening, IsAllowed, IsStable}
 use Rattle.region_core.proofs.Journals.{state-append, own-append, legal-front, legal-back}
 use Rattle.region_core.proofs.Lists.{at_below}
 use Rattle.region_core.proofs.Runs.{count_run, mode_own, wide_run}

@@ -1,10 +1,10 @@
 -- No line of a recording is lost.
-use Rattle.std.proofs.Common.{◌≡◌, ◌≢◌, ◌⊎◌, inl, inr, ⊎_elim, ℕ, ◌+◌, ◌-◌, ◌<◌, ◌≤◌, ◌^◌, Bool, true, List, [], ◌++◌, append-nil, length, slice_index, slice_get, Some, None, sym, refl, ap, ◌∙◌, subst, arith}
+use Rattle.std.proofs.Common.{◌≡◌, ◌≢◌, ⊎_elim, ℕ, ◌-◌, ◌<◌, ◌≤◌, ◌^◌, List, ◌++◌, append-nil, length, slice_index, slice_get, Some, None, sym, refl, ap, ◌∙◌, subst, arith}
 use Rattle.pcp_base.specs.Time.{Moment}
 use Rattle.mmv_layout.specs.Form.{form_of}
 use Rattle.region_core.specs.declared.act.Entry.{Entry}
 use Rattle.region_core.specs.Journal.{state, own, IsJournal}
-use Rattle.region_core.specs.State.{State, g1, opening, with_zeros, IsStable}
+use Rattle.region_core.specs.State.{State, g1, opening, IsStable}
 use Rattle.region_core.proofs.Journals.{own-append}
 use Rattle.region_rule.specs.Seats.{Token}
 use Rattle.region_words.specs.Images.{mmv, mmv_laws}
@@ -12,10 +12,8 @@ use Rattle.fetch_answers.specs.declared.fetch.Fetched.{Fetched}
 use Rattle.fetch_engine.specs.declared.server.Mounted.{Mounted}
 use Rattle.run_script.specs.Recording.{held_by, lines_of, refused_line}
 use Rattle.run_script.specs.Rules.{KeepsRules}
-use Rattle.run_script.specs.declared.script.RegionRow.{RegionRow}
 use Rattle.run_script.specs.declared.script.Script.{Script}
 use Rattle.script_passes.specs.Crews.{Serves, ServesScript}
-use Rattle.script_runs.specs.Regions as regions
 use Rattle.script_runs.specs.declared.ending.Ending.{Ending}
 use Rattle.script_runs.specs.declared.ending.Ending.TheVariants as ends
 use Rattle.script_writers.specs.Hands.{IsServedAt}
@@ -25,7 +23,7 @@ use Rattle.script_records.specs.Beside.{AtJournals, Beside, Finished, WritersRan
 use Rattle.script_records.specs.Pictured.{AreImages}
 use Rattle.record_laws.specs.Whole.{AreOfWords, NoLineIsLost, WritesAll}
 use Rattle.record_laws.proofs.Fitting.{MayChange, few_lines, lines_fit, opened_form, opened_held, opened_image, opened_low, opened_words}
-use Rattle.record_laws.proofs.Forms.{HasForm, form_at, not_spent}
+use Rattle.record_laws.proofs.Forms.{form_at, not_spent}
 use Rattle.record_laws.proofs.Owned.{Bounded, Good, begun, begun_lines, bounded_lines, bounded_more, good_lines}
 use Rattle.record_laws.proofs.Summing.{AreWords}
 use Rattle.record_laws.proofs.Wrote.{IsHeld, all_write}
@@ -96,9 +94,11 @@ module _ (script : Script) (server : List Mounted) (first final : List Token) (e
 
   stands : (pre post : List Entry) → log ≡ pre ++ post → IsStable (state start pre) → (image : List ℕ) × IsHeld (held_by script i) image × (form_of (state start pre).words ≡ form_of image)
   stands pre post is stable = ⊎_elim
-      (λ (opened : form_of (state start pre).words ≡ form_of at.mounted.region.words).
-      (opened_image script keeps refused images i at.row at.is, opened_held script keeps refused images i at.row at.is,
-      opened ∙ (ap (λ (ws : List ℕ). form_of ws) made.words ∙ opened_form script keeps refused images i at.row at.is)))
+      (λ (opened : form_of (state start pre).words ≡ form_of at.mounted.region.words). (
+        opened_image script keeps refused images i at.row at.is,
+        opened_held script keeps refused images i at.row at.is,
+        opened ∙ (ap (λ (ws : List ℕ). form_of ws) made.words ∙ opened_form script keeps refused images i at.row at.is),
+      ))
       (λ (changed : (image : List ℕ) × P image × (form_of (state start pre).words ≡ form_of image)). (changed.0, changed.1.2, changed.2))
       (form_at mmv mmv_laws P at.mounted.region.words at.mounted.region.passes at.row.passes log journal made.passes (b.loads i j at token there) words_start held_images good pre post is stable)
 
