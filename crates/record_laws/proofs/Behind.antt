@@ -1,12 +1,11 @@
 -- Behind the last entry of a writer there are loads alone: the state stays, and each reading shows it.
-use Rattle.std.proofs.Common.{◌≡◌, ◌≢◌, ℕ, zero, suc, ◌+◌, ◌-◌, ◌<◌, ◌≤◌, Bool, true, false, eqb, eq-eqb, ne_eqb, List, [], ◌∷◌, ◌++◌, append_assoc, All, length, replicate, take, sym, refl, ap, ◌∙◌, subst, arith}
+use Rattle.std.proofs.Common.{◌≡◌, ◌≢◌, ℕ, zero, suc, ◌+◌, ◌-◌, ◌<◌, ◌≤◌, Bool, true, eq-eqb, ne_eqb, List, [], ◌∷◌, ◌++◌, append_assoc, All, length, replicate, take, sym, refl, ap, ◌∙◌, subst, arith}
 use Rattle.std.proofs.Math.Seq.{take-append-add}
 use Rattle.std.proofs.lemmas.List.{append_cancel_left, length-replicate}
 use Rattle.std.proofs.lemmas.List.Elements.{All-nil, All-cons, All-head, All-tail}
 use mathlib.Core.Option.{some, some-injective}
 use mathlib.Core.Logic.{dite}
 use native.Mathlib.Decide.{ℕ_discrete, dec_le}
-use lib.ListN.{get_elem?}
 use Rattle.region_core.specs.declared.act.Act.{Act}
 use Rattle.region_core.specs.declared.act.Act.TheVariants.{Load, Swap, Add, Enter, Leave, Take, Begin, Put, End, Free}
 use Rattle.region_core.specs.declared.act.Entry.{Entry}
@@ -20,7 +19,6 @@ use Rattle.region_core.proofs.Journals.{state-append, own-append}
 use Rattle.region_core.proofs.Lists.{at_below, at_some, at_copies}
 use Rattle.region_core.proofs.Positions.{sound_end}
 use Rattle.region_core.proofs.Runs.{count_run, mode_after, none_past, other_first, others_rest}
-use Rattle.region_core.proofs.Sound.{IsSound}
 use Rattle.script_runs.specs.Journals.{is_load}
 
 abbrev pub AreLoads : List Entry → Type 0

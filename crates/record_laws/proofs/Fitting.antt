@@ -1,11 +1,10 @@
 -- What a script that a recording may take says of the lines of one pass of a region, and of the words that the region opens with.
-use Rattle.std.proofs.Common.{◌≡◌, ◌⊎◌, inl, inr, ⊎_elim, ℕ, zero, suc, ◌+◌, ◌-◌, ◌<◌, ◌≤◌, ◌^◌, ◌==◌, Bool, true, false, ◌&&◌, nat_le, nat_lt, leb-true, eqb, eq-eqb, if◌then◌else◌, List, [], ◌∷◌, ◌++◌, All, length, length-append, replicate, slice_index, slice_get, Option, Some, None, sym, refl, ap, ◌∙◌, subst, arith}
+use Rattle.std.proofs.Common.{◌≡◌, ℕ, zero, suc, ◌+◌, ◌-◌, ◌<◌, ◌≤◌, ◌^◌, ◌==◌, Bool, true, false, nat_le, nat_lt, leb-true, eq-eqb, if◌then◌else◌, List, [], ◌∷◌, ◌++◌, All, length, length-append, replicate, slice_index, slice_get, Option, Some, None, sym, refl, ap, ◌∙◌, subst, arith}
 use Rattle.std.specs.List.{list_all}
 use Rattle.std.proofs.lemmas.Bool.{ltb-true}
 use Rattle.std.proofs.lemmas.List.{get_or_append_left, length-replicate}
 use Rattle.std.proofs.lemmas.List.Elements.{All-nil, All-cons}
 use Rattle.std.proofs.lemmas.Option.{get_or_from_slice_get, slice_get_within}
-use Rattle.mmv_format.specs.Contents.{first_generation}
 use Rattle.mmv_format.specs.Fields.{number64}
 use Rattle.mmv_layout.specs.Form.{form_of}
 use Rattle.region_core.specs.Shape.{IsWord, IsLike}

@@ -1,15 +1,15 @@
 -- The form of a region's words wherever the generations agree, and how high its generations are.
-use Rattle.std.proofs.Common.{◌≡◌, ◌≢◌, ◌⊎◌, inl, inr, ⊎_elim, ℕ, zero, suc, ◌+◌, ◌-◌, ◌*◌, ◌^◌, ◌<◌, ◌≤◌, Bool, true, false, List, [], ◌∷◌, ◌++◌, append_assoc, length, map, max, replicate, set, slice_index, length-set, get_or-set_same, get_or-set_other, sym, refl, ap, ◌∙◌, subst, arith}
+use Rattle.std.proofs.Common.{◌≡◌, ◌≢◌, ◌⊎◌, inl, inr, ⊎_elim, ℕ, zero, suc, ◌+◌, ◌-◌, ◌*◌, ◌^◌, ◌<◌, ◌≤◌, true, false, List, [], ◌∷◌, ◌++◌, append_assoc, length, map, max, set, slice_index, length-set, get_or-set_same, get_or-set_other, sym, refl, ap, ◌∙◌, subst, arith}
 use Rattle.std.proofs.lemmas.List.{length-replicate}
 use mathlib.Core.Logic.{dite}
-use native.Mathlib.Decide.{ℕ_discrete, dec_le}
+use native.Mathlib.Decide.{ℕ_discrete}
 use Rattle.region_core.specs.declared.act.Act.{Act}
 use Rattle.region_core.specs.declared.act.Act.TheVariants.{Load, Swap, Add, Enter, Leave, Take, Begin, Put, End, Free}
 use Rattle.region_core.specs.declared.act.Entry.{Entry}
 use Rattle.region_core.specs.declared.mode.Mode.TheVariants.{Idle, Changing}
 use Rattle.region_core.specs.Journal.{state, own, IsLegal, IsJournal}
-use Rattle.region_core.specs.Shape.{Shaping, IsShape, IsWord}
-use Rattle.region_core.specs.State.{State, word, g1, g2, after, opening, IsAllowed, IsIn, IsStable}
+use Rattle.region_core.specs.Shape.{Shaping, IsShape}
+use Rattle.region_core.specs.State.{State, g1, g2, after, opening, IsAllowed, IsStable}
 use Rattle.region_core.proofs.Journals.{state-append, own-append, legal-front, legal-back}
 use Rattle.region_core.proofs.Lists.{at_below}
 use Rattle.region_core.proofs.Runs.{count_run, mode_own, wide_run}
@@ -36,15 +36,15 @@ begin_of (Put w v) = inl refl
 begin_of (End n) = inl refl
 begin_of Free = inl refl
 
-record LastBegin (es : List Entry) : Type 0 where
-  before : List Entry
-  k : ℕ
-  n : ℕ
-  mid : List Entry
-  is : es ≡ before ++ entry k (Begin n) ∷ mid
-  none : NoBegin mid
+pub record LastBegin (es : List Entry) : Type 0 where
+  pub before : List Entry
+  pub k : ℕ
+  pub n : ℕ
+  pub mid : List Entry
+  pub is : es ≡ before ++ entry k (Begin n) ∷ mid
+  pub none : NoBegin mid
 
-last_begin : (es : List Entry) → NoBegin es ⊎ LastBegin es
+pub last_begin : (es : List Entry) → NoBegin es ⊎ LastBegin es
 last_begin [] = inl tt
 last_begin (e ∷ es) = ⊎_elim
     (λ (none : NoBegin es). ⊎_elim
@@ -80,50 +80,69 @@ module _ (S : Shaping) (laws : IsShape S) (P : List ℕ → Type 0) (words : Lis
   abbrev pub HasForm : List ℕ → Type 0
   HasForm ws = (S.form ws ≡ S.form words) ⊎ ((image : List ℕ) × P image × (S.form ws ≡ S.form image))
 
+  -- a change behind which no other begins, once the generations agree again
+  pub record Changed (k g : ℕ) (mid post : List Entry) (t : State) : Type 0 where
+    pub image : List ℕ
+    pub may : P image
+    pub form : S.form (state t mid).words ≡ S.form image
+    pub behind : List Entry
+    pub stores : own k (mid ++ post) ≡ map (λ (act : Act). entry k act) (change_acts 0 image g) ++ behind
+
+  pub changed_at : (before : List Entry) (k g : ℕ) (mid post : List Entry) → log ≡ before ++ entry k (Begin g) ∷ (mid ++ post) → NoBegin mid → IsStable (state (after (state start before) k (Begin g)) mid)
+      → Changed k g mid post (after (state start before) k (Begin g))
+  changed_at before k g mid post whole none stable =
+      let s : State = state start before in
+      let legal : IsLegal S s (entry k (Begin g) ∷ (mid ++ post)) = legal-back S start before (entry k (Begin g) ∷ (mid ++ post)) (subst (λ (es : List Entry). IsLegal S start es) whole journal.legal) in
+      let writer : k < n = a_writer before k g (mid ++ post) whole in
+      let owned : Good P k (own k before ++ (entry k (Begin g) ∷ own k (mid ++ post))) =
+      subst (Good P k) (ap (λ (es : List Entry). own k es) whole ∙ (own-append k before (entry k (Begin g) ∷ (mid ++ post)) ∙ ap (λ (es : List Entry). own k before ++ es) (own_mine (entry k (Begin g)) (mid ++ post) k refl))) (good k writer) in
+      let begins : BeginsGood P k (entry k (Begin g)) (own k (mid ++ post)) = good_at P k (own k before) (entry k (Begin g)) (own k (mid ++ post)) owned in
+      let change = begins g refl in
+      let image : List ℕ = change.0 in
+      let is_image = images image change.1 in
+      let sound : IsSound S s = sound_to before (entry k (Begin g) ∷ (mid ++ post)) whole in
+      let wide : 2 < length s.words = sound.wide in
+      let allowed : IsAllowed S s k (Begin g) = legal.0 in
+      let agree : g1 s ≡ g2 s = allowed.ready.1 in
+      let above : g1 s < g = allowed.ready.2 in
+      let second : slice_index (set s.words 1 g) 2 ≡ slice_index s.words 2 = get_or-set_other s.words 1 2 g 0 (λ (e : 2 ≡ 1). omega arith) in
+      let many = wide_run start before in
+      let long = length-set s.words 1 g in
+      let room = is_image.1 in
+      let few = journal.wide in
+      let t : State = after s k (Begin g) in
+      let under : Under S laws t k 0 g image = record {
+        changing = mode_own s k Changing (Begin g) allowed.ready.0;
+        first = get_or-set_same s.words 1 g 0 (omega arith);
+        second = λ e. (let same : slice_index s.words 2 ≡ g = sym second ∙ e in omega arith);
+        is_image = is_image.0;
+        room = omega arith;
+        few = omega arith;
+        words = put_word s.words 1 g allowed.ready.3 (words_run S start before (legal-front S start before (entry k (Begin g) ∷ (mid ++ post)) (subst (λ (es : List Entry). IsLegal S start es) whole journal.legal)) are_words);
+        fits = allowed.ready.3;
+        next_is = inl refl;
+        most = omega arith;
+        written = λ i below one two. absurd (omega arith);
+      } in
+      record {
+        image = image;
+        may = change.1;
+        form = relaid S laws t k 0 g image mid post change.2 (sound_after S laws s k (Begin g) sound allowed) (legal-front S t mid post legal.1) under change.3 none stable;
+        behind = change.2;
+        stores = change.3;
+      }
+
   pub form_at : (pre post : List Entry) → log ≡ pre ++ post → IsStable (state start pre) → HasForm (state start pre).words
   form_at pre post is stable = ⊎_elim
       (λ (none : NoBegin pre).
       let both = laws.generations words journal.image in
       inl (calm S laws start pre (sound_opening S laws words passes journal.image journal.few) (legal-front S start pre post (subst (λ (es : List Entry). IsLegal S start es) is journal.legal)) none both.1))
       (λ (b : LastBegin pre).
-      let s : State = state start b.before in
+      let t : State = after (state start b.before) b.k (Begin b.n) in
       let whole : log ≡ b.before ++ entry b.k (Begin b.n) ∷ (b.mid ++ post) = is ∙ (ap (λ (l : List Entry). l ++ post) b.is ∙ append_assoc b.before (entry b.k (Begin b.n) ∷ b.mid) post) in
-      let legal : IsLegal S s (entry b.k (Begin b.n) ∷ (b.mid ++ post)) = legal-back S start b.before (entry b.k (Begin b.n) ∷ (b.mid ++ post)) (subst (λ (es : List Entry). IsLegal S start es) whole journal.legal) in
-      let writer : b.k < n = a_writer b.before b.k b.n (b.mid ++ post) whole in
-      let owned : Good P b.k (own b.k b.before ++ (entry b.k (Begin b.n) ∷ own b.k (b.mid ++ post))) =
-      subst (Good P b.k) (ap (λ (es : List Entry). own b.k es) whole ∙ (own-append b.k b.before (entry b.k (Begin b.n) ∷ (b.mid ++ post)) ∙ ap (λ (es : List Entry). own b.k b.before ++ es) (own_mine (entry b.k (Begin b.n)) (b.mid ++ post) b.k refl))) (good b.k writer) in
-      let begins : BeginsGood P b.k (entry b.k (Begin b.n)) (own b.k (b.mid ++ post)) = good_at P b.k (own b.k b.before) (entry b.k (Begin b.n)) (own b.k (b.mid ++ post)) owned in
-      let change = begins b.n refl in
-      let image : List ℕ = change.0 in
-      let is_image = images image change.1 in
-      let sound : IsSound S s = sound_to b.before (entry b.k (Begin b.n) ∷ (b.mid ++ post)) whole in
-      let wide : 2 < length s.words = sound.wide in
-      let allowed : IsAllowed S s b.k (Begin b.n) = legal.0 in
-      let agree : g1 s ≡ g2 s = allowed.ready.1 in
-      let above : g1 s < b.n = allowed.ready.2 in
-      let second : slice_index (set s.words 1 b.n) 2 ≡ slice_index s.words 2 = get_or-set_other s.words 1 2 b.n 0 (λ (e : 2 ≡ 1). omega arith) in
-      let many = wide_run start b.before in
-      let long = length-set s.words 1 b.n in
-      let room = is_image.1 in
-      let few = journal.wide in
-      let t : State = after s b.k (Begin b.n) in
-      let under : Under S laws t b.k 0 b.n image = record {
-        changing = mode_own s b.k Changing (Begin b.n) allowed.ready.0;
-        first = get_or-set_same s.words 1 b.n 0 (omega arith);
-        second = λ e. (let same : slice_index s.words 2 ≡ b.n = sym second ∙ e in omega arith);
-        is_image = is_image.0;
-        room = omega arith;
-        few = omega arith;
-        words = put_word s.words 1 b.n allowed.ready.3 (words_run S start b.before (legal-front S start b.before (entry b.k (Begin b.n) ∷ (b.mid ++ post)) (subst (λ (es : List Entry). IsLegal S start es) whole journal.legal)) are_words);
-        fits = allowed.ready.3;
-        next_is = inl refl;
-        most = omega arith;
-        written = λ i below one two. absurd (omega arith);
-      } in
       let there : state start pre ≡ state t b.mid = ap (λ (es : List Entry). state start es) b.is ∙ state-append start b.before (entry b.k (Begin b.n) ∷ b.mid) in
-      let form : S.form (state t b.mid).words ≡ S.form image =
-      relaid S laws t b.k 0 b.n image b.mid post change.2 (sound_after S laws s b.k (Begin b.n) sound allowed) (legal-front S t b.mid post legal.1) under change.3 b.none (subst (λ (x : State). IsStable x) there stable) in
-      inr (image, change.1, ap (λ (x : State). S.form x.words) there ∙ form))
+      let c : Changed b.k b.n b.mid post t = changed_at b.before b.k b.n b.mid post whole b.none (subst (λ (x : State). IsStable x) there stable) in
+      inr (c.image, c.may, ap (λ (x : State). S.form x.words) there ∙ c.form))
       (last_begin pre)
 
   -- Generations

@@ -1,5 +1,5 @@
 -- The last sample of a recording.
-use Rattle.std.proofs.Common.{◌≡◌, ℕ, zero, suc, ◌+◌, ◌<◌, ◌≤◌, List, [], ◌∷◌, ◌++◌, append_assoc, append-nil, length, length-append, map, slice_get, inl, inr, ⊎_elim, ◌⊎◌, Option, Some, None, sym, refl, ap, ◌∙◌, subst, arith}
+use Rattle.std.proofs.Common.{◌≡◌, ℕ, zero, suc, ◌+◌, ◌<◌, ◌≤◌, List, [], ◌∷◌, ◌++◌, append-nil, length, length-append, map, slice_get, inl, inr, ◌⊎◌, Option, Some, None, sym, refl, ap, ◌∙◌, subst, arith}
 use Rattle.std.specs.List.{AllZip}
 use Rattle.std.proofs.lemmas.List.{map-append}
 use Rattle.std.proofs.lemmas.Option.{get_or_from_slice_get, slice_get_within}
@@ -21,7 +21,7 @@ use Rattle.fetch_answers.specs.Answers.{facts_of}
 use Rattle.fetch_answers.specs.Readings.{RegionReading}
 use Rattle.fetch_answers.specs.declared.fetch.Fetched.{Fetched}
 use Rattle.fetch_engine.specs.Servers.{IsSeated}
-use Rattle.fetch_engine.specs.Visits.{AreRead, AreLoaded, IsLoaded, IsReadBy, IsVisit, Visit, names_in}
+use Rattle.fetch_engine.specs.Visits.{AreRead, AreLoaded, IsLoaded, IsReadBy, IsVisit, Visit}
 use Rattle.fetch_engine.specs.declared.server.Mounted.{Mounted}
 use Rattle.fetch_engine.proofs.Tries.{loads_follow, opening_same}
 use Rattle.log_schedule.specs.declared.config.Group.{Group}
@@ -43,8 +43,8 @@ use Rattle.script_samples.specs.Samples.{Taken, IsTaken, AreTaken, stamps_of}
 use Rattle.script_samples.specs.Shown.{AreShown, pmids_by, shown_by, with_result}
 use Rattle.script_writers.specs.Hands.{IsServedAt}
 use Rattle.script_writers.proofs.Placed.{made_at}
-use Rattle.script_records.specs.Beside.{AtJournals, Beside, EndsBy, Finished, Sampled, StandsBehind, StopsLogging, WritersRan, start_of}
-use Rattle.record_laws.specs.Closing.{closing, closing_of, closing_words, logged_of, LastIsExact, LastSampleIsExact}
+use Rattle.script_records.specs.Beside.{AtJournals, Beside, EndsBy, Finished, Sampled, StopsLogging, WritersRan, start_of}
+use Rattle.record_laws.specs.Closing.{closing, closing_of, closing_words, LastSampleIsExact}
 use Rattle.record_laws.proofs.Behind.{still_at, stable_end, image_end}
 use Rattle.record_laws.proofs.Places.{row_at}
 use Rattle.record_laws.proofs.Reading.{read_still}

@@ -1,4 +1,5 @@
 pub mod Behind
+pub mod Brought
 pub mod Counted
 pub mod Fitting
 pub mod Forms

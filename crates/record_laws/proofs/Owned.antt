@@ -1,15 +1,15 @@
 -- What the lines of a pass say of its own entries: behind each beginning of a change stand the stores of its image and its end, each
 -- new generation is the moment or one more, and there are no more of them than lines.
-use Rattle.std.proofs.Common.{◌≡◌, ◌≢◌, ◌⊎◌, inl, inr, ⊎_elim, ℕ, zero, suc, ◌+◌, ◌-◌, ◌^◌, ◌<◌, ◌≤◌, ◌==◌, eqb, eqb-true, eq-eqb, ne_eqb, Bool, true, false, if◌then◌else◌, List, [], ◌∷◌, ◌++◌, append_assoc, append-nil, drop, length, map, max, slice_index, option_map, Option, Some, None, sym, refl, ap, ◌∙◌, subst, arith}
+use Rattle.std.proofs.Common.{◌≡◌, ◌≢◌, ◌⊎◌, inl, inr, ℕ, zero, suc, ◌+◌, ◌^◌, ◌<◌, ◌≤◌, ◌==◌, eqb, Bool, true, false, if◌then◌else◌, List, [], ◌∷◌, ◌++◌, append_assoc, drop, length, map, max, slice_index, option_map, Option, Some, None, sym, refl, ap, ◌∙◌, subst, arith}
 use Rattle.std.proofs.lemmas.List.{map-append}
 use mathlib.Core.Logic.{dite}
-use native.Mathlib.Decide.{ℕ_discrete, dec_le}
+use native.Mathlib.Decide.{ℕ_discrete}
 use Rattle.region_core.specs.declared.act.Act.{Act}
 use Rattle.region_core.specs.declared.act.Act.TheVariants.{Load, Swap, Add, Enter, Leave, Take, Begin, Put, End, Free}
 use Rattle.region_core.specs.declared.act.Entry.{Entry}
 use Rattle.region_core.specs.Journal.{state, own}
 use Rattle.region_core.specs.State.{State, after, g1}
-use Rattle.region_core.proofs.Journals.{own-append, own-mine, state-append}
+use Rattle.region_core.proofs.Journals.{own-append, own-mine}
 use Rattle.region_rule.specs.Changes.{left_from, next_after, puts_at, puts_left}
 use Rattle.region_rule.specs.Steps.{entry}
 use Rattle.run_script.specs.Recording.{image_words}
@@ -18,7 +18,7 @@ use Rattle.run_script.specs.declared.script.Line.TheVariants as lines
 use Rattle.script_lines.specs.declared.line.Given.{Given as Written}
 use Rattle.script_runs.specs.Journals.{is_load}
 use Rattle.script_runs.specs.Slots.{swap_of, swap_into, slot_with, value_for, add_of, add_into, holds_number, low_bits}
-use Rattle.script_writers.specs.Lines.{Writing, Makes, IsBounced, AreBounced, Attaches, takes, Stores, StoresLast, StoresNone, Begins, Spends, BeginsChange, next_put, next_place, StepsOn, Finishes, LineMakes, LinesMake}
+use Rattle.script_writers.specs.Lines.{Writing, Makes, IsBounced, AreBounced, Attaches, takes, Stores, Begins, Spends, BeginsChange, next_put, next_place, StepsOn, Finishes, LineMakes, LinesMake}
 use Rattle.mmv_format.specs.declared.rows.Slot.{Slot}
 use Rattle.record_laws.proofs.Behind.{AreLoads, first_load, other_loads, own_mine, own_other}
 use Rattle.record_laws.proofs.Relaid.{NoBegin, is_begin, not_begin, puts_next, change_acts}

@@ -1,5 +1,5 @@
 -- Each position of a server has a region of its script.
-use Rattle.std.proofs.Common.{◌≡◌, ℕ, zero, suc, ◌+◌, ◌<◌, ◌≤◌, Bool, true, false, ◌||◌, eqb, eqb-true, List, [], ◌∷◌, length, sym, refl, ap, subst, arith}
+use Rattle.std.proofs.Common.{◌≡◌, ℕ, zero, suc, ◌<◌, ◌≤◌, Bool, true, false, ◌||◌, eqb, eqb-true, List, [], ◌∷◌, length, sym, refl, ap, subst, arith}
 use Rattle.std.specs.List.{AllByRecursion, IsDistinct, list_any}
 use Rattle.std.proofs.lemmas.Map.Steps.{length-le_from_distinct_below}
 use Rattle.std.proofs.lemmas.Option.{slice_get_within}
@@ -79,4 +79,3 @@ module _ (script : Script) (server : List Mounted) (seats : ℕ) (keeps : KeepsR
 
       by_test : Firsts (length script.regions) → (i : ℕ) × IsServedAt script server i j
       by_test all = by_place all (list_any (eqb j) all.places) refl
-

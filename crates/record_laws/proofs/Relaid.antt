@@ -5,14 +5,14 @@ use Rattle.std.proofs.lemmas.List.Elements.{All-nil, All-cons, All-drop}
 use mathlib.Core.Logic.{dite}
 use native.Mathlib.Decide.{ℕ_discrete, dec_le}
 use Rattle.region_core.specs.declared.act.Act.{Act}
-use Rattle.region_core.specs.declared.act.Act.TheVariants.{Load, Swap, Add, Enter, Leave, Take, Begin, Put, End, Free}
+use Rattle.region_core.specs.declared.act.Act.TheVariants.{Begin, Put, End, Free}
 use Rattle.region_core.specs.declared.act.Entry.{Entry}
 use Rattle.region_core.specs.declared.mode.Mode.TheVariants.{Changing}
 use Rattle.region_core.specs.Journal.{state, own, IsLegal}
 use Rattle.region_core.specs.Shape.{Shaping, IsShape, IsWord, IsLike, with_generation}
 use Rattle.region_core.specs.State.{State, word, g1, g2, after, IsAllowed, IsIn, IsStable}
 use Rattle.region_core.proofs.Lists.{at_or, drop_at}
-use Rattle.region_core.proofs.Runs.{changing_run, mode_own, mode_after, wide_run}
+use Rattle.region_core.proofs.Runs.{changing_run, mode_own, mode_after}
 use Rattle.region_core.proofs.Sound.{IsSound, sound_after}
 use Rattle.region_core.proofs.Stretch.{IsStill, still_run, first_kept}
 use Rattle.region_rule.specs.Changes.{next_after, left_from, puts_at, puts_left}

@@ -1,5 +1,5 @@
 -- What a store line finds in words of the form of an image that has what it names.
-use Rattle.std.proofs.Common.{◌≡◌, ◌⊎◌, inl, inr, ⊎_elim, ℕ, zero, suc, ℤ, pos, negsuc, ◌+◌, ◌-◌, ◌<◌, ◌≤◌, ◌^◌, Bool, true, false, ◌&&◌, ◌||◌, cond, nat_le, nat_lt, if◌then◌else◌, List, [], ◌∷◌, ◌++◌, map, option_map, Option, Some, None, sym, refl, ap, ◌∙◌, subst, arith}
+use Rattle.std.proofs.Common.{◌≡◌, ℕ, ℤ, pos, negsuc, ◌-◌, Bool, true, false, ◌||◌, cond, nat_le, nat_lt, if◌then◌else◌, List, [], ◌∷◌, map, option_map, Option, Some, None, sym, refl, ap, ◌∙◌, subst}
 use Rattle.std.specs.List.{find, list_any}
 use Rattle.std.specs.Prelude.{bytes_eq, unwrap_or}
 use Rattle.pcp_base.specs.declared.kind.Kind.{Kind}
@@ -10,12 +10,11 @@ use Rattle.mmv_format.specs.declared.rows.Content.TheVariants as contents
 use Rattle.mmv_format.specs.declared.rows.Slot.{Slot}
 use Rattle.mmv_layout.specs.Form.{Form, form_of, slots_of, texts_of, is_slot_of}
 use Rattle.mmv_layout.proofs.FormSays.{texts_said}
-use Rattle.region_core.specs.declared.act.Act.{Act}
 use Rattle.region_core.specs.declared.act.Act.TheVariants.{Swap, Add}
 use Rattle.run_script.specs.Recording as recording
 use Rattle.script_lines.specs.declared.line.Given.{Given as Written}
 use Rattle.script_lines.specs.declared.line.Given.TheVariants as written
-use Rattle.script_runs.specs.Slots.{swap_of, swap_into, slot_with, value_for, number_for, field_of, text_for, offset_of, add_of, add_into, low_bits, holds_number}
+use Rattle.script_runs.specs.Slots.{swap_of, swap_into, slot_with, value_for, field_of, text_for, add_of, add_into, low_bits, holds_number}
 
 -- Words of one form
 
@@ -36,7 +35,7 @@ pairs_same (x ∷ xs) (y ∷ ys) e f =
     tail_same a b xs ys e = cc
 
 module _ (words others : List ℕ) (same : form_of words ≡ form_of others) where
-  slots_same : slots_of words ≡ slots_of others
+  pub slots_same : slots_of words ≡ slots_of others
   unfolding form_of
   slots_same = ap (λ (f : Form). f.slots) same
 

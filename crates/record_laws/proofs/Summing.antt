@@ -1,9 +1,7 @@
 -- What a word holds after each act.
 use Rattle.std.proofs.Common.{◌≡◌, ◌≢◌, ℕ, zero, suc, ◌+◌, ◌%◌, ◌^◌, ◌<◌, Bool, true, false, if◌then◌else◌, eqb, eqb-true, List, [], ◌∷◌, length, set, slice_index, get_or-set_same, get_or-set_other, sym, refl, ap, ◌∙◌, subst, arith}
-use Rattle.std.specs.Prelude.{Option, Some, None, unwrap_or}
+use Rattle.std.specs.Prelude.{Some, None, unwrap_or}
 use borrow.Author.Tests.{eqb-false}
-use mathlib.Core.Logic.{dite}
-use native.Mathlib.Decide.{ℕ_discrete, dec_le}
 use Rattle.region_core.specs.declared.act.Act.{Act}
 use Rattle.region_core.specs.declared.act.Act.TheVariants.{Load, Swap, Add, Enter, Leave, Take, Begin, Put, End, Free}
 use Rattle.region_core.specs.declared.act.Entry.{Entry}

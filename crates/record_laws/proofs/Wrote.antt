@@ -1,25 +1,25 @@
 -- No store of a pass finds nothing, and no change is refused: its lines make all their entries.
-use Rattle.std.proofs.Common.{◌≡◌, ◌≢◌, ◌⊎◌, inl, inr, ⊎_elim, ℕ, zero, suc, ◌+◌, ◌-◌, ◌<◌, ◌≤◌, ◌^◌, Bool, true, false, List, [], ◌∷◌, ◌++◌, append_assoc, length, Option, Some, None, sym, refl, ap, ◌∙◌, subst, arith}
+use Rattle.std.proofs.Common.{◌≡◌, ◌≢◌, inl, inr, ℕ, ◌-◌, ◌^◌, Bool, true, List, [], ◌∷◌, ◌++◌, append_assoc, Option, Some, None, sym, refl, ap, ◌∙◌, subst}
 use Rattle.std.specs.List.{list_all}
 use mathlib.Core.Logic.{dite}
 use native.Mathlib.Decide.{ℕ_discrete}
-use Rattle.mmv_layout.specs.Form.{Form, form_of}
+use Rattle.mmv_layout.specs.Form.{form_of}
 use Rattle.region_core.specs.declared.act.Act.{Act}
 use Rattle.region_core.specs.declared.act.Act.TheVariants.{Load, Swap, Add, Enter, Leave, Take, Begin, Put, End, Free}
 use Rattle.region_core.specs.declared.act.Entry.{Entry}
 use Rattle.region_core.specs.declared.mode.Mode.TheVariants.{Attached}
 use Rattle.region_core.specs.Journal.{state, own, IsLegal, IsJournal}
-use Rattle.region_core.specs.State.{State, after, g1, g2, opening, IsIn, IsStable}
+use Rattle.region_core.specs.State.{State, after, g1, opening, IsIn, IsStable}
 use Rattle.region_core.proofs.Journals.{legal-front, state-append, state-snoc}
 use Rattle.region_core.proofs.Runs.{mode_after, mode_own}
 use Rattle.region_core.proofs.Sound.{IsSound, inside_shut, sound_opening, sound_run}
 use Rattle.region_rule.specs.Steps.{entry}
 use Rattle.region_words.specs.Images.{mmv, mmv_laws}
-use Rattle.run_script.specs.Recording.{held_by, image_words, slot_in, takes_add, takes_swap}
+use Rattle.run_script.specs.Recording.{image_words, slot_in, takes_add, takes_swap}
 use Rattle.run_script.specs.declared.script.Line.{Line}
 use Rattle.run_script.specs.declared.script.Line.TheVariants as lines
 use Rattle.script_runs.specs.Slots.{swap_of, add_of}
-use Rattle.script_writers.specs.Lines.{Writing, Attaches, Stores, StoresLast, StoresNone, BeginsChange, Spends, StepsOn, Finishes, LineMakes, LinesMake}
+use Rattle.script_writers.specs.Lines.{Writing, Attaches, Stores, StoresLast, BeginsChange, Spends, StepsOn, Finishes, LineMakes, LinesMake}
 use Rattle.record_laws.specs.Whole.{LineWrites, LinesWrite}
 use Rattle.record_laws.proofs.Behind.{AreLoads, load_still, first_load, other_loads, own_mine, own_other}
 use Rattle.record_laws.proofs.Owned.{IsStore, swap_stores, add_stores}
@@ -175,9 +175,14 @@ module _ (images : List (List ℕ × List ℕ)) (held : List (List ℕ)) (words 
       let made : List Entry = m.0 in
       let rest : List Entry = m.1 in
       let here : log ≡ pre ++ (made ++ (rest ++ post)) = is ∙ (ap (λ (l : List Entry). pre ++ (l ++ post)) m.3 ∙ ap (λ (l : List Entry). pre ++ l) (append_assoc made rest post)) in
-      let one : Wrote s w line made m.2 = wrote s pre made (rest ++ post) s_is here w line m.2 suits.0 m.4 stood in
-      (made, rest, m.2, m.3, one.writes,
-      lines_write (state s made) m.2 more (pre ++ made) rest post last (ap (λ (t : State). state t made) s_is ∙ sym (state-append start pre made)) (here ∙ sym (append_assoc pre made (rest ++ post))) suits.1 m.5 one.stood)
+      let one : Wrote s w line made m.2 = wrote s pre made (rest ++ post) s_is here w line m.2 suits.0 m.4 stood in (
+        made,
+        rest,
+        m.2,
+        m.3,
+        one.writes,
+        lines_write (state s made) m.2 more (pre ++ made) rest post last (ap (λ (t : State). state t made) s_is ∙ sym (state-append start pre made)) (here ∙ sym (append_assoc pre made (rest ++ post))) suits.1 m.5 one.stood,
+      )
 
   -- all its lines
   pub all_write : (own_lines : List Line) (es post : List Entry) → log ≡ es ++ post → LinesSuit held own_lines → LinesMake images k start Writing.idle own_lines es Writing.idle → LinesWrite images k start Writing.idle own_lines es Writing.idle

@@ -1,5 +1,5 @@
 -- What a word of a region holds: what was stored into it last, and what was added to it since.
-use Rattle.std.specs.Prelude.{◌≡◌, ℕ, ◌+◌, ◌%◌, ◌^◌, ◌==◌, if◌then◌else◌, List, [], ◌∷◌, Option, Some, None, unwrap_or}
+use Rattle.std.specs.Prelude.{◌≡◌, ℕ, ◌+◌, ◌%◌, ◌^◌, ◌==◌, if◌then◌else◌, List, [], ◌∷◌, ◌++◌, Option, Some, None, unwrap_or}
 use Rattle.region_core.specs.declared.act.Act.{Act}
 use Rattle.region_core.specs.declared.act.Act.TheVariants.{Swap, Add, Begin, Put, End}
 use Rattle.region_core.specs.declared.act.Entry.{Entry}
@@ -34,6 +34,15 @@ sum_after (Some stored) sum = 0
 abbrev pub added_since : ℕ → ℕ → List Entry → ℕ
 added_since w sum [] = sum
 added_since w sum (e ∷ es) = added_since w (sum_after (stored_by w e.act) (sum + added_by w e.act)) es
+
+-- an act that stores into a word stands among these entries
+pub record IsStored (w : ℕ) (es : List Entry) : Type 0 where
+  pub front : List Entry
+  pub entry : Entry
+  pub rest : List Entry
+  pub is : es ≡ front ++ entry ∷ rest
+  pub number : ℕ
+  pub stores : stored_by w entry.act ≡ Some number
 
 -- A word is what was brought last plus all adds since, modulo 2^64
 pub record IsSum (start : State) (log : List Entry) (w : ℕ) : Type 0 where
