@@ -2,7 +2,7 @@
 //! somebody looks on, a line is told before each. Only pcp and tests use it.
 #![tactic(auto)]
 
-ghost use Rattle.std.specs.Prelude.{◌≡◌, Ok as Fits, Err as Bad, length, map, string_bytes};
+ghost use Rattle.std.specs.Prelude.{◌≡◌, ℕ, Ok as Fits, Err as Bad, length, map, string_bytes};
 ghost use Rattle.pcp_outside.specs.Causes.{Rose};
 ghost use Rattle.pm_recording.specs.declared.words.RecordWords.{RecordWords as Order};
 ghost use Rattle.pm_recording.specs.CommandWords.{asked_of};

@@ -1,8 +1,5 @@
 //! What a recording has logged so far, counted at its disk and told before each of its samples.
-ghost use Rattle.std.specs.Prelude.{◌≡◌, ◌≤◌, ℕ, length, take, drop, IfOk, OnOk};
-ghost use Rattle.pcp_model.specs.Disk.{CrashImage, bytes_of};
-ghost use Rattle.pcp_outside.specs.Causes.{HasCause, capped};
-ghost use Rattle.pcp_outside.specs.Devices.{Appends, Counts, Cuts, Elapses, IsNumbered, IsVolumes, Syncs, length_of};
+ghost use Rattle.std.specs.Prelude.{◌≡◌};
 
 use pcp_outside::{Disk, Failed, FileId, LOGGER, Turn};
 use std::io::Print;
