@@ -1,7 +1,7 @@
 //! The recording of a script over any files.
 ghost use Rattle.std.specs.Prelude.{◌≡◌, ◌≢◌, ◌⊎◌, ◌≤◌, ◌∷◌, [], ℕ, None, Some, length, slice_get};
 ghost use Rattle.archive_recovery.specs.declared.outcome.RecoverFault.{RecoverFault as Unrecovered};
-ghost use Rattle.fetch_engine.specs.Servers.{Seated};
+ghost use Rattle.fetch_engine.specs.Servers.{IsSeated, Seated};
 ghost use Rattle.logger_core.specs.Reopening.{IsLeft};
 ghost use Rattle.pcp_model.specs.Archive.{Readable};
 ghost use Rattle.pcp_model.specs.Disk.{CrashImage, Files as AllFiles, contents_of};
@@ -83,6 +83,7 @@ fn run<'a, R: Threads + Wait + Sync, D: Disk, C: Clock, T: Turn + Sync>(
     requires some { 1 ≤ samples }
     ensures halts { (left : AllFiles) → (D.tells → IsStandingFound left sampler.old.archive (D.held disk.old))
         → Halts C.Clock D.Disk clock.old clock.new disk.old disk.new script.now sampler.old.archive.limit samples server.now seat.old.tokens seat.new.tokens left sampler.new.archive result }
+    ensures seated { IsSeated server.now seat.new.tokens }
     ensures cause { IsWorking sampler.old.archive.limit sampler.old.archive.standing → MayEndRecording C.Clock D.Disk clock.old clock.new disk.old disk.new result }
     ensures unclosed { IsWorking sampler.old.archive.limit sampler.old.archive.standing → result ≢ Failing → IsUnclosed sampler.new.archive.limit sampler.new.archive.standing }
     ensures later { D.faults disk.old ≤ D.faults disk.new }
@@ -151,6 +152,7 @@ fn record_over<R: Threads + Wait + Sync, D: Disk, C: Clock, T: Turn + Sync>(
     requires images { AreImages script.now }
     requires limit { (1024 ≤ volume) × (volume ≤ 1073741824) }
     requires some { 1 ≤ samples }
+    ensures seated { IsSeated server.now seat.new.tokens }
     ensures records { (D.tells → IsLeft archive (D.held disk.old))
         → IsRecorded C.Clock D.Disk clock.old clock.new disk.old disk.new script.now volume samples server.now seat.old.tokens seat.new.tokens (contents_of (D.held disk.old)) result result.ending }
     ensures cause { MayEndRecording C.Clock D.Disk clock.old clock.new disk.old disk.new result.ending }
@@ -198,6 +200,7 @@ fn unrecorded<R: Threads + Wait + Sync, T: Turn + Sync>(
     requires made { AreMade script.now server.now passes.items (seat.old ∷ []) }
     requires images { AreImages script.now }
     ensures beside { ending ≢ AtEnd → Beside script.now server.now seat.old.tokens seat.new.tokens result.ending [] [] }
+    ensures seated { IsSeated server.now seat.new.tokens }
     ensures output { result.output ≡ [] }
     ensures logged { result.logged ≡ 0 }
     ensures ending { (result.ending ≡ ending) ⊎ ((ending ≢ Failing) × (result.ending ≡ Refused)) }
@@ -232,6 +235,7 @@ fn record_with<R: Threads + Wait + Sync, D: Disk, C: Clock, T: Turn + Sync>(
     requires limit { (1024 ≤ volume) × (volume ≤ 1073741824) }
     requires some { 1 ≤ samples }
     ensures records { IsRecording C.Clock D.Disk clock.old clock.new disk.old disk.new script.now volume samples server.now seat.old.tokens seat.new.tokens result }
+    ensures seated { IsSeated server.now seat.new.tokens }
     ensures unread { D.tells → (Readable (contents_of (D.held disk.old)) → ⊥) → LeavesOnly D.moment D.left_since disk.old disk.new (CrashImage (D.held disk.old)) }
     ensures cause { MayEndRecording C.Clock D.Disk clock.old clock.new disk.old disk.new result.ending }
     ensures later { D.faults disk.old ≤ D.faults disk.new }
@@ -274,6 +278,7 @@ pub fn record_script<R: Threads + Wait + Sync, D: Disk, C: Clock, T: Turn + Sync
         → IsRecording C.Clock D.Disk clock.old clock.new disk.old disk.new script volume samples opened.new.server first.tokens last.tokens result }
     ensures seats { length opened.new.seats.items ≡ 1 }
     ensures server { opened.new.server ≡ opened.old.server }
+    ensures seated { (last : Seated) → slice_get opened.new.seats.items 0 ≡ Some last → IsSeated opened.new.server last.tokens }
     // Where the files can't be read nothing is written.
     ensures unread { D.tells → (Readable (contents_of (D.held disk.old)) → ⊥) → LeavesOnly D.moment D.left_since disk.old disk.new (CrashImage (D.held disk.old)) }
     ensures cause { MayEndRecording C.Clock D.Disk clock.old clock.new disk.old disk.new result.ending }

@@ -3,7 +3,7 @@ use Rattle.std.proofs.Common.{◌≡◌, List, ◌∷◌, [], length, Some, refl
 use Rattle.std.specs.Prelude.{slice_get}
 use Rattle.std.specs.Global.{Vec}
 use Rattle.std.proofs.lemmas.Option.{same_Some}
-use Rattle.fetch_engine.specs.Servers.{Seated}
+use Rattle.fetch_engine.specs.Servers.{IsSeated, Seated}
 use Rattle.region_rule.specs.Seats.{Token}
 use Rattle.script_passes.specs.Openings.{AreMade}
 use Rattle.script_passes.proofs.Turning.{was_there}
@@ -32,3 +32,9 @@ returns-clause-records g c = λ first last is_first is_last.
     (subst
     (λ (s : Seated). IsRecording g.C.Clock g.D.Disk c.args.clock.now c.record_with.new.clock c.args.disk.now c.record_with.new.disk c.args.script c.args.volume c.args.samples c.args.opened.now.server seat.tokens s.tokens c.record_with.result)
     (seat_after seats c.record_with.new.seat last one is_last) c.record_with.ensures.records)
+
+pub returns-clause-seated : goal.returns-clause-seated
+returns-clause-seated g c = λ last is_last.
+    let seats : List Seated = c.args.opened.now.seats.items in
+    let one : length seats ≡ 1 = c.requires.fresh.seats_are in
+    subst (λ (s : Seated). IsSeated c.args.opened.now.server s.tokens) (seat_after seats c.record_with.new.seat last one is_last) c.record_with.ensures.seated

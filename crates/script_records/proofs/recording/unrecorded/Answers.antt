@@ -25,3 +25,6 @@ pub returns-in-Err-clause-beside : goal.returns-in-Err-clause-beside
 returns-in-Err-clause-beside g c = λ undone.
     beside_refused c.args.script.now c.args.server.now c.args.passes.items c.args.seat.now c.requires.rules c.requires.made c.requires.images c.nothing-in-Err.result.ending
     (subst (λ (e : Ending). EndsBy ends.NoMemory e) (sym c.nothing-in-Err.ensures.ending) (refused_by c.args.ending c.refused.result c.refused.ensures))
+
+pub returns-in-Err-clause-seated : goal.returns-in-Err-clause-seated
+returns-in-Err-clause-seated g c = c.requires.made.seated 0 c.args.seat.now refl
