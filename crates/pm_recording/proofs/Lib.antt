@@ -1,5 +1,6 @@
 pub mod Completes
 pub mod Endings
+pub mod Exact
 pub mod Facts
 pub mod Kept
 pub mod Later

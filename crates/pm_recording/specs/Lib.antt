@@ -5,3 +5,4 @@ pub mod Recording
 pub mod Ends
 pub mod Good
 pub mod Facts
+pub mod Exact

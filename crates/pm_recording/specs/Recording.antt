@@ -3,7 +3,7 @@ use Rattle.std.specs.Prelude.{◌≡◌, length, slice_get, Option, Some, None}
 use Rattle.pcp_model.specs.Disk.{CrashImage}
 use Rattle.pcp_outside.specs.declared.clocks.Clock.{Ghosts as ClockGhosts}
 use Rattle.pcp_outside.specs.declared.disk.Disk.{Ghosts as DiskGhosts}
-use Rattle.fetch_engine.specs.Servers.{Seated}
+use Rattle.fetch_engine.specs.Servers.{IsSeated, Seated}
 use Rattle.run_script.specs.declared.script.Script.{Script}
 use Rattle.script_passes.specs.Openings.{IsOpened}
 use Rattle.script_passes.specs.declared.opening.Opened.{Opened}
@@ -35,6 +35,7 @@ pub record WasRecorded {C D : Type 0} (o : RunSide C D) (asked : RecordWords) (s
   pub first_is : slice_get opened.seats.items 0 ≡ Some first
   pub last : Seated
   pub last_is : slice_get left.seats.items 0 ≡ Some last
+  pub seated : IsSeated left.server last.tokens
   pub recording : IsRecording o.clock o.disk o.clock_was o.clock_is o.disk_was o.disk_is script asked.volume asked.samples left.server first.tokens last.tokens r
   pub cause : MayEndRecording o.clock o.disk o.clock_was o.clock_is o.disk_was o.disk_is r.ending
   pub unread : IsUnread o.disk o.disk_was → Leaves o.disk o.disk_was o.disk_is CrashImage

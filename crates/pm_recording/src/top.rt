@@ -4,6 +4,7 @@ ghost use Rattle.pcp_model.specs.Disk.{CrashImage, IsSettled};
 ghost use Rattle.pcp_outside.specs.Causes.{Rose};
 ghost use Rattle.pm_recording.specs.CommandWords.{FitsRecord};
 ghost use Rattle.pm_recording.specs.Ends.{Cause, Ends, EndsDone, IsOrder, MayBeLeft, Refuses, Tells};
+ghost use Rattle.pm_recording.specs.Exact.{LastIsShown};
 ghost use Rattle.pm_recording.specs.Facts.{ArchiveFaultIsExact, ClockIsExact, Completes, HadRecovered, KeepsAll, LimitIsExact, OpensRegions, RecordsSince, RunIsExact, ScriptFaultIsExact, UsageIsExact};
 ghost use Rattle.pm_recording.specs.Recording.{run_side};
 ghost use Rattle.pm_words.specs.Sides.{IsUnread, Leaves, source_side, sink_side};
@@ -137,6 +138,10 @@ pub fn run_record<I: Source, O: Sink, D: Disk, C: Clock, T: Turn + Sync, R: Thre
     // The regions that are left are those of the script, on which its writers ran and the seat sampled, as its passes have seen; they
     // are there wherever the run began, but for want of memory, and else neither the disk nor the clock was touched.
     ensures regions { OpensRegions (map string_bytes words.now) (source_side I.Source input.old input.new) (run_side C.Clock D.Disk clock.old clock.new disk.old disk.new) opened.new result }
+
+    // Done: the last sample, which stands behind every writer, shows what the words of each region say in the end, and what is logged last
+    // is what these words answer.
+    ensures exact { result ≡ 0 → LastIsShown (map string_bytes words.now) (source_side I.Source input.old input.new) (run_side C.Clock D.Disk clock.old clock.new disk.old disk.new) opened.new }
 
     // What may be recorded is.
     ensures completes { Completes (map string_bytes words.now) (source_side I.Source input.old input.new) (sink_side O.Sink out.old out.new) (run_side C.Clock D.Disk clock.old clock.new disk.old disk.new) opened.new result }
