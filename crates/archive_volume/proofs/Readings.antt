@@ -29,20 +29,20 @@ mark_payload bytes t is =
     let long : length bytes ≡ 12 = ap length is.1 ∙ length-mark t in
     record {
       range = record { moment = is.0; few = omega arith; sets = tt };
-      places = [];
+      offsets = [];
       head = take_all 12 bytes (omega arith) ∙ is.1 ∙ sym (head_ends t);
       blocks = tt;
       whole = long;
     }
 
-no_reach : (end : ℕ) (places : List ℕ) → reach end places [] ≡ end
+no_reach : (end : ℕ) (offsets : List ℕ) → reach end offsets [] ≡ end
 no_reach end [] = refl
-no_reach end (place ∷ places) = refl
+no_reach end (offset ∷ offsets) = refl
 
 -- and back
 payload_mark : (bytes : List ℕ) (t : Moment) → IsPayload bytes (no_sets t) → IsItem bytes (Mark t)
 payload_mark bytes t p =
-    let long : length bytes ≡ 12 = p.whole ∙ no_reach 12 p.places in
+    let long : length bytes ≡ 12 = p.whole ∙ no_reach 12 p.offsets in
     (p.range.moment, sym (take_all 12 bytes (omega arith)) ∙ p.head ∙ head_ends t)
 
 -- a result with a set is a sample

@@ -20,7 +20,7 @@ fn item_of(read: PmResult) -> Item
 }
 
 /// The item of a record's payload, which without a set is a mark. What is no item is refused as `result_form`
-/// refuses it, by the first fault and its place, or because memory was refused.
+/// refuses it, by the first fault and its offset, or because memory was refused.
 pub fn decode_item(alloc: Global, payload: &[u8]) -> Result<Item, FormFault>
     // What is read is the item that the payload is.
     ensures found { IfOk result (IsItem payload.now) }

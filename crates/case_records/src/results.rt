@@ -12,7 +12,7 @@ fn tell_fault(alloc: Global, fault: FormFault) -> Result<Vec<u8>, NoMemory> {
         FormFault::Stamp { at } => format!(in alloc; "Stamp {at}\n")?,
         FormFault::Count { at } => format!(in alloc; "Count {at}\n")?,
         FormFault::Mode { at } => format!(in alloc; "Mode {at}\n")?,
-        FormFault::Place { at } => format!(in alloc; "Place {at}\n")?,
+        FormFault::Offset { at } => format!(in alloc; "Place {at}\n")?,
         FormFault::Block { at } => format!(in alloc; "Block {at}\n")?,
         FormFault::Trailing { at } => format!(in alloc; "Trailing {at}\n")?,
         FormFault::NoMemory => format!(in alloc; "NoMemory\n")?,

@@ -14,7 +14,7 @@ use Rattle.pcp_base.specs.declared.result.ValueSet.{ValueSet}
 use Rattle.pcp_base.specs.declared.result.PmResult.{PmResult}
 use Rattle.pcp_base.specs.declared.result.Item.TheVariants.{Sample, Mark}
 use Rattle.pcp_model.specs.Words.{word, signed_word}
-use Rattle.pcp_model.specs.Payload.{three_bytes, block_head, pair_blocks, blocks_in, blocks_of, value_pairs, place_pairs, place_byte, body_words, set_words, head_length, BlockStands, BlocksStand, BodyInRange, SetInRange, IsPayload, IsItem}
+use Rattle.pcp_model.specs.Payload.{three_bytes, block_head, pair_blocks, blocks_in, blocks_of, value_pairs, offset_pairs, offset_byte, body_words, set_words, head_length, BlockStands, BlocksStand, BodyInRange, SetInRange, IsPayload, IsItem}
 use Rattle.pcp_model.proofs.Unique.{both, both_words, both_signed, word_of_signed, unsigned_low, IsReadOnce}
 
 three : (x y z rest : List ℕ) → (x ++ (y ++ z)) ++ rest ≡ x ++ (y ++ (z ++ rest))
@@ -57,21 +57,21 @@ same_block a b x y few low is =
     let content : a.bytes ≡ b.bytes = (both a.bytes b.bytes x y (same_length (length a.bytes) (length b.bytes) few low sizes) heads.1).0 in
     ap (λ n. record { code = n; bytes = a.bytes }) code ∙ ap (λ t. record { code = b.code; bytes = t }) content
 
--- one block stands at a place
-one_block : (bytes : List ℕ) (end last place : ℕ) (a b : TypedBytes) → length a.bytes ≤ 16777211 → length b.bytes ≤ 16777211 → BlockStands bytes end place a → BlockStands bytes last place b → a ≡ b
-one_block bytes end last place a b few low p q =
-    same_block a b (drop (4 + length a.bytes) (drop (place_byte place) bytes)) (drop (4 + length b.bytes) (drop (place_byte place) bytes)) few low
-    (sym (block_front (drop (place_byte place) bytes) a p.is) ∙ block_front (drop (place_byte place) bytes) b q.is)
+-- one block stands at an offset
+one_block : (bytes : List ℕ) (end last offset : ℕ) (a b : TypedBytes) → length a.bytes ≤ 16777211 → length b.bytes ≤ 16777211 → BlockStands bytes end offset a → BlockStands bytes last offset b → a ≡ b
+one_block bytes end last offset a b few low p q =
+    same_block a b (drop (4 + length a.bytes) (drop (offset_byte offset) bytes)) (drop (4 + length b.bytes) (drop (offset_byte offset) bytes)) few low
+    (sym (block_front (drop (offset_byte offset) bytes) a p.is) ∙ block_front (drop (offset_byte offset) bytes) b q.is)
 
 -- behind the blocks of one set stand those of the next
-later_stand : (bytes : List ℕ) (end : ℕ) (places : List ℕ) (first more : List TypedBytes) → BlocksStand bytes end places (first ++ more) → BlocksStand bytes end (drop (length first) places) more
-later_stand bytes end places [] more stand = stand
+later_stand : (bytes : List ℕ) (end : ℕ) (offsets : List ℕ) (first more : List TypedBytes) → BlocksStand bytes end offsets (first ++ more) → BlocksStand bytes end (drop (length first) offsets) more
+later_stand bytes end offsets [] more stand = stand
 later_stand bytes end [] (b ∷ first) more stand = absurd (stand tt)
-later_stand bytes end (place ∷ places) (b ∷ first) more stand = later_stand bytes end places first more stand.1
+later_stand bytes end (offset ∷ offsets) (b ∷ first) more stand = later_stand bytes end offsets first more stand.1
 
 both_blocks : (bytes : List ℕ) (end last : ℕ) (at to : List ℕ) (ps qs : List (ℤ × TypedBytes)) (more others : List TypedBytes) (x y : List ℕ)
     → AllByRecursion (λ (p : ℤ × TypedBytes). FitsSigned w32 p.0 × (length p.1.bytes ≤ 16777211)) ps → AllByRecursion (λ (p : ℤ × TypedBytes). FitsSigned w32 p.0 × (length p.1.bytes ≤ 16777211)) qs
-    → BlocksStand bytes end at (pair_blocks ps ++ more) → BlocksStand bytes last to (pair_blocks qs ++ others) → length ps ≡ length qs → place_pairs at ps ++ x ≡ place_pairs to qs ++ y → (ps ≡ qs) × (x ≡ y)
+    → BlocksStand bytes end at (pair_blocks ps ++ more) → BlocksStand bytes last to (pair_blocks qs ++ others) → length ps ≡ length qs → offset_pairs at ps ++ x ≡ offset_pairs to qs ++ y → (ps ≡ qs) × (x ≡ y)
 both_blocks bytes end last [] [] [] [] more others x y fit low p q long is = (refl, is)
 both_blocks bytes end last [] (t ∷ to) [] [] more others x y fit low p q long is = (refl, is)
 both_blocks bytes end last (a ∷ at) [] [] [] more others x y fit low p q long is = (refl, is)
@@ -81,11 +81,11 @@ both_blocks bytes end last at to (r ∷ ps) [] more others x y fit low p q long 
 both_blocks bytes end last [] to (r ∷ ps) (s ∷ qs) more others x y fit low p q long is = absurd (p tt)
 both_blocks bytes end last (a ∷ at) [] (r ∷ ps) (s ∷ qs) more others x y fit low p q long is = absurd (q tt)
 both_blocks bytes end last (a ∷ at) (t ∷ to) (r ∷ ps) (s ∷ qs) more others x y fit low p q long is =
-    let instance : (r.0 ≡ s.0) × (word a ++ (place_pairs at ps ++ x) ≡ word t ++ (place_pairs to qs ++ y)) =
-    both_signed r.0 s.0 (word a ++ (place_pairs at ps ++ x)) (word t ++ (place_pairs to qs ++ y)) fit.0.0 low.0.0 (sym (three (signed_word r.0) (word a) (place_pairs at ps) x) ∙ is ∙ three (signed_word s.0) (word t) (place_pairs to qs) y) in
-    let place : (a ≡ t) × (place_pairs at ps ++ x ≡ place_pairs to qs ++ y) = both_words a t (place_pairs at ps ++ x) (place_pairs to qs ++ y) p.0.word_fits q.0.word_fits instance.1 in
-    let next : (ps ≡ qs) × (x ≡ y) = both_blocks bytes end last at to ps qs more others x y fit.1 low.1 p.1 q.1 (omega arith) place.1 in
-    let block : r.1 ≡ s.1 = one_block bytes end last a r.1 s.1 fit.0.1 low.0.1 p.0 (subst (λ n. BlockStands bytes last n s.1) (sym place.0) q.0) in
+    let instance : (r.0 ≡ s.0) × (word a ++ (offset_pairs at ps ++ x) ≡ word t ++ (offset_pairs to qs ++ y)) =
+    both_signed r.0 s.0 (word a ++ (offset_pairs at ps ++ x)) (word t ++ (offset_pairs to qs ++ y)) fit.0.0 low.0.0 (sym (three (signed_word r.0) (word a) (offset_pairs at ps) x) ∙ is ∙ three (signed_word s.0) (word t) (offset_pairs to qs) y) in
+    let offset : (a ≡ t) × (offset_pairs at ps ++ x ≡ offset_pairs to qs ++ y) = both_words a t (offset_pairs at ps ++ x) (offset_pairs to qs ++ y) p.0.word_fits q.0.word_fits instance.1 in
+    let next : (ps ≡ qs) × (x ≡ y) = both_blocks bytes end last at to ps qs more others x y fit.1 low.1 p.1 q.1 (omega arith) offset.1 in
+    let block : r.1 ≡ s.1 = one_block bytes end last a r.1 s.1 fit.0.1 low.0.1 p.0 (subst (λ n. BlockStands bytes last n s.1) (sym offset.0) q.0) in
     let one : r ≡ s = ap (λ n. (n, r.1)) instance.0 ∙ ap (λ b. (s.0, b)) block in
     (ap (λ v. v ∷ ps) one ∙ ap (λ vs. s ∷ vs) next.0, next.1)
 
@@ -117,19 +117,19 @@ module _ (bytes : List ℕ) (end last : ℕ) (at to : List ℕ) (more others : L
       let pairs : (ps ≡ qs) × (x ≡ y) = both_pairs ps qs x y fit.1 low.1 heads.0 heads.2 in
       (ap InPlace pairs.0, pairs.1)
   both_bodies (InPlace ps) (Blocks qs) some any fit low p q is =
-      let heads : (length ps ≡ length qs) × (◌≡◌ {A = ℕ} 0 1) × (value_pairs ps ++ x ≡ place_pairs to qs ++ y) = both_heads (length ps) (length qs) 0 1 (value_pairs ps) (place_pairs to qs) x y fit.0 low.0 (omega arith) (omega arith) is in
+      let heads : (length ps ≡ length qs) × (◌≡◌ {A = ℕ} 0 1) × (value_pairs ps ++ x ≡ offset_pairs to qs ++ y) = both_heads (length ps) (length qs) 0 1 (value_pairs ps) (offset_pairs to qs) x y fit.0 low.0 (omega arith) (omega arith) is in
       absurd (omega (arith, heads.1))
   both_bodies (InPlace ps) (Status n) some any fit low p q is = absurd (no_status (length ps) n ((word 0 ++ value_pairs ps) ++ x) y some fit.0 low any (sym (append_assoc (word (length ps)) (word 0 ++ value_pairs ps) x) ∙ is))
   both_bodies (Blocks ps) (InPlace qs) some any fit low p q is =
-      let heads : (length ps ≡ length qs) × (◌≡◌ {A = ℕ} 1 0) × (place_pairs at ps ++ x ≡ value_pairs qs ++ y) = both_heads (length ps) (length qs) 1 0 (place_pairs at ps) (value_pairs qs) x y fit.0 low.0 (omega arith) (omega arith) is in
+      let heads : (length ps ≡ length qs) × (◌≡◌ {A = ℕ} 1 0) × (offset_pairs at ps ++ x ≡ value_pairs qs ++ y) = both_heads (length ps) (length qs) 1 0 (offset_pairs at ps) (value_pairs qs) x y fit.0 low.0 (omega arith) (omega arith) is in
       absurd (omega (arith, heads.1))
   both_bodies (Blocks ps) (Blocks qs) some any fit low p q is =
-      let heads : (length ps ≡ length qs) × (◌≡◌ {A = ℕ} 1 1) × (place_pairs at ps ++ x ≡ place_pairs to qs ++ y) = both_heads (length ps) (length qs) 1 1 (place_pairs at ps) (place_pairs to qs) x y fit.0 low.0 (omega arith) (omega arith) is in
+      let heads : (length ps ≡ length qs) × (◌≡◌ {A = ℕ} 1 1) × (offset_pairs at ps ++ x ≡ offset_pairs to qs ++ y) = both_heads (length ps) (length qs) 1 1 (offset_pairs at ps) (offset_pairs to qs) x y fit.0 low.0 (omega arith) (omega arith) is in
       let pairs : (ps ≡ qs) × (x ≡ y) = both_blocks bytes end last at to ps qs more others x y fit.1 low.1 p q heads.0 heads.2 in
       (ap Blocks pairs.0, pairs.1)
-  both_bodies (Blocks ps) (Status n) some any fit low p q is = absurd (no_status (length ps) n ((word 1 ++ place_pairs at ps) ++ x) y some fit.0 low any (sym (append_assoc (word (length ps)) (word 1 ++ place_pairs at ps) x) ∙ is))
+  both_bodies (Blocks ps) (Status n) some any fit low p q is = absurd (no_status (length ps) n ((word 1 ++ offset_pairs at ps) ++ x) y some fit.0 low any (sym (append_assoc (word (length ps)) (word 1 ++ offset_pairs at ps) x) ∙ is))
   both_bodies (Status m) (InPlace qs) some any fit low p q is = absurd (no_status (length qs) m ((word 0 ++ value_pairs qs) ++ y) x any low.0 fit some (sym (append_assoc (word (length qs)) (word 0 ++ value_pairs qs) y) ∙ sym is))
-  both_bodies (Status m) (Blocks qs) some any fit low p q is = absurd (no_status (length qs) m ((word 1 ++ place_pairs to qs) ++ y) x any low.0 fit some (sym (append_assoc (word (length qs)) (word 1 ++ place_pairs to qs) y) ∙ sym is))
+  both_bodies (Status m) (Blocks qs) some any fit low p q is = absurd (no_status (length qs) m ((word 1 ++ offset_pairs to qs) ++ y) x any low.0 fit some (sym (append_assoc (word (length qs)) (word 1 ++ offset_pairs to qs) y) ∙ sym is))
   both_bodies (Status m) (Status n) some any fit low p q is =
       let same : (m ≡ n) × (x ≡ y) = both_signed m n x y fit low is in
       (ap Status same.0, same.1)
@@ -168,20 +168,20 @@ both_fronts s t m n x y p q few low is =
     (same_moment s t sec.0 usec.0, count.0, count.1)
 
 -- where a payload's sets begin
-payload_front : (bytes : List ℕ) (r : PmResult) (p : IsPayload bytes r) → bytes ≡ word r.stamp.sec ++ (word r.stamp.usec ++ (word (length r.sets) ++ (set_words p.places r.sets ++ drop (head_length r) bytes)))
+payload_front : (bytes : List ℕ) (r : PmResult) (p : IsPayload bytes r) → bytes ≡ word r.stamp.sec ++ (word r.stamp.usec ++ (word (length r.sets) ++ (set_words p.offsets r.sets ++ drop (head_length r) bytes)))
 payload_front bytes r p =
     let rest : List ℕ = drop (head_length r) bytes in
-    sym (take-append-drop (head_length r) bytes) ∙ ap (λ t. t ++ rest) p.head ∙ three (word r.stamp.sec) (word r.stamp.usec) (word (length r.sets) ++ set_words p.places r.sets) rest
-    ∙ ap (λ t. word r.stamp.sec ++ (word r.stamp.usec ++ t)) (append_assoc (word (length r.sets)) (set_words p.places r.sets) rest)
+    sym (take-append-drop (head_length r) bytes) ∙ ap (λ t. t ++ rest) p.head ∙ three (word r.stamp.sec) (word r.stamp.usec) (word (length r.sets) ++ set_words p.offsets r.sets) rest
+    ∙ ap (λ t. word r.stamp.sec ++ (word r.stamp.usec ++ t)) (append_assoc (word (length r.sets)) (set_words p.offsets r.sets) rest)
 
 pub one_payload : (bytes : List ℕ) (r s : PmResult) → IsPayload bytes r → IsPayload bytes s → r ≡ s
 one_payload bytes r s p q =
     let x : List ℕ = drop (head_length r) bytes in
     let y : List ℕ = drop (head_length s) bytes in
-    let fronts : (r.stamp ≡ s.stamp) × (length r.sets ≡ length s.sets) × (set_words p.places r.sets ++ x ≡ set_words q.places s.sets ++ y) =
-    both_fronts r.stamp s.stamp (length r.sets) (length s.sets) (set_words p.places r.sets ++ x) (set_words q.places s.sets ++ y) p.range.moment q.range.moment p.range.few q.range.few
+    let fronts : (r.stamp ≡ s.stamp) × (length r.sets ≡ length s.sets) × (set_words p.offsets r.sets ++ x ≡ set_words q.offsets s.sets ++ y) =
+    both_fronts r.stamp s.stamp (length r.sets) (length s.sets) (set_words p.offsets r.sets ++ x) (set_words q.offsets s.sets ++ y) p.range.moment q.range.moment p.range.few q.range.few
     (sym (payload_front bytes r p) ∙ payload_front bytes s q) in
-    let sets : r.sets ≡ s.sets = both_sets bytes (head_length r) (head_length s) p.places q.places r.sets s.sets x y p.range.sets q.range.sets p.blocks q.blocks fronts.1 fronts.2 in
+    let sets : r.sets ≡ s.sets = both_sets bytes (head_length r) (head_length s) p.offsets q.offsets r.sets s.sets x y p.range.sets q.range.sets p.blocks q.blocks fronts.1 fronts.2 in
     ap (λ t. record { stamp = t; sets = r.sets }) fronts.0 ∙ ap (λ l. record { stamp = s.stamp; sets = l }) sets
 
 mark_front : (t : Moment) → word t.sec ++ (word t.usec ++ word 0) ≡ word t.sec ++ (word t.usec ++ (word 0 ++ []))
@@ -191,8 +191,8 @@ mark_front t = ap (λ z. word t.sec ++ (word t.usec ++ z)) (sym (append-nil (wor
 no_mark : (bytes : List ℕ) (r : PmResult) (t : Moment) → IsItem bytes (Sample r) → IsItem bytes (Mark t) → ⊥
 no_mark bytes r t p q =
     let sample : IsPayload bytes r = p.1 in
-    let fronts : (r.stamp ≡ t) × (length r.sets ≡ 0) × (set_words sample.places r.sets ++ drop (head_length r) bytes ≡ []) =
-    both_fronts r.stamp t (length r.sets) 0 (set_words sample.places r.sets ++ drop (head_length r) bytes) [] sample.range.moment q.0 sample.range.few (omega arith)
+    let fronts : (r.stamp ≡ t) × (length r.sets ≡ 0) × (set_words sample.offsets r.sets ++ drop (head_length r) bytes ≡ []) =
+    both_fronts r.stamp t (length r.sets) 0 (set_words sample.offsets r.sets ++ drop (head_length r) bytes) [] sample.range.moment q.0 sample.range.few (omega arith)
     (sym (payload_front bytes r sample) ∙ q.1 ∙ mark_front t) in
     let some : 0 < length r.sets = p.0 in
     let none : length r.sets ≡ 0 = fronts.1 in

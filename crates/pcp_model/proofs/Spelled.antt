@@ -16,7 +16,7 @@ use Rattle.pcp_base.specs.declared.result.PmResult.{PmResult}
 use Rattle.pcp_base.specs.declared.result.Item.TheVariants.{Sample, Mark}
 use Rattle.pcp_model.specs.declared.records.MetaRecord.TheVariants.{Description, Domain}
 use Rattle.pcp_model.specs.Words.{word, signed_word, length-word, length-signed_word, zeros}
-use Rattle.pcp_model.specs.Payload.{filling, block, block_head, block_length, blocks_length, blocks_bytes, blocks_in, blocks_of, pair_blocks, places_from, place_pairs, place_byte, value_pairs, body_words, set_words, body_length, sets_length, head_length, payload_length, result_head, payload, reach, BlockStands, BlocksStand, ResultInRange, IsPayload, IsItem}
+use Rattle.pcp_model.specs.Payload.{filling, block, block_head, block_length, blocks_length, blocks_bytes, blocks_in, blocks_of, pair_blocks, offsets_from, offset_pairs, offset_byte, value_pairs, body_words, set_words, body_length, sets_length, head_length, payload_length, result_head, payload, reach, BlockStands, BlocksStand, ResultInRange, IsPayload, IsItem}
 use Rattle.pcp_model.specs.Records.{description, DescriptionInRange, IsRecord, counted_name, counted_names, names_length, domain, domain_head, instance_words, word_bytes, name_table, name_offsets, NameStands, NamesStand}
 use Rattle.pcp_model.proofs.Payloads.{set_words-cons}
 
@@ -57,33 +57,33 @@ length-value_pairs [] = refl
 length-value_pairs (p ∷ pairs) =
     omega (arith, length-append (signed_word p.0) (word p.1 ++ value_pairs pairs), length-append (word p.1) (value_pairs pairs), length-signed_word p.0, length-word p.1, length-value_pairs pairs)
 
-length-place_pairs : (at : ℕ) (pairs : List (ℤ × TypedBytes)) → length (place_pairs (places_from at (pair_blocks pairs)) pairs) ≡ 8 * length pairs
-length-place_pairs at [] = refl
-length-place_pairs at (p ∷ pairs) =
-    let more : List ℕ = place_pairs (places_from (at + block_length p.1) (pair_blocks pairs)) pairs in
-    omega (arith, length-append (signed_word p.0) (word (3 + at / 4) ++ more), length-append (word (3 + at / 4)) more, length-signed_word p.0, length-word (3 + at / 4), length-place_pairs (at + block_length p.1) pairs)
+length-offset_pairs : (at : ℕ) (pairs : List (ℤ × TypedBytes)) → length (offset_pairs (offsets_from at (pair_blocks pairs)) pairs) ≡ 8 * length pairs
+length-offset_pairs at [] = refl
+length-offset_pairs at (p ∷ pairs) =
+    let more : List ℕ = offset_pairs (offsets_from (at + block_length p.1) (pair_blocks pairs)) pairs in
+    omega (arith, length-append (signed_word p.0) (word (3 + at / 4) ++ more), length-append (word (3 + at / 4)) more, length-signed_word p.0, length-word (3 + at / 4), length-offset_pairs (at + block_length p.1) pairs)
 
-length-body_words : (at : ℕ) (body : Body) → length (body_words (places_from at (blocks_in body)) body) ≡ body_length body
+length-body_words : (at : ℕ) (body : Body) → length (body_words (offsets_from at (blocks_in body)) body) ≡ body_length body
 length-body_words at (InPlace pairs) =
     omega (arith, length-append (word (length pairs)) (word 0 ++ value_pairs pairs), length-append (word 0) (value_pairs pairs), length-word (length pairs), length-word 0, length-value_pairs pairs)
 length-body_words at (Blocks pairs) =
-    let more : List ℕ = place_pairs (places_from at (pair_blocks pairs)) pairs in
-    omega (arith, length-append (word (length pairs)) (word 1 ++ more), length-append (word 1) more, length-word (length pairs), length-word 1, length-place_pairs at pairs)
+    let more : List ℕ = offset_pairs (offsets_from at (pair_blocks pairs)) pairs in
+    omega (arith, length-append (word (length pairs)) (word 1 ++ more), length-append (word 1) more, length-word (length pairs), length-word 1, length-offset_pairs at pairs)
 length-body_words at (Status n) = length-signed_word n
 
-length-set_words : (at : ℕ) (sets : List ValueSet) → length (set_words (places_from at (blocks_of sets)) sets) ≡ sets_length sets
+length-set_words : (at : ℕ) (sets : List ValueSet) → length (set_words (offsets_from at (blocks_of sets)) sets) ≡ sets_length sets
 length-set_words at [] = refl
 length-set_words at (set ∷ sets) =
-    let body : List ℕ = body_words (places_from at (blocks_in set.body)) set.body in
+    let body : List ℕ = body_words (offsets_from at (blocks_in set.body)) set.body in
     let next : ℕ = at + blocks_length (blocks_in set.body) in
-    let more : List ℕ = set_words (places_from next (blocks_of sets)) sets in
+    let more : List ℕ = set_words (offsets_from next (blocks_of sets)) sets in
     ap length (set_words-cons at set sets)
     ∙ (let e : length (word set.pmid ++ (body ++ more)) ≡ 4 + body_length set.body + sets_length sets =
     omega (arith, length-append (word set.pmid) (body ++ more), length-append body more, length-word set.pmid, length-body_words at set.body, length-set_words next sets) in e)
 
-length-result_head : (at : ℕ) (r : PmResult) → length (result_head (places_from at (blocks_of r.sets)) r) ≡ head_length r
+length-result_head : (at : ℕ) (r : PmResult) → length (result_head (offsets_from at (blocks_of r.sets)) r) ≡ head_length r
 length-result_head at r =
-    let more : List ℕ = set_words (places_from at (blocks_of r.sets)) r.sets in
+    let more : List ℕ = set_words (offsets_from at (blocks_of r.sets)) r.sets in
     omega (
       arith,
       length-append (word r.stamp.sec) (word r.stamp.usec ++ (word (length r.sets) ++ more)),
@@ -107,7 +107,7 @@ length-blocks_bytes (b ∷ blocks) = omega (arith, length-append (block b) (bloc
 pub length-payload : (r : PmResult) → length (payload r) ≡ payload_length r
 unfolding payload
 length-payload r =
-    omega (arith, length-append (result_head (places_from (head_length r) (blocks_of r.sets)) r) (blocks_bytes (blocks_of r.sets)), length-result_head (head_length r) r, length-blocks_bytes (blocks_of r.sets))
+    omega (arith, length-append (result_head (offsets_from (head_length r) (blocks_of r.sets)) r) (blocks_bytes (blocks_of r.sets)), length-result_head (head_length r) r, length-blocks_bytes (blocks_of r.sets))
 
 -- blocks and sets take whole words
 block_words : (b : TypedBytes) → block_length b % 4 ≡ 0
@@ -122,8 +122,8 @@ sets_words : (sets : List ValueSet) → sets_length sets % 4 ≡ 0
 sets_words [] = refl
 sets_words (set ∷ sets) = omega (arith, body_word_count set.body, sets_words sets)
 
-place_of : (at : ℕ) → at % 4 ≡ 0 → place_byte (3 + at / 4) ≡ at
-place_of at h = omega arith
+offset_of : (at : ℕ) → at % 4 ≡ 0 → offset_byte (3 + at / 4) ≡ at
+offset_of at h = omega arith
 
 block_text : (b : TypedBytes) (rest : List ℕ) → block b ++ rest ≡ (block_head b ++ b.bytes) ++ (zeros (filling (length b.bytes)) ++ rest)
 block_text b rest =
@@ -133,42 +133,42 @@ block_text b rest =
 stands : (bytes front rest : List ℕ) (sets_end : ℕ) (b : TypedBytes) → bytes ≡ front ++ (block b ++ rest) → length front % 4 ≡ 0 → sets_end ≤ length front → length bytes < 4294967296
     → BlockStands bytes sets_end (3 + length front / 4) b
 stands bytes front rest sets_end b is quarter behind few =
-    let place : place_byte (3 + length front / 4) ≡ length front = place_of (length front) quarter in
+    let offset : offset_byte (3 + length front / 4) ≡ length front = offset_of (length front) quarter in
     let size : length bytes ≡ length front + (block_length b + length rest) =
     ap length is ∙ length-append front (block b ++ rest) ∙ ap (λ n. length front + n) (length-append (block b) rest ∙ ap (λ n. n + length rest) (length-block b)) in
     record {
       word_fits = omega arith;
       behind = (omega arith, omega arith);
       within = omega arith;
-      is = ap (λ n. take (4 + length b.bytes) (drop n bytes)) place ∙ ap (λ t. take (4 + length b.bytes) (drop (length front) t)) is
+      is = ap (λ n. take (4 + length b.bytes) (drop n bytes)) offset ∙ ap (λ t. take (4 + length b.bytes) (drop (length front) t)) is
           ∙ ap (take (4 + length b.bytes)) (drop_at front (block b ++ rest) (length front) refl ∙ block_text b rest)
           ∙ take_at (block_head b ++ b.bytes) (zeros (filling (length b.bytes)) ++ rest) (4 + length b.bytes) (omega arith);
     }
 
 -- blocks stand one behind another
 all_stand : (bytes front : List ℕ) (sets_end : ℕ) (blocks : List TypedBytes) → bytes ≡ front ++ blocks_bytes blocks → length front % 4 ≡ 0 → sets_end ≤ length front → length bytes < 4294967296
-    → BlocksStand bytes sets_end (places_from (length front) blocks) blocks
+    → BlocksStand bytes sets_end (offsets_from (length front) blocks) blocks
 all_stand bytes front sets_end [] is quarter behind few = tt
 all_stand bytes front sets_end (b ∷ blocks) is quarter behind few =
     let longer : length (front ++ block b) ≡ length front + block_length b = length-append front (block b) ∙ ap (λ n. length front + n) (length-block b) in
     let whole : block_length b % 4 ≡ 0 = block_words b in (
       stands bytes front (blocks_bytes blocks) sets_end b is quarter behind few,
-      subst (λ n. BlocksStand bytes sets_end (places_from n blocks) blocks) longer
+      subst (λ n. BlocksStand bytes sets_end (offsets_from n blocks) blocks) longer
           (all_stand bytes (front ++ block b) sets_end blocks (is ∙ sym (append_assoc front (block b) (blocks_bytes blocks))) (omega arith) (omega arith) few),
     )
 
 -- they reach as far as they are long
-least_reach : (end : ℕ) (places : List ℕ) (blocks : List TypedBytes) → end ≤ reach end places blocks
+least_reach : (end : ℕ) (offsets : List ℕ) (blocks : List TypedBytes) → end ≤ reach end offsets blocks
 least_reach end [] blocks = omega arith
-least_reach end (place ∷ places) [] = omega arith
-least_reach end (place ∷ places) (b ∷ blocks) = omega (arith, least_reach end places blocks)
+least_reach end (offset ∷ offsets) [] = omega arith
+least_reach end (offset ∷ offsets) (b ∷ blocks) = omega (arith, least_reach end offsets blocks)
 
-all_reach : (end at : ℕ) (blocks : List TypedBytes) → end ≤ at → at % 4 ≡ 0 → max at (reach end (places_from at blocks) blocks) ≡ at + blocks_length blocks
+all_reach : (end at : ℕ) (blocks : List TypedBytes) → end ≤ at → at % 4 ≡ 0 → max at (reach end (offsets_from at blocks) blocks) ≡ at + blocks_length blocks
 all_reach end at [] h quarter = omega arith
 all_reach end at (b ∷ blocks) h quarter =
-    let place : place_byte (3 + at / 4) ≡ at = place_of at quarter in
+    let offset : offset_byte (3 + at / 4) ≡ at = offset_of at quarter in
     let whole : block_length b % 4 ≡ 0 = block_words b in
-    let more : max (at + block_length b) (reach end (places_from (at + block_length b) blocks) blocks) ≡ at + block_length b + blocks_length blocks =
+    let more : max (at + block_length b) (reach end (offsets_from (at + block_length b) blocks) blocks) ≡ at + block_length b + blocks_length blocks =
     all_reach end (at + block_length b) blocks (omega arith) (omega arith) in
     omega arith
 
@@ -177,19 +177,19 @@ pub is_payload : (r : PmResult) → ResultInRange r → payload_length r < 42949
 unfolding payload
 is_payload r range few =
     let blocks : List TypedBytes = blocks_of r.sets in
-    let head : List ℕ = result_head (places_from (head_length r) (blocks_of r.sets)) r in
-    let long : length (result_head (places_from (head_length r) (blocks_of r.sets)) r) ≡ head_length r = length-result_head (head_length r) r in
+    let head : List ℕ = result_head (offsets_from (head_length r) (blocks_of r.sets)) r in
+    let long : length (result_head (offsets_from (head_length r) (blocks_of r.sets)) r) ≡ head_length r = length-result_head (head_length r) r in
     let quarter : head_length r % 4 ≡ 0 = let sets : sets_length r.sets % 4 ≡ 0 = sets_words r.sets in omega arith in
     let size : length (payload r) ≡ payload_length r = length-payload r in
-    let reached : max (head_length r) (reach (head_length r) (places_from (head_length r) (blocks_of r.sets)) (blocks_of r.sets)) ≡ head_length r + blocks_length (blocks_of r.sets) =
+    let reached : max (head_length r) (reach (head_length r) (offsets_from (head_length r) (blocks_of r.sets)) (blocks_of r.sets)) ≡ head_length r + blocks_length (blocks_of r.sets) =
     all_reach (head_length r) (head_length r) (blocks_of r.sets) (omega arith) quarter in
-    let least : head_length r ≤ reach (head_length r) (places_from (head_length r) (blocks_of r.sets)) (blocks_of r.sets) =
-    least_reach (head_length r) (places_from (head_length r) (blocks_of r.sets)) (blocks_of r.sets) in
+    let least : head_length r ≤ reach (head_length r) (offsets_from (head_length r) (blocks_of r.sets)) (blocks_of r.sets) =
+    least_reach (head_length r) (offsets_from (head_length r) (blocks_of r.sets)) (blocks_of r.sets) in
     record {
       range = range;
-      places = places_from (head_length r) (blocks_of r.sets);
+      offsets = offsets_from (head_length r) (blocks_of r.sets);
       head = take_at head (blocks_bytes (blocks_of r.sets)) (head_length r) long;
-      blocks = subst (λ n. BlocksStand (payload r) (head_length r) (places_from n (blocks_of r.sets)) (blocks_of r.sets)) long
+      blocks = subst (λ n. BlocksStand (payload r) (head_length r) (offsets_from n (blocks_of r.sets)) (blocks_of r.sets)) long
           (all_stand (payload r) head (head_length r) (blocks_of r.sets) refl (subst (λ n. n % 4 ≡ 0) (sym long) quarter) (omega arith) (omega arith));
       whole = omega arith;
     }

@@ -58,25 +58,25 @@ abbrev pub value_pairs : List (ℤ × ℕ) → List ℕ
 value_pairs [] = []
 value_pairs (p ∷ pairs) = signed_word p.0 ++ (word p.1 ++ value_pairs pairs)
 
--- pairs by block: instance and the block's place, one place for each pair
-abbrev pub place_pairs : List ℕ → List (ℤ × TypedBytes) → List ℕ
-place_pairs (place ∷ places) (p ∷ pairs) = signed_word p.0 ++ (word place ++ place_pairs places pairs)
-place_pairs places pairs = []
+-- pairs by block: instance and the block's offset, one offset for each pair
+abbrev pub offset_pairs : List ℕ → List (ℤ × TypedBytes) → List ℕ
+offset_pairs (offset ∷ offsets) (p ∷ pairs) = signed_word p.0 ++ (word offset ++ offset_pairs offsets pairs)
+offset_pairs offsets pairs = []
 
 -- A set: the metric, and a status of at most 0, or the number of values, how they are kept, and the pairs.
 abbrev pub body_words : List ℕ → Body → List ℕ
-body_words places (InPlace pairs) = word (length pairs) ++ (word 0 ++ value_pairs pairs)
-body_words places (Blocks pairs) = word (length pairs) ++ (word 1 ++ place_pairs places pairs)
-body_words places (Status n) = signed_word n
+body_words offsets (InPlace pairs) = word (length pairs) ++ (word 0 ++ value_pairs pairs)
+body_words offsets (Blocks pairs) = word (length pairs) ++ (word 1 ++ offset_pairs offsets pairs)
+body_words offsets (Status n) = signed_word n
 
 abbrev pub set_words : List ℕ → List ValueSet → List ℕ
-set_words places [] = []
-set_words places (set ∷ sets) =
-    word set.pmid ++ (body_words places set.body ++ set_words (drop (length (blocks_in set.body)) places) sets)
+set_words offsets [] = []
+set_words offsets (set ∷ sets) =
+    word set.pmid ++ (body_words offsets set.body ++ set_words (drop (length (blocks_in set.body)) offsets) sets)
 
--- the payload up to the blocks, whose places are these
+-- the payload up to the blocks, whose offsets are these
 abbrev pub result_head : List ℕ → PmResult → List ℕ
-result_head places r = word r.stamp.sec ++ (word r.stamp.usec ++ (word (length r.sets) ++ set_words places r.sets))
+result_head offsets r = word r.stamp.sec ++ (word r.stamp.usec ++ (word (length r.sets) ++ set_words offsets r.sets))
 
 -- how many bytes the head takes
 abbrev pub body_length : Body → ℕ
@@ -100,35 +100,35 @@ blocks_length (b ∷ blocks) = block_length b + blocks_length blocks
 abbrev pub payload_length : PmResult → ℕ
 payload_length r = head_length r + blocks_length (blocks_of r.sets)
 
--- Blocks one behind another from a byte of the payload on: their places, the word of the seconds being 3.
-abbrev pub places_from : ℕ → List TypedBytes → List ℕ
-places_from at [] = []
-places_from at (b ∷ blocks) = (3 + at / 4) ∷ places_from (at + block_length b) blocks
+-- Blocks one behind another from a byte of the payload on: their offsets, the word of the seconds being 3.
+abbrev pub offsets_from : ℕ → List TypedBytes → List ℕ
+offsets_from at [] = []
+offsets_from at (b ∷ blocks) = (3 + at / 4) ∷ offsets_from (at + block_length b) blocks
 
 -- The one spelling that the writer has: the blocks stand directly behind the last set, in the order of the pairs.
 unfoldable pub payload : PmResult → List ℕ
-payload r = result_head (places_from (head_length r) (blocks_of r.sets)) r ++ blocks_bytes (blocks_of r.sets)
+payload r = result_head (offsets_from (head_length r) (blocks_of r.sets)) r ++ blocks_bytes (blocks_of r.sets)
 
--- the bytes of a place
-abbrev pub place_byte : ℕ → ℕ
-place_byte place = (place - 3) * 4
+-- the byte to which an offset leads
+abbrev pub offset_byte : ℕ → ℕ
+offset_byte offset = (offset - 3) * 4
 
--- A block stands at a place behind the sets, with its padding inside the payload.
-pub record BlockStands (bytes : List ℕ) (sets_end place : ℕ) (b : TypedBytes) : Type 0 where
-  pub word_fits : place < 4294967296
-  pub behind : (3 ≤ place) × (sets_end ≤ place_byte place)
-  pub within : place_byte place + block_length b ≤ length bytes
-  pub is : take (4 + length b.bytes) (drop (place_byte place) bytes) ≡ block_head b ++ b.bytes
+-- A block stands at an offset behind the sets, with its padding inside the payload.
+pub record BlockStands (bytes : List ℕ) (sets_end offset : ℕ) (b : TypedBytes) : Type 0 where
+  pub word_fits : offset < 4294967296
+  pub behind : (3 ≤ offset) × (sets_end ≤ offset_byte offset)
+  pub within : offset_byte offset + block_length b ≤ length bytes
+  pub is : take (4 + length b.bytes) (drop (offset_byte offset) bytes) ≡ block_head b ++ b.bytes
 
 abbrev pub BlocksStand : List ℕ → ℕ → List ℕ → List TypedBytes → Type 0
 BlocksStand bytes sets_end [] [] = Unit {0}
-BlocksStand bytes sets_end (place ∷ places) (b ∷ blocks) = BlockStands bytes sets_end place b × BlocksStand bytes sets_end places blocks
-BlocksStand bytes sets_end places blocks = Unit {0} → ⊥
+BlocksStand bytes sets_end (offset ∷ offsets) (b ∷ blocks) = BlockStands bytes sets_end offset b × BlocksStand bytes sets_end offsets blocks
+BlocksStand bytes sets_end offsets blocks = Unit {0} → ⊥
 
 -- the greatest end of the sets and of the blocks
 abbrev pub reach : ℕ → List ℕ → List TypedBytes → ℕ
-reach end (place ∷ places) (b ∷ blocks) = max (place_byte place + block_length b) (reach end places blocks)
-reach end places blocks = end
+reach end (offset ∷ offsets) (b ∷ blocks) = max (offset_byte offset + block_length b) (reach end offsets blocks)
+reach end offsets blocks = end
 
 -- each number of a set fits its type
 abbrev pub BodyInRange : Body → Type 0
@@ -148,10 +148,10 @@ pub record ResultInRange (r : PmResult) : Type 0 where
 -- order, with any padding, and nothing stands behind the last of them.
 pub record IsPayload (bytes : List ℕ) (r : PmResult) : Type 0 where
   pub range : ResultInRange r
-  pub places : List ℕ
-  pub head : take (head_length r) bytes ≡ result_head places r
-  pub blocks : BlocksStand bytes (head_length r) places (blocks_of r.sets)
-  pub whole : length bytes ≡ reach (head_length r) places (blocks_of r.sets)
+  pub offsets : List ℕ
+  pub head : take (head_length r) bytes ≡ result_head offsets r
+  pub blocks : BlocksStand bytes (head_length r) offsets (blocks_of r.sets)
+  pub whole : length bytes ≡ reach (head_length r) offsets (blocks_of r.sets)
 
 -- the stamp of an item
 abbrev pub stamp_of : Item → Moment

@@ -1,4 +1,4 @@
--- Where bytes stop being like any text of a grammar: of two texts one behind the other, the first place is that of the
+-- Where bytes stop being like any text of a grammar: of two texts one behind the other, the first offset is that of the
 -- first, or else that of the second.
 use Rattle.std.proofs.Common.{◌≡◌, ℕ, ◌+◌, ◌-◌, ◌<◌, ◌≤◌, List, [], ◌++◌, length, take, drop, refl, sym, ap, ◌∙◌, subst, append_assoc, arith, inl, inr}
 use Rattle.std.proofs.lemmas.Bool.{cases_lt}
@@ -104,7 +104,7 @@ short_stops G t more x fits short = record {
   unfinished = λ f r y e g. let size : length t ≡ length f + length r = ap length e ∙ length-append f r in let more : length t < length f = short f y g in absurd (omega arith);
 }
 
--- the same texts stop in the same place
+-- the same texts stop at the same offset
 pub same_stops : {X : Type 0} (G K : List ℕ → X → Type 0) (t : List ℕ) (k : ℕ) → ((f : List ℕ) (x : X) → G f x → K f x) → ((f : List ℕ) (x : X) → K f x → G f x) → Stops G t k → Stops K t k
 same_stops G K t k to from s = record {
   within = s.within;

@@ -128,10 +128,10 @@ module _ {X Y : Type 0} (G : List ℕ → X → Type 0) (H : X → List ℕ → 
             record { k = f.k; is = f.is; stops = first_stops G H (drop at bytes) f.k (λ x. (two x).some) f.stops }
         | later p a b ↦ let t = one.takes bytes at p.1 p.0 fits h a in
             let f = (two p.0).stops bytes p.1 e fits t.spans.within b in
-            let place : p.1 + f.k ≡ at + (length t.text + f.k) = omega (arith, t.spans.size) in
+            let offset : p.1 + f.k ≡ at + (length t.text + f.k) = omega (arith, t.spans.size) in
             record {
               k = length t.text + f.k;
-              is = f.is ∙ ap Body place;
+              is = f.is ∙ ap Body offset;
               stops = later_stops G H (drop at bytes) t.text (drop p.1 bytes) p.0 f.k t.spans.cut (free_of G r one) t.fits f.stops;
             }
       ]

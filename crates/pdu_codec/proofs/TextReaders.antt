@@ -220,8 +220,8 @@ text_stops bytes size from e h is =
     let room : length t ≡ length bytes - from = length-drop from bytes in
     elim (text_read bytes size from) [
       | has_zero lt f ↦ record { k = clean_length (take size t); is = err_is (List ℕ × ℕ) e (Body (from + clean_length (take size t))) (sym is ∙ f); stops = zero_stops size t lt }
-      | ends le few f ↦ let place : length bytes ≡ from + length t = omega arith in
-          record { k = length t; is = err_is (List ℕ × ℕ) e (Body (length bytes)) (sym is ∙ f) ∙ ap Body place; stops = short_text size t le (omega arith) }
+      | ends le few f ↦ let offset : length bytes ≡ from + length t = omega arith in
+          record { k = length t; is = err_is (List ℕ × ℕ) e (Body (length bytes)) (sym is ∙ f) ∙ ap Body offset; stops = short_text size t le (omega arith) }
       | stands le long f ↦ absurd (not_both (take size t, from + whole size) e (sym f ∙ is))
     ]
 

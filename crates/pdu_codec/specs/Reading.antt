@@ -1,4 +1,4 @@
--- Reading a PDU's bytes from left to right. A step answers what it read and the byte behind it, or the place of the first
+-- Reading a PDU's bytes from left to right. A step answers what it read and the byte behind it, or the offset of the first
 -- byte that doesn't fit, which is the end where the bytes are too few.
 use Rattle.std.specs.Prelude.{◌≡◌, ◌⊎◌, ℕ, zero, suc, ℤ, ◌+◌, Bool, true, false, List, [], ◌∷◌, length, take, drop, slice_get, Option, Some, None, Result, Ok, Err, nat_lt, ◌==◌, if◌then◌else◌}
 use Rattle.std.specs.Int.{w32, cast_signed}

@@ -1,9 +1,9 @@
 -- Where bytes that are no payload of a result stop being like one, byte by byte: the first byte with which no payload goes
--- on, or their end. So a word may stop at its first byte, and what may stand there goes by what stood before: of places
+-- on, or their end. So a word may stop at its first byte, and what may stand there goes by what stood before: of offsets
 -- that lead to blocks, and of sets that are still to come, since all blocks lie behind the last set.
 use Rattle.std.specs.Prelude.{ℕ, zero, suc, ◌+◌, ◌-◌, ◌*◌, ◌/◌, ◌%◌, List, length, slice_index, min, max, true, false, Option, Some, None, Result, Ok, Err, nat_lt, nat_le, ◌==◌, ◌&&◌, ◌||◌, if◌then◌else◌}
 use Rattle.std.specs.Int.{w32}
-use Rattle.pcp_model.specs.Payload.{place_byte}
+use Rattle.pcp_model.specs.Payload.{offset_byte}
 use Rattle.result_form.specs.Decoding.{padded_size}
 use Rattle.pcp_base.specs.Fields.{be_field}
 use Rattle.pdu_codec.specs.declared.misfit.Blocks.{Blocks}
@@ -51,11 +51,11 @@ count_word bytes at others limit =
     if nat_lt (at + 4) (length bytes) && nat_le 128 (slice_index bytes (at + 4)) then any_word bytes (at + 4)
     else word_between bytes (at + 4) 0 (most_values at others limit)
 
--- No place leads further than this byte.
+-- No offset leads further than this byte.
 abbrev pub furthest : ℕ
 furthest = 17179869168
 
--- What a place leads to: all sets end at or before it. Where its first word stands, a length below 4 stops at the word's
+-- What an offset leads to: all sets end at or before it. Where its first word stands, a length below 4 stops at the word's
 -- last byte, and any other says how far the block reaches; else the bytes end too early.
 abbrev pub led_to : List ℕ → Blocks → ℕ → ℕ → Blocks
 led_to bytes b begin head =
@@ -67,28 +67,28 @@ led bytes b begin None = record { limit = min b.limit begin; stop = b.stop; reac
 led bytes b begin (Some head) = led_to bytes b begin head
 
 abbrev pub led_by : List ℕ → Blocks → ℕ → Blocks
-led_by bytes b place = led bytes b (place_byte place) (be_field w32 (place_byte place) bytes)
+led_by bytes b offset = led bytes b (offset_byte offset) (be_field w32 (offset_byte offset) bytes)
 
--- the place of a pair: none leads before the least end of all sets
-unfoldable pub place_at : List ℕ → ℕ → ℕ → Result ℕ ℕ
-place_at bytes end at = do
+-- the offset of a pair: none leads before the least end of all sets
+unfoldable pub offset_at : List ℕ → ℕ → ℕ → Result ℕ ℕ
+offset_at bytes end at = do
   instance ← any_word bytes at
   word_between bytes (at + 4) (3 + end / 4) 4294967295
 
--- so many pairs whose words are places
-unfoldable pub places_from : List ℕ → ℕ → Blocks → ℕ → ℕ → Result Blocks ℕ
-places_from bytes end b zero at = Ok b
-places_from bytes end b (suc n) at = do
-  place ← place_at bytes end at
-  places_from bytes end (led_by bytes b place) n (at + 8)
+-- so many pairs whose words are offsets
+unfoldable pub offsets_from : List ℕ → ℕ → Blocks → ℕ → ℕ → Result Blocks ℕ
+offsets_from bytes end b zero at = Ok b
+offsets_from bytes end b (suc n) at = do
+  offset ← offset_at bytes end at
+  offsets_from bytes end (led_by bytes b offset) n (at + 8)
 
 -- the pairs of a set, which begins at a byte
 unfoldable pub pairs_at : List ℕ → ℕ → ℕ → Blocks → ℕ → ℕ → Result Sets ℕ
 pairs_at bytes at others b count mode =
     if mode == 0 then (if nat_lt (length bytes) (at + 12 + 8 * count) then Err (length bytes) else Ok (record { at = at + 12 + 8 * count; blocks = b }))
-    else (places_from bytes (least_end at others count) b count (at + 12) >>= λ led. Ok (record { at = at + 12 + 8 * count; blocks = led }))
+    else (offsets_from bytes (least_end at others count) b count (at + 12) >>= λ led. Ok (record { at = at + 12 + 8 * count; blocks = led }))
 
--- by blocks only where some place can lead behind all sets
+-- by blocks only where some offset can lead behind all sets
 abbrev pub most_mode : ℕ → ℕ
 most_mode end = if nat_lt furthest end then 0 else 1
 
@@ -111,7 +111,7 @@ sets_at bytes (suc others) s = do
 
 -- ---- the whole
 
--- no place yet: no sets that begin in a PDU end so far
+-- no offset yet: no sets that begin in a PDU end so far
 abbrev pub no_blocks : List ℕ → Blocks
 no_blocks bytes = record { limit = 68719476736; stop = length bytes; reach = 0; is_open = false }
 

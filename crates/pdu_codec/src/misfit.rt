@@ -1,13 +1,13 @@
 //! Where bytes that are no payload of a result stop being like one, byte by byte.
 ghost use Rattle.std.specs.Prelude.{◌≡◌, ◌⊎◌, ◌+◌, ◌*◌, ◌<◌, ◌≤◌, length, IfOk, OnOk};
-ghost use Rattle.pdu_codec.specs.ResultMisfit.{byte_between, word_between, any_word, most_values, least_end, count_word, led_by, place_at, places_from, pairs_at, most_mode, values_at, set_at, sets_at, stop_behind, walked, result_misfit};
+ghost use Rattle.pdu_codec.specs.ResultMisfit.{byte_between, word_between, any_word, most_values, least_end, count_word, led_by, offset_at, offsets_from, pairs_at, most_mode, values_at, set_at, sets_at, stop_behind, walked, result_misfit};
 
 use pcp_base::be32;
 
-/// The furthest byte to which a place leads.
+/// The furthest byte to which an offset leads.
 const FURTHEST: u64 = 17_179_869_168;
 
-/// What is known of the blocks to which places led.
+/// What is known of the blocks to which offsets led.
 #[derive(Clone, Copy)]
 pub struct Blocks {
     /// Where all sets end at the latest.
@@ -89,11 +89,11 @@ fn count_word(payload: &[u8], at: usize, others: u32, limit: u64) -> Result<u32,
     word_between(payload, at + 4, 0, most_values(at, others, limit))
 }
 
-/// What is known of the blocks with the one to which this place leads.
-fn led(payload: &[u8], blocks: Blocks, place: u32) -> Blocks
-    ensures { result ≡ led_by payload.now blocks place }
+/// What is known of the blocks with the one to which this offset leads.
+fn led(payload: &[u8], blocks: Blocks, offset: u32) -> Blocks
+    ensures { result ≡ led_by payload.now blocks offset }
 {
-    let begin = u64::from(place.saturating_sub(3)) * 4;
+    let begin = u64::from(offset.saturating_sub(3)) * 4;
     let mut next = blocks;
     next.limit = blocks.limit.min(begin);
     match be32(payload, begin as usize) {
@@ -110,21 +110,21 @@ fn led(payload: &[u8], blocks: Blocks, place: u32) -> Blocks
     next
 }
 
-/// The place of the pair at a byte: no place leads before the least end of all sets.
-#[tactic(auto, unfolding(crate::specs::ResultMisfit::place_at))]
-fn place_at(payload: &[u8], end: u64, at: usize) -> Result<u32, usize>
+/// The offset of the pair at a byte: no offset leads before the least end of all sets.
+#[tactic(auto, unfolding(crate::specs::ResultMisfit::offset_at))]
+fn offset_at(payload: &[u8], end: u64, at: usize) -> Result<u32, usize>
     requires end { end ≤ 17179869168 }
     requires at { at ≤ length payload.now }
-    ensures place { result ≡ place_at payload.now end at }
+    ensures offset { result ≡ offset_at payload.now end at }
     ensures within { OnOk result (at + 8 ≤ length payload.now) }
 {
     word_between(payload, at, 0, u32::MAX)?;
     word_between(payload, at + 4, (3 + end / 4) as u32, u32::MAX)
 }
 
-/// What is known of the blocks behind so many pairs whose words are places; `end` is the least end of all sets.
-#[tactic(auto, unfolding(crate::specs::ResultMisfit::places_from))]
-fn places_from(
+/// What is known of the blocks behind so many pairs whose words are offsets; `end` is the least end of all sets.
+#[tactic(auto, unfolding(crate::specs::ResultMisfit::offsets_from))]
+fn offsets_from(
     payload: &[u8],
     end: u64,
     before: Blocks,
@@ -133,14 +133,14 @@ fn places_from(
 ) -> Result<Blocks, usize>
     requires end { end ≤ 17179869168 }
     requires from { from ≤ length payload.now }
-    ensures blocks { result ≡ places_from payload.now end before count from }
+    ensures blocks { result ≡ offsets_from payload.now end before count from }
     ensures within { OnOk result (from + 8 * count ≤ length payload.now) }
 {
     let mut blocks = before;
     let mut at = from;
     for _ in 0..count {
-        let place = place_at(payload, end, at)?;
-        blocks = led(payload, blocks, place);
+        let offset = offset_at(payload, end, at)?;
+        blocks = led(payload, blocks, offset);
         at += 8;
     }
     Ok(blocks)
@@ -169,7 +169,7 @@ fn pairs_at(
         }
         return Ok(Sets { at: next, blocks });
     }
-    let blocks = places_from(
+    let blocks = offsets_from(
         payload,
         least_end(at, others, count),
         blocks,
@@ -179,7 +179,7 @@ fn pairs_at(
     Ok(Sets { at: next, blocks })
 }
 
-/// How a set's values may stand: by blocks only where a place can lead behind all sets.
+/// How a set's values may stand: by blocks only where an offset can lead behind all sets.
 fn most_mode(end: u64) -> u32
     ensures { result ≡ most_mode end }
 {

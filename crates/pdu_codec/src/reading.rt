@@ -58,7 +58,7 @@ fn fault_of(fault: FormFault, payload: &[u8], at: usize) -> PduFault
         | FormFault::Stamp { .. }
         | FormFault::Count { .. }
         | FormFault::Mode { .. }
-        | FormFault::Place { .. }
+        | FormFault::Offset { .. }
         | FormFault::Block { .. }
         | FormFault::Trailing { .. } => PduFault::Body {
             at: (at + result_misfit(payload)) as u64,

@@ -14,7 +14,7 @@ use Rattle.pcp_base.specs.declared.result.Body.TheVariants as bodies
 use Rattle.pcp_base.specs.declared.result.ValueSet.{ValueSet}
 use Rattle.pcp_base.specs.declared.result.PmResult.{PmResult}
 use Rattle.pcp_model.specs.Words.{word, signed_word}
-use Rattle.pcp_model.specs.Payload.{blocks_in, blocks_of, value_pairs, place_pairs, body_words, set_words, body_length, sets_length, head_length, result_head, reach, BlocksStand, BodyInRange, SetInRange, IsPayload}
+use Rattle.pcp_model.specs.Payload.{blocks_in, blocks_of, value_pairs, offset_pairs, body_words, set_words, body_length, sets_length, head_length, result_head, reach, BlocksStand, BodyInRange, SetInRange, IsPayload}
 use Rattle.result_form.specs.declared.fault.FormFault.{FormFault}
 use Rattle.result_form.specs.declared.fault.FormFault.TheVariants.{Short, Stamp, Count, Mode, Trailing}
 use Rattle.result_form.specs.declared.fields.Run.{Run}
@@ -97,17 +97,17 @@ run_ends bytes at n room =
 
 -- ---- what a set holds
 
-record BodyAgain (bytes : List ℕ) (end reached at : ℕ) (body : Body) (places : List ℕ) (more : List TypedBytes) (rest : List ℕ) : Type 0 where
+record BodyAgain (bytes : List ℕ) (end reached at : ℕ) (body : Body) (offsets : List ℕ) (more : List TypedBytes) (rest : List ℕ) : Type 0 where
   what : Counted
   counts : counted_at bytes at ≡ Ok what
   furthest : ℕ
   read : body_of bytes end reached what ≡ Ok (body, furthest)
   ends : end_of bytes at what ≡ Ok (at + body_length body)
-  stand : BlocksStand bytes end (drop (length (blocks_in body)) places) more
+  stand : BlocksStand bytes end (drop (length (blocks_in body)) offsets) more
   behind : drop (at + body_length body) bytes ≡ rest
   room : at + body_length body ≤ length bytes
   grows : reached ≤ furthest
-  whole : max reached (reach end places (blocks_in body ++ more)) ≡ max furthest (reach end (drop (length (blocks_in body)) places) more)
+  whole : max reached (reach end offsets (blocks_in body ++ more)) ≡ max furthest (reach end (drop (length (blocks_in body)) offsets) more)
 
 -- a text that stands behind a byte of the payload has room
 text_room : (bytes : List ℕ) (at : ℕ) (text rest : List ℕ) → at ≤ length bytes → drop at bytes ≡ text ++ rest → at + length text ≤ length bytes
@@ -117,10 +117,10 @@ word_room : (bytes : List ℕ) (at n : ℕ) (rest : List ℕ) → at ≤ length 
 unfolding word
 word_room bytes at n rest h e = text_room bytes at (word n) rest h e
 
-body_again : (bytes : List ℕ) (end reached at : ℕ) (body : Body) (places : List ℕ) (more : List TypedBytes) (rest : List ℕ) → IsBytes bytes → HasContent body → BodyInRange body → BlocksStand bytes end places (blocks_in body ++ more) → at ≤ length bytes
-    → drop at bytes ≡ body_words places body ++ rest → BodyAgain bytes end reached at body places more rest
+body_again : (bytes : List ℕ) (end reached at : ℕ) (body : Body) (offsets : List ℕ) (more : List TypedBytes) (rest : List ℕ) → IsBytes bytes → HasContent body → BodyInRange body → BlocksStand bytes end offsets (blocks_in body ++ more) → at ≤ length bytes
+    → drop at bytes ≡ body_words offsets body ++ rest → BodyAgain bytes end reached at body offsets more rest
 unfolding body_of
-body_again bytes end reached at (bodies.Status z) places more rest fits content range stand within e =
+body_again bytes end reached at (bodies.Status z) offsets more rest fits content range stand within e =
     let s = status_again bytes at z rest range content e in
     record {
       what = counted.Status z;
@@ -134,7 +134,7 @@ body_again bytes end reached at (bodies.Status z) places more rest fits content 
       grows = omega arith;
       whole = refl;
     }
-body_again bytes end reached at (bodies.InPlace pairs) places more rest fits content range stand within e =
+body_again bytes end reached at (bodies.InPlace pairs) offsets more rest fits content range stand within e =
     let n : ℕ = length pairs in
     let cut : drop at bytes ≡ word n ++ (word 0 ++ (value_pairs pairs ++ rest)) = e ∙ three (word n) (word 0) (value_pairs pairs) rest in
     let cut2 : drop (at + 4) bytes ≡ word 0 ++ (value_pairs pairs ++ rest) = behind_word bytes at (at + 4) n (word 0 ++ (value_pairs pairs ++ rest)) refl cut in
@@ -154,15 +154,15 @@ body_again bytes end reached at (bodies.InPlace pairs) places more rest fits con
       grows = omega arith;
       whole = refl;
     }
-body_again bytes end reached at (bodies.Blocks pairs) places more rest fits content range stand within e =
+body_again bytes end reached at (bodies.Blocks pairs) offsets more rest fits content range stand within e =
     let n : ℕ = length pairs in
-    let text : List ℕ = place_pairs places pairs in
+    let text : List ℕ = offset_pairs offsets pairs in
     let cut : drop at bytes ≡ word n ++ (word 1 ++ (text ++ rest)) = e ∙ three (word n) (word 1) text rest in
     let cut2 : drop (at + 4) bytes ≡ word 1 ++ (text ++ rest) = behind_word bytes at (at + 4) n (word 1 ++ (text ++ rest)) refl cut in
     let cut3 : drop (at + 8) bytes ≡ text ++ rest = behind_word bytes (at + 4) (at + 8) 1 (text ++ rest) (omega arith) cut2 in
     let room1 : at + 4 ≤ length bytes = word_room bytes at n (word 1 ++ (text ++ rest)) within cut in
     let room2 : at + 4 + 4 ≤ length bytes = word_room bytes (at + 4) 1 (text ++ rest) room1 cut2 in
-    let q = blocks_again bytes end reached (at + 8) pairs places more rest fits range.1 stand (omega arith) cut3 in
+    let q = blocks_again bytes end reached (at + 8) pairs offsets more rest fits range.1 stand (omega arith) cut3 in
     record {
       what = counted.Blocks (run_of at n);
       counts = count_again bytes at n (word 1 ++ (text ++ rest)) content range.0 cut ∙ blocks_run bytes at n (text ++ rest) cut2;
@@ -189,15 +189,15 @@ unfolding set_end
 whole_end bytes at next pmid c e f g =
     ap (λ r. r >>= λ p. counted_at bytes (at + 4) >>= λ body. end_of bytes (at + 4) body) e ∙ ap (λ r. r >>= λ body. end_of bytes (at + 4) body) f ∙ g
 
-record SetsAgain (bytes : List ℕ) (end reached at : ℕ) (sets : List ValueSet) (places : List ℕ) : Type 0 where
+record SetsAgain (bytes : List ℕ) (end reached at : ℕ) (sets : List ValueSet) (offsets : List ℕ) : Type 0 where
   furthest : ℕ
   read : sets_from bytes end reached (length sets) at ≡ Ok (sets, furthest)
   ends : sets_end bytes (length sets) at ≡ Ok (at + sets_length sets)
   grows : reached ≤ furthest
-  whole : max reached (reach end places (blocks_of sets)) ≡ max furthest end
+  whole : max reached (reach end offsets (blocks_of sets)) ≡ max furthest end
 
-sets_again : (bytes : List ℕ) (end reached at : ℕ) (sets : List ValueSet) (places rest : List ℕ) → IsBytes bytes → AllByRecursion SetInRange sets → BlocksStand bytes end places (blocks_of sets) → at ≤ length bytes → drop at bytes ≡ set_words places sets ++ rest
-    → SetsAgain bytes end reached at sets places
+sets_again : (bytes : List ℕ) (end reached at : ℕ) (sets : List ValueSet) (offsets rest : List ℕ) → IsBytes bytes → AllByRecursion SetInRange sets → BlocksStand bytes end offsets (blocks_of sets) → at ≤ length bytes → drop at bytes ≡ set_words offsets sets ++ rest
+    → SetsAgain bytes end reached at sets offsets
 unfolding sets_from sets_end
 sets_again bytes end reached at [] [] rest fits range stand within e = record {
   furthest = reached;
@@ -206,15 +206,15 @@ sets_again bytes end reached at [] [] rest fits range stand within e = record {
   grows = omega arith;
   whole = refl;
 }
-sets_again bytes end reached at [] (place ∷ places) rest fits range stand within e = absurd (stand tt)
-sets_again bytes end reached at (set ∷ sets) places rest fits range stand within e =
-    let later : List ℕ = drop (length (blocks_in set.body)) places in
-    let words : List ℕ = body_words places set.body in
+sets_again bytes end reached at [] (offset ∷ offsets) rest fits range stand within e = absurd (stand tt)
+sets_again bytes end reached at (set ∷ sets) offsets rest fits range stand within e =
+    let later : List ℕ = drop (length (blocks_in set.body)) offsets in
+    let words : List ℕ = body_words offsets set.body in
     let tail : List ℕ = set_words later sets ++ rest in
     let cut : drop at bytes ≡ word set.pmid ++ (words ++ tail) = e ∙ three (word set.pmid) words (set_words later sets) rest in
     let cut2 : drop (at + 4) bytes ≡ words ++ tail = behind_word bytes at (at + 4) set.pmid (words ++ tail) refl cut in
     let first : word_at bytes at ≡ Ok set.pmid = word_again bytes at set.pmid (words ++ tail) range.0.0 cut in
-    let b = body_again bytes end reached (at + 4) set.body places (blocks_of sets) tail fits range.0.1 range.0.2 stand (word_room bytes at set.pmid (words ++ tail) within cut) cut2 in
+    let b = body_again bytes end reached (at + 4) set.body offsets (blocks_of sets) tail fits range.0.1 range.0.2 stand (word_room bytes at set.pmid (words ++ tail) within cut) cut2 in
     let next : ℕ = at + 4 + body_length set.body in
     let q = sets_again bytes end b.furthest next sets later rest fits range.1 b.stand b.room b.behind in
     let one : set_at bytes end reached at ≡ Ok (set, b.furthest) = whole_set bytes end reached at set b.what b.furthest first b.counts b.read in
@@ -245,11 +245,11 @@ pub payload_again : (bytes : List ℕ) (r : PmResult) → IsBytes bytes → IsPa
 unfolding decoded
 payload_again bytes r fits p =
     let size : ℕ = head_length r in
-    let words : List ℕ = set_words p.places r.sets in
+    let words : List ℕ = set_words p.offsets r.sets in
     let rest : List ℕ = drop size bytes in
     let count : ℕ = length r.sets in
-    let least : size ≤ reach size p.places (blocks_of r.sets) = least_reach size p.places (blocks_of r.sets) in
-    let all : bytes ≡ result_head p.places r ++ rest = sym (take-append-drop size bytes) ∙ ap (λ t. t ++ rest) p.head in
+    let least : size ≤ reach size p.offsets (blocks_of r.sets) = least_reach size p.offsets (blocks_of r.sets) in
+    let all : bytes ≡ result_head p.offsets r ++ rest = sym (take-append-drop size bytes) ∙ ap (λ t. t ++ rest) p.head in
     let cut : drop 0 bytes ≡ word r.stamp.sec ++ ((word r.stamp.usec ++ (word count ++ words)) ++ rest) = all ∙ append_assoc (word r.stamp.sec) (word r.stamp.usec ++ (word count ++ words)) rest in
     let cut2 : drop 4 bytes ≡ word r.stamp.usec ++ (word count ++ (words ++ rest)) = behind_word bytes 0 4 r.stamp.sec ((word r.stamp.usec ++ (word count ++ words)) ++ rest) refl cut ∙ three (word r.stamp.usec) (word count) words rest in
     let cut3 : drop 8 bytes ≡ word count ++ (words ++ rest) = behind_word bytes 4 8 r.stamp.usec (word count ++ (words ++ rest)) refl cut2 in
@@ -260,7 +260,7 @@ payload_again bytes r fits p =
     let stamp : stamp_of bytes ≡ Ok r.stamp =
     stamp_again bytes r.stamp p.range.moment (word_again bytes 0 r.stamp.sec ((word r.stamp.usec ++ (word count ++ words)) ++ rest) (omega arith) cut) (word_again bytes 4 r.stamp.usec (word count ++ (words ++ rest)) (omega arith) cut2) in
     let many : word_below bytes 8 2147483648 (Count 8) ≡ Ok count = below_again bytes 8 2147483648 count (Count 8) (word_again bytes 8 count (words ++ rest) (omega arith) cut3) few in
-    let q = sets_again bytes size size 12 r.sets p.places rest fits p.range.sets p.blocks (omega (arith, p.whole)) cut4 in
+    let q = sets_again bytes size size 12 r.sets p.offsets rest fits p.range.sets p.blocks (omega (arith, p.whole)) cut4 in
     let reached : length bytes ≤ q.furthest = omega (arith, p.whole, q.whole, q.grows) in
     ap (λ x. x >>= λ stamp. word_below bytes 8 2147483648 (Count 8) >>= λ count. sets_end bytes count 12 >>= λ end. sets_from bytes end end count 12
     >>= λ read. cond (ltb read.1 (length bytes)) (Err (Trailing read.1)) (Ok (record { stamp = stamp; sets = read.0 }))) stamp

@@ -6,11 +6,11 @@ use Rattle.std.proofs.lemmas.Bool.{lt-ltb, le-ltb, eq-eqb, ne_eqb}
 use Rattle.pcp_base.specs.Fields.{number_at}
 use Rattle.pcp_base.specs.Typed.{TypedBytes}
 use Rattle.result_form.specs.declared.fault.FormFault.{FormFault}
-use Rattle.result_form.specs.declared.fault.FormFault.TheVariants.{Short, Stamp, Count, Mode, Place, Block, Trailing}
+use Rattle.result_form.specs.declared.fault.FormFault.TheVariants.{Short, Stamp, Count, Mode, Offset, Block, Trailing}
 use Rattle.result_form.specs.declared.fields.Run.{Run}
 use Rattle.result_form.specs.declared.fields.Counted.{Counted}
 use Rattle.result_form.specs.declared.fields.Counted.TheVariants as counted
-use Rattle.result_form.specs.Decoding.{◌>>=◌, or_short, word_at, word_below, run_at, counted_at, run_end, end_of, set_end, pair_at, typed, padded_size, block_at, placed_block, placed_pair}
+use Rattle.result_form.specs.Decoding.{◌>>=◌, or_short, word_at, word_below, run_at, counted_at, run_end, end_of, set_end, pair_at, typed, padded_size, block_at, offset_block, offset_pair}
 use Rattle.result_form.specs.Faults.{IsStatus, HasValues, HasMode, pairs_end, block_begin, block_size, block_end, LeadsIn, IsWhole}
 use Rattle.result_form.proofs.Again.{low_test, high_test}
 
@@ -161,9 +161,9 @@ module _ (bytes : List ℕ) (end at : ℕ) where
   abbrev placed : Result (TypedBytes × ℕ) FormFault → Result ((ℤ × TypedBytes) × ℕ) FormFault
   placed r = r >>= λ found. Ok ((cast_signed w32 (number_at bytes at), found.0), found.1)
 
-  to_block : at + 8 ≤ length bytes → placed_pair bytes end at ≡ placed (placed_block bytes end (at + 4) (number_at bytes (at + 4)))
-  unfolding placed_pair
-  to_block h = ap (λ r. r >>= λ pair. placed_block bytes end (at + 4) pair.1 >>= λ found. Ok ((pair.0, found.0), found.1)) (pair_stands h)
+  to_block : at + 8 ≤ length bytes → offset_pair bytes end at ≡ placed (offset_block bytes end (at + 4) (number_at bytes (at + 4)))
+  unfolding offset_pair
+  to_block h = ap (λ r. r >>= λ pair. offset_block bytes end (at + 4) pair.1 >>= λ found. Ok ((pair.0, found.0), found.1)) (pair_stands h)
 
   either : (a b : Bool) (r : Result (TypedBytes × ℕ) FormFault) (e : FormFault) → (a ≡ true) ⊎ (b ≡ true) → cond (a || b) (Err e) r ≡ Err e
   either true b r e h = refl
@@ -176,9 +176,9 @@ module _ (bytes : List ℕ) (end at : ℕ) where
   neither false true r e h g = absurd cc
   neither false false r e h g = refl
 
-  pub leads_out : at + 8 ≤ length bytes → (block_begin bytes at < end) ⊎ (length bytes < block_begin bytes at + 4) → placed_pair bytes end at ≡ Err (Place (at + 4))
-  unfolding placed_block
-  leads_out h out = to_block h ∙ ap placed (either (ltb (block_begin bytes at) end) (ltb (length bytes) (block_begin bytes at + 4)) (block_at bytes (block_begin bytes at)) (Place (at + 4)) (tests out))
+  pub leads_out : at + 8 ≤ length bytes → (block_begin bytes at < end) ⊎ (length bytes < block_begin bytes at + 4) → offset_pair bytes end at ≡ Err (Offset (at + 4))
+  unfolding offset_block
+  leads_out h out = to_block h ∙ ap placed (either (ltb (block_begin bytes at) end) (ltb (length bytes) (block_begin bytes at + 4)) (block_at bytes (block_begin bytes at)) (Offset (at + 4)) (tests out))
     where
       tests : (block_begin bytes at < end) ⊎ (length bytes < block_begin bytes at + 4) → (ltb (block_begin bytes at) end ≡ true) ⊎ (ltb (length bytes) (block_begin bytes at + 4) ≡ true)
       tests (inl a) = inl (lt-ltb _ _ a)
@@ -187,14 +187,14 @@ module _ (bytes : List ℕ) (end at : ℕ) where
   abbrev sized : Result ℕ FormFault → Result (TypedBytes × ℕ) FormFault
   sized r = r >>= λ head. cond (ltb (head % 16777216) 4 || ltb (length bytes) (block_begin bytes at + padded_size head)) (Err (Block (block_begin bytes at))) (Ok (typed bytes (block_begin bytes at) head, block_begin bytes at + padded_size head))
 
-  leads_in : at + 8 ≤ length bytes → LeadsIn bytes end at → placed_pair bytes end at ≡ placed (sized (Ok (number_at bytes (block_begin bytes at))))
-  unfolding placed_block block_at
+  leads_in : at + 8 ≤ length bytes → LeadsIn bytes end at → offset_pair bytes end at ≡ placed (sized (Ok (number_at bytes (block_begin bytes at))))
+  unfolding offset_block block_at
   leads_in h l =
       to_block h
-      ∙ ap placed (neither (ltb (block_begin bytes at) end) (ltb (length bytes) (block_begin bytes at + 4)) (block_at bytes (block_begin bytes at)) (Place (at + 4)) (le-ltb _ _ l.0) (le-ltb _ _ l.1)
+      ∙ ap placed (neither (ltb (block_begin bytes at) end) (ltb (length bytes) (block_begin bytes at + 4)) (block_at bytes (block_begin bytes at)) (Offset (at + 4)) (le-ltb _ _ l.0) (le-ltb _ _ l.1)
       ∙ ap sized (word_stands bytes (block_begin bytes at) l.1))
 
-  pub is_bad_block : at + 8 ≤ length bytes → LeadsIn bytes end at → (number_at bytes (block_begin bytes at) % 16777216 < 4) ⊎ (length bytes < block_end bytes at) → placed_pair bytes end at ≡ Err (Block (block_begin bytes at))
+  pub is_bad_block : at + 8 ≤ length bytes → LeadsIn bytes end at → (number_at bytes (block_begin bytes at) % 16777216 < 4) ⊎ (length bytes < block_end bytes at) → offset_pair bytes end at ≡ Err (Block (block_begin bytes at))
   is_bad_block h l bad =
       leads_in h l
       ∙ ap placed (either (ltb (number_at bytes (block_begin bytes at) % 16777216) 4) (ltb (length bytes) (block_end bytes at)) (Ok (typed bytes (block_begin bytes at) (number_at bytes (block_begin bytes at)), block_end bytes at)) (Block (block_begin bytes at)) (tests bad))
@@ -207,7 +207,7 @@ module _ (bytes : List ℕ) (end at : ℕ) where
   abbrev pub pair_found : (ℤ × TypedBytes) × ℕ
   pair_found = ((cast_signed w32 (number_at bytes at), typed bytes (block_begin bytes at) (number_at bytes (block_begin bytes at))), block_end bytes at)
 
-  pub block_stands : at + 8 ≤ length bytes → LeadsIn bytes end at → IsWhole bytes at → placed_pair bytes end at ≡ Ok pair_found
+  pub block_stands : at + 8 ≤ length bytes → LeadsIn bytes end at → IsWhole bytes at → offset_pair bytes end at ≡ Ok pair_found
   block_stands h l w =
       leads_in h l
       ∙ ap placed (neither (ltb (number_at bytes (block_begin bytes at) % 16777216) 4) (ltb (length bytes) (block_end bytes at)) (Ok (typed bytes (block_begin bytes at) (number_at bytes (block_begin bytes at)), block_end bytes at)) (Block (block_begin bytes at)) (le-ltb _ _ w.0) (le-ltb _ _ w.1))

@@ -11,10 +11,10 @@ use Rattle.pcp_base.specs.declared.result.Body.TheVariants as bodies
 use Rattle.pcp_base.specs.declared.result.ValueSet.{ValueSet}
 use Rattle.pcp_base.specs.declared.result.PmResult.{PmResult}
 use Rattle.result_form.specs.declared.fault.FormFault.{FormFault}
-use Rattle.result_form.specs.declared.fault.FormFault.TheVariants.{Short, Stamp, Count, Mode, Place, Block, Trailing, NoMemory}
+use Rattle.result_form.specs.declared.fault.FormFault.TheVariants.{Short, Stamp, Count, Mode, Offset, Block, Trailing, NoMemory}
 use Rattle.result_form.specs.declared.fields.Counted.{Counted}
 use Rattle.result_form.specs.declared.fields.Counted.TheVariants as counted
-use Rattle.result_form.specs.Decoding.{◌>>=◌, Gives, word_at, word_below, stamp_of, counted_at, set_end, sets_end, pair_at, values_from, placed_pair, blocks_from, body_of, set_at, sets_from, decoded}
+use Rattle.result_form.specs.Decoding.{◌>>=◌, Gives, word_at, word_below, stamp_of, counted_at, set_end, sets_end, pair_at, values_from, offset_pair, blocks_from, body_of, set_at, sets_from, decoded}
 use Rattle.result_form.specs.Faults.{IsStatus, HasValues, HasMode, HasBlocks, HasHead, pairs_end, SetStands, SetsStand, IsSetFault, IsSetsFault, block_begin, block_end, LeadsIn, IsWhole, IsPairFault, PairsReach, IsPairsFault, SetReaches, SetsReach, IsBlocksFault, IsHeadFault, IsEndFault, IsFault, IsFormFault}
 use Rattle.result_form.proofs.FaultRules.{done, word_stands, below_stands, below_ends, below_fails, ends_in_metric, ends_in_number, is_status, ends_in_mode, is_bad_mode, ends_in_pairs, pairs_stand, counts_status, counts_in_place, counts_blocks, pair_stands, leads_out, is_bad_block, block_stands, pair_found, run_made}
 
@@ -105,10 +105,10 @@ abbrev pub from_pair : List ℕ → ℕ → ℕ → ℕ → ℕ → Result ((ℤ
 from_pair bytes end n at before r = r >>= λ first. blocks_from bytes end (max before first.1) n (at + 8) >>= λ others. Ok (first.0 ∷ others.0, others.1)
 
 module _ (bytes : List ℕ) (end n at before : ℕ) (room : at + 8 ≤ length bytes) (more : PairsSay bytes end n (at + 8) (max before (block_end bytes at)) (blocks_from bytes end (max before (block_end bytes at)) n (at + 8))) where
-  pair_by : (r : Result ((ℤ × TypedBytes) × ℕ) FormFault) → placed_pair bytes end at ≡ r → PairsSay bytes end (suc n) at before (from_pair bytes end n at before r) → PairsSay bytes end (suc n) at before (from_pair bytes end n at before (placed_pair bytes end at))
+  pair_by : (r : Result ((ℤ × TypedBytes) × ℕ) FormFault) → offset_pair bytes end at ≡ r → PairsSay bytes end (suc n) at before (from_pair bytes end n at before r) → PairsSay bytes end (suc n) at before (from_pair bytes end n at before (offset_pair bytes end at))
   pair_by r e x = subst (λ s. PairsSay bytes end (suc n) at before (from_pair bytes end n at before s)) (sym e) x
 
-  block_says : LeadsIn bytes end at → PairsSay bytes end (suc n) at before (from_pair bytes end n at before (placed_pair bytes end at))
+  block_says : LeadsIn bytes end at → PairsSay bytes end (suc n) at before (from_pair bytes end n at before (offset_pair bytes end at))
   block_says l =
       elim (cases_lt (number_at bytes (block_begin bytes at) % 16777216) 4) [
         | inl short ↦ pair_by (Err (Block (block_begin bytes at))) (is_bad_block bytes end at room l (inl short)) (inl (refl, l, inl short))
@@ -120,13 +120,13 @@ module _ (bytes : List ℕ) (end n at before : ℕ) (room : at + 8 ≤ length by
             ]
       ]
 
-  pair_says : PairsSay bytes end (suc n) at before (from_pair bytes end n at before (placed_pair bytes end at))
+  pair_says : PairsSay bytes end (suc n) at before (from_pair bytes end n at before (offset_pair bytes end at))
   pair_says =
       elim (cases_lt (block_begin bytes at) end) [
-        | inl early ↦ pair_by (Err (Place (at + 4))) (leads_out bytes end at room (inl early)) (inl (refl, inl early))
+        | inl early ↦ pair_by (Err (Offset (at + 4))) (leads_out bytes end at room (inl early)) (inl (refl, inl early))
         | inr behind ↦
             elim (cases_lt (length bytes) (block_begin bytes at + 4)) [
-              | inl out ↦ pair_by (Err (Place (at + 4))) (leads_out bytes end at room (inr out)) (inl (refl, inr out))
+              | inl out ↦ pair_by (Err (Offset (at + 4))) (leads_out bytes end at room (inr out)) (inl (refl, inr out))
               | inr inside ↦ block_says (behind, inside)
             ]
       ]

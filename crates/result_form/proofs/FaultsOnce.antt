@@ -12,8 +12,8 @@ use Rattle.pcp_base.specs.declared.result.ValueSet.{ValueSet}
 use Rattle.pcp_base.specs.declared.result.PmResult.{PmResult}
 use Rattle.pcp_model.specs.Payload.{IsPayload}
 use Rattle.result_form.specs.declared.fault.FormFault.{FormFault}
-use Rattle.result_form.specs.declared.fault.FormFault.TheVariants.{Short, Stamp, Count, Mode, Place, Block, Trailing, NoMemory}
-use Rattle.result_form.specs.Decoding.{◌>>=◌, word_below, stamp_of, set_end, sets_end, placed_pair, blocks_from, set_at, sets_from, decoded}
+use Rattle.result_form.specs.declared.fault.FormFault.TheVariants.{Short, Stamp, Count, Mode, Offset, Block, Trailing, NoMemory}
+use Rattle.result_form.specs.Decoding.{◌>>=◌, word_below, stamp_of, set_end, sets_end, offset_pair, blocks_from, set_at, sets_from, decoded}
 use Rattle.result_form.specs.Faults.{IsStatus, HasValues, HasMode, HasBlocks, HasSeconds, HasStamp, HasHead, pairs_end, SetStands, SetsStand, IsPairWord, IsSetFault, IsSetsFault, block_end, IsPairFault, PairsReach, IsPairsFault, SetReaches, SetsReach, IsBlocksFault, IsHeadFault, IsEndFault, IsFault}
 use Rattle.result_form.specs.Laws.{FaultsComeOnce}
 use Rattle.result_form.proofs.Again.{payload_again}
@@ -32,25 +32,25 @@ not_both x e h = absurd cc
 
 -- ---- the words of sets
 
-short_by : (bytes : List ℕ) (at place : ℕ) → length bytes < place + 4
-    → (place ≡ at) ⊎ (((place ≡ at + 4) × (at + 4 ≤ length bytes)) ⊎ (((place ≡ at + 8) × HasValues bytes at) ⊎ IsPairWord bytes at place)) → set_end bytes at ≡ Err (Short place)
-short_by bytes at place cut (inl e) = ends_in_metric bytes at (omega arith) ∙ ap (λ k. failed ℕ (Short k)) (sym e)
-short_by bytes at place cut (inr (inl s)) =
-    let e : place ≡ at + 4 = s.0 in
+short_by : (bytes : List ℕ) (at offset : ℕ) → length bytes < offset + 4
+    → (offset ≡ at) ⊎ (((offset ≡ at + 4) × (at + 4 ≤ length bytes)) ⊎ (((offset ≡ at + 8) × HasValues bytes at) ⊎ IsPairWord bytes at offset)) → set_end bytes at ≡ Err (Short offset)
+short_by bytes at offset cut (inl e) = ends_in_metric bytes at (omega arith) ∙ ap (λ k. failed ℕ (Short k)) (sym e)
+short_by bytes at offset cut (inr (inl s)) =
+    let e : offset ≡ at + 4 = s.0 in
     ends_in_number bytes at s.1 (omega arith) ∙ ap (λ k. failed ℕ (Short k)) (sym e)
-short_by bytes at place cut (inr (inr (inl s))) =
-    let e : place ≡ at + 8 = s.0 in
+short_by bytes at offset cut (inr (inr (inl s))) =
+    let e : offset ≡ at + 8 = s.0 in
     ends_in_mode bytes at s.1 (omega arith) ∙ ap (λ k. failed ℕ (Short k)) (sym e)
-short_by bytes at place cut (inr (inr (inr s))) =
+short_by bytes at offset cut (inr (inr (inr s))) =
     let k : ℕ = s.1 in
-    let e : place ≡ at + 12 + 4 * k = s.2 in
+    let e : offset ≡ at + 12 + 4 * k = s.2 in
     let few : k < 2 * number_at bytes (at + 4) = s.3 in
-    let within : place ≤ length bytes = s.4 in
-    ends_in_pairs bytes at s.0 (omega arith) ∙ ap (λ m. failed ℕ (Short m)) (let same : at + 12 + (length bytes - (at + 12)) / 4 * 4 ≡ place = omega arith in same)
+    let within : offset ≤ length bytes = s.4 in
+    ends_in_pairs bytes at s.0 (omega arith) ∙ ap (λ m. failed ℕ (Short m)) (let same : at + 12 + (length bytes - (at + 12)) / 4 * 4 ≡ offset = omega arith in same)
 
 set_fails : (bytes : List ℕ) (at : ℕ) (e : FormFault) → IsSetFault bytes at e → set_end bytes at ≡ Err e
-set_fails bytes at (Short place) x = short_by bytes at place x.0 x.1
-set_fails bytes at (Mode place) x = is_bad_mode bytes at x.1 x.2 x.3 ∙ ap (λ k. failed ℕ (Mode k)) (sym x.0)
+set_fails bytes at (Short offset) x = short_by bytes at offset x.0 x.1
+set_fails bytes at (Mode offset) x = is_bad_mode bytes at x.1 x.2 x.3 ∙ ap (λ k. failed ℕ (Mode k)) (sym x.0)
 set_fails bytes at e x = elim x [ ]
 
 sets_fail : (bytes : List ℕ) (n at : ℕ) (e : FormFault) → IsSetsFault bytes n at e → sets_end bytes n at ≡ Err e
@@ -66,8 +66,8 @@ sets_stand bytes (suc n) at end x = ap (λ r. r >>= λ next. sets_end bytes n ne
 
 -- ---- pairs and their blocks
 
-pair_fails : (bytes : List ℕ) (end at : ℕ) (e : FormFault) → at + 8 ≤ length bytes → IsPairFault bytes end at e → placed_pair bytes end at ≡ Err e
-pair_fails bytes end at (Place place) room x = leads_out bytes end at room x.1 ∙ ap (λ k. failed ((ℤ × TypedBytes) × ℕ) (Place k)) (sym x.0)
+pair_fails : (bytes : List ℕ) (end at : ℕ) (e : FormFault) → at + 8 ≤ length bytes → IsPairFault bytes end at e → offset_pair bytes end at ≡ Err e
+pair_fails bytes end at (Offset offset) room x = leads_out bytes end at room x.1 ∙ ap (λ k. failed ((ℤ × TypedBytes) × ℕ) (Offset k)) (sym x.0)
 pair_fails bytes end at (Block begin) room x = is_bad_block bytes end at room x.1 x.2 ∙ ap (λ k. failed ((ℤ × TypedBytes) × ℕ) (Block k)) (sym x.0)
 pair_fails bytes end at e room x = elim x [ ]
 

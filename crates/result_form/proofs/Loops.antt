@@ -4,7 +4,7 @@ use Rattle.std.specs.Prelude.{max}
 use Rattle.pcp_base.specs.Typed.{TypedBytes}
 use Rattle.pcp_base.specs.declared.result.ValueSet.{ValueSet}
 use Rattle.result_form.specs.declared.fault.FormFault.{FormFault}
-use Rattle.result_form.specs.Decoding.{◌>>=◌, pair_at, values_from, placed_pair, blocks_from, set_at, set_end, sets_end, sets_from}
+use Rattle.result_form.specs.Decoding.{◌>>=◌, pair_at, values_from, offset_pair, blocks_from, set_at, set_end, sets_end, sets_from}
 
 -- what was read before, and what is still read
 abbrev pub with_front : {A : Type 0} → List A → Result (List A) FormFault → Result (List A) FormFault
@@ -37,7 +37,7 @@ values_on front bytes count i at pair total lt h so_far =
     let one : with_front front (values_from bytes (count - i) at) ≡ with_front (front ++ pair ∷ []) (values_from bytes (count - (i + 1)) (at + 8)) = rw (k, h) (regroup front pair (values_from bytes (count - (i + 1)) (at + 8))) in
     sym one ∙ so_far
 
-pub blocks_on : (front : List (ℤ × TypedBytes)) (bytes : List ℕ) (sets reached count i at : ℕ) (found : (ℤ × TypedBytes) × ℕ) (total : Result (List (ℤ × TypedBytes) × ℕ) FormFault) → i < count → placed_pair bytes sets at ≡ Ok found
+pub blocks_on : (front : List (ℤ × TypedBytes)) (bytes : List ℕ) (sets reached count i at : ℕ) (found : (ℤ × TypedBytes) × ℕ) (total : Result (List (ℤ × TypedBytes) × ℕ) FormFault) → i < count → offset_pair bytes sets at ≡ Ok found
     → with_reach front (blocks_from bytes sets reached (count - i) at) ≡ total → with_reach (front ++ found.0 ∷ []) (blocks_from bytes sets (max reached found.1) (count - (i + 1)) (at + 8)) ≡ total
 unfolding blocks_from
 blocks_on front bytes sets reached count i at found total lt h so_far =

@@ -10,10 +10,10 @@ use Rattle.std.proofs.lemmas.Nat.{be_bytes_4}
 use Rattle.pcp_base.proofs.Bytes.{IsBytes, IsBytes-drop}
 use Rattle.pcp_base.specs.Typed.{TypedBytes}
 use Rattle.pcp_model.specs.Words.{word, signed_word, length-word, length-signed_word}
-use Rattle.pcp_model.specs.Payload.{three_bytes, block_head, block_length, place_byte, pair_blocks, value_pairs, place_pairs, reach, BlockStands, BlocksStand}
+use Rattle.pcp_model.specs.Payload.{three_bytes, block_head, block_length, offset_byte, pair_blocks, value_pairs, offset_pairs, reach, BlockStands, BlocksStand}
 use Rattle.result_form.specs.declared.fault.FormFault.{FormFault}
-use Rattle.result_form.specs.declared.fault.FormFault.TheVariants.{Place, Block}
-use Rattle.result_form.specs.Decoding.{◌>>=◌, word_at, pair_at, values_from, typed, padded_size, block_at, placed_block, placed_pair, blocks_from}
+use Rattle.result_form.specs.declared.fault.FormFault.TheVariants.{Offset, Block}
+use Rattle.result_form.specs.Decoding.{◌>>=◌, word_at, pair_at, values_from, typed, padded_size, block_at, offset_block, offset_pair, blocks_from}
 use Rattle.result_form.proofs.Spans.{bind_ok, guard_ok, ok_is, neither, Spans, nothing, joined, word_takes, word_again, behind_word, pair_takes, pair_again}
 
 pub moved : (bytes : List ℕ) (at : ℕ) (text : List ℕ) (next other : ℕ) → next ≡ other → Spans bytes at text next → Spans bytes at text other
@@ -146,29 +146,29 @@ block_again bytes at b fits is within small =
     ∙ passes (ltb (head % 16777216) 4) (ltb (length bytes) (at + padded_size head)) (Block at) (Ok (typed bytes at head, at + padded_size head)) least room
     ∙ ap (λ t. Ok (t, at + padded_size head)) made ∙ ap (λ m. Ok (b, m)) end
 
-pub record PlacedRead (bytes : List ℕ) (sets_end at : ℕ) (x : (ℤ × TypedBytes) × ℕ) : Type 0 where
-  pub place : ℕ
+pub record OffsetRead (bytes : List ℕ) (sets_end at : ℕ) (x : (ℤ × TypedBytes) × ℕ) : Type 0 where
+  pub offset : ℕ
   pub first : Spans bytes at (signed_word x.0.0) (at + 4)
-  pub second : Spans bytes (at + 4) (word place) (at + 8)
+  pub second : Spans bytes (at + 4) (word offset) (at + 8)
   pub signed : FitsSigned w32 x.0.0
-  pub stands : BlockStands bytes sets_end place x.0.1
+  pub stands : BlockStands bytes sets_end offset x.0.1
   pub small : length x.0.1.bytes ≤ 16777211
-  pub ends : x.1 ≡ place_byte place + block_length x.0.1
+  pub ends : x.1 ≡ offset_byte offset + block_length x.0.1
 
-placed_takes : (bytes : List ℕ) (sets_end at : ℕ) (x : (ℤ × TypedBytes) × ℕ) → IsBytes bytes → 0 < sets_end → placed_pair bytes sets_end at ≡ Ok x → PlacedRead bytes sets_end at x
-unfolding placed_pair placed_block
-placed_takes bytes sets_end at x fits some e =
-    let a = bind_ok (pair_at bytes at) (λ pair. placed_block bytes sets_end (at + 4) pair.1 >>= λ found. Ok ((pair.0, found.0), found.1)) x e in
-    let b = bind_ok (placed_block bytes sets_end (at + 4) a.0.1) (λ found. Ok ((a.0.0, found.0), found.1)) x a.2 in
-    let place : ℕ = a.0.1 in
+offset_takes : (bytes : List ℕ) (sets_end at : ℕ) (x : (ℤ × TypedBytes) × ℕ) → IsBytes bytes → 0 < sets_end → offset_pair bytes sets_end at ≡ Ok x → OffsetRead bytes sets_end at x
+unfolding offset_pair offset_block
+offset_takes bytes sets_end at x fits some e =
+    let a = bind_ok (pair_at bytes at) (λ pair. offset_block bytes sets_end (at + 4) pair.1 >>= λ found. Ok ((pair.0, found.0), found.1)) x e in
+    let b = bind_ok (offset_block bytes sets_end (at + 4) a.0.1) (λ found. Ok ((a.0.0, found.0), found.1)) x a.2 in
+    let offset : ℕ = a.0.1 in
     let p = pair_takes bytes at a.0 fits a.1 in
-    let g = passed (ltb (place_byte place) sets_end || ltb (length bytes) (place_byte place + 4)) (Place (at + 4)) (block_at bytes (place_byte place)) b.0 b.1 in
-    let n = neither (ltb (place_byte place) sets_end) (ltb (length bytes) (place_byte place + 4)) g.0 in
-    let behind : sets_end ≤ place_byte place = ltb-false _ _ n.0 in
-    let q = block_takes bytes (place_byte place) b.0 fits g.1 in
-    subst (PlacedRead bytes sets_end at) (ok_is ((a.0.0, b.0.0), b.0.1) x b.2)
+    let g = passed (ltb (offset_byte offset) sets_end || ltb (length bytes) (offset_byte offset + 4)) (Offset (at + 4)) (block_at bytes (offset_byte offset)) b.0 b.1 in
+    let n = neither (ltb (offset_byte offset) sets_end) (ltb (length bytes) (offset_byte offset + 4)) g.0 in
+    let behind : sets_end ≤ offset_byte offset = ltb-false _ _ n.0 in
+    let q = block_takes bytes (offset_byte offset) b.0 fits g.1 in
+    subst (OffsetRead bytes sets_end at) (ok_is ((a.0.0, b.0.0), b.0.1) x b.2)
     (record {
-      place = place;
+      offset = offset;
       first = p.first;
       second = p.second;
       signed = p.signed;
@@ -177,28 +177,28 @@ placed_takes bytes sets_end at x fits some e =
       ends = q.ends;
     })
 
-placed_again : (bytes : List ℕ) (sets_end at place : ℕ) (b : TypedBytes) → IsBytes bytes → BlockStands bytes sets_end place b → length b.bytes ≤ 16777211 → placed_block bytes sets_end at place ≡ Ok (b, place_byte place + block_length b)
-unfolding placed_block
-placed_again bytes sets_end at place b fits stands small =
-    let within : place_byte place + block_length b ≤ length bytes = stands.within in
-    passes (ltb (place_byte place) sets_end) (ltb (length bytes) (place_byte place + 4)) (Place at) (block_at bytes (place_byte place)) (le-ltb _ _ stands.behind.1) (le-ltb _ _ (omega arith))
-    ∙ block_again bytes (place_byte place) b fits stands.is within small
+offset_again : (bytes : List ℕ) (sets_end at offset : ℕ) (b : TypedBytes) → IsBytes bytes → BlockStands bytes sets_end offset b → length b.bytes ≤ 16777211 → offset_block bytes sets_end at offset ≡ Ok (b, offset_byte offset + block_length b)
+unfolding offset_block
+offset_again bytes sets_end at offset b fits stands small =
+    let within : offset_byte offset + block_length b ≤ length bytes = stands.within in
+    passes (ltb (offset_byte offset) sets_end) (ltb (length bytes) (offset_byte offset + 4)) (Offset at) (block_at bytes (offset_byte offset)) (le-ltb _ _ stands.behind.1) (le-ltb _ _ (omega arith))
+    ∙ block_again bytes (offset_byte offset) b fits stands.is within small
 
--- no pair takes a place
-no_pairs : (places : List ℕ) → place_pairs places [] ≡ []
+-- no pair takes an offset
+no_pairs : (offsets : List ℕ) → offset_pairs offsets [] ≡ []
 no_pairs [] = refl
-no_pairs (place ∷ places) = refl
+no_pairs (offset ∷ offsets) = refl
 
--- Pairs and their blocks, and behind them further blocks at further places.
+-- Pairs and their blocks, and behind them further blocks at further offsets.
 pub record BlocksRead (bytes : List ℕ) (sets_end reached n at : ℕ) (x : List (ℤ × TypedBytes) × ℕ) (others : List ℕ) (more : List TypedBytes) : Type 0 where
-  pub places : List ℕ
-  pub spans : Spans bytes at (place_pairs places x.0) (at + 8 * n)
+  pub offsets : List ℕ
+  pub spans : Spans bytes at (offset_pairs offsets x.0) (at + 8 * n)
   pub count : length x.0 ≡ n
   pub fits : AllByRecursion (λ p. FitsSigned w32 p.0 × (length p.1.bytes ≤ 16777211)) x.0
-  pub stand : BlocksStand bytes sets_end places (pair_blocks x.0 ++ more)
-  pub behind : drop (length (pair_blocks x.0)) places ≡ others
+  pub stand : BlocksStand bytes sets_end offsets (pair_blocks x.0 ++ more)
+  pub behind : drop (length (pair_blocks x.0)) offsets ≡ others
   pub grows : reached ≤ x.1
-  pub whole : max reached (reach sets_end places (pair_blocks x.0 ++ more)) ≡ max x.1 (reach sets_end others more)
+  pub whole : max reached (reach sets_end offsets (pair_blocks x.0 ++ more)) ≡ max x.1 (reach sets_end others more)
 
 pub blocks_takes : (bytes : List ℕ) (sets_end reached n at : ℕ) (x : List (ℤ × TypedBytes) × ℕ) (others : List ℕ) (more : List TypedBytes) → IsBytes bytes → 0 < sets_end → at ≤ length bytes → BlocksStand bytes sets_end others more
     → blocks_from bytes sets_end reached n at ≡ Ok x → BlocksRead bytes sets_end reached n at x others more
@@ -206,7 +206,7 @@ unfolding blocks_from
 blocks_takes bytes sets_end reached zero at x others more fits some within stand e =
     subst (λ y. BlocksRead bytes sets_end reached 0 at y others more) (ok_is ([], reached) x e)
     (record {
-      places = others;
+      offsets = others;
       spans = subst (λ t. Spans bytes at t (at + 8 * 0)) (sym (no_pairs others)) (nothing bytes at (at + 8 * 0) (omega arith) within);
       count = refl;
       fits = tt;
@@ -216,17 +216,17 @@ blocks_takes bytes sets_end reached zero at x others more fits some within stand
       whole = refl;
     })
 blocks_takes bytes sets_end reached (suc n) at x others more fits some within stand e =
-    let a = bind_ok (placed_pair bytes sets_end at) (λ first. blocks_from bytes sets_end (max reached first.1) n (at + 8) >>= λ rest. Ok (first.0 ∷ rest.0, rest.1)) x e in
+    let a = bind_ok (offset_pair bytes sets_end at) (λ first. blocks_from bytes sets_end (max reached first.1) n (at + 8) >>= λ rest. Ok (first.0 ∷ rest.0, rest.1)) x e in
     let b = bind_ok (blocks_from bytes sets_end (max reached a.0.1) n (at + 8)) (λ rest. Ok (a.0.0 ∷ rest.0, rest.1)) x a.2 in
-    let p = placed_takes bytes sets_end at a.0 fits some a.1 in
+    let p = offset_takes bytes sets_end at a.0 fits some a.1 in
     let q = blocks_takes bytes sets_end (max reached a.0.1) n (at + 8) b.0 others more fits some p.second.within stand b.1 in
     let next : ℕ = at + 8 + 8 * n in
-    let text : List ℕ = place_pairs q.places b.0.0 in
-    let whole : Spans bytes at (signed_word a.0.0.0 ++ (word p.place ++ text)) next = joined bytes at (at + 4) next (signed_word a.0.0.0) (word p.place ++ text) p.first (joined bytes (at + 4) (at + 8) next (word p.place) text p.second q.spans) in
+    let text : List ℕ = offset_pairs q.offsets b.0.0 in
+    let whole : Spans bytes at (signed_word a.0.0.0 ++ (word p.offset ++ text)) next = joined bytes at (at + 4) next (signed_word a.0.0.0) (word p.offset ++ text) p.first (joined bytes (at + 4) (at + 8) next (word p.offset) text p.second q.spans) in
     subst (λ y. BlocksRead bytes sets_end reached (suc n) at y others more) (ok_is (a.0.0 ∷ b.0.0, b.0.1) x b.2)
     (record {
-      places = p.place ∷ q.places;
-      spans = moved bytes at (signed_word a.0.0.0 ++ (word p.place ++ text)) next (at + 8 * suc n) (omega arith) whole;
+      offsets = p.offset ∷ q.offsets;
+      spans = moved bytes at (signed_word a.0.0.0 ++ (word p.offset ++ text)) next (at + 8 * suc n) (omega arith) whole;
       count = ap suc q.count;
       fits = ((p.signed, p.small), q.fits);
       stand = (p.stands, q.stand);
@@ -235,34 +235,34 @@ blocks_takes bytes sets_end reached (suc n) at x others more fits some within st
       whole = omega (arith, q.whole, p.ends);
     })
 
-pub record BlocksAgain (bytes : List ℕ) (sets_end reached at : ℕ) (pairs : List (ℤ × TypedBytes)) (places : List ℕ) (more : List TypedBytes) (rest : List ℕ) : Type 0 where
+pub record BlocksAgain (bytes : List ℕ) (sets_end reached at : ℕ) (pairs : List (ℤ × TypedBytes)) (offsets : List ℕ) (more : List TypedBytes) (rest : List ℕ) : Type 0 where
   pub end : ℕ
   pub read : blocks_from bytes sets_end reached (length pairs) at ≡ Ok (pairs, end)
-  pub stand : BlocksStand bytes sets_end (drop (length (pair_blocks pairs)) places) more
+  pub stand : BlocksStand bytes sets_end (drop (length (pair_blocks pairs)) offsets) more
   pub behind : drop (at + 8 * length pairs) bytes ≡ rest
   pub room : at + 8 * length pairs ≤ length bytes
   pub grows : reached ≤ end
-  pub whole : max reached (reach sets_end places (pair_blocks pairs ++ more)) ≡ max end (reach sets_end (drop (length (pair_blocks pairs)) places) more)
+  pub whole : max reached (reach sets_end offsets (pair_blocks pairs ++ more)) ≡ max end (reach sets_end (drop (length (pair_blocks pairs)) offsets) more)
 
-pub blocks_again : (bytes : List ℕ) (sets_end reached at : ℕ) (pairs : List (ℤ × TypedBytes)) (places : List ℕ) (more : List TypedBytes) (rest : List ℕ) → IsBytes bytes → AllByRecursion (λ p. FitsSigned w32 p.0 × (length p.1.bytes ≤ 16777211)) pairs
-    → BlocksStand bytes sets_end places (pair_blocks pairs ++ more) → at ≤ length bytes → drop at bytes ≡ place_pairs places pairs ++ rest → BlocksAgain bytes sets_end reached at pairs places more rest
-unfolding blocks_from placed_pair
-blocks_again bytes sets_end reached at [] places more rest fits in_range stand within e = record {
+pub blocks_again : (bytes : List ℕ) (sets_end reached at : ℕ) (pairs : List (ℤ × TypedBytes)) (offsets : List ℕ) (more : List TypedBytes) (rest : List ℕ) → IsBytes bytes → AllByRecursion (λ p. FitsSigned w32 p.0 × (length p.1.bytes ≤ 16777211)) pairs
+    → BlocksStand bytes sets_end offsets (pair_blocks pairs ++ more) → at ≤ length bytes → drop at bytes ≡ offset_pairs offsets pairs ++ rest → BlocksAgain bytes sets_end reached at pairs offsets more rest
+unfolding blocks_from offset_pair
+blocks_again bytes sets_end reached at [] offsets more rest fits in_range stand within e = record {
   end = reached;
   read = refl;
   stand = stand;
-  behind = ap (λ k. drop k bytes) (let n : at + 8 * 0 ≡ at = omega arith in n) ∙ e ∙ ap (λ t. t ++ rest) (no_pairs places);
+  behind = ap (λ k. drop k bytes) (let n : at + 8 * 0 ≡ at = omega arith in n) ∙ e ∙ ap (λ t. t ++ rest) (no_pairs offsets);
   room = omega arith;
   grows = omega arith;
   whole = refl;
 }
 blocks_again bytes sets_end reached at (p ∷ pairs) [] more rest fits in_range stand within e = absurd (stand tt)
-blocks_again bytes sets_end reached at (p ∷ pairs) (place ∷ places) more rest fits in_range stand within e =
-    let text : List ℕ = place_pairs places pairs in
-    let cut : drop at bytes ≡ signed_word p.0 ++ (word place ++ (text ++ rest)) = e ∙ regrouped (signed_word p.0) (word place) text rest in
-    let one = pair_again bytes at (p.0, place) (text ++ rest) in_range.0.0 stand.0.word_fits cut in
-    let found : placed_block bytes sets_end (at + 4) place ≡ Ok (p.1, place_byte place + block_length p.1) = placed_again bytes sets_end (at + 4) place p.1 fits stand.0 in_range.0.1 in
-    let q = blocks_again bytes sets_end (max reached (place_byte place + block_length p.1)) (at + 8) pairs places more rest fits in_range.1 stand.1 (pair_room bytes at p.0 place (text ++ rest) cut) one.1 in
+blocks_again bytes sets_end reached at (p ∷ pairs) (offset ∷ offsets) more rest fits in_range stand within e =
+    let text : List ℕ = offset_pairs offsets pairs in
+    let cut : drop at bytes ≡ signed_word p.0 ++ (word offset ++ (text ++ rest)) = e ∙ regrouped (signed_word p.0) (word offset) text rest in
+    let one = pair_again bytes at (p.0, offset) (text ++ rest) in_range.0.0 stand.0.word_fits cut in
+    let found : offset_block bytes sets_end (at + 4) offset ≡ Ok (p.1, offset_byte offset + block_length p.1) = offset_again bytes sets_end (at + 4) offset p.1 fits stand.0 in_range.0.1 in
+    let q = blocks_again bytes sets_end (max reached (offset_byte offset + block_length p.1)) (at + 8) pairs offsets more rest fits in_range.1 stand.1 (pair_room bytes at p.0 offset (text ++ rest) cut) one.1 in
     record {
       end = q.end;
       read = rw (one.0, found, q.read) refl;

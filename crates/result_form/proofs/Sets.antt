@@ -11,7 +11,7 @@ use Rattle.pcp_base.specs.declared.result.Body.{Body}
 use Rattle.pcp_base.specs.declared.result.Body.TheVariants as bodies
 use Rattle.pcp_base.specs.declared.result.ValueSet.{ValueSet}
 use Rattle.pcp_model.specs.Words.{word, signed_word}
-use Rattle.pcp_model.specs.Payload.{blocks_in, blocks_of, value_pairs, place_pairs, body_words, set_words, body_length, sets_length, reach, BlocksStand, BodyInRange, SetInRange}
+use Rattle.pcp_model.specs.Payload.{blocks_in, blocks_of, value_pairs, offset_pairs, body_words, set_words, body_length, sets_length, reach, BlocksStand, BodyInRange, SetInRange}
 use Rattle.result_form.specs.declared.fault.FormFault.TheVariants.{Short, Mode}
 use Rattle.result_form.specs.declared.fields.Run.{Run}
 use Rattle.result_form.specs.declared.fields.Counted.{Counted}
@@ -111,15 +111,15 @@ sets_grow bytes (suc n) at end fits e =
 -- ---- what a set holds
 
 record BodyRead (bytes : List ℕ) (end reached at next : ℕ) (x : Body × ℕ) (others : List ℕ) (more : List TypedBytes) : Type 0 where
-  places : List ℕ
-  spans : Spans bytes at (body_words places x.0) next
+  offsets : List ℕ
+  spans : Spans bytes at (body_words offsets x.0) next
   size : next ≡ at + body_length x.0
   content : HasContent x.0
   range : BodyInRange x.0
-  stand : BlocksStand bytes end places (blocks_in x.0 ++ more)
-  behind : drop (length (blocks_in x.0)) places ≡ others
+  stand : BlocksStand bytes end offsets (blocks_in x.0 ++ more)
+  behind : drop (length (blocks_in x.0)) offsets ≡ others
   grows : reached ≤ x.1
-  whole : max reached (reach end places (blocks_in x.0 ++ more)) ≡ max x.1 (reach end others more)
+  whole : max reached (reach end offsets (blocks_in x.0 ++ more)) ≡ max x.1 (reach end others more)
 
 body_takes : (bytes : List ℕ) (end reached at next : ℕ) (c : Counted) (x : Body × ℕ) (others : List ℕ) (more : List TypedBytes) → IsBytes bytes → 0 < end → BlocksStand bytes end others more → Counts bytes at c → end_of bytes at c ≡ Ok next
     → body_of bytes end reached c ≡ Ok x → BodyRead bytes end reached at next x others more
@@ -127,7 +127,7 @@ unfolding body_of
 body_takes bytes end reached at next (counted.Status z) x others more fits some stand s n e =
     subst (λ y. BodyRead bytes end reached at next y others more) (ok_is (bodies.Status z, reached) x e)
     (record {
-      places = others;
+      offsets = others;
       spans = moved bytes at (signed_word z) (at + 4) next (ok_is (at + 4) next n) s.0;
       size = sym (ok_is (at + 4) next n);
       content = s.2;
@@ -147,7 +147,7 @@ body_takes bytes end reached at next (counted.InPlace run) x others more fits so
     joined bytes at (at + 4) next (word run.count) (word 0 ++ value_pairs pairs) s.first (joined bytes (at + 4) run.from next (word 0) (value_pairs pairs) s.second last) in
     subst (λ y. BodyRead bytes end reached at next y others more) (ok_is (bodies.InPlace pairs, reached) x a.2)
     (record {
-      places = others;
+      offsets = others;
       spans = subst (λ k. Spans bytes at (word k ++ (word 0 ++ value_pairs pairs)) next) (sym q.count) whole;
       size = omega (arith, step, q.count);
       content = omega (arith, q.count, s.some);
@@ -162,13 +162,13 @@ body_takes bytes end reached at next (counted.Blocks run) x others more fits som
     let pairs : List (ℤ × TypedBytes) = a.0.0 in
     let q = blocks_takes bytes end reached run.count run.from a.0 others more fits some s.second.within stand a.1 in
     let step : next ≡ at + (8 + 8 * run.count) = run_end_is bytes at 1 next run s n in
-    let text : List ℕ = place_pairs q.places pairs in
+    let text : List ℕ = offset_pairs q.offsets pairs in
     let last : Spans bytes run.from text next = moved bytes run.from text (run.from + 8 * run.count) next (omega (arith, step, s.from)) q.spans in
     let whole : Spans bytes at (word run.count ++ (word 1 ++ text)) next =
     joined bytes at (at + 4) next (word run.count) (word 1 ++ text) s.first (joined bytes (at + 4) run.from next (word 1) text s.second last) in
     subst (λ y. BodyRead bytes end reached at next y others more) (ok_is (bodies.Blocks pairs, a.0.1) x a.2)
     (record {
-      places = q.places;
+      offsets = q.offsets;
       spans = subst (λ k. Spans bytes at (word k ++ (word 1 ++ text)) next) (sym q.count) whole;
       size = omega (arith, step, q.count);
       content = omega (arith, q.count, s.some);
@@ -198,13 +198,13 @@ set_takes bytes end reached at next x others more fits some stand e n =
     (record { first = w.0; fits = w.1; body = body_takes bytes end reached (at + 4) next b.0 c.0 others more fits some stand (counted_takes bytes (at + 4) b.0 fits b.1) stop c.1 })
 
 pub record SetsRead (bytes : List ℕ) (end reached n at : ℕ) (x : List ValueSet × ℕ) : Type 0 where
-  pub places : List ℕ
-  pub spans : Spans bytes at (set_words places x.0) (at + sets_length x.0)
+  pub offsets : List ℕ
+  pub spans : Spans bytes at (set_words offsets x.0) (at + sets_length x.0)
   pub count : length x.0 ≡ n
   pub fits : AllByRecursion SetInRange x.0
-  pub stand : BlocksStand bytes end places (blocks_of x.0)
+  pub stand : BlocksStand bytes end offsets (blocks_of x.0)
   pub grows : reached ≤ x.1
-  pub whole : max reached (reach end places (blocks_of x.0)) ≡ max x.1 end
+  pub whole : max reached (reach end offsets (blocks_of x.0)) ≡ max x.1 end
   pub ends : sets_end bytes n at ≡ Ok (at + sets_length x.0)
 
 pub sets_takes : (bytes : List ℕ) (end reached n at : ℕ) (x : List ValueSet × ℕ) → IsBytes bytes → 0 < end → at ≤ length bytes → sets_from bytes end reached n at ≡ Ok x → SetsRead bytes end reached n at x
@@ -212,7 +212,7 @@ unfolding sets_from sets_end
 sets_takes bytes end reached zero at x fits some within e =
     subst (SetsRead bytes end reached 0 at) (ok_is ([], reached) x e)
     (record {
-      places = [];
+      offsets = [];
       spans = nothing bytes at (at + 0) (omega arith) within;
       count = refl;
       fits = tt;
@@ -227,18 +227,18 @@ sets_takes bytes end reached (suc n) at x fits some within e =
     let c = bind_ok (sets_from bytes end a.0.1 n b.0) (λ others. Ok (a.0.0 ∷ others.0, others.1)) x b.2 in
     let alone = set_takes bytes end reached at b.0 a.0 [] [] fits some tt a.1 b.1 in
     let q = sets_takes bytes end a.0.1 n b.0 c.0 fits some alone.body.spans.within c.1 in
-    let s = set_takes bytes end reached at b.0 a.0 q.places (blocks_of c.0.0) fits some q.stand a.1 b.1 in
+    let s = set_takes bytes end reached at b.0 a.0 q.offsets (blocks_of c.0.0) fits some q.stand a.1 b.1 in
     let set : ValueSet = a.0.0 in
     let sets : List ValueSet = c.0.0 in
     let size : b.0 + sets_length sets ≡ at + sets_length (set ∷ sets) = omega (arith, s.body.size) in
-    let tail : Spans bytes b.0 (set_words q.places sets) (at + sets_length (set ∷ sets)) = moved bytes b.0 (set_words q.places sets) (b.0 + sets_length sets) (at + sets_length (set ∷ sets)) size q.spans in
-    let words : Spans bytes at (word set.pmid ++ (body_words s.body.places set.body ++ set_words q.places sets)) (at + sets_length (set ∷ sets)) =
-    joined bytes at (at + 4) (at + sets_length (set ∷ sets)) (word set.pmid) (body_words s.body.places set.body ++ set_words q.places sets) s.first
-    (joined bytes (at + 4) b.0 (at + sets_length (set ∷ sets)) (body_words s.body.places set.body) (set_words q.places sets) s.body.spans tail) in
+    let tail : Spans bytes b.0 (set_words q.offsets sets) (at + sets_length (set ∷ sets)) = moved bytes b.0 (set_words q.offsets sets) (b.0 + sets_length sets) (at + sets_length (set ∷ sets)) size q.spans in
+    let words : Spans bytes at (word set.pmid ++ (body_words s.body.offsets set.body ++ set_words q.offsets sets)) (at + sets_length (set ∷ sets)) =
+    joined bytes at (at + 4) (at + sets_length (set ∷ sets)) (word set.pmid) (body_words s.body.offsets set.body ++ set_words q.offsets sets) s.first
+    (joined bytes (at + 4) b.0 (at + sets_length (set ∷ sets)) (body_words s.body.offsets set.body) (set_words q.offsets sets) s.body.spans tail) in
     subst (SetsRead bytes end reached (suc n) at) (ok_is (set ∷ sets, c.0.1) x c.2)
     (record {
-      places = s.body.places;
-      spans = subst (λ ps. Spans bytes at (word set.pmid ++ (body_words s.body.places set.body ++ set_words ps sets)) (at + sets_length (set ∷ sets))) (sym s.body.behind) words;
+      offsets = s.body.offsets;
+      spans = subst (λ ps. Spans bytes at (word set.pmid ++ (body_words s.body.offsets set.body ++ set_words ps sets)) (at + sets_length (set ∷ sets))) (sym s.body.behind) words;
       count = ap suc q.count;
       fits = ((s.fits, s.body.content, s.body.range), q.fits);
       stand = s.body.stand;

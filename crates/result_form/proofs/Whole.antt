@@ -9,7 +9,7 @@ use Rattle.pcp_base.specs.Typed.{TypedBytes}
 use Rattle.pcp_base.specs.declared.result.ValueSet.{ValueSet}
 use Rattle.pcp_base.specs.declared.result.PmResult.{PmResult}
 use Rattle.pcp_model.specs.Words.{word}
-use Rattle.pcp_model.specs.Payload.{place_byte, block_length, blocks_of, set_words, sets_length, head_length, result_head, reach, BlocksStand, IsPayload}
+use Rattle.pcp_model.specs.Payload.{offset_byte, block_length, blocks_of, set_words, sets_length, head_length, result_head, reach, BlocksStand, IsPayload}
 use Rattle.result_form.specs.declared.fault.FormFault.{FormFault}
 use Rattle.result_form.specs.declared.fault.FormFault.TheVariants.{Stamp, Count, Trailing}
 use Rattle.result_form.specs.Decoding.{◌>>=◌, Gives, word_at, word_below, stamp_of, sets_end, sets_from, decoded}
@@ -39,17 +39,17 @@ stamp_takes bytes t fits e =
     let second = word_takes bytes 4 8 b.0 fits refl two.0 in
     subst (StampRead bytes) (ok_is made t b.2) (record { sec = first.0; usec = second.0; moment = record { sec = one.1; usec = two.1 } })
 
-pub least_reach : (end : ℕ) (places : List ℕ) (blocks : List TypedBytes) → end ≤ reach end places blocks
+pub least_reach : (end : ℕ) (offsets : List ℕ) (blocks : List TypedBytes) → end ≤ reach end offsets blocks
 least_reach end [] blocks = omega arith
-least_reach end (place ∷ places) [] = omega arith
-least_reach end (place ∷ places) (b ∷ blocks) = omega (arith, least_reach end places blocks)
+least_reach end (offset ∷ offsets) [] = omega arith
+least_reach end (offset ∷ offsets) (b ∷ blocks) = omega (arith, least_reach end offsets blocks)
 
-reach_within : (bytes : List ℕ) (end : ℕ) (places : List ℕ) (blocks : List TypedBytes) → end ≤ length bytes → BlocksStand bytes end places blocks → reach end places blocks ≤ length bytes
+reach_within : (bytes : List ℕ) (end : ℕ) (offsets : List ℕ) (blocks : List TypedBytes) → end ≤ length bytes → BlocksStand bytes end offsets blocks → reach end offsets blocks ≤ length bytes
 reach_within bytes end [] blocks h stand = omega arith
-reach_within bytes end (place ∷ places) [] h stand = absurd (stand tt)
-reach_within bytes end (place ∷ places) (b ∷ blocks) h stand =
-    let within : place_byte place + block_length b ≤ length bytes = stand.0.within in
-    omega (arith, within, reach_within bytes end places blocks h stand.1)
+reach_within bytes end (offset ∷ offsets) [] h stand = absurd (stand tt)
+reach_within bytes end (offset ∷ offsets) (b ∷ blocks) h stand =
+    let within : offset_byte offset + block_length b ≤ length bytes = stand.0.within in
+    omega (arith, within, reach_within bytes end offsets blocks h stand.1)
 
 front_of : (bytes text : List ℕ) (n : ℕ) → Spans bytes 0 text n → take n bytes ≡ text
 front_of bytes text n s = ap (take n) s.cut ∙ take_at text (drop n bytes) n (let e : length text ≡ n = omega (arith, s.size) in e)
@@ -74,21 +74,21 @@ payload_takes bytes r fits e =
     let grown : 12 ≤ c.0 = sets_grow bytes b.0 12 c.0 fits c.1 in
     let q = sets_takes bytes c.0 c.0 b.0 12 d.0 fits (omega arith) number.0.within d.1 in
     let end : c.0 ≡ head_length made = ok_is c.0 (12 + sets_length sets) (sym c.1 ∙ q.ends) in
-    let words : List ℕ = set_words q.places sets in
+    let words : List ℕ = set_words q.offsets sets in
     let counted : Spans bytes 8 (word (length sets)) 12 = subst (λ n. Spans bytes 8 (word n) 12) (sym q.count) number.0 in
-    let head : Spans bytes 0 (result_head q.places made) (head_length made) =
+    let head : Spans bytes 0 (result_head q.offsets made) (head_length made) =
     joined bytes 0 4 (head_length made) (word a.0.sec) (word a.0.usec ++ (word (length sets) ++ words)) stamp.sec
     (joined bytes 4 8 (head_length made) (word a.0.usec) (word (length sets) ++ words) stamp.usec (joined bytes 8 12 (head_length made) (word (length sets)) words counted q.spans)) in
     let ended : length bytes ≤ d.0.1 = ltb-false _ _ g.0 in
-    let inside : reach c.0 q.places (blocks_of sets) ≤ length bytes = reach_within bytes c.0 q.places (blocks_of sets) (let h : c.0 ≤ length bytes = omega (arith, q.spans.within, end) in h) q.stand in
-    let whole : length bytes ≡ reach c.0 q.places (blocks_of sets) = omega (arith, q.whole, q.grows, least_reach c.0 q.places (blocks_of sets)) in
+    let inside : reach c.0 q.offsets (blocks_of sets) ≤ length bytes = reach_within bytes c.0 q.offsets (blocks_of sets) (let h : c.0 ≤ length bytes = omega (arith, q.spans.within, end) in h) q.stand in
+    let whole : length bytes ≡ reach c.0 q.offsets (blocks_of sets) = omega (arith, q.whole, q.grows, least_reach c.0 q.offsets (blocks_of sets)) in
     subst (IsPayload bytes) g.1
     (record {
       range = record { moment = stamp.moment; few = subst (λ n. n < 2147483648) (sym q.count) many.1; sets = q.fits };
-      places = q.places;
-      head = front_of bytes (result_head q.places made) (head_length made) head;
-      blocks = subst (λ n. BlocksStand bytes n q.places (blocks_of sets)) end q.stand;
-      whole = subst (λ n. length bytes ≡ reach n q.places (blocks_of sets)) end whole;
+      offsets = q.offsets;
+      head = front_of bytes (result_head q.offsets made) (head_length made) head;
+      blocks = subst (λ n. BlocksStand bytes n q.offsets (blocks_of sets)) end q.stand;
+      whole = subst (λ n. length bytes ≡ reach n q.offsets (blocks_of sets)) end whole;
     })
 
 pub is_found : (bytes : List ℕ) (result : Result PmResult FormFault) → IsBytes bytes → Gives result (decoded bytes) → IfOk result (λ r. IsPayload bytes r)

@@ -1,5 +1,5 @@
 -- What the payload of a result says (pmFetch(3), LOGARCHIVE(5)), read from left to right: its words, then the blocks of
--- its pairs in order, then its end. The answer is the result, or the first fault and its place.
+-- its pairs in order, then its end. The answer is the result, or the first fault and its offset.
 use Rattle.std.specs.Prelude.{◌≡◌, ◌⊎◌, ℕ, zero, suc, ℤ, ◌+◌, ◌-◌, ◌*◌, ◌/◌, ◌%◌, ◌≤◌, List, [], ◌∷◌, length, take, drop, max, Option, Some, None, Result, Ok, Err, nat_lt, nat_le, ◌==◌, ◌||◌, if◌then◌else◌}
 use Rattle.std.specs.Int.{w32, cast_signed}
 use Rattle.pcp_base.specs.Fields.{be_field}
@@ -9,9 +9,9 @@ use Rattle.pcp_base.specs.declared.result.Body.{Body}
 use Rattle.pcp_base.specs.declared.result.Body.TheVariants as bodies
 use Rattle.pcp_base.specs.declared.result.ValueSet.{ValueSet}
 use Rattle.pcp_base.specs.declared.result.PmResult.{PmResult}
-use Rattle.pcp_model.specs.Payload.{filling, place_byte}
+use Rattle.pcp_model.specs.Payload.{filling, offset_byte}
 use Rattle.result_form.specs.declared.fault.FormFault.{FormFault}
-use Rattle.result_form.specs.declared.fault.FormFault.TheVariants.{Short, Stamp, Count, Mode, Place, Block, Trailing, NoMemory}
+use Rattle.result_form.specs.declared.fault.FormFault.TheVariants.{Short, Stamp, Count, Mode, Offset, Block, Trailing, NoMemory}
 use Rattle.result_form.specs.declared.fields.Run.{Run}
 use Rattle.result_form.specs.declared.fields.Counted.{Counted}
 use Rattle.result_form.specs.declared.fields.Counted.TheVariants as counted
@@ -120,23 +120,23 @@ block_at bytes at = do
   head ← word_at bytes at
   if nat_lt (head % 16777216) 4 || nat_lt (length bytes) (at + padded_size head) then Err (Block at) else Ok (typed bytes at head, at + padded_size head)
 
--- The block at the place that stands at a byte: its first word lies between the sets' end and the payload's.
-unfoldable pub placed_block : List ℕ → ℕ → ℕ → ℕ → Result (TypedBytes × ℕ) FormFault
-placed_block bytes sets_end at place =
-    if nat_lt (place_byte place) sets_end || nat_lt (length bytes) (place_byte place + 4) then Err (Place at) else block_at bytes (place_byte place)
+-- The block at the offset that stands at a byte: its first word lies between the sets' end and the payload's.
+unfoldable pub offset_block : List ℕ → ℕ → ℕ → ℕ → Result (TypedBytes × ℕ) FormFault
+offset_block bytes sets_end at offset =
+    if nat_lt (offset_byte offset) sets_end || nat_lt (length bytes) (offset_byte offset + 4) then Err (Offset at) else block_at bytes (offset_byte offset)
 
--- the pair at a byte whose word is the place of its block, and the byte behind this block
-unfoldable pub placed_pair : List ℕ → ℕ → ℕ → Result ((ℤ × TypedBytes) × ℕ) FormFault
-placed_pair bytes sets_end at = do
+-- the pair at a byte whose word is the offset of its block, and the byte behind this block
+unfoldable pub offset_pair : List ℕ → ℕ → ℕ → Result ((ℤ × TypedBytes) × ℕ) FormFault
+offset_pair bytes sets_end at = do
   pair ← pair_at bytes at
-  found ← placed_block bytes sets_end (at + 4) pair.1
+  found ← offset_block bytes sets_end (at + 4) pair.1
   Ok ((pair.0, found.0), found.1)
 
 -- so many such pairs, and the greater of an end reached before and of these blocks' ends
 unfoldable pub blocks_from : List ℕ → ℕ → ℕ → ℕ → ℕ → Result (List (ℤ × TypedBytes) × ℕ) FormFault
 blocks_from bytes sets_end reached zero at = Ok ([], reached)
 blocks_from bytes sets_end reached (suc n) at = do
-  first ← placed_pair bytes sets_end at
+  first ← offset_pair bytes sets_end at
   others ← blocks_from bytes sets_end (max reached first.1) n (at + 8)
   Ok (first.0 ∷ others.0, others.1)
 

@@ -3,10 +3,10 @@
 use Rattle.std.specs.Prelude.{◌≡◌, ◌⊎◌, ℕ, zero, suc, ◌+◌, ◌*◌, ◌%◌, ◌<◌, ◌≤◌, List, length, take, drop, max}
 use Rattle.std.specs.Int.{w32, from_be_bytes}
 use Rattle.pcp_base.specs.Fields.{number_at}
-use Rattle.pcp_model.specs.Payload.{place_byte}
+use Rattle.pcp_model.specs.Payload.{offset_byte}
 use Rattle.result_form.specs.Decoding.{padded_size}
 use Rattle.result_form.specs.declared.fault.FormFault.{FormFault}
-use Rattle.result_form.specs.declared.fault.FormFault.TheVariants.{Short, Stamp, Count, Mode, Place, Block, Trailing, NoMemory}
+use Rattle.result_form.specs.declared.fault.FormFault.TheVariants.{Short, Stamp, Count, Mode, Offset, Block, Trailing, NoMemory}
 
 -- ---- the words in front of the sets, each in its range
 
@@ -51,13 +51,13 @@ SetStands bytes at next =
 
 -- one of its pairs' words begins at an offset
 abbrev pub IsPairWord : List ℕ → ℕ → ℕ → Type 0
-IsPairWord bytes at place = HasMode bytes at × (k : ℕ) × (place ≡ at + 12 + 4 * k) × (k < 2 * number_at bytes (at + 4)) × (place ≤ length bytes)
+IsPairWord bytes at offset = HasMode bytes at × (k : ℕ) × (offset ≡ at + 12 + 4 * k) × (k < 2 * number_at bytes (at + 4)) × (offset ≤ length bytes)
 
 -- The payload ends inside one of them, while those before it stand; or the mode is neither 0 nor 1.
 abbrev pub IsSetFault : List ℕ → ℕ → FormFault → Type 0
-IsSetFault bytes at (Short place) = (length bytes < place + 4)
-    × ((place ≡ at) ⊎ (((place ≡ at + 4) × (at + 4 ≤ length bytes)) ⊎ (((place ≡ at + 8) × HasValues bytes at) ⊎ IsPairWord bytes at place)))
-IsSetFault bytes at (Mode place) = (place ≡ at + 8) × HasValues bytes at × (at + 12 ≤ length bytes) × (2 ≤ number_at bytes (at + 8))
+IsSetFault bytes at (Short offset) = (length bytes < offset + 4)
+    × ((offset ≡ at) ⊎ (((offset ≡ at + 4) × (at + 4 ≤ length bytes)) ⊎ (((offset ≡ at + 8) × HasValues bytes at) ⊎ IsPairWord bytes at offset)))
+IsSetFault bytes at (Mode offset) = (offset ≡ at + 8) × HasValues bytes at × (at + 12 ≤ length bytes) × (2 ≤ number_at bytes (at + 8))
 IsSetFault bytes at _ = ⊥
 
 -- so many sets stand, one behind another
@@ -73,7 +73,7 @@ IsSetsFault bytes (suc n) at e = IsSetFault bytes at e ⊎ ((next : ℕ) × SetS
 -- ---- blocks; the pair at an offset leads to one, behind the end of the sets
 
 abbrev pub block_begin : List ℕ → ℕ → ℕ
-block_begin bytes at = place_byte (number_at bytes (at + 4))
+block_begin bytes at = offset_byte (number_at bytes (at + 4))
 
 -- how many bytes the block takes that begins at an offset
 abbrev pub block_size : List ℕ → ℕ → ℕ
@@ -91,7 +91,7 @@ abbrev pub IsWhole : List ℕ → ℕ → Type 0
 IsWhole bytes at = (4 ≤ number_at bytes (block_begin bytes at) % 16777216) × (block_end bytes at ≤ length bytes)
 
 abbrev pub IsPairFault : List ℕ → ℕ → ℕ → FormFault → Type 0
-IsPairFault bytes end at (Place place) = (place ≡ at + 4) × ((block_begin bytes at < end) ⊎ (length bytes < block_begin bytes at + 4))
+IsPairFault bytes end at (Offset offset) = (offset ≡ at + 4) × ((block_begin bytes at < end) ⊎ (length bytes < block_begin bytes at + 4))
 IsPairFault bytes end at (Block begin) = (begin ≡ block_begin bytes at) × LeadsIn bytes end at
     × ((number_at bytes (block_begin bytes at) % 16777216 < 4) ⊎ (length bytes < block_end bytes at))
 IsPairFault bytes end at _ = ⊥

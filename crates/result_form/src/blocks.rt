@@ -1,7 +1,7 @@
 //! The pairs of a set: values in place, and blocks.
 ghost use Rattle.std.specs.Prelude.{◌≡◌, ◌+◌, ◌*◌, ◌%◌, ◌≤◌, length, OnOk, IfOk};
 ghost use Rattle.pcp_model.specs.Payload.{filling, pair_blocks, blocks_in};
-ghost use Rattle.result_form.specs.Decoding.{Gives, padded_size, values_from, block_at, placed_block, placed_pair, blocks_from, body_of};
+ghost use Rattle.result_form.specs.Decoding.{Gives, padded_size, values_from, block_at, offset_block, offset_pair, blocks_from, body_of};
 ghost use Rattle.result_form.specs.Room.{memory_of};
 
 use crate::fault::FormFault;
@@ -59,41 +59,41 @@ fn block_at(
     }
 }
 
-/// The block at a place, the place's word being at a byte, and the byte behind the block.
-#[tactic(auto, unfolding(crate::specs::Decoding::placed_block))]
-fn placed_block(
+/// The block at an offset, the offset's word being at a byte, and the byte behind the block.
+#[tactic(auto, unfolding(crate::specs::Decoding::offset_block))]
+fn offset_block(
     alloc: Global,
     payload: &[u8],
     sets_end: usize,
     at: usize,
-    place: u32,
+    offset: u32,
     room: &mut Room,
 ) -> Result<(Block, usize), FormFault>
-    ensures block { Gives result (placed_block payload.now sets_end at place) }
+    ensures block { Gives result (offset_block payload.now sets_end at offset) }
     ensures room { IfOk result (λ found. room.new.left + (64 + length found.0.bytes) ≡ room.old.left) }
 {
-    let begin = place.saturating_sub(3) as usize * 4;
+    let begin = offset.saturating_sub(3) as usize * 4;
     if begin < sets_end || payload.len() < begin + 4 {
-        return Err(FormFault::Place { at: at as u64 });
+        return Err(FormFault::Offset { at: at as u64 });
     }
     block_at(alloc, payload, begin, room)
 }
 
-/// The pair at a byte whose word is the place of its block, and the byte behind this block.
-#[tactic(auto, unfolding(crate::specs::Decoding::placed_pair))]
-fn placed_pair(
+/// The pair at a byte whose word is the offset of its block, and the byte behind this block.
+#[tactic(auto, unfolding(crate::specs::Decoding::offset_pair))]
+fn offset_pair(
     alloc: Global,
     payload: &[u8],
     sets_end: usize,
     at: usize,
     room: &mut Room,
 ) -> Result<((i32, Block), usize), FormFault>
-    ensures pair { Gives result (placed_pair payload.now sets_end at) }
+    ensures pair { Gives result (offset_pair payload.now sets_end at) }
     ensures within { OnOk result (at + 8 ≤ length payload.now) }
     ensures room { IfOk result (λ found. room.new.left + (64 + length found.0.1.bytes) ≡ room.old.left) }
 {
     let pair = pair_at(payload, at)?;
-    let (block, end) = placed_block(alloc, payload, sets_end, at + 4, pair.1, room)?;
+    let (block, end) = offset_block(alloc, payload, sets_end, at + 4, pair.1, room)?;
     Ok(((pair.0, block), end))
 }
 
@@ -114,7 +114,7 @@ fn blocks_from(
     let mut reach = reached;
     let mut pairs = List::empty(alloc);
     for _ in 0..run.count {
-        let (pair, end) = placed_pair(alloc, payload, sets_end, at, room)?;
+        let (pair, end) = offset_pair(alloc, payload, sets_end, at, room)?;
         pairs.push(pair)?;
         reach = reach.max(end);
         at += 8;

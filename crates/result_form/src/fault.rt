@@ -24,9 +24,9 @@ pub enum FormFault {
     /// A storage mode other than 0, in place, and 1, in blocks.
     #[error("the storage mode at byte {at} is neither 0 nor 1")]
     Mode { at: u64 },
-    /// A place whose first word doesn't lie between the end of the last set and the end of the payload.
+    /// An offset whose first word doesn't lie between the end of the last set and the end of the payload.
     #[error("the place at byte {at} leads to no block")]
-    Place { at: u64 },
+    Offset { at: u64 },
     /// A block whose length is below 4, or that leaves the payload with its padding.
     #[error("the block at byte {at} leaves the payload")]
     Block { at: u64 },

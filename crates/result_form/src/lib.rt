@@ -1,6 +1,6 @@
 //! The payload of a result, as archives and PDUs carry it (pmFetch(3), LOGARCHIVE(5)): its length, its one
-//! spelling, and the reader, which takes each allowed place of the blocks. What isn't a payload is refused by
-//! the first fault and its place.
+//! spelling, and the reader, which takes each allowed offset of the blocks. What isn't a payload is refused by
+//! the first fault and its offset.
 #![tactic(auto)]
 
 mod blocks;

@@ -56,7 +56,7 @@ fn sets_from(
     Ok((sets, reach))
 }
 
-/// The result of a payload, or the first fault and its place.
+/// The result of a payload, or the first fault and its offset.
 #[tactic(auto, unfolding(crate::specs::Decoding::decoded))]
 fn read(alloc: Global, payload: &[u8]) -> Result<PmResult, FormFault>
     ensures answer { Gives result (decoded payload.now) }
@@ -74,7 +74,7 @@ fn read(alloc: Global, payload: &[u8]) -> Result<PmResult, FormFault>
 }
 
 /// The result of a payload. The blocks may stand anywhere behind the last set, shared and out of order, with any
-/// padding; a refusal tells the first fault and its place, or that memory was refused. Where places lead to blocks of
+/// padding; a refusal tells the first fault and its offset, or that memory was refused. Where offsets lead to blocks of
 /// more than 256 MiB together, with 64 bytes for each, memory is refused before more of them are kept.
 pub fn decode(alloc: Global, payload: &[u8]) -> Result<PmResult, FormFault>
     // What is read is what the payload spells.

@@ -1,4 +1,4 @@
-//! How much memory the blocks of one result may take: places may repeat, so that a short payload spells large results.
+//! How much memory the blocks of one result may take: offsets may repeat, so that a short payload spells large results.
 ghost use Rattle.std.specs.Prelude.{◌≡◌, ◌+◌, OnOk};
 
 use pcp_base::NoMemory;

@@ -6,7 +6,7 @@ ghost use Rattle.std.specs.List.{AllByRecursion};
 ghost use Rattle.pcp_base.specs.Results.{Fits};
 ghost use Rattle.pcp_base.specs.Time.{IsMoment};
 ghost use Rattle.pcp_model.specs.Words.{word, signed_word, zeros};
-ghost use Rattle.pcp_model.specs.Payload.{value_pairs, place_pairs, pair_blocks, places_from, block_length, blocks_length, blocks_in, blocks_of, body_words, set_words, body_length, sets_length, head_length, result_head, payload, payload_length, block, blocks_bytes, filling, BodyInRange, ResultInRange};
+ghost use Rattle.pcp_model.specs.Payload.{value_pairs, offset_pairs, pair_blocks, offsets_from, block_length, blocks_length, blocks_in, blocks_of, body_words, set_words, body_length, sets_length, head_length, result_head, payload, payload_length, block, blocks_bytes, filling, BodyInRange, ResultInRange};
 ghost use Rattle.result_form.specs.Ranges.{IsPair, IsBlockPair, HasNumbers};
 
 use crate::sizes::block_length;
@@ -36,7 +36,12 @@ fn put_value_pairs(out: &mut Vec<u8>, pairs: &[(i32, u32)]) -> Result<(), NoMemo
 }
 
 /// A pair whose block begins at a byte, and the byte behind this block.
-fn put_place_pair(out: &mut Vec<u8>, at: u64, instance: i32, value: &Block) -> Result<u64, NoMemory>
+fn put_offset_pair(
+    out: &mut Vec<u8>,
+    at: u64,
+    instance: i32,
+    value: &Block,
+) -> Result<u64, NoMemory>
     requires { at ≤ 16777216 }
     ensures bytes { OnOk result (out.new.items ≡ out.old.items ++ (signed_word instance ++ word (3 + at / 4))) }
     ensures grows { OnOk result (length out.new.items ≡ length out.old.items + 8) }
@@ -49,25 +54,25 @@ fn put_place_pair(out: &mut Vec<u8>, at: u64, instance: i32, value: &Block) -> R
 }
 
 /// The pairs of a set whose first block begins at a byte, and the byte behind its last block.
-fn put_place_pairs(out: &mut Vec<u8>, at: u64, pairs: &[(i32, Block)]) -> Result<u64, NoMemory>
+fn put_offset_pairs(out: &mut Vec<u8>, at: u64, pairs: &[(i32, Block)]) -> Result<u64, NoMemory>
     requires { at + blocks_length (pair_blocks pairs.now) ≤ 16777216 }
-    ensures bytes { OnOk result (out.new.items ≡ out.old.items ++ place_pairs (places_from at (pair_blocks pairs.now)) pairs.now) }
+    ensures bytes { OnOk result (out.new.items ≡ out.old.items ++ offset_pairs (offsets_from at (pair_blocks pairs.now)) pairs.now) }
     ensures grows { OnOk result (length out.new.items ≡ length out.old.items + 8 * length pairs.now) }
     ensures range { OnOk result (AllByRecursion IsBlockPair pairs.now) }
     ensures next { IfOk result (λ next. next ≡ at + blocks_length (pair_blocks pairs.now)) }
 {
-    let mut place = at;
+    let mut offset = at;
     for (instance, value) in pairs {
-        place = put_place_pair(out, place, *instance, value)?;
+        offset = put_offset_pair(out, offset, *instance, value)?;
     }
-    Ok(place)
+    Ok(offset)
 }
 
 /// The words of a set behind its metric, and the byte behind its last block.
 fn put_body(out: &mut Vec<u8>, at: u64, body: &Body) -> Result<u64, NoMemory>
     requires room { at + blocks_length (blocks_in body.now) ≤ 16777216 }
     requires few { body_length body.now ≤ 16777216 }
-    ensures bytes { OnOk result (out.new.items ≡ out.old.items ++ body_words (places_from at (blocks_in body.now)) body.now) }
+    ensures bytes { OnOk result (out.new.items ≡ out.old.items ++ body_words (offsets_from at (blocks_in body.now)) body.now) }
     ensures grows { OnOk result (length out.new.items ≡ length out.old.items + body_length body.now) }
     ensures range { OnOk result (BodyInRange body.now) }
     ensures next { IfOk result (λ next. next ≡ at + blocks_length (blocks_in body.now)) }
@@ -82,7 +87,7 @@ fn put_body(out: &mut Vec<u8>, at: u64, body: &Body) -> Result<u64, NoMemory>
         Body::Blocks(pairs) => {
             put_word(out, pairs.len() as u32)?;
             put_word(out, 1)?;
-            let next = put_place_pairs(out, at, pairs.as_slice())?;
+            let next = put_offset_pairs(out, at, pairs.as_slice())?;
             Ok(next)
         }
         Body::Status(status) => {
@@ -96,7 +101,7 @@ fn put_body(out: &mut Vec<u8>, at: u64, body: &Body) -> Result<u64, NoMemory>
 fn put_set(out: &mut Vec<u8>, at: u64, set: &ValueSet) -> Result<u64, NoMemory>
     requires room { at + blocks_length (blocks_in set.now.body) ≤ 16777216 }
     requires few { body_length set.now.body ≤ 16777216 }
-    ensures bytes { OnOk result (out.new.items ≡ (out.old.items ++ word set.now.pmid) ++ body_words (places_from at (blocks_in set.now.body)) set.now.body) }
+    ensures bytes { OnOk result (out.new.items ≡ (out.old.items ++ word set.now.pmid) ++ body_words (offsets_from at (blocks_in set.now.body)) set.now.body) }
     ensures grows { OnOk result (length out.new.items ≡ length out.old.items + (4 + body_length set.now.body)) }
     ensures range { OnOk result (HasNumbers set.now) }
     ensures next { IfOk result (λ next. next ≡ at + blocks_length (blocks_in set.now.body)) }
@@ -108,13 +113,13 @@ fn put_set(out: &mut Vec<u8>, at: u64, set: &ValueSet) -> Result<u64, NoMemory>
 fn put_sets(out: &mut Vec<u8>, at: u64, sets: &[ValueSet]) -> Result<(), NoMemory>
     requires room { at + blocks_length (blocks_of sets.now) ≤ 16777216 }
     requires few { sets_length sets.now ≤ 16777216 }
-    ensures bytes { OnOk result (out.new.items ≡ out.old.items ++ set_words (places_from at (blocks_of sets.now)) sets.now) }
+    ensures bytes { OnOk result (out.new.items ≡ out.old.items ++ set_words (offsets_from at (blocks_of sets.now)) sets.now) }
     ensures grows { OnOk result (length out.new.items ≡ length out.old.items + sets_length sets.now) }
     ensures range { OnOk result (AllByRecursion HasNumbers sets.now) }
 {
-    let mut place = at;
+    let mut offset = at;
     for set in sets {
-        place = put_set(out, place, set)?;
+        offset = put_set(out, offset, set)?;
     }
     Ok(())
 }
@@ -196,9 +201,9 @@ fn head_size(answer: &PmResult) -> u64
 
 #[tactic(auto, using(pcp_model::proofs::Payloads::sets_few))]
 fn put_head(out: &mut Vec<u8>, at: u64, answer: &PmResult) -> Result<(), NoMemory>
-    requires places { at ≡ head_length answer.now }
+    requires offsets { at ≡ head_length answer.now }
     requires room { payload_length answer.now ≤ 16777216 }
-    ensures bytes { OnOk result (out.new.items ≡ out.old.items ++ result_head (places_from at (blocks_of answer.now.sets)) answer.now) }
+    ensures bytes { OnOk result (out.new.items ≡ out.old.items ++ result_head (offsets_from at (blocks_of answer.now.sets)) answer.now) }
     ensures grows { OnOk result (length out.new.items ≡ length out.old.items + at) }
     ensures moment { OnOk result (IsMoment answer.now.stamp) }
     ensures numbers { OnOk result (AllByRecursion HasNumbers answer.now.sets) }
