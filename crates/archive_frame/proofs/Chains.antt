@@ -82,8 +82,8 @@ module _ (width : ℕ) (text bytes : List ℕ) (at : ℕ) (fits : length text < 
   at_text k m = subst (IsFirstMisfit Whole field) (let e : k ≡ 0 + k = omega arith in e)
       (same_misfit (Parts width text) Whole field k (λ t. text_of width text t fits clean) (λ t. parts_of width text t) m)
 
-  pub text_stops : (place : ℕ) → StopsIn (λ t. t ≡ text) (length text) bytes at place → StopsIn Whole width bytes at place
-  text_stops place s = (
+  pub text_stops : (offset : ℕ) → StopsIn (λ t. t ≡ text) (length text) bytes at offset → StopsIn Whole width bytes at offset
+  text_stops offset s = (
     s.0,
     s.1,
     subst (IsFirstMisfit Whole field) (let e : 0 + s.0 ≡ s.0 = omega arith in e)
@@ -101,8 +101,8 @@ module _ (width : ℕ) (text bytes : List ℕ) (at : ℕ) (fits : length text < 
       (pass Whole field (λ t. t ≡ text) (length text) (FromZero (width - length text - 1)) 0 (let low : 0 + length text ≤ length field = omega arith in low)
       (take-take (length text) width (drop at bytes) (omega arith) ∙ there.1) at_text)
 
-  pub zero_stops : FieldStands (λ t. t ≡ text) (length text) bytes at → (place : ℕ) → StopsIn (λ t. t ≡ 0 ∷ []) 1 bytes (at + length text) place → StopsIn Whole width bytes at place
-  zero_stops there place s = (
+  pub zero_stops : FieldStands (λ t. t ≡ text) (length text) bytes at → (offset : ℕ) → StopsIn (λ t. t ≡ 0 ∷ []) 1 bytes (at + length text) offset → StopsIn Whole width bytes at offset
+  zero_stops there offset s = (
     length text + s.0,
     omega (arith, s.1),
     stop_at Whole field (λ t. t ≡ 0 ∷ []) 1 (Filler (width - length text - 1)) (length text) (wanted_wide (0 ∷ [])) (some_filler (width - length text - 1)) (to_zero there) s.0
@@ -264,21 +264,21 @@ module _ (l : LabelFields) (number : ℤ) (range : LabelInRange l number) where
     to_back : HeadThere → HostThere → ZoneThere → Passed This bytes FromBack 128
     to_back h o z = pass This bytes (λ t. HasText 40 t l.zone) 40 FromBack 88 z.0 z.1 (to_zone h o)
 
-    pub head_stops : (place : ℕ) → StopsIn (λ t. t ≡ head_bytes l number) 24 bytes 0 place → IsFirstMisfit This bytes place
-    head_stops place s =
+    pub head_stops : (offset : ℕ) → StopsIn (λ t. t ≡ head_bytes l number) 24 bytes 0 offset → IsFirstMisfit This bytes offset
+    head_stops offset s =
         let wide : HasWidth (λ t. t ≡ head_bytes l number) 24 = λ t e. ap length e ∙ length-head l number in
         subst (IsFirstMisfit This bytes) (sym s.1) (stop_at This bytes (λ t. t ≡ head_bytes l number) 24 Host 0 wide some_host at_head s.0 s.2)
 
-    pub host_stops : HeadThere → (place : ℕ) → StopsIn (λ t. HasText 64 t l.host) 64 bytes 24 place → IsFirstMisfit This bytes place
-    host_stops h place s =
+    pub host_stops : HeadThere → (offset : ℕ) → StopsIn (λ t. HasText 64 t l.host) 64 bytes 24 offset → IsFirstMisfit This bytes offset
+    host_stops h offset s =
         subst (IsFirstMisfit This bytes) (sym s.1) (stop_at This bytes (λ t. HasText 64 t l.host) 64 Zone 24 (text_wide 64 l.host) some_zone (to_host h) s.0 s.2)
 
-    pub zone_stops : HeadThere → HostThere → (place : ℕ) → StopsIn (λ t. HasText 40 t l.zone) 40 bytes 88 place → IsFirstMisfit This bytes place
-    zone_stops h o place s =
+    pub zone_stops : HeadThere → HostThere → (offset : ℕ) → StopsIn (λ t. HasText 40 t l.zone) 40 bytes 88 offset → IsFirstMisfit This bytes offset
+    zone_stops h o offset s =
         subst (IsFirstMisfit This bytes) (sym s.1) (stop_at This bytes (λ t. HasText 40 t l.zone) 40 FromBack 88 (text_wide 40 l.zone) some_back (to_zone h o) s.0 s.2)
 
-    pub back_stops : HeadThere → HostThere → ZoneThere → (place : ℕ) → StopsIn (λ t. t ≡ back_bytes) 4 bytes 128 place → IsFirstMisfit This bytes place
-    back_stops h o z place s =
+    pub back_stops : HeadThere → HostThere → ZoneThere → (offset : ℕ) → StopsIn (λ t. t ≡ back_bytes) 4 bytes 128 offset → IsFirstMisfit This bytes offset
+    back_stops h o z offset s =
         subst (IsFirstMisfit This bytes) (sym s.1) (stop_at This bytes (λ t. t ≡ back_bytes) 4 FromEnd 128 (wanted_wide back_bytes) some_end (to_back h o z) s.0 s.2)
 
     pub label_there : HeadThere → HostThere → ZoneThere → BackThere → This bytes
@@ -297,10 +297,10 @@ module _ (l : LabelFields) (number : ℤ) (range : LabelInRange l number) where
         subst (λ (x : List ℕ). FieldStands (λ t. t ≡ x) 24 bytes 0) (e ∙ front_of_label l number range.fits)
         (subst (λ (k : ℕ). FieldStands (λ t. t ≡ w) k bytes 0) (long_head w e) s)
 
-    pub written_head_stops : (w : List ℕ) → w ≡ take 24 (label l number) → (place : ℕ) → StopsIn (λ t. t ≡ w) (length w) bytes 0 place → IsFirstMisfit This bytes place
-    written_head_stops w e place s = head_stops place
-        (subst (λ (x : List ℕ). StopsIn (λ t. t ≡ x) 24 bytes 0 place) (e ∙ front_of_label l number range.fits)
-        (subst (λ (k : ℕ). StopsIn (λ t. t ≡ w) k bytes 0 place) (long_head w e) s))
+    pub written_head_stops : (w : List ℕ) → w ≡ take 24 (label l number) → (offset : ℕ) → StopsIn (λ t. t ≡ w) (length w) bytes 0 offset → IsFirstMisfit This bytes offset
+    written_head_stops w e offset s = head_stops offset
+        (subst (λ (x : List ℕ). StopsIn (λ t. t ≡ x) 24 bytes 0 offset) (e ∙ front_of_label l number range.fits)
+        (subst (λ (k : ℕ). StopsIn (λ t. t ≡ w) k bytes 0 offset) (long_head w e) s))
 
 -- ---- answers that are handed on
 

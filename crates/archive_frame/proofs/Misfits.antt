@@ -120,9 +120,9 @@ pass Whole bytes Field width Rest at long fits passed k m =
 -- the refusal of a field is that of the whole
 pub stop : (Whole : List ℕ → Type 0) (bytes : List ℕ) (Field : List ℕ → Type 0) (width : ℕ) (Rest : List ℕ → Type 0) (at : ℕ) → HasWidth Field width → (rest : List ℕ) × Rest rest
     → Passed Whole bytes (Then Field width Rest) at → (fault : FrameFault) → IsFieldFault Field width bytes at fault → IsMisfit Whole bytes fault
-stop Whole bytes Field width Rest at wide some passed (Torn place) h = h
-stop Whole bytes Field width Rest at wide some passed (Size place found) h = h
-stop Whole bytes Field width Rest at wide some passed (Lengths place head tail) h = h
-stop Whole bytes Field width Rest at wide some passed (Label place) h =
+stop Whole bytes Field width Rest at wide some passed (Torn offset) h = h
+stop Whole bytes Field width Rest at wide some passed (Size offset found) h = h
+stop Whole bytes Field width Rest at wide some passed (Lengths offset head tail) h = h
+stop Whole bytes Field width Rest at wide some passed (Label offset) h =
     subst (IsFirstMisfit Whole bytes) (sym h.1) (passed h.0 (first_misfit Field width Rest (drop at bytes) h.0 wide some h.2))
 stop Whole bytes Field width Rest at wide some passed NoMemory h = h

@@ -14,7 +14,7 @@ FieldStands Field width bytes at = (at + width ≤ length bytes) × Field (take 
 
 -- or this is the first byte that fits none
 abbrev pub StopsIn : (List ℕ → Type 0) → ℕ → List ℕ → ℕ → ℕ → Type 0
-StopsIn Field width bytes at place = (k : ℕ) × (place ≡ at + k) × IsFirstMisfit Field (take width (drop at bytes)) k
+StopsIn Field width bytes at offset = (k : ℕ) × (offset ≡ at + k) × IsFirstMisfit Field (take width (drop at bytes)) k
 
 -- the label of a file, or its beginning
 abbrev pub IsHead : LabelFields → ℤ → List ℕ → Head → Type 0

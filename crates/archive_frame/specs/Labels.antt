@@ -73,10 +73,10 @@ IsTextField width field = (text : List ℕ) × HasText width field text
 
 -- the refusal of the field that should stand at a byte
 abbrev pub IsFieldFault : (List ℕ → Type 0) → ℕ → List ℕ → ℕ → FrameFault → Type 0
-IsFieldFault Field width bytes at (Torn place) = ⊥
-IsFieldFault Field width bytes at (Size place found) = ⊥
-IsFieldFault Field width bytes at (Lengths place head tail) = ⊥
-IsFieldFault Field width bytes at (Label place) = (k : ℕ) × (place ≡ at + k) × IsFirstMisfit Field (take width (drop at bytes)) k
+IsFieldFault Field width bytes at (Torn offset) = ⊥
+IsFieldFault Field width bytes at (Size offset found) = ⊥
+IsFieldFault Field width bytes at (Lengths offset head tail) = ⊥
+IsFieldFault Field width bytes at (Label offset) = (k : ℕ) × (offset ≡ at + k) × IsFirstMisfit Field (take width (drop at bytes)) k
 IsFieldFault Field width bytes at NoMemory = ⊥
 
 -- the refusal of bytes that are none of these texts

@@ -29,6 +29,6 @@ WrittenLabelIsRead = (l : LabelFields) (number : ℤ) → l.pid < 4294967296 →
 abbrev pub LabelSaysOneThing : Type 0
 LabelSaysOneThing = (bytes : List ℕ) (l m : LabelFields) (n k : ℤ) → IsLabel bytes l n → IsLabel bytes m k → (l ≡ m) × (n ≡ k)
 
--- bytes that are no label stop being one at one place
+-- bytes that are no label stop being one at one offset
 abbrev pub LabelStopsOnce : Type 0
 LabelStopsOnce = (bytes : List ℕ) (i j : ℕ) → IsFirstMisfit IsSomeLabel bytes i → IsFirstMisfit IsSomeLabel bytes j → i ≡ j

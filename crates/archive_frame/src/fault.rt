@@ -5,10 +5,10 @@ ghost use Rattle.archive_frame.specs.declared.fault.FrameFault.TheVariants.{NoMe
 use pcp_base::NoMemory;
 use thiserror::Error;
 
-/// Why bytes are no framed record at a place, or no label.
+/// Why bytes are no framed record at an offset, or no label.
 ///
 /// Of a step's faults the first comes in this order: fewer than 4 bytes there, `Size`, fewer bytes than the length
-/// word says, `Lengths`. Their `at` is the place that was handed in.
+/// word says, `Lengths`. Their `at` is the offset that was handed in.
 #[derive(Clone, Copy, Debug, PartialEq, Eq, Error)]
 pub enum FrameFault {
     /// Fewer bytes are there than a length word has or says.

@@ -1,6 +1,6 @@
 //! What every file of an archive is made of (LOGARCHIVE(5)): the label, and framed records, over which a reader
 //! steps forward and back. Both are written and read; what is read wrong is refused by the first fault and its
-//! place.
+//! offset.
 #![tactic(auto)]
 
 mod fault;

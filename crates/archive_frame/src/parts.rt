@@ -10,7 +10,7 @@ ghost use Rattle.archive_frame.specs.Labels.{IsUpTo, IsTextField, IsNumberField,
 
 use crate::fault::FrameFault;
 
-/// Bytes that have to stand at a place; else the first of them that doesn't.
+/// Bytes that have to stand at an offset; else the first of them that doesn't.
 pub fn stands(bytes: &[u8], at: usize, wanted: &[u8]) -> Result<(), usize>
     requires { at ≤ length bytes.now }
     ensures there { OnOk result (FieldStands (λ t. t ≡ wanted.now) (length wanted.now) bytes.now at) }
@@ -32,7 +32,7 @@ pub fn misfit(at: usize) -> FrameFault
     FrameFault::Label { at: at as u64 }
 }
 
-/// Bytes that have to stand at a place.
+/// Bytes that have to stand at an offset.
 pub fn wanted_at(bytes: &[u8], at: usize, wanted: &[u8]) -> Result<(), FrameFault>
     requires { at ≤ length bytes.now }
     ensures there { OnOk result (FieldStands (λ t. t ≡ wanted.now) (length wanted.now) bytes.now at) }
@@ -61,7 +61,7 @@ fn with_byte(bytes: &[u8], at: usize, before: u32, most: u32) -> Result<u32, Fra
     Ok(number)
 }
 
-/// The word at a place, where it is at most `most`.
+/// The word at an offset, where it is at most `most`.
 pub fn word_up_to(bytes: &[u8], at: usize, most: u32) -> Result<u32, FrameFault>
     requires { at ≤ length bytes.now }
     ensures word { IfOk result (λ n. (at + 4 ≤ length bytes.now) × (n ≤ most) × (take 4 (drop at bytes.now) ≡ word n)) }
@@ -81,7 +81,7 @@ fn first_zero(bytes: &[u8]) -> Option<usize>
     bytes.iter().position(|byte| *byte == 0)
 }
 
-/// How long the text is whose field stands at a place.
+/// How long the text is whose field stands at an offset.
 pub fn text_at(bytes: &[u8], at: usize, width: usize) -> Result<usize, FrameFault>
     requires within { at ≤ length bytes.now }
     requires wide { 0 < width }

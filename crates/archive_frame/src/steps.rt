@@ -7,12 +7,12 @@ ghost use Rattle.archive_frame.specs.Steps.{IsSize, IsSizeFault, Stands, IsForwa
 use crate::fault::FrameFault;
 use pcp_base::be32;
 
-/// What stands at a place of framed bytes.
+/// What stands at an offset of framed bytes.
 #[derive(Clone, Copy, Debug, PartialEq, Eq)]
 pub enum Step {
-    /// No record: the place is the end of the bytes, or for a step back their beginning.
+    /// No record: the offset is the end of the bytes, or for a step back their beginning.
     End,
-    /// The record whose payload is the bytes from `from` up to `to`. `next` is the place after the record, or for a
+    /// The record whose payload is the bytes from `from` up to `to`. `next` is the offset after the record, or for a
     /// step back the record's first byte.
     Payload { from: usize, to: usize, next: usize },
 }
@@ -106,7 +106,7 @@ fn back(bytes: &[u8], at: usize) -> Result<Step, FrameFault>
     })
 }
 
-/// The framed record that begins at a place.
+/// The framed record that begins at an offset.
 pub fn step_forward(bytes: &[u8], at: usize) -> Result<Step, FrameFault>
     requires { at ≤ length bytes.now }
     // What the step says is so.
@@ -121,7 +121,7 @@ pub fn step_forward(bytes: &[u8], at: usize) -> Result<Step, FrameFault>
     forward(bytes, at)
 }
 
-/// The framed record that ends at a place.
+/// The framed record that ends at an offset.
 pub fn step_back(bytes: &[u8], at: usize) -> Result<Step, FrameFault>
     requires { at ≤ length bytes.now }
     // What the step says is so.

@@ -12,7 +12,7 @@ use pcp_model::Label;
 /// The number of bytes in a label.
 pub const LABEL: usize = 132;
 
-/// Writes bytes over those from a place on.
+/// Writes bytes over those from an offset on.
 fn put(out: &mut [u8; LABEL], at: usize, bytes: &[u8])
     requires { at + length bytes.now ≤ 132 }
     ensures { out.new ≡ over out.old at bytes.now }
@@ -20,7 +20,7 @@ fn put(out: &mut [u8; LABEL], at: usize, bytes: &[u8])
     out[at..at + bytes.len()].copy_from_slice(bytes);
 }
 
-/// Writes a word of 4 bytes, big-endian, over those from a place on.
+/// Writes a word of 4 bytes, big-endian, over those from an offset on.
 fn put_word(out: &mut [u8; LABEL], at: usize, number: u32)
     requires { at + 4 ≤ 132 }
     ensures { out.new ≡ over out.old at (word number) }

@@ -69,4 +69,4 @@ returns-clause-stop c =
     let o = subst (λ (x : List ℕ). FieldStands (λ t. HasText 64 t x) 64 b 24) (c.as_slice.ensures.value ∙ c.host.ensures.value) c.in_default-text_stands.ensures.there in
     let z = subst (λ (x : List ℕ). FieldStands (λ t. HasText 40 t x) 40 b 88) (c.as_slice-2.ensures.value ∙ c.zone.ensures.value) c.in_default-text_stands-2.ensures.there in
     if_err c.stands-2.result (StopsIn (λ t. t ≡ back_bytes) 4 b 128) (IsFirstMisfit (λ t. IsLabel t l c.args.number) b) c.stands-2.ensures.stop
-    (λ place s. back_stops l c.args.number range b c.requires.few h o z place s)
+    (λ offset s. back_stops l c.args.number range b c.requires.few h o z offset s)
