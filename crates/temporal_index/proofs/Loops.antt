@@ -18,7 +18,7 @@ ahead_none (Err at) = refl
 
 ahead_more : (front : List Entry) (e : Entry) (at : ℕ) (r : Result (List Entry) ℕ) → ahead front (followed at (Some e) r) ≡ ahead (front ++ e ∷ []) r
 ahead_more front e at (Ok es) = ap Ok (simp append_assoc)
-ahead_more front e at (Err place) = refl
+ahead_more front e at (Err offset) = refl
 
 pub starts : (bytes : List ℕ) → ahead [] (entries_from (begun (length bytes - 0)) bytes 0) ≡ index_of bytes
 unfolding index_of

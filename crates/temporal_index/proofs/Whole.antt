@@ -28,13 +28,13 @@ followed_ok : (at : ℕ) (o : Option Entry) (others : Result (List Entry) ℕ) (
     → (e : Entry) × (xs : List Entry) × (o ≡ Some e) × (others ≡ Ok xs) × (e ∷ xs ≡ es)
 followed_ok at None others es is = absurd cc
 followed_ok at (Some e) (Ok xs) es is = (e, xs, refl, refl, ok_is (e ∷ xs) es is)
-followed_ok at (Some e) (Err place) es is = absurd cc
+followed_ok at (Some e) (Err offset) es is = absurd cc
 
-followed_err : (at : ℕ) (o : Option Entry) (others : Result (List Entry) ℕ) (place : ℕ) → followed at o others ≡ Err place
-    → ((o ≡ None) × (at ≡ place)) ⊎ ((e : Entry) × (o ≡ Some e) × (others ≡ Err place))
-followed_err at None others place is = inl (refl, err_is at place is)
-followed_err at (Some e) (Ok xs) place is = absurd cc
-followed_err at (Some e) (Err other) place is = inr (e, refl, is)
+followed_err : (at : ℕ) (o : Option Entry) (others : Result (List Entry) ℕ) (offset : ℕ) → followed at o others ≡ Err offset
+    → ((o ≡ None) × (at ≡ offset)) ⊎ ((e : Entry) × (o ≡ Some e) × (others ≡ Err offset))
+followed_err at None others offset is = inl (refl, err_is at offset is)
+followed_err at (Some e) (Ok xs) offset is = absurd cc
+followed_err at (Some e) (Err other) offset is = inr (e, refl, is)
 
 -- entries that were read stand there, one behind another
 from_takes : (n : ℕ) (bytes : List ℕ) (at : ℕ) (es : List Entry) → IsBytes bytes → entries_from n bytes at ≡ Ok es → AllByRecursion FitsEntry es × (drop at bytes ≡ entries es ++ drop (at + 20 * n) bytes)
@@ -49,17 +49,17 @@ from_takes (suc n) bytes at es fits is =
     subst (λ xs. AllByRecursion FitsEntry xs × (drop at bytes ≡ entries xs ++ drop (at + 20 * suc n) bytes)) f.4
     ((here.fits, others.0), here.cut ∙ ap (λ t. entry f.0 ++ t) (others.1 ∙ ap (λ k. entries f.1 ++ drop k bytes) (let k : at + 20 + 20 * n ≡ at + 20 * suc n = omega arith in k)) ∙ sym (append_assoc (entry f.0) (entries f.1) (drop (at + 20 * suc n) bytes)))
 
--- Entries stand up to a place where none is read.
-record Stopped (n : ℕ) (bytes : List ℕ) (at place : ℕ) : Type 0 where
+-- Entries stand up to an offset where none is read.
+record Stopped (n : ℕ) (bytes : List ℕ) (at offset : ℕ) : Type 0 where
   front : List Entry
   fit : AllByRecursion FitsEntry front
-  is : drop at bytes ≡ entries front ++ drop place bytes
-  size : place ≡ at + length (entries front)
-  within : place + 20 ≤ at + 20 * n
-  none : entry_at bytes place ≡ None
+  is : drop at bytes ≡ entries front ++ drop offset bytes
+  size : offset ≡ at + length (entries front)
+  within : offset + 20 ≤ at + 20 * n
+  none : entry_at bytes offset ≡ None
 
-stops_here : (n : ℕ) (bytes : List ℕ) (at place : ℕ) → entry_at bytes at ≡ None → at ≡ place → Stopped (suc n) bytes at place
-stops_here n bytes at place none same = record {
+stops_here : (n : ℕ) (bytes : List ℕ) (at offset : ℕ) → entry_at bytes at ≡ None → at ≡ offset → Stopped (suc n) bytes at offset
+stops_here n bytes at offset none same = record {
   front = [];
   fit = tt;
   is = ap (λ k. drop k bytes) same;
@@ -68,26 +68,26 @@ stops_here n bytes at place none same = record {
   none = subst (λ k. entry_at bytes k ≡ None) same none;
 }
 
-stops_later : (n : ℕ) (bytes : List ℕ) (at place : ℕ) (e : Entry) → Taken bytes at e → Stopped n bytes (at + 20) place → Stopped (suc n) bytes at place
-stops_later n bytes at place e here s =
-    let size : place ≡ at + 20 + length (entries s.front) = s.size in
-    let within : place + 20 ≤ at + 20 + 20 * n = s.within in
+stops_later : (n : ℕ) (bytes : List ℕ) (at offset : ℕ) (e : Entry) → Taken bytes at e → Stopped n bytes (at + 20) offset → Stopped (suc n) bytes at offset
+stops_later n bytes at offset e here s =
+    let size : offset ≡ at + 20 + length (entries s.front) = s.size in
+    let within : offset + 20 ≤ at + 20 + 20 * n = s.within in
     record {
       front = e ∷ s.front;
       fit = (here.fits, s.fit);
-      is = here.cut ∙ ap (λ t. entry e ++ t) s.is ∙ sym (append_assoc (entry e) (entries s.front) (drop place bytes));
+      is = here.cut ∙ ap (λ t. entry e ++ t) s.is ∙ sym (append_assoc (entry e) (entries s.front) (drop offset bytes));
       size = omega (arith, length-append (entry e) (entries s.front), length-entry e);
       within = omega arith;
       none = s.none;
     }
 
-from_stops : (n : ℕ) (bytes : List ℕ) (at place : ℕ) → IsBytes bytes → entries_from n bytes at ≡ Err place → Stopped n bytes at place
+from_stops : (n : ℕ) (bytes : List ℕ) (at offset : ℕ) → IsBytes bytes → entries_from n bytes at ≡ Err offset → Stopped n bytes at offset
 unfolding entries_from
-from_stops zero bytes at place fits is = absurd cc
-from_stops (suc n) bytes at place fits is =
-    elim (followed_err at (entry_at bytes at) (entries_from n bytes (at + 20)) place is) [
-      | inl here ↦ stops_here n bytes at place here.0 here.1
-      | inr later ↦ stops_later n bytes at place later.0 (entry_takes bytes at later.0 fits later.1) (from_stops n bytes (at + 20) place fits later.2)
+from_stops zero bytes at offset fits is = absurd cc
+from_stops (suc n) bytes at offset fits is =
+    elim (followed_err at (entry_at bytes at) (entries_from n bytes (at + 20)) offset is) [
+      | inl here ↦ stops_here n bytes at offset here.0 here.1
+      | inr later ↦ stops_later n bytes at offset later.0 (entry_takes bytes at later.0 fits later.1) (from_stops n bytes (at + 20) offset fits later.2)
     ]
 
 next_entry : (bytes : List ℕ) (at : ℕ) (e : Entry) (rest : List ℕ) → drop at bytes ≡ entry e ++ rest → drop (at + 20) bytes ≡ rest
@@ -124,19 +124,19 @@ index_again bytes es are =
     ap (λ n. entries_from n bytes 0) many ∙ from_again es bytes 0 [] are.fit (are.is ∙ sym (append-nil (entries es)))
 
 -- where nothing is read is the first fault
-pub index_stops : (bytes : List ℕ) (place : ℕ) → IsBytes bytes → index_of bytes ≡ Err place → IsFirstFault bytes place
+pub index_stops : (bytes : List ℕ) (offset : ℕ) → IsBytes bytes → index_of bytes ≡ Err offset → IsFirstFault bytes offset
 unfolding index_of
-index_stops bytes place fits is =
-    let s = from_stops (begun (length bytes)) bytes 0 place fits is in
-    let within : place + 20 ≤ 0 + 20 * begun (length bytes) = s.within in
+index_stops bytes offset fits is =
+    let s = from_stops (begun (length bytes)) bytes 0 offset fits is in
+    let within : offset + 20 ≤ 0 + 20 * begun (length bytes) = s.within in
     record {
       front = s.front;
-      rest = drop place bytes;
+      rest = drop offset bytes;
       is = s.is;
       fit = s.fit;
-      place = let size : place ≡ 0 + length (entries s.front) = s.size in omega arith;
-      goes_on = omega (arith, length-drop place bytes);
-      none = λ e more fit there. absurd (let one : None ≡ Some e = sym s.none ∙ entry_again bytes place e more fit there in cc);
+      offset = let size : offset ≡ 0 + length (entries s.front) = s.size in omega arith;
+      goes_on = omega (arith, length-drop offset bytes);
+      none = λ e more fit there. absurd (let one : None ≡ Some e = sym s.none ∙ entry_again bytes offset e more fit there in cc);
     }
 
 -- the clauses of a reader that gives what reading gives

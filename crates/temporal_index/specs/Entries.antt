@@ -28,13 +28,13 @@ entry_at bytes at = do
   offset ← below 2147483648 (be_field w32 (at + 16) bytes)
   Some (record { stamp = record { sec = sec; usec = usec }; volume = volume; meta = meta; offset = offset })
 
--- the entry at a place, and what is read behind it; or the place, where none is
+-- the entry at an offset, and what is read behind it; or the offset, where none is
 abbrev pub followed : ℕ → Option Entry → Result (List Entry) ℕ → Result (List Entry) ℕ
 followed at None others = Err at
 followed at (Some e) (Ok es) = Ok (e ∷ es)
-followed at (Some e) (Err place) = Err place
+followed at (Some e) (Err offset) = Err offset
 
--- so many entries from a byte on, or the first place where none is
+-- so many entries from a byte on, or the first offset where none is
 unfoldable pub entries_from : ℕ → List ℕ → ℕ → Result (List Entry) ℕ
 entries_from zero bytes at = Ok []
 entries_from (suc n) bytes at = followed at (entry_at bytes at) (entries_from n bytes (at + 20))
@@ -43,7 +43,7 @@ entries_from (suc n) bytes at = followed at (entry_at bytes at) (entries_from n 
 abbrev pub begun : ℕ → ℕ
 begun size = (size + 19) / 20
 
--- The entries that the bytes are, or the first place where none is.
+-- The entries that the bytes are, or the first offset where none is.
 unfoldable pub index_of : List ℕ → Result (List Entry) ℕ
 index_of bytes = entries_from (begun (length bytes)) bytes 0
 
@@ -58,13 +58,13 @@ pub record AreEntries (bytes : List ℕ) (es : List Entry) : Type 0 where
   pub fit : AllByRecursion FitsEntry es
   pub is : bytes ≡ entries es
 
--- Up to a place the bytes are entries whose numbers are in range; there they go on, and no such entry stands there.
+-- Up to an offset the bytes are entries whose numbers are in range; there they go on, and no such entry stands there.
 pub record IsFirstFault (bytes : List ℕ) (at : ℕ) : Type 0 where
   pub front : List Entry
   pub rest : List ℕ
   pub is : bytes ≡ entries front ++ rest
   pub fit : AllByRecursion FitsEntry front
-  pub place : at ≡ length (entries front)
+  pub offset : at ≡ length (entries front)
   pub goes_on : 0 < length rest
   pub none : (e : Entry) (more : List ℕ) → FitsEntry e → rest ≡ entry e ++ more → ⊥
 

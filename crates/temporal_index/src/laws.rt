@@ -6,7 +6,7 @@ pub fn written_index_is_read()
     ensures { WrittenIndexIsRead }
 {}
 
-/// The first place where no entry stands is one, and bytes with such a place are no entries.
+/// The first offset where no entry stands is one, and bytes with such an offset are no entries.
 pub fn index_stops_once()
     ensures { IndexStopsOnce }
 {}

@@ -1,5 +1,5 @@
 //! The temporal index of an archive (LOGARCHIVE(5)): what follows the label of its file, entries of 20 bytes. It
-//! is read and written exactly, an entry out of range is refused with its place, and the last entry before a
+//! is read and written exactly, an entry out of range is refused with its offset, and the last entry before a
 //! moment is found, whether stamps rise or not.
 #![tactic(auto)]
 

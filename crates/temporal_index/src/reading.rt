@@ -45,7 +45,7 @@ fn with_room(alloc: Global, count: usize) -> Result<List<Entry>, NoMemory>
     Ok(List::from_vec(room))
 }
 
-/// All entries that the bytes are, or the first place where none is.
+/// All entries that the bytes are, or the first offset where none is.
 pub fn entries_of(alloc: Global, bytes: &[u8]) -> Result<List<Entry>, IndexFault>
     ensures { Gives result (index_of bytes.now) }
 {

@@ -10,7 +10,7 @@ use pcp_model::Entry;
 /// The number of bytes in an entry.
 pub const ENTRY: usize = 20;
 
-/// Writes a word of 4 bytes, big-endian, over those from a place on.
+/// Writes a word of 4 bytes, big-endian, over those from an offset on.
 #[tactic(auto, unfolding(pcp_model::specs::Words::word))]
 fn put_word(out: &mut [u8; ENTRY], at: usize, number: u32)
     requires { at + 4 ≤ 20 }
