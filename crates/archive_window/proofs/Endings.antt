@@ -152,7 +152,7 @@ module _ (bytes tail frame : List ℕ) (at size : ℕ) (is : tail ≡ take 4 (dr
       let there : Stands bytes payload (at - size) at = subst (λ n. Stands bytes payload n at) here s in
       let head : number_at frame 0 ≡ size = its_head ∙ (stood bytes payload (at - size) at there).head ∙ long in
       none payload (out_of_place bytes frame payload (at - size) at (taken_by head) there)
-  last_there (Bad place) (same, payload, s, none) = record {
+  last_there (Bad offset) (same, payload, s, none) = record {
     behind = omega (arith, same, above);
     payload = payload;
     stands = subst (λ n. Stands bytes payload n at) (sym same) (subst (Stands bytes payload (at - size)) its_end (in_place bytes frame payload (at - size) (taken_of payload s) s));

@@ -37,5 +37,5 @@ IsTailed frame = number_at frame (length frame - 4) ≡ length frame
 -- what record these bytes are, which stand in a volume from an offset on
 abbrev pub IsWholeRecord : List ℕ → ℕ → Last → Type 0
 IsWholeRecord frame first Nothing = (payload : List ℕ) → Stands frame payload 0 (length frame) → ⊥
-IsWholeRecord frame first (Bad place) = (place ≡ first) × (payload : List ℕ) × Stands frame payload 0 (length frame) × ((x : AnItem) → IsItem payload x → ⊥)
+IsWholeRecord frame first (Bad offset) = (offset ≡ first) × (payload : List ℕ) × Stands frame payload 0 (length frame) × ((x : AnItem) → IsItem payload x → ⊥)
 IsWholeRecord frame first (Item x) = ItemStands frame 0 (length frame) x

@@ -63,7 +63,7 @@ abbrev pub IsItemIn : List ℕ → Option AnItem → Type 0
 IsItemIn frame None = NoItemStands frame 0
 IsItemIn frame (Some x) = ItemStands frame 0 (length frame) x
 
--- what stands there: no whole record, bytes that are no item's record, or an item's, up to the place behind it
+-- what stands there: no whole record, bytes that are no item's record, or an item's, up to the offset behind it
 abbrev pub IsNextRecord : List ℕ → ℕ → Next → Type 0
 IsNextRecord bytes at End = IsTorn (drop at bytes)
 IsNextRecord bytes at Bad = NoItemStands bytes at × (IsTorn (drop at bytes) → ⊥)

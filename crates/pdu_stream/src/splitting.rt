@@ -21,7 +21,7 @@ fn copy_of(alloc: Global, bytes: &[u8]) -> Result<Bytes, NoMemory>
     Ok(Bytes::from_vec(Vec::from_slice(alloc, bytes)?))
 }
 
-/// The whole PDUs that bytes begin with, up to the first place where none stands whole.
+/// The whole PDUs that bytes begin with, up to the first offset where none stands whole.
 pub fn split(alloc: Global, bytes: &[u8]) -> Result<Parts, NoMemory>
     ensures { IfOk result (IsSplit bytes.now) }
 {
