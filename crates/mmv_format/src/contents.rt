@@ -63,7 +63,10 @@ pub fn section_of(words: &[u64], kind: u32) -> Section
     requires { 0 < kind }
     ensures { result ≡ section_of words.now kind }
 {
-    let mut found = Section { offset: 0, count: 0 };
+    let mut found = Section {
+        offset: 0,
+        count: 0,
+    };
     for i in 0..contents_in(words) {
         if bytes_in(words) <= entry_at(i) {
             return found;
