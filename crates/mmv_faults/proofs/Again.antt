@@ -44,18 +44,18 @@ nothing : (found : Option ℕ) → is_none found ≡ true → found ≡ None
 nothing None h = refl
 nothing (Some at) h = cc
 
-none_before : (n : ℕ) (test : ℕ → Bool) (place : ℕ → ℕ) → all_below n test ≡ true → first_below n (λ i. unless (test i) (place i)) ≡ None
-none_before n test place h = nothing _ (none_tests n test place ∙ h)
+none_before : (n : ℕ) (test : ℕ → Bool) (offset : ℕ → ℕ) → all_below n test ≡ true → first_below n (λ i. unless (test i) (offset i)) ≡ None
+none_before n test offset h = nothing _ (none_tests n test offset ∙ h)
 
 -- what is found is at the first index
-pub found_at : (total count n at : ℕ) (test : ℕ → Bool) (place : ℕ → ℕ) → IsFirst count test n → count ≡ total → n ≢ count → at ≡ place n → Some at ≡ first_below total (λ i. unless (test i) (place i))
-found_at total count n at test place h same other is =
+pub found_at : (total count n at : ℕ) (test : ℕ → Bool) (offset : ℕ → ℕ) → IsFirst count test n → count ≡ total → n ≢ count → at ≡ offset n → Some at ≡ first_below total (λ i. unless (test i) (offset i))
+found_at total count n at test offset h same other is =
     let within : n ≤ count = h.within in
     let below : n < count = omega arith in
-    test_stops total n at test place (omega arith) (none_before n test place h.before) (h.here below) is
+    test_stops total n at test offset (omega arith) (none_before n test offset h.before) (h.here below) is
 
-pub found_none : (total count n : ℕ) (test : ℕ → Bool) (place : ℕ → ℕ) → IsFirst count test n → count ≡ total → n ≡ count → None ≡ first_below total (λ i. unless (test i) (place i))
-found_none total count n test place h same end = sym (none_before total test place (subst (λ m. all_below m test ≡ true) (end ∙ same) h.before))
+pub found_none : (total count n : ℕ) (test : ℕ → Bool) (offset : ℕ → ℕ) → IsFirst count test n → count ≡ total → n ≡ count → None ≡ first_below total (λ i. unless (test i) (offset i))
+found_none total count n test offset h same end = sym (none_before total test offset (subst (λ m. all_below m test ≡ true) (end ∙ same) h.before))
 
 -- The keys tell entries apart as the definitions do
 

@@ -24,6 +24,6 @@ first_stops (suc n) k at found h none here =
 pub found_stops : (n k at : ℕ) (found : ℕ → Option ℕ) → k < n → first_below k found ≡ None → found k ≡ Some at → Some at ≡ first_below n found
 found_stops n k at found h none here = sym (first_stops n k at found h none here)
 
-pub test_stops : (n k at : ℕ) (good : ℕ → Bool) (place : ℕ → ℕ) → k < n → first_below k (λ i. unless (good i) (place i)) ≡ None → good k ≡ false → at ≡ place k → Some at ≡ first_below n (λ i. unless (good i) (place i))
+pub test_stops : (n k at : ℕ) (good : ℕ → Bool) (offset : ℕ → ℕ) → k < n → first_below k (λ i. unless (good i) (offset i)) ≡ None → good k ≡ false → at ≡ offset k → Some at ≡ first_below n (λ i. unless (good i) (offset i))
 unfolding unless
-test_stops n k at good place h none bad is = found_stops n k at (λ i. unless (good i) (place i)) h none (rw (bad, is) refl)
+test_stops n k at good offset h none bad is = found_stops n k at (λ i. unless (good i) (offset i)) h none (rw (bad, is) refl)

@@ -9,7 +9,7 @@ use Rattle.mmv_format.specs.Below.{all_below}
 use Rattle.mmv_format.specs.Fields.{words_of, first_words}
 use Rattle.mmv_format.specs.Sizes.{is_version}
 use Rattle.mmv_format.specs.EntryFields.{serial_in_indom, short_offset_in_indom, long_offset_in_indom, number_offset_in_instance, number_in_instance, name_offset_in_instance, item_offset_in_metric, item_in_metric, type_in_metric, semantics_in_metric, serial_in_metric, short_offset_in_metric, long_offset_in_metric, extra_offset_in_value, metric_offset_in_value, instance_offset_in_value}
-use Rattle.mmv_format.specs.Contents.{bytes_in, is_short, has_magic, version_in, first_generation, second_generation, cluster_in, contents_in, has_good_section, is_aligned, sections_are_good, sections_are_aligned, place_offset_in}
+use Rattle.mmv_format.specs.Contents.{bytes_in, is_short, has_magic, version_in, first_generation, second_generation, cluster_in, contents_in, has_good_section, is_aligned, sections_are_good, sections_are_aligned, offset_field_in}
 use Rattle.mmv_format.specs.Entries.{indom_count, indom_at, instance_count, instance_at, metric_count, metric_at, value_count, value_at, string_count, string_at, has_text, has_name, is_good_string, is_kind, is_semantics, has_good_run, help_leads, lies_in_run, serial_leads, leads_to_metric, metric_of, choice_leads, instance_leads, is_new_indom, is_new_instance, is_new_metric, is_new_value, is_serial, is_instance_number, is_item, is_good_indom, is_good_instance, is_good_metric, has_good_fields, is_good_value, indoms_are_good, instances_are_good, metrics_are_good, values_are_good, strings_are_good}
 use Rattle.mmv_format.specs.Images.{has_good_header, is_image, is_cluster, is_too_large}
 use Rattle.mmv_faults.specs.Faults.{has_sections, or_else, unless, bad_type, section_fault, offset_fault, instance_name_fault, metric_name_fault, string_fault, name_fault, code_fault, kind_fault, help_fault, indom_reference_fault, metric_reference_fault, value_reference_fault, indoms_reference_fault, instances_reference_fault, metrics_reference_fault, values_reference_fault, reference_fault, indoms_duplicate_fault, instances_duplicate_fault, metrics_duplicate_fault, values_duplicate_fault, duplicate_fault, indoms_serial_fault, instances_serial_fault, metrics_serial_fault, cluster_fault, serial_fault, entries_fault, header_fault, image_fault, unless_fault, image_in, image_of}
@@ -72,13 +72,13 @@ indoms_same : (words : List ℕ) → indoms_are_good words ≡ (is_none (indoms_
 unfolding indoms_are_good is_good_indom indoms_reference_fault indoms_duplicate_fault indoms_serial_fault
 indoms_same words =
     let n : ℕ = indom_count words in
-    let place : (ℕ → ℕ) = λ i. indom_at words i in
-    let refs : (ℕ → Bool) = λ i. has_good_run words (place i) && (help_leads words (short_offset_in_indom (place i)) && help_leads words (long_offset_in_indom (place i))) in
-    let serial : (ℕ → Bool) = λ i. is_serial (serial_in_indom words (place i)) in
-    all_same n (is_good_indom words) (λ i. refs i && (is_new_indom words i && serial i)) (λ i. indom_parts (help_leads words (short_offset_in_indom (place i))) (help_leads words (long_offset_in_indom (place i))) (has_good_run words (place i)) (is_new_indom words i) (serial i))
+    let offset : (ℕ → ℕ) = λ i. indom_at words i in
+    let refs : (ℕ → Bool) = λ i. has_good_run words (offset i) && (help_leads words (short_offset_in_indom (offset i)) && help_leads words (long_offset_in_indom (offset i))) in
+    let serial : (ℕ → Bool) = λ i. is_serial (serial_in_indom words (offset i)) in
+    all_same n (is_good_indom words) (λ i. refs i && (is_new_indom words i && serial i)) (λ i. indom_parts (help_leads words (short_offset_in_indom (offset i))) (help_leads words (long_offset_in_indom (offset i))) (has_good_run words (offset i)) (is_new_indom words i) (serial i))
     ∙ sym (all_both n refs (λ i. is_new_indom words i && serial i)) ∙ ap (λ b. all_below n refs && b) (sym (all_both n (is_new_indom words) serial))
-    ∙ sym (both _ _ _ _ (none_first n (λ i. indom_reference_fault words (place i)) ∙ all_same n _ refs (λ i. indom_references words (place i)))
-    (both _ _ _ _ (none_tests n (is_new_indom words) place) (none_tests n serial place)))
+    ∙ sym (both _ _ _ _ (none_first n (λ i. indom_reference_fault words (offset i)) ∙ all_same n _ refs (λ i. indom_references words (offset i)))
+    (both _ _ _ _ (none_tests n (is_new_indom words) offset) (none_tests n serial offset)))
 
 -- Instances
 
@@ -86,14 +86,14 @@ instances_same : (words : List ℕ) → instances_are_good words ≡ ((is_none (
 unfolding instances_are_good is_good_instance instance_name_fault instances_reference_fault instances_duplicate_fault instances_serial_fault
 instances_same words =
     let n : ℕ = instance_count words in
-    let place : (ℕ → ℕ) = λ i. instance_at words i in
-    let text : (ℕ → Bool) = λ i. has_text words (name_offset_in_instance (place i)) in
-    let lies : (ℕ → Bool) = λ i. lies_in_run words (place i) in
-    let number : (ℕ → Bool) = λ i. is_instance_number (number_in_instance words (place i)) in
+    let offset : (ℕ → ℕ) = λ i. instance_at words i in
+    let text : (ℕ → Bool) = λ i. has_text words (name_offset_in_instance (offset i)) in
+    let lies : (ℕ → Bool) = λ i. lies_in_run words (offset i) in
+    let number : (ℕ → Bool) = λ i. is_instance_number (number_in_instance words (offset i)) in
     all_same n (is_good_instance words) (λ i. (text i && lies i) && (is_new_instance words i && number i)) (λ i. grouped (text i) (lies i) (is_new_instance words i) (number i))
     ∙ sym (all_both n (λ i. text i && lies i) (λ i. is_new_instance words i && number i))
     ∙ both _ _ _ _ (sym (all_both n text lies)) (sym (all_both n (is_new_instance words) number))
-    ∙ sym (both _ _ _ _ (both _ _ _ _ (none_tests n text (λ i. name_offset_in_instance (place i))) (none_tests n lies place)) (both _ _ _ _ (none_tests n (is_new_instance words) place) (none_tests n number (λ i. number_offset_in_instance (place i)))))
+    ∙ sym (both _ _ _ _ (both _ _ _ _ (none_tests n text (λ i. name_offset_in_instance (offset i))) (none_tests n lies offset)) (both _ _ _ _ (none_tests n (is_new_instance words) offset) (none_tests n number (λ i. number_offset_in_instance (offset i)))))
   where
     grouped : (a b c d : Bool) → (a && b && c && d) ≡ ((a && b) && (c && d))
     grouped a b c d = grind (arith, nat_tests)
@@ -115,19 +115,19 @@ metrics_same : (words : List ℕ) → metrics_are_good words ≡ ((is_none (metr
 unfolding metrics_are_good is_good_metric has_good_fields metric_name_fault kind_fault metrics_reference_fault metrics_duplicate_fault metrics_serial_fault
 metrics_same words =
     let n : ℕ = metric_count words in
-    let place : (ℕ → ℕ) = λ i. metric_at words i in
-    let name : (ℕ → Bool) = λ i. has_name words (place i) in
-    let codes : (ℕ → Bool) = λ i. is_kind (type_in_metric words (place i)) && is_semantics (semantics_in_metric words (place i)) in
-    let refs : (ℕ → Bool) = λ i. serial_leads words (serial_in_metric words (place i)) && (help_leads words (short_offset_in_metric (place i)) && help_leads words (long_offset_in_metric (place i))) in
-    let item : (ℕ → Bool) = λ i. is_item (item_in_metric words (place i)) in
+    let offset : (ℕ → ℕ) = λ i. metric_at words i in
+    let name : (ℕ → Bool) = λ i. has_name words (offset i) in
+    let codes : (ℕ → Bool) = λ i. is_kind (type_in_metric words (offset i)) && is_semantics (semantics_in_metric words (offset i)) in
+    let refs : (ℕ → Bool) = λ i. serial_leads words (serial_in_metric words (offset i)) && (help_leads words (short_offset_in_metric (offset i)) && help_leads words (long_offset_in_metric (offset i))) in
+    let item : (ℕ → Bool) = λ i. is_item (item_in_metric words (offset i)) in
     all_same n (is_good_metric words) (λ i. (name i && codes i) && (refs i && (is_new_metric words i && item i))) (λ i.
-    metric_parts (name i) (is_kind (type_in_metric words (place i))) (is_semantics (semantics_in_metric words (place i))) (serial_leads words (serial_in_metric words (place i)))
-    (help_leads words (short_offset_in_metric (place i))) (help_leads words (long_offset_in_metric (place i))) (item i) (is_new_metric words i))
+    metric_parts (name i) (is_kind (type_in_metric words (offset i))) (is_semantics (semantics_in_metric words (offset i))) (serial_leads words (serial_in_metric words (offset i)))
+    (help_leads words (short_offset_in_metric (offset i))) (help_leads words (long_offset_in_metric (offset i))) (item i) (is_new_metric words i))
     ∙ sym (all_both n (λ i. name i && codes i) (λ i. refs i && (is_new_metric words i && item i)))
     ∙ both _ _ _ _ (sym (all_both n name codes)) (sym (all_both n refs (λ i. is_new_metric words i && item i)) ∙ ap (λ b. all_below n refs && b) (sym (all_both n (is_new_metric words) item)))
-    ∙ sym (both _ _ _ _ (both _ _ _ _ (none_tests n name place) (none_first n (λ i. code_fault words (place i)) ∙ all_same n _ codes (λ i. metric_codes words (place i))))
-    (both _ _ _ _ (none_first n (λ i. metric_reference_fault words (place i)) ∙ all_same n _ refs (λ i. metric_references words (place i)))
-    (both _ _ _ _ (none_tests n (is_new_metric words) place) (none_tests n item (λ i. item_offset_in_metric (place i))))))
+    ∙ sym (both _ _ _ _ (both _ _ _ _ (none_tests n name offset) (none_first n (λ i. code_fault words (offset i)) ∙ all_same n _ codes (λ i. metric_codes words (offset i))))
+    (both _ _ _ _ (none_first n (λ i. metric_reference_fault words (offset i)) ∙ all_same n _ refs (λ i. metric_references words (offset i)))
+    (both _ _ _ _ (none_tests n (is_new_metric words) offset) (none_tests n item (λ i. item_offset_in_metric (offset i))))))
 
 -- Values
 
@@ -146,11 +146,11 @@ values_same : (words : List ℕ) → values_are_good words ≡ (is_none (values_
 unfolding values_are_good is_good_value values_reference_fault values_duplicate_fault
 values_same words =
     let n : ℕ = value_count words in
-    let place : (ℕ → ℕ) = λ i. value_at words i in
-    let refs : (ℕ → Bool) = λ i. leads_to_metric words (metric_of words (place i)) && (choice_leads words (place i) && instance_leads words (place i)) in
-    all_same n (is_good_value words) (λ i. refs i && is_new_value words i) (λ i. value_parts (leads_to_metric words (metric_of words (place i))) (instance_leads words (place i)) (choice_leads words (place i)) (is_new_value words i))
+    let offset : (ℕ → ℕ) = λ i. value_at words i in
+    let refs : (ℕ → Bool) = λ i. leads_to_metric words (metric_of words (offset i)) && (choice_leads words (offset i) && instance_leads words (offset i)) in
+    all_same n (is_good_value words) (λ i. refs i && is_new_value words i) (λ i. value_parts (leads_to_metric words (metric_of words (offset i))) (instance_leads words (offset i)) (choice_leads words (offset i)) (is_new_value words i))
     ∙ sym (all_both n refs (is_new_value words))
-    ∙ sym (both _ _ _ _ (none_first n (λ i. value_reference_fault words (place i)) ∙ all_same n _ refs (λ i. value_references words (place i))) (none_tests n (is_new_value words) place))
+    ∙ sym (both _ _ _ _ (none_first n (λ i. value_reference_fault words (offset i)) ∙ all_same n _ refs (λ i. value_references words (offset i))) (none_tests n (is_new_value words) offset))
 
 -- Strings, and the contents
 
@@ -164,7 +164,7 @@ sections_same words = sym (none_tests (contents_in words) (has_good_section word
 
 aligned_same : (words : List ℕ) → sections_are_aligned words ≡ is_none (offset_fault words)
 unfolding sections_are_aligned offset_fault
-aligned_same words = sym (none_tests (contents_in words) (is_aligned words) (λ i. place_offset_in i))
+aligned_same words = sym (none_tests (contents_in words) (is_aligned words) (λ i. offset_field_in i))
 
 -- The kinds
 

@@ -1,7 +1,7 @@
 -- Where sections end, and that their entries lie in the words.
 use Rattle.std.proofs.Common.{◌≡◌, ◌≢◌, ℕ, zero, suc, ◌+◌, ◌<◌, ◌≤◌, Bool, true, false, not, ◌&&◌, ◌||◌, List, length, ap, sym, ◌∙◌, refl, arith, nat_eq, nat_le, if◌then◌else◌}
 use Rattle.std.proofs.lemmas.Bool.Decides.{nat_tests}
-use Rattle.mmv_format.specs.Contents.{bytes_in, contents_in, type_in, count_in, place_in, section_bytes, end_in, section_lies, has_good_section, sections_are_good, find_section, section_of, entry_at}
+use Rattle.mmv_format.specs.Contents.{bytes_in, contents_in, type_in, count_in, offset_in, section_bytes, end_in, section_lies, has_good_section, sections_are_good, find_section, section_of, entry_at}
 use Rattle.mmv_format.specs.Sizes.{indom_size, instance_size, metric_size, value_size, string_size}
 use Rattle.mmv_format.specs.Entries.{indom_at, indom_count, instance_at, instance_count, metric_at, metric_count, value_at, value_count, string_at, string_count}
 use Rattle.mmv_faults.specs.Faults.{has_sections}
@@ -18,16 +18,16 @@ not_above n h = grind (arith, nat_tests)
 
 -- a section with entries is that of a contents entry of its type
 Found : List ℕ → ℕ → ℕ → ℕ → ℕ → Type 0
-Found words type n place count = (i : ℕ) × (i < n) × (type_in words i ≡ type) × (place ≡ place_in words i) × (count ≡ count_in words i)
+Found words type n offset count = (i : ℕ) × (i < n) × (type_in words i ≡ type) × (offset ≡ offset_in words i) × (count ≡ count_in words i)
 
-found : (words : List ℕ) (type n : ℕ) → (find_section words type n).count ≢ 0 → Found words type n (find_section words type n).place (find_section words type n).count
+found : (words : List ℕ) (type n : ℕ) → (find_section words type n).count ≢ 0 → Found words type n (find_section words type n).offset (find_section words type n).count
 unfolding find_section Found
 found words type zero some = absurd (some refl)
 found words type (suc n) some = here (nat_eq (type_in words n) type) refl some (found words type n)
   where
-    here : (t : Bool) → nat_eq (type_in words n) type ≡ t → (if t then record { place = place_in words n; count = count_in words n } else find_section words type n).count ≢ 0 → ((find_section words type n).count ≢ 0 → Found words type n (find_section words type n).place (find_section words type n).count) → Found words type (suc n) (if t then record { place = place_in words n; count = count_in words n } else find_section words type n).place (if t then record { place = place_in words n; count = count_in words n } else find_section words type n).count
+    here : (t : Bool) → nat_eq (type_in words n) type ≡ t → (if t then record { offset = offset_in words n; count = count_in words n } else find_section words type n).count ≢ 0 → ((find_section words type n).count ≢ 0 → Found words type n (find_section words type n).offset (find_section words type n).count) → Found words type (suc n) (if t then record { offset = offset_in words n; count = count_in words n } else find_section words type n).offset (if t then record { offset = offset_in words n; count = count_in words n } else find_section words type n).count
     here true e some before = (n, omega arith, eq_of (type_in words n) type e, refl, refl)
-    here false e some before = let (i, below, type_is, place_is, count_is) = before some in (i, omega arith, type_is, place_is, count_is)
+    here false e some before = let (i, below, type_is, offset_is, count_is) = before some in (i, omega arith, type_is, offset_is, count_is)
 
 lies_of : (count below inside : Bool) → (count || (below && inside)) ≡ true → count ≡ false → inside ≡ true
 lies_of true below inside h e = cc
@@ -40,18 +40,18 @@ section_of_entry : (words : List ℕ) (i : ℕ) → has_good_section words i ≡
 unfolding has_good_section
 section_of_entry words i good = both_right _ _ (both_left _ _ good)
 
-entry_ends : (words : List ℕ) (i : ℕ) → section_lies words i ≡ true → count_in words i ≢ 0 → place_in words i + section_bytes (type_in words i) (count_in words i) ≤ bytes_in words
+entry_ends : (words : List ℕ) (i : ℕ) → section_lies words i ≡ true → count_in words i ≢ 0 → offset_in words i + section_bytes (type_in words i) (count_in words i) ≤ bytes_in words
 unfolding section_lies end_in
 entry_ends words i lies some =
-    le_of (end_in words i) (bytes_in words) (lies_of (nat_eq (count_in words i) 0) (nat_le (entry_at (contents_in words)) (place_in words i)) _ lies (isnt_zero (count_in words i) some))
+    le_of (end_in words i) (bytes_in words) (lies_of (nat_eq (count_in words i) 0) (nat_le (entry_at (contents_in words)) (offset_in words i)) _ lies (isnt_zero (count_in words i) some))
 
 -- a section with entries ends in the words
-pub section_ends : (words : List ℕ) (type : ℕ) → sections_are_good words ≡ true → (section_of words type).count ≢ 0 → (section_of words type).place + section_bytes type (section_of words type).count ≤ bytes_in words
+pub section_ends : (words : List ℕ) (type : ℕ) → sections_are_good words ≡ true → (section_of words type).count ≢ 0 → (section_of words type).offset + section_bytes type (section_of words type).count ≤ bytes_in words
 unfolding section_of sections_are_good Found
 section_ends words type good some =
-    let (i, below, type_is, place_is, count_is) = found words type (contents_in words) some in
+    let (i, below, type_is, offset_is, count_is) = found words type (contents_in words) some in
     let entry : has_good_section words i ≡ true = all_at (contents_in words) i (has_good_section words) good below in
-    let ends : place_in words i + section_bytes (type_in words i) (count_in words i) ≤ bytes_in words = entry_ends words i (section_of_entry words i entry) (λ e. some (count_is ∙ e)) in
+    let ends : offset_in words i + section_bytes (type_in words i) (count_in words i) ≤ bytes_in words = entry_ends words i (section_of_entry words i entry) (λ e. some (count_is ∙ e)) in
     let same : section_bytes type (find_section words type (contents_in words)).count ≡ section_bytes (type_in words i) (count_in words i) = ap (λ t. section_bytes t (find_section words type (contents_in words)).count) (sym type_is) ∙ ap (λ n. section_bytes (type_in words i) n) count_is in
     omega arith
 

@@ -5,7 +5,7 @@ use Rattle.std.proofs.Math.Nat.{mul-le-mul_left}
 use Rattle.std.proofs.lemmas.Bool.Decides.{nat_tests}
 use Rattle.mmv_format.specs.Sizes.{indom_size, instance_size, metric_size, value_size, string_size}
 use Rattle.mmv_format.specs.EntryFields.{serial_in_indom, first_offset_in_indom, short_offset_in_indom, long_offset_in_indom, domain_in_instance, number_offset_in_instance, number_in_instance, name_offset_in_instance, item_offset_in_metric, item_in_metric, type_offset_in_metric, type_in_metric, semantics_offset_in_metric, semantics_in_metric, serial_offset_in_metric, serial_in_metric, short_offset_in_metric, long_offset_in_metric, extra_offset_in_value, metric_offset_in_value, instance_offset_in_value, instance_in_value}
-use Rattle.mmv_format.specs.Contents.{bytes_in, contents_in, cluster_offset, cluster_in, entry_at, type_in, place_offset_in, entry_lies, has_good_section, is_aligned, section_of}
+use Rattle.mmv_format.specs.Contents.{bytes_in, contents_in, cluster_offset, cluster_in, entry_at, type_in, offset_field_in, entry_lies, has_good_section, is_aligned, section_of}
 use Rattle.mmv_format.specs.Entries.{indom_count, indom_at, instance_count, instance_at, metric_count, metric_at, value_count, value_at, string_count, string_at, leads, leads_to_indom, leads_to_instance, has_text, has_name, is_good_string, is_kind, is_semantics, has_good_run, help_leads, lies_in_run, is_no_domain, serial_leads, leads_to_metric, metric_of, choice_leads, instance_leads, is_new_indom, is_new_instance, is_new_metric, is_new_value, is_serial, is_instance_number, is_item}
 use Rattle.mmv_format.specs.Below.{some_below}
 use Rattle.mmv_format.specs.Images.{is_cluster}
@@ -34,10 +34,10 @@ le_trans : (p q r : ℕ) → p ≤ q → q ≤ r → p ≤ r
 le_trans p q r e f = omega arith
 
 -- one test
-unless_lowest : (good : Bool) (place : ℕ) → IsLowest (Fails good place) (unless good place)
+unless_lowest : (good : Bool) (offset : ℕ) → IsLowest (Fails good offset) (unless good offset)
 unfolding unless
-unless_lowest true place = λ at h. true_false h.0
-unless_lowest false place = ((refl, refl), λ other h. same_le place other (sym h.1))
+unless_lowest true offset = λ at h. true_false h.0
+unless_lowest false offset = ((refl, refl), λ other h. same_le offset other (sym h.1))
 
 module _ (P Q : ℕ → Type 0) where
   -- the same said otherwise
@@ -95,13 +95,13 @@ module _ (start size : ℕ) (found : ℕ → Option ℕ) (P : ℕ → ℕ → Ty
       (λ x y p q. let (i, below, r) = p in in_front i n x y below r q) (entries_lowest n) (each n))
 
 -- one test of each entry
-tests_lowest : (n start size : ℕ) (test : ℕ → Bool) (place : ℕ → ℕ) → ((i : ℕ) → (start + size * i ≤ place i) × (place i < start + size * i + size))
-    → IsLowest (InSome n (λ i. Fails (test i) (place i))) (first_below n (λ i. unless (test i) (place i)))
-tests_lowest n start size test place lies =
-    entries_lowest start size (λ i. unless (test i) (place i)) (λ i. Fails (test i) (place i)) (λ i. unless_lowest (test i) (place i))
+tests_lowest : (n start size : ℕ) (test : ℕ → Bool) (offset : ℕ → ℕ) → ((i : ℕ) → (start + size * i ≤ offset i) × (offset i < start + size * i + size))
+    → IsLowest (InSome n (λ i. Fails (test i) (offset i))) (first_below n (λ i. unless (test i) (offset i)))
+tests_lowest n start size test offset lies =
+    entries_lowest start size (λ i. unless (test i) (offset i)) (λ i. Fails (test i) (offset i)) (λ i. unless_lowest (test i) (offset i))
     (λ i x h. subst (λ y. (start + size * i ≤ y) × (y < start + size * i + size)) (sym h.1) (lies i)) n
 
--- two tests of one entry, and three, the lower place in front
+-- two tests of one entry, and three, the lower offset in front
 two_lowest : (a b : Bool) (p q : ℕ) → p ≤ q → IsLowest (λ at. Fails a p at ⊎ Fails b q at) (or_else (unless a p) (unless b q))
 two_lowest a b p q le =
     else_lowest (Fails a p) (Fails b q) (unless a p) (unless b q) (λ x y f g. between p q x y le f.1 g.1) (unless_lowest a p) (unless_lowest b q)
@@ -122,7 +122,7 @@ three_lowest a b c p q r le le' =
     second : (p q r x y : ℕ) → p ≤ q → q ≤ r → x ≡ p → y ≡ r → x ≤ y
     second p q r x y le le' e f = omega arith
 
--- at the place of a field of an entry
+-- at the offset of a field of an entry
 at_field : (lo hi p at : ℕ) → lo ≤ p → p < hi → at ≡ p → (lo ≤ at) × (at < hi)
 at_field lo hi p at a b e = (omega arith, omega arith)
 
@@ -130,21 +130,21 @@ at_field lo hi p at a b e = (omega arith, omega arith)
 
 pub offsets_are_lowest : OffsetsAreLowest
 unfolding offset_fault
-offsets_are_lowest words = tests_lowest (contents_in words) 48 16 (λ i. is_aligned words i) (λ i. place_offset_in i) (λ i. (omega arith, omega arith))
+offsets_are_lowest words = tests_lowest (contents_in words) 48 16 (λ i. is_aligned words i) (λ i. offset_field_in i) (λ i. (omega arith, omega arith))
 
 pub names_are_lowest : NamesAreLowest
 unfolding name_fault instance_name_fault metric_name_fault string_fault
 names_are_lowest words =
     lower_lowest _ _ (instance_name_fault words) (lower (metric_name_fault words) (string_fault words))
-    (tests_lowest (instance_count words) (section_of words 2).place instance_size (λ i. has_text words (name_offset_in_instance (instance_at words i))) (λ i. name_offset_in_instance (instance_at words i)) (λ i. (omega arith, omega arith)))
+    (tests_lowest (instance_count words) (section_of words 2).offset instance_size (λ i. has_text words (name_offset_in_instance (instance_at words i))) (λ i. name_offset_in_instance (instance_at words i)) (λ i. (omega arith, omega arith)))
     (lower_lowest _ _ (metric_name_fault words) (string_fault words)
-    (tests_lowest (metric_count words) (section_of words 3).place metric_size (λ i. has_name words (metric_at words i)) (λ i. metric_at words i) (λ i. (omega arith, omega arith)))
-    (tests_lowest (string_count words) (section_of words 5).place string_size (λ i. is_good_string words i) (λ i. string_at words i) (λ i. (omega arith, omega arith))))
+    (tests_lowest (metric_count words) (section_of words 3).offset metric_size (λ i. has_name words (metric_at words i)) (λ i. metric_at words i) (λ i. (omega arith, omega arith)))
+    (tests_lowest (string_count words) (section_of words 5).offset string_size (λ i. is_good_string words i) (λ i. string_at words i) (λ i. (omega arith, omega arith))))
 
 pub kinds_are_lowest : KindsAreLowest
 unfolding kind_fault code_fault
 kinds_are_lowest words =
-    entries_lowest (section_of words 3).place metric_size (λ i. code_fault words (metric_at words i)) (λ i. CodeFails words (metric_at words i))
+    entries_lowest (section_of words 3).offset metric_size (λ i. code_fault words (metric_at words i)) (λ i. CodeFails words (metric_at words i))
     (λ i. two_lowest (is_kind (type_in_metric words (metric_at words i))) (is_semantics (semantics_in_metric words (metric_at words i))) (type_offset_in_metric (metric_at words i)) (semantics_offset_in_metric (metric_at words i)) (omega arith))
     (λ i x. ⊎_elim (λ (h : Fails (is_kind (type_in_metric words (metric_at words i))) (type_offset_in_metric (metric_at words i)) x). at_field _ _ _ x (omega arith) (omega arith) h.1)
     (λ (h : Fails (is_semantics (semantics_in_metric words (metric_at words i))) (semantics_offset_in_metric (metric_at words i)) x). at_field _ _ _ x (omega arith) (omega arith) h.1))
@@ -155,11 +155,11 @@ unfolding duplicate_fault indoms_duplicate_fault instances_duplicate_fault metri
 duplicates_are_lowest words =
     lower_lowest _ _ (lower (indoms_duplicate_fault words) (instances_duplicate_fault words)) (lower (metrics_duplicate_fault words) (values_duplicate_fault words))
     (lower_lowest _ _ (indoms_duplicate_fault words) (instances_duplicate_fault words)
-    (tests_lowest (indom_count words) (section_of words 1).place indom_size (λ i. is_new_indom words i) (λ i. indom_at words i) (λ i. (omega arith, omega arith)))
-    (tests_lowest (instance_count words) (section_of words 2).place instance_size (λ i. is_new_instance words i) (λ i. instance_at words i) (λ i. (omega arith, omega arith))))
+    (tests_lowest (indom_count words) (section_of words 1).offset indom_size (λ i. is_new_indom words i) (λ i. indom_at words i) (λ i. (omega arith, omega arith)))
+    (tests_lowest (instance_count words) (section_of words 2).offset instance_size (λ i. is_new_instance words i) (λ i. instance_at words i) (λ i. (omega arith, omega arith))))
     (lower_lowest _ _ (metrics_duplicate_fault words) (values_duplicate_fault words)
-    (tests_lowest (metric_count words) (section_of words 3).place metric_size (λ i. is_new_metric words i) (λ i. metric_at words i) (λ i. (omega arith, omega arith)))
-    (tests_lowest (value_count words) (section_of words 4).place value_size (λ i. is_new_value words i) (λ i. value_at words i) (λ i. (omega arith, omega arith))))
+    (tests_lowest (metric_count words) (section_of words 3).offset metric_size (λ i. is_new_metric words i) (λ i. metric_at words i) (λ i. (omega arith, omega arith)))
+    (tests_lowest (value_count words) (section_of words 4).offset value_size (λ i. is_new_value words i) (λ i. value_at words i) (λ i. (omega arith, omega arith))))
 
 -- Numbers out of range
 
@@ -188,12 +188,12 @@ far_item : (n : ℕ) → 1023 < n → is_item n ≡ false
 far_item n h = grind (arith, nat_tests)
 
 -- a test of each entry, said otherwise
-module _ (n start size : ℕ) (test : ℕ → Bool) (place : ℕ → ℕ) (bad : ℕ → Type 0) (to : (i : ℕ) → test i ≡ false → bad i) (from : (i : ℕ) → bad i → test i ≡ false) where
-  pub said_lowest : ((i : ℕ) → (start + size * i ≤ place i) × (place i < start + size * i + size)) → IsLowest (InSome n (λ i at. bad i × (at ≡ place i))) (first_below n (λ i. unless (test i) (place i)))
+module _ (n start size : ℕ) (test : ℕ → Bool) (offset : ℕ → ℕ) (bad : ℕ → Type 0) (to : (i : ℕ) → test i ≡ false → bad i) (from : (i : ℕ) → bad i → test i ≡ false) where
+  pub said_lowest : ((i : ℕ) → (start + size * i ≤ offset i) × (offset i < start + size * i + size)) → IsLowest (InSome n (λ i at. bad i × (at ≡ offset i))) (first_below n (λ i. unless (test i) (offset i)))
   said_lowest lies =
-      said (InSome n (λ i. Fails (test i) (place i))) (InSome n (λ i at. bad i × (at ≡ place i))) (first_below n (λ i. unless (test i) (place i)))
+      said (InSome n (λ i. Fails (test i) (offset i))) (InSome n (λ i at. bad i × (at ≡ offset i))) (first_below n (λ i. unless (test i) (offset i)))
       (λ at h. let (i, below, f) = h in (i, below, (to i f.0, f.1))) (λ at h. let (i, below, f) = h in (i, below, (from i f.0, f.1)))
-      (tests_lowest n start size test place lies)
+      (tests_lowest n start size test offset lies)
 
 pub serials_are_lowest : SerialsAreLowest
 unfolding serial_fault cluster_fault indoms_serial_fault instances_serial_fault metrics_serial_fault
@@ -202,14 +202,14 @@ serials_are_lowest words =
     (said (Fails (is_cluster (cluster_in words)) cluster_offset) (λ at. (4095 < cluster_in words) × (at ≡ cluster_offset)) (unless (is_cluster (cluster_in words)) cluster_offset)
     (λ at f. (cluster_far (cluster_in words) f.0, f.1)) (λ at f. (far_cluster (cluster_in words) f.0, f.1)) (unless_lowest (is_cluster (cluster_in words)) cluster_offset))
     (lower_lowest _ _ (indoms_serial_fault words) (lower (instances_serial_fault words) (metrics_serial_fault words))
-    (said_lowest (indom_count words) (section_of words 1).place indom_size (λ i. is_serial (serial_in_indom words (indom_at words i))) (λ i. indom_at words i)
+    (said_lowest (indom_count words) (section_of words 1).offset indom_size (λ i. is_serial (serial_in_indom words (indom_at words i))) (λ i. indom_at words i)
     (λ i. (serial_in_indom words (indom_at words i) ≡ 0) ⊎ (1023 < serial_in_indom words (indom_at words i)))
     (λ i. serial_far (serial_in_indom words (indom_at words i))) (λ i. far_serial (serial_in_indom words (indom_at words i))) (λ i. (omega arith, omega arith)))
     (lower_lowest _ _ (instances_serial_fault words) (metrics_serial_fault words)
-    (said_lowest (instance_count words) (section_of words 2).place instance_size (λ i. is_instance_number (number_in_instance words (instance_at words i))) (λ i. number_offset_in_instance (instance_at words i))
+    (said_lowest (instance_count words) (section_of words 2).offset instance_size (λ i. is_instance_number (number_in_instance words (instance_at words i))) (λ i. number_offset_in_instance (instance_at words i))
     (λ i. 2147483648 ≤ number_in_instance words (instance_at words i))
     (λ i. number_far (number_in_instance words (instance_at words i))) (λ i. far_number (number_in_instance words (instance_at words i))) (λ i. (omega arith, omega arith)))
-    (said_lowest (metric_count words) (section_of words 3).place metric_size (λ i. is_item (item_in_metric words (metric_at words i))) (λ i. item_offset_in_metric (metric_at words i))
+    (said_lowest (metric_count words) (section_of words 3).offset metric_size (λ i. is_item (item_in_metric words (metric_at words i))) (λ i. item_offset_in_metric (metric_at words i))
     (λ i. 1023 < item_in_metric words (metric_at words i))
     (λ i. item_far (item_in_metric words (metric_at words i))) (λ i. far_item (item_in_metric words (metric_at words i))) (λ i. (omega arith, omega arith)))))
 
@@ -230,7 +230,7 @@ named_of n h = (grind (arith, nat_tests), grind (arith, nat_tests))
 of_named : (n : ℕ) → n ≢ 0 → n ≢ 4294967295 → is_no_domain n ≡ false
 of_named n f g = grind (arith, nat_tests)
 
--- a place leads to an entry where it is that of one
+-- an offset leads to an entry where it is that of one
 some_at : (n : ℕ) (test : ℕ → Bool) → some_below n test ≡ true → (k : ℕ) × (k < n) × (test k ≡ true)
 unfolding some_below
 some_at zero test h = absurd (true_false (sym h))
@@ -244,14 +244,14 @@ some_at (suc n) test h = here (test n) refl h (some_at n test)
     here true e h before = (n, omega arith, e)
     here false e h before = let (k, below, f) = before (sym (or_false (some_below n test)) ∙ h) in (k, omega arith, f)
 
-leads_at : (first count size place : ℕ) → leads first count size place ≡ true → (k : ℕ) × (k < count) × (place ≡ first + size * k)
+leads_at : (first count size offset : ℕ) → leads first count size offset ≡ true → (k : ℕ) × (k < count) × (offset ≡ first + size * k)
 unfolding leads
-leads_at first count size place h =
-    let (k, below, e) = some_at count (λ k. nat_eq (first + size * k) place) h in (k, below, sym (eq_of (first + size * k) place e))
+leads_at first count size offset h =
+    let (k, below, e) = some_at count (λ k. nat_eq (first + size * k) offset) h in (k, below, sym (eq_of (first + size * k) offset e))
 
-at_leads : (first count size place k : ℕ) → k < count → place ≡ first + size * k → leads first count size place ≡ true
+at_leads : (first count size offset k : ℕ) → k < count → offset ≡ first + size * k → leads first count size offset ≡ true
 unfolding leads
-at_leads first count size place k below e = some_holds count k (λ k. nat_eq (first + size * k) place) below (of_eq (first + size * k) place (sym e))
+at_leads first count size offset k below e = some_holds count k (λ k. nat_eq (first + size * k) offset) below (of_eq (first + size * k) offset (sym e))
 
 -- the instance field of a value passes where it's as the law says
 module _ (words : List ℕ) (value : ℕ) where
@@ -265,8 +265,8 @@ module _ (words : List ℕ) (value : ℕ) where
           → HasInstance words value
       here true e h = inl (null_of _ e, eq_of (instance_in_value words value) 0 h)
       here false e h =
-          let (k, known, stands) = leads_at (section_of words 2).place (section_of words 2).count instance_size (instance_in_value words value) (both_left _ _ h) in
-          let (d, counted, leads) = leads_at (section_of words 1).place (section_of words 1).count indom_size (domain_in_instance words (instance_in_value words value)) (both_left _ _ (both_right _ _ h)) in
+          let (k, known, stands) = leads_at (section_of words 2).offset (section_of words 2).count instance_size (instance_in_value words value) (both_left _ _ h) in
+          let (d, counted, leads) = leads_at (section_of words 1).offset (section_of words 1).count indom_size (domain_in_instance words (instance_in_value words value)) (both_left _ _ (both_right _ _ h)) in
           inr (
             named_of _ e,
             record {
@@ -287,8 +287,8 @@ module _ (words : List ℕ) (value : ℕ) where
       taken (is_no_domain (serial_in_metric words (metric_of words value))) _ _ (of_null _ none.0) (of_eq (instance_in_value words value) 0 none.1))
       (λ (some : ((serial_in_metric words (metric_of words value) ≢ 0) × (serial_in_metric words (metric_of words value) ≢ 4294967295)) × IsInstanceOf words (serial_in_metric words (metric_of words value)) (instance_in_value words value)).
       other (is_no_domain (serial_in_metric words (metric_of words value))) _ _ (of_named _ some.0.0 some.0.1)
-      (and_of _ _ (at_leads (section_of words 2).place (section_of words 2).count instance_size (instance_in_value words value) some.1.instance some.1.known some.1.stands)
-      (and_of _ _ (at_leads (section_of words 1).place (section_of words 1).count indom_size (domain_in_instance words (instance_in_value words value)) some.1.indom some.1.counted some.1.leads)
+      (and_of _ _ (at_leads (section_of words 2).offset (section_of words 2).count instance_size (instance_in_value words value) some.1.instance some.1.known some.1.stands)
+      (and_of _ _ (at_leads (section_of words 1).offset (section_of words 1).count indom_size (domain_in_instance words (instance_in_value words value)) some.1.indom some.1.counted some.1.leads)
       (of_eq (serial_in_indom words (domain_in_instance words (instance_in_value words value))) (serial_in_metric words (metric_of words value)) (ap (serial_in_indom words) some.1.leads ∙ some.1.has)))))
     where
       and_of : (a b : Bool) → a ≡ true → b ≡ true → (a && b) ≡ true
@@ -356,17 +356,17 @@ references_are_lowest words =
     let help : (ℕ → Bool) = λ at. help_leads words at in
     lower_lowest _ _ (lower (indoms_reference_fault words) (instances_reference_fault words)) (lower (metrics_reference_fault words) (values_reference_fault words))
     (lower_lowest _ _ (indoms_reference_fault words) (instances_reference_fault words)
-    (entries_lowest (section_of words 1).place indom_size (λ i. indom_reference_fault words (indom_at words i)) (λ i. IndomReferenceFails words (indom_at words i))
+    (entries_lowest (section_of words 1).offset indom_size (λ i. indom_reference_fault words (indom_at words i)) (λ i. IndomReferenceFails words (indom_at words i))
     (λ i. three_lowest (has_good_run words (indom_at words i)) (help (short_offset_in_indom (indom_at words i))) (help (long_offset_in_indom (indom_at words i))) (first_offset_in_indom (indom_at words i)) (short_offset_in_indom (indom_at words i)) (long_offset_in_indom (indom_at words i)) (omega arith) (omega arith))
     (λ i x. three_within (indom_at words i) (indom_at words i + indom_size) (has_good_run words (indom_at words i)) (help (short_offset_in_indom (indom_at words i))) (help (long_offset_in_indom (indom_at words i))) (first_offset_in_indom (indom_at words i)) (short_offset_in_indom (indom_at words i)) (long_offset_in_indom (indom_at words i)) x (omega arith) (omega arith) (omega arith) (omega arith))
     (indom_count words))
-    (tests_lowest (instance_count words) (section_of words 2).place instance_size (λ i. lies_in_run words (instance_at words i)) (λ i. instance_at words i) (λ i. (omega arith, omega arith))))
+    (tests_lowest (instance_count words) (section_of words 2).offset instance_size (λ i. lies_in_run words (instance_at words i)) (λ i. instance_at words i) (λ i. (omega arith, omega arith))))
     (lower_lowest _ _ (metrics_reference_fault words) (values_reference_fault words)
-    (entries_lowest (section_of words 3).place metric_size (λ i. metric_reference_fault words (metric_at words i)) (λ i. MetricReferenceFails words (metric_at words i))
+    (entries_lowest (section_of words 3).offset metric_size (λ i. metric_reference_fault words (metric_at words i)) (λ i. MetricReferenceFails words (metric_at words i))
     (λ i. three_lowest (serial_leads words (serial_in_metric words (metric_at words i))) (help (short_offset_in_metric (metric_at words i))) (help (long_offset_in_metric (metric_at words i))) (serial_offset_in_metric (metric_at words i)) (short_offset_in_metric (metric_at words i)) (long_offset_in_metric (metric_at words i)) (omega arith) (omega arith))
     (λ i x. three_within (metric_at words i) (metric_at words i + metric_size) (serial_leads words (serial_in_metric words (metric_at words i))) (help (short_offset_in_metric (metric_at words i))) (help (long_offset_in_metric (metric_at words i))) (serial_offset_in_metric (metric_at words i)) (short_offset_in_metric (metric_at words i)) (long_offset_in_metric (metric_at words i)) x (omega arith) (omega arith) (omega arith) (omega arith))
     (metric_count words))
-    (entries_lowest (section_of words 4).place value_size (λ i. value_reference_fault words (value_at words i)) (λ i. ValueReferenceFails words (value_at words i))
+    (entries_lowest (section_of words 4).offset value_size (λ i. value_reference_fault words (value_at words i)) (λ i. ValueReferenceFails words (value_at words i))
     (λ i. value_lowest words (value_at words i)) (λ i x. value_within words (value_at words i) x) (value_count words)))
 
 -- The sections

@@ -53,8 +53,8 @@ unfolding all_below
 all_both zero f g = refl
 all_both (suc n) f g = swapped (all_below n f) (f n) (all_below n g) (g n) ∙ ap (λ b. b && (f n && g n)) (all_both n f g)
 
-pub none_tests : (n : ℕ) (good : ℕ → Bool) (place : ℕ → ℕ) → is_none (first_below n (λ i. unless (good i) (place i))) ≡ all_below n good
-none_tests n good place = none_first n (λ i. unless (good i) (place i)) ∙ all_same n (λ i. is_none (unless (good i) (place i))) good (λ i. none_unless (good i) (place i))
+pub none_tests : (n : ℕ) (good : ℕ → Bool) (offset : ℕ → ℕ) → is_none (first_below n (λ i. unless (good i) (offset i))) ≡ all_below n good
+none_tests n good offset = none_first n (λ i. unless (good i) (offset i)) ∙ all_same n (λ i. is_none (unless (good i) (offset i))) good (λ i. none_unless (good i) (offset i))
 
-pub tests_pass : (n : ℕ) (good : ℕ → Bool) (place : ℕ → ℕ) → first_below n (λ i. unless (good i) (place i)) ≡ None → all_below n good ≡ true
-tests_pass n good place none = sym (none_tests n good place) ∙ ap (λ o. is_none o) none
+pub tests_pass : (n : ℕ) (good : ℕ → Bool) (offset : ℕ → ℕ) → first_below n (λ i. unless (good i) (offset i)) ≡ None → all_below n good ≡ true
+tests_pass n good offset none = sym (none_tests n good offset) ∙ ap (λ o. is_none o) none

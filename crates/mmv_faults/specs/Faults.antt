@@ -1,12 +1,12 @@
 -- Why words are no image of version 1 (mmv(5)): the first fault in the order of the kinds, and of one kind the one at the
--- lowest place. A section's entries lie one behind another, so the first faulty entry of a section has its lowest place.
+-- lowest offset. A section's entries lie one behind another, so the first faulty entry of a section has its lowest offset.
 use Rattle.std.specs.Prelude.{ℕ, zero, suc, Bool, not, ◌==◌, ◌&&◌, nat_le, if◌then◌else◌, IsTrue, List, length, Option, Some, None, Result, Ok, Err}
 use Rattle.mmv_faults.specs.declared.fault.ImageFault.{ImageFault}
 use Rattle.mmv_faults.specs.declared.fault.ImageFault.TheVariants.{Short, TooLarge, Magic, Version, Generations, Section, Offset, Name, Kind, Reference, Duplicate, Serial}
 use Rattle.mmv_format.specs.Fields.{words_of}
 use Rattle.mmv_format.specs.Sizes.{is_version}
 use Rattle.mmv_format.specs.EntryFields.{serial_in_indom, first_offset_in_indom, short_offset_in_indom, long_offset_in_indom, number_offset_in_instance, number_in_instance, name_offset_in_instance, item_offset_in_metric, item_in_metric, type_offset_in_metric, type_in_metric, semantics_offset_in_metric, semantics_in_metric, serial_offset_in_metric, serial_in_metric, short_offset_in_metric, long_offset_in_metric, extra_offset_in_value, metric_offset_in_value, instance_offset_in_value}
-use Rattle.mmv_format.specs.Contents.{bytes_in, has_magic, version_in, first_generation, second_generation, contents_in, cluster_in, is_short, type_in, entry_lies, has_good_section, is_aligned, sections_are_good, cluster_offset, place_offset_in}
+use Rattle.mmv_format.specs.Contents.{bytes_in, has_magic, version_in, first_generation, second_generation, contents_in, cluster_in, is_short, type_in, entry_lies, has_good_section, is_aligned, sections_are_good, cluster_offset, offset_field_in}
 use Rattle.mmv_format.specs.Entries.{indom_count, indom_at, instance_count, instance_at, metric_count, metric_at, value_count, value_at, string_count, string_at, has_text, has_name, is_good_string, is_kind, is_semantics, has_good_run, help_leads, lies_in_run, serial_leads, leads_to_metric, metric_of, choice_leads, instance_leads, is_new_indom, is_new_instance, is_new_metric, is_new_value, is_serial, is_instance_number, is_item}
 use Rattle.mmv_format.specs.Images.{is_too_large, is_cluster}
 
@@ -15,13 +15,13 @@ unfoldable pub or_else : {A : Type 0} → Option A → Option A → Option A
 or_else (Some a) other = Some a
 or_else None other = other
 
--- the lower of two places
+-- the lower of two offsets
 unfoldable pub lower : Option ℕ → Option ℕ → Option ℕ
 lower None b = b
 lower (Some a) None = Some a
 lower (Some a) (Some b) = if nat_le a b then Some a else Some b
 
--- a place where a test fails
+-- an offset where a test fails
 unfoldable pub unless : Bool → ℕ → Option ℕ
 unless good at = if good then None else Some at
 
@@ -44,9 +44,9 @@ bad_type words i = if entry_lies words i then type_in words i else 0
 unfoldable pub section_fault : List ℕ → Option ℕ
 section_fault words = first_below (contents_in words) (λ i. unless (has_good_section words i) (bad_type words i))
 
--- Offset: the place field of a section that doesn't begin at a multiple of 8
+-- Offset: the offset field of a section that doesn't begin at a multiple of 8
 unfoldable pub offset_fault : List ℕ → Option ℕ
-offset_fault words = first_below (contents_in words) (λ i. unless (is_aligned words i) (place_offset_in i))
+offset_fault words = first_below (contents_in words) (λ i. unless (is_aligned words i) (offset_field_in i))
 
 -- Name: the name field of an instance or of a metric, or a string
 unfoldable pub instance_name_fault : List ℕ → Option ℕ
@@ -139,7 +139,7 @@ unfoldable pub serial_fault : List ℕ → Option ℕ
 serial_fault words =
     lower (cluster_fault words) (lower (indoms_serial_fault words) (lower (instances_serial_fault words) (metrics_serial_fault words)))
 
--- the fault at a place, where there is one
+-- the fault at an offset, where there is one
 abbrev pub refused : (ℕ → ImageFault) → Option ℕ → Option ImageFault
 refused fault (Some at) = Some (fault at)
 refused fault None = None

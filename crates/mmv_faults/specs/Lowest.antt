@@ -1,29 +1,29 @@
--- What is told of words that are no image: of the kinds the first in their order, and of one kind the lowest place at
+-- What is told of words that are no image: of the kinds the first in their order, and of one kind the lowest offset at
 -- which something fails. Nothing is told exactly where nothing fails.
 use Rattle.std.specs.Prelude.{◌≡◌, ◌≢◌, ℕ, ◌+◌, ◌<◌, ◌≤◌, ◌⊎◌, Bool, true, false, List, length, Option, Some, None}
 use Rattle.mmv_faults.specs.declared.fault.ImageFault.{ImageFault}
 use Rattle.mmv_faults.specs.declared.fault.ImageFault.TheVariants as faults
 use Rattle.mmv_format.specs.Sizes.{header_size, is_version}
 use Rattle.mmv_format.specs.EntryFields.{serial_in_indom, first_offset_in_indom, short_offset_in_indom, long_offset_in_indom, domain_in_instance, number_offset_in_instance, number_in_instance, name_offset_in_instance, item_offset_in_metric, item_in_metric, type_offset_in_metric, type_in_metric, semantics_offset_in_metric, semantics_in_metric, serial_offset_in_metric, serial_in_metric, short_offset_in_metric, long_offset_in_metric, extra_offset_in_value, metric_offset_in_value, instance_offset_in_value, instance_in_value}
-use Rattle.mmv_format.specs.Contents.{bytes_in, has_magic, version_in, first_generation, second_generation, contents_in, cluster_offset, cluster_in, entry_at, type_in, place_offset_in, has_good_section, is_aligned}
+use Rattle.mmv_format.specs.Contents.{bytes_in, has_magic, version_in, first_generation, second_generation, contents_in, cluster_offset, cluster_in, entry_at, type_in, offset_field_in, has_good_section, is_aligned}
 use Rattle.mmv_format.specs.Entries.{indom_count, indom_at, instance_count, instance_at, metric_count, metric_at, value_count, value_at, string_count, string_at, has_text, has_name, is_good_string, is_kind, is_semantics, has_good_run, help_leads, lies_in_run, serial_leads, leads_to_metric, metric_of, choice_leads, is_new_indom, is_new_instance, is_new_metric, is_new_value}
 use Rattle.mmv_faults.specs.Faults.{section_fault, offset_fault, name_fault, kind_fault, reference_fault, duplicate_fault, serial_fault, image_fault}
 
--- a place is told that is the lowest at which something fails, or none where nothing fails
+-- an offset is told that is the lowest at which something fails, or none where nothing fails
 abbrev pub IsLowest : (ℕ → Type 0) → Option ℕ → Type 0
 IsLowest fails None = (at : ℕ) → fails at → ⊥
 IsLowest fails (Some at) = fails at × ((other : ℕ) → fails other → at ≤ other)
 
--- a test fails at a place
+-- a test fails at an offset
 abbrev pub Fails : Bool → ℕ → ℕ → Type 0
-Fails good place at = (good ≡ false) × (at ≡ place)
+Fails good offset at = (good ≡ false) × (at ≡ offset)
 
--- something fails at a place in one of so many entries
+-- something fails at an offset in one of so many entries
 abbrev pub InSome : ℕ → (ℕ → ℕ → Type 0) → ℕ → Type 0
 InSome count fails at = (i : ℕ) × (i < count) × fails i at
 
 abbrev pub OffsetFails : List ℕ → ℕ → Type 0
-OffsetFails words at = InSome (contents_in words) (λ i. Fails (is_aligned words i) (place_offset_in i)) at
+OffsetFails words at = InSome (contents_in words) (λ i. Fails (is_aligned words i) (offset_field_in i)) at
 
 abbrev pub NameFails : List ℕ → ℕ → Type 0
 NameFails words at =
@@ -51,17 +51,17 @@ MetricReferenceFails words metric at =
     ⊎ (Fails (help_leads words (short_offset_in_metric metric)) (short_offset_in_metric metric) at
     ⊎ Fails (help_leads words (long_offset_in_metric metric)) (long_offset_in_metric metric) at)
 
--- an instance stands at a place, and leads to a domain that has a serial
-pub record IsInstanceOf (words : List ℕ) (serial place : ℕ) : Type 0 where
+-- an instance stands at an offset, and leads to a domain that has a serial
+pub record IsInstanceOf (words : List ℕ) (serial offset : ℕ) : Type 0 where
   pub instance : ℕ
   pub known : instance < instance_count words
-  pub stands : place ≡ instance_at words instance
+  pub stands : offset ≡ instance_at words instance
   pub indom : ℕ
   pub counted : indom < indom_count words
-  pub leads : domain_in_instance words place ≡ indom_at words indom
+  pub leads : domain_in_instance words offset ≡ indom_at words indom
   pub has : serial_in_indom words (indom_at words indom) ≡ serial
 
--- the instance field of the value at a place is 0 where its metric has no domain, and else leads to an instance of that domain
+-- the instance field of the value at an offset is 0 where its metric has no domain, and else leads to an instance of that domain
 abbrev pub HasInstance : List ℕ → ℕ → Type 0
 HasInstance words value =
     let serial = serial_in_metric words (metric_of words value) in

@@ -6,7 +6,7 @@ use std::alloc::AllocError;
 use thiserror::Error;
 
 /// Why words or bytes are no image of version 1 (mmv(5)): the first fault in this order, and of one kind the one at
-/// the lowest place. `at` is a place in bytes: of the field, and for `Duplicate` of the entry.
+/// the lowest offset. `at` is an offset in bytes: of the field, and for `Duplicate` of the entry.
 #[derive(Clone, Copy, Debug, PartialEq, Eq, Error)]
 pub enum ImageFault {
     /// Fewer than 40 bytes, or no whole number of words; `have` is the number of bytes.
@@ -29,7 +29,7 @@ pub enum ImageFault {
     /// doesn't lie in the words.
     #[error("the section of type {kind} doesn't lie well")]
     Section { kind: u32 },
-    /// A section begins at no multiple of 8; `at` is that of the place in its contents entry.
+    /// A section begins at no multiple of 8; `at` is that of the offset in its contents entry.
     #[error("the section place at {at} is no multiple of 8")]
     Offset { at: u64 },
     /// A name or a string has no zero byte, a name is empty, or a metric's name breaks the rule for names.

@@ -1,4 +1,4 @@
-//! The first fault of words: the kinds in their order, and of one kind the lowest place.
+//! The first fault of words: the kinds in their order, and of one kind the lowest offset.
 ghost use Rattle.std.specs.Prelude.{◌≡◌, ◌≤◌, length, IfOk};
 ghost use Rattle.mmv_faults.specs.Faults.{HasSections, lower, name_fault, reference_fault, duplicate_fault, cluster_fault, serial_fault, header_fault, entries_fault, image_fault};
 
@@ -20,7 +20,7 @@ use mmv_format::{
 };
 use std::alloc::{AllocError, Global};
 
-/// The lower of two places.
+/// The lower of two offsets.
 #[tactic(auto, unfolding(crate::specs::Faults::lower))]
 fn lower(a: Option<u64>, b: Option<u64>) -> Option<u64>
     ensures { result ≡ lower a b }
@@ -45,7 +45,7 @@ fn name_fault(alloc: Global, words: &[u64]) -> Result<Option<u64>, AllocError>
     ))
 }
 
-/// The lowest place of a reference that leads nowhere.
+/// The lowest offset of a reference that leads nowhere.
 #[tactic(auto, unfolding(crate::specs::Faults::reference_fault))]
 fn reference_fault(alloc: Global, words: &[u64]) -> Result<Option<u64>, AllocError>
     requires { HasSections words.now }
@@ -61,7 +61,7 @@ fn reference_fault(alloc: Global, words: &[u64]) -> Result<Option<u64>, AllocErr
     ))
 }
 
-/// The lowest place of an entry that stood before.
+/// The lowest offset of an entry that stood before.
 #[tactic(auto, unfolding(crate::specs::Faults::duplicate_fault))]
 fn duplicate_fault(alloc: Global, words: &[u64]) -> Result<Option<u64>, AllocError>
     requires { HasSections words.now }
@@ -74,7 +74,7 @@ fn duplicate_fault(alloc: Global, words: &[u64]) -> Result<Option<u64>, AllocErr
     Ok(lower(lower(domain, instance), lower(metric, value)))
 }
 
-/// The place of a cluster above 4095.
+/// The offset of a cluster above 4095.
 #[tactic(auto, unfolding(crate::specs::Faults::cluster_fault, crate::specs::Faults::unless))]
 fn cluster_fault(words: &[u64]) -> Option<u64>
     ensures { result ≡ cluster_fault words.now }
@@ -86,7 +86,7 @@ fn cluster_fault(words: &[u64]) -> Option<u64>
     }
 }
 
-/// The lowest place of a number that is out of range.
+/// The lowest offset of a number that is out of range.
 #[tactic(auto, unfolding(crate::specs::Faults::serial_fault))]
 fn serial_fault(words: &[u64]) -> Option<u64>
     requires { HasSections words.now }

@@ -5,7 +5,7 @@ ghost use Rattle.mmv_format.specs.Entries.{is_instance_of, has_good_run, indom_c
 ghost use Rattle.mmv_faults.specs.Faults.{HasSections, help_fault, indom_reference_fault, indoms_reference_fault, indoms_duplicate_fault, indoms_serial_fault};
 
 use crate::keys::{Key, first_again};
-use crate::places::indom_place;
+use crate::offsets::indom_offset;
 use mmv_format::{
     FIRST_OFFSET, count_in_indom, domain_in_instance, help_leads, indom_at, indom_count,
     leads_to_instance, long_offset_in_indom, run_at, serial_in_indom, short_offset_in_indom,
@@ -13,7 +13,7 @@ use mmv_format::{
 use std::alloc::{AllocError, Global};
 use std::collections::BTreeSet;
 
-/// Whether an instance stands at a place and leads to a domain.
+/// Whether an instance stands at an offset and leads to a domain.
 #[tactic(auto, unfolding(mmv_format::specs::Entries::is_instance_of))]
 fn is_instance_of(words: &[u64], domain: u128, instance: u128) -> bool
     ensures { result ≡ is_instance_of words.now domain instance }
@@ -21,7 +21,7 @@ fn is_instance_of(words: &[u64], domain: u128, instance: u128) -> bool
     leads_to_instance(words, instance) && domain_in_instance(words, instance) as u128 == domain
 }
 
-/// Whether the run of the domain at a place consists of its own instances.
+/// Whether the run of the domain at an offset consists of its own instances.
 #[tactic(auto, using(mmv_format::proofs::Below::all_none, mmv_format::proofs::Below::all_more), unfolding(mmv_format::specs::Entries::has_good_run))]
 fn has_good_run(words: &[u64], domain: u128) -> bool
     requires { domain < 2 ^ 80 }
@@ -35,7 +35,7 @@ fn has_good_run(words: &[u64], domain: u128) -> bool
     true
 }
 
-/// The place of a help field that leads to no string.
+/// The offset of a help field that leads to no string.
 #[tactic(auto, unfolding(crate::specs::Faults::help_fault, crate::specs::Faults::unless))]
 pub fn help_fault(words: &[u64], field: u64) -> Option<u64>
     ensures { result ≡ help_fault words.now field }
@@ -47,7 +47,7 @@ pub fn help_fault(words: &[u64], field: u64) -> Option<u64>
     }
 }
 
-/// The place of the first reference of the domain at a place that leads nowhere: its run, its helps.
+/// The offset of the first reference of the domain at an offset that leads nowhere: its run, its helps.
 #[tactic(auto, unfolding(crate::specs::Faults::indom_reference_fault, crate::specs::Faults::unless, crate::specs::Faults::or_else))]
 fn indom_reference_fault(words: &[u64], domain: u64) -> Option<u64>
     requires { domain < 524288 }
@@ -62,21 +62,21 @@ fn indom_reference_fault(words: &[u64], domain: u64) -> Option<u64>
     help_fault(words, long_offset_in_indom(domain as u128) as u64)
 }
 
-/// The place of the first reference of a domain that leads nowhere.
+/// The offset of the first reference of a domain that leads nowhere.
 #[tactic(auto, using(crate::proofs::Firsts::first_none, crate::proofs::Firsts::first_goes), unfolding(crate::specs::Faults::indoms_reference_fault, crate::specs::Faults::unless))]
 pub fn indoms_reference_fault(words: &[u64]) -> Option<u64>
     requires { HasSections words.now }
     ensures { result ≡ indoms_reference_fault words.now }
 {
     for i in 0..indom_count(words) {
-        if let Some(at) = indom_reference_fault(words, indom_place(words, i)) {
+        if let Some(at) = indom_reference_fault(words, indom_offset(words, i)) {
             return Some(at);
         }
     }
     None
 }
 
-/// The place of the first domain whose serial stood before.
+/// The offset of the first domain whose serial stood before.
 pub fn indoms_duplicate_fault(alloc: Global, words: &[u64]) -> Result<Option<u64>, AllocError>
     requires { HasSections words.now }
     ensures { IfOk result (λ at. at ≡ indoms_duplicate_fault words.now) }
@@ -86,17 +86,17 @@ pub fn indoms_duplicate_fault(alloc: Global, words: &[u64]) -> Result<Option<u64
     if first == count {
         return Ok(None);
     }
-    Ok(Some(indom_place(words, first)))
+    Ok(Some(indom_offset(words, first)))
 }
 
-/// The place of the first serial of a domain that is 0 or above 1023.
+/// The offset of the first serial of a domain that is 0 or above 1023.
 #[tactic(auto, using(crate::proofs::Firsts::first_none, crate::proofs::Firsts::first_goes), unfolding(crate::specs::Faults::indoms_serial_fault, crate::specs::Faults::unless))]
 pub fn indoms_serial_fault(words: &[u64]) -> Option<u64>
     requires { HasSections words.now }
     ensures { result ≡ indoms_serial_fault words.now }
 {
     for i in 0..indom_count(words) {
-        let domain = indom_place(words, i);
+        let domain = indom_offset(words, i);
         let serial = serial_in_indom(words, domain as u128);
         if serial < 1 || 1023 < serial {
             return Some(domain);

@@ -4,7 +4,7 @@ ghost use Rattle.mmv_format.specs.Entries.{has_text, lies_in_run, instance_count
 ghost use Rattle.mmv_faults.specs.Faults.{HasSections, instance_name_fault, instances_reference_fault, instances_duplicate_fault, instances_serial_fault, string_fault};
 
 use crate::keys::{Key, first_again};
-use crate::places::{instance_place, string_place};
+use crate::offsets::{instance_offset, string_offset};
 use mmv_format::{
     INSTANCE_SIZE, NAME_OFFSET, NAME_WIDTH, NUMBER_OFFSET, STRING_SIZE, byte_at, count_in_indom,
     domain_in_instance, first_in_indom, has_zero, instance_at, instance_count, leads,
@@ -12,7 +12,7 @@ use mmv_format::{
 };
 use std::alloc::{AllocError, Global};
 
-/// Whether the name field at a place holds a text that isn't empty.
+/// Whether the name field at an offset holds a text that isn't empty.
 #[tactic(auto, unfolding(mmv_format::specs::Entries::has_text))]
 fn has_text(words: &[u64], field: u128) -> bool
     requires { field < 2 ^ 100 }
@@ -21,7 +21,7 @@ fn has_text(words: &[u64], field: u128) -> bool
     has_zero(words, field, NAME_WIDTH) && byte_at(words, field) != 0
 }
 
-/// Whether the instance at a place leads to a domain, in whose run it lies.
+/// Whether the instance at an offset leads to a domain, in whose run it lies.
 #[tactic(auto, unfolding(mmv_format::specs::Entries::lies_in_run))]
 fn lies_in_run(words: &[u64], instance: u128) -> bool
     ensures { result ≡ lies_in_run words.now instance }
@@ -43,7 +43,7 @@ pub fn instance_name_fault(words: &[u64]) -> Option<u64>
     ensures { result ≡ instance_name_fault words.now }
 {
     for i in 0..instance_count(words) {
-        let name = instance_place(words, i) + NAME_OFFSET;
+        let name = instance_offset(words, i) + NAME_OFFSET;
         if !has_text(words, name as u128) {
             return Some(name);
         }
@@ -51,14 +51,14 @@ pub fn instance_name_fault(words: &[u64]) -> Option<u64>
     None
 }
 
-/// The place of the first instance outside its domain's run.
+/// The offset of the first instance outside its domain's run.
 #[tactic(auto, using(crate::proofs::Firsts::first_none, crate::proofs::Firsts::first_goes), unfolding(crate::specs::Faults::instances_reference_fault, crate::specs::Faults::unless))]
 pub fn instances_reference_fault(words: &[u64]) -> Option<u64>
     requires { HasSections words.now }
     ensures { result ≡ instances_reference_fault words.now }
 {
     for i in 0..instance_count(words) {
-        let instance = instance_place(words, i);
+        let instance = instance_offset(words, i);
         if !lies_in_run(words, instance as u128) {
             return Some(instance);
         }
@@ -66,7 +66,7 @@ pub fn instances_reference_fault(words: &[u64]) -> Option<u64>
     None
 }
 
-/// The place of the first instance whose number or name stood in its domain before.
+/// The offset of the first instance whose number or name stood in its domain before.
 pub fn instances_duplicate_fault(alloc: Global, words: &[u64]) -> Result<Option<u64>, AllocError>
     requires { HasSections words.now }
     ensures { IfOk result (λ at. at ≡ instances_duplicate_fault words.now) }
@@ -77,17 +77,17 @@ pub fn instances_duplicate_fault(alloc: Global, words: &[u64]) -> Result<Option<
     if first == count {
         return Ok(None);
     }
-    Ok(Some(instance_place(words, first)))
+    Ok(Some(instance_offset(words, first)))
 }
 
-/// The place of the first negative number of an instance.
+/// The offset of the first negative number of an instance.
 #[tactic(auto, using(crate::proofs::Firsts::first_none, crate::proofs::Firsts::first_goes), unfolding(crate::specs::Faults::instances_serial_fault, crate::specs::Faults::unless))]
 pub fn instances_serial_fault(words: &[u64]) -> Option<u64>
     requires { HasSections words.now }
     ensures { result ≡ instances_serial_fault words.now }
 {
     for i in 0..instance_count(words) {
-        let instance = instance_place(words, i);
+        let instance = instance_offset(words, i);
         if number_in_instance(words, instance as u128) >= 2147483648 {
             return Some(instance + NUMBER_OFFSET);
         }
@@ -103,7 +103,7 @@ fn is_good_string(words: &[u64], i: u32) -> bool
     has_zero(words, string_at(words, i), STRING_SIZE as u32)
 }
 
-/// The place of the first string without a zero byte.
+/// The offset of the first string without a zero byte.
 #[tactic(auto, using(crate::proofs::Firsts::first_none, crate::proofs::Firsts::first_goes), unfolding(crate::specs::Faults::string_fault, crate::specs::Faults::unless))]
 pub fn string_fault(words: &[u64]) -> Option<u64>
     requires { HasSections words.now }
@@ -111,7 +111,7 @@ pub fn string_fault(words: &[u64]) -> Option<u64>
 {
     for i in 0..string_count(words) {
         if !is_good_string(words, i) {
-            return Some(string_place(words, i));
+            return Some(string_offset(words, i));
         }
     }
     None

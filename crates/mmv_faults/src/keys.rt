@@ -30,7 +30,7 @@ struct Keys {
     ends: Vec<usize>,
 }
 
-/// Writes the bytes of the name field at a place.
+/// Writes the bytes of the name field at an offset.
 fn push_name(keys: &mut Vec<u64>, words: &[u64], at: u128) -> Result<(), AllocError>
     requires { at < 2 ^ 100 }
     ensures { OnOk result (keys.new.items ≡ keys.old.items ++ text_at words.now at name_width) }
@@ -87,7 +87,7 @@ fn keys_of(alloc: Global, words: &[u64], key: Key, count: u32) -> Result<Keys, A
     Ok(Keys { numbers, ends })
 }
 
-/// The numbers from one place up to another.
+/// The numbers from one position up to another.
 fn between(numbers: &[u64], start: usize, end: usize) -> &[u64]
     requires order { start ≤ end }
     requires within { end ≤ length numbers.now }

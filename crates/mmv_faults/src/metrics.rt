@@ -6,7 +6,7 @@ ghost use Rattle.mmv_faults.specs.Faults.{HasSections, metric_name_fault, code_f
 
 use crate::indoms::{help_fault, indom_serials};
 use crate::keys::{Key, first_again};
-use crate::places::metric_place;
+use crate::offsets::metric_offset;
 use mmv_format::{
     ITEM_OFFSET, NAME_WIDTH, SEMANTICS_OFFSET, SERIAL_OFFSET, TYPE_OFFSET, has_zero, is_no_domain,
     item_in_metric, long_offset_in_metric, metric_count, semantics_in_metric, serial_in_metric,
@@ -16,7 +16,7 @@ use pcp_base::{Kind, Semantics, is_name};
 use std::alloc::{AllocError, Global};
 use std::collections::BTreeSet;
 
-/// Whether the name field at a place holds a name.
+/// Whether the name field at an offset holds a name.
 #[tactic(auto, unfolding(mmv_format::specs::Entries::has_name))]
 fn has_name(alloc: Global, words: &[u64], field: u128) -> Result<bool, AllocError>
     requires { field < 2 ^ 80 }
@@ -45,7 +45,7 @@ pub fn metric_name_fault(alloc: Global, words: &[u64]) -> Result<Option<u64>, Al
     ensures { IfOk result (λ at. at ≡ metric_name_fault words.now) }
 {
     for i in 0..metric_count(words) {
-        let name = metric_place(words, i);
+        let name = metric_offset(words, i);
         let named = has_name(alloc, words, name as u128)?;
         if !named {
             return Ok(Some(name));
@@ -54,7 +54,7 @@ pub fn metric_name_fault(alloc: Global, words: &[u64]) -> Result<Option<u64>, Al
     Ok(None)
 }
 
-/// The place of the first code of the metric at a place that has no meaning: its type, its semantics.
+/// The offset of the first code of the metric at an offset that has no meaning: its type, its semantics.
 #[tactic(auto, unfolding(crate::specs::Faults::code_fault, crate::specs::Faults::unless, crate::specs::Faults::or_else))]
 fn code_fault(words: &[u64], metric: u64) -> Option<u64>
     requires { metric < 524288 }
@@ -69,21 +69,21 @@ fn code_fault(words: &[u64], metric: u64) -> Option<u64>
     None
 }
 
-/// The place of the first code of a metric that has no meaning.
+/// The offset of the first code of a metric that has no meaning.
 #[tactic(auto, using(crate::proofs::Firsts::first_none, crate::proofs::Firsts::first_goes), unfolding(crate::specs::Faults::kind_fault, crate::specs::Faults::unless))]
 pub fn kind_fault(words: &[u64]) -> Option<u64>
     requires { HasSections words.now }
     ensures { result ≡ kind_fault words.now }
 {
     for i in 0..metric_count(words) {
-        if let Some(at) = code_fault(words, metric_place(words, i)) {
+        if let Some(at) = code_fault(words, metric_offset(words, i)) {
             return Some(at);
         }
     }
     None
 }
 
-/// The place of the first reference of the metric at a place that leads nowhere: its serial, its helps.
+/// The offset of the first reference of the metric at an offset that leads nowhere: its serial, its helps.
 #[tactic(auto, unfolding(crate::specs::Faults::metric_reference_fault, crate::specs::Faults::unless, crate::specs::Faults::or_else))]
 fn metric_reference_fault(words: &[u64], serials: &BTreeSet<u32>, metric: u64) -> Option<u64>
     requires serials { HasSerials words.now serials.now }
@@ -99,7 +99,7 @@ fn metric_reference_fault(words: &[u64], serials: &BTreeSet<u32>, metric: u64) -
     help_fault(words, long_offset_in_metric(metric as u128) as u64)
 }
 
-/// The place of the first reference of a metric that leads nowhere, as the domains have these serials.
+/// The offset of the first reference of a metric that leads nowhere, as the domains have these serials.
 #[tactic(auto, using(crate::proofs::Firsts::first_none, crate::proofs::Firsts::first_goes), unfolding(crate::specs::Faults::metrics_reference_fault, crate::specs::Faults::unless))]
 fn references_fault(words: &[u64], serials: &BTreeSet<u32>) -> Option<u64>
     requires serials { HasSerials words.now serials.now }
@@ -107,14 +107,14 @@ fn references_fault(words: &[u64], serials: &BTreeSet<u32>) -> Option<u64>
     ensures { result ≡ metrics_reference_fault words.now }
 {
     for i in 0..metric_count(words) {
-        if let Some(at) = metric_reference_fault(words, serials, metric_place(words, i)) {
+        if let Some(at) = metric_reference_fault(words, serials, metric_offset(words, i)) {
             return Some(at);
         }
     }
     None
 }
 
-/// The place of the first reference of a metric that leads nowhere.
+/// The offset of the first reference of a metric that leads nowhere.
 pub fn metrics_reference_fault(alloc: Global, words: &[u64]) -> Result<Option<u64>, AllocError>
     requires { HasSections words.now }
     ensures { IfOk result (λ at. at ≡ metrics_reference_fault words.now) }
@@ -123,7 +123,7 @@ pub fn metrics_reference_fault(alloc: Global, words: &[u64]) -> Result<Option<u6
     Ok(references_fault(words, &serials))
 }
 
-/// The place of the first metric whose item or name stood before.
+/// The offset of the first metric whose item or name stood before.
 pub fn metrics_duplicate_fault(alloc: Global, words: &[u64]) -> Result<Option<u64>, AllocError>
     requires { HasSections words.now }
     ensures { IfOk result (λ at. at ≡ metrics_duplicate_fault words.now) }
@@ -134,17 +134,17 @@ pub fn metrics_duplicate_fault(alloc: Global, words: &[u64]) -> Result<Option<u6
     if first == count {
         return Ok(None);
     }
-    Ok(Some(metric_place(words, first)))
+    Ok(Some(metric_offset(words, first)))
 }
 
-/// The place of the first item above 1023.
+/// The offset of the first item above 1023.
 #[tactic(auto, using(crate::proofs::Firsts::first_none, crate::proofs::Firsts::first_goes), unfolding(crate::specs::Faults::metrics_serial_fault, crate::specs::Faults::unless))]
 pub fn metrics_serial_fault(words: &[u64]) -> Option<u64>
     requires { HasSections words.now }
     ensures { result ≡ metrics_serial_fault words.now }
 {
     for i in 0..metric_count(words) {
-        let metric = metric_place(words, i);
+        let metric = metric_offset(words, i);
         if 1023 < item_in_metric(words, metric as u128) {
             return Some(metric + ITEM_OFFSET);
         }

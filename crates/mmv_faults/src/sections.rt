@@ -5,7 +5,7 @@ ghost use Rattle.mmv_faults.specs.Faults.{bad_type, section_fault, offset_fault}
 
 use mmv_format::{
     ENTRY_SIZE, HEADER_SIZE, INDOM_SIZE, INDOMS, INSTANCE_SIZE, INSTANCES, METRIC_SIZE, METRICS,
-    STRING_SIZE, STRINGS, VALUE_SIZE, VALUES, bytes_in, contents_in, count_in, entry_at, place_in,
+    STRING_SIZE, STRINGS, VALUE_SIZE, VALUES, bytes_in, contents_in, count_in, entry_at, offset_in,
     type_in,
 };
 
@@ -25,12 +25,12 @@ fn section_bytes(kind: u32, count: u32) -> u64
     }
 }
 
-/// The place behind the section of a contents entry.
+/// The offset behind the section of a contents entry.
 #[tactic(auto, unfolding(mmv_format::specs::Contents::end_in))]
 fn end_in(words: &[u64], i: u32) -> u128
     ensures { result ≡ end_in words.now i }
 {
-    place_in(words, i) as u128 + section_bytes(type_in(words, i), count_in(words, i)) as u128
+    offset_in(words, i) as u128 + section_bytes(type_in(words, i), count_in(words, i)) as u128
 }
 
 /// Whether an entry's section, if it has one, lies in the words behind the contents.
@@ -39,7 +39,7 @@ fn section_lies(words: &[u64], i: u32) -> bool
     ensures { result ≡ section_lies words.now i }
 {
     count_in(words, i) == 0
-        || entry_at(contents_in(words)) <= place_in(words, i) as u128
+        || entry_at(contents_in(words)) <= offset_in(words, i) as u128
             && end_in(words, i) <= bytes_in(words)
 }
 
@@ -51,8 +51,8 @@ fn are_apart(words: &[u64], j: u32, i: u32) -> bool
     type_in(words, j) != type_in(words, i)
         && (count_in(words, j) == 0
             || count_in(words, i) == 0
-            || end_in(words, j) <= place_in(words, i) as u128
-            || end_in(words, i) <= place_in(words, j) as u128)
+            || end_in(words, j) <= offset_in(words, i) as u128
+            || end_in(words, i) <= offset_in(words, j) as u128)
 }
 
 /// Whether no earlier entry has the type of this one, or a section that overlaps its.
@@ -91,7 +91,7 @@ fn has_good_section(words: &[u64], i: u32) -> bool
 fn is_aligned(words: &[u64], i: u32) -> bool
     ensures { result ≡ is_aligned words.now i }
 {
-    count_in(words, i) == 0 || place_in(words, i) % 8 == 0
+    count_in(words, i) == 0 || offset_in(words, i) % 8 == 0
 }
 
 /// The type of a contents entry, and 0 where it doesn't lie in the words.
@@ -119,7 +119,7 @@ pub fn section_fault(words: &[u64]) -> Option<u32>
     None
 }
 
-/// The place of the first section place that is no multiple of 8.
+/// The offset of the first section offset that is no multiple of 8.
 #[tactic(auto, using(crate::proofs::Firsts::first_none, crate::proofs::Firsts::first_goes), unfolding(crate::specs::Faults::offset_fault, crate::specs::Faults::unless))]
 pub fn offset_fault(words: &[u64]) -> Option<u64>
     ensures { result ≡ offset_fault words.now }

@@ -4,7 +4,7 @@ ghost use Rattle.mmv_format.specs.Entries.{metric_of, instance_leads, choice_lea
 ghost use Rattle.mmv_faults.specs.Faults.{HasSections, value_reference_fault, values_reference_fault, values_duplicate_fault};
 
 use crate::keys::{Key, first_again};
-use crate::places::value_place;
+use crate::offsets::value_offset;
 use mmv_format::{
     EXTRA_OFFSET, INSTANCE_OFFSET, METRIC_OFFSET, domain_in_instance, extra_in_value,
     instance_in_value, is_no_domain, leads_to_indom, leads_to_instance, leads_to_metric,
@@ -12,7 +12,7 @@ use mmv_format::{
 };
 use std::alloc::{AllocError, Global};
 
-/// Whether the value at a place has the instance 0, or an instance of its metric's domain where that has one.
+/// Whether the value at an offset has the instance 0, or an instance of its metric's domain where that has one.
 #[tactic(auto, unfolding(mmv_format::specs::Entries::instance_leads))]
 fn instance_leads(words: &[u64], value: u128) -> bool
     requires { value < 2 ^ 80 }
@@ -31,7 +31,7 @@ fn instance_leads(words: &[u64], value: u128) -> bool
     leads_to_indom(words, domain) && serial_in_indom(words, domain) == serial
 }
 
-/// Whether the value at a place leads to a string, where its metric's kind is text.
+/// Whether the value at an offset leads to a string, where its metric's kind is text.
 #[tactic(auto, unfolding(mmv_format::specs::Entries::choice_leads))]
 fn choice_leads(words: &[u64], value: u128) -> bool
     requires { value < 2 ^ 80 }
@@ -41,7 +41,7 @@ fn choice_leads(words: &[u64], value: u128) -> bool
         || leads_to_string(words, extra_in_value(words, value) as u128)
 }
 
-/// The place of the first reference of the value at a place that leads nowhere: its string, its metric, its instance.
+/// The offset of the first reference of the value at an offset that leads nowhere: its string, its metric, its instance.
 #[tactic(auto, unfolding(crate::specs::Faults::value_reference_fault, crate::specs::Faults::unless, crate::specs::Faults::or_else))]
 fn value_reference_fault(words: &[u64], value: u64) -> Option<u64>
     requires { value < 524288 }
@@ -59,21 +59,21 @@ fn value_reference_fault(words: &[u64], value: u64) -> Option<u64>
     None
 }
 
-/// The place of the first reference of a value that leads nowhere.
+/// The offset of the first reference of a value that leads nowhere.
 #[tactic(auto, using(crate::proofs::Firsts::first_none, crate::proofs::Firsts::first_goes), unfolding(crate::specs::Faults::values_reference_fault, crate::specs::Faults::unless))]
 pub fn values_reference_fault(words: &[u64]) -> Option<u64>
     requires { HasSections words.now }
     ensures { result ≡ values_reference_fault words.now }
 {
     for i in 0..value_count(words) {
-        if let Some(at) = value_reference_fault(words, value_place(words, i)) {
+        if let Some(at) = value_reference_fault(words, value_offset(words, i)) {
             return Some(at);
         }
     }
     None
 }
 
-/// The place of the first value whose metric and instance stood before.
+/// The offset of the first value whose metric and instance stood before.
 pub fn values_duplicate_fault(alloc: Global, words: &[u64]) -> Result<Option<u64>, AllocError>
     requires { HasSections words.now }
     ensures { IfOk result (λ at. at ≡ values_duplicate_fault words.now) }
@@ -83,5 +83,5 @@ pub fn values_duplicate_fault(alloc: Global, words: &[u64]) -> Result<Option<u64
     if first == count {
         return Ok(None);
     }
-    Ok(Some(value_place(words, first)))
+    Ok(Some(value_offset(words, first)))
 }

@@ -27,12 +27,12 @@ word_at (suc n) (suc q) bytes h =
 pub words_hold : WordsHoldBytes
 unfolding byte_at number64 words_of
 words_hold bytes h k below =
-    let place : 8 * (k / 8) + k % 8 ≡ k = omega arith in
+    let offset : 8 * (k / 8) + k % 8 ≡ k = omega arith in
     let group : List ℕ = take 8 (drop (8 * (k / 8)) bytes) in
     let at : (j : ℕ) → j < 8 → slice_index group j ≡ slice_index bytes (8 * (k / 8) + j) = λ j l. get_or-take 8 (drop (8 * (k / 8)) bytes) j 0 l ∙ get_or-drop (8 * (k / 8)) bytes j 0 in
     ap (λ w. w / 2 ^ (8 * (k % 8)) % 256) (word_at (length bytes / 8) (k / 8) bytes (omega arith))
     ∙ byte_of group (λ j l. subst (λ b. b < 256) (sym (at j l)) (h (8 * (k / 8) + j))) (k % 8) (omega arith)
-    ∙ at (k % 8) (omega arith) ∙ ap (λ m. slice_index bytes m) place
+    ∙ at (k % 8) (omega arith) ∙ ap (λ m. slice_index bytes m) offset
 
 low_half : (w : ℕ) → w / 2 ^ 0 % 4294967296 ≡ w / 2 ^ 0 % 256 + 256 * (w / 2 ^ 8 % 256) + 65536 * (w / 2 ^ 16 % 256) + 16777216 * (w / 2 ^ 24 % 256)
 low_half w = omega arith
@@ -43,7 +43,7 @@ high_half w = omega arith
 half_is : (at : ℕ) → at % 4 ≡ 0 → (at % 8 ≡ 0) ⊎ (at % 8 ≡ 4)
 half_is at h = grind arith
 
--- byte j of the word in which a place lies, where it is byte r there
+-- byte j of the word in which an offset lies, where it is byte r there
 byte_within : (words : List ℕ) (at j b : ℕ) → (at + j) / 8 ≡ at / 8 → 8 * ((at + j) % 8) ≡ b → byte_at words (at + j) ≡ slice_index words (at / 8) / 2 ^ b % 256
 unfolding byte_at number64
 byte_within words at j b e f = ap (λ q. slice_index words q / 2 ^ (8 * ((at + j) % 8)) % 256) e ∙ ap (λ n. slice_index words (at / 8) / 2 ^ n % 256) f

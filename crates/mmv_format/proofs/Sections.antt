@@ -2,13 +2,13 @@
 use Rattle.std.proofs.Common.{◌≡◌, ℕ, zero, suc, ◌+◌, ◌*◌, ◌/◌, ◌%◌, ◌^◌, ◌<◌, ◌≤◌, ◌⊎◌, false, List, [], ◌∷◌, length, slice_index, ap, sym, ◌∙◌, refl, arith, add-one, cond, nat_eq, ⊎_elim}
 use Rattle.std.proofs.lemmas.Bool.Decides.{nat_tests}
 use Rattle.mmv_format.specs.Fields.{number32, number64}
-use Rattle.mmv_format.specs.Contents.{bytes_in, entry_at, type_in, count_in, place_in, find_section}
+use Rattle.mmv_format.specs.Contents.{bytes_in, entry_at, type_in, count_in, offset_in, find_section}
 
-pub find_none : (words : List ℕ) (type : ℕ) → find_section words type 0 ≡ record { place = 0; count = 0 }
+pub find_none : (words : List ℕ) (type : ℕ) → find_section words type 0 ≡ record { offset = 0; count = 0 }
 unfolding find_section
 find_none words type = refl
 
-pub find_more : (words : List ℕ) (type n : ℕ) → find_section words type (n + 1) ≡ cond (nat_eq (type_in words n) type) (record { place = place_in words n; count = count_in words n }) (find_section words type n)
+pub find_more : (words : List ℕ) (type n : ℕ) → find_section words type (n + 1) ≡ cond (nat_eq (type_in words n) type) (record { offset = offset_in words n; count = count_in words n }) (find_section words type n)
 unfolding find_section
 find_more words type n = rw add-one
 
@@ -39,7 +39,7 @@ find_past words type (suc n) i some past below =
     ⊎_elim
     (λ (before : i ≤ n).
     find_past words type n i some past before
-    ∙ sym (ap (λ t. cond t (record { place = place_in words n; count = count_in words n }) (find_section words type n)) (not_zero type (type_in words n) some (type_past words n (further before)))))
+    ∙ sym (ap (λ t. cond t (record { offset = offset_in words n; count = count_in words n }) (find_section words type n)) (not_zero type (type_in words n) some (type_past words n (further before)))))
     (λ (last : i ≡ suc n). ap (find_section words type) last) (less_or i n below)
   where
     further : i ≤ n → bytes_in words ≤ entry_at n

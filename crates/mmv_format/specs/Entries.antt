@@ -1,5 +1,5 @@
 -- The entries of an image's sections (mmv(5), version 1), and when each is good. Entry i of a section stands at the
--- section's place and i times the size of such an entry. Each test that fails is a fault at the place that its comment names.
+-- section's offset and i times the size of such an entry. Each test that fails is a fault at the offset that its comment names.
 use Rattle.std.specs.Prelude.{ℕ, ◌+◌, ◌*◌, Bool, true, not, ◌&&◌, ◌||◌, ◌==◌, nat_le, nat_lt, if◌then◌else◌, is_some, List}
 use Rattle.pcp_base.specs.Codes.{kind_of_code, semantics_of_code}
 use Rattle.pcp_base.specs.Names.{spells}
@@ -9,9 +9,9 @@ use Rattle.mmv_format.specs.Sizes.{name_width, indom_size, instance_size, metric
 use Rattle.mmv_format.specs.EntryFields.{same_name, serial_in_indom, count_in_indom, first_in_indom, short_offset_in_indom, long_offset_in_indom, domain_in_instance, number_in_instance, name_offset_in_instance, item_in_metric, type_in_metric, semantics_in_metric, serial_in_metric, short_offset_in_metric, long_offset_in_metric, extra_in_value, metric_in_value, instance_in_value}
 use Rattle.mmv_format.specs.Contents.{section_of}
 
--- a place is that of one of `count` entries of a size, the first of them at `first`
+-- an offset is that of one of `count` entries of a size, the first of them at `first`
 unfoldable pub leads : ℕ → ℕ → ℕ → ℕ → Bool
-leads first count size place = some_below count (λ k. first + size * k == place)
+leads first count size offset = some_below count (λ k. first + size * k == offset)
 
 -- Instance domains
 
@@ -19,10 +19,10 @@ abbrev pub indom_count : List ℕ → ℕ
 indom_count words = (section_of words 1).count
 
 abbrev pub indom_at : List ℕ → ℕ → ℕ
-indom_at words i = (section_of words 1).place + indom_size * i
+indom_at words i = (section_of words 1).offset + indom_size * i
 
 abbrev pub leads_to_indom : List ℕ → ℕ → Bool
-leads_to_indom words place = leads (section_of words 1).place (section_of words 1).count indom_size place
+leads_to_indom words offset = leads (section_of words 1).offset (section_of words 1).count indom_size offset
 
 -- Instances
 
@@ -30,10 +30,10 @@ abbrev pub instance_count : List ℕ → ℕ
 instance_count words = (section_of words 2).count
 
 abbrev pub instance_at : List ℕ → ℕ → ℕ
-instance_at words i = (section_of words 2).place + instance_size * i
+instance_at words i = (section_of words 2).offset + instance_size * i
 
 abbrev pub leads_to_instance : List ℕ → ℕ → Bool
-leads_to_instance words place = leads (section_of words 2).place (section_of words 2).count instance_size place
+leads_to_instance words offset = leads (section_of words 2).offset (section_of words 2).count instance_size offset
 
 -- Metrics
 
@@ -41,10 +41,10 @@ abbrev pub metric_count : List ℕ → ℕ
 metric_count words = (section_of words 3).count
 
 abbrev pub metric_at : List ℕ → ℕ → ℕ
-metric_at words i = (section_of words 3).place + metric_size * i
+metric_at words i = (section_of words 3).offset + metric_size * i
 
 abbrev pub leads_to_metric : List ℕ → ℕ → Bool
-leads_to_metric words place = leads (section_of words 3).place (section_of words 3).count metric_size place
+leads_to_metric words offset = leads (section_of words 3).offset (section_of words 3).count metric_size offset
 
 -- Values
 
@@ -52,7 +52,7 @@ abbrev pub value_count : List ℕ → ℕ
 value_count words = (section_of words 4).count
 
 abbrev pub value_at : List ℕ → ℕ → ℕ
-value_at words i = (section_of words 4).place + value_size * i
+value_at words i = (section_of words 4).offset + value_size * i
 
 -- Strings
 
@@ -60,20 +60,20 @@ abbrev pub string_count : List ℕ → ℕ
 string_count words = (section_of words 5).count
 
 abbrev pub string_at : List ℕ → ℕ → ℕ
-string_at words i = (section_of words 5).place + string_size * i
+string_at words i = (section_of words 5).offset + string_size * i
 
 abbrev pub leads_to_string : List ℕ → ℕ → Bool
-leads_to_string words place = leads (section_of words 5).place (section_of words 5).count string_size place
+leads_to_string words offset = leads (section_of words 5).offset (section_of words 5).count string_size offset
 
--- the help field at a place is 0 or leads to a string. Where it doesn't is the fault Reference, at the field
+-- the help field at an offset is 0 or leads to a string. Where it doesn't is the fault Reference, at the field
 unfoldable pub help_leads : List ℕ → ℕ → Bool
 help_leads words field = number64 words field == 0 || leads_to_string words (number64 words field)
 
--- an instance stands at a place and leads to a domain
+-- an instance stands at an offset and leads to a domain
 unfoldable pub is_instance_of : List ℕ → ℕ → ℕ → Bool
 is_instance_of words domain instance = leads_to_instance words instance && domain_in_instance words instance == domain
 
--- the run of the domain at a place: as many of its instances as it counts, from its first instance on. Where they
+-- the run of the domain at an offset: as many of its instances as it counts, from its first instance on. Where they
 -- aren't is the fault Reference, at the domain's first instance field
 unfoldable pub has_good_run : List ℕ → ℕ → Bool
 has_good_run words domain =
@@ -96,11 +96,11 @@ is_good_indom words i =
     help_leads words (short_offset_in_indom (indom_at words i)) && help_leads words (long_offset_in_indom (indom_at words i))
     && has_good_run words (indom_at words i) && is_new_indom words i && is_serial (serial_in_indom words (indom_at words i))
 
--- the name field at a place has a zero byte, and not as its first. Where it hasn't is the fault Name, at the field
+-- the name field at an offset has a zero byte, and not as its first. Where it hasn't is the fault Name, at the field
 unfoldable pub has_text : List ℕ → ℕ → Bool
 has_text words field = has_zero words field name_width && not (byte_at words field == 0)
 
--- the instance at a place leads to a domain, in whose run it lies. Where it doesn't is the fault Reference, at the entry's domain field
+-- the instance at an offset leads to a domain, in whose run it lies. Where it doesn't is the fault Reference, at the entry's domain field
 unfoldable pub lies_in_run : List ℕ → ℕ → Bool
 lies_in_run words instance =
     let domain = domain_in_instance words instance in
@@ -125,11 +125,11 @@ is_good_instance words i =
     has_text words (name_offset_in_instance (instance_at words i)) && lies_in_run words (instance_at words i)
     && is_new_instance words i && is_instance_number (number_in_instance words (instance_at words i))
 
--- the name field at a place has a zero byte, and before it a name. Where it hasn't is the fault Name, at the field
+-- the name field at an offset has a zero byte, and before it a name. Where it hasn't is the fault Name, at the field
 unfoldable pub has_name : List ℕ → ℕ → Bool
 has_name words field = has_zero words field name_width && spells true (text_at words field name_width)
 
--- the type and the semantics of the metric at a place have a meaning. Where one hasn't is the fault Kind, at the code
+-- the type and the semantics of the metric at an offset have a meaning. Where one hasn't is the fault Kind, at the code
 abbrev pub is_kind : ℕ → Bool
 is_kind code = is_some (kind_of_code code)
 
@@ -160,7 +160,7 @@ is_new_metric words i = all_below i (λ j. not (is_same_metric words (metric_at 
 abbrev pub is_item : ℕ → Bool
 is_item item = nat_le item 1023
 
--- the metric at a place has codes with a meaning, references that lead, and an item
+-- the metric at an offset has codes with a meaning, references that lead, and an item
 unfoldable pub has_good_fields : List ℕ → ℕ → Bool
 has_good_fields words metric =
     is_kind (type_in_metric words metric) && is_semantics (semantics_in_metric words metric)
@@ -170,11 +170,11 @@ has_good_fields words metric =
 unfoldable pub is_good_metric : List ℕ → ℕ → Bool
 is_good_metric words i = has_name words (metric_at words i) && has_good_fields words (metric_at words i) && is_new_metric words i
 
--- the metric of the value at a place. Where the field leads to none is the fault Reference, at the field
+-- the metric of the value at an offset. Where the field leads to none is the fault Reference, at the field
 unfoldable pub metric_of : List ℕ → ℕ → ℕ
 metric_of words value = metric_in_value words value
 
--- the value at a place has the instance 0 where its metric has no domain, and else an instance that leads to a domain
+-- the value at an offset has the instance 0 where its metric has no domain, and else an instance that leads to a domain
 -- with the metric's serial. Where it hasn't is the fault Reference, at its instance field
 unfoldable pub instance_leads : List ℕ → ℕ → Bool
 instance_leads words value =

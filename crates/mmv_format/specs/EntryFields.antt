@@ -1,10 +1,10 @@
--- The fields of an image's entries (mmv(5)): what stands in each, by the place of the entry. A field's own offset has a
+-- The fields of an image's entries (mmv(5)): what stands in each, by the offset of the entry. A field's own offset has a
 -- name where a fault tells it.
 use Rattle.std.specs.Prelude.{ℕ, ◌+◌, Bool, List, bytes_eq}
 use Rattle.mmv_format.specs.Fields.{number32, number64, text_at}
 use Rattle.mmv_format.specs.Sizes.{name_width}
 
--- the name fields at two places hold one text
+-- the name fields at two offsets hold one text
 unfoldable pub same_name : List ℕ → ℕ → ℕ → Bool
 same_name words a b = bytes_eq (text_at words a name_width) (text_at words b name_width)
 
@@ -31,7 +31,7 @@ short_offset_in_indom indom = indom + 16
 abbrev pub long_offset_in_indom : ℕ → ℕ
 long_offset_in_indom indom = indom + 24
 
--- An instance: the place of its domain, its number and its name
+-- An instance: the offset of its domain, its number and its name
 
 abbrev pub domain_in_instance : List ℕ → ℕ → ℕ
 domain_in_instance words instance = number64 words instance
@@ -89,7 +89,7 @@ short_offset_in_metric metric = metric + (name_width + 24)
 abbrev pub long_offset_in_metric : ℕ → ℕ
 long_offset_in_metric metric = metric + (name_width + 32)
 
--- A value: the number, the extra field, the place of its metric and that of its instance
+-- A value: the number, the extra field, the offset of its metric and that of its instance
 
 abbrev pub value_in_value : List ℕ → ℕ → ℕ
 value_in_value words value = number64 words value

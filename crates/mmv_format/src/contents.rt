@@ -1,6 +1,6 @@
 //! The contents of an image: which sections it has, and where they lie.
 ghost use Rattle.std.specs.Prelude.{◌≡◌, ◌<◌};
-ghost use Rattle.mmv_format.specs.Contents.{bytes_in, entry_at, type_in, count_in, place_in, section_of};
+ghost use Rattle.mmv_format.specs.Contents.{bytes_in, entry_at, type_in, count_in, offset_in, section_of};
 
 use crate::fields::{number32, number64};
 use crate::header::contents_in;
@@ -20,7 +20,7 @@ pub const STRINGS: u32 = 5;
 /// Where a section's entries begin, and how many there are.
 #[derive(Clone, Copy, Debug, PartialEq, Eq)]
 pub struct Section {
-    pub place: u64,
+    pub offset: u64,
     pub count: u32,
 }
 
@@ -31,7 +31,7 @@ pub fn bytes_in(words: &[u64]) -> u128
     8 * words.len() as u128
 }
 
-/// The place of a contents entry.
+/// The offset of a contents entry's section.
 pub fn entry_at(i: u32) -> u128
     ensures { result ≡ entry_at i }
 {
@@ -50,8 +50,8 @@ pub fn count_in(words: &[u64], i: u32) -> u32
     number32(words, entry_at(i) + 4)
 }
 
-pub fn place_in(words: &[u64], i: u32) -> u64
-    ensures { result ≡ place_in words.now i }
+pub fn offset_in(words: &[u64], i: u32) -> u64
+    ensures { result ≡ offset_in words.now i }
 {
     number64(words, entry_at(i) + 8)
 }
@@ -63,14 +63,17 @@ pub fn section_of(words: &[u64], kind: u32) -> Section
     requires { 0 < kind }
     ensures { result ≡ section_of words.now kind }
 {
-    let mut found = Section { place: 0, count: 0 };
+    let mut found = Section {
+        offset: 0,
+        count: 0,
+    };
     for i in 0..contents_in(words) {
         if bytes_in(words) <= entry_at(i) {
             return found;
         }
         if type_in(words, i) == kind {
             found = Section {
-                place: place_in(words, i),
+                offset: offset_in(words, i),
                 count: count_in(words, i),
             };
         }

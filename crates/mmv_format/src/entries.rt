@@ -1,4 +1,4 @@
-//! The places of an image's entries, and which places are those of entries.
+//! The offsets of an image's entries, and which offsets are those of entries.
 ghost use Rattle.std.specs.Prelude.{◌≡◌, ◌+◌, ◌*◌, ◌<◌, ◌^◌};
 ghost use Rattle.mmv_format.specs.Sizes.{instance_size};
 ghost use Rattle.mmv_format.specs.EntryFields.{first_in_indom};
@@ -9,104 +9,104 @@ use crate::entry_fields::{first_in_indom, metric_in_value};
 use crate::fields::number64;
 use crate::sizes::{INDOM_SIZE, INSTANCE_SIZE, METRIC_SIZE, STRING_SIZE, VALUE_SIZE};
 
-/// Whether a place is that of one of `count` entries of a size, the first of them at `first`.
-pub fn leads(first: u64, count: u32, size: u64, place: u128) -> bool
+/// Whether an offset is that of one of `count` entries of a size, the first of them at `first`.
+pub fn leads(first: u64, count: u32, size: u64, offset: u128) -> bool
     requires { 0 < size }
-    ensures { result ≡ leads first count size place }
+    ensures { result ≡ leads first count size offset }
 {
     let first = first as u128;
-    if place < first {
+    if offset < first {
         return false;
     }
-    let distance = place - first;
+    let distance = offset - first;
     if distance % size as u128 != 0 {
         return false;
     }
     distance / (size as u128) < count as u128
 }
 
-/// Whether an instance domain stands at a place.
-pub fn leads_to_indom(words: &[u64], place: u128) -> bool
-    ensures { result ≡ leads_to_indom words.now place }
+/// Whether an instance domain stands at an offset.
+pub fn leads_to_indom(words: &[u64], offset: u128) -> bool
+    ensures { result ≡ leads_to_indom words.now offset }
 {
     let section = section_of(words, INDOMS);
-    leads(section.place, section.count, INDOM_SIZE, place)
+    leads(section.offset, section.count, INDOM_SIZE, offset)
 }
 
-/// Whether an instance stands at a place.
-pub fn leads_to_instance(words: &[u64], place: u128) -> bool
-    ensures { result ≡ leads_to_instance words.now place }
+/// Whether an instance stands at an offset.
+pub fn leads_to_instance(words: &[u64], offset: u128) -> bool
+    ensures { result ≡ leads_to_instance words.now offset }
 {
     let section = section_of(words, INSTANCES);
-    leads(section.place, section.count, INSTANCE_SIZE, place)
+    leads(section.offset, section.count, INSTANCE_SIZE, offset)
 }
 
-/// Whether a metric stands at a place.
-pub fn leads_to_metric(words: &[u64], place: u128) -> bool
-    ensures { result ≡ leads_to_metric words.now place }
+/// Whether a metric stands at an offset.
+pub fn leads_to_metric(words: &[u64], offset: u128) -> bool
+    ensures { result ≡ leads_to_metric words.now offset }
 {
     let section = section_of(words, METRICS);
-    leads(section.place, section.count, METRIC_SIZE, place)
+    leads(section.offset, section.count, METRIC_SIZE, offset)
 }
 
-/// Whether a string stands at a place.
-pub fn leads_to_string(words: &[u64], place: u128) -> bool
-    ensures { result ≡ leads_to_string words.now place }
+/// Whether a string stands at an offset.
+pub fn leads_to_string(words: &[u64], offset: u128) -> bool
+    ensures { result ≡ leads_to_string words.now offset }
 {
     let section = section_of(words, STRINGS);
-    leads(section.place, section.count, STRING_SIZE, place)
+    leads(section.offset, section.count, STRING_SIZE, offset)
 }
 
-/// The place of an instance domain.
+/// The offset of an instance domain.
 pub fn indom_at(words: &[u64], i: u32) -> u128
-    ensures place { result ≡ indom_at words.now i }
+    ensures offset { result ≡ indom_at words.now i }
     ensures bound { result < 2 ^ 80 }
 {
-    section_of(words, INDOMS).place as u128 + INDOM_SIZE as u128 * i as u128
+    section_of(words, INDOMS).offset as u128 + INDOM_SIZE as u128 * i as u128
 }
 
-/// The place of an instance.
+/// The offset of an instance.
 pub fn instance_at(words: &[u64], i: u32) -> u128
-    ensures place { result ≡ instance_at words.now i }
+    ensures offset { result ≡ instance_at words.now i }
     ensures bound { result < 2 ^ 80 }
 {
-    section_of(words, INSTANCES).place as u128 + INSTANCE_SIZE as u128 * i as u128
+    section_of(words, INSTANCES).offset as u128 + INSTANCE_SIZE as u128 * i as u128
 }
 
-/// The place of an instance of the run of the domain at a place.
+/// The offset of an instance of the run of the domain at an offset.
 pub fn run_at(words: &[u64], domain: u128, k: u32) -> u128
     requires { domain < 2 ^ 80 }
-    ensures place { result ≡ first_in_indom words.now domain + instance_size * k }
+    ensures offset { result ≡ first_in_indom words.now domain + instance_size * k }
     ensures bound { result < 2 ^ 80 }
 {
     first_in_indom(words, domain) as u128 + INSTANCE_SIZE as u128 * k as u128
 }
 
-/// The place of a metric.
+/// The offset of a metric.
 pub fn metric_at(words: &[u64], i: u32) -> u128
-    ensures place { result ≡ metric_at words.now i }
+    ensures offset { result ≡ metric_at words.now i }
     ensures bound { result < 2 ^ 80 }
 {
-    section_of(words, METRICS).place as u128 + METRIC_SIZE as u128 * i as u128
+    section_of(words, METRICS).offset as u128 + METRIC_SIZE as u128 * i as u128
 }
 
-/// The place of a value.
+/// The offset of a value.
 pub fn value_at(words: &[u64], i: u32) -> u128
-    ensures place { result ≡ value_at words.now i }
+    ensures offset { result ≡ value_at words.now i }
     ensures bound { result < 2 ^ 80 }
 {
-    section_of(words, VALUES).place as u128 + VALUE_SIZE as u128 * i as u128
+    section_of(words, VALUES).offset as u128 + VALUE_SIZE as u128 * i as u128
 }
 
-/// The place of a string.
+/// The offset of a string.
 pub fn string_at(words: &[u64], i: u32) -> u128
-    ensures place { result ≡ string_at words.now i }
+    ensures offset { result ≡ string_at words.now i }
     ensures bound { result < 2 ^ 80 }
 {
-    section_of(words, STRINGS).place as u128 + STRING_SIZE as u128 * i as u128
+    section_of(words, STRINGS).offset as u128 + STRING_SIZE as u128 * i as u128
 }
 
-/// Whether the help field at a place is 0 or leads to a string.
+/// Whether the help field at an offset is 0 or leads to a string.
 #[tactic(auto, unfolding(crate::specs::Entries::help_leads))]
 pub fn help_leads(words: &[u64], field: u128) -> bool
     ensures { result ≡ help_leads words.now field }
@@ -155,7 +155,7 @@ pub fn value_count(words: &[u64]) -> u32
     section_of(words, VALUES).count
 }
 
-/// The place of the metric of the value at a place.
+/// The offset of the metric of the value at an offset.
 #[tactic(auto, unfolding(crate::specs::Entries::metric_of))]
 pub fn metric_of(words: &[u64], value: u128) -> u64
     requires { value < 2 ^ 80 }

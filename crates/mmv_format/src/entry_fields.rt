@@ -1,4 +1,4 @@
-//! The fields of an image's entries, each by the place of its entry. A field's own offset in the entry has a name where
+//! The fields of an image's entries, each by the offset of its entry. A field's own offset in the entry has a name where
 //! a fault tells it.
 ghost use Rattle.std.specs.Prelude.{◌≡◌, ◌<◌, ◌^◌, IfOk};
 ghost use Rattle.mmv_format.specs.EntryFields.{serial_in_indom, count_in_indom, first_in_indom, short_offset_in_indom, long_offset_in_indom, domain_in_instance, number_in_instance, name_in_instance, name_in_metric, item_in_metric, type_in_metric, semantics_in_metric, units_in_metric, serial_in_metric, short_offset_in_metric, long_offset_in_metric, value_in_value, extra_in_value, metric_in_value, instance_in_value};
@@ -46,7 +46,7 @@ pub fn count_in_indom(words: &[u64], indom: u128) -> u32
     number32(words, indom + 4)
 }
 
-/// The place of a domain's first instance.
+/// The offset of a domain's first instance.
 pub fn first_in_indom(words: &[u64], indom: u128) -> u64
     requires { indom < 2 ^ 80 }
     ensures { result ≡ first_in_indom words.now indom }
@@ -69,7 +69,7 @@ pub fn long_offset_in_indom(indom: u128) -> u128
     indom + 24
 }
 
-/// The place of an instance's domain.
+/// The offset of an instance's domain.
 pub fn domain_in_instance(words: &[u64], instance: u128) -> u64
     ensures { result ≡ domain_in_instance words.now instance }
 {
@@ -156,7 +156,7 @@ pub fn value_in_value(words: &[u64], value: u128) -> u64
     number64(words, value)
 }
 
-/// The extra field, of a string value the place of its string.
+/// The extra field, of a string value the offset of its string.
 pub fn extra_in_value(words: &[u64], value: u128) -> u64
     requires { value < 2 ^ 80 }
     ensures { result ≡ extra_in_value words.now value }
@@ -164,7 +164,7 @@ pub fn extra_in_value(words: &[u64], value: u128) -> u64
     number64(words, value + EXTRA_OFFSET as u128)
 }
 
-/// The place of a value's metric.
+/// The offset of a value's metric.
 pub fn metric_in_value(words: &[u64], value: u128) -> u64
     requires { value < 2 ^ 80 }
     ensures { result ≡ metric_in_value words.now value }
@@ -172,7 +172,7 @@ pub fn metric_in_value(words: &[u64], value: u128) -> u64
     number64(words, value + METRIC_OFFSET as u128)
 }
 
-/// The place of a value's instance, or 0.
+/// The offset of a value's instance, or 0.
 pub fn instance_in_value(words: &[u64], value: u128) -> u64
     requires { value < 2 ^ 80 }
     ensures { result ≡ instance_in_value words.now value }

@@ -1,4 +1,4 @@
-//! Numbers and texts at places of an image, and the words of bytes.
+//! Numbers and texts at offsets of an image, and the words of bytes.
 ghost use Rattle.std.specs.Prelude.{◌≡◌, ◌+◌, ◌<◌, ◌≤◌, ◌^◌, IfOk, length, take, drop};
 ghost use Rattle.std.specs.Int.{w64, from_le_bytes};
 ghost use Rattle.mmv_format.specs.Fields.{number32, number64, byte_at, text_at, has_zero, words_of};
@@ -7,7 +7,7 @@ use byteorder::{ByteOrder, LittleEndian};
 use pcp_base::{List, Text};
 use std::alloc::{AllocError, Global};
 
-/// The number of eight bytes at a place that is a multiple of 8, and 0 past the words. Places have 128 bits, so that
+/// The number of eight bytes at an offset that is a multiple of 8, and 0 past the words. Offsets have 128 bits, so that
 /// no sum of numbers from an image wraps.
 #[tactic(auto, unfolding(crate::specs::Fields::number64))]
 pub fn number64(words: &[u64], at: u128) -> u64
@@ -21,7 +21,7 @@ pub fn number64(words: &[u64], at: u128) -> u64
     }
 }
 
-/// The number of four bytes at a place that is a multiple of 4.
+/// The number of four bytes at an offset that is a multiple of 4.
 #[tactic(auto, unfolding(crate::specs::Fields::number32))]
 pub fn number32(words: &[u64], at: u128) -> u32
     ensures { result ≡ number32 words.now at }
@@ -29,7 +29,7 @@ pub fn number32(words: &[u64], at: u128) -> u32
     ((number64(words, at) >> (8 * (at % 8) as u32)) % 4294967296) as u32
 }
 
-/// The byte at a place.
+/// The byte at an offset.
 #[tactic(auto, unfolding(crate::specs::Fields::byte_at))]
 pub fn byte_at(words: &[u64], at: u128) -> u8
     ensures { result ≡ byte_at words.now at }
@@ -37,7 +37,7 @@ pub fn byte_at(words: &[u64], at: u128) -> u8
     ((number64(words, at) >> (8 * (at % 8) as u32)) % 256) as u8
 }
 
-/// Whether one of the `n` bytes at a place is zero.
+/// Whether one of the `n` bytes at an offset is zero.
 #[tactic(auto, using(crate::proofs::Below::some_none, crate::proofs::Below::some_more), unfolding(crate::specs::Fields::has_zero))]
 pub fn has_zero(words: &[u64], at: u128, n: u32) -> bool
     requires { at < 2 ^ 100 }
@@ -51,7 +51,7 @@ pub fn has_zero(words: &[u64], at: u128, n: u32) -> bool
     false
 }
 
-/// The bytes at a place before the first zero byte, `n` at most.
+/// The bytes at an offset before the first zero byte, `n` at most.
 fn bytes_at(alloc: Global, words: &[u64], at: u128, n: u32) -> Result<Vec<u8>, AllocError>
     requires { at < 2 ^ 100 }
     ensures { IfOk result (λ text. text.items ≡ text_at words.now at n) }
@@ -67,7 +67,7 @@ fn bytes_at(alloc: Global, words: &[u64], at: u128, n: u32) -> Result<Vec<u8>, A
     Ok(text)
 }
 
-/// The text at a place: its bytes before the first zero byte, `n` at most.
+/// The text at an offset: its bytes before the first zero byte, `n` at most.
 #[tactic(auto, using(crate::proofs::Texts::text_clean))]
 pub fn text_at(alloc: Global, words: &[u64], at: u128, n: u32) -> Result<Text, AllocError>
     requires { at < 2 ^ 100 }

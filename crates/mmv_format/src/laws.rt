@@ -1,7 +1,7 @@
 //! The laws of this crate's definitions.
 ghost use Rattle.mmv_format.specs.Laws.{WordsHoldBytes, NumberHoldsBytes, NumberHoldsHalves};
 
-/// The words that bytes make hold these bytes, each at its place.
+/// The words that bytes make hold these bytes, each at its offset.
 #[tactic(auto, using(crate::proofs::Bytes::words_hold))]
 pub fn words_hold_bytes()
     ensures { WordsHoldBytes }

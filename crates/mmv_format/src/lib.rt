@@ -13,7 +13,7 @@ mod rows;
 mod sizes;
 
 pub use contents::{
-    INDOMS, INSTANCES, METRICS, STRINGS, VALUES, bytes_in, count_in, entry_at, place_in, type_in,
+    INDOMS, INSTANCES, METRICS, STRINGS, VALUES, bytes_in, count_in, entry_at, offset_in, type_in,
 };
 pub use entries::{
     help_leads, indom_at, indom_count, instance_at, instance_count, is_no_domain, leads,

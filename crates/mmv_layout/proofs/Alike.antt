@@ -6,7 +6,7 @@ use Rattle.mmv_format.specs.Below.{all_below, some_below}
 use Rattle.mmv_format.specs.Fields.{number32, number64, byte_at, text_at, has_zero}
 use Rattle.mmv_format.specs.Sizes.{name_width, header_size, indom_size, instance_size, metric_size, value_size, string_size}
 use Rattle.mmv_format.specs.EntryFields.{same_name, count_offset_in_indom, count_in_indom, first_offset_in_indom, first_in_indom, short_offset_in_indom, long_offset_in_indom, domain_in_instance, number_offset_in_instance, name_offset_in_instance, item_offset_in_metric, type_offset_in_metric, type_in_metric, semantics_offset_in_metric, serial_offset_in_metric, serial_in_metric, short_offset_in_metric, long_offset_in_metric, extra_in_value, metric_offset_in_value, instance_offset_in_value, instance_in_value}
-use Rattle.mmv_format.specs.Contents.{contents_in, type_in, count_in, place_in, section_bytes, end_in, section_lies, are_apart, is_first_of_type, has_good_section, find_section, section_of, entry_at, entry_end, count_offset_in, place_offset_in}
+use Rattle.mmv_format.specs.Contents.{contents_in, type_in, count_in, offset_in, section_bytes, end_in, section_lies, are_apart, is_first_of_type, has_good_section, find_section, section_of, entry_at, entry_end, count_offset_in, offset_field_in}
 use Rattle.mmv_format.specs.Entries.{leads_to_string, indom_count, indom_at, instance_count, instance_at, metric_count, metric_at, value_count, value_at, string_count, string_at, help_leads, is_instance_of, has_good_run, has_serial, is_new_indom, is_good_indom, has_text, lies_in_run, is_same_instance, is_new_instance, is_good_instance, has_name, is_no_domain, is_indom_serial, serial_leads, is_same_metric, is_new_metric, has_good_fields, is_good_metric, metric_of, instance_leads, choice_leads, is_same_value, is_new_value, is_good_value, is_good_string}
 use Rattle.mmv_format.specs.Images.{is_image}
 use Rattle.mmv_format.proofs.Below.{all_at, both_left, both_right}
@@ -21,7 +21,7 @@ pub record Agrees (a b : List ℕ) : Type 0 where
   pub longer : length a ≤ length b
   pub few : length b ≤ 65536
   pub again : number64 b 8 ≡ number64 b 16
-  pub same : (place : ℕ) → Looked a place → number64 b place ≡ number64 a place
+  pub same : (offset : ℕ) → Looked a offset → number64 b offset ≡ number64 a offset
   pub choices : (i : ℕ) → i < value_count a → type_in_metric a (metric_of a (value_at a i)) ≡ 6 → leads_to_string a (extra_in_value b (value_at a i)) ≡ true
 
 all_alike : (n : ℕ) (test other : ℕ → Bool) → ((k : ℕ) → k < n → other k ≡ test k) → all_below n other ≡ all_below n test
@@ -41,7 +41,7 @@ some_same : (n m : ℕ) (test other : ℕ → Bool) → m ≡ n → ((k : ℕ) �
 some_same n m test other e same = ap (λ c. some_below c other) e ∙ some_alike n test other same
 
 section_with : ℕ → ℕ → Section
-section_with p c = record { place = p; count = c }
+section_with p c = record { offset = p; count = c }
 
 pick_same : (type t u p q c d : ℕ) (s r : Section) → t ≡ u → p ≡ q → c ≡ d → s ≡ r → cond (nat_eq t type) (section_with p c) s ≡ cond (nat_eq u type) (section_with q d) r
 pick_same type t u p q c d s r e f m n = cc
@@ -56,13 +56,13 @@ all_four : (p q r s : Bool) → p ≡ true → q ≡ true → r ≡ true → s �
 all_four p q r s a b c d = rw (a, b, c, d) refl
 
 module _ (a b : List ℕ) (h : is_image a ≡ true) (g : Agrees a b) where
-  pub same32 : (place : ℕ) → Looked a place → number32 b place ≡ number32 a place
+  pub same32 : (offset : ℕ) → Looked a offset → number32 b offset ≡ number32 a offset
   unfolding number32
-  same32 place looked = ap (λ n. n / 2 ^ (8 * (place % 8)) % 4294967296) (g.same place looked)
+  same32 offset looked = ap (λ n. n / 2 ^ (8 * (offset % 8)) % 4294967296) (g.same offset looked)
 
-  same_byte : (place : ℕ) → Looked a place → byte_at b place ≡ byte_at a place
+  same_byte : (offset : ℕ) → Looked a offset → byte_at b offset ≡ byte_at a offset
   unfolding byte_at
-  same_byte place looked = ap (λ n. n / 2 ^ (8 * (place % 8)) % 256) (g.same place looked)
+  same_byte offset looked = ap (λ n. n / 2 ^ (8 * (offset % 8)) % 256) (g.same offset looked)
 
   pub text_same : (n at : ℕ) → ((k : ℕ) → k < n → Looked a (at + k)) → text_at b at n ≡ text_at a at n
   unfolding text_at
@@ -84,8 +84,8 @@ module _ (a b : List ℕ) (h : is_image a ≡ true) (g : Agrees a b) where
 
   -- the header and the contents
 
-  pub head32 : (place : ℕ) → place < header_size → (place < 8) ⊎ (24 ≤ place) → number32 b place ≡ number32 a place
-  head32 place below outside = same32 place (looked_header a place h below outside)
+  pub head32 : (offset : ℕ) → offset < header_size → (offset < 8) ⊎ (24 ≤ offset) → number32 b offset ≡ number32 a offset
+  head32 offset below outside = same32 offset (looked_header a offset h below outside)
 
   pub contents_same : contents_in b ≡ contents_in a
   contents_same = head32 24 (omega arith) (inr (omega arith))
@@ -99,22 +99,22 @@ module _ (a b : List ℕ) (h : is_image a ≡ true) (g : Agrees a b) where
       moved : (i : ℕ) → entry_at i + 4 ≡ count_offset_in i
       moved i = omega arith
 
-  pub place_same : (i : ℕ) → i < contents_in a → place_in b i ≡ place_in a i
-  place_same i below = g.same (place_offset_in i) (subst (Looked a) (moved i) (looked_contents a i 8 h below (omega arith)))
+  pub offset_same : (i : ℕ) → i < contents_in a → offset_in b i ≡ offset_in a i
+  offset_same i below = g.same (offset_field_in i) (subst (Looked a) (moved i) (looked_contents a i 8 h below (omega arith)))
     where
-      moved : (i : ℕ) → entry_at i + 8 ≡ place_offset_in i
+      moved : (i : ℕ) → entry_at i + 8 ≡ offset_field_in i
       moved i = omega arith
 
   end_same : (i : ℕ) → i < contents_in a → end_in b i ≡ end_in a i
   unfolding end_in
-  end_same i below = ap₂ (λ p n. p + n) (place_same i below) (ap₂ section_bytes (type_same i below) (count_same i below))
+  end_same i below = ap₂ (λ p n. p + n) (offset_same i below) (ap₂ section_bytes (type_same i below) (count_same i below))
 
   find_same : (type n : ℕ) → n ≤ contents_in a → find_section b type n ≡ find_section a type n
   unfolding find_section section_with
   find_same type zero below = refl
   find_same type (suc n) below =
-      pick_same type (type_in b n) (type_in a n) (place_in b n) (place_in a n) (count_in b n) (count_in a n) (find_section b type n) (find_section a type n)
-      (type_same n (omega arith)) (place_same n (omega arith)) (count_same n (omega arith)) (find_same type n (omega arith))
+      pick_same type (type_in b n) (type_in a n) (offset_in b n) (offset_in a n) (count_in b n) (count_in a n) (find_section b type n) (find_section a type n)
+      (type_same n (omega arith)) (offset_same n (omega arith)) (count_same n (omega arith)) (find_same type n (omega arith))
 
   pub section_same : (type : ℕ) → section_of b type ≡ section_of a type
   unfolding section_of
@@ -122,7 +122,7 @@ module _ (a b : List ℕ) (h : is_image a ≡ true) (g : Agrees a b) where
 
   apart_same : (j i : ℕ) → j < contents_in a → i < contents_in a → are_apart b j i ≡ are_apart a j i
   unfolding are_apart
-  apart_same j i x y = rw (type_same j x, type_same i y, count_same j x, count_same i y, end_same j x, end_same i y, place_same j x, place_same i y) refl
+  apart_same j i x y = rw (type_same j x, type_same i y, count_same j x, count_same i y, end_same j x, end_same i y, offset_same j x, offset_same i y) refl
 
   first_same : (i : ℕ) → i < contents_in a → is_first_of_type b i ≡ is_first_of_type a i
   unfolding is_first_of_type
@@ -134,7 +134,7 @@ module _ (a b : List ℕ) (h : is_image a ≡ true) (g : Agrees a b) where
       all_four _ _ _ _
       (fits_still (entry_end i) (length a) (length b) g.longer (both_left _ _ (both_left _ _ (both_left _ _ good))))
       (rw (type_same i below) (both_right _ _ (both_left _ _ (both_left _ _ good))))
-      (rw (count_same i below, contents_same, place_same i below, end_same i below) (lies_still (count_in a i) (contents_in a) (place_in a i) (end_in a i) (length a) (length b) g.longer (both_right _ _ (both_left _ _ good))))
+      (rw (count_same i below, contents_same, offset_same i below, end_same i below) (lies_still (count_in a i) (contents_in a) (offset_in a i) (end_in a i) (length a) (length b) g.longer (both_right _ _ (both_left _ _ good))))
       (first_same i below ∙ both_right _ _ good)
 
   -- references
@@ -143,16 +143,16 @@ module _ (a b : List ℕ) (h : is_image a ≡ true) (g : Agrees a b) where
   unfolding help_leads
   help_same field looked = rw (g.same field looked, section_same 5) refl
 
-  at_first : (place : ℕ) → Looked a (place + 0) → Looked a place
-  at_first place looked = subst (Looked a) (add-zero place) looked
+  at_first : (offset : ℕ) → Looked a (offset + 0) → Looked a offset
+  at_first offset looked = subst (Looked a) (add-zero offset) looked
 
   -- domains
 
-  pub indom_place : (i : ℕ) → indom_at b i ≡ indom_at a i
-  indom_place i = ap (λ s. s.place + indom_size * i) (section_same 1)
+  pub indom_offset : (i : ℕ) → indom_at b i ≡ indom_at a i
+  indom_offset i = ap (λ s. s.offset + indom_size * i) (section_same 1)
 
   indom_serial : (i : ℕ) → i < indom_count a → number32 b (indom_at b i) ≡ number32 a (indom_at a i)
-  indom_serial i below = ap (number32 b) (indom_place i) ∙ same32 (indom_at a i) (at_first (indom_at a i) (looked_indom a i 0 h below (omega arith)))
+  indom_serial i below = ap (number32 b) (indom_offset i) ∙ same32 (indom_at a i) (at_first (indom_at a i) (looked_indom a i 0 h below (omega arith)))
 
   serial_same : (serial i : ℕ) → i < indom_count a → has_serial b serial i ≡ has_serial a serial i
   unfolding has_serial
@@ -170,7 +170,7 @@ module _ (a b : List ℕ) (h : is_image a ≡ true) (g : Agrees a b) where
 
   member_leads : (domain instance : ℕ) → is_instance_of a domain instance ≡ true → LeadsTo (instance_count a) (instance_at a) instance
   unfolding is_instance_of
-  member_leads domain instance member = leads_there (section_of a 2).place (section_of a 2).count instance_size instance (both_left _ _ member)
+  member_leads domain instance member = leads_there (section_of a 2).offset (section_of a 2).count instance_size instance (both_left _ _ member)
 
   -- instance k of the run of a domain
   pub run_leads : (i k : ℕ) → i < indom_count a → k < count_in_indom a (indom_at a i) → LeadsTo (instance_count a) (instance_at a) (first_in_indom a (indom_at a i) + instance_size * k)
@@ -179,8 +179,8 @@ module _ (a b : List ℕ) (h : is_image a ≡ true) (g : Agrees a b) where
       member_leads (indom_at a i) (first_in_indom a (indom_at a i) + instance_size * k)
       (all_at (count_in_indom a (indom_at a i)) k (λ k. is_instance_of a (indom_at a i) (first_in_indom a (indom_at a i) + instance_size * k)) (good_run i (good_indom a i h below)) within)
 
-  pub looked_run : (place o : ℕ) → LeadsTo (instance_count a) (instance_at a) place → o < instance_size → Looked a (place + o)
-  looked_run place o (k, below, stands) small = subst (λ p. Looked a (p + o)) (sym stands) (looked_instance a k o h below small)
+  pub looked_run : (offset o : ℕ) → LeadsTo (instance_count a) (instance_at a) offset → o < instance_size → Looked a (offset + o)
+  looked_run offset o (k, below, stands) small = subst (λ p. Looked a (p + o)) (sym stands) (looked_instance a k o h below small)
 
   member_same : (domain instance : ℕ) → Looked a instance → is_instance_of b domain instance ≡ is_instance_of a domain instance
   unfolding is_instance_of
@@ -202,7 +202,7 @@ module _ (a b : List ℕ) (h : is_image a ≡ true) (g : Agrees a b) where
       rw (
         indom_serial i below,
         new_indom_same i below,
-        indom_place i,
+        indom_offset i,
         help_same (short_offset_in_indom (indom_at a i)) (looked_indom a i (short_offset_in_indom 0) h below (omega arith)),
         help_same (long_offset_in_indom (indom_at a i)) (looked_indom a i (long_offset_in_indom 0) h below (omega arith)),
         run_same i below,
@@ -210,8 +210,8 @@ module _ (a b : List ℕ) (h : is_image a ≡ true) (g : Agrees a b) where
 
   -- instances
 
-  pub instance_place : (i : ℕ) → instance_at b i ≡ instance_at a i
-  instance_place i = ap (λ s. s.place + instance_size * i) (section_same 2)
+  pub instance_offset : (i : ℕ) → instance_at b i ≡ instance_at a i
+  instance_offset i = ap (λ s. s.offset + instance_size * i) (section_same 2)
 
   text_field_same : (field : ℕ) → ((k : ℕ) → k < name_width → Looked a (field + k)) → has_text b field ≡ has_text a field
   unfolding has_text
@@ -224,10 +224,10 @@ module _ (a b : List ℕ) (h : is_image a ≡ true) (g : Agrees a b) where
   -- an instance leads to a domain
   pub domain_leads : (i : ℕ) → i < instance_count a → LeadsTo (indom_count a) (indom_at a) (domain_in_instance a (instance_at a i))
   unfolding lies_in_run
-  domain_leads i below = leads_there (section_of a 1).place (section_of a 1).count indom_size (domain_in_instance a (instance_at a i)) (both_left _ _ (good_lies i (good_instance a i h below)))
+  domain_leads i below = leads_there (section_of a 1).offset (section_of a 1).count indom_size (domain_in_instance a (instance_at a i)) (both_left _ _ (good_lies i (good_instance a i h below)))
 
-  pub looked_domain : (place o : ℕ) → LeadsTo (indom_count a) (indom_at a) place → o < indom_size → Looked a (place + o)
-  looked_domain place o (k, below, stands) small = subst (λ p. Looked a (p + o)) (sym stands) (looked_indom a k o h below small)
+  pub looked_domain : (offset o : ℕ) → LeadsTo (indom_count a) (indom_at a) offset → o < indom_size → Looked a (offset + o)
+  looked_domain offset o (k, below, stands) small = subst (λ p. Looked a (p + o)) (sym stands) (looked_indom a k o h below small)
 
   domain_same : (i : ℕ) → i < instance_count a → domain_in_instance b (instance_at a i) ≡ domain_in_instance a (instance_at a i)
   domain_same i below = g.same (instance_at a i) (at_first (instance_at a i) (looked_instance a i 0 h below (omega arith)))
@@ -263,14 +263,14 @@ module _ (a b : List ℕ) (h : is_image a ≡ true) (g : Agrees a b) where
   unfolding is_new_instance
   new_instance_same i below =
       all_alike i (λ j. not (is_same_instance a (instance_at a j) (instance_at a i))) (λ j. not (is_same_instance b (instance_at b j) (instance_at b i)))
-      (λ j less. ap₂ (λ p q. not (is_same_instance b p q)) (instance_place j) (instance_place i) ∙ ap not (same_instance_same j i (omega arith) below))
+      (λ j less. ap₂ (λ p q. not (is_same_instance b p q)) (instance_offset j) (instance_offset i) ∙ ap not (same_instance_same j i (omega arith) below))
 
   pub instance_same : (i : ℕ) → i < instance_count a → is_good_instance b i ≡ is_good_instance a i
   unfolding is_good_instance
   instance_same i below =
       rw (
         new_instance_same i below,
-        instance_place i,
+        instance_offset i,
         text_field_same (name_offset_in_instance (instance_at a i)) (name_looked i below),
         lies_same i below,
         same32 (number_offset_in_instance (instance_at a i)) (looked_instance a i (number_offset_in_instance 0) h below (omega arith)),
@@ -278,8 +278,8 @@ module _ (a b : List ℕ) (h : is_image a ≡ true) (g : Agrees a b) where
 
   -- metrics
 
-  pub metric_place : (i : ℕ) → metric_at b i ≡ metric_at a i
-  metric_place i = ap (λ s. s.place + metric_size * i) (section_same 3)
+  pub metric_offset : (i : ℕ) → metric_at b i ≡ metric_at a i
+  metric_offset i = ap (λ s. s.offset + metric_size * i) (section_same 3)
 
   name_field_same : (field : ℕ) → ((k : ℕ) → k < name_width → Looked a (field + k)) → has_name b field ≡ has_name a field
   unfolding has_name
@@ -323,16 +323,16 @@ module _ (a b : List ℕ) (h : is_image a ≡ true) (g : Agrees a b) where
   unfolding is_new_metric
   new_metric_same i below =
       all_alike i (λ j. not (is_same_metric a (metric_at a j) (metric_at a i))) (λ j. not (is_same_metric b (metric_at b j) (metric_at b i)))
-      (λ j less. ap₂ (λ p q. not (is_same_metric b p q)) (metric_place j) (metric_place i) ∙ ap not (same_metric_same j i (omega arith) below))
+      (λ j less. ap₂ (λ p q. not (is_same_metric b p q)) (metric_offset j) (metric_offset i) ∙ ap not (same_metric_same j i (omega arith) below))
 
   pub metric_same : (i : ℕ) → i < metric_count a → is_good_metric b i ≡ is_good_metric a i
   unfolding is_good_metric
-  metric_same i below = rw (new_metric_same i below, metric_place i, name_field_same (metric_at a i) (metric_looked i below), fields_same i below) refl
+  metric_same i below = rw (new_metric_same i below, metric_offset i, name_field_same (metric_at a i) (metric_looked i below), fields_same i below) refl
 
   -- values
 
-  pub value_place : (i : ℕ) → value_at b i ≡ value_at a i
-  value_place i = ap (λ s. s.place + value_size * i) (section_same 4)
+  pub value_offset : (i : ℕ) → value_at b i ≡ value_at a i
+  value_offset i = ap (λ s. s.offset + value_size * i) (section_same 4)
 
   pub metric_of_same : (i : ℕ) → i < value_count a → metric_of b (value_at a i) ≡ metric_of a (value_at a i)
   unfolding metric_of
@@ -362,15 +362,15 @@ module _ (a b : List ℕ) (h : is_image a ≡ true) (g : Agrees a b) where
   pub instance_there : (i : ℕ) → i < value_count a → is_no_domain (domain_of a (value_at a i)) ≡ false → LeadsTo (instance_count a) (instance_at a) (instance_in_value a (value_at a i))
   unfolding instance_leads
   instance_there i below some =
-      leads_there (section_of a 2).place (section_of a 2).count instance_size (instance_in_value a (value_at a i)) (both_left _ _ (taken _ _ _ (leads_good i (good_value a i h below)) some))
+      leads_there (section_of a 2).offset (section_of a 2).count instance_size (instance_in_value a (value_at a i)) (both_left _ _ (taken _ _ _ (leads_good i (good_value a i h below)) some))
 
-  instance_domain : (place : ℕ) → LeadsTo (instance_count a) (instance_at a) place → domain_in_instance b place ≡ domain_in_instance a place
-  instance_domain place there = g.same place (at_first place (looked_run place 0 there (omega arith)))
+  instance_domain : (offset : ℕ) → LeadsTo (instance_count a) (instance_at a) offset → domain_in_instance b offset ≡ domain_in_instance a offset
+  instance_domain offset there = g.same offset (at_first offset (looked_run offset 0 there (omega arith)))
 
-  instance_serial : (place : ℕ) → LeadsTo (instance_count a) (instance_at a) place → number32 b (number64 b place) ≡ number32 a (number64 a place)
-  instance_serial place (k, below, stands) =
-      ap (number32 b) (g.same place (at_first place (looked_run place 0 (k, below, stands) (omega arith))))
-      ∙ same32 (number64 a place) (at_first (number64 a place) (looked_domain (number64 a place) 0 (subst (λ p. LeadsTo (indom_count a) (indom_at a) (number64 a p)) (sym stands) (domain_leads k below)) (omega arith)))
+  instance_serial : (offset : ℕ) → LeadsTo (instance_count a) (instance_at a) offset → number32 b (number64 b offset) ≡ number32 a (number64 a offset)
+  instance_serial offset (k, below, stands) =
+      ap (number32 b) (g.same offset (at_first offset (looked_run offset 0 (k, below, stands) (omega arith))))
+      ∙ same32 (number64 a offset) (at_first (number64 a offset) (looked_domain (number64 a offset) 0 (subst (λ p. LeadsTo (indom_count a) (indom_at a) (number64 a p)) (sym stands) (domain_leads k below)) (omega arith)))
 
   instance_leads_same : (i : ℕ) → i < value_count a → instance_leads b (value_at a i) ≡ instance_leads a (value_at a i)
   unfolding instance_leads
@@ -395,7 +395,7 @@ module _ (a b : List ℕ) (h : is_image a ≡ true) (g : Agrees a b) where
   unfolding is_new_value
   new_value_same i below =
       all_alike i (λ j. not (is_same_value a (value_at a j) (value_at a i))) (λ j. not (is_same_value b (value_at b j) (value_at b i)))
-      (λ j less. ap₂ (λ p q. not (is_same_value b p q)) (value_place j) (value_place i) ∙ ap not (same_value_same j i (omega arith) below))
+      (λ j less. ap₂ (λ p q. not (is_same_value b p q)) (value_offset j) (value_offset i) ∙ ap not (same_value_same j i (omega arith) below))
 
   -- a string value leads to a string, also where it is another
   choice_still : (i : ℕ) → i < value_count a → choice_leads b (value_at a i) ≡ true
@@ -416,16 +416,16 @@ module _ (a b : List ℕ) (h : is_image a ≡ true) (g : Agrees a b) where
   unfolding is_good_value
   value_still i below good =
       all_four _ _ _ _
-      (rw (value_place i, metric_of_same i below, section_same 3) (both_left _ _ (both_left _ _ (both_left _ _ good))))
-      (ap (instance_leads b) (value_place i) ∙ instance_leads_same i below ∙ both_right _ _ (both_left _ _ (both_left _ _ good)))
-      (ap (choice_leads b) (value_place i) ∙ choice_still i below)
+      (rw (value_offset i, metric_of_same i below, section_same 3) (both_left _ _ (both_left _ _ (both_left _ _ good))))
+      (ap (instance_leads b) (value_offset i) ∙ instance_leads_same i below ∙ both_right _ _ (both_left _ _ (both_left _ _ good)))
+      (ap (choice_leads b) (value_offset i) ∙ choice_still i below)
       (new_value_same i below ∙ both_right _ _ good)
 
   -- strings
 
-  pub string_place : (i : ℕ) → string_at b i ≡ string_at a i
-  string_place i = ap (λ s. s.place + string_size * i) (section_same 5)
+  pub string_offset : (i : ℕ) → string_at b i ≡ string_at a i
+  string_offset i = ap (λ s. s.offset + string_size * i) (section_same 5)
 
   pub string_same : (i : ℕ) → i < string_count a → is_good_string b i ≡ is_good_string a i
   unfolding is_good_string
-  string_same i below = ap (λ p. has_zero b p string_size) (string_place i) ∙ zero_same string_size (string_at a i) (λ k small. looked_string a i k h below small)
+  string_same i below = ap (λ p. has_zero b p string_size) (string_offset i) ∙ zero_same string_size (string_at a i) (λ k small. looked_string a i k h below small)

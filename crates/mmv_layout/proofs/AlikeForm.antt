@@ -25,7 +25,7 @@ use Rattle.mmv_layout.proofs.Looked.{Looked, five_words, looked_indom, looked_me
 use Rattle.mmv_layout.proofs.RowLists.{rows_same}
 use Rattle.mmv_layout.proofs.SlotLists.{gives_same}
 use Rattle.mmv_layout.proofs.Saying.{indom_rows_same, metric_rows_same, value_rows_same, layouts_same, metric_fields}
-use Rattle.mmv_layout.proofs.Alike.{Agrees, head32, contents_same, count_same, place_same, section_same, section_still, same32, text_same, indom_place, run_leads, looked_run, indom_same, instance_same, metric_place, metric_looked, metric_same, of_same, field_same, instance_there, value_still, string_place, string_same}
+use Rattle.mmv_layout.proofs.Alike.{Agrees, head32, contents_same, count_same, offset_same, section_same, section_still, same32, text_same, indom_offset, run_leads, looked_run, indom_same, instance_same, metric_offset, metric_looked, metric_same, of_same, field_same, instance_there, value_still, string_offset, string_same}
 
 all_hold : (n m : ℕ) (test : ℕ → Bool) → m ≡ n → ((k : ℕ) → k < n → test k ≡ true) → all_below m test ≡ true
 unfolding all_below
@@ -80,7 +80,7 @@ module _ (a b : List ℕ) (h : is_image a ≡ true) (g : Agrees a b) where
 
   aligned_same : (i : ℕ) → i < contents_in a → is_aligned b i ≡ is_aligned a i
   unfolding is_aligned
-  aligned_same i below = ap₂ (λ c p. nat_eq c 0 || nat_eq (p % 8) 0) (count_same a b h g i below) (place_same a b h g i below)
+  aligned_same i below = ap₂ (λ c p. nat_eq c 0 || nat_eq (p % 8) 0) (count_same a b h g i below) (offset_same a b h g i below)
 
   aligned_still : sections_are_aligned b ≡ true
   unfolding sections_are_aligned
@@ -103,9 +103,9 @@ module _ (a b : List ℕ) (h : is_image a ≡ true) (g : Agrees a b) where
 
   -- the rows
 
-  string_text_same : (place : ℕ) → LeadsTo (string_count a) (string_at a) place → string_text b place ≡ string_text a place
-  string_text_same place (k, below, stands) =
-      text_same a b h g string_size place (λ o small. subst (λ p. Looked a (p + o)) (sym stands) (looked_string a k o h below small))
+  string_text_same : (offset : ℕ) → LeadsTo (string_count a) (string_at a) offset → string_text b offset ≡ string_text a offset
+  string_text_same offset (k, below, stands) =
+      text_same a b h g string_size offset (λ o small. subst (λ p. Looked a (p + o)) (sym stands) (looked_string a k o h below small))
 
   help_of_same : (field : ℕ) → Looked a field → help_leads a field ≡ true → help_of b field ≡ help_of a field
   unfolding help_of help_leads
@@ -114,14 +114,14 @@ module _ (a b : List ℕ) (h : is_image a ≡ true) (g : Agrees a b) where
       (⊎_elim
       (λ (null : nat_eq (number64 a field) 0 ≡ true). rw null refl)
       (λ (some : nat_eq (number64 a field) 0 ≡ false).
-      rw some (ap Some (string_text_same (number64 a field) (leads_there (section_of a 5).place (section_of a 5).count string_size (number64 a field) (or_right _ _ leads some)))))
+      rw some (ap Some (string_text_same (number64 a field) (leads_there (section_of a 5).offset (section_of a 5).count string_size (number64 a field) (or_right _ _ leads some)))))
       (either (nat_eq (number64 a field) 0)))
 
-  instance_row_same : (place : ℕ) → LeadsTo (instance_count a) (instance_at a) place → instance_row b place ≡ instance_row a place
+  instance_row_same : (offset : ℕ) → LeadsTo (instance_count a) (instance_at a) offset → instance_row b offset ≡ instance_row a offset
   unfolding instance_row
-  instance_row_same place leads =
-      ap₂ (λ n t. (cast_signed w32 n, t)) (same32 a b h g (number_offset_in_instance place) (looked_run a b h g place (number_offset_in_instance 0) leads (omega arith)))
-      (text_same a b h g name_width (name_offset_in_instance place) (λ k small. subst (Looked a) (moved place k) (looked_run a b h g place (name_offset_in_instance 0 + k) leads (omega arith))))
+  instance_row_same offset leads =
+      ap₂ (λ n t. (cast_signed w32 n, t)) (same32 a b h g (number_offset_in_instance offset) (looked_run a b h g offset (number_offset_in_instance 0) leads (omega arith)))
+      (text_same a b h g name_width (name_offset_in_instance offset) (λ k small. subst (Looked a) (moved offset k) (looked_run a b h g offset (name_offset_in_instance 0 + k) leads (omega arith))))
     where
       moved : (p k : ℕ) → p + (name_offset_in_instance 0 + k) ≡ name_offset_in_instance p + k
       moved p k = omega arith
@@ -155,7 +155,7 @@ module _ (a b : List ℕ) (h : is_image a ≡ true) (g : Agrees a b) where
   unfolding indoms_of
   indoms_same =
       ap (λ n. list_below n (λ i. indom_row b (indom_at b i))) (count_of 1)
-      ∙ rows_same (indom_count a) (λ i. indom_row b (indom_at b i)) (λ i. indom_row a (indom_at a i)) (λ i below. ap (indom_row b) (indom_place a b h g i) ∙ indom_row_same i below)
+      ∙ rows_same (indom_count a) (λ i. indom_row b (indom_at b i)) (λ i. indom_row a (indom_at a i)) (λ i below. ap (indom_row b) (indom_offset a b h g i) ∙ indom_row_same i below)
 
   metric_short : (metric : ℕ) → has_good_fields a metric ≡ true → help_leads a (short_offset_in_metric metric) ≡ true
   unfolding has_good_fields
@@ -183,18 +183,18 @@ module _ (a b : List ℕ) (h : is_image a ≡ true) (g : Agrees a b) where
   unfolding metrics_of
   metrics_same =
       ap (λ n. list_below n (λ i. metric_row b (metric_at b i))) (count_of 3)
-      ∙ rows_same (metric_count a) (λ i. metric_row b (metric_at b i)) (λ i. metric_row a (metric_at a i)) (λ i below. ap (metric_row b) (metric_place a b h g i) ∙ metric_row_same i below)
+      ∙ rows_same (metric_count a) (λ i. metric_row b (metric_at b i)) (λ i. metric_row a (metric_at a i)) (λ i below. ap (metric_row b) (metric_offset a b h g i) ∙ metric_row_same i below)
 
   strings_same : strings_of b ≡ strings_of a
   unfolding strings_of
   strings_same =
       ap (λ n. list_below n (λ i. string_text b (string_at b i))) (count_of 5)
       ∙ rows_same (string_count a) (λ i. string_text b (string_at b i)) (λ i. string_text a (string_at a i))
-      (λ i below. ap (string_text b) (string_place a b h g i) ∙ string_text_same (string_at a i) (i, below, refl))
+      (λ i below. ap (string_text b) (string_offset a b h g i) ∙ string_text_same (string_at a i) (i, below, refl))
 
   offsets_same : offsets_of b ≡ offsets_of a
   unfolding offsets_of
-  offsets_same = ap (λ s. list_below s.count (λ i. s.place + string_size * i)) (section_same a b h g 5)
+  offsets_same = ap (λ s. list_below s.count (λ i. s.offset + string_size * i)) (section_same a b h g 5)
 
   -- the values
 
@@ -217,13 +217,13 @@ module _ (a b : List ℕ) (h : is_image a ≡ true) (g : Agrees a b) where
   slots_same : slots_of b ≡ slots_of a
   unfolding slots_of
   slots_same =
-      ap (λ s. filter_map (slot_at b) (list_below s.count (λ i. s.place + value_size * i))) (section_same a b h g 4)
+      ap (λ s. filter_map (slot_at b) (list_below s.count (λ i. s.offset + value_size * i))) (section_same a b h g 4)
       ∙ gives_same (slot_at b) (slot_at a) (value_count a) (value_at a) slot_at_same
 
   subjects_same : subjects_of b ≡ subjects_of a
   unfolding subjects_of
   subjects_same =
-      ap (λ s. list_below s.count (λ i. (item_of b (s.place + value_size * i), instance_of b (s.place + value_size * i)))) (section_same a b h g 4)
+      ap (λ s. list_below s.count (λ i. (item_of b (s.offset + value_size * i), instance_of b (s.offset + value_size * i)))) (section_same a b h g 4)
       ∙ rows_same (value_count a) (λ i. (item_of b (value_at a i), instance_of b (value_at a i))) (λ i. (item_of a (value_at a i), instance_of a (value_at a i)))
       (λ i below. ap₂ (λ n o. (n, o)) (of_same a b h g i (item_offset_in_metric 0) below (omega arith)) (instance_of_same i below))
 
@@ -247,7 +247,7 @@ module _ (a b : List ℕ) (h : is_image a ≡ true) (g : Agrees a b) where
         (⊎_elim
         (λ (choice : nat_eq (type_of a (value_at a i)) 6 ≡ true).
         ap (λ t. cond (nat_le (type_of a (value_at a i)) 3) (Number (number64 a (value_at a i))) (cond (nat_eq (type_of a (value_at a i)) 6) (Choice t) (Raw (number64 a (value_at a i)) (extra_in_value a (value_at a i)))))
-        (string_text_same (extra_in_value a (value_at a i)) (leads_there (section_of a 5).place (section_of a 5).count string_size (extra_in_value a (value_at a i))
+        (string_text_same (extra_in_value a (value_at a i)) (leads_there (section_of a 5).offset (section_of a 5).count string_size (extra_in_value a (value_at a i))
         (ap (leads_to_string a) (sym (extras i below)) ∙ g.choices i below (eq_of (type_of a (value_at a i)) 6 choice)))))
         (λ (other : nat_eq (type_of a (value_at a i)) 6 ≡ false). rw other refl)
         (either (nat_eq (type_of a (value_at a i)) 6)))
@@ -260,7 +260,7 @@ module _ (a b : List ℕ) (h : is_image a ≡ true) (g : Agrees a b) where
     values_same : values_of b ≡ values_of a
     unfolding values_of
     values_same =
-        ap (λ s. list_below s.count (λ i. value_row b (s.place + value_size * i))) (section_same a b h g 4)
+        ap (λ s. list_below s.count (λ i. value_row b (s.offset + value_size * i))) (section_same a b h g 4)
         ∙ rows_same (value_count a) (λ i. value_row b (value_at a i)) (λ i. value_row a (value_at a i)) value_row_same
 
     pub layout_same : layout_of b ≡ layout_of a

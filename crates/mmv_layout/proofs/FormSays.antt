@@ -15,7 +15,7 @@ use Rattle.mmv_layout.specs.Rows.{string_text, type_of, content_of, value_row, v
 use Rattle.mmv_layout.specs.Form.{slot_in, slot_at, slots_of, texts_of, offsets_of, subjects_of, form_of}
 use Rattle.mmv_layout.specs.Says.{Says}
 use Rattle.mmv_layout.specs.ShapeLaws.{IsFormOf, FormIsSaid, TextsAreTheForms, LengthKeepsTheLayout, content_of_kind, SlotHoldsTheContent, HasItsSlot, HasSlot, ValuesHaveSlots}
-use Rattle.mmv_layout.proofs.EntryPlaces.{Stands, value_stands}
+use Rattle.mmv_layout.proofs.EntryOffsets.{Stands, value_stands}
 use Rattle.mmv_layout.proofs.RowLists.{among_rows, row_among, rows_mapped}
 use Rattle.mmv_layout.proofs.Saying.{layout_says, says_layout}
 use Rattle.mmv_layout.proofs.SlotLists.{GivenBy, given_among}
@@ -28,13 +28,13 @@ pub layout_kept : LengthKeepsTheLayout
 layout_kept words more layout h few says =
     let five : 5 ≤ length words = five_words words h in
     let same : layout_of (words ++ more) ≡ layout_of words = layout_same words (words ++ more) h (longer_agrees words more h few)
-    (λ i below. number_before words more (value_at words i) (first (value_at words i) (length words) (place_within i below)))
-    (λ i below. number_before words more (extra_offset_in_value (value_at words i)) (second (value_at words i) (length words) (place_within i below)))
+    (λ i below. number_before words more (value_at words i) (first (value_at words i) (length words) (offset_within i below)))
+    (λ i below. number_before words more (extra_offset_in_value (value_at words i)) (second (value_at words i) (length words) (offset_within i below)))
     (number_before words more 8 (omega arith)) in
     subst (Says (words ++ more)) (same ∙ sym (says_layout words layout says)) (layout_says (words ++ more) (image_still words (words ++ more) h (longer_agrees words more h few)))
   where
-    place_within : (i : ℕ) → i < value_count words → value_at words i + value_size ≤ 8 * length words
-    place_within i below = let stands : Stands words (value_at words i) value_size = value_stands words i h below in stands.within
+    offset_within : (i : ℕ) → i < value_count words → value_at words i + value_size ≤ 8 * length words
+    offset_within i below = let stands : Stands words (value_at words i) value_size = value_stands words i h below in stands.within
 
     first : (v n : ℕ) → v + value_size ≤ 8 * n → v < 8 * n
     first v n b = omega arith

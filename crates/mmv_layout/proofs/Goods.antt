@@ -33,12 +33,12 @@ some_at (suc n) test h =
     ⊎_elim (λ (before : some_below n test ≡ true). let (k, below, passes) = some_at n test before in (k, omega arith, passes))
     (λ (none : some_below n test ≡ false). (n, omega arith, or_right _ _ h none)) (either (some_below n test))
 
--- a place that leads is that of an entry
-pub leads_there : (first count size place : ℕ) → leads first count size place ≡ true → LeadsTo count (λ k. first + size * k) place
+-- an offset that leads is that of an entry
+pub leads_there : (first count size offset : ℕ) → leads first count size offset ≡ true → LeadsTo count (λ k. first + size * k) offset
 unfolding leads
-leads_there first count size place h =
-    let (k, below, stands) = some_at count (λ k. nat_eq (first + size * k) place) h in
-    (k, below, sym (eq_of (first + size * k) place stands))
+leads_there first count size offset h =
+    let (k, below, stands) = some_at count (λ k. nat_eq (first + size * k) offset) h in
+    (k, below, sym (eq_of (first + size * k) offset stands))
 
 pub header : (words : List ℕ) → is_image words ≡ true → has_good_header words ≡ true
 unfolding is_image

@@ -1,6 +1,6 @@
 pub mod Alike
 pub mod AlikeForm
-pub mod EntryPlaces
+pub mod EntryOffsets
 pub mod FormSays
 pub mod Goods
 pub mod Looked

@@ -32,32 +32,32 @@ unfolding list_below
 rows_same zero row other same = refl
 rows_same (suc n) row other same = ap₂ (λ rows x. rows ++ x ∷ []) (rows_same n row other (λ k h. same k (omega arith))) (same n (omega arith))
 
-next_place : (at size k : ℕ) → (at + size) + size * k ≡ at + size * suc k
-next_place at size k = omega arith
+next_offset : (at size k : ℕ) → (at + size) + size * k ≡ at + size * suc k
+next_offset at size k = omega arith
 
-first_place : (at size : ℕ) → at ≡ at + size * 0
-first_place at size = omega arith
+first_offset : (at size : ℕ) → at ≡ at + size * 0
+first_offset at size = omega arith
 
--- where a place decides the row that stands there, it decides all rows
+-- where an offset decides the row that stands there, it decides all rows
 pub each_only : {X : Type 0} (R : ℕ → X → Type 0) (row : ℕ → X) (size : ℕ) → ((p : ℕ) (x : X) → R p x → x ≡ row p)
     → (at : ℕ) (rows : List X) → EachAt R at size rows → rows ≡ list_below (length rows) (λ k. row (at + size * k))
 unfolding EachAt list_below
 each_only R row size only at [] stand = refl
 each_only R row size only at (x ∷ xs) stand =
-    ap₂ (λ y ys. y ∷ ys) (only at x stand.0 ∙ ap row (first_place at size))
-    (each_only R row size only (at + size) xs stand.1 ∙ rows_same (length xs) _ _ (λ k h. ap row (next_place at size k)))
+    ap₂ (λ y ys. y ∷ ys) (only at x stand.0 ∙ ap row (first_offset at size))
+    (each_only R row size only (at + size) xs stand.1 ∙ rows_same (length xs) _ _ (λ k h. ap row (next_offset at size k)))
     ∙ sym (rows_front (length xs) (λ k. row (at + size * k)))
 
--- where each row stands at its place, all do
+-- where each row stands at its offset, all do
 pub each_there : {X : Type 0} (R : ℕ → X → Type 0) (row : ℕ → X) (size n at : ℕ) → ((k : ℕ) → k < n → R (at + size * k) (row (at + size * k)))
     → EachAt R at size (list_below n (λ k. row (at + size * k)))
 unfolding EachAt list_below
 each_there R row size zero at each = tt
 each_there R row size (suc n) at each =
     subst (EachAt R at size) (sym (rows_front n (λ k. row (at + size * k)))) (
-      subst (λ p. R p (row (at + size * 0))) (sym (first_place at size)) (each 0 (omega arith)),
-      subst (EachAt R (at + size) size) (rows_same n (λ k. row ((at + size) + size * k)) (λ k. row (at + size * suc k)) (λ k h. ap row (next_place at size k)))
-          (each_there R row size n (at + size) (λ k h. subst (λ p. R p (row p)) (sym (next_place at size k)) (each (suc k) (omega arith)))),
+      subst (λ p. R p (row (at + size * 0))) (sym (first_offset at size)) (each 0 (omega arith)),
+      subst (EachAt R (at + size) size) (rows_same n (λ k. row ((at + size) + size * k)) (λ k. row (at + size * suc k)) (λ k h. ap row (next_offset at size k)))
+          (each_there R row size n (at + size) (λ k h. subst (λ p. R p (row p)) (sym (next_offset at size k)) (each (suc k) (omega arith)))),
     )
 
 -- what is among the rows is one of them

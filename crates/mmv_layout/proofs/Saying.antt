@@ -1,4 +1,4 @@
--- An image says the layout that stands at its places, and no other.
+-- An image says the layout that stands at its offsets, and no other.
 use Rattle.std.proofs.Common.{◌≡◌, ◌≢◌, ℕ, ℤ, ◌+◌, ◌*◌, ◌<◌, ◌≤◌, Bool, true, false, ◌||◌, ◌⊎◌, List, length, ap, ap₂, sym, subst, ◌∙◌, refl, arith, nat_eq, nat_le, cond, not, Option, None, Some, unwrap_or, ⊎_elim}
 use Rattle.std.proofs.lemmas.Bool.Decides.{nat_tests}
 use Rattle.std.proofs.lemmas.Bool.{eq-eqb}
@@ -30,13 +30,13 @@ use Rattle.mmv_layout.proofs.Goods.{le_of, eq_of, ne_of, either, or_right, leads
 help_there : (words : List ℕ) (field : ℕ) → help_leads words field ≡ true → HelpAt words field (help_of words field)
 unfolding help_leads help_of
 help_there words field h =
-    let place : ℕ = number64 words field in
+    let offset : ℕ = number64 words field in
     ⊎_elim
-    (λ (null : nat_eq place 0 ≡ true). subst (λ b. HelpAt words field (cond b None (Some (string_text words place)))) (sym null) (eq_of place 0 null))
-    (λ (some : nat_eq place 0 ≡ false).
-    subst (λ b. HelpAt words field (cond b None (Some (string_text words place)))) (sym some)
-    (ne_of place 0 some, (leads_there (section_of words 5).place (section_of words 5).count string_size place (or_right _ _ h some), refl)))
-    (either (nat_eq place 0))
+    (λ (null : nat_eq offset 0 ≡ true). subst (λ b. HelpAt words field (cond b None (Some (string_text words offset)))) (sym null) (eq_of offset 0 null))
+    (λ (some : nat_eq offset 0 ≡ false).
+    subst (λ b. HelpAt words field (cond b None (Some (string_text words offset)))) (sym some)
+    (ne_of offset 0 some, (leads_there (section_of words 5).offset (section_of words 5).count string_size offset (or_right _ _ h some), refl)))
+    (either (nat_eq offset 0))
 
 isnt : (a b : ℕ) → a ≢ b → nat_eq a b ≡ false
 isnt a b h = grind (arith, nat_tests)
@@ -174,14 +174,14 @@ metric_only words metric row h =
 instance_there : (words : List ℕ) (value : ℕ) → instance_leads words value ≡ true → InstanceOf words value (instance_of words value)
 unfolding instance_leads instance_of
 instance_there words value h =
-    let place : ℕ = instance_in_value words value in
+    let offset : ℕ = instance_in_value words value in
     ⊎_elim
     (λ (none : is_no_domain (domain_of words value) ≡ true).
     subst (λ b. InstanceOf words value (cond b None (Some (number_of words (instance_in_value words value))))) (sym none) (null_of (domain_of words value) none))
     (λ (some : is_no_domain (domain_of words value) ≡ false).
     subst (λ b. InstanceOf words value (cond b None (Some (number_of words (instance_in_value words value))))) (sym some) (
       named_of (domain_of words value) some,
-      leads_there (section_of words 2).place (section_of words 2).count instance_size place (both_left _ _ (taken _ _ _ h some)),
+      leads_there (section_of words 2).offset (section_of words 2).count instance_size offset (both_left _ _ (taken _ _ _ h some)),
       refl,
     ))
     (either (is_no_domain (domain_of words value)))
@@ -219,7 +219,7 @@ content_there words value known h =
     (⊎_elim
     (λ (choice : nat_eq code 6 ≡ true).
     subst (λ b. ContentAt words value (content_in words value false b)) (sym choice)
-    (eq_of code 6 choice, (leads_there (section_of words 5).place (section_of words 5).count string_size extra (choice_taken (nat_eq code 6) _ h choice), refl)))
+    (eq_of code 6 choice, (leads_there (section_of words 5).offset (section_of words 5).count string_size extra (choice_taken (nat_eq code 6) _ h choice), refl)))
     (λ (raw : nat_eq code 6 ≡ false). subst (λ b. ContentAt words value (content_in words value false b)) (sym raw) (raw_types code known other raw, refl, refl))
     (either (nat_eq code 6))))
     (either (nat_le code 3))
@@ -254,7 +254,7 @@ value_rows_same row other a b c =
 pub value_metric : (words : List ℕ) (i : ℕ) → is_good_value words i ≡ true → LeadsTo (metric_count words) (metric_at words) (metric_of words (value_at words i))
 unfolding is_good_value
 value_metric words i good =
-    leads_there (section_of words 3).place (section_of words 3).count metric_size (metric_of words (value_at words i)) (both_left _ _ (both_left _ _ (both_left _ _ good)))
+    leads_there (section_of words 3).offset (section_of words 3).count metric_size (metric_of words (value_at words i)) (both_left _ _ (both_left _ _ (both_left _ _ good)))
 
 metric_kind : (words : List ℕ) (metric : ℕ) → has_good_fields words metric ≡ true → is_kind (type_in_metric words metric) ≡ true
 unfolding has_good_fields
@@ -297,15 +297,15 @@ generation_twice : (words : List ℕ) → is_image words ≡ true → first_gene
 unfolding has_good_header
 generation_twice words h = eq_of (first_generation words) (second_generation words) (both_right _ _ (both_left _ _ (header words h)))
 
--- the rows of a section that each stand at its entry, by the row that a place decides
-in_section : {X : Type 0} (R : ℕ → X → Type 0) (row : ℕ → X) (size place count : ℕ) → ((k : ℕ) → k < count → R (place + size * k) (row (place + size * k)))
-    → InSection R (record { place = place; count = count }) size (list_below count (λ k. row (place + size * k)))
-in_section R row size place count each = (rows_length count (λ k. row (place + size * k)), each_there R row size count place each)
+-- the rows of a section that each stand at its entry, by the row that an offset decides
+in_section : {X : Type 0} (R : ℕ → X → Type 0) (row : ℕ → X) (size offset count : ℕ) → ((k : ℕ) → k < count → R (offset + size * k) (row (offset + size * k)))
+    → InSection R (record { offset = offset; count = count }) size (list_below count (λ k. row (offset + size * k)))
+in_section R row size offset count each = (rows_length count (λ k. row (offset + size * k)), each_there R row size count offset each)
 
-only_section : {X : Type 0} (R : ℕ → X → Type 0) (row : ℕ → X) (size place count : ℕ) (rows : List X) → ((p : ℕ) (x : X) → R p x → x ≡ row p)
-    → InSection R (record { place = place; count = count }) size rows → rows ≡ list_below count (λ k. row (place + size * k))
-only_section R row size place count rows only h =
-    each_only R row size only place rows h.1 ∙ ap (λ n. list_below n (λ k. row (place + size * k))) h.0
+only_section : {X : Type 0} (R : ℕ → X → Type 0) (row : ℕ → X) (size offset count : ℕ) (rows : List X) → ((p : ℕ) (x : X) → R p x → x ≡ row p)
+    → InSection R (record { offset = offset; count = count }) size rows → rows ≡ list_below count (λ k. row (offset + size * k))
+only_section R row size offset count rows only h =
+    each_only R row size only offset rows h.1 ∙ ap (λ n. list_below n (λ k. row (offset + size * k))) h.0
 
 pub layout_says : (words : List ℕ) → is_image words ≡ true → Says words (layout_of words)
 unfolding layout_of indoms_of metrics_of values_of strings_of
@@ -316,21 +316,21 @@ layout_says words h = record {
   flags = refl;
   pid = refl;
   cluster = refl;
-  indoms = in_section (IndomAt words) (indom_row words) indom_size (section_of words 1).place (section_of words 1).count (λ i below. indom_there words i (good_indom words i h below));
-  metrics = in_section (MetricAt words) (metric_row words) metric_size (section_of words 3).place (section_of words 3).count
+  indoms = in_section (IndomAt words) (indom_row words) indom_size (section_of words 1).offset (section_of words 1).count (λ i below. indom_there words i (good_indom words i h below));
+  metrics = in_section (MetricAt words) (metric_row words) metric_size (section_of words 3).offset (section_of words 3).count
       (λ i below. metric_there words (metric_at words i) (metric_fields words i (good_metric words i h below)));
-  values = in_section (ValueAt words) (value_row words) value_size (section_of words 4).place (section_of words 4).count (λ i below. value_there words i h below);
-  strings = in_section (TextAt words) (string_text words) string_size (section_of words 5).place (section_of words 5).count (λ i below. refl);
+  values = in_section (ValueAt words) (value_row words) value_size (section_of words 4).offset (section_of words 4).count (λ i below. value_there words i h below);
+  strings = in_section (TextAt words) (string_text words) string_size (section_of words 5).offset (section_of words 5).count (λ i below. refl);
 }
 
 pub says_layout : (words : List ℕ) (other : Layout) → Says words other → other ≡ layout_of words
 unfolding layout_of indoms_of metrics_of values_of strings_of
 says_layout words other h =
     layouts_same other (layout_of words) h.version h.generation h.flags h.pid h.cluster
-    (only_section (IndomAt words) (indom_row words) indom_size (section_of words 1).place (section_of words 1).count other.indoms (indom_only words) h.indoms)
-    (only_section (MetricAt words) (metric_row words) metric_size (section_of words 3).place (section_of words 3).count other.metrics (metric_only words) h.metrics)
-    (only_section (ValueAt words) (value_row words) value_size (section_of words 4).place (section_of words 4).count other.values (value_only words) h.values)
-    (only_section (TextAt words) (string_text words) string_size (section_of words 5).place (section_of words 5).count other.strings (λ p text stands. stands) h.strings)
+    (only_section (IndomAt words) (indom_row words) indom_size (section_of words 1).offset (section_of words 1).count other.indoms (indom_only words) h.indoms)
+    (only_section (MetricAt words) (metric_row words) metric_size (section_of words 3).offset (section_of words 3).count other.metrics (metric_only words) h.metrics)
+    (only_section (ValueAt words) (value_row words) value_size (section_of words 4).offset (section_of words 4).count other.values (value_only words) h.values)
+    (only_section (TextAt words) (string_text words) string_size (section_of words 5).offset (section_of words 5).count other.strings (λ p text stands. stands) h.strings)
 
 pub says_one : SaysOneLayout
 says_one words h = (layout_of words, layout_says words h, says_layout words)

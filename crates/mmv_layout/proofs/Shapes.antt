@@ -18,7 +18,7 @@ use Rattle.mmv_layout.specs.Rows.{type_of}
 use Rattle.mmv_layout.specs.Form.{slot_in, slot_at, slots_of, offsets_of, form_of}
 use Rattle.mmv_layout.specs.ShapeLaws.{TakesAs, IsAlike, HasGenerationTwice, GenerationIsNoValue, ValueKeepsTheForm, LengthKeepsTheForm, GenerationKeepsTheForm}
 use Rattle.mmv_layout.proofs.Goods.{eq_of, header, good_value}
-use Rattle.mmv_layout.proofs.EntryPlaces.{Lies, section_stands, some_of, Stands, value_stands, few_words}
+use Rattle.mmv_layout.proofs.EntryOffsets.{Lies, section_stands, some_of, Stands, value_stands, few_words}
 use Rattle.mmv_layout.proofs.RowLists.{among_rows}
 use Rattle.mmv_layout.proofs.Looked.{five_words}
 use Rattle.mmv_layout.proofs.SlotLists.{GivenBy}
@@ -67,9 +67,9 @@ chosen words i h below six =
 
 -- further words
 
-pub number_before : (a more : List ℕ) (place : ℕ) → place < 8 * length a → number64 (a ++ more) place ≡ number64 a place
+pub number_before : (a more : List ℕ) (offset : ℕ) → offset < 8 * length a → number64 (a ++ more) offset ≡ number64 a offset
 unfolding number64
-number_before a more place below = get_or-append a more 0 (place / 8) (omega arith)
+number_before a more offset below = get_or-append a more 0 (offset / 8) (omega arith)
 
 pub longer_agrees : (a more : List ℕ) → is_image a ≡ true → length (a ++ more) ≤ 65536 → Agrees a (a ++ more)
 longer_agrees a more h few =
@@ -78,7 +78,7 @@ longer_agrees a more h few =
       longer = omega arith;
       few = few;
       again = number_before a more 8 (omega arith) ∙ twice a h ∙ sym (number_before a more 16 (omega arith));
-      same = λ place looked. number_before a more place looked.within;
+      same = λ offset looked. number_before a more offset looked.within;
       choices = λ i below six. let stands : Stands a (value_at a i) value_size = value_stands a i h below in
           ap (leads_to_string a) (number_before a more (extra_offset_in_value (value_at a i)) (inside (value_at a i) stands.within)) ∙ chosen a i h below six;
     }
@@ -98,15 +98,15 @@ twice_length : (a : List ℕ) (n : ℕ) → length (with_twice a n) ≡ length a
 unfolding with_twice
 twice_length a n = length-set (slice_set a 1 n) 2 n ∙ length-set a 1 n
 
-number_beside : (a : List ℕ) (n place : ℕ) → (place < 8) ⊎ (24 ≤ place) → number64 (with_twice a n) place ≡ number64 a place
+number_beside : (a : List ℕ) (n offset : ℕ) → (offset < 8) ⊎ (24 ≤ offset) → number64 (with_twice a n) offset ≡ number64 a offset
 unfolding number64 with_twice
-number_beside a n place outside =
-    get_or-set_other (slice_set a 1 n) 2 (place / 8) n 0 (λ e. far (place / 8) outside (omega arith) e) ∙ get_or-set_other a 1 (place / 8) n 0 (λ e. close (place / 8) outside (omega arith) e)
+number_beside a n offset outside =
+    get_or-set_other (slice_set a 1 n) 2 (offset / 8) n 0 (λ e. far (offset / 8) outside (omega arith) e) ∙ get_or-set_other a 1 (offset / 8) n 0 (λ e. close (offset / 8) outside (omega arith) e)
   where
-    far : (q : ℕ) → (place < 8) ⊎ (24 ≤ place) → q ≡ place / 8 → q ≡ 2 → ⊥
+    far : (q : ℕ) → (offset < 8) ⊎ (24 ≤ offset) → q ≡ offset / 8 → q ≡ 2 → ⊥
     far q o d e = grind arith
 
-    close : (q : ℕ) → (place < 8) ⊎ (24 ≤ place) → q ≡ place / 8 → q ≡ 1 → ⊥
+    close : (q : ℕ) → (offset < 8) ⊎ (24 ≤ offset) → q ≡ offset / 8 → q ≡ 1 → ⊥
     close q o d e = grind arith
 
 first_is : (a : List ℕ) (n : ℕ) → 5 ≤ length a → number64 (with_twice a n) 8 ≡ n
@@ -125,7 +125,7 @@ twice_agrees a n h =
       longer = omega arith;
       few = omega arith;
       again = first_is a n five ∙ sym (second_is a n five);
-      same = λ place looked. number_beside a n place looked.outside;
+      same = λ offset looked. number_beside a n offset looked.outside;
       choices = λ i below six. let stands : Stands a (value_at a i) value_size = value_stands a i h below in
           ap (leads_to_string a) (number_beside a n (extra_offset_in_value (value_at a i)) (inr (behind (value_at a i) stands.behind))) ∙ chosen a i h below six;
     }
@@ -139,20 +139,20 @@ generation_keeps words n h fits = alike words (with_twice words n) h (twice_agre
 
 -- another value
 
-number_other : (a : List ℕ) (w v place : ℕ) → place / 8 ≢ w → number64 (slice_set a w v) place ≡ number64 a place
+number_other : (a : List ℕ) (w v offset : ℕ) → offset / 8 ≢ w → number64 (slice_set a w v) offset ≡ number64 a offset
 unfolding number64
-number_other a w v place other = get_or-set_other a w (place / 8) v 0 other
+number_other a w v offset other = get_or-set_other a w (offset / 8) v 0 other
 
-number_there : (a : List ℕ) (w v place : ℕ) → w < length a → place / 8 ≡ w → number64 (slice_set a w v) place ≡ v
+number_there : (a : List ℕ) (w v offset : ℕ) → w < length a → offset / 8 ≡ w → number64 (slice_set a w v) offset ≡ v
 unfolding number64
-number_there a w v place below here = ap (slice_index (slice_set a w v)) here ∙ get_or-set_same a w v 0 below
+number_there a w v offset below here = ap (slice_index (slice_set a w v)) here ∙ get_or-set_same a w v 0 below
 
--- places outside of a value's first two fields lie in other words
-off_first : (value place : ℕ) → value % 8 ≡ 0 → (place < value) ⊎ (metric_offset_in_value value ≤ place) → place / 8 ≢ value / 8
-off_first value place whole outside e = ⊎_elim (λ (x : place < value). absurd (omega arith)) (λ (y : metric_offset_in_value value ≤ place). absurd (omega arith)) outside
+-- offsets outside of a value's first two fields lie in other words
+off_first : (value offset : ℕ) → value % 8 ≡ 0 → (offset < value) ⊎ (metric_offset_in_value value ≤ offset) → offset / 8 ≢ value / 8
+off_first value offset whole outside e = ⊎_elim (λ (x : offset < value). absurd (omega arith)) (λ (y : metric_offset_in_value value ≤ offset). absurd (omega arith)) outside
 
-off_second : (value place : ℕ) → value % 8 ≡ 0 → (place < value) ⊎ (metric_offset_in_value value ≤ place) → place / 8 ≢ value / 8 + 1
-off_second value place whole outside e = ⊎_elim (λ (x : place < value). absurd (omega arith)) (λ (y : metric_offset_in_value value ≤ place). absurd (omega arith)) outside
+off_second : (value offset : ℕ) → value % 8 ≡ 0 → (offset < value) ⊎ (metric_offset_in_value value ≤ offset) → offset / 8 ≢ value / 8 + 1
+off_second value offset whole outside e = ⊎_elim (λ (x : offset < value). absurd (omega arith)) (λ (y : metric_offset_in_value value ≤ offset). absurd (omega arith)) outside
 
 -- the extra field of a value is not the value field of one
 extra_apart : (first i j : ℕ) → first % 8 ≡ 0 → ((first + value_size * i) + 8) / 8 ≡ (first + value_size * j) / 8 → ⊥
@@ -171,16 +171,16 @@ text_takes : (words : List ℕ) (kind : Kind) (value : ℕ) → kind ≡ kinds.T
 unfolding form_of
 text_takes words kind value is takes = subst (λ k. TakesAs k (offsets_of words) value) is takes
 
-section_whole : (words : List ℕ) (i : ℕ) → is_image words ≡ true → i < value_count words → (section_of words 4).place % 8 ≡ 0
+section_whole : (words : List ℕ) (i : ℕ) → is_image words ≡ true → i < value_count words → (section_of words 4).offset % 8 ≡ 0
 section_whole words i h below =
-    let lies : Lies words (section_of words 4).place (section_bytes 4 (section_of words 4).count) = section_stands words 4 h (some_of i (value_count words) below) in lies.whole
+    let lies : Lies words (section_of words 4).offset (section_bytes 4 (section_of words 4).count) = section_stands words 4 h (some_of i (value_count words) below) in lies.whole
 
 -- the word of a slot as the first or the second word of its value
-slot_place : (words : List ℕ) (value : ℕ) (slot : Slot) (place : ℕ) → value % 8 ≡ 0 → SlotIs words value slot → (place < value) ⊎ (metric_offset_in_value value ≤ place) → place / 8 ≢ slot.word
-slot_place words value slot place whole is outside e =
+slot_offset : (words : List ℕ) (value : ℕ) (slot : Slot) (offset : ℕ) → value % 8 ≡ 0 → SlotIs words value slot → (offset < value) ⊎ (metric_offset_in_value value ≤ offset) → offset / 8 ≢ slot.word
+slot_offset words value slot offset whole is outside e =
     ⊎_elim
-    (λ (x : (type_of words value ≤ 3) × (slot.word ≡ value / 8)). off_first value place whole outside (e ∙ x.1))
-    (λ (y : (type_of words value ≡ 6) × (slot.word ≡ value / 8 + 1)). off_second value place whole outside (e ∙ y.1)) is.word
+    (λ (x : (type_of words value ≤ 3) × (slot.word ≡ value / 8)). off_first value offset whole outside (e ∙ x.1))
+    (λ (y : (type_of words value ≡ 6) × (slot.word ≡ value / 8 + 1)). off_second value offset whole outside (e ∙ y.1)) is.word
 
 -- where the extra field of a string value is the word of a slot, that takes offsets of strings alone
 extra_takes : (words : List ℕ) (i j v : ℕ) (slot : Slot) → is_image words ≡ true → i < value_count words → SlotIs words (value_at words j) slot
@@ -188,7 +188,7 @@ extra_takes : (words : List ℕ) (i j v : ℕ) (slot : Slot) → is_image words 
 extra_takes words i j v slot h below is here takes =
     ⊎_elim
     (λ (x : (type_of words (value_at words j) ≤ 3) × (slot.word ≡ value_at words j / 8)).
-    absurd (extra_apart (section_of words 4).place i j (section_whole words i h below) (here ∙ x.1)))
+    absurd (extra_apart (section_of words 4).offset i j (section_whole words i h below) (here ∙ x.1)))
     (λ (y : (type_of words (value_at words j) ≡ 6) × (slot.word ≡ value_at words j / 8 + 1)).
     string_leads words v (text_takes words slot.kind v (text_kind words (value_at words j) slot is.is y.0) takes)) is.word
 
@@ -206,7 +206,7 @@ slot_agrees a v slot h among takes =
       longer = omega arith;
       few = omega arith;
       again = number_other a slot.word v 8 (far_from slot.word 1 lies.0 (omega arith)) ∙ twice a h ∙ sym (number_other a slot.word v 16 (far_from slot.word 2 lies.0 (omega arith)));
-      same = λ place looked. number_other a slot.word v place (slot_place a (value_at a given.index) slot place stands.whole is (looked.apart given.index given.below));
+      same = λ offset looked. number_other a slot.word v offset (slot_offset a (value_at a given.index) slot offset stands.whole is (looked.apart given.index given.below));
       choices = λ i below six. ⊎_elim
           (λ (here : (extra_offset_in_value (value_at a i)) / 8 ≡ slot.word).
           ap (leads_to_string a) (number_there a slot.word v (extra_offset_in_value (value_at a i)) lies.1 here) ∙ extra_takes a i given.index v slot h below is here takes)
@@ -225,6 +225,6 @@ self_agrees a h = record {
   longer = omega arith;
   few = few_words a h;
   again = twice a h;
-  same = λ place looked. refl;
+  same = λ offset looked. refl;
   choices = λ i below six. chosen a i h below six;
 }

@@ -12,7 +12,7 @@ use Rattle.mmv_format.specs.declared.rows.Slot.{Slot}
 use Rattle.mmv_layout.specs.Rows.{type_of}
 use Rattle.mmv_layout.specs.Form.{slot_in, slot_at, slots_of, is_slot_of, IsSlotOf, IsOther}
 use Rattle.mmv_layout.proofs.Goods.{le_of, eq_of, good_metric, good_value}
-use Rattle.mmv_layout.proofs.EntryPlaces.{Stands, value_stands}
+use Rattle.mmv_layout.proofs.EntryOffsets.{Stands, value_stands}
 use Rattle.mmv_layout.proofs.Saying.{value_metric}
 use Rattle.mmv_layout.proofs.SlotLists.{GivenBy, given_of, found_among, found_none}
 

@@ -88,10 +88,10 @@ module _ (a : List ℕ) (h : is_image a ≡ true) where
       let (q, q_below, q_is) = domain_leads a a h (self_agrees a h) j y in
       p_is ∙ ap (indom_at a) (indom_once p q p_below q_below (sym (ap (number32 a) p_is) ∙ e ∙ ap (number32 a) q_is)) ∙ sym q_is
 
-  -- places of instances with one number, whose domains have one serial, are one
-  place_once : (x y : ℕ) → LeadsTo (instance_count a) (instance_at a) x → LeadsTo (instance_count a) (instance_at a) y → number32 a (number64 a x) ≡ number32 a (number64 a y)
+  -- offsets of instances with one number, whose domains have one serial, are one
+  offset_once : (x y : ℕ) → LeadsTo (instance_count a) (instance_at a) x → LeadsTo (instance_count a) (instance_at a) y → number32 a (number64 a x) ≡ number32 a (number64 a y)
       → number_in_instance a x ≡ number_in_instance a y → x ≡ y
-  place_once x y (p, p_below, p_is) (q, q_below, q_is) e f =
+  offset_once x y (p, p_below, p_is) (q, q_below, q_is) e f =
       let domains : number64 a (instance_at a p) ≡ number64 a (instance_at a q) =
       domain_once p q p_below q_below (sym (ap (λ n. number32 a (number64 a n)) p_is) ∙ e ∙ ap (λ n. number32 a (number64 a n)) q_is) in
       p_is ∙ ap (instance_at a) (instance_once p q p_below q_below domains (sym (ap (number_in_instance a) p_is) ∙ f ∙ ap (number_in_instance a) q_is)) ∙ sym q_is
@@ -116,9 +116,9 @@ module _ (a : List ℕ) (h : is_image a ≡ true) where
       taken true x y p e = cc
       taken false x y p e = p
 
-  small32 : (place : ℕ) → number32 a place < 2 ^ 32
+  small32 : (offset : ℕ) → number32 a offset < 2 ^ 32
   unfolding number32
-  small32 place = omega arith
+  small32 offset = omega arith
 
   number_of : (x y : ℕ) → cast_signed w32 (number32 a x) ≡ cast_signed w32 (number32 a y) → number32 a x ≡ number32 a y
   number_of x y e = sym (of_z-to_z w32 (number32 a x) (small32 x)) ∙ ap (cast_unsigned w32) e ∙ of_z-to_z w32 (number32 a y) (small32 y)
@@ -142,7 +142,7 @@ module _ (a : List ℕ) (h : is_image a ≡ true) where
             (λ (none : is_no_domain (domain_of a (value_at a i)) ≡ true). null_field i x none ∙ sym (null_field j y (sym (ap is_no_domain domains) ∙ none)))
             (λ (some : is_no_domain (domain_of a (value_at a i)) ≡ false).
             let others : is_no_domain (domain_of a (value_at a j)) ≡ false = sym (ap is_no_domain domains) ∙ some in
-            place_once (instance_in_value a (value_at a i)) (instance_in_value a (value_at a j)) (instance_there a a h (self_agrees a h) i x some) (instance_there a a h (self_agrees a h) j y others)
+            offset_once (instance_in_value a (value_at a i)) (instance_in_value a (value_at a j)) (instance_there a a h (self_agrees a h) i x some) (instance_there a a h (self_agrees a h) j y others)
             (field_serial i x some ∙ domains ∙ sym (field_serial j y others))
             (number_of (number_offset_in_instance (instance_in_value a (value_at a i))) (number_offset_in_instance (instance_in_value a (value_at a j))) (sym (told i some) ∙ instances ∙ told j others)))
             (either (is_no_domain (domain_of a (value_at a i)))),

@@ -13,7 +13,7 @@ use Rattle.mmv_format.specs.declared.rows.MetricRow.{MetricRow}
 use Rattle.mmv_format.specs.declared.rows.Slot.{Slot}
 use Rattle.mmv_layout.specs.Rows.{list_below, string_text, item_of, type_of, instance_of, indoms_of, metrics_of, strings_of}
 
--- the slot of the value at a place, in this word; the instance is -1 where the metric has no domain
+-- the slot of the value at an offset, in this word; the instance is -1 where the metric has no domain
 abbrev pub slot_in : List ℕ → ℕ → ℕ → Slot
 slot_in words value word = record {
   item = item_of words value;
@@ -22,7 +22,7 @@ slot_in words value word = record {
   word = word;
 }
 
--- the value word of the value at a place, if it has one: of types 0 to 3 the word of its value field, and of type 6
+-- the value word of the value at an offset, if it has one: of types 0 to 3 the word of its value field, and of type 6
 -- that of its extra field
 unfoldable pub slot_at : List ℕ → ℕ → Option Slot
 slot_at words value =

@@ -1,4 +1,4 @@
--- What stands at the places of an image, row by row (mmv(5), version 1), as values. It is total: where a code has no
+-- What stands at the offsets of an image, row by row (mmv(5), version 1), as values. It is total: where a code has no
 -- meaning, or a reference doesn't lead, it is something, but no image is so.
 use Rattle.std.specs.Prelude.{ℕ, zero, suc, ℤ, ◌+◌, ◌*◌, ◌==◌, nat_le, if◌then◌else◌, List, [], ◌∷◌, ◌++◌, Option, None, Some, unwrap_or}
 use Rattle.std.specs.Int.{w32, cast_signed}
@@ -22,23 +22,23 @@ unfoldable pub list_below : {X : Type 0} → ℕ → (ℕ → X) → List X
 list_below zero row = []
 list_below (suc n) row = list_below n row ++ row n ∷ []
 
--- the number of the instance at a place, with its sign
+-- the number of the instance at an offset, with its sign
 abbrev pub number_of : List ℕ → ℕ → ℤ
 number_of words instance = cast_signed w32 (number_in_instance words instance)
 
--- the text of the string at a place
+-- the text of the string at an offset
 abbrev pub string_text : List ℕ → ℕ → List ℕ
-string_text words place = text_at words place string_size
+string_text words offset = text_at words offset string_size
 
 -- the help to which a field leads, if it isn't 0
 unfoldable pub help_of : List ℕ → ℕ → Option (List ℕ)
 help_of words field = if number64 words field == 0 then None else Some (string_text words (number64 words field))
 
--- the instance at a place: its number and its name
+-- the instance at an offset: its number and its name
 unfoldable pub instance_row : List ℕ → ℕ → ℤ × List ℕ
 instance_row words instance = (number_of words instance, name_in_instance words instance)
 
--- the instances of the domain at a place: as many as it counts, from its first instance on
+-- the instances of the domain at an offset: as many as it counts, from its first instance on
 unfoldable pub instances_of : List ℕ → ℕ → List (ℤ × List ℕ)
 instances_of words domain = list_below (count_in_indom words domain) (λ k. instance_row words (first_in_indom words domain + instance_size * k))
 
@@ -66,7 +66,7 @@ metric_row words metric = record {
   long = help_of words (long_offset_in_metric metric);
 }
 
--- the item, the type and the serial of the metric of the value at a place
+-- the item, the type and the serial of the metric of the value at an offset
 abbrev pub item_of : List ℕ → ℕ → ℕ
 item_of words value = item_in_metric words (metric_of words value)
 

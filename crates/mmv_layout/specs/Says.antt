@@ -17,22 +17,22 @@ use Rattle.mmv_format.specs.declared.rows.Content.TheVariants.{Number, Choice, R
 use Rattle.mmv_format.specs.declared.rows.Layout.{Layout}
 use Rattle.mmv_layout.specs.Rows.{number_of, item_of, type_of, domain_of}
 
--- row k of a list stands at a place and k times the size of a row
+-- row k of a list stands at an offset and k times the size of a row
 unfoldable pub EachAt : {X : Type 0} → (ℕ → X → Type 0) → ℕ → ℕ → List X → Type 0
 EachAt R at size [] = Unit {0}
 EachAt R at size (row ∷ rows) = R at row × EachAt R (at + size) size rows
 
 -- so many rows as a section has entries, each at its entry
 abbrev pub InSection : {X : Type 0} → (ℕ → X → Type 0) → Section → ℕ → List X → Type 0
-InSection R section size rows = (length rows ≡ section.count) × EachAt R section.place size rows
+InSection R section size rows = (length rows ≡ section.count) × EachAt R section.offset size rows
 
--- a place is that of an entry
+-- an offset is that of an entry
 abbrev pub LeadsTo : ℕ → (ℕ → ℕ) → ℕ → Type 0
-LeadsTo count entry place = (k : ℕ) × (k < count) × (place ≡ entry k)
+LeadsTo count entry offset = (k : ℕ) × (k < count) × (offset ≡ entry k)
 
--- a string stands at a place, with this text
+-- a string stands at an offset, with this text
 abbrev pub StringAt : List ℕ → ℕ → List ℕ → Type 0
-StringAt words place text = LeadsTo (string_count words) (string_at words) place × (text ≡ text_at words place string_size)
+StringAt words offset text = LeadsTo (string_count words) (string_at words) offset × (text ≡ text_at words offset string_size)
 
 -- a help field is 0, or leads to a string with this text
 abbrev pub HelpAt : List ℕ → ℕ → Option (List ℕ) → Type 0
@@ -94,9 +94,9 @@ pub record ValueAt (words : List ℕ) (value : ℕ) (row : ValueRow) : Type 0 wh
   pub instance : InstanceOf words value row.instance
   pub content : ContentAt words value row.content
 
--- the text of the string at a place
+-- the text of the string at an offset
 abbrev pub TextAt : List ℕ → ℕ → List ℕ → Type 0
-TextAt words place text = text ≡ text_at words place string_size
+TextAt words offset text = text ≡ text_at words offset string_size
 
 -- Words say a layout: the header's fields, of which the generation stands twice, and the rows of each section
 pub record Says (words : List ℕ) (layout : Layout) : Type 0 where

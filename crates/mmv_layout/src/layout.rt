@@ -18,15 +18,15 @@ use mmv_format::{
 use pcp_base::{Kind, List, NoMemory, Semantics, Text, Units};
 use std::alloc::Global;
 
-/// The text of the string at a place.
-pub fn string_text(alloc: Global, words: &[u64], place: u128) -> Result<Text, NoMemory>
-    requires { place < 2 ^ 100 }
-    ensures { IfOk result (λ text. text ≡ text_at words.now place string_size) }
+/// The text of the string at an offset.
+pub fn string_text(alloc: Global, words: &[u64], offset: u128) -> Result<Text, NoMemory>
+    requires { offset < 2 ^ 100 }
+    ensures { IfOk result (λ text. text ≡ text_at words.now offset string_size) }
 {
-    Ok(text_at(alloc, words, place, STRING_SIZE as u32)?)
+    Ok(text_at(alloc, words, offset, STRING_SIZE as u32)?)
 }
 
-/// The number of the instance at a place.
+/// The number of the instance at an offset.
 fn number_of(words: &[u64], instance: u128) -> i32
     requires { instance < 2 ^ 80 }
     ensures { result ≡ number_of words.now instance }
@@ -39,15 +39,15 @@ fn number_of(words: &[u64], instance: u128) -> i32
 fn help_of(alloc: Global, words: &[u64], field: u128) -> Result<Option<Text>, NoMemory>
     ensures { IfOk result (λ help. help ≡ help_of words.now field) }
 {
-    let place = number64(words, field);
-    if place == 0 {
+    let offset = number64(words, field);
+    if offset == 0 {
         return Ok(None);
     }
-    let text = string_text(alloc, words, place as u128)?;
+    let text = string_text(alloc, words, offset as u128)?;
     Ok(Some(text))
 }
 
-/// The number and the name of the instance at a place.
+/// The number and the name of the instance at an offset.
 #[tactic(auto, unfolding(crate::specs::Rows::instance_row))]
 fn instance_row(alloc: Global, words: &[u64], instance: u128) -> Result<(i32, Text), NoMemory>
     requires { instance < 2 ^ 80 }
@@ -57,7 +57,7 @@ fn instance_row(alloc: Global, words: &[u64], instance: u128) -> Result<(i32, Te
     Ok((number_of(words, instance), name))
 }
 
-/// The instances of the domain at a place, in the order of its run.
+/// The instances of the domain at an offset, in the order of its run.
 #[tactic(auto, using(crate::proofs::RowLists::rows_none, crate::proofs::RowLists::rows_more), unfolding(crate::specs::Rows::instances_of))]
 fn instances_of(alloc: Global, words: &[u64], domain: u128) -> Result<List<(i32, Text)>, NoMemory>
     requires { domain < 2 ^ 80 }
@@ -71,7 +71,7 @@ fn instances_of(alloc: Global, words: &[u64], domain: u128) -> Result<List<(i32,
     Ok(rows)
 }
 
-/// The row of the domain at a place.
+/// The row of the domain at an offset.
 #[tactic(auto, unfolding(crate::specs::Rows::indom_row))]
 fn indom_row(alloc: Global, words: &[u64], domain: u128) -> Result<IndomRow, NoMemory>
     requires { domain < 2 ^ 80 }
@@ -96,7 +96,7 @@ fn serial_of(serial: u32) -> Option<u32>
     Some(serial)
 }
 
-/// The row of the metric at a place.
+/// The row of the metric at an offset.
 #[tactic(auto, unfolding(crate::specs::Rows::metric_row))]
 fn metric_row(alloc: Global, words: &[u64], metric: u128) -> Result<MetricRow, NoMemory>
     requires { metric < 2 ^ 80 }
@@ -116,7 +116,7 @@ fn metric_row(alloc: Global, words: &[u64], metric: u128) -> Result<MetricRow, N
     })
 }
 
-/// The number of the instance of the value at a place, if its metric has a domain.
+/// The number of the instance of the value at an offset, if its metric has a domain.
 #[tactic(auto, unfolding(crate::specs::Rows::instance_of))]
 pub fn instance_of(words: &[u64], value: u128) -> Option<i32>
     requires { value < 2 ^ 80 }
@@ -128,7 +128,7 @@ pub fn instance_of(words: &[u64], value: u128) -> Option<i32>
     Some(number_of(words, instance_in_value(words, value) as u128))
 }
 
-/// The content of the value at a place, by the type of its metric.
+/// The content of the value at an offset, by the type of its metric.
 #[tactic(auto, unfolding(crate::specs::Rows::content_of))]
 fn content_of(alloc: Global, words: &[u64], value: u128) -> Result<Content, NoMemory>
     requires { value < 2 ^ 80 }
@@ -146,7 +146,7 @@ fn content_of(alloc: Global, words: &[u64], value: u128) -> Result<Content, NoMe
     Ok(Content::Choice(text))
 }
 
-/// The row of the value at a place.
+/// The row of the value at an offset.
 #[tactic(auto, unfolding(crate::specs::Rows::value_row))]
 fn value_row(alloc: Global, words: &[u64], value: u128) -> Result<ValueRow, NoMemory>
     requires { value < 2 ^ 80 }

@@ -12,7 +12,7 @@ use mmv_format::{
 use pcp_base::{Kind, List, NoMemory, Text};
 use std::alloc::Global;
 
-/// The type of the metric of the value at a place.
+/// The type of the metric of the value at an offset.
 fn type_of(words: &[u64], value: u128) -> u32
     requires { value < 2 ^ 80 }
     ensures { result ≡ type_of words.now value }
@@ -20,7 +20,7 @@ fn type_of(words: &[u64], value: u128) -> u32
     type_in_metric(words, metric_of(words, value) as u128)
 }
 
-/// The slot of the value at a place, in a word.
+/// The slot of the value at an offset, in a word.
 fn slot_in(words: &[u64], value: u128, word: u32) -> Slot
     requires { value < 2 ^ 80 }
     ensures { result ≡ slot_in words.now value word }
@@ -33,7 +33,7 @@ fn slot_in(words: &[u64], value: u128, word: u32) -> Slot
     }
 }
 
-/// The value word of the value at a place: the first of a number of 32 or 64 bits, the second of a string.
+/// The value word of the value at an offset: the first of a number of 32 or 64 bits, the second of a string.
 #[tactic(auto, unfolding(crate::specs::Form::slot_at))]
 fn slot_at(words: &[u64], value: u128) -> Option<Slot>
     requires { value < 2 ^ 20 }
@@ -51,7 +51,7 @@ fn slot_at(words: &[u64], value: u128) -> Option<Slot>
 }
 
 /// The value words of an image, in the order of the values.
-#[tactic(auto, using(crate::proofs::SlotLists::gives_none, crate::proofs::SlotLists::gives_nothing, crate::proofs::SlotLists::gives_one, crate::proofs::EntryPlaces::value_near), unfolding(crate::specs::Form::slots_of))]
+#[tactic(auto, using(crate::proofs::SlotLists::gives_none, crate::proofs::SlotLists::gives_nothing, crate::proofs::SlotLists::gives_one, crate::proofs::EntryOffsets::value_near), unfolding(crate::specs::Form::slots_of))]
 pub fn slots(alloc: Global, words: &[u64]) -> Result<List<Slot>, NoMemory>
     requires { IsImage words.now }
     ensures { IfOk result (λ slots. slots ≡ slots_of words.now) }
@@ -66,16 +66,16 @@ pub fn slots(alloc: Global, words: &[u64]) -> Result<List<Slot>, NoMemory>
 }
 
 /// The strings of an image with their offsets, in section order.
-#[tactic(auto, using(crate::proofs::RowLists::rows_none, crate::proofs::RowLists::rows_more, crate::proofs::EntryPlaces::string_near), unfolding(crate::specs::Form::texts_of))]
+#[tactic(auto, using(crate::proofs::RowLists::rows_none, crate::proofs::RowLists::rows_more, crate::proofs::EntryOffsets::string_near), unfolding(crate::specs::Form::texts_of))]
 pub fn texts(alloc: Global, words: &[u64]) -> Result<List<(u64, Text)>, NoMemory>
     requires { IsImage words.now }
     ensures { IfOk result (λ texts. texts ≡ texts_of words.now) }
 {
     let mut texts = List::empty(alloc);
     for i in 0..string_count(words) {
-        let place = string_at(words, i);
-        let text = string_text(alloc, words, place)?;
-        texts.push((place as u64, text))?;
+        let offset = string_at(words, i);
+        let text = string_text(alloc, words, offset)?;
+        texts.push((offset as u64, text))?;
     }
     Ok(texts)
 }
@@ -88,7 +88,7 @@ fn is_slot_of(item: u32, instance: i32, slot: Slot) -> bool
 }
 
 /// The first value word of an item and an instance.
-#[tactic(auto, using(crate::proofs::EntryPlaces::value_near), unfolding(crate::specs::Form::slots_of))]
+#[tactic(auto, using(crate::proofs::EntryOffsets::value_near), unfolding(crate::specs::Form::slots_of))]
 fn first_slot(words: &[u64], item: u32, instance: i32) -> Option<Slot>
     requires { IsImage words.now }
     ensures { result ≡ find (is_slot_of item instance) (slots_of words.now) }

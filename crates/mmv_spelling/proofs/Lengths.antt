@@ -79,10 +79,10 @@ pub length_strings : (s : List (List ℕ)) → length (string_section s) ≡ str
 unfolding string_section
 length_strings s = length_even (first_words string_length) string_length (length_first string_length) s
 
-length_entry : (type count place : ℕ) → length (entry_words type count place) ≡ 2 * one_if_some count
-length_entry type count place = here (nat_eq count 0)
+length_entry : (type count offset : ℕ) → length (entry_words type count offset) ≡ 2 * one_if_some count
+length_entry type count offset = here (nat_eq count 0)
   where
-    here : (b : Bool) → length (cond b [] ((type + 4294967296 * count) ∷ place ∷ [])) ≡ 2 * cond b 0 1
+    here : (b : Bool) → length (cond b [] ((type + 4294967296 * count) ∷ offset ∷ [])) ≡ 2 * cond b 0 1
     here true = refl
     here false = refl
 

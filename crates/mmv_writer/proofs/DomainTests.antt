@@ -38,9 +38,9 @@ good_run draft s few d i at row here e =
     let within : k < length row.instances = subst (λ n. k < n) run below in
     let (instance, inside) = get_some row.instances k within in
     let first : number64 words (first_offset_in_indom at) ≡ (offsets draft s).instances + instance_size * instances_in (take i draft.indoms) = from ∙ first_is draft s d i row here (omega arith) in
-    let place : number64 words (first_offset_in_indom at) + instance_size * k ≡ (offsets draft s).instances + instance_size * (instances_in (take i draft.indoms) + k) = omega arith in
+    let offset : number64 words (first_offset_in_indom at) + instance_size * k ≡ (offsets draft s).instances + instance_size * (instances_in (take i draft.indoms) + k) = omega arith in
     let owner : number64 words (number64 words (first_offset_in_indom at) + instance_size * k) ≡ at = owner_read draft s d i k (number64 words (first_offset_in_indom at) + instance_size * k) row instance here inside (omega arith) ∙ back draft s at i e in
-    ap₂ (λ a b. a && b) (instance_leads_to draft s few (instances_in (take i draft.indoms) + k) (number64 words (first_offset_in_indom at) + instance_size * k) (omega arith) place) (eq-eqb (number64 words (number64 words (first_offset_in_indom at) + instance_size * k)) at owner))
+    ap₂ (λ a b. a && b) (instance_leads_to draft s few (instances_in (take i draft.indoms) + k) (number64 words (first_offset_in_indom at) + instance_size * k) (omega arith) offset) (eq-eqb (number64 words (number64 words (first_offset_in_indom at) + instance_size * k)) at owner))
 
 new_indom : (draft : Layout) (s : List (List ℕ)) → words_in (counts_of draft s) ≤ 65536 → IsDraft draft → (i : ℕ) (row : IndomRow) → slice_get draft.indoms i ≡ Some row → is_new_indom (spelled draft s) i ≡ true
 unfolding is_new_indom has_serial
@@ -56,12 +56,12 @@ unfolding is_good_indom domain_words
 good_indom draft s few d helps i below =
     let (row, here) = get_some draft.indoms i below in
     let words : List ℕ = spelled draft s in
-    let place : indom_at words i ≡ 8 * (domains_from draft s + indom_length * i) = indom_is draft s few i below in
+    let offset : indom_at words i ≡ 8 * (domains_from draft s + indom_length * i) = indom_is draft s few i below in
     let stand : Stands words (domains_from draft s + indom_length * i) (domain_words (offsets draft s) s draft.indoms row) = stand_domain draft s i row here in
     let short : help_leads words (short_offset_in_indom (indom_at words i)) ≡ true = help_good draft s few row.short (short_offset_in_indom (indom_at words i)) (helps i row here).0 (word_read words (domains_from draft s + indom_length * i) 2 (short_offset_in_indom (indom_at words i)) (domain_words (offsets draft s) s draft.indoms row) stand (omega arith) (omega arith)) in
     let long : help_leads words (long_offset_in_indom (indom_at words i)) ≡ true = help_good draft s few row.long (long_offset_in_indom (indom_at words i)) (helps i row here).1 (word_read words (domains_from draft s + indom_length * i) 3 (long_offset_in_indom (indom_at words i)) (domain_words (offsets draft s) s draft.indoms row) stand (omega arith) (omega arith)) in
-    ap₂ (λ a b. a && b) (ap₂ (λ a b. a && b) (ap₂ (λ a b. a && b) (ap₂ (λ a b. a && b) short long) (good_run draft s few d i (indom_at words i) row here place)) (new_indom draft s few d i row here))
-    (ap is_serial (serial_read draft s few d i (indom_at words i) row here place) ∙ (d.domains i row here).serial)
+    ap₂ (λ a b. a && b) (ap₂ (λ a b. a && b) (ap₂ (λ a b. a && b) (ap₂ (λ a b. a && b) short long) (good_run draft s few d i (indom_at words i) row here offset)) (new_indom draft s few d i row here))
+    (ap is_serial (serial_read draft s few d i (indom_at words i) row here offset) ∙ (d.domains i row here).serial)
 
 pub good_indoms : (draft : Layout) (s : List (List ℕ)) → words_in (counts_of draft s) ≤ 65536 → IsDraft draft → Each (λ row. HasHelp s row.short × HasHelp s row.long) draft.indoms → indoms_are_good (spelled draft s) ≡ true
 unfolding indoms_are_good
@@ -183,12 +183,12 @@ good_instance draft s few d q below =
     let words : List ℕ = spelled draft s in
     let m : Member draft.indoms q = member draft.indoms q below in
     let at : instance_at words q ≡ 8 * (instances_from draft s + instance_length * q) = instance_is draft s few q below in
-    let place : instance_at words q ≡ 8 * (instances_from draft s + instance_length * (instances_in (take m.i draft.indoms) + m.k)) = at ∙ ap (λ x. 8 * (instances_from draft s + instance_length * x)) m.is in
+    let offset : instance_at words q ≡ 8 * (instances_from draft s + instance_length * (instances_in (take m.i draft.indoms) + m.k)) = at ∙ ap (λ x. 8 * (instances_from draft s + instance_length * x)) m.is in
     let is : IsInstance m.instance = (d.domains m.i m.row m.at).instances m.k m.instance m.within in
-    ap₂ (λ a b. a && b) (ap₂ (λ a b. a && b) (ap₂ (λ a b. a && b) (named draft s d m.i m.k (instance_at words q) m.row m.instance m.at m.within place) (in_run draft s few d m.i m.k (instance_at words q) m.row m.instance m.at m.within place))
+    ap₂ (λ a b. a && b) (ap₂ (λ a b. a && b) (ap₂ (λ a b. a && b) (named draft s d m.i m.k (instance_at words q) m.row m.instance m.at m.within offset) (in_run draft s few d m.i m.k (instance_at words q) m.row m.instance m.at m.within offset))
     (all_hold q (λ j. not (is_same_instance words (instance_at words j) (instance_at words q))) (λ j less.
     ap not (other_instance draft s d j q (instance_at words j) (instance_at words q) (member draft.indoms j (omega arith)) m less (instance_is draft s few j (omega arith)) at))))
-    (ap is_instance_number (number_read draft s d m.i m.k (number_offset_in_instance (instance_at words q)) is.number.0 m.row m.instance m.at m.within is.number.1 is.number.2 (ap number_offset_in_instance place)) ∙ small is.number.0 is.number.2)
+    (ap is_instance_number (number_read draft s d m.i m.k (number_offset_in_instance (instance_at words q)) is.number.0 m.row m.instance m.at m.within is.number.1 is.number.2 (ap number_offset_in_instance offset)) ∙ small is.number.0 is.number.2)
 
 pub good_instances : (draft : Layout) (s : List (List ℕ)) → words_in (counts_of draft s) ≤ 65536 → IsDraft draft → instances_are_good (spelled draft s) ≡ true
 unfolding instances_are_good

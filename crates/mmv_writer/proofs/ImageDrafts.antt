@@ -126,10 +126,10 @@ unfolding number32
 small32 words at = omega arith
 
 module _ (words : List ℕ) (h : is_image words ≡ true) where
-  string_is : (place : ℕ) → leads_to_string words place ≡ true → IsString (string_text words place)
+  string_is : (offset : ℕ) → leads_to_string words offset ≡ true → IsString (string_text words offset)
   unfolding is_good_string
-  string_is place leads =
-      let (k, below, stands) = leads_there (section_of words 5).place (section_of words 5).count string_size place leads in
+  string_is offset leads =
+      let (k, below, stands) = leads_there (section_of words 5).offset (section_of words 5).count string_size offset leads in
       subst (λ p. IsString (string_text words p)) (sym stands) (record {
         stored = stored words (string_at words k) string_size;
         short = not_long (length (string_text words (string_at words k))) (text_short words (string_at words k) string_size (good_string words k h below));
@@ -178,7 +178,7 @@ module _ (words : List ℕ) (h : is_image words ≡ true) where
 
   member_at : (i k : ℕ) → i < indom_count words → k < count_in_indom words (indom_at words i) → LeadsTo (instance_count words) (instance_at words) (first_in_indom words (indom_at words i) + instance_size * k)
   unfolding is_instance_of
-  member_at i k below within = leads_there (section_of words 2).place (section_of words 2).count instance_size (first_in_indom words (indom_at words i) + instance_size * k) (both_left _ _ (member i k below within))
+  member_at i k below within = leads_there (section_of words 2).offset (section_of words 2).count instance_size (first_in_indom words (indom_at words i) + instance_size * k) (both_left _ _ (member i k below within))
 
   owner : (i k : ℕ) → i < indom_count words → k < count_in_indom words (indom_at words i) → domain_in_instance words (first_in_indom words (indom_at words i) + instance_size * k) ≡ indom_at words i
   unfolding is_instance_of
@@ -228,7 +228,7 @@ module _ (words : List ℕ) (h : is_image words ≡ true) where
       let (m, m_below, m_is) = member_at i k below (omega arith) in
       let (n, n_below, n_is) = member_at i l below within in
       differ (first_in_indom words (indom_at words i) + instance_size * k) (first_in_indom words (indom_at words i) + instance_size * l) (owner i k below (omega arith) ∙ sym (owner i l below within))
-      (ap₂ (is_same_instance words) m_is n_is ∙ instance_new m n n_below (in_order (section_of words 2).place (first_in_indom words (indom_at words i)) k l m n less m_is n_is)))
+      (ap₂ (is_same_instance words) m_is n_is ∙ instance_new m n n_below (in_order (section_of words 2).offset (first_in_indom words (indom_at words i)) k l m n less m_is n_is)))
     where
       in_order : (start first k l m n : ℕ) → k < l → first + instance_size * k ≡ start + instance_size * m → first + instance_size * l ≡ start + instance_size * n → m < n
       in_order start first k l m n less e f = omega arith
@@ -297,7 +297,7 @@ module _ (words : List ℕ) (h : is_image words ≡ true) where
   value_metric : (i : ℕ) → i < value_count words → LeadsTo (metric_count words) (metric_at words) (metric_of words (value_at words i))
   unfolding is_good_value
   value_metric i below =
-      leads_there (section_of words 3).place (section_of words 3).count _ (metric_of words (value_at words i)) (both_left _ _ (both_left _ _ (both_left _ _ (good_value words i h below))))
+      leads_there (section_of words 3).offset (section_of words 3).count _ (metric_of words (value_at words i)) (both_left _ _ (both_left _ _ (both_left _ _ (good_value words i h below))))
 
   value_leads : (i : ℕ) → i < value_count words → instance_leads words (value_at words i) ≡ true
   unfolding is_good_value
@@ -322,8 +322,8 @@ module _ (words : List ℕ) (h : is_image words ≡ true) where
       let p : ℕ = instance_in_value words (value_at words i) in
       let s : ℕ = domain_of words (value_at words i) in
       let tests = taken (is_no_domain (domain_of words (value_at words i))) _ _ (value_leads i below) some in
-      let (m, m_below, p_is) = leads_there (section_of words 2).place (section_of words 2).count instance_size p (both_left _ _ tests) in
-      let (d, d_below, d_is) = leads_there (section_of words 1).place (section_of words 1).count indom_size (domain_in_instance words p) (both_left _ _ (both_right _ _ tests)) in
+      let (m, m_below, p_is) = leads_there (section_of words 2).offset (section_of words 2).count instance_size p (both_left _ _ tests) in
+      let (d, d_below, d_is) = leads_there (section_of words 1).offset (section_of words 1).count indom_size (domain_in_instance words p) (both_left _ _ (both_right _ _ tests)) in
       let serial : serial_in_indom words (domain_in_instance words p) ≡ s = eq_of (serial_in_indom words (domain_in_instance words p)) s (both_right _ _ (both_right _ _ tests)) in
       let lies = both_right _ _ (both_right _ _ (both_left _ _ (both_left _ _ (good_instance words m h m_below)))) in
       let (k, within, stands) =

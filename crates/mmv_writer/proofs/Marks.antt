@@ -26,40 +26,40 @@ use Rattle.mmv_spelling.specs.Offsets.{indom_length, instance_length, metric_len
 -- Offsets of entries
 
 pub indom_is : (draft : Layout) (s : List (List ℕ)) → words_in (counts_of draft s) ≤ 65536 → (k : ℕ) → k < length draft.indoms → indom_at (spelled draft s) k ≡ 8 * (domains_from draft s + indom_length * k)
-indom_is draft s few k h = let p : (section_of (spelled draft s) 1).place ≡ (offsets draft s).indoms = (find_indoms draft s few).place (omega arith) in omega arith
+indom_is draft s few k h = let p : (section_of (spelled draft s) 1).offset ≡ (offsets draft s).indoms = (find_indoms draft s few).offset (omega arith) in omega arith
 
 pub instance_is : (draft : Layout) (s : List (List ℕ)) → words_in (counts_of draft s) ≤ 65536 → (k : ℕ) → k < instances_in draft.indoms → instance_at (spelled draft s) k ≡ 8 * (instances_from draft s + instance_length * k)
-instance_is draft s few k h = let p : (section_of (spelled draft s) 2).place ≡ (offsets draft s).instances = (find_instances draft s few).place (omega arith) in omega arith
+instance_is draft s few k h = let p : (section_of (spelled draft s) 2).offset ≡ (offsets draft s).instances = (find_instances draft s few).offset (omega arith) in omega arith
 
 pub metric_is : (draft : Layout) (s : List (List ℕ)) → words_in (counts_of draft s) ≤ 65536 → (k : ℕ) → k < length draft.metrics → metric_at (spelled draft s) k ≡ 8 * (metrics_from draft s + metric_length * k)
-metric_is draft s few k h = let p : (section_of (spelled draft s) 3).place ≡ (offsets draft s).metrics = (find_metrics draft s few).place (omega arith) in omega arith
+metric_is draft s few k h = let p : (section_of (spelled draft s) 3).offset ≡ (offsets draft s).metrics = (find_metrics draft s few).offset (omega arith) in omega arith
 
 pub value_is : (draft : Layout) (s : List (List ℕ)) → words_in (counts_of draft s) ≤ 65536 → (k : ℕ) → k < length draft.values → value_at (spelled draft s) k ≡ 8 * (values_from draft s + value_length * k)
-value_is draft s few k h = let p : (section_of (spelled draft s) 4).place ≡ (offsets draft s).values = (find_values draft s few).place (omega arith) in omega arith
+value_is draft s few k h = let p : (section_of (spelled draft s) 4).offset ≡ (offsets draft s).values = (find_values draft s few).offset (omega arith) in omega arith
 
 pub string_is : (draft : Layout) (s : List (List ℕ)) → words_in (counts_of draft s) ≤ 65536 → (k : ℕ) → k < length s → string_at (spelled draft s) k ≡ 8 * (strings_from draft s + string_length * k)
-string_is draft s few k h = let p : (section_of (spelled draft s) 5).place ≡ (offsets draft s).strings = (find_strings draft s few).place (omega arith) in omega arith
+string_is draft s few k h = let p : (section_of (spelled draft s) 5).offset ≡ (offsets draft s).strings = (find_strings draft s few).offset (omega arith) in omega arith
 
 -- What leads
 
-pub leads_there : (first count size place k : ℕ) → k < count → place ≡ first + size * k → leads first count size place ≡ true
+pub leads_there : (first count size offset k : ℕ) → k < count → offset ≡ first + size * k → leads first count size offset ≡ true
 unfolding leads
-leads_there first count size place k h e = some_holds count k (λ j. nat_eq (first + size * j) place) h (eq-eqb (first + size * k) place (sym e))
+leads_there first count size offset k h e = some_holds count k (λ j. nat_eq (first + size * j) offset) h (eq-eqb (first + size * k) offset (sym e))
 
-led : (section : Section) (n p size place k : ℕ) → Finds section n p → k < n → place ≡ p + size * k → leads section.place section.count size place ≡ true
-led section n p size place k f h e =
+led : (section : Section) (n p size offset k : ℕ) → Finds section n p → k < n → offset ≡ p + size * k → leads section.offset section.count size offset ≡ true
+led section n p size offset k f h e =
     let count : section.count ≡ n = f.count in
-    let at : section.place ≡ p = f.place (omega arith) in
-    leads_there section.place section.count size place k (omega arith) (e ∙ ap (λ q. q + size * k) (sym at))
+    let at : section.offset ≡ p = f.offset (omega arith) in
+    leads_there section.offset section.count size offset k (omega arith) (e ∙ ap (λ q. q + size * k) (sym at))
 
-pub indom_leads : (draft : Layout) (s : List (List ℕ)) → words_in (counts_of draft s) ≤ 65536 → (k place : ℕ) → k < length draft.indoms → place ≡ (offsets draft s).indoms + indom_size * k → leads_to_indom (spelled draft s) place ≡ true
-indom_leads draft s few k place h e = led (section_of (spelled draft s) 1) (length draft.indoms) (offsets draft s).indoms indom_size place k (find_indoms draft s few) h e
+pub indom_leads : (draft : Layout) (s : List (List ℕ)) → words_in (counts_of draft s) ≤ 65536 → (k offset : ℕ) → k < length draft.indoms → offset ≡ (offsets draft s).indoms + indom_size * k → leads_to_indom (spelled draft s) offset ≡ true
+indom_leads draft s few k offset h e = led (section_of (spelled draft s) 1) (length draft.indoms) (offsets draft s).indoms indom_size offset k (find_indoms draft s few) h e
 
-pub instance_leads_to : (draft : Layout) (s : List (List ℕ)) → words_in (counts_of draft s) ≤ 65536 → (k place : ℕ) → k < instances_in draft.indoms → place ≡ (offsets draft s).instances + instance_size * k → leads_to_instance (spelled draft s) place ≡ true
-instance_leads_to draft s few k place h e = led (section_of (spelled draft s) 2) (instances_in draft.indoms) (offsets draft s).instances instance_size place k (find_instances draft s few) h e
+pub instance_leads_to : (draft : Layout) (s : List (List ℕ)) → words_in (counts_of draft s) ≤ 65536 → (k offset : ℕ) → k < instances_in draft.indoms → offset ≡ (offsets draft s).instances + instance_size * k → leads_to_instance (spelled draft s) offset ≡ true
+instance_leads_to draft s few k offset h e = led (section_of (spelled draft s) 2) (instances_in draft.indoms) (offsets draft s).instances instance_size offset k (find_instances draft s few) h e
 
-pub metric_leads : (draft : Layout) (s : List (List ℕ)) → words_in (counts_of draft s) ≤ 65536 → (k place : ℕ) → k < length draft.metrics → place ≡ (offsets draft s).metrics + metric_size * k → leads_to_metric (spelled draft s) place ≡ true
-metric_leads draft s few k place h e = led (section_of (spelled draft s) 3) (length draft.metrics) (offsets draft s).metrics metric_size place k (find_metrics draft s few) h e
+pub metric_leads : (draft : Layout) (s : List (List ℕ)) → words_in (counts_of draft s) ≤ 65536 → (k offset : ℕ) → k < length draft.metrics → offset ≡ (offsets draft s).metrics + metric_size * k → leads_to_metric (spelled draft s) offset ≡ true
+metric_leads draft s few k offset h e = led (section_of (spelled draft s) 3) (length draft.metrics) (offsets draft s).metrics metric_size offset k (find_metrics draft s few) h e
 
 pub string_leads : (draft : Layout) (s : List (List ℕ)) → words_in (counts_of draft s) ≤ 65536 → (text : List ℕ) → Has s text → leads_to_string (spelled draft s) (string_offset (offsets draft s) s text) ≡ true
 string_leads draft s few text h =

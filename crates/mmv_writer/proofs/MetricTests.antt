@@ -162,19 +162,19 @@ unfolding is_new_metric is_same_metric same_name
 new_metric draft s few d i row here =
     let words : List ℕ = spelled draft s in
     let below : i < length draft.metrics = get_below draft.metrics i row here in
-    let place : metric_at words i ≡ 8 * (metrics_from draft s + metric_length * i) = metric_is draft s few i below in
+    let offset : metric_at words i ≡ 8 * (metrics_from draft s + metric_length * i) = metric_is draft s few i below in
     all_hold i (λ j. not (nat_eq (number32 words (item_offset_in_metric (metric_at words j))) (number32 words (item_offset_in_metric (metric_at words i))) || bytes_eq (text_at words (metric_at words j) 64) (text_at words (metric_at words i) 64))) (λ j less.
     let (other, there) = get_some draft.metrics j (omega arith) in
     let at : metric_at words j ≡ 8 * (metrics_from draft s + metric_length * j) = metric_is draft s few j (omega arith) in
-    ap not (ap₂ (λ a b. a || b) (ap₂ nat_eq (item_read draft s d j (item_offset_in_metric (metric_at words j)) other there (ap item_offset_in_metric at)) (item_read draft s d i (item_offset_in_metric (metric_at words i)) row here (ap item_offset_in_metric place)))
-    (ap₂ bytes_eq (name_read draft s d j (metric_at words j) other there at) (name_read draft s d i (metric_at words i) row here place)) ∙ d.items j i other row less there here))
+    ap not (ap₂ (λ a b. a || b) (ap₂ nat_eq (item_read draft s d j (item_offset_in_metric (metric_at words j)) other there (ap item_offset_in_metric at)) (item_read draft s d i (item_offset_in_metric (metric_at words i)) row here (ap item_offset_in_metric offset)))
+    (ap₂ bytes_eq (name_read draft s d j (metric_at words j) other there at) (name_read draft s d i (metric_at words i) row here offset)) ∙ d.items j i other row less there here))
 
 good_metric : (draft : Layout) (s : List (List ℕ)) → words_in (counts_of draft s) ≤ 65536 → IsDraft draft → Each (λ row. HasHelp s row.short × HasHelp s row.long) draft.metrics → (i : ℕ) → i < length draft.metrics → is_good_metric (spelled draft s) i ≡ true
 unfolding is_good_metric
 good_metric draft s few d helps i below =
     let (row, here) = get_some draft.metrics i below in
-    let place : metric_at (spelled draft s) i ≡ 8 * (metrics_from draft s + metric_length * i) = metric_is draft s few i below in
-    ap₂ (λ a b. a && b) (ap₂ (λ a b. a && b) (good_name draft s d i (metric_at (spelled draft s) i) row here place) (good_fields draft s few d i (metric_at (spelled draft s) i) row here (helps i row here) place)) (new_metric draft s few d i row here)
+    let offset : metric_at (spelled draft s) i ≡ 8 * (metrics_from draft s + metric_length * i) = metric_is draft s few i below in
+    ap₂ (λ a b. a && b) (ap₂ (λ a b. a && b) (good_name draft s d i (metric_at (spelled draft s) i) row here offset) (good_fields draft s few d i (metric_at (spelled draft s) i) row here (helps i row here) offset)) (new_metric draft s few d i row here)
 
 pub good_metrics : (draft : Layout) (s : List (List ℕ)) → words_in (counts_of draft s) ≤ 65536 → IsDraft draft → Each (λ row. HasHelp s row.short × HasHelp s row.long) draft.metrics → metrics_are_good (spelled draft s) ≡ true
 unfolding metrics_are_good

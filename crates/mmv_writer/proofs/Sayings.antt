@@ -43,27 +43,27 @@ use Rattle.mmv_spelling.specs.Offsets.{name_length, indom_length, instance_lengt
 
 -- Rows one after the other
 
-each_at : {X : Type 0} (R : ℕ → X → Type 0) (at size : ℕ) (xs : List X) → ((i : ℕ) (x : X) (place : ℕ) → slice_get xs i ≡ Some x → place ≡ at + size * i → R place x) → EachAt R at size xs
+each_at : {X : Type 0} (R : ℕ → X → Type 0) (at size : ℕ) (xs : List X) → ((i : ℕ) (x : X) (offset : ℕ) → slice_get xs i ≡ Some x → offset ≡ at + size * i → R offset x) → EachAt R at size xs
 unfolding EachAt
 each_at R at size [] one = tt
 each_at R at size (x ∷ xs) one =
-    (one 0 x at refl (omega arith), each_at R (at + size) size xs (λ i y place there e. one (suc i) y place there (e ∙ next at size i)))
+    (one 0 x at refl (omega arith), each_at R (at + size) size xs (λ i y offset there e. one (suc i) y offset there (e ∙ next at size i)))
   where
     next : (n s i : ℕ) → n + s + s * i ≡ n + s * suc i
     next n s i = grind arith
 
-in_section : {X : Type 0} (R : ℕ → X → Type 0) (section : Section) (n p size : ℕ) (xs : List X) → Finds section n p → length xs ≡ n → ((i : ℕ) (x : X) (place : ℕ) → slice_get xs i ≡ Some x → place ≡ p + size * i → R place x) → InSection R section size xs
+in_section : {X : Type 0} (R : ℕ → X → Type 0) (section : Section) (n p size : ℕ) (xs : List X) → Finds section n p → length xs ≡ n → ((i : ℕ) (x : X) (offset : ℕ) → slice_get xs i ≡ Some x → offset ≡ p + size * i → R offset x) → InSection R section size xs
 in_section R section n p size xs f long one = (
   long ∙ sym f.count,
-  each_at R section.place size xs (λ i x place there e.
+  each_at R section.offset size xs (λ i x offset there e.
       let below : i < length xs = get_below xs i x there in
-      one i x place there (e ∙ ap (λ q. q + size * i) (f.place (omega arith)))),
+      one i x offset there (e ∙ ap (λ q. q + size * i) (f.offset (omega arith)))),
 )
 
 -- Strings
 
-string_said : (draft : Layout) (s : List (List ℕ)) → words_in (counts_of draft s) ≤ 65536 → Each IsString s → (text : List ℕ) (place : ℕ) → Has s text → place ≡ string_offset (offsets draft s) s text → StringAt (spelled draft s) place text
-string_said draft s few short text place has e =
+string_said : (draft : Layout) (s : List (List ℕ)) → words_in (counts_of draft s) ≤ 65536 → Each IsString s → (text : List ℕ) (offset : ℕ) → Has s text → offset ≡ string_offset (offsets draft s) s text → StringAt (spelled draft s) offset text
+string_said draft s few short text offset has e =
     let k : ℕ = position_or_len (λ other. bytes_eq other text) s in
     let p : Passes s (position_or_len (λ other. bytes_eq other text) s) (λ other. bytes_eq other text) = first_passes (λ other. bytes_eq other text) s has in
     let below : position_or_len (λ other. bytes_eq other text) s < length s = get_below s (position_or_len (λ other. bytes_eq other text) s) p.row p.at in
@@ -71,7 +71,7 @@ string_said draft s few short text place has e =
     let is : IsString p.row = short (position_or_len (λ other. bytes_eq other text) s) p.row p.at in
     let at : string_at (spelled draft s) (position_or_len (λ other. bytes_eq other text) s) ≡ 8 * (strings_from draft s + string_length * position_or_len (λ other. bytes_eq other text) s) = string_is draft s few (position_or_len (λ other. bytes_eq other text) s) below in (
       (position_or_len (λ other. bytes_eq other text) s, subst (λ n. position_or_len (λ other. bytes_eq other text) s < n) (sym (find_strings draft s few).count) below, omega arith),
-      sym same ∙ sym (text_read (spelled draft s) (strings_from draft s + string_length * position_or_len (λ other. bytes_eq other text) s) string_length place p.row (stand_string draft s (position_or_len (λ other. bytes_eq other text) s) p.row p.at) is.stored (omega arith) (fits_string (length p.row) is.short)),
+      sym same ∙ sym (text_read (spelled draft s) (strings_from draft s + string_length * position_or_len (λ other. bytes_eq other text) s) string_length offset p.row (stand_string draft s (position_or_len (λ other. bytes_eq other text) s) p.row p.at) is.stored (omega arith) (fits_string (length p.row) is.short)),
     )
 
 help_said : (draft : Layout) (s : List (List ℕ)) → words_in (counts_of draft s) ≤ 65536 → Each IsString s → (help : Option (List ℕ)) (field : ℕ) → HasHelp s help → number64 (spelled draft s) field ≡ help_offset (offsets draft s) s help → HelpAt (spelled draft s) field help
@@ -96,10 +96,10 @@ unfolding domain_words
 indom_said draft s few d short i at row here helps e = record {
   serial = sym (serial_read draft s few d i at row here e);
   count = sym (run_read draft s few d i (count_offset_in_indom at) row here (ap count_offset_in_indom e));
-  instances = each_at (InstanceAt (spelled draft s)) (number64 (spelled draft s) (first_offset_in_indom at)) instance_size row.instances (λ k instance place within p.
+  instances = each_at (InstanceAt (spelled draft s)) (number64 (spelled draft s) (first_offset_in_indom at)) instance_size row.instances (λ k instance offset within p.
       let inside : k < length row.instances = get_below row.instances k instance within in
       let first : number64 (spelled draft s) (first_offset_in_indom at) ≡ (offsets draft s).instances + instance_size * instances_in (take i draft.indoms) = first_read draft s i (first_offset_in_indom at) row here (ap first_offset_in_indom e) ∙ first_is draft s d i row here (omega arith) in
-      instance_said draft s d i k place row instance here within (omega arith));
+      instance_said draft s d i k offset row instance here within (omega arith));
   short = help_said draft s few short row.short (short_offset_in_indom at) helps.0 (word_read (spelled draft s) (domains_from draft s + indom_length * i) 2 (short_offset_in_indom at) (domain_words (offsets draft s) s draft.indoms row) (stand_domain draft s i row here) (omega arith) (omega arith));
   long = help_said draft s few short row.long (long_offset_in_indom at) helps.1 (word_read (spelled draft s) (domains_from draft s + indom_length * i) 3 (long_offset_in_indom at) (domain_words (offsets draft s) s draft.indoms row) (stand_domain draft s i row here) (omega arith) (omega arith));
 }
@@ -182,7 +182,7 @@ value_said draft s few d short i at row here has e =
     let item : p.row.item ≡ row.item = eqb-true p.row.item row.item (both_left (nat_eq p.row.item row.item) (fits_instance draft.indoms p.row.serial row.instance && fits_kind p.row.kind row.content) p.is) in
     let inside : metric_index draft row.item < length draft.metrics = get_below draft.metrics (metric_index draft row.item) p.row p.at in
     let metric : number64 words (metric_offset_in_value at) ≡ (offsets draft s).metrics + metric_size * metric_index draft row.item = metric_field draft s i (metric_offset_in_value at) row here (ap metric_offset_in_value e) in
-    let place : metric_at words (metric_index draft row.item) ≡ 8 * (metrics_from draft s + metric_length * metric_index draft row.item) = metric_is draft s few (metric_index draft row.item) inside in
+    let offset : metric_at words (metric_index draft row.item) ≡ 8 * (metrics_from draft s + metric_length * metric_index draft row.item) = metric_is draft s few (metric_index draft row.item) inside in
     record {
       metric = (metric_index draft row.item, subst (λ n. metric_index draft row.item < n) (sym (find_metrics draft s few).count) inside, omega arith);
       item = sym item ∙ sym (item_read draft s d (metric_index draft row.item) (item_offset_in_metric (number64 words (metric_offset_in_value at))) p.row p.at (omega arith));
@@ -221,13 +221,13 @@ said draft d few =
       pid = sym (low_read words 0 4 32 (header_words draft (sections_in (counts_of draft (all_strings draft)))) draft.pid draft.cluster (stand_header draft (all_strings draft)) (omega arith) refl refl process);
       cluster = sym (high_read words 0 4 36 (header_words draft (sections_in (counts_of draft (all_strings draft)))) draft.pid draft.cluster (stand_header draft (all_strings draft)) (omega arith) refl refl process (omega arith));
       indoms = in_section (IndomAt words) (section_of words 1) (length draft.indoms) (offsets draft (all_strings draft)).indoms indom_size draft.indoms (find_indoms draft (all_strings draft) few) refl
-          (λ i row place here e. indom_said draft (all_strings draft) few d short i place row here (domain_helps draft i row here) (omega arith));
+          (λ i row offset here e. indom_said draft (all_strings draft) few d short i offset row here (domain_helps draft i row here) (omega arith));
       metrics = in_section (MetricAt words) (section_of words 3) (length draft.metrics) (offsets draft (all_strings draft)).metrics metric_size draft.metrics (find_metrics draft (all_strings draft) few) refl
-          (λ i row place here e. metric_said draft (all_strings draft) few d short i place row here (metric_helps draft i row here) (omega arith));
+          (λ i row offset here e. metric_said draft (all_strings draft) few d short i offset row here (metric_helps draft i row here) (omega arith));
       values = in_section (ValueAt words) (section_of words 4) (length draft.values) (offsets draft (all_strings draft)).values value_size draft.values (find_values draft (all_strings draft) few) refl
-          (λ i row place here e. value_said draft (all_strings draft) few d short i place row here (value_texts draft i row here) (omega arith));
+          (λ i row offset here e. value_said draft (all_strings draft) few d short i offset row here (value_texts draft i row here) (omega arith));
       strings = in_section (TextAt words) (section_of words 5) (length (all_strings draft)) (offsets draft (all_strings draft)).strings string_size (all_strings draft) (find_strings draft (all_strings draft) few) refl
-          (λ i text place here e. text_said draft (all_strings draft) short i place text here (omega arith));
+          (λ i text offset here e. text_said draft (all_strings draft) short i offset text here (omega arith));
     }
 
 pub drafts_are_said : DraftsAreSaid

@@ -91,7 +91,7 @@ stand_strings draft s =
 -- The contents
 
 abbrev pub entry : ℕ → ℕ → ℕ → Entry
-entry t n p = record { type = t; count = n; place = p }
+entry t n p = record { type = t; count = n; offset = p }
 
 abbrev pub entries : Counts → SectionOffsets → List Entry
 entries c p =
@@ -159,7 +159,7 @@ entries_read draft s few =
           (let h : e.type ≤ 5 = (entry_is draft s few i e at).last in omega arith);
       number = λ i e at. high_read words (5 + 2 * i) 0 (44 + 16 * i) (words_of_entry e) e.type e.count (stand i e at) (omega arith) (omega arith) refl
           (let h : e.type ≤ 5 = (entry_is draft s few i e at).last in omega arith) (entry_is draft s few i e at).few;
-      place = λ i e at. word_read words (5 + 2 * i) 1 (48 + 16 * i) (words_of_entry e) (stand i e at) (omega arith) (omega arith);
+      offset = λ i e at. word_read words (5 + 2 * i) 1 (48 + 16 * i) (words_of_entry e) (stand i e at) (omega arith) (omega arith);
     }
 
 pub spelt_sections : (draft : Layout) (s : List (List ℕ)) → words_in (counts_of draft s) ≤ 65536 → sections_are_good (spelled draft s) ≡ true
@@ -171,17 +171,17 @@ spelt_sections draft s few =
 pub spelt_aligned : (draft : Layout) (s : List (List ℕ)) → words_in (counts_of draft s) ≤ 65536 → sections_are_aligned (spelled draft s) ≡ true
 spelt_aligned draft s few = aligned_sections (spelled draft s) (entries (counts_of draft s) (offsets draft s)) (offsets draft s).indoms (8 * words_in (counts_of draft s)) (entries_read draft s few) (entries_laid (counts_of draft s) few)
 
--- a section of so many entries, at a place if there are any
+-- a section of so many entries, at an offset if there are any
 pub record Finds (section : Section) (n p : ℕ) : Type 0 where
   pub count : section.count ≡ n
-  pub place : 0 < n → section.place ≡ p
+  pub offset : 0 < n → section.offset ≡ p
 
-finds : (n p : ℕ) (section : Section) → section ≡ cond (nat_eq n 0) (record { place = 0; count = 0 }) (record { place = p; count = n }) → Finds section n p
+finds : (n p : ℕ) (section : Section) → section ≡ cond (nat_eq n 0) (record { offset = 0; count = 0 }) (record { offset = p; count = n }) → Finds section n p
 finds n p section h = here (nat_eq n 0) refl h
   where
-    here : (b : Bool) → nat_eq n 0 ≡ b → section ≡ cond b (record { place = 0; count = 0 }) (record { place = p; count = n }) → Finds section n p
-    here true z e = record { count = ap (λ x. x.count) e ∙ sym (eqb-true n 0 z); place = λ some. let none : n ≡ 0 = eqb-true n 0 z in absurd (omega arith) }
-    here false z e = record { count = ap (λ x. x.count) e; place = λ some. ap (λ x. x.place) e }
+    here : (b : Bool) → nat_eq n 0 ≡ b → section ≡ cond b (record { offset = 0; count = 0 }) (record { offset = p; count = n }) → Finds section n p
+    here true z e = record { count = ap (λ x. x.count) e ∙ sym (eqb-true n 0 z); offset = λ some. let none : n ≡ 0 = eqb-true n 0 z in absurd (omega arith) }
+    here false z e = record { count = ap (λ x. x.count) e; offset = λ some. ap (λ x. x.offset) e }
 
 found_section : (draft : Layout) (s : List (List ℕ)) (t : ℕ) → words_in (counts_of draft s) ≤ 65536 → section_of (spelled draft s) t ≡ pick t (entries (counts_of draft s) (offsets draft s))
 found_section draft s t few = section_is (spelled draft s) (entries (counts_of draft s) (offsets draft s)) (offsets draft s).indoms (8 * words_in (counts_of draft s)) t (entries_read draft s few) (entries_laid (counts_of draft s) few)
@@ -190,25 +190,25 @@ pub find_indoms : (draft : Layout) (s : List (List ℕ)) → words_in (counts_of
 find_indoms draft s few =
     let c : Counts = counts_of draft s in
     let p : SectionOffsets = offsets draft s in
-    finds c.indoms p.indoms (section_of (spelled draft s) 1) (found_section draft s 1 few ∙ pick_hit 1 (entry 1 c.indoms p.indoms) _ refl ∙ ap (λ r. cond (nat_eq c.indoms 0) r (record { place = p.indoms; count = c.indoms })) (pick_skip 1 (entry 2 c.instances p.instances) _ refl ∙ pick_skip 1 (entry 3 c.metrics p.metrics) _ refl ∙ pick_skip 1 (entry 4 c.values p.values) _ refl ∙ pick_skip 1 (entry 5 c.strings p.strings) _ refl))
+    finds c.indoms p.indoms (section_of (spelled draft s) 1) (found_section draft s 1 few ∙ pick_hit 1 (entry 1 c.indoms p.indoms) _ refl ∙ ap (λ r. cond (nat_eq c.indoms 0) r (record { offset = p.indoms; count = c.indoms })) (pick_skip 1 (entry 2 c.instances p.instances) _ refl ∙ pick_skip 1 (entry 3 c.metrics p.metrics) _ refl ∙ pick_skip 1 (entry 4 c.values p.values) _ refl ∙ pick_skip 1 (entry 5 c.strings p.strings) _ refl))
 
 pub find_instances : (draft : Layout) (s : List (List ℕ)) → words_in (counts_of draft s) ≤ 65536 → Finds (section_of (spelled draft s) 2) (counts_of draft s).instances (offsets draft s).instances
 find_instances draft s few =
     let c : Counts = counts_of draft s in
     let p : SectionOffsets = offsets draft s in
-    finds c.instances p.instances (section_of (spelled draft s) 2) (found_section draft s 2 few ∙ pick_skip 2 (entry 1 c.indoms p.indoms) _ refl ∙ pick_hit 2 (entry 2 c.instances p.instances) _ refl ∙ ap (λ r. cond (nat_eq c.instances 0) r (record { place = p.instances; count = c.instances })) (pick_skip 2 (entry 3 c.metrics p.metrics) _ refl ∙ pick_skip 2 (entry 4 c.values p.values) _ refl ∙ pick_skip 2 (entry 5 c.strings p.strings) _ refl))
+    finds c.instances p.instances (section_of (spelled draft s) 2) (found_section draft s 2 few ∙ pick_skip 2 (entry 1 c.indoms p.indoms) _ refl ∙ pick_hit 2 (entry 2 c.instances p.instances) _ refl ∙ ap (λ r. cond (nat_eq c.instances 0) r (record { offset = p.instances; count = c.instances })) (pick_skip 2 (entry 3 c.metrics p.metrics) _ refl ∙ pick_skip 2 (entry 4 c.values p.values) _ refl ∙ pick_skip 2 (entry 5 c.strings p.strings) _ refl))
 
 pub find_metrics : (draft : Layout) (s : List (List ℕ)) → words_in (counts_of draft s) ≤ 65536 → Finds (section_of (spelled draft s) 3) (counts_of draft s).metrics (offsets draft s).metrics
 find_metrics draft s few =
     let c : Counts = counts_of draft s in
     let p : SectionOffsets = offsets draft s in
-    finds c.metrics p.metrics (section_of (spelled draft s) 3) (found_section draft s 3 few ∙ pick_skip 3 (entry 1 c.indoms p.indoms) _ refl ∙ pick_skip 3 (entry 2 c.instances p.instances) _ refl ∙ pick_hit 3 (entry 3 c.metrics p.metrics) _ refl ∙ ap (λ r. cond (nat_eq c.metrics 0) r (record { place = p.metrics; count = c.metrics })) (pick_skip 3 (entry 4 c.values p.values) _ refl ∙ pick_skip 3 (entry 5 c.strings p.strings) _ refl))
+    finds c.metrics p.metrics (section_of (spelled draft s) 3) (found_section draft s 3 few ∙ pick_skip 3 (entry 1 c.indoms p.indoms) _ refl ∙ pick_skip 3 (entry 2 c.instances p.instances) _ refl ∙ pick_hit 3 (entry 3 c.metrics p.metrics) _ refl ∙ ap (λ r. cond (nat_eq c.metrics 0) r (record { offset = p.metrics; count = c.metrics })) (pick_skip 3 (entry 4 c.values p.values) _ refl ∙ pick_skip 3 (entry 5 c.strings p.strings) _ refl))
 
 pub find_values : (draft : Layout) (s : List (List ℕ)) → words_in (counts_of draft s) ≤ 65536 → Finds (section_of (spelled draft s) 4) (counts_of draft s).values (offsets draft s).values
 find_values draft s few =
     let c : Counts = counts_of draft s in
     let p : SectionOffsets = offsets draft s in
-    finds c.values p.values (section_of (spelled draft s) 4) (found_section draft s 4 few ∙ pick_skip 4 (entry 1 c.indoms p.indoms) _ refl ∙ pick_skip 4 (entry 2 c.instances p.instances) _ refl ∙ pick_skip 4 (entry 3 c.metrics p.metrics) _ refl ∙ pick_hit 4 (entry 4 c.values p.values) _ refl ∙ ap (λ r. cond (nat_eq c.values 0) r (record { place = p.values; count = c.values })) (pick_skip 4 (entry 5 c.strings p.strings) _ refl))
+    finds c.values p.values (section_of (spelled draft s) 4) (found_section draft s 4 few ∙ pick_skip 4 (entry 1 c.indoms p.indoms) _ refl ∙ pick_skip 4 (entry 2 c.instances p.instances) _ refl ∙ pick_skip 4 (entry 3 c.metrics p.metrics) _ refl ∙ pick_hit 4 (entry 4 c.values p.values) _ refl ∙ ap (λ r. cond (nat_eq c.values 0) r (record { offset = p.values; count = c.values })) (pick_skip 4 (entry 5 c.strings p.strings) _ refl))
 
 pub find_strings : (draft : Layout) (s : List (List ℕ)) → words_in (counts_of draft s) ≤ 65536 → Finds (section_of (spelled draft s) 5) (counts_of draft s).strings (offsets draft s).strings
 find_strings draft s few =

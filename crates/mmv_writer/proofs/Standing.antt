@@ -39,8 +39,8 @@ pub stands_right : (words : List ℕ) (n m : ℕ) (a b : List ℕ) → m ≡ n +
 stands_right words n m a b e s = record {
   at = λ k h.
       let long : length (a ++ b) ≡ length a + length b = length-append a b in
-      let place : m + k ≡ n + (length a + k) = omega arith in
-      ap (slice_index words) place ∙ s.at (length a + k) (omega arith) ∙ behind a b k;
+      let offset : m + k ≡ n + (length a + k) = omega arith in
+      ap (slice_index words) offset ∙ s.at (length a + k) (omega arith) ∙ behind a b k;
 }
 
 -- an entry of a list of entries of one size
@@ -48,8 +48,8 @@ pub stands_entry : {T : Type 0} (words : List ℕ) (f : T → List ℕ) (size : 
 stands_entry words f size one [] n m i x s h e = cc
 stands_entry words f size one (y ∷ xs) n m zero x s h e =
     let same : y ≡ x = cc in
-    let place : n ≡ m = omega arith in
-    subst (λ z. Stands words m (f z)) same (subst (λ p. Stands words p (f y)) place (stands_left words n (f y) (flat_map f xs) s))
+    let offset : n ≡ m = omega arith in
+    subst (λ z. Stands words m (f z)) same (subst (λ p. Stands words p (f y)) offset (stands_left words n (f y) (flat_map f xs) s))
 stands_entry words f size one (y ∷ xs) n m (suc i) x s h e =
     stands_entry words f size one xs (n + size) m i x (stands_right words n (n + size) (f y) (flat_map f xs) (ap (λ l. n + l) (sym (one y))) s) h (e ∙ next n size i)
   where
@@ -61,8 +61,8 @@ pub stands_group : {T : Type 0} (words : List ℕ) (f : T → List ℕ) (g : T �
 stands_group words f g size one [] n m i x s h e = cc
 stands_group words f g size one (y ∷ xs) n m zero x s h e =
     let same : y ≡ x = cc in
-    let place : n ≡ m = omega arith in
-    subst (λ z. Stands words m (f z)) same (subst (λ p. Stands words p (f y)) place (stands_left words n (f y) (flat_map f xs) s))
+    let offset : n ≡ m = omega arith in
+    subst (λ z. Stands words m (f z)) same (subst (λ p. Stands words p (f y)) offset (stands_left words n (f y) (flat_map f xs) s))
 stands_group words f g size one (y ∷ xs) n m (suc i) x s h e =
     stands_group words f g size one xs (n + size * g y) m i x (stands_right words n (n + size * g y) (f y) (flat_map f xs) (ap (λ l. n + l) (sym (one y))) s) h
     (e ∙ ap (λ t. n + size * t) (sum_by-cons g y (take i xs)) ∙ next n size (g y) (sum_by g (take i xs)))
@@ -74,7 +74,7 @@ stands_group words f g size one (y ∷ xs) n m (suc i) x s h e =
 
 pub word_read : (words : List ℕ) (n j at : ℕ) (part : List ℕ) → Stands words n part → j < length part → at ≡ 8 * (n + j) → number64 words at ≡ slice_index part j
 unfolding number64
-word_read words n j at part s h e = let place : at / 8 ≡ n + j = omega arith in ap (slice_index words) place ∙ s.at j h
+word_read words n j at part s h e = let offset : at / 8 ≡ n + j = omega arith in ap (slice_index words) offset ∙ s.at j h
 
 low_of : (w low high : ℕ) → w ≡ low + 4294967296 * high → low < 4294967296 → w / 2 ^ 0 % 4294967296 ≡ low
 low_of w low high e l = omega arith
@@ -92,8 +92,8 @@ pub high_read : (words : List ℕ) (n j at : ℕ) (part : List ℕ) (low high : 
 unfolding number32 number64
 high_read words n j at part low high s h e is l g =
     let half : at % 8 ≡ 4 = omega arith in
-    let place : at / 8 ≡ n + j = omega arith in
-    ap (λ r. slice_index words (at / 8) / 2 ^ (8 * r) % 4294967296) half ∙ high_of (slice_index words (at / 8)) low high (ap (slice_index words) place ∙ s.at j h ∙ is) l g
+    let offset : at / 8 ≡ n + j = omega arith in
+    ap (λ r. slice_index words (at / 8) / 2 ^ (8 * r) % 4294967296) half ∙ high_of (slice_index words (at / 8)) low high (ap (slice_index words) offset ∙ s.at j h ∙ is) l g
 
 -- Texts
 
@@ -126,13 +126,13 @@ pub byte_read : (words : List ℕ) (n c at k : ℕ) (text : List ℕ) → Stands
 unfolding byte_at number64
 byte_read words n c at k text s bytes e below =
     let q : ℕ = k / 8 in
-    let place : (at + k) / 8 ≡ n + k / 8 = omega arith in
+    let offset : (at + k) / 8 ≡ n + k / 8 = omega arith in
     let within : (at + k) % 8 ≡ k % 8 = omega arith in
     let long : length (first_words c text) ≡ c = length_text c text in
     let group : List ℕ = take 8 (drop (8 * (k / 8)) text) in
     let one : (j : ℕ) → j < 8 → slice_index group j ≡ slice_index text (8 * (k / 8) + j) = λ j l. get_or-take 8 (drop (8 * (k / 8)) text) j 0 l ∙ get_or-drop (8 * (k / 8)) text j 0 in
     let parts : 8 * (k / 8) + k % 8 ≡ k = omega arith in
-    ap₂ (λ q r. slice_index words q / 2 ^ (8 * r) % 256) place within
+    ap₂ (λ q r. slice_index words q / 2 ^ (8 * r) % 256) offset within
     ∙ ap (λ w. w / 2 ^ (8 * (k % 8)) % 256) (s.at (k / 8) (omega arith) ∙ word_of_text c (k / 8) text (omega arith))
     ∙ byte_of group (λ j l. subst (λ b. b < 256) (sym (one j l)) (bytes (8 * (k / 8) + j))) (k % 8) (omega arith)
     ∙ one (k % 8) (omega arith) ∙ ap (slice_index text) parts

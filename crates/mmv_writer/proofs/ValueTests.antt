@@ -95,14 +95,14 @@ instance_good draft s few d (Some serial) (Some id) field shown fits is word =
     let inside : index_in p.row id < length p.row.instances = get_below p.row.instances (index_in p.row id) q.row q.at in
     let below : domain_of draft.indoms serial < length draft.indoms = get_below draft.indoms (domain_of draft.indoms serial) p.row p.at in
     let all : instances_in (take (domain_of draft.indoms serial) draft.indoms) + length p.row.instances ≤ instances_in draft.indoms = before_this draft.indoms (domain_of draft.indoms serial) p.row p.at in
-    let place : field ≡ (offsets draft s).instances + instance_size * (instances_in (take (domain_of draft.indoms serial) draft.indoms) + index_in p.row id) =
+    let offset : field ≡ (offsets draft s).instances + instance_size * (instances_in (take (domain_of draft.indoms serial) draft.indoms) + index_in p.row id) =
     is ∙ ap (λ k. (offsets draft s).instances + instance_size * (instances_in (take (domain_of draft.indoms serial) draft.indoms) + k)) (member_found draft serial id p.row p.at) in
     let owner : number64 words field ≡ (offsets draft s).indoms + indom_size * domain_of draft.indoms serial = owner_read draft s d (domain_of draft.indoms serial) (index_in p.row id) field p.row q.row p.at q.at (omega arith) in
     let read : number32 words (number64 words field) ≡ p.row.serial = serial_read draft s few d (domain_of draft.indoms serial) (number64 words field) p.row p.at (omega arith) in
     let fits_serial : p.row.serial ≤ 1023 = serial_fits draft d (domain_of draft.indoms serial) p.row p.at in
     let some : 0 < p.row.serial = one_at_least p.row.serial (d.domains (domain_of draft.indoms serial) p.row p.at).serial in
     ap (λ b. cond b (nat_eq field 0) (leads_to_instance words field && (leads_to_indom words (number64 words field) && nat_eq (number32 words (number64 words field)) shown))) (no_domain shown (omega arith) (omega arith))
-    ∙ ap₂ (λ a b. a && b) (instance_leads_to draft s few (instances_in (take (domain_of draft.indoms serial) draft.indoms) + index_in p.row id) field (omega arith) place)
+    ∙ ap₂ (λ a b. a && b) (instance_leads_to draft s few (instances_in (take (domain_of draft.indoms serial) draft.indoms) + index_in p.row id) field (omega arith) offset)
     (ap₂ (λ a b. a && b) (indom_leads draft s few (domain_of draft.indoms serial) (number64 words field) below owner) (eq-eqb (number32 words (number64 words field)) shown (read ∙ keyed ∙ sym word)))
 
 -- The string of a value
@@ -218,22 +218,22 @@ unfolding is_good_value instance_leads choice_leads is_new_value metric_of
 good_value draft s few d texts i below =
     let words : List ℕ = spelled draft s in
     let (row, here) = get_some draft.values i below in
-    let place : value_at words i ≡ 8 * (values_from draft s + value_length * i) = value_is draft s few i below in
+    let offset : value_at words i ≡ 8 * (values_from draft s + value_length * i) = value_is draft s few i below in
     let p : Passes draft.metrics (metric_index draft row.item) (λ metric. fits_metric draft.indoms row metric) = metric_found draft d row (d.values i row here).metric in
     let fits : (fits_instance draft.indoms p.row.serial row.instance && fits_kind p.row.kind row.content) ≡ true = both_right (nat_eq p.row.item row.item) (fits_instance draft.indoms p.row.serial row.instance && fits_kind p.row.kind row.content) p.is in
     let inside : metric_index draft row.item < length draft.metrics = get_below draft.metrics (metric_index draft row.item) p.row p.at in
-    let metric : number64 words (metric_offset_in_value (value_at words i)) ≡ (offsets draft s).metrics + metric_size * metric_index draft row.item = metric_field draft s i (metric_offset_in_value (value_at words i)) row here (ap metric_offset_in_value place) in
+    let metric : number64 words (metric_offset_in_value (value_at words i)) ≡ (offsets draft s).metrics + metric_size * metric_index draft row.item = metric_field draft s i (metric_offset_in_value (value_at words i)) row here (ap metric_offset_in_value offset) in
     let kind : number32 words (type_offset_in_metric (number64 words (metric_offset_in_value (value_at words i)))) ≡ code_of_kind p.row.kind = kind_read draft s d (metric_index draft row.item) (type_offset_in_metric (number64 words (metric_offset_in_value (value_at words i)))) p.row p.at (omega arith) in
     let serial : number32 words (serial_offset_in_metric (number64 words (metric_offset_in_value (value_at words i)))) ≡ serial_word p.row.serial = metric_serial_read draft s d (metric_index draft row.item) (serial_offset_in_metric (number64 words (metric_offset_in_value (value_at words i)))) p.row p.at (omega arith) in
     ap₂ (λ a b. a && b) (ap₂ (λ a b. a && b) (ap₂ (λ a b. a && b)
     (metric_leads draft s few (metric_index draft row.item) (number64 words (metric_offset_in_value (value_at words i))) inside metric)
     (instance_good draft s few d p.row.serial row.instance (number64 words (instance_offset_in_value (value_at words i))) (number32 words (serial_offset_in_metric (number64 words (metric_offset_in_value (value_at words i))))) (both_left (fits_instance draft.indoms p.row.serial row.instance) (fits_kind p.row.kind row.content) fits)
-    (instance_read draft s i (instance_offset_in_value (value_at words i)) row p.row here p.at (ap instance_offset_in_value place)) serial))
+    (instance_read draft s i (instance_offset_in_value (value_at words i)) row p.row here p.at (ap instance_offset_in_value offset)) serial))
     (choice_good draft s few row.content p.row.kind (number64 words (extra_offset_in_value (value_at words i))) (number32 words (type_offset_in_metric (number64 words (metric_offset_in_value (value_at words i))))) (both_right (fits_instance draft.indoms p.row.serial row.instance) (fits_kind p.row.kind row.content) fits) (texts i row here)
-    (extra_read draft s i (extra_offset_in_value (value_at words i)) row here (ap extra_offset_in_value place)) kind))
+    (extra_read draft s i (extra_offset_in_value (value_at words i)) row here (ap extra_offset_in_value offset)) kind))
     (all_hold i (λ j. not (is_same_value words (value_at words j) (value_at words i))) (λ j less.
     let (other, there) = get_some draft.values j (omega arith) in
-    ap not (other_value draft s d j i (value_at words j) (value_at words i) other row there here less (value_is draft s few j (omega arith)) place)))
+    ap not (other_value draft s d j i (value_at words j) (value_at words i) other row there here less (value_is draft s few j (omega arith)) offset)))
 
 pub good_values : (draft : Layout) (s : List (List ℕ)) → words_in (counts_of draft s) ≤ 65536 → IsDraft draft → Each (λ row. HasContent s row.content) draft.values → values_are_good (spelled draft s) ≡ true
 unfolding values_are_good

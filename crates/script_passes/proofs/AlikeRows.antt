@@ -20,7 +20,7 @@ use Rattle.mmv_layout.specs.Form.{Form, form_of, slot_in, slot_at, slots_of, off
 use Rattle.mmv_layout.specs.Rows.{list_below, string_text, item_of, type_of, instance_of, content_of, value_row, values_of, strings_of, layout_of}
 use Rattle.mmv_layout.specs.Says.{LeadsTo}
 use Rattle.mmv_layout.specs.ShapeLaws.{content_of_kind}
-use Rattle.mmv_layout.proofs.EntryPlaces.{Stands, value_stands}
+use Rattle.mmv_layout.proofs.EntryOffsets.{Stands, value_stands}
 use Rattle.mmv_layout.proofs.FormSays.{slot_holds}
 use Rattle.mmv_layout.proofs.Goods.{good_value, leads_there}
 use Rattle.mmv_layout.proofs.RowLists.{among_rows, rows_front, rows_length, rows_mapped, rows_same}
@@ -118,7 +118,7 @@ word_leads words i slot h below gives text =
     (λ (x : (type_of words (value_at words i) ≤ 3) × (slot.word ≡ value_at words i / 8)). absurd (not_text (type_of words (value_at words i)) x.0 (sym (ap (λ (s : Slot). s.kind) is.is) ∙ text)))
     (λ (x : (type_of words (value_at words i) ≡ 6) × (slot.word ≡ value_at words i / 8 + 1)).
     subst (λ (n : ℕ). LeadsTo (string_count words) (string_at words) n) (extra_word words (value_at words i) stands.whole ∙ ap (slice_index words) (sym x.1))
-    (leads_there (section_of words 5).place (section_of words 5).count string_size (extra_in_value words (value_at words i)) (choice_good words i (good_value words i h below) x.0)))
+    (leads_there (section_of words 5).offset (section_of words 5).count string_size (extra_in_value words (value_at words i)) (choice_good words i (good_value words i h below) x.0)))
     is.word
 
 -- Two images that are alike

@@ -1,4 +1,4 @@
--- The eight bytes from a place on.
+-- The eight bytes from an offset on.
 use Rattle.std.proofs.Common.{◌≡◌, ℕ, List, [], ◌∷◌, ◌+◌, ◌*◌, ◌<◌, take, drop, slice_index, ap, ◌∙◌, sym, arith, refl}
 use Rattle.std.proofs.lemmas.List.{get_or-take, get_or-drop}
 use Rattle.byteorder.specs.Endian.{little_number}

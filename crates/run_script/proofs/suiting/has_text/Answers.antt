@@ -12,5 +12,5 @@ returns-then-is_text_at c =
     let words = c.args.words.now in
     let below : c.loop-i.i < string_count words = subst (λ n. c.loop-i.i < n) c.string_count-i-end.ensures c.loop-i-test.true in
     let here : bytes_eq (string_text words (string_at words c.loop-i.i)) c.args.text.now ≡ true =
-    ap (λ place. bytes_eq (string_text words place) c.args.text.now) (sym c.string_at.ensures.place) ∙ (sym c.is_text_at.ensures ∙ c.if-is_text_at.true) in
+    ap (λ place. bytes_eq (string_text words place) c.args.text.now) (sym c.string_at.ensures.offset) ∙ (sym c.is_text_at.ensures ∙ c.if-is_text_at.true) in
     sym (any_found (λ (found : ℕ × List ℕ). bytes_eq found.1 c.args.text.now) (string_count words) c.loop-i.i (λ i. (string_at words i, string_text words (string_at words i))) below here)

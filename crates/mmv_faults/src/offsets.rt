@@ -1,51 +1,51 @@
-//! The places of entries that lie in the words, as they are told.
+//! The offsets of entries that lie in the words, as they are told.
 ghost use Rattle.std.specs.Prelude.{◌≡◌, ◌<◌};
 ghost use Rattle.mmv_format.specs.Entries.{indom_count, indom_at, instance_count, instance_at, metric_count, metric_at, value_count, value_at, string_count, string_at};
 ghost use Rattle.mmv_faults.specs.Faults.{HasSections};
 
 use mmv_format::{indom_at, instance_at, metric_at, string_at, value_at};
 
-/// The place of an instance domain that lies in the words; so of the other entries.
-pub fn indom_place(words: &[u64], i: u32) -> u64
+/// The offset of an instance domain that lies in the words; so of the other entries.
+pub fn indom_offset(words: &[u64], i: u32) -> u64
     requires sections { HasSections words.now }
     requires below { i < indom_count words.now }
-    ensures place { result ≡ indom_at words.now i }
+    ensures offset { result ≡ indom_at words.now i }
     ensures bound { result < 524288 }
 {
     indom_at(words, i) as u64
 }
 
-pub fn instance_place(words: &[u64], i: u32) -> u64
+pub fn instance_offset(words: &[u64], i: u32) -> u64
     requires sections { HasSections words.now }
     requires below { i < instance_count words.now }
-    ensures place { result ≡ instance_at words.now i }
+    ensures offset { result ≡ instance_at words.now i }
     ensures bound { result < 524288 }
 {
     instance_at(words, i) as u64
 }
 
-pub fn metric_place(words: &[u64], i: u32) -> u64
+pub fn metric_offset(words: &[u64], i: u32) -> u64
     requires sections { HasSections words.now }
     requires below { i < metric_count words.now }
-    ensures place { result ≡ metric_at words.now i }
+    ensures offset { result ≡ metric_at words.now i }
     ensures bound { result < 524288 }
 {
     metric_at(words, i) as u64
 }
 
-pub fn value_place(words: &[u64], i: u32) -> u64
+pub fn value_offset(words: &[u64], i: u32) -> u64
     requires sections { HasSections words.now }
     requires below { i < value_count words.now }
-    ensures place { result ≡ value_at words.now i }
+    ensures offset { result ≡ value_at words.now i }
     ensures bound { result < 524288 }
 {
     value_at(words, i) as u64
 }
 
-pub fn string_place(words: &[u64], i: u32) -> u64
+pub fn string_offset(words: &[u64], i: u32) -> u64
     requires sections { HasSections words.now }
     requires below { i < string_count words.now }
-    ensures place { result ≡ string_at words.now i }
+    ensures offset { result ≡ string_at words.now i }
     ensures bound { result < 524288 }
 {
     string_at(words, i) as u64

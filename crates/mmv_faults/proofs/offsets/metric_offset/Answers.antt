@@ -1,7 +1,7 @@
 -- The entry lies in the words.
 use Rattle.std.proofs.Common.{arith}
 use Rattle.mmv_faults.proofs.Lies.{metric_lies}
-use Rattle.mmv_faults.proofs.places.metric_place.Goals as goal
+use Rattle.mmv_faults.proofs.offsets.metric_offset.Goals as goal
 
 pub overflow_cast-result : goal.overflow_cast-result
 overflow_cast-result c = let lies = metric_lies c.args.words.now c.args.i c.requires.sections c.requires.below in omega arith
