@@ -15,7 +15,7 @@ use Rattle.archive_frame.specs.declared.fault.FrameFault.TheVariants.{Torn, Size
 use Rattle.archive_meta.specs.Records.{AreRecords, IsWholeEnd}
 use Rattle.temporal_index.specs.Entries.{AreEntries, Gives}
 use Rattle.archive_loading.specs.Loaded.{contents_with}
-use Rattle.archive_loading.specs.LoadFaults.{LabelStops, MetaLabelStops, label_place, whole_entries}
+use Rattle.archive_loading.specs.LoadFaults.{LabelStops, MetaLabelStops, label_offset, whole_entries}
 
 pub label_long : (t : List ℕ) (l : LabelFields) (n : ℤ) → IsLabel t l n → length t ≡ 132
 label_long t l n h =
@@ -26,21 +26,21 @@ label_long t l n h =
 
 -- ---- labels
 
-pub stops_at : (bytes : List ℕ) (l : LabelFields) (n : ℤ) (fault : FrameFault) (at : ℕ) → label_place fault ≡ Some at → IsHeadFault l n bytes fault → LabelStops bytes l n at
+pub stops_at : (bytes : List ℕ) (l : LabelFields) (n : ℤ) (fault : FrameFault) (at : ℕ) → label_offset fault ≡ Some at → IsHeadFault l n bytes fault → LabelStops bytes l n at
 stops_at bytes l n (Misfit a) at is f = subst (λ p. IsHeadFault l n bytes (Misfit p)) (let e : a ≡ at = cc in e) f
 stops_at bytes l n (Torn a) at is f = absurd f
 stops_at bytes l n (Size a found) at is f = absurd f
 stops_at bytes l n (Lengths a head tail) at is f = absurd f
 stops_at bytes l n Lacking at is f = absurd f
 
-pub stops_somewhere : (bytes : List ℕ) (l : LabelFields) (n : ℤ) (fault : FrameFault) → label_place fault ≡ None → IsHeadFault l n bytes fault → ⊥
+pub stops_somewhere : (bytes : List ℕ) (l : LabelFields) (n : ℤ) (fault : FrameFault) → label_offset fault ≡ None → IsHeadFault l n bytes fault → ⊥
 stops_somewhere bytes l n (Misfit a) is f = let both : Some a ≡ None = is in cc
 stops_somewhere bytes l n (Torn a) is f = f
 stops_somewhere bytes l n (Size a found) is f = f
 stops_somewhere bytes l n (Lengths a head tail) is f = f
 stops_somewhere bytes l n Lacking is f = f
 
-pub meta_stops_at : (bytes : List ℕ) (fault : FrameFault) (at : ℕ) → label_place fault ≡ Some at → IsMetaHeadFault bytes fault → MetaLabelStops bytes at
+pub meta_stops_at : (bytes : List ℕ) (fault : FrameFault) (at : ℕ) → label_offset fault ≡ Some at → IsMetaHeadFault bytes fault → MetaLabelStops bytes at
 meta_stops_at bytes (Misfit a) at is f = subst (λ p. IsMetaHeadFault bytes (Misfit p)) (let e : a ≡ at = cc in e) f
 meta_stops_at bytes (Torn a) at is f = absurd f
 meta_stops_at bytes (Size a found) at is f = absurd f

@@ -90,9 +90,9 @@ all_headed held l count vs all s = (
     headed v h = (h.0, h.1, ⊎_elim (λ label. inl label) (λ part. inr (part.0, (λ k up. all.past k (omega (arith, part.1, up))))) h.2)
 
 -- a volume that isn't as it should be
-pub one_stops : (held : Holdings) (l : LabelFields) (count n place : ℕ) (vs : List (ℕ × ℕ)) → IsVolumes held count → n < count → SoFar (contents_of held) l count n vs
-    → IsVolumePart (contents_of held) l n (nat_eq (n + 1) count) (StopsAt place) → AreLabelledBelow (contents_of held) l n × VolumeStops (contents_of held) l n place
-one_stops held l count n place vs all lt s (some, why) = (
+pub one_stops : (held : Holdings) (l : LabelFields) (count n offset : ℕ) (vs : List (ℕ × ℕ)) → IsVolumes held count → n < count → SoFar (contents_of held) l count n vs
+    → IsVolumePart (contents_of held) l n (nat_eq (n + 1) count) (StopsAt offset) → AreLabelledBelow (contents_of held) l n × VolumeStops (contents_of held) l n offset
+one_stops held l count n offset vs all lt s (some, why) = (
   labelled_below (contents_of held) l count n vs lt s,
   (some, ⊎_elim (λ label. inl label) (λ rest. ⊎_elim (λ part. inr (inl (part.0, part.1, followed part.2))) (λ high. inr (inr high)) rest) why),
 )

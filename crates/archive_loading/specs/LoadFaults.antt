@@ -24,39 +24,39 @@ use Rattle.archive_loading.specs.Loaded.{contents_with, IsLabelled}
 -- The bytes, of at most a label, aren't the label of this number; where the process, the stamp, the host or the zone differs, this
 -- is its field's first byte, else the first byte that fits none.
 abbrev pub LabelStops : List ℕ → LabelFields → ℤ → ℕ → Type 0
-LabelStops bytes l number place = IsHeadFault l number bytes (Misfit place)
+LabelStops bytes l number offset = IsHeadFault l number bytes (Misfit offset)
 
 -- where a label's fault is
-abbrev pub label_place : FrameFault → Option ℕ
-label_place (Misfit at) = Some at
-label_place (Torn at) = None
-label_place (Size at found) = None
-label_place (Lengths at head tail) = None
-label_place Lacking = None
+abbrev pub label_offset : FrameFault → Option ℕ
+label_offset (Misfit at) = Some at
+label_offset (Torn at) = None
+label_offset (Size at found) = None
+label_offset (Lengths at head tail) = None
+label_offset Lacking = None
 
 abbrev pub IsHeadOf : List ℕ → LabelFields → ℤ → Head → Type 0
 IsHeadOf bytes l number Whole = IsLabel bytes l number
 IsHeadOf bytes l number Part = BeginsLabel bytes l number
-IsHeadOf bytes l number (Stops place) = LabelStops bytes l number place
+IsHeadOf bytes l number (Stops offset) = LabelStops bytes l number offset
 
 -- and of Meta, whose label says what all say
 abbrev pub MetaLabelStops : List ℕ → ℕ → Type 0
-MetaLabelStops bytes place = IsMetaHeadFault bytes (Misfit place)
+MetaLabelStops bytes offset = IsMetaHeadFault bytes (Misfit offset)
 
 abbrev pub IsMetaPrefix : List ℕ → MetaHead → Type 0
 IsMetaPrefix bytes (MetaWhole l) = IsLabel bytes l (negsuc 0)
 IsMetaPrefix bytes MetaPart = (l : LabelFields) × BeginsLabel bytes l (negsuc 0)
-IsMetaPrefix bytes (MetaStopsAt place) = MetaLabelStops bytes place
+IsMetaPrefix bytes (MetaStopsAt offset) = MetaLabelStops bytes offset
 
 -- Meta isn't its label and whole records, or it is less than its label beside a file that isn't empty
 abbrev pub IsBeside : Files → Type 0
 IsBeside files = (file : FileId) × (file ≢ Meta) × (0 < length (files file))
 
 abbrev pub MetaStops : Files → ℕ → Type 0
-MetaStops files place = let meta = files Meta in
-    MetaLabelStops (take 132 meta) place
-    ⊎ ((place ≡ length meta) × ((l : LabelFields) × BeginsLabel meta l (negsuc 0)) × IsBeside files)
-    ⊎ (IsMetaLabel (take 132 meta) × (k : ℕ) × (place ≡ 132 + k) × IsFrontFault [] (drop 132 meta) (Record k))
+MetaStops files offset = let meta = files Meta in
+    MetaLabelStops (take 132 meta) offset
+    ⊎ ((offset ≡ length meta) × ((l : LabelFields) × BeginsLabel meta l (negsuc 0)) × IsBeside files)
+    ⊎ (IsMetaLabel (take 132 meta) × (k : ℕ) × (offset ≡ 132 + k) × IsFrontFault [] (drop 132 meta) (Record k))
 
 -- how many bytes of whole entries there are
 abbrev pub whole_entries : ℕ → ℕ
@@ -64,9 +64,9 @@ whole_entries size = size / 20 * 20
 
 -- the index isn't its label and entries
 abbrev pub IndexStops : List ℕ → LabelFields → ℕ → Type 0
-IndexStops bytes l place =
-    LabelStops (take 132 bytes) l (negsuc 1) place
-    ⊎ (IsLabel (take 132 bytes) l (negsuc 1) × (k : ℕ) × (place ≡ 132 + k) × IsFirstFault (take (whole_entries (length bytes - 132)) (drop 132 bytes)) k)
+IndexStops bytes l offset =
+    LabelStops (take 132 bytes) l (negsuc 1) offset
+    ⊎ (IsLabel (take 132 bytes) l (negsuc 1) × (k : ℕ) × (offset ≡ 132 + k) × IsFirstFault (take (whole_entries (length bytes - 132)) (drop 132 bytes)) k)
 
 -- some volume above a number isn't empty
 abbrev pub IsFollowed : Files → ℕ → Type 0
@@ -74,10 +74,10 @@ IsFollowed files n = (k : ℕ) × (n < k) × (files (Volume k) ≢ [])
 
 -- a volume that isn't empty doesn't begin with its label, or ends within it and isn't the last; from 2^31 on a volume has no label
 abbrev pub VolumeStops : Files → LabelFields → ℕ → ℕ → Type 0
-VolumeStops files l n place = let bytes = files (Volume n) in (0 < length bytes)
-    × (LabelStops (take 132 bytes) l (pos n) place
-    ⊎ ((place ≡ length bytes) × BeginsLabel bytes l (pos n) × IsFollowed files n)
-    ⊎ ((2147483648 ≤ n) × (place ≡ 0)))
+VolumeStops files l n offset = let bytes = files (Volume n) in (0 < length bytes)
+    × (LabelStops (take 132 bytes) l (pos n) offset
+    ⊎ ((offset ≡ length bytes) × BeginsLabel bytes l (pos n) × IsFollowed files n)
+    ⊎ ((2147483648 ≤ n) × (offset ≡ 0)))
 
 -- the volumes below a number are empty or begin with their labels
 abbrev pub AreLabelledBelow : Files → LabelFields → ℕ → Type 0
@@ -90,13 +90,13 @@ pub record HeadIs (files : Files) (l : LabelFields) (records : List MetaRecord) 
   pub meta : MetaIs files l records
   pub index : IsIndex (files Index) (contents_with l [] entries [])
 
--- the first place that doesn't fit
+-- the first offset that doesn't fit
 abbrev pub NotLoaded : Files → FileId → ℕ → Type 0
-NotLoaded files Meta place = MetaStops files place
-NotLoaded files Index place =
-    ((l : LabelFields) × (records : List MetaRecord) × MetaIs files l records × IndexStops (files Index) l place)
-    ⊎ ((place ≡ 132) × (l : LabelFields) × (records : List MetaRecord) × (entries : List Entry) × HeadIs files l records entries × (entries ≢ [])
+NotLoaded files Meta offset = MetaStops files offset
+NotLoaded files Index offset =
+    ((l : LabelFields) × (records : List MetaRecord) × MetaIs files l records × IndexStops (files Index) l offset)
+    ⊎ ((offset ≡ 132) × (l : LabelFields) × (records : List MetaRecord) × (entries : List Entry) × HeadIs files l records entries × (entries ≢ [])
     × ((n : ℕ) → length (files (Volume n)) < 132))
-NotLoaded files (Volume n) place =
+NotLoaded files (Volume n) offset =
     (l : LabelFields) × (records : List MetaRecord) × (entries : List Entry) × HeadIs files l records entries × AreLabelledBelow files l n
-    × VolumeStops files l n place
+    × VolumeStops files l n offset

@@ -63,14 +63,14 @@ pub record AreAllRecords (bytes : List ℕ) (records : List MetaRecord) (end : �
 
 abbrev pub IsRecordsRead : List ℕ → RecordsRead → Type 0
 IsRecordsRead bytes (Whole records end last) = AreAllRecords bytes records end last
-IsRecordsRead bytes (RecordsStop place) = (k : ℕ) × (place ≡ 132 + k) × IsFrontFault [] (drop 132 bytes) (BadRecord k)
+IsRecordsRead bytes (RecordsStop offset) = (k : ℕ) × (offset ≡ 132 + k) × IsFrontFault [] (drop 132 bytes) (BadRecord k)
 
 -- Meta is less than its label, or its label and records, or something else from a byte on
 abbrev pub IsMetaPart : List ℕ → MetaPart → Type 0
 IsMetaPart bytes (Begun size) = (size ≡ length bytes) × (l : LabelFields) × BeginsLabel bytes l (negsuc 0)
 IsMetaPart bytes (WholeMeta l records end) = IsMeta bytes (contents_with l records [] [])
-IsMetaPart bytes (MetaStopsAt place) =
-    MetaLabelStops (take 132 bytes) place ⊎ (IsMetaLabel (take 132 bytes) × (k : ℕ) × (place ≡ 132 + k) × IsFrontFault [] (drop 132 bytes) (BadRecord k))
+IsMetaPart bytes (MetaStopsAt offset) =
+    MetaLabelStops (take 132 bytes) offset ⊎ (IsMetaLabel (take 132 bytes) × (k : ℕ) × (offset ≡ 132 + k) × IsFrontFault [] (drop 132 bytes) (BadRecord k))
 
 -- where its records end
 pub record HasEnd (bytes : List ℕ) (l : LabelFields) (records : List MetaRecord) (e : MetaEnd) : Type 0 where
@@ -81,4 +81,4 @@ pub record HasEnd (bytes : List ℕ) (l : LabelFields) (records : List MetaRecor
 abbrev pub IsReadTo : List ℕ → MetaPart → Type 0
 IsReadTo bytes (Begun size) = Unit {0}
 IsReadTo bytes (WholeMeta l records end) = HasEnd bytes l records end
-IsReadTo bytes (MetaStopsAt place) = Unit {0}
+IsReadTo bytes (MetaStopsAt offset) = Unit {0}

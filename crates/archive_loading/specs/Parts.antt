@@ -9,4 +9,4 @@ use Rattle.archive_loading.specs.LoadFaults.{IndexStops}
 
 abbrev pub IsIndexPart : LabelFields → List ℕ → IndexPart → Type 0
 IsIndexPart l bytes (WholeIndex entries) = IsIndex bytes (contents_with l [] entries [])
-IsIndexPart l bytes (IndexStopsAt place) = IndexStops bytes l place
+IsIndexPart l bytes (IndexStopsAt offset) = IndexStops bytes l offset

@@ -16,25 +16,25 @@ use Rattle.archive_loading.specs.LoadFaults.{LabelStops, VolumeStops, AreLabelle
 abbrev pub IsVolumeHead : List ℕ → LabelFields → ℕ → Head → Type 0
 IsVolumeHead bytes l n Whole = IsLabel bytes l (pos n)
 IsVolumeHead bytes l n Part = BeginsLabel bytes l (pos n)
-IsVolumeHead bytes l n (Stops place) = LabelStops bytes l (pos n) place ⊎ ((2147483648 ≤ n) × (place ≡ 0))
+IsVolumeHead bytes l n (Stops offset) = LabelStops bytes l (pos n) offset ⊎ ((2147483648 ≤ n) × (offset ≡ 0))
 
 abbrev pub IsVolumePart : Files → LabelFields → ℕ → Bool → VolumePart → Type 0
 IsVolumePart files l n is_last Empty = files (Volume n) ≡ []
 IsVolumePart files l n is_last (Headed end) = (end ≡ length (files (Volume n))) × (0 < end)
     × (IsLabelled (files (Volume n)) l n ⊎ (BeginsLabel (files (Volume n)) l (pos n) × (is_last ≡ true)))
-IsVolumePart files l n is_last (StopsAt place) = (0 < length (files (Volume n)))
-    × (LabelStops (take 132 (files (Volume n))) l (pos n) place
-    ⊎ ((place ≡ length (files (Volume n))) × BeginsLabel (files (Volume n)) l (pos n) × (is_last ≡ false))
-    ⊎ ((2147483648 ≤ n) × (place ≡ 0)))
+IsVolumePart files l n is_last (StopsAt offset) = (0 < length (files (Volume n)))
+    × (LabelStops (take 132 (files (Volume n))) l (pos n) offset
+    ⊎ ((offset ≡ length (files (Volume n))) × BeginsLabel (files (Volume n)) l (pos n) × (is_last ≡ false))
+    ⊎ ((2147483648 ≤ n) × (offset ≡ 0)))
 
 -- all volumes, or the first that isn't as it should be
 abbrev pub IsVolumesPart : Files → LabelFields → VolumesPart → Type 0
 IsVolumesPart files l (AllHeaded volumes) = AreLabelled files l volumes × ((n : ℕ) → (Contains (numbers volumes) n → ⊥) → files (Volume n) ≡ [])
-IsVolumesPart files l (OneStops n place) = AreLabelledBelow files l n × VolumeStops files l n place
+IsVolumesPart files l (OneStops n offset) = AreLabelledBelow files l n × VolumeStops files l n offset
 
 abbrev pub IsReachablePart : VolumesPart → Type 0
 IsReachablePart (AllHeaded volumes) = IsReachable volumes
-IsReachablePart (OneStops n place) = Unit {0}
+IsReachablePart (OneStops n offset) = Unit {0}
 
 -- only Meta may hold a byte
 pub record IsAlone (files : Files) : Type 0 where

@@ -1,6 +1,6 @@
 //! How a file begins: with its label, with less, or with something else.
 ghost use Rattle.std.specs.Prelude.{◌≡◌, ◌≤◌, ◌≤ℤ◌, negsuc, length, IfOk};
-ghost use Rattle.archive_loading.specs.LoadFaults.{IsHeadOf, IsMetaPrefix, label_place};
+ghost use Rattle.archive_loading.specs.LoadFaults.{IsHeadOf, IsMetaPrefix, label_offset};
 
 use archive_frame::{FrameFault, Head as Found, read_label_of, read_meta_label};
 use pcp_base::NoMemory;
@@ -28,9 +28,9 @@ pub enum MetaHead {
     Stops(u64),
 }
 
-/// The place of a label's fault.
-fn label_place(fault: FrameFault) -> Option<u64>
-    ensures { result ≡ label_place fault }
+/// The offset of a label's fault.
+fn label_offset(fault: FrameFault) -> Option<u64>
+    ensures { result ≡ label_offset fault }
 {
     match fault {
         FrameFault::Label { at } => Some(at),
@@ -50,7 +50,7 @@ pub fn head_of(bytes: &[u8], label: &Label, number: i32) -> Head
     match read_label_of(bytes, number, label) {
         Ok(Found::Whole) => Head::Whole,
         Ok(Found::Part) => Head::Part,
-        Err(fault) => match label_place(fault) {
+        Err(fault) => match label_offset(fault) {
             Some(at) => Head::Stops(at),
             None => Head::Stops(0),
         },
@@ -64,7 +64,7 @@ pub fn meta_head(alloc: Global, bytes: &[u8]) -> Result<MetaHead, NoMemory>
     match read_meta_label(alloc, bytes) {
         Ok(Some(label)) => Ok(MetaHead::Whole(label)),
         Ok(None) => Ok(MetaHead::Part),
-        Err(fault) => match label_place(fault) {
+        Err(fault) => match label_offset(fault) {
             Some(at) => Ok(MetaHead::Stops(at)),
             None => Err(NoMemory),
         },

@@ -27,7 +27,7 @@ both false b e = absurd cc
 pub record PairRead (numbers offsets table : List ℕ) (p : ℤ × List ℕ) : Type 0 where
   pub offset : ℕ
   pub number : numbers ≡ signed_word p.0 ++ drop 4 numbers
-  pub place : offsets ≡ word offset ++ drop 4 offsets
+  pub offset_is : offsets ≡ word offset ++ drop 4 offsets
   pub fits : FitsSigned w32 p.0
   pub stands : NameStands table offset p.1
 
@@ -43,29 +43,29 @@ pair_takes numbers offsets table p small low x =
     (record {
       offset = b.0;
       number = n.is ∙ ap (λ t. t ++ drop 4 numbers) (sym (signed_is a.0 n.fits));
-      place = o.is;
+      offset_is = o.is;
       fits = signed_fits a.0 n.fits;
       stands = name_stands table c.0 b.0 c.1;
     })
 
 pub record PairsRead (numbers offsets table : List ℕ) (n : ℕ) (pairs : List (ℤ × List ℕ)) : Type 0 where
-  pub places : List ℕ
+  pub starts : List ℕ
   pub more_numbers : List ℕ
   pub more_offsets : List ℕ
   pub numbers_are : numbers ≡ instance_words pairs ++ more_numbers
-  pub offsets_are : offsets ≡ word_bytes places ++ more_offsets
+  pub offsets_are : offsets ≡ word_bytes starts ++ more_offsets
   pub count : length pairs ≡ n
   pub numbers_long : length (instance_words pairs) ≡ 4 * n
-  pub offsets_long : length (word_bytes places) ≡ 4 * n
+  pub offsets_long : length (word_bytes starts) ≡ 4 * n
   pub fit : AllByRecursion (λ (p : ℤ × List ℕ). FitsSigned w32 p.0) pairs
-  pub stand : NamesStand table places pairs
+  pub stand : NamesStand table starts pairs
 
 pairs_takes : (table : List ℕ) (n : ℕ) (numbers offsets : List ℕ) (pairs : List (ℤ × List ℕ)) → IsBytes numbers → IsBytes offsets → pairs_from table n numbers offsets ≡ Some pairs → PairsRead numbers offsets table n pairs
 unfolding pairs_from
 pairs_takes table zero numbers offsets pairs small low x =
     subst (PairsRead numbers offsets table 0) (some_is [] pairs x)
     (record {
-      places = [];
+      starts = [];
       more_numbers = numbers;
       more_offsets = offsets;
       numbers_are = refl;
@@ -83,35 +83,35 @@ pairs_takes table (suc n) numbers offsets pairs small low x =
     let more : PairsRead (drop 4 numbers) (drop 4 offsets) table n b.0 = pairs_takes table n (drop 4 numbers) (drop 4 offsets) b.0 (IsBytes-drop 4 numbers small) (IsBytes-drop 4 offsets low) b.1 in
     subst (PairsRead numbers offsets table (suc n)) (some_is (a.0 ∷ b.0) pairs b.2)
     (record {
-      places = one.offset ∷ more.places;
+      starts = one.offset ∷ more.starts;
       more_numbers = more.more_numbers;
       more_offsets = more.more_offsets;
       numbers_are = one.number ∙ ap (λ t. signed_word a.0.0 ++ t) more.numbers_are ∙ sym (append_assoc (signed_word a.0.0) (instance_words b.0) more.more_numbers);
-      offsets_are = one.place ∙ ap (λ t. word one.offset ++ t) more.offsets_are ∙ sym (append_assoc (word one.offset) (word_bytes more.places) more.more_offsets);
+      offsets_are = one.offset_is ∙ ap (λ t. word one.offset ++ t) more.offsets_are ∙ sym (append_assoc (word one.offset) (word_bytes more.starts) more.more_offsets);
       count = ap suc more.count;
       numbers_long = length-append (signed_word a.0.0) (instance_words b.0) ∙ (let e : length (signed_word a.0.0) + length (instance_words b.0) ≡ 4 * suc n = omega (arith, length-signed_word a.0.0, more.numbers_long) in e);
-      offsets_long = length-append (word one.offset) (word_bytes more.places) ∙ (let e : length (word one.offset) + length (word_bytes more.places) ≡ 4 * suc n = omega (arith, length-word one.offset, more.offsets_long) in e);
+      offsets_long = length-append (word one.offset) (word_bytes more.starts) ∙ (let e : length (word one.offset) + length (word_bytes more.starts) ≡ 4 * suc n = omega (arith, length-word one.offset, more.offsets_long) in e);
       fit = (one.fits, more.fit);
       stand = (one.stands, more.stand);
     })
 
-pairs_again : (table : List ℕ) (places : List ℕ) (numbers offsets more_numbers more_offsets : List ℕ) (pairs : List (ℤ × List ℕ)) → length table < 4294967296 → AllByRecursion (λ (p : ℤ × List ℕ). FitsSigned w32 p.0) pairs
-    → NamesStand table places pairs → numbers ≡ instance_words pairs ++ more_numbers → offsets ≡ word_bytes places ++ more_offsets → pairs_from table (length pairs) numbers offsets ≡ Some pairs
+pairs_again : (table : List ℕ) (starts : List ℕ) (numbers offsets more_numbers more_offsets : List ℕ) (pairs : List (ℤ × List ℕ)) → length table < 4294967296 → AllByRecursion (λ (p : ℤ × List ℕ). FitsSigned w32 p.0) pairs
+    → NamesStand table starts pairs → numbers ≡ instance_words pairs ++ more_numbers → offsets ≡ word_bytes starts ++ more_offsets → pairs_from table (length pairs) numbers offsets ≡ Some pairs
 unfolding pairs_from pair_at
 pairs_again table [] numbers offsets mn mo [] few fit stand a b = refl
 pairs_again table [] numbers offsets mn mo (p ∷ pairs) few fit stand a b = absurd (stand tt)
-pairs_again table (place ∷ places) numbers offsets mn mo [] few fit stand a b = absurd (stand tt)
-pairs_again table (place ∷ places) numbers offsets mn mo (p ∷ pairs) few fit stand a b =
+pairs_again table (start ∷ starts) numbers offsets mn mo [] few fit stand a b = absurd (stand tt)
+pairs_again table (start ∷ starts) numbers offsets mn mo (p ∷ pairs) few fit stand a b =
     let i : ℕ = cast_unsigned w32 p.0 in
     let a0 : drop 0 numbers ≡ word i ++ (instance_words pairs ++ mn) = a ∙ append_assoc (signed_word p.0) (instance_words pairs) mn ∙ ap (λ t. t ++ (instance_words pairs ++ mn)) (word_of_signed p.0) in
-    let b0 : drop 0 offsets ≡ word place ++ (word_bytes places ++ mo) = b ∙ append_assoc (word place) (word_bytes places) mo in
+    let b0 : drop 0 offsets ≡ word start ++ (word_bytes starts ++ mo) = b ∙ append_assoc (word start) (word_bytes starts) mo in
     let a4 : drop 4 numbers ≡ instance_words pairs ++ mn = behind_word numbers 0 4 i (instance_words pairs ++ mn) refl a0 in
-    let b4 : drop 4 offsets ≡ word_bytes places ++ mo = behind_word offsets 0 4 place (word_bytes places ++ mo) refl b0 in
-    let low : place < 4294967296 = omega (arith, offset_within table p.1 place stand.0) in
+    let b4 : drop 4 offsets ≡ word_bytes starts ++ mo = behind_word offsets 0 4 start (word_bytes starts ++ mo) refl b0 in
+    let low : start < 4294967296 = omega (arith, offset_within table p.1 start stand.0) in
     let number : be_field w32 0 numbers ≡ Some i = field_again numbers 0 i (instance_words pairs ++ mn) (unsigned_fits p.0 fit.0) a0 in
-    let offset : be_field w32 0 offsets ≡ Some place = field_again offsets 0 place (word_bytes places ++ mo) low b0 in
-    let more : pairs_from table (length pairs) (drop 4 numbers) (drop 4 offsets) ≡ Some pairs = pairs_again table places (drop 4 numbers) (drop 4 offsets) mn mo pairs few fit.1 stand.1 a4 b4 in
-    rw (number, offset, name_again table p.1 place stand.0, more) (ap (λ z. Some ((z, p.1) ∷ pairs)) (signed_back p.0 fit.0))
+    let offset : be_field w32 0 offsets ≡ Some start = field_again offsets 0 start (word_bytes starts ++ mo) low b0 in
+    let more : pairs_from table (length pairs) (drop 4 numbers) (drop 4 offsets) ≡ Some pairs = pairs_again table starts (drop 4 numbers) (drop 4 offsets) mn mo pairs few fit.1 stand.1 a4 b4 in
+    rw (number, offset, name_again table p.1 start stand.0, more) (ap (λ z. Some ((z, p.1) ∷ pairs)) (signed_back p.0 fit.0))
 
 -- ---- the stamp
 
@@ -164,11 +164,11 @@ domain_takes bytes t indom pairs fits first x =
     let m : WordStands bytes 16 20 n = field_takes bytes 16 20 n fits refl c.1 in
     let r : PairsRead (drop 20 bytes) offsets table n d.0 = pairs_takes table n (drop 20 bytes) offsets d.0 (IsBytes-drop 20 bytes fits) (IsBytes-drop (20 + 4 * n) bytes fits) g.1 in
     let numbers_end : r.more_numbers ≡ offsets = sym (drop_at (instance_words d.0) r.more_numbers (4 * n) r.numbers_long) ∙ ap (drop (4 * n)) (sym r.numbers_are) ∙ drop-drop (4 * n) 20 bytes in
-    let offsets_end : r.more_offsets ≡ table = sym (drop_at (word_bytes r.places) r.more_offsets (4 * n) r.offsets_long) ∙ ap (drop (4 * n)) (sym r.offsets_are) ∙ drop-drop (4 * n) (20 + 4 * n) bytes in
-    let body : drop 20 bytes ≡ (instance_words d.0 ++ word_bytes r.places) ++ table =
-    r.numbers_are ∙ ap (λ y. instance_words d.0 ++ y) (numbers_end ∙ r.offsets_are ∙ ap (λ y. word_bytes r.places ++ y) offsets_end) ∙ sym (append_assoc (instance_words d.0) (word_bytes r.places) table) in
-    let counted : drop 16 bytes ≡ word (length d.0) ++ ((instance_words d.0 ++ word_bytes r.places) ++ table) = m.is ∙ ap (λ k. word k ++ drop 20 bytes) (sym r.count) ∙ ap (λ y. word (length d.0) ++ y) body in
-    let whole : bytes ≡ word 2 ++ (word a.0.sec ++ (word a.0.usec ++ (word b.0 ++ (word (length d.0) ++ ((instance_words d.0 ++ word_bytes r.places) ++ table))))) =
+    let offsets_end : r.more_offsets ≡ table = sym (drop_at (word_bytes r.starts) r.more_offsets (4 * n) r.offsets_long) ∙ ap (drop (4 * n)) (sym r.offsets_are) ∙ drop-drop (4 * n) (20 + 4 * n) bytes in
+    let body : drop 20 bytes ≡ (instance_words d.0 ++ word_bytes r.starts) ++ table =
+    r.numbers_are ∙ ap (λ y. instance_words d.0 ++ y) (numbers_end ∙ r.offsets_are ∙ ap (λ y. word_bytes r.starts ++ y) offsets_end) ∙ sym (append_assoc (instance_words d.0) (word_bytes r.starts) table) in
+    let counted : drop 16 bytes ≡ word (length d.0) ++ ((instance_words d.0 ++ word_bytes r.starts) ++ table) = m.is ∙ ap (λ k. word k ++ drop 20 bytes) (sym r.count) ∙ ap (λ y. word (length d.0) ++ y) body in
+    let whole : bytes ≡ word 2 ++ (word a.0.sec ++ (word a.0.usec ++ (word b.0 ++ (word (length d.0) ++ ((instance_words d.0 ++ word_bytes r.starts) ++ table))))) =
     first.is ∙ ap (λ y. word 2 ++ y) (s.sec.is ∙ ap (λ y. word a.0.sec ++ y) (s.usec.is ∙ ap (λ y. word a.0.usec ++ y) (i.is ∙ ap (λ y. word b.0 ++ y) counted))) in
     subst (λ (p : Moment × ℕ × List (ℤ × List ℕ)). IsDomain bytes p.0 p.1 p.2) (some_is (a.0, b.0, d.0) (t, indom, pairs) d.2)
     (record {
@@ -176,21 +176,21 @@ domain_takes bytes t indom pairs fits first x =
       indom_fits = i.fits;
       few = let e : length d.0 ≡ n = r.count in omega (arith, ltb-false 2147483647 n h.0);
       numbers = r.fit;
-      offsets = r.places;
+      offsets = r.starts;
       table = table;
       names = r.stand;
-      is = whole ∙ (let e : word 2 ++ (word a.0.sec ++ (word a.0.usec ++ (word b.0 ++ (word (length d.0) ++ ((instance_words d.0 ++ word_bytes r.places) ++ table))))) ≡ domain_head a.0 b.0 d.0 r.places ++ table = simp append_assoc in e);
+      is = whole ∙ (let e : word 2 ++ (word a.0.sec ++ (word a.0.usec ++ (word b.0 ++ (word (length d.0) ++ ((instance_words d.0 ++ word_bytes r.starts) ++ table))))) ≡ domain_head a.0 b.0 d.0 r.starts ++ table = simp append_assoc in e);
     })
 
 instance_words_long : (pairs : List (ℤ × List ℕ)) → length (instance_words pairs) ≡ 4 * length pairs
 instance_words_long [] = refl
 instance_words_long (p ∷ pairs) = omega (arith, length-append (signed_word p.0) (instance_words pairs), length-signed_word p.0, instance_words_long pairs)
 
-words_long : (table places : List ℕ) (pairs : List (ℤ × List ℕ)) → NamesStand table places pairs → length (word_bytes places) ≡ 4 * length pairs
+words_long : (table starts : List ℕ) (pairs : List (ℤ × List ℕ)) → NamesStand table starts pairs → length (word_bytes starts) ≡ 4 * length pairs
 words_long table [] [] stand = refl
 words_long table [] (p ∷ pairs) stand = absurd (stand tt)
-words_long table (place ∷ places) [] stand = absurd (stand tt)
-words_long table (place ∷ places) (p ∷ pairs) stand = omega (arith, length-append (word place) (word_bytes places), length-word place, words_long table places pairs stand.1)
+words_long table (start ∷ starts) [] stand = absurd (stand tt)
+words_long table (start ∷ starts) (p ∷ pairs) stand = omega (arith, length-append (word start) (word_bytes starts), length-word start, words_long table starts pairs stand.1)
 
 no_test : (a b : Bool) → a ≡ false → b ≡ false → (a || b) ≡ false
 no_test a b e f = rw (e, f) refl

@@ -195,32 +195,32 @@ module _ (old new : BTreeSet Listing) (records : List MetaRecord) (t : Moment) (
 
 -- ---- the last entry
 
-abbrev greatest_place : ℕ
-greatest_place = 4294967295
+abbrev greatest_position : ℕ
+greatest_position = 4294967295
 
 module _ (moments : BTreeSet Listing) (indom time : ℕ) where
-  in_bound : (other place : ℕ) → other ≤ time → place < 4294967296 → is_gt (moment_order (listing indom other place) (listing indom time greatest_place)) ≡ false
-  in_bound other place le few = not_greater_at indom other time place greatest_place le (omega arith)
+  in_bound : (other position : ℕ) → other ≤ time → position < 4294967296 → is_gt (moment_order (listing indom other position) (listing indom time greatest_position)) ≡ false
+  in_bound other position le few = not_greater_at indom other time position greatest_position le (omega arith)
 
-  module _ (key : Listing) (low_enough : is_gt (moment_order key (listing indom time greatest_place)) ≡ false)
-      (greatest : (q : Listing) → is_gt (moment_order q (listing indom time greatest_place)) ≡ false → contains moment_order moments q ≡ true → is_lt (moment_order key q) ≡ false) where
+  module _ (key : Listing) (low_enough : is_gt (moment_order key (listing indom time greatest_position)) ≡ false)
+      (greatest : (q : Listing) → is_gt (moment_order q (listing indom time greatest_position)) ≡ false → contains moment_order moments q ≡ true → is_lt (moment_order key q) ≡ false) where
     pub is_last : contains moment_order moments key ≡ true → key.indom ≡ indom → IsLastEntry moments indom time key.at
     is_last there same = record {
       from = key.from;
       there = subst (λ i. contains moment_order moments (listing i key.from key.at) ≡ true) same there;
-      not_after = elim (before_from key (listing indom time greatest_place) low_enough) [ inl lt ↦ absurd (omega arith) | inr p ↦ elim p.1 [ inl lt ↦ omega arith | inr q ↦ omega arith ] ];
-      last = λ other place is le few. elim (behind_from key (listing indom other place) (greatest (listing indom other place) (in_bound other place le few) is)) [ inl lt ↦ absurd (omega arith) | inr p ↦ p.1 ];
+      not_after = elim (before_from key (listing indom time greatest_position) low_enough) [ inl lt ↦ absurd (omega arith) | inr p ↦ elim p.1 [ inl lt ↦ omega arith | inr q ↦ omega arith ] ];
+      last = λ other position is le few. elim (behind_from key (listing indom other position) (greatest (listing indom other position) (in_bound other position le few) is)) [ inl lt ↦ absurd (omega arith) | inr p ↦ p.1 ];
     }
 
     pub is_none : (key.indom ≡ indom → ⊥) → HasNoEntry moments indom time
-    is_none other_domain other place is le few =
-        elim (behind_from key (listing indom other place) (greatest (listing indom other place) (in_bound other place le few) is)) [
-          | inl lt ↦ elim (before_from key (listing indom time greatest_place) low_enough) [ inl less ↦ omega arith | inr p ↦ other_domain p.0 ]
+    is_none other_domain other position is le few =
+        elim (behind_from key (listing indom other position) (greatest (listing indom other position) (in_bound other position le few) is)) [
+          | inl lt ↦ elim (before_from key (listing indom time greatest_position) low_enough) [ inl less ↦ omega arith | inr p ↦ other_domain p.0 ]
           | inr p ↦ other_domain (sym p.0)
         ]
 
-  pub nothing_there : ((q : Listing) → is_gt (moment_order q (listing indom time greatest_place)) ≡ false → contains moment_order moments q ≡ false) → HasNoEntry moments indom time
-  nothing_there none other place is le few = let both : true ≡ false = sym is ∙ none (listing indom other place) (in_bound other place le few) in cc
+  pub nothing_there : ((q : Listing) → is_gt (moment_order q (listing indom time greatest_position)) ≡ false → contains moment_order moments q ≡ false) → HasNoEntry moments indom time
+  nothing_there none other position is le few = let both : true ≡ false = sym is ∙ none (listing indom other position) (in_bound other position le few) in cc
 
 -- ---- what holds at a moment
 

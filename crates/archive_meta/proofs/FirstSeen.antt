@@ -13,44 +13,44 @@ use Rattle.pcp_base.specs.declared.desc.Desc.{Desc}
 use Rattle.pcp_model.specs.declared.records.MetaRecord.{MetaRecord}
 use Rattle.pcp_model.specs.declared.records.MetaRecord.TheVariants.{Description, Domain, Other}
 use Rattle.archive_meta.specs.Said.{describes, description_of, seen_with, seen_after, described}
-use Rattle.archive_meta.specs.Kept.{place, HasDescriptions, NotesMetric, DropsMetric}
+use Rattle.archive_meta.specs.Kept.{position_of, HasDescriptions, NotesMetric, DropsMetric}
 
-place_push : (pmid : ℕ) (records : List MetaRecord) (r : MetaRecord) → place pmid (records ++ r ∷ []) ≡ option_or (place pmid records) (cond (describes pmid r) (Some (length records)) None)
-place_push pmid [] r = refl
-place_push pmid (x ∷ records) r = by (describes pmid x) (place pmid records) (describes pmid r) (place_push pmid records r)
+position_push : (pmid : ℕ) (records : List MetaRecord) (r : MetaRecord) → position_of pmid (records ++ r ∷ []) ≡ option_or (position_of pmid records) (cond (describes pmid r) (Some (length records)) None)
+position_push pmid [] r = refl
+position_push pmid (x ∷ records) r = by (describes pmid x) (position_of pmid records) (describes pmid r) (position_push pmid records r)
   where
-    by : (b : Bool) (o : Option ℕ) (d : Bool) → place pmid (records ++ r ∷ []) ≡ option_or o (cond d (Some (length records)) None)
-        → cond b (Some 0) (option_map suc (place pmid (records ++ r ∷ []))) ≡ option_or (cond b (Some 0) (option_map suc o)) (cond d (Some (suc (length records))) None)
+    by : (b : Bool) (o : Option ℕ) (d : Bool) → position_of pmid (records ++ r ∷ []) ≡ option_or o (cond d (Some (length records)) None)
+        → cond b (Some 0) (option_map suc (position_of pmid (records ++ r ∷ []))) ≡ option_or (cond b (Some 0) (option_map suc o)) (cond d (Some (suc (length records))) None)
     by true o d e = refl
     by false (Some k) d e = ap (option_map suc) e
     by false None true e = ap (option_map suc) e
     by false None false e = ap (option_map suc) e
 
-place_within : (pmid : ℕ) (records : List MetaRecord) (k : ℕ) → place pmid records ≡ Some k → k < length records
-place_within pmid [] k e = absurd cc
-place_within pmid (x ∷ records) k e = by (describes pmid x) (place pmid records) refl e (place_within pmid records)
+position_within : (pmid : ℕ) (records : List MetaRecord) (k : ℕ) → position_of pmid records ≡ Some k → k < length records
+position_within pmid [] k e = absurd cc
+position_within pmid (x ∷ records) k e = by (describes pmid x) (position_of pmid records) refl e (position_within pmid records)
   where
-    by : (b : Bool) (o : Option ℕ) → place pmid records ≡ o → cond b (Some 0) (option_map suc o) ≡ Some k → ((j : ℕ) → place pmid records ≡ Some j → j < length records) → k < suc (length records)
+    by : (b : Bool) (o : Option ℕ) → position_of pmid records ≡ o → cond b (Some 0) (option_map suc o) ≡ Some k → ((j : ℕ) → position_of pmid records ≡ Some j → j < length records) → k < suc (length records)
     by true o h f more = let z : 0 ≡ k = cc in omega arith
     by false (Some j) h f more = let z : suc j ≡ k = cc in let lt : j < length records = more j h in omega arith
     by false None h f more = absurd cc
 
--- the first description stands in its place
-pub found_at : (pmid : ℕ) (records : List MetaRecord) (k : ℕ) → place pmid records ≡ Some k → slice_get records k ≡ description_of pmid records
+-- the first description stands at its position
+pub found_at : (pmid : ℕ) (records : List MetaRecord) (k : ℕ) → position_of pmid records ≡ Some k → slice_get records k ≡ description_of pmid records
 found_at pmid [] k e = absurd cc
-found_at pmid (x ∷ records) k e = by (describes pmid x) (place pmid records) refl e (found_at pmid records)
+found_at pmid (x ∷ records) k e = by (describes pmid x) (position_of pmid records) refl e (found_at pmid records)
   where
-    by : (b : Bool) (o : Option ℕ) → place pmid records ≡ o → cond b (Some 0) (option_map suc o) ≡ Some k → ((j : ℕ) → place pmid records ≡ Some j → slice_get records j ≡ description_of pmid records)
+    by : (b : Bool) (o : Option ℕ) → position_of pmid records ≡ o → cond b (Some 0) (option_map suc o) ≡ Some k → ((j : ℕ) → position_of pmid records ≡ Some j → slice_get records j ≡ description_of pmid records)
         → slice_get (x ∷ records) k ≡ cond b (Some x) (description_of pmid records)
     by true o h f more = let z : 0 ≡ k = cc in subst (λ n. slice_get (x ∷ records) n ≡ Some x) z refl
     by false (Some j) h f more = let z : suc j ≡ k = cc in subst (λ n. slice_get (x ∷ records) n ≡ description_of pmid records) z (more j h)
     by false None h f more = absurd cc
 
-pub found_none : (pmid : ℕ) (records : List MetaRecord) → place pmid records ≡ None → None ≡ description_of pmid records
+pub found_none : (pmid : ℕ) (records : List MetaRecord) → position_of pmid records ≡ None → None ≡ description_of pmid records
 found_none pmid [] e = refl
-found_none pmid (x ∷ records) e = by (describes pmid x) (place pmid records) refl e (found_none pmid records)
+found_none pmid (x ∷ records) e = by (describes pmid x) (position_of pmid records) refl e (found_none pmid records)
   where
-    by : (b : Bool) (o : Option ℕ) → place pmid records ≡ o → cond b (Some 0) (option_map suc o) ≡ None → (place pmid records ≡ None → None ≡ description_of pmid records) → None ≡ cond b (Some x) (description_of pmid records)
+    by : (b : Bool) (o : Option ℕ) → position_of pmid records ≡ o → cond b (Some 0) (option_map suc o) ≡ None → (position_of pmid records ≡ None → None ≡ description_of pmid records) → None ≡ cond b (Some x) (description_of pmid records)
     by true o h f more = absurd cc
     by false (Some j) h f more = absurd cc
     by false None h f more = more h
@@ -92,15 +92,15 @@ or_other true o = refl
 or_other false (Some k) = refl
 or_other false None = refl
 
-seen_iff : (pmid : ℕ) (seen : List ℕ) (records : List MetaRecord) → list_any (nat_eq pmid) (fold seen_after seen records) ≡ (list_any (nat_eq pmid) seen || is_some (place pmid records))
+seen_iff : (pmid : ℕ) (seen : List ℕ) (records : List MetaRecord) → list_any (nat_eq pmid) (fold seen_after seen records) ≡ (list_any (nat_eq pmid) seen || is_some (position_of pmid records))
 seen_iff pmid seen [] = sym (or_false (list_any (nat_eq pmid) seen))
 seen_iff pmid seen (Description d names ∷ records) =
-    seen_iff pmid (seen_with seen d.pmid) records ∙ ap (λ b. b || is_some (place pmid records)) (with_one pmid d.pmid seen)
-    ∙ or_some (list_any (nat_eq pmid) seen) (nat_eq pmid d.pmid) (place pmid records)
-seen_iff pmid seen (Domain t indom pairs ∷ records) = seen_iff pmid seen records ∙ or_other (list_any (nat_eq pmid) seen) (place pmid records)
-seen_iff pmid seen (Other ∷ records) = seen_iff pmid seen records ∙ or_other (list_any (nat_eq pmid) seen) (place pmid records)
+    seen_iff pmid (seen_with seen d.pmid) records ∙ ap (λ b. b || is_some (position_of pmid records)) (with_one pmid d.pmid seen)
+    ∙ or_some (list_any (nat_eq pmid) seen) (nat_eq pmid d.pmid) (position_of pmid records)
+seen_iff pmid seen (Domain t indom pairs ∷ records) = seen_iff pmid seen records ∙ or_other (list_any (nat_eq pmid) seen) (position_of pmid records)
+seen_iff pmid seen (Other ∷ records) = seen_iff pmid seen records ∙ or_other (list_any (nat_eq pmid) seen) (position_of pmid records)
 
-described_push : (records : List MetaRecord) (d : Desc) (names : List (List ℕ)) (o : Option ℕ) → place d.pmid records ≡ o
+described_push : (records : List MetaRecord) (d : Desc) (names : List (List ℕ)) (o : Option ℕ) → position_of d.pmid records ≡ o
     → described (records ++ Description d names ∷ []) ≡ cond (is_some o) (described records) (described records ++ d.pmid ∷ [])
 described_push records d names o e =
     fold_push seen_after [] records (Description d names)
@@ -108,39 +108,39 @@ described_push records d names o e =
 
 -- ---- a description more
 
-same_place : (q : ℕ) (records : List MetaRecord) (r : MetaRecord) → (describes q r ≡ true → (k : ℕ) × (place q records ≡ Some k)) → place q records ≡ place q (records ++ r ∷ [])
-same_place q records r h = by (place q records) (describes q r) refl refl ∙ sym (place_push q records r)
+same_position : (q : ℕ) (records : List MetaRecord) (r : MetaRecord) → (describes q r ≡ true → (k : ℕ) × (position_of q records ≡ Some k)) → position_of q records ≡ position_of q (records ++ r ∷ [])
+same_position q records r h = by (position_of q records) (describes q r) refl refl ∙ sym (position_push q records r)
   where
-    by : (o : Option ℕ) (b : Bool) → place q records ≡ o → describes q r ≡ b → o ≡ option_or o (cond b (Some (length records)) None)
+    by : (o : Option ℕ) (b : Bool) → position_of q records ≡ o → describes q r ≡ b → o ≡ option_or o (cond b (Some (length records)) None)
     by (Some k) b e f = refl
     by None false e f = refl
     by None true e f = let there = h f in absurd (let both : None ≡ Some there.0 = sym e ∙ there.1 in cc)
 
 module _ {S : Type 0} (old new : IndexMap ℕ ℕ S) (records : List MetaRecord) (d : Desc) (names : List (List ℕ)) (at : ℕ) (here : length records ≡ at) where
-  place_more : (q : ℕ) (b : Bool) → nat_eq d.pmid q ≡ b → place d.pmid records ≡ None → cond b (Some at) (place q records) ≡ place q (records ++ Description d names ∷ [])
-  place_more q true e none =
+  position_more : (q : ℕ) (b : Bool) → nat_eq d.pmid q ≡ b → position_of d.pmid records ≡ None → cond b (Some at) (position_of q records) ≡ position_of q (records ++ Description d names ∷ [])
+  position_more q true e none =
       let same : d.pmid ≡ q = eqb-true d.pmid q e in
-      sym (place_push q records (Description d names) ∙ ap (λ o. option_or o (cond (nat_eq q d.pmid) (Some (length records)) None)) (subst (λ n. place n records ≡ None) same none)
+      sym (position_push q records (Description d names) ∙ ap (λ o. option_or o (cond (nat_eq q d.pmid) (Some (length records)) None)) (subst (λ n. position_of n records ≡ None) same none)
       ∙ ap (λ b. cond b (Some (length records)) None) (eq-eqb q d.pmid (sym same)) ∙ ap Some here)
-  place_more q false e none = same_place q records (Description d names) (λ h. absurd (eqb-false d.pmid q e (sym (eqb-true q d.pmid h))))
+  position_more q false e none = same_position q records (Description d names) (λ h. absurd (eqb-false d.pmid q e (sym (eqb-true q d.pmid h))))
 
-  noted_by : (o : Option ℕ) → place d.pmid records ≡ o → NotesMetric d.pmid at old new → HasDescriptions old records → HasDescriptions new (records ++ Description d names ∷ [])
+  noted_by : (o : Option ℕ) → position_of d.pmid records ≡ o → NotesMetric d.pmid at old new → HasDescriptions old records → HasDescriptions new (records ++ Description d names ∷ [])
   noted_by (Some k) e n h =
-      let same : new.entries ≡ old.entries = n.there k (h.places d.pmid ∙ e) in
+      let same : new.entries ≡ old.entries = n.there k (h.positions d.pmid ∙ e) in
       record {
         order = ap keys_of same ∙ h.order ∙ sym (described_push records d names (Some k) e);
-        places = λ q. ap (lookup (nat_eq q)) same ∙ h.places q
-            ∙ same_place q records (Description d names) (λ f. (k, subst (λ m. place m records ≡ Some k) (sym (eqb-true q d.pmid f)) e));
+        positions = λ q. ap (lookup (nat_eq q)) same ∙ h.positions q
+            ∙ same_position q records (Description d names) (λ f. (k, subst (λ m. position_of m records ≡ Some k) (sym (eqb-true q d.pmid f)) e));
       }
   noted_by None e n h =
-      let absent : get nat_eq old d.pmid ≡ None = h.places d.pmid ∙ e in
+      let absent : get nat_eq old d.pmid ≡ None = h.positions d.pmid ∙ e in
       record {
         order = n.order absent ∙ ap (λ l. l ++ d.pmid ∷ []) h.order ∙ sym (described_push records d names None e);
-        places = λ q. n.places absent q ∙ ap (λ o. cond (nat_eq d.pmid q) (Some at) o) (h.places q) ∙ place_more q (nat_eq d.pmid q) refl e;
+        positions = λ q. n.positions absent q ∙ ap (λ o. cond (nat_eq d.pmid q) (Some at) o) (h.positions q) ∙ position_more q (nat_eq d.pmid q) refl e;
       }
 
   pub noted : NotesMetric d.pmid at old new → HasDescriptions old records → HasDescriptions new (records ++ Description d names ∷ [])
-  noted n h = noted_by (place d.pmid records) refl n h
+  noted n h = noted_by (position_of d.pmid records) refl n h
 
 -- ---- a description less
 
@@ -151,34 +151,34 @@ same_front xs ys a b e =
     (sym (take_at xs (a ∷ []) (length ys) long) ∙ ap (take (length ys)) e ∙ take_at ys (b ∷ []) (length ys) refl, (let same : a ≡ b = cc in same))
 
 module _ {S : Type 0} (old new : IndexMap ℕ ℕ S) (records : List MetaRecord) (d : Desc) (names : List (List ℕ)) (at : ℕ) (here : length records ≡ at) where
-  place_less : (q : ℕ) (b : Bool) → nat_eq d.pmid q ≡ b → place d.pmid records ≡ None → cond b None (place q (records ++ Description d names ∷ [])) ≡ place q records
-  place_less q true e none = sym (subst (λ n. place n records ≡ None) (eqb-true d.pmid q e) none)
-  place_less q false e none = sym (same_place q records (Description d names) (λ h. absurd (eqb-false d.pmid q e (sym (eqb-true q d.pmid h)))))
+  position_less : (q : ℕ) (b : Bool) → nat_eq d.pmid q ≡ b → position_of d.pmid records ≡ None → cond b None (position_of q (records ++ Description d names ∷ [])) ≡ position_of q records
+  position_less q true e none = sym (subst (λ n. position_of n records ≡ None) (eqb-true d.pmid q e) none)
+  position_less q false e none = sym (same_position q records (Description d names) (λ h. absurd (eqb-false d.pmid q e (sym (eqb-true q d.pmid h)))))
 
-  dropped_by : (o : Option ℕ) → place d.pmid records ≡ o → DropsMetric d.pmid at old new → HasDescriptions old (records ++ Description d names ∷ []) → HasDescriptions new records
+  dropped_by : (o : Option ℕ) → position_of d.pmid records ≡ o → DropsMetric d.pmid at old new → HasDescriptions old (records ++ Description d names ∷ []) → HasDescriptions new records
   dropped_by (Some k) e n h =
-      let before : get nat_eq old d.pmid ≡ Some k = h.places d.pmid ∙ sym (same_place d.pmid records (Description d names) (λ f. (k, e))) ∙ e in
-      let less : k < length records = place_within d.pmid records k e in
+      let before : get nat_eq old d.pmid ≡ Some k = h.positions d.pmid ∙ sym (same_position d.pmid records (Description d names) (λ f. (k, e))) ∙ e in
+      let less : k < length records = position_within d.pmid records k e in
       let other : get nat_eq old d.pmid ≡ Some at → ⊥ = λ f. let both : k ≡ at = (let s : Some k ≡ Some at = sym before ∙ f in cc) in omega arith in
       let same : new.entries ≡ old.entries = n.other other in
       record {
         order = ap keys_of same ∙ h.order ∙ described_push records d names (Some k) e;
-        places = λ q. ap (lookup (nat_eq q)) same ∙ h.places q
-            ∙ sym (same_place q records (Description d names) (λ f. (k, subst (λ m. place m records ≡ Some k) (sym (eqb-true q d.pmid f)) e)));
+        positions = λ q. ap (lookup (nat_eq q)) same ∙ h.positions q
+            ∙ sym (same_position q records (Description d names) (λ f. (k, subst (λ m. position_of m records ≡ Some k) (sym (eqb-true q d.pmid f)) e)));
       }
   dropped_by None e n h =
-      let here_too : get nat_eq old d.pmid ≡ Some at = h.places d.pmid ∙ sym (place_more_itself e) in
+      let here_too : get nat_eq old d.pmid ≡ Some at = h.positions d.pmid ∙ sym (position_more_itself e) in
       let fronts = same_front (keys new) (described records) n.last d.pmid (sym (n.order here_too) ∙ h.order ∙ described_push records d names None e) in
       record {
         order = fronts.0;
-        places = λ q. n.places here_too q ∙ ap (λ m. cond (nat_eq m q) None (get nat_eq old q)) fronts.1 ∙ ap (cond (nat_eq d.pmid q) None) (h.places q) ∙ place_less q (nat_eq d.pmid q) refl e;
+        positions = λ q. n.positions here_too q ∙ ap (λ m. cond (nat_eq m q) None (get nat_eq old q)) fronts.1 ∙ ap (cond (nat_eq d.pmid q) None) (h.positions q) ∙ position_less q (nat_eq d.pmid q) refl e;
       }
     where
-      place_more_itself : place d.pmid records ≡ None → Some at ≡ place d.pmid (records ++ Description d names ∷ [])
-      place_more_itself none = place_more old new records d names at here d.pmid true (eq-eqb d.pmid d.pmid refl) none
+      position_more_itself : position_of d.pmid records ≡ None → Some at ≡ position_of d.pmid (records ++ Description d names ∷ [])
+      position_more_itself none = position_more old new records d names at here d.pmid true (eq-eqb d.pmid d.pmid refl) none
 
   pub dropped : DropsMetric d.pmid at old new → HasDescriptions old (records ++ Description d names ∷ []) → HasDescriptions new records
-  dropped n h = dropped_by (place d.pmid records) refl n h
+  dropped n h = dropped_by (position_of d.pmid records) refl n h
 
 -- ---- another record, more or less
 
@@ -186,38 +186,38 @@ pub other_more : {S : Type 0} (old new : IndexMap ℕ ℕ S) (records : List Met
     → HasDescriptions old records → HasDescriptions new (records ++ r ∷ [])
 other_more old new records r same never stays h = record {
   order = ap keys_of same ∙ h.order ∙ sym (fold_push seen_after [] records r ∙ stays);
-  places = λ q. ap (lookup (nat_eq q)) same ∙ h.places q ∙ same_place q records r (λ f. absurd (let both : true ≡ false = sym f ∙ never q in cc));
+  positions = λ q. ap (lookup (nat_eq q)) same ∙ h.positions q ∙ same_position q records r (λ f. absurd (let both : true ≡ false = sym f ∙ never q in cc));
 }
 
 pub other_less : {S : Type 0} (old new : IndexMap ℕ ℕ S) (records : List MetaRecord) (r : MetaRecord) → new.entries ≡ old.entries → ((q : ℕ) → describes q r ≡ false) → seen_after (described records) r ≡ described records
     → HasDescriptions old (records ++ r ∷ []) → HasDescriptions new records
 other_less old new records r same never stays h = record {
   order = ap keys_of same ∙ h.order ∙ fold_push seen_after [] records r ∙ stays;
-  places = λ q. ap (lookup (nat_eq q)) same ∙ h.places q ∙ sym (same_place q records r (λ f. absurd (let both : true ≡ false = sym f ∙ never q in cc)));
+  positions = λ q. ap (lookup (nat_eq q)) same ∙ h.positions q ∙ sym (same_position q records r (λ f. absurd (let both : true ≡ false = sym f ∙ never q in cc)));
 }
 
 pub unchanged : {S : Type 0} (old new : IndexMap ℕ ℕ S) (records : List MetaRecord) → new.entries ≡ old.entries → HasDescriptions old records → HasDescriptions new records
-unchanged old new records same h = record { order = ap keys_of same ∙ h.order; places = λ q. ap (lookup (nat_eq q)) same ∙ h.places q }
+unchanged old new records same h = record { order = ap keys_of same ∙ h.order; positions = λ q. ap (lookup (nat_eq q)) same ∙ h.positions q }
 
 -- ---- what the map's own calls do
 
 module _ {S : Type 0} (old new : IndexMap ℕ ℕ S) (pmid at : ℕ) where
   pub notes_new : get nat_eq old pmid ≡ None → new.entries ≡ insert_entry nat_eq old.entries pmid at → ((q : ℕ) → get nat_eq new q ≡ cond (nat_eq pmid q) (Some at) (get nat_eq old q)) → NotesMetric pmid at old new
-  notes_new none entries places = record {
+  notes_new none entries positions = record {
     there = λ k h. absurd (let both : None ≡ Some k = sym none ∙ h in cc);
     order = λ _. ap keys_of (entries ∙ insert_entry-new nat_eq old pmid at none) ∙ map-append (λ (e : ℕ × ℕ). e.0) old.entries ((pmid, at) ∷ []);
-    places = λ _. places;
+    positions = λ _. positions;
   }
 
   pub notes_none : (k : ℕ) → get nat_eq old pmid ≡ Some k → new.entries ≡ old.entries → NotesMetric pmid at old new
   notes_none k there same = record {
     there = λ _ _. same;
     order = λ h. absurd (let both : Some k ≡ None = sym there ∙ h in cc);
-    places = λ h. absurd (let both : Some k ≡ None = sym there ∙ h in cc);
+    positions = λ h. absurd (let both : Some k ≡ None = sym there ∙ h in cc);
   }
 
   pub drops_none : (get nat_eq old pmid ≡ Some at → ⊥) → new.entries ≡ old.entries → DropsMetric pmid at old new
-  drops_none other same = record { other = λ _. same; last = 0; order = λ h. absurd (other h); places = λ h. absurd (other h) }
+  drops_none other same = record { other = λ _. same; last = 0; order = λ h. absurd (other h); positions = λ h. absurd (other h) }
 
   some_entry : (es : List (ℕ × ℕ)) → lookup (nat_eq pmid) es ≡ Some at → 0 < length es
   some_entry [] h = absurd cc
@@ -225,13 +225,13 @@ module _ {S : Type 0} (old new : IndexMap ℕ ℕ S) (pmid at : ℕ) where
 
   pub drops_last : (r : Option (ℕ × ℕ)) → get nat_eq old pmid ≡ Some at → old.entries ≡ new.entries ++ option_to_list r → (0 < length old.entries → IsSome r) → IfSome r (λ p. (q : ℕ) → get nat_eq new q ≡ cond (nat_eq p.0 q) None (get nat_eq old q))
       → DropsMetric pmid at old new
-  drops_last (Some p) here entries some places = record {
+  drops_last (Some p) here entries some positions = record {
     other = λ no_. absurd (no_ here);
     last = p.0;
     order = λ _. ap keys_of entries ∙ map-append (λ (e : ℕ × ℕ). e.0) new.entries (p ∷ []);
-    places = λ _. places;
+    positions = λ _. positions;
   }
-  drops_last None here entries some places = absurd (let h : IsSome {T = ℕ × ℕ} None = some (some_entry old.entries here) in cc)
+  drops_last None here entries some positions = absurd (let h : IsSome {T = ℕ × ℕ} None = some (some_entry old.entries here) in cc)
 
 pub popped : {S : Type 0} (old new : IndexMap ℕ ℕ S) (r : Option (ℕ × ℕ)) → IfSome r (λ p. Updates nat_eq old new p.0 None) → IfSome r (λ p. (q : ℕ) → get nat_eq new q ≡ cond (nat_eq p.0 q) None (get nat_eq old q))
 popped old new (Some p) u = u.0

@@ -20,7 +20,7 @@ use Rattle.archive_meta.specs.Records.{AreRecords}
 use Rattle.archive_meta.specs.declared.facts.Facts.{Facts}
 use Rattle.archive_meta.specs.declared.facts.RecordsFault.{RecordsFault}
 use Rattle.archive_meta.specs.declared.facts.RecordsFault.TheVariants.{Large, NoMemory}
-use Rattle.archive_meta.specs.Missing.{IsSpelled, missing_descriptions, domains_of, AreMissingDomains, AreMissing, framed_record, framed_records, large_length, IsLarge, IsLargeOf, AreMade, IsRecordsFault, at_places}
+use Rattle.archive_meta.specs.Missing.{IsSpelled, missing_descriptions, domains_of, AreMissingDomains, AreMissing, framed_record, framed_records, large_length, IsLarge, IsLargeOf, AreMade, IsRecordsFault, at_positions}
 
 -- a payload between its length words
 pub framed_out : (old payload a b c : List ℕ) (n : ℕ) → n ≡ length payload + 8 → a ≡ old ++ word n → b ≡ a ++ payload → c ≡ b ++ word n → c ≡ old ++ frame payload
@@ -85,22 +85,22 @@ pub record IsPut (out total : List ℕ) (rest all : List MetaRecord) : Type 0 wh
   pub whole : out ++ framed_records rest ≡ total
   pub large : large_length rest ≡ large_length all
 
-module _ {V : Type 0} (told : V → MetaRecord) (vs : List V) (places : List ℕ) (i place : ℕ) (next_is : drop i places ≡ place ∷ drop (i + 1) places) where
+module _ {V : Type 0} (told : V → MetaRecord) (vs : List V) (positions : List ℕ) (i position : ℕ) (next_is : drop i positions ≡ position ∷ drop (i + 1) positions) where
   abbrev later : List MetaRecord
-  later = map told (at_places vs (drop (i + 1) places))
+  later = map told (at_positions vs (drop (i + 1) positions))
 
   abbrev now_and_later : List MetaRecord
-  now_and_later = map told (at_places vs (drop i places))
+  now_and_later = map told (at_positions vs (drop i positions))
 
-  some_first : (v : V) → Some v ≡ slice_get vs place → now_and_later ≡ told v ∷ later
+  some_first : (v : V) → Some v ≡ slice_get vs position → now_and_later ≡ told v ∷ later
   some_first v e =
-      ap (λ ps. map told (at_places vs ps)) next_is ∙ ap (λ o. map told (option_to_list o ++ at_places vs (drop (i + 1) places))) (sym e)
+      ap (λ ps. map told (at_positions vs ps)) next_is ∙ ap (λ o. map told (option_to_list o ++ at_positions vs (drop (i + 1) positions))) (sym e)
 
-  none_first : None ≡ slice_get vs place → now_and_later ≡ later
+  none_first : None ≡ slice_get vs position → now_and_later ≡ later
   none_first e =
-      ap (λ ps. map told (at_places vs ps)) next_is ∙ ap (λ o. map told (option_to_list o ++ at_places vs (drop (i + 1) places))) (sym e)
+      ap (λ ps. map told (at_positions vs ps)) next_is ∙ ap (λ o. map told (option_to_list o ++ at_positions vs (drop (i + 1) positions))) (sym e)
 
-  pub put_some : (v : V) (out next whole : List ℕ) (all : List MetaRecord) → Some v ≡ slice_get vs place → next ≡ out ++ framed_record (told v) → length (framed_record (told v)) ≤ 16777216
+  pub put_some : (v : V) (out next whole : List ℕ) (all : List MetaRecord) → Some v ≡ slice_get vs position → next ≡ out ++ framed_record (told v) → length (framed_record (told v)) ≤ 16777216
       → out ++ framed_records now_and_later ≡ whole → large_length now_and_later ≡ large_length all → IsPut next whole later all
   put_some v out next whole all e is fits w l = record {
     whole = ap (λ x. x ++ framed_records later) is ∙ append_assoc out (framed_record (told v)) (framed_records later) ∙ ap (λ rs. out ++ framed_records rs) (sym (some_first v e)) ∙ w;
@@ -109,19 +109,19 @@ module _ {V : Type 0} (told : V → MetaRecord) (vs : List V) (places : List ℕ
         ∙ ap large_length (sym (some_first v e)) ∙ l;
   }
 
-  pub put_none : (out next whole : List ℕ) (all : List MetaRecord) → None ≡ slice_get vs place → next ≡ out → out ++ framed_records now_and_later ≡ whole → large_length now_and_later ≡ large_length all → IsPut next whole later all
+  pub put_none : (out next whole : List ℕ) (all : List MetaRecord) → None ≡ slice_get vs position → next ≡ out → out ++ framed_records now_and_later ≡ whole → large_length now_and_later ≡ large_length all → IsPut next whole later all
   put_none out next whole all e is w l = record {
     whole = ap (λ x. x ++ framed_records later) is ∙ ap (λ rs. out ++ framed_records rs) (sym (none_first e)) ∙ w;
     large = ap large_length (sym (none_first e)) ∙ l;
   }
 
-  pub read_some : (v : V) (all : List MetaRecord) → Some v ≡ slice_get vs place → IsSpelled (told v) → (AllByRecursion IsSpelled now_and_later → AllByRecursion IsSpelled all) → AllByRecursion IsSpelled later → AllByRecursion IsSpelled all
+  pub read_some : (v : V) (all : List MetaRecord) → Some v ≡ slice_get vs position → IsSpelled (told v) → (AllByRecursion IsSpelled now_and_later → AllByRecursion IsSpelled all) → AllByRecursion IsSpelled later → AllByRecursion IsSpelled all
   read_some v all e here on more = on (subst (AllByRecursion IsSpelled) (sym (some_first v e)) (here, more))
 
-  pub read_none : (all : List MetaRecord) → None ≡ slice_get vs place → (AllByRecursion IsSpelled now_and_later → AllByRecursion IsSpelled all) → AllByRecursion IsSpelled later → AllByRecursion IsSpelled all
+  pub read_none : (all : List MetaRecord) → None ≡ slice_get vs position → (AllByRecursion IsSpelled now_and_later → AllByRecursion IsSpelled all) → AllByRecursion IsSpelled later → AllByRecursion IsSpelled all
   read_none all e on more = on (subst (AllByRecursion IsSpelled) (sym (none_first e)) more)
 
-  pub put_large : (v : V) (all : List MetaRecord) (e : RecordsFault) → Some v ≡ slice_get vs place → large_length now_and_later ≡ large_length all → IsLarge (length (framed_record (told v))) e → IsLargeOf all e
+  pub put_large : (v : V) (all : List MetaRecord) (e : RecordsFault) → Some v ≡ slice_get vs position → large_length now_and_later ≡ large_length all → IsLarge (length (framed_record (told v))) e → IsLargeOf all e
   put_large v all (Large bytes) here l large = (
     length (framed_record (told v)),
     sym l ∙ ap large_length (some_first v here) ∙ ap (λ b. cond b (Some (length (framed_record (told v)))) (large_length later)) (lt-ltb 16777216 (length (framed_record (told v))) large.0),
@@ -130,9 +130,9 @@ module _ {V : Type 0} (told : V → MetaRecord) (vs : List V) (places : List ℕ
   put_large v all NoMemory here l large = tt
 
 -- nothing is left
-pub read_all : {V : Type 0} (told : V → MetaRecord) (vs : List V) (places : List ℕ) (i : ℕ) (all : List MetaRecord) → length places ≤ i
-    → (AllByRecursion IsSpelled (map told (at_places vs (drop i places))) → AllByRecursion IsSpelled all) → AllByRecursion IsSpelled all
-read_all told vs places i all past on = on (subst (λ ps. AllByRecursion IsSpelled (map told (at_places vs ps))) (sym (drop_all i places past)) tt)
+pub read_all : {V : Type 0} (told : V → MetaRecord) (vs : List V) (positions : List ℕ) (i : ℕ) (all : List MetaRecord) → length positions ≤ i
+    → (AllByRecursion IsSpelled (map told (at_positions vs (drop i positions))) → AllByRecursion IsSpelled all) → AllByRecursion IsSpelled all
+read_all told vs positions i all past on = on (subst (λ ps. AllByRecursion IsSpelled (map told (at_positions vs ps))) (sym (drop_all i positions past)) tt)
 
 -- ---- all that is missing
 

@@ -235,11 +235,11 @@ refused_only before bytes NoMemory fault records all c = refl
 -- ---- faults that are handed on
 
 pub frame_fault : (before mid : List MetaRecord) (bytes : List ℕ) (at : ℕ) (f : MetaFault) → Adds before (take at bytes) mid → at < length bytes → IsRecordFault bytes at f → IsMetaFault before bytes f
-frame_fault before mid bytes at (Record place) a within fault = subst (IsFirstBad before bytes) (sym fault.0) (bad_frame before mid bytes at a within fault.1)
+frame_fault before mid bytes at (Record offset) a within fault = subst (IsFirstBad before bytes) (sym fault.0) (bad_frame before mid bytes at a within fault.1)
 frame_fault before mid bytes at NoMemory a within fault = tt
 
 pub add_fault : (before mid : List MetaRecord) (bytes : List ℕ) (at next : ℕ) (r : MetaRecord) (f : MetaFault) → Adds before (take at bytes) mid → at < length bytes → RecordStands bytes at next r → IsAddFault mid r at f → IsMetaFault before bytes f
-add_fault before mid bytes at next r (Record place) a within s fault = subst (IsFirstBad before bytes) (sym fault.0) (bad_record before mid bytes at next r a within s fault.1)
+add_fault before mid bytes at next r (Record offset) a within s fault = subst (IsFirstBad before bytes) (sym fault.0) (bad_record before mid bytes at next r a within s fault.1)
 add_fault before mid bytes at next r NoMemory a within s fault = tt
 
 pub handed_on : {T : Type 0} (r : Result T MetaFault) (e : MetaFault) (P : MetaFault → Type 0) → IsErrAnd r (λ y. y ≡ e) → P e → IfErr r P

@@ -10,7 +10,7 @@ pub mod Lacking
 pub mod Loops
 pub mod NowDescribed
 pub mod Outcomes
-pub mod Places
+pub mod Positions
 pub mod RecordsRead
 pub mod Taken
 pub mod Torn

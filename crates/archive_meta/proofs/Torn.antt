@@ -1,4 +1,4 @@
--- Records in front of a torn end are one list, and end in one place.
+-- Records in front of a torn end are one list, and end at one offset.
 use Rattle.std.proofs.Common.{◌≡◌, inl, ℕ, Bool, true, false, ◌+◌, ◌<◌, ◌≤◌, List, [], ◌∷◌, ◌++◌, length, take, drop, Result, refl, sym, ap, ◌∙◌, subst, append_assoc, arith}
 use Rattle.std.specs.Prelude.{◌↔◌, IsTrue}
 use Rattle.std.specs.Result.{IsErrAnd}
@@ -56,7 +56,7 @@ pub record SameFront (xs ys : List MetaRecord) (m n : ℕ) : Type 0 where
   pub records : xs ≡ ys
   pub end : m ≡ n
 
--- a front is one list of records, and ends in one place
+-- a front is one list of records, and ends at one offset
 pub one_front : (bytes : List ℕ) (xs ys : List MetaRecord) (m n : ℕ) → HasFront bytes xs m → HasFront bytes ys n → SameFront xs ys m n
 one_front bytes xs ys m n a b =
     let l : LeftTorn (drop m bytes) (drop n bytes) xs ys = left_torn a.read.payloads b.read.payloads xs ys (drop m bytes) (drop n bytes) b.torn a.read.read b.read.read
@@ -116,14 +116,14 @@ not_torn : (bytes : List ℕ) (at : ℕ) (b : Bool) → b ≡ false → IsTrue b
 not_torn bytes at b no_ tells torn = absurd (let both : true ≡ false = sym (tells.1 torn) ∙ no_ in cc)
 
 pub front_frame_fault : (before mid : List MetaRecord) (bytes : List ℕ) (at : ℕ) (f : MetaFault) (b : Bool) → b ≡ false → IsTrue b ↔ IsTorn (drop at bytes) → Adds before (take at bytes) mid → at < length bytes → IsRecordFault bytes at f → IsFrontFault before bytes f
-front_frame_fault before mid bytes at (Record place) b no_ tells a within fault =
-    (frame_fault before mid bytes at (Record place) a within fault, subst (λ n. IsTorn (drop n bytes) → ⊥) (sym fault.0) (not_torn bytes at b no_ tells))
+front_frame_fault before mid bytes at (Record offset) b no_ tells a within fault =
+    (frame_fault before mid bytes at (Record offset) a within fault, subst (λ n. IsTorn (drop n bytes) → ⊥) (sym fault.0) (not_torn bytes at b no_ tells))
 front_frame_fault before mid bytes at NoMemory b no_ tells a within fault = tt
 
 pub front_add_fault : (before mid : List MetaRecord) (bytes : List ℕ) (at next : ℕ) (r : MetaRecord) (f : MetaFault) (b : Bool) → b ≡ false → IsTrue b ↔ IsTorn (drop at bytes) → Adds before (take at bytes) mid → at < length bytes
     → RecordStands bytes at next r → IsAddFault mid r at f → IsFrontFault before bytes f
-front_add_fault before mid bytes at next r (Record place) b no_ tells a within s fault =
-    (add_fault before mid bytes at next r (Record place) a within s fault, subst (λ n. IsTorn (drop n bytes) → ⊥) (sym fault.0) (not_torn bytes at b no_ tells))
+front_add_fault before mid bytes at next r (Record offset) b no_ tells a within s fault =
+    (add_fault before mid bytes at next r (Record offset) a within s fault, subst (λ n. IsTorn (drop n bytes) → ⊥) (sym fault.0) (not_torn bytes at b no_ tells))
 front_add_fault before mid bytes at next r NoMemory b no_ tells a within s fault = tt
 
 -- at their end bytes are torn

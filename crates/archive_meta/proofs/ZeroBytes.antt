@@ -29,24 +29,24 @@ pub only : {A : Type 0} (b : Bool) (o : Option A) (y : A) → cond b o None ≡ 
 only true o y e = (refl, e)
 only false o y e = absurd cc
 
-abbrev place : List ℕ → ℕ
-place bytes = position_or_len is_zero bytes
+abbrev first_zero : List ℕ → ℕ
+first_zero bytes = position_or_len is_zero bytes
 
-first_at : (bytes : List ℕ) (at : ℕ) → at < length bytes → get_or bytes at 0 ≡ 0 → ((k : ℕ) → k < at → get_or bytes k 0 ≢ 0) → place bytes ≡ at
+first_at : (bytes : List ℕ) (at : ℕ) → at < length bytes → get_or bytes at 0 ≡ 0 → ((k : ℕ) → k < at → get_or bytes k 0 ≢ 0) → first_zero bytes ≡ at
 first_at bytes at within zero before =
     position_or_len_is is_zero bytes at 0 (omega arith) (λ k h. ne_eqb (get_or bytes k 0) 0 (before k h)) (λ _. eq-eqb (get_or bytes at 0) 0 zero)
 
 pub position_at : (bytes : List ℕ) (at : ℕ) → at < length bytes → get_or bytes at 0 ≡ 0 → ((k : ℕ) → k < at → get_or bytes k 0 ≢ 0) → position is_zero bytes ≡ Some at
 position_at bytes at within zero before =
-    let e : place bytes ≡ at = first_at bytes at within zero before in
-    ap (λ b. cond b (Some (place bytes)) None) (lt-ltb (place bytes) (length bytes) (omega arith)) ∙ ap Some e
+    let e : first_zero bytes ≡ at = first_at bytes at within zero before in
+    ap (λ b. cond b (Some (first_zero bytes)) None) (lt-ltb (first_zero bytes) (length bytes) (omega arith)) ∙ ap Some e
 
 position_none : (bytes : List ℕ) → IsText bytes → position is_zero bytes ≡ None
 position_none bytes clean =
-    let e : place bytes ≡ length bytes = position_or_len_is is_zero bytes (length bytes) 0 (omega arith) (λ k h. ne_eqb (get_or bytes k 0) 0 (clean k 0 h)) (λ h. absurd (omega arith)) in
-    ap (λ b. cond b (Some (place bytes)) None) (le-ltb (place bytes) (length bytes) (omega arith))
+    let e : first_zero bytes ≡ length bytes = position_or_len_is is_zero bytes (length bytes) 0 (omega arith) (λ k h. ne_eqb (get_or bytes k 0) 0 (clean k 0 h)) (λ h. absurd (omega arith)) in
+    ap (λ b. cond b (Some (first_zero bytes)) None) (le-ltb (first_zero bytes) (length bytes) (omega arith))
 
-clean_where : (bytes : List ℕ) → length bytes ≤ place bytes → IsText bytes
+clean_where : (bytes : List ℕ) → length bytes ≤ first_zero bytes → IsText bytes
 clean_where bytes h k d lt = eqb-false (get_or bytes k d) 0 (fails_before_first is_zero bytes k d (omega arith))
 
 none_where : (b : Bool) (n : ℕ) → is_none (cond b (Some n) None) ≡ true → b ≡ false
@@ -67,9 +67,9 @@ front_clean bytes at short none k d within =
     let in_all : k < length bytes = omega arith in
     λ zero. none k (omega arith) low (eq-eqb (get_or bytes k 0) 0 (sym (get_or_default_zero bytes k d in_all) ∙ sym (get_or-take at bytes k d low) ∙ zero))
 
-pub zero_place : (bytes : List ℕ) (r : Option ℕ) → IsFirstByte (is_byte 0) bytes r → r ≡ position is_zero bytes
-zero_place bytes None h = sym (position_none bytes (nowhere_zero bytes h))
-zero_place bytes (Some at) h =
+pub zero_offset : (bytes : List ℕ) (r : Option ℕ) → IsFirstByte (is_byte 0) bytes r → r ≡ position is_zero bytes
+zero_offset bytes None h = sym (position_none bytes (nowhere_zero bytes h))
+zero_offset bytes (Some at) h =
     sym (position_at bytes at h.0.high (eqb-true (get_or bytes at 0) 0 h.1) (λ k low zero. h.0.before k (omega arith) low (eq-eqb (get_or bytes k 0) 0 zero)))
 
 pub zero_within : (bytes : List ℕ) (r : Option ℕ) → IsFirstByte (is_byte 0) bytes r → IfSome r (λ at. at < length bytes)
@@ -89,7 +89,7 @@ pub text_is : (bytes name : List ℕ) → text_of bytes ≡ Some name → (bytes
 text_is bytes name e =
     let o = only (is_none (position is_zero bytes)) (Some bytes) name e in
     let same : bytes ≡ name = some_is bytes name o.1 in
-    (same, subst IsText same (clean_where bytes (ltb-false (place bytes) (length bytes) (none_where (ltb (place bytes) (length bytes)) (place bytes) o.0))))
+    (same, subst IsText same (clean_where bytes (ltb-false (first_zero bytes) (length bytes) (none_where (ltb (first_zero bytes) (length bytes)) (first_zero bytes) o.0))))
 
 -- ---- names that a zero byte ends
 

@@ -13,13 +13,13 @@ use Rattle.archive_meta.specs.Said.{describes, described}
 use Rattle.archive_meta.specs.Woven.{woven, AreMarked}
 
 -- where the first record stands that describes a metric
-abbrev pub place : ℕ → List MetaRecord → Option ℕ
-place pmid [] = None
-place pmid (r ∷ records) = if describes pmid r then Some 0 else option_map suc (place pmid records)
+abbrev pub position_of : ℕ → List MetaRecord → Option ℕ
+position_of pmid [] = None
+position_of pmid (r ∷ records) = if describes pmid r then Some 0 else option_map suc (position_of pmid records)
 
 pub record HasDescriptions {S : Type 0} (descriptions : IndexMap ℕ ℕ S) (records : List MetaRecord) : Type 0 where
   pub order : keys descriptions ≡ described records
-  pub places : (pmid : ℕ) → get nat_eq descriptions pmid ≡ place pmid records
+  pub positions : (pmid : ℕ) → get nat_eq descriptions pmid ≡ position_of pmid records
 
 -- whether a record is of a domain, from a moment on
 abbrev pub is_stamped : ℕ → ℕ → MetaRecord → Bool
@@ -38,7 +38,7 @@ listing indom from at = record { indom = indom; at = at; from = from }
 abbrev pub HasMoments : BTreeSet Listing → List MetaRecord → Type 0
 HasMoments moments records = (indom time at : ℕ) → contains moment_order moments (listing indom time at) ≡ stamped_at indom time (slice_get records at)
 
--- what is kept beside records of which no place is above 2^32 - 1
+-- what is kept beside records of which no position is above 2^32 - 1
 pub record IsKept {S : Type 0} (records : List MetaRecord) (descriptions : IndexMap ℕ ℕ S) (moments : BTreeSet Listing) : Type 0 where
   pub few : length records < 4294967296
   pub metrics : HasDescriptions descriptions records
@@ -55,21 +55,21 @@ pub record IsLastEntry (moments : BTreeSet Listing) (indom time at : ℕ) : Type
   pub from : ℕ
   pub there : contains moment_order moments (listing indom from at) ≡ true
   pub not_after : from ≤ time
-  pub last : (other place : ℕ) → contains moment_order moments (listing indom other place) ≡ true → other ≤ time → place < 4294967296
-      → (other < from) ⊎ ((other ≡ from) × (place ≤ at))
+  pub last : (other position : ℕ) → contains moment_order moments (listing indom other position) ≡ true → other ≤ time → position < 4294967296
+      → (other < from) ⊎ ((other ≡ from) × (position ≤ at))
 
 abbrev pub HasNoEntry : BTreeSet Listing → ℕ → ℕ → Type 0
-HasNoEntry moments indom time = (other place : ℕ) → contains moment_order moments (listing indom other place) ≡ true → other ≤ time → place < 4294967296 → ⊥
+HasNoEntry moments indom time = (other position : ℕ) → contains moment_order moments (listing indom other position) ≡ true → other ≤ time → position < 4294967296 → ⊥
 
--- a metric's place is noted, unless it has one
+-- a metric's position is noted, unless it has one
 pub record NotesMetric {S : Type 0} (pmid at : ℕ) (old new : IndexMap ℕ ℕ S) : Type 0 where
   pub there : (k : ℕ) → get nat_eq old pmid ≡ Some k → new.entries ≡ old.entries
   pub order : get nat_eq old pmid ≡ None → keys new ≡ keys old ++ pmid ∷ []
-  pub places : get nat_eq old pmid ≡ None → (q : ℕ) → get nat_eq new q ≡ if nat_eq pmid q then Some at else get nat_eq old q
+  pub positions : get nat_eq old pmid ≡ None → (q : ℕ) → get nat_eq new q ≡ if nat_eq pmid q then Some at else get nat_eq old q
 
--- the last metric noted is dropped, if it was noted with this place
+-- the last metric noted is dropped, if it was noted with this position
 pub record DropsMetric {S : Type 0} (pmid at : ℕ) (old new : IndexMap ℕ ℕ S) : Type 0 where
   pub other : (get nat_eq old pmid ≡ Some at → ⊥) → new.entries ≡ old.entries
   pub last : ℕ
   pub order : get nat_eq old pmid ≡ Some at → keys old ≡ keys new ++ last ∷ []
-  pub places : get nat_eq old pmid ≡ Some at → (q : ℕ) → get nat_eq new q ≡ if nat_eq last q then None else get nat_eq old q
+  pub positions : get nat_eq old pmid ≡ Some at → (q : ℕ) → get nat_eq new q ≡ if nat_eq last q then None else get nat_eq old q

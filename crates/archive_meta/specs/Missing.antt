@@ -133,11 +133,11 @@ IsRecordsFault records facts answer NoMemory = Unit {0}
 -- ---- where keys stand in a table
 
 -- where the first of these keys stands, the table's front not counted
-abbrev pub place_from : ℕ → List ℕ → ℕ → Option ℕ
-place_from at [] q = None
-place_from at (k ∷ ks) q = if nat_eq k q then Some at else place_from (suc at) ks q
+abbrev pub position_from : ℕ → List ℕ → ℕ → Option ℕ
+position_from at [] q = None
+position_from at (k ∷ ks) q = if nat_eq k q then Some at else position_from (suc at) ks q
 
--- what stands at places
-abbrev pub at_places : {V : Type 0} → List V → List ℕ → List V
-at_places vs [] = []
-at_places vs (p ∷ ps) = option_to_list (slice_get vs p) ++ at_places vs ps
+-- what stands at positions
+abbrev pub at_positions : {V : Type 0} → List V → List ℕ → List V
+at_positions vs [] = []
+at_positions vs (p ∷ ps) = option_to_list (slice_get vs p) ++ at_positions vs ps

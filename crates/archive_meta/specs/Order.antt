@@ -1,4 +1,4 @@
--- The order in which the records of domains are kept: by domain, by moment, by place.
+-- The order in which the records of domains are kept: by domain, by moment, by position.
 use Rattle.std.specs.declared.cmp.Ordering.{Ordering}
 use Rattle.std.specs.Ordering.{nat_cmp, ordering_then}
 use Rattle.archive_meta.specs.declared.moments.Listing.{Listing}

@@ -25,7 +25,7 @@ abbrev pub NoRecordStands : List ℕ → ℕ → Type 0
 NoRecordStands bytes at = (next : ℕ) (r : MetaRecord) → RecordStands bytes at next r → ⊥
 
 abbrev pub IsRecordFault : List ℕ → ℕ → MetaFault → Type 0
-IsRecordFault bytes at (Record place) = (place ≡ at) × NoRecordStands bytes at
+IsRecordFault bytes at (Record offset) = (offset ≡ at) × NoRecordStands bytes at
 IsRecordFault bytes at NoMemory = Unit {0}
 
 -- Behind records that stand already, the bytes are records up to here; at this byte no record is framed, or one
@@ -50,7 +50,7 @@ pub record Adds (before : List MetaRecord) (bytes : List ℕ) (after : List Meta
 
 -- a record is refused since it differs from an earlier description
 abbrev pub IsAddFault : List MetaRecord → MetaRecord → ℕ → MetaFault → Type 0
-IsAddFault before r at (Record place) = (place ≡ at) × (AreConsistent (before ++ r ∷ []) → ⊥)
+IsAddFault before r at (Record offset) = (offset ≡ at) × (AreConsistent (before ++ r ∷ []) → ⊥)
 IsAddFault before r at NoMemory = Unit {0}
 
 -- these records were read, unless memory ran out

@@ -12,7 +12,7 @@ use std::alloc::Global;
 pub type Descriptions = IndexMap<u32, usize, WordHasher>;
 
 /// Where a metric's first description stands.
-pub fn place_of(descriptions: &Descriptions, pmid: Pmid) -> Option<usize>
+pub fn position_of(descriptions: &Descriptions, pmid: Pmid) -> Option<usize>
     ensures { result ≡ get nat_eq descriptions.now pmid }
 {
     descriptions.get(&pmid.word()).copied()
@@ -23,7 +23,7 @@ pub fn note_metric(descriptions: &mut Descriptions, pmid: Pmid, at: usize) -> Re
     ensures ok { OnOk result (NotesMetric pmid at descriptions.old descriptions.new) }
     ensures err { OnErr result (IsUnchanged descriptions.old descriptions.new) }
 {
-    match place_of(descriptions, pmid) {
+    match position_of(descriptions, pmid) {
         Some(_) => Ok(()),
         None => {
             descriptions.insert(pmid.word(), at)?;
@@ -36,14 +36,14 @@ pub fn note_metric(descriptions: &mut Descriptions, pmid: Pmid, at: usize) -> Re
 pub fn forget_metric(descriptions: &mut Descriptions, pmid: Pmid, at: usize)
     ensures { DropsMetric pmid at descriptions.old descriptions.new }
 {
-    if let Some(place) = place_of(descriptions, pmid) {
-        if place == at {
+    if let Some(position) = position_of(descriptions, pmid) {
+        if position == at {
             descriptions.pop();
         }
     }
 }
 
-/// The metrics that have a place, in the order in which they got it.
+/// The metrics that have a position, in the order in which they got it.
 pub fn all_metrics(alloc: Global, descriptions: &Descriptions) -> Result<List<Pmid>, NoMemory>
     ensures { IfOk result (λ pmids. pmids ≡ keys descriptions.now) }
 {

@@ -9,12 +9,12 @@ ghost use Rattle.archive_meta.specs.Kept.{HasDescriptions, HasMoments, IsKept, I
 ghost use Rattle.archive_meta.specs.Woven.{woven};
 
 use crate::adding::{forget, note};
-use crate::descriptions::{Descriptions, place_of};
+use crate::descriptions::{Descriptions, position_of};
 use crate::moments::{Moments, last_moment};
 use pcp_base::{InDom, List, NoMemory, Pmid, Stamp, Text};
 use pcp_model::MetaRecord;
 
-/// The most records that are kept: their places are below it. A Meta of less than 2^31 bytes has far fewer; more are
+/// The most records that are kept: their positions are below it. A Meta of less than 2^31 bytes has far fewer; more are
 /// refused as want of memory.
 const MOST: usize = 4_294_967_295;
 
@@ -27,13 +27,13 @@ pub fn description_of<'a>(
     requires { HasDescriptions descriptions.now records.now }
     ensures { option_copied result ≡ description_of pmid records.now }
 {
-    match place_of(descriptions, pmid) {
+    match position_of(descriptions, pmid) {
         Some(at) => records.get(at),
         None => None,
     }
 }
 
-/// The instances in the record at a place.
+/// The instances in the record at a position.
 fn pairs_at(records: &List<MetaRecord>, at: usize) -> Option<&List<(i32, Text)>>
     ensures { option_copied result ≡ pairs_of (slice_get records.now at) }
 {

@@ -1,17 +1,17 @@
-//! Which of a result's facts are missing in Meta, as places in the facts.
+//! Which of a result's facts are missing in Meta, as positions in the facts.
 ghost use Rattle.std.specs.Prelude.{◌≡◌, ◌↔◌, ℕ, ◌++◌, nat_eq, map, option_to_list, IsTrue, IfOk};
 ghost use Rattle.std.specs.List.{AllByRecursion};
 ghost use Rattle.indexmap.specs.IndexMap.{get};
 ghost use Rattle.pcp_model.specs.Described.{HoldsAt};
 ghost use Rattle.archive_meta.specs.Facts.{fact_of, metric_of};
-ghost use Rattle.archive_meta.specs.Missing.{is_undescribed, undescribed, taken, shown_domain, shown_domains, domains_of, Tells, AreMissingDomains, listed_from, place_from, at_places};
+ghost use Rattle.archive_meta.specs.Missing.{is_undescribed, undescribed, taken, shown_domain, shown_domains, domains_of, Tells, AreMissingDomains, listed_from, position_from, at_positions};
 
 use crate::adding::is_same_text;
-use crate::descriptions::place_of;
+use crate::descriptions::position_of;
 use crate::facts::Facts;
 use crate::fitting::has_values;
 use crate::state::MetaState;
-use crate::taking::{Places, domain_keys, first_places, metric_keys, take_places};
+use crate::taking::{Positions, domain_keys, first_positions, metric_keys, take_positions};
 use pcp_base::{Desc, InDom, List, NoMemory, PmResult, Stamp, Text, ValueSet};
 use std::alloc::Global;
 
@@ -36,14 +36,18 @@ fn are_same_pairs(a: &[(i32, Text)], b: &[(i32, Text)]) -> bool
 }
 
 /// The domain by the facts of the metric of a set with values.
-fn shown_domain(metrics: &List<(Desc, Text)>, places: &Places, set: &ValueSet) -> Option<InDom>
-    requires { (q : ℕ) → get nat_eq places.now q ≡ place_from 0 (map metric_of metrics.now) q }
+fn shown_domain(
+    metrics: &List<(Desc, Text)>,
+    positions: &Positions,
+    set: &ValueSet,
+) -> Option<InDom>
+    requires { (q : ℕ) → get nat_eq positions.now q ≡ position_from 0 (map metric_of metrics.now) q }
     ensures { option_to_list result ≡ shown_domain metrics.now set.now }
 {
     if !has_values(set) {
         return None;
     }
-    let Some(at) = place_of(places, set.pmid) else {
+    let Some(at) = position_of(positions, set.pmid) else {
         return None;
     };
     match metrics.get(at) {
@@ -60,10 +64,10 @@ fn shown_domains(
     ensures { IfOk result (λ keys. keys ≡ shown_domains metrics.now sets.now) }
 {
     let table = metric_keys(alloc, metrics.as_slice())?;
-    let places = first_places(alloc, table.as_slice())?;
+    let positions = first_positions(alloc, table.as_slice())?;
     let mut keys = List::empty(alloc);
     for set in sets {
-        if let Some(indom) = shown_domain(metrics, &places, set) {
+        if let Some(indom) = shown_domain(metrics, &positions, set) {
             keys.push(indom.word())?;
         }
     }
@@ -71,14 +75,18 @@ fn shown_domains(
 }
 
 /// Where the domains of facts stand, each once, in the order of the sets; behind them those of no set.
-fn domain_places(alloc: Global, facts: &Facts, sets: &[ValueSet]) -> Result<List<usize>, NoMemory>
-    ensures { IfOk result (λ places. at_places facts.now.domains places ≡ domains_of facts.now sets.now) }
+fn domain_positions(
+    alloc: Global,
+    facts: &Facts,
+    sets: &[ValueSet],
+) -> Result<List<usize>, NoMemory>
+    ensures { IfOk result (λ positions. at_positions facts.now.domains positions ≡ domains_of facts.now sets.now) }
 {
     let table = domain_keys(alloc, facts.domains.as_slice())?;
     let shown = shown_domains(alloc, &facts.metrics, sets)?;
     let mut keys = shown.into_vec();
     keys.extend_from_slice(table.as_slice())?;
-    take_places(alloc, table.as_slice(), &keys)
+    take_positions(alloc, table.as_slice(), &keys)
 }
 
 impl MetaState {
@@ -114,14 +122,14 @@ impl MetaState {
         metrics: &[(Desc, Text)],
         sets: &[ValueSet],
     ) -> Result<List<usize>, NoMemory>
-        ensures { IfOk result (λ places. at_places metrics.now places ≡ taken (fact_of metrics.now) (undescribed self.now sets.now)) }
+        ensures { IfOk result (λ positions. at_positions metrics.now positions ≡ taken (fact_of metrics.now) (undescribed self.now sets.now)) }
     {
         let keys = self.undescribed(alloc, sets)?;
         if keys.is_empty() {
             return Ok(List::empty(alloc));
         }
         let table = metric_keys(alloc, metrics)?;
-        take_places(alloc, table.as_slice(), keys.as_slice())
+        take_positions(alloc, table.as_slice(), keys.as_slice())
     }
 
     /// Whether these instances of a domain hold at a moment.
@@ -146,21 +154,21 @@ impl MetaState {
         true
     }
 
-    /// Those of these places whose domain's record is missing.
+    /// Those of these positions whose domain's record is missing.
     fn lacking(
         &self,
         alloc: Global,
         t: Stamp,
         domains: &List<(InDom, List<(i32, Text)>)>,
-        places: &[usize],
+        positions: &[usize],
     ) -> Result<List<usize>, NoMemory>
-        ensures { IfOk result (λ left. AreMissingDomains self.now t (at_places domains.now places.now) (map (listed_from t) (at_places domains.now left))) }
+        ensures { IfOk result (λ left. AreMissingDomains self.now t (at_positions domains.now positions.now) (map (listed_from t) (at_positions domains.now left))) }
     {
         let mut left = List::empty(alloc);
-        for place in places {
-            if let Some((indom, pairs)) = domains.get(*place) {
+        for position in positions {
+            if let Some((indom, pairs)) = domains.get(*position) {
                 if !self.holds(t, *indom, pairs.as_slice()) {
-                    left.push(*place)?;
+                    left.push(*position)?;
                 }
             }
         }
@@ -174,12 +182,12 @@ impl MetaState {
         answer: &PmResult,
         facts: &Facts,
     ) -> Result<List<usize>, NoMemory>
-        ensures { IfOk result (λ places. AreMissingDomains self.now answer.now.stamp (domains_of facts.now answer.now.sets) (map (listed_from answer.now.stamp) (at_places facts.now.domains places))) }
+        ensures { IfOk result (λ positions. AreMissingDomains self.now answer.now.stamp (domains_of facts.now answer.now.sets) (map (listed_from answer.now.stamp) (at_positions facts.now.domains positions))) }
     {
         if self.hold_all(answer.stamp, facts.domains.as_slice()) {
             return Ok(List::empty(alloc));
         }
-        let places = domain_places(alloc, facts, answer.sets.as_slice())?;
-        self.lacking(alloc, answer.stamp, &facts.domains, places.as_slice())
+        let positions = domain_positions(alloc, facts, answer.sets.as_slice())?;
+        self.lacking(alloc, answer.stamp, &facts.domains, positions.as_slice())
     }
 }

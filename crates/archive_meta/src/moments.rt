@@ -23,7 +23,7 @@ pub struct Listing {
     pub from: u64,
 }
 
-/// By domain, by moment, by place.
+/// By domain, by moment, by position.
 impl Ord for Listing {
     ghost cmp = { then_cmp (then_cmp (on (λ e. e.indom) nat_cmp) (on (λ e. e.from) nat_cmp)) (on (λ e. e.at) nat_cmp) };
 

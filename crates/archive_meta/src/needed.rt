@@ -3,7 +3,7 @@ ghost use Rattle.std.specs.Prelude.{◌≡◌, ◌+◌, ◌*◌, ◌≤◌, [], 
 ghost use Rattle.std.specs.List.{AllByRecursion};
 ghost use Rattle.pcp_model.specs.Frame.{frame};
 ghost use Rattle.pcp_model.specs.Records.{description, domain, name_table};
-ghost use Rattle.archive_meta.specs.Missing.{described_by, listed_from, framed_records, large_length, at_places, IsSpelled, IsLarge, IsLargeOf, AreMade, IsRecordsFault};
+ghost use Rattle.archive_meta.specs.Missing.{described_by, listed_from, framed_records, large_length, at_positions, IsSpelled, IsLarge, IsLargeOf, AreMade, IsRecordsFault};
 
 use crate::facts::{Facts, RecordsFault};
 use crate::state::MetaState;
@@ -81,39 +81,39 @@ fn put_listed(
     Ok(())
 }
 
-/// The descriptions of the facts at these places.
+/// The descriptions of the facts at these positions.
 fn put_facts(
     out: &mut Vec<u8>,
     metrics: &List<(Desc, Text)>,
-    places: &[usize],
+    positions: &[usize],
 ) -> Result<(), RecordsFault>
-    ensures bytes { OnOk result (out.new.items ≡ out.old.items ++ framed_records (map described_by (at_places metrics.now places.now))) }
-    ensures fit { OnOk result (large_length (map described_by (at_places metrics.now places.now)) ≡ None) }
-    ensures read { OnOk result (AllByRecursion IsSpelled (map described_by (at_places metrics.now places.now))) }
-    ensures fault { IfErr result (IsLargeOf (map described_by (at_places metrics.now places.now))) }
+    ensures bytes { OnOk result (out.new.items ≡ out.old.items ++ framed_records (map described_by (at_positions metrics.now positions.now))) }
+    ensures fit { OnOk result (large_length (map described_by (at_positions metrics.now positions.now)) ≡ None) }
+    ensures read { OnOk result (AllByRecursion IsSpelled (map described_by (at_positions metrics.now positions.now))) }
+    ensures fault { IfErr result (IsLargeOf (map described_by (at_positions metrics.now positions.now))) }
 {
-    for place in places {
-        if let Some((desc, name)) = metrics.get(*place) {
+    for position in positions {
+        if let Some((desc, name)) = metrics.get(*position) {
             put_fact(out, desc, name)?;
         }
     }
     Ok(())
 }
 
-/// The domains at these places, from a moment on.
+/// The domains at these positions, from a moment on.
 fn put_domains(
     out: &mut Vec<u8>,
     t: Stamp,
     domains: &List<(InDom, List<(i32, Text)>)>,
-    places: &[usize],
+    positions: &[usize],
 ) -> Result<(), RecordsFault>
-    ensures bytes { OnOk result (out.new.items ≡ out.old.items ++ framed_records (map (listed_from t) (at_places domains.now places.now))) }
-    ensures fit { OnOk result (large_length (map (listed_from t) (at_places domains.now places.now)) ≡ None) }
-    ensures read { OnOk result (AllByRecursion IsSpelled (map (listed_from t) (at_places domains.now places.now))) }
-    ensures fault { IfErr result (IsLargeOf (map (listed_from t) (at_places domains.now places.now))) }
+    ensures bytes { OnOk result (out.new.items ≡ out.old.items ++ framed_records (map (listed_from t) (at_positions domains.now positions.now))) }
+    ensures fit { OnOk result (large_length (map (listed_from t) (at_positions domains.now positions.now)) ≡ None) }
+    ensures read { OnOk result (AllByRecursion IsSpelled (map (listed_from t) (at_positions domains.now positions.now))) }
+    ensures fault { IfErr result (IsLargeOf (map (listed_from t) (at_positions domains.now positions.now))) }
 {
-    for place in places {
-        if let Some((indom, pairs)) = domains.get(*place) {
+    for position in positions {
+        if let Some((indom, pairs)) = domains.get(*position) {
             put_listed(out, t, *indom, pairs.as_slice())?;
         }
     }

@@ -170,7 +170,7 @@ impl MetaState {
     }
 
     /// Adds the framed records of these bytes, all or none. The state is then the one that is read of all bytes so
-    /// far and these. `Record` names the first that is refused; its place is counted from the start of these bytes.
+    /// far and these. `Record` names the first that is refused; its offset is counted from the start of these bytes.
     pub fn extend(&mut self, alloc: Global, bytes: &[u8]) -> Result<(), MetaFault>
         // What was added is what the bytes are.
         ensures ok { OnOk result (Adds self.old bytes.now self.new) }

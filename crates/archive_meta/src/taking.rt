@@ -2,7 +2,7 @@
 ghost use Rattle.std.specs.Prelude.{◌≡◌, ℕ, nat_eq, map, IfOk};
 ghost use Rattle.indexmap.specs.IndexMap.{get};
 ghost use Rattle.archive_meta.specs.Facts.{metric_of, domain_of};
-ghost use Rattle.archive_meta.specs.Missing.{taken, place_from};
+ghost use Rattle.archive_meta.specs.Missing.{taken, position_from};
 
 use crate::hashing::WordHasher;
 use indexmap::IndexMap;
@@ -10,33 +10,33 @@ use pcp_base::{Desc, InDom, List, NoMemory, Text};
 use std::alloc::Global;
 
 /// Where keys stand.
-pub type Places = IndexMap<u32, usize, WordHasher>;
+pub type Positions = IndexMap<u32, usize, WordHasher>;
 
 /// Where the first of equal keys stands in a table.
-pub fn first_places(alloc: Global, table: &[u32]) -> Result<Places, NoMemory>
-    ensures { IfOk result (λ places. (q : ℕ) → get nat_eq places q ≡ place_from 0 table.now q) }
+pub fn first_positions(alloc: Global, table: &[u32]) -> Result<Positions, NoMemory>
+    ensures { IfOk result (λ positions. (q : ℕ) → get nat_eq positions q ≡ position_from 0 table.now q) }
 {
-    let mut places = IndexMap::with_hasher(alloc, WordHasher::new());
+    let mut positions = IndexMap::with_hasher(alloc, WordHasher::new());
     let mut at = table.len();
     while at > 0 {
         at -= 1;
-        places.insert(table[at], at)?;
+        positions.insert(table[at], at)?;
     }
-    Ok(places)
+    Ok(positions)
 }
 
 /// Where what these keys lead to stands in a table, in the order of the keys, each once.
-pub fn take_places(alloc: Global, table: &[u32], keys: &[u32]) -> Result<List<usize>, NoMemory>
-    ensures { IfOk result (λ places. places ≡ taken (place_from 0 table.now) keys.now) }
+pub fn take_positions(alloc: Global, table: &[u32], keys: &[u32]) -> Result<List<usize>, NoMemory>
+    ensures { IfOk result (λ positions. positions ≡ taken (position_from 0 table.now) keys.now) }
 {
-    let mut left = first_places(alloc, table)?;
-    let mut places = List::empty(alloc);
+    let mut left = first_positions(alloc, table)?;
+    let mut positions = List::empty(alloc);
     for key in keys {
         if let Some(at) = left.swap_remove(key) {
-            places.push(at)?;
+            positions.push(at)?;
         }
     }
-    Ok(places)
+    Ok(positions)
 }
 
 /// The metrics of facts.

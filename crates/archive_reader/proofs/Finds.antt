@@ -39,8 +39,8 @@ use Rattle.archive_reader.proofs.Stepping.{from_skips, from_stops}
 
 -- ---- readable archives stand
 
-never : (files : Files) (items : List Item) (vs : List (ℕ × ℕ)) → AllFrom files vs 132 items → (front : List Item) (ws : List (ℕ × ℕ)) (to : ℕ) (file : FileId) (place : ℕ) → Leads files vs 132 front ws to → IsBad files ws to file place → ⊥
-never files items vs a front ws to file place leads bad = never_bad files front items vs 132 ws to a.last a.to file place leads bad a.leads a.ends
+never : (files : Files) (items : List Item) (vs : List (ℕ × ℕ)) → AllFrom files vs 132 items → (front : List Item) (ws : List (ℕ × ℕ)) (to : ℕ) (file : FileId) (offset : ℕ) → Leads files vs 132 front ws to → IsBad files ws to file offset → ⊥
+never files items vs a front ws to file offset leads bad = never_bad files front items vs 132 ws to a.last a.to file offset leads bad a.leads a.ends
 
 stopped : (files : Files) (vs : List (ℕ × ℕ)) → vs ≡ [] → AllFrom files vs 132 []
 stopped files vs none = subst (λ ws. AllFrom files ws 132 []) (sym none) (record { last = []; to = 132; leads = (refl, refl); ends = tt })
@@ -61,7 +61,7 @@ reads_as files ArchiveReading.nothing (Some l) records entries vs reads kept =
 pub readable_stands : (files : Files) (reading : ArchiveReading) (r : Loaded) → Reads files reading → IsOver files r → StandsAs files reading r
 readable_stands files reading r reads over =
     let stood = reads_as files reading r.label r.records r.entries r.volumes reads over in
-    record { all = stood.0; records_are = stood.1; good = λ front ws to file place leads bad. never files (scan reading) r.volumes stood.0 front ws to file place leads bad }
+    record { all = stood.0; records_are = stood.1; good = λ front ws to file offset leads bad. never files (scan reading) r.volumes stood.0 front ws to file offset leads bad }
 
 -- ---- a metric's last values
 
@@ -70,7 +70,7 @@ readable_finds_value files reading r pmid t reads over =
     let stood = reads_as files reading r.label r.records r.entries r.volumes reads over in
     record {
       found = λ x v. v.is ∙ ap (value_at pmid t) (one_all files v.items (scan reading) r.volumes 132 v.all.last v.all.to stood.0.last stood.0.to v.all.leads v.all.ends stood.0.leads stood.0.ends);
-      refused = λ file place f. never files (scan reading) r.volumes stood.0 f.0 f.1.last f.1.to file place f.1.leads f.1.bad;
+      refused = λ file offset f. never files (scan reading) r.volumes stood.0 f.0 f.1.last f.1.to file offset f.1.leads f.1.bad;
     }
 
 -- ---- where a search begins
@@ -221,10 +221,10 @@ module _ (files : Files) (l : LabelFields) (vs : List (ℕ × ℕ)) (cs : List (
   is_last t back before all (Some y) x b is found = found ∙ sym is
   is_last t back before all None x b is found = looks_back t back before x b found (λ y last. at_by t all y (is ∙ last)) ∙ sym is
 
-  never_back : (back : Option (ℕ × ℕ)) (before : List Item) (file : FileId) (place : ℕ) → BackIs files back before → BackStops files back file place → ⊥
-  never_back None before file place b stops = stops
-  never_back (Some w) before file place b (same, inl (here, none)) = none b.ends.stands.payload b.ends.first b.ends.behind b.ends.stands.stands
-  never_back (Some w) before file place b (same, inr other) = no_other_end (files (Volume w.0)) place w.1 b.item b.ends other
+  never_back : (back : Option (ℕ × ℕ)) (before : List Item) (file : FileId) (offset : ℕ) → BackIs files back before → BackStops files back file offset → ⊥
+  never_back None before file offset b stops = stops
+  never_back (Some w) before file offset b (same, inl (here, none)) = none b.ends.stands.payload b.ends.first b.ends.behind b.ends.stands.stands
+  never_back (Some w) before file offset b (same, inr other) = no_other_end (files (Volume w.0)) offset w.1 b.item b.ends other
 
   pub last_found : (t : Moment) (begin : Begin) (place : ℕ × ℕ) → BeginIs files vs begin place → LastIsFound files cs t place
       → ((x : Option Item) → IsAtFrom files vs t begin x → x ≡ at t (items_of cs)) × ((file : FileId) (p : ℕ) → IsAtFault files vs t begin (NotArchive file p) → BeginsInCutLabel files begin)
@@ -308,8 +308,8 @@ sides_range files ArchiveReading.nothing (Some l) records entries vs from to rea
 
 pub sound_finds_last : (files : Files) (reading : ArchiveReading) (r : Loaded) (t : Moment) → Reads files reading → IsSound files reading → IsOver files r → FindsLast files reading r t
 sound_finds_last files reading r t reads sound over =
-    let sides = sides_last files reading r.label r.records r.entries r.volumes t reads sound over in record { found = λ x f. sides.0 x f; refused = λ file place f. sides.1 file place f }
+    let sides = sides_last files reading r.label r.records r.entries r.volumes t reads sound over in record { found = λ x f. sides.0 x f; refused = λ file offset f. sides.1 file offset f }
 
 pub sound_finds_range : (files : Files) (reading : ArchiveReading) (r : Loaded) (from to : Moment) → Reads files reading → IsSound files reading → IsOver files r → FindsRange files reading r from to
 sound_finds_range files reading r from to reads sound over =
-    let sides = sides_range files reading r.label r.records r.entries r.volumes from to reads sound over in record { found = λ x f. sides.0 x f; refused = λ file place f. sides.1 file place f }
+    let sides = sides_range files reading r.label r.records r.entries r.volumes from to reads sound over in record { found = λ x f. sides.0 x f; refused = λ file offset f. sides.1 file offset f }

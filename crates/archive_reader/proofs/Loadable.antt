@@ -39,13 +39,13 @@ misfits_not Texts bytes k lt begins m =
 label_begins : (bytes : List ℕ) (l : LabelFields) (n : ℤ) → IsLabel bytes l n → BeginsOne (λ t. IsLabel t l n) bytes
 label_begins bytes l n label = ([], subst (λ t. IsLabel t l n) (sym (append-nil bytes)) label)
 
-pub whole_stops : (bytes : List ℕ) (l : LabelFields) (n : ℤ) (place : ℕ) → IsLabel bytes l n → LabelStops bytes l n place → ⊥
-whole_stops bytes l n place label (k, lt, m, told) = misfits_not (λ t. IsLabel t l n) bytes k lt (label_begins bytes l n label) m
+pub whole_stops : (bytes : List ℕ) (l : LabelFields) (n : ℤ) (offset : ℕ) → IsLabel bytes l n → LabelStops bytes l n offset → ⊥
+whole_stops bytes l n offset label (k, lt, m, told) = misfits_not (λ t. IsLabel t l n) bytes k lt (label_begins bytes l n label) m
 
-pub part_stops : (bytes : List ℕ) (l : LabelFields) (n : ℤ) (place : ℕ) → BeginsLabel bytes l n → LabelStops (take 132 bytes) l n place → ⊥
-part_stops bytes l n place b stops =
+pub part_stops : (bytes : List ℕ) (l : LabelFields) (n : ℤ) (offset : ℕ) → BeginsLabel bytes l n → LabelStops (take 132 bytes) l n offset → ⊥
+part_stops bytes l n offset b stops =
     let all : take 132 bytes ≡ bytes = take_all 132 bytes (omega (arith, b.short)) in
-    let here : LabelStops bytes l n place = subst (λ t. LabelStops t l n place) all stops in
+    let here : LabelStops bytes l n offset = subst (λ t. LabelStops t l n offset) all stops in
     misfits_not (λ t. IsLabel t l n) bytes here.0 here.1 (b.more, b.label) here.2
 
 -- a file that begins with a label
@@ -70,12 +70,12 @@ module _ (files : Files) (c : ArchiveContents) (is : IsMeta (files Meta) c) wher
         torn = subst IsTorn (sym (ap (drop (length (frames h.payloads))) behind ∙ drop_at (frames h.payloads) is.torn (length (frames h.payloads)) refl)) is.is_torn;
       }
 
-  pub meta_good : (place : ℕ) → MetaStops files place → ⊥
-  meta_good place (inl (lt, m)) =
+  pub meta_good : (offset : ℕ) → MetaStops files offset → ⊥
+  meta_good offset (inl (lt, m)) =
       let label : IsLabel (take 132 (files Meta)) c.label (negsuc 0) = head_of IsRecord (files Meta) c.label (negsuc 0) c.records is.torn is.holds in
-      misfits_not IsMetaLabel (take 132 (files Meta)) place lt ([], (c.label, subst (λ t. IsLabel t c.label (negsuc 0)) (sym (append-nil (take 132 (files Meta)))) label)) m
-  meta_good place (inr (inl (same, (l, begins), beside))) = omega (arith, begins.short, meta_long)
-  meta_good place (inr (inr (label, k, same, fault))) =
+      misfits_not IsMetaLabel (take 132 (files Meta)) offset lt ([], (c.label, subst (λ t. IsLabel t c.label (negsuc 0)) (sym (append-nil (take 132 (files Meta)))) label)) m
+  meta_good offset (inr (inl (same, (l, begins), beside))) = omega (arith, begins.short, meta_long)
+  meta_good offset (inr (inr (label, k, same, fault))) =
       let both : Record k ≡ Lacking = front_refused (drop 132 (files Meta)) c.records (length (frames is.holds.payloads)) (Record k) fault meta_front in cc
 
   pub same_label : (l : LabelFields) (records : List MetaRecord) → MetaIs files l records → c.label ≡ l
@@ -95,15 +95,15 @@ no_first_fault (f ∷ front) (e ∷ es) rest fit fits is some none =
     no_first_fault front es rest fit.1 fits.1 one.1 some none
 
 module _ (bytes : List ℕ) (c : ArchiveContents) where
-  pub index_good : (place : ℕ) → IsIndex bytes c → IndexStops bytes c.label place → ⊥
-  index_good place (inl (none, begins)) (inl stops) = part_stops bytes c.label (negsuc 1) place begins stops
-  index_good place (inl (none, begins)) (inr (label, k, same, fault)) =
+  pub index_good : (offset : ℕ) → IsIndex bytes c → IndexStops bytes c.label offset → ⊥
+  index_good offset (inl (none, begins)) (inl stops) = part_stops bytes c.label (negsuc 1) offset begins stops
+  index_good offset (inl (none, begins)) (inr (label, k, same, fault)) =
       omega (arith, begins.short, length_of_label (take 132 bytes) c.label (negsuc 1) label, length-take 132 bytes)
-  index_good place (inr has) (inl stops) =
+  index_good offset (inr has) (inl stops) =
       let label : IsLabel (take 132 bytes) c.label (negsuc 1) =
       subst (λ t. IsLabel t c.label (negsuc 1)) (sym (ap (take 132) has.is ∙ take_at has.head (entries c.entries ++ has.rest) 132 (length_of_label has.head c.label (negsuc 1) has.label))) has.label in
-      whole_stops (take 132 bytes) c.label (negsuc 1) place label stops
-  index_good place (inr has) (inr (label, k, same, fault)) =
+      whole_stops (take 132 bytes) c.label (negsuc 1) offset label stops
+  index_good offset (inr has) (inr (label, k, same, fault)) =
       let behind : drop 132 bytes ≡ entries c.entries ++ has.rest = ap (drop 132) has.is ∙ drop_at has.head (entries c.entries ++ has.rest) 132 (length_of_label has.head c.label (negsuc 1) has.label) in
       let size : length bytes - 132 ≡ length (entries c.entries) + length has.rest = sym (length-drop 132 bytes) ∙ ap length behind ∙ length-append (entries c.entries) has.rest in
       let whole : whole_entries (length bytes - 132) ≡ length (entries c.entries) = omega (arith, size, twenty c.entries, has.short) in
@@ -165,14 +165,14 @@ module _ (files : Files) (l : LabelFields) where
       let there : Contains (map (λ (c : ℕ × List Item). c.0) (d ∷ cs)) n = (k, omega (arith, h), is) in
       longer n c (d ∷ cs) (above_first n (d ∷ cs) c.0 (others_above files l c (d ∷ cs) are) there) (one_of n (d ∷ cs) are.2 there)
 
-  volume_good : (n place : ℕ) (cs : List (ℕ × List Item)) → ((k : ℕ) → (Contains (map (λ (c : ℕ × List Item). c.0) cs) k → ⊥) → files (Volume k) ≡ []) → IsOne files l n cs → VolumeStops files l n place → ⊥
-  volume_good n place cs others (inl label) (some, inl stops) = whole_stops (take 132 (files (Volume n))) l (pos n) place label stops
-  volume_good n place cs others (inl label) (some, inr (inl (same, begins, followed))) =
+  volume_good : (n offset : ℕ) (cs : List (ℕ × List Item)) → ((k : ℕ) → (Contains (map (λ (c : ℕ × List Item). c.0) cs) k → ⊥) → files (Volume k) ≡ []) → IsOne files l n cs → VolumeStops files l n offset → ⊥
+  volume_good n offset cs others (inl label) (some, inl stops) = whole_stops (take 132 (files (Volume n))) l (pos n) offset label stops
+  volume_good n offset cs others (inl label) (some, inr (inl (same, begins, followed))) =
       omega (arith, begins.short, length_of_label (take 132 (files (Volume n))) l (pos n) label, length-take 132 (files (Volume n)))
-  volume_good n place cs others (inl label) (some, inr (inr (high, same))) = too_high n label.number_fits high
-  volume_good n place cs others (inr (begins, above)) (some, inl stops) = part_stops (files (Volume n)) l (pos n) place begins stops
-  volume_good n place cs others (inr (begins, above)) (some, inr (inl (same, again, (k, lt, more)))) = more (others k (above k lt))
-  volume_good n place cs others (inr (begins, above)) (some, inr (inr (high, same))) = too_high n begins.label.number_fits high
+  volume_good n offset cs others (inl label) (some, inr (inr (high, same))) = too_high n label.number_fits high
+  volume_good n offset cs others (inr (begins, above)) (some, inl stops) = part_stops (files (Volume n)) l (pos n) offset begins stops
+  volume_good n offset cs others (inr (begins, above)) (some, inr (inl (same, again, (k, lt, more)))) = more (others k (above k lt))
+  volume_good n offset cs others (inr (begins, above)) (some, inr (inr (high, same))) = too_high n begins.label.number_fits high
 
 -- ---- a creation that was stopped
 
@@ -188,19 +188,19 @@ module _ (files : Files) (stop : IsStoppedCreation files) where
   alone Index other some = omega (arith, some, ap length stop.index)
   alone (Volume n) other some = omega (arith, some, ap length (stop.volumes n))
 
-  begun_good : (place : ℕ) → MetaStops files place → ⊥
-  begun_good place (inl (lt, m)) =
+  begun_good : (offset : ℕ) → MetaStops files offset → ⊥
+  begun_good offset (inl (lt, m)) =
       let all : take 132 (files Meta) ≡ files Meta = take_all 132 (files Meta) (omega (arith, meta_short)) in
       ⊎_elim (λ (none : files Meta ≡ []). omega (arith, lt, length-take 132 (files Meta), ap length none))
-      (λ begins. misfits_not IsMetaLabel (take 132 (files Meta)) place lt (begins.1.more, (begins.0, subst (λ t. IsLabel (t ++ begins.1.more) begins.0 (negsuc 0)) (sym all) begins.1.label)) m) stop.meta
-  begun_good place (inr (inl (same, begins, (file, other, some)))) = alone file other some
-  begun_good place (inr (inr (label, k, same, fault))) = omega (arith, meta_short, length_of_label (take 132 (files Meta)) label.0 (negsuc 0) label.1, length-take 132 (files Meta))
+      (λ begins. misfits_not IsMetaLabel (take 132 (files Meta)) offset lt (begins.1.more, (begins.0, subst (λ t. IsLabel (t ++ begins.1.more) begins.0 (negsuc 0)) (sym all) begins.1.label)) m) stop.meta
+  begun_good offset (inr (inl (same, begins, (file, other, some)))) = alone file other some
+  begun_good offset (inr (inr (label, k, same, fault))) = omega (arith, meta_short, length_of_label (take 132 (files Meta)) label.0 (negsuc 0) label.1, length-take 132 (files Meta))
 
-  pub stopped_loads : (file : FileId) (place : ℕ) → NotLoaded files file place → ⊥
-  stopped_loads Meta place stops = begun_good place stops
-  stopped_loads Index place (inl (l, records, meta, stops)) = no_meta l records meta
-  stopped_loads Index place (inr (same, l, records, entries, head, some, short)) = no_meta l records head.meta
-  stopped_loads (Volume n) place (l, records, entries, head, below, stops) = no_meta l records head.meta
+  pub stopped_loads : (file : FileId) (offset : ℕ) → NotLoaded files file offset → ⊥
+  stopped_loads Meta offset stops = begun_good offset stops
+  stopped_loads Index offset (inl (l, records, meta, stops)) = no_meta l records meta
+  stopped_loads Index offset (inr (same, l, records, entries, head, some, short)) = no_meta l records head.meta
+  stopped_loads (Volume n) offset (l, records, entries, head, below, stops) = no_meta l records head.meta
 
 -- ---- an archive
 
@@ -211,17 +211,17 @@ module _ (files : Files) (c : ArchiveContents) (is : IsArchive files c) where
   listed : (n : ℕ) → 0 < length (files (Volume n)) → (Contains (map (λ (v : ℕ × List Item). v.0) c.volumes) n → ⊥) → ⊥
   listed n some none = some_bytes (files (Volume n)) some (is.others n none)
 
-  pub archive_loads : (file : FileId) (place : ℕ) → NotLoaded files file place → ⊥
-  archive_loads Meta place stops = meta_good files c is.meta place stops
-  archive_loads Index place (inl (l, records, meta, stops)) =
-      index_good (files Index) c place is.index (subst (λ m. IndexStops (files Index) m place) (sym (same_label files c is.meta l records meta)) stops)
-  archive_loads Index place (inr (same, l, records, entries, head, some, short)) =
+  pub archive_loads : (file : FileId) (offset : ℕ) → NotLoaded files file offset → ⊥
+  archive_loads Meta offset stops = meta_good files c is.meta offset stops
+  archive_loads Index offset (inl (l, records, meta, stops)) =
+      index_good (files Index) c offset is.index (subst (λ m. IndexStops (files Index) m offset) (sym (same_label files c is.meta l records meta)) stops)
+  archive_loads Index offset (inr (same, l, records, entries, head, some, short)) =
       ⊎_elim (λ (none : c.entries ≡ []). some (sym (same_entries (files Index) c l entries is.index head.index) ∙ none)) (λ long. omega (arith, short long.0, long.1)) is.labelled
-  archive_loads (Volume n) place (l, records, entries, head, below, stops) =
+  archive_loads (Volume n) offset (l, records, entries, head, below, stops) =
       let label : c.label ≡ l = same_label files c is.meta l records head.meta in
-      let here : VolumeStops files c.label n place = subst (λ m. VolumeStops files m n place) (sym label) stops in
-      listed n stops.0 (λ there. volume_good files c.label n place c.volumes is.others (one_of files c.label n c.volumes is.volumes there) here)
+      let here : VolumeStops files c.label n offset = subst (λ m. VolumeStops files m n offset) (sym label) stops in
+      listed n stops.0 (λ there. volume_good files c.label n offset c.volumes is.others (one_of files c.label n c.volumes is.volumes there) here)
 
-pub loads_readable : (files : Files) (file : FileId) (place : ℕ) → Readable files → NotLoaded files file place → ⊥
-loads_readable files file place (ArchiveReading.nothing, reads) stops = stopped_loads files reads file place stops
-loads_readable files file place (ArchiveReading.archive c, reads) stops = archive_loads files c reads file place stops
+pub loads_readable : (files : Files) (file : FileId) (offset : ℕ) → Readable files → NotLoaded files file offset → ⊥
+loads_readable files file offset (ArchiveReading.nothing, reads) stops = stopped_loads files reads file offset stops
+loads_readable files file offset (ArchiveReading.archive c, reads) stops = archive_loads files c reads file offset stops

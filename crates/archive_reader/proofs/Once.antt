@@ -50,15 +50,15 @@ module _ (files : Files) (Passes : Item → Type 0) where
 
 -- two places are the same
 abbrev pub SamePlace : FileId → FileId → ℕ → ℕ → Type 0
-SamePlace file other place elsewhere = (file ≡ other) × (place ≡ elsewhere)
+SamePlace file other offset elsewhere = (file ≡ other) × (offset ≡ elsewhere)
 
-bad_once : (files : Files) (us : List (ℕ × ℕ)) (at : ℕ) (file other : FileId) (place elsewhere : ℕ) → IsBadThere files us at file place → IsBadThere files us at other elsewhere → SamePlace file other place elsewhere
-bad_once files [] at file other place elsewhere bad worse = absurd bad
-bad_once files (u ∷ us) at file other place elsewhere bad worse = (bad.0 ∙ sym worse.0, bad.1 ∙ sym worse.1)
+bad_once : (files : Files) (us : List (ℕ × ℕ)) (at : ℕ) (file other : FileId) (offset elsewhere : ℕ) → IsBadThere files us at file offset → IsBadThere files us at other elsewhere → SamePlace file other offset elsewhere
+bad_once files [] at file other offset elsewhere bad worse = absurd bad
+bad_once files (u ∷ us) at file other offset elsewhere bad worse = (bad.0 ∙ sym worse.0, bad.1 ∙ sym worse.1)
 
-same_bad : (files : Files) (vs ws : List (ℕ × ℕ)) (at to : ℕ) (file other : FileId) (place elsewhere : ℕ) → vs ≡ ws → at ≡ to → IsBad files vs at file place → IsBad files ws to other elsewhere → SamePlace file other place elsewhere
-same_bad files vs ws at to file other place elsewhere volumes offset bad worse =
-    bad_once files (next_volumes vs at) (next_offset vs at) file other place elsewhere bad (subst (λ o. IsBad files vs o other elsewhere) (sym offset) (subst (λ l. IsBad files l to other elsewhere) (sym volumes) worse))
+same_bad : (files : Files) (vs ws : List (ℕ × ℕ)) (at to : ℕ) (file other : FileId) (offset elsewhere : ℕ) → vs ≡ ws → at ≡ to → IsBad files vs at file offset → IsBad files ws to other elsewhere → SamePlace file other offset elsewhere
+same_bad files vs ws at to file other offset elsewhere volumes same_offset bad worse =
+    bad_once files (next_volumes vs at) (next_offset vs at) file other offset elsewhere bad (subst (λ o. IsBad files vs o other elsewhere) (sym same_offset) (subst (λ l. IsBad files l to other elsewhere) (sym volumes) worse))
 
 -- ---- a segment
 
@@ -73,28 +73,28 @@ module _ (files : Files) (vs : List (ℕ × ℕ)) (at : ℕ) (t : Moment) where
       let later : microseconds t < microseconds (stamp_of y) = subst (λ z. microseconds t < microseconds (stamp_of z)) same.item after in
       omega (arith, later, by)
 
-  bad_halts : (last : List (ℕ × ℕ)) (to : ℕ) (file : FileId) (place : ℕ) → IsBad files last to file place → Halts files (IsItemBy t) last to
-  bad_halts last to file place bad y ws other over by = not_bad files last to y ws other file place bad over
+  bad_halts : (last : List (ℕ × ℕ)) (to : ℕ) (file : FileId) (offset : ℕ) → IsBad files last to file offset → Halts files (IsItemBy t) last to
+  bad_halts last to file offset bad y ws other over by = not_bad files last to y ws other file offset bad over
 
   pub segment_once : (items all : List Item) → HasSegment files vs at t items → HasSegment files vs at t all → items ≡ all
   segment_once items all s o =
       (one_walk files (IsItemBy t) items all vs at s.last s.to o.last o.to s.leads s.by (stops_halt s.last s.to s.stops) o.leads o.by (stops_halt o.last o.to o.stops)).items_are
 
-  pub stop_once : (file other : FileId) (place elsewhere : ℕ) → SegmentStops files vs at t file place → SegmentStops files vs at t other elsewhere → SamePlace file other place elsewhere
-  stop_once file other place elsewhere s o =
+  pub stop_once : (file other : FileId) (offset elsewhere : ℕ) → SegmentStops files vs at t file offset → SegmentStops files vs at t other elsewhere → SamePlace file other offset elsewhere
+  stop_once file other offset elsewhere s o =
       let same : SameWalk s.items o.items s.last o.last s.to o.to =
-      one_walk files (IsItemBy t) s.items o.items vs at s.last s.to o.last o.to s.leads s.by (bad_halts s.last s.to file place s.bad) o.leads o.by (bad_halts o.last o.to other elsewhere o.bad) in
-      same_bad files s.last o.last s.to o.to file other place elsewhere same.volumes_are same.offset_is s.bad o.bad
+      one_walk files (IsItemBy t) s.items o.items vs at s.last s.to o.last o.to s.leads s.by (bad_halts s.last s.to file offset s.bad) o.leads o.by (bad_halts o.last o.to other elsewhere o.bad) in
+      same_bad files s.last o.last s.to o.to file other offset elsewhere same.volumes_are same.offset_is s.bad o.bad
 
-  not_both : (last : List (ℕ × ℕ)) (to : ℕ) (file : FileId) (place : ℕ) → Stops last to → IsBad files last to file place → ⊥
-  not_both last to file place (inl end) bad = end_there files (next_volumes last to) (next_offset last to) file place bad end
-  not_both last to file place (inr (x, us, next, step, after)) bad = not_bad files last to x us next file place bad step
+  not_both : (last : List (ℕ × ℕ)) (to : ℕ) (file : FileId) (offset : ℕ) → Stops last to → IsBad files last to file offset → ⊥
+  not_both last to file offset (inl end) bad = end_there files (next_volumes last to) (next_offset last to) file offset bad end
+  not_both last to file offset (inr (x, us, next, step, after)) bad = not_bad files last to x us next file offset bad step
 
-  pub segment_apart : (items : List Item) (file : FileId) (place : ℕ) → HasSegment files vs at t items → SegmentStops files vs at t file place → ⊥
-  segment_apart items file place s o =
+  pub segment_apart : (items : List Item) (file : FileId) (offset : ℕ) → HasSegment files vs at t items → SegmentStops files vs at t file offset → ⊥
+  segment_apart items file offset s o =
       let same : SameWalk items o.items s.last o.last s.to o.to =
-      one_walk files (IsItemBy t) items o.items vs at s.last s.to o.last o.to s.leads s.by (stops_halt s.last s.to s.stops) o.leads o.by (bad_halts o.last o.to file place o.bad) in
-      not_both s.last s.to file place s.stops (subst (λ k. IsBad files s.last k file place) (sym same.offset_is) (subst (λ l. IsBad files l o.to file place) (sym same.volumes_are) o.bad))
+      one_walk files (IsItemBy t) items o.items vs at s.last s.to o.last o.to s.leads s.by (stops_halt s.last s.to s.stops) o.leads o.by (bad_halts o.last o.to file offset o.bad) in
+      not_both s.last s.to file offset s.stops (subst (λ k. IsBad files s.last k file offset) (sym same.offset_is) (subst (λ l. IsBad files l o.to file offset) (sym same.volumes_are) o.bad))
 
 -- ---- the record before a place
 
@@ -112,62 +112,62 @@ one_first bytes p q first other at s t =
     let f : Ends bytes q other at = stood bytes q other at t in
     omega (arith, e.size, f.size, e.tail, f.tail)
 
-back_stops_once : (files : Files) (back : Option (ℕ × ℕ)) (file other : FileId) (place elsewhere : ℕ) → BackStops files back file place → BackStops files back other elsewhere → SamePlace file other place elsewhere
-back_stops_once files None file other place elsewhere one also = absurd one
-back_stops_once files (Some v) file other place elsewhere (same, inl (here, none)) (like, inl (there, also)) = (same ∙ sym like, here ∙ sym there)
-back_stops_once files (Some v) file other place elsewhere (same, inl (here, none)) (like, inr o) = absurd (none o.payload elsewhere o.behind o.stands)
-back_stops_once files (Some v) file other place elsewhere (same, inr o) (like, inl (there, none)) = absurd (none o.payload place o.behind o.stands)
-back_stops_once files (Some v) file other place elsewhere (same, inr o) (like, inr p) =
-    (same ∙ sym like, one_first (files (Volume v.0)) o.payload p.payload place elsewhere v.1 o.stands p.stands)
+back_stops_once : (files : Files) (back : Option (ℕ × ℕ)) (file other : FileId) (offset elsewhere : ℕ) → BackStops files back file offset → BackStops files back other elsewhere → SamePlace file other offset elsewhere
+back_stops_once files None file other offset elsewhere one also = absurd one
+back_stops_once files (Some v) file other offset elsewhere (same, inl (here, none)) (like, inl (there, also)) = (same ∙ sym like, here ∙ sym there)
+back_stops_once files (Some v) file other offset elsewhere (same, inl (here, none)) (like, inr o) = absurd (none o.payload elsewhere o.behind o.stands)
+back_stops_once files (Some v) file other offset elsewhere (same, inr o) (like, inl (there, none)) = absurd (none o.payload offset o.behind o.stands)
+back_stops_once files (Some v) file other offset elsewhere (same, inr o) (like, inr p) =
+    (same ∙ sym like, one_first (files (Volume v.0)) o.payload p.payload offset elsewhere v.1 o.stands p.stands)
 
-back_apart : (files : Files) (back : Option (ℕ × ℕ)) (t : Moment) (x : Option Item) (file : FileId) (place : ℕ) → IsBackAt files back t x → BackStops files back file place → ⊥
-back_apart files None t x file place found stops = stops
-back_apart files (Some v) t x file place (y, ends, found) (same, inl (here, none)) = none ends.stands.payload ends.first ends.behind ends.stands.stands
-back_apart files (Some v) t x file place (y, ends, found) (same, inr other) = no_other_end (files (Volume v.0)) place v.1 y ends other
+back_apart : (files : Files) (back : Option (ℕ × ℕ)) (t : Moment) (x : Option Item) (file : FileId) (offset : ℕ) → IsBackAt files back t x → BackStops files back file offset → ⊥
+back_apart files None t x file offset found stops = stops
+back_apart files (Some v) t x file offset (y, ends, found) (same, inl (here, none)) = none ends.stands.payload ends.first ends.behind ends.stands.stands
+back_apart files (Some v) t x file offset (y, ends, found) (same, inr other) = no_other_end (files (Volume v.0)) offset v.1 y ends other
 
 -- ---- the searches
 
 module _ (files : Files) (volumes : List (ℕ × ℕ)) where
   at_found : (t : Moment) (begin : Begin) (x y : Option Item) → IsAtFrom files volumes t begin x → IsAtFrom files volumes t begin y → x ≡ y
-  at_found t (At n offset) x y one other =
-      let back : Option (ℕ × ℕ) = back_end volumes n offset in
-      let same : one.items ≡ other.items = segment_once files (volumes_from n volumes) offset t one.items other.items one.segment other.segment in
+  at_found t (At n start) x y one other =
+      let back : Option (ℕ × ℕ) = back_end volumes n start in
+      let same : one.items ≡ other.items = segment_once files (volumes_from n volumes) start t one.items other.items one.segment other.segment in
       last_once files back t (last_of one.items) x y one.is (subst (λ xs. IsLastOr files back t (last_of xs) y) (sym same) other.is)
-  at_found t (Outside n offset) x y one other = absurd one
+  at_found t (Outside n start) x y one other = absurd one
 
-  at_on_stops : (vs : List (ℕ × ℕ)) (at : ℕ) (back : Option (ℕ × ℕ)) (t : Moment) (file other : FileId) (place elsewhere : ℕ)
-      → IsAtOnFault files vs at back t (NotArchive file place) → IsAtOnFault files vs at back t (NotArchive other elsewhere) → SamePlace file other place elsewhere
-  at_on_stops vs at back t file other place elsewhere (inl one) (inl also) = stop_once files vs at t file other place elsewhere one also
-  at_on_stops vs at back t file other place elsewhere (inl one) (inr (none, also)) = absurd (segment_apart files vs at t [] file place none one)
-  at_on_stops vs at back t file other place elsewhere (inr (none, one)) (inl also) = absurd (segment_apart files vs at t [] other elsewhere none also)
-  at_on_stops vs at back t file other place elsewhere (inr (none, one)) (inr (nothing, also)) = back_stops_once files back file other place elsewhere one also
+  at_on_stops : (vs : List (ℕ × ℕ)) (at : ℕ) (back : Option (ℕ × ℕ)) (t : Moment) (file other : FileId) (offset elsewhere : ℕ)
+      → IsAtOnFault files vs at back t (NotArchive file offset) → IsAtOnFault files vs at back t (NotArchive other elsewhere) → SamePlace file other offset elsewhere
+  at_on_stops vs at back t file other offset elsewhere (inl one) (inl also) = stop_once files vs at t file other offset elsewhere one also
+  at_on_stops vs at back t file other offset elsewhere (inl one) (inr (none, also)) = absurd (segment_apart files vs at t [] file offset none one)
+  at_on_stops vs at back t file other offset elsewhere (inr (none, one)) (inl also) = absurd (segment_apart files vs at t [] other elsewhere none also)
+  at_on_stops vs at back t file other offset elsewhere (inr (none, one)) (inr (nothing, also)) = back_stops_once files back file other offset elsewhere one also
 
-  at_stops : (t : Moment) (begin : Begin) (file other : FileId) (place elsewhere : ℕ) → IsAtFault files volumes t begin (NotArchive file place) → IsAtFault files volumes t begin (NotArchive other elsewhere)
-      → SamePlace file other place elsewhere
-  at_stops t (At n offset) file other place elsewhere one also = at_on_stops (volumes_from n volumes) offset (back_end volumes n offset) t file other place elsewhere one also
-  at_stops t (Outside n offset) file other place elsewhere one also = (one.0 ∙ sym also.0, one.1 ∙ sym also.1)
+  at_stops : (t : Moment) (begin : Begin) (file other : FileId) (offset elsewhere : ℕ) → IsAtFault files volumes t begin (NotArchive file offset) → IsAtFault files volumes t begin (NotArchive other elsewhere)
+      → SamePlace file other offset elsewhere
+  at_stops t (At n start) file other offset elsewhere one also = at_on_stops (volumes_from n volumes) start (back_end volumes n start) t file other offset elsewhere one also
+  at_stops t (Outside n start) file other offset elsewhere one also = (one.0 ∙ sym also.0, one.1 ∙ sym also.1)
 
-  at_apart : (t : Moment) (begin : Begin) (x : Option Item) (file : FileId) (place : ℕ) → IsAtFrom files volumes t begin x → IsAtFault files volumes t begin (NotArchive file place) → ⊥
-  at_apart t (At n offset) x file place one (inl stops) = segment_apart files (volumes_from n volumes) offset t one.items file place one.segment stops
-  at_apart t (At n offset) x file place one (inr (none, stops)) =
-      let back : Option (ℕ × ℕ) = back_end volumes n offset in
-      let empty : one.items ≡ [] = segment_once files (volumes_from n volumes) offset t one.items [] one.segment none in
-      back_apart files back t x file place (subst (λ xs. IsLastOr files back t (last_of xs) x) empty one.is) stops
-  at_apart t (Outside n offset) x file place one stops = one
+  at_apart : (t : Moment) (begin : Begin) (x : Option Item) (file : FileId) (offset : ℕ) → IsAtFrom files volumes t begin x → IsAtFault files volumes t begin (NotArchive file offset) → ⊥
+  at_apart t (At n start) x file offset one (inl stops) = segment_apart files (volumes_from n volumes) start t one.items file offset one.segment stops
+  at_apart t (At n start) x file offset one (inr (none, stops)) =
+      let back : Option (ℕ × ℕ) = back_end volumes n start in
+      let empty : one.items ≡ [] = segment_once files (volumes_from n volumes) start t one.items [] one.segment none in
+      back_apart files back t x file offset (subst (λ xs. IsLastOr files back t (last_of xs) x) empty one.is) stops
+  at_apart t (Outside n start) x file offset one stops = one
 
   range_once : (from to : Moment) (begin : Begin) (xs ys : List Item) → IsRangeFrom files volumes from to begin xs → IsRangeFrom files volumes from to begin ys → xs ≡ ys
-  range_once from to (At n offset) xs ys one other =
-      one.is ∙ ap (between from to) (segment_once files (volumes_from n volumes) offset to one.items other.items one.segment other.segment) ∙ sym other.is
-  range_once from to (Outside n offset) xs ys one other = absurd one
+  range_once from to (At n start) xs ys one other =
+      one.is ∙ ap (between from to) (segment_once files (volumes_from n volumes) start to one.items other.items one.segment other.segment) ∙ sym other.is
+  range_once from to (Outside n start) xs ys one other = absurd one
 
-  range_stops : (to : Moment) (begin : Begin) (file other : FileId) (place elsewhere : ℕ) → IsRangeFault files volumes to begin (NotArchive file place) → IsRangeFault files volumes to begin (NotArchive other elsewhere)
-      → SamePlace file other place elsewhere
-  range_stops to (At n offset) file other place elsewhere one also = stop_once files (volumes_from n volumes) offset to file other place elsewhere one also
-  range_stops to (Outside n offset) file other place elsewhere one also = (one.0 ∙ sym also.0, one.1 ∙ sym also.1)
+  range_stops : (to : Moment) (begin : Begin) (file other : FileId) (offset elsewhere : ℕ) → IsRangeFault files volumes to begin (NotArchive file offset) → IsRangeFault files volumes to begin (NotArchive other elsewhere)
+      → SamePlace file other offset elsewhere
+  range_stops to (At n start) file other offset elsewhere one also = stop_once files (volumes_from n volumes) start to file other offset elsewhere one also
+  range_stops to (Outside n start) file other offset elsewhere one also = (one.0 ∙ sym also.0, one.1 ∙ sym also.1)
 
-  range_apart : (from to : Moment) (begin : Begin) (xs : List Item) (file : FileId) (place : ℕ) → IsRangeFrom files volumes from to begin xs → IsRangeFault files volumes to begin (NotArchive file place) → ⊥
-  range_apart from to (At n offset) xs file place one stops = segment_apart files (volumes_from n volumes) offset to one.items file place one.segment stops
-  range_apart from to (Outside n offset) xs file place one stops = one
+  range_apart : (from to : Moment) (begin : Begin) (xs : List Item) (file : FileId) (offset : ℕ) → IsRangeFrom files volumes from to begin xs → IsRangeFault files volumes to begin (NotArchive file offset) → ⊥
+  range_apart from to (At n start) xs file offset one stops = segment_apart files (volumes_from n volumes) start to one.items file offset one.segment stops
+  range_apart from to (Outside n start) xs file offset one stops = one
 
   -- ---- all records
 
@@ -182,36 +182,36 @@ module _ (files : Files) (volumes : List (ℕ × ℕ)) where
   all_pass [] = tt
   all_pass (x ∷ items) = (tt, all_pass items)
 
-  whole_stops : (file other : FileId) (place elsewhere : ℕ) (items all : List Item) → StopsAt files volumes 132 items file place → StopsAt files volumes 132 all other elsewhere → SamePlace file other place elsewhere
-  whole_stops file other place elsewhere items all s o =
+  whole_stops : (file other : FileId) (offset elsewhere : ℕ) (items all : List Item) → StopsAt files volumes 132 items file offset → StopsAt files volumes 132 all other elsewhere → SamePlace file other offset elsewhere
+  whole_stops file other offset elsewhere items all s o =
       let same : SameWalk items all s.last o.last s.to o.to =
-      one_walk files Any items all volumes 132 s.last s.to o.last o.to s.leads (all_pass items) (λ y ws k over by. not_bad files s.last s.to y ws k file place s.bad over) o.leads (all_pass all)
+      one_walk files Any items all volumes 132 s.last s.to o.last o.to s.leads (all_pass items) (λ y ws k over by. not_bad files s.last s.to y ws k file offset s.bad over) o.leads (all_pass all)
       (λ y ws k over by. not_bad files o.last o.to y ws k other elsewhere o.bad over) in
-      same_bad files s.last o.last s.to o.to file other place elsewhere same.volumes_are same.offset_is s.bad o.bad
+      same_bad files s.last o.last s.to o.to file other offset elsewhere same.volumes_are same.offset_is s.bad o.bad
 
-  value_apart : (pmid : ℕ) (t : Moment) (x : Option (Moment × ValueSet)) (file : FileId) (place : ℕ) → IsValueAt files volumes pmid t x → IsWholeFault files volumes (NotArchive file place) → ⊥
-  value_apart pmid t x file place one (items, s) = never_bad files items one.items volumes 132 s.last s.to one.all.last one.all.to file place s.leads s.bad one.all.leads one.all.ends
+  value_apart : (pmid : ℕ) (t : Moment) (x : Option (Moment × ValueSet)) (file : FileId) (offset : ℕ) → IsValueAt files volumes pmid t x → IsWholeFault files volumes (NotArchive file offset) → ⊥
+  value_apart pmid t x file offset one (items, s) = never_bad files items one.items volumes 132 s.last s.to one.all.last one.all.to file offset s.leads s.bad one.all.leads one.all.ends
 
 -- ---- the laws
 
-pub at_answers_once : (files : Files) (r : Loaded) (t : Moment) → AnswersOnce (IsAtFrom files r.volumes t (at_begin r t)) (λ file place. IsAtFault files r.volumes t (at_begin r t) (NotArchive file place))
+pub at_answers_once : (files : Files) (r : Loaded) (t : Moment) → AnswersOnce (IsAtFrom files r.volumes t (at_begin r t)) (λ file offset. IsAtFault files r.volumes t (at_begin r t) (NotArchive file offset))
 at_answers_once files r t = record {
   found = λ x y. at_found files r.volumes t (at_begin r t) x y;
-  stops = λ file other place elsewhere. at_stops files r.volumes t (at_begin r t) file other place elsewhere;
-  apart = λ x file place. at_apart files r.volumes t (at_begin r t) x file place;
+  stops = λ file other offset elsewhere. at_stops files r.volumes t (at_begin r t) file other offset elsewhere;
+  apart = λ x file offset. at_apart files r.volumes t (at_begin r t) x file offset;
 }
 
 pub range_answers_once : (files : Files) (r : Loaded) (from to : Moment)
-    → AnswersOnce (IsRangeFrom files r.volumes from to (range_begin r from)) (λ file place. IsRangeFault files r.volumes to (range_begin r from) (NotArchive file place))
+    → AnswersOnce (IsRangeFrom files r.volumes from to (range_begin r from)) (λ file offset. IsRangeFault files r.volumes to (range_begin r from) (NotArchive file offset))
 range_answers_once files r from to = record {
   found = λ xs ys. range_once files r.volumes from to (range_begin r from) xs ys;
-  stops = λ file other place elsewhere. range_stops files r.volumes to (range_begin r from) file other place elsewhere;
-  apart = λ xs file place. range_apart files r.volumes from to (range_begin r from) xs file place;
+  stops = λ file other offset elsewhere. range_stops files r.volumes to (range_begin r from) file other offset elsewhere;
+  apart = λ xs file offset. range_apart files r.volumes from to (range_begin r from) xs file offset;
 }
 
-pub value_answers_once : (files : Files) (r : Loaded) (pmid : ℕ) (t : Moment) → AnswersOnce (IsValueAt files r.volumes pmid t) (λ file place. IsWholeFault files r.volumes (NotArchive file place))
+pub value_answers_once : (files : Files) (r : Loaded) (pmid : ℕ) (t : Moment) → AnswersOnce (IsValueAt files r.volumes pmid t) (λ file offset. IsWholeFault files r.volumes (NotArchive file offset))
 value_answers_once files r pmid t = record {
   found = λ x y. value_found files r.volumes pmid t x y;
-  stops = λ file other place elsewhere one also. whole_stops files r.volumes file other place elsewhere one.0 also.0 one.1 also.1;
-  apart = λ x file place. value_apart files r.volumes pmid t x file place;
+  stops = λ file other offset elsewhere one also. whole_stops files r.volumes file other offset elsewhere one.0 also.0 one.1 also.1;
+  apart = λ x file offset. value_apart files r.volumes pmid t x file offset;
 }

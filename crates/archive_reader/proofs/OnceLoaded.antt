@@ -92,36 +92,36 @@ headed_numbers files l [] headed = tt
 headed_numbers files l (v ∷ vs) headed = (headed.0.2, headed_numbers files l vs headed.1)
 
 module _ (files : Files) (l : LabelFields) where
-  volume_apart : (n place : ℕ) → IsHeadedAs files l n → VolumeStops files l n place → ⊥
-  volume_apart n place (inl label) (some, inl stops) = whole_stops (take 132 (files (Volume n))) l (pos n) place label stops
-  volume_apart n place (inl label) (some, inr (inl (same, begins, followed))) =
+  volume_apart : (n offset : ℕ) → IsHeadedAs files l n → VolumeStops files l n offset → ⊥
+  volume_apart n offset (inl label) (some, inl stops) = whole_stops (take 132 (files (Volume n))) l (pos n) offset label stops
+  volume_apart n offset (inl label) (some, inr (inl (same, begins, followed))) =
       omega (arith, begins.short, length_of_label (take 132 (files (Volume n))) l (pos n) label, length-take 132 (files (Volume n)))
-  volume_apart n place (inl label) (some, inr (inr (high, same))) = too_high n label.number_fits high
-  volume_apart n place (inr (begins, top)) (some, inl stops) = part_stops (files (Volume n)) l (pos n) place begins stops
-  volume_apart n place (inr (begins, top)) (some, inr (inl (same, again, (k, lt, more)))) = more (top k lt)
-  volume_apart n place (inr (begins, top)) (some, inr (inr (high, same))) = too_high n begins.label.number_fits high
+  volume_apart n offset (inl label) (some, inr (inr (high, same))) = too_high n label.number_fits high
+  volume_apart n offset (inr (begins, top)) (some, inl stops) = part_stops (files (Volume n)) l (pos n) offset begins stops
+  volume_apart n offset (inr (begins, top)) (some, inr (inl (same, again, (k, lt, more)))) = more (top k lt)
+  volume_apart n offset (inr (begins, top)) (some, inr (inr (high, same))) = too_high n begins.label.number_fits high
 
   module _ (records : List MetaRecord) (entries : List Entry) (vs : List (ℕ × ℕ)) (kept : IsLabelledArchive files l records entries vs) where
-    archive_apart : (file : FileId) (place : ℕ) → NotLoaded files file place → ⊥
-    archive_apart Meta place stops = meta_good files (contents_with l records [] []) kept.meta place stops
-    archive_apart Index place (inl (m, others, meta, stops)) =
+    archive_apart : (file : FileId) (offset : ℕ) → NotLoaded files file offset → ⊥
+    archive_apart Meta offset stops = meta_good files (contents_with l records [] []) kept.meta offset stops
+    archive_apart Index offset (inl (m, others, meta, stops)) =
         let label : l ≡ m = same_label files (contents_with l records [] []) kept.meta m others meta in
-        index_good (files Index) (contents_with l [] entries []) place kept.index (subst (λ x. IndexStops (files Index) x place) (sym label) stops)
-    archive_apart Index place (inr (same, m, others, more, head, some, short)) =
+        index_good (files Index) (contents_with l [] entries []) offset kept.index (subst (λ x. IndexStops (files Index) x offset) (sym label) stops)
+    archive_apart Index offset (inr (same, m, others, more, head, some, short)) =
         ⊎_elim (λ (none : entries ≡ []). some (sym (same_entries (files Index) (contents_with l [] entries []) m more kept.index head.index) ∙ none)) (λ long. omega (arith, short long.0, long.1)) kept.beside
-    archive_apart (Volume n) place (m, others, more, head, below, stops) =
+    archive_apart (Volume n) offset (m, others, more, head, below, stops) =
         let label : l ≡ m = same_label files (contents_with l records [] []) kept.meta m others head.meta in
-        let here : VolumeStops files l n place = subst (λ x. VolumeStops files x n place) (sym label) stops in
+        let here : VolumeStops files l n offset = subst (λ x. VolumeStops files x n offset) (sym label) stops in
         let none : Contains (numbers vs) n → ⊥ =
-        λ there. volume_apart n place (All-contains (IsHeadedAs files l) (numbers vs) n (All-from_recursion (IsHeadedAs files l) (numbers vs) (headed_numbers files l vs kept.labelled.0)) there) here in
+        λ there. volume_apart n offset (All-contains (IsHeadedAs files l) (numbers vs) n (All-from_recursion (IsHeadedAs files l) (numbers vs) (headed_numbers files l vs kept.labelled.0)) there) here in
         omega (arith, here.0, ap length (kept.others n none))
 
-kept_apart : (files : Files) (label : Option LabelFields) (records : List MetaRecord) (entries : List Entry) (vs : List (ℕ × ℕ)) (file : FileId) (place : ℕ) → IsKeptOf files label records entries vs → NotLoaded files file place → ⊥
-kept_apart files None records entries vs file place kept stops = stopped_loads files kept.0 file place stops
-kept_apart files (Some l) records entries vs file place kept stops = archive_apart files l records entries vs kept file place stops
+kept_apart : (files : Files) (label : Option LabelFields) (records : List MetaRecord) (entries : List Entry) (vs : List (ℕ × ℕ)) (file : FileId) (offset : ℕ) → IsKeptOf files label records entries vs → NotLoaded files file offset → ⊥
+kept_apart files None records entries vs file offset kept stops = stopped_loads files kept.0 file offset stops
+kept_apart files (Some l) records entries vs file offset kept stops = archive_apart files l records entries vs kept file offset stops
 
 pub load_answers_once : (files : Files) → LoadsOnce files
 load_answers_once files = record {
   kept = λ r s. kept_once files r s;
-  apart = λ r file place. kept_apart files r.label r.records r.entries r.volumes file place;
+  apart = λ r file offset. kept_apart files r.label r.records r.entries r.volumes file offset;
 }

@@ -51,16 +51,16 @@ no_step_there files (u ∷ w ∷ us) at x next end s = end
 pub no_step : (files : Files) (vs : List (ℕ × ℕ)) (at : ℕ) (x : Item) (us : List (ℕ × ℕ)) (next : ℕ) → IsEnd files vs at → StepsOver files vs at x us next → ⊥
 no_step files vs at x us next end s = no_step_there files (next_volumes vs at) (next_offset vs at) x next end (subst (λ l. StandsNext files l (next_offset vs at) x next) s.volumes s.stands)
 
-bad_there : (files : Files) (us : List (ℕ × ℕ)) (at : ℕ) (x : Item) (next : ℕ) (file : FileId) (place : ℕ) → IsBadThere files us at file place → StandsNext files us at x next → ⊥
-bad_there files [] at x next file place bad s = bad
-bad_there files (u ∷ us) at x next file place bad s = bad.2 next x s
+bad_there : (files : Files) (us : List (ℕ × ℕ)) (at : ℕ) (x : Item) (next : ℕ) (file : FileId) (offset : ℕ) → IsBadThere files us at file offset → StandsNext files us at x next → ⊥
+bad_there files [] at x next file offset bad s = bad
+bad_there files (u ∷ us) at x next file offset bad s = bad.2 next x s
 
-pub not_bad : (files : Files) (vs : List (ℕ × ℕ)) (at : ℕ) (x : Item) (us : List (ℕ × ℕ)) (next : ℕ) (file : FileId) (place : ℕ) → IsBad files vs at file place → StepsOver files vs at x us next → ⊥
-not_bad files vs at x us next file place bad s = bad_there files (next_volumes vs at) (next_offset vs at) x next file place bad (subst (λ l. StandsNext files l (next_offset vs at) x next) s.volumes s.stands)
+pub not_bad : (files : Files) (vs : List (ℕ × ℕ)) (at : ℕ) (x : Item) (us : List (ℕ × ℕ)) (next : ℕ) (file : FileId) (offset : ℕ) → IsBad files vs at file offset → StepsOver files vs at x us next → ⊥
+not_bad files vs at x us next file offset bad s = bad_there files (next_volumes vs at) (next_offset vs at) x next file offset bad (subst (λ l. StandsNext files l (next_offset vs at) x next) s.volumes s.stands)
 
-pub end_there : (files : Files) (us : List (ℕ × ℕ)) (at : ℕ) (file : FileId) (place : ℕ) → IsBadThere files us at file place → EndsThere files us at → ⊥
-end_there files [] at file place bad end = bad
-end_there files (u ∷ us) at file place bad end = bad.3 end
+pub end_there : (files : Files) (us : List (ℕ × ℕ)) (at : ℕ) (file : FileId) (offset : ℕ) → IsBadThere files us at file offset → EndsThere files us at → ⊥
+end_there files [] at file offset bad end = bad
+end_there files (u ∷ us) at file offset bad end = bad.3 end
 
 -- ---- from one place on
 
@@ -72,19 +72,19 @@ module _ (files : Files) where
       subst (λ n. Leads files us n items last to) (sym same.behind) (subst (λ l. Leads files l other items last to) (t.volumes ∙ sym s.volumes) more)
 
   -- where the items of all lead, no bytes are bad on the way
-  pub never_bad : (items all : List Item) (vs : List (ℕ × ℕ)) (at : ℕ) (last : List (ℕ × ℕ)) (to : ℕ) (end : List (ℕ × ℕ)) (behind : ℕ) (file : FileId) (place : ℕ)
-      → Leads files vs at items last to → IsBad files last to file place → Leads files vs at all end behind → IsEnd files end behind → ⊥
-  never_bad [] [] vs at last to end behind file place here bad whole ends =
-      let bad_here : IsBad files vs at file place = subst (λ o. IsBad files vs o file place) here.1 (subst (λ l. IsBad files l to file place) here.0 bad) in
+  pub never_bad : (items all : List Item) (vs : List (ℕ × ℕ)) (at : ℕ) (last : List (ℕ × ℕ)) (to : ℕ) (end : List (ℕ × ℕ)) (behind : ℕ) (file : FileId) (offset : ℕ)
+      → Leads files vs at items last to → IsBad files last to file offset → Leads files vs at all end behind → IsEnd files end behind → ⊥
+  never_bad [] [] vs at last to end behind file offset here bad whole ends =
+      let bad_here : IsBad files vs at file offset = subst (λ o. IsBad files vs o file offset) here.1 (subst (λ l. IsBad files l to file offset) here.0 bad) in
       let end_here : IsEnd files vs at = subst (λ o. IsEnd files vs o) whole.1 (subst (λ l. IsEnd files l behind) whole.0 ends) in
-      end_there files (next_volumes vs at) (next_offset vs at) file place bad_here end_here
-  never_bad [] (y ∷ all) vs at last to end behind file place here bad (ws, other, step, more) ends =
-      let bad_here : IsBad files vs at file place = subst (λ o. IsBad files vs o file place) here.1 (subst (λ l. IsBad files l to file place) here.0 bad) in
-      not_bad files vs at y ws other file place bad_here step
-  never_bad (x ∷ items) [] vs at last to end behind file place (us, next, step, more) bad whole ends =
+      end_there files (next_volumes vs at) (next_offset vs at) file offset bad_here end_here
+  never_bad [] (y ∷ all) vs at last to end behind file offset here bad (ws, other, step, more) ends =
+      let bad_here : IsBad files vs at file offset = subst (λ o. IsBad files vs o file offset) here.1 (subst (λ l. IsBad files l to file offset) here.0 bad) in
+      not_bad files vs at y ws other file offset bad_here step
+  never_bad (x ∷ items) [] vs at last to end behind file offset (us, next, step, more) bad whole ends =
       let end_here : IsEnd files vs at = subst (λ o. IsEnd files vs o) whole.1 (subst (λ l. IsEnd files l behind) whole.0 ends) in no_step files vs at x us next end_here step
-  never_bad (x ∷ items) (y ∷ all) vs at last to end behind file place (us, next, step, more) bad (ws, other, over, rest) ends =
-      never_bad items all us next last to end behind file place more bad (moved vs us ws at next other x y all end behind step over rest) ends
+  never_bad (x ∷ items) (y ∷ all) vs at last to end behind file offset (us, next, step, more) bad (ws, other, over, rest) ends =
+      never_bad items all us next last to end behind file offset more bad (moved vs us ws at next other x y all end behind step over rest) ends
 
   abbrev Stops : Moment → List (ℕ × ℕ) → ℕ → Type 0
   Stops t last to = IsEnd files last to ⊎ ((x : Item) × (us : List (ℕ × ℕ)) × (next : ℕ) × StepsOver files last to x us next × (microseconds t < microseconds (stamp_of x)))
@@ -124,8 +124,8 @@ module _ (files : Files) where
   pub segment_is : (t : Moment) (items all : List Item) (vs : List (ℕ × ℕ)) (at : ℕ) → HasSegment files vs at t items → AllFrom files vs at all → items ≡ segment t all
   segment_is t items all vs at s a = one_segment t items all vs at s.last s.to a.last a.to s.leads s.by s.stops a.leads a.ends
 
-  pub segment_whole : (t : Moment) (all : List Item) (vs : List (ℕ × ℕ)) (at : ℕ) (file : FileId) (place : ℕ) → SegmentStops files vs at t file place → AllFrom files vs at all → ⊥
-  segment_whole t all vs at file place s a = never_bad s.items all vs at s.last s.to a.last a.to file place s.leads s.bad a.leads a.ends
+  pub segment_whole : (t : Moment) (all : List Item) (vs : List (ℕ × ℕ)) (at : ℕ) (file : FileId) (offset : ℕ) → SegmentStops files vs at t file offset → AllFrom files vs at all → ⊥
+  segment_whole t all vs at file offset s a = never_bad s.items all vs at s.last s.to a.last a.to file offset s.leads s.bad a.leads a.ends
 
 -- ---- one record that ends
 
@@ -141,5 +141,5 @@ same_end bytes at x y s t =
     let payload : s.stands.payload ≡ t.stands.payload = same_first bytes s.stands.payload t.stands.payload s.first t.first at s.stands.stands t.stands.stands in
     one_item s.stands.payload x y s.stands.stands.fits s.stands.reads (subst (λ p. IsItem p y) (sym payload) t.stands.reads)
 
-pub no_other_end : (bytes : List ℕ) (place at : ℕ) (x : Item) → ItemEnds bytes at x → OtherEnds bytes place at → ⊥
-no_other_end bytes place at x s o = o.none x (subst (λ p. IsItem p x) (same_first bytes s.stands.payload o.payload s.first place at s.stands.stands o.stands) s.stands.reads)
+pub no_other_end : (bytes : List ℕ) (offset at : ℕ) (x : Item) → ItemEnds bytes at x → OtherEnds bytes offset at → ⊥
+no_other_end bytes offset at x s o = o.none x (subst (λ p. IsItem p x) (same_first bytes s.stands.payload o.payload s.first offset at s.stands.stands o.stands) s.stands.reads)

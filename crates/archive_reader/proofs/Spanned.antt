@@ -153,7 +153,7 @@ module _ (files : Files) (volumes : List (ℕ × ℕ)) (first start before : ℕ
 
   pub stops_here : (Kept : List Item → Type 0) (index at now : ℕ) (s : SoFar files volumes first start Kept index at before now) (t : Moment) → NoItemAfter t s.items → (e : ReaderFault) → IsAheadFault files (drop index volumes) at e → IsSegmentFault files (drop first volumes) start t e
   stops_here Kept index at now s t by (Compressed file) f = f
-  stops_here Kept index at now s t by (NotArchive file place) f = record { items = s.items; last = drop index volumes; to = at; leads = its_leads Kept index at now s; by = by; bad = f }
+  stops_here Kept index at now s t by (NotArchive file offset) f = record { items = s.items; last = drop index volumes; to = at; leads = its_leads Kept index at now s; by = by; bad = f }
   stops_here Kept index at now s t by DiskFault f = tt
   stops_here Kept index at now s t by NoMemory f = tt
 
@@ -182,8 +182,8 @@ module _ (files : Files) (volumes : List (ℕ × ℕ)) (first start before : ℕ
   pub all_here : (Kept : List Item → Type 0) (index at now : ℕ) (s : SoFar files volumes first start Kept index at before now) → IsEnd files (drop index volumes) at → AllFrom files (drop first volumes) start s.items
   all_here Kept index at now s end = record { last = drop index volumes; to = at; leads = its_leads Kept index at now s; ends = end }
 
-  pub bad_here : (Kept : List Item → Type 0) (index at now : ℕ) (s : SoFar files volumes first start Kept index at before now) (file : FileId) (place : ℕ) → IsBad files (drop index volumes) at file place → StopsAt files (drop first volumes) start s.items file place
-  bad_here Kept index at now s file place bad = record { last = drop index volumes; to = at; leads = its_leads Kept index at now s; bad = bad }
+  pub bad_here : (Kept : List Item → Type 0) (index at now : ℕ) (s : SoFar files volumes first start Kept index at before now) (file : FileId) (offset : ℕ) → IsBad files (drop index volumes) at file offset → StopsAt files (drop first volumes) start s.items file offset
+  bad_here Kept index at now s file offset bad = record { last = drop index volumes; to = at; leads = its_leads Kept index at now s; bad = bad }
 
   pub range_here : (from to : Moment) (found : List Item) (index at now : ℕ) → SoFar files volumes first start (RangeSoFar from to found) index at before now → IsAhead files volumes index at to AheadEnd
       → IsRangeOn files (drop first volumes) start from to found

@@ -101,8 +101,8 @@ pub walked : {E : Type 0} (files : Files) (volumes : List (ℕ × ℕ)) (index a
     → IfOk result (IsStood files volumes (drop behind volumes) offset) → IfOk result (IsWalked files volumes index at)
 walked files volumes index at behind offset (Ok StepEnd) one two stood =
     subst (λ ws. EndsThere files ws (next_offset (drop index volumes) at)) one (subst (EndsThere files (drop behind volumes)) two stood)
-walked files volumes index at behind offset (Ok (StepBad number place)) one two stood =
-    subst (λ ws. IsBadThere files ws (next_offset (drop index volumes) at) (Volume number) place) one (subst (λ o. IsBadThere files (drop behind volumes) o (Volume number) place) two stood)
+walked files volumes index at behind next (Ok (StepBad number offset)) one two stood =
+    subst (λ ws. IsBadThere files ws (next_offset (drop index volumes) at) (Volume number) offset) one (subst (λ o. IsBadThere files (drop behind volumes) o (Volume number) offset) two stood)
 walked files volumes index at behind offset (Ok (StepItem x b next)) one two stood = record {
   volumes = stood.0 ∙ one;
   stands = subst (λ ws. StandsNext files ws (next_offset (drop index volumes) at) x next) (sym stood.0) (subst (λ o. StandsNext files (drop behind volumes) o x next) two stood.1);

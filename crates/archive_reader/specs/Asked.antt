@@ -71,26 +71,26 @@ pub record HasSegment (files : Files) (vs : List (ℕ × ℕ)) (at : ℕ) (t : M
   pub stops : IsEnd files last to ⊎ ((x : Item) × (us : List (ℕ × ℕ)) × (next : ℕ) × StepsOver files last to x us next × (microseconds t < microseconds (stamp_of x)))
 
 -- or a record on the way is no item's
-pub record SegmentStops (files : Files) (vs : List (ℕ × ℕ)) (at : ℕ) (t : Moment) (file : FileId) (place : ℕ) : Type 0 where
+pub record SegmentStops (files : Files) (vs : List (ℕ × ℕ)) (at : ℕ) (t : Moment) (file : FileId) (offset : ℕ) : Type 0 where
   pub items : List Item
   pub last : List (ℕ × ℕ)
   pub to : ℕ
   pub leads : Leads files vs at items last to
   pub by : NoItemAfter t items
-  pub bad : IsBad files last to file place
+  pub bad : IsBad files last to file offset
 
 abbrev pub IsSegmentFault : Files → List (ℕ × ℕ) → ℕ → Moment → ReaderFault → Type 0
 IsSegmentFault files vs at t (Compressed file) = ⊥
-IsSegmentFault files vs at t (NotArchive file place) = SegmentStops files vs at t file place
+IsSegmentFault files vs at t (NotArchive file offset) = SegmentStops files vs at t file offset
 IsSegmentFault files vs at t DiskFault = Unit {0}
 IsSegmentFault files vs at t NoMemory = Unit {0}
 
 -- a search that begins at an offset outside its volume's records
 abbrev pub IsOutside : ℕ → ℕ → ReaderFault → Type 0
-IsOutside n offset (Compressed file) = ⊥
-IsOutside n offset (NotArchive file place) = (file ≡ Volume n) × (place ≡ offset)
-IsOutside n offset DiskFault = Unit {0}
-IsOutside n offset NoMemory = Unit {0}
+IsOutside n start (Compressed file) = ⊥
+IsOutside n start (NotArchive file offset) = (file ≡ Volume n) × (offset ≡ start)
+IsOutside n start DiskFault = Unit {0}
+IsOutside n start NoMemory = Unit {0}
 
 -- ---- a range
 
@@ -158,13 +158,13 @@ IsAtFrom files volumes t (Outside n offset) found = ⊥
 
 -- No record ends where the search begins, or one of no item does.
 abbrev pub BackStops : Files → Option (ℕ × ℕ) → FileId → ℕ → Type 0
-BackStops files None file place = ⊥
-BackStops files (Some v) file place =
-    (file ≡ Volume v.0) × (((place ≡ v.1) × NoFrameEnds (files (Volume v.0)) v.1) ⊎ OtherEnds (files (Volume v.0)) place v.1)
+BackStops files None file offset = ⊥
+BackStops files (Some v) file offset =
+    (file ≡ Volume v.0) × (((offset ≡ v.1) × NoFrameEnds (files (Volume v.0)) v.1) ⊎ OtherEnds (files (Volume v.0)) offset v.1)
 
 abbrev pub IsBackFault : Files → Option (ℕ × ℕ) → ReaderFault → Type 0
 IsBackFault files back (Compressed file) = ⊥
-IsBackFault files back (NotArchive file place) = BackStops files back file place
+IsBackFault files back (NotArchive file offset) = BackStops files back file offset
 IsBackFault files back DiskFault = Unit {0}
 IsBackFault files back NoMemory = Unit {0}
 

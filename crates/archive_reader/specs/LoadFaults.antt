@@ -9,13 +9,13 @@ use Rattle.archive_reader.specs.declared.fault.ReaderFault.TheVariants.{Compress
 -- why files that stand under their own names aren't loaded
 abbrev pub IsFilesFault : Files → ReaderFault → Type 0
 IsFilesFault files (Compressed file) = ⊥
-IsFilesFault files (NotArchive file place) = NotLoaded files file place
+IsFilesFault files (NotArchive file offset) = NotLoaded files file offset
 IsFilesFault files DiskFault = Unit {0}
 IsFilesFault files NoMemory = Unit {0}
 
 -- why `load` is refused
 abbrev pub IsLoadFault : Option FileId → Files → ReaderFault → Type 0
 IsLoadFault wrapped files (Compressed file) = wrapped ≡ Some file
-IsLoadFault wrapped files (NotArchive file place) = (wrapped ≡ None) × NotLoaded files file place
+IsLoadFault wrapped files (NotArchive file offset) = (wrapped ≡ None) × NotLoaded files file offset
 IsLoadFault wrapped files DiskFault = Unit {0}
 IsLoadFault wrapped files NoMemory = Unit {0}

@@ -14,6 +14,6 @@ IsNext files volumes p (Some next) = StepsOver files (volumes_from p.volume volu
 
 abbrev pub IsNextFault : Files → List (ℕ × ℕ) → Place → ReaderFault → Type 0
 IsNextFault files volumes p (Compressed file) = ⊥
-IsNextFault files volumes p (NotArchive file place) = IsBad files (volumes_from p.volume volumes) p.offset file place
+IsNextFault files volumes p (NotArchive file offset) = IsBad files (volumes_from p.volume volumes) p.offset file offset
 IsNextFault files volumes p DiskFault = Unit {0}
 IsNextFault files volumes p NoMemory = Unit {0}

@@ -20,14 +20,14 @@ use Rattle.archive_reader.specs.Walks.{Leads, IsBad, AllFrom}
 
 -- a readable archive stops at no place
 abbrev pub LoadsReadable : Type 0
-LoadsReadable = (files : Files) (file : FileId) (place : ℕ) → Readable files → NotLoaded files file place → ⊥
+LoadsReadable = (files : Files) (file : FileId) (offset : ℕ) → Readable files → NotLoaded files file offset → ⊥
 
 -- From the first place on the items of the scan stand, to the end; at no place that they lead to do bytes stand that are no item's
 -- record.
 pub record StandsAs (files : Files) (reading : ArchiveReading) (r : Loaded) : Type 0 where
   pub all : AllFrom files r.volumes 132 (scan reading)
   pub records_are : r.records ≡ records_in reading
-  pub good : (items : List Item) (ws : List (ℕ × ℕ)) (to : ℕ) (file : FileId) (place : ℕ) → Leads files r.volumes 132 items ws to → IsBad files ws to file place → ⊥
+  pub good : (items : List Item) (ws : List (ℕ × ℕ)) (to : ℕ) (file : FileId) (offset : ℕ) → Leads files r.volumes 132 items ws to → IsBad files ws to file offset → ⊥
 
 abbrev pub ReadableStands : Type 0
 ReadableStands = (files : Files) (reading : ArchiveReading) (r : Loaded) → Reads files reading → IsOver files r → StandsAs files reading r
@@ -41,7 +41,7 @@ BeginsInCutLabel files (Outside n offset) = (0 < length (files (Volume n))) × (
 -- volume that holds a part of its label alone.
 pub record FindsLast (files : Files) (reading : ArchiveReading) (r : Loaded) (t : Moment) : Type 0 where
   pub found : (x : Option Item) → IsAtFrom files r.volumes t (at_begin r t) x → x ≡ at t (scan reading)
-  pub refused : (file : FileId) (place : ℕ) → IsAtFault files r.volumes t (at_begin r t) (NotArchive file place) → BeginsInCutLabel files (at_begin r t)
+  pub refused : (file : FileId) (offset : ℕ) → IsAtFault files r.volumes t (at_begin r t) (NotArchive file offset) → BeginsInCutLabel files (at_begin r t)
 
 abbrev pub SoundFindsLast : Type 0
 SoundFindsLast = (files : Files) (reading : ArchiveReading) (r : Loaded) (t : Moment) → Reads files reading → IsSound files reading → IsOver files r → FindsLast files reading r t
@@ -49,7 +49,7 @@ SoundFindsLast = (files : Files) (reading : ArchiveReading) (r : Loaded) (t : Mo
 -- and the items of a range are those of the scan
 pub record FindsRange (files : Files) (reading : ArchiveReading) (r : Loaded) (from to : Moment) : Type 0 where
   pub found : (items : List Item) → IsRangeFrom files r.volumes from to (range_begin r from) items → items ≡ between from to (scan reading)
-  pub refused : (file : FileId) (place : ℕ) → IsRangeFault files r.volumes to (range_begin r from) (NotArchive file place) → BeginsInCutLabel files (range_begin r from)
+  pub refused : (file : FileId) (offset : ℕ) → IsRangeFault files r.volumes to (range_begin r from) (NotArchive file offset) → BeginsInCutLabel files (range_begin r from)
 
 abbrev pub SoundFindsRange : Type 0
 SoundFindsRange = (files : Files) (reading : ArchiveReading) (r : Loaded) (from to : Moment) → Reads files reading → IsSound files reading → IsOver files r → FindsRange files reading r from to
@@ -57,7 +57,7 @@ SoundFindsRange = (files : Files) (reading : ArchiveReading) (r : Loaded) (from 
 -- Over a readable archive a metric's last values are those of the scan, and no bytes are refused.
 pub record FindsValue (files : Files) (reading : ArchiveReading) (r : Loaded) (pmid : ℕ) (t : Moment) : Type 0 where
   pub found : (x : Option (Moment × ValueSet)) → IsValueAt files r.volumes pmid t x → x ≡ value_at pmid t (scan reading)
-  pub refused : (file : FileId) (place : ℕ) → IsWholeFault files r.volumes (NotArchive file place) → ⊥
+  pub refused : (file : FileId) (offset : ℕ) → IsWholeFault files r.volumes (NotArchive file offset) → ⊥
 
 abbrev pub ReadableFindsValue : Type 0
 ReadableFindsValue = (files : Files) (reading : ArchiveReading) (r : Loaded) (pmid : ℕ) (t : Moment) → Reads files reading → IsOver files r → FindsValue files reading r pmid t

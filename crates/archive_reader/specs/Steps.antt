@@ -17,18 +17,18 @@ use Rattle.archive_reader.specs.Walks.{StandsNext, EndsThere, IsBadThere, StepsO
 -- behind the ends of volumes
 abbrev pub IsStood : Files → List (ℕ × ℕ) → List (ℕ × ℕ) → ℕ → Step → Type 0
 IsStood files volumes ws at End = EndsThere files ws at
-IsStood files volumes ws at (Bad number place) = IsBadThere files ws at (Volume number) place
+IsStood files volumes ws at (Bad number offset) = IsBadThere files ws at (Volume number) offset
 IsStood files volumes ws at (Item x behind next) = (drop behind volumes ≡ ws) × StandsNext files ws at x next
 
 abbrev pub IsWalked : Files → List (ℕ × ℕ) → ℕ → ℕ → Step → Type 0
 IsWalked files volumes index at End = IsEnd files (drop index volumes) at
-IsWalked files volumes index at (Bad number place) = IsBad files (drop index volumes) at (Volume number) place
+IsWalked files volumes index at (Bad number offset) = IsBad files (drop index volumes) at (Volume number) offset
 IsWalked files volumes index at (Item x behind next) = StepsOver files (drop index volumes) at x (drop behind volumes) next
 
 -- where it stands is a volume
 abbrev pub IsIn : List (ℕ × ℕ) → Step → Type 0
 IsIn volumes End = Unit {0}
-IsIn volumes (Bad number place) = Unit {0}
+IsIn volumes (Bad number offset) = Unit {0}
 IsIn volumes (Item x behind next) = behind < length volumes
 
 -- in a segment: no record, or one whose item is after the moment; or an item
@@ -39,7 +39,7 @@ IsAhead files volumes index at t (AheadItem x behind next) = StepsOver files (dr
 
 abbrev pub IsAheadFault : Files → List (ℕ × ℕ) → ℕ → ReaderFault → Type 0
 IsAheadFault files vs at (Compressed file) = ⊥
-IsAheadFault files vs at (NotArchive file place) = IsBad files vs at file place
+IsAheadFault files vs at (NotArchive file offset) = IsBad files vs at file offset
 IsAheadFault files vs at DiskFault = Unit {0}
 IsAheadFault files vs at NoMemory = Unit {0}
 

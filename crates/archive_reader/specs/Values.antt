@@ -46,7 +46,7 @@ pub record IsValueAt (files : Files) (volumes : List (ℕ × ℕ)) (pmid : ℕ) 
 -- a record of theirs is no item's
 abbrev pub IsWholeFault : Files → List (ℕ × ℕ) → ReaderFault → Type 0
 IsWholeFault files volumes (Compressed file) = ⊥
-IsWholeFault files volumes (NotArchive file place) = (items : List Item) × StopsAt files volumes 132 items file place
+IsWholeFault files volumes (NotArchive file offset) = (items : List Item) × StopsAt files volumes 132 items file offset
 IsWholeFault files volumes DiskFault = Unit {0}
 IsWholeFault files volumes NoMemory = Unit {0}
 

@@ -44,12 +44,12 @@ IsEnd files vs at = EndsThere files (next_volumes vs at) (next_offset vs at)
 
 -- or bytes that are no item's record, from this byte of that file on
 abbrev pub IsBadThere : Files → List (ℕ × ℕ) → ℕ → FileId → ℕ → Type 0
-IsBadThere files [] at file place = ⊥
-IsBadThere files (v ∷ vs) at file place =
-    (file ≡ Volume v.0) × (place ≡ at) × NoItemStands (files (Volume v.0)) at × (EndsThere files (v ∷ vs) at → ⊥)
+IsBadThere files [] at file offset = ⊥
+IsBadThere files (v ∷ vs) at file offset =
+    (file ≡ Volume v.0) × (offset ≡ at) × NoItemStands (files (Volume v.0)) at × (EndsThere files (v ∷ vs) at → ⊥)
 
 abbrev pub IsBad : Files → List (ℕ × ℕ) → ℕ → FileId → ℕ → Type 0
-IsBad files vs at file place = IsBadThere files (next_volumes vs at) (next_offset vs at) file place
+IsBad files vs at file offset = IsBadThere files (next_volumes vs at) (next_offset vs at) file offset
 
 -- from one place up to another stand the records of these items
 abbrev pub Leads : Files → List (ℕ × ℕ) → ℕ → List Item → List (ℕ × ℕ) → ℕ → Type 0
@@ -64,8 +64,8 @@ pub record AllFrom (files : Files) (vs : List (ℕ × ℕ)) (at : ℕ) (items : 
   pub ends : IsEnd files last to
 
 -- or up to a first one that is no item's record
-pub record StopsAt (files : Files) (vs : List (ℕ × ℕ)) (at : ℕ) (items : List Item) (file : FileId) (place : ℕ) : Type 0 where
+pub record StopsAt (files : Files) (vs : List (ℕ × ℕ)) (at : ℕ) (items : List Item) (file : FileId) (offset : ℕ) : Type 0 where
   pub last : List (ℕ × ℕ)
   pub to : ℕ
   pub leads : Leads files vs at items last to
-  pub bad : IsBad files last to file place
+  pub bad : IsBad files last to file offset

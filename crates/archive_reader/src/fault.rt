@@ -14,7 +14,7 @@ pub enum ReaderFault {
     /// The file stands under its name with `.xz` or `.gz` added.
     #[error("a file is compressed")]
     Compressed { file: FileId },
-    /// The first place that fits no archive: of a label its first byte that doesn't fit, of a record the record's first byte,
+    /// The first offset that fits no archive: of a label its first byte that doesn't fit, of a record the record's first byte,
     /// of an entry that leads outside its volume's records the offset that it says.
     #[error("a file is no archive at byte {at}")]
     NotArchive { file: FileId, at: u64 },

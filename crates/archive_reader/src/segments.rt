@@ -77,9 +77,9 @@ pub fn next_ahead<D: Disk>(
 {
     match walk(alloc, disk, volumes, index, at)? {
         Step::End => Ok(Ahead::End),
-        Step::Bad(number, place) => Err(ReaderFault::NotArchive {
+        Step::Bad(number, offset) => Err(ReaderFault::NotArchive {
             file: FileId::Volume(number),
-            at: place,
+            at: offset,
         }),
         Step::Item(item, behind, next) => {
             if is_after(&item, t) {

@@ -87,10 +87,10 @@ fn last_valued<D: Disk>(
     for _ in 0..u64::MAX {
         match walk(alloc, disk, volumes, index, at)? {
             Step::End => return Ok(found),
-            Step::Bad(number, place) => {
+            Step::Bad(number, offset) => {
                 return Err(ReaderFault::NotArchive {
                     file: FileId::Volume(number),
-                    at: place,
+                    at: offset,
                 });
             }
             Step::Item(item, behind, next) => {

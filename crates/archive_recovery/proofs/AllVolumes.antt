@@ -142,10 +142,10 @@ module _ (files : Files) (l : LabelFields) where
     torn = λ t. followed;
   })
 
-  pub stop_refused : (n place : ℕ) (old new : Tally) → IsVolumeRead (files (Volume n)) l n old new (Stops place) → VolumeIsRefused files l n place
-  stop_refused n place old new (inl (some, inl label)) = inl (some, inl label)
-  stop_refused n place old new (inl (some, inr high)) = inl (some, inr (inr high))
-  stop_refused n place old new (inr b) = inr (record { items = b.items; whole = b.whole; goes_on = b.goes_on; none = b.none; torn = λ t. absurd (b.not_torn t) })
+  pub stop_refused : (n offset : ℕ) (old new : Tally) → IsVolumeRead (files (Volume n)) l n old new (Stops offset) → VolumeIsRefused files l n offset
+  stop_refused n offset old new (inl (some, inl label)) = inl (some, inl label)
+  stop_refused n offset old new (inl (some, inr high)) = inl (some, inr (inr high))
+  stop_refused n offset old new (inr b) = inr (record { items = b.items; whole = b.whole; goes_on = b.goes_on; none = b.none; torn = λ t. absurd (b.not_torn t) })
 
   -- ---- the last volume
 

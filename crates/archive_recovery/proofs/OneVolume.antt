@@ -106,7 +106,7 @@ module _ (files : Files) (l : LabelFields) (n : ℕ) where
     not_torn = b.not_torn;
   }
 
-  pub label_stops : (place : ℕ) (old new : Tally) → IsVolumePart files l n true (StopsAt place) → IsVolumeRead (files (Volume n)) l n old new (Stops place)
-  label_stops place old new (some, inl label) = inl (some, inl label)
-  label_stops place old new (some, inr (inl part)) = absurd (let both : true ≡ false = part.2 in cc)
-  label_stops place old new (some, inr (inr high)) = inl (some, inr high)
+  pub label_stops : (offset : ℕ) (old new : Tally) → IsVolumePart files l n true (StopsAt offset) → IsVolumeRead (files (Volume n)) l n old new (Stops offset)
+  label_stops offset old new (some, inl label) = inl (some, inl label)
+  label_stops offset old new (some, inr (inl part)) = absurd (let both : true ≡ false = part.2 in cc)
+  label_stops offset old new (some, inr (inr high)) = inl (some, inr high)

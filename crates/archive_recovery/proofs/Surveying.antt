@@ -92,8 +92,8 @@ module _ (files : Files) (l : LabelFields) (records : List MetaRecord) (tail : T
   pub head_is : HeadIs files l records es
   head_is = record { meta = meta_reads (files Meta) l records tail.end tally.last head.meta.has_label head.meta.all; index = head.index }
 
-  pub volume_refused : (n place : ℕ) → AreWholeBelow files l n × VolumeIsRefused files l n place → IsRefused files (Volume n) place
-  volume_refused n place (below, refused) = (l, records, es, head_is, below, refused)
+  pub volume_refused : (n offset : ℕ) → AreWholeBelow files l n × VolumeIsRefused files l n offset → IsRefused files (Volume n) offset
+  volume_refused n offset (below, refused) = (l, records, es, head_is, below, refused)
 
   module _ (after : Tally) (last : Option Last) (top : Top) (v : VolumesStand files l tally after last top) where
     -- the flag tells whether some volume has its label

@@ -24,17 +24,17 @@ IsWhole files l n = (files (Volume n) ≡ []) ⊎ ((items : List Item) × Labell
 abbrev pub AreWholeBelow : Files → LabelFields → ℕ → Type 0
 AreWholeBelow files l n = (k : ℕ) → k < n → IsWhole files l k
 
--- Up to a place a volume is its label and whole records, and there no record stands. One that wasn't written whole stands
+-- Up to an offset a volume is its label and whole records, and there no record stands. One that wasn't written whole stands
 -- in the way of a volume above.
-pub record StopsInRecords (files : Files) (l : LabelFields) (n place : ℕ) : Type 0 where
+pub record StopsInRecords (files : Files) (l : LabelFields) (n offset : ℕ) : Type 0 where
   pub items : List Item
-  pub whole : LabelledFile IsItem (take place (files (Volume n))) l (pos n) items []
-  pub goes_on : place < length (files (Volume n))
-  pub none : NoItemStands (files (Volume n)) place
-  pub torn : IsTorn (drop place (files (Volume n))) → IsFollowed files n
+  pub whole : LabelledFile IsItem (take offset (files (Volume n))) l (pos n) items []
+  pub goes_on : offset < length (files (Volume n))
+  pub none : NoItemStands (files (Volume n)) offset
+  pub torn : IsTorn (drop offset (files (Volume n))) → IsFollowed files n
 
 abbrev pub VolumeIsRefused : Files → LabelFields → ℕ → ℕ → Type 0
-VolumeIsRefused files l n place = VolumeStops files l n place ⊎ StopsInRecords files l n place
+VolumeIsRefused files l n offset = VolumeStops files l n offset ⊎ StopsInRecords files l n offset
 
 -- the volumes are as they should be, and none has its whole label, while the index has an entry
 pub record IsBesideNone (files : Files) (l : LabelFields) (records : List MetaRecord) (entries : List Entry) : Type 0 where
@@ -45,25 +45,25 @@ pub record IsBesideNone (files : Files) (l : LabelFields) (records : List MetaRe
   pub others : (n : ℕ) → (Contains (map (λ (v : ℕ × List Item). v.0) volumes) n → ⊥) → files (Volume n) ≡ []
   pub short : (n : ℕ) → length (files (Volume n)) < 132
 
--- the first place that doesn't fit
+-- the first offset that doesn't fit
 abbrev pub IsRefused : Files → FileId → ℕ → Type 0
-IsRefused files Meta place = MetaStops files place
-IsRefused files Index place =
-    ((l : LabelFields) × (records : List MetaRecord) × MetaIs files l records × IndexStops (files Index) l place)
-    ⊎ ((place ≡ 132) × (l : LabelFields) × (records : List MetaRecord) × (entries : List Entry) × IsBesideNone files l records entries)
-IsRefused files (Volume n) place =
-    (l : LabelFields) × (records : List MetaRecord) × (entries : List Entry) × HeadIs files l records entries × AreWholeBelow files l n × VolumeIsRefused files l n place
+IsRefused files Meta offset = MetaStops files offset
+IsRefused files Index offset =
+    ((l : LabelFields) × (records : List MetaRecord) × MetaIs files l records × IndexStops (files Index) l offset)
+    ⊎ ((offset ≡ 132) × (l : LabelFields) × (records : List MetaRecord) × (entries : List Entry) × IsBesideNone files l records entries)
+IsRefused files (Volume n) offset =
+    (l : LabelFields) × (records : List MetaRecord) × (entries : List Entry) × HeadIs files l records entries × AreWholeBelow files l n × VolumeIsRefused files l n offset
 
 -- why files that stand under their own names aren't recovered
 abbrev pub IsFilesRefusal : Files → RecoverFault → Type 0
 IsFilesRefusal files (Compressed file) = ⊥
-IsFilesRefusal files (NotArchive file place) = IsRefused files file place
+IsFilesRefusal files (NotArchive file offset) = IsRefused files file offset
 IsFilesRefusal files DiskFault = Unit {0}
 IsFilesRefusal files NoMemory = Unit {0}
 
 -- why `recover` is refused
 abbrev pub IsRecoverFault : Option FileId → Files → RecoverFault → Type 0
 IsRecoverFault wrapped files (Compressed file) = wrapped ≡ Some file
-IsRecoverFault wrapped files (NotArchive file place) = (wrapped ≡ None) × IsRefused files file place
+IsRecoverFault wrapped files (NotArchive file offset) = (wrapped ≡ None) × IsRefused files file offset
 IsRecoverFault wrapped files DiskFault = Unit {0}
 IsRecoverFault wrapped files NoMemory = Unit {0}

@@ -66,20 +66,20 @@ pub record VolumeStands (bytes : List ℕ) (l : LabelFields) (n end size : ℕ) 
   pub counted : Counted old items new
 
 -- of its label and whole records, and then something else
-pub record VolumeBreaks (bytes : List ℕ) (l : LabelFields) (n place : ℕ) : Type 0 where
+pub record VolumeBreaks (bytes : List ℕ) (l : LabelFields) (n offset : ℕ) : Type 0 where
   pub items : List Item
-  pub whole : LabelledFile IsItem (take place bytes) l (pos n) items []
-  pub goes_on : place < length bytes
-  pub none : NoItemStands bytes place
-  pub not_torn : IsTorn (drop place bytes) → ⊥
+  pub whole : LabelledFile IsItem (take offset bytes) l (pos n) items []
+  pub goes_on : offset < length bytes
+  pub none : NoItemStands bytes offset
+  pub not_torn : IsTorn (drop offset bytes) → ⊥
 
 -- one volume, whether another follows it or not
 abbrev pub IsVolumeRead : List ℕ → LabelFields → ℕ → Tally → Tally → VolumeRead → Type 0
 IsVolumeRead bytes l n old new Empty = (bytes ≡ []) × (new ≡ old)
 IsVolumeRead bytes l n old new (Begun size) = (size ≡ length bytes) × (0 < size) × BeginsLabel bytes l (pos n) × (new ≡ old)
 IsVolumeRead bytes l n old new (Whole end size) = VolumeStands bytes l n end size old new
-IsVolumeRead bytes l n old new (Stops place) =
-    ((0 < length bytes) × (LabelStops (take 132 bytes) l (pos n) place ⊎ ((2147483648 ≤ n) × (place ≡ 0)))) ⊎ VolumeBreaks bytes l n place
+IsVolumeRead bytes l n old new (Stops offset) =
+    ((0 < length bytes) × (LabelStops (take 132 bytes) l (pos n) offset ⊎ ((2147483648 ≤ n) × (offset ≡ 0)))) ⊎ VolumeBreaks bytes l n offset
 
 -- each number is above those before it
 abbrev pub Ascend : List (ℕ × List Item) → Type 0
@@ -112,7 +112,7 @@ pub record EarlierStand (files : Files) (l : LabelFields) (n : ℕ) (old new : T
 
 abbrev pub IsEarlier : Files → LabelFields → ℕ → Tally → Tally → Earlier → Type 0
 IsEarlier files l n old new (WholeEarlier top) = EarlierStand files l n old new top
-IsEarlier files l n old new (EarlierStop k place) = AreWholeBelow files l k × VolumeIsRefused files l k place
+IsEarlier files l n old new (EarlierStop k offset) = AreWholeBelow files l k × VolumeIsRefused files l k offset
 
 -- the last volume that isn't empty, and where its whole records end
 pub record LastEnds (files : Files) (l : LabelFields) (volumes : List (ℕ × List Item)) (last : Last) : Type 0 where
@@ -135,13 +135,13 @@ pub record VolumesStand (files : Files) (l : LabelFields) (old new : Tally) (las
   pub ends : IsLastOf files l volumes last
   pub top_is : IsTopOf files l (labelled_volumes files volumes) top
 
--- all volumes, or the first place that doesn't fit
+-- all volumes, or the first offset that doesn't fit
 abbrev pub IsVolumesRead : Files → LabelFields → Tally → Tally → VolumesRead → Type 0
 IsVolumesRead files l old new (AllVolumes last top) = VolumesStand files l old new last top
-IsVolumesRead files l old new (OneStops n place) = AreWholeBelow files l n × VolumeIsRefused files l n place
+IsVolumesRead files l old new (OneStops n offset) = AreWholeBelow files l n × VolumeIsRefused files l n offset
 
 -- a number that a volume may have
 abbrev pub LastIsLow : VolumesRead → Type 0
 LastIsLow (AllVolumes None top) = Unit {0}
 LastIsLow (AllVolumes (Some last) top) = last.number < 4294967295
-LastIsLow (OneStops n place) = Unit {0}
+LastIsLow (OneStops n offset) = Unit {0}

@@ -38,7 +38,7 @@ pub enum RecoverFault {
     /// The file stands under its name with `.xz` or `.gz` added.
     #[error("a file is compressed")]
     Compressed { file: FileId },
-    /// The first place that fits no archive: of a label its first byte that doesn't fit, of a record or of an entry its first
+    /// The first offset that fits no archive: of a label its first byte that doesn't fit, of a record or of an entry its first
     /// byte; Meta's or a volume's length where it ends within its label but mustn't.
     #[error("a file is no archive at byte {at}")]
     NotArchive { file: FileId, at: u64 },

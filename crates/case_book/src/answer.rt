@@ -33,7 +33,7 @@ fn first_difference(a: &[u8], b: &[u8]) -> usize {
     at
 }
 
-// Adds the bytes from a place on, at most 100 of them.
+// Adds the bytes from an offset on, at most 100 of them.
 fn tell(report: &mut String, title: &str, bytes: &[u8], from: usize) -> Result<(), NoMemory> {
     let length = bytes.len();
     let rest = bytes.get(from..).unwrap_or(&[]);

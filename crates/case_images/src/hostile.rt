@@ -95,8 +95,8 @@ fn next(seed: u64) -> u64 {
 // Puts a word at an index.
 fn put_word(bytes: &mut [u8], index: usize, word: u64) {
     let at = index.saturating_mul(8);
-    if let Some(place) = bytes.get_mut(at..at.saturating_add(8)) {
-        LittleEndian::write_u64(place, word);
+    if let Some(old) = bytes.get_mut(at..at.saturating_add(8)) {
+        LittleEndian::write_u64(old, word);
     }
 }
 

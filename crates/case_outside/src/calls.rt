@@ -110,8 +110,8 @@ fn call_at(
     answer: &mut Answer,
     rest: &str,
 ) -> Result<bool, NoMemory> {
-    let place = Line::of(rest);
-    match (place.word.parse::<usize>(), file_of(place.rest)) {
+    let line = Line::of(rest);
+    match (line.word.parse::<usize>(), file_of(line.rest)) {
         (Ok(moment), Some(file)) => put_moment(alloc, disk, answer, moment, file),
         _ => Ok(false),
     }
@@ -157,12 +157,12 @@ fn call_read(
     answer: &mut Answer,
     rest: &str,
 ) -> Result<bool, NoMemory> {
-    let (name, place) = split_file(rest);
-    let place = Line::of(place);
+    let (name, range) = split_file(rest);
+    let range = Line::of(range);
     let Some(file) = file_of(name) else {
         return Ok(false);
     };
-    let (Ok(at), Ok(count)) = (place.word.parse::<u64>(), place.rest.parse::<usize>()) else {
+    let (Ok(at), Ok(count)) = (range.word.parse::<u64>(), range.rest.parse::<usize>()) else {
         return Ok(false);
     };
     put_bytes(alloc, disk, answer, file, at, count)

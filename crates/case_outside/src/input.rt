@@ -7,10 +7,10 @@ use std::alloc::Global;
 fn overwrite(input: &mut [u8], offset: usize, bytes: &[u8]) -> bool {
     let mut at = offset;
     for byte in bytes {
-        let Some(place) = input.get_mut(at) else {
+        let Some(old) = input.get_mut(at) else {
             return false;
         };
-        *place = *byte;
+        *old = *byte;
         at = at.saturating_add(1);
     }
     !bytes.is_empty()
@@ -18,11 +18,11 @@ fn overwrite(input: &mut [u8], offset: usize, bytes: &[u8]) -> bool {
 
 // `set OFFSET HEX`
 fn set(alloc: Global, input: &mut [u8], rest: &str) -> Result<bool, NoMemory> {
-    let place = Line::of(rest);
-    let Ok(offset) = place.word.parse::<usize>() else {
+    let line = Line::of(rest);
+    let Ok(offset) = line.word.parse::<usize>() else {
         return Ok(false);
     };
-    match case_book::read_hex(alloc, place.rest)? {
+    match case_book::read_hex(alloc, line.rest)? {
         Some(bytes) => Ok(overwrite(input, offset, &bytes)),
         None => Ok(false),
     }

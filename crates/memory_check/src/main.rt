@@ -11,7 +11,7 @@ use std::alloc::Global;
 use std::rt::Files;
 use std::{fs, result};
 
-/// How many pairs, or instances, lead to one place.
+/// How many pairs, or instances, lead to one offset.
 const PAIRS: u32 = 1_000_000;
 
 fn put_words(out: &mut Vec<u8>, words: &[u32]) -> result::Result<(), NoMemory> {

@@ -86,14 +86,14 @@ module _ (turned : Found → FilesRefusal → Type 0) (said : Found → List ℕ
   never_turned : (f : Found) (text : List ℕ) → said f text → (e : FilesRefusal) → IsNever e → turned f e → ⊥
   never_turned f text s (Run reason) never t = fits.never_unlogged f reason t
   never_turned f text s (Compressed file) never t = not_both f.wrapped file (fits.unwrapped f text s) (fits.wrapped f file t)
-  never_turned f text s (NotArchive file place) never t = never
+  never_turned f text s (NotArchive file offset) never t = never
   never_turned f text s (Nothing stamp) never t = never
 
   -- where a file stands wrapped, the archive is turned away
   look_wrapped : (f : Found) (file : FileId) (e : FilesRefusal) → turned f (Compressed file) → turned f e → files_status e ≡ 6
   look_wrapped f file (Run reason) w t = absurd (fits.never_unlogged f reason t)
   look_wrapped f file (Compressed other) w t = refl
-  look_wrapped f file (NotArchive other place) w t = refl
+  look_wrapped f file (NotArchive other offset) w t = refl
   look_wrapped f file (Nothing stamp) w t = absurd (not_both f.wrapped file (fits.nothing f stamp t) (fits.wrapped f file w))
 
   -- what such a command is served

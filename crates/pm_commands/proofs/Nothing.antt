@@ -31,7 +31,7 @@ none_or_some A x o none some = let e : None ≡ Some x = sym none ∙ some in cc
 not_refused : (f : Found) (r : Loaded) → IsLoaded f r → (e : FilesRefusal) → IsNotLoaded f e → ⊥
 not_refused f r loaded (Run reason) n = n
 not_refused f r loaded (Compressed file) n = wrapped_not f.wrapped file loaded.unwrapped n
-not_refused f r loaded (NotArchive file place) n = (load_answers_once f.files).apart r file place loaded.over n.1
+not_refused f r loaded (NotArchive file offset) n = (load_answers_once f.files).apart r file offset loaded.over n.1
 not_refused f r loaded (Nothing stamp) n = n
 
 one_load : (f : Found) (r s : Loaded) → IsLoaded f r → IsLoaded f s → s ≡ r
@@ -45,7 +45,7 @@ no_item f t r = IsAtFrom f.files r.volumes t (at_begin r t) None
 at_else : (t : Moment) (f : Found) (r : Loaded) → no_item f t r → (e : FilesRefusal) → at.IsStopped t r f e → files_status e ≡ 11
 at_else t f r none (Run reason) why = absurd why
 at_else t f r none (Compressed file) why = absurd why
-at_else t f r none (NotArchive file place) why = absurd ((at_answers_once f.files r t).apart None file place none why)
+at_else t f r none (NotArchive file offset) why = absurd ((at_answers_once f.files r t).apart None file offset none why)
 at_else t f r none (Nothing stamp) why = refl
 
 at_nothing : (t : Moment) (f : Found) (stamp : Moment) (e : FilesRefusal) → at.turned t f (Nothing stamp) → at.turned t f e → files_status e ≡ 11
@@ -64,8 +64,8 @@ at_said t f stamp text (inr b) said =
 value_else : (asked : ValueWords) (f : Found) (r : Loaded) (o : Option ℕ) → value.named r.records asked.name ≡ o → value.HasNothing f r asked.stamp o → (e : FilesRefusal) → value.IsStopped asked r f e → files_status e ≡ 11
 value_else asked f r o is none (Run reason) why = absurd why
 value_else asked f r o is none (Compressed file) why = absurd why
-value_else asked f r None is none (NotArchive file place) why = absurd (none_or_some ℕ why.0 (value.named r.records asked.name) is why.1)
-value_else asked f r (Some pmid) is none (NotArchive file place) why = absurd ((value_answers_once f.files r pmid asked.stamp).apart None file place none.0 why.2)
+value_else asked f r None is none (NotArchive file offset) why = absurd (none_or_some ℕ why.0 (value.named r.records asked.name) is why.1)
+value_else asked f r (Some pmid) is none (NotArchive file offset) why = absurd ((value_answers_once f.files r pmid asked.stamp).apart None file offset none.0 why.2)
 value_else asked f r o is none (Nothing stamp) why = refl
 
 value_nothing : (asked : ValueWords) (f : Found) (stamp : Moment) (e : FilesRefusal) → value.turned asked f (Nothing stamp) → value.turned asked f e → files_status e ≡ 11

@@ -24,26 +24,26 @@ not_both w file none some = let e : None ≡ Some file = sym none ∙ some in cc
 is_loaded : (f : Found) → Readable f.files → f.wrapped ≡ None → (e : FilesRefusal) → IsNotLoaded f e → ⊥
 is_loaded f readable unwrapped (Run reason) why = why
 is_loaded f readable unwrapped (Compressed file) why = not_both f.wrapped file unwrapped why
-is_loaded f readable unwrapped (NotArchive file place) why = loads_readable f.files file place readable why.1
+is_loaded f readable unwrapped (NotArchive file offset) why = loads_readable f.files file offset readable why.1
 is_loaded f readable unwrapped (Nothing stamp) why = why
 
 good_records : (f : Found) (reading : ArchiveReading) → Reads f.files reading → (r : Loaded) → IsLoaded f r → (e : FilesRefusal) → dump.BadRecord r f e → ⊥
 good_records f reading reads r loaded (Run reason) why = why
 good_records f reading reads r loaded (Compressed file) why = why
-good_records f reading reads r loaded (NotArchive file place) why =
+good_records f reading reads r loaded (NotArchive file offset) why =
     let bad = why.1 in
-    (readable_stands f.files reading r reads loaded.over).good why.0 bad.last bad.to file place bad.leads bad.bad
+    (readable_stands f.files reading r reads loaded.over).good why.0 bad.last bad.to file offset bad.leads bad.bad
 good_records f reading reads r loaded (Nothing stamp) why = why
 
-no_fault : (f : Found) (reading : ArchiveReading) → Reads f.files reading → (r : Loaded) → IsLoaded f r → (file : FileId) (place : ℕ) → IsWholeFault f.files r.volumes (faults.NotArchive file place) → ⊥
-no_fault f reading reads r loaded file place why =
+no_fault : (f : Found) (reading : ArchiveReading) → Reads f.files reading → (r : Loaded) → IsLoaded f r → (file : FileId) (offset : ℕ) → IsWholeFault f.files r.volumes (faults.NotArchive file offset) → ⊥
+no_fault f reading reads r loaded file offset why =
     let bad = why.1 in
-    (readable_stands f.files reading r reads loaded.over).good why.0 bad.last bad.to file place bad.leads bad.bad
+    (readable_stands f.files reading r reads loaded.over).good why.0 bad.last bad.to file offset bad.leads bad.bad
 
 good_values : (f : Found) (reading : ArchiveReading) → Reads f.files reading → (r : Loaded) → IsLoaded f r → (asked : ValueWords) (e : FilesRefusal) → value.IsStopped asked r f e → files_status e ≡ 11
 good_values f reading reads r loaded asked (Run reason) why = absurd why
 good_values f reading reads r loaded asked (Compressed file) why = absurd why
-good_values f reading reads r loaded asked (NotArchive file place) why = absurd (no_fault f reading reads r loaded file place why.2)
+good_values f reading reads r loaded asked (NotArchive file offset) why = absurd (no_fault f reading reads r loaded file offset why.2)
 good_values f reading reads r loaded asked (Nothing stamp) why = refl
 
 pub welcomes : (f : Found) → Readable f.files → f.wrapped ≡ None → IsWelcome f

@@ -80,7 +80,7 @@ pub record RunIsExact (words : List (List ℕ)) (s : SourceSide) (d : DiskSide) 
   pub always : (a : Meets words s) → refused_of a ≡ None → d.tells → (reason : RunRefusal) → (meaning a.command).turns_away a.input (files_found d) (Run reason)
       → (status ≡ run_status reason) ⊎ ((status ≡ 9) ⊎ ((status ≡ 3) ⊎ (status ≡ 5)))
 
--- 6 only where the archive is turned away: a file stands wrapped, or a place fits no archive; always in the first case, unless the
+-- 6 only where the archive is turned away: a file stands wrapped, or an offset fits no archive; always in the first case, unless the
 -- disk fails before
 pub record ArchiveFaultIsExact (words : List (List ℕ)) (s : SourceSide) (d : DiskSide) (status : ℕ) : Type 0 where
   pub only : status ≡ 6 → (e : FilesRefusal) × (files_status e ≡ 6) × TurnsAway words s d e

@@ -35,9 +35,9 @@ name_in [] n = None
 name_in (p ∷ pairs) n = if int_eq p.0 n then Some p.1 else name_in pairs n
 
 -- where the first of them stands, a front not counted
-abbrev pub place_in : ℕ → Pairs → ℤ → Option ℕ
-place_in at [] n = None
-place_in at (p ∷ pairs) n = if int_eq p.0 n then Some at else place_in (suc at) pairs n
+abbrev pub position_in : ℕ → Pairs → ℤ → Option ℕ
+position_in at [] n = None
+position_in at (p ∷ pairs) n = if int_eq p.0 n then Some at else position_in (suc at) pairs n
 
 -- an instance by its name, or else `#` and its number
 abbrev pub instance_text : Option (List ℕ) → ℤ → List ℕ

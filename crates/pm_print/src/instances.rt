@@ -3,7 +3,7 @@ ghost use Rattle.std.specs.Prelude.{◌≡◌, ℤ, [], ◌++◌, None, IfOk, On
 ghost use Rattle.std.specs.Ordering.{int_eq};
 ghost use Rattle.std.specs.Option.{option_copied};
 ghost use Rattle.indexmap.specs.IndexMap.{get};
-ghost use Rattle.pm_print.specs.Sets.{name_in, place_in, instance_text, instance_part};
+ghost use Rattle.pm_print.specs.Sets.{name_in, position_in, instance_text, instance_part};
 
 use crate::values::put_signed;
 use indexmap::IndexMap;
@@ -16,7 +16,7 @@ use text_lines::put_escapes;
 #[derive(Drop)]
 pub struct Instances<'a> {
     pairs: &'a [(i32, Text)],
-    places: IndexMap<i32, usize>,
+    positions: IndexMap<i32, usize>,
 }
 
 impl<'a> Model for Instances<'a> {
@@ -24,26 +24,26 @@ impl<'a> Model for Instances<'a> {
     ghost use Rattle.std.specs.Ordering.{int_eq};
     ghost use Rattle.indexmap.specs.IndexMap.{get};
     ghost use Rattle.pm_print.specs.Holding.{Pairs};
-    ghost use Rattle.pm_print.specs.Sets.{place_in};
+    ghost use Rattle.pm_print.specs.Sets.{position_in};
 
     ghost Value = { Pairs };
 
     ghost view = { λ a. a.pairs.now };
 
-    ghost invariant = { λ a. (n : ℤ) → get int_eq a.places n ≡ place_in 0 a.pairs.now n };
+    ghost invariant = { λ a. (n : ℤ) → get int_eq a.positions n ≡ position_in 0 a.pairs.now n };
 }
 
 // Where the first instance with each number stands.
-fn places_of(alloc: Global, pairs: &[(i32, Text)]) -> Result<IndexMap<i32, usize>, NoMemory>
-    ensures { IfOk result (λ places. (n : ℤ) → get int_eq places n ≡ place_in 0 pairs.now n) }
+fn positions_of(alloc: Global, pairs: &[(i32, Text)]) -> Result<IndexMap<i32, usize>, NoMemory>
+    ensures { IfOk result (λ positions. (n : ℤ) → get int_eq positions n ≡ position_in 0 pairs.now n) }
 {
-    let mut places = IndexMap::new(alloc);
+    let mut positions = IndexMap::new(alloc);
     let mut at = pairs.len();
     while at > 0 {
         at -= 1;
-        places.insert(pairs[at].0, at)?;
+        positions.insert(pairs[at].0, at)?;
     }
-    Ok(places)
+    Ok(positions)
 }
 
 impl<'a> Instances<'a> {
@@ -53,7 +53,7 @@ impl<'a> Instances<'a> {
     {
         Instances {
             pairs: &[],
-            places: IndexMap::new(alloc),
+            positions: IndexMap::new(alloc),
         }
     }
 
@@ -61,15 +61,15 @@ impl<'a> Instances<'a> {
     pub fn of(alloc: Global, pairs: &'a [(i32, Text)]) -> Result<Instances<'a>, NoMemory>
         ensures { IfOk result (λ instances. instances ≡ pairs.now) }
     {
-        let places = places_of(alloc, pairs)?;
-        Ok(Instances { pairs, places })
+        let positions = positions_of(alloc, pairs)?;
+        Ok(Instances { pairs, positions })
     }
 
     /// The name of the first instance with a number.
     fn name(&self, number: i32) -> Option<&Text>
         ensures { option_copied result ≡ name_in self.now number }
     {
-        match self.places.get(&number) {
+        match self.positions.get(&number) {
             Some(at) => match pair_at(self.pairs, *at) {
                 Some(pair) => Some(&pair.1),
                 None => None,

@@ -48,7 +48,7 @@ pub record LimitIsExact {C D : Type 0} (words : List (List ℕ)) (s : SourceSide
 
 -- The run
 
--- 6 only where the files are turned away: a file stands wrapped, or a place fits no archive; always in the first case, unless the
+-- 6 only where the files are turned away: a file stands wrapped, or an offset fits no archive; always in the first case, unless the
 -- disk fails before
 pub record ArchiveFaultIsExact {C D : Type 0} (words : List (List ℕ)) (s : SourceSide) (o : RunSide C D) (opened : Option Opened) (status : ℕ) : Type 0 where
   pub only : status ≡ 6 → ((file : FileId) × Ran words s o opened (ends.Compressed file) × (o.disk.tells → o.disk.wrapped_file o.disk_was ≡ Some file))

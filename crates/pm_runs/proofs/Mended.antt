@@ -41,7 +41,7 @@ never_turned f (Nothing stamp) none never t = never
 pub recover_wrapped : (f : Found) (file : FileId) (e : FilesRefusal) → turned f (Compressed file) → turned f e → files_status e ≡ 6
 recover_wrapped f file (Run reason) w t = absurd t
 recover_wrapped f file (Compressed other) w t = refl
-recover_wrapped f file (NotArchive other place) w t = refl
+recover_wrapped f file (NotArchive other offset) w t = refl
 recover_wrapped f file (Nothing stamp) w t = absurd t
 
 module _ {D : Type 0} (g : DiskGhosts D) (a b : D) (input : List ℕ) where

@@ -42,39 +42,39 @@ meets (p ∷ ps) (q ∷ qs) (x ∷ xs) (y ∷ ys) more rest a b torn is none =
 
 -- ---- a volume that stops in its records
 
-module _ (files : Files) (l : LabelFields) (n place : ℕ) (s : StopsInRecords files l n place) where
+module _ (files : Files) (l : LabelFields) (n offset : ℕ) (s : StopsInRecords files l n offset) where
   abbrev bytes : List ℕ
   bytes = files (Volume n)
 
-  stands_there : (p : List ℕ) (x : Item) (behind : List ℕ) → IsFrameable p → IsItem p x → drop place bytes ≡ frame p ++ behind → ⊥
-  stands_there p x behind fits reads is = s.none (place + length p + 8) x (record {
+  stands_there : (p : List ℕ) (x : Item) (behind : List ℕ) → IsFrameable p → IsItem p x → drop offset bytes ≡ frame p ++ behind → ⊥
+  stands_there p x behind fits reads is = s.none (offset + length p + 8) x (record {
     payload = p;
     stands = record {
       fits = fits;
-      front = take place bytes;
+      front = take offset bytes;
       rest = behind;
-      is = sym (take-append-drop place bytes) ∙ ap (λ t. take place bytes ++ t) is;
-      begins = omega (arith, length-take place bytes, s.goes_on);
+      is = sym (take-append-drop offset bytes) ∙ ap (λ t. take offset bytes ++ t) is;
+      begins = omega (arith, length-take offset bytes, s.goes_on);
       ends = refl;
     };
     reads = reads;
   })
 
-  split : bytes ≡ s.whole.head ++ (frames s.whole.payloads ++ drop place bytes)
-  split = sym (take-append-drop place bytes) ∙ ap (λ t. t ++ drop place bytes) s.whole.is ∙ append_assoc s.whole.head (frames s.whole.payloads ++ []) (drop place bytes)
-      ∙ ap (λ t. s.whole.head ++ (t ++ drop place bytes)) (append-nil (frames s.whole.payloads))
+  split : bytes ≡ s.whole.head ++ (frames s.whole.payloads ++ drop offset bytes)
+  split = sym (take-append-drop offset bytes) ∙ ap (λ t. t ++ drop offset bytes) s.whole.is ∙ append_assoc s.whole.head (frames s.whole.payloads ++ []) (drop offset bytes)
+      ∙ ap (λ t. s.whole.head ++ (t ++ drop offset bytes)) (append-nil (frames s.whole.payloads))
 
-  ends_there : (m : LabelFields) (values : List Item) (rest : List ℕ) → IsTorn rest → LabelledFile IsItem bytes m (pos n) values rest → drop place bytes ≡ rest
+  ends_there : (m : LabelFields) (values : List Item) (rest : List ℕ) → IsTorn rest → LabelledFile IsItem bytes m (pos n) values rest → drop offset bytes ≡ rest
   ends_there m values rest torn h =
-      let behind : (s.whole.head ≡ h.head) × (frames s.whole.payloads ++ drop place bytes ≡ frames h.payloads ++ rest) =
-      both s.whole.head h.head (frames s.whole.payloads ++ drop place bytes) (frames h.payloads ++ rest) (length_of_label s.whole.head l (pos n) s.whole.label ∙ sym (length_of_label h.head m (pos n) h.label)) (sym split ∙ h.is) in
-      meets s.whole.payloads h.payloads s.items values (drop place bytes) rest s.whole.read h.read torn behind.1 stands_there
+      let behind : (s.whole.head ≡ h.head) × (frames s.whole.payloads ++ drop offset bytes ≡ frames h.payloads ++ rest) =
+      both s.whole.head h.head (frames s.whole.payloads ++ drop offset bytes) (frames h.payloads ++ rest) (length_of_label s.whole.head l (pos n) s.whole.label ∙ sym (length_of_label h.head m (pos n) h.label)) (sym split ∙ h.is) in
+      meets s.whole.payloads h.payloads s.items values (drop offset bytes) rest s.whole.read h.read torn behind.1 stands_there
 
   not_whole : (m : LabelFields) (values : List Item) → LabelledFile IsItem bytes m (pos n) values [] → ⊥
-  not_whole m values h = omega (arith, s.goes_on, length-drop place bytes, ap length (ends_there m values [] nothing_torn h))
+  not_whole m values h = omega (arith, s.goes_on, length-drop offset bytes, ap length (ends_there m values [] nothing_torn h))
 
   not_last : (m : LabelFields) (values : List Item) → IsLastVolume bytes m n values → ((k : ℕ) → n < k → files (Volume k) ≡ []) → ⊥
-  not_last m values (inl (some, none, begins)) alone = omega (arith, begins.short, labelled_long IsItem (take place bytes) l (pos n) s.items [] s.whole, length-take place bytes)
+  not_last m values (inl (some, none, begins)) alone = omega (arith, begins.short, labelled_long IsItem (take offset bytes) l (pos n) s.items [] s.whole, length-take offset bytes)
   not_last m values (inr (torn, is_torn, h)) alone =
       let followed = s.torn (subst IsTorn (sym (ends_there m values torn is_torn h)) is_torn) in followed.2 (alone followed.0 followed.1)
 
@@ -112,7 +112,7 @@ module _ (files : Files) (l : LabelFields) (n place : ℕ) (s : StopsInRecords f
       empty : files (Volume n) ≡ [] → ⊥
       empty none = omega (arith, s.goes_on, ap length none)
 
--- ---- any place
+-- ---- any offset
 
 labelled_below : (files : Files) (l : LabelFields) (n : ℕ) → AreWholeBelow files l n → AreLabelledBelow files l n
 labelled_below files l n whole k lt = ⊎_elim (λ (none : files (Volume k) ≡ []). inl none) (λ h. inr (begins h.0 h.1)) (whole k lt)
@@ -120,15 +120,15 @@ labelled_below files l n whole k lt = ⊎_elim (λ (none : files (Volume k) ≡ 
     begins : (items : List Item) → LabelledFile IsItem (files (Volume k)) l (pos k) items [] → IsLabelled (files (Volume k)) l k
     begins items h = subst (λ t. IsLabel t l (pos k)) (sym (ap (take 132) h.is ∙ take_at h.head (frames h.payloads ++ []) 132 (length_of_label h.head l (pos k) h.label))) h.label
 
-pub refused_is_none : (files : Files) (file : FileId) (place : ℕ) → Readable files → IsRefused files file place → ⊥
-refused_is_none files Meta place readable stops = loads_readable files Meta place readable stops
-refused_is_none files Index place readable (inl stops) = loads_readable files Index place readable (inl stops)
-refused_is_none files Index place readable (inr (same, l, records, entries, b)) = loads_readable files Index place readable (inr (same, l, records, entries, b.head, b.some, b.short))
-refused_is_none files (Volume n) place readable (l, records, entries, head, whole, inl stops) = loads_readable files (Volume n) place readable (l, records, entries, head, labelled_below files l n whole, stops)
-refused_is_none files (Volume n) place readable (l, records, entries, head, whole, inr s) = stops_in_none files l n place s readable
+pub refused_is_none : (files : Files) (file : FileId) (offset : ℕ) → Readable files → IsRefused files file offset → ⊥
+refused_is_none files Meta offset readable stops = loads_readable files Meta offset readable stops
+refused_is_none files Index offset readable (inl stops) = loads_readable files Index offset readable (inl stops)
+refused_is_none files Index offset readable (inr (same, l, records, entries, b)) = loads_readable files Index offset readable (inr (same, l, records, entries, b.head, b.some, b.short))
+refused_is_none files (Volume n) offset readable (l, records, entries, head, whole, inl stops) = loads_readable files (Volume n) offset readable (l, records, entries, head, labelled_below files l n whole, stops)
+refused_is_none files (Volume n) offset readable (l, records, entries, head, whole, inr s) = stops_in_none files l n offset s readable
 
 pub takes_readable : (f : Found) → f.wrapped ≡ None → Readable f.files → (e : FilesRefusal) → turned f e → ⊥
 takes_readable f unwrapped readable (Run reason) t = t
 takes_readable f unwrapped readable (Compressed file) t = let other : None ≡ Some file = sym unwrapped ∙ t in cc
-takes_readable f unwrapped readable (NotArchive file place) t = refused_is_none f.files file place readable t.1
+takes_readable f unwrapped readable (NotArchive file offset) t = refused_is_none f.files file offset readable t.1
 takes_readable f unwrapped readable (Nothing stamp) t = t

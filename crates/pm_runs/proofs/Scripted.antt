@@ -88,14 +88,14 @@ module _ (limit : ℕ) (f : Found) (script : Script) where
   one_refused reason (Run other) (none, o, i, g, x) (also, p, j, h, y) =
       sym (status_is other) ∙ ap status_at (one_ending script limit f.files (ending_of other) (ending_of reason) p o j i y.regions x.regions h g y.runs x.runs) ∙ status_is reason
   one_refused reason (Compressed file) x y = absurd (not_both f.wrapped file x.0 y)
-  one_refused reason (NotArchive file place) (none, o, i, g, x) y = absurd (refused_is_none f.files file place (can_be_read script limit f.files (ending_of reason) o i g x) y.1)
+  one_refused reason (NotArchive file offset) (none, o, i, g, x) y = absurd (refused_is_none f.files file offset (can_be_read script limit f.files (ending_of reason) o i g x) y.1)
   one_refused reason (Nothing stamp) x y = absurd y
 
   -- where a file stands wrapped, the archive is turned away
   one_wrapped : (file : FileId) (e : FilesRefusal) → turned limit f script (Compressed file) → turned limit f script e → files_status e ≡ 6
   one_wrapped file (Run reason) w t = absurd (not_both f.wrapped file t.0 w)
   one_wrapped file (Compressed other) w t = refl
-  one_wrapped file (NotArchive other place) w t = refl
+  one_wrapped file (NotArchive other offset) w t = refl
   one_wrapped file (Nothing stamp) w t = absurd t
 
   -- a run that comes to its end isn't refused
@@ -103,7 +103,7 @@ module _ (limit : ℕ) (f : Found) (script : Script) where
   done_taken output items final unwrapped leads (Run reason) (none, p, j, h, y) =
       not_done reason (one_ending script limit f.files ends.Done (ending_of reason) output p items j leads.regions y.regions final h leads.runs y.runs)
   done_taken output items final unwrapped leads (Compressed file) t = not_both f.wrapped file unwrapped t
-  done_taken output items final unwrapped leads (NotArchive file place) t = refused_is_none f.files file place (can_be_read script limit f.files ends.Done output items final leads) t.1
+  done_taken output items final unwrapped leads (NotArchive file offset) t = refused_is_none f.files file offset (can_be_read script limit f.files ends.Done output items final leads) t.1
   done_taken output items final unwrapped leads (Nothing stamp) t = t
 
 pub done_welcome : (f : Found) (script : Script) (limit : ℕ) (output : List ℕ) (items : List Item) (final : Files) → Leads script limit f.files ends.Done output items final → f.wrapped ≡ None → (e : FilesRefusal) → turned limit f script e → ⊥

@@ -89,7 +89,7 @@ pub record RanFirst (script : Script) (limit : ℕ) (start : Files) (output : Li
   pub output_is : last.output ≡ output ++ more
   pub items_are : (items ≡ last.items) ⊎ OnItsWay script last count items
 
--- a file stands wrapped, this is the first place that fits no archive, or the run over these files ends so
+-- a file stands wrapped, this is the first offset that fits no archive, or the run over these files ends so
 abbrev pub turned : ℕ → Found → Script → FilesRefusal → Type 0
 turned limit found script (Compressed file) = found.wrapped ≡ Some file
 turned limit found script (NotArchive file at) = (found.wrapped ≡ None) × IsRefused found.files file at

@@ -42,7 +42,7 @@ range_unwrapped files volumes to (Outside n offset) file why = why
 pub of_named : (asked : ValueWords) (pmid : ℕ) (r : Loaded) → value.named r.records asked.name ≡ Some pmid → (f : Found) (e : FilesRefusal) → value.HasNoValue pmid asked.stamp r f e → value.IsStopped asked r f e
 of_named asked pmid r is f (Run reason) why = why
 of_named asked pmid r is f (Compressed file) why = why
-of_named asked pmid r is f (NotArchive file place) why = (pmid, is, why)
+of_named asked pmid r is f (NotArchive file offset) why = (pmid, is, why)
 of_named asked pmid r is f (Nothing stamp) why = (why.0, subst (value.HasNothing f r asked.stamp) (sym is) (why.1, why.2))
 
 -- its text
@@ -66,21 +66,21 @@ module _ {D : Type 0} (g : DiskGhosts D) (r : Loaded) (a b : D) where
   pub at_stops : (t : Moment) (fault : ReaderFault) → (g.tells → IsAtFault (contents_of (g.held a)) r.volumes t (at_begin r t) fault) → (fault ≡ faults.DiskFault → Rose (g.faults a) (g.faults b))
       → TurnedAway (at.IsStopped t r) (disk_side g a b) (reader_refusal fault)
   at_stops t (faults.Compressed file) why rose = λ tells. absurd (at_unwrapped (contents_of (g.held a)) r.volumes t (at_begin r t) file (why tells))
-  at_stops t (faults.NotArchive file place) why rose = λ tells. why tells
+  at_stops t (faults.NotArchive file offset) why rose = λ tells. why tells
   at_stops t faults.DiskFault why rose = rose refl
   at_stops t faults.NoMemory why rose = tt
 
   pub range_stops : (from to : Moment) (fault : ReaderFault) → (g.tells → IsRangeFault (contents_of (g.held a)) r.volumes to (range_begin r from) fault) → (fault ≡ faults.DiskFault → Rose (g.faults a) (g.faults b))
       → TurnedAway (range.IsStopped from to r) (disk_side g a b) (reader_refusal fault)
   range_stops from to (faults.Compressed file) why rose = λ tells. absurd (range_unwrapped (contents_of (g.held a)) r.volumes to (range_begin r from) file (why tells))
-  range_stops from to (faults.NotArchive file place) why rose = λ tells. why tells
+  range_stops from to (faults.NotArchive file offset) why rose = λ tells. why tells
   range_stops from to faults.DiskFault why rose = rose refl
   range_stops from to faults.NoMemory why rose = tt
 
   pub value_stops : (pmid : ℕ) (t : Moment) (fault : ReaderFault) → (g.tells → IsWholeFault (contents_of (g.held a)) r.volumes fault) → (fault ≡ faults.DiskFault → Rose (g.faults a) (g.faults b))
       → TurnedAway (value.HasNoValue pmid t r) (disk_side g a b) (reader_refusal fault)
   value_stops pmid t (faults.Compressed file) why rose = λ tells. absurd (why tells)
-  value_stops pmid t (faults.NotArchive file place) why rose = λ tells. why tells
+  value_stops pmid t (faults.NotArchive file offset) why rose = λ tells. why tells
   value_stops pmid t faults.DiskFault why rose = rose refl
   value_stops pmid t faults.NoMemory why rose = tt
 

@@ -20,7 +20,7 @@ pub record IsLoaded (found : Found) (r : Loaded) : Type 0 where
   pub unwrapped : found.wrapped ≡ None
   pub over : IsOver found.files r
 
--- a file stands wrapped, or apart from the records of volumes this place fits no archive
+-- a file stands wrapped, or apart from the records of volumes this offset fits no archive
 abbrev pub IsNotLoaded : Found → FilesRefusal → Type 0
 IsNotLoaded found (Compressed file) = found.wrapped ≡ Some file
 IsNotLoaded found (NotArchive file at) = (found.wrapped ≡ None) × NotLoaded found.files file at

@@ -12,7 +12,7 @@ use Rattle.pm_words.specs.declared.stage.FilesRefusal.TheVariants.{Run, Compress
 use Rattle.pm_words.specs.Meaning.{Meaning}
 use Rattle.pm_words.specs.Sides.{DiskSide, Found}
 
--- a file stands wrapped, or this is the first place that fits no archive
+-- a file stands wrapped, or this is the first offset that fits no archive
 abbrev pub turned : Found → FilesRefusal → Type 0
 turned found (Compressed file) = found.wrapped ≡ Some file
 turned found (NotArchive file at) = (found.wrapped ≡ None) × IsRefused found.files file at

@@ -16,7 +16,7 @@ use Rattle.pm_words.specs.Sides.{Found}
 
 -- where the search for it doesn't end: a record on the way is no item's, or it begins outside the records
 abbrev pub IsStopped : Moment → Loaded → Found → FilesRefusal → Type 0
-IsStopped t r found (NotArchive file place) = IsAtFault found.files r.volumes t (at_begin r t) (faults.NotArchive file place)
+IsStopped t r found (NotArchive file offset) = IsAtFault found.files r.volumes t (at_begin r t) (faults.NotArchive file offset)
 IsStopped t r found (Nothing stamp) = (stamp ≡ t) × IsAtFrom found.files r.volumes t (at_begin r t) None × OverSound found (λ items. last_at t items ≡ None)
 IsStopped t r found (Compressed file) = ⊥
 IsStopped t r found (Run reason) = ⊥

@@ -16,7 +16,7 @@ use Rattle.pm_words.specs.Sides.{Found}
 
 -- where they aren't read to the end: a record on the way is no item's, or the search begins outside the records
 abbrev pub IsStopped : Moment → Moment → Loaded → Found → FilesRefusal → Type 0
-IsStopped from to r found (NotArchive file place) = IsRangeFault found.files r.volumes to (range_begin r from) (faults.NotArchive file place)
+IsStopped from to r found (NotArchive file offset) = IsRangeFault found.files r.volumes to (range_begin r from) (faults.NotArchive file offset)
 IsStopped from to r found (Nothing stamp) = ⊥
 IsStopped from to r found (Compressed file) = ⊥
 IsStopped from to r found (Run reason) = ⊥

@@ -39,7 +39,7 @@ HasValue found r pmid t text = (v : Moment × ValueSet) × IsValueAt found.files
 
 -- a record is no item's, or the metric has no values at the moment
 abbrev pub HasNoValue : ℕ → Moment → Loaded → Found → FilesRefusal → Type 0
-HasNoValue pmid t r found (NotArchive file place) = IsWholeFault found.files r.volumes (faults.NotArchive file place)
+HasNoValue pmid t r found (NotArchive file offset) = IsWholeFault found.files r.volumes (faults.NotArchive file offset)
 HasNoValue pmid t r found (Nothing stamp) = (stamp ≡ t) × IsValueAt found.files r.volumes pmid t None × OverReadable found (λ items. value_at pmid t items ≡ None)
 HasNoValue pmid t r found (Compressed file) = ⊥
 HasNoValue pmid t r found (Run reason) = ⊥
@@ -51,7 +51,7 @@ HasNothing found r t (Some pmid) = IsValueAt found.files r.volumes pmid t None �
 
 -- where no values are found: no metric has the name; or, of the one that has it, a record is no item's, or there are none
 abbrev pub IsStopped : ValueWords → Loaded → Found → FilesRefusal → Type 0
-IsStopped asked r found (NotArchive file place) = (pmid : ℕ) × (named r.records asked.name ≡ Some pmid) × IsWholeFault found.files r.volumes (faults.NotArchive file place)
+IsStopped asked r found (NotArchive file offset) = (pmid : ℕ) × (named r.records asked.name ≡ Some pmid) × IsWholeFault found.files r.volumes (faults.NotArchive file offset)
 IsStopped asked r found (Nothing stamp) = (stamp ≡ asked.stamp) × HasNothing found r asked.stamp (named r.records asked.name)
 IsStopped asked r found (Compressed file) = ⊥
 IsStopped asked r found (Run reason) = ⊥

@@ -3,7 +3,7 @@ use Rattle.archive_meta.proofs.FirstSeen.{found_at, found_none}
 use Rattle.archive_meta.proofs.keeping.description_of.Goals as goal
 
 pub returns-in-Some : goal.returns-in-Some
-returns-in-Some c = c.get.ensures ∙ found_at c.args.pmid c.args.records.now c.in-Some.at (sym (c.requires.places c.args.pmid) ∙ sym c.place_of.ensures ∙ c.in-Some.is)
+returns-in-Some c = c.get.ensures ∙ found_at c.args.pmid c.args.records.now c.in-Some.at (sym (c.requires.positions c.args.pmid) ∙ sym c.position_of.ensures ∙ c.in-Some.is)
 
 pub returns-in-None : goal.returns-in-None
-returns-in-None c = found_none c.args.pmid c.args.records.now (sym (c.requires.places c.args.pmid) ∙ sym c.place_of.ensures ∙ c.in-None.is)
+returns-in-None c = found_none c.args.pmid c.args.records.now (sym (c.requires.positions c.args.pmid) ∙ sym c.position_of.ensures ∙ c.in-None.is)

@@ -1,8 +1,8 @@
-use Rattle.archive_meta.proofs.ZeroBytes.{zero_place, zero_within, zero_front, zero_nowhere}
+use Rattle.archive_meta.proofs.ZeroBytes.{zero_offset, zero_within, zero_front, zero_nowhere}
 use Rattle.archive_meta.proofs.texts.zero_in.Goals as goal
 
 pub returns-clause-value : goal.returns-clause-value
-returns-clause-value c = zero_place c.args.bytes.now c.memchr.result c.memchr.ensures
+returns-clause-value c = zero_offset c.args.bytes.now c.memchr.result c.memchr.ensures
 
 pub returns-clause-within : goal.returns-clause-within
 returns-clause-within c = zero_within c.args.bytes.now c.memchr.result c.memchr.ensures

@@ -27,7 +27,7 @@ returns-in-Bad-clause-fault g c = λ tells.
     let so_far = c.loop.invariant.so_far tells in
     let step = subst (λ h. IsWalked (contents_of h) volumes c.loop.index c.loop.at c.in_ok-walk.field-0) (c.loop.invariant.looks.held tells) (c.in_ok-walk.ensures.step tells) in (
       so_far.items,
-      bad_here files volumes 0 132 (g.D.Disk.taken c.args.disk.now) (ValueSoFar c.args.pmid c.args.t c.loop.found) c.loop.index c.loop.at (g.D.Disk.taken c.loop.disk) so_far (Volume c.in-Bad.number) c.in-Bad.place
+      bad_here files volumes 0 132 (g.D.Disk.taken c.args.disk.now) (ValueSoFar c.args.pmid c.args.t c.loop.found) c.loop.index c.loop.at (g.D.Disk.taken c.loop.disk) so_far (Volume c.in-Bad.number) c.in-Bad.offset
           (subst (IsWalked files volumes c.loop.index c.loop.at) c.in-Bad.is step),
     )
 

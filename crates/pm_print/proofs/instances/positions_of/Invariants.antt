@@ -2,12 +2,12 @@
 use Rattle.std.proofs.Common.{◌≡◌, ◌≤◌, ℤ, length, drop}
 use Rattle.std.specs.Ordering.{int_eq}
 use Rattle.indexmap.specs.IndexMap.{get}
-use Rattle.pm_print.specs.Sets.{place_in}
-use Rattle.pm_print.proofs.instances.places_of.Given as goal
+use Rattle.pm_print.specs.Sets.{position_in}
+use Rattle.pm_print.proofs.instances.positions_of.Given as goal
 
 abbrev pub invariant-loop-at : goal.invariant-loop-at
 invariant-loop-at l = record {
-  noted : (n : ℤ) → get int_eq l.places n ≡ place_in l.at (drop l.at l.pairs) n;
+  noted : (n : ℤ) → get int_eq l.positions n ≡ position_in l.at (drop l.at l.pairs) n;
   within : l.at ≤ length l.pairs;
 }
 
