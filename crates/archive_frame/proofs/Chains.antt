@@ -3,7 +3,7 @@ use Rattle.std.proofs.Common.{◌≡◌, ℕ, ℤ, ◌+◌, ◌-◌, ◌<◌, �
 use Rattle.std.specs.Prelude.{Result, Ok, Err, OnOk, IfOk, IfErr}
 use Rattle.std.proofs.lemmas.List.{take_at, take-append-drop, take-take, drop-drop, drop-take, drop_all, length-append, length-take, length-drop, length-replicate}
 use Rattle.pcp_base.specs.Texts.{IsText}
-use Rattle.pcp_model.specs.Words.{word, length-word, zeros, padded}
+use Rattle.pcp_model.specs.Words.{word, length-word, zeros, text_field}
 use Rattle.pcp_model.specs.Frame.{frame}
 use Rattle.pcp_model.specs.LabelFields.{LabelFields, FitsLabel}
 use Rattle.pcp_model.specs.Labels.{label, label_head, HasText, IsLabel}
@@ -161,8 +161,8 @@ unfolding label
 front_of_label l number fits =
     let host : length l.host ≤ 63 = fits.host in
     let zone : length l.zone ≤ 39 = fits.zone in
-    ap (take 24) (framed l number (padded 64 l.host) (padded 40 l.zone) (length-padded 64 l.host (omega arith)) (length-padded 40 l.zone (omega arith)))
-    ∙ take_at (head_bytes l number) (padded 64 l.host ++ (padded 40 l.zone ++ back_bytes)) 24 (length-head l number)
+    ap (take 24) (framed l number (text_field 64 l.host) (text_field 40 l.zone) (length-padded 64 l.host (omega arith)) (length-padded 40 l.zone (omega arith)))
+    ∙ take_at (head_bytes l number) (text_field 64 l.host ++ (text_field 40 l.zone ++ back_bytes)) 24 (length-head l number)
 
 text_wide : (width : ℕ) (text : List ℕ) → HasWidth (λ t. HasText width t text) width
 text_wide width text t h = h.wide

@@ -2,7 +2,7 @@
 use Rattle.std.proofs.Common.{◌≡◌, ℕ, ℤ, ◌+◌, ◌-◌, ◌≤◌, List, [], ◌++◌, length, drop, refl, sym, ap, ◌∙◌, append_assoc, arith}
 use Rattle.std.specs.Int.{w32, cast_unsigned}
 use Rattle.std.proofs.lemmas.List.{take_at, drop_at, drop-drop, drop-replicate, length-append, append-nil, replicate-append-replicate}
-use Rattle.pcp_model.specs.Words.{word, signed_word, length-word, zeros, padded}
+use Rattle.pcp_model.specs.Words.{word, signed_word, length-word, zeros, text_field}
 use Rattle.pcp_model.specs.Frame.{frame}
 use Rattle.pcp_model.specs.LabelFields.{LabelFields, FitsLabel}
 use Rattle.pcp_model.specs.Labels.{label, label_head}
@@ -23,7 +23,7 @@ next front text at room left here fits =
     ∙ ap (λ t. front ++ (text ++ t)) behind ∙ sym (append_assoc front text (zeros left))
 
 -- a text that is filled up
-pad : (front text : List ℕ) (width room left : ℕ) → length text ≤ width → room ≡ width - length text + left → (front ++ text) ++ zeros room ≡ (front ++ padded width text) ++ zeros left
+pad : (front text : List ℕ) (width room left : ℕ) → length text ≤ width → room ≡ width - length text + left → (front ++ text) ++ zeros room ≡ (front ++ text_field width text) ++ zeros left
 pad front text width room left short fits =
     ap (λ n. (front ++ text) ++ zeros n) fits ∙ ap (λ t. (front ++ text) ++ t) (sym (replicate-append-replicate (width - length text) left 0))
     ∙ sym (append_assoc (front ++ text) (zeros (width - length text)) (zeros left)) ∙ ap (λ t. t ++ zeros left) (append_assoc front text (zeros (width - length text)))
@@ -31,23 +31,23 @@ pad front text width room left short fits =
 head_is : (l : LabelFields) (number : ℤ) → (((word 1342514690 ++ word l.pid) ++ word l.start.sec) ++ word l.start.usec) ++ signed_word number ≡ label_head l number
 head_is l number = simp append_assoc
 
-label_is : (l : LabelFields) (number : ℤ) → FitsLabel l → ((((word 132 ++ label_head l number) ++ padded 64 l.host) ++ padded 40 l.zone) ++ word 132) ≡ label l number
+label_is : (l : LabelFields) (number : ℤ) → FitsLabel l → ((((word 132 ++ label_head l number) ++ text_field 64 l.host) ++ text_field 40 l.zone) ++ word 132) ≡ label l number
 unfolding label frame
 label_is l number fits =
-    let payload : List ℕ = label_head l number ++ (padded 64 l.host ++ padded 40 l.zone) in
+    let payload : List ℕ = label_head l number ++ (text_field 64 l.host ++ text_field 40 l.zone) in
     let host : length l.host ≤ 63 = fits.host in
     let zone : length l.zone ≤ 39 = fits.zone in
     let long : length payload + 8 ≡ 132 =
     omega (
       arith,
-      length-append (label_head l number) (padded 64 l.host ++ padded 40 l.zone),
-      length-append (padded 64 l.host) (padded 40 l.zone),
+      length-append (label_head l number) (text_field 64 l.host ++ text_field 40 l.zone),
+      length-append (text_field 64 l.host) (text_field 40 l.zone),
       length-label_head l number,
       length-padded 64 l.host (omega arith),
       length-padded 40 l.zone (omega arith),
     ) in
-    let flat : (((word 132 ++ label_head l number) ++ padded 64 l.host) ++ padded 40 l.zone) ++ word 132 ≡ word 132 ++ (payload ++ word 132) =
-    ap (λ t. t ++ word 132) (append_assoc (word 132 ++ label_head l number) (padded 64 l.host) (padded 40 l.zone) ∙ append_assoc (word 132) (label_head l number) (padded 64 l.host ++ padded 40 l.zone)) ∙ append_assoc (word 132) payload (word 132) in
+    let flat : (((word 132 ++ label_head l number) ++ text_field 64 l.host) ++ text_field 40 l.zone) ++ word 132 ≡ word 132 ++ (payload ++ word 132) =
+    ap (λ t. t ++ word 132) (append_assoc (word 132 ++ label_head l number) (text_field 64 l.host) (text_field 40 l.zone) ∙ append_assoc (word 132) (label_head l number) (text_field 64 l.host ++ text_field 40 l.zone)) ∙ append_assoc (word 132) payload (word 132) in
     flat ∙ ap (λ n. word n ++ (payload ++ word n)) (sym long)
 
 abbrev with_words : LabelFields → ℤ → List ℕ → List ℕ
@@ -80,11 +80,11 @@ written l number fits =
     let host : length l.host ≤ 63 = fits.host in
     let zone : length l.zone ≤ 39 = fits.zone in
     let f6 : List ℕ = word 132 ++ label_head l number in
-    let f7 : List ℕ = f6 ++ padded 64 l.host in
-    let f8 : List ℕ = f7 ++ padded 40 l.zone in
+    let f7 : List ℕ = f6 ++ text_field 64 l.host in
+    let f8 : List ℕ = f7 ++ text_field 40 l.zone in
     let n6 : length f6 ≡ 24 = omega (arith, length-append (word 132) (label_head l number), length-word 132, length-label_head l number) in
-    let n7 : length f7 ≡ 88 = omega (arith, length-append f6 (padded 64 l.host), length-padded 64 l.host (omega arith)) in
-    let n8 : length f8 ≡ 128 = omega (arith, length-append f7 (padded 40 l.zone), length-padded 40 l.zone (omega arith)) in
+    let n7 : length f7 ≡ 88 = omega (arith, length-append f6 (text_field 64 l.host), length-padded 64 l.host (omega arith)) in
+    let n8 : length f8 ≡ 128 = omega (arith, length-append f7 (text_field 40 l.zone), length-padded 40 l.zone (omega arith)) in
     let s7 = ap (λ t. over t 24 l.host) (words_written l number) ∙ next f6 l.host 24 108 (108 - length l.host) n6 (omega arith) ∙ pad f6 l.host 64 (108 - length l.host) 44 (omega arith) (omega arith) in
     let s8 = ap (λ t. over t 88 l.zone) s7 ∙ next f7 l.zone 88 44 (44 - length l.zone) n7 (omega arith) ∙ pad f7 l.zone 40 (44 - length l.zone) 4 (omega arith) (omega arith) in
     ap (λ t. over t 128 (word 132)) s8 ∙ next f8 (word 132) 128 4 0 n8 (omega (arith, length-word 132)) ∙ append-nil (f8 ++ word 132) ∙ label_is l number fits

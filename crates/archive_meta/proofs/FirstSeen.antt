@@ -12,7 +12,7 @@ use Rattle.indexmap.proofs.CallerLemmas.{insert_entry-new}
 use Rattle.pcp_base.specs.declared.desc.Desc.{Desc}
 use Rattle.pcp_model.specs.declared.records.MetaRecord.{MetaRecord}
 use Rattle.pcp_model.specs.declared.records.MetaRecord.TheVariants.{Description, Domain, Other}
-use Rattle.archive_meta.specs.Said.{describes, description_of, seen_with, seen_after, described}
+use Rattle.archive_meta.specs.Said.{describes, description_of, seen_with, seen_after, described_metrics}
 use Rattle.archive_meta.specs.Kept.{position_of, HasDescriptions, NotesMetric, DropsMetric}
 
 position_push : (pmid : ℕ) (records : List MetaRecord) (r : MetaRecord) → position_of pmid (records ++ r ∷ []) ≡ option_or (position_of pmid records) (cond (describes pmid r) (Some (length records)) None)
@@ -101,10 +101,10 @@ seen_iff pmid seen (Domain t indom pairs ∷ records) = seen_iff pmid seen recor
 seen_iff pmid seen (Other ∷ records) = seen_iff pmid seen records ∙ or_other (list_any (nat_eq pmid) seen) (position_of pmid records)
 
 described_push : (records : List MetaRecord) (d : Desc) (names : List (List ℕ)) (o : Option ℕ) → position_of d.pmid records ≡ o
-    → described (records ++ Description d names ∷ []) ≡ cond (is_some o) (described records) (described records ++ d.pmid ∷ [])
+    → described_metrics (records ++ Description d names ∷ []) ≡ cond (is_some o) (described_metrics records) (described_metrics records ++ d.pmid ∷ [])
 described_push records d names o e =
     fold_push seen_after [] records (Description d names)
-    ∙ ap (λ b. cond b (described records) (described records ++ d.pmid ∷ [])) (seen_iff d.pmid [] records ∙ ap is_some e)
+    ∙ ap (λ b. cond b (described_metrics records) (described_metrics records ++ d.pmid ∷ [])) (seen_iff d.pmid [] records ∙ ap is_some e)
 
 -- ---- a description more
 
@@ -168,7 +168,7 @@ module _ {S : Type 0} (old new : IndexMap ℕ ℕ S) (records : List MetaRecord)
       }
   dropped_by None e n h =
       let here_too : get nat_eq old d.pmid ≡ Some at = h.positions d.pmid ∙ sym (position_more_itself e) in
-      let fronts = same_front (keys new) (described records) n.last d.pmid (sym (n.order here_too) ∙ h.order ∙ described_push records d names None e) in
+      let fronts = same_front (keys new) (described_metrics records) n.last d.pmid (sym (n.order here_too) ∙ h.order ∙ described_push records d names None e) in
       record {
         order = fronts.0;
         positions = λ q. n.positions here_too q ∙ ap (λ m. cond (nat_eq m q) None (get nat_eq old q)) fronts.1 ∙ ap (cond (nat_eq d.pmid q) None) (h.positions q) ∙ position_less q (nat_eq d.pmid q) refl e;
@@ -182,14 +182,14 @@ module _ {S : Type 0} (old new : IndexMap ℕ ℕ S) (records : List MetaRecord)
 
 -- ---- another record, more or less
 
-pub other_more : {S : Type 0} (old new : IndexMap ℕ ℕ S) (records : List MetaRecord) (r : MetaRecord) → new.entries ≡ old.entries → ((q : ℕ) → describes q r ≡ false) → seen_after (described records) r ≡ described records
+pub other_more : {S : Type 0} (old new : IndexMap ℕ ℕ S) (records : List MetaRecord) (r : MetaRecord) → new.entries ≡ old.entries → ((q : ℕ) → describes q r ≡ false) → seen_after (described_metrics records) r ≡ described_metrics records
     → HasDescriptions old records → HasDescriptions new (records ++ r ∷ [])
 other_more old new records r same never stays h = record {
   order = ap keys_of same ∙ h.order ∙ sym (fold_push seen_after [] records r ∙ stays);
   positions = λ q. ap (lookup (nat_eq q)) same ∙ h.positions q ∙ same_position q records r (λ f. absurd (let both : true ≡ false = sym f ∙ never q in cc));
 }
 
-pub other_less : {S : Type 0} (old new : IndexMap ℕ ℕ S) (records : List MetaRecord) (r : MetaRecord) → new.entries ≡ old.entries → ((q : ℕ) → describes q r ≡ false) → seen_after (described records) r ≡ described records
+pub other_less : {S : Type 0} (old new : IndexMap ℕ ℕ S) (records : List MetaRecord) (r : MetaRecord) → new.entries ≡ old.entries → ((q : ℕ) → describes q r ≡ false) → seen_after (described_metrics records) r ≡ described_metrics records
     → HasDescriptions old (records ++ r ∷ []) → HasDescriptions new records
 other_less old new records r same never stays h = record {
   order = ap keys_of same ∙ h.order ∙ fold_push seen_after [] records r ∙ stays;

@@ -7,7 +7,7 @@ use Rattle.pcp_base.specs.Time.{Moment}
 use Rattle.pcp_model.specs.declared.records.MetaRecord.{MetaRecord}
 use Rattle.pcp_model.specs.Described.{HoldsAt}
 use Rattle.archive_meta.specs.Facts.{domain_of, listed_of}
-use Rattle.archive_meta.specs.Missing.{taken, Lacks, listed_from, AreMissingDomains, at_positions}
+use Rattle.archive_meta.specs.Missing.{values_of_keys, Lacks, listed_from, AreMissingDomains, at_positions}
 use Rattle.archive_meta.proofs.Positions.{at_positions_push}
 use Rattle.archive_meta.proofs.Taken.{all_taken, all_map, first_is}
 
@@ -53,8 +53,8 @@ module _ (records : List MetaRecord) (t : Moment) (ds : List (ℕ × List (ℤ �
   none_lacking (e ∷ es) a = inl (a.0, none_lacking es a.1)
 
   -- where all hold, none is missing
-  pub none_missing : (keys : List ℕ) → AllByRecursion (λ d. HoldsAt records d.0 t d.1) ds → AreMissingDomains records t (taken (listed_of ds) keys) []
+  pub none_missing : (keys : List ℕ) → AllByRecursion (λ d. HoldsAt records d.0 t d.1) ds → AreMissingDomains records t (values_of_keys (listed_of ds) keys) []
   none_missing keys all =
-      none_lacking (taken (listed_of ds) keys)
+      none_lacking (values_of_keys (listed_of ds) keys)
       (all_taken (λ d. HoldsAt records d.0 t d.1) (listed_of ds) keys (λ k d e.
       (first_is domain_of ds k d (λ x. HoldsAt records x.0 t x.1) e (all_map (λ x. HoldsAt records x.0 t x.1) (λ x. domain_of x ≡ k → HoldsAt records x.0 t x.1) ds (λ x h _. h) all)).1))

@@ -20,7 +20,7 @@ use Rattle.archive_meta.specs.Said.{describes, description_of}
 use Rattle.archive_meta.specs.Facts.{has_values, metric_of, domain_of, fact_of, listed_of, IsKeptAs, FitsFact, FitsMetric, FitSets}
 use Rattle.archive_meta.specs.Enough.{AreListed, IsTold, AreEnough}
 use Rattle.archive_meta.proofs.Taken.{Among, among_left, among_right, all_taken, of_taken, all_map, first_is}
-use Rattle.archive_meta.specs.Missing.{taken, is_undescribed, undescribed, described_by, missing_descriptions, domain_in, shown_domain, shown_domains, domains_of, Lacks, listed_from, AreMissingDomains, AreMissing}
+use Rattle.archive_meta.specs.Missing.{values_of_keys, is_undescribed, undescribed_metrics, described_by, missing_descriptions, domain_in, shown_domain, shown_domains, domains_of, Lacks, listed_from, AreMissingDomains, AreMissing}
 
 -- ---- what holds of a domain, with a record more
 
@@ -157,7 +157,7 @@ record IsNow (all : List MetaRecord) (set : ValueSet) (t : Moment) (fact : Desc 
 
 module _ (records missing domains : List MetaRecord) (facts : Facts) (sets : List ValueSet) (t : Moment) (is : missing ≡ missing_descriptions records facts.metrics sets ++ domains) where
   abbrev wanted : List (Desc × List ℕ)
-  wanted = taken (fact_of facts.metrics) (undescribed records sets)
+  wanted = values_of_keys (fact_of facts.metrics) (undescribed_metrics records sets)
 
   told_now : (f : Desc × List ℕ) → Contains (map described_by wanted) (described_by f) → Contains (records ++ missing) (described_by f)
   told_now f c =
@@ -173,7 +173,7 @@ module _ (records missing domains : List MetaRecord) (facts : Facts) (sets : Lis
   recorded_as set fact (Domain u i pairs) same kept c = absurd kept
   recorded_as set fact Other same kept c = absurd kept
 
-  is_now : (set : ValueSet) (fact : Desc × List ℕ) → fact_of facts.metrics set.pmid ≡ Some fact → FitsMetric records facts.metrics set.pmid → (is_none (description_of set.pmid records) ≡ true → Among set.pmid (undescribed records sets))
+  is_now : (set : ValueSet) (fact : Desc × List ℕ) → fact_of facts.metrics set.pmid ≡ Some fact → FitsMetric records facts.metrics set.pmid → (is_none (description_of set.pmid records) ≡ true → Among set.pmid (undescribed_metrics records sets))
       → IsNow (records ++ missing) set t fact
   is_now set fact found fit among = by (description_of set.pmid records) refl
     where
@@ -186,7 +186,7 @@ module _ (records missing domains : List MetaRecord) (facts : Facts) (sets : Lis
       by None e = record {
         same = both.0;
         names = fact.1 ∷ [];
-        recorded = told_now fact (of_taken (λ f. Contains (map described_by wanted) (described_by f)) (fact_of facts.metrics) (undescribed records sets) set.pmid fact (among (ap is_none e)) found (all_told wanted));
+        recorded = told_now fact (of_taken (λ f. Contains (map described_by wanted) (described_by f)) (fact_of facts.metrics) (undescribed_metrics records sets) set.pmid fact (among (ap is_none e)) found (all_told wanted));
       }
 
   named_by : (indom : ℕ) (pairs : List (ℤ × List ℕ)) (body : Body) → HoldsAt (records ++ missing) indom t pairs → AreListed pairs body → AreNamed (records ++ missing) indom t body
@@ -220,7 +220,7 @@ module _ (records missing domains : List MetaRecord) (facts : Facts) (sets : Lis
         (of_taken (λ d. HoldsAt (before ++ domains) d.0 t d.1) (listed_of facts.domains) keys indom (indom, pairs)
         (among_left indom (shown_domains facts.metrics sets) (map domain_of facts.domains) among) listed held.hold)
 
-    set_now : (set : ValueSet) → IsTold facts set → FitsMetric records facts.metrics set.pmid → (is_none (description_of set.pmid records) ≡ true → Among set.pmid (undescribed records sets))
+    set_now : (set : ValueSet) → IsTold facts set → FitsMetric records facts.metrics set.pmid → (is_none (description_of set.pmid records) ≡ true → Among set.pmid (undescribed_metrics records sets))
         → ((k : ℕ) → Among k (domain_in (fact_of facts.metrics set.pmid)) → Among k (shown_domains facts.metrics sets)) → IsDescribedBy (records ++ missing) t set
     set_now set told fit among shown =
         let now : IsNow (records ++ missing) set t told.fact = is_now set told.fact told.found fit among in
@@ -240,19 +240,19 @@ module _ (records missing domains : List MetaRecord) (facts : Facts) (sets : Lis
     one_set set (Blocks pairs) h = h refl
     one_set set (Status n) h = tt
 
-    among_first : (set : ValueSet) (rest : List ValueSet) → has_values set.body ≡ true → is_none (description_of set.pmid records) ≡ true → Among set.pmid (undescribed records (set ∷ rest))
+    among_first : (set : ValueSet) (rest : List ValueSet) → has_values set.body ≡ true → is_none (description_of set.pmid records) ≡ true → Among set.pmid (undescribed_metrics records (set ∷ rest))
     among_first set rest a b =
-        subst (λ h. Among set.pmid (cond (h && is_none (description_of set.pmid records)) (set.pmid ∷ undescribed records rest) (undescribed records rest))) (sym a)
-        (subst (λ h. Among set.pmid (cond h (set.pmid ∷ undescribed records rest) (undescribed records rest))) (sym b) (inl refl))
+        subst (λ h. Among set.pmid (cond (h && is_none (description_of set.pmid records)) (set.pmid ∷ undescribed_metrics records rest) (undescribed_metrics records rest))) (sym a)
+        (subst (λ h. Among set.pmid (cond h (set.pmid ∷ undescribed_metrics records rest) (undescribed_metrics records rest))) (sym b) (inl refl))
 
-    among_more : (set : ValueSet) (rest : List ValueSet) (k : ℕ) → Among k (undescribed records rest) → Among k (undescribed records (set ∷ rest))
+    among_more : (set : ValueSet) (rest : List ValueSet) (k : ℕ) → Among k (undescribed_metrics records rest) → Among k (undescribed_metrics records (set ∷ rest))
     among_more set rest k m = by (is_undescribed records set)
       where
-        by : (b : Bool) → Among k (cond b (set.pmid ∷ undescribed records rest) (undescribed records rest))
+        by : (b : Bool) → Among k (cond b (set.pmid ∷ undescribed_metrics records rest) (undescribed_metrics records rest))
         by true = inr m
         by false = m
 
-    all_sets : (rest : List ValueSet) → ((k : ℕ) → Among k (undescribed records rest) → Among k (undescribed records sets))
+    all_sets : (rest : List ValueSet) → ((k : ℕ) → Among k (undescribed_metrics records rest) → Among k (undescribed_metrics records sets))
         → ((k : ℕ) → Among k (shown_domains facts.metrics rest) → Among k (shown_domains facts.metrics sets)) → FitSets records facts.metrics rest → AreEnough facts rest
         → AllByRecursion (λ set. IsDescribedSet (records ++ missing) t set set.body) rest
     all_sets [] u s fit enough = tt

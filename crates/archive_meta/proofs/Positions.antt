@@ -5,10 +5,10 @@ use Rattle.std.proofs.lemmas.List.{length-append}
 use Rattle.pcp_base.specs.declared.desc.Desc.{Desc}
 use Rattle.pcp_base.specs.declared.result.ValueSet.{ValueSet}
 use Rattle.archive_meta.specs.Facts.{has_values, first_under, metric_of, fact_of}
-use Rattle.archive_meta.specs.Missing.{without, taken, domain_in, shown_domain, position_from, at_positions}
+use Rattle.archive_meta.specs.Missing.{except_key, values_of_keys, domain_in, shown_domain, position_from, at_positions}
 
 module _ {V : Type 0} where
-  without_same : (k : ℕ) (F G : ℕ → Option V) → ((q : ℕ) → F q ≡ G q) → (q : ℕ) → without k F q ≡ without k G q
+  without_same : (k : ℕ) (F G : ℕ → Option V) → ((q : ℕ) → F q ≡ G q) → (q : ℕ) → except_key k F q ≡ except_key k G q
   without_same k F G h q = by (nat_eq k q)
     where
       by : (b : Bool) → cond b None (F q) ≡ cond b None (G q)
@@ -16,11 +16,11 @@ module _ {V : Type 0} where
       by false = h q
 
   -- only what keys lead to matters
-  pub taken_same : (F G : ℕ → Option V) (ks : List ℕ) → ((q : ℕ) → F q ≡ G q) → taken F ks ≡ taken G ks
+  pub taken_same : (F G : ℕ → Option V) (ks : List ℕ) → ((q : ℕ) → F q ≡ G q) → values_of_keys F ks ≡ values_of_keys G ks
   taken_same F G [] h = refl
   taken_same F G (k ∷ ks) h =
-      ap (λ o. option_to_list o ++ taken (without k F) ks) (h k)
-      ∙ ap (λ l. option_to_list (G k) ++ l) (taken_same (without k F) (without k G) ks (without_same k F G h))
+      ap (λ o. option_to_list o ++ values_of_keys (except_key k F) ks) (h k)
+      ∙ ap (λ l. option_to_list (G k) ++ l) (taken_same (except_key k F) (except_key k G) ks (without_same k F G h))
 
   abbrev pub found_in : List V → Option ℕ → Option V
   found_in vs None = None
@@ -30,7 +30,7 @@ module _ {V : Type 0} where
   at_front vs None ps = refl
   at_front vs (Some n) ps = refl
 
-  found_without : (vs : List V) (P : ℕ → Option ℕ) (F : ℕ → Option V) (k : ℕ) → ((q : ℕ) → found_in vs (P q) ≡ F q) → (q : ℕ) → found_in vs (without k P q) ≡ without k F q
+  found_without : (vs : List V) (P : ℕ → Option ℕ) (F : ℕ → Option V) (k : ℕ) → ((q : ℕ) → found_in vs (P q) ≡ F q) → (q : ℕ) → found_in vs (except_key k P q) ≡ except_key k F q
   found_without vs P F k h q = by (nat_eq k q)
     where
       by : (b : Bool) → found_in vs (cond b None (P q)) ≡ cond b None (F q)
@@ -38,12 +38,12 @@ module _ {V : Type 0} where
       by false = h q
 
   -- where keys lead to positions, what stands there is taken
-  pub at_taken : (vs : List V) (P : ℕ → Option ℕ) (F : ℕ → Option V) (ks : List ℕ) → ((q : ℕ) → found_in vs (P q) ≡ F q) → at_positions vs (taken P ks) ≡ taken F ks
+  pub at_taken : (vs : List V) (P : ℕ → Option ℕ) (F : ℕ → Option V) (ks : List ℕ) → ((q : ℕ) → found_in vs (P q) ≡ F q) → at_positions vs (values_of_keys P ks) ≡ values_of_keys F ks
   at_taken vs P F [] h = refl
   at_taken vs P F (k ∷ ks) h =
-      at_front vs (P k) (taken (without k P) ks)
-      ∙ ap (λ o. option_to_list o ++ at_positions vs (taken (without k P) ks)) (h k)
-      ∙ ap (λ l. option_to_list (F k) ++ l) (at_taken vs (without k P) (without k F) ks (found_without vs P F k h))
+      at_front vs (P k) (values_of_keys (except_key k P) ks)
+      ∙ ap (λ o. option_to_list o ++ at_positions vs (values_of_keys (except_key k P) ks)) (h k)
+      ∙ ap (λ l. option_to_list (F k) ++ l) (at_taken vs (except_key k P) (except_key k F) ks (found_without vs P F k h))
 
   front_get : (front vs : List V) (v : V) → slice_get (front ++ v ∷ vs) (length front) ≡ Some v
   front_get [] vs v = refl
@@ -78,10 +78,10 @@ pub position_more : (at : ℕ) (k : ℕ) (ks : List ℕ) (old new : ℕ → Opti
 position_more at k ks old new h u q = u q ∙ ap (cond (nat_eq k q) (Some at)) (h q)
 
 -- one key less
-pub taken_one : (front : List ℕ) (old new : ℕ → Option ℕ) (k : ℕ) (ks total : List ℕ) → ((q : ℕ) → new q ≡ cond (nat_eq k q) None (old q)) → front ++ taken old (k ∷ ks) ≡ total → (front ++ option_to_list (old k)) ++ taken new ks ≡ total
+pub taken_one : (front : List ℕ) (old new : ℕ → Option ℕ) (k : ℕ) (ks total : List ℕ) → ((q : ℕ) → new q ≡ cond (nat_eq k q) None (old q)) → front ++ values_of_keys old (k ∷ ks) ≡ total → (front ++ option_to_list (old k)) ++ values_of_keys new ks ≡ total
 taken_one front old new k ks total u whole =
-    ap (λ l. (front ++ option_to_list (old k)) ++ l) (taken_same new (without k old) ks u)
-    ∙ append_assoc front (option_to_list (old k)) (taken (without k old) ks) ∙ whole
+    ap (λ l. (front ++ option_to_list (old k)) ++ l) (taken_same new (except_key k old) ks u)
+    ∙ append_assoc front (option_to_list (old k)) (values_of_keys (except_key k old) ks) ∙ whole
 
 -- the domain of a metric by its fact's position
 pub shown_by : (metrics : List (Desc × List ℕ)) (set : ValueSet) (o : Option ℕ) (fact : Option (Desc × List ℕ)) → has_values set.body ≡ true → position_from 0 (map metric_of metrics) set.pmid ≡ o → found_in metrics o ≡ fact

@@ -4,7 +4,7 @@ use Rattle.std.specs.Prelude.{option_to_list}
 use Rattle.std.specs.List.{AllByRecursion}
 use Rattle.std.proofs.lemmas.Bool.{eqb-true, eqb-false}
 use Rattle.archive_meta.specs.Facts.{first_under}
-use Rattle.archive_meta.specs.Missing.{without, taken}
+use Rattle.archive_meta.specs.Missing.{except_key, values_of_keys}
 
 abbrev pub Among : ℕ → List ℕ → Type 0
 Among k [] = ⊥
@@ -19,18 +19,18 @@ among_right k [] ys m = m
 among_right k (x ∷ xs) ys m = inr (among_right k xs ys m)
 
 module _ {V : Type 0} where
-  pub all_taken : (P : V → Type 0) (leads : ℕ → Option V) (ks : List ℕ) → ((k : ℕ) (v : V) → leads k ≡ Some v → P v) → AllByRecursion P (taken leads ks)
+  pub all_taken : (P : V → Type 0) (leads : ℕ → Option V) (ks : List ℕ) → ((k : ℕ) (v : V) → leads k ≡ Some v → P v) → AllByRecursion P (values_of_keys leads ks)
   all_taken P leads [] h = tt
-  all_taken P leads (k ∷ ks) h = by (leads k) refl (all_taken P (without k leads) ks left)
+  all_taken P leads (k ∷ ks) h = by (leads k) refl (all_taken P (except_key k leads) ks left)
     where
-      left : (q : ℕ) (v : V) → without k leads q ≡ Some v → P v
+      left : (q : ℕ) (v : V) → except_key k leads q ≡ Some v → P v
       left q v e = other (nat_eq k q) e
         where
           other : (b : Bool) → cond b None (leads q) ≡ Some v → P v
           other true f = absurd cc
           other false f = h q v f
 
-      by : (o : Option V) → leads k ≡ o → AllByRecursion P (taken (without k leads) ks) → AllByRecursion P (option_to_list o ++ taken (without k leads) ks)
+      by : (o : Option V) → leads k ≡ o → AllByRecursion P (values_of_keys (except_key k leads) ks) → AllByRecursion P (option_to_list o ++ values_of_keys (except_key k leads) ks)
       by None e more = more
       by (Some v) e more = (h k v e, more)
 
@@ -39,15 +39,15 @@ module _ {V : Type 0} where
   all_behind P (Some v) vs a = a.1
 
   -- what holds of all that is taken holds of what a key leads to
-  pub of_taken : (P : V → Type 0) (leads : ℕ → Option V) (ks : List ℕ) (k : ℕ) (v : V) → Among k ks → leads k ≡ Some v → AllByRecursion P (taken leads ks) → P v
+  pub of_taken : (P : V → Type 0) (leads : ℕ → Option V) (ks : List ℕ) (k : ℕ) (v : V) → Among k ks → leads k ≡ Some v → AllByRecursion P (values_of_keys leads ks) → P v
   of_taken P leads [] k v m e a = absurd m
   of_taken P leads (x ∷ ks) k v m e a =
-      by (nat_eq x k) refl (λ among f. of_taken P (without x leads) ks k v among f (all_behind P (leads x) (taken (without x leads) ks) a))
+      by (nat_eq x k) refl (λ among f. of_taken P (except_key x leads) ks k v among f (all_behind P (leads x) (values_of_keys (except_key x leads) ks) a))
     where
-      by : (b : Bool) → nat_eq x k ≡ b → (Among k ks → without x leads k ≡ Some v → P v) → P v
+      by : (b : Bool) → nat_eq x k ≡ b → (Among k ks → except_key x leads k ≡ Some v → P v) → P v
       by true f more =
           let here : leads x ≡ Some v = ap leads (eqb-true x k f) ∙ e in
-          (subst (λ o. AllByRecursion P (option_to_list o ++ taken (without x leads) ks)) here a).0
+          (subst (λ o. AllByRecursion P (option_to_list o ++ values_of_keys (except_key x leads) ks)) here a).0
       by false f more =
           ⊎_elim (λ (same : x ≡ k). absurd (eqb-false x k f same)) (λ (among : Among k ks). more among (ap (λ b. cond b None (leads k)) f ∙ e)) m
 

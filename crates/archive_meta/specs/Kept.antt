@@ -9,8 +9,8 @@ use Rattle.pcp_base.specs.Time.{microseconds}
 use Rattle.pcp_model.specs.Records.{AreConsistent}
 use Rattle.archive_meta.specs.declared.moments.Listing.{Listing}
 use Rattle.archive_meta.specs.Order.{moment_order}
-use Rattle.archive_meta.specs.Said.{describes, described}
-use Rattle.archive_meta.specs.Woven.{woven, AreMarked}
+use Rattle.archive_meta.specs.Said.{describes, described_metrics}
+use Rattle.archive_meta.specs.Woven.{with_other_records, AreMarked}
 
 -- where the first record stands that describes a metric
 abbrev pub position_of : ℕ → List MetaRecord → Option ℕ
@@ -18,7 +18,7 @@ position_of pmid [] = None
 position_of pmid (r ∷ records) = if describes pmid r then Some 0 else option_map suc (position_of pmid records)
 
 pub record HasDescriptions {S : Type 0} (descriptions : IndexMap ℕ ℕ S) (records : List MetaRecord) : Type 0 where
-  pub order : keys descriptions ≡ described records
+  pub order : keys descriptions ≡ described_metrics records
   pub positions : (pmid : ℕ) → get nat_eq descriptions pmid ≡ position_of pmid records
 
 -- whether a record is of a domain, from a moment on
@@ -48,7 +48,7 @@ pub record IsKept {S : Type 0} (records : List MetaRecord) (descriptions : Index
 pub record IsState {S : Type 0} (records : List MetaRecord) (marks : List Bool) (descriptions : IndexMap ℕ ℕ S) (moments : BTreeSet Listing) : Type 0 where
   pub kept : IsKept records descriptions moments
   pub marked : AreMarked marks records
-  pub consistent : AreConsistent (woven marks records)
+  pub consistent : AreConsistent (with_other_records marks records)
 
 -- the last of a domain's entries not after a time: no other of them is later, or as late and further behind
 pub record IsLastEntry (moments : BTreeSet Listing) (indom time at : ℕ) : Type 0 where

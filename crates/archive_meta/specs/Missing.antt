@@ -17,29 +17,29 @@ use Rattle.archive_meta.specs.Records.{AreRecords}
 use Rattle.archive_meta.specs.Said.{description_of}
 
 -- a key leads to nothing any more
-abbrev pub without : {V : Type 0} → ℕ → (ℕ → Option V) → ℕ → Option V
-without k leads q = if nat_eq k q then None else leads q
+abbrev pub except_key : {V : Type 0} → ℕ → (ℕ → Option V) → ℕ → Option V
+except_key k leads q = if nat_eq k q then None else leads q
 
 -- what keys lead to, in their order, each once
-abbrev pub taken : {V : Type 0} → (ℕ → Option V) → List ℕ → List V
-taken leads [] = []
-taken leads (k ∷ ks) = option_to_list (leads k) ++ taken (without k leads) ks
+abbrev pub values_of_keys : {V : Type 0} → (ℕ → Option V) → List ℕ → List V
+values_of_keys leads [] = []
+values_of_keys leads (k ∷ ks) = option_to_list (leads k) ++ values_of_keys (except_key k leads) ks
 
 -- whether a set shows values of a metric that no record describes
 abbrev pub is_undescribed : List MetaRecord → ValueSet → Bool
 is_undescribed records set = has_values set.body && is_none (description_of set.pmid records)
 
 -- the metrics of such sets
-abbrev pub undescribed : List MetaRecord → List ValueSet → List ℕ
-undescribed records [] = []
-undescribed records (set ∷ sets) = if is_undescribed records set then set.pmid ∷ undescribed records sets else undescribed records sets
+abbrev pub undescribed_metrics : List MetaRecord → List ValueSet → List ℕ
+undescribed_metrics records [] = []
+undescribed_metrics records (set ∷ sets) = if is_undescribed records set then set.pmid ∷ undescribed_metrics records sets else undescribed_metrics records sets
 
 abbrev pub described_by : Desc × List ℕ → MetaRecord
 described_by fact = Description fact.0 (fact.1 ∷ [])
 
 -- The descriptions that are missing: of the metrics with values that no record describes, in the order of the sets.
 abbrev pub missing_descriptions : List MetaRecord → List (Desc × List ℕ) → List ValueSet → List MetaRecord
-missing_descriptions records metrics sets = map described_by (taken (fact_of metrics) (undescribed records sets))
+missing_descriptions records metrics sets = map described_by (values_of_keys (fact_of metrics) (undescribed_metrics records sets))
 
 -- the domain of a metric by its fact
 abbrev pub domain_in : Option (Desc × List ℕ) → List ℕ
@@ -56,7 +56,7 @@ shown_domains metrics (set ∷ sets) = shown_domain metrics set ++ shown_domains
 
 -- The domains of the facts, each once, in the order of the sets; behind them those of no set.
 abbrev pub domains_of : Facts → List ValueSet → List (ℕ × List (ℤ × List ℕ))
-domains_of facts sets = taken (listed_of facts.domains) (shown_domains facts.metrics sets ++ map domain_of facts.domains)
+domains_of facts sets = values_of_keys (listed_of facts.domains) (shown_domains facts.metrics sets ++ map domain_of facts.domains)
 
 -- no instances of a domain hold at a moment, or others
 abbrev pub Lacks : List MetaRecord → Moment → ℕ × List (ℤ × List ℕ) → Type 0

@@ -54,5 +54,5 @@ seen_after seen (Description d names) = seen_with seen d.pmid
 seen_after seen (Domain t indom pairs) = seen
 seen_after seen Other = seen
 
-abbrev pub described : List MetaRecord → List ℕ
-described records = fold seen_after [] records
+abbrev pub described_metrics : List MetaRecord → List ℕ
+described_metrics records = fold seen_after [] records

@@ -3,11 +3,11 @@ use Rattle.std.specs.Prelude.{Bool, true, false, List, [], ◌∷◌}
 use Rattle.pcp_model.specs.declared.records.MetaRecord.{MetaRecord}
 use Rattle.pcp_model.specs.declared.records.MetaRecord.TheVariants.{Other}
 
-abbrev pub woven : List Bool → List MetaRecord → List MetaRecord
-woven [] records = []
-woven (false ∷ marks) records = Other ∷ woven marks records
-woven (true ∷ marks) [] = []
-woven (true ∷ marks) (r ∷ records) = r ∷ woven marks records
+abbrev pub with_other_records : List Bool → List MetaRecord → List MetaRecord
+with_other_records [] records = []
+with_other_records (false ∷ marks) records = Other ∷ with_other_records marks records
+with_other_records (true ∷ marks) [] = []
+with_other_records (true ∷ marks) (r ∷ records) = r ∷ with_other_records marks records
 
 -- each record that is kept has its mark
 abbrev pub AreMarked : List Bool → List MetaRecord → Type 0

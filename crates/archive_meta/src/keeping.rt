@@ -6,7 +6,7 @@ ghost use Rattle.pcp_model.specs.Described.{HoldsAt};
 ghost use Rattle.pcp_model.specs.Records.{AreConsistent};
 ghost use Rattle.archive_meta.specs.Said.{description_of, pairs_of};
 ghost use Rattle.archive_meta.specs.Kept.{HasDescriptions, HasMoments, IsKept, IsState};
-ghost use Rattle.archive_meta.specs.Woven.{woven};
+ghost use Rattle.archive_meta.specs.Woven.{with_other_records};
 
 use crate::adding::{forget, note};
 use crate::descriptions::{Descriptions, position_of};
@@ -118,9 +118,9 @@ pub fn push(
     one: MetaRecord,
 ) -> Result<(), NoMemory>
     requires state { IsState records.old marks.old descriptions.old moments.old }
-    requires consistent { AreConsistent (woven marks.old records.old ++ one ∷ []) }
-    ensures ok { OnOk result (woven marks.new records.new ≡ woven marks.old records.old ++ one ∷ []) }
-    ensures err { OnErr result (woven marks.new records.new ≡ woven marks.old records.old) }
+    requires consistent { AreConsistent (with_other_records marks.old records.old ++ one ∷ []) }
+    ensures ok { OnOk result (with_other_records marks.new records.new ≡ with_other_records marks.old records.old ++ one ∷ []) }
+    ensures err { OnErr result (with_other_records marks.new records.new ≡ with_other_records marks.old records.old) }
     ensures state { OnOk result (IsState records.new marks.new descriptions.new moments.new) }
     ensures still { OnErr result (IsState records.new marks.new descriptions.new moments.new) }
 {
@@ -146,7 +146,7 @@ fn pop(
     moments: &mut Moments,
 )
     requires { IsState records.old marks.old descriptions.old moments.old }
-    ensures rest { woven marks.new records.new ≡ take (length marks.old - 1) (woven marks.old records.old) }
+    ensures rest { with_other_records marks.new records.new ≡ take (length marks.old - 1) (with_other_records marks.old records.old) }
     ensures size { length marks.new ≡ length marks.old - 1 }
     ensures state { IsState records.new marks.new descriptions.new moments.new }
 {
@@ -166,7 +166,7 @@ pub fn cut(
     count: usize,
 )
     requires { IsState records.old marks.old descriptions.old moments.old }
-    ensures rest { woven marks.new records.new ≡ take count (woven marks.old records.old) }
+    ensures rest { with_other_records marks.new records.new ≡ take count (with_other_records marks.old records.old) }
     ensures state { IsState records.new marks.new descriptions.new moments.new }
 {
     let mut left = marks.len();

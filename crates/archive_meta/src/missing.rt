@@ -4,7 +4,7 @@ ghost use Rattle.std.specs.List.{AllByRecursion};
 ghost use Rattle.indexmap.specs.IndexMap.{get};
 ghost use Rattle.pcp_model.specs.Described.{HoldsAt};
 ghost use Rattle.archive_meta.specs.Facts.{fact_of, metric_of};
-ghost use Rattle.archive_meta.specs.Missing.{is_undescribed, undescribed, taken, shown_domain, shown_domains, domains_of, Tells, AreMissingDomains, listed_from, position_from, at_positions};
+ghost use Rattle.archive_meta.specs.Missing.{is_undescribed, undescribed_metrics, values_of_keys, shown_domain, shown_domains, domains_of, Tells, AreMissingDomains, listed_from, position_from, at_positions};
 
 use crate::adding::is_same_text;
 use crate::descriptions::position_of;
@@ -103,8 +103,8 @@ impl MetaState {
     }
 
     /// The metrics with values that no record describes.
-    fn undescribed(&self, alloc: Global, sets: &[ValueSet]) -> Result<List<u32>, NoMemory>
-        ensures { IfOk result (λ keys. keys ≡ undescribed self.now sets.now) }
+    fn undescribed_metrics(&self, alloc: Global, sets: &[ValueSet]) -> Result<List<u32>, NoMemory>
+        ensures { IfOk result (λ keys. keys ≡ undescribed_metrics self.now sets.now) }
     {
         let mut keys = List::empty(alloc);
         for set in sets {
@@ -122,9 +122,9 @@ impl MetaState {
         metrics: &[(Desc, Text)],
         sets: &[ValueSet],
     ) -> Result<List<usize>, NoMemory>
-        ensures { IfOk result (λ positions. at_positions metrics.now positions ≡ taken (fact_of metrics.now) (undescribed self.now sets.now)) }
+        ensures { IfOk result (λ positions. at_positions metrics.now positions ≡ values_of_keys (fact_of metrics.now) (undescribed_metrics self.now sets.now)) }
     {
-        let keys = self.undescribed(alloc, sets)?;
+        let keys = self.undescribed_metrics(alloc, sets)?;
         if keys.is_empty() {
             return Ok(List::empty(alloc));
         }

@@ -6,7 +6,7 @@ ghost use Rattle.pcp_model.specs.declared.records.MetaRecord.TheVariants.{Descri
 ghost use Rattle.pcp_model.specs.Described.{HoldsAt};
 ghost use Rattle.pcp_model.specs.Records.{AreConsistent};
 ghost use Rattle.archive_meta.specs.Records.{AreRecords, IsMetaFault, Adds, AreFound, IsAddFault};
-ghost use Rattle.archive_meta.specs.Said.{description_of, desc_of, names_of, described};
+ghost use Rattle.archive_meta.specs.Said.{description_of, desc_of, names_of, described_metrics};
 
 use crate::adding::is_description;
 use crate::counting::{Room, room_for};
@@ -37,11 +37,11 @@ impl Model for MetaState {
     ghost use Rattle.std.specs.Prelude.{List as Sequence};
     ghost use Rattle.pcp_model.specs.declared.records.MetaRecord.{MetaRecord as Record};
     ghost use Rattle.archive_meta.specs.Kept.{IsState};
-    ghost use Rattle.archive_meta.specs.Woven.{woven};
+    ghost use Rattle.archive_meta.specs.Woven.{with_other_records};
 
     ghost Value = { Sequence Record };
 
-    ghost view = { λ m. woven m.marks m.records };
+    ghost view = { λ m. with_other_records m.marks m.records };
 
     ghost invariant = { λ m. IsState m.records m.marks m.descriptions m.moments };
 }
@@ -238,7 +238,7 @@ impl MetaState {
 
     /// The metrics that are described, in the order in which they are first.
     pub fn pmids(&self, alloc: Global) -> Result<List<Pmid>, NoMemory>
-        ensures { IfOk result (λ pmids. pmids ≡ described self.now) }
+        ensures { IfOk result (λ pmids. pmids ≡ described_metrics self.now) }
     {
         all_metrics(alloc, &self.descriptions)
     }

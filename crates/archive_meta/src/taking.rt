@@ -2,7 +2,7 @@
 ghost use Rattle.std.specs.Prelude.{◌≡◌, ℕ, nat_eq, map, IfOk};
 ghost use Rattle.indexmap.specs.IndexMap.{get};
 ghost use Rattle.archive_meta.specs.Facts.{metric_of, domain_of};
-ghost use Rattle.archive_meta.specs.Missing.{taken, position_from};
+ghost use Rattle.archive_meta.specs.Missing.{values_of_keys, position_from};
 
 use crate::hashing::WordHasher;
 use indexmap::IndexMap;
@@ -27,7 +27,7 @@ pub fn first_positions(alloc: Global, table: &[u32]) -> Result<Positions, NoMemo
 
 /// Where what these keys lead to stands in a table, in the order of the keys, each once.
 pub fn take_positions(alloc: Global, table: &[u32], keys: &[u32]) -> Result<List<usize>, NoMemory>
-    ensures { IfOk result (λ positions. positions ≡ taken (position_from 0 table.now) keys.now) }
+    ensures { IfOk result (λ positions. positions ≡ values_of_keys (position_from 0 table.now) keys.now) }
 {
     let mut left = first_positions(alloc, table)?;
     let mut positions = List::empty(alloc);

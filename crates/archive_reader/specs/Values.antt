@@ -20,13 +20,13 @@ abbrev pub first_shown : ℕ → List ValueSet → Option ValueSet
 first_shown pmid [] = None
 first_shown pmid (set ∷ sets) = if shows pmid set then Some set else first_shown pmid sets
 
-abbrev pub stamped : Moment → Option ValueSet → Option (Moment × ValueSet)
-stamped t None = None
-stamped t (Some set) = Some (t, set)
+abbrev pub with_stamp : Moment → Option ValueSet → Option (Moment × ValueSet)
+with_stamp t None = None
+with_stamp t (Some set) = Some (t, set)
 
 -- an item's stamp and its set with values of this metric, if it has one
 abbrev pub value_in : ℕ → Item → Option (Moment × ValueSet)
-value_in pmid (Sample r) = stamped r.stamp (first_shown pmid r.sets)
+value_in pmid (Sample r) = with_stamp r.stamp (first_shown pmid r.sets)
 value_in pmid (Mark t) = None
 
 abbrev pub value_by : ℕ → Moment → Item → Option (Moment × ValueSet)

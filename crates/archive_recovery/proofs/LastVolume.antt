@@ -14,7 +14,7 @@ use Rattle.pcp_model.specs.Payload.{IsItem}
 use Rattle.pcp_model.specs.Recovered.{IsMended, labelled_volumes, or_first_volume, AreMended}
 use Rattle.pcp_model.proofs.CutArchive.{none_appended}
 use Rattle.pcp_model.proofs.Lists.{each-append}
-use Rattle.pcp_outside.specs.Devices.{Becomes, Survives, made_sure, grown}
+use Rattle.pcp_outside.specs.Devices.{Becomes, Survives, made_sure, holdings_after_append}
 use Rattle.pcp_outside.proofs.Images.{bytes-cut_to, bytes-made_sure}
 use Rattle.archive_recovery.specs.Damage.{IsVolumeEnd, HasEnd, IsLastEnd, IsBare}
 use Rattle.archive_recovery.specs.Halfway.{LastIsCut, FirstIsBegun}
@@ -87,7 +87,7 @@ module _ (files : Files) (c : ArchiveContents) (is : IsArchive files c) (old : H
         (λ (cut : image (Volume l.number) ≡ take (unwrap_or l.end 0) (b.before (Volume l.number))). inl (cut_by l has l.end refl has.is (cut ∙ ap (take (unwrap_or l.end 0)) (untouched b.before b.left l.number)) (λ n other. b.others (Volume n) (other_volume l.number n other) ∙ untouched b.before b.left n))) b.this
 
     -- the first volume's label is begun
-    first_between : (last : Option Last) → IsLastEnd files c last → IsBare files c true → (mid : Holdings) → LastIsMended last old mid → (bytes : List ℕ) → bytes ≡ label c.label (pos 0) → CrashImage (grown (Volume 0) bytes mid) image → FirstIsBegun files image c
+    first_between : (last : Option Last) → IsLastEnd files c last → IsBare files c true → (mid : Holdings) → LastIsMended last old mid → (bytes : List ℕ) → bytes ≡ label c.label (pos 0) → CrashImage (holdings_after_append (Volume 0) bytes mid) image → FirstIsBegun files image c
     first_between last ends bare mid change bytes spelled crash = record {
       none = bare;
       n = (crash (Volume 0)).0;
@@ -101,7 +101,7 @@ module _ (files : Files) (c : ArchiveContents) (is : IsArchive files c) (old : H
 
         others : (k : ℕ) → k ≢ 0 → image (Volume k) ≡ []
         others k other =
-            let same : grown (Volume 0) bytes mid (Volume k) ≡ mid (Volume k) = ap (λ (b : Bool). if b then record { sure = (mid (Volume 0)).sure; rest = (mid (Volume 0)).rest ++ bytes } else mid (Volume k)) (other_volume 0 k other) in
+            let same : holdings_after_append (Volume 0) bytes mid (Volume k) ≡ mid (Volume k) = ap (λ (b : Bool). if b then record { sure = (mid (Volume 0)).sure; rest = (mid (Volume 0)).rest ++ bytes } else mid (Volume k)) (other_volume 0 k other) in
             let left : Survives (mid (Volume k)) (image (Volume k)) = subst (λ (h : Held). Survives h (image (Volume k))) same (crash (Volume k)) in
             left.1 ∙ ap (λ s. s ++ take left.0 (mid (Volume k)).rest) (no_parts (mid (Volume k)) (empty k)).0 ∙ ap (take left.0) (no_parts (mid (Volume k)) (empty k)).1 ∙ take-nil left.0
 

@@ -6,7 +6,7 @@ use Rattle.pcp_base.specs.declared.file.FileId.{FileId}
 use Rattle.pcp_base.specs.declared.file.FileId.TheVariants.{Meta, Index, Volume}
 use Rattle.pcp_model.specs.Disk.{Files, Held, Holdings, CrashImage, bytes_of}
 use Rattle.pcp_model.specs.Written.{same_file}
-use Rattle.pcp_outside.specs.Devices.{Becomes, Survives, cut_to, grown}
+use Rattle.pcp_outside.specs.Devices.{Becomes, Survives, cut_to, holdings_after_append}
 use Rattle.pcp_outside.proofs.Images.{image_cut, survives_now}
 use Rattle.archive_recovery.specs.Mending.{MayBeCut, IndexMayBe}
 
@@ -41,7 +41,7 @@ was_before old image Index = bytes_of (old Index)
 was_before old image (Volume n) = image (Volume n)
 
 -- its new label is begun
-pub label_image : (label : List ℕ) (old mid : Holdings) → Becomes Index (cut_to 0 (old Index)) old mid → (image : Files) → CrashImage (grown Index label mid) image → IndexMayBe None label old image
+pub label_image : (label : List ℕ) (old mid : Holdings) → Becomes Index (cut_to 0 (old Index)) old mid → (image : Files) → CrashImage (holdings_after_append Index label mid) image → IndexMayBe None label old image
 unfolding was_before
 label_image label old mid change image left = record {
   before = was_before old image;

@@ -4,7 +4,7 @@ use Rattle.pcp_base.specs.declared.file.FileId.{FileId}
 use Rattle.pcp_base.specs.declared.file.FileId.TheVariants.{Index, Volume}
 use Rattle.pcp_model.specs.Disk.{Files, Held, Holdings, CrashImage}
 use Rattle.pcp_model.specs.Written.{same_file}
-use Rattle.pcp_outside.specs.Devices.{Becomes, cut_to, made_sure, grown}
+use Rattle.pcp_outside.specs.Devices.{Becomes, cut_to, made_sure, holdings_after_append}
 use Rattle.archive_recovery.specs.declared.mending.Last.{Last}
 
 -- files that agree but for one
@@ -57,4 +57,4 @@ pub record VolumesAreMended (last : Option Last) (bare : Bool) (label : List ℕ
 -- what a crash leaves meanwhile
 abbrev pub VolumesMayBe : Option Last → Bool → List ℕ → Holdings → Files → Type 0
 VolumesMayBe last bare label held image =
-    LastMayBe last held image ⊎ ((bare ≡ true) × (mid : Holdings) × LastIsMended last held mid × CrashImage (grown (Volume 0) label mid) image)
+    LastMayBe last held image ⊎ ((bare ≡ true) × (mid : Holdings) × LastIsMended last held mid × CrashImage (holdings_after_append (Volume 0) label mid) image)

@@ -2,7 +2,7 @@
 ghost use Rattle.std.specs.Prelude.{◌≡◌, OnOk};
 ghost use Rattle.pcp_model.specs.Disk.{CrashImage};
 ghost use Rattle.pcp_outside.specs.Causes.{HasCause};
-ghost use Rattle.pcp_outside.specs.Devices.{IsNumbered, LeavesOnly, Becomes, synced};
+ghost use Rattle.pcp_outside.specs.Devices.{IsNumbered, LeavesOnly, Becomes, held_after_sync};
 ghost use Rattle.archive_recovery.specs.Syncing.{MadeSure, IsVolumeBelow, IsAny};
 
 use pcp_outside::{Disk, Failed, FileId};
@@ -10,7 +10,7 @@ use pcp_outside::{Disk, Failed, FileId};
 /// Makes all bytes of a file sure, where it has any.
 fn sync_filled<D: Disk>(disk: &mut D, file: FileId) -> Result<(), Failed>
     requires { IsNumbered file }
-    ensures held { D.tells → OnOk result (Becomes file (synced (D.held disk.old file)) (D.held disk.old) (D.held disk.new)) }
+    ensures held { D.tells → OnOk result (Becomes file (held_after_sync (D.held disk.old file)) (D.held disk.old) (D.held disk.new)) }
     ensures any_moment { D.tells → LeavesOnly D.moment D.left_since disk.old disk.new (CrashImage (D.held disk.old)) }
     ensures wrapped { D.tells → D.wrapped_file disk.new ≡ D.wrapped_file disk.old }
     ensures cause { HasCause (D.faults disk.old) (D.faults disk.new) result }

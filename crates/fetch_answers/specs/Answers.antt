@@ -21,7 +21,7 @@ use Rattle.archive_meta.specs.Facts.{has_values}
 use Rattle.archive_meta.specs.declared.facts.Facts.{Facts}
 use Rattle.fetch_answers.specs.Names.{served_word, full_name}
 use Rattle.fetch_answers.specs.Readings.{RegionReading}
-use Rattle.fetch_answers.specs.Values.{stored, values_with}
+use Rattle.fetch_answers.specs.Values.{body_of_values, values_with}
 
 -- the number of a metric or of an instance domain is of the region that is served in its cluster, in domain 70
 abbrev pub is_of : ℕ → RegionReading → Bool
@@ -41,7 +41,7 @@ indom_in cluster metric = option_map (served_word cluster) metric.serial
 -- what a metric shows: no such metric, or its values
 abbrev pub metric_body : Settings → ℕ → Layout → Option MetricRow → Body
 metric_body profile cluster layout None = Status (negsuc 12357)
-metric_body profile cluster layout (Some metric) = stored metric.kind profile (indom_in cluster metric) (values_with metric.item layout.values)
+metric_body profile cluster layout (Some metric) = body_of_values metric.kind profile (indom_in cluster metric) (values_with metric.item layout.values)
 
 abbrev pub layout_body : Settings → ℕ → ℕ → Option Layout → Body
 layout_body profile cluster pmid None = Status (negsuc 12388)

@@ -73,12 +73,12 @@ abbrev pub blocks_of : Settings → Option ℕ → ℕ → ByInstance → Body
 blocks_of profile indom code values = blocks_or_none (flat_map (shown_block profile indom code) values)
 
 -- I32 and U32 stand in place, I64, U64 and texts in blocks, and others aren't converted
-abbrev pub stored : Kind → Settings → Option ℕ → ByInstance → Body
-stored kinds.I32 profile indom values = words_of profile indom values
-stored kinds.U32 profile indom values = words_of profile indom values
-stored kinds.I64 profile indom values = blocks_of profile indom 2 values
-stored kinds.U64 profile indom values = blocks_of profile indom 3 values
-stored kinds.Float profile indom values = Status (negsuc 12361)
-stored kinds.Double profile indom values = Status (negsuc 12361)
-stored kinds.Text profile indom values = blocks_of profile indom 6 values
-stored kinds.Elapsed profile indom values = Status (negsuc 12361)
+abbrev pub body_of_values : Kind → Settings → Option ℕ → ByInstance → Body
+body_of_values kinds.I32 profile indom values = words_of profile indom values
+body_of_values kinds.U32 profile indom values = words_of profile indom values
+body_of_values kinds.I64 profile indom values = blocks_of profile indom 2 values
+body_of_values kinds.U64 profile indom values = blocks_of profile indom 3 values
+body_of_values kinds.Float profile indom values = Status (negsuc 12361)
+body_of_values kinds.Double profile indom values = Status (negsuc 12361)
+body_of_values kinds.Text profile indom values = blocks_of profile indom 6 values
+body_of_values kinds.Elapsed profile indom values = Status (negsuc 12361)

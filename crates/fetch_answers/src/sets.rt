@@ -10,7 +10,7 @@ use crate::index::RowNumbers;
 use crate::pairs::served_word;
 use crate::reading::{Known, region_of};
 use crate::told::Told;
-use crate::values::stored;
+use crate::values::body_of_values;
 use mmv_layout::MetricRow;
 use pcp_base::{Body, InDom, List, NoMemory, Pmid, ValueSet};
 use profile_filter::Profile;
@@ -51,10 +51,10 @@ fn metric_body(
     };
     let indom = indom_in(cluster, metric.serial);
     match told.numbers(metric.item) {
-        Some(numbers) => stored(alloc, metric.kind, profile, &indom, told.words(), numbers),
+        Some(numbers) => body_of_values(alloc, metric.kind, profile, &indom, told.words(), numbers),
         None => {
             let none: RowNumbers = BTreeMap::new(alloc);
-            stored(alloc, metric.kind, profile, &indom, told.words(), &none)
+            body_of_values(alloc, metric.kind, profile, &indom, told.words(), &none)
         }
     }
 }

@@ -2,7 +2,7 @@
 ghost use Rattle.std.specs.Prelude.{◌≡◌, ◌++◌, flat_map, IfOk, OnOk};
 ghost use Rattle.fetch_answers.specs.Bounds.{FitsContent};
 ghost use Rattle.fetch_answers.specs.Numbers.{content_at, contents_at};
-ghost use Rattle.fetch_answers.specs.Values.{block_of, bytes_of, blocks_of, keeps, shown_block, shown_word, stored, word_of, words_of};
+ghost use Rattle.fetch_answers.specs.Values.{block_of, bytes_of, blocks_of, keeps, shown_block, shown_word, body_of_values, word_of, words_of};
 
 use crate::index::RowNumbers;
 use byteorder::{BigEndian, ByteOrder};
@@ -197,7 +197,7 @@ fn blocks_of(
 }
 
 /// The set's body of a metric's kind, with the values in these rows of an image.
-pub fn stored(
+pub fn body_of_values(
     alloc: Global,
     kind: Kind,
     profile: &Profile,
@@ -205,7 +205,7 @@ pub fn stored(
     words: &[u64],
     numbers: &RowNumbers,
 ) -> Result<Body, NoMemory>
-    ensures { IfOk result (λ body. body ≡ stored kind profile.now indom.now (contents_at words.now numbers.now.entries)) }
+    ensures { IfOk result (λ body. body ≡ body_of_values kind profile.now indom.now (contents_at words.now numbers.now.entries)) }
 {
     match kind {
         Kind::I32 | Kind::U32 => words_of(alloc, profile, indom, words, numbers),

@@ -8,35 +8,35 @@ use Rattle.mmv_format.specs.declared.rows.Content.{Content}
 use Rattle.mmv_format.specs.declared.rows.Content.TheVariants as contents
 use Rattle.layout_text.specs.declared.line.Written.TheVariants as written
 use Rattle.text_lines.proofs.Taking.{passed, same_some}
-use Rattle.layout_text.specs.Contents.{ranged, content_of, turned, written_number, number_as, text_as, raw_as}
+use Rattle.layout_text.specs.Contents.{number_in_range, content_of, signed_number, written_number, number_as, text_as, raw_as}
 use Rattle.layout_text.specs.Laws.{IsContent, IsWritten, WrittenContentIsRead, ReadContentIsContent, WrittenContentIsWritten}
 
 -- a number that isn't negative, and one that is
-turned_low : (half n : ℕ) → n < half → turned half n ≡ written.Number (pos n)
+turned_low : (half n : ℕ) → n < half → signed_number half n ≡ written.Number (pos n)
 turned_low half n h = ap (λ q. cond q (written.Number (pos n)) (written.Number (negsuc (2 * half - suc n)))) (lt-ltb n half h)
 
-turned_high : (half n : ℕ) → half ≤ n → turned half n ≡ written.Number (negsuc (2 * half - suc n))
+turned_high : (half n : ℕ) → half ≤ n → signed_number half n ≡ written.Number (negsuc (2 * half - suc n))
 turned_high half n h = ap (λ q. cond q (written.Number (pos n)) (written.Number (negsuc (2 * half - suc n)))) (le-ltb n half h)
 
-ranged_plain : (low high n : ℕ) → n ≤ high → ranged low high (pos n) ≡ Some (contents.Number n)
+ranged_plain : (low high n : ℕ) → n ≤ high → number_in_range low high (pos n) ≡ Some (contents.Number n)
 ranged_plain low high n h = ap (λ q. cond q (Some (contents.Number n)) None) (le-leb n high h)
 
-ranged_minus : (low high n : ℕ) → n < low → ranged low high (negsuc n) ≡ Some (contents.Number (18446744073709551615 - n))
+ranged_minus : (low high n : ℕ) → n < low → number_in_range low high (negsuc n) ≡ Some (contents.Number (18446744073709551615 - n))
 ranged_minus low high n h = ap (λ q. cond q (Some (contents.Number (18446744073709551615 - n))) None) (lt-ltb n low h)
 
 -- both halves of a number of 32 bits, and of 64
 low_i32 : (n : ℕ) → n < 2147483648 → content_of kinds.I32 (written_number kinds.I32 n) ≡ Some (contents.Number n)
 low_i32 n h =
     let m : n % 4294967296 ≡ n = omega arith in
-    ap (λ x. content_of kinds.I32 (turned 2147483648 x)) m ∙ ap (content_of kinds.I32) (turned_low 2147483648 n h) ∙ ranged_plain 2147483648 2147483647 n (omega arith)
+    ap (λ x. content_of kinds.I32 (signed_number 2147483648 x)) m ∙ ap (content_of kinds.I32) (turned_low 2147483648 n h) ∙ ranged_plain 2147483648 2147483647 n (omega arith)
 
 high_i32 : (n : ℕ) → 18446744071562067968 ≤ n → n < 18446744073709551616 → content_of kinds.I32 (written_number kinds.I32 n) ≡ Some (contents.Number n)
 high_i32 n l h =
     let m : n % 4294967296 ≡ n - 18446744069414584320 = omega arith in
     let past : 2 * 2147483648 - suc (n - 18446744069414584320) ≡ 18446744073709551615 - n = omega arith in
-    ap (λ x. content_of kinds.I32 (turned 2147483648 x)) m
+    ap (λ x. content_of kinds.I32 (signed_number 2147483648 x)) m
     ∙ ap (content_of kinds.I32) (turned_high 2147483648 (n - 18446744069414584320) (omega arith))
-    ∙ ap (λ x. ranged 2147483648 2147483647 (negsuc x)) past
+    ∙ ap (λ x. number_in_range 2147483648 2147483647 (negsuc x)) past
     ∙ ranged_minus 2147483648 2147483647 (18446744073709551615 - n) (omega arith)
     ∙ ap (λ x. Some (contents.Number x)) (let back : 18446744073709551615 - (18446744073709551615 - n) ≡ n = omega arith in back)
 
@@ -47,7 +47,7 @@ high_i64 : (n : ℕ) → 9223372036854775808 ≤ n → n < 18446744073709551616 
 high_i64 n l h =
     let past : 2 * 9223372036854775808 - suc n ≡ 18446744073709551615 - n = omega arith in
     ap (content_of kinds.I64) (turned_high 9223372036854775808 n l)
-    ∙ ap (λ x. ranged 9223372036854775808 9223372036854775807 (negsuc x)) past
+    ∙ ap (λ x. number_in_range 9223372036854775808 9223372036854775807 (negsuc x)) past
     ∙ ranged_minus 9223372036854775808 9223372036854775807 (18446744073709551615 - n) (omega arith)
     ∙ ap (λ x. Some (contents.Number x)) (let back : 18446744073709551615 - (18446744073709551615 - n) ≡ n = omega arith in back)
 
@@ -87,7 +87,7 @@ content_is_read kind (contents.Choice text) h = text_is_read kind text h
 content_is_read kind (contents.Raw value extra) h = raw_is_read kind value extra h
 
 -- what a range lets through
-ranged_is : (P : Content → Type 0) (low high : ℕ) (n : ℤ) (content : Content) → ((m : ℕ) → m < low → P (contents.Number (18446744073709551615 - m))) → ((m : ℕ) → m ≤ high → P (contents.Number m)) → ranged low high n ≡ Some content → P content
+ranged_is : (P : Content → Type 0) (low high : ℕ) (n : ℤ) (content : Content) → ((m : ℕ) → m < low → P (contents.Number (18446744073709551615 - m))) → ((m : ℕ) → m ≤ high → P (contents.Number m)) → number_in_range low high n ≡ Some content → P content
 ranged_is P low high (pos n) content f g e = let t = passed (nat_le n high) (contents.Number n) content e in subst P t.1 (g n (leb-true n high t.0))
 ranged_is P low high (negsuc n) content f g e = let t = passed (nat_lt n low) (contents.Number (18446744073709551615 - n)) content e in subst P t.1 (f n (ltb-true n low t.0))
 
@@ -130,7 +130,7 @@ content_range kind (written.Number n) content e = number_range kind n content e
 content_range kind (written.Quoted text) content e = text_range kind text content e
 content_range kind (written.Raw value extra) content e = raw_range kind value extra content e
 
-turned_stands : (half n : ℕ) → half ≤ 9223372036854775808 → n < 2 * half → IsWritten (turned half n)
+turned_stands : (half n : ℕ) → half ≤ 9223372036854775808 → n < 2 * half → IsWritten (signed_number half n)
 turned_stands half n h l =
     cond_both (nat_lt n half) (written.Number (pos n)) (written.Number (negsuc (2 * half - suc n))) IsWritten
     (λ _. let small : n < 10 ^ 20 = omega arith in small) (λ _. let small : suc (2 * half - suc n) < 10 ^ 20 = omega arith in small)

@@ -6,7 +6,7 @@ use Rattle.layout_text.specs.declared.line.Written.{Written}
 use Rattle.layout_text.specs.declared.line.Written.TheVariants as written
 use Rattle.text_lines.specs.Laws.{EndsWord, IsTextByte, IsWhole}
 use Rattle.text_lines.specs.Numbers.{whole_number, hex_number}
-use Rattle.text_lines.specs.Words.{first_word, behind_word, take_as, starts_quoted, quoted}
+use Rattle.text_lines.specs.Words.{first_word, behind_word, take_as, starts_quoted, text_in_quotes}
 use Rattle.text_lines.specs.Spelling.{hex_text, quoted_text, int_part, text_part, hex_part}
 use Rattle.text_lines.proofs.Decimals.{decimal_is, decimal_nonempty, whole-decimal}
 use Rattle.text_lines.proofs.Escapes.{quoted_of}
@@ -71,7 +71,7 @@ last_quoted : (text : List ℕ) → All IsTextByte text → last_content (text_p
 unfolding last_content quoted_content text_part
 last_quoted text h =
     let quote : starts_quoted (quoted_text text) ≡ true = starts_text text in
-    let found : quoted (quoted_text text) ≡ Some (text, []) = ap quoted (sym (append-nil (quoted_text text))) ∙ quoted_of text [] h in
+    let found : text_in_quotes (quoted_text text) ≡ Some (text, []) = ap text_in_quotes (sym (append-nil (quoted_text text))) ∙ quoted_of text [] h in
     rw (quote, found)
 
 pub content_is_read : (content : Written) → IsWritten content → last_content (content_part content) ≡ Some content

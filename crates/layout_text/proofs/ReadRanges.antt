@@ -12,7 +12,7 @@ use Rattle.layout_text.specs.declared.line.Written.{Written}
 use Rattle.layout_text.specs.declared.line.Written.TheVariants as written
 use Rattle.text_lines.specs.Laws.{IsLineByte, TakesOnly}
 use Rattle.text_lines.specs.Numbers.{◌>>=◌, whole_number, hex_number}
-use Rattle.text_lines.specs.Words.{first_word, behind_word, word_length, take_space, take_as, starts_quoted, quoted, ended}
+use Rattle.text_lines.specs.Words.{first_word, behind_word, word_length, take_space, take_as, starts_quoted, text_in_quotes, whole_line}
 use Rattle.text_lines.proofs.NumberRanges.{whole_range, hex_range, takes_numbers, takes_wide_numbers, takes_ints, takes_hex, takes_optional_numbers, takes_optional_ints}
 use Rattle.text_lines.proofs.Taking.{word_taken, word_inside, both_steps, passed, either, same_some, none_some, takes_as}
 use Rattle.text_lines.proofs.Splitting.{IsWord}
@@ -22,7 +22,7 @@ use Rattle.layout_text.specs.Lines.{mmv_line, string_line, indom_line, instance_
 use Rattle.layout_text.specs.Words.{name_of, kind_of, semantics_of}
 
 -- where nothing is left, the last step's line is the line
-ended_is : {X : Type 0} (left : List ℕ) (x y : X) → ended left x ≡ Some y → x ≡ y
+ended_is : {X : Type 0} (left : List ℕ) (x y : X) → whole_line left x ≡ Some y → x ≡ y
 ended_is left x y e = (passed (length left == 0) x y e).1
 
 mmv_range : (bytes : List ℕ) (line : Line) → All IsLineByte bytes → mmv_line bytes ≡ Some line → IsLine line
@@ -122,15 +122,15 @@ number_range word content e =
 raw_range : (word left : List ℕ) (content : Written) → raw_content word left ≡ Some content → IsWritten content
 unfolding raw_content
 raw_range word left content e =
-    let (value, is1, next) = both_steps (hex_number 16 word) (λ v. take_as (hex_number 16) left >>= (λ x. ended x.1 (written.Raw v x.0))) content e in
-    let (extra, is2, last) = both_steps (take_as (hex_number 16) left) (λ x. ended x.1 (written.Raw value x.0)) content next in
+    let (value, is1, next) = both_steps (hex_number 16 word) (λ v. take_as (hex_number 16) left >>= (λ x. whole_line x.1 (written.Raw v x.0))) content e in
+    let (extra, is2, last) = both_steps (take_as (hex_number 16) left) (λ x. whole_line x.1 (written.Raw value x.0)) content next in
     let was = word_taken (hex_number 16) left extra.1 extra.0 is2 in
     subst IsWritten (ended_is extra.1 (written.Raw value extra.0) content last) (hex_range 16 word value is1, hex_range 16 was.word extra.0 was.reads)
 
 quoted_range : (bytes : List ℕ) (content : Written) → All IsLineByte bytes → quoted_content bytes ≡ Some content → IsWritten content
 unfolding quoted_content
 quoted_range bytes content h e =
-    let (text, is1, last) = both_steps (quoted bytes) (λ t. ended t.1 (written.Quoted t.0)) content e in
+    let (text, is1, last) = both_steps (text_in_quotes bytes) (λ t. whole_line t.1 (written.Quoted t.0)) content e in
     subst IsWritten (ended_is text.1 (written.Quoted text.0) content last) (quoted_takes bytes text.1 text.0 h is1).0
 
 words_range : (bytes : List ℕ) (content : Written) → words_content bytes ≡ Some content → IsWritten content

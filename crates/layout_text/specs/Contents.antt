@@ -8,15 +8,15 @@ use Rattle.layout_text.specs.declared.line.Written.{Written}
 use Rattle.layout_text.specs.declared.line.Written.TheVariants as written
 
 -- the value field of a number from -low to high: its 64 bits of two's complement
-abbrev pub ranged : ℕ → ℕ → ℤ → Option Content
-ranged low high (pos n) = if nat_le n high then Some (contents.Number n) else None
-ranged low high (negsuc n) = if nat_lt n low then Some (contents.Number (18446744073709551615 - n)) else None
+abbrev pub number_in_range : ℕ → ℕ → ℤ → Option Content
+number_in_range low high (pos n) = if nat_le n high then Some (contents.Number n) else None
+number_in_range low high (negsuc n) = if nat_lt n low then Some (contents.Number (18446744073709551615 - n)) else None
 
 abbrev pub number_as : Kind → ℤ → Option Content
-number_as kinds.I32 n = ranged 2147483648 2147483647 n
-number_as kinds.U32 n = ranged 0 4294967295 n
-number_as kinds.I64 n = ranged 9223372036854775808 9223372036854775807 n
-number_as kinds.U64 n = ranged 0 18446744073709551615 n
+number_as kinds.I32 n = number_in_range 2147483648 2147483647 n
+number_as kinds.U32 n = number_in_range 0 4294967295 n
+number_as kinds.I64 n = number_in_range 9223372036854775808 9223372036854775807 n
+number_as kinds.U64 n = number_in_range 0 18446744073709551615 n
 number_as kinds.Float n = None
 number_as kinds.Double n = None
 number_as kinds.Text n = None
@@ -39,14 +39,14 @@ content_of kind (written.Quoted text) = text_as kind text
 content_of kind (written.Raw value extra) = raw_as kind value extra
 
 -- a number of two's complement, by half of how many there are
-abbrev pub turned : ℕ → ℕ → Written
-turned half n = if nat_lt n half then written.Number (pos n) else written.Number (negsuc (2 * half - suc n))
+abbrev pub signed_number : ℕ → ℕ → Written
+signed_number half n = if nat_lt n half then written.Number (pos n) else written.Number (negsuc (2 * half - suc n))
 
 -- 32 bits of the value field for kinds of 32 bits, else all of it
 abbrev pub written_number : Kind → ℕ → Written
-written_number kinds.I32 n = turned 2147483648 (n % 4294967296)
+written_number kinds.I32 n = signed_number 2147483648 (n % 4294967296)
 written_number kinds.U32 n = written.Number (pos (n % 4294967296))
-written_number kinds.I64 n = turned 9223372036854775808 n
+written_number kinds.I64 n = signed_number 9223372036854775808 n
 written_number _ n = written.Number (pos n)
 
 -- what is written of a value of this kind

@@ -5,7 +5,7 @@ use Rattle.layout_text.specs.declared.line.Line.TheVariants as lines
 use Rattle.layout_text.specs.declared.line.Written.{Written}
 use Rattle.layout_text.specs.declared.line.Written.TheVariants as written
 use Rattle.text_lines.specs.Numbers.{◌>>=◌, number32, number64, int32, whole_number, hex_number}
-use Rattle.text_lines.specs.Words.{first_word, behind_word, take_space, take_as, optional, starts_quoted, quoted, take_text, take_help, ended}
+use Rattle.text_lines.specs.Words.{first_word, behind_word, take_space, take_as, optional, starts_quoted, text_in_quotes, take_text, take_help, whole_line}
 use Rattle.layout_text.specs.Words.{name_of, kind_of, semantics_of}
 
 unfoldable pub mmv_line : List ℕ → Option Line
@@ -15,26 +15,26 @@ mmv_line bytes = do
   flags ← take_as number32 generation.1
   pid ← take_as number32 flags.1
   cluster ← take_as number32 pid.1
-  ended cluster.1 (lines.Mmv version.0 generation.0 flags.0 pid.0 cluster.0)
+  whole_line cluster.1 (lines.Mmv version.0 generation.0 flags.0 pid.0 cluster.0)
 
 unfoldable pub string_line : List ℕ → Option Line
 string_line bytes = do
   text ← take_text bytes
-  ended text.1 (lines.String text.0)
+  whole_line text.1 (lines.String text.0)
 
 unfoldable pub indom_line : List ℕ → Option Line
 indom_line bytes = do
   serial ← take_as number32 bytes
   short ← take_help serial.1
   long ← take_help short.1
-  ended long.1 (lines.Indom serial.0 short.0 long.0)
+  whole_line long.1 (lines.Indom serial.0 short.0 long.0)
 
 unfoldable pub instance_line : List ℕ → Option Line
 instance_line bytes = do
   serial ← take_as number32 bytes
   id ← take_as int32 serial.1
   name ← take_text id.1
-  ended name.1 (lines.Instance serial.0 id.0 name.0)
+  whole_line name.1 (lines.Instance serial.0 id.0 name.0)
 
 unfoldable pub metric_line : List ℕ → Option Line
 metric_line bytes = do
@@ -46,7 +46,7 @@ metric_line bytes = do
   serial ← take_as (optional number32) units.1
   short ← take_help serial.1
   long ← take_help short.1
-  ended long.1 (lines.Metric (record {
+  whole_line long.1 (lines.Metric (record {
     name = name.0;
     item = item.0;
     kind = kind.0;
@@ -67,12 +67,12 @@ unfoldable pub raw_content : List ℕ → List ℕ → Option Written
 raw_content word left = do
   value ← hex_number 16 word
   extra ← take_as (hex_number 16) left
-  ended extra.1 (written.Raw value extra.0)
+  whole_line extra.1 (written.Raw value extra.0)
 
 unfoldable pub quoted_content : List ℕ → Option Written
 quoted_content bytes = do
-  text ← quoted bytes
-  ended text.1 (written.Quoted text.0)
+  text ← text_in_quotes bytes
+  whole_line text.1 (written.Quoted text.0)
 
 unfoldable pub words_content : List ℕ → Option Written
 words_content bytes =

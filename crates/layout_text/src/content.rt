@@ -1,6 +1,6 @@
 //! What written content means for a metric's kind.
 ghost use Rattle.std.specs.Prelude.{◌≡◌, ◌≤◌, ◌<◌, ◌*◌, IfOk};
-ghost use Rattle.layout_text.specs.Contents.{ranged, number_as, text_as, raw_as, content_of, turned, written_number, written_of};
+ghost use Rattle.layout_text.specs.Contents.{number_in_range, number_as, text_as, raw_as, content_of, signed_number, written_number, written_of};
 
 use crate::line::Written;
 use mmv_format::Content;
@@ -8,8 +8,8 @@ use pcp_base::{Duplicate, Kind, NoMemory, Text};
 use std::alloc::Global;
 
 // The value field of a number from `-low` to `high`: its 64 bits of two's complement.
-fn ranged(low: u64, high: u64, number: i128) -> Option<Content>
-    ensures { result ≡ ranged low high number }
+fn number_in_range(low: u64, high: u64, number: i128) -> Option<Content>
+    ensures { result ≡ number_in_range low high number }
 {
     if number < 0 {
         let past = (-1 - number) as u128;
@@ -29,10 +29,10 @@ fn number_as(kind: Kind, number: i128) -> Option<Content>
     ensures { result ≡ number_as kind number }
 {
     match kind {
-        Kind::I32 => ranged(2_147_483_648, 2_147_483_647, number),
-        Kind::U32 => ranged(0, 4_294_967_295, number),
-        Kind::I64 => ranged(9_223_372_036_854_775_808, 9_223_372_036_854_775_807, number),
-        Kind::U64 => ranged(0, 18_446_744_073_709_551_615, number),
+        Kind::I32 => number_in_range(2_147_483_648, 2_147_483_647, number),
+        Kind::U32 => number_in_range(0, 4_294_967_295, number),
+        Kind::I64 => number_in_range(9_223_372_036_854_775_808, 9_223_372_036_854_775_807, number),
+        Kind::U64 => number_in_range(0, 18_446_744_073_709_551_615, number),
         Kind::Float => None,
         Kind::Double => None,
         Kind::Text => None,
@@ -74,9 +74,9 @@ pub fn content_of(kind: Kind, written: Written) -> Option<Content>
 }
 
 // A number of two's complement, by half of how many there are.
-fn turned(half: u64, number: u64) -> Written
+fn signed_number(half: u64, number: u64) -> Written
     requires { number < 2 * half }
-    ensures { result ≡ turned half number }
+    ensures { result ≡ signed_number half number }
 {
     if number < half {
         return Written::Number(number as i128);
@@ -88,9 +88,9 @@ fn written_number(kind: Kind, number: u64) -> Written
     ensures { result ≡ written_number kind number }
 {
     match kind {
-        Kind::I32 => turned(2_147_483_648, number % 4_294_967_296),
+        Kind::I32 => signed_number(2_147_483_648, number % 4_294_967_296),
         Kind::U32 => Written::Number((number % 4_294_967_296) as i128),
-        Kind::I64 => turned(9_223_372_036_854_775_808, number),
+        Kind::I64 => signed_number(9_223_372_036_854_775_808, number),
         _ => Written::Number(number as i128),
     }
 }

@@ -118,7 +118,7 @@ fn quoted_content(alloc: Global, bytes: &[u8]) -> Result<Written, TakeFault>
     ensures { Read (quoted_content bytes.now) result }
 {
     let mut rest = Rest::new(bytes);
-    let text = rest.quoted(alloc)?;
+    let text = rest.text_in_quotes(alloc)?;
     rest.end()?;
     Ok(Written::Quoted(text))
 }

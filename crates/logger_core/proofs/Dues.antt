@@ -3,7 +3,7 @@ use Rattle.std.proofs.Common.{◌≡◌, ℕ, zero, suc, ◌+◌, ◌<◌, Bool,
 use Rattle.std.proofs.lemmas.Bool.{ltb-true, lt-ltb, and_parts}
 use Rattle.pcp_base.specs.Time.{Moment}
 use Rattle.pcp_model.specs.declared.records.Entry.{Entry}
-use Rattle.pcp_outside.specs.Causes.{capped}
+use Rattle.pcp_outside.specs.Causes.{shown_count}
 use Rattle.logger_core.specs.declared.ends.Ends.{Ends}
 use Rattle.logger_core.specs.Steps.{last_entry, up_to, fits_index, fitting, is_behind, where_behind, due}
 use Rattle.logger_core.specs.Going.{HasRoom, HasRoomIfAny, LeadsToEnds, LeadIfAny}
@@ -47,11 +47,11 @@ due_is (Some t) items last size volume meta offset x is =
     record { t = t; stamped = refl; some = ltb-true 0 items both.0; is = fits.0; room = fits.1; meta_small = fits.2; offset_small = fits.3 }
 
 -- of the number of items it matters alone whether there is one
-some_capped : (n : ℕ) → nat_lt 0 (capped n) ≡ nat_lt 0 n
+some_capped : (n : ℕ) → nat_lt 0 (shown_count n) ≡ nat_lt 0 n
 some_capped zero = refl
-some_capped (suc n) = lt-ltb 0 (capped (suc n)) (omega arith) ∙ sym (lt-ltb 0 (suc n) (omega arith))
+some_capped (suc n) = lt-ltb 0 (shown_count (suc n)) (omega arith) ∙ sym (lt-ltb 0 (suc n) (omega arith))
 
-pub due_capped : (g : Option Moment) (n : ℕ) (last : Option Entry) (size volume meta offset : ℕ) → due g (capped n) last size volume meta offset ≡ due g n last size volume meta offset
+pub due_capped : (g : Option Moment) (n : ℕ) (last : Option Entry) (size volume meta offset : ℕ) → due g (shown_count n) last size volume meta offset ≡ due g n last size volume meta offset
 due_capped None n last size volume meta offset = refl
 due_capped (Some t) n last size volume meta offset = ap (λ b. cond b (where_behind last (fitting size (up_to t volume meta offset))) None) (some_capped n)
 

@@ -11,8 +11,8 @@ use Rattle.pcp_model.specs.Records.{FitsEntry, entry}
 use Rattle.pcp_model.specs.Sound.{NoItemAfter, NoDomainAfter}
 use Rattle.pcp_model.specs.Written.{same_file, with_added}
 use Rattle.pcp_model.proofs.Cuts.{length-entry}
-use Rattle.pcp_outside.specs.Causes.{capped}
-use Rattle.pcp_outside.specs.Devices.{Becomes, appended, grown}
+use Rattle.pcp_outside.specs.Causes.{shown_count}
+use Rattle.pcp_outside.specs.Devices.{Becomes, held_after_append, holdings_after_append}
 use Rattle.std.specs.Prelude.{cond, Contains, ℤ}
 use Rattle.pcp_model.specs.Payload.{stamp_of}
 use Rattle.pcp_model.specs.declared.records.MetaRecord.TheVariants.{Domain}
@@ -66,13 +66,13 @@ module _ (m : Meant) (e : Ends) (held : Holdings) (x : Entry) (at : IsAt m e hel
   other_files : (g : FileId) → same_file Index g ≡ false → with_added Index (entry x) m.files g ≡ m.files g
   other_files g other = ap (λ b. cond b (m.files g ++ entry x) (m.files g)) other
 
-  pub entry_survives : (bytes : List ℕ) → bytes ≡ entry x → (image : Files) → CrashImage (grown Index bytes held) image → SurvivesOf m image
+  pub entry_survives : (bytes : List ℕ) → bytes ≡ entry x → (image : Files) → CrashImage (holdings_after_append Index bytes held) image → SurvivesOf m image
   entry_survives bytes is image crash =
       survives_same m.start (items_of said.new.volumes) (items_in m) m.acknowledged m.acknowledged image same_items
       (grown_survives m.start m.files (with_added Index (entry x) m.files) said.new e.volume (length m.contents.records) m.acknowledged held Index (entry x) said.keeps tt at.stands.written refl image
-      (subst (λ t. CrashImage (grown Index t held) image) is crash)) (omega arith)
+      (subst (λ t. CrashImage (holdings_after_append Index t held) image) is crash)) (omega arith)
 
-  module _ (new : Holdings) (change : Becomes Index (appended (held Index) (entry x)) held new) where
+  module _ (new : Holdings) (change : Becomes Index (held_after_append (held Index) (entry x)) held new) where
     abbrev now : Ends
     now = record { meta = e.meta; index = e.index + 20; volume = e.volume; length = e.length; greatest = e.greatest; entry = Some x; logged = e.logged; acknowledged = e.acknowledged }
 
@@ -99,14 +99,14 @@ module _ (m : Meant) (e : Ends) (held : Holdings) (x : Entry) (at : IsAt m e hel
         length_is = at.ends.length_is;
         greatest = greatest_same m.contents said.new same_items same_records e.greatest at.ends.greatest;
         entry = sym (ap last_entry said.longer.entries ∙ last_of_added m.contents.entries x);
-        logged = at.ends.logged ∙ ap (λ xs. capped (length xs)) (sym same_items);
+        logged = at.ends.logged ∙ ap (λ xs. shown_count (length xs)) (sym same_items);
         acknowledged_is = at.ends.acknowledged_is;
       },
     )
 
-  pub entry_appended : (bytes : List ℕ) (new : Holdings) → bytes ≡ entry x → Becomes Index (appended (held Index) bytes) held new
+  pub entry_appended : (bytes : List ℕ) (new : Holdings) → bytes ≡ entry x → Becomes Index (held_after_append (held Index) bytes) held new
       → GrownTo m [] (x ∷ []) [] (with_entry (Some x) m.files) (record { meta = e.meta; index = e.index + 20; volume = e.volume; length = e.length; greatest = e.greatest; entry = Some x; logged = e.logged; acknowledged = e.acknowledged }) new
-  entry_appended bytes new is change = entry_grown new (subst (λ t. Becomes Index (appended (held Index) t) held new) is change)
+  entry_appended bytes new is change = entry_grown new (subst (λ t. Becomes Index (held_after_append (held Index) t) held new) is change)
 
 pub entry_fits : (m : Meant) (e : Ends) (held : Holdings) (x : Entry) → LeadsToEnds m e held x → AreSmall e → HasRoom e x → (x.volume < 2147483648 → x.meta < 2147483648 → x.offset < 2147483648 → FitsEntry x) → FitsEntry x
 entry_fits m e held x leads small room range = range (omega (arith, leads.volume, small.volume)) room.meta room.offset

@@ -14,7 +14,7 @@ use Rattle.pcp_model.specs.Payload.{IsItem}
 use Rattle.pcp_model.specs.Written.{same_file, with_added}
 use Rattle.pcp_model.proofs.Added.{added_this}
 use Rattle.std.specs.Prelude.{Result, Ok, Err, OnOk}
-use Rattle.pcp_outside.specs.Devices.{Appends, Becomes, appended, grown}
+use Rattle.pcp_outside.specs.Devices.{Appends, Becomes, held_after_append, holdings_after_append}
 use Rattle.logger_core.specs.Keeps.{Start, Keeps}
 use Rattle.logger_core.specs.Laws.{Announces}
 use Rattle.logger_core.specs.Meant.{Meant, Stands, items_in}
@@ -75,15 +75,15 @@ module _ (m : Meant) (number : ℕ) (held : Holdings) (payloads : List (List ℕ
   others : (g : FileId) → same_file (Volume number) g ≡ false → said.files g ≡ m.files g
   others g other = said.same g ∙ other_added (Volume number) (frames payloads) m.files g other
 
-  pub items_survive : (image : Files) → CrashImage (grown (Volume number) bytes held) image → SurvivesWith m items image
+  pub items_survive : (image : Files) → CrashImage (holdings_after_append (Volume number) bytes held) image → SurvivesWith m items image
   items_survive image crash =
       survives_same m.start (items_of said.new.volumes) (items_in m ++ items) m.acknowledged m.acknowledged image said.longer.items
       (grown_survives m.start m.files said.files said.new number (length said.new.records) m.acknowledged held (Volume number) (frames payloads) said.keeps refl at.written this image
-      (subst (λ t. CrashImage (grown (Volume number) t held) image) is crash)) (omega arith)
+      (subst (λ t. CrashImage (holdings_after_append (Volume number) t held) image) is crash)) (omega arith)
 
-  module _ (new : Holdings) (change : Becomes (Volume number) (appended (held (Volume number)) bytes) held new) where
-    change_is : Becomes (Volume number) (appended (held (Volume number)) (frames payloads)) held new
-    change_is = subst (λ t. Becomes (Volume number) (appended (held (Volume number)) t) held new) is change
+  module _ (new : Holdings) (change : Becomes (Volume number) (held_after_append (held (Volume number)) bytes) held new) where
+    change_is : Becomes (Volume number) (held_after_append (held (Volume number)) (frames payloads)) held new
+    change_is = subst (λ t. Becomes (Volume number) (held_after_append (held (Volume number)) t) held new) is change
 
     pub items_grown : Grown m [] [] items (with_added (Volume number) bytes m.files) number new
     items_grown = record {

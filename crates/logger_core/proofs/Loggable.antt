@@ -24,7 +24,7 @@ use Rattle.pcp_model.proofs.Lists.{each-append, each-first, each-map}
 use Rattle.pcp_model.proofs.Spelled.{is_sample, length-payload}
 use Rattle.archive_meta.specs.declared.facts.Facts.{Facts}
 use Rattle.archive_meta.specs.Facts.{fact_of}
-use Rattle.archive_meta.specs.Missing.{AreMissing, AreMissingDomains, described_by, domains_of, missing_descriptions, framed_records, taken, undescribed}
+use Rattle.archive_meta.specs.Missing.{AreMissing, AreMissingDomains, described_by, domains_of, missing_descriptions, framed_records, values_of_keys, undescribed_metrics}
 use Rattle.archive_meta.proofs.Frames.{added_only}
 use Rattle.archive_meta.proofs.NowDescribed.{missing_describe}
 use Rattle.logger_core.specs.declared.ends.Ends.{Ends}
@@ -81,7 +81,7 @@ module _ (P : MetaRecord → Type 0) (descriptions : (d : Desc) (names : List (L
   each_missing : (records : List MetaRecord) (facts : Facts) (answer : PmResult) (missing : List MetaRecord) → answer.stamp ≡ t → AreMissing records facts answer missing → AllByRecursion P missing
   each_missing records facts answer missing same needed =
       subst (AllByRecursion P) (sym needed.is) (each-append P (missing_descriptions records facts.metrics answer.sets) needed.domains
-      (each_description (taken (fact_of facts.metrics) (undescribed records answer.sets)))
+      (each_description (values_of_keys (fact_of facts.metrics) (undescribed_metrics records answer.sets)))
       (each_domain records (domains_of facts answer.sets) needed.domains (subst (λ s. AreMissingDomains records s (domains_of facts answer.sets) needed.domains) same needed.lacking)))
 
 -- ---- the run of one result

@@ -12,7 +12,7 @@ use Rattle.pcp_model.specs.LabelFields.{LabelFields}
 use Rattle.pcp_model.specs.Labels.{label}
 use Rattle.pcp_model.specs.Payload.{IsItem}
 use Rattle.pcp_model.specs.Records.{IsRecord}
-use Rattle.pcp_model.specs.Written.{created}
+use Rattle.pcp_model.specs.Written.{created_files}
 use Rattle.pcp_model.proofs.Added.{no_torn_end}
 use Rattle.pcp_model.proofs.Cuts.{SpelledLabel, is_label}
 use Rattle.pcp_model.proofs.Lengths.{length-label}
@@ -29,14 +29,14 @@ module _ (l : LabelFields) (held : Holdings) (r : LabelInRange l (pos 0)) (label
   s : SpelledLabel l
   s = spelled l (pos 0) r
 
-  later_volume : (k : ℕ) → created l (Volume (suc k)) ≡ []
+  later_volume : (k : ℕ) → created_files l (Volume (suc k)) ≡ []
   later_volume k = ap (λ b. cond b (label l (pos 0)) []) (eqb-suc-zero k)
 
-  no_other : (n : ℕ) → (Contains (map (λ (v : ℕ × List Item). v.0) ((0, []) ∷ [])) n → ⊥) → created l (Volume n) ≡ []
+  no_other : (n : ℕ) → (Contains (map (λ (v : ℕ × List Item). v.0) ((0, []) ∷ [])) n → ⊥) → created_files l (Volume n) ≡ []
   no_other zero other = absurd (other (0, omega arith, refl))
   no_other (suc n) other = later_volume n
 
-  is_archive : IsArchive (created l) (no_items l)
+  is_archive : IsArchive (created_files l) (no_items l)
   is_archive = record {
     meta = record { torn = []; is_torn = no_torn_end; holds = alone IsRecord l (negsuc 0) s meta_fits (label l (negsuc 0)) refl; consistent = tt };
     index = inr (record { head = label l (negsuc 1); label = is_label l (negsuc 1) s index_fits; fit = tt; rest = []; short = omega arith; is = sym (append-nil (label l (negsuc 1))) });
@@ -45,7 +45,7 @@ module _ (l : LabelFields) (held : Holdings) (r : LabelInRange l (pos 0)) (label
     labelled = inl refl;
   }
 
-  is_whole : IsWhole (created l) (no_items l) 0 held
+  is_whole : IsWhole (created_files l) (no_items l) 0 held
   is_whole = record {
     is = is_archive;
     last = record { before = []; items = []; are = refl; whole = alone IsItem l (pos 0) s first_fits (label l (pos 0)) refl };
@@ -57,8 +57,8 @@ module _ (l : LabelFields) (held : Holdings) (r : LabelInRange l (pos 0)) (label
   pub new_at : IsAt (new_archive l) (record { meta = 132; index = 132; volume = 0; length = 132; greatest = None; entry = None; logged = 0; acknowledged = 0 }) held
   new_at = record {
     stands = record {
-      keeps = whole_is_kept (created l) (no_items l) 0 held is_whole;
-      written = λ file. ap bytes_of (labels file) ∙ append-nil (created l file);
+      keeps = whole_is_kept (created_files l) (no_items l) 0 held is_whole;
+      written = λ file. ap bytes_of (labels file) ∙ append-nil (created_files l file);
       sure = ap (λ (h : Held). h.rest) (labels Meta);
       indexed = omega (arith, ap (λ (h : Held). length h.sure) (labels Index), length-label l (negsuc 1) r.fits);
     };

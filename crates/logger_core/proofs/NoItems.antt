@@ -19,7 +19,7 @@ use Rattle.pcp_model.specs.Sound.{NeverFalls}
 use Rattle.pcp_model.proofs.Added.{no_torn_end}
 use Rattle.pcp_model.proofs.Cuts.{SpelledLabel, cut_label, is_label}
 use Rattle.pcp_model.proofs.Lengths.{length-label}
-use Rattle.pcp_outside.specs.Devices.{AppendsSure, Becomes, appended, made_sure, grown}
+use Rattle.pcp_outside.specs.Devices.{AppendsSure, Becomes, held_after_append, made_sure, holdings_after_append}
 use Rattle.archive_frame.specs.Labels.{LabelInRange}
 use Rattle.logger_core.specs.Created.{HasNoItem, HoldsLabels}
 use Rattle.logger_core.specs.Keeps.{IsPart, is_sure}
@@ -123,7 +123,7 @@ first_stage held empty = record {
   others = λ k other. nothing_of (held (Volume k)) (empty (Volume k));
 }
 
-begins_with : (bytes whole : List ℕ) → bytes ≡ whole → IsPart (appended nothing_held bytes) whole
+begins_with : (bytes whole : List ℕ) → bytes ≡ whole → IsPart (held_after_append nothing_held bytes) whole
 begins_with bytes whole is = record { more = []; is = append-nil bytes ∙ is }
 
 all_sure : (whole : List ℕ) → IsPart (is_sure whole) whole
@@ -156,11 +156,11 @@ module _ (l : LabelFields) (r : LabelInRange l (pos 0)) where
   meta_long : 132 ≤ length (label l (negsuc 0))
   meta_long = omega (arith, length-label l (negsuc 0) r.fits)
 
-  pub meta_left : (held : Holdings) (bytes : List ℕ) → bytes ≡ label l (negsuc 0) → IsEmpty (contents_of held) → (image : Files) → CrashImage (grown Meta bytes held) image → HasNoItem image
+  pub meta_left : (held : Holdings) (bytes : List ℕ) → bytes ≡ label l (negsuc 0) → IsEmpty (contents_of held) → (image : Files) → CrashImage (holdings_after_append Meta bytes held) image → HasNoItem image
   meta_left held bytes is empty =
       let st : Stage held nothing_held nothing_held nothing_held = first_stage held empty in
-      stage_left l s (grown Meta bytes held) (appended nothing_held bytes) nothing_held nothing_held
-      record { meta = ap (λ h. appended h bytes) st.meta; index = st.index; volume = st.volume; others = st.others }
+      stage_left l s (holdings_after_append Meta bytes held) (held_after_append nothing_held bytes) nothing_held nothing_held
+      record { meta = ap (λ h. held_after_append h bytes) st.meta; index = st.index; volume = st.volume; others = st.others }
       (begins_with bytes (label l (negsuc 0)) is) (none_yet (label l (negsuc 1))) (none_yet (label l (pos 0))) (inl refl) (inl refl)
 
   abbrev WithMeta : Holdings → Type 0
@@ -179,10 +179,10 @@ module _ (l : LabelFields) (r : LabelInRange l (pos 0)) where
         others = λ k other. change.others (Volume k) refl ∙ st.others k other;
       }
 
-  pub index_left : (held : Holdings) (bytes : List ℕ) → bytes ≡ label l (negsuc 1) → WithMeta held → (image : Files) → CrashImage (grown Index bytes held) image → HasNoItem image
+  pub index_left : (held : Holdings) (bytes : List ℕ) → bytes ≡ label l (negsuc 1) → WithMeta held → (image : Files) → CrashImage (holdings_after_append Index bytes held) image → HasNoItem image
   index_left held bytes is st =
-      stage_left l s (grown Index bytes held) (is_sure (label l (negsuc 0))) (appended nothing_held bytes) nothing_held
-      record { meta = st.meta; index = ap (λ h. appended h bytes) st.index; volume = st.volume; others = st.others }
+      stage_left l s (holdings_after_append Index bytes held) (is_sure (label l (negsuc 0))) (held_after_append nothing_held bytes) nothing_held
+      record { meta = st.meta; index = ap (λ h. held_after_append h bytes) st.index; volume = st.volume; others = st.others }
       (all_sure (label l (negsuc 0))) (begins_with bytes (label l (negsuc 1)) is) (none_yet (label l (pos 0))) (inr meta_long) (inl refl)
 
   pub with_index : (held new : Holdings) (bytes : List ℕ) → bytes ≡ label l (negsuc 1) → WithMeta held → Becomes Index (made_sure (held Index) bytes) held new → WithIndex new
@@ -193,13 +193,13 @@ module _ (l : LabelFields) (r : LabelInRange l (pos 0)) where
     others = λ k other. change.others (Volume k) refl ∙ st.others k other;
   }
 
-  not_first : (bytes : List ℕ) (held : Holdings) → WithIndex held → (k : ℕ) → k ≢ 0 → grown (Volume 0) bytes held (Volume k) ≡ nothing_held
+  not_first : (bytes : List ℕ) (held : Holdings) → WithIndex held → (k : ℕ) → k ≢ 0 → holdings_after_append (Volume 0) bytes held (Volume k) ≡ nothing_held
   not_first bytes held st k other = (grown_is (Volume 0) bytes held).others (Volume k) (ne_eqb 0 k (λ e. other (sym e))) ∙ st.others k other
 
-  pub volume_left : (held : Holdings) (bytes : List ℕ) → bytes ≡ label l (pos 0) → WithIndex held → (image : Files) → CrashImage (grown (Volume 0) bytes held) image → HasNoItem image
+  pub volume_left : (held : Holdings) (bytes : List ℕ) → bytes ≡ label l (pos 0) → WithIndex held → (image : Files) → CrashImage (holdings_after_append (Volume 0) bytes held) image → HasNoItem image
   volume_left held bytes is st =
-      stage_left l s (grown (Volume 0) bytes held) (is_sure (label l (negsuc 0))) (is_sure (label l (negsuc 1))) (appended nothing_held bytes)
-      record { meta = st.meta; index = st.index; volume = ap (λ h. appended h bytes) st.volume; others = not_first bytes held st }
+      stage_left l s (holdings_after_append (Volume 0) bytes held) (is_sure (label l (negsuc 0))) (is_sure (label l (negsuc 1))) (held_after_append nothing_held bytes)
+      record { meta = st.meta; index = st.index; volume = ap (λ h. held_after_append h bytes) st.volume; others = not_first bytes held st }
       (all_sure (label l (negsuc 0))) (all_sure (label l (negsuc 1))) (begins_with bytes (label l (pos 0)) is) (inr meta_long) (inr meta_long)
 
   pub with_labels : (held new : Holdings) (bytes : List ℕ) → bytes ≡ label l (pos 0) → WithIndex held → Becomes (Volume 0) (made_sure (held (Volume 0)) bytes) held new → HoldsLabels l new

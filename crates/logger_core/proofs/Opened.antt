@@ -12,8 +12,8 @@ use Rattle.pcp_model.specs.Written.{with_added}
 use Rattle.pcp_model.proofs.Added.{added_this, was_empty}
 use Rattle.pcp_model.proofs.Cuts.{is_label}
 use Rattle.pcp_model.proofs.Lengths.{length-label}
-use Rattle.pcp_outside.specs.Causes.{capped}
-use Rattle.pcp_outside.specs.Devices.{Becomes, made_sure, grown}
+use Rattle.pcp_outside.specs.Causes.{shown_count}
+use Rattle.pcp_outside.specs.Devices.{Becomes, made_sure, holdings_after_append}
 use Rattle.archive_frame.specs.Labels.{LabelInRange}
 use Rattle.logger_core.specs.declared.ends.Ends.{Ends}
 use Rattle.logger_core.specs.Keeps.{Keeps}
@@ -59,11 +59,11 @@ module _ (m : Meant) (e : Ends) (held : Holdings) (l : LabelFields) (bytes : Lis
   empty : m.files (Volume next) ≡ []
   empty = was_empty m.files m.contents e.volume next head at.stands.keeps.is at.stands.keeps.last come.above label_is
 
-  pub label_survives : (image : Files) → CrashImage (grown (Volume next) bytes held) image → SurvivesOf m image
+  pub label_survives : (image : Files) → CrashImage (holdings_after_append (Volume next) bytes held) image → SurvivesOf m image
   label_survives image crash =
       survives_same m.start (items_of said.new.volumes) (items_in m) m.acknowledged m.acknowledged image same_items
       (grown_survives m.start m.files files said.new next (length m.contents.records) m.acknowledged held (Volume next) head said.keeps refl at.stands.written this image
-      (subst (λ t. CrashImage (grown (Volume next) t held) image) is crash)) (omega arith)
+      (subst (λ t. CrashImage (holdings_after_append (Volume next) t held) image) is crash)) (omega arith)
 
   module _ (new : Holdings) (change : Becomes (Volume next) (made_sure (held (Volume next)) bytes) held new) where
     change_is : Becomes (Volume next) (made_sure (held (Volume next)) head) held new
@@ -96,7 +96,7 @@ module _ (m : Meant) (e : Ends) (held : Holdings) (l : LabelFields) (bytes : Lis
         length_is = sym (ap length (this ∙ ap (λ t. t ++ head) empty) ∙ length-label l (pos next) range.fits);
         greatest = greatest_same m.contents said.new same_items same_records e.greatest at.ends.greatest;
         entry = at.ends.entry ∙ ap last_entry (sym (said.longer.entries ∙ append-nil m.contents.entries));
-        logged = at.ends.logged ∙ ap (λ xs. capped (length xs)) (sym same_items);
+        logged = at.ends.logged ∙ ap (λ xs. shown_count (length xs)) (sym same_items);
         acknowledged_is = at.ends.acknowledged_is;
       },
     )

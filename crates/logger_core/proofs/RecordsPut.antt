@@ -10,7 +10,7 @@ use Rattle.pcp_model.specs.Records.{IsRecord}
 use Rattle.pcp_model.specs.Written.{with_added}
 use Rattle.pcp_model.proofs.Lengths.{length-frame}
 use Rattle.std.specs.Prelude.{Result, Ok, Err, OnOk}
-use Rattle.pcp_outside.specs.Devices.{AppendsSure, Becomes, made_sure, grown}
+use Rattle.pcp_outside.specs.Devices.{AppendsSure, Becomes, made_sure, holdings_after_append}
 use Rattle.logger_core.specs.Keeps.{Keeps, is_sure}
 use Rattle.logger_core.specs.Laws.{Announces, AreRecordsToCome}
 use Rattle.logger_core.specs.Meant.{Meant, Stands, SurvivesOf, items_in}
@@ -52,11 +52,11 @@ module _ (m : Meant) (number : ℕ) (held : Holdings) (payloads : List (List ℕ
   same_items : items_of said.new.volumes ≡ items_in m
   same_items = said.longer.items ∙ append-nil (items_in m)
 
-  pub records_survive : (image : Files) → CrashImage (grown Meta bytes held) image → SurvivesOf m image
+  pub records_survive : (image : Files) → CrashImage (holdings_after_append Meta bytes held) image → SurvivesOf m image
   records_survive image crash =
       survives_same m.start (items_of said.new.volumes) (items_in m) m.acknowledged m.acknowledged image same_items
       (grown_survives m.start m.files files said.new number (length m.contents.records) m.acknowledged held Meta (frames payloads) said.keeps tt at.written refl image
-      (subst (λ t. CrashImage (grown Meta t held) image) is crash)) (omega arith)
+      (subst (λ t. CrashImage (holdings_after_append Meta t held) image) is crash)) (omega arith)
 
   module _ (new : Holdings) (change : Becomes Meta (made_sure (held Meta) bytes) held new) where
     change_is : Becomes Meta (made_sure (held Meta) (frames payloads)) held new

@@ -7,7 +7,7 @@ use Rattle.pcp_base.specs.declared.result.Item.{Item}
 use Rattle.pcp_model.specs.Archive.{ArchiveContents, items_of}
 use Rattle.pcp_model.specs.Disk.{Files, Held, Holdings, CrashImage, bytes_of, contents_of}
 use Rattle.pcp_model.specs.Written.{same_file}
-use Rattle.pcp_outside.specs.Devices.{Becomes, appended, synced, made_sure, grown}
+use Rattle.pcp_outside.specs.Devices.{Becomes, held_after_append, held_after_sync, made_sure, holdings_after_append}
 use Rattle.pcp_outside.proofs.Images.{same_or_other, same_file_is, same_file-refl, bytes-appended, bytes-made_sure, image_now}
 use Rattle.logger_core.specs.declared.ends.Ends.{Ends}
 use Rattle.logger_core.specs.Keeps.{Start, Keeps, is_sure}
@@ -21,10 +21,10 @@ pub sure_from : (h : Held) (whole : List ℕ) → h.rest ≡ [] → bytes_of h �
 sure_from h whole none is =
     ap (λ r. record { sure = h.sure; rest = r }) none ∙ ap (λ t. is_sure t) (sym (append-nil h.sure) ∙ ap (λ r. h.sure ++ r) (sym none) ∙ is)
 
-pub grown_is : (file : FileId) (bytes : List ℕ) (held : Holdings) → Becomes file (appended (held file) bytes) held (grown file bytes held)
+pub grown_is : (file : FileId) (bytes : List ℕ) (held : Holdings) → Becomes file (held_after_append (held file) bytes) held (holdings_after_append file bytes held)
 grown_is file bytes held = record {
-  this = ap (λ b. cond b (appended (held file) bytes) (held file)) (same_file-refl file);
-  others = λ g other. ap (λ b. cond b (appended (held file) bytes) (held g)) other;
+  this = ap (λ b. cond b (held_after_append (held file) bytes) (held file)) (same_file-refl file);
+  others = λ g other. ap (λ b. cond b (held_after_append (held file) bytes) (held g)) other;
 }
 
 -- ---- survivors of more items, or of fewer acknowledged ones
@@ -48,14 +48,14 @@ survives_same s xs ys a b image same w le = subst (λ t. Survives s t b image) (
 
 module _ (s : Start) (old files : Files) (c : ArchiveContents) (number known acknowledged : ℕ) (held : Holdings) (file : FileId) (bytes : List ℕ) (keeps : Keeps s files c number known acknowledged held) (writes : IsWritten number file)
     (is_written : (g : FileId) → bytes_of (held g) ≡ old g) (this : files file ≡ old file ++ bytes) where
-  appended_bytes : bytes_of (appended (held file) bytes) ≡ files file
+  appended_bytes : bytes_of (held_after_append (held file) bytes) ≡ files file
   appended_bytes = bytes-appended (held file) bytes ∙ ap (λ t. t ++ bytes) (is_written file) ∙ sym this
 
   sure_bytes : bytes_of (made_sure (held file) bytes) ≡ files file
   sure_bytes = bytes-made_sure (held file) bytes ∙ ap (λ t. t ++ bytes) (is_written file) ∙ sym this
 
-  nearer : IsNearer (held file) (appended (held file) bytes) (files file)
-  nearer = record { part = record { more = []; is = append-nil (bytes_of (appended (held file) bytes)) ∙ appended_bytes }; sure = omega arith }
+  nearer : IsNearer (held file) (held_after_append (held file) bytes) (files file)
+  nearer = record { part = record { more = []; is = append-nil (bytes_of (held_after_append (held file) bytes)) ∙ appended_bytes }; sure = omega arith }
 
   nearer_sure : IsNearer (held file) (made_sure (held file) bytes) (files file)
   nearer_sure = record {
@@ -64,13 +64,13 @@ module _ (s : Start) (old files : Files) (c : ArchiveContents) (number known ack
   }
 
   -- a crash while it is appended
-  pub grown_survives : (image : Files) → CrashImage (grown file bytes held) image → Survives s (items_of c.volumes) acknowledged image
+  pub grown_survives : (image : Files) → CrashImage (holdings_after_append file bytes held) image → Survives s (items_of c.volumes) acknowledged image
   grown_survives image crash =
-      survives s files c number known acknowledged (grown file bytes held) image (still_kept s files c number known acknowledged held (grown file bytes held) file (appended (held file) bytes) keeps writes (grown_is file bytes held) nearer) crash
+      survives s files c number known acknowledged (holdings_after_append file bytes held) image (still_kept s files c number known acknowledged held (holdings_after_append file bytes held) file (held_after_append (held file) bytes) keeps writes (grown_is file bytes held) nearer) crash
 
   -- it is appended, and perhaps sure
-  pub appended_keeps : (new : Holdings) → Becomes file (appended (held file) bytes) held new → Keeps s files c number known acknowledged new
-  appended_keeps new change = still_kept s files c number known acknowledged held new file (appended (held file) bytes) keeps writes change nearer
+  pub appended_keeps : (new : Holdings) → Becomes file (held_after_append (held file) bytes) held new → Keeps s files c number known acknowledged new
+  appended_keeps new change = still_kept s files c number known acknowledged held new file (held_after_append (held file) bytes) keeps writes change nearer
 
   pub sure_keeps : (new : Holdings) → Becomes file (made_sure (held file) bytes) held new → Keeps s files c number known acknowledged new
   sure_keeps new change = still_kept s files c number known acknowledged held new file (made_sure (held file) bytes) keeps writes change nearer_sure
@@ -81,8 +81,8 @@ module _ (s : Start) (old files : Files) (c : ArchiveContents) (number known ack
         (λ (e : same_file file g ≡ true). subst (λ (f : FileId). bytes_of (new f) ≡ files f) (same_file_is file g e) (ap bytes_of change.this ∙ whole))
         (λ (e : same_file file g ≡ false). ap bytes_of (change.others g e) ∙ is_written g ∙ sym (others g e)) (same_or_other file g)
 
-  pub appended_written : ((g : FileId) → same_file file g ≡ false → files g ≡ old g) → (new : Holdings) → Becomes file (appended (held file) bytes) held new → (g : FileId) → bytes_of (new g) ≡ files g
-  appended_written others new change = written_now others (appended (held file) bytes) new change appended_bytes
+  pub appended_written : ((g : FileId) → same_file file g ≡ false → files g ≡ old g) → (new : Holdings) → Becomes file (held_after_append (held file) bytes) held new → (g : FileId) → bytes_of (new g) ≡ files g
+  appended_written others new change = written_now others (held_after_append (held file) bytes) new change appended_bytes
 
   pub sure_written : ((g : FileId) → same_file file g ≡ false → files g ≡ old g) → (new : Holdings) → Becomes file (made_sure (held file) bytes) held new → (g : FileId) → bytes_of (new g) ≡ files g
   sure_written others new change = written_now others (made_sure (held file) bytes) new change sure_bytes
@@ -109,7 +109,7 @@ module _ (m : Meant) (number : ℕ) (held : Holdings) (at : Stands m number held
   fewer_acknowledged image w = survives_same m.start (items_in m) (items_in m) (length (items_in m)) m.acknowledged image refl w few_acknowledged
 
   -- the volume was made sure
-  module _ (new : Holdings) (change : Becomes (Volume number) (synced (held (Volume number))) held new) where
+  module _ (new : Holdings) (change : Becomes (Volume number) (held_after_sync (held (Volume number))) held new) where
     now_is : new (Volume number) ≡ is_sure (m.files (Volume number))
     now_is = change.this ∙ ap (λ t. is_sure t) (at.written (Volume number))
 
@@ -118,12 +118,12 @@ module _ (m : Meant) (number : ℕ) (held : Holdings) (at : Stands m number held
         (λ (same : same_file (Volume number) g ≡ true). subst (λ (f : FileId). bytes_of (new f) ≡ m.files f) (same_file_is (Volume number) g same) (ap bytes_of now_is ∙ append-nil (m.files (Volume number))))
         (λ (other : same_file (Volume number) g ≡ false). ap bytes_of (change.others g other) ∙ at.written g) (same_or_other (Volume number) g)
 
-    sure_grows : length (held (Volume number)).sure ≤ length (synced (held (Volume number))).sure
+    sure_grows : length (held (Volume number)).sure ≤ length (held_after_sync (held (Volume number))).sure
     sure_grows = omega (arith, length-append (held (Volume number)).sure (held (Volume number)).rest)
 
     synced_keeps : Keeps m.start m.files m.contents number (length m.contents.records) m.acknowledged new
-    synced_keeps = still_kept m.start m.files m.contents number (length m.contents.records) m.acknowledged held new (Volume number) (synced (held (Volume number))) at.keeps refl change
-        record { part = record { more = []; is = append-nil (bytes_of (synced (held (Volume number)))) ∙ append-nil (bytes_of (held (Volume number))) ∙ at.written (Volume number) }; sure = sure_grows }
+    synced_keeps = still_kept m.start m.files m.contents number (length m.contents.records) m.acknowledged held new (Volume number) (held_after_sync (held (Volume number))) at.keeps refl change
+        record { part = record { more = []; is = append-nil (bytes_of (held_after_sync (held (Volume number)))) ∙ append-nil (bytes_of (held (Volume number))) ∙ at.written (Volume number) }; sure = sure_grows }
 
     pub synced_stands : Stands (all_acknowledged m) number new
     synced_stands = record {
@@ -133,7 +133,7 @@ module _ (m : Meant) (number : ℕ) (held : Holdings) (at : Stands m number held
       indexed = omega (arith, at.indexed, ap (λ (h : Held). length h.sure) (change.others Index refl));
     }
 
-pub synced_at : (m : Meant) (e : Ends) (held new : Holdings) → IsAt m e held → Becomes (Volume e.volume) (synced (held (Volume e.volume))) held new
+pub synced_at : (m : Meant) (e : Ends) (held new : Holdings) → IsAt m e held → Becomes (Volume e.volume) (held_after_sync (held (Volume e.volume))) held new
     → IsAt (all_acknowledged m) (record { meta = e.meta; index = e.index; volume = e.volume; length = e.length; greatest = e.greatest; entry = e.entry; logged = e.logged; acknowledged = e.logged }) new
 synced_at m e held new at change = record {
   stands = synced_stands m e.volume held at.stands new change;

@@ -15,7 +15,7 @@ use Rattle.logger_core.proofs.Rests.{survives_same}
 use Rattle.pcp_model.specs.Sound.{NoItemAfter, NoDomainAfter}
 use Rattle.pcp_model.specs.Written.{with_added}
 use Rattle.pcp_model.proofs.Added.{added_this}
-use Rattle.pcp_outside.specs.Causes.{capped}
+use Rattle.pcp_outside.specs.Causes.{shown_count}
 use Rattle.logger_core.specs.declared.ends.Ends.{Ends}
 use Rattle.logger_core.specs.LogSteps.{with_run}
 use Rattle.logger_core.specs.Meant.{Meant, AreEnds, IsAt, items_in}
@@ -75,7 +75,7 @@ module _ (m : Meant) (e : Ends) (held mid : Holdings) (records : List MetaRecord
     volume_file : h.new.files (Volume e.volume) ≡ m.files (Volume e.volume) ++ item_bytes
     volume_file = h.files_are (Volume e.volume) ∙ added_this e.volume item_bytes g.new.files ∙ ap (λ t. t ++ item_bytes) (g.files_are (Volume e.volume))
 
-    module _ (t : Moment) (count logged : ℕ) (last : IsLastStamp m records items t) (many : length items ≡ count) (logged_is : logged ≡ capped (e.logged + count)) where
+    module _ (t : Moment) (count logged : ℕ) (last : IsLastStamp m records items t) (many : length items ≡ count) (logged_is : logged ≡ shown_count (e.logged + count)) where
       pub run_ends : AreEnds h.new (record { meta = e.meta + length meta_bytes; index = e.index; volume = e.volume; length = e.length + length item_bytes; greatest = Some t; entry = e.entry; logged = logged; acknowledged = e.acknowledged })
       run_ends = record {
         meta = omega (arith, at.ends.meta, ap length meta_file, length-append (m.files Meta) meta_bytes);
@@ -88,7 +88,7 @@ module _ (m : Meant) (e : Ends) (held mid : Holdings) (records : List MetaRecord
         );
         entry = at.ends.entry ∙ ap last_entry (sym same_entries);
         logged = omega (arith, logged_is, at.ends.logged, ap length all_items, length-append (items_in m) items);
-        acknowledged_is = at.ends.acknowledged_is ∙ ap capped (sym (h.acknowledged_is ∙ g.acknowledged_is));
+        acknowledged_is = at.ends.acknowledged_is ∙ ap shown_count (sym (h.acknowledged_is ∙ g.acknowledged_is));
       }
 
   -- what survives of the longer archive survives of the first

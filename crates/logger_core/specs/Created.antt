@@ -5,7 +5,7 @@ use Rattle.pcp_model.specs.Archive.{ArchiveContents, ArchiveReading, Reads, scan
 use Rattle.pcp_model.specs.Disk.{Files, Holdings}
 use Rattle.pcp_model.specs.LabelFields.{LabelFields}
 use Rattle.pcp_model.specs.Sound.{IsSound}
-use Rattle.pcp_model.specs.Written.{created}
+use Rattle.pcp_model.specs.Written.{created_files}
 use Rattle.archive_recovery.specs.Laws.{AreLabelled, entries_in}
 use Rattle.logger_core.specs.declared.ends.Ends.{Ends}
 use Rattle.logger_core.specs.Keeps.{is_sure}
@@ -25,14 +25,14 @@ abbrev pub no_items : LabelFields → ArchiveContents
 no_items l = record { label = l; records = []; entries = []; volumes = (0, []) ∷ [] }
 
 abbrev pub new_archive : LabelFields → Meant
-new_archive l = record { start = record { files = created l; reading = ArchiveReading.archive (no_items l) }; files = created l; contents = no_items l; acknowledged = 0 }
+new_archive l = record { start = record { files = created_files l; reading = ArchiveReading.archive (no_items l) }; files = created_files l; contents = no_items l; acknowledged = 0 }
 
 abbrev pub first_ends : Ends
 first_ends = record { meta = 132; index = 132; volume = 0; length = 132; greatest = None; entry = None; logged = 0; acknowledged = 0 }
 
 -- the three labels stand, synced, and no other byte
 abbrev pub HoldsLabels : LabelFields → Holdings → Type 0
-HoldsLabels l held = (file : FileId) → held file ≡ is_sure (created l file)
+HoldsLabels l held = (file : FileId) → held file ≡ is_sure (created_files l file)
 
 pub record IsCreated (l : LabelFields) (limit : ℕ) (kept : Kept) (held : Holdings) : Type 0 where
   pub labels : HoldsLabels l held

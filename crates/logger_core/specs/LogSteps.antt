@@ -35,11 +35,11 @@ abbrev pub with_next : LabelFields → ℕ → Option Moment → Files → Files
 with_next l next greatest files = with_entry (switch_entry greatest (length (files Index)) next (length (files Meta))) (with_new_volume l next files)
 
 -- a switch to the next volume: a flush, the label, the entry
-abbrev pub switched : Files → ArchiveContents → ℕ → Option Moment → Files
-switched files c number greatest = with_next c.label (number + 1) greatest (with_entry (due_in files c number greatest) files)
+abbrev pub files_after_switch : Files → ArchiveContents → ℕ → Option Moment → Files
+files_after_switch files c number greatest = with_next c.label (number + 1) greatest (with_entry (due_in files c number greatest) files)
 
 abbrev pub base_files : Bool → Files → ArchiveContents → ℕ → Option Moment → Files
-base_files b files c number greatest = if b then switched files c number greatest else files
+base_files b files c number greatest = if b then files_after_switch files c number greatest else files
 
 abbrev pub base_number : Bool → ℕ → ℕ
 base_number b number = if b then number + 1 else number

@@ -7,7 +7,7 @@ use Rattle.pcp_model.specs.declared.records.MetaRecord.{MetaRecord}
 use Rattle.pcp_model.specs.Archive.{ArchiveContents, items_of}
 use Rattle.pcp_model.specs.Disk.{Files, Holdings, bytes_of}
 use Rattle.pcp_model.specs.LabelFields.{LabelFields}
-use Rattle.pcp_outside.specs.Causes.{capped}
+use Rattle.pcp_outside.specs.Causes.{shown_count}
 use Rattle.logger_core.specs.declared.ends.Ends.{Ends}
 use Rattle.logger_core.specs.Keeps.{Start, Keeps}
 use Rattle.logger_core.specs.Laws.{Survives}
@@ -31,8 +31,8 @@ pub record AreEnds (m : Meant) (e : Ends) : Type 0 where
   pub length_is : e.length ≡ length (m.files (Volume e.volume))
   pub greatest : IsGreatest m.contents e.greatest
   pub entry : e.entry ≡ last_entry m.contents.entries
-  pub logged : e.logged ≡ capped (length (items_in m))
-  pub acknowledged_is : e.acknowledged ≡ capped m.acknowledged
+  pub logged : e.logged ≡ shown_count (length (items_in m))
+  pub acknowledged_is : e.acknowledged ≡ shown_count m.acknowledged
 
 -- between two calls of the disk: the files keep what is meant, all of it is written, and Meta and the index's label are sure
 pub record Stands (m : Meant) (number : ℕ) (held : Holdings) : Type 0 where

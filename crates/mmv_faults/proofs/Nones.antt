@@ -3,7 +3,7 @@ use Rattle.std.proofs.Common.{◌≡◌, ℕ, zero, suc, Bool, true, false, ◌&
 use Rattle.std.specs.Prelude.{Option, Some, None, is_none}
 use Rattle.mmv_faults.specs.declared.fault.ImageFault.{ImageFault}
 use Rattle.mmv_format.specs.Below.{all_below}
-use Rattle.mmv_faults.specs.Faults.{or_else, lower, unless, first_below, refused}
+use Rattle.mmv_faults.specs.Faults.{or_else, lower, unless, first_below, fault_where}
 
 pub none_or_else : {A : Type 0} (a b : Option A) → is_none (or_else a b) ≡ (is_none a && is_none b)
 unfolding or_else
@@ -25,7 +25,7 @@ unfolding unless
 none_unless true at = refl
 none_unless false at = refl
 
-pub none_refused : (fault : ℕ → ImageFault) (found : Option ℕ) → is_none (refused fault found) ≡ is_none found
+pub none_refused : (fault : ℕ → ImageFault) (found : Option ℕ) → is_none (fault_where fault found) ≡ is_none found
 none_refused fault (Some at) = refl
 none_refused fault None = refl
 

@@ -7,7 +7,7 @@ use Rattle.mmv_faults.specs.declared.fault.ImageFault.TheVariants.{Short, TooLar
 use Rattle.mmv_format.specs.Sizes.{is_version}
 use Rattle.mmv_format.specs.Contents.{bytes_in, is_short, has_magic, version_in, first_generation, second_generation}
 use Rattle.mmv_format.specs.Images.{is_too_large}
-use Rattle.mmv_faults.specs.Faults.{or_else, refused, section_fault, offset_fault, name_fault, kind_fault, reference_fault, duplicate_fault, serial_fault, header_fault, entries_fault, image_fault}
+use Rattle.mmv_faults.specs.Faults.{or_else, fault_where, section_fault, offset_fault, name_fault, kind_fault, reference_fault, duplicate_fault, serial_fault, header_fault, entries_fault, image_fault}
 use Rattle.mmv_faults.specs.Lowest.{HasHeader, IsTold, FirstIsTold}
 use Rattle.mmv_faults.proofs.Images.{short_words}
 
@@ -24,7 +24,7 @@ module _ (words : List ℕ) (fault : ImageFault) where
   -- the entries' faults, in their order
   entries : HasHeader words → (s o n k r d e : Option ℕ) → section_fault words ≡ s → offset_fault words ≡ o → name_fault words ≡ n → kind_fault words ≡ k
       → reference_fault words ≡ r → duplicate_fault words ≡ d → serial_fault words ≡ e
-      → or_else (refused Section s) (or_else (refused Offset o) (or_else (refused Name n) (or_else (refused Kind k) (or_else (refused Reference r) (or_else (refused Duplicate d) (refused Serial e)))))) ≡ Some fault
+      → or_else (fault_where Section s) (or_else (fault_where Offset o) (or_else (fault_where Name n) (or_else (fault_where Kind k) (or_else (fault_where Reference r) (or_else (fault_where Duplicate d) (fault_where Serial e)))))) ≡ Some fault
       → IsTold words fault
   unfolding or_else
   entries good (Some at) o n k r d e ss oo nn kk rr dd ee h = is (Section at) h (good, ss)

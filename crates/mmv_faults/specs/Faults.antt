@@ -140,16 +140,16 @@ serial_fault words =
     lower (cluster_fault words) (lower (indoms_serial_fault words) (lower (instances_serial_fault words) (metrics_serial_fault words)))
 
 -- the fault at an offset, where there is one
-abbrev pub refused : (ℕ → ImageFault) → Option ℕ → Option ImageFault
-refused fault (Some at) = Some (fault at)
-refused fault None = None
+abbrev pub fault_where : (ℕ → ImageFault) → Option ℕ → Option ImageFault
+fault_where fault (Some at) = Some (fault at)
+fault_where fault None = None
 
 -- the faults of the entries, in the order of their kinds
 unfoldable pub entries_fault : List ℕ → Option ImageFault
 entries_fault words =
-    or_else (refused Section (section_fault words)) (or_else (refused Offset (offset_fault words)) (or_else (refused Name (name_fault words))
-    (or_else (refused Kind (kind_fault words)) (or_else (refused Reference (reference_fault words)) (or_else (refused Duplicate (duplicate_fault words))
-    (refused Serial (serial_fault words)))))))
+    or_else (fault_where Section (section_fault words)) (or_else (fault_where Offset (offset_fault words)) (or_else (fault_where Name (name_fault words))
+    (or_else (fault_where Kind (kind_fault words)) (or_else (fault_where Reference (reference_fault words)) (or_else (fault_where Duplicate (duplicate_fault words))
+    (fault_where Serial (serial_fault words)))))))
 
 -- the faults of whole words, not too many: those of the header first
 unfoldable pub header_fault : List ℕ → Option ImageFault

@@ -11,7 +11,7 @@ use Rattle.mmv_format.specs.declared.rows.Layout.{Layout}
 use Rattle.mmv_spelling.specs.declared.offsets.Counts.{Counts}
 use Rattle.mmv_spelling.specs.declared.offsets.SectionOffsets.{SectionOffsets}
 use Rattle.mmv_spelling.specs.Offsets.{instances_in, counts_of, one_if_some, sections_in, section_offsets, words_in, AreSmall}
-use Rattle.mmv_spelling.specs.Spelling.{header_words, entry_words, contents_words, domain_offset, domain_words, instance_words, metric_words, value_words, domain_section, instance_section, metric_section, value_section, string_section, sections_words, spelled}
+use Rattle.mmv_spelling.specs.Spelling.{header_words, entry_words, contents_words, domain_offset, domain_words, instance_words, metric_words, value_words, domain_section, instance_section, metric_section, value_section, string_section, sections_words, image_with_strings}
 use Rattle.mmv_spelling.specs.Offsets.{name_length, indom_length, instance_length, metric_length, value_length, string_length}
 
 pub length_first : (n : ℕ) (bytes : List ℕ) → length (first_words n bytes) ≡ n
@@ -113,8 +113,8 @@ pub length_header : (draft : Layout) (n : ℕ) → length (header_words draft n)
 unfolding header_words
 length_header draft n = refl
 
-pub length_spelled : (draft : Layout) (s : List (List ℕ)) → length (spelled draft s) ≡ words_in (counts_of draft s)
-unfolding spelled
+pub length_spelled : (draft : Layout) (s : List (List ℕ)) → length (image_with_strings draft s) ≡ words_in (counts_of draft s)
+unfolding image_with_strings
 length_spelled draft s =
     let c : Counts = counts_of draft s in
     joined (header_words draft (sections_in c)) _ _ _ (length_header draft (sections_in c))

@@ -170,10 +170,10 @@ sections_words draft strings offsets =
     ++ (value_section offsets strings draft.indoms draft.metrics draft.values ++ string_section strings)))
 
 -- an image of a draft with these strings
-unfoldable pub spelled : Layout → List (List ℕ) → List ℕ
-spelled draft strings =
+unfoldable pub image_with_strings : Layout → List (List ℕ) → List ℕ
+image_with_strings draft strings =
     header_words draft (sections_in (counts_of draft strings))
     ++ (contents_words (counts_of draft strings) (section_offsets (counts_of draft strings)) ++ sections_words draft strings (section_offsets (counts_of draft strings)))
 
 unfoldable pub image_words : Layout → List ℕ
-image_words draft = spelled draft (all_strings draft)
+image_words draft = image_with_strings draft (all_strings draft)

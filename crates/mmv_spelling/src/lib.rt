@@ -10,6 +10,6 @@ mod strings;
 mod tables;
 mod words;
 
-pub use spelling::{spelled, words_needed};
+pub use spelling::{image_with_strings, words_needed};
 pub use strings::all_strings;
 pub use tables::StringTable;

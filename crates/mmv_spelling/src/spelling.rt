@@ -1,7 +1,7 @@
 //! The words of whole rows: header, contents and each section in order.
 ghost use Rattle.std.specs.Prelude.{◌≡◌, ◌≤◌, ◌++◌, length, min, OnOk, IfOk};
 ghost use Rattle.mmv_spelling.specs.Offsets.{instances_in, counts_of, words_in, section_offsets, AreSmall};
-ghost use Rattle.mmv_spelling.specs.Spelling.{sections_words, spelled};
+ghost use Rattle.mmv_spelling.specs.Spelling.{sections_words, image_with_strings};
 
 use crate::lookups::{DomainTable, MetricTable};
 use crate::offsets::{Counts, SectionOffsets, counts_of, section_offsets, sections_in, words_in};
@@ -67,10 +67,10 @@ fn counted(draft: &Layout, strings: &StringTable) -> Counts
 }
 
 /// The words of a draft with these strings.
-#[tactic(auto, using(crate::proofs::Lengths::small_offsets), unfolding(crate::specs::Spelling::spelled))]
-pub fn spelled(alloc: Global, draft: &Layout, strings: &StringTable) -> Result<Vec<u64>, NoMemory>
+#[tactic(auto, using(crate::proofs::Lengths::small_offsets), unfolding(crate::specs::Spelling::image_with_strings))]
+pub fn image_with_strings(alloc: Global, draft: &Layout, strings: &StringTable) -> Result<Vec<u64>, NoMemory>
     requires { words_in (counts_of draft.now strings.now) ≤ 65536 }
-    ensures { IfOk result (λ words. words.items ≡ spelled draft.now strings.now) }
+    ensures { IfOk result (λ words. words.items ≡ image_with_strings draft.now strings.now) }
 {
     let counts = counted(draft, strings);
     let offsets = section_offsets(&counts);

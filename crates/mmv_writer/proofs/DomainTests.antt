@@ -13,7 +13,7 @@ use Rattle.mmv_format.specs.declared.rows.Layout.{Layout}
 use Rattle.mmv_format.proofs.Below.{both_left, both_right}
 use Rattle.mmv_writer.specs.Draft.{Each, IsInstance, IsDraft}
 use Rattle.mmv_spelling.specs.Offsets.{instances_in, counts_of, words_in}
-use Rattle.mmv_spelling.specs.Spelling.{halves, domain_offset, domain_words, instance_words, spelled, first_instance}
+use Rattle.mmv_spelling.specs.Spelling.{halves, domain_offset, domain_words, instance_words, image_with_strings, first_instance}
 use Rattle.mmv_writer.proofs.Rows.{either_left, either_right}
 use Rattle.mmv_writer.proofs.Sections.{all_hold}
 use Rattle.mmv_writer.proofs.Standing.{Stands, stands_right, word_read, high_read, byte_read, text_read, zero_read}
@@ -27,10 +27,10 @@ use Rattle.mmv_spelling.specs.Offsets.{name_length, indom_length, instance_lengt
 back : (draft : Layout) (s : List (List ℕ)) (at i : ℕ) → at ≡ 8 * (domains_from draft s + indom_length * i) → (offsets draft s).indoms + indom_size * i ≡ at
 back draft s at i e = omega arith
 
-good_run : (draft : Layout) (s : List (List ℕ)) → words_in (counts_of draft s) ≤ 65536 → IsDraft draft → (i at : ℕ) (row : IndomRow) → slice_get draft.indoms i ≡ Some row → at ≡ 8 * (domains_from draft s + indom_length * i) → has_good_run (spelled draft s) at ≡ true
+good_run : (draft : Layout) (s : List (List ℕ)) → words_in (counts_of draft s) ≤ 65536 → IsDraft draft → (i at : ℕ) (row : IndomRow) → slice_get draft.indoms i ≡ Some row → at ≡ 8 * (domains_from draft s + indom_length * i) → has_good_run (image_with_strings draft s) at ≡ true
 unfolding has_good_run is_instance_of
 good_run draft s few d i at row here e =
-    let words : List ℕ = spelled draft s in
+    let words : List ℕ = image_with_strings draft s in
     let run : number32 words (count_offset_in_indom at) ≡ length row.instances = run_read draft s few d i (count_offset_in_indom at) row here (ap count_offset_in_indom e) in
     let all : instances_in (take i draft.indoms) + length row.instances ≤ instances_in draft.indoms = before_this draft.indoms i row here in
     let from : number64 words (first_offset_in_indom at) ≡ first_instance (offsets draft s) draft.indoms row = first_read draft s i (first_offset_in_indom at) row here (ap first_offset_in_indom e) in
@@ -42,20 +42,20 @@ good_run draft s few d i at row here e =
     let owner : number64 words (number64 words (first_offset_in_indom at) + instance_size * k) ≡ at = owner_read draft s d i k (number64 words (first_offset_in_indom at) + instance_size * k) row instance here inside (omega arith) ∙ back draft s at i e in
     ap₂ (λ a b. a && b) (instance_leads_to draft s few (instances_in (take i draft.indoms) + k) (number64 words (first_offset_in_indom at) + instance_size * k) (omega arith) offset) (eq-eqb (number64 words (number64 words (first_offset_in_indom at) + instance_size * k)) at owner))
 
-new_indom : (draft : Layout) (s : List (List ℕ)) → words_in (counts_of draft s) ≤ 65536 → IsDraft draft → (i : ℕ) (row : IndomRow) → slice_get draft.indoms i ≡ Some row → is_new_indom (spelled draft s) i ≡ true
+new_indom : (draft : Layout) (s : List (List ℕ)) → words_in (counts_of draft s) ≤ 65536 → IsDraft draft → (i : ℕ) (row : IndomRow) → slice_get draft.indoms i ≡ Some row → is_new_indom (image_with_strings draft s) i ≡ true
 unfolding is_new_indom has_serial
 new_indom draft s few d i row here =
     let below : i < length draft.indoms = get_below draft.indoms i row here in
-    all_hold i (λ j. not (nat_eq (number32 (spelled draft s) (indom_at (spelled draft s) j)) (number32 (spelled draft s) (indom_at (spelled draft s) i)))) (λ j less.
+    all_hold i (λ j. not (nat_eq (number32 (image_with_strings draft s) (indom_at (image_with_strings draft s) j)) (number32 (image_with_strings draft s) (indom_at (image_with_strings draft s) i)))) (λ j less.
     let (other, there) = get_some draft.indoms j (omega arith) in
-    ap not (ap₂ nat_eq (serial_read draft s few d j (indom_at (spelled draft s) j) other there (indom_is draft s few j (omega arith))) (serial_read draft s few d i (indom_at (spelled draft s) i) row here (indom_is draft s few i below))
+    ap not (ap₂ nat_eq (serial_read draft s few d j (indom_at (image_with_strings draft s) j) other there (indom_is draft s few j (omega arith))) (serial_read draft s few d i (indom_at (image_with_strings draft s) i) row here (indom_is draft s few i below))
     ∙ d.serials j i other row less there here))
 
-pub good_indom : (draft : Layout) (s : List (List ℕ)) → words_in (counts_of draft s) ≤ 65536 → IsDraft draft → Each (λ row. HasHelp s row.short × HasHelp s row.long) draft.indoms → (i : ℕ) → i < length draft.indoms → is_good_indom (spelled draft s) i ≡ true
+pub good_indom : (draft : Layout) (s : List (List ℕ)) → words_in (counts_of draft s) ≤ 65536 → IsDraft draft → Each (λ row. HasHelp s row.short × HasHelp s row.long) draft.indoms → (i : ℕ) → i < length draft.indoms → is_good_indom (image_with_strings draft s) i ≡ true
 unfolding is_good_indom domain_words
 good_indom draft s few d helps i below =
     let (row, here) = get_some draft.indoms i below in
-    let words : List ℕ = spelled draft s in
+    let words : List ℕ = image_with_strings draft s in
     let offset : indom_at words i ≡ 8 * (domains_from draft s + indom_length * i) = indom_is draft s few i below in
     let stand : Stands words (domains_from draft s + indom_length * i) (domain_words (offsets draft s) s draft.indoms row) = stand_domain draft s i row here in
     let short : help_leads words (short_offset_in_indom (indom_at words i)) ≡ true = help_good draft s few row.short (short_offset_in_indom (indom_at words i)) (helps i row here).0 (word_read words (domains_from draft s + indom_length * i) 2 (short_offset_in_indom (indom_at words i)) (domain_words (offsets draft s) s draft.indoms row) stand (omega arith) (omega arith)) in
@@ -63,23 +63,23 @@ good_indom draft s few d helps i below =
     ap₂ (λ a b. a && b) (ap₂ (λ a b. a && b) (ap₂ (λ a b. a && b) (ap₂ (λ a b. a && b) short long) (good_run draft s few d i (indom_at words i) row here offset)) (new_indom draft s few d i row here))
     (ap is_serial (serial_read draft s few d i (indom_at words i) row here offset) ∙ (d.domains i row here).serial)
 
-pub good_indoms : (draft : Layout) (s : List (List ℕ)) → words_in (counts_of draft s) ≤ 65536 → IsDraft draft → Each (λ row. HasHelp s row.short × HasHelp s row.long) draft.indoms → indoms_are_good (spelled draft s) ≡ true
+pub good_indoms : (draft : Layout) (s : List (List ℕ)) → words_in (counts_of draft s) ≤ 65536 → IsDraft draft → Each (λ row. HasHelp s row.short × HasHelp s row.long) draft.indoms → indoms_are_good (image_with_strings draft s) ≡ true
 unfolding indoms_are_good
 good_indoms draft s few d helps =
-    all_hold (indom_count (spelled draft s)) (is_good_indom (spelled draft s)) (λ i below. good_indom draft s few d helps i (subst (λ n. i < n) (find_indoms draft s few).count below))
+    all_hold (indom_count (image_with_strings draft s)) (is_good_indom (image_with_strings draft s)) (λ i below. good_indom draft s few d helps i (subst (λ n. i < n) (find_indoms draft s few).count below))
 
 -- Instances
 
-pub name_from : (draft : Layout) (s : List (List ℕ)) (i k : ℕ) (row : IndomRow) (instance : ℤ × List ℕ) → slice_get draft.indoms i ≡ Some row → slice_get row.instances k ≡ Some instance → Stands (spelled draft s) (instances_from draft s + instance_length * (instances_in (take i draft.indoms) + k) + 2) (first_words name_length instance.1)
+pub name_from : (draft : Layout) (s : List (List ℕ)) (i k : ℕ) (row : IndomRow) (instance : ℤ × List ℕ) → slice_get draft.indoms i ≡ Some row → slice_get row.instances k ≡ Some instance → Stands (image_with_strings draft s) (instances_from draft s + instance_length * (instances_in (take i draft.indoms) + k) + 2) (first_words name_length instance.1)
 unfolding instance_words
 name_from draft s i k row instance here within =
-    stands_right (spelled draft s) (instances_from draft s + instance_length * (instances_in (take i draft.indoms) + k)) (instances_from draft s + instance_length * (instances_in (take i draft.indoms) + k) + 2)
+    stands_right (image_with_strings draft s) (instances_from draft s + instance_length * (instances_in (take i draft.indoms) + k)) (instances_from draft s + instance_length * (instances_in (take i draft.indoms) + k) + 2)
     (domain_offset (offsets draft s) draft.indoms row.serial ∷ halves 0 (cast_unsigned w32 instance.0) ∷ []) (first_words name_length instance.1) refl (stand_instance draft s i k row instance here within)
 
-pub number_read : (draft : Layout) (s : List (List ℕ)) → IsDraft draft → (i k at n : ℕ) (row : IndomRow) (instance : ℤ × List ℕ) → slice_get draft.indoms i ≡ Some row → slice_get row.instances k ≡ Some instance → instance.0 ≡ pos n → n < 2147483648 → at ≡ number_offset_in_instance (8 * (instances_from draft s + instance_length * (instances_in (take i draft.indoms) + k))) → number32 (spelled draft s) at ≡ n
+pub number_read : (draft : Layout) (s : List (List ℕ)) → IsDraft draft → (i k at n : ℕ) (row : IndomRow) (instance : ℤ × List ℕ) → slice_get draft.indoms i ≡ Some row → slice_get row.instances k ≡ Some instance → instance.0 ≡ pos n → n < 2147483648 → at ≡ number_offset_in_instance (8 * (instances_from draft s + instance_length * (instances_in (take i draft.indoms) + k))) → number32 (image_with_strings draft s) at ≡ n
 unfolding instance_words
 number_read draft s d i k at n row instance here within is fits e =
-    high_read (spelled draft s) (instances_from draft s + instance_length * (instances_in (take i draft.indoms) + k)) 1 at (instance_words (domain_offset (offsets draft s) draft.indoms row.serial) instance) 0 n (stand_instance draft s i k row instance here within) (omega arith) (omega arith)
+    high_read (image_with_strings draft s) (instances_from draft s + instance_length * (instances_in (take i draft.indoms) + k)) 1 at (instance_words (domain_offset (offsets draft s) draft.indoms row.serial) instance) 0 n (stand_instance draft s i k row instance here within) (omega arith) (omega arith)
     (ap (λ id. halves 0 (cast_unsigned w32 id)) is) (omega arith) (omega arith)
 
 pub short_name : (n : ℕ) → (nat_le 1 n && nat_le n 63) ≡ true → (0 < n) × (n < 64)
@@ -94,24 +94,24 @@ short_name n h = (one n (both_left (nat_le 1 n) (nat_le n 63) h), most n (both_r
 isnt_zero : (n : ℕ) → n ≢ 0 → not (nat_eq n 0) ≡ true
 isnt_zero n h = grind (arith, nat_tests)
 
-named : (draft : Layout) (s : List (List ℕ)) → IsDraft draft → (i k at : ℕ) (row : IndomRow) (instance : ℤ × List ℕ) → slice_get draft.indoms i ≡ Some row → slice_get row.instances k ≡ Some instance → at ≡ 8 * (instances_from draft s + instance_length * (instances_in (take i draft.indoms) + k)) → has_text (spelled draft s) (name_offset_in_instance at) ≡ true
+named : (draft : Layout) (s : List (List ℕ)) → IsDraft draft → (i k at : ℕ) (row : IndomRow) (instance : ℤ × List ℕ) → slice_get draft.indoms i ≡ Some row → slice_get row.instances k ≡ Some instance → at ≡ 8 * (instances_from draft s + instance_length * (instances_in (take i draft.indoms) + k)) → has_text (image_with_strings draft s) (name_offset_in_instance at) ≡ true
 unfolding has_text
 named draft s d i k at row instance here within e =
     let is : IsInstance instance = (d.domains i row here).instances k instance within in
     let short : (0 < length instance.1) × (length instance.1 < 64) = short_name (length instance.1) is.name in
-    let stand : Stands (spelled draft s) (instances_from draft s + instance_length * (instances_in (take i draft.indoms) + k) + 2) (first_words name_length instance.1) = name_from draft s i k row instance here within in
-    let first : byte_at (spelled draft s) (name_offset_in_instance at) ≡ slice_index instance.1 0 =
-    ap (byte_at (spelled draft s)) (plus_none (name_offset_in_instance at)) ∙ byte_read (spelled draft s) (instances_from draft s + instance_length * (instances_in (take i draft.indoms) + k) + 2) name_length (name_offset_in_instance at) 0 instance.1 stand is.stored.bytes (omega arith) (omega arith) in
-    ap₂ (λ a b. a && b) (zero_read (spelled draft s) (instances_from draft s + instance_length * (instances_in (take i draft.indoms) + k) + 2) name_length (name_offset_in_instance at) instance.1 stand is.stored (omega arith) short.1)
-    (isnt_zero (byte_at (spelled draft s) (name_offset_in_instance at)) (λ z. is.stored.nonzero 0 0 short.0 (sym first ∙ z)))
+    let stand : Stands (image_with_strings draft s) (instances_from draft s + instance_length * (instances_in (take i draft.indoms) + k) + 2) (first_words name_length instance.1) = name_from draft s i k row instance here within in
+    let first : byte_at (image_with_strings draft s) (name_offset_in_instance at) ≡ slice_index instance.1 0 =
+    ap (byte_at (image_with_strings draft s)) (plus_none (name_offset_in_instance at)) ∙ byte_read (image_with_strings draft s) (instances_from draft s + instance_length * (instances_in (take i draft.indoms) + k) + 2) name_length (name_offset_in_instance at) 0 instance.1 stand is.stored.bytes (omega arith) (omega arith) in
+    ap₂ (λ a b. a && b) (zero_read (image_with_strings draft s) (instances_from draft s + instance_length * (instances_in (take i draft.indoms) + k) + 2) name_length (name_offset_in_instance at) instance.1 stand is.stored (omega arith) short.1)
+    (isnt_zero (byte_at (image_with_strings draft s) (name_offset_in_instance at)) (λ z. is.stored.nonzero 0 0 short.0 (sym first ∙ z)))
   where
     plus_none : (n : ℕ) → n ≡ n + 0
     plus_none n = omega arith
 
-in_run : (draft : Layout) (s : List (List ℕ)) → words_in (counts_of draft s) ≤ 65536 → IsDraft draft → (i k at : ℕ) (row : IndomRow) (instance : ℤ × List ℕ) → slice_get draft.indoms i ≡ Some row → slice_get row.instances k ≡ Some instance → at ≡ 8 * (instances_from draft s + instance_length * (instances_in (take i draft.indoms) + k)) → lies_in_run (spelled draft s) at ≡ true
+in_run : (draft : Layout) (s : List (List ℕ)) → words_in (counts_of draft s) ≤ 65536 → IsDraft draft → (i k at : ℕ) (row : IndomRow) (instance : ℤ × List ℕ) → slice_get draft.indoms i ≡ Some row → slice_get row.instances k ≡ Some instance → at ≡ 8 * (instances_from draft s + instance_length * (instances_in (take i draft.indoms) + k)) → lies_in_run (image_with_strings draft s) at ≡ true
 unfolding lies_in_run
 in_run draft s few d i k at row instance here within e =
-    let words : List ℕ = spelled draft s in
+    let words : List ℕ = image_with_strings draft s in
     let inside : k < length row.instances = get_below row.instances k instance within in
     let below : i < length draft.indoms = get_below draft.indoms i row here in
     let owner : number64 words at ≡ (offsets draft s).indoms + indom_size * i = owner_read draft s d i k at row instance here within e in
@@ -131,10 +131,10 @@ and_false : (b : Bool) → (b && false) ≡ false
 and_false true = refl
 and_false false = refl
 
-apart_in : (draft : Layout) (s : List (List ℕ)) → IsDraft draft → (i k j : ℕ) (row : IndomRow) (a b : ℤ × List ℕ) (at_a at_b : ℕ) → slice_get draft.indoms i ≡ Some row → slice_get row.instances j ≡ Some a → slice_get row.instances k ≡ Some b → j < k → at_a ≡ 8 * (instances_from draft s + instance_length * (instances_in (take i draft.indoms) + j)) → at_b ≡ 8 * (instances_from draft s + instance_length * (instances_in (take i draft.indoms) + k)) → is_same_instance (spelled draft s) at_a at_b ≡ false
+apart_in : (draft : Layout) (s : List (List ℕ)) → IsDraft draft → (i k j : ℕ) (row : IndomRow) (a b : ℤ × List ℕ) (at_a at_b : ℕ) → slice_get draft.indoms i ≡ Some row → slice_get row.instances j ≡ Some a → slice_get row.instances k ≡ Some b → j < k → at_a ≡ 8 * (instances_from draft s + instance_length * (instances_in (take i draft.indoms) + j)) → at_b ≡ 8 * (instances_from draft s + instance_length * (instances_in (take i draft.indoms) + k)) → is_same_instance (image_with_strings draft s) at_a at_b ≡ false
 unfolding is_same_instance same_name
 apart_in draft s d i k j row a b at_a at_b here in_a in_b less ea eb =
-    let words : List ℕ = spelled draft s in
+    let words : List ℕ = image_with_strings draft s in
     let is_a : IsInstance a = (d.domains i row here).instances j a in_a in
     let is_b : IsInstance b = (d.domains i row here).instances k b in_b in
     let other : (int_eq a.0 b.0 || bytes_eq a.1 b.1) ≡ false = (d.domains i row here).apart j k a b less in_a in_b in
@@ -148,20 +148,20 @@ apart_in draft s d i k j row a b at_a at_b here in_a in_b less ea eb =
 isnt : (a b : ℕ) → a ≢ b → nat_eq a b ≡ false
 isnt a b h = grind (arith, nat_tests)
 
-other_instance : (draft : Layout) (s : List (List ℕ)) → IsDraft draft → (j q at_j at_q : ℕ) → (m : Member draft.indoms j) → (n : Member draft.indoms q) → j < q → at_j ≡ 8 * (instances_from draft s + instance_length * j) → at_q ≡ 8 * (instances_from draft s + instance_length * q) → is_same_instance (spelled draft s) at_j at_q ≡ false
+other_instance : (draft : Layout) (s : List (List ℕ)) → IsDraft draft → (j q at_j at_q : ℕ) → (m : Member draft.indoms j) → (n : Member draft.indoms q) → j < q → at_j ≡ 8 * (instances_from draft s + instance_length * j) → at_q ≡ 8 * (instances_from draft s + instance_length * q) → is_same_instance (image_with_strings draft s) at_j at_q ≡ false
 unfolding is_same_instance
 other_instance draft s d j q at_j at_q m n less ej eq = here (nat_eq m.i n.i) refl
   where
-    owner_j : number64 (spelled draft s) at_j ≡ (offsets draft s).indoms + indom_size * m.i
+    owner_j : number64 (image_with_strings draft s) at_j ≡ (offsets draft s).indoms + indom_size * m.i
     owner_j = owner_read draft s d m.i m.k at_j m.row m.instance m.at m.within (ej ∙ ap (λ x. 8 * (instances_from draft s + instance_length * x)) m.is)
 
-    owner_q : number64 (spelled draft s) at_q ≡ (offsets draft s).indoms + indom_size * n.i
+    owner_q : number64 (image_with_strings draft s) at_q ≡ (offsets draft s).indoms + indom_size * n.i
     owner_q = owner_read draft s d n.i n.k at_q n.row n.instance n.at n.within (eq ∙ ap (λ x. 8 * (instances_from draft s + instance_length * x)) n.is)
 
     apart : (p a b : ℕ) → a ≢ b → nat_eq (p + indom_size * a) (p + indom_size * b) ≡ false
     apart p a b h = isnt (p + indom_size * a) (p + indom_size * b) (λ e. h (omega arith))
 
-    here : (b : Bool) → nat_eq m.i n.i ≡ b → (nat_eq (number64 (spelled draft s) at_j) (number64 (spelled draft s) at_q) && (nat_eq (number32 (spelled draft s) (number_offset_in_instance at_j)) (number32 (spelled draft s) (number_offset_in_instance at_q)) || same_name (spelled draft s) (name_offset_in_instance at_j) (name_offset_in_instance at_q))) ≡ false
+    here : (b : Bool) → nat_eq m.i n.i ≡ b → (nat_eq (number64 (image_with_strings draft s) at_j) (number64 (image_with_strings draft s) at_q) && (nat_eq (number32 (image_with_strings draft s) (number_offset_in_instance at_j)) (number32 (image_with_strings draft s) (number_offset_in_instance at_q)) || same_name (image_with_strings draft s) (name_offset_in_instance at_j) (name_offset_in_instance at_q))) ≡ false
     here true e =
         let same : m.i ≡ n.i = eqb-true m.i n.i e in
         let one : m.row ≡ n.row = same_row draft.indoms n.i m.row n.row (ap (slice_get draft.indoms) (sym same) ∙ m.at) n.at in
@@ -171,16 +171,16 @@ other_instance draft s d j q at_j at_q m n less ej eq = here (nat_eq m.i n.i) re
         let is_q : q ≡ instances_in (take n.i draft.indoms) + n.k = n.is in
         apart_in draft s d n.i n.k m.k n.row m.instance n.instance at_j at_q n.at inside n.within (omega arith) (omega arith) (omega arith)
     here false e =
-        ap (λ t. t && (nat_eq (number32 (spelled draft s) (number_offset_in_instance at_j)) (number32 (spelled draft s) (number_offset_in_instance at_q)) || same_name (spelled draft s) (name_offset_in_instance at_j) (name_offset_in_instance at_q)))
+        ap (λ t. t && (nat_eq (number32 (image_with_strings draft s) (number_offset_in_instance at_j)) (number32 (image_with_strings draft s) (number_offset_in_instance at_q)) || same_name (image_with_strings draft s) (name_offset_in_instance at_j) (name_offset_in_instance at_q)))
         (ap₂ nat_eq owner_j owner_q ∙ apart (offsets draft s).indoms m.i n.i (λ x. eqb-false m.i n.i e x))
 
 small : (n : ℕ) → n < 2147483648 → nat_lt n 2147483648 ≡ true
 small n h = grind (arith, nat_tests)
 
-good_instance : (draft : Layout) (s : List (List ℕ)) → words_in (counts_of draft s) ≤ 65536 → IsDraft draft → (q : ℕ) → q < instances_in draft.indoms → is_good_instance (spelled draft s) q ≡ true
+good_instance : (draft : Layout) (s : List (List ℕ)) → words_in (counts_of draft s) ≤ 65536 → IsDraft draft → (q : ℕ) → q < instances_in draft.indoms → is_good_instance (image_with_strings draft s) q ≡ true
 unfolding is_good_instance is_new_instance
 good_instance draft s few d q below =
-    let words : List ℕ = spelled draft s in
+    let words : List ℕ = image_with_strings draft s in
     let m : Member draft.indoms q = member draft.indoms q below in
     let at : instance_at words q ≡ 8 * (instances_from draft s + instance_length * q) = instance_is draft s few q below in
     let offset : instance_at words q ≡ 8 * (instances_from draft s + instance_length * (instances_in (take m.i draft.indoms) + m.k)) = at ∙ ap (λ x. 8 * (instances_from draft s + instance_length * x)) m.is in
@@ -190,7 +190,7 @@ good_instance draft s few d q below =
     ap not (other_instance draft s d j q (instance_at words j) (instance_at words q) (member draft.indoms j (omega arith)) m less (instance_is draft s few j (omega arith)) at))))
     (ap is_instance_number (number_read draft s d m.i m.k (number_offset_in_instance (instance_at words q)) is.number.0 m.row m.instance m.at m.within is.number.1 is.number.2 (ap number_offset_in_instance offset)) ∙ small is.number.0 is.number.2)
 
-pub good_instances : (draft : Layout) (s : List (List ℕ)) → words_in (counts_of draft s) ≤ 65536 → IsDraft draft → instances_are_good (spelled draft s) ≡ true
+pub good_instances : (draft : Layout) (s : List (List ℕ)) → words_in (counts_of draft s) ≤ 65536 → IsDraft draft → instances_are_good (image_with_strings draft s) ≡ true
 unfolding instances_are_good
 good_instances draft s few d =
-    all_hold (instance_count (spelled draft s)) (is_good_instance (spelled draft s)) (λ i below. good_instance draft s few d i (subst (λ n. i < n) (find_instances draft s few).count below))
+    all_hold (instance_count (image_with_strings draft s)) (is_good_instance (image_with_strings draft s)) (λ i below. good_instance draft s few d i (subst (λ n. i < n) (find_instances draft s few).count below))

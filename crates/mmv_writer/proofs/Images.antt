@@ -13,7 +13,7 @@ use Rattle.mmv_format.proofs.Versions.{version_fits}
 use Rattle.mmv_format.specs.declared.rows.Layout.{Layout}
 use Rattle.mmv_writer.specs.Draft.{IsDraft}
 use Rattle.mmv_spelling.specs.Offsets.{counts_of, sections_in, words_in}
-use Rattle.mmv_spelling.specs.Spelling.{header_words, spelled, all_strings, image_words}
+use Rattle.mmv_spelling.specs.Spelling.{header_words, image_with_strings, all_strings, image_words}
 use Rattle.mmv_writer.specs.Laws.{DraftsAreImages}
 use Rattle.mmv_spelling.proofs.Lengths.{length_spelled}
 use Rattle.mmv_writer.proofs.Standing.{low_read, high_read, word_read}
@@ -32,11 +32,11 @@ long_enough n h = ap not (ap₂ (λ a b. a && b) (at_least (8 * n) (omega arith)
 at_most : (n m : ℕ) → n ≤ m → nat_le n m ≡ true
 at_most n m h = grind (arith, nat_tests)
 
-good_header : (draft : Layout) (s : List (List ℕ)) → words_in (counts_of draft s) ≤ 65536 → IsDraft draft → has_good_header (spelled draft s) ≡ true
+good_header : (draft : Layout) (s : List (List ℕ)) → words_in (counts_of draft s) ≤ 65536 → IsDraft draft → has_good_header (image_with_strings draft s) ≡ true
 unfolding has_good_header header_words
 good_header draft s few d =
-    let words : List ℕ = spelled draft s in
-    let long : length (spelled draft s) ≡ words_in (counts_of draft s) = length_spelled draft s in
+    let words : List ℕ = image_with_strings draft s in
+    let long : length (image_with_strings draft s) ≡ words_in (counts_of draft s) = length_spelled draft s in
     let version : draft.version < 4294967296 = version_fits draft.version d.version in
     let process : draft.pid < 4294967296 = d.process in
     let cluster : draft.cluster ≤ 4095 = d.cluster in
@@ -53,7 +53,7 @@ good_header draft s few d =
     (eq-eqb (number64 words 8) (number64 words 16) (first ∙ sym second)))
     (ap is_cluster group ∙ at_most draft.cluster 4095 cluster)
 
-pub spelled_image : (draft : Layout) → IsDraft draft → words_in (counts_of draft (all_strings draft)) ≤ 65536 → is_image (spelled draft (all_strings draft)) ≡ true
+pub spelled_image : (draft : Layout) → IsDraft draft → words_in (counts_of draft (all_strings draft)) ≤ 65536 → is_image (image_with_strings draft (all_strings draft)) ≡ true
 unfolding is_image
 spelled_image draft d few =
     ap₂ (λ a b. a && b) (ap₂ (λ a b. a && b) (ap₂ (λ a b. a && b) (ap₂ (λ a b. a && b) (ap₂ (λ a b. a && b) (ap₂ (λ a b. a && b) (ap₂ (λ a b. a && b)
@@ -65,7 +65,7 @@ spelled_image draft d few =
 pub drafts_are_images : DraftsAreImages
 unfolding image_words
 drafts_are_images draft d few =
-    let long : length (spelled draft (all_strings draft)) ≡ words_in (counts_of draft (all_strings draft)) = length_spelled draft (all_strings draft) in
+    let long : length (image_with_strings draft (all_strings draft)) ≡ words_in (counts_of draft (all_strings draft)) = length_spelled draft (all_strings draft) in
     spelled_image draft d (omega arith)
 
 none_of : {A : Type 0} (found : Option A) → is_none found ≡ true → found ≡ None

@@ -14,7 +14,7 @@ use Rattle.mmv_format.specs.declared.rows.ValueRow.{ValueRow}
 use Rattle.mmv_format.specs.declared.rows.Layout.{Layout}
 use Rattle.mmv_writer.specs.Draft.{IsDraft}
 use Rattle.mmv_spelling.specs.Offsets.{instances_in, counts_of, words_in}
-use Rattle.mmv_spelling.specs.Spelling.{string_offset, help_offset, domain_of, domain_offset, instance_offset, domain_words, instance_words, metric_words, value_words, domain_section, instance_section, metric_section, value_section, string_section, spelled, first_instance}
+use Rattle.mmv_spelling.specs.Spelling.{string_offset, help_offset, domain_of, domain_offset, instance_offset, domain_words, instance_words, metric_words, value_words, domain_section, instance_section, metric_section, value_section, string_section, image_with_strings, first_instance}
 use Rattle.mmv_spelling.proofs.Lengths.{length_domain, length_instance, length_metric, length_value, length_even}
 use Rattle.mmv_writer.proofs.Standing.{Stands, stands_entry, stands_group, word_read, low_read, high_read, length_text}
 use Rattle.mmv_writer.proofs.Wanted.{Has, HasHelp}
@@ -25,20 +25,20 @@ use Rattle.mmv_spelling.specs.Offsets.{indom_length, instance_length, metric_len
 
 -- Offsets of entries
 
-pub indom_is : (draft : Layout) (s : List (List ℕ)) → words_in (counts_of draft s) ≤ 65536 → (k : ℕ) → k < length draft.indoms → indom_at (spelled draft s) k ≡ 8 * (domains_from draft s + indom_length * k)
-indom_is draft s few k h = let p : (section_of (spelled draft s) 1).offset ≡ (offsets draft s).indoms = (find_indoms draft s few).offset (omega arith) in omega arith
+pub indom_is : (draft : Layout) (s : List (List ℕ)) → words_in (counts_of draft s) ≤ 65536 → (k : ℕ) → k < length draft.indoms → indom_at (image_with_strings draft s) k ≡ 8 * (domains_from draft s + indom_length * k)
+indom_is draft s few k h = let p : (section_of (image_with_strings draft s) 1).offset ≡ (offsets draft s).indoms = (find_indoms draft s few).offset (omega arith) in omega arith
 
-pub instance_is : (draft : Layout) (s : List (List ℕ)) → words_in (counts_of draft s) ≤ 65536 → (k : ℕ) → k < instances_in draft.indoms → instance_at (spelled draft s) k ≡ 8 * (instances_from draft s + instance_length * k)
-instance_is draft s few k h = let p : (section_of (spelled draft s) 2).offset ≡ (offsets draft s).instances = (find_instances draft s few).offset (omega arith) in omega arith
+pub instance_is : (draft : Layout) (s : List (List ℕ)) → words_in (counts_of draft s) ≤ 65536 → (k : ℕ) → k < instances_in draft.indoms → instance_at (image_with_strings draft s) k ≡ 8 * (instances_from draft s + instance_length * k)
+instance_is draft s few k h = let p : (section_of (image_with_strings draft s) 2).offset ≡ (offsets draft s).instances = (find_instances draft s few).offset (omega arith) in omega arith
 
-pub metric_is : (draft : Layout) (s : List (List ℕ)) → words_in (counts_of draft s) ≤ 65536 → (k : ℕ) → k < length draft.metrics → metric_at (spelled draft s) k ≡ 8 * (metrics_from draft s + metric_length * k)
-metric_is draft s few k h = let p : (section_of (spelled draft s) 3).offset ≡ (offsets draft s).metrics = (find_metrics draft s few).offset (omega arith) in omega arith
+pub metric_is : (draft : Layout) (s : List (List ℕ)) → words_in (counts_of draft s) ≤ 65536 → (k : ℕ) → k < length draft.metrics → metric_at (image_with_strings draft s) k ≡ 8 * (metrics_from draft s + metric_length * k)
+metric_is draft s few k h = let p : (section_of (image_with_strings draft s) 3).offset ≡ (offsets draft s).metrics = (find_metrics draft s few).offset (omega arith) in omega arith
 
-pub value_is : (draft : Layout) (s : List (List ℕ)) → words_in (counts_of draft s) ≤ 65536 → (k : ℕ) → k < length draft.values → value_at (spelled draft s) k ≡ 8 * (values_from draft s + value_length * k)
-value_is draft s few k h = let p : (section_of (spelled draft s) 4).offset ≡ (offsets draft s).values = (find_values draft s few).offset (omega arith) in omega arith
+pub value_is : (draft : Layout) (s : List (List ℕ)) → words_in (counts_of draft s) ≤ 65536 → (k : ℕ) → k < length draft.values → value_at (image_with_strings draft s) k ≡ 8 * (values_from draft s + value_length * k)
+value_is draft s few k h = let p : (section_of (image_with_strings draft s) 4).offset ≡ (offsets draft s).values = (find_values draft s few).offset (omega arith) in omega arith
 
-pub string_is : (draft : Layout) (s : List (List ℕ)) → words_in (counts_of draft s) ≤ 65536 → (k : ℕ) → k < length s → string_at (spelled draft s) k ≡ 8 * (strings_from draft s + string_length * k)
-string_is draft s few k h = let p : (section_of (spelled draft s) 5).offset ≡ (offsets draft s).strings = (find_strings draft s few).offset (omega arith) in omega arith
+pub string_is : (draft : Layout) (s : List (List ℕ)) → words_in (counts_of draft s) ≤ 65536 → (k : ℕ) → k < length s → string_at (image_with_strings draft s) k ≡ 8 * (strings_from draft s + string_length * k)
+string_is draft s few k h = let p : (section_of (image_with_strings draft s) 5).offset ≡ (offsets draft s).strings = (find_strings draft s few).offset (omega arith) in omega arith
 
 -- What leads
 
@@ -52,25 +52,25 @@ led section n p size offset k f h e =
     let at : section.offset ≡ p = f.offset (omega arith) in
     leads_there section.offset section.count size offset k (omega arith) (e ∙ ap (λ q. q + size * k) (sym at))
 
-pub indom_leads : (draft : Layout) (s : List (List ℕ)) → words_in (counts_of draft s) ≤ 65536 → (k offset : ℕ) → k < length draft.indoms → offset ≡ (offsets draft s).indoms + indom_size * k → leads_to_indom (spelled draft s) offset ≡ true
-indom_leads draft s few k offset h e = led (section_of (spelled draft s) 1) (length draft.indoms) (offsets draft s).indoms indom_size offset k (find_indoms draft s few) h e
+pub indom_leads : (draft : Layout) (s : List (List ℕ)) → words_in (counts_of draft s) ≤ 65536 → (k offset : ℕ) → k < length draft.indoms → offset ≡ (offsets draft s).indoms + indom_size * k → leads_to_indom (image_with_strings draft s) offset ≡ true
+indom_leads draft s few k offset h e = led (section_of (image_with_strings draft s) 1) (length draft.indoms) (offsets draft s).indoms indom_size offset k (find_indoms draft s few) h e
 
-pub instance_leads_to : (draft : Layout) (s : List (List ℕ)) → words_in (counts_of draft s) ≤ 65536 → (k offset : ℕ) → k < instances_in draft.indoms → offset ≡ (offsets draft s).instances + instance_size * k → leads_to_instance (spelled draft s) offset ≡ true
-instance_leads_to draft s few k offset h e = led (section_of (spelled draft s) 2) (instances_in draft.indoms) (offsets draft s).instances instance_size offset k (find_instances draft s few) h e
+pub instance_leads_to : (draft : Layout) (s : List (List ℕ)) → words_in (counts_of draft s) ≤ 65536 → (k offset : ℕ) → k < instances_in draft.indoms → offset ≡ (offsets draft s).instances + instance_size * k → leads_to_instance (image_with_strings draft s) offset ≡ true
+instance_leads_to draft s few k offset h e = led (section_of (image_with_strings draft s) 2) (instances_in draft.indoms) (offsets draft s).instances instance_size offset k (find_instances draft s few) h e
 
-pub metric_leads : (draft : Layout) (s : List (List ℕ)) → words_in (counts_of draft s) ≤ 65536 → (k offset : ℕ) → k < length draft.metrics → offset ≡ (offsets draft s).metrics + metric_size * k → leads_to_metric (spelled draft s) offset ≡ true
-metric_leads draft s few k offset h e = led (section_of (spelled draft s) 3) (length draft.metrics) (offsets draft s).metrics metric_size offset k (find_metrics draft s few) h e
+pub metric_leads : (draft : Layout) (s : List (List ℕ)) → words_in (counts_of draft s) ≤ 65536 → (k offset : ℕ) → k < length draft.metrics → offset ≡ (offsets draft s).metrics + metric_size * k → leads_to_metric (image_with_strings draft s) offset ≡ true
+metric_leads draft s few k offset h e = led (section_of (image_with_strings draft s) 3) (length draft.metrics) (offsets draft s).metrics metric_size offset k (find_metrics draft s few) h e
 
-pub string_leads : (draft : Layout) (s : List (List ℕ)) → words_in (counts_of draft s) ≤ 65536 → (text : List ℕ) → Has s text → leads_to_string (spelled draft s) (string_offset (offsets draft s) s text) ≡ true
+pub string_leads : (draft : Layout) (s : List (List ℕ)) → words_in (counts_of draft s) ≤ 65536 → (text : List ℕ) → Has s text → leads_to_string (image_with_strings draft s) (string_offset (offsets draft s) s text) ≡ true
 string_leads draft s few text h =
     let p : Passes s (position_or_len (λ other. bytes_eq other text) s) (λ other. bytes_eq other text) = first_passes (λ other. bytes_eq other text) s h in
-    led (section_of (spelled draft s) 5) (length s) (offsets draft s).strings string_size (string_offset (offsets draft s) s text) (position_or_len (λ other. bytes_eq other text) s) (find_strings draft s few) (get_below s (position_or_len (λ other. bytes_eq other text) s) p.row p.at) refl
+    led (section_of (image_with_strings draft s) 5) (length s) (offsets draft s).strings string_size (string_offset (offsets draft s) s text) (position_or_len (λ other. bytes_eq other text) s) (find_strings draft s few) (get_below s (position_or_len (λ other. bytes_eq other text) s) p.row p.at) refl
 
-pub help_good : (draft : Layout) (s : List (List ℕ)) → words_in (counts_of draft s) ≤ 65536 → (help : Option (List ℕ)) (field : ℕ) → HasHelp s help → number64 (spelled draft s) field ≡ help_offset (offsets draft s) s help → help_leads (spelled draft s) field ≡ true
+pub help_good : (draft : Layout) (s : List (List ℕ)) → words_in (counts_of draft s) ≤ 65536 → (help : Option (List ℕ)) (field : ℕ) → HasHelp s help → number64 (image_with_strings draft s) field ≡ help_offset (offsets draft s) s help → help_leads (image_with_strings draft s) field ≡ true
 unfolding help_leads
-help_good draft s few None field h e = ap (λ b. b || leads_to_string (spelled draft s) (number64 (spelled draft s) field)) (eq-eqb (number64 (spelled draft s) field) 0 e)
+help_good draft s few None field h e = ap (λ b. b || leads_to_string (image_with_strings draft s) (number64 (image_with_strings draft s) field)) (eq-eqb (number64 (image_with_strings draft s) field) 0 e)
 help_good draft s few (Some text) field h e =
-    ap (λ b. nat_eq (number64 (spelled draft s) field) 0 || b) (ap (leads_to_string (spelled draft s)) e ∙ string_leads draft s few text h) ∙ or_true (nat_eq (number64 (spelled draft s) field) 0)
+    ap (λ b. nat_eq (number64 (image_with_strings draft s) field) 0 || b) (ap (leads_to_string (image_with_strings draft s)) e ∙ string_leads draft s few text h) ∙ or_true (nat_eq (number64 (image_with_strings draft s) field) 0)
   where
     or_true : (b : Bool) → (b || true) ≡ true
     or_true true = refl
@@ -78,17 +78,17 @@ help_good draft s few (Some text) field h e =
 
 -- Entries as they stand
 
-pub stand_domain : (draft : Layout) (s : List (List ℕ)) (i : ℕ) (row : IndomRow) → slice_get draft.indoms i ≡ Some row → Stands (spelled draft s) (domains_from draft s + indom_length * i) (domain_words (offsets draft s) s draft.indoms row)
+pub stand_domain : (draft : Layout) (s : List (List ℕ)) (i : ℕ) (row : IndomRow) → slice_get draft.indoms i ≡ Some row → Stands (image_with_strings draft s) (domains_from draft s + indom_length * i) (domain_words (offsets draft s) s draft.indoms row)
 unfolding domain_section
 stand_domain draft s i row at =
-    stands_entry (spelled draft s) (domain_words (offsets draft s) s draft.indoms) indom_length (length_domain (offsets draft s) s draft.indoms) draft.indoms (domains_from draft s) (domains_from draft s + indom_length * i) i row (stand_domains draft s) at refl
+    stands_entry (image_with_strings draft s) (domain_words (offsets draft s) s draft.indoms) indom_length (length_domain (offsets draft s) s draft.indoms) draft.indoms (domains_from draft s) (domains_from draft s + indom_length * i) i row (stand_domains draft s) at refl
 
-pub stand_instance : (draft : Layout) (s : List (List ℕ)) (i k : ℕ) (row : IndomRow) (instance : ℤ × List ℕ) → slice_get draft.indoms i ≡ Some row → slice_get row.instances k ≡ Some instance → Stands (spelled draft s) (instances_from draft s + instance_length * (instances_in (take i draft.indoms) + k)) (instance_words (domain_offset (offsets draft s) draft.indoms row.serial) instance)
+pub stand_instance : (draft : Layout) (s : List (List ℕ)) (i k : ℕ) (row : IndomRow) (instance : ℤ × List ℕ) → slice_get draft.indoms i ≡ Some row → slice_get row.instances k ≡ Some instance → Stands (image_with_strings draft s) (instances_from draft s + instance_length * (instances_in (take i draft.indoms) + k)) (instance_words (domain_offset (offsets draft s) draft.indoms row.serial) instance)
 unfolding instance_section
 stand_instance draft s i k row instance at within =
-    stands_entry (spelled draft s) (instance_words (domain_offset (offsets draft s) draft.indoms row.serial)) instance_length (length_instance (domain_offset (offsets draft s) draft.indoms row.serial)) row.instances
+    stands_entry (image_with_strings draft s) (instance_words (domain_offset (offsets draft s) draft.indoms row.serial)) instance_length (length_instance (domain_offset (offsets draft s) draft.indoms row.serial)) row.instances
     (instances_from draft s + instance_length * instances_in (take i draft.indoms)) (instances_from draft s + instance_length * (instances_in (take i draft.indoms) + k)) k instance
-    (stands_group (spelled draft s) (λ r. flat_map (λ x. instance_words (domain_offset (offsets draft s) draft.indoms r.serial) x) r.instances) (λ r. length r.instances) instance_length
+    (stands_group (image_with_strings draft s) (λ r. flat_map (λ x. instance_words (domain_offset (offsets draft s) draft.indoms r.serial) x) r.instances) (λ r. length r.instances) instance_length
     (λ r. length_even (instance_words (domain_offset (offsets draft s) draft.indoms r.serial)) instance_length (length_instance (domain_offset (offsets draft s) draft.indoms r.serial)) r.instances)
     draft.indoms (instances_from draft s) (instances_from draft s + instance_length * instances_in (take i draft.indoms)) i row (stand_instances draft s) at refl)
     within (spread (instances_from draft s) (instances_in (take i draft.indoms)) k)
@@ -96,20 +96,20 @@ stand_instance draft s i k row instance at within =
     spread : (n a k : ℕ) → n + instance_length * (a + k) ≡ n + instance_length * a + instance_length * k
     spread n a k = omega arith
 
-pub stand_metric : (draft : Layout) (s : List (List ℕ)) (i : ℕ) (row : MetricRow) → slice_get draft.metrics i ≡ Some row → Stands (spelled draft s) (metrics_from draft s + metric_length * i) (metric_words (offsets draft s) s row)
+pub stand_metric : (draft : Layout) (s : List (List ℕ)) (i : ℕ) (row : MetricRow) → slice_get draft.metrics i ≡ Some row → Stands (image_with_strings draft s) (metrics_from draft s + metric_length * i) (metric_words (offsets draft s) s row)
 unfolding metric_section
 stand_metric draft s i row at =
-    stands_entry (spelled draft s) (metric_words (offsets draft s) s) metric_length (length_metric (offsets draft s) s) draft.metrics (metrics_from draft s) (metrics_from draft s + metric_length * i) i row (stand_metrics draft s) at refl
+    stands_entry (image_with_strings draft s) (metric_words (offsets draft s) s) metric_length (length_metric (offsets draft s) s) draft.metrics (metrics_from draft s) (metrics_from draft s + metric_length * i) i row (stand_metrics draft s) at refl
 
-pub stand_value : (draft : Layout) (s : List (List ℕ)) (i : ℕ) (row : ValueRow) → slice_get draft.values i ≡ Some row → Stands (spelled draft s) (values_from draft s + value_length * i) (value_words (offsets draft s) s draft.indoms draft.metrics row)
+pub stand_value : (draft : Layout) (s : List (List ℕ)) (i : ℕ) (row : ValueRow) → slice_get draft.values i ≡ Some row → Stands (image_with_strings draft s) (values_from draft s + value_length * i) (value_words (offsets draft s) s draft.indoms draft.metrics row)
 unfolding value_section
 stand_value draft s i row at =
-    stands_entry (spelled draft s) (value_words (offsets draft s) s draft.indoms draft.metrics) value_length (length_value (offsets draft s) s draft.indoms draft.metrics) draft.values (values_from draft s) (values_from draft s + value_length * i) i row (stand_values draft s) at refl
+    stands_entry (image_with_strings draft s) (value_words (offsets draft s) s draft.indoms draft.metrics) value_length (length_value (offsets draft s) s draft.indoms draft.metrics) draft.values (values_from draft s) (values_from draft s + value_length * i) i row (stand_values draft s) at refl
 
-pub stand_string : (draft : Layout) (s : List (List ℕ)) (i : ℕ) (text : List ℕ) → slice_get s i ≡ Some text → Stands (spelled draft s) (strings_from draft s + string_length * i) (first_words string_length text)
+pub stand_string : (draft : Layout) (s : List (List ℕ)) (i : ℕ) (text : List ℕ) → slice_get s i ≡ Some text → Stands (image_with_strings draft s) (strings_from draft s + string_length * i) (first_words string_length text)
 unfolding string_section
 stand_string draft s i text at =
-    stands_entry (spelled draft s) (first_words string_length) string_length (length_text string_length) s (strings_from draft s) (strings_from draft s + string_length * i) i text (stand_strings draft s) at refl
+    stands_entry (image_with_strings draft s) (first_words string_length) string_length (length_text string_length) s (strings_from draft s) (strings_from draft s + string_length * i) i text (stand_strings draft s) at refl
 
 -- Domains
 
@@ -123,22 +123,22 @@ serial_fits draft d i row at = le_of row.serial 1023 (both_right (nat_le 1 row.s
     le_of : (a b : ℕ) → nat_le a b ≡ true → a ≤ b
     le_of a b h = grind (arith, nat_tests)
 
-pub serial_read : (draft : Layout) (s : List (List ℕ)) → words_in (counts_of draft s) ≤ 65536 → IsDraft draft → (i at : ℕ) (row : IndomRow) → slice_get draft.indoms i ≡ Some row → at ≡ 8 * (domains_from draft s + indom_length * i) → number32 (spelled draft s) at ≡ row.serial
+pub serial_read : (draft : Layout) (s : List (List ℕ)) → words_in (counts_of draft s) ≤ 65536 → IsDraft draft → (i at : ℕ) (row : IndomRow) → slice_get draft.indoms i ≡ Some row → at ≡ 8 * (domains_from draft s + indom_length * i) → number32 (image_with_strings draft s) at ≡ row.serial
 unfolding domain_words
 serial_read draft s few d i at row here e =
     let fits : row.serial ≤ 1023 = serial_fits draft d i row here in
-    low_read (spelled draft s) (domains_from draft s + indom_length * i) 0 at (domain_words (offsets draft s) s draft.indoms row) row.serial (length row.instances) (stand_domain draft s i row here) (omega arith) (omega arith) refl (omega arith)
+    low_read (image_with_strings draft s) (domains_from draft s + indom_length * i) 0 at (domain_words (offsets draft s) s draft.indoms row) row.serial (length row.instances) (stand_domain draft s i row here) (omega arith) (omega arith) refl (omega arith)
 
-pub run_read : (draft : Layout) (s : List (List ℕ)) → words_in (counts_of draft s) ≤ 65536 → IsDraft draft → (i at : ℕ) (row : IndomRow) → slice_get draft.indoms i ≡ Some row → at ≡ 8 * (domains_from draft s + indom_length * i) + 4 → number32 (spelled draft s) at ≡ length row.instances
+pub run_read : (draft : Layout) (s : List (List ℕ)) → words_in (counts_of draft s) ≤ 65536 → IsDraft draft → (i at : ℕ) (row : IndomRow) → slice_get draft.indoms i ≡ Some row → at ≡ 8 * (domains_from draft s + indom_length * i) + 4 → number32 (image_with_strings draft s) at ≡ length row.instances
 unfolding domain_words
 run_read draft s few d i at row here e =
     let fits : row.serial ≤ 1023 = serial_fits draft d i row here in
     let all : instances_in (take i draft.indoms) + length row.instances ≤ instances_in draft.indoms = before_this draft.indoms i row here in
-    high_read (spelled draft s) (domains_from draft s + indom_length * i) 0 at (domain_words (offsets draft s) s draft.indoms row) row.serial (length row.instances) (stand_domain draft s i row here) (omega arith) (omega arith) refl (omega arith) (omega arith)
+    high_read (image_with_strings draft s) (domains_from draft s + indom_length * i) 0 at (domain_words (offsets draft s) s draft.indoms row) row.serial (length row.instances) (stand_domain draft s i row here) (omega arith) (omega arith) refl (omega arith) (omega arith)
 
-pub first_read : (draft : Layout) (s : List (List ℕ)) (i at : ℕ) (row : IndomRow) → slice_get draft.indoms i ≡ Some row → at ≡ 8 * (domains_from draft s + indom_length * i) + 8 → number64 (spelled draft s) at ≡ first_instance (offsets draft s) draft.indoms row
+pub first_read : (draft : Layout) (s : List (List ℕ)) (i at : ℕ) (row : IndomRow) → slice_get draft.indoms i ≡ Some row → at ≡ 8 * (domains_from draft s + indom_length * i) + 8 → number64 (image_with_strings draft s) at ≡ first_instance (offsets draft s) draft.indoms row
 unfolding domain_words
-first_read draft s i at row here e = word_read (spelled draft s) (domains_from draft s + indom_length * i) 1 at (domain_words (offsets draft s) s draft.indoms row) (stand_domain draft s i row here) (omega arith) (omega arith)
+first_read draft s i at row here e = word_read (image_with_strings draft s) (domains_from draft s + indom_length * i) 1 at (domain_words (offsets draft s) s draft.indoms row) (stand_domain draft s i row here) (omega arith) (omega arith)
 
 -- the first instance of a domain that has one
 pub first_is : (draft : Layout) (s : List (List ℕ)) → IsDraft draft → (i : ℕ) (row : IndomRow) → slice_get draft.indoms i ≡ Some row → 0 < length row.instances → first_instance (offsets draft s) draft.indoms row ≡ (offsets draft s).instances + instance_size * instances_in (take i draft.indoms)
@@ -150,8 +150,8 @@ first_is draft s d i row here some =
     isnt n h = grind (arith, nat_tests)
 
 -- the domain field of an instance
-pub owner_read : (draft : Layout) (s : List (List ℕ)) → IsDraft draft → (i k at : ℕ) (row : IndomRow) (instance : ℤ × List ℕ) → slice_get draft.indoms i ≡ Some row → slice_get row.instances k ≡ Some instance → at ≡ 8 * (instances_from draft s + instance_length * (instances_in (take i draft.indoms) + k)) → number64 (spelled draft s) at ≡ (offsets draft s).indoms + indom_size * i
+pub owner_read : (draft : Layout) (s : List (List ℕ)) → IsDraft draft → (i k at : ℕ) (row : IndomRow) (instance : ℤ × List ℕ) → slice_get draft.indoms i ≡ Some row → slice_get row.instances k ≡ Some instance → at ≡ 8 * (instances_from draft s + instance_length * (instances_in (take i draft.indoms) + k)) → number64 (image_with_strings draft s) at ≡ (offsets draft s).indoms + indom_size * i
 unfolding instance_words
 owner_read draft s d i k at row instance here within e =
-    word_read (spelled draft s) (instances_from draft s + instance_length * (instances_in (take i draft.indoms) + k)) 0 at (instance_words (domain_offset (offsets draft s) draft.indoms row.serial) instance) (stand_instance draft s i k row instance here within) (omega arith) (omega arith)
+    word_read (image_with_strings draft s) (instances_from draft s + instance_length * (instances_in (take i draft.indoms) + k)) 0 at (instance_words (domain_offset (offsets draft s) draft.indoms row.serial) instance) (stand_instance draft s i k row instance here within) (omega arith) (omega arith)
     ∙ ap (λ n. (offsets draft s).indoms + indom_size * n) (domain_first draft d i row here)

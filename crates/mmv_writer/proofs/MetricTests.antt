@@ -18,7 +18,7 @@ use Rattle.mmv_format.proofs.Below.{both_left, both_right, some_holds}
 use Rattle.mmv_writer.specs.Rules.{has_domain}
 use Rattle.mmv_writer.specs.Draft.{Each, HasDomain, IsMetric, IsString, IsDraft}
 use Rattle.mmv_spelling.specs.Offsets.{counts_of, words_in}
-use Rattle.mmv_spelling.specs.Spelling.{halves, help_offset, domain_of, serial_word, metric_words, spelled}
+use Rattle.mmv_spelling.specs.Spelling.{halves, help_offset, domain_of, serial_word, metric_words, image_with_strings}
 use Rattle.mmv_writer.proofs.Sections.{all_hold}
 use Rattle.mmv_writer.proofs.Standing.{Stands, stands_left, stands_right, word_read, low_read, high_read, text_read, zero_read, length_text}
 use Rattle.mmv_writer.proofs.Wanted.{HasHelp}
@@ -35,14 +35,14 @@ fields_of draft s row =
     halves row.item (code_of_kind row.kind) ∷ halves (code_of_semantics row.semantics) row.units ∷ serial_word row.serial
     ∷ help_offset (offsets draft s) s row.short ∷ help_offset (offsets draft s) s row.long ∷ []
 
-stand_name : (draft : Layout) (s : List (List ℕ)) (i : ℕ) (row : MetricRow) → slice_get draft.metrics i ≡ Some row → Stands (spelled draft s) (metrics_from draft s + metric_length * i) (first_words name_length row.name)
+stand_name : (draft : Layout) (s : List (List ℕ)) (i : ℕ) (row : MetricRow) → slice_get draft.metrics i ≡ Some row → Stands (image_with_strings draft s) (metrics_from draft s + metric_length * i) (first_words name_length row.name)
 unfolding metric_words
-stand_name draft s i row here = stands_left (spelled draft s) (metrics_from draft s + metric_length * i) (first_words name_length row.name) (fields_of draft s row) (stand_metric draft s i row here)
+stand_name draft s i row here = stands_left (image_with_strings draft s) (metrics_from draft s + metric_length * i) (first_words name_length row.name) (fields_of draft s row) (stand_metric draft s i row here)
 
-pub stand_fields : (draft : Layout) (s : List (List ℕ)) (i : ℕ) (row : MetricRow) → slice_get draft.metrics i ≡ Some row → Stands (spelled draft s) (metrics_from draft s + metric_length * i + name_length) (fields_of draft s row)
+pub stand_fields : (draft : Layout) (s : List (List ℕ)) (i : ℕ) (row : MetricRow) → slice_get draft.metrics i ≡ Some row → Stands (image_with_strings draft s) (metrics_from draft s + metric_length * i + name_length) (fields_of draft s row)
 unfolding metric_words
 stand_fields draft s i row here =
-    stands_right (spelled draft s) (metrics_from draft s + metric_length * i) (metrics_from draft s + metric_length * i + name_length) (first_words name_length row.name) (fields_of draft s row)
+    stands_right (image_with_strings draft s) (metrics_from draft s + metric_length * i) (metrics_from draft s + metric_length * i + name_length) (first_words name_length row.name) (fields_of draft s row)
     (ap (λ n. metrics_from draft s + metric_length * i + n) (sym (length_text name_length row.name))) (stand_metric draft s i row here)
 
 kind_fits : (k : Kind) → code_of_kind k < 10
@@ -87,34 +87,34 @@ serial_small draft d (Some serial) h =
     let same : p.row.serial ≡ serial = eqb-true p.row.serial serial p.is in
     omega arith
 
-pub item_read : (draft : Layout) (s : List (List ℕ)) → IsDraft draft → (i at : ℕ) (row : MetricRow) → slice_get draft.metrics i ≡ Some row → at ≡ item_offset_in_metric (8 * (metrics_from draft s + metric_length * i)) → number32 (spelled draft s) at ≡ row.item
+pub item_read : (draft : Layout) (s : List (List ℕ)) → IsDraft draft → (i at : ℕ) (row : MetricRow) → slice_get draft.metrics i ≡ Some row → at ≡ item_offset_in_metric (8 * (metrics_from draft s + metric_length * i)) → number32 (image_with_strings draft s) at ≡ row.item
 item_read draft s d i at row here e =
     let few : row.item ≤ 1023 = (d.metrics i row here).item in
-    low_read (spelled draft s) (metrics_from draft s + metric_length * i + name_length) 0 at (fields_of draft s row) row.item (code_of_kind row.kind) (stand_fields draft s i row here) (omega arith) (omega arith) refl (omega arith)
+    low_read (image_with_strings draft s) (metrics_from draft s + metric_length * i + name_length) 0 at (fields_of draft s row) row.item (code_of_kind row.kind) (stand_fields draft s i row here) (omega arith) (omega arith) refl (omega arith)
 
-pub kind_read : (draft : Layout) (s : List (List ℕ)) → IsDraft draft → (i at : ℕ) (row : MetricRow) → slice_get draft.metrics i ≡ Some row → at ≡ type_offset_in_metric (8 * (metrics_from draft s + metric_length * i)) → number32 (spelled draft s) at ≡ code_of_kind row.kind
+pub kind_read : (draft : Layout) (s : List (List ℕ)) → IsDraft draft → (i at : ℕ) (row : MetricRow) → slice_get draft.metrics i ≡ Some row → at ≡ type_offset_in_metric (8 * (metrics_from draft s + metric_length * i)) → number32 (image_with_strings draft s) at ≡ code_of_kind row.kind
 kind_read draft s d i at row here e =
     let few : row.item ≤ 1023 = (d.metrics i row here).item in
     let fits : code_of_kind row.kind < 10 = kind_fits row.kind in
-    high_read (spelled draft s) (metrics_from draft s + metric_length * i + name_length) 0 at (fields_of draft s row) row.item (code_of_kind row.kind) (stand_fields draft s i row here) (omega arith) (omega arith) refl (omega arith) (omega arith)
+    high_read (image_with_strings draft s) (metrics_from draft s + metric_length * i + name_length) 0 at (fields_of draft s row) row.item (code_of_kind row.kind) (stand_fields draft s i row here) (omega arith) (omega arith) refl (omega arith) (omega arith)
 
-pub meaning_read : (draft : Layout) (s : List (List ℕ)) → IsDraft draft → (i at : ℕ) (row : MetricRow) → slice_get draft.metrics i ≡ Some row → at ≡ semantics_offset_in_metric (8 * (metrics_from draft s + metric_length * i)) → number32 (spelled draft s) at ≡ code_of_semantics row.semantics
+pub meaning_read : (draft : Layout) (s : List (List ℕ)) → IsDraft draft → (i at : ℕ) (row : MetricRow) → slice_get draft.metrics i ≡ Some row → at ≡ semantics_offset_in_metric (8 * (metrics_from draft s + metric_length * i)) → number32 (image_with_strings draft s) at ≡ code_of_semantics row.semantics
 meaning_read draft s d i at row here e =
     let fits : code_of_semantics row.semantics < 5 = meaning_fits row.semantics in
-    low_read (spelled draft s) (metrics_from draft s + metric_length * i + name_length) 1 at (fields_of draft s row) (code_of_semantics row.semantics) row.units (stand_fields draft s i row here) (omega arith) (omega arith) refl (omega arith)
+    low_read (image_with_strings draft s) (metrics_from draft s + metric_length * i + name_length) 1 at (fields_of draft s row) (code_of_semantics row.semantics) row.units (stand_fields draft s i row here) (omega arith) (omega arith) refl (omega arith)
 
-pub metric_serial_read : (draft : Layout) (s : List (List ℕ)) → IsDraft draft → (i at : ℕ) (row : MetricRow) → slice_get draft.metrics i ≡ Some row → at ≡ serial_offset_in_metric (8 * (metrics_from draft s + metric_length * i)) → number32 (spelled draft s) at ≡ serial_word row.serial
+pub metric_serial_read : (draft : Layout) (s : List (List ℕ)) → IsDraft draft → (i at : ℕ) (row : MetricRow) → slice_get draft.metrics i ≡ Some row → at ≡ serial_offset_in_metric (8 * (metrics_from draft s + metric_length * i)) → number32 (image_with_strings draft s) at ≡ serial_word row.serial
 metric_serial_read draft s d i at row here e =
-    low_read (spelled draft s) (metrics_from draft s + metric_length * i + name_length) 2 at (fields_of draft s row) (serial_word row.serial) 0 (stand_fields draft s i row here) (omega arith) (omega arith) (plain (serial_word row.serial)) (serial_small draft d row.serial (d.metrics i row here).domain)
+    low_read (image_with_strings draft s) (metrics_from draft s + metric_length * i + name_length) 2 at (fields_of draft s row) (serial_word row.serial) 0 (stand_fields draft s i row here) (omega arith) (omega arith) (plain (serial_word row.serial)) (serial_small draft d row.serial (d.metrics i row here).domain)
   where
     plain : (n : ℕ) → n ≡ halves n 0
     plain n = omega arith
 
-leads_serial : (draft : Layout) (s : List (List ℕ)) → words_in (counts_of draft s) ≤ 65536 → IsDraft draft → (serial : Option ℕ) → HasDomain draft.indoms serial → serial_leads (spelled draft s) (serial_word serial) ≡ true
+leads_serial : (draft : Layout) (s : List (List ℕ)) → words_in (counts_of draft s) ≤ 65536 → IsDraft draft → (serial : Option ℕ) → HasDomain draft.indoms serial → serial_leads (image_with_strings draft s) (serial_word serial) ≡ true
 unfolding serial_leads is_indom_serial has_serial
 leads_serial draft s few d None h = refl
 leads_serial draft s few d (Some serial) h =
-    let words : List ℕ = spelled draft s in
+    let words : List ℕ = image_with_strings draft s in
     let p : Passes draft.indoms (domain_of draft.indoms serial) (λ row. nat_eq row.serial serial) = domain_there draft d serial h in
     let below : domain_of draft.indoms serial < length draft.indoms = get_below draft.indoms (domain_of draft.indoms serial) p.row p.at in
     ap (λ b. is_no_domain serial || b)
@@ -132,22 +132,22 @@ short_name n h = grind (arith, nat_tests)
 at_most : (n : ℕ) → n ≤ 1023 → nat_le n 1023 ≡ true
 at_most n h = grind (arith, nat_tests)
 
-pub name_read : (draft : Layout) (s : List (List ℕ)) → IsDraft draft → (i at : ℕ) (row : MetricRow) → slice_get draft.metrics i ≡ Some row → at ≡ 8 * (metrics_from draft s + metric_length * i) → text_at (spelled draft s) at 64 ≡ row.name
+pub name_read : (draft : Layout) (s : List (List ℕ)) → IsDraft draft → (i at : ℕ) (row : MetricRow) → slice_get draft.metrics i ≡ Some row → at ≡ 8 * (metrics_from draft s + metric_length * i) → text_at (image_with_strings draft s) at 64 ≡ row.name
 name_read draft s d i at row here e =
     let is : IsMetric draft.indoms row = d.metrics i row here in
-    text_read (spelled draft s) (metrics_from draft s + metric_length * i) name_length at row.name (stand_name draft s i row here) is.stored e (short_name (length row.name) (both_right (spells true row.name) (nat_le (length row.name) 63) is.name))
+    text_read (image_with_strings draft s) (metrics_from draft s + metric_length * i) name_length at row.name (stand_name draft s i row here) is.stored e (short_name (length row.name) (both_right (spells true row.name) (nat_le (length row.name) 63) is.name))
 
-good_name : (draft : Layout) (s : List (List ℕ)) → IsDraft draft → (i at : ℕ) (row : MetricRow) → slice_get draft.metrics i ≡ Some row → at ≡ 8 * (metrics_from draft s + metric_length * i) → has_name (spelled draft s) at ≡ true
+good_name : (draft : Layout) (s : List (List ℕ)) → IsDraft draft → (i at : ℕ) (row : MetricRow) → slice_get draft.metrics i ≡ Some row → at ≡ 8 * (metrics_from draft s + metric_length * i) → has_name (image_with_strings draft s) at ≡ true
 unfolding has_name
 good_name draft s d i at row here e =
     let is : IsMetric draft.indoms row = d.metrics i row here in
-    ap₂ (λ a b. a && b) (zero_read (spelled draft s) (metrics_from draft s + metric_length * i) name_length at row.name (stand_name draft s i row here) is.stored e (short_name (length row.name) (both_right (spells true row.name) (nat_le (length row.name) 63) is.name)))
+    ap₂ (λ a b. a && b) (zero_read (image_with_strings draft s) (metrics_from draft s + metric_length * i) name_length at row.name (stand_name draft s i row here) is.stored e (short_name (length row.name) (both_right (spells true row.name) (nat_le (length row.name) 63) is.name)))
     (ap (spells true) (name_read draft s d i at row here e) ∙ both_left (spells true row.name) (nat_le (length row.name) 63) is.name)
 
-good_fields : (draft : Layout) (s : List (List ℕ)) → words_in (counts_of draft s) ≤ 65536 → IsDraft draft → (i at : ℕ) (row : MetricRow) → slice_get draft.metrics i ≡ Some row → HasHelp s row.short × HasHelp s row.long → at ≡ 8 * (metrics_from draft s + metric_length * i) → has_good_fields (spelled draft s) at ≡ true
+good_fields : (draft : Layout) (s : List (List ℕ)) → words_in (counts_of draft s) ≤ 65536 → IsDraft draft → (i at : ℕ) (row : MetricRow) → slice_get draft.metrics i ≡ Some row → HasHelp s row.short × HasHelp s row.long → at ≡ 8 * (metrics_from draft s + metric_length * i) → has_good_fields (image_with_strings draft s) at ≡ true
 unfolding has_good_fields
 good_fields draft s few d i at row here helps e =
-    let words : List ℕ = spelled draft s in
+    let words : List ℕ = image_with_strings draft s in
     let is : IsMetric draft.indoms row = d.metrics i row here in
     let kind : is_kind (number32 words (type_offset_in_metric at)) ≡ true = ap is_kind (kind_read draft s d i (type_offset_in_metric at) row here (ap type_offset_in_metric e)) ∙ kind_known row.kind in
     let meaning : is_semantics (number32 words (semantics_offset_in_metric at)) ≡ true = ap is_semantics (meaning_read draft s d i (semantics_offset_in_metric at) row here (ap semantics_offset_in_metric e)) ∙ meaning_known row.semantics in
@@ -157,10 +157,10 @@ good_fields draft s few d i at row here helps e =
     let item : is_item (number32 words (item_offset_in_metric at)) ≡ true = ap is_item (item_read draft s d i (item_offset_in_metric at) row here (ap item_offset_in_metric e)) ∙ at_most row.item is.item in
     ap₂ (λ a b. a && b) (ap₂ (λ a b. a && b) (ap₂ (λ a b. a && b) (ap₂ (λ a b. a && b) (ap₂ (λ a b. a && b) kind meaning) serial) short) long) item
 
-new_metric : (draft : Layout) (s : List (List ℕ)) → words_in (counts_of draft s) ≤ 65536 → IsDraft draft → (i : ℕ) (row : MetricRow) → slice_get draft.metrics i ≡ Some row → is_new_metric (spelled draft s) i ≡ true
+new_metric : (draft : Layout) (s : List (List ℕ)) → words_in (counts_of draft s) ≤ 65536 → IsDraft draft → (i : ℕ) (row : MetricRow) → slice_get draft.metrics i ≡ Some row → is_new_metric (image_with_strings draft s) i ≡ true
 unfolding is_new_metric is_same_metric same_name
 new_metric draft s few d i row here =
-    let words : List ℕ = spelled draft s in
+    let words : List ℕ = image_with_strings draft s in
     let below : i < length draft.metrics = get_below draft.metrics i row here in
     let offset : metric_at words i ≡ 8 * (metrics_from draft s + metric_length * i) = metric_is draft s few i below in
     all_hold i (λ j. not (nat_eq (number32 words (item_offset_in_metric (metric_at words j))) (number32 words (item_offset_in_metric (metric_at words i))) || bytes_eq (text_at words (metric_at words j) 64) (text_at words (metric_at words i) 64))) (λ j less.
@@ -169,31 +169,31 @@ new_metric draft s few d i row here =
     ap not (ap₂ (λ a b. a || b) (ap₂ nat_eq (item_read draft s d j (item_offset_in_metric (metric_at words j)) other there (ap item_offset_in_metric at)) (item_read draft s d i (item_offset_in_metric (metric_at words i)) row here (ap item_offset_in_metric offset)))
     (ap₂ bytes_eq (name_read draft s d j (metric_at words j) other there at) (name_read draft s d i (metric_at words i) row here offset)) ∙ d.items j i other row less there here))
 
-good_metric : (draft : Layout) (s : List (List ℕ)) → words_in (counts_of draft s) ≤ 65536 → IsDraft draft → Each (λ row. HasHelp s row.short × HasHelp s row.long) draft.metrics → (i : ℕ) → i < length draft.metrics → is_good_metric (spelled draft s) i ≡ true
+good_metric : (draft : Layout) (s : List (List ℕ)) → words_in (counts_of draft s) ≤ 65536 → IsDraft draft → Each (λ row. HasHelp s row.short × HasHelp s row.long) draft.metrics → (i : ℕ) → i < length draft.metrics → is_good_metric (image_with_strings draft s) i ≡ true
 unfolding is_good_metric
 good_metric draft s few d helps i below =
     let (row, here) = get_some draft.metrics i below in
-    let offset : metric_at (spelled draft s) i ≡ 8 * (metrics_from draft s + metric_length * i) = metric_is draft s few i below in
-    ap₂ (λ a b. a && b) (ap₂ (λ a b. a && b) (good_name draft s d i (metric_at (spelled draft s) i) row here offset) (good_fields draft s few d i (metric_at (spelled draft s) i) row here (helps i row here) offset)) (new_metric draft s few d i row here)
+    let offset : metric_at (image_with_strings draft s) i ≡ 8 * (metrics_from draft s + metric_length * i) = metric_is draft s few i below in
+    ap₂ (λ a b. a && b) (ap₂ (λ a b. a && b) (good_name draft s d i (metric_at (image_with_strings draft s) i) row here offset) (good_fields draft s few d i (metric_at (image_with_strings draft s) i) row here (helps i row here) offset)) (new_metric draft s few d i row here)
 
-pub good_metrics : (draft : Layout) (s : List (List ℕ)) → words_in (counts_of draft s) ≤ 65536 → IsDraft draft → Each (λ row. HasHelp s row.short × HasHelp s row.long) draft.metrics → metrics_are_good (spelled draft s) ≡ true
+pub good_metrics : (draft : Layout) (s : List (List ℕ)) → words_in (counts_of draft s) ≤ 65536 → IsDraft draft → Each (λ row. HasHelp s row.short × HasHelp s row.long) draft.metrics → metrics_are_good (image_with_strings draft s) ≡ true
 unfolding metrics_are_good
 good_metrics draft s few d helps =
-    all_hold (metric_count (spelled draft s)) (is_good_metric (spelled draft s)) (λ i below. good_metric draft s few d helps i (subst (λ n. i < n) (find_metrics draft s few).count below))
+    all_hold (metric_count (image_with_strings draft s)) (is_good_metric (image_with_strings draft s)) (λ i below. good_metric draft s few d helps i (subst (λ n. i < n) (find_metrics draft s few).count below))
 
 -- Strings
 
 pub fits_string : (n : ℕ) → nat_lt 255 n ≡ false → n < 256
 fits_string n h = grind (arith, nat_tests)
 
-good_string : (draft : Layout) (s : List (List ℕ)) → words_in (counts_of draft s) ≤ 65536 → Each IsString s → (i : ℕ) → i < length s → is_good_string (spelled draft s) i ≡ true
+good_string : (draft : Layout) (s : List (List ℕ)) → words_in (counts_of draft s) ≤ 65536 → Each IsString s → (i : ℕ) → i < length s → is_good_string (image_with_strings draft s) i ≡ true
 unfolding is_good_string
 good_string draft s few short i below =
     let (text, here) = get_some s i below in
     let is : IsString text = short i text here in
-    zero_read (spelled draft s) (strings_from draft s + string_length * i) string_length (string_at (spelled draft s) i) text (stand_string draft s i text here) is.stored (string_is draft s few i below) (fits_string (length text) is.short)
+    zero_read (image_with_strings draft s) (strings_from draft s + string_length * i) string_length (string_at (image_with_strings draft s) i) text (stand_string draft s i text here) is.stored (string_is draft s few i below) (fits_string (length text) is.short)
 
-pub good_strings : (draft : Layout) (s : List (List ℕ)) → words_in (counts_of draft s) ≤ 65536 → Each IsString s → strings_are_good (spelled draft s) ≡ true
+pub good_strings : (draft : Layout) (s : List (List ℕ)) → words_in (counts_of draft s) ≤ 65536 → Each IsString s → strings_are_good (image_with_strings draft s) ≡ true
 unfolding strings_are_good
 good_strings draft s few short =
-    all_hold (string_count (spelled draft s)) (is_good_string (spelled draft s)) (λ i below. good_string draft s few short i (subst (λ n. i < n) (find_strings draft s few).count below))
+    all_hold (string_count (image_with_strings draft s)) (is_good_string (image_with_strings draft s)) (λ i below. good_string draft s few short i (subst (λ n. i < n) (find_strings draft s few).count below))

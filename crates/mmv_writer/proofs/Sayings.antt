@@ -26,7 +26,7 @@ use Rattle.mmv_format.proofs.Versions.{version_fits}
 use Rattle.mmv_writer.specs.Rules.{fits_instance, fits_kind, fits_metric}
 use Rattle.mmv_writer.specs.Draft.{Each, IsString, IsInstance, HasDomain, IsMetric, IsDraft}
 use Rattle.mmv_spelling.specs.Offsets.{instances_in, counts_of, sections_in, words_in}
-use Rattle.mmv_spelling.specs.Spelling.{string_offset, help_offset, domain_of, serial_word, header_words, domain_words, value_words, value_field, extra_field, instance_field, spelled, all_strings, image_words}
+use Rattle.mmv_spelling.specs.Spelling.{string_offset, help_offset, domain_of, serial_word, header_words, domain_words, value_words, value_field, extra_field, instance_field, image_with_strings, all_strings, image_words}
 use Rattle.mmv_writer.specs.Saying.{DraftsAreSaid, with_all_strings}
 use Rattle.mmv_spelling.proofs.Lengths.{length_spelled, sections_most}
 use Rattle.mmv_writer.proofs.Standing.{word_read, low_read, high_read, text_read}
@@ -62,46 +62,46 @@ in_section R section n p size xs f long one = (
 
 -- Strings
 
-string_said : (draft : Layout) (s : List (List ℕ)) → words_in (counts_of draft s) ≤ 65536 → Each IsString s → (text : List ℕ) (offset : ℕ) → Has s text → offset ≡ string_offset (offsets draft s) s text → StringAt (spelled draft s) offset text
+string_said : (draft : Layout) (s : List (List ℕ)) → words_in (counts_of draft s) ≤ 65536 → Each IsString s → (text : List ℕ) (offset : ℕ) → Has s text → offset ≡ string_offset (offsets draft s) s text → StringAt (image_with_strings draft s) offset text
 string_said draft s few short text offset has e =
     let k : ℕ = position_or_len (λ other. bytes_eq other text) s in
     let p : Passes s (position_or_len (λ other. bytes_eq other text) s) (λ other. bytes_eq other text) = first_passes (λ other. bytes_eq other text) s has in
     let below : position_or_len (λ other. bytes_eq other text) s < length s = get_below s (position_or_len (λ other. bytes_eq other text) s) p.row p.at in
     let same : p.row ≡ text = same_bytes p.row text p.is in
     let is : IsString p.row = short (position_or_len (λ other. bytes_eq other text) s) p.row p.at in
-    let at : string_at (spelled draft s) (position_or_len (λ other. bytes_eq other text) s) ≡ 8 * (strings_from draft s + string_length * position_or_len (λ other. bytes_eq other text) s) = string_is draft s few (position_or_len (λ other. bytes_eq other text) s) below in (
+    let at : string_at (image_with_strings draft s) (position_or_len (λ other. bytes_eq other text) s) ≡ 8 * (strings_from draft s + string_length * position_or_len (λ other. bytes_eq other text) s) = string_is draft s few (position_or_len (λ other. bytes_eq other text) s) below in (
       (position_or_len (λ other. bytes_eq other text) s, subst (λ n. position_or_len (λ other. bytes_eq other text) s < n) (sym (find_strings draft s few).count) below, omega arith),
-      sym same ∙ sym (text_read (spelled draft s) (strings_from draft s + string_length * position_or_len (λ other. bytes_eq other text) s) string_length offset p.row (stand_string draft s (position_or_len (λ other. bytes_eq other text) s) p.row p.at) is.stored (omega arith) (fits_string (length p.row) is.short)),
+      sym same ∙ sym (text_read (image_with_strings draft s) (strings_from draft s + string_length * position_or_len (λ other. bytes_eq other text) s) string_length offset p.row (stand_string draft s (position_or_len (λ other. bytes_eq other text) s) p.row p.at) is.stored (omega arith) (fits_string (length p.row) is.short)),
     )
 
-help_said : (draft : Layout) (s : List (List ℕ)) → words_in (counts_of draft s) ≤ 65536 → Each IsString s → (help : Option (List ℕ)) (field : ℕ) → HasHelp s help → number64 (spelled draft s) field ≡ help_offset (offsets draft s) s help → HelpAt (spelled draft s) field help
+help_said : (draft : Layout) (s : List (List ℕ)) → words_in (counts_of draft s) ≤ 65536 → Each IsString s → (help : Option (List ℕ)) (field : ℕ) → HasHelp s help → number64 (image_with_strings draft s) field ≡ help_offset (offsets draft s) s help → HelpAt (image_with_strings draft s) field help
 help_said draft s few short None field has e = e
 help_said draft s few short (Some text) field has e =
-    (λ z. let some : number64 (spelled draft s) field ≡ 0 = z in absurd (omega arith), string_said draft s few short text (number64 (spelled draft s) field) has e)
+    (λ z. let some : number64 (image_with_strings draft s) field ≡ 0 = z in absurd (omega arith), string_said draft s few short text (number64 (image_with_strings draft s) field) has e)
 
 -- Domains
 
 signed_small : (n : ℕ) → n < 2147483648 → cast_signed w32 n ≡ pos n
 signed_small n h = to_z-of_z w32 (pos n) (record { sfits = h })
 
-instance_said : (draft : Layout) (s : List (List ℕ)) → IsDraft draft → (i k at : ℕ) (row : IndomRow) (instance : ℤ × List ℕ) → slice_get draft.indoms i ≡ Some row → slice_get row.instances k ≡ Some instance → at ≡ 8 * (instances_from draft s + instance_length * (instances_in (take i draft.indoms) + k)) → InstanceAt (spelled draft s) at instance
+instance_said : (draft : Layout) (s : List (List ℕ)) → IsDraft draft → (i k at : ℕ) (row : IndomRow) (instance : ℤ × List ℕ) → slice_get draft.indoms i ≡ Some row → slice_get row.instances k ≡ Some instance → at ≡ 8 * (instances_from draft s + instance_length * (instances_in (take i draft.indoms) + k)) → InstanceAt (image_with_strings draft s) at instance
 instance_said draft s d i k at row instance here within e =
     let is : IsInstance instance = (d.domains i row here).instances k instance within in (
       is.number.1 ∙ sym (ap (cast_signed w32) (number_read draft s d i k (number_offset_in_instance at) is.number.0 row instance here within is.number.1 is.number.2 (ap number_offset_in_instance e)) ∙ signed_small is.number.0 is.number.2),
-      sym (text_read (spelled draft s) (instances_from draft s + instance_length * (instances_in (take i draft.indoms) + k) + 2) name_length (name_offset_in_instance at) instance.1 (name_from draft s i k row instance here within) is.stored (omega arith) (short_name (length instance.1) is.name).1),
+      sym (text_read (image_with_strings draft s) (instances_from draft s + instance_length * (instances_in (take i draft.indoms) + k) + 2) name_length (name_offset_in_instance at) instance.1 (name_from draft s i k row instance here within) is.stored (omega arith) (short_name (length instance.1) is.name).1),
     )
 
-indom_said : (draft : Layout) (s : List (List ℕ)) → words_in (counts_of draft s) ≤ 65536 → IsDraft draft → Each IsString s → (i at : ℕ) (row : IndomRow) → slice_get draft.indoms i ≡ Some row → HasHelp s row.short × HasHelp s row.long → at ≡ 8 * (domains_from draft s + indom_length * i) → IndomAt (spelled draft s) at row
+indom_said : (draft : Layout) (s : List (List ℕ)) → words_in (counts_of draft s) ≤ 65536 → IsDraft draft → Each IsString s → (i at : ℕ) (row : IndomRow) → slice_get draft.indoms i ≡ Some row → HasHelp s row.short × HasHelp s row.long → at ≡ 8 * (domains_from draft s + indom_length * i) → IndomAt (image_with_strings draft s) at row
 unfolding domain_words
 indom_said draft s few d short i at row here helps e = record {
   serial = sym (serial_read draft s few d i at row here e);
   count = sym (run_read draft s few d i (count_offset_in_indom at) row here (ap count_offset_in_indom e));
-  instances = each_at (InstanceAt (spelled draft s)) (number64 (spelled draft s) (first_offset_in_indom at)) instance_size row.instances (λ k instance offset within p.
+  instances = each_at (InstanceAt (image_with_strings draft s)) (number64 (image_with_strings draft s) (first_offset_in_indom at)) instance_size row.instances (λ k instance offset within p.
       let inside : k < length row.instances = get_below row.instances k instance within in
-      let first : number64 (spelled draft s) (first_offset_in_indom at) ≡ (offsets draft s).instances + instance_size * instances_in (take i draft.indoms) = first_read draft s i (first_offset_in_indom at) row here (ap first_offset_in_indom e) ∙ first_is draft s d i row here (omega arith) in
+      let first : number64 (image_with_strings draft s) (first_offset_in_indom at) ≡ (offsets draft s).instances + instance_size * instances_in (take i draft.indoms) = first_read draft s i (first_offset_in_indom at) row here (ap first_offset_in_indom e) ∙ first_is draft s d i row here (omega arith) in
       instance_said draft s d i k offset row instance here within (omega arith));
-  short = help_said draft s few short row.short (short_offset_in_indom at) helps.0 (word_read (spelled draft s) (domains_from draft s + indom_length * i) 2 (short_offset_in_indom at) (domain_words (offsets draft s) s draft.indoms row) (stand_domain draft s i row here) (omega arith) (omega arith));
-  long = help_said draft s few short row.long (long_offset_in_indom at) helps.1 (word_read (spelled draft s) (domains_from draft s + indom_length * i) 3 (long_offset_in_indom at) (domain_words (offsets draft s) s draft.indoms row) (stand_domain draft s i row here) (omega arith) (omega arith));
+  short = help_said draft s few short row.short (short_offset_in_indom at) helps.0 (word_read (image_with_strings draft s) (domains_from draft s + indom_length * i) 2 (short_offset_in_indom at) (domain_words (offsets draft s) s draft.indoms row) (stand_domain draft s i row here) (omega arith) (omega arith));
+  long = help_said draft s few short row.long (long_offset_in_indom at) helps.1 (word_read (image_with_strings draft s) (domains_from draft s + indom_length * i) 3 (long_offset_in_indom at) (domain_words (offsets draft s) s draft.indoms row) (stand_domain draft s i row here) (omega arith) (omega arith));
 }
 
 -- Metrics
@@ -115,7 +115,7 @@ serial_said draft d (Some serial) found there e =
     let same : p.row.serial ≡ serial = eqb-true p.row.serial serial p.is in
     ((λ z. let no : found ≡ 0 = z in absurd (omega arith), λ z. let no : found ≡ 4294967295 = z in absurd (omega arith)), sym e)
 
-metric_said : (draft : Layout) (s : List (List ℕ)) → words_in (counts_of draft s) ≤ 65536 → IsDraft draft → Each IsString s → (i at : ℕ) (row : MetricRow) → slice_get draft.metrics i ≡ Some row → HasHelp s row.short × HasHelp s row.long → at ≡ 8 * (metrics_from draft s + metric_length * i) → MetricAt (spelled draft s) at row
+metric_said : (draft : Layout) (s : List (List ℕ)) → words_in (counts_of draft s) ≤ 65536 → IsDraft draft → Each IsString s → (i at : ℕ) (row : MetricRow) → slice_get draft.metrics i ≡ Some row → HasHelp s row.short × HasHelp s row.long → at ≡ 8 * (metrics_from draft s + metric_length * i) → MetricAt (image_with_strings draft s) at row
 metric_said draft s few d short i at row here helps e =
     let is : IsMetric draft.indoms row = d.metrics i row here in
     let meaning : code_of_semantics row.semantics < 5 = meaning_fits row.semantics in
@@ -125,20 +125,20 @@ metric_said draft s few d short i at row here helps e =
       item = sym (item_read draft s d i (item_offset_in_metric at) row here (ap item_offset_in_metric e));
       kind = sym (kind_read draft s d i (type_offset_in_metric at) row here (ap type_offset_in_metric e));
       semantics = sym (meaning_read draft s d i (semantics_offset_in_metric at) row here (ap semantics_offset_in_metric e));
-      units = sym (high_read (spelled draft s) (metrics_from draft s + metric_length * i + name_length) 1 (units_offset_in_metric at) (fields_of draft s row) (code_of_semantics row.semantics) row.units (stand_fields draft s i row here) (omega arith) (omega arith) refl (omega arith) units);
-      serial = serial_said draft d row.serial (number32 (spelled draft s) (serial_offset_in_metric at)) is.domain (metric_serial_read draft s d i (serial_offset_in_metric at) row here (ap serial_offset_in_metric e));
-      short = help_said draft s few short row.short (short_offset_in_metric at) helps.0 (word_read (spelled draft s) (metrics_from draft s + metric_length * i + name_length) 3 (short_offset_in_metric at) (fields_of draft s row) (stand_fields draft s i row here) (omega arith) (omega arith));
-      long = help_said draft s few short row.long (long_offset_in_metric at) helps.1 (word_read (spelled draft s) (metrics_from draft s + metric_length * i + name_length) 4 (long_offset_in_metric at) (fields_of draft s row) (stand_fields draft s i row here) (omega arith) (omega arith));
+      units = sym (high_read (image_with_strings draft s) (metrics_from draft s + metric_length * i + name_length) 1 (units_offset_in_metric at) (fields_of draft s row) (code_of_semantics row.semantics) row.units (stand_fields draft s i row here) (omega arith) (omega arith) refl (omega arith) units);
+      serial = serial_said draft d row.serial (number32 (image_with_strings draft s) (serial_offset_in_metric at)) is.domain (metric_serial_read draft s d i (serial_offset_in_metric at) row here (ap serial_offset_in_metric e));
+      short = help_said draft s few short row.short (short_offset_in_metric at) helps.0 (word_read (image_with_strings draft s) (metrics_from draft s + metric_length * i + name_length) 3 (short_offset_in_metric at) (fields_of draft s row) (stand_fields draft s i row here) (omega arith) (omega arith));
+      long = help_said draft s few short row.long (long_offset_in_metric at) helps.1 (word_read (image_with_strings draft s) (metrics_from draft s + metric_length * i + name_length) 4 (long_offset_in_metric at) (fields_of draft s row) (stand_fields draft s i row here) (omega arith) (omega arith));
     }
 
 -- Values
 
-number_said : (draft : Layout) (s : List (List ℕ)) → words_in (counts_of draft s) ≤ 65536 → IsDraft draft → (serial : Option ℕ) (number : Option ℤ) (value : ℕ) → HasDomain draft.indoms serial → fits_instance draft.indoms serial number ≡ true → rows.domain_of (spelled draft s) value ≡ serial_word serial → number64 (spelled draft s) (instance_offset_in_value value) ≡ instance_field (offsets draft s) draft.indoms serial number → InstanceOf (spelled draft s) value number
+number_said : (draft : Layout) (s : List (List ℕ)) → words_in (counts_of draft s) ≤ 65536 → IsDraft draft → (serial : Option ℕ) (number : Option ℤ) (value : ℕ) → HasDomain draft.indoms serial → fits_instance draft.indoms serial number ≡ true → rows.domain_of (image_with_strings draft s) value ≡ serial_word serial → number64 (image_with_strings draft s) (instance_offset_in_value value) ≡ instance_field (offsets draft s) draft.indoms serial number → InstanceOf (image_with_strings draft s) value number
 number_said draft s few d None None value there fits word is = inr word
 number_said draft s few d None (Some id) value there fits word is = cc
 number_said draft s few d (Some serial) None value there fits word is = cc
 number_said draft s few d (Some serial) (Some id) value there fits word is =
-    let words : List ℕ = spelled draft s in
+    let words : List ℕ = image_with_strings draft s in
     let p : Passes draft.indoms (domain_of draft.indoms serial) (λ row. nat_eq row.serial serial && list_any (λ other. int_eq other.0 id) row.instances) = domain_found draft d serial id fits in
     let q : Passes p.row.instances (index_in p.row id) (λ other. int_eq other.0 id) = first_passes (λ other. int_eq other.0 id) p.row.instances (both_right (nat_eq p.row.serial serial) (list_any (λ other. int_eq other.0 id) p.row.instances) p.is) in
     let inside : index_in p.row id < length p.row.instances = get_below p.row.instances (index_in p.row id) q.row q.at in
@@ -167,16 +167,16 @@ raw_kind kinds.Double h = inr (inl refl)
 raw_kind kinds.Text h = cc
 raw_kind kinds.Elapsed h = inr (inr refl)
 
-content_said : (draft : Layout) (s : List (List ℕ)) → words_in (counts_of draft s) ≤ 65536 → Each IsString s → (content : Content) (kind : Kind) (value : ℕ) → fits_kind kind content ≡ true → HasContent s content → rows.type_of (spelled draft s) value ≡ code_of_kind kind → number64 (spelled draft s) value ≡ value_field content → number64 (spelled draft s) (extra_offset_in_value value) ≡ extra_field (offsets draft s) s content → ContentAt (spelled draft s) value content
+content_said : (draft : Layout) (s : List (List ℕ)) → words_in (counts_of draft s) ≤ 65536 → Each IsString s → (content : Content) (kind : Kind) (value : ℕ) → fits_kind kind content ≡ true → HasContent s content → rows.type_of (image_with_strings draft s) value ≡ code_of_kind kind → number64 (image_with_strings draft s) value ≡ value_field content → number64 (image_with_strings draft s) (extra_offset_in_value value) ≡ extra_field (offsets draft s) s content → ContentAt (image_with_strings draft s) value content
 content_said draft s few short (Number n) kind value fits has code is more = (subst (λ c. c ≤ 3) (sym code) (le_three (code_of_kind kind) fits), sym is)
-content_said draft s few short (Choice text) kind value fits has code is more = (code ∙ eqb-true (code_of_kind kind) 6 fits, string_said draft s few short text (number64 (spelled draft s) (extra_offset_in_value value)) has more)
+content_said draft s few short (Choice text) kind value fits has code is more = (code ∙ eqb-true (code_of_kind kind) 6 fits, string_said draft s few short text (number64 (image_with_strings draft s) (extra_offset_in_value value)) has more)
 content_said draft s few short (Raw v e) kind value fits has code is more =
     (subst (λ c. (c ≡ 4) ⊎ (c ≡ 5) ⊎ (c ≡ 9)) (sym code) (raw_kind kind fits), sym is, sym more)
 
-value_said : (draft : Layout) (s : List (List ℕ)) → words_in (counts_of draft s) ≤ 65536 → IsDraft draft → Each IsString s → (i at : ℕ) (row : ValueRow) → slice_get draft.values i ≡ Some row → HasContent s row.content → at ≡ 8 * (values_from draft s + value_length * i) → ValueAt (spelled draft s) at row
+value_said : (draft : Layout) (s : List (List ℕ)) → words_in (counts_of draft s) ≤ 65536 → IsDraft draft → Each IsString s → (i at : ℕ) (row : ValueRow) → slice_get draft.values i ≡ Some row → HasContent s row.content → at ≡ 8 * (values_from draft s + value_length * i) → ValueAt (image_with_strings draft s) at row
 unfolding metric_of value_words
 value_said draft s few d short i at row here has e =
-    let words : List ℕ = spelled draft s in
+    let words : List ℕ = image_with_strings draft s in
     let p : Passes draft.metrics (metric_index draft row.item) (λ metric. fits_metric draft.indoms row metric) = metric_found draft d row (d.values i row here).metric in
     let fits : (fits_instance draft.indoms p.row.serial row.instance && fits_kind p.row.kind row.content) ≡ true = both_right (nat_eq p.row.item row.item) (fits_instance draft.indoms p.row.serial row.instance && fits_kind p.row.kind row.content) p.is in
     let item : p.row.item ≡ row.item = eqb-true p.row.item row.item (both_left (nat_eq p.row.item row.item) (fits_instance draft.indoms p.row.serial row.instance && fits_kind p.row.kind row.content) p.is) in
@@ -194,19 +194,19 @@ value_said draft s few d short i at row here has e =
           (extra_read draft s i (extra_offset_in_value at) row here (ap extra_offset_in_value e));
     }
 
-text_said : (draft : Layout) (s : List (List ℕ)) → Each IsString s → (i at : ℕ) (text : List ℕ) → slice_get s i ≡ Some text → at ≡ 8 * (strings_from draft s + string_length * i) → TextAt (spelled draft s) at text
+text_said : (draft : Layout) (s : List (List ℕ)) → Each IsString s → (i at : ℕ) (text : List ℕ) → slice_get s i ≡ Some text → at ≡ 8 * (strings_from draft s + string_length * i) → TextAt (image_with_strings draft s) at text
 text_said draft s short i at text here e =
     let is : IsString text = short i text here in
-    sym (text_read (spelled draft s) (strings_from draft s + string_length * i) string_length at text (stand_string draft s i text here) is.stored e (fits_string (length text) is.short))
+    sym (text_read (image_with_strings draft s) (strings_from draft s + string_length * i) string_length at text (stand_string draft s i text here) is.stored e (fits_string (length text) is.short))
 
 -- The whole
 
-pub said : (draft : Layout) → IsDraft draft → words_in (counts_of draft (all_strings draft)) ≤ 65536 → Says (spelled draft (all_strings draft)) (with_all_strings draft)
+pub said : (draft : Layout) → IsDraft draft → words_in (counts_of draft (all_strings draft)) ≤ 65536 → Says (image_with_strings draft (all_strings draft)) (with_all_strings draft)
 unfolding header_words
 said draft d few =
     let s : List (List ℕ) = all_strings draft in
     let short : Each IsString (all_strings draft) = strings_short draft d in
-    let words : List ℕ = spelled draft (all_strings draft) in
+    let words : List ℕ = image_with_strings draft (all_strings draft) in
     let most : sections_in (counts_of draft (all_strings draft)) ≤ 5 = sections_most (counts_of draft (all_strings draft)) in
     let flags : draft.flags < 4294967296 = d.flags in
     let process : draft.pid < 4294967296 = d.process in
@@ -233,5 +233,5 @@ said draft d few =
 pub drafts_are_said : DraftsAreSaid
 unfolding image_words
 drafts_are_said draft d few =
-    let long : length (spelled draft (all_strings draft)) ≡ words_in (counts_of draft (all_strings draft)) = length_spelled draft (all_strings draft) in
+    let long : length (image_with_strings draft (all_strings draft)) ≡ words_in (counts_of draft (all_strings draft)) = length_spelled draft (all_strings draft) in
     said draft d (omega arith)

@@ -9,7 +9,7 @@ use Rattle.mmv_format.specs.declared.rows.Layout.{Layout}
 use Rattle.mmv_spelling.specs.declared.offsets.Counts.{Counts}
 use Rattle.mmv_spelling.specs.declared.offsets.SectionOffsets.{SectionOffsets}
 use Rattle.mmv_spelling.specs.Offsets.{instances_in, counts_of, one_if_some, sections_in, section_offsets, words_in}
-use Rattle.mmv_spelling.specs.Spelling.{halves, header_words, entry_words, contents_words, domain_section, instance_section, metric_section, value_section, string_section, sections_words, spelled}
+use Rattle.mmv_spelling.specs.Spelling.{halves, header_words, entry_words, contents_words, domain_section, instance_section, metric_section, value_section, string_section, sections_words, image_with_strings}
 use Rattle.mmv_spelling.proofs.Lengths.{length_header, length_contents, length_domains, length_instances, length_metrics, length_values, length_spelled, sections_most}
 use Rattle.mmv_writer.proofs.Standing.{Stands, stands_whole, stands_left, stands_right, stands_entry, word_read, low_read, high_read}
 use Rattle.mmv_writer.proofs.Sections.{Entry, kept, words_of_entry, IsEntry, Laid, laid_kept, laid_at, Reads, pick, pick_skip, pick_hit, section_is, good_sections, aligned_sections}
@@ -36,56 +36,56 @@ strings_from draft s = values_from draft s + value_length * length draft.values
 abbrev pub offsets : Layout → List (List ℕ) → SectionOffsets
 offsets draft s = section_offsets (counts_of draft s)
 
-pub stand_header : (draft : Layout) (s : List (List ℕ)) → Stands (spelled draft s) 0 (header_words draft (sections_in (counts_of draft s)))
-unfolding spelled
-stand_header draft s = stands_left (spelled draft s) 0 (header_words draft (sections_in (counts_of draft s))) _ (stands_whole (spelled draft s))
+pub stand_header : (draft : Layout) (s : List (List ℕ)) → Stands (image_with_strings draft s) 0 (header_words draft (sections_in (counts_of draft s)))
+unfolding image_with_strings
+stand_header draft s = stands_left (image_with_strings draft s) 0 (header_words draft (sections_in (counts_of draft s))) _ (stands_whole (image_with_strings draft s))
 
-behind_header : (draft : Layout) (s : List (List ℕ)) → Stands (spelled draft s) 5 (contents_words (counts_of draft s) (offsets draft s) ++ sections_words draft s (offsets draft s))
-unfolding spelled
+behind_header : (draft : Layout) (s : List (List ℕ)) → Stands (image_with_strings draft s) 5 (contents_words (counts_of draft s) (offsets draft s) ++ sections_words draft s (offsets draft s))
+unfolding image_with_strings
 behind_header draft s =
-    stands_right (spelled draft s) 0 5 (header_words draft (sections_in (counts_of draft s))) (contents_words (counts_of draft s) (offsets draft s) ++ sections_words draft s (offsets draft s))
-    (ap (λ n. 0 + n) (sym (length_header draft (sections_in (counts_of draft s))))) (stands_whole (spelled draft s))
+    stands_right (image_with_strings draft s) 0 5 (header_words draft (sections_in (counts_of draft s))) (contents_words (counts_of draft s) (offsets draft s) ++ sections_words draft s (offsets draft s))
+    (ap (λ n. 0 + n) (sym (length_header draft (sections_in (counts_of draft s))))) (stands_whole (image_with_strings draft s))
 
-pub stand_contents : (draft : Layout) (s : List (List ℕ)) → Stands (spelled draft s) 5 (contents_words (counts_of draft s) (offsets draft s))
-stand_contents draft s = stands_left (spelled draft s) 5 (contents_words (counts_of draft s) (offsets draft s)) (sections_words draft s (offsets draft s)) (behind_header draft s)
+pub stand_contents : (draft : Layout) (s : List (List ℕ)) → Stands (image_with_strings draft s) 5 (contents_words (counts_of draft s) (offsets draft s))
+stand_contents draft s = stands_left (image_with_strings draft s) 5 (contents_words (counts_of draft s) (offsets draft s)) (sections_words draft s (offsets draft s)) (behind_header draft s)
 
-from_domains : (draft : Layout) (s : List (List ℕ)) → Stands (spelled draft s) (domains_from draft s) (sections_words draft s (offsets draft s))
+from_domains : (draft : Layout) (s : List (List ℕ)) → Stands (image_with_strings draft s) (domains_from draft s) (sections_words draft s (offsets draft s))
 from_domains draft s =
-    stands_right (spelled draft s) 5 (domains_from draft s) (contents_words (counts_of draft s) (offsets draft s)) (sections_words draft s (offsets draft s))
+    stands_right (image_with_strings draft s) 5 (domains_from draft s) (contents_words (counts_of draft s) (offsets draft s)) (sections_words draft s (offsets draft s))
     (ap (λ n. 5 + n) (sym (length_contents (counts_of draft s) (offsets draft s)))) (behind_header draft s)
 
-pub stand_domains : (draft : Layout) (s : List (List ℕ)) → Stands (spelled draft s) (domains_from draft s) (domain_section (offsets draft s) s draft.indoms)
+pub stand_domains : (draft : Layout) (s : List (List ℕ)) → Stands (image_with_strings draft s) (domains_from draft s) (domain_section (offsets draft s) s draft.indoms)
 unfolding sections_words
-stand_domains draft s = stands_left (spelled draft s) (domains_from draft s) (domain_section (offsets draft s) s draft.indoms) _ (from_domains draft s)
+stand_domains draft s = stands_left (image_with_strings draft s) (domains_from draft s) (domain_section (offsets draft s) s draft.indoms) _ (from_domains draft s)
 
-from_instances : (draft : Layout) (s : List (List ℕ)) → Stands (spelled draft s) (instances_from draft s) (instance_section (offsets draft s) draft.indoms ++ (metric_section (offsets draft s) s draft.metrics ++ (value_section (offsets draft s) s draft.indoms draft.metrics draft.values ++ string_section s)))
+from_instances : (draft : Layout) (s : List (List ℕ)) → Stands (image_with_strings draft s) (instances_from draft s) (instance_section (offsets draft s) draft.indoms ++ (metric_section (offsets draft s) s draft.metrics ++ (value_section (offsets draft s) s draft.indoms draft.metrics draft.values ++ string_section s)))
 unfolding sections_words
 from_instances draft s =
-    stands_right (spelled draft s) (domains_from draft s) (instances_from draft s) (domain_section (offsets draft s) s draft.indoms) _
+    stands_right (image_with_strings draft s) (domains_from draft s) (instances_from draft s) (domain_section (offsets draft s) s draft.indoms) _
     (ap (λ n. domains_from draft s + n) (sym (length_domains (offsets draft s) s draft.indoms))) (from_domains draft s)
 
-pub stand_instances : (draft : Layout) (s : List (List ℕ)) → Stands (spelled draft s) (instances_from draft s) (instance_section (offsets draft s) draft.indoms)
-stand_instances draft s = stands_left (spelled draft s) (instances_from draft s) (instance_section (offsets draft s) draft.indoms) _ (from_instances draft s)
+pub stand_instances : (draft : Layout) (s : List (List ℕ)) → Stands (image_with_strings draft s) (instances_from draft s) (instance_section (offsets draft s) draft.indoms)
+stand_instances draft s = stands_left (image_with_strings draft s) (instances_from draft s) (instance_section (offsets draft s) draft.indoms) _ (from_instances draft s)
 
-from_metrics : (draft : Layout) (s : List (List ℕ)) → Stands (spelled draft s) (metrics_from draft s) (metric_section (offsets draft s) s draft.metrics ++ (value_section (offsets draft s) s draft.indoms draft.metrics draft.values ++ string_section s))
+from_metrics : (draft : Layout) (s : List (List ℕ)) → Stands (image_with_strings draft s) (metrics_from draft s) (metric_section (offsets draft s) s draft.metrics ++ (value_section (offsets draft s) s draft.indoms draft.metrics draft.values ++ string_section s))
 from_metrics draft s =
-    stands_right (spelled draft s) (instances_from draft s) (metrics_from draft s) (instance_section (offsets draft s) draft.indoms) _
+    stands_right (image_with_strings draft s) (instances_from draft s) (metrics_from draft s) (instance_section (offsets draft s) draft.indoms) _
     (ap (λ n. instances_from draft s + n) (sym (length_instances (offsets draft s) draft.indoms))) (from_instances draft s)
 
-pub stand_metrics : (draft : Layout) (s : List (List ℕ)) → Stands (spelled draft s) (metrics_from draft s) (metric_section (offsets draft s) s draft.metrics)
-stand_metrics draft s = stands_left (spelled draft s) (metrics_from draft s) (metric_section (offsets draft s) s draft.metrics) _ (from_metrics draft s)
+pub stand_metrics : (draft : Layout) (s : List (List ℕ)) → Stands (image_with_strings draft s) (metrics_from draft s) (metric_section (offsets draft s) s draft.metrics)
+stand_metrics draft s = stands_left (image_with_strings draft s) (metrics_from draft s) (metric_section (offsets draft s) s draft.metrics) _ (from_metrics draft s)
 
-from_values : (draft : Layout) (s : List (List ℕ)) → Stands (spelled draft s) (values_from draft s) (value_section (offsets draft s) s draft.indoms draft.metrics draft.values ++ string_section s)
+from_values : (draft : Layout) (s : List (List ℕ)) → Stands (image_with_strings draft s) (values_from draft s) (value_section (offsets draft s) s draft.indoms draft.metrics draft.values ++ string_section s)
 from_values draft s =
-    stands_right (spelled draft s) (metrics_from draft s) (values_from draft s) (metric_section (offsets draft s) s draft.metrics) _
+    stands_right (image_with_strings draft s) (metrics_from draft s) (values_from draft s) (metric_section (offsets draft s) s draft.metrics) _
     (ap (λ n. metrics_from draft s + n) (sym (length_metrics (offsets draft s) s draft.metrics))) (from_metrics draft s)
 
-pub stand_values : (draft : Layout) (s : List (List ℕ)) → Stands (spelled draft s) (values_from draft s) (value_section (offsets draft s) s draft.indoms draft.metrics draft.values)
-stand_values draft s = stands_left (spelled draft s) (values_from draft s) (value_section (offsets draft s) s draft.indoms draft.metrics draft.values) (string_section s) (from_values draft s)
+pub stand_values : (draft : Layout) (s : List (List ℕ)) → Stands (image_with_strings draft s) (values_from draft s) (value_section (offsets draft s) s draft.indoms draft.metrics draft.values)
+stand_values draft s = stands_left (image_with_strings draft s) (values_from draft s) (value_section (offsets draft s) s draft.indoms draft.metrics draft.values) (string_section s) (from_values draft s)
 
-pub stand_strings : (draft : Layout) (s : List (List ℕ)) → Stands (spelled draft s) (strings_from draft s) (string_section s)
+pub stand_strings : (draft : Layout) (s : List (List ℕ)) → Stands (image_with_strings draft s) (strings_from draft s) (string_section s)
 stand_strings draft s =
-    stands_right (spelled draft s) (values_from draft s) (strings_from draft s) (value_section (offsets draft s) s draft.indoms draft.metrics draft.values) (string_section s)
+    stands_right (image_with_strings draft s) (values_from draft s) (strings_from draft s) (value_section (offsets draft s) s draft.indoms draft.metrics draft.values) (string_section s)
     (ap (λ n. values_from draft s + n) (sym (length_values (offsets draft s) s draft.indoms draft.metrics draft.values))) (from_values draft s)
 
 -- The contents
@@ -140,16 +140,16 @@ entries_laid c few =
     (laid_kept 4 (section_offsets c).values (section_offsets c).strings (8 * words_in c) c.values _ (omega arith) (omega arith) (omega arith) refl
     (laid_kept 5 (section_offsets c).strings ((section_offsets c).strings + string_size * c.strings) (8 * words_in c) c.strings [] (omega arith) (omega arith) (omega arith) refl (omega arith)))))
 
-contents_stand : (draft : Layout) (s : List (List ℕ)) → Stands (spelled draft s) 5 (flat_map words_of_entry (entries (counts_of draft s) (offsets draft s)))
-contents_stand draft s = subst (λ part. Stands (spelled draft s) 5 part) (contents_are (counts_of draft s) (offsets draft s)) (stand_contents draft s)
+contents_stand : (draft : Layout) (s : List (List ℕ)) → Stands (image_with_strings draft s) 5 (flat_map words_of_entry (entries (counts_of draft s) (offsets draft s)))
+contents_stand draft s = subst (λ part. Stands (image_with_strings draft s) 5 part) (contents_are (counts_of draft s) (offsets draft s)) (stand_contents draft s)
 
 entry_is : (draft : Layout) (s : List (List ℕ)) → words_in (counts_of draft s) ≤ 65536 → (i : ℕ) (e : Entry) → slice_get (entries (counts_of draft s) (offsets draft s)) i ≡ Some e → IsEntry 1 (offsets draft s).indoms e
 entry_is draft s few i e at = (laid_at 1 (offsets draft s).indoms (8 * words_in (counts_of draft s)) (entries (counts_of draft s) (offsets draft s)) i e (entries_laid (counts_of draft s) few) at).0
 
-pub entries_read : (draft : Layout) (s : List (List ℕ)) → words_in (counts_of draft s) ≤ 65536 → Reads (spelled draft s) (entries (counts_of draft s) (offsets draft s))
+pub entries_read : (draft : Layout) (s : List (List ℕ)) → words_in (counts_of draft s) ≤ 65536 → Reads (image_with_strings draft s) (entries (counts_of draft s) (offsets draft s))
 unfolding header_words
 entries_read draft s few =
-    let words : List ℕ = spelled draft s in
+    let words : List ℕ = image_with_strings draft s in
     let es : List Entry = entries (counts_of draft s) (offsets draft s) in
     let most : sections_in (counts_of draft s) ≤ 5 = sections_most (counts_of draft s) in
     let stand : (i : ℕ) (e : Entry) → slice_get es i ≡ Some e → Stands words (5 + 2 * i) (words_of_entry e) = λ i e at. stands_entry words words_of_entry 2 (λ x. refl) es 5 (5 + 2 * i) i e (contents_stand draft s) at refl in
@@ -162,14 +162,14 @@ entries_read draft s few =
       offset = λ i e at. word_read words (5 + 2 * i) 1 (48 + 16 * i) (words_of_entry e) (stand i e at) (omega arith) (omega arith);
     }
 
-pub spelt_sections : (draft : Layout) (s : List (List ℕ)) → words_in (counts_of draft s) ≤ 65536 → sections_are_good (spelled draft s) ≡ true
+pub spelt_sections : (draft : Layout) (s : List (List ℕ)) → words_in (counts_of draft s) ≤ 65536 → sections_are_good (image_with_strings draft s) ≡ true
 spelt_sections draft s few =
-    good_sections (spelled draft s) (entries (counts_of draft s) (offsets draft s)) (offsets draft s).indoms (8 * words_in (counts_of draft s)) (entries_read draft s few) (entries_laid (counts_of draft s) few)
+    good_sections (image_with_strings draft s) (entries (counts_of draft s) (offsets draft s)) (offsets draft s).indoms (8 * words_in (counts_of draft s)) (entries_read draft s few) (entries_laid (counts_of draft s) few)
     (let n : length (entries (counts_of draft s) (offsets draft s)) ≡ sections_in (counts_of draft s) = entries_count (counts_of draft s) (offsets draft s) in omega arith)
-    (let n : length (spelled draft s) ≡ words_in (counts_of draft s) = length_spelled draft s in omega arith)
+    (let n : length (image_with_strings draft s) ≡ words_in (counts_of draft s) = length_spelled draft s in omega arith)
 
-pub spelt_aligned : (draft : Layout) (s : List (List ℕ)) → words_in (counts_of draft s) ≤ 65536 → sections_are_aligned (spelled draft s) ≡ true
-spelt_aligned draft s few = aligned_sections (spelled draft s) (entries (counts_of draft s) (offsets draft s)) (offsets draft s).indoms (8 * words_in (counts_of draft s)) (entries_read draft s few) (entries_laid (counts_of draft s) few)
+pub spelt_aligned : (draft : Layout) (s : List (List ℕ)) → words_in (counts_of draft s) ≤ 65536 → sections_are_aligned (image_with_strings draft s) ≡ true
+spelt_aligned draft s few = aligned_sections (image_with_strings draft s) (entries (counts_of draft s) (offsets draft s)) (offsets draft s).indoms (8 * words_in (counts_of draft s)) (entries_read draft s few) (entries_laid (counts_of draft s) few)
 
 -- a section of so many entries, at an offset if there are any
 pub record Finds (section : Section) (n p : ℕ) : Type 0 where
@@ -183,35 +183,35 @@ finds n p section h = here (nat_eq n 0) refl h
     here true z e = record { count = ap (λ x. x.count) e ∙ sym (eqb-true n 0 z); offset = λ some. let none : n ≡ 0 = eqb-true n 0 z in absurd (omega arith) }
     here false z e = record { count = ap (λ x. x.count) e; offset = λ some. ap (λ x. x.offset) e }
 
-found_section : (draft : Layout) (s : List (List ℕ)) (t : ℕ) → words_in (counts_of draft s) ≤ 65536 → section_of (spelled draft s) t ≡ pick t (entries (counts_of draft s) (offsets draft s))
-found_section draft s t few = section_is (spelled draft s) (entries (counts_of draft s) (offsets draft s)) (offsets draft s).indoms (8 * words_in (counts_of draft s)) t (entries_read draft s few) (entries_laid (counts_of draft s) few)
+found_section : (draft : Layout) (s : List (List ℕ)) (t : ℕ) → words_in (counts_of draft s) ≤ 65536 → section_of (image_with_strings draft s) t ≡ pick t (entries (counts_of draft s) (offsets draft s))
+found_section draft s t few = section_is (image_with_strings draft s) (entries (counts_of draft s) (offsets draft s)) (offsets draft s).indoms (8 * words_in (counts_of draft s)) t (entries_read draft s few) (entries_laid (counts_of draft s) few)
 
-pub find_indoms : (draft : Layout) (s : List (List ℕ)) → words_in (counts_of draft s) ≤ 65536 → Finds (section_of (spelled draft s) 1) (counts_of draft s).indoms (offsets draft s).indoms
+pub find_indoms : (draft : Layout) (s : List (List ℕ)) → words_in (counts_of draft s) ≤ 65536 → Finds (section_of (image_with_strings draft s) 1) (counts_of draft s).indoms (offsets draft s).indoms
 find_indoms draft s few =
     let c : Counts = counts_of draft s in
     let p : SectionOffsets = offsets draft s in
-    finds c.indoms p.indoms (section_of (spelled draft s) 1) (found_section draft s 1 few ∙ pick_hit 1 (entry 1 c.indoms p.indoms) _ refl ∙ ap (λ r. cond (nat_eq c.indoms 0) r (record { offset = p.indoms; count = c.indoms })) (pick_skip 1 (entry 2 c.instances p.instances) _ refl ∙ pick_skip 1 (entry 3 c.metrics p.metrics) _ refl ∙ pick_skip 1 (entry 4 c.values p.values) _ refl ∙ pick_skip 1 (entry 5 c.strings p.strings) _ refl))
+    finds c.indoms p.indoms (section_of (image_with_strings draft s) 1) (found_section draft s 1 few ∙ pick_hit 1 (entry 1 c.indoms p.indoms) _ refl ∙ ap (λ r. cond (nat_eq c.indoms 0) r (record { offset = p.indoms; count = c.indoms })) (pick_skip 1 (entry 2 c.instances p.instances) _ refl ∙ pick_skip 1 (entry 3 c.metrics p.metrics) _ refl ∙ pick_skip 1 (entry 4 c.values p.values) _ refl ∙ pick_skip 1 (entry 5 c.strings p.strings) _ refl))
 
-pub find_instances : (draft : Layout) (s : List (List ℕ)) → words_in (counts_of draft s) ≤ 65536 → Finds (section_of (spelled draft s) 2) (counts_of draft s).instances (offsets draft s).instances
+pub find_instances : (draft : Layout) (s : List (List ℕ)) → words_in (counts_of draft s) ≤ 65536 → Finds (section_of (image_with_strings draft s) 2) (counts_of draft s).instances (offsets draft s).instances
 find_instances draft s few =
     let c : Counts = counts_of draft s in
     let p : SectionOffsets = offsets draft s in
-    finds c.instances p.instances (section_of (spelled draft s) 2) (found_section draft s 2 few ∙ pick_skip 2 (entry 1 c.indoms p.indoms) _ refl ∙ pick_hit 2 (entry 2 c.instances p.instances) _ refl ∙ ap (λ r. cond (nat_eq c.instances 0) r (record { offset = p.instances; count = c.instances })) (pick_skip 2 (entry 3 c.metrics p.metrics) _ refl ∙ pick_skip 2 (entry 4 c.values p.values) _ refl ∙ pick_skip 2 (entry 5 c.strings p.strings) _ refl))
+    finds c.instances p.instances (section_of (image_with_strings draft s) 2) (found_section draft s 2 few ∙ pick_skip 2 (entry 1 c.indoms p.indoms) _ refl ∙ pick_hit 2 (entry 2 c.instances p.instances) _ refl ∙ ap (λ r. cond (nat_eq c.instances 0) r (record { offset = p.instances; count = c.instances })) (pick_skip 2 (entry 3 c.metrics p.metrics) _ refl ∙ pick_skip 2 (entry 4 c.values p.values) _ refl ∙ pick_skip 2 (entry 5 c.strings p.strings) _ refl))
 
-pub find_metrics : (draft : Layout) (s : List (List ℕ)) → words_in (counts_of draft s) ≤ 65536 → Finds (section_of (spelled draft s) 3) (counts_of draft s).metrics (offsets draft s).metrics
+pub find_metrics : (draft : Layout) (s : List (List ℕ)) → words_in (counts_of draft s) ≤ 65536 → Finds (section_of (image_with_strings draft s) 3) (counts_of draft s).metrics (offsets draft s).metrics
 find_metrics draft s few =
     let c : Counts = counts_of draft s in
     let p : SectionOffsets = offsets draft s in
-    finds c.metrics p.metrics (section_of (spelled draft s) 3) (found_section draft s 3 few ∙ pick_skip 3 (entry 1 c.indoms p.indoms) _ refl ∙ pick_skip 3 (entry 2 c.instances p.instances) _ refl ∙ pick_hit 3 (entry 3 c.metrics p.metrics) _ refl ∙ ap (λ r. cond (nat_eq c.metrics 0) r (record { offset = p.metrics; count = c.metrics })) (pick_skip 3 (entry 4 c.values p.values) _ refl ∙ pick_skip 3 (entry 5 c.strings p.strings) _ refl))
+    finds c.metrics p.metrics (section_of (image_with_strings draft s) 3) (found_section draft s 3 few ∙ pick_skip 3 (entry 1 c.indoms p.indoms) _ refl ∙ pick_skip 3 (entry 2 c.instances p.instances) _ refl ∙ pick_hit 3 (entry 3 c.metrics p.metrics) _ refl ∙ ap (λ r. cond (nat_eq c.metrics 0) r (record { offset = p.metrics; count = c.metrics })) (pick_skip 3 (entry 4 c.values p.values) _ refl ∙ pick_skip 3 (entry 5 c.strings p.strings) _ refl))
 
-pub find_values : (draft : Layout) (s : List (List ℕ)) → words_in (counts_of draft s) ≤ 65536 → Finds (section_of (spelled draft s) 4) (counts_of draft s).values (offsets draft s).values
+pub find_values : (draft : Layout) (s : List (List ℕ)) → words_in (counts_of draft s) ≤ 65536 → Finds (section_of (image_with_strings draft s) 4) (counts_of draft s).values (offsets draft s).values
 find_values draft s few =
     let c : Counts = counts_of draft s in
     let p : SectionOffsets = offsets draft s in
-    finds c.values p.values (section_of (spelled draft s) 4) (found_section draft s 4 few ∙ pick_skip 4 (entry 1 c.indoms p.indoms) _ refl ∙ pick_skip 4 (entry 2 c.instances p.instances) _ refl ∙ pick_skip 4 (entry 3 c.metrics p.metrics) _ refl ∙ pick_hit 4 (entry 4 c.values p.values) _ refl ∙ ap (λ r. cond (nat_eq c.values 0) r (record { offset = p.values; count = c.values })) (pick_skip 4 (entry 5 c.strings p.strings) _ refl))
+    finds c.values p.values (section_of (image_with_strings draft s) 4) (found_section draft s 4 few ∙ pick_skip 4 (entry 1 c.indoms p.indoms) _ refl ∙ pick_skip 4 (entry 2 c.instances p.instances) _ refl ∙ pick_skip 4 (entry 3 c.metrics p.metrics) _ refl ∙ pick_hit 4 (entry 4 c.values p.values) _ refl ∙ ap (λ r. cond (nat_eq c.values 0) r (record { offset = p.values; count = c.values })) (pick_skip 4 (entry 5 c.strings p.strings) _ refl))
 
-pub find_strings : (draft : Layout) (s : List (List ℕ)) → words_in (counts_of draft s) ≤ 65536 → Finds (section_of (spelled draft s) 5) (counts_of draft s).strings (offsets draft s).strings
+pub find_strings : (draft : Layout) (s : List (List ℕ)) → words_in (counts_of draft s) ≤ 65536 → Finds (section_of (image_with_strings draft s) 5) (counts_of draft s).strings (offsets draft s).strings
 find_strings draft s few =
     let c : Counts = counts_of draft s in
     let p : SectionOffsets = offsets draft s in
-    finds c.strings p.strings (section_of (spelled draft s) 5) (found_section draft s 5 few ∙ pick_skip 5 (entry 1 c.indoms p.indoms) _ refl ∙ pick_skip 5 (entry 2 c.instances p.instances) _ refl ∙ pick_skip 5 (entry 3 c.metrics p.metrics) _ refl ∙ pick_skip 5 (entry 4 c.values p.values) _ refl ∙ pick_hit 5 (entry 5 c.strings p.strings) _ refl)
+    finds c.strings p.strings (section_of (image_with_strings draft s) 5) (found_section draft s 5 few ∙ pick_skip 5 (entry 1 c.indoms p.indoms) _ refl ∙ pick_skip 5 (entry 2 c.instances p.instances) _ refl ∙ pick_skip 5 (entry 3 c.metrics p.metrics) _ refl ∙ pick_skip 5 (entry 4 c.values p.values) _ refl ∙ pick_hit 5 (entry 5 c.strings p.strings) _ refl)

@@ -17,7 +17,7 @@ use Rattle.layout_text.specs.declared.line.Line.{Line}
 use Rattle.layout_text.specs.declared.line.Line.TheVariants as lines
 use Rattle.layout_text.specs.declared.line.Written.{Written}
 use Rattle.layout_text.specs.declared.line.Written.TheVariants as written
-use Rattle.layout_text.specs.Contents.{ranged, number_as, text_as, raw_as, content_of}
+use Rattle.layout_text.specs.Contents.{number_in_range, number_as, text_as, raw_as, content_of}
 use Rattle.layout_text.specs.Laws.{IsLine, IsWritten}
 use Rattle.layout_text.specs.Whole.{layout_text}
 use Rattle.layout_text.proofs.ReadRanges.{line_range}
@@ -77,7 +77,7 @@ number_there : (here : Bool) (n : ℕ) (text : List ℕ) → cond here (Some (co
 number_there true n text h = cc
 number_there false n text h = cc
 
-ranged_number : (low high : ℕ) (n : ℤ) (text : List ℕ) → ranged low high n ≡ Some (contents.Choice text) → ⊥
+ranged_number : (low high : ℕ) (n : ℤ) (text : List ℕ) → number_in_range low high n ≡ Some (contents.Choice text) → ⊥
 ranged_number low high (pos n) text h = number_there (nat_le n high) n text h
 ranged_number low high (negsuc n) text h = number_there (nat_lt n low) (18446744073709551615 - n) text h
 

@@ -19,7 +19,7 @@ use Rattle.mmv_writer.specs.Rules.{is_same_metric, has_instance, fits_instance, 
 use Rattle.mmv_writer.specs.Rules as rules
 use Rattle.mmv_writer.specs.Draft.{Each, IsDraft}
 use Rattle.mmv_spelling.specs.Offsets.{instances_in, counts_of, words_in}
-use Rattle.mmv_spelling.specs.Spelling.{domain_of, instance_offset, serial_word, value_words, extra_field, serial_in, serial_of, members_in, member_of, instance_field, spelled}
+use Rattle.mmv_spelling.specs.Spelling.{domain_of, instance_offset, serial_word, value_words, extra_field, serial_in, serial_of, members_in, member_of, instance_field, image_with_strings}
 use Rattle.mmv_writer.proofs.Rows.{either_left}
 use Rattle.mmv_writer.proofs.Sections.{all_hold}
 use Rattle.mmv_writer.proofs.Standing.{word_read}
@@ -81,13 +81,13 @@ one_at_least n h = least n (both_left (nat_le 1 n) (nat_le n 1023) h)
     least n h = grind (arith, nat_tests)
 
 instance_good : (draft : Layout) (s : List (List ℕ)) → words_in (counts_of draft s) ≤ 65536 → IsDraft draft → (serial : Option ℕ) (number : Option ℤ) (field shown : ℕ) → fits_instance draft.indoms serial number ≡ true → field ≡ instance_field (offsets draft s) draft.indoms serial number → shown ≡ serial_word serial
-    → cond (is_no_domain shown) (nat_eq field 0) (leads_to_instance (spelled draft s) field && (leads_to_indom (spelled draft s) (number64 (spelled draft s) field) && nat_eq (number32 (spelled draft s) (number64 (spelled draft s) field)) shown)) ≡ true
+    → cond (is_no_domain shown) (nat_eq field 0) (leads_to_instance (image_with_strings draft s) field && (leads_to_indom (image_with_strings draft s) (number64 (image_with_strings draft s) field) && nat_eq (number32 (image_with_strings draft s) (number64 (image_with_strings draft s) field)) shown)) ≡ true
 instance_good draft s few d None None field shown fits is word =
-    ap (λ n. cond (is_no_domain n) (nat_eq field 0) (leads_to_instance (spelled draft s) field && (leads_to_indom (spelled draft s) (number64 (spelled draft s) field) && nat_eq (number32 (spelled draft s) (number64 (spelled draft s) field)) n))) word ∙ eq-eqb field 0 is
+    ap (λ n. cond (is_no_domain n) (nat_eq field 0) (leads_to_instance (image_with_strings draft s) field && (leads_to_indom (image_with_strings draft s) (number64 (image_with_strings draft s) field) && nat_eq (number32 (image_with_strings draft s) (number64 (image_with_strings draft s) field)) n))) word ∙ eq-eqb field 0 is
 instance_good draft s few d None (Some id) field shown fits is word = cc
 instance_good draft s few d (Some serial) None field shown fits is word = cc
 instance_good draft s few d (Some serial) (Some id) field shown fits is word =
-    let words : List ℕ = spelled draft s in
+    let words : List ℕ = image_with_strings draft s in
     let i : ℕ = domain_of draft.indoms serial in
     let p : Passes draft.indoms (domain_of draft.indoms serial) (λ row. nat_eq row.serial serial && list_any (λ other. int_eq other.0 id) row.instances) = domain_found draft d serial id fits in
     let keyed : p.row.serial ≡ serial = eqb-true p.row.serial serial (both_left (nat_eq p.row.serial serial) (list_any (λ other. int_eq other.0 id) p.row.instances) p.is) in
@@ -118,27 +118,27 @@ or_true : (b : Bool) → (b || true) ≡ true
 or_true true = refl
 or_true false = refl
 
-choice_good : (draft : Layout) (s : List (List ℕ)) → words_in (counts_of draft s) ≤ 65536 → (content : Content) (kind : Kind) (field code : ℕ) → fits_kind kind content ≡ true → HasContent s content → field ≡ extra_field (offsets draft s) s content → code ≡ code_of_kind kind → (not (nat_eq code 6) || leads_to_string (spelled draft s) field) ≡ true
-choice_good draft s few (Number n) kind field code fits has is shown = ap (λ b. b || leads_to_string (spelled draft s) field) (ap (λ n. not (nat_eq n 6)) shown ∙ not_six (code_of_kind kind) fits)
+choice_good : (draft : Layout) (s : List (List ℕ)) → words_in (counts_of draft s) ≤ 65536 → (content : Content) (kind : Kind) (field code : ℕ) → fits_kind kind content ≡ true → HasContent s content → field ≡ extra_field (offsets draft s) s content → code ≡ code_of_kind kind → (not (nat_eq code 6) || leads_to_string (image_with_strings draft s) field) ≡ true
+choice_good draft s few (Number n) kind field code fits has is shown = ap (λ b. b || leads_to_string (image_with_strings draft s) field) (ap (λ n. not (nat_eq n 6)) shown ∙ not_six (code_of_kind kind) fits)
 choice_good draft s few (Choice text) kind field code fits has is shown =
-    ap (λ b. not (nat_eq code 6) || b) (ap (leads_to_string (spelled draft s)) is ∙ string_leads draft s few text has) ∙ or_true (not (nat_eq code 6))
+    ap (λ b. not (nat_eq code 6) || b) (ap (leads_to_string (image_with_strings draft s)) is ∙ string_leads draft s few text has) ∙ or_true (not (nat_eq code 6))
 choice_good draft s few (Raw value extra) kind field code fits has is shown =
-    ap (λ b. b || leads_to_string (spelled draft s) field) (ap (λ n. not (nat_eq n 6)) shown ∙ not_or (nat_le (code_of_kind kind) 3) (nat_eq (code_of_kind kind) 6) fits)
+    ap (λ b. b || leads_to_string (image_with_strings draft s) field) (ap (λ n. not (nat_eq n 6)) shown ∙ not_or (nat_le (code_of_kind kind) 3) (nat_eq (code_of_kind kind) 6) fits)
 
 -- Fields of a value
 
-pub metric_field : (draft : Layout) (s : List (List ℕ)) (i at : ℕ) (row : ValueRow) → slice_get draft.values i ≡ Some row → at ≡ metric_offset_in_value (8 * (values_from draft s + value_length * i)) → number64 (spelled draft s) at ≡ (offsets draft s).metrics + metric_size * metric_index draft row.item
+pub metric_field : (draft : Layout) (s : List (List ℕ)) (i at : ℕ) (row : ValueRow) → slice_get draft.values i ≡ Some row → at ≡ metric_offset_in_value (8 * (values_from draft s + value_length * i)) → number64 (image_with_strings draft s) at ≡ (offsets draft s).metrics + metric_size * metric_index draft row.item
 unfolding value_words
-metric_field draft s i at row here e = word_read (spelled draft s) (values_from draft s + value_length * i) 2 at (value_words (offsets draft s) s draft.indoms draft.metrics row) (stand_value draft s i row here) (omega arith) (omega arith)
+metric_field draft s i at row here e = word_read (image_with_strings draft s) (values_from draft s + value_length * i) 2 at (value_words (offsets draft s) s draft.indoms draft.metrics row) (stand_value draft s i row here) (omega arith) (omega arith)
 
-pub extra_read : (draft : Layout) (s : List (List ℕ)) (i at : ℕ) (row : ValueRow) → slice_get draft.values i ≡ Some row → at ≡ extra_offset_in_value (8 * (values_from draft s + value_length * i)) → number64 (spelled draft s) at ≡ extra_field (offsets draft s) s row.content
+pub extra_read : (draft : Layout) (s : List (List ℕ)) (i at : ℕ) (row : ValueRow) → slice_get draft.values i ≡ Some row → at ≡ extra_offset_in_value (8 * (values_from draft s + value_length * i)) → number64 (image_with_strings draft s) at ≡ extra_field (offsets draft s) s row.content
 unfolding value_words
-extra_read draft s i at row here e = word_read (spelled draft s) (values_from draft s + value_length * i) 1 at (value_words (offsets draft s) s draft.indoms draft.metrics row) (stand_value draft s i row here) (omega arith) (omega arith)
+extra_read draft s i at row here e = word_read (image_with_strings draft s) (values_from draft s + value_length * i) 1 at (value_words (offsets draft s) s draft.indoms draft.metrics row) (stand_value draft s i row here) (omega arith) (omega arith)
 
-pub instance_read : (draft : Layout) (s : List (List ℕ)) (i at : ℕ) (row : ValueRow) (metric : MetricRow) → slice_get draft.values i ≡ Some row → slice_get draft.metrics (metric_index draft row.item) ≡ Some metric → at ≡ instance_offset_in_value (8 * (values_from draft s + value_length * i)) → number64 (spelled draft s) at ≡ instance_field (offsets draft s) draft.indoms metric.serial row.instance
+pub instance_read : (draft : Layout) (s : List (List ℕ)) (i at : ℕ) (row : ValueRow) (metric : MetricRow) → slice_get draft.values i ≡ Some row → slice_get draft.metrics (metric_index draft row.item) ≡ Some metric → at ≡ instance_offset_in_value (8 * (values_from draft s + value_length * i)) → number64 (image_with_strings draft s) at ≡ instance_field (offsets draft s) draft.indoms metric.serial row.instance
 unfolding value_words
 instance_read draft s i at row metric here there e =
-    word_read (spelled draft s) (values_from draft s + value_length * i) 3 at (value_words (offsets draft s) s draft.indoms draft.metrics row) (stand_value draft s i row here) (omega arith) (omega arith)
+    word_read (image_with_strings draft s) (values_from draft s + value_length * i) 3 at (value_words (offsets draft s) s draft.indoms draft.metrics row) (stand_value draft s i row here) (omega arith) (omega arith)
     ∙ ap (λ serial. instance_field (offsets draft s) draft.indoms serial row.instance) (serial_found draft row.item metric there)
 
 -- Two values
@@ -172,7 +172,7 @@ and_false : (b : Bool) → (b && false) ≡ false
 and_false true = refl
 and_false false = refl
 
-other_value : (draft : Layout) (s : List (List ℕ)) → IsDraft draft → (j i at_a at_b : ℕ) (a b : ValueRow) → slice_get draft.values j ≡ Some a → slice_get draft.values i ≡ Some b → j < i → at_a ≡ 8 * (values_from draft s + value_length * j) → at_b ≡ 8 * (values_from draft s + value_length * i) → is_same_value (spelled draft s) at_a at_b ≡ false
+other_value : (draft : Layout) (s : List (List ℕ)) → IsDraft draft → (j i at_a at_b : ℕ) (a b : ValueRow) → slice_get draft.values j ≡ Some a → slice_get draft.values i ≡ Some b → j < i → at_a ≡ 8 * (values_from draft s + value_length * j) → at_b ≡ 8 * (values_from draft s + value_length * i) → is_same_value (image_with_strings draft s) at_a at_b ≡ false
 unfolding is_same_value
 other_value draft s d j i at_a at_b a b here_a here_b less ea eb = here (nat_eq a.item b.item) refl (d.places j i a b less here_a here_b)
   where
@@ -197,26 +197,26 @@ other_value draft s d j i at_a at_b a b here_a here_b less ea eb = here (nat_eq 
     apart : (p a b : ℕ) → a ≢ b → p + metric_size * a ≢ p + metric_size * b
     apart p a b h e = h (omega arith)
 
-    here : (t : Bool) → nat_eq a.item b.item ≡ t → (t && is_same_number a.instance b.instance) ≡ false → (nat_eq (number64 (spelled draft s) (metric_offset_in_value at_a)) (number64 (spelled draft s) (metric_offset_in_value at_b)) && nat_eq (number64 (spelled draft s) (instance_offset_in_value at_a)) (number64 (spelled draft s) (instance_offset_in_value at_b))) ≡ false
+    here : (t : Bool) → nat_eq a.item b.item ≡ t → (t && is_same_number a.instance b.instance) ≡ false → (nat_eq (number64 (image_with_strings draft s) (metric_offset_in_value at_a)) (number64 (image_with_strings draft s) (metric_offset_in_value at_b)) && nat_eq (number64 (image_with_strings draft s) (instance_offset_in_value at_a)) (number64 (image_with_strings draft s) (instance_offset_in_value at_b))) ≡ false
     here true e other =
         let items : a.item ≡ b.item = eqb-true a.item b.item e in
         let one : p.row ≡ q.row = same_row draft.metrics (metric_index draft b.item) p.row q.row (ap (λ n. slice_get draft.metrics (metric_index draft n)) (sym items) ∙ p.at) q.at in
-        ap (λ t. nat_eq (number64 (spelled draft s) (metric_offset_in_value at_a)) (number64 (spelled draft s) (metric_offset_in_value at_b)) && t)
+        ap (λ t. nat_eq (number64 (image_with_strings draft s) (metric_offset_in_value at_a)) (number64 (image_with_strings draft s) (metric_offset_in_value at_b)) && t)
         (ap₂ nat_eq (instance_read draft s j (instance_offset_in_value at_a) a p.row here_a p.at (ap instance_offset_in_value ea)) (instance_read draft s i (instance_offset_in_value at_b) b q.row here_b q.at (ap instance_offset_in_value eb) ∙ ap (λ r. instance_field (offsets draft s) draft.indoms r.serial b.instance) (sym one))
         ∙ fields_differ draft s d p.row.serial a.instance b.instance fits_p (ap (λ r. fits_instance draft.indoms r.serial b.instance) one ∙ fits_q) other)
-        ∙ and_false (nat_eq (number64 (spelled draft s) (metric_offset_in_value at_a)) (number64 (spelled draft s) (metric_offset_in_value at_b)))
+        ∙ and_false (nat_eq (number64 (image_with_strings draft s) (metric_offset_in_value at_a)) (number64 (image_with_strings draft s) (metric_offset_in_value at_b)))
     here false e other =
         let indexes : metric_index draft a.item ≢ metric_index draft b.item = λ same.
         let one : p.row ≡ q.row = same_row draft.metrics (metric_index draft b.item) p.row q.row (ap (slice_get draft.metrics) (sym same) ∙ p.at) q.at in
         eqb-false a.item b.item e (sym item_p ∙ ap (λ r. r.item) one ∙ item_q) in
-        ap (λ t. t && nat_eq (number64 (spelled draft s) (instance_offset_in_value at_a)) (number64 (spelled draft s) (instance_offset_in_value at_b)))
+        ap (λ t. t && nat_eq (number64 (image_with_strings draft s) (instance_offset_in_value at_a)) (number64 (image_with_strings draft s) (instance_offset_in_value at_b)))
         (ap₂ nat_eq (metric_field draft s j (metric_offset_in_value at_a) a here_a (ap metric_offset_in_value ea)) (metric_field draft s i (metric_offset_in_value at_b) b here_b (ap metric_offset_in_value eb))
         ∙ isnt _ _ (apart (offsets draft s).metrics (metric_index draft a.item) (metric_index draft b.item) indexes))
 
-good_value : (draft : Layout) (s : List (List ℕ)) → words_in (counts_of draft s) ≤ 65536 → IsDraft draft → Each (λ row. HasContent s row.content) draft.values → (i : ℕ) → i < length draft.values → is_good_value (spelled draft s) i ≡ true
+good_value : (draft : Layout) (s : List (List ℕ)) → words_in (counts_of draft s) ≤ 65536 → IsDraft draft → Each (λ row. HasContent s row.content) draft.values → (i : ℕ) → i < length draft.values → is_good_value (image_with_strings draft s) i ≡ true
 unfolding is_good_value instance_leads choice_leads is_new_value metric_of
 good_value draft s few d texts i below =
-    let words : List ℕ = spelled draft s in
+    let words : List ℕ = image_with_strings draft s in
     let (row, here) = get_some draft.values i below in
     let offset : value_at words i ≡ 8 * (values_from draft s + value_length * i) = value_is draft s few i below in
     let p : Passes draft.metrics (metric_index draft row.item) (λ metric. fits_metric draft.indoms row metric) = metric_found draft d row (d.values i row here).metric in
@@ -235,7 +235,7 @@ good_value draft s few d texts i below =
     let (other, there) = get_some draft.values j (omega arith) in
     ap not (other_value draft s d j i (value_at words j) (value_at words i) other row there here less (value_is draft s few j (omega arith)) offset)))
 
-pub good_values : (draft : Layout) (s : List (List ℕ)) → words_in (counts_of draft s) ≤ 65536 → IsDraft draft → Each (λ row. HasContent s row.content) draft.values → values_are_good (spelled draft s) ≡ true
+pub good_values : (draft : Layout) (s : List (List ℕ)) → words_in (counts_of draft s) ≤ 65536 → IsDraft draft → Each (λ row. HasContent s row.content) draft.values → values_are_good (image_with_strings draft s) ≡ true
 unfolding values_are_good
 good_values draft s few d texts =
-    all_hold (value_count (spelled draft s)) (is_good_value (spelled draft s)) (λ i below. good_value draft s few d texts i (subst (λ n. i < n) (find_values draft s few).count below))
+    all_hold (value_count (image_with_strings draft s)) (is_good_value (image_with_strings draft s)) (λ i below. good_value draft s few d texts i (subst (λ n. i < n) (find_values draft s few).count below))

@@ -33,7 +33,7 @@ use Rattle.mmv_writer.specs.declared.line_fault.LineFault.TheVariants.{Build}
 use Rattle.mmv_writer.specs.Rules.{is_long_help, has_domain, header_fault, indom_fault, is_instance_name, is_same_instance, has_same_instance, instance_fault, is_metric_name, is_same_metric, lacks_domain, unknown_or, metric_fault, fits_instance, fits_kind, fits_metric, fits_some_metric, is_same_value, is_long_content, value_fault, text_fault}
 use Rattle.mmv_writer.specs.Draft.{Apart, IsString, IsHelp, IsInstance, IsDomain, HasDomain, IsMetric, IsContent, IsValue, is_same_serial, empty_draft, new_domain, with_domain, add_instance, with_instance, with_metric, with_value, with_string}
 use Rattle.mmv_writer.specs.Saying.{with_all_strings}
-use Rattle.mmv_writer.specs.Reading.{full_line_of, unless, kind_in, with_content, with_written, with_line, with_said, with_head, and_then, with_lines, draft_of, text_draft, sized, image_of, text_image}
+use Rattle.mmv_writer.specs.Reading.{full_line_of, unless, kind_in, with_content, with_written, with_line, with_said, with_head, and_then, with_lines, draft_of, text_draft, words_within_limit, image_of, text_image}
 use Rattle.mmv_writer.specs.TextLaws.{IsInRange, IsWrittenDraft, WrittenTextIsRead, TextComesBack}
 use Rattle.mmv_writer.proofs.Rows.{either_left, either_right, get_below, any_at, any_wider}
 use Rattle.mmv_writer.proofs.Sayings.{drafts_are_said}
@@ -381,7 +381,7 @@ pub written_text_is_read : WrittenTextIsRead
 written_text_is_read draft w = text_read draft w
 
 pub text_comes_back : TextComesBack
-unfolding text_image sized
+unfolding text_image words_within_limit
 text_comes_back draft w all few =
     let same : with_all_strings draft ≡ layout_of (image_words draft) = says_layout (image_words draft) (with_all_strings draft) (drafts_are_said draft w.rows few) in (
       ap (λ d. image_of d (length (lines_of (layout_text draft)) + 1)) (written_text_is_read draft w)

@@ -100,13 +100,13 @@ unfoldable pub text_draft : List ℕ → Result Layout TextFault
 text_draft bytes = draft_of (lines_of bytes)
 
 -- the spelling of a draft, where it has at most 65,536 words; else a fault on the line after the last
-unfoldable pub sized : Layout → ℕ → Result (List ℕ) TextFault
-sized draft after =
+unfoldable pub words_within_limit : Layout → ℕ → Result (List ℕ) TextFault
+words_within_limit draft after =
     if nat_le (length (image_words draft)) 65536 then Ok (image_words draft) else
     Err (record { line = after; fault = Build (builds.TooLarge (min (length (image_words draft)) 18446744073709551615)) })
 
 abbrev pub image_of : Result Layout TextFault → ℕ → Result (List ℕ) TextFault
-image_of (Ok draft) after = sized draft after
+image_of (Ok draft) after = words_within_limit draft after
 image_of (Err fault) after = Err fault
 
 -- the image of a text

@@ -1,7 +1,7 @@
 //! A whole layout text as an image, and its lines one by one.
 ghost use Rattle.layout_text.specs.Lines.{line_of};
 ghost use Rattle.text_lines.specs.Lines.{lines_of};
-ghost use Rattle.mmv_writer.specs.Reading.{kind_in, with_written, with_line, with_said, with_head, sized, text_image, Takes, MakesBuilder, Answers, Adds};
+ghost use Rattle.mmv_writer.specs.Reading.{kind_in, with_written, with_line, with_said, with_head, words_within_limit, text_image, Takes, MakesBuilder, Answers, Adds};
 
 use crate::builder::Builder;
 use crate::fault::BuildFault;
@@ -111,9 +111,9 @@ fn take_lines(alloc: Global, builder: &mut Builder, bytes: &[u8]) -> Result<u64,
 }
 
 // The image of a builder, of which the last line stood before this one.
-#[tactic(auto, unfolding(crate::specs::Reading::sized))]
+#[tactic(auto, unfolding(crate::specs::Reading::words_within_limit))]
 fn image_of(alloc: Global, builder: Builder, after: u64) -> Result<Image, ReadTextError>
-    ensures { Answers (sized builder after) result }
+    ensures { Answers (words_within_limit builder after) result }
 {
     match builder.finish(alloc) {
         Ok(image) => Ok(image),

@@ -5,7 +5,7 @@ ghost use Rattle.mmv_spelling.specs.Spelling.{image_words};
 
 use crate::fault::BuildFault;
 use mmv_layout::Layout;
-use mmv_spelling::{all_strings, spelled, words_needed};
+use mmv_spelling::{all_strings, image_with_strings, words_needed};
 use std::alloc::Global;
 
 /// How many words an image has at most.
@@ -23,6 +23,6 @@ pub fn words_of_draft(alloc: Global, draft: &Layout) -> Result<Vec<u64>, BuildFa
     if words > MOST_WORDS {
         return Err(BuildFault::TooLarge { words });
     }
-    let made = spelled(alloc, draft, &strings)?;
+    let made = image_with_strings(alloc, draft, &strings)?;
     Ok(made)
 }

@@ -15,7 +15,7 @@ use Rattle.region_words.specs.Images.{mmv}
 use Rattle.script_runs.specs.Journals.{is_look}
 use Rattle.script_runs.specs.PassSteps as steps
 use Rattle.script_runs.specs.PassSteps.{one_number, two_numbers}
-use Rattle.script_runs.specs.Regions.{Doing, ScriptRegion, capacity_of, acted, does}
+use Rattle.script_runs.specs.Regions.{Doing, ScriptRegion, capacity_of, with_act, does}
 use Rattle.pass_steps.specs.declared.said.Said.{Said}
 use Rattle.pass_steps.specs.declared.said.Said.TheVariants as said
 use Rattle.pass_steps.specs.declared.worker.Worker.{Worker}
@@ -86,10 +86,10 @@ moved region k was stays old new same p = record { region_is = same.region ∙ p
 
 -- the pass of a number acts
 pub acts : (r : ScriptRegion) (logger k : ℕ) (v w : View) (act : _) (n : ℕ) (doing : List Doing) → v.number ≡ k → Left v w act n → is_look (now v) logger (entry k act) ≡ false
-    → acted (region_seen r logger v doing) k act ≡ region_seen r logger w doing
+    → with_act (region_seen r logger v doing) k act ≡ region_seen r logger w doing
 acts r logger k v w act n doing e l look =
     let look_by : is_look (now v) logger (entry v.number act) ≡ false = subst (λ (j : ℕ). is_look (now v) logger (entry j act) ≡ false) (sym e) look in
-    subst (λ (j : ℕ). acted (region_seen r logger v doing) j act ≡ region_seen r logger w doing) e (did r logger v w act n doing l look_by)
+    subst (λ (j : ℕ). with_act (region_seen r logger v doing) j act ≡ region_seen r logger w doing) e (did r logger v w act n doing l look_by)
 
 pub attached : (region : MadeRegion) (pass stint : Token) → Attaches mmv pass.view stint.view → IsSame Idle Attached pass stint → Works region steps.attaches (workers.Idle pass) (workers.Inside stint) (Some said.Attached)
 attached region pass stint a same = record {
@@ -103,10 +103,10 @@ attached region pass stint a same = record {
         let v : View = pass.view in
         let s : ScriptRegion = region_seen r logger v r.doing in
         let l : Left v stint.view Enter a.gate = left_by v stint.view Enter a.gate a.enters q in
-        let act : acted s k Enter ≡ region_seen r logger stint.view r.doing = acts r logger k v stint.view Enter a.gate r.doing at.is_worker.number_is l refl in
+        let act : with_act s k Enter ≡ region_seen r logger stint.view r.doing = acts r logger k v stint.view Enter a.gate r.doing at.is_worker.number_is l refl in
         let free : nat_lt (now v).gate (2 ^ 63) ≡ true = lt-ltb (now v).gate (2 ^ 63) (subst (λ (n : ℕ). n < 2 ^ 63) l.found a.free) in
         subst (λ (x : ScriptRegion). steps.attaches x k Doing.idle ≡ Some (region_by x logger k (workers.Inside stint), codes "attached\n")) (sym at.is)
-        (ap (λ (b : Bool). Some (if b then (does (acted s k Enter) k Doing.attached, codes "attached\n") else (acted (acted s k Enter) k Leave, one_number (codes "Changing") (now v).gate))) free
+        (ap (λ (b : Bool). Some (if b then (does (with_act s k Enter) k Doing.attached, codes "attached\n") else (with_act (with_act s k Enter) k Leave, one_number (codes "Changing") (now v).gate))) free
         ∙ ap (λ (x : ScriptRegion). Some (does x k Doing.attached, codes "attached\n")) act)
 
 pub bounced : (region : MadeRegion) (pass other : Token) (gate : ℕ) → Bounces mmv pass.view gate other.view → IsSame Idle Idle pass other → Works region steps.attaches (workers.Idle pass) (workers.Idle other) (Some (said.Bounced gate))
@@ -128,13 +128,13 @@ bounced region pass other gate b same = record {
         let s : ScriptRegion = region_seen r logger v r.doing in
         let l : Left v b.middle Enter gate = left_by v b.middle Enter gate b.enters (quiet_first v b.middle other.view first last q) in
         let m : Left b.middle other.view Leave b.left = left_by b.middle other.view Leave b.left b.leaves (quiet_last v b.middle other.view first last q) in
-        let entered : acted s k Enter ≡ region_seen r logger b.middle r.doing = acts r logger k v b.middle Enter gate r.doing at.is_worker.number_is l refl in
-        let left : acted (region_seen r logger b.middle r.doing) k Leave ≡ region_seen r logger other.view r.doing = acts r logger k b.middle other.view Leave b.left r.doing (l.number ∙ at.is_worker.number_is) m refl in
+        let entered : with_act s k Enter ≡ region_seen r logger b.middle r.doing = acts r logger k v b.middle Enter gate r.doing at.is_worker.number_is l refl in
+        let left : with_act (region_seen r logger b.middle r.doing) k Leave ≡ region_seen r logger other.view r.doing = acts r logger k b.middle other.view Leave b.left r.doing (l.number ∙ at.is_worker.number_is) m refl in
         let shut : nat_lt (now v).gate (2 ^ 63) ≡ false = not_less (now v).gate (2 ^ 63) (subst (λ (n : ℕ). 2 ^ 63 ≤ n) l.found b.shut) in
         let same_doing : r.doing ≡ slice_set r.doing k Doing.idle = sym (set_there r.doing k Doing.idle at.doing) in
         subst (λ (x : ScriptRegion). steps.attaches x k Doing.idle ≡ Some (region_by x logger k (workers.Idle other), one_number (codes "Changing") gate)) (sym at.is)
-        (ap (λ (t : Bool). Some (if t then (does (acted s k Enter) k Doing.attached, codes "attached\n") else (acted (acted s k Enter) k Leave, one_number (codes "Changing") (now v).gate))) shut
-        ∙ (ap (λ (x : ScriptRegion). Some (acted x k Leave, one_number (codes "Changing") (now v).gate)) entered
+        (ap (λ (t : Bool). Some (if t then (does (with_act s k Enter) k Doing.attached, codes "attached\n") else (with_act (with_act s k Enter) k Leave, one_number (codes "Changing") (now v).gate))) shut
+        ∙ (ap (λ (x : ScriptRegion). Some (with_act x k Leave, one_number (codes "Changing") (now v).gate)) entered
         ∙ (ap (λ (x : ScriptRegion). Some (x, one_number (codes "Changing") (now v).gate)) left
         ∙ (ap (λ (d : List Doing). Some (region_seen r logger other.view d, one_number (codes "Changing") (now v).gate)) same_doing
         ∙ ap (λ (n : ℕ). Some (region_seen r logger other.view (slice_set r.doing k Doing.idle), one_number (codes "Changing") n)) (sym l.found)))))
@@ -199,7 +199,7 @@ read_on region old new index n below e first same = record {
         let there : nat_lt index (length (now v).words) ≡ true = lt-ltb index (length (now v).words) (subst (λ (m : ℕ). index < m) (sym wide) below) in
         let same_doing : r.doing ≡ slice_set r.doing k (Doing.reading new.first) = sym (set_there r.doing k (Doing.reading new.first) (at.doing ∙ ap (λ (m : ℕ). Some (Doing.reading m)) (sym first))) in
         subst (λ (x : ScriptRegion). steps.reads x k index (Doing.reading old.first) ≡ Some (region_by x logger k (workers.Reading new), one_number (codes "word") n)) (sym at.is)
-        (ap (λ (b : Bool). if b then Some (acted s k (Load index), one_number (codes "word") (word (now v) index)) else None) there
+        (ap (λ (b : Bool). if b then Some (with_act s k (Load index), one_number (codes "word") (word (now v) index)) else None) there
         ∙ (ap (λ (x : ScriptRegion). Some (x, one_number (codes "word") (word (now v) index))) (acts r logger k v new.token.view (Load index) n r.doing at.is_worker.number_is l look)
         ∙ (ap (λ (d : List Doing). Some (region_seen r logger new.token.view d, one_number (codes "word") (word (now v) index))) same_doing
         ∙ ap (λ (m : ℕ). Some (region_seen r logger new.token.view (slice_set r.doing k (Doing.reading new.first)), one_number (codes "word") m)) (sym l.found))))
@@ -218,7 +218,7 @@ read_past region reading index past = record {
         let wide : length (now v).words ≡ length region.words = capacity_seen region k Idle reading.token at.is_worker in
         let is : capacity_of r ≡ length region.words = ap (λ (x : ScriptRegion). capacity_of x) at.is ∙ wide in
         let test : nat_lt index (capacity_of r) ≡ false = not_less index (capacity_of r) (subst (λ (m : ℕ). m ≤ index) (sym is) past) in
-        ap (λ (b : Bool). if b then Some (acted r k (Load index), one_number (codes "word") (word r.state index)) else None) test
+        ap (λ (b : Bool). if b then Some (with_act r k (Load index), one_number (codes "word") (word r.state index)) else None) test
 
 -- what the end of a reading says
 abbrev pub SaysSo : ℕ → ℕ → Said → Type 0

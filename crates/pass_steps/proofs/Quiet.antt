@@ -14,7 +14,7 @@ use Rattle.region_rule.specs.Views.{opening_of, now}
 use Rattle.region_rule.specs.Steps.{entry, found_by, view_after, Extends}
 use Rattle.region_words.specs.Images.{mmv}
 use Rattle.script_runs.specs.Journals.{is_attached, is_look, without_looks}
-use Rattle.script_runs.specs.Regions.{Doing, ScriptRegion, acted}
+use Rattle.script_runs.specs.Regions.{Doing, ScriptRegion, with_act}
 use Rattle.pass_steps.specs.Works.{Grows, Quiet, seen_log, region_seen}
 
 -- Growing
@@ -109,7 +109,7 @@ looked r logger v w i n doing l t =
 
 -- any other call is an act of the fold
 pub did : (r : ScriptRegion) (logger : ℕ) (v w : View) (act : Act) (n : ℕ) (doing : List Doing) → Left v w act n → is_look (now v) logger (entry v.number act) ≡ false
-    → acted (region_seen r logger v doing) v.number act ≡ region_seen r logger w doing
+    → with_act (region_seen r logger v doing) v.number act ≡ region_seen r logger w doing
 did r logger v w act n doing l t =
     let log : seen_log logger v ++ entry v.number act ∷ [] ≡ seen_log logger w = sym (log_of logger v w act n l ∙ with_deed (opening_of v) logger v.seen (entry v.number act) t) in
     λ j. record { file = r.file; cluster = r.cluster; state = sym l.state j; doing = doing; log = log j }

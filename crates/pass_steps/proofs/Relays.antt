@@ -17,7 +17,7 @@ use Rattle.region_words.specs.Images.{mmv}
 use Rattle.script_runs.specs.Journals.{is_load, is_attached, is_look}
 use Rattle.script_runs.specs.PassSteps as steps
 use Rattle.script_runs.specs.PassSteps.{Outcome, one_number, two_numbers, new_generation}
-use Rattle.script_runs.specs.Regions.{Doing, ScriptRegion, capacity_of, acted, all_acted, does}
+use Rattle.script_runs.specs.Regions.{Doing, ScriptRegion, capacity_of, with_act, all_acted, does}
 use Rattle.pass_steps.specs.declared.said.Said.TheVariants as said
 use Rattle.pass_steps.specs.declared.worker.Worker.{Worker}
 use Rattle.pass_steps.specs.declared.worker.Worker.TheVariants as workers
@@ -60,9 +60,9 @@ rests region w = record { stays = λ k h. h; grows = grows_refl (view_of w); sam
 abbrev ways : (r : ScriptRegion) (k : ℕ) (image : List ℕ) (moment : ℕ) → Bool → Bool → Bool → Outcome
 ways r k image moment a b c =
     if a then (r, two_numbers (codes "TooLarge") (length image) (capacity_of r)) else
-    if b then (acted r k Take, one_number (codes "Busy") r.state.gate) else
-    if c then (acted (steps.taken r k) k Free, one_number (codes "Spent") (g1 r.state)) else
-    steps.begun r k image (new_generation r moment)
+    if b then (with_act r k Take, one_number (codes "Busy") r.state.gate) else
+    if c then (with_act (steps.with_take r k) k Free, one_number (codes "Spent") (g1 r.state)) else
+    steps.begin_outcome r k image (new_generation r moment)
 
 goes : (r : ScriptRegion) (k : ℕ) (image : List ℕ) (moment : ℕ) (a b c : Bool) → nat_lt (capacity_of r) (length image) ≡ a → nat_lt 0 r.state.gate ≡ b → (g1 r.state == 2 ^ 64 - 1) ≡ c
     → steps.begin_ r k image moment ≡ ways r k image moment a b c
@@ -72,7 +72,7 @@ goes r k image moment a b c e f g = λ i. ways r k image moment (e i) (f i) (g i
 record TakenSo (r : ScriptRegion) (logger k : ℕ) (v taken loaded : View) (old : ℕ) : Type 0 where
   free : nat_lt 0 (now v).gate ≡ false
   old_is : old ≡ g1 (now v)
-  seen : steps.taken (region_seen r logger v r.doing) k ≡ region_seen r logger loaded r.doing
+  seen : steps.with_take (region_seen r logger v r.doing) k ≡ region_seen r logger loaded r.doing
   number : loaded.number ≡ k
 
 taken_so : (r : ScriptRegion) (logger k : ℕ) (v taken loaded : View) (old : ℕ) → k ≢ logger → v.number ≡ k → Extends mmv v Take 0 taken → Extends mmv taken (Load 1) old loaded → Quiet v loaded → TakenSo r logger k v taken loaded old
@@ -84,12 +84,12 @@ taken_so r logger k v taken loaded old other number take load q =
     let there : IsIn taken.mode (now taken) k = subst (λ (j : ℕ). IsIn taken.mode (now taken) j) number l.there in
     let changing : IsIn Changing (now taken) k = subst (λ (mode : Mode). IsIn mode (now taken) k) l.mode there in
     let look : is_look (now taken) logger (entry k (Load 1)) ≡ false = no_look (now taken) logger k 1 Changing other changing refl in
-    let first : acted (region_seen r logger v r.doing) k Take ≡ region_seen r logger taken r.doing = acts r logger k v taken Take 0 r.doing number l refl in
-    let second : acted (region_seen r logger taken r.doing) k (Load 1) ≡ region_seen r logger loaded r.doing = acts r logger k taken loaded (Load 1) old r.doing (l.number ∙ number) m look in
+    let first : with_act (region_seen r logger v r.doing) k Take ≡ region_seen r logger taken r.doing = acts r logger k v taken Take 0 r.doing number l refl in
+    let second : with_act (region_seen r logger taken r.doing) k (Load 1) ≡ region_seen r logger loaded r.doing = acts r logger k taken loaded (Load 1) old r.doing (l.number ∙ number) m look in
     record {
       free = ap (λ (n : ℕ). nat_lt 0 n) (sym l.found);
       old_is = m.found ∙ ap (λ (s : State). word s 1) l.state;
-      seen = ap (λ (x : ScriptRegion). acted x k (Load 1)) first ∙ second;
+      seen = ap (λ (x : ScriptRegion). with_act x k (Load 1)) first ∙ second;
       number = m.number ∙ (l.number ∙ number);
     }
 
@@ -119,14 +119,14 @@ begun region pass image moment change n told s same = record {
         let x : ScriptRegion = region_seen r logger v r.doing in
         let t : TakenSo r logger k v s.taken s.loaded s.old = taken_so r logger k v s.taken s.loaded s.old at.other at.is_worker.number_is s.takes s.loads (quiet_first v s.loaded w before last q) in
         let l : Left s.loaded w (Begin change.generation) change.generation = left_by s.loaded w (Begin change.generation) change.generation s.begins (quiet_last v s.loaded w before last q) in
-        let act : acted (region_seen r logger s.loaded r.doing) k (Begin change.generation) ≡ region_seen r logger w r.doing = acts r logger k s.loaded w (Begin change.generation) change.generation r.doing t.number l refl in
+        let act : with_act (region_seen r logger s.loaded r.doing) k (Begin change.generation) ≡ region_seen r logger w r.doing = acts r logger k s.loaded w (Begin change.generation) change.generation r.doing t.number l refl in
         let spent : (g1 (now v) == 2 ^ 64 - 1) ≡ false = ne_eqb (g1 (now v)) (2 ^ 64 - 1) (λ e. let o : s.old ≡ 2 ^ 64 - 1 = t.old_is ∙ e in let lt = s.not_spent in absurd (omega arith)) in
         let generation : new_generation x moment ≡ change.generation = ap (λ (m : ℕ). max moment (m + 1)) (sym t.old_is) ∙ sym s.generation in
         subst (λ (y : ScriptRegion). steps.begins y k image moment Doing.idle ≡ Some (region_by y logger k (workers.Changing change), one_number (codes "begun") n)) (sym at.is)
         (ap (λ (o : Outcome). Some o)
         (goes x k image moment false false false (fits region k pass image at.is_worker s.room) t.free spent
-        ∙ (ap (λ (m : ℕ). steps.begun x k image m) generation
-        ∙ (ap (λ (y : ScriptRegion). (does (acted y k (Begin change.generation)) k (Doing.changing image change.generation 0), one_number (codes "begun") change.generation)) t.seen
+        ∙ (ap (λ (m : ℕ). steps.begin_outcome x k image m) generation
+        ∙ (ap (λ (y : ScriptRegion). (does (with_act y k (Begin change.generation)) k (Doing.changing image change.generation 0), one_number (codes "begun") change.generation)) t.seen
         ∙ (ap (λ (y : ScriptRegion). (does y k (Doing.changing image change.generation 0), one_number (codes "begun") change.generation)) act
         ∙ (ap (λ (i : List ℕ). (does (region_seen r logger w r.doing) k (Doing.changing i change.generation 0), one_number (codes "begun") change.generation)) (sym s.image_is)
         ∙ (ap (λ (m : ℕ). (does (region_seen r logger w r.doing) k (Doing.changing change.image change.generation m), one_number (codes "begun") change.generation)) (sym s.first_word)
@@ -175,7 +175,7 @@ busy region pass other image moment gate room held e same = record {
         let v : View = pass.view in
         let x : ScriptRegion = region_seen r logger v r.doing in
         let l : Left v other.view Take gate = left_by v other.view Take gate e q in
-        let act : acted x k Take ≡ region_seen r logger other.view r.doing = acts r logger k v other.view Take gate r.doing at.is_worker.number_is l refl in
+        let act : with_act x k Take ≡ region_seen r logger other.view r.doing = acts r logger k v other.view Take gate r.doing at.is_worker.number_is l refl in
         let some : 0 < gate = omega arith in
         let shut : nat_lt 0 (now v).gate ≡ true = lt-ltb 0 (now v).gate (subst (λ (n : ℕ). 0 < n) l.found some) in
         subst (λ (y : ScriptRegion). steps.begins y k image moment Doing.idle ≡ Some (region_by y logger k (workers.Idle other), one_number (codes "Busy") gate)) (sym at.is)
@@ -206,11 +206,11 @@ spent region pass other image moment generation taken loaded gate room greatest 
         let x : ScriptRegion = region_seen r logger v r.doing in
         let t : TakenSo r logger k v taken loaded generation = taken_so r logger k v taken loaded generation at.other at.is_worker.number_is take load (quiet_first v loaded other.view before last q) in
         let l : Left loaded other.view Free gate = left_by loaded other.view Free gate free (quiet_last v loaded other.view before last q) in
-        let act : acted (region_seen r logger loaded r.doing) k Free ≡ region_seen r logger other.view r.doing = acts r logger k loaded other.view Free gate r.doing t.number l refl in
+        let act : with_act (region_seen r logger loaded r.doing) k Free ≡ region_seen r logger other.view r.doing = acts r logger k loaded other.view Free gate r.doing t.number l refl in
         let none : (g1 (now v) == 2 ^ 64 - 1) ≡ true = eq-eqb (g1 (now v)) (2 ^ 64 - 1) (sym t.old_is ∙ greatest) in
         subst (λ (y : ScriptRegion). steps.begins y k image moment Doing.idle ≡ Some (region_by y logger k (workers.Idle other), one_number (codes "Spent") generation)) (sym at.is)
         (ap (λ (o : Outcome). Some o) (goes x k image moment false false true (fits region k pass image at.is_worker room) t.free none)
-        ∙ (ap (λ (y : ScriptRegion). Some (acted y k Free, one_number (codes "Spent") (g1 (now v)))) t.seen
+        ∙ (ap (λ (y : ScriptRegion). Some (with_act y k Free, one_number (codes "Spent") (g1 (now v)))) t.seen
         ∙ (ap (λ (y : ScriptRegion). Some (y, one_number (codes "Spent") (g1 (now v)))) act
         ∙ (ap (λ (n : ℕ). Some (region_seen r logger other.view r.doing, one_number (codes "Spent") n)) (sym t.old_is)
         ∙ idle_again region r logger k pass other.view (one_number (codes "Spent") generation) at))))
@@ -238,10 +238,10 @@ stored region old new some s same = record {
         let x : ScriptRegion = region_seen r logger v r.doing in
         let put : Act = Put old.next (slice_index old.image old.next) in
         let l : Left v w put (slice_index old.image old.next) = left_by v w put (slice_index old.image old.next) (s.puts some) q in
-        let act : acted x k put ≡ region_seen r logger w r.doing = acts r logger k v w put (slice_index old.image old.next) r.doing at.is_worker.number_is l refl in
+        let act : with_act x k put ≡ region_seen r logger w r.doing = acts r logger k v w put (slice_index old.image old.next) r.doing at.is_worker.number_is l refl in
         let left : (left_from old.next old.image == 0) ≡ false = ne_eqb (left_from old.next old.image) 0 (λ e. absurd (omega arith)) in
         subst (λ (y : ScriptRegion). steps.steps_on y k (Doing.changing old.image old.generation old.next) ≡ Some (region_by y logger k (workers.Changing new), [])) (sym at.is)
-        (ap (λ (b : Bool). Some (if b then x else does (acted x k put) k (Doing.changing old.image old.generation (next_after old.next)), [])) left
+        (ap (λ (b : Bool). Some (if b then x else does (with_act x k put) k (Doing.changing old.image old.generation (next_after old.next)), [])) left
         ∙ (ap (λ (y : ScriptRegion). Some (does y k (Doing.changing old.image old.generation (next_after old.next)), [])) act
         ∙ (ap (λ (i : List ℕ). Some (does (region_seen r logger w r.doing) k (Doing.changing i old.generation (next_after old.next)), [])) (sym s.image)
         ∙ (ap (λ (n : ℕ). Some (does (region_seen r logger w r.doing) k (Doing.changing new.image n (next_after old.next)), [])) (sym s.generation)
@@ -253,7 +253,7 @@ none_stored region old none = record { stays = λ k h. h; grows = grows_refl old
     does_it : (logger k : ℕ) (r : ScriptRegion) → IsAtWork region logger k (workers.Changing old) r
         → steps.steps_on r k (Doing.changing old.image old.generation old.next) ≡ Some (region_by r logger k (workers.Changing old), [])
     does_it logger k r at =
-        ap (λ (b : Bool). Some (if b then r else does (acted r k (Put old.next (slice_index old.image old.next))) k (Doing.changing old.image old.generation (next_after old.next)), [])) (eq-eqb (left_from old.next old.image) 0 none)
+        ap (λ (b : Bool). Some (if b then r else does (with_act r k (Put old.next (slice_index old.image old.next))) k (Doing.changing old.image old.generation (next_after old.next)), [])) (eq-eqb (left_from old.next old.image) 0 none)
         ∙ ap (λ (y : ScriptRegion). Some (y, [])) (stays_by region logger k (workers.Changing old) r at)
 
 pub stepped : (region : MadeRegion) (old new : Relaying) → Stores mmv old new → IsSame Changing Changing old.token new.token → Works region steps.steps_on (workers.Changing old) (workers.Changing new) (Some said.Nothing)

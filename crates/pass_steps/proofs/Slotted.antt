@@ -26,7 +26,7 @@ use Rattle.script_lines.specs.declared.line.Given.{Given}
 use Rattle.script_lines.specs.declared.line.Given.TheVariants as given
 use Rattle.script_runs.specs.Journals.{is_load, is_attached, is_look}
 use Rattle.script_runs.specs.PassSteps as steps
-use Rattle.script_runs.specs.Regions.{Doing, ScriptRegion, acted}
+use Rattle.script_runs.specs.Regions.{Doing, ScriptRegion, with_act}
 use Rattle.script_runs.specs.Slots.{number_for, holds_number, low_bits, value_for, swap_into, swap_of, add_of, add_into}
 use Rattle.pass_steps.specs.declared.said.Said.{Said}
 use Rattle.pass_steps.specs.declared.said.Said.TheVariants as said
@@ -266,7 +266,7 @@ stored_works region step old new (Some act) true so is_store s stays = record {
         let m : Left s.middle new.view act s.n = left_by s.middle new.view act s.n s.acts (quiet_last old.view s.middle new.view before last q) in
         let look : is_look (now s.middle) logger (entry k act) ≡ false = ap (λ (b : Bool). b && (eqb k logger || is_attached (slice_get (now s.middle).modes k))) is_store in
         so r k (ap (λ (x : ScriptRegion). x.state) at.is)
-        ∙ (ap (λ (x : ScriptRegion). Some (acted x k act, [])) (at.is ∙ sym l.seen)
+        ∙ (ap (λ (x : ScriptRegion). Some (with_act x k act, [])) (at.is ∙ sym l.seen)
         ∙ (ap (λ (x : ScriptRegion). Some (x, [])) (acts r logger k s.middle new.view act s.n r.doing l.number m look)
         ∙ ap (λ (d : List Doing). Some (region_seen r logger new.view d, [])) (sym (set_there r.doing k Doing.attached at.doing))))
 

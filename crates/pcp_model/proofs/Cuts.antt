@@ -16,7 +16,7 @@ use Rattle.pcp_model.specs.declared.records.Entry.{Entry}
 use Rattle.pcp_model.specs.declared.records.MetaRecord.{MetaRecord}
 use Rattle.pcp_model.specs.Archive.{AreRead, LabelledFile, HasEntries}
 use Rattle.pcp_model.specs.Records.{entry, entries, FitsEntry}
-use Rattle.pcp_model.specs.Words.{word, signed_word, length-word, length-signed_word, padded, zeros}
+use Rattle.pcp_model.specs.Words.{word, signed_word, length-word, length-signed_word, text_field, zeros}
 use Rattle.pcp_model.specs.Frame.{frame, frames, IsFrameable, IsTorn}
 use Rattle.pcp_model.specs.LabelFields.{LabelFields, FitsLabel}
 use Rattle.pcp_model.specs.Labels.{label, label_head, HasText, IsLabel, BeginsLabel}
@@ -56,7 +56,7 @@ pub record SpelledLabel (l : LabelFields) : Type 0 where
   pub fits : FitsLabel l
 
 -- a field filled with zeros has its text
-pub has_text : (width : ℕ) (text : List ℕ) → IsText text → length text < width → HasText width (padded width text) text
+pub has_text : (width : ℕ) (text : List ℕ) → IsText text → length text < width → HasText width (text_field width text) text
 has_text width text clean short = record {
   wide = omega (arith, length-append text (zeros (width - length text)), length-replicate {A = ℕ} (width - length text) 0);
   clean = clean;
@@ -70,8 +70,8 @@ is_label l number s fits = record {
   number_fits = fits;
   pid = s.pid;
   start = s.start;
-  host = padded 64 l.host;
-  zone = padded 40 l.zone;
+  host = text_field 64 l.host;
+  zone = text_field 40 l.zone;
   has_host = has_text 64 l.host s.host (let h : length l.host ≤ 63 = s.fits.host in omega arith);
   has_zone = has_text 40 l.zone s.zone (let h : length l.zone ≤ 39 = s.fits.zone in omega arith);
   is = refl;

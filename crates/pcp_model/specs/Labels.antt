@@ -5,7 +5,7 @@ use Rattle.pcp_base.specs.Texts.{IsText}
 use Rattle.pcp_base.specs.Time.{IsMoment}
 use Rattle.pcp_base.specs.declared.file.FileId.{FileId}
 use Rattle.pcp_base.specs.declared.file.FileId.TheVariants.{Meta, Index, Volume}
-use Rattle.pcp_model.specs.Words.{word, signed_word, padded}
+use Rattle.pcp_model.specs.Words.{word, signed_word, text_field}
 use Rattle.pcp_model.specs.Frame.{frame}
 use Rattle.pcp_model.specs.LabelFields.{LabelFields}
 
@@ -22,7 +22,7 @@ label_head l number =
 
 -- The writer's label: both texts are filled with zeros
 unfoldable pub label : LabelFields → ℤ → List ℕ
-label l number = frame (label_head l number ++ (padded 64 l.host ++ padded 40 l.zone))
+label l number = frame (label_head l number ++ (text_field 64 l.host ++ text_field 40 l.zone))
 
 -- a text of a field: what follows its first zero byte isn't looked at
 pub record HasText (width : ℕ) (field text : List ℕ) : Type 0 where

@@ -22,5 +22,5 @@ abbrev pub zeros : ℕ → List ℕ
 zeros n = replicate n 0
 
 -- a text in a field of fixed width, filled with zeros
-abbrev pub padded : ℕ → List ℕ → List ℕ
-padded width text = text ++ zeros (width - length text)
+abbrev pub text_field : ℕ → List ℕ → List ℕ
+text_field width text = text ++ zeros (width - length text)

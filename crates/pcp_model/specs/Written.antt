@@ -17,7 +17,7 @@ abbrev pub with_added : FileId → List ℕ → Files → Files
 with_added file bytes files = λ g. if same_file file g then files g ++ bytes else files g
 
 -- an archive without an item: the labels of Meta, of the index and of the first volume
-abbrev pub created : LabelFields → Files
-created l Meta = label l (negsuc 0)
-created l Index = label l (negsuc 1)
-created l (Volume n) = if n == 0 then label l (pos 0) else []
+abbrev pub created_files : LabelFields → Files
+created_files l Meta = label l (negsuc 0)
+created_files l Index = label l (negsuc 1)
+created_files l (Volume n) = if n == 0 then label l (pos 0) else []

@@ -4,13 +4,13 @@ use Rattle.std.proofs.Common.{◌≡◌, inl, inr, ⊎_elim, ℕ, List, Result, 
 use Rattle.std.proofs.lemmas.List.{take_all}
 use Rattle.pcp_base.specs.declared.file.FileId.{FileId}
 use Rattle.pcp_model.specs.Disk.{Files, Holdings, CrashImage}
-use Rattle.pcp_outside.specs.Devices.{Becomes, appended, made_sure, cut_to, grown, Appends, Syncs, Cuts, AppendsSure, Elapses, LeavesOnly}
+use Rattle.pcp_outside.specs.Devices.{Becomes, held_after_append, made_sure, cut_to, holdings_after_append, Appends, Syncs, Cuts, AppendsSure, Elapses, LeavesOnly}
 use Rattle.pcp_outside.proofs.Images.{image_append, image_sync, image_made_sure}
 
 -- after an append, done or refused
-pub image_appends : {T E : Type 0} (file : FileId) (bytes : List ℕ) (old new : Holdings) (result : Result T E) (c : Files) → Appends file bytes old new result → CrashImage new c → CrashImage (grown file bytes old) c
+pub image_appends : {T E : Type 0} (file : FileId) (bytes : List ℕ) (old new : Holdings) (result : Result T E) (c : Files) → Appends file bytes old new result → CrashImage new c → CrashImage (holdings_after_append file bytes old) c
 image_appends file bytes old new (Ok v) c change left =
-    image_append file (length bytes) bytes old new c (subst (λ (l : List ℕ). Becomes file (appended (old file) l) old new) (sym (take_all (length bytes) bytes (omega arith))) change) left
+    image_append file (length bytes) bytes old new c (subst (λ (l : List ℕ). Becomes file (held_after_append (old file) l) old new) (sym (take_all (length bytes) bytes (omega arith))) change) left
 image_appends file bytes old new (Err e) c (n, change) left = image_append file n bytes old new c change left
 
 -- after a sync, done or refused
@@ -20,7 +20,7 @@ image_syncs file old new (Err e) c (inl same) left = subst (λ (h : Holdings). C
 image_syncs file old new (Err e) c (inr change) left = image_sync file old new c change left
 
 -- after an append and a sync, done or refused
-pub image_appends_sure : {T E : Type 0} (file : FileId) (bytes : List ℕ) (old new : Holdings) (result : Result T E) (c : Files) → AppendsSure file bytes old new result → CrashImage new c → CrashImage (grown file bytes old) c
+pub image_appends_sure : {T E : Type 0} (file : FileId) (bytes : List ℕ) (old new : Holdings) (result : Result T E) (c : Files) → AppendsSure file bytes old new result → CrashImage new c → CrashImage (holdings_after_append file bytes old) c
 image_appends_sure file bytes old new (Ok v) c change left =
     image_made_sure file (length bytes) bytes old new c (subst (λ (l : List ℕ). Becomes file (made_sure (old file) l) old new) (sym (take_all (length bytes) bytes (omega arith))) change) left
 image_appends_sure file bytes old new (Err e) c (n, inl change) left = image_append file n bytes old new c change left
@@ -71,7 +71,7 @@ module _ {D : Type 0} (moment : D → ℕ) (left_since : D → ℕ → Files →
   after_look old mid new P so_far time same good = goes_on old mid new P so_far time (λ c left. good c (subst (λ (h : Holdings). CrashImage h c) same left))
 
   -- after an `append`
-  pub after_append : {T E : Type 0} (old mid new : D) (P : Files → Type 0) (file : FileId) (bytes : List ℕ) (result : Result T E) → LeavesOnly moment left_since old mid P → Elapses (moment mid) (moment new) (left_since mid) (left_since new) (held new) → Appends file bytes (held mid) (held new) result → Each P (grown file bytes (held mid)) → LeavesOnly moment left_since old new P
+  pub after_append : {T E : Type 0} (old mid new : D) (P : Files → Type 0) (file : FileId) (bytes : List ℕ) (result : Result T E) → LeavesOnly moment left_since old mid P → Elapses (moment mid) (moment new) (left_since mid) (left_since new) (held new) → Appends file bytes (held mid) (held new) result → Each P (holdings_after_append file bytes (held mid)) → LeavesOnly moment left_since old new P
   after_append old mid new P file bytes result so_far time change good =
       goes_on old mid new P so_far time (λ c left. good c (image_appends file bytes (held mid) (held new) result c change left))
 

@@ -7,7 +7,7 @@ use Rattle.std.specs.Prelude.{if◌then◌else◌}
 use Rattle.pcp_base.specs.declared.file.FileId.{FileId}
 use Rattle.pcp_base.specs.declared.file.FileId.TheVariants.{Meta, Index, Volume}
 use Rattle.pcp_model.specs.Disk.{Files, Held, Holdings, bytes_of, contents_of, CrashImage}
-use Rattle.pcp_outside.specs.Devices.{Becomes, appended, synced, made_sure, cut_to, with_file, grown, Syncs, AppendsSure, Survives}
+use Rattle.pcp_outside.specs.Devices.{Becomes, held_after_append, held_after_sync, made_sure, cut_to, with_file, holdings_after_append, Syncs, AppendsSure, Survives}
 use Rattle.pcp_model.specs.Written.{same_file}
 
 -- one file tested against itself, and against another
@@ -40,10 +40,10 @@ pub becomes_then : (file : FileId) (h k : Held) (a b c : Holdings) → Becomes f
 becomes_then file h k a b c first second = record { this = second.this; others = λ g ne. second.others g ne ∙ first.others g ne }
 
 -- the bytes of a file after each kind of call
-pub bytes-appended : (h : Held) (bytes : List ℕ) → bytes_of (appended h bytes) ≡ bytes_of h ++ bytes
+pub bytes-appended : (h : Held) (bytes : List ℕ) → bytes_of (held_after_append h bytes) ≡ bytes_of h ++ bytes
 bytes-appended h bytes = sym (append_assoc h.sure h.rest bytes)
 
-pub bytes-synced : (h : Held) → bytes_of (synced h) ≡ bytes_of h
+pub bytes-synced : (h : Held) → bytes_of (held_after_sync h) ≡ bytes_of h
 bytes-synced h = append-nil (bytes_of h)
 
 pub bytes-made_sure : (h : Held) (bytes : List ℕ) → bytes_of (made_sure h bytes) ≡ bytes_of h ++ bytes
@@ -66,7 +66,7 @@ pub bytes-cut_to : (n : ℕ) (h : Held) → bytes_of (cut_to n h) ≡ take n (by
 bytes-cut_to n h = sym (take-append n h.sure h.rest)
 
 -- appended and then synced
-pub synced-appended : (h : Held) (bytes : List ℕ) → synced (appended h bytes) ≡ made_sure h bytes
+pub synced-appended : (h : Held) (bytes : List ℕ) → held_after_sync (held_after_append h bytes) ≡ made_sure h bytes
 synced-appended h bytes = ap (λ (l : List ℕ). record_of l) (bytes-appended h bytes)
   where
     record_of : List ℕ → Held
@@ -98,7 +98,7 @@ pub survives_sure : (h : Held) (bytes : List ℕ) → h.rest ≡ [] → Survives
 survives_sure h bytes none (n, is) = is ∙ ap (λ (l : List ℕ). h.sure ++ take n l) none ∙ ap (λ (l : List ℕ). h.sure ++ l) (take_all {A = ℕ} n [] (omega arith)) ∙ append-nil h.sure
 
 -- with a front of the bytes behind it, then with all of them
-pub survives_append : (h : Held) (n : ℕ) (more bytes : List ℕ) → Survives (appended h (take n more)) bytes → Survives (appended h more) bytes
+pub survives_append : (h : Held) (n : ℕ) (more bytes : List ℕ) → Survives (held_after_append h (take n more)) bytes → Survives (held_after_append h more) bytes
 survives_append h n more bytes (m, is) = (
   min m (length h.rest + n),
   is
@@ -107,7 +107,7 @@ survives_append h n more bytes (m, is) = (
 )
 
 -- without bytes behind it, then with them
-pub survives_before : (h : Held) (more bytes : List ℕ) → Survives h bytes → Survives (appended h more) bytes
+pub survives_before : (h : Held) (more bytes : List ℕ) → Survives h bytes → Survives (held_after_append h more) bytes
 survives_before h more bytes (m, is) = (
   min m (length h.rest),
   is ∙ ap (λ (l : List ℕ). h.sure ++ l) (
@@ -118,12 +118,12 @@ survives_before h more bytes (m, is) = (
 )
 
 -- after a sync, then before it
-pub survives_sync : (h : Held) (bytes : List ℕ) → Survives (synced h) bytes → Survives h bytes
-survives_sync h bytes (m, is) = subst (Survives h) (sym (survives_sure (synced h) bytes refl (m, is))) (survives_now h)
+pub survives_sync : (h : Held) (bytes : List ℕ) → Survives (held_after_sync h) bytes → Survives h bytes
+survives_sync h bytes (m, is) = subst (Survives h) (sym (survives_sure (held_after_sync h) bytes refl (m, is))) (survives_now h)
 
 -- a front of the bytes behind it and sure, then all of them behind it
-pub survives_made_sure : (h : Held) (n : ℕ) (more bytes : List ℕ) → Survives (made_sure h (take n more)) bytes → Survives (appended h more) bytes
-survives_made_sure h n more bytes left = survives_append h n more bytes (survives_sync (appended h (take n more)) bytes (subst (λ (k : Held). Survives k bytes) (sym (synced-appended h (take n more))) left))
+pub survives_made_sure : (h : Held) (n : ℕ) (more bytes : List ℕ) → Survives (made_sure h (take n more)) bytes → Survives (held_after_append h more) bytes
+survives_made_sure h n more bytes left = survives_append h n more bytes (survives_sync (held_after_append h (take n more)) bytes (subst (λ (k : Held). Survives k bytes) (sym (synced-appended h (take n more))) left))
 
 -- after a cut: what was left before it, cut
 pub survives_cut : (h : Held) (n : ℕ) (bytes : List ℕ) → Survives (cut_to n h) bytes → (before : List ℕ) × Survives h before × (bytes ≡ take n before)
@@ -165,25 +165,25 @@ image_same file held c this others = λ g. ⊎_elim
     (same_or_other file g)
 
 -- before an append
-pub image_before : (file : FileId) (bytes : List ℕ) (held : Holdings) (c : Files) → CrashImage held c → CrashImage (grown file bytes held) c
-image_before file bytes held c left = image_whole file (appended (held file) bytes) held c (survives_before (held file) bytes (c file) (left file)) (λ g ne. left g)
+pub image_before : (file : FileId) (bytes : List ℕ) (held : Holdings) (c : Files) → CrashImage held c → CrashImage (holdings_after_append file bytes held) c
+image_before file bytes held c left = image_whole file (held_after_append (held file) bytes) held c (survives_before (held file) bytes (c file) (left file)) (λ g ne. left g)
 
 -- after an append of some front of the bytes
-pub image_append : (file : FileId) (n : ℕ) (bytes : List ℕ) (old new : Holdings) (c : Files) → Becomes file (appended (old file) (take n bytes)) old new → CrashImage new c → CrashImage (grown file bytes old) c
+pub image_append : (file : FileId) (n : ℕ) (bytes : List ℕ) (old new : Holdings) (c : Files) → Becomes file (held_after_append (old file) (take n bytes)) old new → CrashImage new c → CrashImage (holdings_after_append file bytes old) c
 image_append file n bytes old new c change left =
-    let parts = image_parts file (appended (old file) (take n bytes)) old new c change left in
-    image_whole file (appended (old file) bytes) old c (survives_append (old file) n bytes (c file) parts.0) parts.1
+    let parts = image_parts file (held_after_append (old file) (take n bytes)) old new c change left in
+    image_whole file (held_after_append (old file) bytes) old c (survives_append (old file) n bytes (c file) parts.0) parts.1
 
 -- after an append and a sync
-pub image_made_sure : (file : FileId) (n : ℕ) (bytes : List ℕ) (old new : Holdings) (c : Files) → Becomes file (made_sure (old file) (take n bytes)) old new → CrashImage new c → CrashImage (grown file bytes old) c
+pub image_made_sure : (file : FileId) (n : ℕ) (bytes : List ℕ) (old new : Holdings) (c : Files) → Becomes file (made_sure (old file) (take n bytes)) old new → CrashImage new c → CrashImage (holdings_after_append file bytes old) c
 image_made_sure file n bytes old new c change left =
     let parts = image_parts file (made_sure (old file) (take n bytes)) old new c change left in
-    image_whole file (appended (old file) bytes) old c (survives_made_sure (old file) n bytes (c file) parts.0) parts.1
+    image_whole file (held_after_append (old file) bytes) old c (survives_made_sure (old file) n bytes (c file) parts.0) parts.1
 
 -- after a sync
-pub image_sync : (file : FileId) (old new : Holdings) (c : Files) → Becomes file (synced (old file)) old new → CrashImage new c → CrashImage old c
+pub image_sync : (file : FileId) (old new : Holdings) (c : Files) → Becomes file (held_after_sync (old file)) old new → CrashImage new c → CrashImage old c
 image_sync file old new c change left =
-    let parts = image_parts file (synced (old file)) old new c change left in
+    let parts = image_parts file (held_after_sync (old file)) old new c change left in
     image_same file old c (survives_sync (old file) (c file) parts.0) parts.1
 
 -- after a cut: an image of before it, with the file cut
@@ -214,12 +214,12 @@ becomes_whole file f bytes old new change =
     subst (λ (l : List ℕ). Becomes file (f l) old new) (sym (take_all (length bytes) bytes (omega arith))) change
 
 -- an append that was done, and then a sync
-pub sync_after : {T E : Type 0} (file : FileId) (bytes : List ℕ) (old mid new : Holdings) (result : Result T E) → Becomes file (appended (old file) bytes) old mid → Syncs file mid new result → AppendsSure file bytes old new result
+pub sync_after : {T E : Type 0} (file : FileId) (bytes : List ℕ) (old mid new : Holdings) (result : Result T E) → Becomes file (held_after_append (old file) bytes) old mid → Syncs file mid new result → AppendsSure file bytes old new result
 sync_after {T} {E} file bytes old mid new result first second = by_result result second
   where
-    sure : Becomes file (synced (mid file)) mid new → Becomes file (made_sure (old file) bytes) old new
+    sure : Becomes file (held_after_sync (mid file)) mid new → Becomes file (made_sure (old file) bytes) old new
     sure change = record {
-      this = change.this ∙ ap synced first.this ∙ synced-appended (old file) bytes;
+      this = change.this ∙ ap held_after_sync first.this ∙ synced-appended (old file) bytes;
       others = λ g ne. change.others g ne ∙ first.others g ne;
     }
 
@@ -227,6 +227,6 @@ sync_after {T} {E} file bytes old mid new result first second = by_result result
     by_result (Ok v) change = sure change
     by_result (Err e) (inl same) = (
       length bytes,
-      inl (becomes_whole file (appended (old file)) bytes old new (subst (Becomes file (appended (old file) bytes) old) (sym same) first)),
+      inl (becomes_whole file (held_after_append (old file)) bytes old new (subst (Becomes file (held_after_append (old file) bytes) old) (sym same) first)),
     )
     by_result (Err e) (inr change) = (length bytes, inr (becomes_whole file (made_sure (old file)) bytes old new (sure change)))

@@ -8,20 +8,20 @@ use Rattle.pcp_model.specs.Disk.{Files, Held, nothing_held, bytes_of, CrashImage
 use Rattle.pcp_outside.specs.Devices.{Becomes, Elapses}
 use Rattle.pcp_model.specs.Written.{same_file}
 use Rattle.pcp_outside.specs.Contents.{files_of, Sets}
-use Rattle.pcp_outside.specs.Record.{file_of, effect, changed, held_from, held_after, LeftSince, IsKept}
+use Rattle.pcp_outside.specs.Record.{file_of, effect, held_after_change, held_from, held_after, LeftSince, IsKept}
 use Rattle.pcp_outside.specs.declared.contents.Contents.{Contents}
 use Rattle.pcp_outside.specs.declared.memory_disk.DiskChange.{DiskChange}
 use Rattle.pcp_outside.proofs.Images.{same_file-refl, same_file_is, same_or_other}
 
 -- what a file holds after one call more
-pub held_from-push : (file : FileId) (h : Held) (calls : List DiskChange) (c : DiskChange) → held_from file h (calls ++ c ∷ []) ≡ changed file (held_from file h calls) c
+pub held_from-push : (file : FileId) (h : Held) (calls : List DiskChange) (c : DiskChange) → held_from file h (calls ++ c ∷ []) ≡ held_after_change file (held_from file h calls) c
 held_from-push file h [] c = refl
-held_from-push file h (x ∷ calls) c = held_from-push file (changed file h x) calls c
+held_from-push file h (x ∷ calls) c = held_from-push file (held_after_change file h x) calls c
 
-changed_this : (h : Held) (c : DiskChange) → changed (file_of c) h c ≡ effect c h
+changed_this : (h : Held) (c : DiskChange) → held_after_change (file_of c) h c ≡ effect c h
 changed_this h c = ap (λ (b : Bool). if b then effect c h else h) (same_file-refl (file_of c))
 
-changed_other : (file : FileId) (h : Held) (c : DiskChange) → same_file (file_of c) file ≡ false → changed file h c ≡ h
+changed_other : (file : FileId) (h : Held) (c : DiskChange) → same_file (file_of c) file ≡ false → held_after_change file h c ≡ h
 changed_other file h c other = ap (λ (b : Bool). if b then effect c h else h) other
 
 -- what the call's file holds then, and the others

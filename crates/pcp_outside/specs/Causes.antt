@@ -11,5 +11,5 @@ pub record HasCause {T E : Type 0} (before after : ℕ) (result : Result T E) : 
   pub failed : IsErr result → Rose before after
 
 -- what a count in 64 bits shows of a sum
-abbrev pub capped : ℕ → ℕ
-capped n = min n 18446744073709551615
+abbrev pub shown_count : ℕ → ℕ
+shown_count n = min n 18446744073709551615

@@ -4,7 +4,7 @@ use Rattle.pcp_base.specs.declared.file.FileId.{FileId}
 use Rattle.pcp_base.specs.declared.file.FileId.TheVariants.{Meta, Index, Volume}
 use Rattle.pcp_model.specs.Disk.{Files, Held, Holdings, bytes_of, CrashImage}
 use Rattle.pcp_model.specs.Written.{same_file}
-use Rattle.pcp_outside.specs.Causes.{capped}
+use Rattle.pcp_outside.specs.Causes.{shown_count}
 
 -- a volume's number is below 2^32 - 1
 abbrev pub IsNumbered : FileId → Type 0
@@ -18,12 +18,12 @@ pub record Becomes (file : FileId) (h : Held) (old new : Holdings) : Type 0 wher
   pub others : (g : FileId) → same_file file g ≡ false → new g ≡ old g
 
 -- bytes behind a file's end, not yet sure
-abbrev pub appended : Held → List ℕ → Held
-appended h bytes = record { sure = h.sure; rest = h.rest ++ bytes }
+abbrev pub held_after_append : Held → List ℕ → Held
+held_after_append h bytes = record { sure = h.sure; rest = h.rest ++ bytes }
 
 -- all bytes sure
-abbrev pub synced : Held → Held
-synced h = record { sure = bytes_of h; rest = [] }
+abbrev pub held_after_sync : Held → Held
+held_after_sync h = record { sure = bytes_of h; rest = [] }
 
 -- bytes behind a file's end, and all of them sure
 abbrev pub made_sure : Held → List ℕ → Held
@@ -38,8 +38,8 @@ abbrev pub with_file : FileId → Held → Holdings → Holdings
 with_file file h held = λ g. if same_file file g then h else held g
 
 -- the holdings with bytes behind a file's end, not yet sure: their crash images are those of every moment of an append and a sync
-abbrev pub grown : FileId → List ℕ → Holdings → Holdings
-grown file bytes held = with_file file (appended (held file) bytes) held
+abbrev pub holdings_after_append : FileId → List ℕ → Holdings → Holdings
+holdings_after_append file bytes held = with_file file (held_after_append (held file) bytes) held
 
 -- what a crash may leave of one file: its sure bytes and any beginning of the rest
 abbrev pub Survives : Held → List ℕ → Type 0
@@ -47,13 +47,13 @@ Survives h bytes = (n : ℕ) × (bytes ≡ h.sure ++ take n h.rest)
 
 -- what `append` does: all the bytes, or where it failed some front of them
 abbrev pub Appends : {T E : Type 0} → FileId → List ℕ → Holdings → Holdings → Result T E → Type 0
-Appends file bytes old new (Ok _) = Becomes file (appended (old file) bytes) old new
-Appends file bytes old new (Err _) = (n : ℕ) × Becomes file (appended (old file) (take n bytes)) old new
+Appends file bytes old new (Ok _) = Becomes file (held_after_append (old file) bytes) old new
+Appends file bytes old new (Err _) = (n : ℕ) × Becomes file (held_after_append (old file) (take n bytes)) old new
 
 -- what `sync` does: one that failed has happened or not
 abbrev pub Syncs : {T E : Type 0} → FileId → Holdings → Holdings → Result T E → Type 0
-Syncs file old new (Ok _) = Becomes file (synced (old file)) old new
-Syncs file old new (Err _) = (new ≡ old) ⊎ Becomes file (synced (old file)) old new
+Syncs file old new (Ok _) = Becomes file (held_after_sync (old file)) old new
+Syncs file old new (Err _) = (new ≡ old) ⊎ Becomes file (held_after_sync (old file)) old new
 
 -- what `cut` does: one that failed has happened or not
 abbrev pub Cuts : {T E : Type 0} → FileId → ℕ → Holdings → Holdings → Result T E → Type 0
@@ -63,7 +63,7 @@ Cuts file n old new (Err _) = (new ≡ old) ⊎ Becomes file (cut_to n (old file
 -- an append and a sync together; one that failed has appended a front of the bytes, and made the file sure or not
 abbrev pub AppendsSure : {T E : Type 0} → FileId → List ℕ → Holdings → Holdings → Result T E → Type 0
 AppendsSure file bytes old new (Ok _) = Becomes file (made_sure (old file) bytes) old new
-AppendsSure file bytes old new (Err _) = (n : ℕ) × (Becomes file (appended (old file) (take n bytes)) old new ⊎ Becomes file (made_sure (old file) (take n bytes)) old new)
+AppendsSure file bytes old new (Err _) = (n : ℕ) × (Becomes file (held_after_append (old file) (take n bytes)) old new ⊎ Becomes file (made_sure (old file) (take n bytes)) old new)
 
 -- the length of a file's bytes
 abbrev pub length_of : Held → ℕ
@@ -76,7 +76,7 @@ pub record IsVolumes (held : Holdings) (n : ℕ) : Type 0 where
 
 -- the volume bytes taken by reads so far, as a count in 64 bits shows them
 abbrev pub taken_after : FileId → ℕ → ℕ → ℕ
-taken_after (Volume _) n before = capped (before + n)
+taken_after (Volume _) n before = shown_count (before + n)
 taken_after Meta n before = before
 taken_after Index n before = before
 

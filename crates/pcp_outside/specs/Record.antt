@@ -6,8 +6,8 @@ use Rattle.std.proofs.lemmas.List.{take_all}
 use Rattle.pcp_base.specs.declared.file.FileId.{FileId}
 use Rattle.pcp_base.specs.declared.file.FileId.TheVariants.{Meta, Index, Volume}
 use Rattle.pcp_model.specs.Disk.{Files, Held, Holdings, nothing_held, bytes_of, CrashImage}
-use Rattle.pcp_outside.specs.Causes.{capped}
-use Rattle.pcp_outside.specs.Devices.{appended, synced, cut_to}
+use Rattle.pcp_outside.specs.Causes.{shown_count}
+use Rattle.pcp_outside.specs.Devices.{held_after_append, held_after_sync, cut_to}
 use Rattle.pcp_model.specs.Written.{same_file}
 use Rattle.pcp_outside.specs.Contents.{files_of}
 use Rattle.pcp_outside.specs.declared.contents.Contents.{Contents}
@@ -24,13 +24,13 @@ file_of (Cut f _) = f
 
 -- what that file holds after it
 abbrev pub effect : DiskChange → Held → Held
-effect (Append _ bytes) h = appended h bytes
-effect (Sync _) h = synced h
+effect (Append _ bytes) h = held_after_append h bytes
+effect (Sync _) h = held_after_sync h
 effect (Cut _ n) h = cut_to n h
 
 -- what a file holds after a call of it or of another file
-abbrev pub changed : FileId → Held → DiskChange → Held
-changed file h c = if same_file (file_of c) file then effect c h else h
+abbrev pub held_after_change : FileId → Held → DiskChange → Held
+held_after_change file h c = if same_file (file_of c) file then effect c h else h
 
 -- this many bytes are sure, and these are all
 pub record IsHeld (h : Held) (sure : ℕ) (bytes : List ℕ) : Type 0 where
@@ -40,7 +40,7 @@ pub record IsHeld (h : Held) (sure : ℕ) (bytes : List ℕ) : Type 0 where
 -- what a file holds after these calls, in their order
 abbrev pub held_from : FileId → Held → List DiskChange → Held
 held_from file h [] = h
-held_from file h (c ∷ calls) = held_from file (changed file h c) calls
+held_from file h (c ∷ calls) = held_from file (held_after_change file h c) calls
 
 -- what the files of a disk that was empty hold after these calls
 abbrev pub held_after : List DiskChange → Holdings
@@ -66,7 +66,7 @@ pub record DiskState : Type 0 where
 
 -- A refused call is a fault and changes no file. It is noted as asked for, unless there was no memory for that.
 pub record Refuses (call : Asked) (old new : DiskState) : Type 0 where
-  pub rest : new ≡ record old { asked = new.asked; faults = capped (old.faults + 1) }
+  pub rest : new ≡ record old { asked = new.asked; faults = shown_count (old.faults + 1) }
   pub noted : (new.asked ≡ old.asked ++ call ∷ []) ⊎ (new.asked ≡ old.asked)
 
 -- whether an append, or a sync, of this file was asked for

@@ -1,6 +1,6 @@
 //! The traits `Clock` and `Turn`, a clock over a list of stamps, of which listed calls fail, and turns that never wait.
 ghost use Rattle.std.specs.Prelude.{◌≡◌, ◌+◌, ℕ, List as Sequence, OnOk, is_err};
-ghost use Rattle.pcp_outside.specs.Causes.{HasCause, capped};
+ghost use Rattle.pcp_outside.specs.Causes.{HasCause, shown_count};
 ghost use Rattle.pcp_outside.specs.Clocks.{ClockState, GivesMoment};
 ghost use Rattle.pcp_outside.specs.Memory.{is_listed};
 
@@ -74,7 +74,7 @@ impl Clock for ListClock {
 
     fn now(&mut self) -> Result<Option<Stamp>, Failed>
         ensures moments { GivesMoment self.old.left self.new.left result }
-        ensures asked { self.new.asked ≡ capped (self.old.asked + 1) }
+        ensures asked { self.new.asked ≡ shown_count (self.old.asked + 1) }
         ensures listed { is_err result ≡ is_listed self.old.fails self.new.asked }
         ensures kept { self.new.fails ≡ self.old.fails }
         ensures quiet { OnOk result (self.new.faults ≡ self.old.faults) }

@@ -2,7 +2,7 @@
 ghost use Rattle.std.specs.Prelude.{◌≡◌, ◌≤◌, ◌+◌, ℕ, length, take, drop, IfOk, OnOk, Option};
 ghost use Rattle.pcp_model.specs.Disk.{CrashImage};
 ghost use Rattle.pcp_outside.specs.Causes.{HasCause};
-ghost use Rattle.pcp_outside.specs.Devices.{IsNumbered, AppendsSure, LeavesOnly, grown};
+ghost use Rattle.pcp_outside.specs.Devices.{IsNumbered, AppendsSure, LeavesOnly, holdings_after_append};
 
 use crate::failed::Failed;
 use pcp_base::FileId;
@@ -10,7 +10,7 @@ use pcp_base::FileId;
 /// The files of one archive. A file that is missing is an empty one.
 pub trait Disk {
     ghost use Rattle.pcp_model.specs.Disk.{Files, Holdings, bytes_of};
-    ghost use Rattle.pcp_outside.specs.Causes.{capped};
+    ghost use Rattle.pcp_outside.specs.Causes.{shown_count};
     ghost use Rattle.pcp_outside.specs.Devices.{length_of, IsVolumes, Appends, Syncs, Cuts, Counts, Elapses};
     ghost use Rattle.pcp_base.specs.declared.file.FileId.{FileId as File};
 
@@ -38,7 +38,7 @@ pub trait Disk {
     /// How many bytes the file holds; 2^64 - 1 where it holds more.
     fn len(&mut self, file: FileId) -> Result<u64, Failed>
         requires { IsNumbered file }
-        ensures length { tells → IfOk result (λ n. n ≡ capped (length_of (held self.old file))) }
+        ensures length { tells → IfOk result (λ n. n ≡ shown_count (length_of (held self.old file))) }
         ensures held { tells → held self.new ≡ held self.old }
         ensures wrapped { tells → wrapped_file self.new ≡ wrapped_file self.old }
         ensures taken { tells → taken self.new ≡ taken self.old }
@@ -126,7 +126,7 @@ pub fn append_synced<D: Disk>(disk: &mut D, file: FileId, bytes: &[u8]) -> Resul
     ensures taken { D.tells → D.taken disk.new ≡ D.taken disk.old }
 
     // A crash at any moment of it leaves some front of the bytes behind what was sure, and the other files alone.
-    ensures any_moment { D.tells → LeavesOnly D.moment D.left_since disk.old disk.new (CrashImage (grown file bytes.now (D.held disk.old))) }
+    ensures any_moment { D.tells → LeavesOnly D.moment D.left_since disk.old disk.new (CrashImage (holdings_after_append file bytes.now (D.held disk.old))) }
     ensures cause { HasCause (D.faults disk.old) (D.faults disk.new) result }
 {
     disk.append(file, bytes)?;

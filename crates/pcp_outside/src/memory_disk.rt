@@ -1,12 +1,12 @@
 //! A disk in memory, which keeps a record of its changes and so tells the images of every moment.
 ghost use Rattle.std.specs.Prelude.{◌≡◌, ◌≤◌, ◌+◌, ◌++◌, [], ◌∷◌, ℕ, true, length, take, drop, count_by, None, IfOk, IsOk, IsOkAnd, OnOk, OnErr, IsErr};
 ghost use Rattle.std.specs.Prelude.{◌⊎◌};
-ghost use Rattle.pcp_outside.specs.Causes.{HasCause, capped};
+ghost use Rattle.pcp_outside.specs.Causes.{HasCause, shown_count};
 ghost use Rattle.pcp_outside.specs.Devices.{IsNumbered, taken_after};
 ghost use Rattle.pcp_model.specs.Written.{same_file};
 ghost use Rattle.pcp_outside.specs.Memory.{is_listed};
 ghost use Rattle.pcp_model.specs.Disk.{Held, bytes_of};
-ghost use Rattle.pcp_outside.specs.Record.{IsKept, IsHeld, changed, held_after, first_wrapped, comes_before, is_append_of, is_sync_of};
+ghost use Rattle.pcp_outside.specs.Record.{IsKept, IsHeld, held_after_change, held_after, first_wrapped, comes_before, is_append_of, is_sync_of};
 
 use crate::contents::Contents;
 use crate::disk::Disk;
@@ -146,7 +146,7 @@ fn replay(
     sure: usize,
     bytes: &mut Vec<u8>,
 ) -> Result<usize, NoMemory>
-    ensures { (h : Held) → IsHeld h sure bytes.old.items → IfOk result (λ sure_then. IsHeld (changed file h call.now) sure_then bytes.new.items) }
+    ensures { (h : Held) → IsHeld h sure bytes.old.items → IfOk result (λ sure_then. IsHeld (held_after_change file h call.now) sure_then bytes.new.items) }
 {
     match call {
         DiskChange::Append(found, more) => {
@@ -194,7 +194,7 @@ impl Disk for MemDisk {
 
     fn len(&mut self, file: FileId) -> Result<u64, Failed>
         requires { IsNumbered file }
-        ensures value { result ≡ Ok (capped (length_of (held_after self.old.calls file))) }
+        ensures value { result ≡ Ok (shown_count (length_of (held_after self.old.calls file))) }
         ensures same { self.new ≡ self.old }
         ensures time { Elapses (length self.old.calls) (length self.new.calls) (LeftSince self.old.calls) (LeftSince self.new.calls) (held_after self.new.calls) }
     {

@@ -1,6 +1,6 @@
 //! A door over connections in memory, of which listed calls fail, and which keeps what was told of each.
 ghost use Rattle.std.specs.Prelude.{◌≡◌, ◌∷◌, ◌++◌, ◌+◌, [], true, Option, Some, option_map, slice_get, IfOk, IfSome, IsErr, OnOk, OnErr};
-ghost use Rattle.pcp_outside.specs.Causes.{HasCause, capped};
+ghost use Rattle.pcp_outside.specs.Causes.{HasCause, shown_count};
 ghost use Rattle.pcp_outside.specs.Doors.{DoorState, GivesConnection, IsFresh};
 ghost use Rattle.pcp_outside.specs.Memory.{is_listed};
 
@@ -110,7 +110,7 @@ impl Door for MemDoor {
         ensures left { OnErr result (self.new.left ≡ self.old.left) }
         ensures given { OnErr result (self.new.given ≡ self.old.given) }
         ensures reports { self.new.reports ≡ self.old.reports }
-        ensures asked { self.new.asked ≡ capped (self.old.asked + 1) }
+        ensures asked { self.new.asked ≡ shown_count (self.old.asked + 1) }
         ensures listed { is_listed self.old.fails self.new.asked ≡ true → IsErr result }
         ensures kept { self.new.fails ≡ self.old.fails }
         ensures quiet { OnOk result (self.new.faults ≡ self.old.faults) }
@@ -135,7 +135,7 @@ impl Door for MemDoor {
         end: SessionEnd,
     ) -> Result<(), Failed>
         ensures done { OnOk result (self.new ≡ record self.old { reports = self.old.reports ++ record { bytes_left = input.left; moments_left = time.left; written = out.written; source_faults = input.faults; sink_faults = out.faults; clock_faults = time.faults; session_end = end } ∷ [] }) }
-        ensures refused { OnErr result (self.new ≡ record self.old { faults = capped (self.old.faults + 1) }) }
+        ensures refused { OnErr result (self.new ≡ record self.old { faults = shown_count (self.old.faults + 1) }) }
         ensures cause { HasCause self.old.faults self.new.faults result }
     {
         let told = Ended {

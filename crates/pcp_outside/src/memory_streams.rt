@@ -1,6 +1,6 @@
 //! Sources and sinks in memory, of which listed calls fail.
 ghost use Rattle.std.specs.Prelude.{◌≡◌, ◌≤◌, ◌<◌, ◌+◌, [], true, length, take, min, List as Sequence, IfOk, OnOk, IsErr, is_err};
-ghost use Rattle.pcp_outside.specs.Causes.{HasCause, capped};
+ghost use Rattle.pcp_outside.specs.Causes.{HasCause, shown_count};
 ghost use Rattle.pcp_outside.specs.Streams.{Takes, Puts};
 ghost use Rattle.pcp_outside.specs.Memory.{SourceState, SinkState, is_listed};
 
@@ -56,7 +56,7 @@ impl Source for MemSource {
     fn take(&mut self, buffer: &mut [u8]) -> Result<usize, Failed>
         ensures all { IfOk result (λ n. n ≡ min (length self.old.left) (length buffer.old)) }
         ensures bytes { Takes self.old.left self.new.left buffer.new result }
-        ensures asked { self.new.asked ≡ capped (self.old.asked + 1) }
+        ensures asked { self.new.asked ≡ shown_count (self.old.asked + 1) }
         ensures listed { is_err result ≡ is_listed self.old.fails self.new.asked }
         ensures kept { self.new.fails ≡ self.old.fails }
         ensures quiet { OnOk result (self.new.faults ≡ self.old.faults) }
@@ -165,7 +165,7 @@ impl Sink for MemSink {
     fn put(&mut self, bytes: &[u8]) -> Result<usize, Failed>
         ensures all { IfOk result (λ n. n ≡ length bytes.now) }
         ensures bytes { Puts self.old.written self.new.written bytes.now result }
-        ensures asked { self.new.asked ≡ capped (self.old.asked + 1) }
+        ensures asked { self.new.asked ≡ shown_count (self.old.asked + 1) }
         ensures listed { is_listed self.old.fails self.new.asked ≡ true → IsErr result }
         ensures kept { self.new.fails ≡ self.old.fails }
         ensures quiet { OnOk result (self.new.faults ≡ self.old.faults) }

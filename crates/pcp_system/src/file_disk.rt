@@ -1,7 +1,7 @@
 //! A disk over the files of the system; it tells no content.
 ghost use Rattle.std.specs.Prelude.{◌≡◌, ◌<◌, ◌≤◌, ◌⊎◌, IfOk, IfSome, IsErr, OnOk, None as Nothing};
 ghost use Rattle.pcp_model.specs.Disk.{empty_disk, CrashImage};
-ghost use Rattle.pcp_outside.specs.Causes.{HasCause, capped};
+ghost use Rattle.pcp_outside.specs.Causes.{HasCause, shown_count};
 ghost use Rattle.pcp_outside.specs.Devices.{IsNumbered};
 
 use pcp_outside::{Disk, Failed, FileId, is_before};

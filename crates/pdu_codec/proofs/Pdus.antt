@@ -15,7 +15,7 @@ use Rattle.pdu_codec.specs.declared.types.PduType.{PduType}
 use Rattle.pdu_codec.specs.declared.types.PduType.TheVariants as types
 use Rattle.pdu_codec.specs.Types.{code_of_type, type_of_code, type_of}
 use Rattle.pdu_codec.specs.Bodies.{body_of, IsPdu}
-use Rattle.pdu_codec.specs.Decoding.{type_or_unknown, type_in, head_in, head_of, body_at, ended, pdu_in}
+use Rattle.pdu_codec.specs.Decoding.{type_or_unknown, type_in, head_in, head_of, body_at, whole_body, pdu_in}
 use Rattle.pdu_codec.specs.Faults.{HasLength, IsFault, IsPduFault}
 use Rattle.pdu_codec.specs.Reading.{◌>>=◌, Gives, or_end}
 use Rattle.pdu_codec.proofs.Readers.{bind_ok, failed, ok_is, err_is, not_both}
@@ -175,13 +175,13 @@ spelled bytes p fits long code has =
 pub pdu_takes : (bytes : List ℕ) (p : Pdu) → IsBytes bytes → pdu_in bytes ≡ Ok p → IsPdu bytes p
 unfolding pdu_in
 pdu_takes bytes p fits e =
-    let a = bind_ok (head_of bytes) (λ kind. body_at kind bytes 12 >>= ended bytes) p e in
+    let a = bind_ok (head_of bytes) (λ kind. body_at kind bytes 12 >>= whole_body bytes) p e in
     elim (head_read bytes) [
       | few lt f ↦ absurd (not_both a.0 (Length 0) (sym a.1 ∙ f))
       | wrong h bad f ↦ absurd (not_both a.0 (Length (number_at bytes 0)) (sym a.1 ∙ f))
       | unknown long none f ↦ absurd (not_both a.0 (Unknown (number_at bytes 4)) (sym a.1 ∙ f))
       | stands long kind code f ↦ let same : a.0 ≡ kind = ok_is a.0 kind (sym a.1 ∙ f) in
-          let has = (answers kind bytes 12 fits long.0).ok p (subst (λ k. (body_at k bytes 12 >>= ended bytes) ≡ Ok p) same a.2) in
+          let has = (answers kind bytes 12 fits long.0).ok p (subst (λ k. (body_at k bytes 12 >>= whole_body bytes) ≡ Ok p) same a.2) in
           let is : type_of p ≡ kind = kind_of_body kind (drop 12 bytes) p has in
           spelled bytes p fits long (code_found (number_at bytes 4) kind code ∙ ap code_of_type (sym is)) (subst (λ k. body_of k (drop 12 bytes) p) (sym is) has)
     ]
@@ -223,7 +223,7 @@ unfolding pdu_in
 pdu_again bytes p fits s =
     let h = head_of_pdu bytes p s in
     let head : head_of bytes ≡ Ok (type_of p) = head_stands bytes h.long ∙ ap (type_or_unknown (number_at bytes 4)) h.kind in
-    ap (λ r. r >>= λ k. body_at k bytes 12 >>= ended bytes) head ∙ (answers (type_of p) bytes 12 fits h.long.0).again p h.has
+    ap (λ r. r >>= λ k. body_at k bytes 12 >>= whole_body bytes) head ∙ (answers (type_of p) bytes 12 fits h.long.0).again p h.has
 
 -- a head that fails is the fault of the whole
 head_fault : (r : Result PduType PduFault) (next : PduType → Result Pdu PduFault) (f e : PduFault) → r ≡ Err f → (r >>= next) ≡ Err e → f ≡ e
@@ -234,10 +234,10 @@ pub pdu_fails : (bytes : List ℕ) (e : PduFault) → IsBytes bytes → pdu_in b
 unfolding pdu_in
 pdu_fails bytes e fits h =
     elim (head_read bytes) [
-      | few lt f ↦ subst (IsFault bytes) (head_fault (head_of bytes) (λ k. body_at k bytes 12 >>= ended bytes) (Length 0) e f h) (inl (lt, refl))
-      | wrong long bad f ↦ subst (IsFault bytes) (head_fault (head_of bytes) (λ k. body_at k bytes 12 >>= ended bytes) (Length (number_at bytes 0)) e f h) (inr (long, refl, bad))
-      | unknown long none f ↦ subst (IsFault bytes) (head_fault (head_of bytes) (λ k. body_at k bytes 12 >>= ended bytes) (Unknown (number_at bytes 4)) e f h) (long, refl, none)
-      | stands long kind code f ↦ let s = (answers kind bytes 12 fits long.0).err e (sym (ap (λ r. r >>= λ k. body_at k bytes 12 >>= ended bytes) f) ∙ h) in
+      | few lt f ↦ subst (IsFault bytes) (head_fault (head_of bytes) (λ k. body_at k bytes 12 >>= whole_body bytes) (Length 0) e f h) (inl (lt, refl))
+      | wrong long bad f ↦ subst (IsFault bytes) (head_fault (head_of bytes) (λ k. body_at k bytes 12 >>= whole_body bytes) (Length (number_at bytes 0)) e f h) (inr (long, refl, bad))
+      | unknown long none f ↦ subst (IsFault bytes) (head_fault (head_of bytes) (λ k. body_at k bytes 12 >>= whole_body bytes) (Unknown (number_at bytes 4)) e f h) (long, refl, none)
+      | stands long kind code f ↦ let s = (answers kind bytes 12 fits long.0).err e (sym (ap (λ r. r >>= λ k. body_at k bytes 12 >>= whole_body bytes) f) ∙ h) in
           subst (IsFault bytes) (sym s.1) (long, kind, code, s.0, refl, s.2)
     ]
 

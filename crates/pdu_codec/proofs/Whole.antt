@@ -9,7 +9,7 @@ use Rattle.pcp_base.specs.declared.result.PmResult.{PmResult}
 use Rattle.pcp_model.specs.Payload.{IsPayload}
 use Rattle.result_form.specs.declared.fault.FormFault.{FormFault}
 use Rattle.result_form.specs.declared.fault.FormFault.TheVariants as forms
-use Rattle.result_form.specs.Decoding.{decoded as payload_read, Gives as FormGives}
+use Rattle.result_form.specs.Decoding.{payload_result as payload_read, Gives as FormGives}
 use Rattle.result_form.proofs.Again.{payload_again}
 use Rattle.result_form.proofs.Whole.{payload_takes}
 use Rattle.pdu_codec.specs.declared.fault.PduFault.{PduFault}
@@ -19,7 +19,7 @@ use Rattle.pdu_codec.specs.declared.pdu.Pdu.TheVariants as pdus
 use Rattle.pdu_codec.specs.declared.types.PduType.{PduType}
 use Rattle.pdu_codec.specs.declared.types.PduType.TheVariants as types
 use Rattle.pdu_codec.specs.Bodies.{body_of}
-use Rattle.pdu_codec.specs.Decoding.{fault_of, result_read, result_at, body_at, ended}
+use Rattle.pdu_codec.specs.Decoding.{fault_of, result_read, result_at, body_at, whole_body}
 use Rattle.pdu_codec.specs.Faults.{IsBodyMisfit}
 use Rattle.pdu_codec.specs.Reading.{◌>>=◌}
 use Rattle.pdu_codec.specs.ResultMisfit.{result_misfit}
@@ -29,9 +29,9 @@ use Rattle.pdu_codec.proofs.BodyReaders.{error_reads, profile_reads, fetch_reads
 
 -- a body is read whole exactly where it stands
 pub record Answers (G : List ℕ → Pdu → Type 0) (Stop : List ℕ → ℕ → Type 0) (read : List ℕ → ℕ → Result (Pdu × ℕ) PduFault) (bytes : List ℕ) (at : ℕ) : Type 0 where
-  pub ok : (p : Pdu) → (read bytes at >>= ended bytes) ≡ Ok p → G (drop at bytes) p
-  pub again : (p : Pdu) → G (drop at bytes) p → (read bytes at >>= ended bytes) ≡ Ok p
-  pub err : (e : PduFault) → (read bytes at >>= ended bytes) ≡ Err e → (k : ℕ) × (e ≡ Body (at + k)) × Stop (drop at bytes) k
+  pub ok : (p : Pdu) → (read bytes at >>= whole_body bytes) ≡ Ok p → G (drop at bytes) p
+  pub again : (p : Pdu) → G (drop at bytes) p → (read bytes at >>= whole_body bytes) ≡ Ok p
+  pub err : (e : PduFault) → (read bytes at >>= whole_body bytes) ≡ Err e → (k : ℕ) × (e ≡ Body (at + k)) × Stop (drop at bytes) k
 
 end_ok : (b : Bool) (next : ℕ) (p q : Pdu) → cond b (failed Pdu (Body next)) (Ok p) ≡ Ok q → (b ≡ false) × (p ≡ q)
 end_ok true next p q e = absurd (not_both q (Body next) (sym e))
@@ -41,13 +41,13 @@ end_err : (b : Bool) (next : ℕ) (p : Pdu) (f : PduFault) → cond b (failed Pd
 end_err true next p f e = (refl, sym (err_is Pdu (Body next) f e))
 end_err false next p f e = absurd (not_both p f e)
 
-ends_here : (bytes : List ℕ) (next : ℕ) (p : Pdu) → length bytes ≤ next → ended bytes (p, next) ≡ Ok p
+ends_here : (bytes : List ℕ) (next : ℕ) (p : Pdu) → length bytes ≤ next → whole_body bytes (p, next) ≡ Ok p
 ends_here bytes next p h = ap (λ b. cond b (failed Pdu (Body next)) (Ok p)) (le-ltb next (length bytes) h)
 
 pub whole : (G : List ℕ → Pdu → Type 0) (read : List ℕ → ℕ → Result (Pdu × ℕ) PduFault) → Reads G read → (bytes : List ℕ) (at : ℕ) → IsBytes bytes → at ≤ length bytes → Answers G (IsFirstMisfit (Some G)) read bytes at
 whole G read is bytes at fits h = record {
   ok = λ p e.
-      let a = bind_ok (read bytes at) (ended bytes) p e in
+      let a = bind_ok (read bytes at) (whole_body bytes) p e in
       let t = is.takes bytes at a.0.1 a.0.0 fits h a.1 in
       let g = end_ok (ltb a.0.1 (length bytes)) a.0.1 a.0.0 p a.2 in
       let none : drop a.0.1 bytes ≡ [] = drop_all a.0.1 bytes (ltb-false a.0.1 (length bytes) g.0) in
@@ -56,9 +56,9 @@ whole G read is bytes at fits h = record {
   again = λ p g.
       let room : length (drop at bytes) ≡ length bytes - at = length-drop at bytes in
       let read_all = is.again bytes at (drop at bytes) [] p h (sym (append-nil (drop at bytes))) g in
-      ap (λ r. r >>= ended bytes) read_all ∙ ends_here bytes (at + length (drop at bytes)) p (omega arith);
+      ap (λ r. r >>= whole_body bytes) read_all ∙ ends_here bytes (at + length (drop at bytes)) p (omega arith);
   err = λ e f.
-      elim (bind_err (read bytes at) (ended bytes) e f) [
+      elim (bind_err (read bytes at) (whole_body bytes) e f) [
         | at_once a ↦ let s = is.stops bytes at e fits h a in (s.k, s.is, stopped G (drop at bytes) s.k s.stops)
         | later p a b ↦ let t = is.takes bytes at p.1 p.0 fits h a in
             let g = end_err (ltb p.1 (length bytes)) p.1 p.0 e b in
@@ -140,17 +140,17 @@ pub result_answers : (bytes : List ℕ) (at : ℕ) → IsBytes bytes → Answers
 result_answers bytes at fits = record {
   ok = λ p e.
       elim (result_cases bytes at fits) [
-        | stands r is f ↦ let same : pdus.Result r ≡ p = ok_is (pdus.Result r) p (sym (ap (λ x. x >>= ended bytes) f ∙ ends_here bytes (length bytes) (pdus.Result r) (omega arith)) ∙ e) in
+        | stands r is f ↦ let same : pdus.Result r ≡ p = ok_is (pdus.Result r) p (sym (ap (λ x. x >>= whole_body bytes) f ∙ ends_here bytes (length bytes) (pdus.Result r) (omega arith)) ∙ e) in
             record { answer = r; is = sym same; payload = is }
-        | fails none f ↦ absurd (not_both p (Body (at + result_misfit (drop at bytes))) (sym e ∙ ap (λ x. x >>= ended bytes) f))
+        | fails none f ↦ absurd (not_both p (Body (at + result_misfit (drop at bytes))) (sym e ∙ ap (λ x. x >>= whole_body bytes) f))
       ];
-  again = λ p b. ap (λ x. x >>= ended bytes) (result_ok bytes at b.answer fits b.payload) ∙ ends_here bytes (length bytes) (pdus.Result b.answer) (omega arith) ∙ ap done (sym b.is);
+  again = λ p b. ap (λ x. x >>= whole_body bytes) (result_ok bytes at b.answer fits b.payload) ∙ ends_here bytes (length bytes) (pdus.Result b.answer) (omega arith) ∙ ap done (sym b.is);
   err = λ e h.
       elim (result_cases bytes at fits) [
-        | stands r is f ↦ absurd (not_both (pdus.Result r) e (sym (ap (λ x. x >>= ended bytes) f ∙ ends_here bytes (length bytes) (pdus.Result r) (omega arith)) ∙ h))
+        | stands r is f ↦ absurd (not_both (pdus.Result r) e (sym (ap (λ x. x >>= whole_body bytes) f ∙ ends_here bytes (length bytes) (pdus.Result r) (omega arith)) ∙ h))
         | fails none f ↦ (
           result_misfit (drop at bytes),
-          err_is Pdu e (Body (at + result_misfit (drop at bytes))) (sym h ∙ ap (λ x. x >>= ended bytes) f),
+          err_is Pdu e (Body (at + result_misfit (drop at bytes))) (sym h ∙ ap (λ x. x >>= whole_body bytes) f),
           (λ b. none b.1.answer b.1.payload, refl),
         )
       ];

@@ -5,7 +5,7 @@ use Rattle.pcp_base.specs.Fields.{be_field}
 use Rattle.pcp_base.specs.declared.result.PmResult.{PmResult}
 use Rattle.result_form.specs.declared.fault.FormFault.{FormFault}
 use Rattle.result_form.specs.declared.fault.FormFault.TheVariants as forms
-use Rattle.result_form.specs.Decoding.{decoded as payload_read}
+use Rattle.result_form.specs.Decoding.{payload_result as payload_read}
 use Rattle.pdu_codec.specs.declared.fault.PduFault.{PduFault}
 use Rattle.pdu_codec.specs.declared.fault.PduFault.TheVariants.{Length, Unknown, Body, NoMemory}
 use Rattle.pdu_codec.specs.declared.pdu.Pdu.{Pdu}
@@ -62,11 +62,11 @@ body_at types.PmnsChild = child_at
 body_at types.PmnsTraverse = traverse_at
 
 -- nothing stands behind a body
-abbrev pub ended : List ℕ → Pdu × ℕ → Result Pdu PduFault
-ended bytes read = if nat_lt read.1 (length bytes) then Err (Body read.1) else Ok read.0
+abbrev pub whole_body : List ℕ → Pdu × ℕ → Result Pdu PduFault
+whole_body bytes read = if nat_lt read.1 (length bytes) then Err (Body read.1) else Ok read.0
 
 unfoldable pub pdu_in : List ℕ → Result Pdu PduFault
 pdu_in bytes = do
   kind ← head_of bytes
   read ← body_at kind bytes 12
-  ended bytes read
+  whole_body bytes read

@@ -62,12 +62,12 @@ led_to bytes b begin head =
     if nat_lt (head % 16777216) 4 then record { limit = min b.limit begin; stop = min b.stop (begin + 3); reach = b.reach; is_open = b.is_open }
     else record { limit = min b.limit begin; stop = b.stop; reach = max b.reach (begin + padded_size head); is_open = b.is_open }
 
-abbrev pub led : List ℕ → Blocks → ℕ → Option ℕ → Blocks
-led bytes b begin None = record { limit = min b.limit begin; stop = b.stop; reach = b.reach; is_open = true }
-led bytes b begin (Some head) = led_to bytes b begin head
+abbrev pub after_lead : List ℕ → Blocks → ℕ → Option ℕ → Blocks
+after_lead bytes b begin None = record { limit = min b.limit begin; stop = b.stop; reach = b.reach; is_open = true }
+after_lead bytes b begin (Some head) = led_to bytes b begin head
 
 abbrev pub led_by : List ℕ → Blocks → ℕ → Blocks
-led_by bytes b offset = led bytes b (offset_byte offset) (be_field w32 (offset_byte offset) bytes)
+led_by bytes b offset = after_lead bytes b (offset_byte offset) (be_field w32 (offset_byte offset) bytes)
 
 -- the offset of a pair: none leads before the least end of all sets
 unfoldable pub offset_at : List ℕ → ℕ → ℕ → Result ℕ ℕ
@@ -86,7 +86,7 @@ offsets_from bytes end b (suc n) at = do
 unfoldable pub pairs_at : List ℕ → ℕ → ℕ → Blocks → ℕ → ℕ → Result Sets ℕ
 pairs_at bytes at others b count mode =
     if mode == 0 then (if nat_lt (length bytes) (at + 12 + 8 * count) then Err (length bytes) else Ok (record { at = at + 12 + 8 * count; blocks = b }))
-    else (offsets_from bytes (least_end at others count) b count (at + 12) >>= λ led. Ok (record { at = at + 12 + 8 * count; blocks = led }))
+    else (offsets_from bytes (least_end at others count) b count (at + 12) >>= λ after_lead. Ok (record { at = at + 12 + 8 * count; blocks = after_lead }))
 
 -- by blocks only where some offset can lead behind all sets
 abbrev pub most_mode : ℕ → ℕ
@@ -121,8 +121,8 @@ stop_behind bytes s =
     if nat_lt s.blocks.stop (length bytes) then s.blocks.stop
     else if s.blocks.is_open then length bytes else min (length bytes) (max s.at s.blocks.reach)
 
-unfoldable pub walked : List ℕ → Result Sets ℕ
-walked bytes = do
+unfoldable pub walk_of_sets : List ℕ → Result Sets ℕ
+walk_of_sets bytes = do
   sec ← word_between bytes 0 0 2147483647
   usec ← word_between bytes 4 0 999999
   count ← word_between bytes 8 0 2147483647
@@ -133,4 +133,4 @@ stop_of bytes (Ok s) = stop_behind bytes s
 stop_of bytes (Err at) = at
 
 abbrev pub result_misfit : List ℕ → ℕ
-result_misfit bytes = min (stop_of bytes (walked bytes)) (length bytes)
+result_misfit bytes = min (stop_of bytes (walk_of_sets bytes)) (length bytes)

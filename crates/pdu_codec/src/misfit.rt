@@ -1,6 +1,6 @@
 //! Where bytes that are no payload of a result stop being like one, byte by byte.
 ghost use Rattle.std.specs.Prelude.{◌≡◌, ◌⊎◌, ◌+◌, ◌*◌, ◌<◌, ◌≤◌, length, IfOk, OnOk};
-ghost use Rattle.pdu_codec.specs.ResultMisfit.{byte_between, word_between, any_word, most_values, least_end, count_word, led_by, offset_at, offsets_from, pairs_at, most_mode, values_at, set_at, sets_at, stop_behind, walked, result_misfit};
+ghost use Rattle.pdu_codec.specs.ResultMisfit.{byte_between, word_between, any_word, most_values, least_end, count_word, led_by, offset_at, offsets_from, pairs_at, most_mode, values_at, set_at, sets_at, stop_behind, walk_of_sets, result_misfit};
 
 use pcp_base::be32;
 
@@ -251,10 +251,10 @@ fn stop_behind(payload: &[u8], sets: Sets) -> usize
 }
 
 /// What stands behind all sets.
-#[tactic(auto, unfolding(crate::specs::ResultMisfit::walked))]
+#[tactic(auto, unfolding(crate::specs::ResultMisfit::walk_of_sets))]
 fn walk(payload: &[u8]) -> Result<Sets, usize>
     requires { length payload.now < 4294967296 }
-    ensures { result ≡ walked payload.now }
+    ensures { result ≡ walk_of_sets payload.now }
 {
     word_between(payload, 0, 0, 2_147_483_647)?;
     word_between(payload, 4, 0, 999_999)?;

@@ -2,7 +2,7 @@
 ghost use Rattle.std.specs.Prelude.{◌≡◌, ◌+◌, ◌<◌, ◌≤◌, length, IfOk, IfErr, OnOk, Ok};
 ghost use Rattle.pdu_codec.specs.declared.pdu.Pdu.{Pdu as Said};
 ghost use Rattle.pdu_codec.specs.Bodies.{IsPdu};
-ghost use Rattle.pdu_codec.specs.Decoding.{head_of, fault_of, result_at, body_at, ended, pdu_in};
+ghost use Rattle.pdu_codec.specs.Decoding.{head_of, fault_of, result_at, body_at, whole_body, pdu_in};
 ghost use Rattle.pdu_codec.specs.Faults.{IsPduFault};
 ghost use Rattle.pdu_codec.specs.Reading.{Gives};
 
@@ -103,8 +103,8 @@ fn body_at(alloc: Global, kind: PduType, bytes: &[u8], at: usize) -> Result<(Pdu
 }
 
 /// What was read, where nothing stands behind it.
-fn ended(bytes: &[u8], pdu: Pdu, next: usize) -> Result<Pdu, PduFault>
-    ensures { result ≡ ended bytes.now (pdu, next) }
+fn whole_body(bytes: &[u8], pdu: Pdu, next: usize) -> Result<Pdu, PduFault>
+    ensures { result ≡ whole_body bytes.now (pdu, next) }
 {
     if next < bytes.len() {
         return Err(PduFault::Body { at: next as u64 });
@@ -118,7 +118,7 @@ fn read(alloc: Global, bytes: &[u8]) -> Result<Pdu, PduFault>
 {
     let kind = head_of(bytes)?;
     let (pdu, next) = body_at(alloc, kind, bytes, HEAD)?;
-    ended(bytes, pdu, next)
+    whole_body(bytes, pdu, next)
 }
 
 /// The PDU that these bytes are. A refusal tells that the length word isn't the number of bytes, or that no PDU has the

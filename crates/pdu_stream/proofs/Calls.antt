@@ -7,7 +7,7 @@ use Rattle.pdu_stream.specs.declared.phase.Phase.TheVariants.{Open, Bad, Lost}
 use Rattle.pdu_stream.specs.declared.fault.StreamFault.{StreamFault}
 use Rattle.pdu_stream.specs.declared.fault.StreamFault.TheVariants as faults
 use Rattle.pdu_stream.specs.declared.splitting.Parts.{Parts}
-use Rattle.pdu_stream.specs.Streams.{IsBad, IsStop, Splits, joined}
+use Rattle.pdu_stream.specs.Streams.{IsBad, IsStop, Splits, bytes_of_pdus}
 use Rattle.pdu_stream.specs.State.{State, IsKept}
 use Rattle.pdu_stream.specs.Reading.{HasComeTo, HasRead, IsTaken, phase_after, answer_for, Reads, Answers}
 use Rattle.pdu_stream.proofs.Pieces.{longer, bad_longer, further}
@@ -24,7 +24,7 @@ some_of (suc n) h = omega arith
 
 reads_bad : (bytes rest : List ℕ) (pdus : List (List ℕ)) (found : ℕ) (b : Bool) → (length pdus == 0) ≡ b → Splits bytes pdus rest → IsBad rest found
     → Reads bytes (Bad found) rest (if b then Err (faults.BadLength found) else Ok pdus)
-reads_bad bytes rest pdus found true test s bad = (refl, subst (λ t. IsBad t found) (sym (s.is ∙ ap (λ ps. joined ps ++ rest) (none_of pdus (eqb-true (length pdus) 0 test)))) bad)
+reads_bad bytes rest pdus found true test s bad = (refl, subst (λ t. IsBad t found) (sym (s.is ∙ ap (λ ps. bytes_of_pdus ps ++ rest) (none_of pdus (eqb-true (length pdus) 0 test)))) bad)
 reads_bad bytes rest pdus found false test s bad = ((rest, s, bad), some_of (length pdus) (eqb-false (length pdus) 0 test))
 
 reads_for : (bytes rest : List ℕ) (pdus : List (List ℕ)) (bad : Option ℕ) → Splits bytes pdus rest → IsStop rest bad

@@ -4,7 +4,7 @@ use Rattle.std.specs.Prelude.{Option}
 use Rattle.std.specs.Int.{w32, from_be_bytes}
 use Rattle.std.specs.List.{AllByRecursion}
 use Rattle.std.proofs.lemmas.List.{length-append, take-append-le, take_at, drop_at}
-use Rattle.pdu_stream.specs.Streams.{length_word, IsPdu, IsBegun, IsBad, IsStop, joined}
+use Rattle.pdu_stream.specs.Streams.{length_word, IsPdu, IsBegun, IsBad, IsStop, bytes_of_pdus}
 
 -- a whole PDU's length word stands whatever follows
 pdu_first : (pdu more : List ℕ) → IsPdu pdu → length_word (pdu ++ more) ≡ length pdu
@@ -55,16 +55,16 @@ one_stop bytes (Some m) None a b = absurd (begun_not_bad bytes m b a)
 one_stop bytes (Some m) (Some n) a b = ap (λ k. Some k) (sym a.1 ∙ b.1)
 
 pub same : (pdus others : List (List ℕ)) (rest left : List ℕ) (bad worse : Option ℕ) → AllByRecursion IsPdu pdus → AllByRecursion IsPdu others
-    → IsStop rest bad → IsStop left worse → joined pdus ++ rest ≡ joined others ++ left → (pdus ≡ others) × (rest ≡ left)
+    → IsStop rest bad → IsStop left worse → bytes_of_pdus pdus ++ rest ≡ bytes_of_pdus others ++ left → (pdus ≡ others) × (rest ≡ left)
 same [] [] rest left bad worse a b s t e = (refl, e)
 same [] (q ∷ qs) rest left bad worse a b s t e =
-    absurd (not_stop q (joined qs ++ left) bad b.0 (subst (λ x. IsStop x bad) (e ∙ append_assoc q (joined qs) left) s))
+    absurd (not_stop q (bytes_of_pdus qs ++ left) bad b.0 (subst (λ x. IsStop x bad) (e ∙ append_assoc q (bytes_of_pdus qs) left) s))
 same (p ∷ ps) [] rest left bad worse a b s t e =
-    absurd (not_stop p (joined ps ++ rest) worse a.0 (subst (λ x. IsStop x worse) (sym e ∙ append_assoc p (joined ps) rest) t))
+    absurd (not_stop p (bytes_of_pdus ps ++ rest) worse a.0 (subst (λ x. IsStop x worse) (sym e ∙ append_assoc p (bytes_of_pdus ps) rest) t))
 same (p ∷ ps) (q ∷ qs) rest left bad worse a b s t e =
-    let both : p ++ (joined ps ++ rest) ≡ q ++ (joined qs ++ left) = sym (append_assoc p (joined ps) rest) ∙ e ∙ append_assoc q (joined qs) left in
-    let long : length p ≡ length q = sym (pdu_first p (joined ps ++ rest) a.0) ∙ ap length_word both ∙ pdu_first q (joined qs ++ left) b.0 in
-    let front : p ≡ q = sym (take_at p (joined ps ++ rest) (length q) long) ∙ ap (take (length q)) both ∙ take_at q (joined qs ++ left) (length q) refl in
-    let tail : joined ps ++ rest ≡ joined qs ++ left = sym (drop_at p (joined ps ++ rest) (length q) long) ∙ ap (drop (length q)) both ∙ drop_at q (joined qs ++ left) (length q) refl in
+    let both : p ++ (bytes_of_pdus ps ++ rest) ≡ q ++ (bytes_of_pdus qs ++ left) = sym (append_assoc p (bytes_of_pdus ps) rest) ∙ e ∙ append_assoc q (bytes_of_pdus qs) left in
+    let long : length p ≡ length q = sym (pdu_first p (bytes_of_pdus ps ++ rest) a.0) ∙ ap length_word both ∙ pdu_first q (bytes_of_pdus qs ++ left) b.0 in
+    let front : p ≡ q = sym (take_at p (bytes_of_pdus ps ++ rest) (length q) long) ∙ ap (take (length q)) both ∙ take_at q (bytes_of_pdus qs ++ left) (length q) refl in
+    let tail : bytes_of_pdus ps ++ rest ≡ bytes_of_pdus qs ++ left = sym (drop_at p (bytes_of_pdus ps ++ rest) (length q) long) ∙ ap (drop (length q)) both ∙ drop_at q (bytes_of_pdus qs ++ left) (length q) refl in
     let r = same ps qs rest left bad worse a.1 b.1 s t tail in
     (ap (λ x. x ∷ ps) front ∙ ap (λ xs. q ∷ xs) r.0, r.1)

@@ -7,13 +7,13 @@ use Rattle.std.proofs.Math.Seq.{take-add}
 use Rattle.pdu_stream.specs.declared.front.Front.TheVariants.{Whole}
 use Rattle.pdu_stream.specs.declared.phase.Phase.{Phase}
 use Rattle.pdu_stream.specs.declared.phase.Phase.TheVariants.{Open, Bad, Lost}
-use Rattle.pdu_stream.specs.Streams.{IsPdu, IsBad, Splits, joined}
+use Rattle.pdu_stream.specs.Streams.{IsPdu, IsBad, Splits, bytes_of_pdus}
 use Rattle.pdu_stream.specs.Front.{IsFront, IsCut}
 use Rattle.pdu_stream.specs.Reading.{HasComeTo}
 
-pub joined-append : (xs ys : List (List ℕ)) → joined (xs ++ ys) ≡ joined xs ++ joined ys
+pub joined-append : (xs ys : List (List ℕ)) → bytes_of_pdus (xs ++ ys) ≡ bytes_of_pdus xs ++ bytes_of_pdus ys
 joined-append [] ys = refl
-joined-append (x ∷ xs) ys = ap (λ t. x ++ t) (joined-append xs ys) ∙ sym (append_assoc x (joined xs) (joined ys))
+joined-append (x ∷ xs) ys = ap (λ t. x ++ t) (joined-append xs ys) ∙ sym (append_assoc x (bytes_of_pdus xs) (bytes_of_pdus ys))
 
 pub all_both : (xs ys : List (List ℕ)) → AllByRecursion IsPdu xs → AllByRecursion IsPdu ys → AllByRecursion IsPdu (xs ++ ys)
 all_both [] ys a b = b
@@ -40,7 +40,7 @@ goes_on bytes pdus later pdu at size c f is e =
     let within : at ≤ length bytes = c.within in
     subst (λ ps. IsCut bytes ps (at + size)) (sym e) (record {
       within = omega arith;
-      front = take-add at size bytes ∙ ap (λ t. t ++ take size (drop at bytes)) c.front ∙ ap (λ t. joined pdus ++ t) (sym is ∙ sym (append-nil pdu)) ∙ sym (joined-append pdus (pdu ∷ []));
+      front = take-add at size bytes ∙ ap (λ t. t ++ take size (drop at bytes)) c.front ∙ ap (λ t. bytes_of_pdus pdus ++ t) (sym is ∙ sym (append-nil pdu)) ∙ sym (joined-append pdus (pdu ∷ []));
       whole = all_both pdus (pdu ∷ []) c.whole (subst IsPdu (sym is) (whole_here (drop at bytes) size f), tt);
     })
 
@@ -63,14 +63,14 @@ cut_splits bytes pdus at c = record {
 
 pub behind : (stream rest piece left : List ℕ) (given pdus : List (List ℕ)) → Splits stream given rest → Splits (rest ++ piece) pdus left → Splits (stream ++ piece) (given ++ pdus) left
 behind stream rest piece left given pdus s r = record {
-  is = ap (λ t. t ++ piece) s.is ∙ append_assoc (joined given) rest piece ∙ ap (λ t. joined given ++ t) r.is
-      ∙ sym (append_assoc (joined given) (joined pdus) left) ∙ ap (λ t. t ++ left) (sym (joined-append given pdus));
+  is = ap (λ t. t ++ piece) s.is ∙ append_assoc (bytes_of_pdus given) rest piece ∙ ap (λ t. bytes_of_pdus given ++ t) r.is
+      ∙ sym (append_assoc (bytes_of_pdus given) (bytes_of_pdus pdus) left) ∙ ap (λ t. t ++ left) (sym (joined-append given pdus));
   whole = all_both given pdus s.whole r.whole;
 }
 
 pub longer : (stream rest piece : List ℕ) (given : List (List ℕ)) → Splits stream given rest → Splits (stream ++ piece) given (rest ++ piece)
 longer stream rest piece given s = record {
-  is = ap (λ t. t ++ piece) s.is ∙ append_assoc (joined given) rest piece;
+  is = ap (λ t. t ++ piece) s.is ∙ append_assoc (bytes_of_pdus given) rest piece;
   whole = s.whole;
 }
 

@@ -4,7 +4,7 @@ use Rattle.std.specs.List.{AllByRecursion}
 use Rattle.pdu_stream.specs.declared.front.Front.{Front}
 use Rattle.pdu_stream.specs.declared.front.Front.TheVariants.{Whole, Begun, Bad}
 use Rattle.pdu_stream.specs.declared.splitting.Parts.{Parts}
-use Rattle.pdu_stream.specs.Streams.{length_word, IsPdu, IsBegun, IsBad, IsStop, joined}
+use Rattle.pdu_stream.specs.Streams.{length_word, IsPdu, IsBegun, IsBad, IsStop, bytes_of_pdus}
 
 abbrev pub IsFront : List ℕ → Front → Type 0
 IsFront bytes (Whole size) = (12 ≤ size) × (size ≤ 65536) × (size ≤ length bytes) × (length_word bytes ≡ size)
@@ -14,7 +14,7 @@ IsFront bytes (Bad found) = IsBad bytes found
 -- bytes up to an offset are whole PDUs
 pub record IsCut (bytes : List ℕ) (pdus : List (List ℕ)) (at : ℕ) : Type 0 where
   pub within : at ≤ length bytes
-  pub front : take at bytes ≡ joined pdus
+  pub front : take at bytes ≡ bytes_of_pdus pdus
   pub whole : AllByRecursion IsPdu pdus
 
 -- and behind them none stands whole

@@ -28,11 +28,11 @@ IsStop bytes None = IsBegun bytes
 IsStop bytes (Some found) = IsBad bytes found
 
 -- PDUs one behind another
-abbrev pub joined : List (List ℕ) → List ℕ
-joined [] = []
-joined (pdu ∷ pdus) = pdu ++ joined pdus
+abbrev pub bytes_of_pdus : List (List ℕ) → List ℕ
+bytes_of_pdus [] = []
+bytes_of_pdus (pdu ∷ pdus) = pdu ++ bytes_of_pdus pdus
 
 -- a stream is these whole PDUs, and bytes behind them
 pub record Splits (stream : List ℕ) (pdus : List (List ℕ)) (rest : List ℕ) : Type 0 where
-  pub is : stream ≡ joined pdus ++ rest
+  pub is : stream ≡ bytes_of_pdus pdus ++ rest
   pub whole : AllByRecursion IsPdu pdus

@@ -46,7 +46,7 @@ pub record FitsLook (turned : Found → FilesRefusal → Type 0) (said : Found �
   -- nor where nothing was found
   pub nothing : (f : Found) (stamp : Moment) → turned f (Nothing stamp) → f.wrapped ≡ None
 
-pub info_fits : FitsLook info.turned info.said
+pub info_fits : FitsLook info.IsTurnedAway info.IsOutput
 info_fits = record {
   never_unlogged = λ f reason t. t;
   wrapped = λ f file t. t;
@@ -67,17 +67,17 @@ asked_fits why said unlogged wrapped unwrapped = record {
   unwrapped = unwrapped;
 }
 
-pub dump_fits : FitsLook dump.turned dump.said
-dump_fits = asked_fits dump.BadRecord dump.said (λ r f reason b. b) (λ r f file b. b) (λ f text s. s.1.unwrapped)
+pub dump_fits : FitsLook dump.IsTurnedAway dump.IsOutput
+dump_fits = asked_fits dump.BadRecord dump.IsOutput (λ r f reason b. b) (λ r f file b. b) (λ f text s. s.1.unwrapped)
 
-pub at_fits : (t : Moment) → FitsLook (at.turned t) (at.said t)
-at_fits t = asked_fits (at.IsStopped t) (at.said t) (λ r f reason b. b) (λ r f file b. b) (λ f text s. s.1.unwrapped)
+pub at_fits : (t : Moment) → FitsLook (at.IsTurnedAway t) (at.IsOutput t)
+at_fits t = asked_fits (at.IsStopped t) (at.IsOutput t) (λ r f reason b. b) (λ r f file b. b) (λ f text s. s.1.unwrapped)
 
-pub range_fits : (from to : Moment) → FitsLook (range.turned from to) (range.said from to)
-range_fits from to = asked_fits (range.IsStopped from to) (range.said from to) (λ r f reason b. b) (λ r f file b. b) (λ f text s. s.1.unwrapped)
+pub range_fits : (from to : Moment) → FitsLook (range.IsTurnedAway from to) (range.IsOutput from to)
+range_fits from to = asked_fits (range.IsStopped from to) (range.IsOutput from to) (λ r f reason b. b) (λ r f file b. b) (λ f text s. s.1.unwrapped)
 
-pub value_fits : (asked : ValueWords) → FitsLook (value.turned asked) (value.said asked)
-value_fits asked = asked_fits (value.IsStopped asked) (value.said asked) (λ r f reason b. b) (λ r f file b. b) (λ f text s. s.1.unwrapped)
+pub value_fits : (asked : ValueWords) → FitsLook (value.IsTurnedAway asked) (value.IsOutput asked)
+value_fits asked = asked_fits (value.IsStopped asked) (value.IsOutput asked) (λ r f reason b. b) (λ r f file b. b) (λ f text s. s.1.unwrapped)
 
 not_both : (w : Option FileId) (file : FileId) → w ≡ None → w ≡ Some file → ⊥
 not_both w file none some = let e : None ≡ Some file = sym none ∙ some in cc
@@ -127,11 +127,11 @@ pub look_leaves : {D : Type 0} (g : DiskGhosts D) (m : Meaning) (input : List �
 look_leaves g m input a b looks = λ tells. weaker g.moment g.left_since g.held a b (CrashImage (g.held a)) (MayLeave m input (g.held a)) (looks.moments tells) (λ crash was. inl was)
 
 -- of `dump`, whose text goes on behind what was sent
-pub dump_serves : (input : List ℕ) (k : SinkSide) (failed : Bool) (d : DiskSide) (result : Result (List ℕ) Refusal) → Untouched d → IfOk result (dump.HasSaid k failed d) → OnErr result (dump.HasStopped k failed d) → IfErr result (TurnedAway dump.turned d)
+pub dump_serves : (input : List ℕ) (k : SinkSide) (failed : Bool) (d : DiskSide) (result : Result (List ℕ) Refusal) → Untouched d → IfOk result (dump.HasSaid k failed d) → OnErr result (dump.HasStopped k failed d) → IfErr result (TurnedAway dump.IsTurnedAway d)
     → Serves dump.dump input k failed d result
-dump_serves input k failed d (Ok text) still has stopped away = record { front = has.front; sent = has.sent; done = look_served dump.turned dump.said dump.begun dump_fits input d (has.front ++ text) still has.whole; stops = tt }
+dump_serves input k failed d (Ok text) still has stopped away = record { front = has.front; sent = has.sent; done = look_served dump.IsTurnedAway dump.IsOutput dump.IsFrontOutput dump_fits input d (has.front ++ text) still has.whole; stops = tt }
 dump_serves input k failed d (Err e) still has stopped away =
-    record { front = stopped.front; sent = stopped.sent; done = tt; stops = (look_stops dump.turned dump.said dump.begun dump_fits input d e still away, stopped.so_far) }
+    record { front = stopped.front; sent = stopped.sent; done = tt; stops = (look_stops dump.IsTurnedAway dump.IsOutput dump.IsFrontOutput dump_fits input d e still away, stopped.so_far) }
 
 -- where the archive doesn't take the result, nothing else is refused
 pub one_reason : (command : Command) (input : List ℕ) (f : Found) (reason : RunRefusal) (e : FilesRefusal) → (meaning command).turns_away input f (Run reason) → (meaning command).turns_away input f e → files_status e ≡ run_status reason
@@ -154,12 +154,12 @@ wrapped_first (Replay volume) input f file e w t = run_wrapped (replaying volume
 wrapped_first (Make asked) input f file e w t = run_wrapped (making asked) input f file e w t
 wrapped_first MmvMake input f file e w t = absurd w
 wrapped_first MmvDump input f file e w t = absurd w
-wrapped_first Dump input f file e w t = look_wrapped dump.turned dump.said dump.begun dump_fits f file e w t
-wrapped_first Info input f file e w t = look_wrapped info.turned info.said nothing_before info_fits f file e w t
+wrapped_first Dump input f file e w t = look_wrapped dump.IsTurnedAway dump.IsOutput dump.IsFrontOutput dump_fits f file e w t
+wrapped_first Info input f file e w t = look_wrapped info.IsTurnedAway info.IsOutput nothing_before info_fits f file e w t
 wrapped_first Recover input f file e w t = recover_wrapped f file e w t
-wrapped_first (At t) input f file e w away = look_wrapped (at.turned t) (at.said t) nothing_before (at_fits t) f file e w away
-wrapped_first (Range from to) input f file e w away = look_wrapped (range.turned from to) (range.said from to) nothing_before (range_fits from to) f file e w away
-wrapped_first (Value asked) input f file e w away = look_wrapped (value.turned asked) (value.said asked) nothing_before (value_fits asked) f file e w away
+wrapped_first (At t) input f file e w away = look_wrapped (at.IsTurnedAway t) (at.IsOutput t) nothing_before (at_fits t) f file e w away
+wrapped_first (Range from to) input f file e w away = look_wrapped (range.IsTurnedAway from to) (range.IsOutput from to) nothing_before (range_fits from to) f file e w away
+wrapped_first (Value asked) input f file e w away = look_wrapped (value.IsTurnedAway asked) (value.IsOutput asked) nothing_before (value_fits asked) f file e w away
 
 -- ---- a refusal of files whose line wants memory
 

@@ -48,12 +48,12 @@ at_else t f r none (Compressed file) why = absurd why
 at_else t f r none (NotArchive file offset) why = absurd ((at_answers_once f.files r t).apart None file offset none why)
 at_else t f r none (Nothing stamp) why = refl
 
-at_nothing : (t : Moment) (f : Found) (stamp : Moment) (e : FilesRefusal) → at.turned t f (Nothing stamp) → at.turned t f e → files_status e ≡ 11
+at_nothing : (t : Moment) (f : Found) (stamp : Moment) (e : FilesRefusal) → at.IsTurnedAway t f (Nothing stamp) → at.IsTurnedAway t f e → files_status e ≡ 11
 at_nothing t f stamp e (inl n) other = absurd n
 at_nothing t f stamp e (inr b) (inl n) = absurd (not_refused f b.0 b.1 e n)
 at_nothing t f stamp e (inr b) (inr c) = at_else t f b.0 b.2.1 e (subst (λ (r : Loaded). at.IsStopped t r f e) (one_load f b.0 c.0 b.1 c.1) c.2)
 
-at_said : (t : Moment) (f : Found) (stamp : Moment) (text : List ℕ) → at.turned t f (Nothing stamp) → at.said t f text → ⊥
+at_said : (t : Moment) (f : Found) (stamp : Moment) (text : List ℕ) → at.IsTurnedAway t f (Nothing stamp) → at.IsOutput t f text → ⊥
 at_said t f stamp text (inl n) said = n
 at_said t f stamp text (inr b) said =
     let found : IsAtFrom f.files b.0.volumes t (at_begin b.0 t) (Some said.2) = subst (λ (r : Loaded). IsAtFrom f.files r.volumes t (at_begin r t) (Some said.2)) (one_load f b.0 said.0 b.1 said.1) said.3 in
@@ -61,35 +61,35 @@ at_said t f stamp text (inr b) said =
 
 -- ---- the values that a metric last had
 
-value_else : (asked : ValueWords) (f : Found) (r : Loaded) (o : Option ℕ) → value.named r.records asked.name ≡ o → value.HasNothing f r asked.stamp o → (e : FilesRefusal) → value.IsStopped asked r f e → files_status e ≡ 11
+value_else : (asked : ValueWords) (f : Found) (r : Loaded) (o : Option ℕ) → value.metric_of_name r.records asked.name ≡ o → value.HasNothing f r asked.stamp o → (e : FilesRefusal) → value.IsStopped asked r f e → files_status e ≡ 11
 value_else asked f r o is none (Run reason) why = absurd why
 value_else asked f r o is none (Compressed file) why = absurd why
-value_else asked f r None is none (NotArchive file offset) why = absurd (none_or_some ℕ why.0 (value.named r.records asked.name) is why.1)
+value_else asked f r None is none (NotArchive file offset) why = absurd (none_or_some ℕ why.0 (value.metric_of_name r.records asked.name) is why.1)
 value_else asked f r (Some pmid) is none (NotArchive file offset) why = absurd ((value_answers_once f.files r pmid asked.stamp).apart None file offset none.0 why.2)
 value_else asked f r o is none (Nothing stamp) why = refl
 
-value_nothing : (asked : ValueWords) (f : Found) (stamp : Moment) (e : FilesRefusal) → value.turned asked f (Nothing stamp) → value.turned asked f e → files_status e ≡ 11
+value_nothing : (asked : ValueWords) (f : Found) (stamp : Moment) (e : FilesRefusal) → value.IsTurnedAway asked f (Nothing stamp) → value.IsTurnedAway asked f e → files_status e ≡ 11
 value_nothing asked f stamp e (inl n) other = absurd n
 value_nothing asked f stamp e (inr b) (inl n) = absurd (not_refused f b.0 b.1 e n)
 value_nothing asked f stamp e (inr b) (inr c) =
-    value_else asked f b.0 (value.named b.0.records asked.name) refl b.2.1 e (subst (λ (r : Loaded). value.IsStopped asked r f e) (one_load f b.0 c.0 b.1 c.1) c.2)
+    value_else asked f b.0 (value.metric_of_name b.0.records asked.name) refl b.2.1 e (subst (λ (r : Loaded). value.IsStopped asked r f e) (one_load f b.0 c.0 b.1 c.1) c.2)
 
-value_none : (asked : ValueWords) (f : Found) (r : Loaded) (o : Option ℕ) → value.named r.records asked.name ≡ o → value.HasNothing f r asked.stamp o → (pmid : ℕ) → value.named r.records asked.name ≡ Some pmid
+value_none : (asked : ValueWords) (f : Found) (r : Loaded) (o : Option ℕ) → value.metric_of_name r.records asked.name ≡ o → value.HasNothing f r asked.stamp o → (pmid : ℕ) → value.metric_of_name r.records asked.name ≡ Some pmid
     → (v : Moment × ValueSet) → IsValueAt f.files r.volumes pmid asked.stamp (Some v) → ⊥
-value_none asked f r None is none pmid also v found = none_or_some ℕ pmid (value.named r.records asked.name) is also
+value_none asked f r None is none pmid also v found = none_or_some ℕ pmid (value.metric_of_name r.records asked.name) is also
 value_none asked f r (Some other) is none pmid also v found =
     let same : Some pmid ≡ Some other = sym also ∙ is in
     let one : pmid ≡ other = cc in
     let here : IsValueAt f.files r.volumes other asked.stamp (Some v) = subst (λ (p : ℕ). IsValueAt f.files r.volumes p asked.stamp (Some v)) one found in
     let e : None ≡ Some v = (value_answers_once f.files r other asked.stamp).found None (Some v) none.0 here in cc
 
-value_said : (asked : ValueWords) (f : Found) (stamp : Moment) (text : List ℕ) → value.turned asked f (Nothing stamp) → value.said asked f text → ⊥
+value_said : (asked : ValueWords) (f : Found) (stamp : Moment) (text : List ℕ) → value.IsTurnedAway asked f (Nothing stamp) → value.IsOutput asked f text → ⊥
 value_said asked f stamp text (inl n) said = n
 value_said asked f stamp text (inr b) said =
     let same = one_load f b.0 said.0 b.1 said.1 in
     let v = said.4.0 in
-    value_none asked f b.0 (value.named b.0.records asked.name) refl b.2.1 said.2
-    (subst (λ (r : Loaded). value.named r.records asked.name ≡ Some said.2) same said.3) v
+    value_none asked f b.0 (value.metric_of_name b.0.records asked.name) refl b.2.1 said.2
+    (subst (λ (r : Loaded). value.metric_of_name r.records asked.name ≡ Some said.2) same said.3) v
     (subst (λ (r : Loaded). IsValueAt f.files r.volumes said.2 asked.stamp (Some v)) same said.4.1)
 
 -- ---- of each command

@@ -21,17 +21,17 @@ use Rattle.pm_runs.specs.commands.recover as recover
 use Rattle.pm_tasks.specs.commands.value as value
 
 pub record IsWelcome (f : Found) : Type 0 where
-  pub descriptions : (e : FilesRefusal) → info.turned f e → ⊥
-  pub items : (e : FilesRefusal) → dump.turned f e → ⊥
-  pub recovery : (e : FilesRefusal) → recover.turned f e → ⊥
-  pub values : (asked : ValueWords) (e : FilesRefusal) → value.turned asked f e → files_status e ≡ 11
+  pub descriptions : (e : FilesRefusal) → info.IsTurnedAway f e → ⊥
+  pub items : (e : FilesRefusal) → dump.IsTurnedAway f e → ⊥
+  pub recovery : (e : FilesRefusal) → recover.IsTurnedAway f e → ⊥
+  pub values : (asked : ValueWords) (e : FilesRefusal) → value.IsTurnedAway asked f e → files_status e ≡ 11
 
 abbrev pub ReadableIsWelcome : Type 0
 ReadableIsWelcome = (f : Found) → Readable f.files → f.wrapped ≡ None → IsWelcome f
 
 -- a command that runs a script turns no files away over which the run comes to its end
 abbrev pub DoneIsWelcome : Type 0
-DoneIsWelcome = (f : Found) (script : Script) (limit : ℕ) (output : List ℕ) (items : List Item) (final : Files) → Leads script limit f.files ends.Done output items final → f.wrapped ≡ None → (e : FilesRefusal) → scripts.turned limit f script e → ⊥
+DoneIsWelcome = (f : Found) (script : Script) (limit : ℕ) (output : List ℕ) (items : List Item) (final : Files) → Leads script limit f.files ends.Done output items final → f.wrapped ≡ None → (e : FilesRefusal) → scripts.IsTurnedAway limit f script e → ⊥
 
 -- a script runs over files to one end, with one output, the same items, regions and files
 abbrev pub OneEnd : Type 0

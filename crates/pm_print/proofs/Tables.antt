@@ -10,7 +10,7 @@ use Rattle.std.specs.List.{filter}
 use Rattle.std.specs.BTreeMap.{BTreeMap, insert_entry}
 use Rattle.pcp_base.specs.declared.desc.Desc.{Desc}
 use Rattle.pm_print.specs.Infos.{Row, row_order}
-use Rattle.pm_print.specs.Rows.{row, listed}
+use Rattle.pm_print.specs.Rows.{row, listed_rows}
 
 abbrev pub key_order : Vec ℕ × ℕ → Vec ℕ × ℕ → Ordering
 key_order a b = ordering_then (slice_cmp nat_cmp a.0.items b.0.items) (nat_cmp a.1 b.1)
@@ -36,5 +36,5 @@ unbounded [] = refl
 unbounded (e ∷ es) = ap (λ (ps : List ((Vec ℕ × ℕ) × Desc)). e ∷ ps) (unbounded es)
 
 -- how many rows there are
-pub long_rows : (rows : BTreeMap (Vec ℕ × ℕ) Desc) (n : ℕ) → n ≡ length rows.entries → n ≡ length (listed rows)
+pub long_rows : (rows : BTreeMap (Vec ℕ × ℕ) Desc) (n : ℕ) → n ≡ length rows.entries → n ≡ length (listed_rows rows)
 long_rows rows n e = e ∙ sym (length-map rows.entries row)

@@ -12,7 +12,7 @@ use Rattle.pcp_base.specs.declared.kind.Kind.{Kind}
 use Rattle.pcp_base.specs.declared.kind.Semantics.{Semantics}
 use Rattle.pcp_model.specs.declared.records.MetaRecord.{MetaRecord}
 use Rattle.pcp_model.specs.declared.records.MetaRecord.TheVariants.{Description, Domain, Other}
-use Rattle.archive_meta.specs.Said.{description_of, described}
+use Rattle.archive_meta.specs.Said.{description_of, described_metrics}
 use Rattle.layout_text.specs.Spelling.{kind_part, semantics_part}
 use Rattle.text_lines.specs.Spelling.{number_part, hex_part}
 use Rattle.pm_print.specs.Sets.{pmid_text}
@@ -38,7 +38,7 @@ abbrev pub with_metric : List MetaRecord → List Row → ℕ → List Row
 with_metric records rows pmid = with_record rows (description_of pmid records)
 
 unfoldable pub rows_of : List MetaRecord → List Row
-rows_of records = fold (with_metric records) [] (described records)
+rows_of records = fold (with_metric records) [] (described_metrics records)
 
 -- a kind's word, or a code that isn't known in decimal
 abbrev pub kind_or : Option Kind → ℕ → List ℕ

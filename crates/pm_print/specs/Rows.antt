@@ -8,5 +8,5 @@ use Rattle.pm_print.specs.Infos.{Row}
 abbrev pub row : (Vec ℕ × ℕ) × Desc → Row
 row e = ((e.0.0.items, e.0.1), e.1)
 
-abbrev pub listed : BTreeMap (Vec ℕ × ℕ) Desc → List Row
-listed rows = map row rows.entries
+abbrev pub listed_rows : BTreeMap (Vec ℕ × ℕ) Desc → List Row
+listed_rows rows = map row rows.entries

@@ -1,9 +1,9 @@
 //! The descriptions of an archive as text.
 ghost use Rattle.std.specs.Prelude.{◌≡◌, ◌++◌, fold, IfOk, OnOk};
 ghost use Rattle.pcp_base.specs.Codes.{kind_of_code, semantics_of_code};
-ghost use Rattle.archive_meta.specs.Said.{description_of, described};
+ghost use Rattle.archive_meta.specs.Said.{description_of, described_metrics};
 ghost use Rattle.pm_print.specs.Infos.{with_name, with_metric, rows_of, kind_or, semantics_or, indom_part, desc_parts, row_line, rows_text, info_text};
-ghost use Rattle.pm_print.specs.Rows.{listed};
+ghost use Rattle.pm_print.specs.Rows.{listed_rows};
 
 use crate::sets::put_pmid;
 use crate::values::put_decimal;
@@ -19,7 +19,7 @@ type Rows = BTreeMap<(Vec<u8>, usize), Desc>;
 
 // The rows with one more.
 fn add_name(alloc: Global, rows: &mut Rows, desc: &Desc, name: &Text) -> Result<(), NoMemory>
-    ensures { OnOk result (listed rows.new ≡ with_name desc.now (listed rows.old) name.now) }
+    ensures { OnOk result (listed_rows rows.new ≡ with_name desc.now (listed_rows rows.old) name.now) }
 {
     let count = rows.len();
     let key = Vec::from_slice(alloc, name.as_slice())?;
@@ -28,7 +28,7 @@ fn add_name(alloc: Global, rows: &mut Rows, desc: &Desc, name: &Text) -> Result<
 }
 
 fn add_names(alloc: Global, rows: &mut Rows, desc: &Desc, names: &[Text]) -> Result<(), NoMemory>
-    ensures { OnOk result (listed rows.new ≡ fold (with_name desc.now) (listed rows.old) names.now) }
+    ensures { OnOk result (listed_rows rows.new ≡ fold (with_name desc.now) (listed_rows rows.old) names.now) }
 {
     for name in names {
         add_name(alloc, rows, desc, name)?;
@@ -38,7 +38,7 @@ fn add_names(alloc: Global, rows: &mut Rows, desc: &Desc, names: &[Text]) -> Res
 
 // A row for each name of a metric.
 fn add_metric(alloc: Global, rows: &mut Rows, meta: &MetaState, pmid: Pmid) -> Result<(), NoMemory>
-    ensures { OnOk result (listed rows.new ≡ with_metric meta.now (listed rows.old) pmid) }
+    ensures { OnOk result (listed_rows rows.new ≡ with_metric meta.now (listed_rows rows.old) pmid) }
 {
     match (meta.desc(pmid), meta.names(pmid)) {
         (Some(desc), Some(names)) => add_names(alloc, rows, desc, names.as_slice()),
@@ -52,7 +52,7 @@ fn add_metrics(
     meta: &MetaState,
     pmids: &[Pmid],
 ) -> Result<(), NoMemory>
-    ensures { OnOk result (listed rows.new ≡ fold (with_metric meta.now) (listed rows.old) pmids.now) }
+    ensures { OnOk result (listed_rows rows.new ≡ fold (with_metric meta.now) (listed_rows rows.old) pmids.now) }
 {
     for pmid in pmids {
         add_metric(alloc, rows, meta, *pmid)?;
@@ -63,7 +63,7 @@ fn add_metrics(
 // The rows of all metrics.
 #[tactic(auto, unfolding(crate::specs::Infos::rows_of))]
 fn all_rows(alloc: Global, meta: &MetaState) -> Result<Rows, NoMemory>
-    ensures { IfOk result (λ rows. listed rows ≡ rows_of meta.now) }
+    ensures { IfOk result (λ rows. listed_rows rows ≡ rows_of meta.now) }
 {
     let pmids = meta.pmids(alloc)?;
     let mut rows = BTreeMap::new(alloc);
@@ -130,7 +130,7 @@ fn put_row(out: &mut Vec<u8>, name: &[u8], desc: &Desc) -> Result<(), NoMemory>
 }
 
 fn put_rows(out: &mut Vec<u8>, rows: &Rows) -> Result<(), NoMemory>
-    ensures { OnOk result (out.new.items ≡ out.old.items ++ rows_text (listed rows.now)) }
+    ensures { OnOk result (out.new.items ≡ out.old.items ++ rows_text (listed_rows rows.now)) }
 {
     let mut rest = rows.range(..);
     while let Some((key, desc)) = rest.next() {

@@ -17,7 +17,7 @@ use Rattle.pcp_model.proofs.Lists.{each-append, each-map}
 use Rattle.region_rule.specs.Seats.{Token}
 use Rattle.archive_meta.specs.declared.facts.Facts.{Facts}
 use Rattle.archive_meta.specs.Facts.{fact_of}
-use Rattle.archive_meta.specs.Missing.{AreMissing, AreMissingDomains, described_by, domains_of, missing_descriptions, taken, undescribed}
+use Rattle.archive_meta.specs.Missing.{AreMissing, AreMissingDomains, described_by, domains_of, missing_descriptions, values_of_keys, undescribed_metrics}
 use Rattle.fetch_answers.specs.declared.fetch.Fetched.{Fetched}
 use Rattle.fetch_engine.specs.declared.server.Mounted.{Mounted}
 use Rattle.log_schedule.specs.declared.config.Group.{Group}
@@ -73,7 +73,7 @@ listed t records (d ∷ ds) missing (inr lacks) = subst (NoDomainAfter t) (sym l
 missing_by : (records : List MetaRecord) (facts : Facts) (answer : PmResult) (missing : List MetaRecord) → AreMissing records facts answer missing → NoDomainAfter answer.stamp missing
 missing_by records facts answer missing needed =
     subst (NoDomainAfter answer.stamp) (sym needed.is) (each-append (IsRecordBy answer.stamp) (missing_descriptions records facts.metrics answer.sets) needed.domains
-    (described answer.stamp (taken (fact_of facts.metrics) (undescribed records answer.sets)))
+    (described answer.stamp (values_of_keys (fact_of facts.metrics) (undescribed_metrics records answer.sets)))
     (listed answer.stamp records (domains_of facts answer.sets) needed.domains needed.lacking))
 
 not_above : (c : ArchiveContents) (s t : Moment) → IsStampIn c s → NoItemAfter t (items_of c.volumes) → NoDomainAfter t c.records → microseconds s ≤ microseconds t

@@ -8,7 +8,7 @@ use Rattle.script_runs.specs.declared.ending.Ending.{Ending}
 use Rattle.script_runs.specs.declared.ending.Ending.TheVariants as ends
 use Rattle.run_script.specs.declared.script.Script.{Script}
 use Rattle.pm_words.specs.Reading.{TookSome}
-use Rattle.pm_words.specs.Refusals.{stopped}
+use Rattle.pm_words.specs.Refusals.{refusal_of_stage}
 use Rattle.pm_words.specs.Sides.{SourceSide}
 use Rattle.pm_words.specs.declared.refusal.Refusal.{Refusal}
 use Rattle.pm_words.specs.declared.refusal.Refusal.TheVariants.{Words, Reading, Input, Disk, NoMemory}
@@ -37,7 +37,7 @@ module _ (words : List (List ℕ)) (s : SourceSide) where
       let within : length s.left ≤ 16777216 = subst (λ (bytes : List ℕ). length bytes ≤ 16777216) told.0 a.read.within in
       (length s.left, omega arith, told.1 ∙ sym (drop_all (length s.left) s.left (omega arith)))
 
-  pub by_script : (a : Asks words s) (stop : StageFault InputRefusal) → Answers (script_recorded a.input) (Err stop) → Cause words s (stopped (λ (e : InputRefusal). Input e) stop)
+  pub by_script : (a : Asks words s) (stop : StageFault InputRefusal) → Answers (script_recorded a.input) (Err stop) → Cause words s (refusal_of_stage (λ (e : InputRefusal). Input e) stop)
   by_script a OutOfMemory why = took a
   by_script a (Refused e) why = (why.0, why.2, (a, why.1))
 

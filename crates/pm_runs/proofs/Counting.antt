@@ -3,7 +3,7 @@ use Rattle.std.proofs.Common.{◌≡◌, ℕ, zero, suc, ◌+◌, ◌*◌, ◌�
 use Rattle.std.specs.List.{filter_map}
 use Rattle.run_script.specs.declared.script.Line.{Line}
 use Rattle.run_script.specs.declared.script.Line.TheVariants as lines
-use Rattle.run_script.specs.Generated.{numbers, number_behind, draw, add_of, generated}
+use Rattle.run_script.specs.Generated.{numbers, number_behind, draw, add_of, generated_script}
 use Rattle.run_script.specs.Laws.{if_add}
 use Rattle.run_script.proofs.MadeOrder.{draws_are_adds, generated_adds}
 use Rattle.script_runs.specs.Summaries.{adds_in, amount, total_in}
@@ -69,12 +69,12 @@ length_map : (f : ℕ → Line) (ks : List ℕ) → length (map f ks) ≡ length
 length_map f [] = refl
 length_map f (k ∷ ks) = ap (λ (n : ℕ). suc n) (length_map f ks)
 
-pub few_adds : (number ticks : ℕ) → ticks ≤ 100000 → adds_in (generated number ticks).steps ≤ 1000000000
+pub few_adds : (number ticks : ℕ) → ticks ≤ 100000 → adds_in (generated_script number ticks).steps ≤ 1000000000
 few_adds number ticks few =
-    let are : adds_in (generated number ticks).steps ≡ 3 * ticks = adds_kept (generated number ticks).steps ∙ ap length (generated_adds number ticks) ∙ length_map (drawn number) (numbers 1 (3 * ticks)) ∙ many 1 (3 * ticks) in
+    let are : adds_in (generated_script number ticks).steps ≡ 3 * ticks = adds_kept (generated_script number ticks).steps ∙ ap length (generated_adds number ticks) ∙ length_map (drawn number) (numbers 1 (3 * ticks)) ∙ many 1 (3 * ticks) in
     omega (arith, few, are)
 
-pub small_total : (number ticks : ℕ) → ticks ≤ 100000 → total_in (generated number ticks).steps ≤ 1000000000
+pub small_total : (number ticks : ℕ) → ticks ≤ 100000 → total_in (generated_script number ticks).steps ≤ 1000000000
 small_total number ticks few =
-    let are : total_in (generated number ticks).steps ≡ sum_of (map (drawn number) (numbers 1 (3 * ticks))) = total_kept (generated number ticks).steps ∙ ap sum_of (generated_adds number ticks) in
+    let are : total_in (generated_script number ticks).steps ≡ sum_of (map (drawn number) (numbers 1 (3 * ticks))) = total_kept (generated_script number ticks).steps ∙ ap sum_of (generated_adds number ticks) in
     omega (arith, few, are, small_sum number (numbers 1 (3 * ticks)), many 1 (3 * ticks))

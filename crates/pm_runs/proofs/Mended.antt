@@ -18,7 +18,7 @@ use Rattle.pm_words.specs.declared.refusal.Refusal.TheVariants.{NoMemory}
 use Rattle.pm_words.specs.Serving.{StopCause, HasServed, IsNever}
 use Rattle.pm_words.specs.Refusals.{recover_refusal, files_status}
 use Rattle.pm_words.specs.Sides.{DiskSide, Found, files_found, disk_side}
-use Rattle.pm_runs.specs.commands.recover.{IsMendedSide, items_line, recover, turned}
+use Rattle.pm_runs.specs.commands.recover.{IsMendedSide, items_line, recover, IsTurnedAway}
 use Rattle.pm_words.proofs.Serving.{left_alone, still_settled}
 
 counted : (left : Files) (r : ArchiveReading) (a : Archive) → IsToldOf left r a → a.items ≡ length (scan r)
@@ -31,14 +31,14 @@ all_settled held sure = record { meta = sure _; index = inr (sure _); volumes = 
 pub not_both : (w : Option FileId) (file : FileId) → w ≡ None → w ≡ Some file → ⊥
 not_both w file none some = let e : None ≡ Some file = sym none ∙ some in cc
 
-never_turned : (f : Found) (e : FilesRefusal) → f.wrapped ≡ None → IsNever e → turned f e → ⊥
+never_turned : (f : Found) (e : FilesRefusal) → f.wrapped ≡ None → IsNever e → IsTurnedAway f e → ⊥
 never_turned f (Run reason) none never t = t
 never_turned f (Compressed file) none never t = not_both f.wrapped file none t
 never_turned f (NotArchive file at) none never t = never
 never_turned f (Nothing stamp) none never t = never
 
 -- where a file stands wrapped, the archive is turned away
-pub recover_wrapped : (f : Found) (file : FileId) (e : FilesRefusal) → turned f (Compressed file) → turned f e → files_status e ≡ 6
+pub recover_wrapped : (f : Found) (file : FileId) (e : FilesRefusal) → IsTurnedAway f (Compressed file) → IsTurnedAway f e → files_status e ≡ 6
 recover_wrapped f file (Run reason) w t = absurd t
 recover_wrapped f file (Compressed other) w t = refl
 recover_wrapped f file (NotArchive other offset) w t = refl

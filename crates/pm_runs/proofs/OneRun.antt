@@ -29,7 +29,7 @@ use Rattle.script_runs.specs.Groups.{Plan, asked_for}
 use Rattle.script_runs.specs.PassSteps.{one_number}
 use Rattle.script_runs.specs.Regions.{ScriptRegion}
 use Rattle.script_runs.specs.Closing.{closed_regions}
-use Rattle.script_runs.specs.Runs.{FlushesLast, LinesRun, RunsOver, RunsTo, beginning, with_end}
+use Rattle.script_runs.specs.Runs.{FlushesLast, LinesRun, RunsOver, RunsTo, run_start, with_end}
 use Rattle.script_runs.specs.Steps.{FlushGoes, GoesOn, LogsResult, PassGoes, Passed, RefusesResult, Regions, RunState, Stops, TickLogs, TickStops, Ticks, asking_at, fetched_at, pass_step}
 use Rattle.pm_runs.specs.Scripts.{IsOne}
 use Rattle.record_run.proofs.OneReason.{archive_timely, last_number, no_archive, none_stamped, not_refused, one_contents, one_ends, one_greatest, one_missing, one_moment, one_refusal, recovered_once}
@@ -374,13 +374,13 @@ one_final (item ∷ items) stand good f g (w, is, step) (v, same, other) =
 
 one_over : (script : Script) (limit : ℕ) (left : Files) (a b : Ending) (o p : List ℕ) (i j : List Item) (r s : List ScriptRegion) (f g : Files) → RunsOver script limit left a o i r f → RunsOver script limit left b p j s g → IsOne a b o p i j r s f g
 one_over script limit left a b o p i j r s f g x y =
-    let same = one_lines script limit script.steps (beginning script left) tt a b x.last y.last x.lines_run y.lines_run in
+    let same = one_lines script limit script.steps (run_start script left) tt a b x.last y.last x.lines_run y.lines_run in
     record {
       ending = same.0;
       output = x.output_is ∙ ap (λ (e : Ending). with_end e x.last.output (length x.last.items)) same.0 ∙ ap (λ (l : RunState). with_end b l.output (length l.items)) same.1 ∙ sym y.output_is;
       items = x.items_are ∙ ap (λ (l : RunState). l.items) same.1 ∙ sym y.items_are;
       regions = x.closed ∙ ap (λ (l : RunState). closed_regions l.regions) same.1 ∙ sym y.closed;
-      files = one_final x.last.items x.last.stand (lines_good script limit script.steps (beginning script left) tt a x.last x.lines_run) f g x.flush
+      files = one_final x.last.items x.last.stand (lines_good script limit script.steps (run_start script left) tt a x.last x.lines_run) f g x.flush
           (subst (λ (l : RunState). FlushesLast l.items l.stand g) (sym same.1) y.flush);
     }
 

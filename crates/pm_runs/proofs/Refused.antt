@@ -24,7 +24,7 @@ use Rattle.archive_recovery.specs.RecoverFaults.{IsRefused, AreWholeBelow, Stops
 use Rattle.pm_words.specs.declared.stage.FilesRefusal.{FilesRefusal}
 use Rattle.pm_words.specs.declared.stage.FilesRefusal.TheVariants.{Run, Compressed, NotArchive, Nothing}
 use Rattle.pm_words.specs.Sides.{Found}
-use Rattle.pm_runs.specs.commands.recover.{turned}
+use Rattle.pm_runs.specs.commands.recover.{IsTurnedAway}
 
 -- Items' records and other bytes are items' records and a torn end: where none begins the other bytes, they are that end.
 meets : (ps qs : List (List ℕ)) (xs ys : List Item) (more rest : List ℕ) → AreRead IsItem ps xs → AreRead IsItem qs ys → IsTorn rest → frames ps ++ more ≡ frames qs ++ rest
@@ -127,7 +127,7 @@ refused_is_none files Index offset readable (inr (same, l, records, entries, b))
 refused_is_none files (Volume n) offset readable (l, records, entries, head, whole, inl stops) = loads_readable files (Volume n) offset readable (l, records, entries, head, labelled_below files l n whole, stops)
 refused_is_none files (Volume n) offset readable (l, records, entries, head, whole, inr s) = stops_in_none files l n offset s readable
 
-pub takes_readable : (f : Found) → f.wrapped ≡ None → Readable f.files → (e : FilesRefusal) → turned f e → ⊥
+pub takes_readable : (f : Found) → f.wrapped ≡ None → Readable f.files → (e : FilesRefusal) → IsTurnedAway f e → ⊥
 takes_readable f unwrapped readable (Run reason) t = t
 takes_readable f unwrapped readable (Compressed file) t = let other : None ≡ Some file = sym unwrapped ∙ t in cc
 takes_readable f unwrapped readable (NotArchive file offset) t = refused_is_none f.files file offset readable t.1

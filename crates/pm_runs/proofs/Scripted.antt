@@ -31,13 +31,13 @@ use Rattle.pm_words.specs.declared.refusal.Refusal.{Refusal}
 use Rattle.pm_words.specs.declared.refusal.Refusal.TheVariants.{Words, Reading, Input, Disk, NoMemory}
 use Rattle.pm_words.specs.Inputs.{refusal_of}
 use Rattle.pm_words.specs.Meaning.{Meaning}
-use Rattle.pm_words.specs.Refusals.{NoClock, ending_refusal, files_status, numbered_line_of, run_status, stopped}
+use Rattle.pm_words.specs.Refusals.{NoClock, ending_refusal, files_status, numbered_line_of, run_status, refusal_of_stage}
 use Rattle.pm_words.specs.Sides.{DiskSide, Found, Leaves, SinkSide, Untouched, disk_side, files_found}
 use Rattle.pm_words.specs.Streams.{IsSent}
 use Rattle.pm_words.specs.Serving.{StopCause, HasServed, MayLeave, Serves, HasRecovered}
 use Rattle.pm_runs.specs.Regions.{RanRegions, pair_of}
 use Rattle.pm_runs.specs.Running.{ToldRun, WasRun}
-use Rattle.pm_runs.specs.Scripts.{HasWritten, Begun, Halts, Leads, LogsFirst, OfScript, RanFirst, Runner, ending_of, runs_script, turned, ScriptSince}
+use Rattle.pm_runs.specs.Scripts.{HasWritten, Begun, Halts, Leads, LogsFirst, OfScript, RanFirst, Runner, ending_of, runs_script, IsTurnedAway, ScriptSince}
 use Rattle.pm_runs.proofs.Mended.{not_both}
 use Rattle.pm_runs.proofs.OneRun.{one_ending}
 use Rattle.pm_runs.proofs.Refused.{refused_is_none}
@@ -84,7 +84,7 @@ can_be_read script limit start ending output items final leads = (leads.runs.rea
 
 module _ (limit : ℕ) (f : Found) (script : Script) where
   -- where a run is refused, nothing else is
-  one_refused : (reason : RunRefusal) (e : FilesRefusal) → turned limit f script (Run reason) → turned limit f script e → files_status e ≡ run_status reason
+  one_refused : (reason : RunRefusal) (e : FilesRefusal) → IsTurnedAway limit f script (Run reason) → IsTurnedAway limit f script e → files_status e ≡ run_status reason
   one_refused reason (Run other) (none, o, i, g, x) (also, p, j, h, y) =
       sym (status_is other) ∙ ap status_at (one_ending script limit f.files (ending_of other) (ending_of reason) p o j i y.regions x.regions h g y.runs x.runs) ∙ status_is reason
   one_refused reason (Compressed file) x y = absurd (not_both f.wrapped file x.0 y)
@@ -92,28 +92,28 @@ module _ (limit : ℕ) (f : Found) (script : Script) where
   one_refused reason (Nothing stamp) x y = absurd y
 
   -- where a file stands wrapped, the archive is turned away
-  one_wrapped : (file : FileId) (e : FilesRefusal) → turned limit f script (Compressed file) → turned limit f script e → files_status e ≡ 6
+  one_wrapped : (file : FileId) (e : FilesRefusal) → IsTurnedAway limit f script (Compressed file) → IsTurnedAway limit f script e → files_status e ≡ 6
   one_wrapped file (Run reason) w t = absurd (not_both f.wrapped file t.0 w)
   one_wrapped file (Compressed other) w t = refl
   one_wrapped file (NotArchive other offset) w t = refl
   one_wrapped file (Nothing stamp) w t = absurd t
 
   -- a run that comes to its end isn't refused
-  pub done_taken : (output : List ℕ) (items : List Item) (final : Files) → f.wrapped ≡ None → Leads script limit f.files ends.Done output items final → (e : FilesRefusal) → turned limit f script e → ⊥
+  pub done_taken : (output : List ℕ) (items : List Item) (final : Files) → f.wrapped ≡ None → Leads script limit f.files ends.Done output items final → (e : FilesRefusal) → IsTurnedAway limit f script e → ⊥
   done_taken output items final unwrapped leads (Run reason) (none, p, j, h, y) =
       not_done reason (one_ending script limit f.files ends.Done (ending_of reason) output p items j leads.regions y.regions final h leads.runs y.runs)
   done_taken output items final unwrapped leads (Compressed file) t = not_both f.wrapped file unwrapped t
   done_taken output items final unwrapped leads (NotArchive file offset) t = refused_is_none f.files file offset (can_be_read script limit f.files ends.Done output items final leads) t.1
   done_taken output items final unwrapped leads (Nothing stamp) t = t
 
-pub done_welcome : (f : Found) (script : Script) (limit : ℕ) (output : List ℕ) (items : List Item) (final : Files) → Leads script limit f.files ends.Done output items final → f.wrapped ≡ None → (e : FilesRefusal) → turned limit f script e → ⊥
+pub done_welcome : (f : Found) (script : Script) (limit : ℕ) (output : List ℕ) (items : List Item) (final : Files) → Leads script limit f.files ends.Done output items final → f.wrapped ≡ None → (e : FilesRefusal) → IsTurnedAway limit f script e → ⊥
 done_welcome f script limit output items final leads unwrapped e t = done_taken limit f script output items final unwrapped leads e t
 
 pub run_refused : (c : Runner) (input : List ℕ) (f : Found) (reason : RunRefusal) (e : FilesRefusal) → (runs_script c).turns_away input f (Run reason) → (runs_script c).turns_away input f e → files_status e ≡ run_status reason
-run_refused c input f reason e x y = let both = of_one c input (λ s. turned c.limit f s (Run reason)) (λ s. turned c.limit f s e) x y in one_refused c.limit f both.0 reason e both.2.0 both.2.1
+run_refused c input f reason e x y = let both = of_one c input (λ s. IsTurnedAway c.limit f s (Run reason)) (λ s. IsTurnedAway c.limit f s e) x y in one_refused c.limit f both.0 reason e both.2.0 both.2.1
 
 pub run_wrapped : (c : Runner) (input : List ℕ) (f : Found) (file : FileId) (e : FilesRefusal) → (runs_script c).turns_away input f (Compressed file) → (runs_script c).turns_away input f e → files_status e ≡ 6
-run_wrapped c input f file e x y = let both = of_one c input (λ s. turned c.limit f s (Compressed file)) (λ s. turned c.limit f s e) x y in one_wrapped c.limit f both.0 file e both.2.0 both.2.1
+run_wrapped c input f file e x y = let both = of_one c input (λ s. IsTurnedAway c.limit f s (Compressed file)) (λ s. IsTurnedAway c.limit f s e) x y in one_wrapped c.limit f both.0 file e both.2.0 both.2.1
 
 -- ---- the run of one script
 
@@ -175,7 +175,7 @@ module _ (c : Runner) (input : List ℕ) (script : Script) (is : c.script input 
     has_served text same says = record {
       good = good;
       welcome = λ t e never away.
-          let both = of_one c input (λ s. turned c.limit (files_found d) s e) (λ s. (output : List ℕ) × (items : List Item) × (final : Files) × Leads s c.limit (contents_of d.held) ends.Done output items final) away
+          let both = of_one c input (λ s. IsTurnedAway c.limit (files_found d) s e) (λ s. (output : List ℕ) × (items : List Item) × (final : Files) × Leads s c.limit (contents_of d.held) ends.Done output items final) away
           (of_script (λ s. (output : List ℕ) × (items : List Item) × (final : Files) × Leads s c.limit (contents_of d.held) ends.Done output items final)
           (r.output, (told t).items, contents_of d.after, leads ends.Done same (told t).items (told t).regions (ends_so ends.Done same t))) in
           done_taken c.limit (files_found d) both.0 both.2.1.0 both.2.1.1 both.2.1.2 (ends_so ends.Done same t).unwrapped both.2.1.3 e both.2.0;
@@ -441,7 +441,7 @@ module _ {D : Type 0} (g : DiskGhosts D) (script : Script) (limit : ℕ) (old mi
 -- ---- what it answers
 
 -- before its script is run
-pub stop_begins : (c : Runner) (input : List ℕ) (d : DiskSide) (stop : StageFault InputRefusal) → HasWritten c input d (stopped Input stop) []
+pub stop_begins : (c : Runner) (input : List ℕ) (d : DiskSide) (stop : StageFault InputRefusal) → HasWritten c input d (refusal_of_stage Input stop) []
 stop_begins c input d OutOfMemory = inl refl
 stop_begins c input d (Refused e) = refl
 

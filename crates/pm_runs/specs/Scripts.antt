@@ -10,7 +10,7 @@ use Rattle.run_script.specs.declared.script.Script.{Script}
 use Rattle.script_runs.specs.declared.ending.Ending.{Ending}
 use Rattle.script_runs.specs.declared.ending.Ending.TheVariants as ends
 use Rattle.script_runs.specs.Regions.{ScriptRegion}
-use Rattle.script_runs.specs.Runs.{LinesRun, RunsTo, StopsBehind, beginning}
+use Rattle.script_runs.specs.Runs.{LinesRun, RunsTo, StopsBehind, run_start}
 use Rattle.script_runs.specs.Steps.{RunState}
 use Rattle.script_replays.specs.Replays.{IsRecovered, OnItsWay}
 use Rattle.pcp_outside.specs.declared.disk.Disk.{Ghosts as DiskGhosts}
@@ -84,17 +84,17 @@ pub record RanFirst (script : Script) (limit : ℕ) (start : Files) (output : Li
   pub within : count ≤ length script.steps
   pub ending : Ending
   pub last : RunState
-  pub lines_run : LinesRun (record script { steps = take count script.steps }) limit (take count script.steps) (beginning script left) ending last
+  pub lines_run : LinesRun (record script { steps = take count script.steps }) limit (take count script.steps) (run_start script left) ending last
   pub more : List ℕ
   pub output_is : last.output ≡ output ++ more
   pub items_are : (items ≡ last.items) ⊎ OnItsWay script last count items
 
 -- a file stands wrapped, this is the first offset that fits no archive, or the run over these files ends so
-abbrev pub turned : ℕ → Found → Script → FilesRefusal → Type 0
-turned limit found script (Compressed file) = found.wrapped ≡ Some file
-turned limit found script (NotArchive file at) = (found.wrapped ≡ None) × IsRefused found.files file at
-turned limit found script (Run reason) = (found.wrapped ≡ None) × (output : List ℕ) × (items : List Item) × (final : Files) × Leads script limit found.files (ending_of reason) output items final
-turned limit found script (Nothing stamp) = ⊥
+abbrev pub IsTurnedAway : ℕ → Found → Script → FilesRefusal → Type 0
+IsTurnedAway limit found script (Compressed file) = found.wrapped ≡ Some file
+IsTurnedAway limit found script (NotArchive file at) = (found.wrapped ≡ None) × IsRefused found.files file at
+IsTurnedAway limit found script (Run reason) = (found.wrapped ≡ None) × (output : List ℕ) × (items : List Item) × (final : Files) × Leads script limit found.files (ending_of reason) output items final
+IsTurnedAway limit found script (Nothing stamp) = ⊥
 
 -- the run came to its end: the files are its files, all is settled, and this is to be written
 pub record HasRunTo (c : Runner) (script : Script) (d : DiskSide) (text : List ℕ) : Type 0 where
@@ -150,7 +150,7 @@ abbrev pub runs_script : Runner → Meaning
 runs_script c = record {
   reads = c.reads;
   uses_disk = true;
-  turns_away = λ input found e. OfScript c input (λ script. turned c.limit found script e);
+  turns_away = λ input found e. OfScript c input (λ script. IsTurnedAway c.limit found script e);
   done = λ input d. d.tells → (d.wrapped ≡ None) × IsSettled d.after;
   says = λ input d text. d.tells → OfScript c input (λ script. HasRunTo c script d text);
   begins = λ input d e front. HasWritten c input d e front;

@@ -21,7 +21,7 @@ use Rattle.pm_serving.specs.declared.refusal.ServeRefusal.{ServeRefusal}
 use Rattle.pm_serving.specs.declared.refusal.ServeRefusal.TheVariants.{Before, Accept}
 use Rattle.pm_serving.specs.declared.served.Served.{Served}
 use Rattle.pm_serving.specs.CommandWords.{count_of}
-use Rattle.pm_serving.specs.Ends.{Asks, Ends, EndsDone, EndsUntold, Finds, IsAsked, Ran, RanCut, Refuses, broken, whole}
+use Rattle.pm_serving.specs.Ends.{Asks, Ends, EndsDone, EndsUntold, Finds, IsAsked, Ran, RanCut, Refuses, accept_failure, all_served}
 use Rattle.pm_serving.specs.Facts.{IsGoodRun, LimitIsExact, Meets, ScriptFaultIsExact, ServedIsExact, UsageIsExact}
 use Rattle.pm_serving.specs.Refusals.{serving_status}
 use Rattle.pm_serving.specs.Scripts.{script_served}
@@ -131,13 +131,13 @@ module _ {P In Out Time : Type 0} (words : List (List ℕ)) (s : SourceSide) (k 
       inl (ap input_status c.0.1 ∙ ap (λ (x : ScriptFault). script_status x.fault) same)
   fault_found (Before (Disk e)) c m fault bad = absurd c.0
   fault_found (Before NoMemory) c m fault bad = inr (inl refl)
-  fault_found Accept c m fault bad = absurd (was_good broken c m.tells fault bad)
+  fault_found Accept c m fault bad = absurd (was_good accept_failure c m.tells fault bad)
 
   pub script_fault_is_exact : (status : ℕ) → Ends words s k d served status → ScriptFaultIsExact words s status
   script_fault_is_exact status ends = record {
     only = by_end status (λ n. n ≡ 2 → (fault : ScriptFault) × (script_status fault.fault ≡ 2) × Finds words s fault) ends (λ done h. absurd (omega (arith, h))) (λ untold h. absurd (omega (arith, h))) fault_only;
     always = by_end status (λ n. Meets words s → (fault : ScriptFault) → script_served s.left ≡ Err fault → (n ≡ script_status fault.fault) ⊎ ((n ≡ 9) ⊎ (n ≡ 3))) ends
-        (λ done m fault bad. absurd (was_good whole done.ran m.tells fault bad)) (λ untold m fault bad. absurd (was_good whole untold.ran m.tells fault bad)) fault_found;
+        (λ done m fault bad. absurd (was_good all_served done.ran m.tells fault bad)) (λ untold m fault bad. absurd (was_good all_served untold.ran m.tells fault bad)) fault_found;
   }
 
   read_rose : (e : ServeRefusal) → Refuses words s d served e → serving_status e ≡ 3 → Rose s.faults s.faults_after
@@ -207,14 +207,14 @@ module _ {P In Out Time : Type 0} (words : List (List ℕ)) (s : SourceSide) (k 
   }
 
   -- a door whose worker stopped has failed
-  ran_rose : Ran words s d served broken → SomeRose d.door d.before d.after
+  ran_rose : Ran words s d served accept_failure → SomeRose d.door d.before d.after
   ran_rose ran =
       let served_so = ran.leaves.serving.serves in
       let works = served_so.1 in
       subst (λ (xs : List P). SomeRose d.door xs d.after) (sym works.at)
       (subst (λ (xs : List P). SomeRose d.door (map (λ (w : Work P). w.door) served_so.0) xs) (sym works.leave) (some_rose _ d.door ran.asks.count served_so.0 works.each served_so.2))
 
-  accept_only : (e : ServeRefusal) → Refuses words s d served e → serving_status e ≡ 21 → Ran words s d served broken
+  accept_only : (e : ServeRefusal) → Refuses words s d served e → serving_status e ≡ 21 → Ran words s d served accept_failure
   accept_only (Before (Words usage)) c h = absurd (omega (arith, h))
   accept_only (Before (Reading ReadFault)) c h = absurd (omega (arith, h))
   accept_only (Before (Reading InputLimit)) c h = absurd (omega (arith, h))
@@ -241,8 +241,8 @@ module _ {P In Out Time : Type 0} (words : List (List ℕ)) (s : SourceSide) (k 
   pub served_is_exact : (status : ℕ) → Ends words s k d served status → ServedIsExact words s d served status
   served_is_exact status ends = record {
     done = λ zero. (is_done status ends zero).ran;
-    untold = by_end status (λ n. n ≡ 4 → Ran words s d served whole) ends (λ done h. absurd (omega (arith, h))) (λ untold h. untold.ran) never_four;
-    accept = by_end status (λ n. n ≡ 21 → Ran words s d served broken) ends (λ done h. absurd (omega (arith, h))) (λ untold h. absurd (omega (arith, h))) accept_only;
+    untold = by_end status (λ n. n ≡ 4 → Ran words s d served all_served) ends (λ done h. absurd (omega (arith, h))) (λ untold h. untold.ran) never_four;
+    accept = by_end status (λ n. n ≡ 21 → Ran words s d served accept_failure) ends (λ done h. absurd (omega (arith, h))) (λ untold h. absurd (omega (arith, h))) accept_only;
     otherwise = by_end status (λ n. (n ≡ 0 → ⊥) → (n ≡ 4 → ⊥) → (n ≡ 21 → ⊥) → Unserved n) ends
         (λ done zero four other. absurd (zero refl)) (λ untold zero four other. absurd (four refl)) (λ e c zero four other. unserved e c other);
   }

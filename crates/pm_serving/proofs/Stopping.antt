@@ -11,7 +11,7 @@ use Rattle.pmcd_server.specs.declared.fault.ServeFault.TheVariants as faults
 use Rattle.run_script.specs.declared.script.Script.{Script}
 use Rattle.script_passes.specs.Openings.{IsOpened}
 use Rattle.script_writers.specs.Written.{HaveWritten}
-use Rattle.pm_words.specs.Refusals.{stopped}
+use Rattle.pm_words.specs.Refusals.{refusal_of_stage}
 use Rattle.pm_words.specs.Sides.{SourceSide}
 use Rattle.pm_words.specs.declared.refusal.Refusal.TheVariants.{Words, Reading, Input, Disk, NoMemory}
 use Rattle.pm_words.specs.declared.stage.InputRefusal.{InputRefusal}
@@ -20,7 +20,7 @@ use Rattle.pm_words.specs.declared.stage.StageFault.TheVariants.{OutOfMemory, Re
 use Rattle.pm_serving.specs.declared.refusal.ServeRefusal.{ServeRefusal}
 use Rattle.pm_serving.specs.declared.refusal.ServeRefusal.TheVariants.{Before, Accept}
 use Rattle.pm_serving.specs.declared.served.Served.{Served}
-use Rattle.pm_serving.specs.Ends.{Asks, Cause, IsOrder, Ran, RanCut, Refuses, Stops, broken}
+use Rattle.pm_serving.specs.Ends.{Asks, Cause, IsOrder, Ran, RanCut, Refuses, StopsServing, accept_failure}
 use Rattle.pm_words.specs.Reading.{TookSome}
 use Rattle.pm_serving.specs.Refusals.{IsNumbered}
 use Rattle.pm_serving.specs.Scripts.{Answers, script_served}
@@ -81,7 +81,7 @@ module _ (words : List (List ℕ)) (s : SourceSide) where
       let within : length s.left ≤ 16777216 = subst (λ (bytes : List ℕ). length bytes ≤ 16777216) told.0 a.read.within in
       (length s.left, omega arith, told.1 ∙ sym (drop_all (length s.left) s.left (omega arith)))
 
-  pub by_script : (a : Asks words s) (stop : StageFault InputRefusal) → Answers (script_served a.input) (Err stop) → Cause words s (stopped (λ (e : InputRefusal). Input e) stop)
+  pub by_script : (a : Asks words s) (stop : StageFault InputRefusal) → Answers (script_served a.input) (Err stop) → Cause words s (refusal_of_stage (λ (e : InputRefusal). Input e) stop)
   by_script a OutOfMemory why = took a
   by_script a (Refused e) why = (why.0, why.2, (a, why.1))
 
@@ -102,7 +102,7 @@ module _ {P In Out Time : Type 0} (words : List (List ℕ)) (s : SourceSide) (d 
     cut = subst (λ (n : ℕ). WereCut d n script served) (sym order.counted) cut;
   }
 
-  pub by_serving : (count : ℕ) (script : Script) → IsOrder words s count script → (e : ServeRefusal) → Stops d count script served e → Refuses words s d served e
+  pub by_serving : (count : ℕ) (script : Script) → IsOrder words s count script → (e : ServeRefusal) → StopsServing d count script served e → Refuses words s d served e
   by_serving count script order (Before (Words usage)) stops = absurd stops
   by_serving count script order (Before (Reading e)) stops = absurd stops
   by_serving count script order (Before (Input e)) stops = absurd stops
@@ -111,7 +111,7 @@ module _ {P In Out Time : Type 0} (words : List (List ℕ)) (s : SourceSide) (d 
     took words s order.asks,
     ⊎_elim (λ (none : IsUnserved d served). inl none) (λ (cut : WereCut d count script served). inr (cut_by count script order cut)) stops,
   )
-  by_serving count script order Accept stops = ran_by count script broken order stops
+  by_serving count script order Accept stops = ran_by count script accept_failure order stops
 
   -- a refusal that isn't told for want of memory
   pub untold : (e : ServeRefusal) → IsNumbered e → Refuses words s d served e → Refuses words s d served (Before NoMemory)

@@ -57,21 +57,21 @@ pub record Ran {P In Out Time : Type 0} (words : List (List ℕ)) (s : SourceSid
   pub leaves : Leaves d asks.count script (outcome asks.count) served
 
 -- the count was served; or a door failed
-abbrev pub whole : ℕ → Result ℕ ServeFault
-whole count = Ok count
+abbrev pub all_served : ℕ → Result ℕ ServeFault
+all_served count = Ok count
 
-abbrev pub broken : ℕ → Result ℕ ServeFault
-broken count = Err faults.Accept
+abbrev pub accept_failure : ℕ → Result ℕ ServeFault
+accept_failure count = Err faults.Accept
 
 -- why the serving of a script is refused
-abbrev pub Stops : {P In Out Time : Type 0} → DoorsSide P In Out Time → ℕ → Script → Option Served → ServeRefusal → Type 0
-Stops d count script served (Before NoMemory) = IsUnserved d served ⊎ WereCut d count script served
-Stops d count script served Accept = Leaves d count script (broken count) served
-Stops d count script served _ = ⊥
+abbrev pub StopsServing : {P In Out Time : Type 0} → DoorsSide P In Out Time → ℕ → Script → Option Served → ServeRefusal → Type 0
+StopsServing d count script served (Before NoMemory) = IsUnserved d served ⊎ WereCut d count script served
+StopsServing d count script served Accept = Leaves d count script (accept_failure count) served
+StopsServing d count script served _ = ⊥
 
 -- the line of a run that was done
 pub record Tells {P In Out Time : Type 0} (words : List (List ℕ)) (s : SourceSide) (d : DoorsSide P In Out Time) (served : Option Served) (line : List ℕ) : Type 0 where
-  pub ran : Ran words s d served whole
+  pub ran : Ran words s d served all_served
   pub is : line ≡ served_line ran.asks.count
 
 -- a writer was refused memory, beside sessions over the script that the words and the input ask for
@@ -85,16 +85,16 @@ pub record RanCut {P In Out Time : Type 0} (words : List (List ℕ)) (s : Source
 abbrev pub Refuses : {P In Out Time : Type 0} → List (List ℕ) → SourceSide → DoorsSide P In Out Time → Option Served → ServeRefusal → Type 0
 Refuses words s d served (Before NoMemory) = Cause words s NoMemory × (IsUnserved d served ⊎ RanCut words s d served)
 Refuses words s d served (Before e) = Cause words s e × IsUnserved d served
-Refuses words s d served Accept = Ran words s d served broken
+Refuses words s d served Accept = Ran words s d served accept_failure
 
 -- it was done, and said so
 pub record EndsDone {P In Out Time : Type 0} (words : List (List ℕ)) (s : SourceSide) (k : SinkSide) (d : DoorsSide P In Out Time) (served : Option Served) : Type 0 where
-  pub ran : Ran words s d served whole
+  pub ran : Ran words s d served all_served
   pub wrote : k.tells → k.after ≡ k.written ++ served_line ran.asks.count
 
 -- it was done, and the sink failed; a front of the line is written
 pub record EndsUntold {P In Out Time : Type 0} (words : List (List ℕ)) (s : SourceSide) (k : SinkSide) (d : DoorsSide P In Out Time) (served : Option Served) : Type 0 where
-  pub ran : Ran words s d served whole
+  pub ran : Ran words s d served all_served
   pub failed : Rose k.faults k.faults_after
   pub wrote : k.tells → (n : ℕ) × (k.after ≡ k.written ++ take n (served_line ran.asks.count))
 

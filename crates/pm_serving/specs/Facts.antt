@@ -10,7 +10,7 @@ use Rattle.pm_words.specs.Refusals.{script_status}
 use Rattle.pm_words.specs.Sides.{SourceSide, SinkSide}
 use Rattle.pm_serving.specs.declared.served.Served.{Served}
 use Rattle.pm_serving.specs.CommandWords.{count_of}
-use Rattle.pm_serving.specs.Ends.{IsAsked, Finds, Ran, RanCut, whole, broken}
+use Rattle.pm_serving.specs.Ends.{IsAsked, Finds, Ran, RanCut, all_served, accept_failure}
 use Rattle.pm_serving.specs.Scripts.{script_served}
 use Rattle.pm_serving.specs.Serving.{DoorsSide, IsUnserved}
 
@@ -40,9 +40,9 @@ pub record LimitIsExact (words : List (List ℕ)) (s : SourceSide) (status : ℕ
 -- After 0 and 4 all sessions were served, after 21 some door failed. After every other status nothing was served: the doors are as
 -- they were, and no regions are left; but after 9 sessions may have been served beside a writer that was refused memory.
 pub record ServedIsExact {P In Out Time : Type 0} (words : List (List ℕ)) (s : SourceSide) (d : DoorsSide P In Out Time) (served : Option Served) (status : ℕ) : Type 0 where
-  pub done : status ≡ 0 → Ran words s d served whole
-  pub untold : status ≡ 4 → Ran words s d served whole
-  pub accept : status ≡ 21 → Ran words s d served broken
+  pub done : status ≡ 0 → Ran words s d served all_served
+  pub untold : status ≡ 4 → Ran words s d served all_served
+  pub accept : status ≡ 21 → Ran words s d served accept_failure
   pub otherwise : (status ≡ 0 → ⊥) → (status ≡ 4 → ⊥) → (status ≡ 21 → ⊥) → IsUnserved d served ⊎ ((status ≡ 9) × RanCut words s d served)
 
 -- A script that may be served, and no count that rose.

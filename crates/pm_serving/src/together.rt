@@ -9,7 +9,7 @@ ghost use Rattle.run_script.specs.Rules.{KeepsRules};
 ghost use Rattle.script_passes.specs.Crews.{ServesScript};
 ghost use Rattle.script_passes.specs.Openings.{HaveRoom};
 ghost use Rattle.script_writers.specs.Written.{AreReady, HaveWritten};
-ghost use Rattle.pm_serving.specs.Ends.{Stops, whole};
+ghost use Rattle.pm_serving.specs.Ends.{StopsServing, all_served};
 ghost use Rattle.pm_serving.specs.Serving.{Leaves, doors_side};
 
 use crate::refusal::ServeRefusal;
@@ -99,7 +99,7 @@ where
     requires taken { refused_line script.now ≡ None }
     requires four { length doors.old ≡ 4 }
     requires fresh { served.old ≡ None }
-    ensures { MatchResult result (λ _. Leaves (doors_side P.Door doors.old doors.new) count script.now (whole count) served.new) (Stops (doors_side P.Door doors.old doors.new) count script.now served.new) }
+    ensures { MatchResult result (λ _. Leaves (doors_side P.Door doors.old doors.new) count script.now (all_served count) served.new) (StopsServing (doors_side P.Door doors.old doors.new) count script.now served.new) }
 {
     let Served {
         server,

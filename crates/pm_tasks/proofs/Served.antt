@@ -19,7 +19,7 @@ use Rattle.pm_words.specs.CommandLine.{command_of, Reads}
 use Rattle.pm_tasks.specs.Ends.{HasRun, HasBegun, Runs, Told, Ends, MayBeLeft}
 use Rattle.pm_words.specs.Inputs.{input_limit}
 use Rattle.pm_tasks.specs.Meanings.{meaning}
-use Rattle.pm_words.specs.Refusals.{status_of, line_of, stopped}
+use Rattle.pm_words.specs.Refusals.{status_of, line_of, refusal_of_stage}
 use Rattle.pm_words.specs.Sides.{SourceSide, SinkSide, DiskSide, NotAsked, Untouched, sink_side}
 use Rattle.pm_words.specs.Streams.{IsSent, Finishes}
 use Rattle.pm_words.proofs.Sending.{front_taken, sent_on}
@@ -64,21 +64,21 @@ pub runs_none : (words : List (List ℕ)) (s : SourceSide) (k : SinkSide) (faile
 runs_none words s k failed d e sent cause begun = record { front = []; sent = sent; done = tt; stops = (cause, begun) }
 
 -- the words are none
-pub no_words : (words : List (List ℕ)) (s : SourceSide) (d : DiskSide) (stop : StageFault Usage) → Reads (Err stop) (command_of words) → NotAsked s → Untouched d → Cause words s d (stopped Words stop)
+pub no_words : (words : List (List ℕ)) (s : SourceSide) (d : DiskSide) (stop : StageFault Usage) → Reads (Err stop) (command_of words) → NotAsked s → Untouched d → Cause words s d (refusal_of_stage Words stop)
 no_words words s d OutOfMemory reads unasked still = (λ tells. (0, omega arith, unasked tells), inl still)
 no_words words s d (Refused usage) reads unasked still = (reads, unasked, still)
 
-pub no_words_begun : (words : List (List ℕ)) (s : SourceSide) (d : DiskSide) (stop : StageFault Usage) → HasBegun words s d (stopped Words stop) []
+pub no_words_begun : (words : List (List ℕ)) (s : SourceSide) (d : DiskSide) (stop : StageFault Usage) → HasBegun words s d (refusal_of_stage Words stop) []
 no_words_begun words s d OutOfMemory = inl refl
 no_words_begun words s d (Refused usage) = refl
 
-pub no_input_begun : (words : List (List ℕ)) (s : SourceSide) (d : DiskSide) (stop : StageFault ReadRefusal) → HasBegun words s d (stopped Reading stop) []
+pub no_input_begun : (words : List (List ℕ)) (s : SourceSide) (d : DiskSide) (stop : StageFault ReadRefusal) → HasBegun words s d (refusal_of_stage Reading stop) []
 no_input_begun words s d OutOfMemory = inl refl
 no_input_begun words s d (Refused e) = refl
 
 -- the input isn't read
 pub no_input : (words : List (List ℕ)) (s : SourceSide) (d : DiskSide) (command : Command) (stop : StageFault ReadRefusal) → command_of words ≡ Ok command → IsSome (meaning command).reads → UnreadCause s stop → Untouched d
-    → Cause words s d (stopped Reading stop)
+    → Cause words s d (refusal_of_stage Reading stop)
 no_input words s d command OutOfMemory is some cause still = (cause, inl still)
 no_input words s d command (Refused e) is some cause still = ((command, is, some), cause, still)
 

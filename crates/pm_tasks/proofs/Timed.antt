@@ -39,15 +39,15 @@ range_unwrapped files volumes to (At n offset) file why = why
 range_unwrapped files volumes to (Outside n offset) file why = why
 
 -- of the metric that a name leads to
-pub of_named : (asked : ValueWords) (pmid : ℕ) (r : Loaded) → value.named r.records asked.name ≡ Some pmid → (f : Found) (e : FilesRefusal) → value.HasNoValue pmid asked.stamp r f e → value.IsStopped asked r f e
+pub of_named : (asked : ValueWords) (pmid : ℕ) (r : Loaded) → value.metric_of_name r.records asked.name ≡ Some pmid → (f : Found) (e : FilesRefusal) → value.HasNoValue pmid asked.stamp r f e → value.IsStopped asked r f e
 of_named asked pmid r is f (Run reason) why = why
 of_named asked pmid r is f (Compressed file) why = why
 of_named asked pmid r is f (NotArchive file offset) why = (pmid, is, why)
 of_named asked pmid r is f (Nothing stamp) why = (why.0, subst (value.HasNothing f r asked.stamp) (sym is) (why.1, why.2))
 
 -- its text
-pub said_of : (asked : ValueWords) (f g : Found) (r : Loaded) (pmid : ℕ) (result : Result (List ℕ) Refusal) → IsLoaded f r → value.named r.records asked.name ≡ Some pmid → g.files ≡ f.files
-    → IfOk result (value.HasValue g r pmid asked.stamp) → IfOk result (value.said asked f)
+pub said_of : (asked : ValueWords) (f g : Found) (r : Loaded) (pmid : ℕ) (result : Result (List ℕ) Refusal) → IsLoaded f r → value.metric_of_name r.records asked.name ≡ Some pmid → g.files ≡ f.files
+    → IfOk result (value.HasValue g r pmid asked.stamp) → IfOk result (value.IsOutput asked f)
 said_of asked f g r pmid (Ok text) loaded is same has =
     (r, loaded, pmid, is, subst (λ (w : Files). value.HasValue record { files = w; wrapped = f.wrapped } r pmid asked.stamp text) same has)
 said_of asked f g r pmid (Err e) loaded is same has = tt
@@ -85,8 +85,8 @@ module _ {D : Type 0} (g : DiskGhosts D) (r : Loaded) (a b : D) where
   value_stops pmid t faults.NoMemory why rose = tt
 
   -- told of the metric that the name leads to
-  pub turned_of : (c : D) (asked : ValueWords) (pmid : ℕ) (result : Result (List ℕ) Refusal) → Looks g a b → (g.tells → IsLoaded (files_found (disk_side g a c)) r) → value.named r.records asked.name ≡ Some pmid
-      → IfErr result (TurnedAway (value.HasNoValue pmid asked.stamp r) (disk_side g b c)) → IfErr result (TurnedAway (value.turned asked) (disk_side g a c))
+  pub turned_of : (c : D) (asked : ValueWords) (pmid : ℕ) (result : Result (List ℕ) Refusal) → Looks g a b → (g.tells → IsLoaded (files_found (disk_side g a c)) r) → value.metric_of_name r.records asked.name ≡ Some pmid
+      → IfErr result (TurnedAway (value.HasNoValue pmid asked.stamp r) (disk_side g b c)) → IfErr result (TurnedAway (value.IsTurnedAway asked) (disk_side g a c))
   turned_of c asked pmid (Ok text) looks loaded is away = tt
   turned_of c asked pmid (Err e) looks loaded is away =
-      turned_on g (value.HasNoValue pmid asked.stamp r) (value.turned asked) a b c looks (λ tells x why. inr (r, loaded tells, of_named asked pmid r is (files_found (disk_side g a c)) x why)) e away
+      turned_on g (value.HasNoValue pmid asked.stamp r) (value.IsTurnedAway asked) a b c looks (λ tells x why. inr (r, loaded tells, of_named asked pmid r is (files_found (disk_side g a c)) x why)) e away

@@ -13,19 +13,19 @@ use Rattle.pm_words.specs.declared.refusal.Refusal.{Refusal}
 use Rattle.pm_words.specs.declared.refusal.Refusal.TheVariants.{Words, Reading, Input, Disk, NoMemory}
 use Rattle.run_script.specs.declared.fault.ScriptLineFault.{ScriptLineFault}
 use Rattle.run_script.specs.declared.fault.ScriptLineFault.TheVariants as script
-use Rattle.pm_words.specs.Refusals.{script_status, stopped, status_of}
+use Rattle.pm_words.specs.Refusals.{script_status, refusal_of_stage, status_of}
 use Rattle.pm_words.specs.Serving.{HasRecovered, HadRecovered}
 
 -- the words, the reading and the input are looked at before
-pub no_words_yet : (stop : StageFault Usage) → HasRecovered (Err (stopped Words stop)) → ⊥
+pub no_words_yet : (stop : StageFault Usage) → HasRecovered (Err (refusal_of_stage Words stop)) → ⊥
 no_words_yet OutOfMemory h = h
 no_words_yet (Refused usage) h = h
 
-pub no_reading_yet : (stop : StageFault ReadRefusal) → HasRecovered (Err (stopped Reading stop)) → ⊥
+pub no_reading_yet : (stop : StageFault ReadRefusal) → HasRecovered (Err (refusal_of_stage Reading stop)) → ⊥
 no_reading_yet OutOfMemory h = h
 no_reading_yet (Refused e) h = h
 
-pub no_input_yet : (stop : StageFault InputRefusal) → HasRecovered (Err (stopped Input stop)) → ⊥
+pub no_input_yet : (stop : StageFault InputRefusal) → HasRecovered (Err (refusal_of_stage Input stop)) → ⊥
 no_input_yet OutOfMemory h = h
 no_input_yet (Refused e) h = h
 

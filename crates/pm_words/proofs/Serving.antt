@@ -7,7 +7,7 @@ use Rattle.pm_words.specs.declared.stage.StageFault.{StageFault}
 use Rattle.pm_words.specs.declared.stage.StageFault.TheVariants.{OutOfMemory, Refused}
 use Rattle.pm_words.specs.Inputs.{Refuses}
 use Rattle.pm_words.specs.Meaning.{Meaning}
-use Rattle.pm_words.specs.Refusals.{stopped}
+use Rattle.pm_words.specs.Refusals.{refusal_of_stage}
 use Rattle.pm_words.specs.Serving.{Left, Serves, StopCause}
 use Rattle.pm_words.specs.Sides.{SinkSide, DiskSide, Untouched}
 use Rattle.pm_words.specs.Streams.{IsSent}
@@ -21,10 +21,10 @@ pub left_alone : (m : Meaning) (status : ℕ) (input : List ℕ) (d : DiskSide) 
 left_alone m status input d still = record { files = inl still; settled = λ other. still_settled d still }
 
 -- what was got isn't what the command reads
-pub no_good : (m : Meaning) (input : List ℕ) (d : DiskSide) (stop : StageFault InputRefusal) → Refuses m.reads input stop → Untouched d → StopCause m input d (stopped Input stop)
+pub no_good : (m : Meaning) (input : List ℕ) (d : DiskSide) (stop : StageFault InputRefusal) → Refuses m.reads input stop → Untouched d → StopCause m input d (refusal_of_stage Input stop)
 no_good m input d OutOfMemory refuses still = left_alone m 9 input d still
 no_good m input d (Refused e) refuses still = (refuses, still)
 
 -- a command that is refused its input
-pub unconverted : (m : Meaning) (input : List ℕ) (k : SinkSide) (failed : Bool) (d : DiskSide) (stop : StageFault InputRefusal) → IsSent k [] failed → m.begins input d (stopped Input stop) [] → Untouched d → Refuses m.reads input stop → Serves m input k failed d (Err (stopped Input stop))
+pub unconverted : (m : Meaning) (input : List ℕ) (k : SinkSide) (failed : Bool) (d : DiskSide) (stop : StageFault InputRefusal) → IsSent k [] failed → m.begins input d (refusal_of_stage Input stop) [] → Untouched d → Refuses m.reads input stop → Serves m input k failed d (Err (refusal_of_stage Input stop))
 unconverted m input k failed d stop sent nothing still refuses = record { front = []; sent = sent; done = tt; stops = (no_good m input d stop refuses still, nothing) }

@@ -151,9 +151,9 @@ abbrev pub line_of : Refusal → List ℕ
 line_of e = unwrap_or (numbered_line_of e) (plain_line_of e)
 
 -- a stage that stopped, as the refusal of the whole
-abbrev pub stopped : {E : Type 0} → (E → Refusal) → StageFault E → Refusal
-stopped at OutOfMemory = NoMemory
-stopped at (Refused e) = at e
+abbrev pub refusal_of_stage : {E : Type 0} → (E → Refusal) → StageFault E → Refusal
+refusal_of_stage at OutOfMemory = NoMemory
+refusal_of_stage at (Refused e) = at e
 
 -- a reader's fault, as a refusal
 abbrev pub reader_refusal : ReaderFault → Refusal

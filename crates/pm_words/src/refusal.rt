@@ -31,10 +31,10 @@ pub enum Refusal {
 }
 
 impl From<StageFault<Usage>> for Refusal {
-    ghost use Rattle.pm_words.specs.Refusals.{stopped};
+    ghost use Rattle.pm_words.specs.Refusals.{refusal_of_stage};
     ghost use Rattle.pm_words.specs.declared.refusal.Refusal.TheVariants.{Words as AtWords};
 
-    ghost from_gives = { λ stop e. e ≡ stopped AtWords stop };
+    ghost from_gives = { λ stop e. e ≡ refusal_of_stage AtWords stop };
 
     fn from(stop: StageFault<Usage>) -> Refusal {
         match stop {
@@ -45,10 +45,10 @@ impl From<StageFault<Usage>> for Refusal {
 }
 
 impl From<StageFault<ReadRefusal>> for Refusal {
-    ghost use Rattle.pm_words.specs.Refusals.{stopped};
+    ghost use Rattle.pm_words.specs.Refusals.{refusal_of_stage};
     ghost use Rattle.pm_words.specs.declared.refusal.Refusal.TheVariants.{Reading as AtReading};
 
-    ghost from_gives = { λ stop e. e ≡ stopped AtReading stop };
+    ghost from_gives = { λ stop e. e ≡ refusal_of_stage AtReading stop };
 
     fn from(stop: StageFault<ReadRefusal>) -> Refusal {
         match stop {
@@ -59,10 +59,10 @@ impl From<StageFault<ReadRefusal>> for Refusal {
 }
 
 impl From<StageFault<InputRefusal>> for Refusal {
-    ghost use Rattle.pm_words.specs.Refusals.{stopped};
+    ghost use Rattle.pm_words.specs.Refusals.{refusal_of_stage};
     ghost use Rattle.pm_words.specs.declared.refusal.Refusal.TheVariants.{Input as AtInput};
 
-    ghost from_gives = { λ stop e. e ≡ stopped AtInput stop };
+    ghost from_gives = { λ stop e. e ≡ refusal_of_stage AtInput stop };
 
     fn from(stop: StageFault<InputRefusal>) -> Refusal {
         match stop {

@@ -11,12 +11,12 @@ use Rattle.pcp_outside.specs.declared.doors.SessionEnd.TheVariants as ends
 use Rattle.pdu_codec.specs.declared.pdu.Pdu.{Pdu}
 use Rattle.pdu_codec.specs.declared.pdu.Pdu.TheVariants as pdus
 use Rattle.pdu_codec.specs.Bodies.{IsPdu as IsPduOf}
-use Rattle.pdu_stream.specs.Streams.{length_word, IsPdu, IsBegun, IsBad, IsStop, Splits, joined}
+use Rattle.pdu_stream.specs.Streams.{length_word, IsPdu, IsBegun, IsBad, IsStop, Splits, bytes_of_pdus}
 use Rattle.pdu_stream.proofs.OneWay.{same}
 use Rattle.pdu_stream.proofs.Pieces.{behind, longer, bad_longer}
 use Rattle.pmcd_session.specs.declared.standing.Standing.{Standing}
 use Rattle.pmcd_session.specs.Serving.{AsksTheClock, Asks, Deed, Deeds, DoesAll, Reaches, ReadsBy, needs_moment}
-use Rattle.pmcd_session.specs.Sessions.{Completes, Ends, History, IsCaused, Runs, begun, is_fetch, most_taken}
+use Rattle.pmcd_session.specs.Sessions.{Completes, Ends, History, IsCaused, Runs, session_start, is_fetch, most_taken}
 use Rattle.pmcd_session.specs.Sides.{SourceSide, SinkSide, ClockSide}
 use Rattle.pmcd_session.proofs.Taking.{takes}
 
@@ -105,17 +105,17 @@ pdu_first pdu more p =
     let four : 4 ≤ length pdu = omega arith in
     ap (from_be_bytes w32) (take-append-le 4 pdu more four) ∙ p.says
 
-are_first : (xs ys : List (List ℕ)) (rest : List ℕ) → AllByRecursion IsPdu xs → AllByRecursion IsPdu ys → joined xs ++ rest ≡ joined ys → (more : List (List ℕ)) × (ys ≡ xs ++ more)
+are_first : (xs ys : List (List ℕ)) (rest : List ℕ) → AllByRecursion IsPdu xs → AllByRecursion IsPdu ys → bytes_of_pdus xs ++ rest ≡ bytes_of_pdus ys → (more : List (List ℕ)) × (ys ≡ xs ++ more)
 are_first [] ys rest a b e = (ys, refl)
 are_first (x ∷ xs) [] rest a b e =
     let least : 12 ≤ length x = a.0.least in
-    let none : length (x ++ (joined xs ++ rest)) ≡ 0 = ap length (sym (append_assoc x (joined xs) rest) ∙ e) in
-    absurd (omega (arith, none, length-append x (joined xs ++ rest)))
+    let none : length (x ++ (bytes_of_pdus xs ++ rest)) ≡ 0 = ap length (sym (append_assoc x (bytes_of_pdus xs) rest) ∙ e) in
+    absurd (omega (arith, none, length-append x (bytes_of_pdus xs ++ rest)))
 are_first (x ∷ xs) (y ∷ ys) rest a b e =
-    let both : x ++ (joined xs ++ rest) ≡ y ++ joined ys = sym (append_assoc x (joined xs) rest) ∙ e in
-    let long : length x ≡ length y = sym (pdu_first x (joined xs ++ rest) a.0) ∙ ap length_word both ∙ pdu_first y (joined ys) b.0 in
-    let front : x ≡ y = sym (take_at x (joined xs ++ rest) (length y) long) ∙ ap (take (length y)) both ∙ take_at y (joined ys) (length y) refl in
-    let tail : joined xs ++ rest ≡ joined ys = sym (drop_at x (joined xs ++ rest) (length y) long) ∙ ap (drop (length y)) both ∙ drop_at y (joined ys) (length y) refl in
+    let both : x ++ (bytes_of_pdus xs ++ rest) ≡ y ++ bytes_of_pdus ys = sym (append_assoc x (bytes_of_pdus xs) rest) ∙ e in
+    let long : length x ≡ length y = sym (pdu_first x (bytes_of_pdus xs ++ rest) a.0) ∙ ap length_word both ∙ pdu_first y (bytes_of_pdus ys) b.0 in
+    let front : x ≡ y = sym (take_at x (bytes_of_pdus xs ++ rest) (length y) long) ∙ ap (take (length y)) both ∙ take_at y (bytes_of_pdus ys) (length y) refl in
+    let tail : bytes_of_pdus xs ++ rest ≡ bytes_of_pdus ys = sym (drop_at x (bytes_of_pdus xs ++ rest) (length y) long) ∙ ap (drop (length y)) both ∙ drop_at y (bytes_of_pdus ys) (length y) refl in
     let r = are_first xs ys rest a.1 b.1 tail in
     (r.0, ap (λ (p : List ℕ). p ∷ ys) (sym front) ∙ ap (λ (l : List (List ℕ)). x ∷ l) r.1)
 
@@ -132,13 +132,13 @@ none_behind stream all xs rest bad whole s stop = (same xs all rest [] bad None 
 -- at a fetch without a moment there are more fetches than moments
 too_few : {A : Type 0} (reads : ReadsBy A) (first : A) (input after taken : List ℕ) (left moments : List Moment) (all xs : List (List ℕ)) (fetch rest beyond replies : List ℕ) (s : Standing A)
     → Splits input all [] → fetches all ≤ length left → input ≡ taken ++ after → left ≡ moments → Splits taken xs rest → Splits rest (fetch ∷ []) beyond
-    → DoesAll reads (begun first) xs (record { moments = moments; written = replies; after = s }) → AsksTheClock s fetch → ⊥
+    → DoesAll reads (session_start first) xs (record { moments = moments; written = replies; after = s }) → AsksTheClock s fetch → ⊥
 too_few reads first input after taken left moments all xs fetch rest beyond replies s whole enough is same_moments split next does asks =
     let further : Splits (taken ++ after) (xs ++ fetch ∷ []) (beyond ++ after) = behind taken rest after (beyond ++ after) xs (fetch ∷ []) split (longer rest beyond after (fetch ∷ []) next) in
-    let fronts = are_first (xs ++ fetch ∷ []) all (beyond ++ after) further.whole whole.whole (sym further.is ∙ sym is ∙ whole.is ∙ append-nil (joined all)) in
+    let fronts = are_first (xs ++ fetch ∷ []) all (beyond ++ after) further.whole whole.whole (sym further.is ∙ sym is ∙ whole.is ∙ append-nil (bytes_of_pdus all)) in
     let count : fetches all ≡ (fetches xs + fetches (fetch ∷ [])) + fetches fronts.0 = ap fetches fronts.1 ∙ counted_both (xs ++ fetch ∷ []) fronts.0 ∙ ap (λ (n : ℕ). n + fetches fronts.0) (counted_both xs (fetch ∷ [])) in
     let one : fetches (fetch ∷ []) ≡ suc (fetches []) = one_counted fetch [] (asks_is_fetch s fetch asks) in
-    let taken_all : length moments ≤ fetches xs = all_taken reads (begun first) xs (record { moments = moments; written = replies; after = s }) does in
+    let taken_all : length moments ≤ fetches xs = all_taken reads (session_start first) xs (record { moments = moments; written = replies; after = s }) does in
     let many : length left ≡ length moments = ap (λ (l : List Moment). length l) same_moments in
     omega (arith, enough, count, one, taken_all, many)
 

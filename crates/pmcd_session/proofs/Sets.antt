@@ -11,7 +11,7 @@ use Rattle.mmv_format.specs.declared.rows.MetricRow.{MetricRow}
 use Rattle.profile_filter.specs.Kept.{Settings}
 use Rattle.fetch_answers.specs.Answers.{region_of, metric_with, indom_in, region_body, layout_body, metric_body, set_of}
 use Rattle.fetch_answers.specs.Readings.{RegionReading}
-use Rattle.fetch_answers.specs.Values.{ByInstance, shown_word, shown_block, words_or_none, blocks_or_none, stored, values_with}
+use Rattle.fetch_answers.specs.Values.{ByInstance, shown_word, shown_block, words_or_none, blocks_or_none, body_of_values, values_with}
 
 some_words : (pairs : List (ℤ × ℕ)) → HasContent (words_or_none pairs)
 some_words [] = omega arith
@@ -21,7 +21,7 @@ some_blocks : (pairs : List (ℤ × TypedBytes)) → HasContent (blocks_or_none 
 some_blocks [] = omega arith
 some_blocks (p ∷ pairs) = omega arith
 
-stored_has : (kind : Kind) (profile : Settings) (indom : Option ℕ) (values : ByInstance) → HasContent (stored kind profile indom values)
+stored_has : (kind : Kind) (profile : Settings) (indom : Option ℕ) (values : ByInstance) → HasContent (body_of_values kind profile indom values)
 stored_has kinds.I32 profile indom values = some_words (flat_map (shown_word profile indom) values)
 stored_has kinds.U32 profile indom values = some_words (flat_map (shown_word profile indom) values)
 stored_has kinds.I64 profile indom values = some_blocks (flat_map (shown_block profile indom 2) values)

@@ -15,7 +15,7 @@ use Rattle.pmcd_session.specs.declared.standing.Standing.{Standing}
 use Rattle.pmcd_session.specs.Going.{Brings, Going, GoesBehind, GoesOrEnds, StaysOpen, then_more}
 use Rattle.pmcd_session.specs.Replies.{greeting}
 use Rattle.pmcd_session.specs.Serving.{DoesAll, ReadsBy}
-use Rattle.pmcd_session.specs.Sessions.{Ends, History, Served, begun}
+use Rattle.pmcd_session.specs.Sessions.{Ends, History, Served, session_start}
 use Rattle.pmcd_session.proofs.Streams.{splits_at}
 use Rattle.pmcd_session.proofs.Together.{joined_deeds}
 
@@ -28,7 +28,7 @@ same_served : {A : Type 0} (reads : ReadsBy A) (first : A) (taken whole : List �
 same_served {A = A} reads first taken whole pdus rest left moments bytes s v split = record {
   stream = split;
   replies = v.replies;
-  does = subst (λ (m : List Moment). DoesAll reads (begun first) pdus (record { moments = m; written = v.replies; after = s })) (sym (append-nil moments)) v.does;
+  does = subst (λ (m : List Moment). DoesAll reads (session_start first) pdus (record { moments = m; written = v.replies; after = s })) (sym (append-nil moments)) v.does;
   is = append-nil bytes ∙ v.is;
 }
 
@@ -39,7 +39,7 @@ pub more_served : {A : Type 0} (reads : ReadsBy A) (first : A) (taken whole : Li
 more_served reads first taken whole given more rest left moments later bytes said s after v split does = record {
   stream = split;
   replies = v.replies ++ said;
-  does = joined_deeds reads (begun first) s after given more moments later v.replies said v.does does;
+  does = joined_deeds reads (session_start first) s after given more moments later v.replies said v.does does;
   is = ap (λ (b : List ℕ). b ++ said) v.is ∙ append_assoc (pdu_bytes greeting) v.replies said;
 }
 

@@ -6,7 +6,7 @@ use Rattle.pcp_base.specs.Time.{Moment}
 use Rattle.pcp_outside.specs.declared.doors.SessionEnd.{SessionEnd}
 use Rattle.pcp_outside.specs.declared.doors.SessionEnd.TheVariants as ends
 use Rattle.pdu_stream.specs.State.{State}
-use Rattle.pdu_stream.specs.Streams.{Splits, joined}
+use Rattle.pdu_stream.specs.Streams.{Splits, bytes_of_pdus}
 use Rattle.pdu_stream.specs.Reading.{HasRead}
 use Rattle.pmcd_session.specs.declared.standing.Standing.{Standing}
 use Rattle.pmcd_session.specs.Going.{Brings, GoesBehind}
@@ -49,10 +49,10 @@ ends_within {A = A} T reads loads piece pdus moments bytes stream between s afte
     all = subst (λ (x : List (List ℕ)). Splits whole x front.0) (ap (λ (x : List (List ℕ)). g.pdus ++ x) st.are ∙ sym (append_assoc g.pdus st.served (st.pdu ∷ st.behind))) front.1
 
     rest : List ℕ
-    rest = joined (st.pdu ∷ st.behind) ++ front.0
+    rest = bytes_of_pdus (st.pdu ∷ st.behind) ++ front.0
 
     beyond : List ℕ
-    beyond = joined st.behind ++ front.0
+    beyond = bytes_of_pdus st.behind ++ front.0
 
     next : Splits rest (st.pdu ∷ []) beyond
     next = next_behind whole before st.behind st.pdu front.0 all

@@ -21,7 +21,7 @@ use Rattle.pmcd_session.specs.Going.{Going, GoesBehind, Moves, end_of_input, the
 use Rattle.pmcd_session.specs.Pieces.{HasReason}
 use Rattle.pmcd_session.specs.Replies.{greeting}
 use Rattle.pmcd_session.specs.Serving.{DoesAll, ReadsBy}
-use Rattle.pmcd_session.specs.Sessions.{CountsOn, Ends, History, IsCaused, Served, ServedTo, begun, most_taken}
+use Rattle.pmcd_session.specs.Sessions.{CountsOn, Ends, History, IsCaused, Served, ServedTo, session_start, most_taken}
 use Rattle.pmcd_session.specs.Sides.{SourceSide, SinkSide, ClockSide, source_side, sink_side, clock_side}
 use Rattle.pmcd_session.proofs.Deeds.{none_done}
 use Rattle.pmcd_session.proofs.Writings.{in_behind}
@@ -93,7 +93,7 @@ unchanged {A = A} reads first h stream s g = record {
   served = record {
     stream = subst (λ (t : List ℕ). Splits t g.pdus stream.rest) (sym (append-nil h.taken)) g.served.stream;
     replies = g.served.replies;
-    does = subst (λ (m : List Moment). DoesAll reads (begun first) g.pdus (record { moments = m; written = g.served.replies; after = s })) (sym (append-nil h.moments)) g.served.does;
+    does = subst (λ (m : List Moment). DoesAll reads (session_start first) g.pdus (record { moments = m; written = g.served.replies; after = s })) (sym (append-nil h.moments)) g.served.does;
     is = append-nil h.bytes ∙ g.served.is;
   };
   stays = refl;
@@ -142,11 +142,11 @@ caused_at_end source sink clock pending end is gone = subst (λ (e : SessionEnd)
 
 -- ---- the greeting
 
-pub greeted : {A : Type 0} (reads : ReadsBy A) (first : A) → Served reads first [] [] [] [] (pdu_bytes greeting) (begun first)
+pub greeted : {A : Type 0} (reads : ReadsBy A) (first : A) → Served reads first [] [] [] [] (pdu_bytes greeting) (session_start first)
 greeted reads first = record {
   stream = record { is = refl; whole = tt };
   replies = [];
-  does = none_done reads (begun first);
+  does = none_done reads (session_start first);
   is = sym (append-nil (pdu_bytes greeting));
 }
 

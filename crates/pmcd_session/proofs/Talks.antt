@@ -17,7 +17,7 @@ use Rattle.pmcd_session.specs.Going.{Going, GoesBehind, Moves, then_more}
 use Rattle.pmcd_session.specs.Pieces.{IsSendEnd}
 use Rattle.pmcd_session.specs.Replies.{greeting, reply_bytes}
 use Rattle.pmcd_session.specs.Serving.{ReadsBy}
-use Rattle.pmcd_session.specs.Sessions.{CountsOn, Ends, History, Runs, WritesBy, begun, most_taken}
+use Rattle.pmcd_session.specs.Sessions.{CountsOn, Ends, History, Runs, WritesBy, session_start, most_taken}
 use Rattle.pmcd_session.specs.Sides.{source_side, sink_side, clock_side}
 use Rattle.pmcd_session.proofs.Talking.{greeted, moves_since, on_since}
 
@@ -31,7 +31,7 @@ pub record Talks {A I O C : Type 0} (reads : ReadsBy A) (gi : SourceGhosts I) (g
   pub on : CountsOn (source_side gi i0 i1) (sink_side go o0 o1) (clock_side gc c0 c1)
 
 -- a seat is renewed for a session
-pub renewed : {A : Type 0} (first : A) (contexts : List Settings) → contexts ≡ new_contexts → record { is_met = false; contexts = contexts; agent = first } ≡ begun first
+pub renewed : {A : Type 0} (first : A) (contexts : List Settings) → contexts ≡ new_contexts → record { is_met = false; contexts = contexts; agent = first } ≡ session_start first
 renewed {A = A} first contexts is = ap (λ (cs : List Settings). made cs) is
   where
     made : List Settings → Standing A
@@ -42,7 +42,7 @@ abbrev pub greeting_alone : History
 greeting_alone = record { taken = []; moments = []; bytes = pdu_bytes greeting }
 
 pub talks_at_first : {A I O C : Type 0} (reads : ReadsBy A) (gi : SourceGhosts I) (go : SinkGhosts O) (gc : ClockGhosts C) (first : A) (i0 : I) (o0 o1 : O) (c0 : C) (stream : State) (s : Standing A)
-    → s ≡ begun first → stream ≡ record { phase = Open; rest = [] } → (go.tells → go.written o1 ≡ go.written o0 ++ reply_bytes greeting) → go.faults o0 ≤ go.faults o1
+    → s ≡ session_start first → stream ≡ record { phase = Open; rest = [] } → (go.tells → go.written o1 ≡ go.written o0 ++ reply_bytes greeting) → go.faults o0 ≤ go.faults o1
     → Talks reads gi go gc first i0 i0 o0 o1 c0 c0 0 stream s
 talks_at_first {A = A} reads gi go gc first i0 o0 o1 c0 stream s s_is stream_is wrote later = record {
   sofar = greeting_alone;
@@ -124,8 +124,8 @@ never_talks {A = A} {I = I} {O = O} {C = C} reads loads gi go gc first i0 o0 o1 
 }
   where
     by_end : (e : SessionEnd) → IsSendEnd e → Ends reads loads first greeting_alone first e
-    by_end ends.WriteFault h = ([], record { pdus = []; s = begun first; served = greeted reads first; stays = refl })
-    by_end ends.NoMemory h = record { pdus = []; rest = []; moments = []; reached = []; s = begun first; served = greeted reads first; all_moments = refl; next = tt; goes_on = inl refl }
+    by_end ends.WriteFault h = ([], record { pdus = []; s = session_start first; served = greeted reads first; stays = refl })
+    by_end ends.NoMemory h = record { pdus = []; rest = []; moments = []; reached = []; s = session_start first; served = greeted reads first; all_moments = refl; next = tt; goes_on = inl refl }
     by_end ends.Closed h = absurd h
     by_end (ends.Torn n) h = absurd h
     by_end (ends.BadLength found) h = absurd h

@@ -8,7 +8,7 @@ use Rattle.pmns_core.specs.Pairs.{Pair}
 use Rattle.fetch_answers.specs.Asks.{desc_asked, instances_asked}
 use Rattle.fetch_answers.specs.Readings.{RegionReading}
 use Rattle.pmcd_session.specs.declared.standing.Standing.{Standing}
-use Rattle.pmcd_session.specs.Replies.{again, desc_reply, instance_reply, missing_among, name_reply, names_shown, needed, reply_over, unless_missing}
+use Rattle.pmcd_session.specs.Replies.{try_again_error, desc_reply, instance_reply, missing_among, name_reply, names_shown, region_needed, reply_over, unless_missing}
 use Rattle.pmcd_session.specs.Serving.{KeepsRest, ReadsBy, Tells}
 use Rattle.pmcd_session.specs.Telling.{ShowsNames}
 
@@ -37,9 +37,9 @@ instances_tell reads s after indom instance told reply rest shown is = record {
 -- the reply over the names, or while a region is missing
 over_names : Option (List Pair) → Pdu → Pdu
 over_names (Some names) request = name_reply names request
-over_names None request = pdus.Error again
+over_names None request = pdus.Error try_again_error
 
-missed : (clusters : List ℕ) (reply : Pdu) → clusters ≢ [] → unless_missing clusters reply ≡ pdus.Error again
+missed : (clusters : List ℕ) (reply : Pdu) → clusters ≢ [] → unless_missing clusters reply ≡ pdus.Error try_again_error
 missed [] reply some = absurd (some refl)
 missed (cluster ∷ clusters) reply some = refl
 
@@ -53,7 +53,7 @@ names_found regions None request shown = sym (missed (missing_among regions) (na
 -- a request for names
 names_tell : {A : Type 0} (reads : ReadsBy A) (s after : Standing A) (request : Pdu) (names : Option (List Pair)) (reply : Pdu) → KeepsRest s after
     → ((readings : List RegionReading) × reads None s.agent readings after.agent × ShowsNames readings names)
-    → needed request ≡ None → ((regions : List RegionReading) → reply_over request regions ≡ unless_missing (missing_among regions) (name_reply (names_shown regions) request))
+    → region_needed request ≡ None → ((regions : List RegionReading) → reply_over request regions ≡ unless_missing (missing_among regions) (name_reply (names_shown regions) request))
     → reply ≡ over_names names request → Tells reads s request (record { moments = []; reply = Some reply; after = after })
 names_tell {A = A} reads s after request names reply rest shown all over is = record {
   regions = shown.0;
@@ -66,7 +66,7 @@ names_tell {A = A} reads s after request names reply rest shown all over is = re
 -- where names are told
 pub some_tell : {A : Type 0} (reads : ReadsBy A) (s after : Standing A) (request : Pdu) (names : List Pair) (reply : Pdu) → KeepsRest s after
     → ((readings : List RegionReading) × reads None s.agent readings after.agent × ShowsNames readings (Some names))
-    → needed request ≡ None → ((regions : List RegionReading) → reply_over request regions ≡ unless_missing (missing_among regions) (name_reply (names_shown regions) request))
+    → region_needed request ≡ None → ((regions : List RegionReading) → reply_over request regions ≡ unless_missing (missing_among regions) (name_reply (names_shown regions) request))
     → reply ≡ name_reply names request → Tells reads s request (record { moments = []; reply = Some reply; after = after })
 unfolding over_names
 some_tell reads s after request names reply rest shown all over is = names_tell reads s after request (Some names) reply rest shown all over is
@@ -74,10 +74,10 @@ some_tell reads s after request names reply rest shown all over is = names_tell 
 -- and while a region is missing
 pub none_tell : {A : Type 0} (reads : ReadsBy A) (s after : Standing A) (request : Pdu) → KeepsRest s after
     → ((readings : List RegionReading) × reads None s.agent readings after.agent × ShowsNames readings None)
-    → needed request ≡ None → ((regions : List RegionReading) → reply_over request regions ≡ unless_missing (missing_among regions) (name_reply (names_shown regions) request))
-    → Tells reads s request (record { moments = []; reply = Some (pdus.Error again); after = after })
+    → region_needed request ≡ None → ((regions : List RegionReading) → reply_over request regions ≡ unless_missing (missing_among regions) (name_reply (names_shown regions) request))
+    → Tells reads s request (record { moments = []; reply = Some (pdus.Error try_again_error); after = after })
 unfolding over_names
-none_tell reads s after request rest shown all over = names_tell reads s after request None (pdus.Error again) rest shown all over refl
+none_tell reads s after request rest shown all over = names_tell reads s after request None (pdus.Error try_again_error) rest shown all over refl
 
 -- whether there is one
 pub is_empty_list : {X : Type 0} (xs : List X) → (length xs == 0) ≡ true → xs ≡ []

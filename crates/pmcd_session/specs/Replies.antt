@@ -26,8 +26,8 @@ no_instance = negsuc 12359
 abbrev pub against_protocol : ℤ
 against_protocol = negsuc 12365
 
-abbrev pub again : ℤ
-again = negsuc 12388
+abbrev pub try_again_error : ℤ
+try_again_error = negsuc 12388
 
 abbrev pub protocol_error : Pdu
 protocol_error = pdus.Error against_protocol
@@ -37,11 +37,11 @@ abbrev pub greeting : Pdu
 greeting = pdus.Error (pos 0)
 
 -- a reply of more than 65,536 bytes is an error instead
-abbrev pub sent : Pdu → Pdu
-sent reply = if nat_lt 65536 (pdu_length reply) then protocol_error else reply
+abbrev pub bounded_reply : Pdu → Pdu
+bounded_reply reply = if nat_lt 65536 (pdu_length reply) then protocol_error else reply
 
 abbrev pub reply_bytes : Pdu → List ℕ
-reply_bytes reply = pdu_bytes (sent reply)
+reply_bytes reply = pdu_bytes (bounded_reply reply)
 
 -- ---- descriptions and instances
 
@@ -54,12 +54,12 @@ one_instance indom None = pdus.Error no_instance
 one_instance indom (Some pair) = pdus.Instance indom (pair ∷ [])
 
 -- all instances, for which -1 asks, or the one of a number
-abbrev pub chosen : ℕ → ℤ → List (ℤ × List ℕ) → Pdu
-chosen indom instance pairs =
+abbrev pub instances_reply : ℕ → ℤ → List (ℤ × List ℕ) → Pdu
+instances_reply indom instance pairs =
     if int_eq instance (negsuc 0) then pdus.Instance indom pairs else one_instance indom (find (λ pair. int_eq pair.0 instance) pairs)
 
 abbrev pub instance_reply : ℕ → ℤ → Result (List (ℤ × List ℕ)) ℤ → Pdu
-instance_reply indom instance (Ok pairs) = chosen indom instance pairs
+instance_reply indom instance (Ok pairs) = instances_reply indom instance pairs
 instance_reply indom instance (Err status) = pdus.Error status
 
 -- ---- names
@@ -98,7 +98,7 @@ name_reply names request = protocol_error
 -- while a region is missing, no name is told
 abbrev pub unless_missing : List ℕ → Pdu → Pdu
 unless_missing [] reply = reply
-unless_missing (cluster ∷ missing) reply = pdus.Error again
+unless_missing (cluster ∷ missing) reply = pdus.Error try_again_error
 
 -- ---- requests that are replied to over readings of the regions
 
@@ -116,7 +116,7 @@ reply_over (pdus.InstanceReq indom instance) regions = instance_reply indom inst
 reply_over request regions = unless_missing (missing_among regions) (name_reply (names_shown regions) request)
 
 -- which regions a request needs: that in whose cluster a number lies, or all
-abbrev pub needed : Pdu → Option ℕ
-needed (pdus.DescReq pmid) = Some pmid
-needed (pdus.InstanceReq indom instance) = Some indom
-needed request = None
+abbrev pub region_needed : Pdu → Option ℕ
+region_needed (pdus.DescReq pmid) = Some pmid
+region_needed (pdus.InstanceReq indom instance) = Some indom
+region_needed request = None

@@ -11,7 +11,7 @@ use Rattle.pmcd_session.specs.declared.halt.Halt.{Halt}
 use Rattle.pmcd_session.specs.declared.halt.Halt.TheVariants as halts
 use Rattle.pmcd_session.specs.declared.standing.Standing.{Standing}
 use Rattle.pmcd_session.specs.Contexts.{may_set, with_profile, profile_or_all}
-use Rattle.pmcd_session.specs.Replies.{protocol_error, reply_bytes, reply_over, needed}
+use Rattle.pmcd_session.specs.Replies.{protocol_error, reply_bytes, reply_over, region_needed}
 
 -- How an agent comes to what it tells: the regions, or those that a number needs, were each read once, or missed.
 abbrev pub ReadsBy : Type 0 → Type 1
@@ -39,7 +39,7 @@ pub record KeepsRest {A : Type 0} (s after : Standing A) : Type 0 where
 -- the reply over a reading of the regions that the request needs
 pub record Tells {A : Type 0} (reads : ReadsBy A) (s : Standing A) (request : Pdu) (d : Deed A) : Type 0 where
   pub regions : List RegionReading
-  pub read : reads (needed request) s.agent regions d.after.agent
+  pub read : reads (region_needed request) s.agent regions d.after.agent
   pub moments : d.moments ≡ []
   pub reply : d.reply ≡ Some (reply_over request regions)
   pub rest : KeepsRest s d.after

@@ -13,8 +13,8 @@ use Rattle.pmcd_session.specs.Serving.{ReadsBy, DoesAll, AsksTheClock}
 use Rattle.pmcd_session.specs.Sides.{SourceSide, SinkSide, ClockSide}
 
 -- a session begins with a client that isn't known, and contexts that keep every instance
-abbrev pub begun : {A : Type 0} → A → Standing A
-begun agent = record { is_met = false; contexts = new_contexts; agent = agent }
+abbrev pub session_start : {A : Type 0} → A → Standing A
+session_start agent = record { is_met = false; contexts = new_contexts; agent = agent }
 
 -- The bytes that a session took from its source, the moments that it took from its clock, and the bytes of the greeting and
 -- of all replies to the PDUs that were served.
@@ -31,7 +31,7 @@ most_taken = 1099511627776
 pub record Served {A : Type 0} (reads : ReadsBy A) (first : A) (taken : List ℕ) (pdus : List (List ℕ)) (rest : List ℕ) (moments : List Moment) (bytes : List ℕ) (s : Standing A) : Type 0 where
   pub stream : Splits taken pdus rest
   pub replies : List ℕ
-  pub does : DoesAll reads (begun first) pdus (record { moments = moments; written = replies; after = s })
+  pub does : DoesAll reads (session_start first) pdus (record { moments = moments; written = replies; after = s })
   pub is : bytes ≡ pdu_bytes greeting ++ replies
 
 -- those were served behind which the rest stands

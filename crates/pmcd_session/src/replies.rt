@@ -5,7 +5,7 @@ ghost use Rattle.std.specs.Ordering.{int_eq};
 ghost use Rattle.pdu_codec.specs.Spelling.{IsWritable};
 ghost use Rattle.pmns_core.specs.Below.{below, children_of};
 ghost use Rattle.pmns_core.specs.Pairs.{least_name, pmid_of};
-ghost use Rattle.pmcd_session.specs.Replies.{all_of, chosen, ids_reply, names_reply, no_metric, no_name, one_instance, protocol_error, greeting, reply_bytes, some_names};
+ghost use Rattle.pmcd_session.specs.Replies.{all_of, instances_reply, ids_reply, names_reply, no_metric, no_name, one_instance, protocol_error, greeting, reply_bytes, some_names};
 
 use pcp_base::{Bytes, Duplicate, InDom, List, NoMemory, Pmid, Text};
 use pdu_codec::{Pdu, encode, pdu_length};
@@ -72,13 +72,13 @@ fn pair_with(pairs: &[(i32, Text)], instance: i32) -> Option<&(i32, Text)>
 }
 
 /// All instances of a domain, for which -1 asks, or the one of a number.
-pub fn chosen(
+pub fn instances_reply(
     alloc: Global,
     indom: InDom,
     instance: i32,
     pairs: List<(i32, Text)>,
 ) -> Result<Pdu, NoMemory>
-    ensures { IfOk result (λ reply. reply ≡ chosen indom instance pairs) }
+    ensures { IfOk result (λ reply. reply ≡ instances_reply indom instance pairs) }
 {
     if instance == -1 {
         return Ok(Pdu::Instance { indom, pairs });

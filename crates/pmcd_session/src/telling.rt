@@ -6,7 +6,7 @@ ghost use Rattle.pmcd_session.specs.Serving.{KeepsRest, Tells};
 ghost use Rattle.pmcd_session.specs.Telling.{ShowsNames};
 
 use crate::agent::Agent;
-use crate::replies::{child_reply, chosen, ids_reply, names_reply, traverse_reply};
+use crate::replies::{child_reply, instances_reply, ids_reply, names_reply, traverse_reply};
 use crate::standing::Standing;
 use fetch_engine::{AskFault, Named};
 use pcp_base::{InDom, NoMemory, Pmid, Text};
@@ -50,7 +50,7 @@ pub fn tell_instances<A: Agent>(
     ensures here { A.sits regions.now s.new.agent }
 {
     match s.agent.instances(alloc, regions, indom) {
-        Ok(pairs) => chosen(alloc, indom, instance, pairs),
+        Ok(pairs) => instances_reply(alloc, indom, instance, pairs),
         Err(AskFault::Status(code)) => Ok(Pdu::Error { code }),
         Err(AskFault::NoMemory) => Err(NoMemory),
     }

@@ -10,7 +10,7 @@ use Rattle.mmv_layout.specs.Form.{form_of}
 use Rattle.region_core.specs.Shape.{IsWord, IsLike}
 use Rattle.region_core.specs.State.{with_zeros, opening}
 use Rattle.region_words.specs.Images.{mmv, mmv_laws}
-use Rattle.run_script.specs.Recording.{changed_to, fits_in, held_by, high_region, image_words, is_at, lines_of, opened_on, opens_low, or_else, place_of, refused_line, slot_in, suits, takes_add, takes_swap, unrested, with_change, words_or_none, wrong_step}
+use Rattle.run_script.specs.Recording.{changed_to, fits_in, held_by, high_region, image_words, is_at, lines_of, opened_on, opens_low, or_else, place_of, refused_line, slot_in, suits, takes_add, takes_swap, unrest_line, with_change, words_or_none, wrong_step}
 use Rattle.run_script.specs.Rules.{KeepsRules, IsPlaced}
 use Rattle.run_script.specs.declared.script.Line.{Line}
 use Rattle.run_script.specs.declared.script.Line.TheVariants as lines
@@ -215,7 +215,7 @@ module _ (script : Script) (keeps : KeepsRules script) (refused : refused_line s
   pub opened_low : slice_index (with_zeros (regions.words_at script.images row.image) row.capacity) 1 < 2 ^ 63
   unfolding number64
   opened_low =
-      let first = or_none (high_region script script.regions) (or_else (wrong_step script [] script.steps) (unrested script.steps)) refused in
+      let first = or_none (high_region script script.regions) (or_else (wrong_step script [] script.steps) (unrest_line script.steps)) refused in
       let low : opens_low script row ≡ true = low_row script.regions i row row_is first.0 in
       let below : slice_index opened_image 1 < 2 ^ 63 = ltb-true (slice_index opened_image 1) (2 ^ 63) low in
       let both = mmv_laws.generations opened_image opened_good in

@@ -18,7 +18,7 @@ use Rattle.run_script.specs.declared.script.Line.TheVariants as lines
 use Rattle.script_lines.specs.declared.line.Given.{Given as Written}
 use Rattle.script_runs.specs.Journals.{is_load}
 use Rattle.script_runs.specs.Slots.{swap_of, swap_into, slot_with, value_for, add_of, add_into, holds_number, low_bits}
-use Rattle.script_writers.specs.Lines.{Writing, Makes, IsBounced, AreBounced, Attaches, takes, Stores, Begins, Spends, BeginsChange, next_put, next_place, StepsOn, Finishes, LineMakes, LinesMake}
+use Rattle.script_writers.specs.Lines.{Writing, Makes, IsBounced, AreBounced, Attaches, takes, Stores, IsBeginMade, Spends, BeginsChange, next_put, next_place, StepsOn, Finishes, LineMakes, LinesMake}
 use Rattle.mmv_format.specs.declared.rows.Slot.{Slot}
 use Rattle.record_laws.proofs.Behind.{AreLoads, first_load, other_loads, own_mine, own_other}
 use Rattle.record_laws.proofs.Relaid.{NoBegin, is_begin, not_begin, puts_next, change_acts}
@@ -167,7 +167,7 @@ abbrev pub LinesFit : (List ℕ → Type 0) → List (List ℕ × List ℕ) → 
 LinesFit P images [] = Unit {0}
 LinesFit P images (line ∷ more) = LineFits P images line × LinesFit P images more
 
-begins_line : (k : ℕ) (s : State) (moment n : ℕ) (es : List Entry) → moment < 2 ^ 63 → Begins k s moment n es → BeginsLine k s es
+begins_line : (k : ℕ) (s : State) (moment n : ℕ) (es : List Entry) → moment < 2 ^ 63 → IsBeginMade k s moment n es → BeginsLine k s es
 begins_line k s moment n es below b = record {
   before = b.before;
   n = n;
@@ -338,7 +338,7 @@ module _ (P : List ℕ → Type 0) (k : ℕ) where
       ∙ (sym (append_assoc (map (λ (act : Act). entry k act) (next_put image at)) (map (λ (act : Act). entry k act) (change_acts (next_place image at) image n)) behind)
       ∙ ap (λ (l : List Entry). l ++ behind) (sym (map-append (λ (act : Act). entry k act) (next_put image at) (change_acts (next_place image at) image n)) ∙ ap (λ (acts : List Act). map (λ (act : Act). entry k act) acts) (step_acts image n at)))))
 
-  good_begins : (s : State) (image : List ℕ) (moment n : ℕ) (made rest : List Entry) → P image → Begins k s moment n made → OwnGood (Writing.changing image n 0) (own k rest) → Good (own k (made ++ rest))
+  good_begins : (s : State) (image : List ℕ) (moment n : ℕ) (made rest : List Entry) → P image → IsBeginMade k s moment n made → OwnGood (Writing.changing image n 0) (own k rest) → Good (own k (made ++ rest))
   good_begins s image moment n made rest is b good =
       let none : NoBegin (own k b.before) = none_makes k (takes b.tries ++ (Take ∷ Load 1 ∷ [])) b.before (acts_join (takes b.tries) (Take ∷ Load 1 ∷ []) (acts_takes b.tries) (refl, (refl, tt))) b.makes in
       let more : Good (own k rest) = subst Good (sym good.1) (good_none (map (λ (act : Act). entry k act) (change_acts 0 image n)) good.0 (none_acts k (change_acts 0 image n) (acts_change 0 image n)) good.2) in

@@ -4,7 +4,7 @@ use Rattle.std.specs.List.{find, list_any}
 use Rattle.std.specs.Prelude.{bytes_eq, unwrap_or}
 use Rattle.pcp_base.specs.declared.kind.Kind.{Kind}
 use Rattle.pcp_base.specs.declared.kind.Kind.TheVariants as kinds
-use Rattle.layout_text.specs.Contents.{ranged, number_as}
+use Rattle.layout_text.specs.Contents.{number_in_range, number_as}
 use Rattle.mmv_format.specs.declared.rows.Content.{Content}
 use Rattle.mmv_format.specs.declared.rows.Content.TheVariants as contents
 use Rattle.mmv_format.specs.declared.rows.Slot.{Slot}
@@ -89,7 +89,7 @@ number_given word (Some c) is e f =
     let g : Some (Swap word number.0) ≡ None = subst (λ (d : Content). option_map (Swap word) (field_of (Some d)) ≡ None) number.1 f in
     cc
 
-ranged_number : (low high : ℕ) (n : ℤ) (c : Content) → ranged low high n ≡ Some c → (m : ℕ) × (c ≡ contents.Number m)
+ranged_number : (low high : ℕ) (n : ℤ) (c : Content) → number_in_range low high n ≡ Some c → (m : ℕ) × (c ≡ contents.Number m)
 ranged_number low high (pos n) c e = by_test (nat_le n high) e
   where
     by_test : (b : Bool) → (if b then Some (contents.Number n) else None) ≡ Some c → (m : ℕ) × (c ≡ contents.Number m)

@@ -9,7 +9,7 @@ use Rattle.region_core.specs.Journal.{state, IsLegal, IsJournal}
 use Rattle.region_core.specs.Shape.{Shaping, IsWord}
 use Rattle.region_core.specs.State.{State, word, plus, after, opening, after_take, IsAllowed}
 use Rattle.region_core.proofs.Runs.{wide_run}
-use Rattle.record_laws.specs.Sums.{stored_by, added_by, brought, sum_after, added_since, IsSum}
+use Rattle.record_laws.specs.Sums.{stored_by, added_by, stored_last_in, sum_after, added_since, IsSum}
 
 abbrev Same : ℕ → ℕ → Type 0
 Same a b = a % 2 ^ 64 ≡ b % 2 ^ 64
@@ -59,7 +59,7 @@ summed_after s k w opened sum (End n) below h = stored s.words 2 w n opened sum 
 summed_after s k w opened sum Free below h = kept (word s w) opened sum h
 
 -- all of them
-summed : (s : State) (w opened sum : ℕ) (es : List Entry) → w < length s.words → Same (word s w) (opened + sum) → Same (word (state s es) w) (brought w opened es + added_since w sum es)
+summed : (s : State) (w opened sum : ℕ) (es : List Entry) → w < length s.words → Same (word s w) (opened + sum) → Same (word (state s es) w) (stored_last_in w opened es + added_since w sum es)
 summed s w opened sum [] below h = h
 summed s w opened sum (e ∷ es) below h =
     let wide = wide_run s (e ∷ []) in
@@ -100,10 +100,10 @@ module _ (S : Shaping) where
   pub is_sum : (words : List ℕ) (passes : ℕ) (log : List Entry) (w : ℕ) → IsJournal S words passes log → w < length words → IsSum (opening words passes) log w
   is_sum words passes log w journal below =
       let s : State = opening words passes in
-      let modulo : Same (word (state s log) w) (brought w (word s w) log + added_since w 0 log) = summed s w (word s w) 0 log below (start_same (word s w)) in
+      let modulo : Same (word (state s log) w) (stored_last_in w (word s w) log + added_since w 0 log) = summed s w (word s w) 0 log below (start_same (word s w)) in
       record {
         modulo = modulo;
-        exact = λ words_are. small (word (state s log) w) (brought w (word s w) log + added_since w 0 log) (words_run s log journal.legal words_are w) modulo;
+        exact = λ words_are. small (word (state s log) w) (stored_last_in w (word s w) log + added_since w 0 log) (words_run s log journal.legal words_are w) modulo;
       }
     where
       start_same : (n : ℕ) → Same n (n + 0)

@@ -24,7 +24,7 @@ use Rattle.script_writers.specs.Hands.{IsServedAt}
 use Rattle.script_records.specs.Beside.{Beside, start_of}
 use Rattle.script_records.specs.Pictured.{AreImages}
 use Rattle.record_laws.specs.Closing.{closing_words}
-use Rattle.record_laws.specs.Sums.{IsSum, IsStored, brought, added_since}
+use Rattle.record_laws.specs.Sums.{IsSum, IsStored, stored_last_in, added_since}
 use Rattle.record_laws.specs.Whole.{AreOfWords}
 
 -- Whatever ended a recording, each word of each region is what was stored into it last plus all adds since, modulo 2^64.
@@ -44,7 +44,7 @@ pub record IsCounted (mounted : Mounted) (token : Token) (slot : Slot) : Type 0 
   pub instance : unwrap_or row.instance (negsuc 0) ≡ slot.instance
   pub value : ℕ
   pub content : row.content ≡ Number value
-  pub sum : value ≡ (brought slot.word (word (start_of mounted) slot.word) token.view.seen + added_since slot.word 0 token.view.seen) % 2 ^ 64
+  pub sum : value ≡ (stored_last_in slot.word (word (start_of mounted) slot.word) token.view.seen + added_since slot.word 0 token.view.seen) % 2 ^ 64
   pub last : (k n : ℕ) (before behind : List Entry) → token.view.seen ≡ before ++ entry k (Begin n) ∷ behind → IsStored slot.word behind
 
 -- Once a recording has come to its end, this is so of each numeric value of each region under its last layout.

@@ -21,9 +21,9 @@ added_by w (Add u d) = if u == w then d else 0
 added_by w act = 0
 
 -- what was stored into a word last; where nothing was, the number that it opened with
-abbrev pub brought : ℕ → ℕ → List Entry → ℕ
-brought w opened [] = opened
-brought w opened (e ∷ es) = brought w (unwrap_or (stored_by w e.act) opened) es
+abbrev pub stored_last_in : ℕ → ℕ → List Entry → ℕ
+stored_last_in w opened [] = opened
+stored_last_in w opened (e ∷ es) = stored_last_in w (unwrap_or (stored_by w e.act) opened) es
 
 -- a sum goes on, and begins again behind a store
 abbrev pub sum_after : Option ℕ → ℕ → ℕ
@@ -46,6 +46,6 @@ pub record IsStored (w : ℕ) (es : List Entry) : Type 0 where
 
 -- A word is what was brought last plus all adds since, modulo 2^64
 pub record IsSum (start : State) (log : List Entry) (w : ℕ) : Type 0 where
-  pub modulo : word (state start log) w % 2 ^ 64 ≡ (brought w (word start w) log + added_since w 0 log) % 2 ^ 64
+  pub modulo : word (state start log) w % 2 ^ 64 ≡ (stored_last_in w (word start w) log + added_since w 0 log) % 2 ^ 64
   -- where the region opened with words of 64 bits, it is that number itself
-  pub exact : ((u : ℕ) → IsWord (word start u)) → word (state start log) w ≡ (brought w (word start w) log + added_since w 0 log) % 2 ^ 64
+  pub exact : ((u : ℕ) → IsWord (word start u)) → word (state start log) w ≡ (stored_last_in w (word start w) log + added_since w 0 log) % 2 ^ 64

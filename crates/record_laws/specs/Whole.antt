@@ -18,7 +18,7 @@ use Rattle.script_runs.specs.Slots.{swap_of, add_of}
 use Rattle.script_runs.specs.declared.ending.Ending.{Ending}
 use Rattle.script_runs.specs.declared.ending.Ending.TheVariants as ends
 use Rattle.script_writers.specs.Hands.{IsServedAt}
-use Rattle.script_writers.specs.Lines.{Writing, StoresLast, Begins, LineMakes}
+use Rattle.script_writers.specs.Lines.{Writing, StoresLast, IsBeginMade, LineMakes}
 use Rattle.script_records.specs.Beside.{Beside, start_of}
 use Rattle.script_records.specs.Pictured.{AreImages}
 
@@ -30,7 +30,7 @@ LineWrites images k s writing (lines.Swap region pass item instance value) entri
 LineWrites images k s writing (lines.Add region pass item instance number) entries next =
     (writing ≡ Writing.attached) × StoresLast k s (λ words. add_of words item instance number) entries × (next ≡ Writing.attached)
 LineWrites images k s writing (lines.Begin region pass image moment) entries next =
-    (writing ≡ Writing.idle) × (n : ℕ) × Begins k s moment n entries × (next ≡ Writing.changing (image_words images image) n 0)
+    (writing ≡ Writing.idle) × (n : ℕ) × IsBeginMade k s moment n entries × (next ≡ Writing.changing (image_words images image) n 0)
 LineWrites images k s writing line entries next = LineMakes images k s writing line entries next
 
 -- its lines one after another, the entries of each up to its last own one

@@ -24,7 +24,7 @@ use Rattle.fetch_answers.specs.Answers.{is_of, region_of, metric_with, indom_in,
 use Rattle.fetch_answers.specs.Bounds.{FitsSerial, FitsMetric, IsBounded}
 use Rattle.fetch_answers.specs.Names.{served_word, full_name}
 use Rattle.fetch_answers.specs.Readings.{RegionReading}
-use Rattle.fetch_answers.specs.Values.{ByInstance, keeps, word_of, block_of, shown_word, shown_block, words_or_none, blocks_or_none, stored, values_with}
+use Rattle.fetch_answers.specs.Values.{ByInstance, keeps, word_of, block_of, shown_word, shown_block, words_or_none, blocks_or_none, body_of_values, values_with}
 use Rattle.fetch_answers.proofs.Indexes.{metric_fits}
 use Rattle.record_run.proofs.Keys.{put_there, put_stays, HasInstance, is_listed, IsOwn, found_fact, found_domain}
 use Rattle.record_run.proofs.Values.{values_are_of}
@@ -100,7 +100,7 @@ module _ (pairs : List (ℤ × List ℕ)) (profile : Settings) (indom : Option �
   some_blocks [] all = tt
   some_blocks (p ∷ ps) all = all
 
-  all_listed : (kind : Kind) (values : ByInstance) → AllByRecursion (λ v. HasInstance v.0 pairs) values → AreListed pairs (stored kind profile indom values)
+  all_listed : (kind : Kind) (values : ByInstance) → AllByRecursion (λ v. HasInstance v.0 pairs) values → AreListed pairs (body_of_values kind profile indom values)
   all_listed kinds.I32 values all = some_words (flat_map (shown_word profile indom) values) (words_listed values all)
   all_listed kinds.U32 values all = some_words (flat_map (shown_word profile indom) values) (words_listed values all)
   all_listed kinds.I64 values all = some_blocks (flat_map (shown_block profile indom 2) values) (blocks_listed 2 values all)
@@ -171,7 +171,7 @@ module _ (regions : List RegionReading) (said : AreSaid regions) (profile : Sett
     draft : IsDraft layout × IsBounded layout
     draft = subst IsSaidBy layout_is known.said
 
-    body_is : body_of regions profile pmid ≡ stored metric.kind profile (indom_in region.cluster metric) (values_with metric.item layout.values)
+    body_is : body_of regions profile pmid ≡ body_of_values metric.kind profile (indom_in region.cluster metric) (values_with metric.item layout.values)
     body_is =
         ap (region_body profile pmid) region_is ∙ ap (layout_body profile region.cluster pmid) layout_is ∙ ap (metric_body profile region.cluster layout) metric_is
 
@@ -204,7 +204,7 @@ module _ (regions : List RegionReading) (said : AreSaid regions) (profile : Sett
         let low : serial < 1024 = subst FitsSerial domain fits.serial in
         let there : metric_with metric.item layout.metrics ≡ Some metric = ap (λ k. metric_with k layout.metrics) item ∙ metric_is in
         subst (λ b. AreListed (instances_of regions (served_word region.cluster serial)) b) (sym body_is)
-        (subst (λ ps. AreListed ps (stored metric.kind profile (indom_in region.cluster metric) (values_with metric.item layout.values))) (sym (instances_are serial low))
+        (subst (λ ps. AreListed ps (body_of_values metric.kind profile (indom_in region.cluster metric) (values_with metric.item layout.values))) (sym (instances_are serial low))
         (all_listed (row_instances (find (λ (row : IndomRow). nat_eq row.serial serial) layout.indoms)) profile (indom_in region.cluster metric) metric.kind (values_with metric.item layout.values)
         (values_are_of layout draft.0 metric serial domain there)))
 

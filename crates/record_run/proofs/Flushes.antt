@@ -16,7 +16,7 @@ use Rattle.logger_core.specs.Keeps.{Start}
 use Rattle.logger_core.specs.Meant.{Kept, IsLogger}
 use Rattle.logger_core.specs.Steps.{FlushStep, with_entry}
 use Rattle.script_runs.specs.Archives.{Written, Flushes}
-use Rattle.record_run.specs.Going.{IsGoing, meant}
+use Rattle.record_run.specs.Going.{IsGoing, meant_of}
 use Rattle.record_run.proofs.OneReason.{last_number}
 
 -- files without their index, and what they are read as
@@ -64,7 +64,7 @@ contents_stay files new c d o is now step =
     let one : ArchiveReading.archive (no_entries d) ≡ ArchiveReading.archive (no_entries c) =
     one_reading (no_index files) (ArchiveReading.archive (no_entries d)) (ArchiveReading.archive (no_entries c)) (subst (λ (f : Files). IsArchive f (no_entries d)) same (without_index new d now)) (without_index files c is) in cc
 
-pub flush_runs : (left : Files) (limit : ℕ) (items : List Item) (least : ℕ) (w : Written) (kept now : Kept) (between held : Holdings) (g : IsGoing left limit items least w kept between) → (f : IsFlushed (meant g.first w g.acknowledged) kept now held)
+pub flush_runs : (left : Files) (limit : ℕ) (items : List Item) (least : ℕ) (w : Written) (kept now : Kept) (between held : Holdings) (g : IsGoing left limit items least w kept between) → (f : IsFlushed (meant_of g.first w g.acknowledged) kept now held)
     → now.limit ≡ kept.limit → now.closed ≡ false → (items ≡ [] → ⊥) → (new : Written) × Flushes w new × IsGoing left limit items (length items) new now held × ((file : FileId) → contents_of held file ≡ new.files file)
 flush_runs left limit items least w kept now between held g f limit_same open_ some =
     let same : no_entries f.new.contents ≡ no_entries w.contents = contents_stay w.files f.new.files w.contents f.new.contents _ g.is.at.stands.keeps.is f.is.at.stands.keeps.is f.step.is in

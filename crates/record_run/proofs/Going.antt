@@ -41,7 +41,7 @@ use Rattle.script_runs.specs.Archives.{Written, Stand, OpensFound, Opens, EndsAr
 use Rattle.record_run.specs.declared.archive.RunArchive.{RunArchive}
 use Rattle.record_run.specs.declared.archive.Standing.{Standing}
 use Rattle.record_run.specs.declared.archive.Standing.TheVariants.{Found, Open, Lost}
-use Rattle.record_run.specs.Going.{AreApart, FlushesRun, IsGoing, IsOpen, IsStanding, IsUnclosed, IsWorking, LogFails, OpenMayAnswer, StaysOpen, TurnsAway, meant}
+use Rattle.record_run.specs.Going.{AreApart, FlushesRun, IsGoing, IsOpen, IsStanding, IsUnclosed, IsWorking, LogFails, OpenMayAnswer, StaysOpen, TurnsAway, meant_of}
 use Rattle.record_run.specs.ImageCrashes.{ComesBack, ComesBackTo, start_of}
 use Rattle.record_run.specs.ImageLogs.{MaySurvive}
 use Rattle.record_run.specs.Opening.{IsOpened}
@@ -95,7 +95,7 @@ module _ (left : Files) (stamp : Moment) (first : Written) (opens : OpensFound s
 
 module _ (left : Files) (limit : ℕ) (items : List Item) (least : ℕ) (w : Written) (kept : Kept) (held : Holdings) (g : IsGoing left limit items least w kept held) where
   abbrev m : Meant
-  m = meant g.first w g.acknowledged
+  m = meant_of g.first w g.acknowledged
 
   pub survivor_comes : (image : Files) → SurvivesOf m image → ComesBackTo items least left image
   survivor_comes image v =
@@ -212,7 +212,7 @@ module _ (records : List MetaRecord) (e : Ends) (n limit : ℕ) (answer : PmResu
 
 module _ (left : Files) (limit : ℕ) (items : List Item) (least : ℕ) (f : Fetched) (w : Written) (kept : Kept) (between : Holdings) (g : IsGoing left limit items least w kept between) where
   abbrev a : Meant
-  a = meant g.first w g.acknowledged
+  a = meant_of g.first w g.acknowledged
 
   abbrev all_ends : Ends
   all_ends = with_all kept.ends.logged kept.ends
@@ -371,7 +371,7 @@ flush_does : (left : Files) (limit : ℕ) (items : List Item) (least : ℕ) (sta
 flush_does left limit items least (Stand.found files) kept now between held n st counted some done limit_same open_ sure = absurd st
 flush_does left limit [] least (Stand.opened w) kept now between held n st counted some done limit_same open_ sure = absurd (some counted)
 flush_does left limit (x ∷ xs) least (Stand.opened w) kept now between held n st counted some done limit_same open_ sure =
-    let f : IsFlushed (meant st.first w st.acknowledged) kept now held = done (meant st.first w st.acknowledged) st.is in
+    let f : IsFlushed (meant_of st.first w st.acknowledged) kept now held = done (meant_of st.first w st.acknowledged) st.is in
     let r = flush_runs left limit (x ∷ xs) least w kept now between held st f limit_same open_ (λ e. cc) in
     (w, r.0, refl, r.1, record { standing = r.2; counted = counted }, is_settled f.new now.ends.volume held f.is.at.stands sure, r.3)
 

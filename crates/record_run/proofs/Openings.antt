@@ -8,7 +8,7 @@ use Rattle.pcp_base.specs.declared.result.Item.{Item}
 use Rattle.pcp_model.specs.Archive.{ArchiveReading, IsArchive, scan}
 use Rattle.pcp_model.specs.Disk.{Files, Held, Holdings, IsEmpty, contents_of}
 use Rattle.pcp_model.specs.Recovered.{Recovers, recovered_reading}
-use Rattle.pcp_model.specs.Written.{created}
+use Rattle.pcp_model.specs.Written.{created_files}
 use Rattle.archive_recovery.specs.declared.outcome.Archive.{Archive}
 use Rattle.archive_recovery.specs.Told.{IsToldOf}
 use Rattle.logger_core.specs.Created.{HasNoItem, IsCreated, no_items}
@@ -33,7 +33,7 @@ nothing_left archive held none left = nothing_told left.files (contents_of held)
 
 pub created_opens : (stamp : Moment) (limit : ℕ) (archive : Archive) (old new : Holdings) (kept : Kept) → archive.label ≡ None → IsLeft archive old → IsCreated (run_label stamp) limit kept new → IsOpened stamp (contents_of old) kept new
 created_opens stamp limit archive old new kept none left c = record {
-  files = created (run_label stamp);
+  files = created_files (run_label stamp);
   contents = no_items (run_label stamp);
   opens = inl (nothing_left archive old none left, refl, refl);
   is = c.is;

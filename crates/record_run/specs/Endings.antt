@@ -10,8 +10,8 @@ use Rattle.script_runs.specs.declared.ending.Ending.TheVariants as ends
 use Rattle.script_runs.specs.Archives.{ending_of, full_of}
 use Rattle.script_runs.specs.PassSteps.{one_number}
 
-abbrev pub full : FileId → ℕ → Ending
-full file bytes = full_of file bytes
+abbrev pub full_ending : FileId → ℕ → Ending
+full_ending file bytes = full_of file bytes
 
 -- a fault that is no refusal of the archive ends the run by itself
 abbrev pub or_fault : LogFault → Option Ending → Ending

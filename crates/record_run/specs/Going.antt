@@ -20,8 +20,8 @@ use Rattle.record_run.specs.declared.archive.Standing.{Standing}
 use Rattle.record_run.specs.declared.archive.Standing.TheVariants.{Found, Open, Lost}
 
 -- what a logger means of an archive that was opened first
-abbrev pub meant : Written → Written → ℕ → Meant
-meant first w acknowledged = record {
+abbrev pub meant_of : Written → Written → ℕ → Meant
+meant_of first w acknowledged = record {
   start = record { files = first.files; reading = ArchiveReading.archive first.contents };
   files = w.files;
   contents = w.contents;
@@ -43,7 +43,7 @@ pub record IsGoing (left : Files) (limit : ℕ) (items : List Item) (least : ℕ
   pub first : Written
   pub opens : OpensFound stamp left first.files first.contents
   pub acknowledged : ℕ
-  pub is : IsLogger (meant first w acknowledged) kept held
+  pub is : IsLogger (meant_of first w acknowledged) kept held
   pub volume : kept.ends.volume ≡ w.volume
   pub open_ : kept.closed ≡ false
   pub limit_is : kept.limit ≡ limit

@@ -20,7 +20,7 @@ use Rattle.result_form.specs.declared.fault.FormFault.TheVariants.{Short, Stamp,
 use Rattle.result_form.specs.declared.fields.Run.{Run}
 use Rattle.result_form.specs.declared.fields.Counted.{Counted}
 use Rattle.result_form.specs.declared.fields.Counted.TheVariants as counted
-use Rattle.result_form.specs.Decoding.{◌>>=◌, word_at, word_below, stamp_of, run_at, counted_at, run_end, end_of, set_end, sets_end, body_of, set_at, sets_from, decoded}
+use Rattle.result_form.specs.Decoding.{◌>>=◌, word_at, word_below, stamp_of, run_at, counted_at, run_end, end_of, set_end, sets_end, body_of, set_at, sets_from, payload_result}
 use Rattle.result_form.proofs.Spans.{word_again, behind_word, unsigned_fits, signed_back, word_of_signed, status_word}
 use Rattle.result_form.proofs.Pairs.{values_again, blocks_again}
 use Rattle.result_form.proofs.Whole.{least_reach}
@@ -241,8 +241,8 @@ stamp_again bytes t moment sec usec =
     ap (λ r. r >>= λ s. word_below bytes 4 1000000 (Stamp 4) >>= λ u. Ok (record { sec = s; usec = u })) (below_again bytes 0 2147483648 t.sec (Stamp 0) sec moment.sec)
     ∙ ap (λ r. r >>= λ u. Ok (record { sec = t.sec; usec = u })) (below_again bytes 4 1000000 t.usec (Stamp 4) usec moment.usec)
 
-pub payload_again : (bytes : List ℕ) (r : PmResult) → IsBytes bytes → IsPayload bytes r → decoded bytes ≡ Ok r
-unfolding decoded
+pub payload_again : (bytes : List ℕ) (r : PmResult) → IsBytes bytes → IsPayload bytes r → payload_result bytes ≡ Ok r
+unfolding payload_result
 payload_again bytes r fits p =
     let size : ℕ = head_length r in
     let words : List ℕ = set_words p.offsets r.sets in

@@ -10,7 +10,7 @@ use Rattle.result_form.specs.declared.fault.FormFault.TheVariants.{Short, Stamp,
 use Rattle.result_form.specs.declared.fields.Run.{Run}
 use Rattle.result_form.specs.declared.fields.Counted.{Counted}
 use Rattle.result_form.specs.declared.fields.Counted.TheVariants as counted
-use Rattle.result_form.specs.Decoding.{◌>>=◌, or_short, word_at, word_below, run_at, counted_at, run_end, end_of, set_end, pair_at, typed, padded_size, block_at, offset_block, offset_pair}
+use Rattle.result_form.specs.Decoding.{◌>>=◌, or_short, word_at, word_below, run_at, counted_at, run_end, end_of, set_end, pair_at, block_of_head, padded_size, block_at, offset_block, offset_pair}
 use Rattle.result_form.specs.Faults.{IsStatus, HasValues, HasMode, pairs_end, block_begin, block_size, block_end, LeadsIn, IsWhole}
 use Rattle.result_form.proofs.Again.{low_test, high_test}
 
@@ -185,7 +185,7 @@ module _ (bytes : List ℕ) (end at : ℕ) where
       tests (inr b) = inr (lt-ltb _ _ b)
 
   abbrev sized : Result ℕ FormFault → Result (TypedBytes × ℕ) FormFault
-  sized r = r >>= λ head. cond (ltb (head % 16777216) 4 || ltb (length bytes) (block_begin bytes at + padded_size head)) (Err (Block (block_begin bytes at))) (Ok (typed bytes (block_begin bytes at) head, block_begin bytes at + padded_size head))
+  sized r = r >>= λ head. cond (ltb (head % 16777216) 4 || ltb (length bytes) (block_begin bytes at + padded_size head)) (Err (Block (block_begin bytes at))) (Ok (block_of_head bytes (block_begin bytes at) head, block_begin bytes at + padded_size head))
 
   leads_in : at + 8 ≤ length bytes → LeadsIn bytes end at → offset_pair bytes end at ≡ placed (sized (Ok (number_at bytes (block_begin bytes at))))
   unfolding offset_block block_at
@@ -197,7 +197,7 @@ module _ (bytes : List ℕ) (end at : ℕ) where
   pub is_bad_block : at + 8 ≤ length bytes → LeadsIn bytes end at → (number_at bytes (block_begin bytes at) % 16777216 < 4) ⊎ (length bytes < block_end bytes at) → offset_pair bytes end at ≡ Err (Block (block_begin bytes at))
   is_bad_block h l bad =
       leads_in h l
-      ∙ ap placed (either (ltb (number_at bytes (block_begin bytes at) % 16777216) 4) (ltb (length bytes) (block_end bytes at)) (Ok (typed bytes (block_begin bytes at) (number_at bytes (block_begin bytes at)), block_end bytes at)) (Block (block_begin bytes at)) (tests bad))
+      ∙ ap placed (either (ltb (number_at bytes (block_begin bytes at) % 16777216) 4) (ltb (length bytes) (block_end bytes at)) (Ok (block_of_head bytes (block_begin bytes at) (number_at bytes (block_begin bytes at)), block_end bytes at)) (Block (block_begin bytes at)) (tests bad))
     where
       tests : (number_at bytes (block_begin bytes at) % 16777216 < 4) ⊎ (length bytes < block_end bytes at) → (ltb (number_at bytes (block_begin bytes at) % 16777216) 4 ≡ true) ⊎ (ltb (length bytes) (block_end bytes at) ≡ true)
       tests (inl a) = inl (lt-ltb _ _ a)
@@ -205,9 +205,9 @@ module _ (bytes : List ℕ) (end at : ℕ) where
 
   -- the pair with its block, and where this ends
   abbrev pub pair_found : (ℤ × TypedBytes) × ℕ
-  pair_found = ((cast_signed w32 (number_at bytes at), typed bytes (block_begin bytes at) (number_at bytes (block_begin bytes at))), block_end bytes at)
+  pair_found = ((cast_signed w32 (number_at bytes at), block_of_head bytes (block_begin bytes at) (number_at bytes (block_begin bytes at))), block_end bytes at)
 
   pub block_stands : at + 8 ≤ length bytes → LeadsIn bytes end at → IsWhole bytes at → offset_pair bytes end at ≡ Ok pair_found
   block_stands h l w =
       leads_in h l
-      ∙ ap placed (neither (ltb (number_at bytes (block_begin bytes at) % 16777216) 4) (ltb (length bytes) (block_end bytes at)) (Ok (typed bytes (block_begin bytes at) (number_at bytes (block_begin bytes at)), block_end bytes at)) (Block (block_begin bytes at)) (le-ltb _ _ w.0) (le-ltb _ _ w.1))
+      ∙ ap placed (neither (ltb (number_at bytes (block_begin bytes at) % 16777216) 4) (ltb (length bytes) (block_end bytes at)) (Ok (block_of_head bytes (block_begin bytes at) (number_at bytes (block_begin bytes at)), block_end bytes at)) (Block (block_begin bytes at)) (le-ltb _ _ w.0) (le-ltb _ _ w.1))

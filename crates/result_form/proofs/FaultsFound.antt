@@ -14,7 +14,7 @@ use Rattle.result_form.specs.declared.fault.FormFault.{FormFault}
 use Rattle.result_form.specs.declared.fault.FormFault.TheVariants.{Short, Stamp, Count, Mode, Offset, Block, Trailing, NoMemory}
 use Rattle.result_form.specs.declared.fields.Counted.{Counted}
 use Rattle.result_form.specs.declared.fields.Counted.TheVariants as counted
-use Rattle.result_form.specs.Decoding.{◌>>=◌, Gives, word_at, word_below, stamp_of, counted_at, set_end, sets_end, pair_at, values_from, offset_pair, blocks_from, body_of, set_at, sets_from, decoded}
+use Rattle.result_form.specs.Decoding.{◌>>=◌, Gives, word_at, word_below, stamp_of, counted_at, set_end, sets_end, pair_at, values_from, offset_pair, blocks_from, body_of, set_at, sets_from, payload_result}
 use Rattle.result_form.specs.Faults.{IsStatus, HasValues, HasMode, HasBlocks, HasHead, pairs_end, SetStands, SetsStand, IsSetFault, IsSetsFault, block_begin, block_end, LeadsIn, IsWhole, IsPairFault, PairsReach, IsPairsFault, SetReaches, SetsReach, IsBlocksFault, IsHeadFault, IsEndFault, IsFault, IsFormFault}
 use Rattle.result_form.proofs.FaultRules.{done, word_stands, below_stands, below_ends, below_fails, ends_in_metric, ends_in_number, is_status, ends_in_mode, is_bad_mode, ends_in_pairs, pairs_stand, counts_status, counts_in_place, counts_blocks, pair_stands, leads_out, is_bad_block, block_stands, pair_found, run_made}
 
@@ -321,11 +321,11 @@ usec_fails bytes e h sec f =
     ap (λ r. r >>= λ s. word_below bytes 4 1000000 (Stamp 4) >>= λ u. Ok (a_moment s u)) (below_stands bytes 0 2147483648 (Stamp 0) h sec)
     ∙ ap (λ r. r >>= λ u. Ok (a_moment (number_at bytes 0) u)) f
 
-pub decoded_is : (bytes : List ℕ) → decoded bytes ≡ from_stamp bytes (stamp_of bytes)
-unfolding decoded
+pub decoded_is : (bytes : List ℕ) → payload_result bytes ≡ from_stamp bytes (stamp_of bytes)
+unfolding payload_result
 decoded_is bytes = refl
 
-by_stamp : (bytes : List ℕ) (r : Result Moment FormFault) → stamp_of bytes ≡ r → Says bytes (from_stamp bytes r) → Says bytes (decoded bytes)
+by_stamp : (bytes : List ℕ) (r : Result Moment FormFault) → stamp_of bytes ≡ r → Says bytes (from_stamp bytes r) → Says bytes (payload_result bytes)
 by_stamp bytes r e x = subst (Says bytes) (sym (decoded_is bytes ∙ ap (from_stamp bytes) e)) x
 
 by_count : (bytes : List ℕ) (stamp : Moment) (r : Result ℕ FormFault) → word_below bytes 8 2147483648 (Count 8) ≡ r → Says bytes (from_count bytes stamp r) → Says bytes (from_stamp bytes (Ok stamp))
@@ -343,7 +343,7 @@ count_says bytes two sec usec =
           ]
     ]
 
-usec_says : (bytes : List ℕ) → 4 ≤ length bytes → number_at bytes 0 < 2147483648 → Says bytes (decoded bytes)
+usec_says : (bytes : List ℕ) → 4 ≤ length bytes → number_at bytes 0 < 2147483648 → Says bytes (payload_result bytes)
 usec_says bytes one sec =
     elim (cases_lt (length bytes) 8) [
       | inl cut ↦ by_stamp bytes (Err (Short 4)) (usec_fails bytes (Short 4) one sec (below_ends bytes 4 1000000 (Stamp 4) cut)) (inl (cut, inr (inl (refl, (one, sec)))))
@@ -354,7 +354,7 @@ usec_says bytes one sec =
           ]
     ]
 
-pub decoded_says : (bytes : List ℕ) → Says bytes (decoded bytes)
+pub decoded_says : (bytes : List ℕ) → Says bytes (payload_result bytes)
 decoded_says bytes =
     elim (cases_lt (length bytes) 4) [
       | inl cut ↦ by_stamp bytes (Err (Short 0)) (sec_fails bytes (Short 0) (below_ends bytes 0 2147483648 (Stamp 0) cut)) (inl (cut, inl refl))
@@ -369,7 +369,7 @@ fault_of : (bytes : List ℕ) (e : FormFault) → IsFault bytes e → IsFormFaul
 fault_of bytes NoMemory x = tt
 fault_of bytes e x = x
 
-pub is_fault : (bytes : List ℕ) (result : Result PmResult FormFault) → Gives result (decoded bytes) → IfErr result (IsFormFault bytes)
+pub is_fault : (bytes : List ℕ) (result : Result PmResult FormFault) → Gives result (payload_result bytes) → IfErr result (IsFormFault bytes)
 is_fault bytes (Ok r) given = tt
 is_fault bytes (Err e) (inl none) = subst (IsFormFault bytes) (sym none) tt
 is_fault bytes (Err e) (inr given) = fault_of bytes e (subst (Says bytes) given (decoded_says bytes))

@@ -13,7 +13,7 @@ use Rattle.pcp_base.specs.declared.result.PmResult.{PmResult}
 use Rattle.pcp_model.specs.Payload.{IsPayload}
 use Rattle.result_form.specs.declared.fault.FormFault.{FormFault}
 use Rattle.result_form.specs.declared.fault.FormFault.TheVariants.{Short, Stamp, Count, Mode, Offset, Block, Trailing, NoMemory}
-use Rattle.result_form.specs.Decoding.{◌>>=◌, word_below, stamp_of, set_end, sets_end, offset_pair, blocks_from, set_at, sets_from, decoded}
+use Rattle.result_form.specs.Decoding.{◌>>=◌, word_below, stamp_of, set_end, sets_end, offset_pair, blocks_from, set_at, sets_from, payload_result}
 use Rattle.result_form.specs.Faults.{IsStatus, HasValues, HasMode, HasBlocks, HasSeconds, HasStamp, HasHead, pairs_end, SetStands, SetsStand, IsPairWord, IsSetFault, IsSetsFault, block_end, IsPairFault, PairsReach, IsPairsFault, SetReaches, SetsReach, IsBlocksFault, IsHeadFault, IsEndFault, IsFault}
 use Rattle.result_form.specs.Laws.{FaultsComeOnce}
 use Rattle.result_form.proofs.Again.{payload_again}
@@ -139,25 +139,25 @@ reach_ends bytes end (suc n) at before far x =
 
 -- ---- the whole payload
 
-by_stamp : (bytes : List ℕ) (r : Result Moment FormFault) (e : FormFault) → stamp_of bytes ≡ r → from_stamp bytes r ≡ Err e → decoded bytes ≡ Err e
+by_stamp : (bytes : List ℕ) (r : Result Moment FormFault) (e : FormFault) → stamp_of bytes ≡ r → from_stamp bytes r ≡ Err e → payload_result bytes ≡ Err e
 by_stamp bytes r e h g = decoded_is bytes ∙ ap (from_stamp bytes) h ∙ g
 
 abbrev moment_in : List ℕ → Moment
 moment_in bytes = a_moment (number_at bytes 0) (number_at bytes 4)
 
-by_count : (bytes : List ℕ) (r : Result ℕ FormFault) (e : FormFault) → 8 ≤ length bytes → number_at bytes 0 < 2147483648 → number_at bytes 4 < 1000000 → word_below bytes 8 2147483648 (Count 8) ≡ r → from_count bytes (moment_in bytes) r ≡ Err e → decoded bytes ≡ Err e
+by_count : (bytes : List ℕ) (r : Result ℕ FormFault) (e : FormFault) → 8 ≤ length bytes → number_at bytes 0 < 2147483648 → number_at bytes 4 < 1000000 → word_below bytes 8 2147483648 (Count 8) ≡ r → from_count bytes (moment_in bytes) r ≡ Err e → payload_result bytes ≡ Err e
 by_count bytes r e two sec usec h g = by_stamp bytes (Ok (moment_in bytes)) e (stamp_is bytes two sec usec) (ap (from_count bytes (moment_in bytes)) h ∙ g)
 
 abbrev whole : FormFault → Result PmResult FormFault
 whole e = Err e
 
-head_fails : (bytes : List ℕ) (e : FormFault) → IsHeadFault bytes e → decoded bytes ≡ Err e
+head_fails : (bytes : List ℕ) (e : FormFault) → IsHeadFault bytes e → payload_result bytes ≡ Err e
 head_fails bytes (Short at) x = by x.1
   where
     cut : length bytes < at + 4
     cut = x.0
 
-    by : (at ≡ 0) ⊎ (((at ≡ 4) × HasSeconds bytes) ⊎ ((at ≡ 8) × HasStamp bytes)) → decoded bytes ≡ Err (Short at)
+    by : (at ≡ 0) ⊎ (((at ≡ 4) × HasSeconds bytes) ⊎ ((at ≡ 8) × HasStamp bytes)) → payload_result bytes ≡ Err (Short at)
     by (inl e) = by_stamp bytes (Err (Short 0)) (Short 0) (sec_fails bytes (Short 0) (below_ends bytes 0 2147483648 (Stamp 0) (omega (arith, cut)))) refl ∙ ap (λ k. whole (Short k)) (sym e)
     by (inr (inl s)) = by_stamp bytes (Err (Short 4)) (Short 4) (usec_fails bytes (Short 4) s.1.0 s.1.1 (below_ends bytes 4 1000000 (Stamp 4) (omega (arith, cut, s.0)))) refl ∙ ap (λ k. whole (Short k)) (sym s.0)
     by (inr (inr s)) = by_count bytes (Err (Short 8)) (Short 8) s.1.1 s.1.0.1 s.1.2 (below_ends bytes 8 2147483648 (Count 8) (omega (arith, cut, s.0))) refl ∙ ap (λ k. whole (Short k)) (sym s.0)
@@ -166,7 +166,7 @@ head_fails bytes (Stamp at) (inr x) = by_stamp bytes (Err (Stamp 4)) (Stamp 4) (
 head_fails bytes (Count at) x = by_count bytes (Err (Count 8)) (Count 8) x.1.1 x.1.0.1 x.1.2 (below_fails bytes 8 2147483648 (Count 8) x.2 x.3) refl ∙ ap (λ k. whole (Count k)) (sym x.0)
 head_fails bytes e x = elim x [ ]
 
-by_head : (bytes : List ℕ) (e : FormFault) → HasHead bytes → from_end bytes (moment_in bytes) (number_at bytes 8) (sets_end bytes (number_at bytes 8) 12) ≡ Err e → decoded bytes ≡ Err e
+by_head : (bytes : List ℕ) (e : FormFault) → HasHead bytes → from_end bytes (moment_in bytes) (number_at bytes 8) (sets_end bytes (number_at bytes 8) 12) ≡ Err e → payload_result bytes ≡ Err e
 by_head bytes e h g = by_count bytes (Ok (number_at bytes 8)) e h.0.1 h.0.0.1 h.0.2 (below_stands bytes 8 2147483648 (Count 8) h.1 h.2) g
 
 end_fails : (bytes : List ℕ) (end : ℕ) (e : FormFault) → IsEndFault bytes end e → last bytes (moment_in bytes) (sets_from bytes end end (number_at bytes 8) 12) ≡ Err e
@@ -175,7 +175,7 @@ end_fails bytes end (Trailing at) x =
     ap (last bytes (moment_in bytes)) read.1 ∙ ap (λ b. cond b (whole (Trailing at)) (Ok (record { stamp = moment_in bytes; sets = read.0 }))) (lt-ltb _ _ x.1)
 end_fails bytes end e x = elim x [ ]
 
-pub fault_is : (bytes : List ℕ) (e : FormFault) → IsFault bytes e → decoded bytes ≡ Err e
+pub fault_is : (bytes : List ℕ) (e : FormFault) → IsFault bytes e → payload_result bytes ≡ Err e
 fault_is bytes e (inl x) = head_fails bytes e x
 fault_is bytes e (inr (h, inl x)) = by_head bytes e h (ap (from_end bytes (moment_in bytes) (number_at bytes 8)) (sets_fail bytes (number_at bytes 8) 12 e x))
 fault_is bytes e (inr (h, inr (end, all, inl x))) =
@@ -188,13 +188,13 @@ pub one_fault : (bytes : List ℕ) (e f : FormFault) → IsFault bytes e → IsF
 one_fault bytes e f x y = same_err PmResult e f (sym (fault_is bytes e x) ∙ fault_is bytes f y)
 
 -- what reading comes to is a payload or a fault
-some_by : (bytes : List ℕ) → IsBytes bytes → (read : Result PmResult FormFault) → decoded bytes ≡ read → Says bytes read → ((r : PmResult) × IsPayload bytes r) ⊎ ((e : FormFault) × IsFault bytes e)
+some_by : (bytes : List ℕ) → IsBytes bytes → (read : Result PmResult FormFault) → payload_result bytes ≡ read → Says bytes read → ((r : PmResult) × IsPayload bytes r) ⊎ ((e : FormFault) × IsFault bytes e)
 some_by bytes fits (Ok r) h says = inl (r, payload_takes bytes r fits h)
 some_by bytes fits (Err e) h says = inr (e, says)
 
 pub once : (bytes : List ℕ) → IsBytes bytes → FaultsComeOnce bytes
 once bytes fits = record {
-  some = some_by bytes fits (decoded bytes) refl (decoded_says bytes);
+  some = some_by bytes fits (payload_result bytes) refl (decoded_says bytes);
   one = one_fault bytes;
   either = λ r e is fault. not_both r e (sym (payload_again bytes r fits is) ∙ fault_is bytes e fault);
 }

@@ -13,7 +13,7 @@ use Rattle.pcp_model.specs.Words.{word, signed_word, length-word, length-signed_
 use Rattle.pcp_model.specs.Payload.{three_bytes, block_head, block_length, offset_byte, pair_blocks, value_pairs, offset_pairs, reach, BlockStands, BlocksStand}
 use Rattle.result_form.specs.declared.fault.FormFault.{FormFault}
 use Rattle.result_form.specs.declared.fault.FormFault.TheVariants.{Offset, Block}
-use Rattle.result_form.specs.Decoding.{◌>>=◌, word_at, pair_at, values_from, typed, padded_size, block_at, offset_block, offset_pair, blocks_from}
+use Rattle.result_form.specs.Decoding.{◌>>=◌, word_at, pair_at, values_from, block_of_head, padded_size, block_at, offset_block, offset_pair, blocks_from}
 use Rattle.result_form.proofs.Spans.{bind_ok, guard_ok, ok_is, neither, Spans, nothing, joined, word_takes, word_again, behind_word, pair_takes, pair_again}
 
 pub moved : (bytes : List ℕ) (at : ℕ) (text : List ℕ) (next other : ℕ) → next ≡ other → Spans bytes at text next → Spans bytes at text other
@@ -96,11 +96,11 @@ record BlockRead (bytes : List ℕ) (at : ℕ) (x : TypedBytes × ℕ) : Type 0 
 block_takes : (bytes : List ℕ) (at : ℕ) (x : TypedBytes × ℕ) → IsBytes bytes → block_at bytes at ≡ Ok x → BlockRead bytes at x
 unfolding block_at
 block_takes bytes at x fits e =
-    let a = bind_ok (word_at bytes at) (λ head. cond (ltb (head % 16777216) 4 || ltb (length bytes) (at + padded_size head)) (Err (Block at)) (Ok (typed bytes at head, at + padded_size head))) x e in
+    let a = bind_ok (word_at bytes at) (λ head. cond (ltb (head % 16777216) 4 || ltb (length bytes) (at + padded_size head)) (Err (Block at)) (Ok (block_of_head bytes at head, at + padded_size head))) x e in
     let head : ℕ = a.0 in
     let k : ℕ = head % 16777216 - 4 in
     let w = word_takes bytes at (at + 4) head fits refl a.1 in
-    let g = guard_ok (ltb (head % 16777216) 4 || ltb (length bytes) (at + padded_size head)) (Block at) (typed bytes at head, at + padded_size head) x a.2 in
+    let g = guard_ok (ltb (head % 16777216) 4 || ltb (length bytes) (at + padded_size head)) (Block at) (block_of_head bytes at head, at + padded_size head) x a.2 in
     let n = neither (ltb (head % 16777216) 4) (ltb (length bytes) (at + padded_size head)) g.0 in
     let least : 4 ≤ head % 16777216 = ltb-false _ _ n.0 in
     let room : at + padded_size head ≤ length bytes = ltb-false _ _ n.1 in
@@ -139,11 +139,11 @@ block_again bytes at b fits is within small =
     let high : head / 16777216 ≡ b.code = omega arith in
     let kept : take (head % 16777216 - 4) (drop (at + 4) bytes) ≡ b.bytes = ap (λ m. take (m - 4) (drop (at + 4) bytes)) low ∙ ap (λ t. take (4 + n - 4) t) (behind_word bytes at (at + 4) head (b.bytes ++ behind) refl cut) ∙ take_at b.bytes behind (4 + n - 4) (omega arith) in
     let end : at + padded_size head ≡ at + block_length b = omega arith in
-    let made : typed bytes at head ≡ b = same_block (head / 16777216) b.code (take (head % 16777216 - 4) (drop (at + 4) bytes)) b.bytes high kept in
+    let made : block_of_head bytes at head ≡ b = same_block (head / 16777216) b.code (take (head % 16777216 - 4) (drop (at + 4) bytes)) b.bytes high kept in
     let least : ltb (head % 16777216) 4 ≡ false = le-ltb _ _ (omega arith) in
     let room : ltb (length bytes) (at + padded_size head) ≡ false = le-ltb _ _ (omega arith) in
-    ap (λ r. r >>= λ h. cond (ltb (h % 16777216) 4 || ltb (length bytes) (at + padded_size h)) (Err (Block at)) (Ok (typed bytes at h, at + padded_size h))) read
-    ∙ passes (ltb (head % 16777216) 4) (ltb (length bytes) (at + padded_size head)) (Block at) (Ok (typed bytes at head, at + padded_size head)) least room
+    ap (λ r. r >>= λ h. cond (ltb (h % 16777216) 4 || ltb (length bytes) (at + padded_size h)) (Err (Block at)) (Ok (block_of_head bytes at h, at + padded_size h))) read
+    ∙ passes (ltb (head % 16777216) 4) (ltb (length bytes) (at + padded_size head)) (Block at) (Ok (block_of_head bytes at head, at + padded_size head)) least room
     ∙ ap (λ t. Ok (t, at + padded_size head)) made ∙ ap (λ m. Ok (b, m)) end
 
 pub record OffsetRead (bytes : List ℕ) (sets_end at : ℕ) (x : (ℤ × TypedBytes) × ℕ) : Type 0 where

@@ -12,7 +12,7 @@ use Rattle.pcp_model.specs.Words.{word}
 use Rattle.pcp_model.specs.Payload.{offset_byte, block_length, blocks_of, set_words, sets_length, head_length, result_head, reach, BlocksStand, IsPayload}
 use Rattle.result_form.specs.declared.fault.FormFault.{FormFault}
 use Rattle.result_form.specs.declared.fault.FormFault.TheVariants.{Stamp, Count, Trailing}
-use Rattle.result_form.specs.Decoding.{◌>>=◌, Gives, word_at, word_below, stamp_of, sets_end, sets_from, decoded}
+use Rattle.result_form.specs.Decoding.{◌>>=◌, Gives, word_at, word_below, stamp_of, sets_end, sets_from, payload_result}
 use Rattle.result_form.proofs.Spans.{bind_ok, guard_ok, only_ok, ok_is, Spans, joined, word_takes}
 use Rattle.result_form.proofs.Sets.{sets_takes, sets_grow}
 
@@ -54,8 +54,8 @@ reach_within bytes end (offset ∷ offsets) (b ∷ blocks) h stand =
 front_of : (bytes text : List ℕ) (n : ℕ) → Spans bytes 0 text n → take n bytes ≡ text
 front_of bytes text n s = ap (take n) s.cut ∙ take_at text (drop n bytes) n (let e : length text ≡ n = omega (arith, s.size) in e)
 
-pub payload_takes : (bytes : List ℕ) (r : PmResult) → IsBytes bytes → decoded bytes ≡ Ok r → IsPayload bytes r
-unfolding decoded
+pub payload_takes : (bytes : List ℕ) (r : PmResult) → IsBytes bytes → payload_result bytes ≡ Ok r → IsPayload bytes r
+unfolding payload_result
 payload_takes bytes r fits e =
     let a = bind_ok (stamp_of bytes)
     (λ stamp. word_below bytes 8 2147483648 (Count 8) >>= λ count. sets_end bytes count 12 >>= λ end. sets_from bytes end end count 12
@@ -91,6 +91,6 @@ payload_takes bytes r fits e =
       whole = subst (λ n. length bytes ≡ reach n q.offsets (blocks_of sets)) end whole;
     })
 
-pub is_found : (bytes : List ℕ) (result : Result PmResult FormFault) → IsBytes bytes → Gives result (decoded bytes) → IfOk result (λ r. IsPayload bytes r)
+pub is_found : (bytes : List ℕ) (result : Result PmResult FormFault) → IsBytes bytes → Gives result (payload_result bytes) → IfOk result (λ r. IsPayload bytes r)
 is_found bytes (Ok r) fits given = payload_takes bytes r fits given
 is_found bytes (Err e) fits given = tt

@@ -107,8 +107,8 @@ values_from bytes (suc n) at = do
   Ok (pair ∷ others)
 
 -- A block's first word has the type in its top byte, and below it the length with this word's four bytes.
-abbrev pub typed : List ℕ → ℕ → ℕ → TypedBytes
-typed bytes at head = record { code = head / 16777216; bytes = take (head % 16777216 - 4) (drop (at + 4) bytes) }
+abbrev pub block_of_head : List ℕ → ℕ → ℕ → TypedBytes
+block_of_head bytes at head = record { code = head / 16777216; bytes = take (head % 16777216 - 4) (drop (at + 4) bytes) }
 
 -- how many bytes such a block takes with its padding
 abbrev pub padded_size : ℕ → ℕ
@@ -118,7 +118,7 @@ padded_size head = head % 16777216 + filling (head % 16777216)
 unfoldable pub block_at : List ℕ → ℕ → Result (TypedBytes × ℕ) FormFault
 block_at bytes at = do
   head ← word_at bytes at
-  if nat_lt (head % 16777216) 4 || nat_lt (length bytes) (at + padded_size head) then Err (Block at) else Ok (typed bytes at head, at + padded_size head)
+  if nat_lt (head % 16777216) 4 || nat_lt (length bytes) (at + padded_size head) then Err (Block at) else Ok (block_of_head bytes at head, at + padded_size head)
 
 -- The block at the offset that stands at a byte: its first word lies between the sets' end and the payload's.
 unfoldable pub offset_block : List ℕ → ℕ → ℕ → ℕ → Result (TypedBytes × ℕ) FormFault
@@ -169,8 +169,8 @@ sets_from bytes sets_end reached (suc n) at = do
 
 -- The result of a payload: first all words, with where the sets end, then the sets with their blocks; behind the
 -- greatest end of the sets and the blocks nothing stands.
-unfoldable pub decoded : List ℕ → Result PmResult FormFault
-decoded bytes = do
+unfoldable pub payload_result : List ℕ → Result PmResult FormFault
+payload_result bytes = do
   stamp ← stamp_of bytes
   count ← word_below bytes 8 2147483648 (Count 8)
   end ← sets_end bytes count 12

@@ -1,7 +1,7 @@
 //! The reader of a payload.
 ghost use Rattle.std.specs.Prelude.{◌≡◌, ◌+◌, ◌≤◌, IfOk, IfErr, Ok};
 ghost use Rattle.pcp_model.specs.Payload.{IsPayload, blocks_in, blocks_of};
-ghost use Rattle.result_form.specs.Decoding.{Gives, set_at, sets_from, decoded};
+ghost use Rattle.result_form.specs.Decoding.{Gives, set_at, sets_from, payload_result};
 ghost use Rattle.result_form.specs.Faults.{IsFormFault};
 ghost use Rattle.result_form.specs.Room.{memory_of};
 
@@ -57,9 +57,9 @@ fn sets_from(
 }
 
 /// The result of a payload, or the first fault and its offset.
-#[tactic(auto, unfolding(crate::specs::Decoding::decoded))]
+#[tactic(auto, unfolding(crate::specs::Decoding::payload_result))]
 fn read(alloc: Global, payload: &[u8]) -> Result<PmResult, FormFault>
-    ensures answer { Gives result (decoded payload.now) }
+    ensures answer { Gives result (payload_result payload.now) }
     ensures room { IfOk result (λ r. memory_of (blocks_of r.sets) ≤ 268435456) }
 {
     let stamp = stamp_of(payload)?;

@@ -3,7 +3,7 @@ use Rattle.std.proofs.Common.{◌≡◌, ℕ, ◌+◌, ◌≤◌, Bool, true, fa
 use Rattle.std.specs.Fmt.{digits}
 use Rattle.mmv_format.specs.Fields.{number32, number64}
 use Rattle.mmv_format.specs.Contents.{cluster_in}
-use Rattle.mmv_spelling.specs.Spelling.{header_words, spelled, image_words}
+use Rattle.mmv_spelling.specs.Spelling.{header_words, image_with_strings, image_words}
 use Rattle.text_lines.specs.Lines.{prepend, lines_of}
 use Rattle.text_lines.specs.Spelling.{number_part, int_part, text_part, hex_part, hex_text, quoted_text}
 use Rattle.text_lines.specs.Words.{take_as, take_word, first_word, behind_word}
@@ -150,7 +150,7 @@ first_region =
     (may four (codes "r0") (image_words (layout 1 false)) refl (small 1 false) refl)
 
 second_apart : has_cluster five.images five.regions (cluster_in (image_words (layout 2 false))) ≡ false
-unfolding image_words spelled header_words layout number32 number64
+unfolding image_words image_with_strings header_words layout number32 number64
 second_apart = refl
 
 second_region : with_script_line 248 (stages.Head, five) (codes "region r1 r1 2048 4") ≡ Ok (stages.Head, six)
@@ -160,7 +160,7 @@ second_region =
     (may five (codes "r1") (image_words (layout 2 false)) refl (small 2 false) second_apart)
 
 third_apart : has_cluster six.images six.regions (cluster_in (image_words (layout 3 false))) ≡ false
-unfolding image_words spelled header_words layout number32 number64
+unfolding image_words image_with_strings header_words layout number32 number64
 third_apart = refl
 
 third_region : with_script_line 249 (stages.Head, six) (codes "region r2 r2 2048 4") ≡ Ok (stages.Head, seven)

@@ -8,7 +8,7 @@ use Rattle.std.proofs.lemmas.List.{map-append}
 use Rattle.std.proofs.lemmas.List.Elements.{filter_map-append}
 use Rattle.run_script.specs.declared.script.Line.{Line}
 use Rattle.run_script.specs.declared.script.Line.TheVariants as lines
-use Rattle.run_script.specs.Generated.{numbers, number_behind, draw, add_of, detached, changed, change_at, added, flushed, tick_at, tick_steps, all_ticks, all_steps, numbered, generated}
+use Rattle.run_script.specs.Generated.{numbers, number_behind, draw, add_of, detach_lines, change_lines, change_at, three_adds, flush_lines, tick_at, tick_steps, all_ticks, all_steps, with_line_numbers, generated_script}
 use Rattle.run_script.specs.Laws.{second, tick_of, GeneratedTicks, if_add, GeneratedAdds, DrawsAreAdds, behind_adds, change_before, flush_behind, GeneratedOrder}
 
 numbers_end : (from n : ℕ) → numbers from (suc n) ≡ numbers from n ++ (from + n) ∷ []
@@ -21,8 +21,8 @@ numbers_end from (suc n) =
 last_number : (n : ℕ) → numbers 1 (suc n) ≡ numbers 1 n ++ suc n ∷ []
 last_number n = let same : 1 + n ≡ suc n = omega arith in numbers_end 1 n ∙ ap (λ k. numbers 1 n ++ k ∷ []) same
 
-lines_stay : (n : ℕ) (made : List Line) → map (λ (step : ℕ × Line). step.1) (numbered n made) ≡ made
-unfolding numbered
+lines_stay : (n : ℕ) (made : List Line) → map (λ (step : ℕ × Line). step.1) (with_line_numbers n made) ≡ made
+unfolding with_line_numbers
 lines_stay n [] = refl
 lines_stay n (step ∷ made) = ap (λ rest. step ∷ rest) (lines_stay (n + 1) made)
 
@@ -30,9 +30,9 @@ lines_stay n (step ∷ made) = ap (λ rest. step ∷ rest) (lines_stay (n + 1) m
 
 tick_stamps : (x k : ℕ) → filter_map tick_of (tick_steps x k) ≡ second k ∷ []
 unfolding tick_steps
-tick_stamps x k = filter_map-append tick_of (change_at k) (added x ++ (tick_at k ∷ flushed k)) ∙ on (k % 256 == 0) (if k / 256 % 2 == 1 then 3 else 0) (k % 10 == 0)
+tick_stamps x k = filter_map-append tick_of (change_at k) (three_adds x ++ (tick_at k ∷ flush_lines k)) ∙ on (k % 256 == 0) (if k / 256 % 2 == 1 then 3 else 0) (k % 10 == 0)
   where
-    on : (is : Bool) (image : ℕ) (tenth : Bool) → filter_map tick_of (if is then changed image else []) ++ (second k ∷ filter_map tick_of (if tenth then lines.Flush ∷ [] else [])) ≡ second k ∷ []
+    on : (is : Bool) (image : ℕ) (tenth : Bool) → filter_map tick_of (if is then change_lines image else []) ++ (second k ∷ filter_map tick_of (if tenth then lines.Flush ∷ [] else [])) ≡ second k ∷ []
     on true image true = refl
     on true image false = refl
     on false image true = refl
@@ -48,10 +48,10 @@ ticks_stamps x (suc n) =
     ∙ ap (map second) (sym (last_number n))
 
 pub generated_ticks : GeneratedTicks
-unfolding generated all_steps
+unfolding generated_script all_steps
 generated_ticks number ticks =
     ap (filter_map tick_of) (lines_stay 252 (all_steps number ticks))
-    ∙ filter_map-append tick_of (all_ticks number ticks) (detached 0 ++ (detached 1 ++ detached 2))
+    ∙ filter_map-append tick_of (all_ticks number ticks) (detach_lines 0 ++ (detach_lines 1 ++ detach_lines 2))
     ∙ append-nil (filter_map tick_of (all_ticks number ticks))
     ∙ ticks_stamps number ticks
 
@@ -60,17 +60,17 @@ generated_ticks number ticks =
 abbrev drawn : ℕ → ℕ → Line
 drawn x k = add_of (draw (number_behind x k))
 
-tick_adds : (x k : ℕ) → filter_map if_add (tick_steps x k) ≡ added x
+tick_adds : (x k : ℕ) → filter_map if_add (tick_steps x k) ≡ three_adds x
 unfolding tick_steps
-tick_adds x k = filter_map-append if_add (change_at k) (added x ++ (tick_at k ∷ flushed k)) ∙ on (k % 256 == 0) (if k / 256 % 2 == 1 then 3 else 0) (k % 10 == 0)
+tick_adds x k = filter_map-append if_add (change_at k) (three_adds x ++ (tick_at k ∷ flush_lines k)) ∙ on (k % 256 == 0) (if k / 256 % 2 == 1 then 3 else 0) (k % 10 == 0)
   where
-    on : (is : Bool) (image : ℕ) (tenth : Bool) → filter_map if_add (if is then changed image else []) ++ (added x ++ filter_map if_add (if tenth then lines.Flush ∷ [] else [])) ≡ added x
+    on : (is : Bool) (image : ℕ) (tenth : Bool) → filter_map if_add (if is then change_lines image else []) ++ (three_adds x ++ filter_map if_add (if tenth then lines.Flush ∷ [] else [])) ≡ three_adds x
     on true image true = refl
     on true image false = refl
     on false image true = refl
     on false image false = refl
 
-three_more : (x n : ℕ) → map (drawn x) (numbers 1 (3 * suc n)) ≡ map (drawn x) (numbers 1 (3 * n)) ++ added (number_behind x (3 * n))
+three_more : (x n : ℕ) → map (drawn x) (numbers 1 (3 * suc n)) ≡ map (drawn x) (numbers 1 (3 * n)) ++ three_adds (number_behind x (3 * n))
 unfolding number_behind
 three_more x n =
     let same : 3 * suc n ≡ suc (suc (suc (3 * n))) = omega arith in
@@ -89,10 +89,10 @@ ticks_adds x (suc n) =
     ∙ sym (three_more x n)
 
 pub generated_adds : GeneratedAdds
-unfolding generated all_steps
+unfolding generated_script all_steps
 generated_adds number ticks =
     ap (filter_map if_add) (lines_stay 252 (all_steps number ticks))
-    ∙ filter_map-append if_add (all_ticks number ticks) (detached 0 ++ (detached 1 ++ detached 2))
+    ∙ filter_map-append if_add (all_ticks number ticks) (detach_lines 0 ++ (detach_lines 1 ++ detach_lines 2))
     ∙ append-nil (filter_map if_add (all_ticks number ticks))
     ∙ ticks_adds number ticks
 
@@ -127,7 +127,7 @@ at_tick k tenth a = (a, lines.Tick (second k)) ∷ (if tenth then (a, lines.Flus
 
 module _ (x k : ℕ) (more : List Line) where
   one_tick : (is odd tenth : Bool) (b : ℕ)
-      → behind_adds b ((if is then changed (if odd then 3 else 0) else []) ++ ((added x ++ (tick_at k ∷ (if tenth then lines.Flush ∷ [] else []))) ++ more))
+      → behind_adds b ((if is then change_lines (if odd then 3 else 0) else []) ++ ((three_adds x ++ (tick_at k ∷ (if tenth then lines.Flush ∷ [] else []))) ++ more))
       ≡ (change_by is odd b ++ at_tick k tenth (b + 1 + 1 + 1)) ++ behind_adds (b + 1 + 1 + 1) more
   one_tick true odd true b = refl
   one_tick true odd false b = refl
@@ -142,7 +142,7 @@ unfolding tick_steps
 tick_order x n more =
     let three : 3 * n + 1 + 1 + 1 ≡ 3 * suc n = omega arith in
     let before : 3 * n ≡ 3 * suc n - 3 = omega arith in
-    ap (behind_adds (3 * n)) (append_assoc (change_at (suc n)) (added x ++ (tick_at (suc n) ∷ flushed (suc n))) more)
+    ap (behind_adds (3 * n)) (append_assoc (change_at (suc n)) (three_adds x ++ (tick_at (suc n) ∷ flush_lines (suc n))) more)
     ∙ one_tick x (suc n) more (suc n % 256 == 0) (suc n / 256 % 2 == 1) (suc n % 10 == 0) (3 * n)
     ∙ ap (λ a. (change_by (suc n % 256 == 0) (suc n / 256 % 2 == 1) (3 * n) ++ at_tick (suc n) (suc n % 10 == 0) a) ++ behind_adds a more) three
     ∙ ap (λ l. (l ++ at_tick (suc n) (suc n % 10 == 0) (3 * suc n)) ++ behind_adds (3 * suc n) more) (ap (change_by (suc n % 256 == 0) (suc n / 256 % 2 == 1)) before ∙ same_change (suc n) (3 * suc n - 3))
@@ -161,8 +161,8 @@ ticks_order x (suc n) more =
     ∙ ap (flat_map around) (sym (last_number n)))
 
 pub generated_order : GeneratedOrder
-unfolding generated all_steps
+unfolding generated_script all_steps
 generated_order number ticks =
     ap (behind_adds 0) (lines_stay 252 (all_steps number ticks))
-    ∙ ticks_order number ticks (detached 0 ++ (detached 1 ++ detached 2))
+    ∙ ticks_order number ticks (detach_lines 0 ++ (detach_lines 1 ++ detach_lines 2))
     ∙ append-nil (flat_map around (numbers 1 ticks))

@@ -14,7 +14,7 @@ use Rattle.run_script.specs.declared.said.Stage.TheVariants as stages
 use Rattle.run_script.specs.Said.{nothing}
 use Rattle.run_script.specs.Steps.{attaches, detaches, adds, begins, finishes, is_later, step_of, last_behind, with_line, with_step}
 use Rattle.run_script.specs.Reading.{in_steps, with_script_line, with_script_lines, whole, script_of}
-use Rattle.run_script.specs.Generated.{images, next, number_behind, draw, add_of, attached, detached, changed, change_at, added, flushed, tick_at, tick_steps, all_ticks, all_steps, numbered, generated}
+use Rattle.run_script.specs.Generated.{images, next, number_behind, draw, add_of, attach_lines, detach_lines, change_lines, change_at, three_adds, flush_lines, tick_at, tick_steps, all_ticks, all_steps, with_line_numbers, generated_script}
 use Rattle.run_script.specs.GeneratedText.{with_feed, step_text, steps_text, images_text, front_text, generated_text}
 use Rattle.run_script.specs.Laws.{second, GeneratedIsRead, GeneratedIsRuled}
 use Rattle.run_script.proofs.Numbered.{numbers_go_on}
@@ -37,10 +37,10 @@ record IsSpelt (step : Line) (last : Option Moment) : Type 0 where
 -- the lines of steps are read as those steps, the last tick being that before
 abbrev Reads : List Line → Option Moment → Option Moment → Type 0
 Reads made last later = (n : ℕ) (before : List (ℕ × Line))
-    → Passes (steps_text made) n (stages.Steps, behind before last) (n + length made) (stages.Steps, behind (before ++ numbered n made) later)
+    → Passes (steps_text made) n (stages.Steps, behind before last) (n + length made) (stages.Steps, behind (before ++ with_line_numbers n made) later)
 
 none_reads : (last : Option Moment) → Reads [] last last
-unfolding steps_text numbered
+unfolding steps_text with_line_numbers
 none_reads last n before rest =
     let here : n ≡ n + 0 = omega arith in
     ap (λ m. with_script_lines (lines_of rest) m (stages.Steps, behind before last)) here
@@ -51,11 +51,11 @@ unfolding steps_text
 both_read a b l m k f g n before rest =
     let there : (n + length a) + length b ≡ n + length (a ++ b) = omega (arith, length-append a b) in
     ap (λ bytes. with_script_lines (lines_of (bytes ++ rest)) n (stages.Steps, behind before l)) (flat_map-append (λ step. with_feed (step_text step)) a b)
-    ∙ both_pass (steps_text a) (steps_text b) n (n + length a) ((n + length a) + length b) (stages.Steps, behind before l) (stages.Steps, behind (before ++ numbered n a) m)
-    (stages.Steps, behind ((before ++ numbered n a) ++ numbered (n + length a) b) k) (f n before) (g (n + length a) (before ++ numbered n a)) rest
-    ∙ ap (λ i. with_script_lines (lines_of rest) i (stages.Steps, behind ((before ++ numbered n a) ++ numbered (n + length a) b) k)) there
+    ∙ both_pass (steps_text a) (steps_text b) n (n + length a) ((n + length a) + length b) (stages.Steps, behind before l) (stages.Steps, behind (before ++ with_line_numbers n a) m)
+    (stages.Steps, behind ((before ++ with_line_numbers n a) ++ with_line_numbers (n + length a) b) k) (f n before) (g (n + length a) (before ++ with_line_numbers n a)) rest
+    ∙ ap (λ i. with_script_lines (lines_of rest) i (stages.Steps, behind ((before ++ with_line_numbers n a) ++ with_line_numbers (n + length a) b) k)) there
     ∙ ap (λ made. with_script_lines (lines_of rest) (n + length (a ++ b)) (stages.Steps, behind made k))
-    (append_assoc before (numbered n a) (numbered (n + length a) b) ∙ ap (λ made. before ++ made) (sym (numbers_go_on n a b)))
+    (append_assoc before (with_line_numbers n a) (with_line_numbers (n + length a) b) ∙ ap (λ made. before ++ made) (sym (numbers_go_on n a b)))
 
 line_reads : (step : Line) (last : Option Moment) → IsSpelt step last → (n : ℕ) (before : List (ℕ × Line))
     → with_script_line n (stages.Steps, behind before last) (step_text step) ≡ Ok (stages.Steps, behind (before ++ (n, step) ∷ []) (last_behind last step))
@@ -66,15 +66,15 @@ line_reads step last is n before =
 
 -- one step, and then others
 first_reads : (step : Line) (made : List Line) (last later : Option Moment) → IsSpelt step last → Reads made (last_behind last step) later → Reads (step ∷ made) last later
-unfolding steps_text numbered
+unfolding steps_text with_line_numbers
 first_reads step made last later is f n before rest =
     let there : (n + 1) + length made ≡ n + suc (length made) = omega arith in
     both_pass (with_feed (step_text step)) (steps_text made) n (n + 1) ((n + 1) + length made) (stages.Steps, behind before last) (stages.Steps, behind (before ++ (n, step) ∷ []) (last_behind last step))
-    (stages.Steps, behind ((before ++ (n, step) ∷ []) ++ numbered (n + 1) made) later)
+    (stages.Steps, behind ((before ++ (n, step) ∷ []) ++ with_line_numbers (n + 1) made) later)
     (line_passes (step_text step) n (stages.Steps, behind before last) (stages.Steps, behind (before ++ (n, step) ∷ []) (last_behind last step)) is.line (line_reads step last is n before))
     (f (n + 1) (before ++ (n, step) ∷ [])) rest
-    ∙ ap (λ i. with_script_lines (lines_of rest) i (stages.Steps, behind ((before ++ (n, step) ∷ []) ++ numbered (n + 1) made) later)) there
-    ∙ ap (λ all. with_script_lines (lines_of rest) (n + suc (length made)) (stages.Steps, behind all later)) (append_assoc before ((n, step) ∷ []) (numbered (n + 1) made))
+    ∙ ap (λ i. with_script_lines (lines_of rest) i (stages.Steps, behind ((before ++ (n, step) ∷ []) ++ with_line_numbers (n + 1) made) later)) there
+    ∙ ap (λ all. with_script_lines (lines_of rest) (n + suc (length made)) (stages.Steps, behind all later)) (append_assoc before ((n, step) ∷ []) (with_line_numbers (n + 1) made))
 
 -- Single steps
 
@@ -107,14 +107,14 @@ module _ (last : Option Moment) where
       means = λ before. ap (λ o. adds o (record { item = item; instance = None }) (pos n)) (has_pass region pass r p);
     }
 
-  attached_read : (region : ℕ) → region < 3 → Reads (attached region) last last
+  attached_read : (region : ℕ) → region < 3 → Reads (attach_lines region) last last
   attached_read region r =
       first_reads (lines.Attach region 0) (lines.Attach region 1 ∷ lines.Attach region 2 ∷ lines.Attach region 3 ∷ []) last last (attach_spelt region 0 r (omega arith))
       (first_reads (lines.Attach region 1) (lines.Attach region 2 ∷ lines.Attach region 3 ∷ []) last last (attach_spelt region 1 r (omega arith))
       (first_reads (lines.Attach region 2) (lines.Attach region 3 ∷ []) last last (attach_spelt region 2 r (omega arith))
       (first_reads (lines.Attach region 3) [] last last (attach_spelt region 3 r (omega arith)) (none_reads last))))
 
-  detached_read : (region : ℕ) → region < 3 → Reads (detached region) last last
+  detached_read : (region : ℕ) → region < 3 → Reads (detach_lines region) last last
   detached_read region r =
       first_reads (lines.Detach region 0) (lines.Detach region 1 ∷ lines.Detach region 2 ∷ lines.Detach region 3 ∷ []) last last (detach_spelt region 0 r (omega arith))
       (first_reads (lines.Detach region 1) (lines.Detach region 2 ∷ lines.Detach region 3 ∷ []) last last (detach_spelt region 1 r (omega arith))
@@ -148,16 +148,16 @@ module _ (last : Option Moment) where
     means = λ before. ap finishes (has_pass 0 0 (omega arith) (omega arith));
   }
 
-  changed_read : (image : ℕ) → IsSpelt (lines.Begin 0 0 image 0) last → Reads (changed image) last last
+  changed_read : (image : ℕ) → IsSpelt (lines.Begin 0 0 image 0) last → Reads (change_lines image) last last
   changed_read image is =
-      both_read (detached 0) (lines.Begin 0 0 image 0 ∷ lines.Finish 0 0 ∷ attached 0) last last last (detached_read 0 (omega arith))
-      (first_reads (lines.Begin 0 0 image 0) (lines.Finish 0 0 ∷ attached 0) last last is
-      (first_reads (lines.Finish 0 0) (attached 0) last last finish_spelt (attached_read 0 (omega arith))))
+      both_read (detach_lines 0) (lines.Begin 0 0 image 0 ∷ lines.Finish 0 0 ∷ attach_lines 0) last last last (detached_read 0 (omega arith))
+      (first_reads (lines.Begin 0 0 image 0) (lines.Finish 0 0 ∷ attach_lines 0) last last is
+      (first_reads (lines.Finish 0 0) (attach_lines 0) last last finish_spelt (attached_read 0 (omega arith))))
 
   change_reads : (k : ℕ) → Reads (change_at k) last last
   change_reads k = on (k % 256 == 0) (k / 256 % 2 == 1)
     where
-      on : (is odd : Bool) → Reads (if is then changed (if odd then 3 else 0) else []) last last
+      on : (is odd : Bool) → Reads (if is then change_lines (if odd then 3 else 0) else []) last last
       on true true = changed_read 3 late_spelt
       on true false = changed_read 0 back_spelt
       on false odd = none_reads last
@@ -165,7 +165,7 @@ module _ (last : Option Moment) where
   drawn_spelt : (d : ℕ) → IsSpelt (add_of d) last
   drawn_spelt d = add_spelt (d % 3) (d / 3 % 4) (omega arith) (omega arith) (1 + d / 12 % 12) (1 + d / 65536 % 100) (omega arith) (omega arith)
 
-  added_read : (x : ℕ) → Reads (added x) last last
+  added_read : (x : ℕ) → Reads (three_adds x) last last
   added_read x =
       first_reads (add_of (draw (next x))) (add_of (draw (next (next x))) ∷ add_of (draw (next (next (next x)))) ∷ []) last last (drawn_spelt (draw (next x)))
       (first_reads (add_of (draw (next (next x)))) (add_of (draw (next (next (next x)))) ∷ []) last last (drawn_spelt (draw (next (next x))))
@@ -175,7 +175,7 @@ module _ (last : Option Moment) where
   unfolding step_of
   flush_spelt = record { line = flush_in_line; said = steps.Flush; reads = flush_reads; means = λ before. refl }
 
-  flushed_read : (k : ℕ) → Reads (flushed k) last last
+  flushed_read : (k : ℕ) → Reads (flush_lines k) last last
   flushed_read k = on (k % 10 == 0)
     where
       on : (is : Bool) → Reads (if is then lines.Flush ∷ [] else []) last last
@@ -206,9 +206,9 @@ tick_spelt n h = record {
 tick_read : (x n : ℕ) → n < 100000 → Reads (tick_steps x (suc n)) (last_of n) (last_of (suc n))
 unfolding tick_steps last_of
 tick_read x n h =
-    both_read (change_at (suc n)) (added x ++ (tick_at (suc n) ∷ flushed (suc n))) (last_of n) (last_of n) (last_of (suc n)) (change_reads (last_of n) (suc n))
-    (both_read (added x) (tick_at (suc n) ∷ flushed (suc n)) (last_of n) (last_of n) (last_of (suc n)) (added_read (last_of n) x)
-    (first_reads (tick_at (suc n)) (flushed (suc n)) (last_of n) (last_of (suc n)) (tick_spelt n h) (flushed_read (last_of (suc n)) (suc n))))
+    both_read (change_at (suc n)) (three_adds x ++ (tick_at (suc n) ∷ flush_lines (suc n))) (last_of n) (last_of n) (last_of (suc n)) (change_reads (last_of n) (suc n))
+    (both_read (three_adds x) (tick_at (suc n) ∷ flush_lines (suc n)) (last_of n) (last_of n) (last_of (suc n)) (added_read (last_of n) x)
+    (first_reads (tick_at (suc n)) (flush_lines (suc n)) (last_of n) (last_of (suc n)) (tick_spelt n h) (flushed_read (last_of (suc n)) (suc n))))
 
 ticks_read : (x n : ℕ) → n ≤ 100000 → Reads (all_ticks x n) None (last_of n)
 unfolding all_ticks last_of
@@ -219,21 +219,21 @@ ticks_read x (suc n) h =
 all_read : (x n : ℕ) → n ≤ 100000 → Reads (all_steps x n) None (last_of n)
 unfolding all_steps
 all_read x n h =
-    both_read (attached 0 ++ (attached 1 ++ attached 2)) (all_ticks x n ++ (detached 0 ++ (detached 1 ++ detached 2))) None None (last_of n)
-    (both_read (attached 0) (attached 1 ++ attached 2) None None None (attached_read None 0 (omega arith))
-    (both_read (attached 1) (attached 2) None None None (attached_read None 1 (omega arith)) (attached_read None 2 (omega arith))))
-    (both_read (all_ticks x n) (detached 0 ++ (detached 1 ++ detached 2)) None (last_of n) (last_of n) (ticks_read x n h)
-    (both_read (detached 0) (detached 1 ++ detached 2) (last_of n) (last_of n) (last_of n) (detached_read (last_of n) 0 (omega arith))
-    (both_read (detached 1) (detached 2) (last_of n) (last_of n) (last_of n) (detached_read (last_of n) 1 (omega arith)) (detached_read (last_of n) 2 (omega arith)))))
+    both_read (attach_lines 0 ++ (attach_lines 1 ++ attach_lines 2)) (all_ticks x n ++ (detach_lines 0 ++ (detach_lines 1 ++ detach_lines 2))) None None (last_of n)
+    (both_read (attach_lines 0) (attach_lines 1 ++ attach_lines 2) None None None (attached_read None 0 (omega arith))
+    (both_read (attach_lines 1) (attach_lines 2) None None None (attached_read None 1 (omega arith)) (attached_read None 2 (omega arith))))
+    (both_read (all_ticks x n) (detach_lines 0 ++ (detach_lines 1 ++ detach_lines 2)) None (last_of n) (last_of n) (ticks_read x n h)
+    (both_read (detach_lines 0) (detach_lines 1 ++ detach_lines 2) (last_of n) (last_of n) (last_of n) (detached_read (last_of n) 0 (omega arith))
+    (both_read (detach_lines 1) (detach_lines 2) (last_of n) (last_of n) (last_of n) (detached_read (last_of n) 1 (omega arith)) (detached_read (last_of n) 2 (omega arith)))))
 
 -- Whole scripts
 
 pub generated_is_read : GeneratedIsRead
-unfolding script_of generated_text generated lines_of with_script_lines
+unfolding script_of generated_text generated_script lines_of with_script_lines
 generated_is_read number ticks h =
     let made = all_steps number ticks in
-    let passes : Passes ((images_text ++ front_text) ++ steps_text made) 1 (stages.Head, nothing) (252 + length made) (stages.Steps, behind (numbered 252 made) (last_of ticks)) =
-    both_pass (images_text ++ front_text) (steps_text made) 1 252 (252 + length made) (stages.Head, nothing) (stages.Steps, before_steps) (stages.Steps, behind (numbered 252 made) (last_of ticks))
+    let passes : Passes ((images_text ++ front_text) ++ steps_text made) 1 (stages.Head, nothing) (252 + length made) (stages.Steps, behind (with_line_numbers 252 made) (last_of ticks)) =
+    both_pass (images_text ++ front_text) (steps_text made) 1 252 (252 + length made) (stages.Head, nothing) (stages.Steps, before_steps) (stages.Steps, behind (with_line_numbers 252 made) (last_of ticks))
     head_passes (all_read number ticks h 252 []) in
     let same : ((images_text ++ front_text) ++ steps_text made) ++ [] ≡ images_text ++ (front_text ++ steps_text made) =
     append-nil ((images_text ++ front_text) ++ steps_text made) ∙ append_assoc images_text front_text (steps_text made) in
@@ -241,4 +241,4 @@ generated_is_read number ticks h =
     (ap (λ bytes. with_script_lines (lines_of bytes) 1 (stages.Head, nothing)) (sym same) ∙ passes [])
 
 pub generated_is_ruled : GeneratedIsRuled
-generated_is_ruled number ticks h = scripts_are_ruled (generated_text number ticks) (generated number ticks) (generated_is_read number ticks h)
+generated_is_ruled number ticks h = scripts_are_ruled (generated_text number ticks) (generated_script number ticks) (generated_is_read number ticks h)

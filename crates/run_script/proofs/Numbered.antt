@@ -4,35 +4,35 @@ use Rattle.std.specs.Prelude.{◌/◌, ◌%◌, ◌==◌, Bool, true, false, if�
 use Rattle.std.proofs.lemmas.List.{append-nil}
 use Rattle.run_script.specs.declared.script.Line.{Line}
 use Rattle.run_script.specs.declared.script.Line.TheVariants as lines
-use Rattle.run_script.specs.Generated.{next, number_behind, numbered, with_steps, changed, change_at, added, tick_at, flushed, tick_steps, all_ticks}
+use Rattle.run_script.specs.Generated.{next, number_behind, with_line_numbers, with_steps, change_lines, change_at, three_adds, tick_at, flush_lines, tick_steps, all_ticks}
 
-pub as_many : (from : ℕ) (steps : List Line) → length (numbered from steps) ≡ length steps
-unfolding numbered
+pub as_many : (from : ℕ) (steps : List Line) → length (with_line_numbers from steps) ≡ length steps
+unfolding with_line_numbers
 as_many from [] = refl
 as_many from (step ∷ steps) = ap suc (as_many (from + 1) steps)
 
-pub numbers_go_on : (from : ℕ) (a b : List Line) → numbered from (a ++ b) ≡ numbered from a ++ numbered (from + length a) b
-unfolding numbered
-numbers_go_on from [] b = let same : from ≡ from + 0 = omega arith in ap (λ n. numbered n b) same
+pub numbers_go_on : (from : ℕ) (a b : List Line) → with_line_numbers from (a ++ b) ≡ with_line_numbers from a ++ with_line_numbers (from + length a) b
+unfolding with_line_numbers
+numbers_go_on from [] b = let same : from ≡ from + 0 = omega arith in ap (λ n. with_line_numbers n b) same
 numbers_go_on from (step ∷ a) b =
-    ap (λ rest. (from, step) ∷ rest) (numbers_go_on (from + 1) a b ∙ ap (λ n. numbered (from + 1) a ++ numbered n b) (omega arith))
+    ap (λ rest. (from, step) ∷ rest) (numbers_go_on (from + 1) a b ∙ ap (λ n. with_line_numbers (from + 1) a ++ with_line_numbers n b) (omega arith))
 
 pub longer : (steps : List (ℕ × Line)) (more : List Line) → length (with_steps steps more) ≡ length steps + length more
-longer steps more = length-append steps (numbered (252 + length steps) more) ∙ ap (λ n. length steps + n) (as_many (252 + length steps) more)
+longer steps more = length-append steps (with_line_numbers (252 + length steps) more) ∙ ap (λ n. length steps + n) (as_many (252 + length steps) more)
 
 -- steps and then steps are all of them
 pub with_both : (steps : List (ℕ × Line)) (a b : List Line) → with_steps (with_steps steps a) b ≡ with_steps steps (a ++ b)
 with_both steps a b =
-    append_assoc steps (numbered (252 + length steps) a) (numbered (252 + length (with_steps steps a)) b)
+    append_assoc steps (with_line_numbers (252 + length steps) a) (with_line_numbers (252 + length (with_steps steps a)) b)
     ∙ ap (λ rest. steps ++ rest)
-    (ap (λ n. numbered (252 + length steps) a ++ numbered n b) (ap (λ n. 252 + n) (longer steps a) ∙ omega arith)
+    (ap (λ n. with_line_numbers (252 + length steps) a ++ with_line_numbers n b) (ap (λ n. 252 + n) (longer steps a) ∙ omega arith)
     ∙ sym (numbers_go_on (252 + length steps) a b))
 
 pub with_none : (steps : List (ℕ × Line)) → with_steps steps [] ≡ steps
-unfolding numbered
+unfolding with_line_numbers
 with_none steps = append-nil steps
 
-few_if : (is : Bool) (image : ℕ) → length (if is then changed image else []) ≤ 10
+few_if : (is : Bool) (image : ℕ) → length (if is then change_lines image else []) ≤ 10
 few_if true image = omega arith
 few_if false image = omega arith
 
@@ -45,7 +45,7 @@ few_line false step = omega arith
 
 pub few_tick : (x k : ℕ) → length (tick_steps x k) ≤ 15
 unfolding tick_steps
-few_tick x k = omega (arith, length-append (change_at k) (added x ++ (tick_at k ∷ flushed k)), few_change k, few_line (k % 10 == 0) lines.Flush)
+few_tick x k = omega (arith, length-append (change_at k) (three_adds x ++ (tick_at k ∷ flush_lines k)), few_change k, few_line (k % 10 == 0) lines.Flush)
 
 pub three_draws : (x n : ℕ) → next (next (next (number_behind x (3 * n)))) ≡ number_behind x (3 * (n + 1))
 unfolding number_behind

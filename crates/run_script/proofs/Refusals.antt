@@ -7,7 +7,7 @@ use Rattle.run_script.specs.declared.doing.Doing.{Doing}
 use Rattle.run_script.specs.declared.script.Line.{Line}
 use Rattle.run_script.specs.declared.script.Line.TheVariants as lines
 use Rattle.run_script.specs.declared.script.Script.{Script}
-use Rattle.run_script.specs.Recording.{place_of, comes_at, suits, wrong_step, all_rest, line_behind, unrested, or_else}
+use Rattle.run_script.specs.Recording.{place_of, comes_at, suits, wrong_step, all_rest, line_behind, unrest_line, or_else}
 use Rattle.run_script.specs.RecordingSteps.{IsFirst, IsNear, AreNear, Tells, is_resting, comes, comes_behind, line_passes, passes_at, right_with, suits_image}
 use Rattle.run_script.specs.Rules.{IsRegion, HasPass, IsPlaced, KeepsRules}
 use Rattle.run_script.proofs.Firsts.{first_same, first_both}
@@ -136,12 +136,12 @@ module _ (script : Script) (rules : KeepsRules script) (steps : List (ℕ × Lin
       → slice_get script.steps count ≡ None → Tells (take came s) doing → all_rest script.steps ≡ list_all is_resting doing) (sym same) (rests_behind script rules came count doing)
 
   pub refused_there : (step : ℕ × Line) → IsFirst (comes steps) (length steps) came → IsFirst (passes_at (right_with script (length script.images)) (take came steps)) (length (take came steps)) count
-      → Some step ≡ slice_get script.steps count → Some step.0 ≡ or_else (wrong_step script [] script.steps) (unrested script.steps)
-  refused_there step h g e = sym (ap (λ o. or_else o (unrested script.steps)) (found_in h g ∙ ap line_there (sym e)))
+      → Some step ≡ slice_get script.steps count → Some step.0 ≡ or_else (wrong_step script [] script.steps) (unrest_line script.steps)
+  refused_there step h g e = sym (ap (λ o. or_else o (unrest_line script.steps)) (found_in h g ∙ ap line_there (sym e)))
 
   pub refused_behind : (doing : List Doing) (rest : Bool) → IsFirst (comes steps) (length steps) came
       → IsFirst (passes_at (right_with script (length script.images)) (take came steps)) (length (take came steps)) count → None ≡ slice_get script.steps count → Tells (take came steps) doing
-      → list_all is_resting doing ≡ rest → cond rest None (Some (line_behind script.steps)) ≡ or_else (wrong_step script [] script.steps) (unrested script.steps)
+      → list_all is_resting doing ≡ rest → cond rest None (Some (line_behind script.steps)) ≡ or_else (wrong_step script [] script.steps) (unrest_line script.steps)
   refused_behind doing rest h g e tells all =
-      sym (ap (λ o. or_else o (unrested script.steps)) (found_in h g ∙ ap line_there (sym e))
+      sym (ap (λ o. or_else o (unrest_line script.steps)) (found_in h g ∙ ap line_there (sym e))
       ∙ ap (λ b. cond b None (Some (line_behind script.steps))) (rests_in doing h g (sym e) tells ∙ all))

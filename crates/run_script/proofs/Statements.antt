@@ -7,7 +7,7 @@ use Rattle.log_schedule.specs.Configuration.{IsConfiguration, IsFault}
 use Rattle.log_schedule.specs.Scanning.{State, run, at_start}
 use Rattle.log_schedule.proofs.Accepts.{taken}
 use Rattle.log_schedule.proofs.Verdicts.{is_read, fault_refuses}
-use Rattle.run_script.specs.Heads.{single, scanned, statement_of}
+use Rattle.run_script.specs.Heads.{single, group_of_scan, statement_of}
 use Rattle.run_script.specs.Laws.{StatementsAreTold}
 
 pub one_alone : (groups rest : List Group) (last : Group) → nat_eq (length groups) 1 ≡ true → groups ≡ rest ++ last ∷ [] → single groups ≡ Some last
@@ -26,19 +26,19 @@ pub told_group : (line : List ℕ) (groups : List Group) → IsConfiguration lin
 unfolding statement_of
 told_group line groups is =
     let t = taken groups line at_start.1 refl is in
-    ap single (sym t.2) ∙ ap scanned (sym t.1)
+    ap single (sym t.2) ∙ ap group_of_scan (sym t.1)
 
 -- what the scan leads to, if it leads between statements
-by_scan : (line : List ℕ) (found : Option State) (group : Group) → run at_start line ≡ found → scanned found ≡ Some group → (groups : List Group) × IsConfiguration line groups × (single groups ≡ Some group)
+by_scan : (line : List ℕ) (found : Option State) (group : Group) → run at_start line ≡ found → group_of_scan found ≡ Some group → (groups : List Group) × IsConfiguration line groups × (single groups ≡ Some group)
 by_scan line (Some (scans.Between, f)) group e h = (f.groups, is_read line f e, h)
 by_scan line _ group e h = cc
 
 -- bytes with a fault are no statement
 pub no_group : (line : List ℕ) (at : ℕ) → IsFault line at → None ≡ statement_of line
 unfolding statement_of
-no_group line at fault = here (scanned (run at_start line)) refl
+no_group line at fault = here (group_of_scan (run at_start line)) refl
   where
-    here : (o : Option Group) → scanned (run at_start line) ≡ o → None ≡ o
+    here : (o : Option Group) → group_of_scan (run at_start line) ≡ o → None ≡ o
     here None e = refl
     here (Some group) e = let found = by_scan line (run at_start line) group refl e in absurd (fault_refuses line at fault found.0 found.1)
 

@@ -8,7 +8,7 @@ use Rattle.std.proofs.lemmas.List.Elements.{All-head, All-tail}
 use Rattle.text_lines.specs.Laws.{EndsWord}
 use Rattle.text_lines.specs.Numbers.{◌>>=◌, number_of, number32, number64, whole_number}
 use Rattle.text_lines.specs.Spelling.{number_part, int_part, missing_part}
-use Rattle.text_lines.specs.Words.{take_space, take_word, take_as, optional, first_word, behind_word, ended}
+use Rattle.text_lines.specs.Words.{take_space, take_word, take_as, optional, first_word, behind_word, whole_line}
 use Rattle.text_lines.proofs.Decimals.{number_of-decimal, decimal_is, whole-decimal}
 use Rattle.text_lines.proofs.NumberParts.{word-decimal, number_is_read}
 use Rattle.text_lines.proofs.Splitting.{IsWord, plain_word, take_as_of}
@@ -84,7 +84,7 @@ module _ (region pass : ℕ) (r : region < 3) (p : pass < 4) where
 
   place_line_reads : place_line (pass_part region pass []) ≡ Some (place region pass)
   unfolding place_line
-  place_line_reads = ap (λ o. o >>= (λ p. ended p.1 p.0)) (place_reads [] tt)
+  place_line_reads = ap (λ o. o >>= (λ p. whole_line p.1 p.0)) (place_reads [] tt)
 
   pub has_pass : pass_of regions (place region pass) ≡ Some (region, pass)
   has_pass =
@@ -168,10 +168,10 @@ zero_in_line = refl
 pub tick_reads : (k : ℕ) → k < 2147483648 → step_line (step_text (lines.Tick (second k))) ≡ Some (steps.Tick (second k))
 unfolding step_text step_line other_line first_word behind_word tick_line number_part
 tick_reads k h =
-    ap (λ o. o >>= (λ s. take_as number32 s.1 >>= (λ u. stamp_of s.0 u.0 >>= (λ stamp. ended u.1 (steps.Tick stamp)))))
+    ap (λ o. o >>= (λ s. take_as number32 s.1 >>= (λ u. stamp_of s.0 u.0 >>= (λ stamp. whole_line u.1 (steps.Tick stamp)))))
     (number_is_read k (number_part 0) (omega arith) refl)
-    ∙ ap (λ o. o >>= (λ u. stamp_of k u.0 >>= (λ stamp. ended u.1 (steps.Tick stamp)))) zero_reads
-    ∙ ap (λ b. cond (b && nat_lt 0 1000000) (Some (second k)) None >>= (λ stamp. ended [] (steps.Tick stamp))) (lt-ltb k 2147483648 h)
+    ∙ ap (λ o. o >>= (λ u. stamp_of k u.0 >>= (λ stamp. whole_line u.1 (steps.Tick stamp)))) zero_reads
+    ∙ ap (λ b. cond (b && nat_lt 0 1000000) (Some (second k)) None >>= (λ stamp. whole_line [] (steps.Tick stamp))) (lt-ltb k 2147483648 h)
 
 pub tick_in_line : (k : ℕ) → k < 2147483648 → is_line (step_text (lines.Tick (second k))) ≡ true
 unfolding step_text

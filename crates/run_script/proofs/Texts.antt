@@ -12,12 +12,12 @@ use Rattle.mmv_writer.specs.declared.fault.BuildFault.TheVariants.{TooLarge}
 use Rattle.std.specs.Fmt.{digits}
 use Rattle.text_lines.specs.Lines.{lines_of, prepend, without_feed}
 use Rattle.text_lines.specs.Numbers.{number32, number64, whole_number, int32, hex_number}
-use Rattle.text_lines.specs.Words.{take_as, take_word, first_word, behind_word, optional, text_byte, text_within, quoted, take_text, take_help}
+use Rattle.text_lines.specs.Words.{take_as, take_word, first_word, behind_word, optional, text_byte, text_within, text_in_quotes, take_text, take_help}
 use Rattle.layout_text.specs.Words.{name_of, kind_of, semantics_of}
 use Rattle.layout_text.specs.Lines.{line_of, mmv_line, indom_line, instance_line, metric_line, value_line, number_content, words_content, last_content}
 use Rattle.mmv_writer.specs.Rules.{indom_fault, instance_fault, metric_fault, value_fault}
 use Rattle.mmv_writer.specs.Draft.{empty_draft, with_domain, add_instance, with_instance, with_metric, with_value}
-use Rattle.mmv_writer.specs.Reading.{text_image, image_of, text_draft, draft_of, with_lines, with_said, with_head, with_line, full_line_of, sized}
+use Rattle.mmv_writer.specs.Reading.{text_image, image_of, text_draft, draft_of, with_lines, with_said, with_head, with_line, full_line_of, words_within_limit}
 use Rattle.run_script.specs.Generated.{numbers, layout}
 
 abbrev pub rows : List ℕ
@@ -37,27 +37,27 @@ text cluster has = ((((codes "mmv 1 1 0 0 " ++ (48 + cluster) ∷ []) ++ rows) +
 
 -- so the text has this layout
 pub first_draft : text_draft (text 1 false) ≡ Ok (layout 1 false)
-unfolding text_draft draft_of with_lines with_said with_head with_line full_line_of lines_of prepend without_feed line_of mmv_line indom_line instance_line metric_line value_line number_content words_content last_content take_as take_word first_word behind_word optional text_byte text_within quoted take_text take_help number32 number64 whole_number int32 hex_number name_of kind_of semantics_of empty_draft with_domain add_instance with_instance with_metric with_value indom_fault instance_fault metric_fault value_fault layout numbers digits
+unfolding text_draft draft_of with_lines with_said with_head with_line full_line_of lines_of prepend without_feed line_of mmv_line indom_line instance_line metric_line value_line number_content words_content last_content take_as take_word first_word behind_word optional text_byte text_within text_in_quotes take_text take_help number32 number64 whole_number int32 hex_number name_of kind_of semantics_of empty_draft with_domain add_instance with_instance with_metric with_value indom_fault instance_fault metric_fault value_fault layout numbers digits
 first_draft = refl
 
 pub second_draft : text_draft (text 2 false) ≡ Ok (layout 2 false)
-unfolding text_draft draft_of with_lines with_said with_head with_line full_line_of lines_of prepend without_feed line_of mmv_line indom_line instance_line metric_line value_line number_content words_content last_content take_as take_word first_word behind_word optional text_byte text_within quoted take_text take_help number32 number64 whole_number int32 hex_number name_of kind_of semantics_of empty_draft with_domain add_instance with_instance with_metric with_value indom_fault instance_fault metric_fault value_fault layout numbers digits
+unfolding text_draft draft_of with_lines with_said with_head with_line full_line_of lines_of prepend without_feed line_of mmv_line indom_line instance_line metric_line value_line number_content words_content last_content take_as take_word first_word behind_word optional text_byte text_within text_in_quotes take_text take_help number32 number64 whole_number int32 hex_number name_of kind_of semantics_of empty_draft with_domain add_instance with_instance with_metric with_value indom_fault instance_fault metric_fault value_fault layout numbers digits
 second_draft = refl
 
 pub third_draft : text_draft (text 3 false) ≡ Ok (layout 3 false)
-unfolding text_draft draft_of with_lines with_said with_head with_line full_line_of lines_of prepend without_feed line_of mmv_line indom_line instance_line metric_line value_line number_content words_content last_content take_as take_word first_word behind_word optional text_byte text_within quoted take_text take_help number32 number64 whole_number int32 hex_number name_of kind_of semantics_of empty_draft with_domain add_instance with_instance with_metric with_value indom_fault instance_fault metric_fault value_fault layout numbers digits
+unfolding text_draft draft_of with_lines with_said with_head with_line full_line_of lines_of prepend without_feed line_of mmv_line indom_line instance_line metric_line value_line number_content words_content last_content take_as take_word first_word behind_word optional text_byte text_within text_in_quotes take_text take_help number32 number64 whole_number int32 hex_number name_of kind_of semantics_of empty_draft with_domain add_instance with_instance with_metric with_value indom_fault instance_fault metric_fault value_fault layout numbers digits
 third_draft = refl
 
 pub late_draft : text_draft (text 1 true) ≡ Ok (layout 1 true)
-unfolding text_draft draft_of with_lines with_said with_head with_line full_line_of lines_of prepend without_feed line_of mmv_line indom_line instance_line metric_line value_line number_content words_content last_content take_as take_word first_word behind_word optional text_byte text_within quoted take_text take_help number32 number64 whole_number int32 hex_number name_of kind_of semantics_of empty_draft with_domain add_instance with_instance with_metric with_value indom_fault instance_fault metric_fault value_fault layout numbers digits
+unfolding text_draft draft_of with_lines with_said with_head with_line full_line_of lines_of prepend without_feed line_of mmv_line indom_line instance_line metric_line value_line number_content words_content last_content take_as take_word first_word behind_word optional text_byte text_within text_in_quotes take_text take_help number32 number64 whole_number int32 hex_number name_of kind_of semantics_of empty_draft with_domain add_instance with_instance with_metric with_value indom_fault instance_fault metric_fault value_fault layout numbers digits
 late_draft = refl
 
 pub second_late_draft : text_draft (text 2 true) ≡ Ok (layout 2 true)
-unfolding text_draft draft_of with_lines with_said with_head with_line full_line_of lines_of prepend without_feed line_of mmv_line indom_line instance_line metric_line value_line number_content words_content last_content take_as take_word first_word behind_word optional text_byte text_within quoted take_text take_help number32 number64 whole_number int32 hex_number name_of kind_of semantics_of empty_draft with_domain add_instance with_instance with_metric with_value indom_fault instance_fault metric_fault value_fault layout numbers digits
+unfolding text_draft draft_of with_lines with_said with_head with_line full_line_of lines_of prepend without_feed line_of mmv_line indom_line instance_line metric_line value_line number_content words_content last_content take_as take_word first_word behind_word optional text_byte text_within text_in_quotes take_text take_help number32 number64 whole_number int32 hex_number name_of kind_of semantics_of empty_draft with_domain add_instance with_instance with_metric with_value indom_fault instance_fault metric_fault value_fault layout numbers digits
 second_late_draft = refl
 
 pub third_late_draft : text_draft (text 3 true) ≡ Ok (layout 3 true)
-unfolding text_draft draft_of with_lines with_said with_head with_line full_line_of lines_of prepend without_feed line_of mmv_line indom_line instance_line metric_line value_line number_content words_content last_content take_as take_word first_word behind_word optional text_byte text_within quoted take_text take_help number32 number64 whole_number int32 hex_number name_of kind_of semantics_of empty_draft with_domain add_instance with_instance with_metric with_value indom_fault instance_fault metric_fault value_fault layout numbers digits
+unfolding text_draft draft_of with_lines with_said with_head with_line full_line_of lines_of prepend without_feed line_of mmv_line indom_line instance_line metric_line value_line number_content words_content last_content take_as take_word first_word behind_word optional text_byte text_within text_in_quotes take_text take_help number32 number64 whole_number int32 hex_number name_of kind_of semantics_of empty_draft with_domain add_instance with_instance with_metric with_value indom_fault instance_fault metric_fault value_fault layout numbers digits
 third_late_draft = refl
 
 -- and its image is small
@@ -67,7 +67,7 @@ small cluster false = subst (λ n. n ≤ 2048) (sym (length_spelled (layout clus
 small cluster true = subst (λ n. n ≤ 2048) (sym (length_spelled (layout cluster true) [])) (omega arith)
 
 pub drawn : (bytes : List ℕ) (draft : Layout) → text_draft bytes ≡ Ok draft → length (image_words draft) ≤ 65536 → text_image bytes ≡ Ok (image_words draft)
-unfolding text_image sized
+unfolding text_image words_within_limit
 drawn bytes draft said few =
     ap (λ found. image_of found (length (lines_of bytes) + 1)) said
     ∙ ap (λ b. cond b (Ok (image_words draft)) (Err (record { line = length (lines_of bytes) + 1; fault = Build (TooLarge (min (length (image_words draft)) 18446744073709551615)) }))) (le-leb (length (image_words draft)) 65536 few)

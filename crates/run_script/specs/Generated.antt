@@ -33,12 +33,12 @@ abbrev pub single : ℕ → MetricRow
 single k = counter (codes "c" ++ decimal k) k kinds.U32
 
 -- the metric of the domain
-abbrev pub per : MetricRow
-per = record (counter (codes "per") 13 kinds.U64) { serial = Some 1 }
+abbrev pub domain_metric : MetricRow
+domain_metric = record (counter (codes "per") 13 kinds.U64) { serial = Some 1 }
 
 -- the metric that the first region's second image has besides
-abbrev pub late : MetricRow
-late = record {
+abbrev pub late_metric : MetricRow
+late_metric = record {
   name = codes "late";
   item = 14;
   kind = kinds.I32;
@@ -63,7 +63,7 @@ instance_value id = record { item = 13; instance = Some (pos id); content = cont
 abbrev pub if_late : {A : Type 0} → Bool → A → List A
 if_late has x = if has then x ∷ [] else []
 
--- the layout of a cluster's image, with the metric `late` or without
+-- the layout of a cluster's image, with the metric `late_metric` or without
 unfoldable pub layout : ℕ → Bool → Layout
 layout cluster has_late = record {
   version = 1;
@@ -72,7 +72,7 @@ layout cluster has_late = record {
   pid = 0;
   cluster = cluster;
   indoms = domain ∷ [];
-  metrics = map single (numbers 1 12) ++ per ∷ if_late has_late late;
+  metrics = map single (numbers 1 12) ++ domain_metric ∷ if_late has_late late_metric;
   values = map plain_value (numbers 1 12) ++ map instance_value (numbers 0 16) ++ if_late has_late (plain_value 14);
   strings = [];
 }
@@ -119,33 +119,33 @@ add_of d = lines.Add (d % 3) (d / 3 % 4) (1 + d / 12 % 12) None (pos (1 + d / 65
 abbrev pub by_passes : (ℕ → Line) → List Line
 by_passes step = step 0 ∷ step 1 ∷ step 2 ∷ step 3 ∷ []
 
-abbrev pub attached : ℕ → List Line
-attached region = by_passes (λ pass. lines.Attach region pass)
+abbrev pub attach_lines : ℕ → List Line
+attach_lines region = by_passes (λ pass. lines.Attach region pass)
 
-abbrev pub detached : ℕ → List Line
-detached region = by_passes (λ pass. lines.Detach region pass)
+abbrev pub detach_lines : ℕ → List Line
+detach_lines region = by_passes (λ pass. lines.Detach region pass)
 
 -- the first region gets another layout
-abbrev pub changed : ℕ → List Line
-changed image = detached 0 ++ (lines.Begin 0 0 image 0 ∷ lines.Finish 0 0 ∷ attached 0)
+abbrev pub change_lines : ℕ → List Line
+change_lines image = detach_lines 0 ++ (lines.Begin 0 0 image 0 ∷ lines.Finish 0 0 ∷ attach_lines 0)
 
 -- at an odd multiple of 256 to the second image, at an even one back
 abbrev pub change_at : ℕ → List Line
-change_at k = if k % 256 == 0 then changed (if k / 256 % 2 == 1 then 3 else 0) else []
+change_at k = if k % 256 == 0 then change_lines (if k / 256 % 2 == 1 then 3 else 0) else []
 
 -- three draws behind a number each make an add
-abbrev pub added : ℕ → List Line
-added x = add_of (draw (next x)) ∷ add_of (draw (next (next x))) ∷ add_of (draw (next (next (next x)))) ∷ []
+abbrev pub three_adds : ℕ → List Line
+three_adds x = add_of (draw (next x)) ∷ add_of (draw (next (next x))) ∷ add_of (draw (next (next (next x)))) ∷ []
 
-abbrev pub flushed : ℕ → List Line
-flushed k = if k % 10 == 0 then lines.Flush ∷ [] else []
+abbrev pub flush_lines : ℕ → List Line
+flush_lines k = if k % 10 == 0 then lines.Flush ∷ [] else []
 
 abbrev pub tick_at : ℕ → Line
 tick_at k = lines.Tick (record { sec = k; usec = 0 })
 
 -- the steps of a tick, which comes behind the draws of the ticks before it
 unfoldable pub tick_steps : ℕ → ℕ → List Line
-tick_steps x k = change_at k ++ (added x ++ (tick_at k ∷ flushed k))
+tick_steps x k = change_at k ++ (three_adds x ++ (tick_at k ∷ flush_lines k))
 
 -- the steps of so many ticks
 unfoldable pub all_ticks : ℕ → ℕ → List Line
@@ -154,22 +154,22 @@ all_ticks number (suc count) = all_ticks number count ++ tick_steps (number_behi
 
 unfoldable pub all_steps : ℕ → ℕ → List Line
 all_steps number ticks =
-    (attached 0 ++ (attached 1 ++ attached 2)) ++ (all_ticks number ticks ++ (detached 0 ++ (detached 1 ++ detached 2)))
+    (attach_lines 0 ++ (attach_lines 1 ++ attach_lines 2)) ++ (all_ticks number ticks ++ (detach_lines 0 ++ (detach_lines 1 ++ detach_lines 2)))
 
 -- steps with the numbers of their lines, the first of which is given
-unfoldable pub numbered : ℕ → List Line → List (ℕ × Line)
-numbered from [] = []
-numbered from (step ∷ steps) = (from, step) ∷ numbered (from + 1) steps
+unfoldable pub with_line_numbers : ℕ → List Line → List (ℕ × Line)
+with_line_numbers from [] = []
+with_line_numbers from (step ∷ steps) = (from, step) ∷ with_line_numbers (from + 1) steps
 
 -- steps behind those that stand, each with the number of its line
 abbrev pub with_steps : List (ℕ × Line) → List Line → List (ℕ × Line)
-with_steps steps more = steps ++ numbered (252 + length steps) more
+with_steps steps more = steps ++ with_line_numbers (252 + length steps) more
 
 -- The script of a number and so many ticks; its line `start` is the 251st.
-unfoldable pub generated : ℕ → ℕ → Script
-generated number ticks = record {
+unfoldable pub generated_script : ℕ → ℕ → Script
+generated_script number ticks = record {
   images = images;
   regions = regions;
   config = record { groups = group ∷ [] };
-  steps = numbered 252 (all_steps number ticks);
+  steps = with_line_numbers 252 (all_steps number ticks);
 }

@@ -72,13 +72,13 @@ single [] = None
 single (group ∷ []) = Some group
 single (group ∷ other ∷ groups) = None
 
-abbrev pub scanned : Option State → Option Group
-scanned (Some (scans.Between, found)) = single found.groups
-scanned _ = None
+abbrev pub group_of_scan : Option State → Option Group
+group_of_scan (Some (scans.Between, found)) = single found.groups
+group_of_scan _ = None
 
 -- the group of a line that is one statement of the configuration
 unfoldable pub statement_of : List ℕ → Option Group
-statement_of line = scanned (run at_start line)
+statement_of line = group_of_scan (run at_start line)
 
 abbrev pub with_group : Said → Option Group → Result Said ScriptLineFault
 with_group said None = Err (Line Grammar)

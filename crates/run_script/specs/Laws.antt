@@ -7,7 +7,7 @@ use Rattle.log_schedule.specs.Configuration.{IsConfiguration}
 use Rattle.run_script.specs.declared.script.Script.{Script}
 use Rattle.run_script.specs.declared.script.Line.{Line}
 use Rattle.run_script.specs.declared.script.Line.TheVariants as lines
-use Rattle.run_script.specs.Generated.{numbers, number_behind, draw, add_of, generated}
+use Rattle.run_script.specs.Generated.{numbers, number_behind, draw, add_of, generated_script}
 use Rattle.run_script.specs.GeneratedText.{generated_text}
 use Rattle.run_script.specs.Heads.{statement_of}
 use Rattle.run_script.specs.Reading.{script_of}
@@ -23,11 +23,11 @@ ScriptsAreRuled = (bytes : List ℕ) (script : Script) → script_of bytes ≡ O
 
 -- the text of a generated script is read as that script
 abbrev pub GeneratedIsRead : Type 0
-GeneratedIsRead = (number ticks : ℕ) → ticks ≤ 100000 → script_of (generated_text number ticks) ≡ Ok (generated number ticks)
+GeneratedIsRead = (number ticks : ℕ) → ticks ≤ 100000 → script_of (generated_text number ticks) ≡ Ok (generated_script number ticks)
 
 -- so it keeps the rules
 abbrev pub GeneratedIsRuled : Type 0
-GeneratedIsRuled = (number ticks : ℕ) → ticks ≤ 100000 → KeepsRules (generated number ticks)
+GeneratedIsRuled = (number ticks : ℕ) → ticks ≤ 100000 → KeepsRules (generated_script number ticks)
 
 -- its steps without their numbers
 abbrev pub steps_of : Script → List Line
@@ -44,7 +44,7 @@ tick_of line = None
 
 -- there are so many ticks, one at each second from the first on
 abbrev pub GeneratedTicks : Type 0
-GeneratedTicks = (number ticks : ℕ) → filter_map tick_of (steps_of (generated number ticks)) ≡ map second (numbers 1 ticks)
+GeneratedTicks = (number ticks : ℕ) → filter_map tick_of (steps_of (generated_script number ticks)) ≡ map second (numbers 1 ticks)
 
 abbrev pub if_add : Line → Option Line
 if_add (lines.Add region pass item instance number) = Some (lines.Add region pass item instance number)
@@ -52,7 +52,7 @@ if_add line = None
 
 -- the adds are those of the draws, one behind another, three for each tick
 abbrev pub GeneratedAdds : Type 0
-GeneratedAdds = (number ticks : ℕ) → filter_map if_add (steps_of (generated number ticks)) ≡ map (λ k. add_of (draw (number_behind number k))) (numbers 1 (3 * ticks))
+GeneratedAdds = (number ticks : ℕ) → filter_map if_add (steps_of (generated_script number ticks)) ≡ map (λ k. add_of (draw (number_behind number k))) (numbers 1 (3 * ticks))
 
 -- each adds 1 to 100 to a counter that its region has, by a pass that it has
 abbrev pub IsAdd : Line → Type 0
@@ -82,4 +82,4 @@ flush_behind k = if k % 10 == 0 then (3 * k, lines.Flush) ∷ [] else []
 
 -- the tick of a second stands behind its three adds, a change before them, and a flush behind each tenth tick
 abbrev pub GeneratedOrder : Type 0
-GeneratedOrder = (number ticks : ℕ) → behind_adds 0 (steps_of (generated number ticks)) ≡ flat_map (λ k. change_before k ++ ((3 * k, lines.Tick (second k)) ∷ flush_behind k)) (numbers 1 ticks)
+GeneratedOrder = (number ticks : ℕ) → behind_adds 0 (steps_of (generated_script number ticks)) ≡ flat_map (λ k. change_before k ++ ((3 * k, lines.Tick (second k)) ∷ flush_behind k)) (numbers 1 ticks)

@@ -191,8 +191,8 @@ line_behind [] = 0
 line_behind (step ∷ []) = step.0 + 1
 line_behind (step ∷ other ∷ steps) = line_behind (other ∷ steps)
 
-abbrev pub unrested : List (ℕ × Line) → Option ℕ
-unrested steps = if all_rest steps then None else Some (line_behind steps)
+abbrev pub unrest_line : List (ℕ × Line) → Option ℕ
+unrest_line steps = if all_rest steps then None else Some (line_behind steps)
 
 abbrev pub or_else : Option ℕ → Option ℕ → Option ℕ
 or_else None other = other
@@ -200,4 +200,4 @@ or_else (Some line) other = Some line
 
 -- the first line of a script that a recording refuses, if there is one: a region's, a step's, or the one behind the last
 abbrev pub refused_line : Script → Option ℕ
-refused_line script = or_else (high_region script script.regions) (or_else (wrong_step script [] script.steps) (unrested script.steps))
+refused_line script = or_else (high_region script script.regions) (or_else (wrong_step script [] script.steps) (unrest_line script.steps))

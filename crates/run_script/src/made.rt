@@ -2,7 +2,7 @@
 ghost use Rattle.std.specs.Prelude.{◌≡◌, ◌≤◌, ◌+◌, IfOk, OnOk, if◌then◌else◌, [], ◌∷◌, ◌++◌};
 ghost use Rattle.pcp_base.specs.Texts.{IsText};
 ghost use Rattle.mmv_spelling.specs.Spelling.{image_words};
-ghost use Rattle.run_script.specs.Generated.{layout, images, regions, group, generated};
+ghost use Rattle.run_script.specs.Generated.{layout, images, regions, group, generated_script};
 
 use crate::making::all_steps;
 use crate::script::{RegionRow, Script};
@@ -186,10 +186,10 @@ fn config(alloc: Global) -> Result<Config, NoMemory>
 }
 
 /// The script that a number makes: so many ticks, one each second from second 1 on, at most 100,000.
-#[tactic(auto, unfolding(crate::specs::Generated::generated))]
+#[tactic(auto, unfolding(crate::specs::Generated::generated_script))]
 pub fn generate(alloc: Global, number: u64, ticks: u32) -> Result<Script, NoMemory>
     requires { ticks ≤ 100000 }
-    ensures { IfOk result (λ script. script ≡ generated number ticks) }
+    ensures { IfOk result (λ script. script ≡ generated_script number ticks) }
 {
     let images = images(alloc)?;
     let regions = regions(alloc)?;

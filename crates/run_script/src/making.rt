@@ -1,6 +1,6 @@
 //! The steps of a generated script, one behind another, each with the number of its line.
 ghost use Rattle.std.specs.Prelude.{◌≡◌, ◌≤◌, ◌<◌, [], ◌∷◌, length, IfOk, OnOk};
-ghost use Rattle.run_script.specs.Generated.{next, attached, detached, changed, change_at, added, flushed, tick_at, tick_steps, numbered, all_ticks, all_steps, with_steps};
+ghost use Rattle.run_script.specs.Generated.{next, attach_lines, detach_lines, change_lines, change_at, three_adds, flush_lines, tick_at, tick_steps, with_line_numbers, all_ticks, all_steps, with_steps};
 
 use crate::draws::{add_of, draw, next};
 use crate::script::Line;
@@ -11,7 +11,7 @@ use std::alloc::Global;
 const FIRST: u32 = 252;
 
 // Adds a step.
-#[tactic(auto, unfolding(crate::specs::Generated::numbered))]
+#[tactic(auto, unfolding(crate::specs::Generated::with_line_numbers))]
 fn add_step(steps: &mut List<(u32, Line)>, step: Line) -> Result<(), NoMemory>
     requires { length steps.now ≤ 4000000 }
     ensures { OnOk result (steps.new ≡ with_steps steps.old (step ∷ [])) }
@@ -25,7 +25,7 @@ fn add_step(steps: &mut List<(u32, Line)>, step: Line) -> Result<(), NoMemory>
 #[tactic(auto, using(crate::proofs::Numbered::with_both, crate::proofs::Numbered::longer))]
 fn attach_all(steps: &mut List<(u32, Line)>, region: u32) -> Result<(), NoMemory>
     requires { length steps.now ≤ 3999990 }
-    ensures { OnOk result (steps.new ≡ with_steps steps.old (attached region)) }
+    ensures { OnOk result (steps.new ≡ with_steps steps.old (attach_lines region)) }
 {
     add_step(steps, Line::Attach { region, pass: 0 })?;
     add_step(steps, Line::Attach { region, pass: 1 })?;
@@ -38,7 +38,7 @@ fn attach_all(steps: &mut List<(u32, Line)>, region: u32) -> Result<(), NoMemory
 #[tactic(auto, using(crate::proofs::Numbered::with_both, crate::proofs::Numbered::longer))]
 fn detach_all(steps: &mut List<(u32, Line)>, region: u32) -> Result<(), NoMemory>
     requires { length steps.now ≤ 3999990 }
-    ensures { OnOk result (steps.new ≡ with_steps steps.old (detached region)) }
+    ensures { OnOk result (steps.new ≡ with_steps steps.old (detach_lines region)) }
 {
     add_step(steps, Line::Detach { region, pass: 0 })?;
     add_step(steps, Line::Detach { region, pass: 1 })?;
@@ -51,7 +51,7 @@ fn detach_all(steps: &mut List<(u32, Line)>, region: u32) -> Result<(), NoMemory
 #[tactic(auto, using(crate::proofs::Numbered::with_both, crate::proofs::Numbered::longer))]
 fn change(steps: &mut List<(u32, Line)>, image: u32) -> Result<(), NoMemory>
     requires { length steps.now ≤ 3999900 }
-    ensures { OnOk result (steps.new ≡ with_steps steps.old (changed image)) }
+    ensures { OnOk result (steps.new ≡ with_steps steps.old (change_lines image)) }
 {
     detach_all(steps, 0)?;
     add_step(
@@ -85,7 +85,7 @@ fn change_at(steps: &mut List<(u32, Line)>, tick: u32) -> Result<(), NoMemory>
 fn add_draws(steps: &mut List<(u32, Line)>, number: u64) -> Result<u64, NoMemory>
     requires { length steps.now ≤ 3999990 }
     ensures value { IfOk result (λ behind. behind ≡ next (next (next number))) }
-    ensures steps { OnOk result (steps.new ≡ with_steps steps.old (added number)) }
+    ensures steps { OnOk result (steps.new ≡ with_steps steps.old (three_adds number)) }
 {
     let first = next(number);
     add_step(steps, add_of(draw(first)))?;
@@ -101,7 +101,7 @@ fn add_draws(steps: &mut List<(u32, Line)>, number: u64) -> Result<u64, NoMemory
 fn add_tick(steps: &mut List<(u32, Line)>, tick: u32) -> Result<(), NoMemory>
     requires room { length steps.now ≤ 3999990 }
     requires range { tick < 2147483648 }
-    ensures { OnOk result (steps.new ≡ with_steps steps.old (tick_at tick ∷ flushed tick)) }
+    ensures { OnOk result (steps.new ≡ with_steps steps.old (tick_at tick ∷ flush_lines tick)) }
 {
     let Some(stamp) = Stamp::build(tick, 0) else {
         unreachable!()
@@ -147,7 +147,7 @@ fn add_ticks(steps: &mut List<(u32, Line)>, first: u64, ticks: u32) -> Result<()
 #[tactic(auto, using(crate::proofs::Numbered::with_both, crate::proofs::Numbered::longer), unfolding(crate::specs::Generated::all_steps))]
 pub fn all_steps(alloc: Global, number: u64, ticks: u32) -> Result<List<(u32, Line)>, NoMemory>
     requires { ticks ≤ 100000 }
-    ensures { IfOk result (λ steps. steps ≡ numbered 252 (all_steps number ticks)) }
+    ensures { IfOk result (λ steps. steps ≡ with_line_numbers 252 (all_steps number ticks)) }
 {
     let mut steps = List::empty(alloc);
     attach_all(&mut steps, 0)?;

@@ -2,7 +2,7 @@
 ghost use Rattle.std.specs.Prelude.{◌≡◌, [], None, Some, MatchResult};
 ghost use Rattle.mmv_writer.specs.declared.line_fault.LineFault.TheVariants.{Condition};
 ghost use Rattle.run_script.specs.declared.fault.ScriptLineFault.TheVariants.{Line as Broken};
-ghost use Rattle.run_script.specs.Recording.{high_region, opens_low, or_else, refused_line, unrested, wrong_step};
+ghost use Rattle.run_script.specs.Recording.{high_region, opens_low, or_else, refused_line, unrest_line, wrong_step};
 ghost use Rattle.run_script.specs.Rules.{KeepsRules};
 
 use crate::doing::{all_idle, all_rest, count_coming, line_behind};
@@ -35,7 +35,7 @@ fn high_region(script: &Script) -> Option<u64>
 // The line of the first step that a recording refuses, or the one behind the last step where a pass is left at work.
 fn refused_step(script: &Script) -> Option<u64>
     requires { KeepsRules script.now }
-    ensures { result ≡ or_else (wrong_step script.now [] script.now.steps) (unrested script.now.steps) }
+    ensures { result ≡ or_else (wrong_step script.now [] script.now.steps) (unrest_line script.now.steps) }
 {
     let steps = script.steps.as_slice();
     let mut doing = all_idle();

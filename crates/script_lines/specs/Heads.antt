@@ -1,7 +1,7 @@
 -- The lines of a script's head: a word, and behind it the parts that this line has, each behind one space.
 use Rattle.std.specs.Prelude.{ℕ, if◌then◌else◌, List, Option, Some, None, codes, bytes_eq}
 use Rattle.text_lines.specs.Numbers.{◌>>=◌, number_of}
-use Rattle.text_lines.specs.Words.{first_word, behind_word, take_as, ended}
+use Rattle.text_lines.specs.Words.{first_word, behind_word, take_as, whole_line}
 use Rattle.script_lines.specs.Words.{name_of}
 use Rattle.script_lines.specs.declared.line.HeadLine.{HeadLine}
 use Rattle.script_lines.specs.declared.line.HeadLine.TheVariants as lines
@@ -9,7 +9,7 @@ use Rattle.script_lines.specs.declared.line.HeadLine.TheVariants as lines
 unfoldable pub image_line : List ℕ → Option HeadLine
 image_line bytes = do
   name ← take_as name_of bytes
-  ended name.1 (lines.Image name.0)
+  whole_line name.1 (lines.Image name.0)
 
 -- a region's FILE, the image that it opens on, its capacity in words and its number of passes
 unfoldable pub region_line : List ℕ → Option HeadLine
@@ -18,10 +18,10 @@ region_line bytes = do
   image ← take_as name_of file.1
   capacity ← take_as number_of image.1
   passes ← take_as number_of capacity.1
-  ended passes.1 (lines.Region file.0 image.0 capacity.0 passes.0)
+  whole_line passes.1 (lines.Region file.0 image.0 capacity.0 passes.0)
 
 unfoldable pub start_line : List ℕ → Option HeadLine
-start_line bytes = ended bytes lines.Start
+start_line bytes = whole_line bytes lines.Start
 
 -- The line of these bytes, which are without their line feed.
 unfoldable pub head_line : List ℕ → Option HeadLine

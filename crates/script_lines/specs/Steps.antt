@@ -2,7 +2,7 @@
 use Rattle.std.specs.Prelude.{ℕ, ◌&&◌, nat_lt, if◌then◌else◌, List, Option, Some, None, codes, bytes_eq}
 use Rattle.pcp_base.specs.Time.{Moment}
 use Rattle.text_lines.specs.Numbers.{◌>>=◌, number32, number64, whole_number}
-use Rattle.text_lines.specs.Words.{first_word, behind_word, take_space, take_as, ended}
+use Rattle.text_lines.specs.Words.{first_word, behind_word, take_space, take_as, whole_line}
 use Rattle.script_lines.specs.Words.{name_of, take_place, take_slot, take_value}
 use Rattle.script_lines.specs.declared.line.Place.{Place}
 use Rattle.script_lines.specs.declared.line.StepLine.{StepLine}
@@ -12,7 +12,7 @@ use Rattle.script_lines.specs.declared.line.StepLine.TheVariants as steps
 unfoldable pub place_line : List ℕ → Option Place
 place_line bytes = do
   place ← take_place bytes
-  ended place.1 place.0
+  whole_line place.1 place.0
 
 unfoldable pub swap_line : List ℕ → Option StepLine
 swap_line bytes = do
@@ -34,13 +34,13 @@ begin_line bytes = do
   place ← take_place bytes
   image ← take_as name_of place.1
   moment ← take_as number64 image.1
-  ended moment.1 (steps.Begin place.0 image.0 moment.0)
+  whole_line moment.1 (steps.Begin place.0 image.0 moment.0)
 
 unfoldable pub word_line : List ℕ → Option StepLine
 word_line bytes = do
   place ← take_place bytes
   index ← take_as number32 place.1
-  ended index.1 (steps.Word place.0 index.0)
+  whole_line index.1 (steps.Word place.0 index.0)
 
 -- seconds below 2^31 and microseconds below a million
 abbrev pub stamp_of : ℕ → ℕ → Option Moment
@@ -52,10 +52,10 @@ tick_line bytes = do
   sec ← take_as number32 bytes
   usec ← take_as number32 sec.1
   stamp ← stamp_of sec.0 usec.0
-  ended usec.1 (steps.Tick stamp)
+  whole_line usec.1 (steps.Tick stamp)
 
 unfoldable pub flush_line : List ℕ → Option StepLine
-flush_line bytes = ended bytes steps.Flush
+flush_line bytes = whole_line bytes steps.Flush
 
 -- lines of passes that are attached or change a region
 unfoldable pub store_line : List ℕ → List ℕ → Option StepLine

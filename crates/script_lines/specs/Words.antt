@@ -2,7 +2,7 @@
 use Rattle.std.specs.Prelude.{ℕ, ℤ, pos, ◌==◌, if◌then◌else◌, List, [], ◌∷◌, Option, Some, None}
 use Rattle.std.specs.List.{list_any}
 use Rattle.text_lines.specs.Numbers.{◌>>=◌, below, number_of, number32, whole_number}
-use Rattle.text_lines.specs.Words.{take_as, take_space, optional, starts_quoted, quoted, ended}
+use Rattle.text_lines.specs.Words.{take_as, take_space, optional, starts_quoted, text_in_quotes, whole_line}
 use Rattle.script_lines.specs.declared.line.Place.{Place}
 use Rattle.script_lines.specs.declared.line.Slot.{Slot}
 use Rattle.script_lines.specs.declared.line.Given.{Given}
@@ -33,8 +33,8 @@ take_slot bytes = do
 
 unfoldable pub quoted_value : List ℕ → Option Given
 quoted_value bytes = do
-  text ← quoted bytes
-  ended text.1 (given.Choice text.0)
+  text ← text_in_quotes bytes
+  whole_line text.1 (given.Choice text.0)
 
 unfoldable pub number_value : List ℕ → Option Given
 number_value bytes = do

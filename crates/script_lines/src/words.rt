@@ -97,7 +97,7 @@ fn quoted_value(alloc: Global, bytes: &[u8]) -> Result<Given, TakeFault>
     ensures { Read (quoted_value bytes.now) result }
 {
     let mut rest = Rest::new(bytes);
-    let text = rest.quoted(alloc)?;
+    let text = rest.text_in_quotes(alloc)?;
     rest.end()?;
     Ok(Given::Choice(text))
 }

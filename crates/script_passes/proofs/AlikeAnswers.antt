@@ -22,7 +22,7 @@ use Rattle.mmv_format.specs.declared.rows.ValueRow.{ValueRow}
 use Rattle.fetch_answers.specs.Answers.{is_of, region_of, metric_with, indom_in, metric_body, layout_body, region_body, set_of, answer_of, metric_fact, layout_fact, region_fact, fact_of, layout_instances, region_instances, instances_of, metrics_in, domains_in, domains_of, shown_of, facts_of}
 use Rattle.fetch_answers.specs.Names.{with_region, with_layout}
 use Rattle.fetch_answers.specs.Readings.{RegionReading}
-use Rattle.fetch_answers.specs.Values.{ByInstance, instance_in, with_value, values_with, shown_word, shown_block, words_or_none, blocks_or_none, stored}
+use Rattle.fetch_answers.specs.Values.{ByInstance, instance_in, with_value, values_with, shown_word, shown_block, words_or_none, blocks_or_none, body_of_values}
 use Rattle.fetch_engine.specs.Visits.{names_in}
 use Rattle.script_passes.specs.Alike.{LayoutsAlike, ReadAlike, AlikeAnswersAlike}
 use Rattle.script_passes.proofs.AlikeRows.{plain, plain_row, plain_layout, say_plain}
@@ -98,7 +98,7 @@ blocks_plain : (profile : Settings) (indom : Option ℕ) (code : ℕ) (values : 
 blocks_plain profile indom code [] = refl
 blocks_plain profile indom code (value ∷ values) = ap₂ (λ (x y : List (ℤ × TypedBytes)). x ++ y) (block_plain profile indom code value.0 value.1) (blocks_plain profile indom code values)
 
-stored_plain : (kind : Kind) (profile : Settings) (indom : Option ℕ) (values : ByInstance) → stored kind profile indom (map plain_value values) ≡ stored kind profile indom values
+stored_plain : (kind : Kind) (profile : Settings) (indom : Option ℕ) (values : ByInstance) → body_of_values kind profile indom (map plain_value values) ≡ body_of_values kind profile indom values
 stored_plain kinds.I32 profile indom values = ap words_or_none (words_plain profile indom values)
 stored_plain kinds.U32 profile indom values = ap words_or_none (words_plain profile indom values)
 stored_plain kinds.I64 profile indom values = ap blocks_or_none (blocks_plain profile indom 2 values)
@@ -113,7 +113,7 @@ stored_plain kinds.Elapsed profile indom values = refl
 metric_plain : (profile : Settings) (cluster : ℕ) (layout : Layout) (metric : Option MetricRow) → metric_body profile cluster (plain_layout layout) metric ≡ metric_body profile cluster layout metric
 metric_plain profile cluster layout None = refl
 metric_plain profile cluster layout (Some metric) =
-    ap (λ (values : ByInstance). stored metric.kind profile (indom_in cluster metric) values) (values_plain metric.item [] layout.values)
+    ap (λ (values : ByInstance). body_of_values metric.kind profile (indom_in cluster metric) values) (values_plain metric.item [] layout.values)
     ∙ stored_plain metric.kind profile (indom_in cluster metric) (values_with metric.item layout.values)
 
 layout_same : (profile : Settings) (cluster pmid : ℕ) (layout : Option Layout) → layout_body profile cluster pmid (option_map plain_layout layout) ≡ layout_body profile cluster pmid layout

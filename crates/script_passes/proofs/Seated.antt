@@ -22,7 +22,7 @@ use Rattle.pass_steps.specs.Workers.{doing_of}
 use Rattle.pass_steps.specs.Works.{Step, ended_doing}
 use Rattle.pass_steps.proofs.Calling.{set_there, not_less}
 use Rattle.script_passes.specs.Crews.{IsAlone}
-use Rattle.script_passes.specs.Sweeps.{stepped, Goes, GoesAt, EndedAt, EndedBelow, AreIdle, Gathered, GatheredAt, ClosedAt}
+use Rattle.script_passes.specs.Sweeps.{region_after_step, Goes, GoesAt, EndedAt, EndedBelow, AreIdle, Gathered, GatheredAt, ClosedAt}
 use Rattle.script_passes.specs.Turns.{Answer, Turned, ActsAt, IsCrewAt}
 use Rattle.script_passes.proofs.Counting.{alone_gathered, seen_closed}
 use Rattle.script_passes.proofs.Crewing.{get_set_same, same_or_other, acts}
@@ -88,7 +88,7 @@ goes_at_on server at f g a b c s t u first last =
     }
 
 pub goes_at_acts : (server : List Mounted) (at k : ℕ) (step : Step) (old new : List Worker) (seat later : List Token) (answer : Answer) → is_ok answer ≡ true → ActsAt server at k step old new seat later answer
-    → GoesAt server at (λ r. stepped step r k (does_in r k)) old new seat later
+    → GoesAt server at (λ r. region_after_step step r k (does_in r k)) old new seat later
 goes_at_acts server at k step old new seat later answer sure a = record {
   region = a.region;
   placed = a.placed;
@@ -100,11 +100,11 @@ goes_at_acts server at k step old new seat later answer sure a = record {
 }
 
 -- one more pass of a sweep
-pub swept_more : (server : List Mounted) (at n : ℕ) (step : Step) (a b c : List Worker) (s t u : List Token) (answer : Answer) → is_ok answer ≡ true → GoesAt server at (each_pass (stepped step) 0 n) a b s t → ActsAt server at n step b c t u answer
-    → GoesAt server at (each_pass (stepped step) 0 (suc n)) a c s u
+pub swept_more : (server : List Mounted) (at n : ℕ) (step : Step) (a b c : List Worker) (s t u : List Token) (answer : Answer) → is_ok answer ≡ true → GoesAt server at (each_pass (region_after_step step) 0 n) a b s t → ActsAt server at n step b c t u answer
+    → GoesAt server at (each_pass (region_after_step step) 0 (suc n)) a c s u
 swept_more server at n step a b c s t u answer sure first acts =
-    let both : GoesAt server at (λ r. stepped step (each_pass (stepped step) 0 n r) n (does_in (each_pass (stepped step) 0 n r) n)) a c s u =
-    goes_at_on server at (each_pass (stepped step) 0 n) (λ r. stepped step r n (does_in r n)) a b c s t u first (goes_at_acts server at n step b c t u answer sure acts) in
+    let both : GoesAt server at (λ r. region_after_step step (each_pass (region_after_step step) 0 n r) n (does_in (each_pass (region_after_step step) 0 n r) n)) a c s u =
+    goes_at_on server at (each_pass (region_after_step step) 0 n) (λ r. region_after_step step r n (does_in r n)) a b c s t u first (goes_at_acts server at n step b c t u answer sure acts) in
     record {
       region = both.region;
       placed = both.placed;
@@ -112,15 +112,15 @@ swept_more server at n step a b c s t u answer sure first acts =
       was = both.was;
       after = both.after;
       is = both.is;
-      goes = goes_as both.region (λ r. stepped step (each_pass (stepped step) 0 n r) n (does_in (each_pass (stepped step) 0 n r) n)) (each_pass (stepped step) 0 (suc n)) a c both.before both.after
-          (λ r stands. sym (each_more (stepped step) 0 n r ∙ at_zero r)) both.goes;
+      goes = goes_as both.region (λ r. region_after_step step (each_pass (region_after_step step) 0 n r) n (does_in (each_pass (region_after_step step) 0 n r) n)) (each_pass (region_after_step step) 0 (suc n)) a c both.before both.after
+          (λ r stands. sym (each_more (region_after_step step) 0 n r ∙ at_zero r)) both.goes;
     }
   where
     zero_plus : 0 + n ≡ n
     zero_plus = omega arith
 
-    at_zero : (r : ScriptRegion) → stepped step (each_pass (stepped step) 0 n r) (0 + n) (does_in (each_pass (stepped step) 0 n r) (0 + n)) ≡ stepped step (each_pass (stepped step) 0 n r) n (does_in (each_pass (stepped step) 0 n r) n)
-    at_zero r = ap (λ (j : ℕ). stepped step (each_pass (stepped step) 0 n r) j (does_in (each_pass (stepped step) 0 n r) j)) zero_plus
+    at_zero : (r : ScriptRegion) → region_after_step step (each_pass (region_after_step step) 0 n r) (0 + n) (does_in (each_pass (region_after_step step) 0 n r) (0 + n)) ≡ region_after_step step (each_pass (region_after_step step) 0 n r) n (does_in (each_pass (region_after_step step) 0 n r) n)
+    at_zero r = ap (λ (j : ℕ). region_after_step step (each_pass (region_after_step step) 0 n r) j (does_in (each_pass (region_after_step step) 0 n r) j)) zero_plus
 
 -- What has ended
 
@@ -192,14 +192,14 @@ all_idle a b c d ab bc cd first second third j w e =
 swept_as : (server : List Mounted) (at : ℕ) (f g : ScriptRegion → ScriptRegion) (a b : List Worker) (s t : List Token) → ((region : MadeRegion) (x y : Token) → Goes region f a b x y → Goes region g a b x y) → GoesAt server at f a b s t → GoesAt server at g a b s t
 swept_as server at f g a b s t to h = record { region = h.region; placed = h.placed; before = h.before; was = h.was; after = h.after; is = h.is; goes = to h.region h.before h.after h.goes }
 
-pub closed_by : (server : List Mounted) (at : ℕ) (a b c d : List Worker) (s t u v : List Token) → GoesAt server at (each_pass (stepped steps.finishes) 0 (length a)) a b s t → GoesAt server at (each_pass (stepped steps.detaches) 0 (length b)) b c t u
-    → GoesAt server at (each_pass (stepped steps.ends) 0 (length c)) c d u v → GoesAt server at closed_region a d s v
+pub closed_by : (server : List Mounted) (at : ℕ) (a b c d : List Worker) (s t u v : List Token) → GoesAt server at (each_pass (region_after_step steps.finishes) 0 (length a)) a b s t → GoesAt server at (each_pass (region_after_step steps.detaches) 0 (length b)) b c t u
+    → GoesAt server at (each_pass (region_after_step steps.ends) 0 (length c)) c d u v → GoesAt server at closed_region a d s v
 closed_by server at a b c d s t u v first second third =
     goes_at_on server at (λ r. by_all stint_ended (by_all change_ended r)) (by_all reading_ended) a c d s u v
     (goes_at_on server at (by_all change_ended) (by_all stint_ended) a b c s t u
-    (swept_as server at (each_pass (stepped steps.finishes) 0 (length a)) (by_all change_ended) a b s t (λ region x y g. changes_by region a b x y g) first)
-    (swept_as server at (each_pass (stepped steps.detaches) 0 (length b)) (by_all stint_ended) b c t u (λ region x y g. stints_by region b c x y g) second))
-    (swept_as server at (each_pass (stepped steps.ends) 0 (length c)) (by_all reading_ended) c d u v (λ region x y g. readings_by region c d x y g) third)
+    (swept_as server at (each_pass (region_after_step steps.finishes) 0 (length a)) (by_all change_ended) a b s t (λ region x y g. changes_by region a b x y g) first)
+    (swept_as server at (each_pass (region_after_step steps.detaches) 0 (length b)) (by_all stint_ended) b c t u (λ region x y g. stints_by region b c x y g) second))
+    (swept_as server at (each_pass (region_after_step steps.ends) 0 (length c)) (by_all reading_ended) c d u v (λ region x y g. readings_by region c d x y g) third)
 
 -- closed and gathered
 pub closed_at : (server : List Mounted) (at : ℕ) (old crew : List Worker) (s t u : List Token) → GoesAt server at closed_region old crew s t → GatheredAt server at 0 crew t u → ClosedAt server at old s u

@@ -9,7 +9,7 @@ use Rattle.pass_steps.specs.declared.worker.Worker.{Worker}
 use Rattle.pass_steps.specs.Workers.{doing_of}
 use Rattle.pass_steps.specs.Works.{Step}
 use Rattle.script_passes.specs.Crews.{IsCrew, Stands}
-use Rattle.script_passes.specs.Sweeps.{outcome_or, stepped, Goes}
+use Rattle.script_passes.specs.Sweeps.{outcome_or, region_after_step, Goes}
 use Rattle.script_passes.specs.Turns.{Answer, Took, Acts}
 
 -- Chains
@@ -35,10 +35,10 @@ goes_as region f g a b t u same goes = record {
 
 -- a call that wasn't refused
 pub acts_goes : (region : MadeRegion) (k : ℕ) (step : Step) (old new : List Worker) (before after : Token) (answer : Answer) → is_ok answer ≡ true → Acts region k step old new before after answer
-    → Goes region (λ r. stepped step r k (does_in r k)) old new before after
+    → Goes region (λ r. region_after_step step r k (does_in r k)) old new before after
 acts_goes region k step old new before after answer sure acts = record { crew = acts.crew; as_many = acts.as_many; alone = acts.alone; goes = λ h r s. by_answer r answer sure (acts.took h r s) }
   where
-    by_answer : (r : ScriptRegion) (a : Answer) → is_ok a ≡ true → Took step r k (λ next. Stands next new after) a → Stands (stepped step r k (does_in r k)) new after
+    by_answer : (r : ScriptRegion) (a : Answer) → is_ok a ≡ true → Took step r k (λ next. Stands next new after) a → Stands (region_after_step step r k (does_in r k)) new after
     by_answer r (Ok None) ok t = subst (λ (o : Option Outcome). Stands (outcome_or r o) new after) (sym t.0) t.1
     by_answer r (Ok (Some line)) ok t = subst (λ (o : Option Outcome). Stands (outcome_or r o) new after) (sym t.1) t.4
     by_answer r (Err fault) ok t = absurd (cc)
@@ -57,40 +57,40 @@ each_same f g same k zero r = refl
 each_same f g same k (suc n) r =
     ap (λ (x : ScriptRegion). each_pass f (k + 1) n x) (same r k (does_in r k)) ∙ each_same f g same (k + 1) n (g r k (does_in r k))
 
-change_is : (r : ScriptRegion) (k : ℕ) (d : Doing) → stepped steps.finishes r k d ≡ change_ended r k d
+change_is : (r : ScriptRegion) (k : ℕ) (d : Doing) → region_after_step steps.finishes r k d ≡ change_ended r k d
 change_is r k Doing.idle = refl
 change_is r k Doing.attached = refl
 change_is r k (Doing.changing image n next) = refl
 change_is r k (Doing.reading first) = refl
 
-stint_is : (r : ScriptRegion) (k : ℕ) (d : Doing) → stepped steps.detaches r k d ≡ stint_ended r k d
+stint_is : (r : ScriptRegion) (k : ℕ) (d : Doing) → region_after_step steps.detaches r k d ≡ stint_ended r k d
 stint_is r k Doing.idle = refl
 stint_is r k Doing.attached = refl
 stint_is r k (Doing.changing image n next) = refl
 stint_is r k (Doing.reading first) = refl
 
-reading_is : (r : ScriptRegion) (k : ℕ) (d : Doing) → stepped steps.ends r k d ≡ reading_ended r k d
+reading_is : (r : ScriptRegion) (k : ℕ) (d : Doing) → region_after_step steps.ends r k d ≡ reading_ended r k d
 reading_is r k Doing.idle = refl
 reading_is r k Doing.attached = refl
 reading_is r k (Doing.changing image n next) = refl
 reading_is r k (Doing.reading first) = refl
 
 -- a sweep over all passes is the fold's
-all_by : (step : Step) (end : ScriptRegion → ℕ → Doing → ScriptRegion) → ((r : ScriptRegion) (k : ℕ) (d : Doing) → stepped step r k d ≡ end r k d) → (crew : List Worker) (logger : Token) (r : ScriptRegion) → Stands r crew logger
-    → each_pass (stepped step) 0 (length crew) r ≡ by_all end r
+all_by : (step : Step) (end : ScriptRegion → ℕ → Doing → ScriptRegion) → ((r : ScriptRegion) (k : ℕ) (d : Doing) → region_after_step step r k d ≡ end r k d) → (crew : List Worker) (logger : Token) (r : ScriptRegion) → Stands r crew logger
+    → each_pass (region_after_step step) 0 (length crew) r ≡ by_all end r
 all_by step end same crew logger r stands =
     let many : length crew ≡ length r.doing = sym (ap (λ (l : List Doing). length l) stands.doing ∙ length_map crew) in
-    each_same (stepped step) end same 0 (length crew) r ∙ ap (λ (n : ℕ). each_pass end 0 n r) many
+    each_same (region_after_step step) end same 0 (length crew) r ∙ ap (λ (n : ℕ). each_pass end 0 n r) many
   where
     length_map : (xs : List Worker) → length (map doing_of xs) ≡ length xs
     length_map [] = refl
     length_map (x ∷ xs) = ap suc (length_map xs)
 
-pub changes_by : (region : MadeRegion) (a b : List Worker) (t u : Token) → Goes region (each_pass (stepped steps.finishes) 0 (length a)) a b t u → Goes region (by_all change_ended) a b t u
-changes_by region a b t u goes = goes_as region (each_pass (stepped steps.finishes) 0 (length a)) (by_all change_ended) a b t u (λ r s. all_by steps.finishes change_ended change_is a t r s) goes
+pub changes_by : (region : MadeRegion) (a b : List Worker) (t u : Token) → Goes region (each_pass (region_after_step steps.finishes) 0 (length a)) a b t u → Goes region (by_all change_ended) a b t u
+changes_by region a b t u goes = goes_as region (each_pass (region_after_step steps.finishes) 0 (length a)) (by_all change_ended) a b t u (λ r s. all_by steps.finishes change_ended change_is a t r s) goes
 
-pub stints_by : (region : MadeRegion) (a b : List Worker) (t u : Token) → Goes region (each_pass (stepped steps.detaches) 0 (length a)) a b t u → Goes region (by_all stint_ended) a b t u
-stints_by region a b t u goes = goes_as region (each_pass (stepped steps.detaches) 0 (length a)) (by_all stint_ended) a b t u (λ r s. all_by steps.detaches stint_ended stint_is a t r s) goes
+pub stints_by : (region : MadeRegion) (a b : List Worker) (t u : Token) → Goes region (each_pass (region_after_step steps.detaches) 0 (length a)) a b t u → Goes region (by_all stint_ended) a b t u
+stints_by region a b t u goes = goes_as region (each_pass (region_after_step steps.detaches) 0 (length a)) (by_all stint_ended) a b t u (λ r s. all_by steps.detaches stint_ended stint_is a t r s) goes
 
-pub readings_by : (region : MadeRegion) (a b : List Worker) (t u : Token) → Goes region (each_pass (stepped steps.ends) 0 (length a)) a b t u → Goes region (by_all reading_ended) a b t u
-readings_by region a b t u goes = goes_as region (each_pass (stepped steps.ends) 0 (length a)) (by_all reading_ended) a b t u (λ r s. all_by steps.ends reading_ended reading_is a t r s) goes
+pub readings_by : (region : MadeRegion) (a b : List Worker) (t u : Token) → Goes region (each_pass (region_after_step steps.ends) 0 (length a)) a b t u → Goes region (by_all reading_ended) a b t u
+readings_by region a b t u goes = goes_as region (each_pass (region_after_step steps.ends) 0 (length a)) (by_all reading_ended) a b t u (λ r s. all_by steps.ends reading_ended reading_is a t r s) goes

@@ -22,8 +22,8 @@ abbrev pub outcome_or : ScriptRegion → Option Outcome → ScriptRegion
 outcome_or r None = r
 outcome_or r (Some outcome) = outcome.0
 
-abbrev pub stepped : Step → ScriptRegion → ℕ → Doing → ScriptRegion
-stepped step r k doing = outcome_or r (step r k doing)
+abbrev pub region_after_step : Step → ScriptRegion → ℕ → Doing → ScriptRegion
+region_after_step step r k doing = outcome_or r (step r k doing)
 
 -- The crew did what makes this of the fold's region
 pub record Goes (region : MadeRegion) (f : ScriptRegion → ScriptRegion) (old new : List Worker) (before after : Token) : Type 0 where

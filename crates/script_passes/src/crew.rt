@@ -5,7 +5,7 @@ ghost use Rattle.script_runs.specs.Closing.{closed_region, each_pass};
 ghost use Rattle.pass_steps.specs.declared.worker.Worker.{Worker as Doer};
 ghost use Rattle.pass_steps.specs.Workers.{IsWorker};
 ghost use Rattle.pass_steps.specs.Works.{NeedsNone, step_of};
-ghost use Rattle.script_passes.specs.Sweeps.{AreIdle, ClosedAt, EndedAt, EndedBelow, GatheredAt, GoesAt, stepped};
+ghost use Rattle.script_passes.specs.Sweeps.{AreIdle, ClosedAt, EndedAt, EndedBelow, GatheredAt, GoesAt, region_after_step};
 ghost use Rattle.script_passes.specs.Turns.{ActsAt, IsCrewAt, Turned};
 
 use fetch_engine::{Seat, Server};
@@ -81,7 +81,7 @@ fn sweep(
     requires seated { IsSeated server.now seat.old.tokens }
     requires crew { IsCrewAt server.now at crew.old.items seat.old.tokens }
     requires sure { NeedsNone deed.now }
-    ensures goes { GoesAt server.now at (each_pass (stepped (step_of deed.now)) 0 (length crew.old.items)) crew.old.items crew.new.items seat.old.tokens seat.new.tokens }
+    ensures goes { GoesAt server.now at (each_pass (region_after_step (step_of deed.now)) 0 (length crew.old.items)) crew.old.items crew.new.items seat.old.tokens seat.new.tokens }
     ensures seated { IsSeated server.now seat.new.tokens }
     ensures ends { EndedBelow deed.now (length crew.old.items) crew.old.items crew.new.items }
 {

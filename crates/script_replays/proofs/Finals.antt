@@ -28,7 +28,7 @@ use Rattle.script_runs.specs.Closing.{closed_regions}
 use Rattle.script_runs.specs.Groups.{asked_for}
 use Rattle.script_runs.specs.PassSteps.{one_number}
 use Rattle.script_runs.specs.Regions.{ScriptRegion}
-use Rattle.script_runs.specs.Runs.{FlushesLast, LinesRun, are_idle, beginning, line_behind, with_end}
+use Rattle.script_runs.specs.Runs.{FlushesLast, LinesRun, are_idle, run_start, line_behind, with_end}
 use Rattle.script_runs.specs.Steps.{RunState, Stops, TickStops, asking_at}
 use Rattle.record_run.specs.declared.archive.RunArchive.{RunArchive}
 use Rattle.record_run.specs.ImageCrashes.{ComesBackTo}
@@ -117,12 +117,12 @@ module _ {D : Type 0} (d : DiskGhosts D) (script : Script) (limit : ℕ) (server
   leaves : (items : List Item) (stand : Stand) → IsKept left items stand run.archive (d.held old) → LeavesOnly d.moment d.left_since start old (ComesBackTo items 0 left) → LeavesOnly d.moment d.left_since start new (ComesBackTo items 0 left)
   leaves items stand kept before = joined d.moment d.left_since d.held start old new (ComesBackTo items 0 left) before (moment items stand kept)
 
-  whole : (last : RunState) (ending : Ending) → LinesRun script limit script.steps (beginning script left) ending last → RanFirst script limit left last
+  whole : (last : RunState) (ending : Ending) → LinesRun script limit script.steps (run_start script left) ending last → RanFirst script limit left last
   whole last ending run = record {
     count = length script.steps;
     within = omega arith;
     ending = ending;
-    lines_run = subst (λ (steps : List (ℕ × Line)). LinesRun (record script { steps = steps }) limit steps (beginning script left) ending last) (sym (take_all (length script.steps) script.steps (omega arith))) run;
+    lines_run = subst (λ (steps : List (ℕ × Line)). LinesRun (record script { steps = steps }) limit steps (run_start script left) ending last) (sym (take_all (length script.steps) script.steps (omega arith))) run;
   }
 
   -- the disk failed at the last flush, or before
@@ -242,7 +242,7 @@ module _ {D : Type 0} (d : DiskGhosts D) (script : Script) (limit : ℕ) (server
   came_to ends.NoMemory is own same h = absurd own
 
   final_so : Halts d script limit server left run seat start old first → (second ≡ first) ⊎ (second ≡ ends.DiskFault) → IsFinal d script limit server left later start new r
-  final_so (inl h) (inl same) = came_to first refl (lines_own script limit script.steps (beginning script left) first h.last h.lines_run) same h
+  final_so (inl h) (inl same) = came_to first refl (lines_own script limit script.steps (run_start script left) first h.last h.lines_run) same h
   final_so (inl h) (inr failing) = came_fails h failing
   final_so (inr (inl w)) (inl same) =
       let o : (r.ending ≡ second) × (r.output ≡ run.out.items) = others (λ e. absurd (let no : ends.NoMemory ≡ ends.Done = sym w.is ∙ sym same ∙ e in cc)) in

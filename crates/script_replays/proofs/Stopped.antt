@@ -22,7 +22,7 @@ use Rattle.script_passes.specs.Crews.{Follows}
 use Rattle.script_runs.specs.declared.ending.Ending.{Ending}
 use Rattle.script_runs.specs.declared.ending.Ending.TheVariants as ends
 use Rattle.script_runs.specs.Regions.{made_regions}
-use Rattle.script_runs.specs.Runs.{LinesRun, beginning, ending_at, line_behind}
+use Rattle.script_runs.specs.Runs.{LinesRun, run_start, ending_at, line_behind}
 use Rattle.script_runs.specs.Archives.{Stand}
 use Rattle.script_runs.specs.Groups.{asked_for}
 use Rattle.script_runs.specs.Steps.{FlushGoes, GoesOn, PassGoes, Regions, RunState, Stops, TickLogs, TickStops, asking_at, fetched_at, pass_step, steps_behind, then_steps}
@@ -73,7 +73,7 @@ module _ (script : Script) (server : List Mounted) (running : Running) (seat : L
 -- where the first lines, so many, led a run
 pub record Stood {D : Type 0} (d : DiskGhosts D) (script : Script) (limit : ℕ) (server : List Mounted) (left : Files) (run : Run) (seat : List Token) (start now : D) (count : ℕ) : Type 0 where
   pub s : RunState
-  pub goes : Goes script limit (take count script.steps) (beginning script left) s
+  pub goes : Goes script limit (take count script.steps) (run_start script left) s
   pub least : ℕ
   pub stands : Stands d script server left least run seat now s
   pub any_moment : LeavesOnly d.moment d.left_since start now (ComesBackTo s.items 0 left)
@@ -146,15 +146,15 @@ module _ {D : Type 0} (d : DiskGhosts D) (script : Script) (limit : ℕ) (server
   cut count = record script { steps = take count script.steps }
 
   -- the first lines, so many, were run
-  ran_first : (count : ℕ) (s : RunState) → count ≤ length script.steps → Goes script limit (take count script.steps) (beginning script left) s → RanFirst script limit left s
-  ran_first count s within goes = record { count = count; within = within; ending = ending_at (cut count) s; lines_run = stops_there script (take count script.steps) limit (take count script.steps) (beginning script left) s goes }
+  ran_first : (count : ℕ) (s : RunState) → count ≤ length script.steps → Goes script limit (take count script.steps) (run_start script left) s → RanFirst script limit left s
+  ran_first count s within goes = record { count = count; within = within; ending = ending_at (cut count) s; lines_run = stops_there script (take count script.steps) limit (take count script.steps) (run_start script left) s goes }
 
   module _ (now new : D) (run next : Run) (seat later : List Token) (count : ℕ) (step : ℕ × Line) (there : slice_get script.steps count ≡ Some step) (at : Stood d script limit server left run seat start now count) where
     within : count < length script.steps
     within = slice_get_within script.steps count step there
 
-    one_more : (t : RunState) → GoesOn script limit at.s step.1 t → Goes script limit (take (count + 1) script.steps) (beginning script left) t
-    one_more t goes = subst (λ (steps : List (ℕ × Line)). Goes script limit steps (beginning script left) t) (sym (take_with script.steps count step there)) (goes_more script limit (take count script.steps) step (beginning script left) at.s t at.goes goes)
+    one_more : (t : RunState) → GoesOn script limit at.s step.1 t → Goes script limit (take (count + 1) script.steps) (run_start script left) t
+    one_more t goes = subst (λ (steps : List (ℕ × Line)). Goes script limit steps (run_start script left) t) (sym (take_with script.steps count step there)) (goes_more script limit (take count script.steps) step (run_start script left) at.s t at.goes goes)
 
     leaves : (items : List Item) → grown_by at.s.items items → LeavesOnly d.moment d.left_since now new (ComesBackTo items 0 left) → LeavesOnly d.moment d.left_since start new (ComesBackTo items 0 left)
     leaves items (more, same) moment = leave_joined d left start now new at.s.items items more same at.any_moment moment
@@ -187,8 +187,8 @@ module _ {D : Type 0} (d : DiskGhosts D) (script : Script) (limit : ℕ) (server
     pub halted : (ending : Ending) → HaltsAt d script limit server left at.s step.1 next later now new step.0 ending → Halts d script limit server left next later start new ending
     halted ending (inl e) = inl (record {
       last = e.next;
-      lines_run = subst (λ (steps : List (ℕ × Line)). LinesRun script limit steps (beginning script left) ending e.next) (split_at script.steps count step there)
-          (goes_lines script limit (take count script.steps) (step ∷ drop (count + 1) script.steps) (beginning script left) at.s ending e.next at.goes (inr e.stops));
+      lines_run = subst (λ (steps : List (ℕ × Line)). LinesRun script limit steps (run_start script left) ending e.next) (split_at script.steps count step there)
+          (goes_lines script limit (take count script.steps) (step ∷ drop (count + 1) script.steps) (run_start script left) at.s ending e.next at.goes (inr e.stops));
       follows = e.follows;
       least = e.least;
       keeps = e.keeps;
@@ -208,7 +208,7 @@ module _ {D : Type 0} (d : DiskGhosts D) (script : Script) (limit : ℕ) (server
     halted ending (inr (inr f)) = inr (inr (record {
       is = f.is;
       last = at.s;
-      ran = record { count = count; within = omega (arith, within); ending = ending_at (cut count) at.s; lines_run = stops_there script (take count script.steps) limit (take count script.steps) (beginning script left) at.s at.goes };
+      ran = record { count = count; within = omega (arith, within); ending = ending_at (cut count) at.s; lines_run = stops_there script (take count script.steps) limit (take count script.steps) (run_start script left) at.s at.goes };
       follows = f.follows;
       output = f.output;
       items = f.items;
@@ -218,13 +218,13 @@ module _ {D : Type 0} (d : DiskGhosts D) (script : Script) (limit : ℕ) (server
 
   -- all lines were run
   module _ (now : D) (run : Run) (seat : List Token) (count : ℕ) (all : length script.steps ≤ count) (at : Stood d script limit server left run seat start now count) where
-    goes_all : Goes script limit script.steps (beginning script left) at.s
-    goes_all = subst (λ (steps : List (ℕ × Line)). Goes script limit steps (beginning script left) at.s) (take_all count script.steps all) at.goes
+    goes_all : Goes script limit script.steps (run_start script left) at.s
+    goes_all = subst (λ (steps : List (ℕ × Line)). Goes script limit steps (run_start script left) at.s) (take_all count script.steps all) at.goes
 
     came : (ending : Ending) → ending ≡ ending_at script at.s → CameTo d script limit server left run seat start now ending
     came ending is = record {
       last = at.s;
-      lines_run = subst (λ (steps : List (ℕ × Line)). LinesRun script limit steps (beginning script left) ending at.s) (append-nil script.steps) (goes_lines script limit script.steps [] (beginning script left) at.s ending at.s goes_all (is, refl));
+      lines_run = subst (λ (steps : List (ℕ × Line)). LinesRun script limit steps (run_start script left) ending at.s) (append-nil script.steps) (goes_lines script limit script.steps [] (run_start script left) at.s ending at.s goes_all (is, refl));
       follows = at.stands.follows;
       least = at.least;
       keeps = at.stands.keeps;
@@ -238,7 +238,7 @@ module _ {D : Type 0} (d : DiskGhosts D) (script : Script) (limit : ℕ) (server
     ended ending (inr (inr is)) = inr (inl (record {
       is = is;
       last = at.s;
-      ran = ran_first (length script.steps) at.s (omega arith) (subst (λ (steps : List (ℕ × Line)). Goes script limit steps (beginning script left) at.s) (sym (take_all (length script.steps) script.steps (omega arith))) goes_all);
+      ran = ran_first (length script.steps) at.s (omega arith) (subst (λ (steps : List (ℕ × Line)). Goes script limit steps (run_start script left) at.s) (sym (take_all (length script.steps) script.steps (omega arith))) goes_all);
       follows = at.stands.follows;
       rests = record { stand = at.s.stand; same = inl refl; keeps = inl (at.least, at.stands.keeps) };
       more = [];
@@ -248,9 +248,9 @@ module _ {D : Type 0} (d : DiskGhosts D) (script : Script) (limit : ℕ) (server
 
 -- before the first line
 pub stood_none : {D : Type 0} (d : DiskGhosts D) (only_now : (disk : D) (c : Files) → d.left_since disk (d.moment disk) c → CrashImage (d.held disk) c) (script : Script) (limit : ℕ) (server : List Mounted) (left : Files) (run : Run) (seat : List Token) (disk : D)
-    → Stands d script server left 0 run seat disk (beginning script left) → Stood d script limit server left run seat disk disk 0
+    → Stands d script server left 0 run seat disk (run_start script left) → Stood d script limit server left run seat disk disk 0
 stood_none d only_now script limit server left run seat disk stands = record {
-  s = beginning script left;
+  s = run_start script left;
   goes = refl;
   least = 0;
   stands = stands;

@@ -10,7 +10,7 @@ use Rattle.run_script.specs.declared.script.Script.{Script}
 use Rattle.script_passes.specs.Crews.{Follows}
 use Rattle.script_runs.specs.declared.ending.Ending.{Ending}
 use Rattle.script_runs.specs.declared.ending.Ending.TheVariants as ends
-use Rattle.script_runs.specs.Runs.{LinesRun, beginning}
+use Rattle.script_runs.specs.Runs.{LinesRun, run_start}
 use Rattle.script_runs.specs.Steps.{RunState}
 use Rattle.record_run.specs.Going.{KeepsRun}
 use Rattle.record_run.specs.ImageCrashes.{ComesBackTo}
@@ -23,7 +23,7 @@ pub record RanFirst (script : Script) (limit : ℕ) (left : Files) (last : RunSt
   pub count : ℕ
   pub within : count ≤ length script.steps
   pub ending : Ending
-  pub lines_run : LinesRun (record script { steps = take count script.steps }) limit (take count script.steps) (beginning script left) ending last
+  pub lines_run : LinesRun (record script { steps = take count script.steps }) limit (take count script.steps) (run_start script left) ending last
 
 module _ {D : Type 0} (d : DiskGhosts D) (script : Script) (limit : ℕ) (server : List Mounted) (left : Files) (run : Run) (seat : List Token) (middle new : D) where
   abbrev pub Left : List Item → Type 0
@@ -32,7 +32,7 @@ module _ {D : Type 0} (d : DiskGhosts D) (script : Script) (limit : ℕ) (server
   -- the run came to an end of its own
   pub record CameTo (ending : Ending) : Type 0 where
     pub last : RunState
-    pub lines_run : LinesRun script limit script.steps (beginning script left) ending last
+    pub lines_run : LinesRun script limit script.steps (run_start script left) ending last
     pub follows : Follows script server run.running seat last.regions
     pub least : ℕ
     pub keeps : KeepsRun left last.items least last.stand run.archive (d.held new)

@@ -23,7 +23,7 @@ use Rattle.script_runs.specs.declared.ending.Ending.TheVariants as ends
 use Rattle.script_runs.specs.Closing.{closed_regions}
 use Rattle.script_runs.specs.Groups.{asked_for}
 use Rattle.script_runs.specs.Regions.{ScriptRegion, made_regions}
-use Rattle.script_runs.specs.Runs.{LinesRun, RunsTo, StopsBehind, beginning}
+use Rattle.script_runs.specs.Runs.{LinesRun, RunsTo, StopsBehind, run_start}
 use Rattle.script_runs.specs.Steps.{RunState, asking_at, fetched_at}
 use Rattle.script_replays.specs.declared.replayed.Replayed.{Replayed}
 use Rattle.record_run.specs.ImageCrashes.{IsAllAfter, MayBeAfter}
@@ -88,7 +88,7 @@ pub record FailedBehind (script : Script) (limit : ℕ) (d : DiskPair) (output :
   pub within : count ≤ length script.steps
   pub ending : Ending
   pub last : RunState
-  pub lines_run : LinesRun (record script { steps = take count script.steps }) limit (take count script.steps) (beginning script left) ending last
+  pub lines_run : LinesRun (record script { steps = take count script.steps }) limit (take count script.steps) (run_start script left) ending last
   pub more : List ℕ
   pub output_is : last.output ≡ output ++ more
   pub items_are : (items ≡ last.items) ⊎ OnItsWay script last count items

@@ -10,7 +10,7 @@ ghost use Rattle.script_passes.specs.Crews.{Alone, Follows, IsManned, ServesScri
 ghost use Rattle.script_passes.specs.Runs.{HasRun, WasCut};
 ghost use Rattle.script_runs.specs.declared.ending.Ending.TheVariants.{Condition as Failed, DiskFault as Failing, NoMemory as Refused};
 ghost use Rattle.script_runs.specs.Regions.{ScriptRegion, made_regions};
-ghost use Rattle.script_runs.specs.Runs.{beginning, line_behind as number_behind};
+ghost use Rattle.script_runs.specs.Runs.{run_start, line_behind as number_behind};
 ghost use Rattle.script_runs.specs.Steps.{RunState, pass_step};
 ghost use Rattle.record_run.specs.Endings.{MayEnd};
 ghost use Rattle.record_run.specs.Going.{IsUnclosed, IsWorking};
@@ -164,7 +164,7 @@ pub(crate) fn run_lines<'a, D: Disk>(
     ensures alone { Alone run.new.running seat.new.tokens → Alone run.old.running seat.old.tokens }
     ensures unclosed { IsWorking run.old.archive.limit run.old.archive.standing → result ≢ Failing → IsUnclosed run.new.archive.limit run.new.archive.standing }
     ensures passed { Alone run.new.running seat.new.tokens → Follows script.now server.now run.old.running seat.old.tokens (made_regions script.now) → HasPassedSome script.now server.now run.new.running seat.new.tokens }
-    ensures halts { D.tells → Alone run.new.running seat.new.tokens → (left : AllFiles) → Stands D.Disk script.now server.now left 0 run.old seat.old.tokens disk.old (beginning script.now left)
+    ensures halts { D.tells → Alone run.new.running seat.new.tokens → (left : AllFiles) → Stands D.Disk script.now server.now left 0 run.old seat.old.tokens disk.old (run_start script.now left)
         → Halts D.Disk script.now run.old.archive.limit server.now left run.new seat.new.tokens disk.old disk.new result }
     ensures cause { IsWorking run.old.archive.limit run.old.archive.standing → MayEnd (D.faults disk.old) (D.faults disk.new) result }
     ensures later { D.faults disk.old ≤ D.faults disk.new }

@@ -9,7 +9,7 @@ use Rattle.pcp_model.specs.Archive.{ArchiveContents, IsArchive, items_of}
 use Rattle.pcp_model.specs.Disk.{Files, IsEmpty}
 use Rattle.pcp_model.specs.LabelFields.{LabelFields}
 use Rattle.pcp_model.specs.Laws.{EndsWhole}
-use Rattle.pcp_model.specs.Written.{created}
+use Rattle.pcp_model.specs.Written.{created_files}
 use Rattle.fetch_answers.specs.declared.fetch.Fetched.{Fetched}
 use Rattle.logger_core.specs.declared.ends.Ends.{Ends}
 use Rattle.logger_core.specs.declared.fault.LogFault.{LogFault}
@@ -46,7 +46,7 @@ run_label stamp = record { pid = 1; start = stamp; host = codes "localhost"; zon
 -- the first result opens what recovery left, or where it left no label a new archive
 abbrev pub OpensFound : Moment → Files → Files → ArchiveContents → Type 0
 OpensFound stamp left files c =
-    (IsEmpty left × (files ≡ created (run_label stamp)) × (c ≡ no_items (run_label stamp))) ⊎ ((files ≡ left) × IsArchive left c)
+    (IsEmpty left × (files ≡ created_files (run_label stamp)) × (c ≡ no_items (run_label stamp))) ⊎ ((files ≡ left) × IsArchive left c)
 
 -- the archive into which a result is logged
 abbrev pub Opens : Moment → Stand → Written → Type 0

@@ -28,12 +28,12 @@ abbrev pub capacity_of : ScriptRegion → ℕ
 capacity_of r = length r.state.words
 
 -- an act of pass k
-abbrev pub acted : ScriptRegion → ℕ → Act → ScriptRegion
-acted r k act = record r { state = after r.state k act; log = r.log ++ record { by = k; act = act } ∷ [] }
+abbrev pub with_act : ScriptRegion → ℕ → Act → ScriptRegion
+with_act r k act = record r { state = after r.state k act; log = r.log ++ record { by = k; act = act } ∷ [] }
 
 abbrev pub all_acted : ScriptRegion → ℕ → List Act → ScriptRegion
 all_acted r k [] = r
-all_acted r k (act ∷ acts) = all_acted (acted r k act) k acts
+all_acted r k (act ∷ acts) = all_acted (with_act r k act) k acts
 
 -- from now on pass k does this
 abbrev pub does : ScriptRegion → ℕ → Doing → ScriptRegion

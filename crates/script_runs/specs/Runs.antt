@@ -19,8 +19,8 @@ use Rattle.script_runs.specs.Archives.{Written, Stand, Opens, files_of}
 use Rattle.script_runs.specs.Steps.{RunState, GoesOn, Stops}
 
 -- before the first line
-abbrev pub beginning : Script → Files → RunState
-beginning script left = record { regions = made_regions script; plans = None; stand = Stand.found left; items = []; output = [] }
+abbrev pub run_start : Script → Files → RunState
+run_start script left = record { regions = made_regions script; plans = None; stand = Stand.found left; items = []; output = [] }
 
 -- At the end of the lines no pass may be left at work; else the fault stands on the line behind the last.
 abbrev pub is_idle : Doing → Bool
@@ -58,7 +58,7 @@ FlushesLast (item ∷ items) stand final = (w : Written) × (stand ≡ Stand.ope
 -- and these files.
 pub record RunsOver (script : Script) (limit : ℕ) (left : Files) (ending : Ending) (output : List ℕ) (items : List Item) (regions : List ScriptRegion) (final : Files) : Type 0 where
   pub last : RunState
-  pub lines_run : LinesRun script limit script.steps (beginning script left) ending last
+  pub lines_run : LinesRun script limit script.steps (run_start script left) ending last
   pub output_is : output ≡ with_end ending last.output (length last.items)
   pub items_are : items ≡ last.items
   pub closed : regions ≡ closed_regions last.regions
@@ -79,7 +79,7 @@ pub record StopsBehind (script : Script) (limit : ℕ) (left : Files) (output : 
   pub within : count ≤ length script.steps
   pub last : RunState
   pub ending : Ending
-  pub lines_run : LinesRun (record script { steps = take count script.steps }) limit (take count script.steps) (beginning script left) ending last
+  pub lines_run : LinesRun (record script { steps = take count script.steps }) limit (take count script.steps) (run_start script left) ending last
   pub more : List ℕ
   pub output_is : last.output ≡ output ++ more
   pub items_are : items ≡ last.items

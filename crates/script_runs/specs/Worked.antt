@@ -50,15 +50,15 @@ script_on image capacity = record {
   steps = [];
 }
 
-abbrev pub numbered : List Line → List (ℕ × Line)
-numbered steps = map (λ step. (0, step)) steps
+abbrev pub with_line_zero : List Line → List (ℕ × Line)
+with_line_zero steps = map (λ step. (0, step)) steps
 
-abbrev pub behind : ℕ → ℕ → List Line → Option Regions
-behind image capacity steps = steps_behind (script_on image capacity) (numbered steps) (made_regions (script_on image capacity), [])
+abbrev pub regions_behind : ℕ → ℕ → List Line → Option Regions
+regions_behind image capacity steps = steps_behind (script_on image capacity) (with_line_zero steps) (made_regions (script_on image capacity), [])
 
 -- what steps write
 abbrev pub writes : ℕ → List Line → Option (List ℕ)
-writes image steps = option_map (λ found. found.1) (behind image 32 steps)
+writes image steps = option_map (λ found. found.1) (regions_behind image 32 steps)
 
 -- what a tick behind them asks for beside what was asked for before, and what it shows
 abbrev pub asks : List ℕ → List ScriptRegion → List ℕ
@@ -68,7 +68,7 @@ abbrev pub answers : List ℕ → List ScriptRegion → List ValueSet
 answers before regions = (fetched_from (map reading_of (shots_of regions)) (asks before regions) (record { sec = 100; usec = 0 })).result.sets
 
 abbrev pub shows : ℕ → ℕ → List ℕ → List Line → Option (List ValueSet)
-shows image capacity before steps = option_map (λ found. answers before found.0) (behind image capacity steps)
+shows image capacity before steps = option_map (λ found. answers before found.0) (regions_behind image capacity steps)
 
 abbrev pub hits_number : ℕ
 hits_number = 293602306

@@ -13,7 +13,7 @@ use Rattle.run_script.specs.declared.script.Line.{Line}
 use Rattle.run_script.specs.declared.script.Line.TheVariants as lines
 use Rattle.run_script.specs.declared.script.Script.{Script}
 use Rattle.script_writers.specs.declared.writer.Writer.{Writer}
-use Rattle.run_script.specs.Recording.{Stage, place_of, is_at, lines_of, stage_after, stage_behind, is_idle, may_come, comes_at, suits, or_else, high_region, wrong_step, has_more, all_rest, unrested, line_behind, refused_line}
+use Rattle.run_script.specs.Recording.{Stage, place_of, is_at, lines_of, stage_after, stage_behind, is_idle, may_come, comes_at, suits, or_else, high_region, wrong_step, has_more, all_rest, unrest_line, line_behind, refused_line}
 use Rattle.script_writers.specs.Lines.{Writing, LineMakes, LinesMake, BeginsChange, StepsOn, Finishes}
 use Rattle.script_writers.specs.Writers.{RunsLine, RunsLines, stage_of, view_of, writing_of}
 use Rattle.script_writers.proofs.Entries.{grew_refl, grew_trans, now_grown}
@@ -158,8 +158,8 @@ none_wrong script before (x ∷ xs) n step e f = by_test (comes_at before x.1 (p
 
 pub may_stand : (script : Script) (n : ℕ) (step : ℕ × Line) → refused_line script ≡ None → slice_get script.steps n ≡ Some step → MayStand script (take n script.steps) step.1
 may_stand script n step e f =
-    let first = or_none (high_region script script.regions) (or_else (wrong_step script [] script.steps) (unrested script.steps)) e in
-    let second = or_none (wrong_step script [] script.steps) (unrested script.steps) first.1 in
+    let first = or_none (high_region script script.regions) (or_else (wrong_step script [] script.steps) (unrest_line script.steps)) e in
+    let second = or_none (wrong_step script [] script.steps) (unrest_line script.steps) first.1 in
     none_wrong script [] script.steps n step second.0 f
 
 -- the place that a line names is the one that it is at
@@ -201,7 +201,7 @@ ends_idle stage i k (x ∷ xs) e h = by_test (is_at i k (place_of x.1)) refl (λ
     by_test true f more = more (stage_after x.1) (goes f)
     by_test false f more = more stage (stays f h)
 
-rested : (steps : List (ℕ × Line)) → unrested steps ≡ None → all_rest steps ≡ true
+rested : (steps : List (ℕ × Line)) → unrest_line steps ≡ None → all_rest steps ≡ true
 rested steps e = by_test (all_rest steps) refl e
   where
     by_test : (b : Bool) → all_rest steps ≡ b → (if b then None else Some (line_behind steps)) ≡ None → all_rest steps ≡ true
@@ -210,8 +210,8 @@ rested steps e = by_test (all_rest steps) refl e
 
 pub all_end : (script : Script) (i k : ℕ) → refused_line script ≡ None → stage_behind Stage.idle (lines_of i k script.steps) ≡ Stage.idle
 all_end script i k e =
-    let first = or_none (high_region script script.regions) (or_else (wrong_step script [] script.steps) (unrested script.steps)) e in
-    let second = or_none (wrong_step script [] script.steps) (unrested script.steps) first.1 in
+    let first = or_none (high_region script script.regions) (or_else (wrong_step script [] script.steps) (unrest_line script.steps)) e in
+    let second = or_none (wrong_step script [] script.steps) (unrest_line script.steps) first.1 in
     ends_idle Stage.idle i k script.steps (rested script.steps second.1) (inr refl)
 
 -- the parts of a place

@@ -78,7 +78,7 @@ Stores k s what entries = StoresLast k s what entries ⊎ StoresNone k s what en
 
 -- The pass took the gate, after so many refusals, loaded the first generation, and raised it to the moment, or by one where that is
 -- more.
-pub record Begins (k : ℕ) (s : State) (moment n : ℕ) (entries : List Entry) : Type 0 where
+pub record IsBeginMade (k : ℕ) (s : State) (moment n : ℕ) (entries : List Entry) : Type 0 where
   pub tries : ℕ
   pub before : List Entry
   pub makes : Makes k (takes tries ++ (Take ∷ Load 1 ∷ [])) before
@@ -95,7 +95,7 @@ pub record Spends (k : ℕ) (s : State) (entries : List Entry) : Type 0 where
 
 abbrev pub BeginsChange : ℕ → State → List ℕ → ℕ → List Entry → Writing → Type 0
 BeginsChange k s image moment entries next =
-    ((n : ℕ) × Begins k s moment n entries × (next ≡ Writing.changing image n 0)) ⊎ (Spends k s entries × (next ≡ Writing.refused))
+    ((n : ℕ) × IsBeginMade k s moment n entries × (next ≡ Writing.changing image n 0)) ⊎ (Spends k s entries × (next ≡ Writing.refused))
 
 -- the next word of the image, if one is left
 abbrev pub next_put : List ℕ → ℕ → List Act

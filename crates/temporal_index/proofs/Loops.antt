@@ -5,7 +5,7 @@ use Rattle.std.specs.List.{AllByRecursion}
 use Rattle.std.proofs.lemmas.List.{append-nil, drop_more, take-append-drop, length-take-le}
 use Rattle.pcp_base.specs.Time.{microseconds}
 use Rattle.pcp_model.specs.declared.records.Entry.{Entry}
-use Rattle.temporal_index.specs.Entries.{entry_at, followed, entries_from, begun, index_of}
+use Rattle.temporal_index.specs.Entries.{entry_at, entry_then_others, entries_from, entries_begun_in, index_of}
 use Rattle.temporal_index.specs.Seeking.{IsLast}
 
 abbrev pub ahead : List Entry → Result (List Entry) ℕ → Result (List Entry) ℕ
@@ -16,41 +16,41 @@ ahead_none : (r : Result (List Entry) ℕ) → ahead [] r ≡ r
 ahead_none (Ok es) = refl
 ahead_none (Err at) = refl
 
-ahead_more : (front : List Entry) (e : Entry) (at : ℕ) (r : Result (List Entry) ℕ) → ahead front (followed at (Some e) r) ≡ ahead (front ++ e ∷ []) r
+ahead_more : (front : List Entry) (e : Entry) (at : ℕ) (r : Result (List Entry) ℕ) → ahead front (entry_then_others at (Some e) r) ≡ ahead (front ++ e ∷ []) r
 ahead_more front e at (Ok es) = ap Ok (simp append_assoc)
 ahead_more front e at (Err offset) = refl
 
-pub starts : (bytes : List ℕ) → ahead [] (entries_from (begun (length bytes - 0)) bytes 0) ≡ index_of bytes
+pub starts : (bytes : List ℕ) → ahead [] (entries_from (entries_begun_in (length bytes - 0)) bytes 0) ≡ index_of bytes
 unfolding index_of
 starts bytes =
-    ap (λ n. ahead [] (entries_from (begun n) bytes 0)) (let all : length bytes - 0 ≡ length bytes = omega arith in all) ∙ ahead_none (entries_from (begun (length bytes)) bytes 0)
+    ap (λ n. ahead [] (entries_from (entries_begun_in n) bytes 0)) (let all : length bytes - 0 ≡ length bytes = omega arith in all) ∙ ahead_none (entries_from (entries_begun_in (length bytes)) bytes 0)
 
 -- one entry more
 pub goes_on : (bytes : List ℕ) (front : List Entry) (at : ℕ) (e : Entry) (all : Result (List Entry) ℕ) → at + 20 ≤ length bytes → entry_at bytes at ≡ Some e
-    → ahead front (entries_from (begun (length bytes - at)) bytes at) ≡ all → ahead (front ++ e ∷ []) (entries_from (begun (length bytes - (at + 20))) bytes (at + 20)) ≡ all
+    → ahead front (entries_from (entries_begun_in (length bytes - at)) bytes at) ≡ all → ahead (front ++ e ∷ []) (entries_from (entries_begun_in (length bytes - (at + 20))) bytes (at + 20)) ≡ all
 unfolding entries_from
 goes_on bytes front at e all within here so_far =
-    let k : begun (length bytes - at) ≡ suc (begun (length bytes - (at + 20))) = omega arith in
-    let one : ahead front (entries_from (begun (length bytes - at)) bytes at) ≡ ahead (front ++ e ∷ []) (entries_from (begun (length bytes - (at + 20))) bytes (at + 20)) =
-    rw (k, here) (ahead_more front e at (entries_from (begun (length bytes - (at + 20))) bytes (at + 20))) in
+    let k : entries_begun_in (length bytes - at) ≡ suc (entries_begun_in (length bytes - (at + 20))) = omega arith in
+    let one : ahead front (entries_from (entries_begun_in (length bytes - at)) bytes at) ≡ ahead (front ++ e ∷ []) (entries_from (entries_begun_in (length bytes - (at + 20))) bytes (at + 20)) =
+    rw (k, here) (ahead_more front e at (entries_from (entries_begun_in (length bytes - (at + 20))) bytes (at + 20))) in
     sym one ∙ so_far
 
 -- no entry there
 pub stops : (bytes : List ℕ) (front : List Entry) (at : ℕ) (all : Result (List Entry) ℕ) → at < length bytes → entry_at bytes at ≡ None
-    → ahead front (entries_from (begun (length bytes - at)) bytes at) ≡ all → all ≡ Err at
+    → ahead front (entries_from (entries_begun_in (length bytes - at)) bytes at) ≡ all → all ≡ Err at
 unfolding entries_from
 stops bytes front at all within none so_far =
-    let k : begun (length bytes - at) ≡ suc (begun (length bytes - at) - 1) = omega arith in
-    let one : ahead front (entries_from (begun (length bytes - at)) bytes at) ≡ Err at = rw (k, none) refl in
+    let k : entries_begun_in (length bytes - at) ≡ suc (entries_begun_in (length bytes - at) - 1) = omega arith in
+    let one : ahead front (entries_from (entries_begun_in (length bytes - at)) bytes at) ≡ Err at = rw (k, none) refl in
     sym so_far ∙ one
 
 -- no byte is left
 pub ends : (bytes : List ℕ) (front : List Entry) (at : ℕ) (all : Result (List Entry) ℕ) → length bytes ≤ at
-    → ahead front (entries_from (begun (length bytes - at)) bytes at) ≡ all → all ≡ Ok front
+    → ahead front (entries_from (entries_begun_in (length bytes - at)) bytes at) ≡ all → all ≡ Ok front
 unfolding entries_from
 ends bytes front at all past so_far =
-    let k : begun (length bytes - at) ≡ 0 = omega arith in
-    let one : ahead front (entries_from (begun (length bytes - at)) bytes at) ≡ Ok front = rw k (ap Ok (append-nil front)) in
+    let k : entries_begun_in (length bytes - at) ≡ 0 = omega arith in
+    let one : ahead front (entries_from (entries_begun_in (length bytes - at)) bytes at) ≡ Ok front = rw k (ap Ok (append-nil front)) in
     sym so_far ∙ one
 
 -- the entry in front of those passed by

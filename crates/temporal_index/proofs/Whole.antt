@@ -9,7 +9,7 @@ use Rattle.pcp_model.specs.Records.{entry, entries, FitsEntry}
 use Rattle.pcp_model.proofs.Cuts.{length-entry}
 use Rattle.temporal_index.specs.declared.fault.IndexFault.{IndexFault}
 use Rattle.temporal_index.specs.declared.fault.IndexFault.TheVariants.{Entry as NoEntry, NoMemory}
-use Rattle.temporal_index.specs.Entries.{entry_at, followed, entries_from, begun, index_of, Gives, AreEntries, IsFirstFault, IsIndexFault}
+use Rattle.temporal_index.specs.Entries.{entry_at, entry_then_others, entries_from, entries_begun_in, index_of, Gives, AreEntries, IsFirstFault, IsIndexFault}
 use Rattle.temporal_index.proofs.Fields.{Taken, entry_takes, entry_again}
 
 abbrev read : List Entry → Result (List Entry) ℕ
@@ -24,13 +24,13 @@ ok_is x y e = cc
 err_is : (x y : ℕ) → stopped x ≡ stopped y → x ≡ y
 err_is x y e = cc
 
-followed_ok : (at : ℕ) (o : Option Entry) (others : Result (List Entry) ℕ) (es : List Entry) → followed at o others ≡ Ok es
+followed_ok : (at : ℕ) (o : Option Entry) (others : Result (List Entry) ℕ) (es : List Entry) → entry_then_others at o others ≡ Ok es
     → (e : Entry) × (xs : List Entry) × (o ≡ Some e) × (others ≡ Ok xs) × (e ∷ xs ≡ es)
 followed_ok at None others es is = absurd cc
 followed_ok at (Some e) (Ok xs) es is = (e, xs, refl, refl, ok_is (e ∷ xs) es is)
 followed_ok at (Some e) (Err offset) es is = absurd cc
 
-followed_err : (at : ℕ) (o : Option Entry) (others : Result (List Entry) ℕ) (offset : ℕ) → followed at o others ≡ Err offset
+followed_err : (at : ℕ) (o : Option Entry) (others : Result (List Entry) ℕ) (offset : ℕ) → entry_then_others at o others ≡ Err offset
     → ((o ≡ None) × (at ≡ offset)) ⊎ ((e : Entry) × (o ≡ Some e) × (others ≡ Err offset))
 followed_err at None others offset is = inl (refl, err_is at offset is)
 followed_err at (Some e) (Ok xs) offset is = absurd cc
@@ -111,24 +111,24 @@ length-entries (e ∷ es) = omega (arith, length-append (entry e) (entries es), 
 pub index_takes : (bytes : List ℕ) (es : List Entry) → IsBytes bytes → index_of bytes ≡ Ok es → AreEntries bytes es
 unfolding index_of
 index_takes bytes es fits is =
-    let f = from_takes (begun (length bytes)) bytes 0 es fits is in
-    let past : length bytes ≤ 0 + 20 * begun (length bytes) = omega arith in
-    record { fit = f.0; is = f.1 ∙ ap (λ t. entries es ++ t) (drop_all (0 + 20 * begun (length bytes)) bytes past) ∙ append-nil (entries es) }
+    let f = from_takes (entries_begun_in (length bytes)) bytes 0 es fits is in
+    let past : length bytes ≤ 0 + 20 * entries_begun_in (length bytes) = omega arith in
+    record { fit = f.0; is = f.1 ∙ ap (λ t. entries es ++ t) (drop_all (0 + 20 * entries_begun_in (length bytes)) bytes past) ∙ append-nil (entries es) }
 
 -- what the bytes are is read
 pub index_again : (bytes : List ℕ) (es : List Entry) → AreEntries bytes es → index_of bytes ≡ Ok es
 unfolding index_of
 index_again bytes es are =
     let size : length bytes ≡ 20 * length es = ap length are.is ∙ length-entries es in
-    let many : begun (length bytes) ≡ length es = omega arith in
+    let many : entries_begun_in (length bytes) ≡ length es = omega arith in
     ap (λ n. entries_from n bytes 0) many ∙ from_again es bytes 0 [] are.fit (are.is ∙ sym (append-nil (entries es)))
 
 -- where nothing is read is the first fault
 pub index_stops : (bytes : List ℕ) (offset : ℕ) → IsBytes bytes → index_of bytes ≡ Err offset → IsFirstFault bytes offset
 unfolding index_of
 index_stops bytes offset fits is =
-    let s = from_stops (begun (length bytes)) bytes 0 offset fits is in
-    let within : offset + 20 ≤ 0 + 20 * begun (length bytes) = s.within in
+    let s = from_stops (entries_begun_in (length bytes)) bytes 0 offset fits is in
+    let within : offset + 20 ≤ 0 + 20 * entries_begun_in (length bytes) = s.within in
     record {
       front = s.front;
       rest = drop offset bytes;

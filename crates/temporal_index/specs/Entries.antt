@@ -29,23 +29,23 @@ entry_at bytes at = do
   Some (record { stamp = record { sec = sec; usec = usec }; volume = volume; meta = meta; offset = offset })
 
 -- the entry at an offset, and what is read behind it; or the offset, where none is
-abbrev pub followed : ℕ → Option Entry → Result (List Entry) ℕ → Result (List Entry) ℕ
-followed at None others = Err at
-followed at (Some e) (Ok es) = Ok (e ∷ es)
-followed at (Some e) (Err offset) = Err offset
+abbrev pub entry_then_others : ℕ → Option Entry → Result (List Entry) ℕ → Result (List Entry) ℕ
+entry_then_others at None others = Err at
+entry_then_others at (Some e) (Ok es) = Ok (e ∷ es)
+entry_then_others at (Some e) (Err offset) = Err offset
 
 -- so many entries from a byte on, or the first offset where none is
 unfoldable pub entries_from : ℕ → List ℕ → ℕ → Result (List Entry) ℕ
 entries_from zero bytes at = Ok []
-entries_from (suc n) bytes at = followed at (entry_at bytes at) (entries_from n bytes (at + 20))
+entries_from (suc n) bytes at = entry_then_others at (entry_at bytes at) (entries_from n bytes (at + 20))
 
 -- how many entries so many bytes begin
-abbrev pub begun : ℕ → ℕ
-begun size = (size + 19) / 20
+abbrev pub entries_begun_in : ℕ → ℕ
+entries_begun_in size = (size + 19) / 20
 
 -- The entries that the bytes are, or the first offset where none is.
 unfoldable pub index_of : List ℕ → Result (List Entry) ℕ
-index_of bytes = entries_from (begun (length bytes)) bytes 0
+index_of bytes = entries_from (entries_begun_in (length bytes)) bytes 0
 
 -- What a function returned is what reading gives, unless memory ran out.
 abbrev pub Gives : Result (List Entry) IndexFault → Result (List Entry) ℕ → Type 0

@@ -5,7 +5,7 @@ use Rattle.std.proofs.lemmas.List.Elements.{All-head, All-tail}
 use mathlib.Core.Logic.{⊎_elim}
 use Rattle.text_lines.specs.Laws.{IsTextByte, TextIsRead, HelpIsRead}
 use Rattle.text_lines.specs.Numbers.{◌>>=◌, is_low_hex, hex_digit}
-use Rattle.text_lines.specs.Words.{is_plain, escaped_byte, hex_byte, text_byte, text_within, starts_quoted, starts_missing, quoted, take_text, take_help}
+use Rattle.text_lines.specs.Words.{is_plain, escaped_byte, hex_byte, text_byte, text_within, starts_quoted, starts_missing, text_in_quotes, take_text, take_help}
 use Rattle.text_lines.specs.Spelling.{hex_glyph, escape, escapes, quoted_text, text_part}
 use Rattle.text_lines.proofs.Quoting.{within_quote, within_byte}
 
@@ -78,8 +78,8 @@ length_escapes [] h = omega arith
 length_escapes (b ∷ text) h =
     omega (arith, length-append (escape b) (escapes text), (is_escape b [] (All-head IsTextByte b text h)).some, length_escapes text (All-tail IsTextByte b text h))
 
-pub quoted_of : (text more : List ℕ) → All IsTextByte text → quoted (quoted_text text ++ more) ≡ Some (text, more)
-unfolding quoted quoted_text
+pub quoted_of : (text more : List ℕ) → All IsTextByte text → text_in_quotes (quoted_text text ++ more) ≡ Some (text, more)
+unfolding text_in_quotes quoted_text
 quoted_of text more h =
     ap (λ bs. text_within (suc (length bs)) bs) (append_assoc (escapes text) (34 ∷ []) more)
     ∙ escapes_read (suc (length (escapes text ++ 34 ∷ more))) text more (omega (arith, length-append (escapes text) (34 ∷ more), length_escapes text h)) h
@@ -89,9 +89,9 @@ unfolding take_text text_part
 text_is_read text more h = quoted_of text more h
 
 -- a quote is no `-`
-help_there : (bytes : List ℕ) (text more : List ℕ) → starts_missing bytes ≡ false → quoted bytes ≡ Some (text, more) → take_help (32 ∷ bytes) ≡ Some (Some text, more)
+help_there : (bytes : List ℕ) (text more : List ℕ) → starts_missing bytes ≡ false → text_in_quotes bytes ≡ Some (text, more) → take_help (32 ∷ bytes) ≡ Some (Some text, more)
 unfolding take_help
-help_there bytes text more q e = ap (λ t. cond t (Some (None, drop 1 bytes)) (quoted bytes >>= (λ u. Some (Some u.0, u.1)))) q ∙ ap (λ f. f >>= (λ u. Some (Some u.0, u.1))) e
+help_there bytes text more q e = ap (λ t. cond t (Some (None, drop 1 bytes)) (text_in_quotes bytes >>= (λ u. Some (Some u.0, u.1)))) q ∙ ap (λ f. f >>= (λ u. Some (Some u.0, u.1))) e
 
 quoted_text_starts : (text more : List ℕ) → starts_missing (quoted_text text ++ more) ≡ false
 unfolding quoted_text

@@ -5,7 +5,7 @@ use Rattle.std.proofs.lemmas.Bool.{and_parts, and_from, or_cases, agree_below_at
 use Rattle.std.proofs.lemmas.List.Elements.{All-nil, All-cons, All-head, All-tail, All-drop}
 use Rattle.text_lines.specs.Laws.{IsLineByte, IsTextByte, TakesOnly, TakesTexts, TakesHelps}
 use Rattle.text_lines.specs.Numbers.{◌>>=◌, is_low_hex, hex_digit}
-use Rattle.text_lines.specs.Words.{is_plain, hex_byte, escaped_byte, text_byte, text_within, starts_quoted, starts_missing, quoted, take_space, take_text, take_help}
+use Rattle.text_lines.specs.Words.{is_plain, hex_byte, escaped_byte, text_byte, text_within, starts_quoted, starts_missing, text_in_quotes, take_space, take_text, take_help}
 use Rattle.text_lines.proofs.LineBytes.{quote_or_backslash, from_space}
 use Rattle.text_lines.proofs.Taking.{both_steps, passed, either, moved, none_some, space_taken}
 
@@ -87,8 +87,8 @@ text_within_takes (suc n) bytes left text h e =
     moved (All IsTextByte) (All IsLineByte) (b.0 ∷ u.0) text u.1 left last (All-cons IsTextByte b.0 u.0 first.0 rest.0) rest.1)
     (either (starts_quoted bytes) (Some ([], drop 1 bytes)) (text_byte bytes >>= (λ b. text_within n b.1 >>= (λ u. Some (b.0 ∷ u.0, u.1)))) (Some (text, left)) e)
 
-pub quoted_takes : TakesOnly (All IsTextByte) quoted
-unfolding quoted
+pub quoted_takes : TakesOnly (All IsTextByte) text_in_quotes
+unfolding text_in_quotes
 quoted_takes bytes left text h e =
     ⊎_elim (λ t. text_within_takes (length bytes) (drop 1 bytes) left text (All-drop IsLineByte 1 bytes h) t.1) (λ t. absurd (none_some (text, left) t.1))
     (either (starts_quoted bytes) (text_within (length bytes) (drop 1 bytes)) None (Some (text, left)) e)
@@ -100,16 +100,16 @@ behind_space bytes left u e h = subst (All IsLineByte) (sym (space_taken bytes l
 pub takes_texts : TakesTexts
 unfolding take_text
 takes_texts bytes left text h e =
-    let (s, spaced, next) = both_steps (take_space bytes) (λ s. quoted s.1) (text, left) e in
+    let (s, spaced, next) = both_steps (take_space bytes) (λ s. text_in_quotes s.1) (text, left) e in
     quoted_takes s.1 left text (behind_space bytes s.1 s.0 spaced h) next
 
 pub takes_helps : TakesHelps
 unfolding take_help
 takes_helps bytes left help h e =
-    let (s, spaced, next) = both_steps (take_space bytes) (λ s. cond (starts_missing s.1) (Some (None, drop 1 s.1)) (quoted s.1 >>= (λ t. Some (Some t.0, t.1)))) (help, left) e in
+    let (s, spaced, next) = both_steps (take_space bytes) (λ s. cond (starts_missing s.1) (Some (None, drop 1 s.1)) (text_in_quotes s.1 >>= (λ t. Some (Some t.0, t.1)))) (help, left) e in
     let behind : All IsLineByte s.1 = behind_space bytes s.1 s.0 spaced h in
     ⊎_elim (λ t. moved (λ x. IfSome x (All IsTextByte)) (All IsLineByte) None help (drop 1 s.1) left t.1 tt (All-drop IsLineByte 1 s.1 behind))
-    (λ t. let (u, reads, last) = both_steps (quoted s.1) (λ u. Some (Some u.0, u.1)) (help, left) t.1 in
+    (λ t. let (u, reads, last) = both_steps (text_in_quotes s.1) (λ u. Some (Some u.0, u.1)) (help, left) t.1 in
     let found = quoted_takes s.1 u.1 u.0 behind reads in
     moved (λ x. IfSome x (All IsTextByte)) (All IsLineByte) (Some u.0) help u.1 left last found.0 found.1)
-    (either (starts_missing s.1) (Some (None, drop 1 s.1)) (quoted s.1 >>= (λ t. Some (Some t.0, t.1))) (Some (help, left)) next)
+    (either (starts_missing s.1) (Some (None, drop 1 s.1)) (text_in_quotes s.1 >>= (λ t. Some (Some t.0, t.1))) (Some (help, left)) next)

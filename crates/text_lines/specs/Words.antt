@@ -90,13 +90,13 @@ text_within (suc n) bytes =
       Some (b.0 ∷ t.0, t.1))
 
 -- a text between quotes
-unfoldable pub quoted : List ℕ → Option (List ℕ × List ℕ)
-quoted bytes = if starts_quoted bytes then text_within (length bytes) (drop 1 bytes) else None
+unfoldable pub text_in_quotes : List ℕ → Option (List ℕ × List ℕ)
+text_in_quotes bytes = if starts_quoted bytes then text_within (length bytes) (drop 1 bytes) else None
 
 unfoldable pub take_text : List ℕ → Option (List ℕ × List ℕ)
 take_text bytes = do
   s ← take_space bytes
-  quoted s.1
+  text_in_quotes s.1
 
 abbrev pub starts_missing : List ℕ → Bool
 starts_missing [] = false
@@ -106,8 +106,8 @@ starts_missing (b ∷ bs) = b == 45
 unfoldable pub take_help : List ℕ → Option (Option (List ℕ) × List ℕ)
 take_help bytes = do
   s ← take_space bytes
-  if starts_missing s.1 then Some (None, drop 1 s.1) else (quoted s.1 >>= (λ t. Some (Some t.0, t.1)))
+  if starts_missing s.1 then Some (None, drop 1 s.1) else (text_in_quotes s.1 >>= (λ t. Some (Some t.0, t.1)))
 
 -- Nothing stands behind the last part.
-abbrev pub ended : {X : Type 0} → List ℕ → X → Option X
-ended left x = if length left == 0 then Some x else None
+abbrev pub whole_line : {X : Type 0} → List ℕ → X → Option X
+whole_line left x = if length left == 0 then Some x else None

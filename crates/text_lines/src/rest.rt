@@ -2,10 +2,10 @@
 ghost use Rattle.std.specs.Prelude.{◌≡◌, ◌≤◌, length, drop, MatchResult, Some, IfOk};
 ghost use Rattle.text_lines.specs.Numbers.{number32, number64, int32, hex_number};
 ghost use Rattle.pcp_base.specs.Texts.{IsText};
-ghost use Rattle.text_lines.specs.Words.{Taken, Read, text_within, quoted, take_text, starts_missing, take_help, IsStopped, take_space, word_length, first_word, behind_word, take_word, take_as, optional, ended};
+ghost use Rattle.text_lines.specs.Words.{Taken, Read, text_within, text_in_quotes, take_text, starts_missing, take_help, IsStopped, take_space, word_length, first_word, behind_word, take_word, take_as, optional, whole_line};
 
 use crate::numbers;
-use crate::quoted::{starts_quoted, text_byte};
+use crate::text_in_quotes::{starts_quoted, text_byte};
 use pcp_base::{Bytes, NoMemory, Text};
 use std::alloc::{AllocError, Global};
 use std::marker::Model;
@@ -217,9 +217,9 @@ impl<'a> Rest<'a> {
     }
 
     /// A text between quotes.
-    #[tactic(auto, unfolding(crate::specs::Words::quoted))]
-    pub fn quoted(&mut self, alloc: Global) -> Result<Text, TakeFault>
-        ensures { Taken (quoted self.old) result self.new }
+    #[tactic(auto, unfolding(crate::specs::Words::text_in_quotes))]
+    pub fn text_in_quotes(&mut self, alloc: Global) -> Result<Text, TakeFault>
+        ensures { Taken (text_in_quotes self.old) result self.new }
     {
         if !starts_quoted(self.bytes) {
             return Err(TakeFault::NoLine);
@@ -236,7 +236,7 @@ impl<'a> Rest<'a> {
         ensures { Taken (take_text self.old) result self.new }
     {
         self.space()?;
-        let text = self.quoted(alloc)?;
+        let text = self.text_in_quotes(alloc)?;
         Ok(text)
     }
 
@@ -250,13 +250,13 @@ impl<'a> Rest<'a> {
             self.bytes = &self.bytes[1..];
             return Ok(None);
         }
-        let text = self.quoted(alloc)?;
+        let text = self.text_in_quotes(alloc)?;
         Ok(Some(text))
     }
 
     /// That nothing is left.
     pub fn end(&self) -> Result<(), TakeFault>
-        ensures { Read (ended self.now tt) result }
+        ensures { Read (whole_line self.now tt) result }
     {
         if !self.bytes.is_empty() {
             return Err(TakeFault::NoLine);

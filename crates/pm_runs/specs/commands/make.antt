@@ -2,11 +2,11 @@
 use Rattle.std.specs.Prelude.{◌≡◌, ℕ, List, [], ◌++◌, codes, length, None, Some}
 use Rattle.pcp_base.specs.declared.file.FileId.TheVariants.{Meta}
 use Rattle.pcp_model.specs.Disk.{Files}
-use Rattle.pcp_outside.specs.Causes.{Rose, capped}
+use Rattle.pcp_outside.specs.Causes.{Rose, shown_count}
 use Rattle.run_script.specs.declared.script.Line.{Line}
 use Rattle.run_script.specs.declared.script.Line.TheVariants as lines
 use Rattle.run_script.specs.declared.script.Script.{Script}
-use Rattle.run_script.specs.Generated.{generated}
+use Rattle.run_script.specs.Generated.{generated_script}
 use Rattle.script_runs.specs.PassSteps.{one_number}
 use Rattle.script_runs.specs.Summaries.{HasVolumes, amount, summary}
 use Rattle.pm_words.specs.declared.words.MakeWords.{MakeWords}
@@ -32,7 +32,7 @@ counted_text items volumes meta adds total =
 
 -- of these files and results, where the script has so many adds of this sum
 abbrev pub HasCounted : Files → ℕ → ℕ → ℕ → List ℕ → Type 0
-HasCounted files items adds total text = (volumes : ℕ) × HasVolumes files volumes × (text ≡ counted_text items volumes (capped (length (files Meta))) adds total)
+HasCounted files items adds total text = (volumes : ℕ) × HasVolumes files volumes × (text ≡ counted_text items volumes (shown_count (length (files Meta))) adds total)
 
 -- why it isn't told
 abbrev pub WantsCounts : ℕ → ℕ → Refusal → Type 0
@@ -44,12 +44,12 @@ WantsCounts before after _ = ⊥
 pub record Summarizes (script : Script) (count : ℕ) (files : Files) (text : List ℕ) : Type 0 where
   pub volumes : ℕ
   pub counted : HasVolumes files volumes
-  pub is : text ≡ summary script.steps count volumes (capped (length (files Meta)))
+  pub is : text ≡ summary script.steps count volumes (shown_count (length (files Meta)))
 
 abbrev pub making : MakeWords → Runner
 making asked = record {
   reads = None;
-  script = λ input. Some (generated asked.number asked.ticks);
+  script = λ input. Some (generated_script asked.number asked.ticks);
   limit = asked.volume;
   says = λ script count output files text. Summarizes script count files text;
   front = λ output. [];

@@ -13,11 +13,11 @@ use Rattle.pm_words.specs.Meaning.{Meaning}
 use Rattle.pm_words.specs.Sides.{DiskSide, Found}
 
 -- a file stands wrapped, or this is the first offset that fits no archive
-abbrev pub turned : Found → FilesRefusal → Type 0
-turned found (Compressed file) = found.wrapped ≡ Some file
-turned found (NotArchive file at) = (found.wrapped ≡ None) × IsRefused found.files file at
-turned found (Run reason) = ⊥
-turned found (Nothing stamp) = ⊥
+abbrev pub IsTurnedAway : Found → FilesRefusal → Type 0
+IsTurnedAway found (Compressed file) = found.wrapped ≡ Some file
+IsTurnedAway found (NotArchive file at) = (found.wrapped ≡ None) × IsRefused found.files file at
+IsTurnedAway found (Run reason) = ⊥
+IsTurnedAway found (Nothing stamp) = ⊥
 
 -- the files were read, and what is left is what recovery leaves, all of it sure
 pub record IsMendedSide (d : DiskSide) : Type 0 where
@@ -30,22 +30,22 @@ abbrev pub items_line : ℕ → List ℕ
 items_line n = codes "items " ++ (decimal n ++ 10 ∷ [])
 
 -- how many items the scan has
-abbrev pub said : Files → List ℕ → Type 0
-said files text = (r : ArchiveReading) × Reads files r × (text ≡ items_line (length (scan r)))
+abbrev pub IsOutput : Files → List ℕ → Type 0
+IsOutput files text = (r : ArchiveReading) × Reads files r × (text ≡ items_line (length (scan r)))
 
 -- After a disk fault recovery may be on its way; where memory is wanting for the line, it is done.
-abbrev pub begun : ℕ → DiskSide → Type 0
-begun status d = (status ≡ 5) ⊎ ((status ≡ 9) × (d.tells → IsMendedSide d))
+abbrev pub IsUnderWay : ℕ → DiskSide → Type 0
+IsUnderWay status d = (status ≡ 5) ⊎ ((status ≡ 9) × (d.tells → IsMendedSide d))
 
 abbrev pub recover : Meaning
 recover = record {
   reads = None;
   uses_disk = true;
-  turns_away = λ input files e. turned files e;
+  turns_away = λ input files e. IsTurnedAway files e;
   done = λ input d. d.tells → IsMendedSide d;
-  says = λ input d text. d.tells → said (contents_of d.held) text;
+  says = λ input d text. d.tells → IsOutput (contents_of d.held) text;
   begins = λ input d e front. front ≡ [];
   keeps = λ input held crash. Unit {0};
-  begun = λ status input d. begun status d;
+  IsUnderWay = λ status input d. IsUnderWay status d;
   may_leave = λ input held crash. MayBeHalfway held crash;
 }

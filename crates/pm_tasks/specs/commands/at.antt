@@ -21,12 +21,12 @@ IsStopped t r found (Nothing stamp) = (stamp ≡ t) × IsAtFrom found.files r.vo
 IsStopped t r found (Compressed file) = ⊥
 IsStopped t r found (Run reason) = ⊥
 
-abbrev pub turned : Moment → Found → FilesRefusal → Type 0
-turned t found e = TurnedAfter (IsStopped t) found e
+abbrev pub IsTurnedAway : Moment → Found → FilesRefusal → Type 0
+IsTurnedAway t found e = TurnedAfter (IsStopped t) found e
 
-abbrev pub said : Moment → Found → List ℕ → Type 0
-said t found text = (r : Loaded) × IsLoaded found r × (x : Item) × IsAtFrom found.files r.volumes t (at_begin r t) (Some x)
+abbrev pub IsOutput : Moment → Found → List ℕ → Type 0
+IsOutput t found text = (r : Loaded) × IsLoaded found r × (x : Item) × IsAtFrom found.files r.volumes t (at_begin r t) (Some x)
     × OverSound found (λ items. last_at t items ≡ Some x) × (text ≡ item_text r.records x)
 
 abbrev pub at : Moment → Meaning
-at t = looks (turned t) (said t) nothing_before
+at t = looks (IsTurnedAway t) (IsOutput t) nothing_before

@@ -36,12 +36,12 @@ BadRecord r found (Run reason) = ⊥
 BadRecord r found (Nothing stamp) = ⊥
 
 -- files are turned away where they aren't loaded, or where a record is no item's
-abbrev pub turned : Found → FilesRefusal → Type 0
-turned found e = TurnedAfter BadRecord found e
+abbrev pub IsTurnedAway : Found → FilesRefusal → Type 0
+IsTurnedAway found e = TurnedAfter BadRecord found e
 
 -- the files are readable, and their items are written
-abbrev pub said : Found → List ℕ → Type 0
-said found text = (r : Loaded) × IsLoaded found r × (items : List Item) × HasItems found.files r items × IsReadAs found.files r.records items
+abbrev pub IsOutput : Found → List ℕ → Type 0
+IsOutput found text = (r : Loaded) × IsLoaded found r × (items : List Item) × HasItems found.files r items × IsReadAs found.files r.records items
     × (text ≡ dump_text r items)
 
 -- some records of the volumes, from the first on, are those of these items
@@ -52,11 +52,11 @@ BeginsWith files r items = (last : List (ℕ × ℕ)) × (to : ℕ) × Leads fil
 abbrev pub HasBegun : Found → List ℕ → Type 0
 HasBegun found front = (front ≡ []) ⊎ ((r : Loaded) × IsLoaded found r × (items : List Item) × BeginsWith found.files r items × IsFront front (dump_text r items))
 
-abbrev pub begun : DiskSide → List ℕ → Type 0
-begun d front = d.tells → HasBegun (files_found d) front
+abbrev pub IsFrontOutput : DiskSide → List ℕ → Type 0
+IsFrontOutput d front = d.tells → HasBegun (files_found d) front
 
 abbrev pub dump : Meaning
-dump = looks turned said begun
+dump = looks IsTurnedAway IsOutput IsFrontOutput
 
 -- Of one step: an item's record follows and its text was put, or none follows
 abbrev pub HasNext : Files → Loaded → Place → Place → List ℕ → List ℕ → Bool → Type 0
@@ -87,10 +87,10 @@ pub record HasPutSome (tells : Type 0) (files : Files) (r : Loaded) (before : Li
 pub record HasSaid (k : SinkSide) (failed : Bool) (d : DiskSide) (waits : List ℕ) : Type 0 where
   pub front : List ℕ
   pub sent : IsSent k front failed
-  pub whole : d.tells → said (files_found d) (front ++ waits)
+  pub whole : d.tells → IsOutput (files_found d) (front ++ waits)
 
 -- or what was begun went there
 pub record HasStopped (k : SinkSide) (failed : Bool) (d : DiskSide) : Type 0 where
   pub front : List ℕ
   pub sent : IsSent k front failed
-  pub so_far : begun d front
+  pub so_far : IsFrontOutput d front

@@ -8,11 +8,11 @@ use Rattle.pm_words.specs.Meaning.{Meaning}
 use Rattle.pm_words.specs.Sides.{Found}
 
 -- it turns files away only where they aren't loaded
-abbrev pub turned : Found → FilesRefusal → Type 0
-turned found e = IsNotLoaded found e
+abbrev pub IsTurnedAway : Found → FilesRefusal → Type 0
+IsTurnedAway found e = IsNotLoaded found e
 
-abbrev pub said : Found → List ℕ → Type 0
-said found text = (r : Loaded) × IsLoaded found r × (text ≡ info_text r.records)
+abbrev pub IsOutput : Found → List ℕ → Type 0
+IsOutput found text = (r : Loaded) × IsLoaded found r × (text ≡ info_text r.records)
 
 abbrev pub info : Meaning
-info = looks turned said nothing_before
+info = looks IsTurnedAway IsOutput nothing_before

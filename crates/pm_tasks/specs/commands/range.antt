@@ -21,12 +21,12 @@ IsStopped from to r found (Nothing stamp) = ⊥
 IsStopped from to r found (Compressed file) = ⊥
 IsStopped from to r found (Run reason) = ⊥
 
-abbrev pub turned : Moment → Moment → Found → FilesRefusal → Type 0
-turned from to found e = TurnedAfter (IsStopped from to) found e
+abbrev pub IsTurnedAway : Moment → Moment → Found → FilesRefusal → Type 0
+IsTurnedAway from to found e = TurnedAfter (IsStopped from to) found e
 
-abbrev pub said : Moment → Moment → Found → List ℕ → Type 0
-said from to found text = (r : Loaded) × IsLoaded found r × (items : List Item) × IsRangeFrom found.files r.volumes from to (range_begin r from) items
+abbrev pub IsOutput : Moment → Moment → Found → List ℕ → Type 0
+IsOutput from to found text = (r : Loaded) × IsLoaded found r × (items : List Item) × IsRangeFrom found.files r.volumes from to (range_begin r from) items
     × OverSound found (λ all. between from to all ≡ items) × (text ≡ items_text r.records items)
 
 abbrev pub range : Moment → Moment → Meaning
-range from to = looks (turned from to) (said from to) nothing_before
+range from to = looks (IsTurnedAway from to) (IsOutput from to) nothing_before

@@ -3,7 +3,7 @@ use Rattle.std.specs.Prelude.{◌≡◌, ℕ, Bool, true, false, if◌then◌els
 use Rattle.pcp_base.specs.Time.{Moment}
 use Rattle.pcp_base.specs.declared.result.ValueSet.{ValueSet}
 use Rattle.pcp_model.specs.declared.records.MetaRecord.{MetaRecord}
-use Rattle.archive_meta.specs.Said.{described, description_of, names_of}
+use Rattle.archive_meta.specs.Said.{described_metrics, description_of, names_of}
 use Rattle.archive_loading.specs.Loaded.{Loaded}
 use Rattle.archive_reader.specs.Values.{IsValueAt, IsWholeFault, value_at}
 use Rattle.archive_reader.specs.declared.fault.ReaderFault.TheVariants as faults
@@ -29,8 +29,8 @@ first_named records name [] = None
 first_named records name (pmid ∷ pmids) = if is_named name (names_of (description_of pmid records)) then Some pmid else first_named records name pmids
 
 -- a name leads to the first metric that has it, in the order in which metrics are first described
-abbrev pub named : List MetaRecord → List ℕ → Option ℕ
-named records name = first_named records name (described records)
+abbrev pub metric_of_name : List MetaRecord → List ℕ → Option ℕ
+metric_of_name records name = first_named records name (described_metrics records)
 
 -- the text of a metric's values at a moment
 abbrev pub HasValue : Found → Loaded → ℕ → Moment → List ℕ → Type 0
@@ -51,16 +51,16 @@ HasNothing found r t (Some pmid) = IsValueAt found.files r.volumes pmid t None �
 
 -- where no values are found: no metric has the name; or, of the one that has it, a record is no item's, or there are none
 abbrev pub IsStopped : ValueWords → Loaded → Found → FilesRefusal → Type 0
-IsStopped asked r found (NotArchive file offset) = (pmid : ℕ) × (named r.records asked.name ≡ Some pmid) × IsWholeFault found.files r.volumes (faults.NotArchive file offset)
-IsStopped asked r found (Nothing stamp) = (stamp ≡ asked.stamp) × HasNothing found r asked.stamp (named r.records asked.name)
+IsStopped asked r found (NotArchive file offset) = (pmid : ℕ) × (metric_of_name r.records asked.name ≡ Some pmid) × IsWholeFault found.files r.volumes (faults.NotArchive file offset)
+IsStopped asked r found (Nothing stamp) = (stamp ≡ asked.stamp) × HasNothing found r asked.stamp (metric_of_name r.records asked.name)
 IsStopped asked r found (Compressed file) = ⊥
 IsStopped asked r found (Run reason) = ⊥
 
-abbrev pub turned : ValueWords → Found → FilesRefusal → Type 0
-turned asked found e = TurnedAfter (IsStopped asked) found e
+abbrev pub IsTurnedAway : ValueWords → Found → FilesRefusal → Type 0
+IsTurnedAway asked found e = TurnedAfter (IsStopped asked) found e
 
-abbrev pub said : ValueWords → Found → List ℕ → Type 0
-said asked found text = (r : Loaded) × IsLoaded found r × (pmid : ℕ) × (named r.records asked.name ≡ Some pmid) × HasValue found r pmid asked.stamp text
+abbrev pub IsOutput : ValueWords → Found → List ℕ → Type 0
+IsOutput asked found text = (r : Loaded) × IsLoaded found r × (pmid : ℕ) × (metric_of_name r.records asked.name ≡ Some pmid) × HasValue found r pmid asked.stamp text
 
 abbrev pub value : ValueWords → Meaning
-value asked = looks (turned asked) (said asked) nothing_before
+value asked = looks (IsTurnedAway asked) (IsOutput asked) nothing_before

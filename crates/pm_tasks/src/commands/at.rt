@@ -5,7 +5,7 @@ ghost use Rattle.archive_window.specs.Looks.{Looks};
 ghost use Rattle.pm_tasks.specs.Archives.{TurnedAway};
 ghost use Rattle.pm_words.specs.Sides.{disk_side, files_found};
 ghost use Rattle.pm_tasks.specs.Takes.{TookAt};
-ghost use Rattle.pm_tasks.specs.commands.at.{turned, said};
+ghost use Rattle.pm_tasks.specs.commands.at.{IsTurnedAway, IsOutput};
 
 use archive_reader::ArchiveReader;
 use pcp_base::{Bytes, Stamp};
@@ -16,8 +16,8 @@ use std::alloc::Global;
 
 /// The item, as text.
 pub fn at<D: Disk>(alloc: Global, t: Stamp, disk: &mut D) -> Result<Bytes, Refusal>
-    ensures said { D.tells → IfOk result (said t (files_found (disk_side D.Disk disk.old disk.new))) }
-    ensures turned { IfErr result (TurnedAway (turned t) (disk_side D.Disk disk.old disk.new)) }
+    ensures said { D.tells → IfOk result (IsOutput t (files_found (disk_side D.Disk disk.old disk.new))) }
+    ensures turned { IfErr result (TurnedAway (IsTurnedAway t) (disk_side D.Disk disk.old disk.new)) }
     ensures taken { D.tells → TookAt t (contents_of (D.held disk.old)) (D.taken disk.old) (D.taken disk.new) }
     ensures looks { Looks D.Disk disk.old disk.new }
 {

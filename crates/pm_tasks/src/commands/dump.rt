@@ -6,7 +6,7 @@ ghost use Rattle.archive_loading.specs.Loaded.{IsOver};
 ghost use Rattle.pm_tasks.specs.Archives.{TurnedAway};
 ghost use Rattle.pm_words.specs.Sides.{sink_side, disk_side};
 ghost use Rattle.pm_words.specs.Streams.{Turns};
-ghost use Rattle.pm_tasks.specs.commands.dump.{label_line, turned, HasNext, BadNext, HasPut, HasPutSome, HasSaid, HasStopped, BadRecord};
+ghost use Rattle.pm_tasks.specs.commands.dump.{label_line, IsTurnedAway, HasNext, BadNext, HasPut, HasPutSome, HasSaid, HasStopped, BadRecord};
 
 use archive_reader::{ArchiveReader, Place};
 use pcp_base::{Bytes, List, NoMemory};
@@ -120,7 +120,7 @@ pub fn dump<O: Sink, D: Disk>(
     requires { failed.old ≡ false }
     ensures said { IfOk result (HasSaid (sink_side O.Sink out.old out.new) failed.new (disk_side D.Disk disk.old disk.new)) }
     ensures stops { OnErr result (HasStopped (sink_side O.Sink out.old out.new) failed.new (disk_side D.Disk disk.old disk.new)) }
-    ensures turned { IfErr result (TurnedAway turned (disk_side D.Disk disk.old disk.new)) }
+    ensures turned { IfErr result (TurnedAway IsTurnedAway (disk_side D.Disk disk.old disk.new)) }
     ensures looks { Looks D.Disk disk.old disk.new }
 {
     let mut reader = ArchiveReader::load(alloc, disk)?;

@@ -3,7 +3,7 @@ ghost use Rattle.std.specs.Prelude.{IfOk, IfErr};
 ghost use Rattle.archive_window.specs.Looks.{Looks};
 ghost use Rattle.pm_tasks.specs.Archives.{TurnedAway};
 ghost use Rattle.pm_words.specs.Sides.{disk_side, files_found};
-ghost use Rattle.pm_tasks.specs.commands.info.{turned, said};
+ghost use Rattle.pm_tasks.specs.commands.info.{IsTurnedAway, IsOutput};
 
 use archive_reader::ArchiveReader;
 use pcp_base::Bytes;
@@ -14,8 +14,8 @@ use std::alloc::Global;
 
 /// The descriptions of an archive, as text.
 pub fn info<D: Disk>(alloc: Global, disk: &mut D) -> Result<Bytes, Refusal>
-    ensures said { D.tells → IfOk result (said (files_found (disk_side D.Disk disk.old disk.new))) }
-    ensures turned { IfErr result (TurnedAway turned (disk_side D.Disk disk.old disk.new)) }
+    ensures said { D.tells → IfOk result (IsOutput (files_found (disk_side D.Disk disk.old disk.new))) }
+    ensures turned { IfErr result (TurnedAway IsTurnedAway (disk_side D.Disk disk.old disk.new)) }
     ensures looks { Looks D.Disk disk.old disk.new }
 {
     let reader = ArchiveReader::load(alloc, disk)?;

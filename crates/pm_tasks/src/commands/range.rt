@@ -6,7 +6,7 @@ ghost use Rattle.pm_print.specs.Items.{items_text};
 ghost use Rattle.pm_tasks.specs.Archives.{TurnedAway};
 ghost use Rattle.pm_words.specs.Sides.{disk_side, files_found};
 ghost use Rattle.pm_tasks.specs.Takes.{TookRange};
-ghost use Rattle.pm_tasks.specs.commands.range.{turned, said};
+ghost use Rattle.pm_tasks.specs.commands.range.{IsTurnedAway, IsOutput};
 
 use archive_meta::MetaState;
 use archive_reader::ArchiveReader;
@@ -40,8 +40,8 @@ fn text_of(alloc: Global, items: &[Item], meta: &MetaState) -> Result<Bytes, NoM
 
 /// The items, as text.
 pub fn range<D: Disk>(alloc: Global, from: Stamp, to: Stamp, disk: &mut D) -> Result<Bytes, Refusal>
-    ensures said { D.tells → IfOk result (said from to (files_found (disk_side D.Disk disk.old disk.new))) }
-    ensures turned { IfErr result (TurnedAway (turned from to) (disk_side D.Disk disk.old disk.new)) }
+    ensures said { D.tells → IfOk result (IsOutput from to (files_found (disk_side D.Disk disk.old disk.new))) }
+    ensures turned { IfErr result (TurnedAway (IsTurnedAway from to) (disk_side D.Disk disk.old disk.new)) }
     ensures taken { D.tells → TookRange from to (contents_of (D.held disk.old)) (D.taken disk.old) (D.taken disk.new) }
     ensures looks { Looks D.Disk disk.old disk.new }
 {

@@ -9,7 +9,7 @@ ghost use Rattle.pm_words.specs.Sides.{disk_side, files_found};
 ghost use Rattle.pm_words.specs.declared.refusal.Refusal.TheVariants.{Disk};
 ghost use Rattle.pm_words.specs.declared.stage.DiskRefusal.TheVariants.{Files};
 ghost use Rattle.pm_words.specs.declared.stage.FilesRefusal.TheVariants.{Nothing};
-ghost use Rattle.pm_tasks.specs.commands.value.{has_name, is_named, first_named, named, HasValue, HasNoValue, turned, said};
+ghost use Rattle.pm_tasks.specs.commands.value.{has_name, is_named, first_named, metric_of_name, HasValue, HasNoValue, IsTurnedAway, IsOutput};
 
 use archive_meta::MetaState;
 use archive_reader::ArchiveReader;
@@ -62,8 +62,8 @@ fn first_named(meta: &MetaState, pmids: &[Pmid], name: &[u8]) -> Option<Pmid>
 }
 
 // The metric that a name leads to.
-fn named(alloc: Global, meta: &MetaState, name: &[u8]) -> Result<Option<Pmid>, NoMemory>
-    ensures { IfOk result (λ pmid. pmid ≡ named meta.now name.now) }
+fn metric_of_name(alloc: Global, meta: &MetaState, name: &[u8]) -> Result<Option<Pmid>, NoMemory>
+    ensures { IfOk result (λ pmid. pmid ≡ metric_of_name meta.now name.now) }
 {
     let pmids = meta.pmids(alloc)?;
     Ok(first_named(meta, pmids.as_slice(), name))
@@ -100,12 +100,12 @@ fn values_text<D: Disk>(
 
 /// The values and their stamp, as text.
 pub fn value<D: Disk>(alloc: Global, asked: &ValueWords, disk: &mut D) -> Result<Bytes, Refusal>
-    ensures said { D.tells → IfOk result (said asked.now (files_found (disk_side D.Disk disk.old disk.new))) }
-    ensures turned { IfErr result (TurnedAway (turned asked.now) (disk_side D.Disk disk.old disk.new)) }
+    ensures said { D.tells → IfOk result (IsOutput asked.now (files_found (disk_side D.Disk disk.old disk.new))) }
+    ensures turned { IfErr result (TurnedAway (IsTurnedAway asked.now) (disk_side D.Disk disk.old disk.new)) }
     ensures looks { Looks D.Disk disk.old disk.new }
 {
     let mut reader = ArchiveReader::load(alloc, disk)?;
-    let pmid = named(alloc, reader.meta(), asked.name.as_slice())?;
+    let pmid = metric_of_name(alloc, reader.meta(), asked.name.as_slice())?;
     match pmid {
         Some(pmid) => values_text(alloc, disk, &mut reader, pmid, asked.stamp),
         None => Err(nothing_at(asked.stamp)),

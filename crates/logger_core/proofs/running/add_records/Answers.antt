@@ -1,7 +1,7 @@
 -- Nothing, or an append that is synced.
 use Rattle.pcp_base.specs.declared.file.FileId.TheVariants.{Meta}
 use Rattle.pcp_model.specs.Disk.{CrashImage}
-use Rattle.pcp_outside.specs.Devices.{grown}
+use Rattle.pcp_outside.specs.Devices.{holdings_after_append}
 use Rattle.logger_core.specs.Meant.{SurvivesOf}
 use Rattle.std.proofs.Common.{length, sym, ◌∙◌, eqb-true}
 use Rattle.std.proofs.lemmas.List.{nil_from_length}
@@ -13,7 +13,7 @@ use Rattle.logger_core.proofs.running.add_records.Goals as goal
 pub returns-clause-any_moment : goal.returns-clause-any_moment
 returns-clause-any_moment g c = λ tells m at payloads records is come.
     let d = g.D.Disk in
-    run_as d g.met.D.Disk.only_now c.args.disk.now c.append_synced.new.disk (SurvivesOf m) (CrashImage (grown Meta c.args.bytes.now (d.held c.args.disk.now))) (c.append_synced.ensures.any_moment tells)
+    run_as d g.met.D.Disk.only_now c.args.disk.now c.append_synced.new.disk (SurvivesOf m) (CrashImage (holdings_after_append Meta c.args.bytes.now (d.held c.args.disk.now))) (c.append_synced.ensures.any_moment tells)
     (records_survive m c.args.number (d.held c.args.disk.now) payloads records c.args.bytes.now at is come)
 
 pub returns-clause-ok : goal.returns-clause-ok

@@ -2,7 +2,7 @@
 use Rattle.std.proofs.Common.{◌+◌, ◌∙◌}
 use Rattle.pcp_base.specs.declared.file.FileId.TheVariants.{Volume}
 use Rattle.pcp_model.specs.Disk.{CrashImage}
-use Rattle.pcp_outside.specs.Devices.{grown}
+use Rattle.pcp_outside.specs.Devices.{holdings_after_append}
 use Rattle.logger_core.specs.Meant.{SurvivesOf}
 use Rattle.logger_core.proofs.Calls.{run_as}
 use Rattle.logger_core.proofs.Opened.{label_survives, label_grown, label_number_is, range_number_is}
@@ -13,14 +13,14 @@ pub returns-in_err-append_synced-clause-any_moment :
 returns-in_err-append_synced-clause-any_moment g c = λ tells m at sure same.
     let d = g.D.Disk in
     let e = c.args.ends.now in
-    run_as d g.met.D.Disk.only_now c.args.disk.now c.append_synced.new.disk (SurvivesOf m) (CrashImage (grown (Volume (e.volume + 1)) c.label_bytes-bytes.result (d.held c.args.disk.now))) (c.append_synced.ensures.any_moment tells)
+    run_as d g.met.D.Disk.only_now c.args.disk.now c.append_synced.new.disk (SurvivesOf m) (CrashImage (holdings_after_append (Volume (e.volume + 1)) c.label_bytes-bytes.result (d.held c.args.disk.now))) (c.append_synced.ensures.any_moment tells)
     (label_survives m e (d.held c.args.disk.now) c.args.label.now c.label_bytes-bytes.result at sure same (c.label_bytes-bytes.ensures.bytes ∙ label_number_is c.args.label.now (c.args.ends.now.volume + 1) c.requires.next) (range_number_is c.args.label.now (c.args.ends.now.volume + 1) c.requires.next c.label_bytes-bytes.ensures.range))
 
 pub returns-clause-any_moment : goal.returns-clause-any_moment
 returns-clause-any_moment g c = λ tells m at sure same.
     let d = g.D.Disk in
     let e = c.args.ends.now in
-    run_as d g.met.D.Disk.only_now c.args.disk.now c.append_synced.new.disk (SurvivesOf m) (CrashImage (grown (Volume (e.volume + 1)) c.label_bytes-bytes.result (d.held c.args.disk.now))) (c.append_synced.ensures.any_moment tells)
+    run_as d g.met.D.Disk.only_now c.args.disk.now c.append_synced.new.disk (SurvivesOf m) (CrashImage (holdings_after_append (Volume (e.volume + 1)) c.label_bytes-bytes.result (d.held c.args.disk.now))) (c.append_synced.ensures.any_moment tells)
     (label_survives m e (d.held c.args.disk.now) c.args.label.now c.label_bytes-bytes.result at sure same (c.label_bytes-bytes.ensures.bytes ∙ label_number_is c.args.label.now (c.args.ends.now.volume + 1) c.requires.next) (range_number_is c.args.label.now (c.args.ends.now.volume + 1) c.requires.next c.label_bytes-bytes.ensures.range))
 
 pub returns-clause-ok : goal.returns-clause-ok

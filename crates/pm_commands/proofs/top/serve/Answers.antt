@@ -7,7 +7,7 @@ use Rattle.pcp_model.specs.Disk.{contents_of}
 use Rattle.pm_tasks.specs.Archives.{nothing_before}
 use Rattle.pm_words.specs.Serving.{Serves, MayLeave}
 use Rattle.pm_tasks.specs.Meanings.{meaning}
-use Rattle.pm_words.specs.Refusals.{stopped}
+use Rattle.pm_words.specs.Refusals.{refusal_of_stage}
 use Rattle.pm_words.specs.Sides.{SinkSide, DiskSide, Leaves, sink_side, disk_side}
 use Rattle.pm_tasks.specs.Regions.{CommandRan, RunsScript}
 use Rattle.pm_tasks.specs.Since.{CommandSince}
@@ -36,7 +36,7 @@ returns-in_err-image-in-MmvMake-clause-serves g c =
     let k : SinkSide = sink_side g.O.Sink c.args.out.now c.args.out.now in
     let d : DiskSide = disk_side g.D.Disk c.args.disk.now c.args.disk.now in
     let stop = c.in_err-image-in-MmvMake.field-0.0 in
-    let serves = subst (λ (command : Command). Serves (meaning command) c.args.input.now k c.args.failed.now d (Err (stopped AtInput stop))) (sym c.in-MmvMake.is)
+    let serves = subst (λ (command : Command). Serves (meaning command) c.args.input.now k c.args.failed.now d (Err (refusal_of_stage AtInput stop))) (sym c.in-MmvMake.is)
     (unconverted (meaning MmvMake) c.args.input.now k c.args.failed.now d stop (unsent g.O.Sink c.args.out.now c.args.failed.now c.requires.fresh) refl (λ tells. refl) c.in_err-image-in-MmvMake.ensures.cause) in
     search (rules, serves)
 
@@ -45,7 +45,7 @@ returns-in_err-text-in-MmvDump-clause-serves g c =
     let k : SinkSide = sink_side g.O.Sink c.args.out.now c.args.out.now in
     let d : DiskSide = disk_side g.D.Disk c.args.disk.now c.args.disk.now in
     let stop = c.in_err-text-in-MmvDump.field-0.0 in
-    let serves = subst (λ (command : Command). Serves (meaning command) c.args.input.now k c.args.failed.now d (Err (stopped AtInput stop))) (sym c.in-MmvDump.is)
+    let serves = subst (λ (command : Command). Serves (meaning command) c.args.input.now k c.args.failed.now d (Err (refusal_of_stage AtInput stop))) (sym c.in-MmvDump.is)
     (unconverted (meaning MmvDump) c.args.input.now k c.args.failed.now d stop (unsent g.O.Sink c.args.out.now c.args.failed.now c.requires.fresh) refl (λ tells. refl) c.in_err-text-in-MmvDump.ensures.cause) in
     search (rules, serves)
 
@@ -64,7 +64,7 @@ returns-in-Info-clause-serves g c =
     let k : SinkSide = sink_side g.O.Sink c.args.out.now c.args.out.now in
     let d : DiskSide = disk_side g.D.Disk c.args.disk.now c.info.new.disk in
     subst (λ (command : Command). Serves (meaning command) c.args.input.now k c.args.failed.now d c.info.result) (sym c.in-Info.is)
-    (look_serves info.turned info.said nothing_before info_fits c.args.input.now k c.args.failed.now d c.info.result (λ tells. c.info.ensures.looks.held tells) (unsent g.O.Sink c.args.out.now c.args.failed.now c.requires.fresh) refl
+    (look_serves info.IsTurnedAway info.IsOutput nothing_before info_fits c.args.input.now k c.args.failed.now d c.info.result (λ tells. c.info.ensures.looks.held tells) (unsent g.O.Sink c.args.out.now c.args.failed.now c.requires.fresh) refl
     (λ tells. c.info.ensures.said tells) c.info.ensures.turned)
 
 pub returns-in-Info-clause-any_moment : goal.returns-in-Info-clause-any_moment
@@ -86,7 +86,7 @@ returns-in-At-clause-serves g c =
     let k : SinkSide = sink_side g.O.Sink c.args.out.now c.args.out.now in
     let d : DiskSide = disk_side g.D.Disk c.args.disk.now c.at.new.disk in
     subst (λ (command : Command). Serves (meaning command) c.args.input.now k c.args.failed.now d c.at.result) (sym c.in-At.is)
-    (look_serves (at.turned c.in-At.t) (at.said c.in-At.t) nothing_before (at_fits c.in-At.t) c.args.input.now k c.args.failed.now d c.at.result (λ tells. c.at.ensures.looks.held tells) (unsent g.O.Sink c.args.out.now c.args.failed.now c.requires.fresh) refl
+    (look_serves (at.IsTurnedAway c.in-At.t) (at.IsOutput c.in-At.t) nothing_before (at_fits c.in-At.t) c.args.input.now k c.args.failed.now d c.at.result (λ tells. c.at.ensures.looks.held tells) (unsent g.O.Sink c.args.out.now c.args.failed.now c.requires.fresh) refl
     (λ tells. c.at.ensures.said tells) c.at.ensures.turned)
 
 pub returns-in-At-clause-any_moment : goal.returns-in-At-clause-any_moment
@@ -97,7 +97,7 @@ returns-in-Range-clause-serves g c =
     let k : SinkSide = sink_side g.O.Sink c.args.out.now c.args.out.now in
     let d : DiskSide = disk_side g.D.Disk c.args.disk.now c.range.new.disk in
     subst (λ (command : Command). Serves (meaning command) c.args.input.now k c.args.failed.now d c.range.result) (sym c.in-Range.is)
-    (look_serves (range.turned c.in-Range.from c.in-Range.to) (range.said c.in-Range.from c.in-Range.to) nothing_before (range_fits c.in-Range.from c.in-Range.to) c.args.input.now k c.args.failed.now d c.range.result (λ tells. c.range.ensures.looks.held tells) (unsent g.O.Sink c.args.out.now c.args.failed.now c.requires.fresh) refl
+    (look_serves (range.IsTurnedAway c.in-Range.from c.in-Range.to) (range.IsOutput c.in-Range.from c.in-Range.to) nothing_before (range_fits c.in-Range.from c.in-Range.to) c.args.input.now k c.args.failed.now d c.range.result (λ tells. c.range.ensures.looks.held tells) (unsent g.O.Sink c.args.out.now c.args.failed.now c.requires.fresh) refl
     (λ tells. c.range.ensures.said tells) c.range.ensures.turned)
 
 pub returns-in-Range-clause-any_moment : goal.returns-in-Range-clause-any_moment
@@ -108,7 +108,7 @@ returns-in-Value-clause-serves g c =
     let k : SinkSide = sink_side g.O.Sink c.args.out.now c.args.out.now in
     let d : DiskSide = disk_side g.D.Disk c.args.disk.now c.value.new.disk in
     subst (λ (command : Command). Serves (meaning command) c.args.input.now k c.args.failed.now d c.value.result) (sym c.in-Value.is)
-    (look_serves (value.turned c.in-Value.asked) (value.said c.in-Value.asked) nothing_before (value_fits c.in-Value.asked) c.args.input.now k c.args.failed.now d c.value.result (λ tells. c.value.ensures.looks.held tells) (unsent g.O.Sink c.args.out.now c.args.failed.now c.requires.fresh) refl
+    (look_serves (value.IsTurnedAway c.in-Value.asked) (value.IsOutput c.in-Value.asked) nothing_before (value_fits c.in-Value.asked) c.args.input.now k c.args.failed.now d c.value.result (λ tells. c.value.ensures.looks.held tells) (unsent g.O.Sink c.args.out.now c.args.failed.now c.requires.fresh) refl
     (λ tells. c.value.ensures.said tells) c.value.ensures.turned)
 
 pub returns-in-Value-clause-any_moment : goal.returns-in-Value-clause-any_moment

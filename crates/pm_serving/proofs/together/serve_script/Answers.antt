@@ -11,7 +11,7 @@ use Rattle.pmcd_server.specs.Crews.{HasServed}
 use Rattle.pmcd_server.specs.declared.fault.ServeFault.{ServeFault}
 use Rattle.pmcd_server.specs.declared.fault.ServeFault.TheVariants.{Accept}
 use Rattle.pm_serving.specs.declared.refusal.ServeRefusal.TheVariants.{Before}
-use Rattle.pm_serving.specs.Ends.{Stops}
+use Rattle.pm_serving.specs.Ends.{StopsServing}
 use Rattle.pm_serving.specs.Serving.{doors_side}
 use Rattle.pm_serving.proofs.Ready.{ready}
 use Rattle.pm_serving.proofs.Room.{all_at}
@@ -32,7 +32,7 @@ beside-answers-requires-clause-seated g c _ _ =
 pub returns-in_err-passes : goal.returns-in_err-passes
 returns-in_err-passes g c =
     let d = doors_side g.P.Door c.args.doors.now c.beside-answers.new.doors in
-    let why : Stops d c.args.count c.args.script.now c.args.served.now (Before NoMemory) =
+    let why : StopsServing d c.args.count c.args.script.now c.args.served.now (Before NoMemory) =
     inr (cut_so d c.args.count c.args.script.now c.in_ok-server.field-0 c.in_ok-server.ensures c.beside-answers.result.1 c.args.served.now c.requires.fresh c.deref_mut.result.now c.beside-answers.new.seats c.deref_mut.ensures.value c.beside-answers.ensures.served) in
     search (rules, why)
 

@@ -3,7 +3,7 @@ use Rattle.std.proofs.Common.{rules, map, string_bytes, Global, inl, refl, sym, 
 use Rattle.pm_words.specs.Sides.{SourceSide, source_side}
 use Rattle.pm_words.specs.declared.refusal.Refusal.TheVariants.{NoMemory}
 use Rattle.pm_serving.specs.declared.refusal.ServeRefusal.TheVariants.{Before}
-use Rattle.pm_serving.specs.Ends.{Refuses, whole}
+use Rattle.pm_serving.specs.Ends.{Refuses, all_served}
 use Rattle.pm_serving.specs.Refusals.{served_line}
 use Rattle.pm_serving.specs.Serving.{doors_side}
 use Rattle.pm_serving.proofs.Stopping.{by_serving, ran_by, took}
@@ -29,6 +29,6 @@ returns g c =
     let words = map (string_bytes {Z = Global}) c.args.words.now in
     let s : SourceSide = source_side g.I.Source c.args.input.now c.prepare.new.input in
     let order = c.in_ok-count.ensures.order in record {
-      ran = ran_by words s (doors_side g.P.Door c.args.doors.now c.serve_script.new.doors) c.serve_script.new.served c.in_ok-count.count c.in_ok-count.script whole order c.in_ok-serve_script.ensures;
+      ran = ran_by words s (doors_side g.P.Door c.args.doors.now c.serve_script.new.doors) c.serve_script.new.served c.in_ok-count.count c.in_ok-count.script all_served order c.in_ok-serve_script.ensures;
       is = c.in_ok-line.ensures ∙ ap served_line (sym order.counted);
     }

@@ -1,7 +1,7 @@
 use Rattle.std.proofs.Common.{rules, ◌≡◌, ℕ, length, subst, arith}
 use Rattle.script_runs.specs.Closing.{each_pass}
 use Rattle.pass_steps.specs.Works.{step_of}
-use Rattle.script_passes.specs.Sweeps.{EndedBelow, GoesAt, stepped}
+use Rattle.script_passes.specs.Sweeps.{EndedBelow, GoesAt, region_after_step}
 use Rattle.script_passes.proofs.Seated.{goes_at_start, none_ended, crew_at_goes, swept_more, ended_more, plus_one}
 use Rattle.script_passes.proofs.crew.sweep.Goals as goal
 
@@ -10,13 +10,13 @@ loop-pass-init c = ((search rules), c.requires.seated, goes_at_start c.args.serv
 
 pub act-answer-requires-clause-crew : goal.act-answer-requires-clause-crew
 act-answer-requires-clause-crew c =
-    crew_at_goes c.args.server.now c.args.at (each_pass (stepped (step_of c.args.deed.now)) 0 c.loop-pass.pass) c.args.crew.now.items c.loop-pass.crew.items c.args.seat.now.tokens c.loop-pass.seat.tokens c.loop-pass.invariant.2
+    crew_at_goes c.args.server.now c.args.at (each_pass (region_after_step (step_of c.args.deed.now)) 0 c.loop-pass.pass) c.args.crew.now.items c.loop-pass.crew.items c.args.seat.now.tokens c.loop-pass.seat.tokens c.loop-pass.invariant.2
 
 pub loop-pass-preserved : goal.loop-pass-preserved
 loop-pass-preserved c = (
   c.loop-pass.invariant.0,
   c.act-answer.ensures.seated,
-  subst (λ (n : ℕ). GoesAt c.args.server.now c.args.at (each_pass (stepped (step_of c.args.deed.now)) 0 n) c.args.crew.now.items c.act-answer.new.crew.items c.args.seat.now.tokens c.act-answer.new.seat.tokens) (plus_one c.loop-pass.pass)
+  subst (λ (n : ℕ). GoesAt c.args.server.now c.args.at (each_pass (region_after_step (step_of c.args.deed.now)) 0 n) c.args.crew.now.items c.act-answer.new.crew.items c.args.seat.now.tokens c.act-answer.new.seat.tokens) (plus_one c.loop-pass.pass)
       (swept_more c.args.server.now c.args.at c.loop-pass.pass (step_of c.args.deed.now) c.args.crew.now.items c.loop-pass.crew.items c.act-answer.new.crew.items c.args.seat.now.tokens c.loop-pass.seat.tokens c.act-answer.new.seat.tokens c.act-answer.result (c.act-answer.ensures.sure c.requires.sure) c.loop-pass.invariant.2 c.act-answer.ensures.acts),
   subst (λ (n : ℕ). EndedBelow c.args.deed.now n c.args.crew.now.items c.act-answer.new.crew.items) (plus_one c.loop-pass.pass)
       (ended_more c.args.deed.now c.loop-pass.pass c.args.crew.now.items c.loop-pass.crew.items c.act-answer.new.crew.items c.loop-pass.invariant.2.goes.as_many c.loop-pass.invariant.3 (c.act-answer.ensures.ends c.requires.sure)),

@@ -2,7 +2,7 @@
 use Rattle.std.proofs.Common.{None, refl}
 use Rattle.pcp_model.specs.Disk.{Files, contents_of}
 use Rattle.script_runs.specs.Closing.{closed_regions}
-use Rattle.script_runs.specs.Runs.{beginning}
+use Rattle.script_runs.specs.Runs.{run_start}
 use Rattle.record_run.specs.declared.archive.Standing.TheVariants.{Found}
 use Rattle.script_replays.specs.declared.run.Run.{Run}
 use Rattle.script_replays.specs.Lines.{HasPassedSome}
@@ -15,7 +15,7 @@ returns-clause-ends g c = λ tells is_left follows.
     let old = c.args.disk.now in
     let left : Files = contents_of (d.held old) in
     let run : Run = record { running = c.args.running; archive = record { standing = Found c.args.archive; limit = c.args.volume; logged = 0 }; plans = None; out = c.new.result } in
-    let stands : Stands d c.args.script.now c.args.server.now left 0 run c.args.seat.now.tokens old (beginning c.args.script.now left) =
+    let stands : Stands d c.args.script.now c.args.server.now left 0 run c.args.seat.now.tokens old (run_start c.args.script.now left) =
     record { follows = follows; keeps = record { standing = (is_left, refl, refl, refl, refl); counted = refl }; plans = refl; output = c.new.ensures.items } in
     c.finish.ensures.ends tells c.args.script.now c.args.volume left old (c.run_lines-ending.ensures.halts tells c.finish.ensures.alone left stands)
 

@@ -3,7 +3,7 @@ use Rattle.std.proofs.Common.{◌≡◌, ◌≤◌}
 use Rattle.pcp_model.specs.Disk.{Files}
 use Rattle.script_passes.specs.Crews.{Alone, Follows, IsManned}
 use Rattle.script_runs.specs.Regions.{made_regions}
-use Rattle.script_runs.specs.Runs.{beginning}
+use Rattle.script_runs.specs.Runs.{run_start}
 use Rattle.record_run.specs.Going.{IsWorking}
 use Rattle.script_replays.specs.Lines.{HasPassed}
 use Rattle.script_replays.specs.States.{Stands}
@@ -18,7 +18,7 @@ invariant-loop-number g l = record {
   few : l.run.archive.logged ≤ l.number-index;
   working : IsWorking l.fn.run.archive.limit l.fn.run.archive.standing → IsWorking l.run.archive.limit l.run.archive.standing;
   passed : Alone l.run.running l.seat.tokens → Follows l.script l.server l.fn.run.running l.fn.seat.tokens (made_regions l.script) → HasPassed l.script l.server l.run.running l.seat.tokens l.number-index;
-  stood : g.D.Disk.tells → Alone l.run.running l.seat.tokens → (left : Files) → Stands g.D.Disk l.script l.server left 0 l.fn.run l.fn.seat.tokens l.fn.disk (beginning l.script left)
+  stood : g.D.Disk.tells → Alone l.run.running l.seat.tokens → (left : Files) → Stands g.D.Disk l.script l.server left 0 l.fn.run l.fn.seat.tokens l.fn.disk (run_start l.script left)
       → Stood g.D.Disk l.script l.fn.run.archive.limit l.server left l.run l.seat.tokens l.fn.disk l.disk l.number-index;
   later : g.D.Disk.faults l.fn.disk ≤ g.D.Disk.faults l.disk;
 }

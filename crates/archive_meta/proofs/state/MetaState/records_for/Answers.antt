@@ -3,7 +3,7 @@ use Rattle.pcp_base.specs.declared.desc.Desc.{Desc}
 use Rattle.pcp_base.specs.declared.result.ValueSet.{ValueSet}
 use Rattle.std.specs.List.{AllByRecursion}
 use Rattle.archive_meta.specs.Facts.{fact_of}
-use Rattle.archive_meta.specs.Missing.{taken, undescribed, described_by, listed_from, at_positions, framed_records, large_length, IsSpelled, IsLargeOf, AreMade, IsRecordsFault}
+use Rattle.archive_meta.specs.Missing.{values_of_keys, undescribed_metrics, described_by, listed_from, at_positions, framed_records, large_length, IsSpelled, IsLargeOf, AreMade, IsRecordsFault}
 use Rattle.archive_meta.proofs.FramedRecords.{both_made, first_large, last_large, match_handed}
 use Rattle.archive_meta.proofs.state.MetaState.records_for.Goals as goal
 
@@ -13,7 +13,7 @@ returns-in_err-put_facts c =
     let t = c.args.answer.now.stamp in
     let ds = λ (ps : List ℕ). map described_by (at_positions c.args.facts.now.metrics ps) in
     let ms = λ (ps : List ℕ). map (listed_from t) (at_positions c.args.facts.now.domains ps) in
-    let first = subst₂ (λ (m : List (Desc × List ℕ)) (s : List ValueSet). map described_by (at_positions m described) ≡ map described_by (taken (fact_of m) (undescribed c.args.self.now s))) c.as_slice.ensures c.as_slice-sets.ensures
+    let first = subst₂ (λ (m : List (Desc × List ℕ)) (s : List ValueSet). map described_by (at_positions m described) ≡ map described_by (values_of_keys (fact_of m) (undescribed_metrics c.args.self.now s))) c.as_slice.ensures c.as_slice-sets.ensures
     (ap (map described_by) c.in_ok-described.ensures) in
     match_handed c.from_residual-in_err-put_facts.result c.in_err-put_facts.field-0.0 (AreMade c.args.self.now c.args.facts.now c.args.answer.now) (IsRecordsFault c.args.self.now c.args.facts.now c.args.answer.now) c.from_residual-in_err-put_facts.ensures.1
     (first_large c.args.self.now c.args.facts.now c.args.answer.now (ds described) (ms c.in_ok-listed.listed) first c.in_ok-listed.ensures c.in_err-put_facts.field-0.0
@@ -25,7 +25,7 @@ returns-in_err-put_domains c =
     let t = c.args.answer.now.stamp in
     let ds = λ (ps : List ℕ). map described_by (at_positions c.args.facts.now.metrics ps) in
     let ms = λ (ps : List ℕ). map (listed_from t) (at_positions c.args.facts.now.domains ps) in
-    let first = subst₂ (λ (m : List (Desc × List ℕ)) (s : List ValueSet). map described_by (at_positions m described) ≡ map described_by (taken (fact_of m) (undescribed c.args.self.now s))) c.as_slice.ensures c.as_slice-sets.ensures
+    let first = subst₂ (λ (m : List (Desc × List ℕ)) (s : List ValueSet). map described_by (at_positions m described) ≡ map described_by (values_of_keys (fact_of m) (undescribed_metrics c.args.self.now s))) c.as_slice.ensures c.as_slice-sets.ensures
     (ap (map described_by) c.in_ok-described.ensures) in
     match_handed c.from_residual-in_err-put_domains.result c.in_err-put_domains.field-0.0 (AreMade c.args.self.now c.args.facts.now c.args.answer.now) (IsRecordsFault c.args.self.now c.args.facts.now c.args.answer.now) c.from_residual-in_err-put_domains.ensures.1
     (last_large c.args.self.now c.args.facts.now c.args.answer.now (ds described) (ms c.in_ok-listed.listed) first c.in_ok-listed.ensures c.in_err-put_domains.field-0.0
@@ -38,7 +38,7 @@ returns c =
     let t = c.args.answer.now.stamp in
     let ds = λ (ps : List ℕ). map described_by (at_positions c.args.facts.now.metrics ps) in
     let ms = λ (ps : List ℕ). map (listed_from t) (at_positions c.args.facts.now.domains ps) in
-    let first = subst₂ (λ (m : List (Desc × List ℕ)) (s : List ValueSet). map described_by (at_positions m described) ≡ map described_by (taken (fact_of m) (undescribed c.args.self.now s))) c.as_slice.ensures c.as_slice-sets.ensures
+    let first = subst₂ (λ (m : List (Desc × List ℕ)) (s : List ValueSet). map described_by (at_positions m described) ≡ map described_by (values_of_keys (fact_of m) (undescribed_metrics c.args.self.now s))) c.as_slice.ensures c.as_slice-sets.ensures
     (ap (map described_by) c.in_ok-described.ensures) in
     subst (AreMade c.args.self.now c.args.facts.now c.args.answer.now) (sym c.from_vec.ensures)
     (both_made c.args.self.now c.args.facts.now c.args.answer.now (ds described) (ms c.in_ok-listed.listed) first c.in_ok-listed.ensures c.new-out.result.items c.put_facts.new.out.items c.put_domains.new.out.items c.new-out.ensures.items

@@ -1,7 +1,7 @@
 use Rattle.std.proofs.Common.{◌≡◌, inl, inr, ℕ, ◌≤◌, zero, suc, List, [], ◌∷◌, length, refl, ap, ◌∙◌, arith}
 use Rattle.pcp_base.specs.declared.file.FileId.TheVariants.{Meta, Volume}
 use Rattle.pcp_model.specs.Disk.{Holdings, contents_of}
-use Rattle.pcp_outside.specs.Causes.{capped}
+use Rattle.pcp_outside.specs.Causes.{shown_count}
 use Rattle.pcp_outside.specs.Devices.{IsVolumes}
 use Rattle.archive_window.proofs.Looking.{looked, looks_on}
 use Rattle.script_runs.specs.Summaries.{HasVolumes}
@@ -41,5 +41,5 @@ pub returns-clause-counted : goal.returns-clause-counted
 returns-clause-counted g c = λ tells. (
   c.in-Ok.volumes,
   has_volumes (g.D.Disk.held c.args.disk.now) c.in-Ok.volumes (c.in-Ok.ensures.count tells),
-  c.in_ok-text.ensures ∙ ap (λ (n : ℕ). counted_text c.args.items c.in-Ok.volumes n c.args.adds c.args.total) (c.in-Ok-len.ensures.length tells ∙ ap (λ (h : Holdings). capped (length (contents_of h Meta))) (c.volumes.ensures.held tells)),
+  c.in_ok-text.ensures ∙ ap (λ (n : ℕ). counted_text c.args.items c.in-Ok.volumes n c.args.adds c.args.total) (c.in-Ok-len.ensures.length tells ∙ ap (λ (h : Holdings). shown_count (length (contents_of h Meta))) (c.volumes.ensures.held tells)),
 )

@@ -1,6 +1,6 @@
 -- What the run of an image tells, or why there was none.
 use Rattle.std.proofs.Common.{[], rules, inl, refl, sym, ap, ◌∙◌, arith}
-use Rattle.pm_words.specs.Refusals.{stopped}
+use Rattle.pm_words.specs.Refusals.{refusal_of_stage}
 use Rattle.pm_words.specs.Sides.{DiskSide, disk_side}
 use Rattle.pm_words.specs.declared.refusal.Refusal.TheVariants.{Input, NoMemory}
 use Rattle.pm_words.specs.Serving.{StopCause}
@@ -14,7 +14,7 @@ pub returns-in_err-script-clause-cause : goal.returns-in_err-script-clause-cause
 returns-in_err-script-clause-cause g c =
     let d : DiskSide = disk_side g.D.Disk c.args.disk.now c.args.disk.now in
     let stop = c.in_err-script.field-0.0 in
-    let why : StopCause (once c.args.asked.now) c.args.input.now d (stopped Input stop) × HasWritten (logging c.args.asked.now) c.args.input.now d (stopped Input stop) [] = (no_good (once c.args.asked.now) c.args.input.now d stop c.in_err-script.ensures.cause (λ tells. refl), stop_begins (logging c.args.asked.now) c.args.input.now d stop) in
+    let why : StopCause (once c.args.asked.now) c.args.input.now d (refusal_of_stage Input stop) × HasWritten (logging c.args.asked.now) c.args.input.now d (refusal_of_stage Input stop) [] = (no_good (once c.args.asked.now) c.args.input.now d stop c.in_err-script.ensures.cause (λ tells. refl), stop_begins (logging c.args.asked.now) c.args.input.now d stop) in
     search (rules, why)
 
 pub returns-in_err-replayed-clause-cause : goal.returns-in_err-replayed-clause-cause

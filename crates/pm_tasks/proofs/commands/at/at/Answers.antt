@@ -7,7 +7,7 @@ use Rattle.archive_loading.specs.Loaded.{Loaded, IsOver}
 use Rattle.archive_reader.specs.Asked.{at_begin, IsAtFrom}
 use Rattle.pm_print.specs.Items.{item_text}
 use Rattle.pm_words.specs.Refusals.{reader_refusal}
-use Rattle.pm_tasks.specs.commands.at.{turned, IsStopped}
+use Rattle.pm_tasks.specs.commands.at.{IsTurnedAway, IsStopped}
 use Rattle.pm_tasks.proofs.Asking.{not_loaded, is_loaded, asked_turned, still_over}
 use Rattle.archive_reader.specs.Takes.{TakesAt}
 use Rattle.pm_tasks.proofs.Taken.{took_labels, took_at}
@@ -16,7 +16,7 @@ use Rattle.pm_tasks.proofs.commands.at.at.Goals as goal
 
 pub returns-in_err-reader-clause-turned : goal.returns-in_err-reader-clause-turned
 returns-in_err-reader-clause-turned g c =
-    let away = not_loaded g.D.Disk (turned c.args.t) (λ f e n. inl n) c.args.disk.now c.load.new.disk c.in_err-reader.field-0.0 c.in_err-reader.ensures.fault c.in_err-reader.ensures.cause in
+    let away = not_loaded g.D.Disk (IsTurnedAway c.args.t) (λ f e n. inl n) c.args.disk.now c.load.new.disk c.in_err-reader.field-0.0 c.in_err-reader.ensures.fault c.in_err-reader.ensures.cause in
     search (rules, away)
 
 pub at-requires : goal.at-requires

@@ -3,14 +3,14 @@ use Rattle.std.proofs.Common.{rules, inl, ◌++◌, ap, ◌∙◌}
 use Rattle.archive_window.proofs.Looking.{looks_on}
 use Rattle.archive_loading.specs.Loaded.{Loaded, IsOver}
 use Rattle.pm_words.specs.Sides.{SinkSide, sink_side, disk_side}
-use Rattle.pm_tasks.specs.commands.dump.{label_line, turned, BadRecord}
+use Rattle.pm_tasks.specs.commands.dump.{label_line, IsTurnedAway, BadRecord}
 use Rattle.pm_tasks.proofs.Asking.{not_loaded, is_loaded, asked_turned, still_over}
 use Rattle.pm_tasks.proofs.Dumped.{stopped_at_once, said_whole, said_some}
 use Rattle.pm_tasks.proofs.commands.dump.dump.Goals as goal
 
 pub returns-in_err-reader-clause-turned : goal.returns-in_err-reader-clause-turned
 returns-in_err-reader-clause-turned g c =
-    let away = not_loaded g.D.Disk turned (λ f e n. inl n) c.args.disk.now c.load.new.disk c.in_err-reader.field-0.0 c.in_err-reader.ensures.fault c.in_err-reader.ensures.cause in
+    let away = not_loaded g.D.Disk IsTurnedAway (λ f e n. inl n) c.args.disk.now c.load.new.disk c.in_err-reader.field-0.0 c.in_err-reader.ensures.fault c.in_err-reader.ensures.cause in
     search (rules, away)
 
 pub returns-in_err-reader-clause-stops : goal.returns-in_err-reader-clause-stops

@@ -6,7 +6,7 @@ use Rattle.archive_loading.specs.Loaded.{Loaded, IsOver}
 use Rattle.archive_reader.specs.Asked.{range_begin, IsRangeFrom}
 use Rattle.pm_print.specs.Items.{items_text}
 use Rattle.pm_words.specs.Refusals.{reader_refusal}
-use Rattle.pm_tasks.specs.commands.range.{turned, IsStopped}
+use Rattle.pm_tasks.specs.commands.range.{IsTurnedAway, IsStopped}
 use Rattle.pm_tasks.proofs.Asking.{not_loaded, is_loaded, asked_turned, still_over}
 use Rattle.archive_reader.specs.Takes.{TakesRange}
 use Rattle.pm_tasks.proofs.Taken.{took_labels, took_range}
@@ -15,7 +15,7 @@ use Rattle.pm_tasks.proofs.commands.range.range.Goals as goal
 
 pub returns-in_err-reader-clause-turned : goal.returns-in_err-reader-clause-turned
 returns-in_err-reader-clause-turned g c =
-    let away = not_loaded g.D.Disk (turned c.args.from c.args.to) (λ f e n. inl n) c.args.disk.now c.load.new.disk c.in_err-reader.field-0.0 c.in_err-reader.ensures.fault c.in_err-reader.ensures.cause in
+    let away = not_loaded g.D.Disk (IsTurnedAway c.args.from c.args.to) (λ f e n. inl n) c.args.disk.now c.load.new.disk c.in_err-reader.field-0.0 c.in_err-reader.ensures.fault c.in_err-reader.ensures.cause in
     search (rules, away)
 
 pub range-requires : goal.range-requires

@@ -5,7 +5,7 @@ use Rattle.logger_core.specs.Meant.{SurvivesOf}
 use Rattle.logger_core.proofs.Calls.{no_call}
 use Rattle.record_run.specs.declared.archive.Standing.{Standing}
 use Rattle.record_run.specs.declared.archive.Standing.TheVariants.{Open}
-use Rattle.record_run.specs.Going.{IsStanding, IsWorking, meant}
+use Rattle.record_run.specs.Going.{IsStanding, IsWorking, meant_of}
 use Rattle.record_run.specs.ImageCrashes.{ComesBackTo}
 use Rattle.record_run.proofs.Going.{comes_any, flush_on, not_open, open_going, standing_back, survivor_comes}
 use Rattle.record_run.proofs.archive.RunArchive.flush.Goals as goal
@@ -33,7 +33,7 @@ returns-in-Open-clause-any_moment g c = λ tells left items least stand k more.
     let logger = c.in-Open.logger in
     let st : IsStanding left n items least stand (Open logger) old = subst (λ (s : Standing). IsStanding left n items least stand s old) (sym c.replace.ensures.value ∙ c.in-Open.is) k.standing in
     let o = open_going left n items least stand logger old st in
-    let m = meant o.2.first o.0 o.2.acknowledged in
+    let m = meant_of o.2.first o.0 o.2.acknowledged in
     weaker d.moment d.left_since d.held c.args.disk.now c.flush-answer.new.disk (SurvivesOf m) (ComesBackTo (items ++ more) 0 left) (c.flush-answer.ensures.any_moment tells m o.2.is)
     (λ image v. comes_any items more least left image (survivor_comes left n items least o.0 logger old o.2 image v))
 

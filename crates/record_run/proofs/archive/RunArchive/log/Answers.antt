@@ -12,7 +12,7 @@ use Rattle.logger_core.proofs.Calls.{run_then}
 use Rattle.record_run.specs.declared.archive.RunArchive.{RunArchive}
 use Rattle.record_run.specs.declared.archive.Standing.{Standing}
 use Rattle.record_run.specs.declared.archive.Standing.TheVariants.{Open}
-use Rattle.record_run.specs.Going.{IsOpen, IsStanding, IsWorking, LogFails, LogsRun, meant}
+use Rattle.record_run.specs.Going.{IsOpen, IsStanding, IsWorking, LogFails, LogsRun, meant_of}
 use Rattle.record_run.specs.ImageCrashes.{ComesBackTo}
 use Rattle.record_run.specs.ImageLogs.{MaySurvive}
 use Rattle.record_run.proofs.Going.{log_fails, logged_runs, may_survive, new_comes, open_still}
@@ -62,7 +62,7 @@ returns-then-is_ok-clause-done g c = λ tells left items least stand k.
     let st : IsStanding left n items least stand c.replace-standing.result (d.held c.args.disk.now) = subst (λ (s : Standing). IsStanding left n items least stand s (d.held c.args.disk.now)) (sym c.replace-standing.ensures.value) k.standing in
     let o : IsOpen left n items least stand f.result.stamp logger between = c.in_ok-logger.ensures.opened tells left items least stand st in
     let w = o.old in
-    let m = meant o.going.first w o.going.acknowledged in
+    let m = meant_of o.going.first w o.going.acknowledged in
     let run : RunArchive = record { standing = Open now; limit = n; logged = c.args.self.now.logged + 1 } in
     both_ok c.log-answer.result ((logger.closed ≡ false) × IsLoggable logger.records logger.ends logger.limit f.result f.facts) (IsLogged m logger now f.result f.facts new × ((now.limit ≡ logger.limit) × (now.closed ≡ false)))
     (LogsRun left items least stand f run new)
@@ -91,7 +91,7 @@ returns-then-is_ok-clause-any_moment g c = λ tells left items least stand k mor
     let st : IsStanding left n items least stand c.replace-standing.result (d.held c.args.disk.now) = subst (λ (s : Standing). IsStanding left n items least stand s (d.held c.args.disk.now)) (sym c.replace-standing.ensures.value) k.standing in
     let o : IsOpen left n items least stand f.result.stamp logger between = c.in_ok-logger.ensures.opened tells left items least stand st in
     let w = o.old in
-    let m = meant o.going.first w o.going.acknowledged in
+    let m = meant_of o.going.first w o.going.acknowledged in
     run_then d g.met.D.Disk.only_now c.args.disk.now c.logger_of.new.disk c.log-answer.new.disk (ComesBackTo (items ++ x ∷ more) 0 left) (ComesBackTo (items ++ x ∷ more) 0 left) (MaySurvive m x)
     (c.logger_of.ensures.any_moment tells left items least stand st (x ∷ more))
     (may_survive d g.met.D.Disk.only_now m logger now f.result f.facts c.logger_of.new.disk c.log-answer.new.disk c.log-answer.result o.going.is (on_ok_weaker c.log-answer.result (λ both. both.1) c.log-answer.ensures.loggable) c.log-answer.ensures.fault
@@ -111,7 +111,7 @@ returns-else-is_ok-clause-any_moment g c = λ tells left items least stand k mor
     let st : IsStanding left n items least stand c.replace-standing.result (d.held c.args.disk.now) = subst (λ (s : Standing). IsStanding left n items least stand s (d.held c.args.disk.now)) (sym c.replace-standing.ensures.value) k.standing in
     let o : IsOpen left n items least stand f.result.stamp logger between = c.in_ok-logger.ensures.opened tells left items least stand st in
     let w = o.old in
-    let m = meant o.going.first w o.going.acknowledged in
+    let m = meant_of o.going.first w o.going.acknowledged in
     run_then d g.met.D.Disk.only_now c.args.disk.now c.logger_of.new.disk c.log-answer.new.disk (ComesBackTo (items ++ x ∷ more) 0 left) (ComesBackTo (items ++ x ∷ more) 0 left) (MaySurvive m x)
     (c.logger_of.ensures.any_moment tells left items least stand st (x ∷ more))
     (may_survive d g.met.D.Disk.only_now m logger now f.result f.facts c.logger_of.new.disk c.log-answer.new.disk c.log-answer.result o.going.is (on_ok_weaker c.log-answer.result (λ both. both.1) c.log-answer.ensures.loggable) c.log-answer.ensures.fault
@@ -131,7 +131,7 @@ returns-else-is_ok-clause-fault g c = λ tells left items least stand k.
     let st : IsStanding left n items least stand c.replace-standing.result (d.held c.args.disk.now) = subst (λ (s : Standing). IsStanding left n items least stand s (d.held c.args.disk.now)) (sym c.replace-standing.ensures.value) k.standing in
     let o : IsOpen left n items least stand f.result.stamp logger between = c.in_ok-logger.ensures.opened tells left items least stand st in
     let w = o.old in
-    let m = meant o.going.first w o.going.acknowledged in
+    let m = meant_of o.going.first w o.going.acknowledged in
     let run : RunArchive = record { standing = Open now; limit = n; logged = c.args.self.now.logged } in
     both_err c.log-answer.result (λ (e : LogFault). LogMayAnswer logger now f.result f.facts (d.faults c.logger_of.new.disk) (d.faults c.log-answer.new.disk) e) (λ (e : LogFault). e ≢ DiskFault → c.log-answer.new.disk ≡ c.logger_of.new.disk)
     (λ (e : LogFault). LogFails left items least stand f run new e)

@@ -7,8 +7,8 @@ use Rattle.std.proofs.lemmas.Int.{to_z-of_z}
 use Rattle.pcp_base.specs.declared.memory.NoMemory.{NoMemory as Refusal}
 use Rattle.pdu_codec.specs.declared.pdu.Pdu.{Pdu}
 use Rattle.pdu_codec.specs.declared.pdu.Pdu.TheVariants as pdus
-use Rattle.pmcd_session.specs.Replies.{chosen, one_instance}
-use Rattle.pmcd_session.proofs.replies.chosen.Goals as goal
+use Rattle.pmcd_session.specs.Replies.{instances_reply, one_instance}
+use Rattle.pmcd_session.proofs.replies.instances_reply.Goals as goal
 
 is_other : (x y : ℤ) → (x ≡ y → ⊥) → int_eq x y ≡ false
 is_other x y h = by_test (int_eq x y) refl
@@ -19,7 +19,7 @@ is_other x y h = by_test (int_eq x y) refl
 
 -- one instance is asked for
 one_chosen : (indom : ℕ) (instance seen : ℤ) (pairs given : List (ℤ × List ℕ)) (found : Option (ℤ × List ℕ)) (r : Result Pdu Refusal) → int_eq instance (negsuc 0) ≡ false → seen ≡ instance → given ≡ pairs
-    → found ≡ find (λ (pair : ℤ × List ℕ). int_eq pair.0 seen) given → IfOk r (λ reply. reply ≡ one_instance indom found) → IfOk r (λ reply. reply ≡ chosen indom instance pairs)
+    → found ≡ find (λ (pair : ℤ × List ℕ). int_eq pair.0 seen) given → IfOk r (λ reply. reply ≡ one_instance indom found) → IfOk r (λ reply. reply ≡ instances_reply indom instance pairs)
 one_chosen indom instance seen pairs given found (Ok reply) other same all is h =
     h ∙ ap (one_instance indom) (is ∙ ap (λ (z : ℤ). find (λ (pair : ℤ × List ℕ). int_eq pair.0 z) given) same ∙ ap (λ (ps : List (ℤ × List ℕ)). find (λ (pair : ℤ × List ℕ). int_eq pair.0 instance) ps) all)
     ∙ ap (λ (b : Bool). cond b (pdus.Instance indom pairs) (one_instance indom (find (λ (pair : ℤ × List ℕ). int_eq pair.0 instance) pairs))) (sym other)

@@ -1,7 +1,0 @@
--- The metrics so far and those that are left are all.
-use Rattle.std.proofs.Common.{◌≡◌, ◌++◌, drop}
-use Rattle.archive_meta.specs.Missing.{undescribed}
-use Rattle.archive_meta.proofs.state.MetaState.undescribed.Given as goal
-
-abbrev pub invariant-loop-set : goal.invariant-loop-set
-invariant-loop-set l = l.keys ++ undescribed l.self (drop l.set-index l.sets) ≡ undescribed l.self l.sets
