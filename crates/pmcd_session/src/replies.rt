@@ -27,7 +27,7 @@ const PROTOCOL: i32 = -12366;
 /// The most bytes that a reply has.
 const MOST: u64 = 65_536;
 
-/// What the server sends first.
+/// What the server sends before it reads anything (pmcd(1)): status 0.
 pub fn greeting() -> Pdu
     ensures { result ≡ greeting }
 {

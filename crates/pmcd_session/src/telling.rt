@@ -17,7 +17,7 @@ use std::alloc::Global;
 /// A region is missing.
 const AGAIN: i32 = -12389;
 
-/// The description of a metric.
+/// The reply to a request for a metric's description (pmLookupDesc(3)): `Desc`, or an `Error` with its status.
 pub fn tell_description<A: Agent>(
     alloc: Global,
     regions: &A::Regions,
@@ -36,7 +36,7 @@ pub fn tell_description<A: Agent>(
     }
 }
 
-/// The instances of a domain, or the one of a number.
+/// The reply to a request for the instances of a domain, or for the one of a number (pmGetInDom(3)).
 pub fn tell_instances<A: Agent>(
     alloc: Global,
     regions: &A::Regions,
@@ -111,7 +111,7 @@ pub fn tell_names<A: Agent>(
     }
 }
 
-/// The components that continue a name.
+/// The reply to a request for the components that continue a name (pmGetChildren(3)).
 pub fn tell_children<A: Agent>(
     alloc: Global,
     regions: &A::Regions,
@@ -129,7 +129,7 @@ pub fn tell_children<A: Agent>(
     }
 }
 
-/// The names below a name.
+/// The reply to a request for the names that equal or continue a name (pmTraversePMNS(3)).
 pub fn tell_below<A: Agent>(
     alloc: Global,
     regions: &A::Regions,
