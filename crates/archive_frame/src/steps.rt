@@ -106,8 +106,8 @@ fn back(bytes: &[u8], at: usize) -> Result<Step, FrameFault>
     })
 }
 
-/// The framed record that begins at a place, or `End` where the bytes end there. A refusal is `Torn`, `Size` or `Lengths`,
-/// in the order that `FrameFault` tells; no memory is taken.
+/// The framed record that begins at a place, or `End` where the bytes end there. A refusal is `Torn`, `Size` or
+/// `Lengths`, in the order that `FrameFault` tells; no memory is taken.
 pub fn step_forward(bytes: &[u8], at: usize) -> Result<Step, FrameFault>
     requires { at ≤ length bytes.now }
     // A payload that is answered stands framed there.
@@ -122,8 +122,8 @@ pub fn step_forward(bytes: &[u8], at: usize) -> Result<Step, FrameFault>
     forward(bytes, at)
 }
 
-/// The framed record that ends at a place, or `End` where this is the first byte. The length word that ends there is looked
-/// at first; a refusal is as that of a step forward, and no memory is taken.
+/// The framed record that ends at a place, or `End` where this is the first byte. The length word that ends there is
+/// looked at first; a refusal is as that of a step forward, and no memory is taken.
 pub fn step_back(bytes: &[u8], at: usize) -> Result<Step, FrameFault>
     requires { at ≤ length bytes.now }
     // A payload that is answered stands framed there.

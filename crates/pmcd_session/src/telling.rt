@@ -14,7 +14,7 @@ use pdu_codec::Pdu;
 use pmns_core::Names;
 use std::alloc::Global;
 
-/// A region is missing.
+/// A region was missed, so names can't be told: PM_ERR_AGAIN (pmErrStr(3)).
 const AGAIN: i32 = -12389;
 
 /// The reply to a request for a metric's description (pmLookupDesc(3)): `Desc`, or an `Error` with its status.
