@@ -100,13 +100,13 @@ fn compared(bytes: &[u8], number: i32, label: &Label) -> Result<Head, FrameFault
 pub fn read_label_of(bytes: &[u8], number: i32, label: &Label) -> Result<Head, FrameFault>
     requires few { length bytes.now ≤ 132 }
     requires numbered { negsuc 1 ≤ℤ number }
-    // What is told is so.
+    // `Whole` and `Part` are answered of such bytes alone.
     ensures found { IfOk result (IsHead label.now number bytes.now) }
-    // The label is told.
+    // Of the whole label of this file `Whole` is answered.
     ensures whole { IsLabel bytes.now label.now number → result ≡ Ok IsWhole }
-    // And its beginning.
+    // Of a beginning of it `Part` is answered.
     ensures part { BeginsLabel bytes.now label.now number → result ≡ Ok IsPart }
-    // Which fault it is.
+    // A refusal is `Label`, never want of memory.
     ensures fault { IfErr result (IsHeadFault label.now number bytes.now) }
 {
     compared(bytes, number, label)

@@ -99,7 +99,7 @@ pub fn read_label(alloc: Global, bytes: &[u8]) -> Result<(Label, i32), FrameFaul
     ensures found { IfOk result (λ read. IsLabel bytes.now read.0 read.1 × IsFileNumber read.1) }
     // What the bytes say is read, unless memory runs out.
     ensures only { (l : LabelFields) (number : ℤ) → IsFileNumber number → IsLabel bytes.now l number → IsRead l number result }
-    // Which fault it is.
+    // A refusal is `Label`, or of a label alone want of memory.
     ensures fault { IfErr result (IsLabelFault (IsLabelOf IsFileNumber) bytes.now) }
 {
     read_any(alloc, bytes)
@@ -141,13 +141,13 @@ fn meta_head(alloc: Global, bytes: &[u8]) -> Result<Option<Label>, FrameFault>
 /// of a shorter file; `None` where they are fewer, and Meta's label may begin so. A refusal tells the first byte that
 /// fits no label of Meta, or for a label that memory was refused.
 pub fn read_meta_label(alloc: Global, bytes: &[u8]) -> Result<Option<Label>, FrameFault>
-    // What is told is so.
+    // A label is answered of its own bytes alone, and `None` of a beginning of one.
     ensures found { IfOk result (IsMetaHead bytes.now) }
     // A label is read, unless memory runs out.
     ensures whole { (l : LabelFields) → IsLabel bytes.now l (negsuc 0) → (result ≡ Ok (Some l)) ⊎ (result ≡ Err Refused) }
-    // A beginning of one is told.
+    // Of a beginning of one `None` is answered.
     ensures part { (l : LabelFields) → BeginsLabel bytes.now l (negsuc 0) → result ≡ Ok None }
-    // Which fault it is.
+    // A refusal is `Label` at a byte that is there, or of a label alone want of memory.
     ensures fault { IfErr result (IsMetaHeadFault bytes.now) }
 {
     meta_head(alloc, bytes)

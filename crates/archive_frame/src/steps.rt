@@ -106,31 +106,33 @@ fn back(bytes: &[u8], at: usize) -> Result<Step, FrameFault>
     })
 }
 
-/// The framed record that begins at an offset.
+/// The framed record that begins at an offset, or `End` where the bytes end there. A refusal is `Torn`, `Size` or
+/// `Lengths`, in the order that `FrameFault` tells; no memory is taken.
 pub fn step_forward(bytes: &[u8], at: usize) -> Result<Step, FrameFault>
     requires { at ≤ length bytes.now }
-    // What the step says is so.
+    // A payload that is answered stands framed there.
     ensures found { IfOk result (IsForward bytes.now at) }
     // A framed record that begins there is found.
     ensures only { (payload : List ℕ) (next : ℕ) → Stands bytes.now payload at next → result ≡ Ok (Payload (at + 4) (at + 4 + length payload) next) }
     // The end is told exactly there.
     ensures end { at ≡ length bytes.now → result ≡ Ok End }
-    // Which fault it is.
+    // Each fault has its condition: too few bytes, a length that no record has, two lengths that differ.
     ensures fault { IfErr result (IsForwardFault bytes.now at) }
 {
     forward(bytes, at)
 }
 
-/// The framed record that ends at an offset.
+/// The framed record that ends at an offset, or `End` where this is the first byte. The length word that ends there is
+/// looked at first; a refusal is as that of a step forward, and no memory is taken.
 pub fn step_back(bytes: &[u8], at: usize) -> Result<Step, FrameFault>
     requires { at ≤ length bytes.now }
-    // What the step says is so.
+    // A payload that is answered stands framed there.
     ensures found { IfOk result (IsBack bytes.now at) }
     // A framed record that ends there is found.
     ensures only { (payload : List ℕ) (next : ℕ) → Stands bytes.now payload next at → result ≡ Ok (Payload (next + 4) (next + 4 + length payload) next) }
     // The beginning is told exactly there.
     ensures end { at ≡ 0 → result ≡ Ok End }
-    // Which fault it is.
+    // Each fault has its condition: too few bytes, a length that no record has, two lengths that differ.
     ensures fault { IfErr result (IsBackFault bytes.now at) }
 {
     back(bytes, at)

@@ -1,4 +1,4 @@
-//! The faults of records.
+//! Why bytes are no records of Meta (LOGARCHIVE(5)).
 ghost use Rattle.std.specs.Prelude.{◌≡◌};
 ghost use Rattle.archive_meta.specs.declared.fault.MetaFault.TheVariants.{NoMemory as Refused};
 

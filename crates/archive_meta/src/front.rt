@@ -54,11 +54,11 @@ impl MetaState {
         ensures found { IfOk result (λ r. AreRecords (take r.1 bytes.now) r.0) }
         // No two descriptions of one metric differ.
         ensures consistent { IfOk result (λ r. AreConsistent r.0) }
-        // Where the whole records end.
+        // Behind the place that is told stands nothing, or a record that wasn't written whole.
         ensures end { IfOk result (λ r. IsWholeEnd bytes.now r.1) }
         // What stands before such an end is read, unless memory runs out.
         ensures only { (records : Sequence Record) (end : ℕ) → HasFront bytes.now records end → AreFound (λ r all. (r.0 ≡ all) × (r.1 ≡ end)) records result }
-        // Which record it is.
+        // A refusal is the first record that is bad, which is never the torn end, or want of memory.
         ensures fault { IfErr result (IsFrontFault [] bytes.now) }
     {
         let mut meta = MetaState::with_room(alloc, room_for(bytes))?;

@@ -176,7 +176,7 @@ impl MetaState {
         ensures ok { OnOk result (Adds self.old bytes.now self.new) }
         // What the bytes are is added, if no description differs, unless memory runs out.
         ensures only { (records : Sequence Record) → AreRecords bytes.now records → AreConsistent (self.old ++ records) → AreFound (λ _ all. self.new ≡ self.old ++ all) records result }
-        // Which record it is.
+        // A refusal is the first record that is bad or differs from one that is kept, or want of memory.
         ensures fault { IfErr result (IsMetaFault self.old bytes.now) }
         // A refusal changes nothing.
         ensures err { OnErr result (self.new ≡ self.old) }
@@ -199,7 +199,7 @@ impl MetaState {
         ensures consistent { IfOk result AreConsistent }
         // What the bytes are is read, if no description differs, unless memory runs out.
         ensures only { (records : Sequence Record) → AreRecords bytes.now records → AreConsistent records → AreFound (λ m all. m ≡ all) records result }
-        // Which record it is.
+        // A refusal is the first record that is bad or differs from an earlier one, or want of memory.
         ensures fault { IfErr result (IsMetaFault [] bytes.now) }
     {
         let mut meta = MetaState::with_room(alloc, room_for(bytes))?;

@@ -246,7 +246,7 @@ impl ArchiveReader {
         self.label.as_ref()
     }
 
-    /// What Meta says.
+    /// The records of Meta, by which metrics and instances have their descriptions and names.
     pub fn meta(&self) -> &MetaState
         ensures { result.now ≡ self.now.records }
     {

@@ -16,15 +16,15 @@ use thiserror::Error;
 pub struct Archive {
     /// Its label; `None` of an empty disk, and of a creation that was stopped, of which nothing is left.
     pub label: Option<Label>,
-    /// The records of Meta.
+    /// The whole records behind Meta's label, in their order.
     pub meta: MetaState,
-    /// The bytes of Meta.
+    /// How many bytes Meta has, its label with them.
     pub meta_length: u64,
-    /// The entries of the index.
+    /// The entries behind the index's label, in their order.
     pub index: Index,
     /// The number of the last volume that isn't empty, or 0.
     pub volume: u32,
-    /// The bytes of that volume.
+    /// How many bytes that volume has, its label with them.
     pub length: u64,
     /// How many items the volumes have.
     pub items: u64,

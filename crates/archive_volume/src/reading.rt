@@ -26,7 +26,7 @@ pub fn decode_item(alloc: Global, payload: &[u8]) -> Result<Item, FormFault>
     ensures found { IfOk result (IsItem payload.now) }
     // What the payload is is read, unless memory runs out.
     ensures only { (item : Item) → IsItem payload.now item → Gives result (Ok item) }
-    // Which fault it is.
+    // A refusal is the one fault that the payload has as a result, or want of memory.
     ensures fault { IfErr result (IsFormFault payload.now) }
 {
     match decode(alloc, payload) {

@@ -20,12 +20,11 @@ impl<'a> Words<'a> {
         word
     }
 
-    /// All that is left.
+    /// All that is left of the line, with its spaces.
     pub fn rest(self) -> &'a str {
         self.rest
     }
 
-    /// Whether nothing is left.
     pub fn is_done(self) -> bool {
         self.rest.is_empty()
     }

@@ -7,7 +7,6 @@ use std::alloc::Global;
 /// What a file held at a moment: how many bytes were sure, and all of them; and at which length it is looked at.
 #[derive(Drop)]
 pub struct Part {
-    /// Which file it is.
     pub file: FileId,
     sure: usize,
     bytes: Bytes,

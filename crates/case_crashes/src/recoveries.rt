@@ -57,7 +57,7 @@ struct Wanted<'a> {
     now: &'a [Held],
 }
 
-// Runs `recover`, and answers what it writes.
+// Runs `recover`, and answers what it writes; its status is not looked at.
 fn recover(alloc: Global, disk: &mut MemDisk) -> Result<Vec<u8>, NoMemory> {
     let mut words = Vec::new(alloc);
     words.push(String::from_str(alloc, "recover")?)?;
@@ -90,7 +90,7 @@ fn are_empty(left: &[Held]) -> bool {
     true
 }
 
-// Recovers one image.
+// Recovers the image of these files, and counts how it compares with what is wanted.
 fn recover_image(
     alloc: Global,
     parts: &[Part],

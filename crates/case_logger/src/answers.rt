@@ -20,7 +20,7 @@ fn write_full(out: &mut String, file: FileId, bytes: u64) -> Result<(), NoMemory
     Ok(())
 }
 
-/// Why a logger refused.
+/// A line that names the refusal of a logger's call, with its numbers.
 pub fn tell_fault(alloc: Global, fault: LogFault) -> Result<String, NoMemory> {
     let mut out = String::new(alloc);
     match fault {
@@ -41,7 +41,7 @@ pub fn tell_fault(alloc: Global, fault: LogFault) -> Result<String, NoMemory> {
     Ok(out)
 }
 
-/// Why an archive wasn't recovered.
+/// A line that names the refusal of `recover`, with its file and place.
 pub fn tell_refusal(alloc: Global, fault: RecoverFault) -> Result<String, NoMemory> {
     let mut out = String::new(alloc);
     match fault {

@@ -26,7 +26,7 @@ fn line_of(alloc: Global, text: &str) -> Result<String, NoMemory> {
     Ok(String::from_str(alloc, text)?)
 }
 
-// A volume limit.
+// The next word as a volume limit in bytes, in the range that a logger takes.
 fn limit_of(words: &mut Words<'_>) -> Option<u64>
     ensures { IfSome result (λ limit. (1024 ≤ limit) × (limit ≤ 1073741824)) }
 {
@@ -120,7 +120,7 @@ impl Logging {
         }
     }
 
-    // What came of making a logger.
+    // Keeps a logger that was made, and tells its numbers, or why none was made.
     fn keep(
         &mut self,
         alloc: Global,

@@ -36,7 +36,7 @@ fn cut(disk: &mut MemDisk, name: &str, length: &str) -> Option<&'static str> {
     Some(tell_done(disk.cut(file, length)))
 }
 
-// Puts what was done.
+// Puts `done` or `failed` into the answer. False where the line asked for no call.
 fn put_done(answer: &mut Answer, done: Option<&'static str>) -> Result<bool, NoMemory> {
     match done {
         Some(done) => {

@@ -19,7 +19,7 @@ fn got<T: Drop>(answer: std::result::Result<T, NoMemory>) -> Result<T> {
     }
 }
 
-// The name of a book.
+// The name of a book: its file's, without folders and without `.cases`.
 fn name_of(path: &str) -> &str {
     let (_, name) = path.rsplit_once('/').unwrap_or(("", path));
     name.strip_suffix(".cases").unwrap_or(name)

@@ -11,7 +11,7 @@ use case_outside::{Outside, prepare_input};
 use pcp_base::NoMemory;
 use std::alloc::Global;
 
-/// All parts together.
+/// What one case has: its outside, a builder of images, a logger, and all other parts.
 #[derive(Drop)]
 pub struct Scene {
     outside: Outside,

@@ -14,13 +14,13 @@ use pcp_base::{Desc, InDom, NoMemory, Pmid};
 use std::alloc::Global;
 use thiserror::Error;
 
-/// No region or metric has the number.
+/// No region or metric has the number: PM_ERR_PMID (pmErrStr(3)).
 const NO_METRIC: i32 = -12358;
 
-/// No region has the instance domain.
+/// No region has the instance domain: PM_ERR_INDOM (pmErrStr(3)).
 const NO_DOMAIN: i32 = -12359;
 
-/// The region was missed.
+/// The region was missed: PM_ERR_AGAIN (pmErrStr(3)).
 const MISSED: i32 = -12389;
 
 /// Why nothing is told of a metric or an instance domain.

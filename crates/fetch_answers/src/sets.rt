@@ -17,10 +17,10 @@ use profile_filter::Profile;
 use std::alloc::Global;
 use std::collections::BTreeMap;
 
-/// No region or metric has the number.
+/// No region or metric has the number: PM_ERR_PMID (pmErrStr(3)).
 const UNKNOWN: i32 = -12358;
 
-/// The region was missed.
+/// The region was missed: PM_ERR_AGAIN (pmErrStr(3)).
 const AGAIN: i32 = -12389;
 
 /// The instance domain of a serial in a cluster.

@@ -136,11 +136,11 @@ impl Logger {
         requires limit { (1024 ≤ volume) × (volume ≤ 1073741824) }
         // The labels stand, synced, and nothing else; the logger keeps the archive that they are.
         ensures created { D.tells → IsEmpty (contents_of (D.held disk.old)) → IfOk result (λ l. IsCreated label.now volume l (D.held disk.new)) }
-        // It is open.
+        // The logger may log: no call of it has failed at the disk.
         ensures open_ { IfOk result (λ l. (l.limit ≡ volume) × (l.closed ≡ false)) }
         // A crash at any moment leaves files without an item.
         ensures any_moment { D.tells → IsEmpty (contents_of (D.held disk.old)) → LeavesOnly D.moment D.left_since disk.old disk.new HasNoItem }
-        // Which refusal it is.
+        // A refusal is a fault of the disk, whose count then rose, or want of memory.
         ensures fault { IfErr result (λ e. CreateMayAnswer (D.faults disk.old) (D.faults disk.new) e) }
         // The disk was not touched where memory ran out.
         ensures untouched { IfErr result (λ e. e ≡ Refused → disk.new ≡ disk.old) }
@@ -199,7 +199,7 @@ impl Logger {
     pub fn flush<D: Disk>(&mut self, disk: &mut D) -> Result<(), LogFault>
         // The files are those after a flush, and every item is acknowledged.
         ensures done { D.tells → (m : Meant) → IsLogger m self.old (D.held disk.old) → OnOk result (IsFlushed m self.old self.new (D.held disk.new)) }
-        // It stays open.
+        // After Ok it may be called again, with the same volume limit.
         ensures open_ { OnOk result ((self.new.limit ≡ self.old.limit) × (self.new.closed ≡ false)) }
         // A crash at any moment leaves the first items, all acknowledged ones among them, each described.
         ensures any_moment { D.tells → (m : Meant) → IsLogger m self.old (D.held disk.old) → LeavesOnly D.moment D.left_since disk.old disk.new (SurvivesOf m) }
@@ -264,13 +264,13 @@ impl Logger {
         requires fits { AllByRecursion Fits answer.now.sets }
         // The result is the last item, and the files are those after it.
         ensures done { D.tells → AreEnough facts.now answer.now.sets → (m : Meant) → IsLogger m self.old (D.held disk.old) → OnOk result (IsLogged m self.old self.new answer.now facts.now (D.held disk.new)) }
-        // It may be logged.
+        // Ok comes only for a result that may be logged.
         ensures loggable { OnOk result ((self.old.closed ≡ false) × IsLoggable self.old.records self.old.ends self.old.limit answer.now facts.now) }
-        // It stays open.
+        // After Ok it may be called again, with the same volume limit.
         ensures open_ { OnOk result ((self.new.limit ≡ self.old.limit) × (self.new.closed ≡ false)) }
         // A crash at any moment leaves the first items, perhaps the new one too, all acknowledged ones among them, each described.
         ensures any_moment { D.tells → AreEnough facts.now answer.now.sets → (m : Meant) → IsLogger m self.old (D.held disk.old) → LeavesOnly D.moment D.left_since disk.old disk.new (SurvivesWith m (Sample answer.now ∷ [])) }
-        // Which refusal it is, and what it leaves.
+        // Each refusal has its cause; all but a fault of the disk leave the logger as it was, and that one closes it.
         ensures fault { IfErr result (λ e. LogMayAnswer self.old self.new answer.now facts.now (D.faults disk.old) (D.faults disk.new) e) }
         // Every refusal but a fault of the disk leaves the disk untouched.
         ensures untouched { IfErr result (λ e. e ≢ DiskFault → disk.new ≡ disk.old) }

@@ -1,4 +1,4 @@
-//! The laws of what is told of words.
+//! That words without a fault are the images, and which of several faults is told.
 ghost use Rattle.mmv_faults.specs.Laws.{ImagesAreGood};
 ghost use Rattle.mmv_faults.specs.Lowest.{FirstIsTold, SectionsInOrder, OffsetsAreLowest, NamesAreLowest, KindsAreLowest, ReferencesAreLowest, DuplicatesAreLowest, SerialsAreLowest};
 

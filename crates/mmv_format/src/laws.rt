@@ -1,4 +1,4 @@
-//! The laws of this crate's definitions.
+//! That words of 8 bytes, and the numbers in them, are those of an image's bytes, the low byte first (mmv(5)).
 ghost use Rattle.mmv_format.specs.Laws.{WordsHoldBytes, NumberHoldsBytes, NumberHoldsHalves};
 
 /// The words that bytes make hold these bytes, each at its offset.

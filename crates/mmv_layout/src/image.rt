@@ -82,7 +82,7 @@ impl Image {
         Image::parse(alloc, words_of(alloc, bytes)?)
     }
 
-    /// The words.
+    /// The words of the image, without a copy.
     pub fn into_words(self) -> Vec<u64>
         ensures words { result.items ≡ self }
         ensures image { IsImage self }

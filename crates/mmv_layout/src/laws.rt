@@ -1,4 +1,4 @@
-//! The laws of this crate's definitions.
+//! What holds of every image: it says one layout, a value has one slot at most, and some changes of words keep its form.
 ghost use Rattle.mmv_layout.specs.Form.{HasOneSlotEach};
 ghost use Rattle.mmv_layout.specs.Says.{SaysOneLayout};
 ghost use Rattle.mmv_layout.specs.ShapeLaws.{HasGenerationTwice, GenerationIsNoValue, ValueKeepsTheForm, LengthKeepsTheForm, GenerationKeepsTheForm, LengthKeepsTheLayout, FormIsSaid, TextsAreTheForms, SlotHoldsTheContent, ValuesHaveSlots};

@@ -68,7 +68,11 @@ fn counted(draft: &Layout, strings: &StringTable) -> Counts
 
 /// The words of a draft with these strings.
 #[tactic(auto, using(crate::proofs::Lengths::small_offsets), unfolding(crate::specs::Spelling::image_with_strings))]
-pub fn image_with_strings(alloc: Global, draft: &Layout, strings: &StringTable) -> Result<Vec<u64>, NoMemory>
+pub fn image_with_strings(
+    alloc: Global,
+    draft: &Layout,
+    strings: &StringTable,
+) -> Result<Vec<u64>, NoMemory>
     requires { words_in (counts_of draft.now strings.now) ≤ 65536 }
     ensures { IfOk result (λ words. words.items ≡ image_with_strings draft.now strings.now) }
 {

@@ -21,7 +21,7 @@ fn push_help<'a>(texts: &mut Vec<&'a Text>, help: &'a Option<Text>) -> Result<()
     Ok(())
 }
 
-/// Adds two helps.
+/// Adds a short and a long help, in this order, where they are there.
 fn push_helps<'a>(
     texts: &mut Vec<&'a Text>,
     short: &'a Option<Text>,

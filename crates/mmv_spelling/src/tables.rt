@@ -29,7 +29,6 @@ impl<'a> Model for StringTable<'a> {
     ghost invariant = { λ a. IsIndex a.firsts (texts_behind a.strings) };
 }
 
-/// Whether there is no place.
 fn is_nowhere(at: &Option<usize>) -> bool
     ensures { result ≡ is_none at.now }
 {
@@ -109,7 +108,7 @@ fn firsts_of(
     Ok(firsts)
 }
 
-/// References to strings.
+/// A list that refers to these strings, in their order.
 fn references_of<'a>(alloc: Global, strings: &'a [Text]) -> Result<List<&'a Text>, NoMemory>
     ensures { IfOk result (λ references. texts_behind references ≡ strings.now) }
 {
@@ -120,7 +119,7 @@ fn references_of<'a>(alloc: Global, strings: &'a [Text]) -> Result<List<&'a Text
     Ok(references)
 }
 
-/// Adds a string.
+/// Adds a string behind the others; it is the first of its text where that is looked up and stood nowhere.
 #[tactic(auto, using(crate::proofs::Firsts::index_stays))]
 fn add_last<'a>(
     alloc: Global,
@@ -190,7 +189,7 @@ impl<'a> StringTable<'a> {
         }
     }
 
-    /// Adds a string.
+    /// Adds a string behind the others, also where one is equal to it.
     fn push(&mut self, alloc: Global, text: &'a Text) -> Result<(), NoMemory>
         ensures { OnOk result (self.new ≡ self.old ++ text.now ∷ []) }
     {

@@ -38,7 +38,7 @@ impl Block {
         Some(Block { code, bytes })
     }
 
-    /// The type code.
+    /// The type code as it stands beside the bytes; any value may (pmFetch(3)).
     pub fn code(&self) -> u8
         ensures { result ≡ self.now.code }
     {

@@ -38,7 +38,7 @@ impl Kind {
         }
     }
 
-    /// Its type code.
+    /// Its type code: 0 to 6, or 9 (mmv(5)).
     pub fn code(self) -> u32
         ensures { result ≡ code_of_kind self }
     {
@@ -82,7 +82,7 @@ impl Semantics {
         }
     }
 
-    /// Its code.
+    /// Its code: 1, 3 or 4 (pmLookupDesc(3)).
     pub fn code(self) -> u32
         ensures { result ≡ code_of_semantics self }
     {

@@ -36,14 +36,14 @@ impl<T> List<T> {
         }
     }
 
-    /// The items of a vector.
+    /// The list of a vector's items, in their order. Nothing is copied.
     pub fn from_vec(items: Vec<T>) -> Self
         ensures { result ≡ items.items }
     {
         List { items }
     }
 
-    /// The items as a vector.
+    /// The vector of the items, in their order. Nothing is copied.
     pub fn into_vec(self) -> Vec<T>
         ensures { result.items ≡ self }
     {

@@ -38,7 +38,7 @@ impl Stamp {
         Some(Stamp { sec, usec })
     }
 
-    /// Seconds since 1970.
+    /// Whole seconds since the start of 1970 in UTC, below 2^31.
     pub fn sec(self) -> u32
         ensures value { result ≡ self.sec }
         ensures range { IsMoment self }
@@ -46,7 +46,7 @@ impl Stamp {
         self.sec
     }
 
-    /// Microseconds of the second.
+    /// Microseconds behind that second, below 1,000,000.
     pub fn usec(self) -> u32
         ensures value { result ≡ self.usec }
         ensures range { IsMoment self }

@@ -37,7 +37,7 @@ fn port_of(words: &[String]) -> Option<u16>
     }
 }
 
-// The words that are handed on.
+// The words without PORT, as `run_serve` takes them.
 fn without_port(alloc: Global, words: &[String]) -> Result<Vec<String>, AllocError> {
     let mut rest = Vec::new(alloc);
     for (at, word) in words.iter().enumerate() {
@@ -60,7 +60,7 @@ pub fn first_bad_of_serve(alloc: Global, words: &[String]) -> Result<usize, Allo
     }
 }
 
-// Serves the clients of a listener.
+// Serves the clients that come in at a listener, through four doors.
 fn serve_at<R: Threads + Wait + Clock + Alloc<A = Global> + Send + Sync>(
     rt: &R,
     listener: &TcpListener,
@@ -90,7 +90,7 @@ fn serve_at<R: Threads + Wait + Clock + Alloc<A = Global> + Send + Sync>(
     )
 }
 
-// A word that is no port.
+// Tells `usage 1`, since PORT is no port, and answers the status.
 fn no_port(alloc: Global, out: &mut impl Sink) -> u8
     ensures { (result ≡ 1) ⊎ (result ≡ 9) }
 {

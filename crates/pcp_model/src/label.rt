@@ -57,7 +57,7 @@ impl Label {
         self.start
     }
 
-    /// The host that was logged.
+    /// The host that was logged, at most 63 bytes (LOGARCHIVE(5)).
     pub fn host(&self) -> &Text
         ensures value { result.now ≡ self.now.host }
         ensures fits { FitsLabel self.now }
@@ -65,7 +65,7 @@ impl Label {
         &self.host
     }
 
-    /// The host's time zone.
+    /// The host's time zone, at most 39 bytes (LOGARCHIVE(5)).
     pub fn zone(&self) -> &Text
         ensures value { result.now ≡ self.now.zone }
         ensures fits { FitsLabel self.now }

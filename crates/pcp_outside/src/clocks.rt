@@ -19,7 +19,7 @@ pub trait Clock {
     /// The moments left.
     ghost left: { Self → Sequence Moment };
 
-    /// How often it has failed.
+    /// How many of its calls have failed; the number never falls.
     ghost faults: { Self → ℕ };
 
     /// The next moment, and `None` at their end, which is no fault.

@@ -32,7 +32,7 @@ pub trait Disk {
     /// What a crash at some moment from that one on might have left, during a call or between two.
     ghost left_since: { Self → ℕ → Files → Type 0 };
 
-    /// How often it has failed.
+    /// How many of its calls have failed; the number never falls.
     ghost faults: { Self → ℕ };
 
     /// How many bytes the file holds; 2^64 - 1 where it holds more.

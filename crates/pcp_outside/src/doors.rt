@@ -21,7 +21,7 @@ pub enum SessionEnd {
     ClockFault,
     /// The clock had no moment for a fetch.
     ClockEnd,
-    /// 2^40 bytes were taken.
+    /// 2^40 bytes were taken, the most that one session takes.
     Spent,
     NoMemory,
 }
@@ -48,7 +48,7 @@ pub trait Door {
     /// What was told of the connections that ended.
     ghost reports: { Self → Sequence Report };
 
-    /// How often it has failed.
+    /// How many of its calls have failed; the number never falls.
     ghost faults: { Self → ℕ };
 
     /// The first connection left; to ask past the last one is a fault.

@@ -16,7 +16,7 @@ pub trait Source {
     /// The bytes left.
     ghost left: { Self → Sequence ℕ };
 
-    /// How often it has failed.
+    /// How many of its calls have failed; the number never falls.
     ghost faults: { Self → ℕ };
 
     /// Takes the next bytes into the front of the buffer and answers how many. None for a buffer that isn't
@@ -36,7 +36,7 @@ pub trait Sink {
     /// The bytes written.
     ghost written: { Self → Sequence ℕ };
 
-    /// How often it has failed.
+    /// How many of its calls have failed; the number never falls.
     ghost faults: { Self → ℕ };
 
     /// Writes a front of the bytes, at least one of a piece that isn't empty, and answers how many.

@@ -250,7 +250,7 @@ fn read_names<D: Read>(alloc: Global, folder: &mut D) -> io::Result<Vec<u8>>
     Err(io::Error::from(ErrorKind::Other))
 }
 
-// Counts a call's error.
+// The answer of a call to the system, as the trait has it: each error is one fault more.
 fn counted<T: Drop>(faults: &mut u64, answer: io::Result<T>) -> Result<T, Failed>
     ensures quiet { OnOk result (faults.new ≡ faults.old) }
     ensures cause { HasCause faults.old faults.new result }

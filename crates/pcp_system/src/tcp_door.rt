@@ -94,7 +94,7 @@ impl<'a, R: time::Clock> Door for TcpDoor<'a, R> {
         }
     }
 
-    /// Closes the connection.
+    /// Closes the connection, whose ends are dropped here. The report is kept nowhere, and this never fails.
     fn ended(
         &mut self,
         _input: ReaderSource<TcpStream>,

@@ -1,4 +1,4 @@
-//! What a client and pmcd say to each other.
+//! What a client and pmcd say to each other (pmcd(1)), as values.
 use pcp_base::{Desc, InDom, List, PmResult, Pmid, Text};
 use profile_filter::DomainPart;
 
@@ -28,14 +28,14 @@ pub enum Pdu {
     DescReq {
         pmid: Pmid,
     },
-    /// The description of a metric.
+    /// The description of a metric, as `DescReq` asks (pmLookupDesc(3)).
     Desc(Desc),
     /// Asks for an instance of a domain, or by -1 for all (pmGetInDom(3)).
     InstanceReq {
         indom: InDom,
         instance: i32,
     },
-    /// Instances of a domain with their names.
+    /// Instances of a domain with their names, as `InstanceReq` asks (pmGetInDom(3)).
     Instance {
         indom: InDom,
         pairs: List<(i32, Text)>,

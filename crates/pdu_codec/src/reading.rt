@@ -129,7 +129,7 @@ pub fn decode(alloc: Global, bytes: &[u8]) -> Result<Pdu, PduFault>
     ensures found { IfOk result (λ p. IsPdu bytes.now p) }
     // What the bytes spell is read, unless memory runs out.
     ensures only { (p : Said) → IsPdu bytes.now p → Gives result (Ok p) }
-    // Which fault it is.
+    // A refusal is the one fault that the bytes have, or want of memory.
     ensures fault { IfErr result (IsPduFault bytes.now) }
 {
     read(alloc, bytes)

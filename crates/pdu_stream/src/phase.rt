@@ -1,6 +1,6 @@
 //! How a stream goes on.
 
-/// How a stream goes on.
+/// Whether more PDUs may come, or why none will.
 #[derive(Clone, Copy, Debug, PartialEq, Eq)]
 pub enum Phase {
     /// More bytes may come.

@@ -1,4 +1,4 @@
-//! The call that main makes.
+//! `offline`, the call that main makes for each command but `serve` and `record`.
 ghost use Rattle.std.specs.Prelude.{◌≡◌, ◌⊎◌, ◌≤◌, length, map, string_bytes, false, None};
 ghost use Rattle.pcp_model.specs.Disk.{CrashImage, IsSettled, contents_of};
 ghost use Rattle.pcp_outside.specs.Causes.{Rose};
@@ -152,7 +152,7 @@ pub fn offline<I: Source, O: Sink, D: Disk>(
     // Done: what the command reads was read to its end, the output is exactly what it says, and so are the files.
     ensures done { result ≡ 0 → EndsDone (map string_bytes words.now) (source_side I.Source input.old input.new) (sink_side O.Sink out.old out.new) (disk_side D.Disk disk.old disk.new) }
 
-    // Why each other status comes.
+    // Each other status comes for its cause alone.
     ensures usage { UsageIsExact (map string_bytes words.now) result }
     ensures input_fault { InputFaultIsExact (map string_bytes words.now) (source_side I.Source input.old input.new) (disk_side D.Disk disk.old disk.new) result }
     ensures read_fault { result ≡ 3 → Rose (I.faults input.old) (I.faults input.new) }

@@ -57,7 +57,7 @@ impl<'a> Instances<'a> {
         }
     }
 
-    /// These instances.
+    /// The instances of these pairs; of two with one number the first counts.
     pub fn of(alloc: Global, pairs: &'a [(i32, Text)]) -> Result<Instances<'a>, NoMemory>
         ensures { IfOk result (λ instances. instances ≡ pairs.now) }
     {

@@ -74,7 +74,7 @@ fn put_line<O: Sink>(out: &mut O, line: &[u8])
 }
 
 impl RecordRefusal {
-    /// The exit status.
+    /// The exit status: 8 or 20 of the clock, else as other commands have it.
     pub fn status(&self) -> u8
         ensures { result ≡ recording_status self.now }
     {

@@ -1,4 +1,4 @@
-//! The call that main makes.
+//! `run_record`, the call that main makes for `record SAMPLES VOLUME` (pmlogger(1)).
 ghost use Rattle.std.specs.Prelude.{◌≡◌, map, string_bytes, IfOk, MatchResult, None};
 ghost use Rattle.pcp_model.specs.Disk.{CrashImage, IsSettled};
 ghost use Rattle.pcp_outside.specs.Causes.{Rose};
@@ -124,7 +124,7 @@ pub fn run_record<I: Source, O: Sink, D: Disk, C: Clock, T: Turn + Sync, R: Thre
     // Done: the input was read to its end, all samples were taken, and the line says how many results were logged.
     ensures done { result ≡ 0 → EndsDone (map string_bytes words.now) (source_side I.Source input.old input.new) (sink_side O.Sink out.old out.new) (run_side C.Clock D.Disk clock.old clock.new disk.old disk.new) opened.new }
 
-    // Why each other status comes.
+    // Each other status comes for its cause alone.
     ensures usage { UsageIsExact (map string_bytes words.now) result }
     ensures script_fault { ScriptFaultIsExact (map string_bytes words.now) (source_side I.Source input.old input.new) result }
     ensures read_fault { result ≡ 3 → Rose (I.faults input.old) (I.faults input.new) }
@@ -143,7 +143,7 @@ pub fn run_record<I: Source, O: Sink, D: Disk, C: Clock, T: Turn + Sync, R: Thre
     // is what these words answer.
     ensures exact { result ≡ 0 → LastIsShown (map string_bytes words.now) (source_side I.Source input.old input.new) (run_side C.Clock D.Disk clock.old clock.new disk.old disk.new) opened.new }
 
-    // What may be recorded is.
+    // Unless a count rises or memory is refused, a good script over good files is recorded to its end.
     ensures completes { Completes (map string_bytes words.now) (source_side I.Source input.old input.new) (sink_side O.Sink out.old out.new) (run_side C.Clock D.Disk clock.old clock.new disk.old disk.new) opened.new result }
 
     // A settled disk is settled after every status but 5.

@@ -1,4 +1,4 @@
-//! The words of the command.
+//! The words `record SAMPLES VOLUME`.
 ghost use Rattle.std.specs.Prelude.{◌≤◌, map, string_bytes, IfOk};
 ghost use Rattle.pm_words.specs.CommandLine.{Gives, number_in, word_then};
 ghost use Rattle.pm_recording.specs.CommandWords.{FitsRecord, asked_behind, asked_of};

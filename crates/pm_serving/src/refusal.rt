@@ -43,7 +43,7 @@ fn put_line<O: Sink>(out: &mut O, line: &[u8])
 }
 
 impl ServeRefusal {
-    /// The exit status.
+    /// The exit status: 21 of a door, else as other commands have it.
     pub fn status(&self) -> u8
         ensures { result ≡ serving_status self.now }
     {

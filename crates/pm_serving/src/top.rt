@@ -1,4 +1,4 @@
-//! The call that main makes.
+//! `run_serve`, the call that main makes for `serve PORT COUNT`, with the doors at PORT (pmcd(1)).
 ghost use Rattle.std.specs.Prelude.{◌≡◌, ◌⊎◌, length, map, string_bytes, IfOk, MatchResult, None};
 ghost use Rattle.pcp_outside.specs.Causes.{Rose};
 ghost use Rattle.pmcd_server.specs.Crews.{SomeRose};
@@ -140,7 +140,7 @@ where
     // Done: the input was read to its end, the sessions were served, and the line says how many.
     ensures done { result ≡ 0 → EndsDone (map string_bytes words.now) (source_side I.Source input.old input.new) (sink_side O.Sink out.old out.new) (doors_side P.Door doors.old doors.new) served.new }
 
-    // Why each other status comes.
+    // Each other status comes for its cause alone.
     ensures usage { UsageIsExact (map string_bytes words.now) result }
     ensures script_fault { ScriptFaultIsExact (map string_bytes words.now) (source_side I.Source input.old input.new) result }
     ensures read_fault { result ≡ 3 → Rose (I.faults input.old) (I.faults input.new) }

@@ -1,4 +1,4 @@
-//! The words of the command.
+//! The words `serve COUNT`, as which main hands on `serve PORT COUNT`.
 ghost use Rattle.std.specs.Prelude.{map, string_bytes};
 ghost use Rattle.pm_words.specs.CommandLine.{Gives};
 ghost use Rattle.pm_serving.specs.CommandWords.{count_behind, count_of};

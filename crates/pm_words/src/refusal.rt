@@ -166,7 +166,7 @@ impl From<NoMemory> for Refusal {
 }
 
 impl Refusal {
-    /// The exit status.
+    /// The exit status: 1 to 3, 5 to 7, 9, or 11 to 13. Of a sink that fails (4) nothing can be told.
     pub fn status(&self) -> u8
         ensures { result ≡ status_of self.now }
     {

@@ -144,7 +144,7 @@ fn script_line(alloc: Global, fault: &ScriptFault) -> Result<Bytes, NoMemory>
 pub enum RunRefusal {
     /// The condition of this line of its script fails.
     Condition { line: u32 },
-    /// So many are too many.
+    /// `number` is above the limit: so many metrics, bytes or volumes would be needed.
     Limit { what: LimitKind, number: u64 },
     /// A result isn't stamped after all that the archive has; this is the greatest stamp.
     NotLater { last: Stamp },

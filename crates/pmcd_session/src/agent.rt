@@ -12,7 +12,7 @@ use std::alloc::Global;
 
 /// Who reads regions and tells what they show, as an agent of pmcd does (PMDA(3)). Each call reads anew.
 pub trait Agent {
-    /// The regions.
+    /// What it reads: the regions that all agents of a server share.
     type Regions;
 
     /// Whether the agent can read these regions.

@@ -12,22 +12,22 @@ use pdu_codec::{Pdu, encode, pdu_length};
 use pmns_core::Names;
 use std::alloc::Global;
 
-/// A name is not there, and none continues it.
+/// A name is not there, and none continues it: PM_ERR_NAME (pmErrStr(3)).
 const NO_NAME: i32 = -12357;
 
-/// No metric has the number.
+/// No metric has the number: PM_ERR_PMID (pmErrStr(3)).
 const NO_METRIC: i32 = -12358;
 
-/// The domain has no instance of the number.
+/// The domain has no instance of the number: PM_ERR_INST (pmErrStr(3)).
 const NO_INSTANCE: i32 = -12360;
 
-/// The client doesn't keep to the protocol, or a reply has too many bytes.
+/// The client doesn't keep to the protocol, or a reply has too many bytes: PM_ERR_IPC (pmErrStr(3)).
 const PROTOCOL: i32 = -12366;
 
 /// The most bytes that a reply has.
 const MOST: u64 = 65_536;
 
-/// What the server sends first.
+/// What the server sends before it reads anything (pmcd(1)): status 0.
 pub fn greeting() -> Pdu
     ensures { result ≡ greeting }
 {

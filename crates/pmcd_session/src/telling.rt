@@ -6,7 +6,7 @@ ghost use Rattle.pmcd_session.specs.Serving.{KeepsRest, Tells};
 ghost use Rattle.pmcd_session.specs.Telling.{ShowsNames};
 
 use crate::agent::Agent;
-use crate::replies::{child_reply, instances_reply, ids_reply, names_reply, traverse_reply};
+use crate::replies::{child_reply, ids_reply, instances_reply, names_reply, traverse_reply};
 use crate::standing::Standing;
 use fetch_engine::{AskFault, Named};
 use pcp_base::{InDom, NoMemory, Pmid, Text};
@@ -14,10 +14,10 @@ use pdu_codec::Pdu;
 use pmns_core::Names;
 use std::alloc::Global;
 
-/// A region is missing.
+/// A region was missed, so names can't be told: PM_ERR_AGAIN (pmErrStr(3)).
 const AGAIN: i32 = -12389;
 
-/// The description of a metric.
+/// The reply to a request for a metric's description (pmLookupDesc(3)): `Desc`, or an `Error` with its status.
 pub fn tell_description<A: Agent>(
     alloc: Global,
     regions: &A::Regions,
@@ -36,7 +36,7 @@ pub fn tell_description<A: Agent>(
     }
 }
 
-/// The instances of a domain, or the one of a number.
+/// The reply to a request for the instances of a domain, or for the one of a number (pmGetInDom(3)).
 pub fn tell_instances<A: Agent>(
     alloc: Global,
     regions: &A::Regions,
@@ -111,7 +111,7 @@ pub fn tell_names<A: Agent>(
     }
 }
 
-/// The components that continue a name.
+/// The reply to a request for the components that continue a name (pmGetChildren(3)).
 pub fn tell_children<A: Agent>(
     alloc: Global,
     regions: &A::Regions,
@@ -129,7 +129,7 @@ pub fn tell_children<A: Agent>(
     }
 }
 
-/// The names below a name.
+/// The reply to a request for the names that equal or continue a name (pmTraversePMNS(3)).
 pub fn tell_below<A: Agent>(
     alloc: Global,
     regions: &A::Regions,

@@ -38,7 +38,7 @@ impl Model for Names {
 }
 
 impl Names {
-    /// No names.
+    /// The name space without a name; it takes no memory until it grows.
     pub fn empty(alloc: Global) -> Names
         ensures { result ≡ [] }
     {

@@ -27,7 +27,7 @@ pub enum Standing {
     Found(Archive),
     /// A logger goes on with it.
     Open(Logger),
-    /// It was not opened.
+    /// Opening it was refused, and nothing more is logged.
     Lost,
 }
 

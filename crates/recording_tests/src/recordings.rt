@@ -18,7 +18,7 @@ region app A 32 3\nlog mandatory on every 1 sec { mmv }\nstart\n";
 pub const STEPS: &[u8] =
     b"attach app 0\nadd app 0 2 - 5\ndetach app 0\nattach app 1\nadd app 1 2 - 5\ndetach app 1\n";
 
-// What a run came to.
+// The status, output and files that a run left.
 #[derive(Drop)]
 struct Ran {
     status: u8,

@@ -11,12 +11,12 @@ use std::sync::atomic::{AtomicU64, Ordering};
 /// A call that is timed.
 #[derive(Clone, Copy)]
 pub enum Call {
-    /// A plain atomic's.
+    /// A `fetch_add` of 1 to a plain atomic, to compare `Add` with.
     FetchAdd,
-    /// A plain atomic's.
+    /// A load of a plain atomic, to compare `Word` with.
     Load,
     Add,
-    /// Attach and detach.
+    /// An attach, and the detach behind it.
     Attach,
     Word,
     /// The start of a reading, a word, and its end.

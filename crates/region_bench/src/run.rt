@@ -40,7 +40,7 @@ impl Shared {
     }
 }
 
-// What a run came to.
+// What a run came to: the nanoseconds that it took, and how many of its calls were refused.
 #[derive(Drop)]
 struct Told {
     nanos: u64,

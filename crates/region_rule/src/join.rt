@@ -24,7 +24,7 @@ impl<S: Shape> Region<S> {
         self.table.shared.split_seat::<Give>(seat)
     }
 
-    /// A seat for a note.
+    /// A seat of no pass that has seen what this one has: that of a note.
     pub(crate) fn note_seat(&self, seat: &mut Seat<(), View>) -> Seat<(), View>
         requires here { IsSeatOf self.now seat.old }
         ensures same { (seat.new.table_id ≡ seat.old.table_id) × (seat.new.me ≡ seat.old.me) }
@@ -33,7 +33,7 @@ impl<S: Shape> Region<S> {
         self.table.shared.split_seat::<Noting>(seat)
     }
 
-    /// Takes the longer of two lists.
+    /// Joins a note to this pass, which then has seen the longer of the two lists; a load of the gate confirms it.
     pub(crate) fn learn_seat(&self, seat: &mut Seat<(), View>, note: Seat<(), View>)
         requires here { IsSeatOf self.now seat.old }
         requires note { (region_of note ≡ self.now) × (note.me.0.role ≡ Copied) × (note.me.1 ≡ []) }
@@ -45,7 +45,7 @@ impl<S: Shape> Region<S> {
         self.look(seat);
     }
 
-    /// Ends another pass.
+    /// Joins another pass, which is idle, to this one: it is no pass any more, and its own entries are kept here.
     pub(crate) fn gather_seat(&self, seat: &mut Seat<(), View>, ended: Seat<(), View>)
         requires here { IsSeatOf self.now seat.old }
         requires ended { IsSeatOf self.now ended × (ended.me.1 ≡ []) × (ended.me.0.mode ≡ Idle) }

@@ -85,7 +85,7 @@ impl Stint {
         region.add(&mut self.seat, word, delta)
     }
 
-    /// Takes its 1 from the gate.
+    /// Ends the stint: takes its 1 from the gate, so that the layout may change once no other pass is inside.
     pub fn detach<S: Shape>(self, region: &Region<S>) -> Pass
         requires here { self.region ≡ region.now }
         ensures detaches { Detaches S.shaping self.view result.view }

@@ -50,7 +50,7 @@ fn add_many(alloc: Global, region: &Region, stint: &mut Stint, found: &mut Vec<u
     Some(())
 }
 
-// Adds in many stints.
+// Attaches `STINTS` times and adds `ADDS` times in each stint; answers the pass and each number that was found.
 fn write<R: Wait>(rt: &R, alloc: Global, region: &Region, pass: Pass) -> Option<(Pass, Vec<u64>)>
     requires here { pass.region ≡ region.now }
     ensures { IfSome result (λ r. r.0.region ≡ region.now) }

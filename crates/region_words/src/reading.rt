@@ -46,7 +46,7 @@ impl Region {
 }
 
 impl Reading {
-    /// Loads a word.
+    /// Loads a word of the image; `index` counts words of 8 bytes from the image's start.
     pub fn word(&mut self, region: &Region, index: u32) -> u64
         requires here { self.old.token.region ≡ region.now }
         requires below { index < length region.now.words }

@@ -133,7 +133,7 @@ impl Stint {
         self.inner.add(&region.inner, word, delta)
     }
 
-    /// Takes its 1 from the gate.
+    /// Ends the stint: takes its 1 from the gate, so that the layout may change once no other pass is inside.
     pub fn detach(self, region: &Region) -> Pass
         requires here { self.region ≡ region.now }
         ensures detaches { Detaches mmv self.view result.view }

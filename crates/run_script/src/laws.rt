@@ -1,4 +1,4 @@
-//! Laws above the definitions.
+//! What holds of scripts that are read, and of those that a number makes.
 ghost use Rattle.run_script.specs.Laws.{StatementsAreTold, ScriptsAreRuled, GeneratedIsRead, GeneratedIsRuled, GeneratedTicks, GeneratedAdds, DrawsAreAdds, GeneratedOrder};
 
 /// A line is told as a group's exactly where it is a configuration of that group alone.

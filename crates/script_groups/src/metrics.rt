@@ -49,7 +49,7 @@ impl Metrics {
         }
     }
 
-    /// Adds all others.
+    /// Adds each of these that isn't among them, in their order.
     pub fn add_all(&mut self, others: &Metrics) -> Result<(), NoMemory>
         ensures { OnOk result (self.new ≡ with_metrics self.old others.now) }
     {
@@ -59,7 +59,7 @@ impl Metrics {
         Ok(())
     }
 
-    /// Their list.
+    /// The metrics as a list, in the order in which each was added first.
     pub fn to_list(&self, alloc: Global) -> Result<List<Pmid>, NoMemory>
         ensures { IfOk result (λ pmids. pmids ≡ self.now) }
     {

@@ -19,7 +19,7 @@ use script_replays::Replayed;
 use script_runs::Ending;
 use std::alloc::Global;
 
-/// Flushes what was logged.
+/// Flushes what was logged, if there is an archive to flush. False: the disk failed.
 fn flush_rest<D: Disk>(disk: &mut D, archive: &mut RunArchive) -> bool
     ensures flushed { D.tells → (left : AllFiles) (items : Sequence Logged) (stand : Stand) → IsKept left items stand archive.old (D.held disk.old) → result ≡ true → IsFlushed left items stand (D.held disk.new) }
     ensures any_moment { D.tells → (left : AllFiles) (items : Sequence Logged) (stand : Stand) → IsKept left items stand archive.old (D.held disk.old) → LeavesOnly D.moment D.left_since disk.old disk.new (ComesBackTo items 0 left) }
@@ -66,7 +66,7 @@ fn tell(alloc: Global, out: &mut Vec<u8>, ending: Ending, logged: u64) -> Ending
     }
 }
 
-/// Nothing was recorded.
+/// What is told where nothing was sampled: no output, and no result.
 pub(crate) fn nothing(alloc: Global, ending: Ending) -> Replayed
     ensures output { result.output ≡ [] }
     ensures ending { result.ending ≡ ending }

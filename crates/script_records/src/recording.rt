@@ -131,7 +131,7 @@ fn run<'a, R: Threads + Wait + Sync, D: Disk, C: Clock, T: Turn + Sync>(
     }
 }
 
-/// Records over what recovery left.
+/// Records over the archive that recovery left and told: runs the writers with the samples beside them, and flushes.
 fn record_over<R: Threads + Wait + Sync, D: Disk, C: Clock, T: Turn + Sync>(
     rt: &R,
     alloc: Global,
@@ -214,7 +214,7 @@ fn unrecorded<R: Threads + Wait + Sync, T: Turn + Sync>(
     }
 }
 
-/// Records over any files.
+/// Records over any files, which are recovered first; where they are refused the writers run, and nothing is sampled.
 fn record_with<R: Threads + Wait + Sync, D: Disk, C: Clock, T: Turn + Sync>(
     rt: &R,
     alloc: Global,

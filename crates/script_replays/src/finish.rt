@@ -28,7 +28,7 @@ use record_run::{RunArchive, Standing, put_count};
 use script_runs::Ending;
 use std::alloc::Global;
 
-/// Flushes what was logged.
+/// Flushes what was logged, if there is an archive to flush. False: the disk failed.
 fn flush_rest<D: Disk>(disk: &mut D, archive: &mut RunArchive) -> bool
     ensures flushed { D.tells → (left : AllFiles) (items : Sequence Logged) (stand : Stand) → IsKept left items stand archive.old (D.held disk.old) → result ≡ true → IsFlushed left items stand (D.held disk.new) }
     ensures any_moment { D.tells → (left : AllFiles) (items : Sequence Logged) (stand : Stand) → IsKept left items stand archive.old (D.held disk.old) → LeavesOnly D.moment D.left_since disk.old disk.new (ComesBackTo items 0 left) }
@@ -75,7 +75,7 @@ fn tell(alloc: Global, out: &mut Vec<u8>, ending: Ending, logged: u64) -> Ending
     }
 }
 
-/// Ends a run.
+/// Ends a run: closes its regions, flushes what was logged and tells how many results that was.
 pub(crate) fn finish<D: Disk>(
     alloc: Global,
     disk: &mut D,

@@ -43,7 +43,7 @@ fn ending_of(fault: RecoverFault) -> Ending
     }
 }
 
-/// No line was run.
+/// What is told of a run that ended before its first line: no output, and no result.
 fn nothing(alloc: Global, ending: Ending) -> Replayed
     ensures output { result.output ≡ [] }
     ensures ending { result.ending ≡ ending }

@@ -27,7 +27,7 @@ use run_script::{Line, Script};
 use script_runs::Ending;
 use std::alloc::Global;
 
-/// Runs a line that flushes.
+/// Runs a line `flush`. An error is how the run ends.
 fn flush<D: Disk>(alloc: Global, disk: &mut D, run: &mut Run<'_>) -> Result<(), Ending>
     ensures running { run.new.running ≡ run.old.running }
     ensures limit { run.new.archive.limit ≡ run.old.archive.limit }
@@ -44,7 +44,7 @@ fn flush<D: Disk>(alloc: Global, disk: &mut D, run: &mut Run<'_>) -> Result<(), 
     flush_line(alloc, disk, &mut run.archive, &mut run.out)
 }
 
-/// Runs a line of a pass.
+/// Runs a line of a pass. An error is how the run ends: the line's condition failed, or memory was refused.
 fn pass(
     alloc: Global,
     run: &mut Run<'_>,
@@ -80,7 +80,7 @@ fn pass(
     }
 }
 
-/// Runs a line.
+/// Runs a line: of a pass, a tick or a flush. An error is how the run ends.
 fn step<'a, D: Disk>(
     alloc: Global,
     disk: &mut D,

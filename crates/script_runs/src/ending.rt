@@ -1,16 +1,16 @@
 //! How a run ends.
 use pcp_base::{FileId, Pmid, Stamp};
 
-/// What a limit is of.
+/// What there would be too many of.
 #[derive(Clone, Copy)]
 pub enum LimitKind {
-    /// The metrics of one result.
+    /// The metrics that one tick asks for: more than 1,024.
     Sets,
-    /// The bytes of one record.
+    /// The bytes of one framed record: more than 16,777,216.
     Record,
     Meta,
     Index,
-    /// The number of a volume.
+    /// The number of a volume: 10,000.
     Volume,
 }
 
@@ -27,7 +27,7 @@ pub enum Ending {
     NotArchive { file: FileId, at: u64 },
     /// A file stands under its name with `.xz` or `.gz` added.
     Compressed { file: FileId },
-    /// So many are too many.
+    /// `number` is above the limit: so many metrics, bytes or volumes would be needed.
     Limit { what: LimitKind, number: u64 },
     /// No moment was left for so many samples.
     ClockEnd { left: u32 },

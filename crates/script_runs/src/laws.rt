@@ -1,4 +1,4 @@
-//! Laws above the definitions.
+//! What the definitions make of worked scripts.
 ghost use Rattle.script_runs.specs.Worked.{AddsOne, ReadsAround, ReadsBehind, IsBusy, ShowsBusy, IsBounced, IsSpent, IsTooLarge, ShowsOther, ShowsMissed, ShowsText, AreRefused};
 
 /// Worked scripts write these lines, and ticks behind them show these values.

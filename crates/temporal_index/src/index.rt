@@ -67,9 +67,9 @@ impl Index {
         ensures found { IfOk result (AreEntries bytes.now) }
         // Entries in range are read, unless memory runs out.
         ensures only { (es : Entries Entry) → AreEntries bytes.now es → Gives result (Ok es) }
-        // Which fault it is.
+        // A refusal is the first entry that is none, or want of memory.
         ensures fault { IfErr result (IsIndexFault bytes.now) }
-        // Which entries or fault it is.
+        // The answer is that of a definition, want of memory aside.
         ensures exact { Gives result (index_of bytes.now) }
     {
         read(alloc, bytes)
