@@ -2,6 +2,4 @@
 #![tactic(auto)]
 
 #[cfg(test)]
-mod progress;
-#[cfg(test)]
 mod recordings;

@@ -2,7 +2,6 @@
 
 use crate::Slate;
 use region_core as laws;
-use region_slate as slate;
 use std::test::Fail;
 
 #[test]
@@ -21,16 +20,5 @@ fn the_laws_hold_of_the_toy_layout(_rt: HostRuntime) -> Result<(), Fail> {
     laws::legal_runs::<Slate>();
     laws::stopped_is_illegal::<Slate>();
     laws::words_are_replayed();
-    slate::whole_day_is_legal();
-    slate::generation_kept_is_illegal();
-    slate::end_first_is_illegal();
-    slate::put_first_is_illegal();
-    slate::taken_over_is_illegal();
-    slate::text_added_is_illegal();
-    slate::text_lost_is_illegal();
-    slate::image_lost_is_illegal();
-    slate::reading_across_is_refused();
-    slate::reading_after_is_shown();
-    slate::three_tries_miss();
     Ok(())
 }

@@ -4,7 +4,7 @@ ghost use Rattle.std.specs.Prelude.{◌≡◌, ◌<◌, length};
 
 use crate::layouts::image_of_layout;
 use mmv_layout::Image;
-use region_words::{Known, Note, OpenFault, Pass, Reading, Region, Stint, ValueFault};
+use region_words::{Known, Note, Pass, Reading, Region, Stint, ValueFault};
 use std::alloc::Global;
 use std::process::Abort;
 
@@ -50,19 +50,6 @@ fn a_known_layout_is_refused_beside_a_change_and_behind_it(rt: HostRuntime) {
     assert_eq!(&rt; crossed, Err(ValueFault::Again { first: 5, last: 6 }));
     assert_eq!(&rt; newer, Err(ValueFault::Newer { found: 6 }));
     assert_eq!(&rt; read_value(&region, &mut reader, 6), Ok(1 << 32));
-}
-
-#[test]
-fn an_image_of_more_words_is_refused(rt: HostRuntime) {
-    let alloc = rt.alloc();
-    let fault = OpenFault::TooLarge {
-        need: 26,
-        capacity: 25,
-    };
-    match Region::make(alloc, &image_of(&rt, alloc, 0), 25, 1) {
-        Ok(_) => panic!(&rt; "26 words don't fit"),
-        Err(found) => assert_eq!(&rt; found, fault),
-    }
 }
 
 fn needs_send<T: Send>() {}

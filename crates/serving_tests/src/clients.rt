@@ -1,7 +1,7 @@
 //! Clients that come in over loopback.
 use pcp_base::List;
 use pcp_listening::serve_clients;
-use pcp_outside::{Free, MemSink, SureSource, Turn};
+use pcp_outside::{MemSink, SureSource, Turn};
 use pcp_system::TcpDoor;
 use pm_serving::run_serve;
 use std::alloc::{Alloc, AllocError, Global};
@@ -53,6 +53,37 @@ const KNOWN: &[u8] =
     b"\x00\x00\x00\x14\x00\x00\x70\x0c\x00\x00\x00\x00\x00\x00\x00\x01\x01\x02\x00\x00\x00\x00\x00\x10\
 \x00\x00\x70\x04\x00\x00\x00\x00\x11\x80\x04\x04";
 
+// Holds the second step of a script's writer until a client was answered, for so many turns, and tells whether that was too late.
+#[derive(Drop)]
+struct Held {
+    answered: AtomicBool,
+    late: AtomicBool,
+}
+
+impl Held {
+    fn new() -> Self {
+        Held {
+            answered: AtomicBool::new(false),
+            late: AtomicBool::new(false),
+        }
+    }
+}
+
+impl Turn for Held {
+    fn turn(&self, _who: u32, step: u64) {
+        if step != 1 {
+            return;
+        }
+        for _ in 0..100_000_000u32 {
+            if self.answered.load(Ordering::SeqCst) {
+                return;
+            }
+            thread::yield_now();
+        }
+        self.late.store(true, Ordering::SeqCst);
+    }
+}
+
 fn words_of(alloc: Global, line: &str) -> Result<Vec<String>, AllocError> {
     let mut words = Vec::new(alloc);
     for word in line.split(' ') {
@@ -61,20 +92,16 @@ fn words_of(alloc: Global, line: &str) -> Result<Vec<String>, AllocError> {
     Ok(words)
 }
 
-// Serves so many clients of a listener. Gives the output where that is done.
-fn serve_all<R: Threads + Wait + Clock + Send + Sync>(
+// The call alone, over four doors of a listener: whoever calls this has nothing to do with its contract.
+fn serve_four<R: Threads + Wait + Clock + Send + Sync>(
     rt: &R,
     alloc: Global,
     listener: &TcpListener,
-    line: &str,
-    steps: &[u8],
-    turn: &(impl Turn + Sync),
-) -> Result<Option<Vec<u8>>, AllocError> {
-    let words = words_of(alloc, line)?;
-    let mut script = SCRIPT.to_vec(alloc)?;
-    script.extend_from_slice(steps)?;
-    let mut input = SureSource::new(List::from_vec(script));
-    let mut out = MemSink::new(alloc, List::empty(alloc));
+    words: &[String],
+    input: &mut SureSource,
+    out: &mut MemSink,
+    turn: &Held,
+) -> u8 {
     let mut doors = [
         TcpDoor::new(listener, rt),
         TcpDoor::new(listener, rt),
@@ -82,33 +109,41 @@ fn serve_all<R: Threads + Wait + Clock + Send + Sync>(
         TcpDoor::new(listener, rt),
     ];
     let mut served = None;
-    match run_serve(
-        rt,
-        alloc,
-        &words,
-        &mut input,
-        &mut out,
-        &mut doors,
-        turn,
-        &mut served,
-    ) {
-        0 => Ok(Some(out.bytes().to_vec(alloc)?)),
-        _ => Ok(None),
-    }
+    run_serve(rt, alloc, words, input, out, &mut doors, turn, &mut served)
 }
 
-// Sends all requests, and reads all replies.
+// Serves so many clients of a listener. Gives the output, or none where that isn't done.
+fn serve_all<R: Threads + Wait + Clock + Send + Sync>(
+    rt: &R,
+    alloc: Global,
+    listener: &TcpListener,
+    line: &str,
+    steps: &[u8],
+    turn: &Held,
+) -> Result<Vec<u8>, AllocError> {
+    let words = words_of(alloc, line)?;
+    let mut script = SCRIPT.to_vec(alloc)?;
+    script.extend_from_slice(steps)?;
+    let mut input = SureSource::new(List::from_vec(script));
+    let mut out = MemSink::new(alloc, List::empty(alloc));
+    if serve_four(rt, alloc, listener, &words, &mut input, &mut out, turn) != 0 {
+        return Ok(Vec::new(alloc));
+    }
+    Ok(out.bytes().to_vec(alloc)?)
+}
+
+// Sends all requests, and tells whether all replies come.
 fn ask_all<R: Net<Stream = TcpStream>>(
     rt: &R,
     alloc: Global,
     address: SocketAddr,
-) -> io::Result<Vec<u8>> {
+) -> io::Result<bool> {
     let mut client = TcpStream::connect(rt, address)?;
     client.write_all(ASKED)?;
     client.shutdown(Shutdown::Write)?;
     let mut told = Vec::new(alloc);
     client.read_to_end(&mut told)?;
-    Ok(told)
+    Ok(told.get(..28) == Some(FRONT) && told.get(36..) == Some(REST))
 }
 
 // Whether 48 bytes come in at most 1,000,000 tries.
@@ -140,93 +175,70 @@ fn ask_beside<R: Net<Stream = TcpStream>>(rt: &R, address: SocketAddr) -> io::Re
     Ok(is_answered(&mut second))
 }
 
+// Asks by one client or by two, and tells the turn when it was answered.
+fn ask<R: Net<Stream = TcpStream>>(
+    rt: &R,
+    alloc: Global,
+    address: SocketAddr,
+    are_two: bool,
+    held: &Held,
+) -> io::Result<bool> {
+    let is_told = if are_two {
+        ask_beside(rt, address)
+    } else {
+        ask_all(rt, alloc, address)
+    };
+    held.answered.store(true, Ordering::SeqCst);
+    is_told
+}
+
+// Serves one client or two, beside the steps of a script: whether they were answered, and whether the output says so.
+fn serve_to<R>(
+    rt: &R,
+    alloc: Global,
+    are_two: bool,
+    steps: &[u8],
+    held: &Held,
+) -> Result<(bool, bool), Fail>
+where
+    R: Net<Listener = TcpListener, Stream = TcpStream> + Threads + Wait + Clock + Send + Sync,
+{
+    let listener = TcpListener::bind(rt, "127.0.0.1:0")?;
+    let address = listener.local_addr()?;
+    let (line, served) = if are_two {
+        ("serve 2", b"served 2\n".as_slice())
+    } else {
+        ("serve 1", b"served 1\n".as_slice())
+    };
+    let (is_told, output) = thread::join(
+        rt,
+        || ask(rt, alloc, address, are_two, held),
+        || serve_all(rt, alloc, &listener, line, steps, held),
+    );
+    let output = output?;
+    Ok((is_told?, output.as_slice() == served))
+}
+
 #[test]
 fn a_client_is_answered(rt: HostRuntime) -> Result<(), Fail> {
-    let alloc = rt.alloc();
-    let listener = TcpListener::bind(&rt, "127.0.0.1:0")?;
-    let address = listener.local_addr()?;
-    let (told, output) = thread::join(
-        &rt,
-        || ask_all(&rt, alloc, address),
-        || serve_all(&rt, alloc, &listener, "serve 1", b"", &Free),
-    );
-    let told = told?;
-    assert_eq!(rt; told.get(..28), Some(FRONT));
-    assert_eq!(rt; told.get(36..), Some(REST));
-    let output = output?;
-    assert_eq!(rt; output.as_deref(), Some(b"served 1\n".as_slice()));
+    let ended = serve_to(&rt, rt.alloc(), false, b"", &Held::new())?;
+    assert_eq!(rt; ended, (true, true));
     Ok(())
 }
 
 #[test]
 fn two_sessions(rt: HostRuntime) -> Result<(), Fail> {
-    let alloc = rt.alloc();
-    let listener = TcpListener::bind(&rt, "127.0.0.1:0")?;
-    let address = listener.local_addr()?;
-    let (answered, output) = thread::join(
-        &rt,
-        || ask_beside(&rt, address),
-        || serve_all(&rt, alloc, &listener, "serve 2", b"", &Free),
-    );
-    assert_eq!(rt; answered?, true);
-    let output = output?;
-    assert_eq!(rt; output.as_deref(), Some(b"served 2\n".as_slice()));
+    let ended = serve_to(&rt, rt.alloc(), true, b"", &Held::new())?;
+    assert_eq!(rt; ended, (true, true));
     Ok(())
-}
-
-// Holds the second step of a script's writer until a client was answered, for so many turns, and tells whether that was too late.
-#[derive(Drop)]
-struct Held {
-    answered: AtomicBool,
-    late: AtomicBool,
-}
-
-impl Turn for Held {
-    fn turn(&self, _who: u32, step: u64) {
-        if step != 1 {
-            return;
-        }
-        for _ in 0..100_000_000u32 {
-            if self.answered.load(Ordering::SeqCst) {
-                return;
-            }
-            thread::yield_now();
-        }
-        self.late.store(true, Ordering::SeqCst);
-    }
-}
-
-// A client that tells when it was answered.
-fn ask_and_tell<R: Net<Stream = TcpStream>>(
-    rt: &R,
-    alloc: Global,
-    address: SocketAddr,
-    held: &Held,
-) -> io::Result<Vec<u8>> {
-    let told = ask_all(rt, alloc, address);
-    held.answered.store(true, Ordering::SeqCst);
-    told
 }
 
 // A client is answered while a writer of the script is between two of its steps: before it adds.
 #[test]
 fn served_live(rt: HostRuntime) -> Result<(), Fail> {
-    let alloc = rt.alloc();
-    let listener = TcpListener::bind(&rt, "127.0.0.1:0")?;
-    let address = listener.local_addr()?;
-    let held = Held {
-        answered: AtomicBool::new(false),
-        late: AtomicBool::new(false),
-    };
-    let (told, output) = thread::join(
-        &rt,
-        || ask_and_tell(&rt, alloc, address, &held),
-        || serve_all(&rt, alloc, &listener, "serve 1", STEPS, &held),
-    );
-    let told = told?;
-    assert_eq!(rt; told.get(36..), Some(REST));
-    let output = output?;
-    assert_eq!(rt; output.as_deref(), Some(b"served 1\n".as_slice()));
+    let held = Held::new();
+    let ended = serve_to(&rt, rt.alloc(), false, STEPS, &held)?;
+    assert_eq!(rt; ended, (true, true));
     assert_eq!(rt; held.late.load(Ordering::SeqCst), false);
     Ok(())
 }

@@ -1,7 +1,6 @@
 //! What a recording tells on a terminal.
-use crate::recordings::{STEPS, input_of, words_of};
 use pcp_base::List;
-use pcp_outside::{MemDisk, MemSink};
+use pcp_outside::{MemDisk, MemSink, SureSource};
 use pcp_recording::record_samples;
 use std::alloc::{Alloc, AllocError, Global};
 use std::fmt::Display;
@@ -11,6 +10,11 @@ use std::sync::atomic::{AtomicBool, AtomicU64, Ordering};
 use std::test::Fail;
 use std::thread::Threads;
 use std::time::Clock;
+
+// A writer adds to a counter.
+const SCRIPT: &[u8] =
+    b"image A\nmmv 1 5 0 0 1\nmetric hits 2 i32 counter 00100000 - - -\nvalue 2 - 7\nend\n\
+region app A 32 2\nlog mandatory on every 1 sec { mmv }\nstart\nattach app 0\nadd app 0 2 - 5\ndetach app 0\n";
 
 // Before the second of two samples the three labels, a description and the result of the first one stand in the files.
 const LINES: [&str; 2] = [
@@ -52,28 +56,58 @@ impl IsTerminal for Screen {
     }
 }
 
+impl Screen {
+    fn new(alloc: Global, is_terminal: bool) -> Self {
+        Screen {
+            alloc,
+            is_terminal,
+            lines: AtomicU64::new(0),
+            differs: AtomicBool::new(false),
+        }
+    }
+
+    // How many lines were told; `None` where one isn't as it must be.
+    fn count(&self) -> Option<u64> {
+        if self.differs.load(Ordering::SeqCst) {
+            return None;
+        }
+        Some(self.lines.load(Ordering::SeqCst))
+    }
+}
+
+fn words_of(alloc: Global, line: &str) -> Result<Vec<String>, AllocError> {
+    let mut words = Vec::new(alloc);
+    for word in line.split(' ') {
+        words.push(word.to_string(alloc)?)?;
+    }
+    Ok(words)
+}
+
+// Runs the words over the script and an empty disk, and gives the status.
+fn record<R: Threads + Wait + Clock + Alloc<A = Global> + Sync>(
+    rt: &R,
+    line: &str,
+    screen: &Screen,
+) -> Result<u8, AllocError> {
+    let alloc = rt.alloc();
+    let words = words_of(alloc, line)?;
+    let mut input = SureSource::new(List::from_vec(SCRIPT.to_vec(alloc)?));
+    let mut out = MemSink::new(alloc, List::empty(alloc));
+    let disk = MemDisk::new(alloc, List::empty(alloc));
+    Ok(record_samples(rt, &words, &mut input, &mut out, disk, screen))
+}
+
 // How many lines a recording tells that ends with 0; `None` where it doesn't, or a line isn't as it must be.
 fn lines_of<R: Threads + Wait + Clock + Alloc<A = Global> + Sync>(
     rt: &R,
     line: &str,
     is_terminal: bool,
 ) -> Result<Option<u64>, AllocError> {
-    let alloc = rt.alloc();
-    let words = words_of(alloc, line)?;
-    let mut input = input_of(alloc, STEPS)?;
-    let mut out = MemSink::new(alloc, List::empty(alloc));
-    let disk = MemDisk::new(alloc, List::empty(alloc));
-    let screen = Screen {
-        alloc,
-        is_terminal,
-        lines: AtomicU64::new(0),
-        differs: AtomicBool::new(false),
-    };
-    let status = record_samples(rt, &words, &mut input, &mut out, disk, &screen);
-    if status != 0 || screen.differs.load(Ordering::SeqCst) {
+    let screen = Screen::new(rt.alloc(), is_terminal);
+    if record(rt, line, &screen)? != 0 {
         return Ok(None);
     }
-    Ok(Some(screen.lines.load(Ordering::SeqCst)))
+    Ok(screen.count())
 }
 
 #[test]
