@@ -1,7 +1,7 @@
 -- Regions whose clusters and FILEs are right, in ascending cluster.
-use Rattle.std.proofs.Common.{◌≡◌, ℕ, zero, suc, ◌+◌, ◌<◌, ◌≤◌, Bool, true, false, ◌&&◌, ◌||◌, IsTrue, ◌↔◌, cond, nat_eq, List, [], ◌∷◌, ◌++◌, length, take, drop, get_or, All, Option, Some, None, append-nil, append_assoc, sym, refl, ap, ◌∙◌, subst, arith}
+use Rattle.std.proofs.Common.{◌≡◌, ℕ, zero, suc, ◌+◌, ◌<◌, ◌≤◌, Bool, true, false, ◌&&◌, ◌||◌, ◌↔◌, cond, nat_eq, List, [], ◌∷◌, ◌++◌, length, take, drop, get_or, All, Option, Some, None, append-nil, append_assoc, sym, refl, ap, ◌∙◌, subst, arith}
 use Rattle.std.specs.Prelude.{nat_lt, IsPermutation}
-use Rattle.std.specs.List.{list_all, list_any, sum_by}
+use Rattle.std.specs.List.{list_any, sum_by}
 use Rattle.std.specs.List.Sorted.{IsNonDecreasingBy}
 use Rattle.std.proofs.lemmas.Bool.{eqb-true, eqb-false, eq-eqb, ltb-false}
 use Rattle.std.proofs.lemmas.List.Elements.{All-nil, All-cons}
@@ -9,29 +9,10 @@ use Rattle.std.proofs.lemmas.List.Sorted.{All-permutation, length_permutation, s
 use Rattle.std.proofs.lemmas.List.Sums.{sum_by-append, sum_by-cons}
 use Rattle.std.proofs.lemmas.List.{drop_more, take_more, length-take-le}
 use Rattle.std.proofs.Math.Seq.{drop-length}
-use Rattle.pcp_base.specs.Names.{is_letter, is_name_byte, IsComponent}
 use Rattle.region_rule.specs.Views.{one_if}
-use Rattle.fetch_engine.specs.Servers.{spells_component, has_wrong_cluster, has_wrong_file, wrong_cluster, wrong_file, fault_of_file, fault_of_cluster, server_fault, RowsAscendFrom, IsServerOf}
+use Rattle.fetch_engine.specs.Servers.{has_wrong_cluster, has_wrong_file, wrong_cluster, wrong_file, fault_of_file, fault_of_cluster, server_fault, RowsAscendFrom, IsServerOf}
 use Rattle.fetch_engine.specs.declared.server.Mounted.{Mounted}
 use Rattle.fetch_engine.specs.declared.server.ServerFault.TheVariants.{TooMany, Cluster}
-
--- A component as a test
-
-both : (r a b : Bool) → (IsTrue r ↔ (IsTrue a × IsTrue b)) → r ≡ (a && b)
-both true true true h = refl
-both true true false h = sym (h.0 refl).1
-both true false b h = sym (h.0 refl).0
-both false true true h = h.1 (refl, refl)
-both false true false h = refl
-both false false b h = refl
-
-neither : (r : Bool) → (IsTrue r ↔ ⊥) → r ≡ false
-neither true h = absurd (h.0 refl)
-neither false h = refl
-
-pub is_spelled : (bytes : List ℕ) (r : Bool) → (IsTrue r ↔ IsComponent bytes) → r ≡ spells_component bytes
-is_spelled [] r h = neither r h
-is_spelled (b ∷ bs) r h = both r (is_letter b) (list_all is_name_byte bs) h
 
 -- Looking for the first wrong one
 

@@ -1,17 +1,11 @@
 -- Regions that are served under their clusters and FILEs, and the seat that has a pass of each.
-use Rattle.std.specs.Prelude.{◌≡◌, ℕ, ◌+◌, ◌<◌, ◌≤◌, Bool, false, ◌&&◌, ◌||◌, not, nat_lt, ◌==◌, if◌then◌else◌, List, [], ◌∷◌, ◌++◌, map, length, slice_get, slice_set, All, Option, Some, None, bytes_eq, IsPermutation}
-use Rattle.std.specs.List.{list_all, list_any}
-use Rattle.pcp_base.specs.Names.{is_letter, is_name_byte}
+use Rattle.std.specs.Prelude.{◌≡◌, ℕ, ◌+◌, ◌<◌, ◌≤◌, Bool, ◌&&◌, ◌||◌, not, nat_lt, ◌==◌, if◌then◌else◌, List, [], ◌∷◌, ◌++◌, map, length, slice_get, slice_set, All, Option, Some, None, bytes_eq, IsPermutation}
+use Rattle.std.specs.List.{list_any}
 use Rattle.region_core.specs.declared.mode.Mode.TheVariants.{Idle}
 use Rattle.region_rule.specs.Seats.{Token, IsSame, MadeRegion}
 use Rattle.fetch_engine.specs.declared.server.Mounted.{Mounted}
 use Rattle.fetch_engine.specs.declared.server.ServerFault.{ServerFault}
 use Rattle.fetch_engine.specs.declared.server.ServerFault.TheVariants.{TooMany, Cluster, File}
-
--- bytes are a component of a name
-abbrev pub spells_component : List ℕ → Bool
-spells_component [] = false
-spells_component (b ∷ bs) = is_letter b && list_all is_name_byte bs
 
 -- some region has this cluster, or this FILE
 abbrev pub has_cluster : List Mounted → ℕ → Bool

@@ -3,12 +3,13 @@ ghost use Rattle.std.specs.Prelude.{◌≡◌, [], length, slice_get, option_map
 ghost use Rattle.std.specs.Option.{option_copied};
 ghost use Rattle.std.specs.List.{list_any};
 ghost use Rattle.fetch_engine.specs.Kept.{AreUnknown};
-ghost use Rattle.fetch_engine.specs.Servers.{IsSeated, IsServerOf, has_cluster, has_file, has_wrong_cluster, has_wrong_file, server_fault, spells_component, wrong_cluster, wrong_file};
+ghost use Rattle.pcp_base.specs.Names.{spells_component};
+ghost use Rattle.fetch_engine.specs.Servers.{IsSeated, IsServerOf, has_cluster, has_file, has_wrong_cluster, has_wrong_file, server_fault, wrong_cluster, wrong_file};
 ghost use Rattle.fetch_engine.specs.declared.server.Mounted.{Mounted as Row};
 
 use crate::seat::Seat;
 use fetch_answers::Known;
-use pcp_base::{Duplicate, NoMemory, Text, is_component};
+use pcp_base::{Duplicate, NoMemory, Text, spells_component};
 use region_words::{Pass, Region};
 use std::alloc::Global;
 use std::marker::Model;
@@ -55,13 +56,6 @@ impl Model for Server {
     ghost view = { λ a. a.mounted.items };
 
     ghost invariant = { λ a. IsServer a.mounted.items };
-}
-
-#[tactic(auto, using(crate::proofs::Served::is_spelled))]
-fn spells_component(bytes: &[u8]) -> bool
-    ensures { result ≡ spells_component bytes.now }
-{
-    is_component(bytes)
 }
 
 fn has_cluster(rows: &[Mounted], cluster: u32) -> bool

@@ -15,6 +15,11 @@ abbrev pub IsComponent : List ℕ → Type 0
 IsComponent [] = ⊥
 IsComponent (b ∷ bs) = IsTrue (is_letter b) × IsTrue (list_all is_name_byte bs)
 
+-- the same as a test
+abbrev pub spells_component : List ℕ → Bool
+spells_component [] = false
+spells_component (b ∷ bs) = is_letter b && list_all is_name_byte bs
+
 -- each of them is a component
 abbrev pub AreComponents : List (List ℕ) → Type 0
 AreComponents [] = Unit {0}

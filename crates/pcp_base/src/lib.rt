@@ -26,7 +26,7 @@ pub use ids::{InDom, Pmid, Units};
 pub use kind::{Kind, Semantics};
 pub use list::{Bytes, List};
 pub use memory::NoMemory;
-pub use names::{is_component, is_name};
+pub use names::{is_component, is_name, spells_component};
 pub use result::{Body, Item, PmResult, ValueSet};
 pub use stamp::Stamp;
 pub use text::{Text, TextError, Zero};

@@ -1,7 +1,7 @@
 //! The rule for names of metrics (PCPIntro(1)).
 
 ghost use Rattle.std.specs.Prelude.{◌≡◌, ◌↔◌, IsTrue, true};
-ghost use Rattle.pcp_base.specs.Names.{is_letter, is_name_byte, IsComponent, IsName, spells};
+ghost use Rattle.pcp_base.specs.Names.{is_letter, is_name_byte, IsComponent, IsName, spells, spells_component};
 
 /// Whether a component may start with this byte.
 fn starts(byte: u8) -> bool
@@ -33,6 +33,14 @@ pub fn is_component(bytes: &[u8]) -> bool
         }
     }
     !is_first
+}
+
+/// The same, by a contract that says which truth value it is.
+#[tactic(auto, using(crate::proofs::Components::is_spelled))]
+pub fn spells_component(bytes: &[u8]) -> bool
+    ensures { result ≡ spells_component bytes.now }
+{
+    is_component(bytes)
 }
 
 /// Whether the bytes are a name of a metric: one or more components joined by `.` (PCPIntro(1)).

@@ -5,5 +5,6 @@ pub mod Devices
 pub mod Doors
 pub mod Memory
 pub mod Record
+pub mod Sides
 pub mod Streams
 pub mod Volumes

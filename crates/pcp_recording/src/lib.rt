@@ -7,7 +7,7 @@ ghost use Rattle.pcp_outside.specs.Causes.{Rose};
 ghost use Rattle.pm_recording.specs.declared.words.RecordWords.{RecordWords as Order};
 ghost use Rattle.pm_recording.specs.CommandWords.{asked_of};
 ghost use Rattle.pm_recording.specs.Facts.{ScriptFaultIsExact, UsageIsExact};
-ghost use Rattle.pm_words.specs.Sides.{source_side};
+ghost use Rattle.pcp_outside.specs.Sides.{source_side};
 
 mod progress;
 

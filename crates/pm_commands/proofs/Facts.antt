@@ -29,7 +29,8 @@ use Rattle.pm_runs.specs.Regions.{HasRegions}
 use Rattle.pm_words.specs.Inputs.{input_limit, refusal_of}
 use Rattle.pm_tasks.specs.Meanings.{meaning}
 use Rattle.pm_words.specs.Refusals.{status_of, reading_status, input_status, script_status, files_status, run_status}
-use Rattle.pm_words.specs.Sides.{SourceSide, SinkSide, DiskSide, files_found, Untouched}
+use Rattle.pcp_outside.specs.Sides.{SourceSide, SinkSide}
+use Rattle.pm_words.specs.Sides.{DiskSide, files_found, Untouched}
 use Rattle.pm_commands.proofs.Lookings.{one_reason, wrapped_first}
 use Rattle.pm_commands.proofs.Nothing.{never_done, nothing_first}
 

@@ -22,7 +22,8 @@ use Rattle.pm_words.specs.Serving.{Left, StopCause, HasServed, Serves, IsNever, 
 use Rattle.pm_words.specs.Meaning.{Meaning}
 use Rattle.pm_tasks.specs.Meanings.{meaning}
 use Rattle.pm_words.specs.Refusals.{files_status, numbered_line_of, run_status}
-use Rattle.pm_words.specs.Sides.{SinkSide, DiskSide, Found, files_found, Untouched, Leaves}
+use Rattle.pcp_outside.specs.Sides.{SinkSide}
+use Rattle.pm_words.specs.Sides.{DiskSide, Found, files_found, Untouched, Leaves}
 use Rattle.pm_words.specs.Streams.{IsSent}
 use Rattle.pm_tasks.specs.commands.at as at
 use Rattle.pm_tasks.specs.commands.dump as dump

@@ -7,7 +7,8 @@ use Rattle.pm_tasks.specs.Causes.{Cause}
 use Rattle.pm_tasks.specs.Ends.{Ends, HasBegun}
 use Rattle.pm_tasks.specs.Meanings.{meaning}
 use Rattle.pm_words.specs.Refusals.{numbered_line_of}
-use Rattle.pm_words.specs.Sides.{SourceSide, SinkSide, DiskSide}
+use Rattle.pcp_outside.specs.Sides.{SourceSide, SinkSide}
+use Rattle.pm_words.specs.Sides.{DiskSide}
 use Rattle.pm_commands.proofs.Lookings.{begins_untold, untold_left}
 use Rattle.pm_tasks.proofs.Served.{took_some}
 

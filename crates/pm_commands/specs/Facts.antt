@@ -19,7 +19,8 @@ use Rattle.pcp_base.specs.declared.file.FileId.{FileId}
 use Rattle.pm_words.specs.declared.stage.RunRefusal.{RunRefusal}
 use Rattle.pm_words.specs.declared.stage.RunRefusal.TheVariants.{Condition, NotLater, Changed}
 use Rattle.pm_words.specs.Refusals.{input_status, files_status, run_status}
-use Rattle.pm_words.specs.Sides.{SourceSide, SinkSide, DiskSide, files_found, Untouched}
+use Rattle.pcp_outside.specs.Sides.{SourceSide, SinkSide}
+use Rattle.pm_words.specs.Sides.{DiskSide, files_found, Untouched}
 
 -- the words are a command that has nothing to do with the disk
 abbrev pub IsAside : List (List ℕ) → Type 0

@@ -11,7 +11,8 @@ ghost use Rattle.pm_tasks.specs.Meanings.{meaning};
 ghost use Rattle.pm_tasks.specs.Regions.{AsksRun, CommandRan, RunsScript, WordsRan};
 ghost use Rattle.pm_runs.specs.Regions.{HasRegions};
 ghost use Rattle.pm_tasks.specs.Since.{CommandSince, WordsSince};
-ghost use Rattle.pm_words.specs.Sides.{source_side, sink_side, disk_side, IsUnread, Leaves};
+ghost use Rattle.pcp_outside.specs.Sides.{source_side, sink_side};
+ghost use Rattle.pm_words.specs.Sides.{disk_side, IsUnread, Leaves};
 ghost use Rattle.pm_tasks.specs.Takes.{MayTake, TakesLittle};
 
 use pcp_base::Bytes;

@@ -13,7 +13,7 @@ use Rattle.script_passes.specs.declared.opening.Opened.{Opened}
 use Rattle.script_records.specs.Beside.{Beside}
 use Rattle.script_runs.specs.declared.ending.Ending.{Ending}
 use Rattle.script_runs.specs.declared.ending.Ending.TheVariants as ends
-use Rattle.pm_words.specs.Sides.{SourceSide, SinkSide}
+use Rattle.pcp_outside.specs.Sides.{SourceSide, SinkSide}
 use Rattle.pm_recording.specs.Ends.{Ends, Ran}
 use Rattle.pm_recording.specs.Exact.{LastIsShown}
 use Rattle.pm_recording.specs.Recording.{RunSide}

@@ -16,7 +16,7 @@ use Rattle.script_runs.specs.declared.ending.LimitKind.{LimitKind}
 use Rattle.script_samples.specs.Sampling.{HasEnded}
 use Rattle.pm_words.specs.Inputs.{input_limit}
 use Rattle.pm_words.specs.Refusals.{input_status, script_status, status_of}
-use Rattle.pm_words.specs.Sides.{SourceSide, SinkSide}
+use Rattle.pcp_outside.specs.Sides.{SourceSide, SinkSide}
 use Rattle.pm_words.specs.declared.refusal.Refusal.{Refusal}
 use Rattle.pm_words.specs.declared.refusal.Refusal.TheVariants.{Words, Reading, Input, Disk, NoMemory}
 use Rattle.pm_words.specs.declared.stage.ReadRefusal.TheVariants.{ReadFault, InputLimit}

@@ -13,7 +13,8 @@ use Rattle.script_runs.specs.declared.ending.Ending.{Ending}
 use Rattle.script_runs.specs.declared.ending.Ending.TheVariants as ends
 use Rattle.script_samples.specs.Shown.{items_of_results}
 use Rattle.pm_words.specs.Refusals.{status_of}
-use Rattle.pm_words.specs.Sides.{IsUnread, Leaves, SourceSide, SinkSide}
+use Rattle.pcp_outside.specs.Sides.{SourceSide, SinkSide}
+use Rattle.pm_words.specs.Sides.{IsUnread, Leaves}
 use Rattle.pm_words.specs.declared.refusal.Refusal.{Refusal}
 use Rattle.pm_words.specs.declared.refusal.Refusal.TheVariants.{Disk}
 use Rattle.pm_words.specs.declared.stage.DiskRefusal.TheVariants.{DiskFault}

@@ -9,7 +9,7 @@ use Rattle.script_runs.specs.declared.ending.Ending.TheVariants as ends
 use Rattle.run_script.specs.declared.script.Script.{Script}
 use Rattle.pm_words.specs.Reading.{TookSome}
 use Rattle.pm_words.specs.Refusals.{refusal_of_stage}
-use Rattle.pm_words.specs.Sides.{SourceSide}
+use Rattle.pcp_outside.specs.Sides.{SourceSide}
 use Rattle.pm_words.specs.declared.refusal.Refusal.{Refusal}
 use Rattle.pm_words.specs.declared.refusal.Refusal.TheVariants.{Words, Reading, Input, Disk, NoMemory}
 use Rattle.pm_words.specs.declared.stage.DiskRefusal.TheVariants.{Files, DiskFault}

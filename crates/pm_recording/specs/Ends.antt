@@ -13,7 +13,8 @@ use Rattle.script_runs.specs.declared.ending.Ending.TheVariants as ends
 use Rattle.script_samples.specs.Shown.{items_of_results}
 use Rattle.pm_words.specs.Reading.{WasRead, ReadCause, TookSome}
 use Rattle.pm_words.specs.Refusals.{Wrote}
-use Rattle.pm_words.specs.Sides.{SourceSide, SinkSide, NotAsked}
+use Rattle.pcp_outside.specs.Sides.{SourceSide, SinkSide}
+use Rattle.pm_words.specs.Sides.{NotAsked}
 use Rattle.pm_words.specs.declared.refusal.Refusal.{Refusal}
 use Rattle.pm_words.specs.declared.refusal.Refusal.TheVariants.{Words, Reading, Input, Disk, NoMemory}
 use Rattle.pm_words.specs.declared.stage.InputRefusal.TheVariants.{Script as Scripted}

@@ -4,7 +4,7 @@ use Rattle.script_passes.specs.declared.opening.Opened.{Opened}
 use Rattle.script_runs.specs.declared.ending.Ending.TheVariants as ends
 use Rattle.script_records.specs.Beside.{Beside}
 use Rattle.record_laws.specs.Closing.{LastIsExact}
-use Rattle.pm_words.specs.Sides.{SourceSide}
+use Rattle.pcp_outside.specs.Sides.{SourceSide}
 use Rattle.pm_recording.specs.Ends.{Ran}
 use Rattle.pm_recording.specs.Recording.{RunSide}
 

@@ -18,7 +18,7 @@ use Rattle.script_samples.specs.Sampling.{HasEnded}
 use Rattle.script_samples.specs.Shown.{items_of_results}
 use Rattle.pm_words.specs.Inputs.{input_limit}
 use Rattle.pm_words.specs.Refusals.{script_status}
-use Rattle.pm_words.specs.Sides.{SourceSide, SinkSide}
+use Rattle.pcp_outside.specs.Sides.{SourceSide, SinkSide}
 use Rattle.pm_recording.specs.declared.words.RecordWords.{RecordWords}
 use Rattle.pm_recording.specs.CommandWords.{asked_of}
 use Rattle.pm_recording.specs.Ends.{IsAsked, Finds, Ran}

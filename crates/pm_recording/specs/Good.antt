@@ -14,7 +14,7 @@ use Rattle.script_runs.specs.declared.ending.Ending.TheVariants as ends
 use Rattle.script_runs.specs.declared.ending.LimitKind.{LimitKind}
 use Rattle.script_records.specs.Stopping.{AsksTooMany, IsTurnedAway}
 use Rattle.pm_words.specs.Inputs.{input_limit}
-use Rattle.pm_words.specs.Sides.{SourceSide, SinkSide}
+use Rattle.pcp_outside.specs.Sides.{SourceSide, SinkSide}
 use Rattle.pm_recording.specs.Ends.{IsAsked, Ran}
 use Rattle.pm_recording.specs.Recording.{RunSide}
 use Rattle.pm_recording.specs.Scripts.{script_recorded}

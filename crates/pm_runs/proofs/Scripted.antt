@@ -32,7 +32,8 @@ use Rattle.pm_words.specs.declared.refusal.Refusal.TheVariants.{Words, Reading, 
 use Rattle.pm_words.specs.Inputs.{refusal_of}
 use Rattle.pm_words.specs.Meaning.{Meaning}
 use Rattle.pm_words.specs.Refusals.{NoClock, ending_refusal, files_status, numbered_line_of, run_status, refusal_of_stage}
-use Rattle.pm_words.specs.Sides.{DiskSide, Found, Leaves, SinkSide, Untouched, disk_side, files_found}
+use Rattle.pcp_outside.specs.Sides.{SinkSide}
+use Rattle.pm_words.specs.Sides.{DiskSide, Found, Leaves, Untouched, disk_side, files_found}
 use Rattle.pm_words.specs.Streams.{IsSent}
 use Rattle.pm_words.specs.Serving.{StopCause, HasServed, MayLeave, Serves, HasRecovered}
 use Rattle.pm_runs.specs.Regions.{RanRegions, pair_of}

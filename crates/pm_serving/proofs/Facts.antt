@@ -12,7 +12,7 @@ use Rattle.run_script.specs.declared.fault.ScriptLineFault.TheVariants as script
 use Rattle.run_script.specs.declared.script.Script.{Script}
 use Rattle.pm_words.specs.Inputs.{input_limit}
 use Rattle.pm_words.specs.Refusals.{input_status, script_status}
-use Rattle.pm_words.specs.Sides.{SourceSide, SinkSide}
+use Rattle.pcp_outside.specs.Sides.{SourceSide, SinkSide}
 use Rattle.pm_words.specs.declared.stage.InputRefusal.{InputRefusal}
 use Rattle.pm_words.specs.declared.stage.InputRefusal.TheVariants.{Script as Scripted}
 use Rattle.pm_words.specs.declared.stage.ReadRefusal.TheVariants.{ReadFault, InputLimit}

@@ -12,7 +12,7 @@ use Rattle.run_script.specs.declared.script.Script.{Script}
 use Rattle.script_passes.specs.Openings.{IsOpened}
 use Rattle.script_writers.specs.Written.{HaveWritten}
 use Rattle.pm_words.specs.Refusals.{refusal_of_stage}
-use Rattle.pm_words.specs.Sides.{SourceSide}
+use Rattle.pcp_outside.specs.Sides.{SourceSide}
 use Rattle.pm_words.specs.declared.refusal.Refusal.TheVariants.{Words, Reading, Input, Disk, NoMemory}
 use Rattle.pm_words.specs.declared.stage.InputRefusal.{InputRefusal}
 use Rattle.pm_words.specs.declared.stage.StageFault.{StageFault}

@@ -7,7 +7,8 @@ use Rattle.pmcd_server.specs.declared.fault.ServeFault.TheVariants as faults
 use Rattle.run_script.specs.declared.fault.ScriptFault.{ScriptFault}
 use Rattle.run_script.specs.declared.script.Script.{Script}
 use Rattle.pm_words.specs.Refusals.{Wrote}
-use Rattle.pm_words.specs.Sides.{SourceSide, SinkSide, NotAsked}
+use Rattle.pcp_outside.specs.Sides.{SourceSide, SinkSide}
+use Rattle.pm_words.specs.Sides.{NotAsked}
 use Rattle.pm_words.specs.declared.refusal.Refusal.{Refusal}
 use Rattle.pm_words.specs.declared.refusal.Refusal.TheVariants.{Words, Reading, Input, Disk, NoMemory}
 use Rattle.pm_words.specs.declared.stage.InputRefusal.TheVariants.{Script as Scripted}

@@ -20,7 +20,8 @@ use Rattle.pm_words.specs.declared.refusal.Refusal.{Refusal}
 use Rattle.pm_tasks.specs.Archives.{IsLoaded, TurnedAway}
 use Rattle.pm_words.specs.Refusals.{reader_refusal}
 use Rattle.pcp_outside.specs.declared.streams.Sink.{Ghosts as SinkGhosts}
-use Rattle.pm_words.specs.Sides.{SinkSide, DiskSide, Found, sink_side, disk_side, files_found}
+use Rattle.pcp_outside.specs.Sides.{SinkSide, sink_side}
+use Rattle.pm_words.specs.Sides.{DiskSide, Found, disk_side, files_found}
 use Rattle.pm_words.specs.Streams.{IsFront, IsSent, Turns}
 use Rattle.pm_tasks.specs.commands.dump.{label_line, HasItems, BeginsWith, HasNext, BadNext, HasPut, HasPutSome, HasSaid, HasStopped, BadRecord}
 use Rattle.pm_tasks.proofs.Asking.{turned_on}

@@ -20,7 +20,8 @@ use Rattle.pm_tasks.specs.Ends.{HasRun, HasBegun, Runs, Told, Ends, MayBeLeft}
 use Rattle.pm_words.specs.Inputs.{input_limit}
 use Rattle.pm_tasks.specs.Meanings.{meaning}
 use Rattle.pm_words.specs.Refusals.{status_of, line_of, refusal_of_stage}
-use Rattle.pm_words.specs.Sides.{SourceSide, SinkSide, DiskSide, NotAsked, Untouched, sink_side}
+use Rattle.pcp_outside.specs.Sides.{SourceSide, SinkSide, sink_side}
+use Rattle.pm_words.specs.Sides.{DiskSide, NotAsked, Untouched}
 use Rattle.pm_words.specs.Streams.{IsSent, Finishes}
 use Rattle.pm_words.proofs.Sending.{front_taken, sent_on}
 

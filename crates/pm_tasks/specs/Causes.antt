@@ -9,7 +9,8 @@ use Rattle.pm_words.specs.CommandLine.{command_of}
 use Rattle.pm_words.specs.Inputs.{refusal_of}
 use Rattle.pm_tasks.specs.Meanings.{meaning}
 use Rattle.pm_words.specs.Reading.{ReadCause, TookSome, WasRead}
-use Rattle.pm_words.specs.Sides.{SourceSide, DiskSide, NotAsked, Untouched}
+use Rattle.pcp_outside.specs.Sides.{SourceSide}
+use Rattle.pm_words.specs.Sides.{DiskSide, NotAsked, Untouched}
 use Rattle.pm_words.specs.Serving.{DiskCause, Left}
 
 -- what a command got of the source: a whole input, or nothing where it takes none

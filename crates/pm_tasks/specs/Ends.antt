@@ -7,7 +7,8 @@ use Rattle.pm_words.specs.declared.refusal.Refusal.TheVariants.{Words, Reading, 
 use Rattle.pm_tasks.specs.Causes.{Asks, Cause}
 use Rattle.pm_tasks.specs.Meanings.{meaning}
 use Rattle.pm_words.specs.Refusals.{status_of, line_of, Wrote}
-use Rattle.pm_words.specs.Sides.{SourceSide, SinkSide, DiskSide}
+use Rattle.pcp_outside.specs.Sides.{SourceSide, SinkSide}
+use Rattle.pm_words.specs.Sides.{DiskSide}
 use Rattle.pm_words.specs.Streams.{IsSent}
 use Rattle.pm_words.specs.Serving.{HasServed}
 

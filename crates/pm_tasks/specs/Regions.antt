@@ -4,7 +4,8 @@ use Rattle.script_passes.specs.declared.opening.Opened.{Opened}
 use Rattle.pm_words.specs.declared.words.Command.{Command}
 use Rattle.pm_words.specs.declared.words.Command.TheVariants.{Once, Replay, Make, MmvMake, MmvDump, Dump, Info, Recover, At, Range, Value}
 use Rattle.pm_words.specs.CommandLine.{command_of}
-use Rattle.pm_words.specs.Sides.{SourceSide, DiskSide}
+use Rattle.pcp_outside.specs.Sides.{SourceSide}
+use Rattle.pm_words.specs.Sides.{DiskSide}
 use Rattle.pm_runs.specs.Regions.{RanRegions}
 use Rattle.pm_runs.specs.commands.make.{making}
 use Rattle.pm_runs.specs.commands.once.{logging}

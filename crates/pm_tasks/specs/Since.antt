@@ -3,7 +3,7 @@ use Rattle.std.specs.Prelude.{ℕ, List}
 use Rattle.pcp_outside.specs.declared.disk.Disk.{Ghosts as DiskGhosts}
 use Rattle.pm_words.specs.declared.words.Command.{Command}
 use Rattle.pm_words.specs.declared.words.Command.TheVariants.{Once, Replay, Make, MmvMake, MmvDump, Dump, Info, Recover, At, Range, Value}
-use Rattle.pm_words.specs.Sides.{SourceSide}
+use Rattle.pcp_outside.specs.Sides.{SourceSide}
 use Rattle.pm_runs.specs.Scripts.{ScriptSince}
 use Rattle.pm_runs.specs.commands.make.{making}
 use Rattle.pm_runs.specs.commands.once.{logging}

@@ -3,7 +3,7 @@ ghost use Rattle.std.specs.Prelude.{◌≡◌, IfOk, IfErr, IsSome, None, is_som
 ghost use Rattle.pm_tasks.specs.Causes.{Got};
 ghost use Rattle.pm_tasks.specs.Meanings.{meaning};
 ghost use Rattle.pm_words.specs.Reading.{UnreadCause};
-ghost use Rattle.pm_words.specs.Sides.{source_side};
+ghost use Rattle.pcp_outside.specs.Sides.{source_side};
 
 use pcp_base::{Bytes, List};
 use pcp_outside::Source;

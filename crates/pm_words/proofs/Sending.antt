@@ -8,7 +8,8 @@ use Rattle.pm_words.specs.declared.refusal.Refusal.{Refusal}
 use Rattle.pm_words.specs.Serving.{StopCause, HasServed, Serves}
 use Rattle.pm_words.specs.Meaning.{Meaning}
 use Rattle.pm_words.specs.Refusals.{Wrote}
-use Rattle.pm_words.specs.Sides.{SinkSide, DiskSide, sink_side}
+use Rattle.pcp_outside.specs.Sides.{SinkSide, sink_side}
+use Rattle.pm_words.specs.Sides.{DiskSide}
 use Rattle.pm_words.specs.Streams.{IsFront, IsSent, Sends}
 
 -- a count that rose, counted from before, or up to a later moment

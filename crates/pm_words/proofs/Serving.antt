@@ -9,7 +9,8 @@ use Rattle.pm_words.specs.Inputs.{Refuses}
 use Rattle.pm_words.specs.Meaning.{Meaning}
 use Rattle.pm_words.specs.Refusals.{refusal_of_stage}
 use Rattle.pm_words.specs.Serving.{Left, Serves, StopCause}
-use Rattle.pm_words.specs.Sides.{SinkSide, DiskSide, Untouched}
+use Rattle.pcp_outside.specs.Sides.{SinkSide}
+use Rattle.pm_words.specs.Sides.{DiskSide, Untouched}
 use Rattle.pm_words.specs.Streams.{IsSent}
 
 -- a disk that holds what it held is settled if it was

@@ -2,7 +2,7 @@
 use Rattle.std.specs.Prelude.{◌≡◌, ℕ, ◌<◌, ◌≤◌, List, [], length, drop}
 use Rattle.pcp_outside.specs.Causes.{Rose}
 use Rattle.pm_words.specs.Inputs.{input_limit}
-use Rattle.pm_words.specs.Sides.{SourceSide}
+use Rattle.pcp_outside.specs.Sides.{SourceSide}
 use Rattle.pm_words.specs.declared.stage.ReadRefusal.{ReadRefusal}
 use Rattle.pm_words.specs.declared.stage.ReadRefusal.TheVariants.{ReadFault, InputLimit}
 use Rattle.pm_words.specs.declared.stage.StageFault.{StageFault}

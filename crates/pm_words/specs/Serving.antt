@@ -1,5 +1,5 @@
 -- What a command that got its input makes of it and of the disk: it is done, or stopped for a reason; and what it writes then.
-use Rattle.std.specs.Prelude.{◌≡◌, ◌⊎◌, ℕ, Bool, true, List, [], ◌++◌, Some, None, Result, Ok, Err, IfOk, IfErr}
+use Rattle.std.specs.Prelude.{◌≡◌, ◌⊎◌, ℕ, Bool, true, List, ◌++◌, Some, None, Result, Ok, Err, IfOk, IfErr}
 use Rattle.pcp_model.specs.Disk.{Files, Holdings, CrashImage, IsSettled}
 use Rattle.pcp_outside.specs.Causes.{Rose}
 use Rattle.pm_words.specs.declared.stage.FilesRefusal.{FilesRefusal}
@@ -11,7 +11,8 @@ use Rattle.pm_words.specs.declared.refusal.Refusal.TheVariants.{Words, Reading, 
 use Rattle.pm_words.specs.Inputs.{refusal_of}
 use Rattle.pm_words.specs.Meaning.{Meaning}
 use Rattle.pm_words.specs.Refusals.{files_status}
-use Rattle.pm_words.specs.Sides.{SinkSide, DiskSide, files_found, Untouched}
+use Rattle.pcp_outside.specs.Sides.{SinkSide}
+use Rattle.pm_words.specs.Sides.{DiskSide, files_found, Untouched}
 use Rattle.pm_words.specs.Streams.{IsSent}
 
 -- What is left of the disk where a command is stopped with a status: what it held, or what the command says of a stop

@@ -1,34 +1,11 @@
 -- What a call found of each object outside, and left of it. Each side is named once, by its trait's ghosts.
-use Rattle.std.specs.Prelude.{◌≡◌, ℕ, List, Option}
+use Rattle.std.specs.Prelude.{◌≡◌, ℕ, Option}
 use Rattle.pcp_base.specs.declared.file.FileId.{FileId}
 use Rattle.pcp_model.specs.Archive.{Readable}
 use Rattle.pcp_model.specs.Disk.{Files, Holdings, contents_of}
-use Rattle.pcp_outside.specs.declared.streams.Source.{Ghosts as SourceGhosts}
-use Rattle.pcp_outside.specs.declared.streams.Sink.{Ghosts as SinkGhosts}
+use Rattle.pcp_outside.specs.Sides.{SourceSide}
 use Rattle.pcp_outside.specs.declared.disk.Disk.{Ghosts as DiskGhosts}
 use Rattle.pcp_outside.specs.Devices.{LeavesOnly}
-
--- of a source: what was left of it before and after, where it tells; and its count of faults
-pub record SourceSide : Type 1 where
-  pub tells : Type 0
-  pub left : List ℕ
-  pub after : List ℕ
-  pub faults : ℕ
-  pub faults_after : ℕ
-
-abbrev pub source_side : {I : Type 0} → SourceGhosts I → I → I → SourceSide
-source_side g old new = record { tells = g.tells; left = g.left old; after = g.left new; faults = g.faults old; faults_after = g.faults new }
-
--- of a sink: what was written before and after
-pub record SinkSide : Type 1 where
-  pub tells : Type 0
-  pub written : List ℕ
-  pub after : List ℕ
-  pub faults : ℕ
-  pub faults_after : ℕ
-
-abbrev pub sink_side : {O : Type 0} → SinkGhosts O → O → O → SinkSide
-sink_side g old new = record { tells = g.tells; written = g.written old; after = g.written new; faults = g.faults old; faults_after = g.faults new }
 
 -- of a disk: what its files held before and after, and the first that stood wrapped before
 pub record DiskSide : Type 1 where

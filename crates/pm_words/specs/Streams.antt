@@ -1,7 +1,7 @@
 -- Texts that go to a sink in pieces: what of them is written, also where the sink fails on the way.
 use Rattle.std.specs.Prelude.{◌≡◌, ℕ, ◌≤◌, if◌then◌else◌, Bool, true, false, List, ◌++◌}
 use Rattle.pcp_outside.specs.Causes.{Rose}
-use Rattle.pm_words.specs.Sides.{SinkSide}
+use Rattle.pcp_outside.specs.Sides.{SinkSide}
 
 -- some bytes begin a text
 abbrev pub IsFront : List ℕ → List ℕ → Type 0

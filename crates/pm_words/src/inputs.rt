@@ -1,7 +1,7 @@
 //! The whole input, read to its end before anything is made of it.
 ghost use Rattle.std.specs.Prelude.{IfOk, IfErr};
 ghost use Rattle.pm_words.specs.Reading.{WasRead, UnreadCause};
-ghost use Rattle.pm_words.specs.Sides.{source_side};
+ghost use Rattle.pcp_outside.specs.Sides.{source_side};
 
 use crate::stage::{ReadRefusal, StageFault};
 use pcp_base::Bytes;

@@ -1,5 +1,5 @@
 //! How what a command writes goes to the sink.
-ghost use Rattle.pm_words.specs.Sides.{sink_side};
+ghost use Rattle.pcp_outside.specs.Sides.{sink_side};
 ghost use Rattle.pm_words.specs.Streams.{Sends, Finishes};
 
 use pcp_outside::{Sink, write_all};

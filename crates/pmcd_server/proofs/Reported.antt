@@ -8,7 +8,7 @@ use Rattle.pcp_outside.specs.declared.doors.SessionEnd.TheVariants as ends
 use Rattle.fetch_engine.specs.Servers.{Seated}
 use Rattle.pmcd_session.specs.Agents.{LoadsRegions, ReadsRegions}
 use Rattle.pmcd_session.specs.Sessions.{Completes, IsCaused, Runs, NoneFailed, WritesBy}
-use Rattle.pmcd_session.specs.Sides.{SourceSide, SinkSide, ClockSide}
+use Rattle.pcp_outside.specs.Sides.{SourceSide, SinkSide, ClockSide}
 use Rattle.pmcd_server.specs.Turns.{Turn, source_of, sink_of, clock_of, IsSession}
 
 -- the objects as the session found and left them

@@ -5,7 +5,7 @@ use Rattle.pcp_outside.specs.Doors.{Connection, Report}
 use Rattle.fetch_engine.specs.Servers.{Seated}
 use Rattle.pmcd_session.specs.Agents.{LoadsRegions, ReadsRegions}
 use Rattle.pmcd_session.specs.Sessions.{Completes, CountsOn, IsCaused, Runs}
-use Rattle.pmcd_session.specs.Sides.{SourceSide, SinkSide, ClockSide}
+use Rattle.pcp_outside.specs.Sides.{SourceSide, SinkSide, ClockSide}
 
 -- What came over a connection, and what is reported of it. Of a door that doesn't tell, the end and the counts of faults alone
 -- mean something.

@@ -17,7 +17,7 @@ use Rattle.pdu_stream.proofs.Pieces.{behind, longer, bad_longer}
 use Rattle.pmcd_session.specs.declared.standing.Standing.{Standing}
 use Rattle.pmcd_session.specs.Serving.{AsksTheClock, Asks, Deed, Deeds, DoesAll, Reaches, ReadsBy, needs_moment}
 use Rattle.pmcd_session.specs.Sessions.{Completes, Ends, History, IsCaused, Runs, session_start, is_fetch, most_taken}
-use Rattle.pmcd_session.specs.Sides.{SourceSide, SinkSide, ClockSide}
+use Rattle.pcp_outside.specs.Sides.{SourceSide, SinkSide, ClockSide}
 use Rattle.pmcd_session.proofs.Taking.{takes}
 
 -- ---- a PDU for which the clock is asked has the type of a fetch

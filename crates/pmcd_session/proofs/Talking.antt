@@ -22,7 +22,7 @@ use Rattle.pmcd_session.specs.Pieces.{HasReason}
 use Rattle.pmcd_session.specs.Replies.{greeting}
 use Rattle.pmcd_session.specs.Serving.{DoesAll, ReadsBy}
 use Rattle.pmcd_session.specs.Sessions.{CountsOn, Ends, History, IsCaused, Served, ServedTo, session_start, most_taken}
-use Rattle.pmcd_session.specs.Sides.{SourceSide, SinkSide, ClockSide, source_side, sink_side, clock_side}
+use Rattle.pcp_outside.specs.Sides.{SourceSide, SinkSide, ClockSide, source_side, sink_side, clock_side}
 use Rattle.pmcd_session.proofs.Deeds.{none_done}
 use Rattle.pmcd_session.proofs.Writings.{in_behind}
 

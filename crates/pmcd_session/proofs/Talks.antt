@@ -18,7 +18,7 @@ use Rattle.pmcd_session.specs.Pieces.{IsSendEnd}
 use Rattle.pmcd_session.specs.Replies.{greeting, reply_bytes}
 use Rattle.pmcd_session.specs.Serving.{ReadsBy}
 use Rattle.pmcd_session.specs.Sessions.{CountsOn, Ends, History, Runs, WritesBy, session_start, most_taken}
-use Rattle.pmcd_session.specs.Sides.{source_side, sink_side, clock_side}
+use Rattle.pcp_outside.specs.Sides.{source_side, sink_side, clock_side}
 use Rattle.pmcd_session.proofs.Talking.{greeted, moves_since, on_since}
 
 -- the session goes on, and this was taken and written

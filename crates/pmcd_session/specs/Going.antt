@@ -10,7 +10,7 @@ use Rattle.pmcd_session.specs.declared.standing.Standing.{Standing}
 use Rattle.pmcd_session.specs.Pieces.{WritesIn}
 use Rattle.pmcd_session.specs.Serving.{ReadsBy}
 use Rattle.pmcd_session.specs.Sessions.{Ends, History, Served, most_taken}
-use Rattle.pmcd_session.specs.Sides.{SourceSide, SinkSide, ClockSide}
+use Rattle.pcp_outside.specs.Sides.{SourceSide, SinkSide, ClockSide}
 
 -- the PDUs that a piece of a stream brought, or a length word that no PDU has
 abbrev pub Brings : List ℕ → List (List ℕ) → State → State → Result (List (List ℕ)) SessionEnd → Type 0

@@ -6,5 +6,4 @@ pub mod Pieces
 pub mod Replies
 pub mod Serving
 pub mod Sessions
-pub mod Sides
 pub mod Telling

@@ -10,7 +10,7 @@ use Rattle.pmcd_session.specs.declared.standing.Standing.{Standing}
 use Rattle.pmcd_session.specs.Contexts.{new_contexts}
 use Rattle.pmcd_session.specs.Replies.{greeting}
 use Rattle.pmcd_session.specs.Serving.{ReadsBy, DoesAll, AsksTheClock}
-use Rattle.pmcd_session.specs.Sides.{SourceSide, SinkSide, ClockSide}
+use Rattle.pcp_outside.specs.Sides.{SourceSide, SinkSide, ClockSide}
 
 -- a session begins with a client that isn't known, and contexts that keep every instance
 abbrev pub session_start : {A : Type 0} → A → Standing A

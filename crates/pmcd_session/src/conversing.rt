@@ -5,7 +5,7 @@ ghost use Rattle.pdu_stream.specs.Reading.{HasRead};
 ghost use Rattle.pmcd_session.specs.Going.{Brings, GoesBehind, Moves, StaysOpen, end_of_input};
 ghost use Rattle.pmcd_session.specs.Pieces.{HasReason, IsStreamEnd, WritesIn};
 ghost use Rattle.pmcd_session.specs.Sessions.{CountsOn, History, IsCaused, Runs};
-ghost use Rattle.pmcd_session.specs.Sides.{source_side, sink_side, clock_side};
+ghost use Rattle.pcp_outside.specs.Sides.{source_side, sink_side, clock_side};
 
 use crate::agent::Agent;
 use crate::sending::{greet, serve_all};

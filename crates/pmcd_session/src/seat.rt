@@ -3,7 +3,7 @@ ghost use Rattle.std.specs.Prelude.{◌≡◌, MatchResult};
 ghost use Rattle.fetch_engine.specs.Servers.{IsSeated};
 ghost use Rattle.pmcd_session.specs.Agents.{LoadsRegions, ReadsRegions};
 ghost use Rattle.pmcd_session.specs.Sessions.{Completes, CountsOn, IsCaused, Runs};
-ghost use Rattle.pmcd_session.specs.Sides.{source_side, sink_side, clock_side};
+ghost use Rattle.pcp_outside.specs.Sides.{source_side, sink_side, clock_side};
 
 use crate::contexts::Contexts;
 use crate::conversing::converse;

@@ -19,7 +19,8 @@ use Rattle.run_script.specs.declared.script.RegionRow.{RegionRow}
 use Rattle.run_script.specs.declared.said.Said.{Said}
 use Rattle.run_script.specs.declared.said.Stage.TheVariants as stages
 use Rattle.run_script.specs.Said.{nothing}
-use Rattle.run_script.specs.Heads.{spells_component, has_file, has_cluster, fits_image, may_open, with_row, region_at, statement_of}
+use Rattle.pcp_base.specs.Names.{spells_component}
+use Rattle.run_script.specs.Heads.{has_file, has_cluster, fits_image, may_open, with_row, region_at, statement_of}
 use Rattle.run_script.specs.Reading.{in_head, with_head_line, with_image, with_image_line, with_script_line, with_script_lines}
 use Rattle.run_script.specs.Generated.{numbers, layout, images, region, regions, group}
 use Rattle.run_script.specs.GeneratedText.{with_feed, image_text, images_text, front_text}

@@ -1,4 +1,3 @@
-pub mod Components
 pub mod Firsts
 pub mod Growing
 pub mod HeadLines

@@ -5,7 +5,7 @@ use Rattle.std.specs.Option.{option_map}
 use Rattle.std.specs.List.{list_all, position, position_or_len}
 use Rattle.std.proofs.lemmas.Bool.{eq-eqb}
 use Rattle.std.proofs.lemmas.Slice.Eq.{bytes_eq-Decides}
-use Rattle.pcp_base.specs.Names.{is_letter, is_name_byte, IsComponent}
+use Rattle.pcp_base.specs.Names.{is_letter, is_name_byte, IsComponent, spells_component}
 use Rattle.pcp_base.specs.Time.{Moment, microseconds}
 use Rattle.mmv_format.specs.Contents.{cluster_in}
 use Rattle.mmv_format.specs.declared.rows.Layout.{Layout}
@@ -38,7 +38,7 @@ use Rattle.run_script.specs.declared.said.Stage.{Stage}
 use Rattle.run_script.specs.declared.said.Stage.TheVariants as stages
 use Rattle.run_script.specs.Said.{nothing}
 use Rattle.run_script.specs.Names.{image_named}
-use Rattle.run_script.specs.Heads.{spells_component, has_file, is_of, has_cluster, fits_image, may_open, with_row, opens, opened_on, region_at, statement_of, with_group}
+use Rattle.run_script.specs.Heads.{has_file, is_of, has_cluster, fits_image, may_open, with_row, opens, opened_on, region_at, statement_of, with_group}
 use Rattle.run_script.specs.Steps.{pass_below, pass_at, pass_of, attaches, detaches, swaps, adds, begins, steps_on, finishes, loads, reads, ends, is_later, step_of, last_behind, with_line, with_step}
 use Rattle.run_script.specs.Reading.{Point, in_head, in_steps, may_name, with_head_line, in_image, with_image, with_image_line, with_script_line, with_full_line, and_then, with_script_lines, ended_at, whole, script_of}
 use Rattle.run_script.specs.Rules.{AtEach, cluster_of, IsRegion, HasPass, IsPlaced, IsBefore, Rises, AreRuled, KeepsRules}

@@ -1,7 +1,6 @@
 -- What the lines of a script's head say.
 use Rattle.std.specs.Prelude.{ℕ, ◌==◌, Bool, false, ◌&&◌, not, nat_le, if◌then◌else◌, List, [], ◌∷◌, ◌++◌, length, slice_get, bytes_eq, Option, Some, None, Result, Ok, Err}
-use Rattle.std.specs.List.{list_all, list_any}
-use Rattle.pcp_base.specs.Names.{is_letter, is_name_byte}
+use Rattle.std.specs.List.{list_any}
 use Rattle.mmv_format.specs.Contents.{cluster_in}
 use Rattle.log_schedule.specs.declared.config.Group.{Group}
 use Rattle.log_schedule.specs.declared.stage.Stage.TheVariants as scans
@@ -12,11 +11,6 @@ use Rattle.run_script.specs.declared.fault.ScriptLineFault.TheVariants.{Line, Re
 use Rattle.run_script.specs.declared.script.RegionRow.{RegionRow}
 use Rattle.run_script.specs.declared.said.Said.{Said}
 use Rattle.run_script.specs.Names.{image_named}
-
--- a component of a name: a letter, then letters, digits or `_`
-abbrev pub spells_component : List ℕ → Bool
-spells_component [] = false
-spells_component (b ∷ bs) = is_letter b && list_all is_name_byte bs
 
 -- some region has this FILE
 abbrev pub has_file : List RegionRow → List ℕ → Bool

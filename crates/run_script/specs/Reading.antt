@@ -25,7 +25,8 @@ use Rattle.run_script.specs.declared.said.Stage.{Stage}
 use Rattle.run_script.specs.declared.said.Stage.TheVariants as stages
 use Rattle.run_script.specs.Said.{nothing}
 use Rattle.run_script.specs.Names.{image_named}
-use Rattle.run_script.specs.Heads.{spells_component, with_region, with_group, statement_of}
+use Rattle.pcp_base.specs.Names.{spells_component}
+use Rattle.run_script.specs.Heads.{with_region, with_group, statement_of}
 use Rattle.run_script.specs.Steps.{with_step}
 
 -- where a line stands, and what the lines before it say

@@ -1,8 +1,9 @@
 //! What the lines of a script's head say.
 ghost use Rattle.std.specs.Prelude.{◌≡◌, IfOk, OnOk};
 ghost use Rattle.std.specs.Option.{option_copied};
+ghost use Rattle.pcp_base.specs.Names.{spells_component};
 ghost use Rattle.run_script.specs.Faults.{Takes};
-ghost use Rattle.run_script.specs.Heads.{spells_component, has_file, is_of, has_cluster, fits_image, may_open, region_at, single, statement_of, with_group};
+ghost use Rattle.run_script.specs.Heads.{has_file, is_of, has_cluster, fits_image, may_open, region_at, single, statement_of, with_group};
 ghost use Rattle.run_script.specs.Reading.{may_name};
 ghost use Rattle.run_script.specs.Names.{Tells, Stays};
 
@@ -12,17 +13,9 @@ use crate::said::Said;
 use crate::script::RegionRow;
 use log_schedule::{Config, ConfigFault, Group};
 use mmv_layout::Image;
-use pcp_base::{NoMemory, Text, is_component};
+use pcp_base::{NoMemory, Text, spells_component};
 use std::alloc::Global;
 use std::collections::BTreeMap;
-
-// Whether bytes are a component of a name.
-#[tactic(auto, using(crate::proofs::Components::is_spelled))]
-fn spells_component(bytes: &[u8]) -> bool
-    ensures { result ≡ spells_component bytes.now }
-{
-    is_component(bytes)
-}
 
 // Whether some region has this FILE.
 fn has_file(regions: &[RegionRow], file: &Text) -> bool

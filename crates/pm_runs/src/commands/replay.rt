@@ -7,7 +7,8 @@ ghost use Rattle.pm_runs.specs.Regions.{HasRegions, RanRegions};
 ghost use Rattle.pm_runs.specs.Scripts.{ScriptSince};
 ghost use Rattle.pm_runs.specs.commands.replay.{replay as meaning_of_replay, replaying};
 ghost use Rattle.pm_words.specs.Inputs.{input_limit, refusal_of, Refuses};
-ghost use Rattle.pm_words.specs.Sides.{disk_side, sink_side, IsUnread, Leaves};
+ghost use Rattle.pcp_outside.specs.Sides.{sink_side};
+ghost use Rattle.pm_words.specs.Sides.{disk_side, IsUnread, Leaves};
 
 use crate::running::run_script;
 use pcp_base::Bytes;

@@ -13,7 +13,8 @@ use Rattle.pm_words.specs.declared.stage.FilesRefusal.{FilesRefusal}
 use Rattle.pm_words.specs.declared.stage.FilesRefusal.TheVariants.{Run, Compressed, NotArchive, Nothing}
 use Rattle.pm_tasks.specs.Archives.{IsLoaded, TurnedAfter, looks}
 use Rattle.pm_words.specs.Meaning.{Meaning}
-use Rattle.pm_words.specs.Sides.{SinkSide, DiskSide, Found, files_found}
+use Rattle.pcp_outside.specs.Sides.{SinkSide}
+use Rattle.pm_words.specs.Sides.{DiskSide, Found, files_found}
 use Rattle.pm_words.specs.Streams.{IsFront, IsSent}
 
 -- `archive PID HOST ZONE`, or `archive none`

@@ -4,7 +4,8 @@ ghost use Rattle.pcp_model.specs.Disk.{contents_of};
 ghost use Rattle.archive_window.specs.Looks.{Looks};
 ghost use Rattle.archive_loading.specs.Loaded.{IsOver};
 ghost use Rattle.pm_tasks.specs.Archives.{TurnedAway};
-ghost use Rattle.pm_words.specs.Sides.{sink_side, disk_side};
+ghost use Rattle.pcp_outside.specs.Sides.{sink_side};
+ghost use Rattle.pm_words.specs.Sides.{disk_side};
 ghost use Rattle.pm_words.specs.Streams.{Turns};
 ghost use Rattle.pm_tasks.specs.commands.dump.{label_line, IsTurnedAway, HasNext, BadNext, HasPut, HasPutSome, HasSaid, HasStopped, BadRecord};
 

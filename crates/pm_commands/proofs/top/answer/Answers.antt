@@ -1,6 +1,7 @@
 -- Each end of a call by what ran and what was written.
 use Rattle.std.proofs.Common.{ℕ, List, subst, ◌∙◌}
-use Rattle.pm_words.specs.Sides.{disk_side, sink_side}
+use Rattle.pcp_outside.specs.Sides.{sink_side}
+use Rattle.pm_words.specs.Sides.{disk_side}
 use Rattle.pm_words.specs.Streams.{Finishes, IsSent}
 use Rattle.pm_commands.proofs.Facts.{done_opens, refused_opens, untold_opens}
 use Rattle.pm_commands.proofs.Memory.{ends_untold}

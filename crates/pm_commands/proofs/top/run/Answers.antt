@@ -5,7 +5,8 @@ use Rattle.pm_tasks.specs.Causes.{Asks, Got}
 use Rattle.pm_words.specs.Serving.{MayLeave}
 use Rattle.pm_tasks.specs.Ends.{MayBeLeft}
 use Rattle.pm_tasks.specs.Meanings.{meaning}
-use Rattle.pm_words.specs.Sides.{SourceSide, SinkSide, DiskSide, source_side, sink_side, disk_side}
+use Rattle.pcp_outside.specs.Sides.{SourceSide, SinkSide, source_side, sink_side}
+use Rattle.pm_words.specs.Sides.{DiskSide, disk_side}
 use Rattle.pcp_model.specs.Disk.{contents_of}
 use Rattle.pm_words.proofs.Sending.{unsent}
 use Rattle.pm_words.proofs.Recovering.{no_words_yet, no_reading_yet}

@@ -8,7 +8,8 @@ use Rattle.pm_tasks.specs.Archives.{nothing_before}
 use Rattle.pm_words.specs.Serving.{Serves, MayLeave}
 use Rattle.pm_tasks.specs.Meanings.{meaning}
 use Rattle.pm_words.specs.Refusals.{refusal_of_stage}
-use Rattle.pm_words.specs.Sides.{SinkSide, DiskSide, Leaves, sink_side, disk_side}
+use Rattle.pcp_outside.specs.Sides.{SinkSide, sink_side}
+use Rattle.pm_words.specs.Sides.{DiskSide, Leaves, disk_side}
 use Rattle.pm_tasks.specs.Regions.{CommandRan, RunsScript}
 use Rattle.pm_tasks.specs.Since.{CommandSince}
 use Rattle.pm_tasks.specs.Takes.{MayTake}

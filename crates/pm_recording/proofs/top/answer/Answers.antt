@@ -1,7 +1,7 @@
 -- Each end of a call by what ran and what was written.
 use Rattle.std.proofs.Common.{rules, List, ℕ, ◌++◌, take, map, string_bytes, Global, inl, inr, refl, sym, ap, ◌∙◌}
 use Rattle.std.proofs.lemmas.List.{append-nil}
-use Rattle.pm_words.specs.Sides.{SourceSide, source_side}
+use Rattle.pcp_outside.specs.Sides.{SourceSide, source_side}
 use Rattle.pm_words.specs.declared.refusal.Refusal.TheVariants.{NoMemory}
 use Rattle.pm_recording.specs.declared.refusal.RecordRefusal.TheVariants.{Common}
 use Rattle.pm_recording.specs.Recording.{run_side}

@@ -1,7 +1,7 @@
 -- What was asked for, or why it isn't recorded.
 use Rattle.std.proofs.Common.{rules, map, string_bytes, Global, List, ℕ, refl, sym, subst}
 use Rattle.pm_words.specs.Reading.{WasRead}
-use Rattle.pm_words.specs.Sides.{SourceSide, source_side}
+use Rattle.pcp_outside.specs.Sides.{SourceSide, source_side}
 use Rattle.pm_recording.specs.Ends.{Asks}
 use Rattle.pm_recording.proofs.Stopping.{by_script}
 use Rattle.pm_recording.proofs.top.prepare.Goals as goal

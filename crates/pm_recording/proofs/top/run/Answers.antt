@@ -1,6 +1,6 @@
 -- What a run does, or why it is refused.
 use Rattle.std.proofs.Common.{rules, map, string_bytes, Global, refl, sym, ◌∙◌}
-use Rattle.pm_words.specs.Sides.{SourceSide, source_side}
+use Rattle.pcp_outside.specs.Sides.{SourceSide, source_side}
 use Rattle.pm_words.specs.declared.refusal.Refusal.TheVariants.{NoMemory}
 use Rattle.pm_recording.specs.Recording.{run_side}
 use Rattle.pm_recording.proofs.Stopping.{ran_by, refused_before, refused_by, tells_done, took}

@@ -1,6 +1,6 @@
 -- What was asked for, or why it isn't served.
 use Rattle.std.proofs.Common.{rules, map, string_bytes, Global, List, ℕ, refl, sym, subst}
-use Rattle.pm_words.specs.Sides.{SourceSide, source_side}
+use Rattle.pcp_outside.specs.Sides.{SourceSide, source_side}
 use Rattle.pm_serving.specs.Ends.{Asks}
 use Rattle.pm_words.specs.Reading.{WasRead}
 use Rattle.pm_serving.proofs.Stopping.{by_script}

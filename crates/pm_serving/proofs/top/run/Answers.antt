@@ -1,6 +1,6 @@
 -- What a run does, or why it is refused.
 use Rattle.std.proofs.Common.{rules, map, string_bytes, Global, inl, refl, sym, ap, ◌∙◌}
-use Rattle.pm_words.specs.Sides.{SourceSide, source_side}
+use Rattle.pcp_outside.specs.Sides.{SourceSide, source_side}
 use Rattle.pm_words.specs.declared.refusal.Refusal.TheVariants.{NoMemory}
 use Rattle.pm_serving.specs.declared.refusal.ServeRefusal.TheVariants.{Before}
 use Rattle.pm_serving.specs.Ends.{Refuses, all_served}

@@ -1,6 +1,6 @@
 -- The status tells whether the sink has failed.
 use Rattle.std.proofs.Common.{true, false, refl, subst}
-use Rattle.pm_words.specs.Sides.{sink_side}
+use Rattle.pcp_outside.specs.Sides.{sink_side}
 use Rattle.pm_words.specs.Streams.{Sends}
 use Rattle.pm_words.proofs.output.finish.Goals as goal
 

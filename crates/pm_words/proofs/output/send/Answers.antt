@@ -1,6 +1,6 @@
 -- Where the sink had failed before nothing is written; else what `write_all` wrote.
 use Rattle.std.proofs.Common.{true, false, refl, sym, subst, arith, rules}
-use Rattle.pm_words.specs.Sides.{sink_side}
+use Rattle.pcp_outside.specs.Sides.{sink_side}
 use Rattle.pm_words.specs.Streams.{Sends}
 use Rattle.pm_words.proofs.Sending.{taken_front}
 use Rattle.pm_words.proofs.output.send.Goals as goal

@@ -2,7 +2,7 @@ use Rattle.std.proofs.Common.{subst}
 use Rattle.fetch_engine.specs.Servers.{Seated}
 use Rattle.pmcd_session.specs.Agents.{LoadsRegions, ReadsRegions}
 use Rattle.pmcd_session.specs.Sessions.{Runs}
-use Rattle.pmcd_session.specs.Sides.{source_side, sink_side, clock_side}
+use Rattle.pcp_outside.specs.Sides.{source_side, sink_side, clock_side}
 use Rattle.pmcd_session.proofs.Completing.{completes}
 use Rattle.pmcd_session.proofs.seat.session.Goals as goal
 

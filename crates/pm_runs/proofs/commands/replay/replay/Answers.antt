@@ -1,6 +1,7 @@
 -- What the run of a script tells, or why there was none.
 use Rattle.std.proofs.Common.{rules, [], refl, sym, ap, ◌∙◌, subst, List, ℕ, Bool}
-use Rattle.pm_words.specs.Sides.{SinkSide, DiskSide, sink_side, disk_side}
+use Rattle.pcp_outside.specs.Sides.{SinkSide, sink_side}
+use Rattle.pm_words.specs.Sides.{DiskSide, disk_side}
 use Rattle.pm_words.specs.Streams.{IsSent, Sends}
 use Rattle.pm_runs.specs.commands.replay.{replay as meaning_of_replay, replaying}
 use Rattle.pm_runs.proofs.Scripted.{any_moment, has_served, is_done, no_clock, ran_regions, since_done, since_stopped, stop_begins, stops, unrun}

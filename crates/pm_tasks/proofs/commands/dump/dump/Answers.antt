@@ -2,7 +2,8 @@
 use Rattle.std.proofs.Common.{rules, inl, ◌++◌, ap, ◌∙◌}
 use Rattle.archive_window.proofs.Looking.{looks_on}
 use Rattle.archive_loading.specs.Loaded.{Loaded, IsOver}
-use Rattle.pm_words.specs.Sides.{SinkSide, sink_side, disk_side}
+use Rattle.pcp_outside.specs.Sides.{SinkSide, sink_side}
+use Rattle.pm_words.specs.Sides.{disk_side}
 use Rattle.pm_tasks.specs.commands.dump.{label_line, IsTurnedAway, BadRecord}
 use Rattle.pm_tasks.proofs.Asking.{not_loaded, is_loaded, asked_turned, still_over}
 use Rattle.pm_tasks.proofs.Dumped.{stopped_at_once, said_whole, said_some}

@@ -4,7 +4,8 @@ use Rattle.pcp_model.specs.Disk.{contents_of}
 use Rattle.archive_window.proofs.Looking.{looks_none, looks_on}
 use Rattle.archive_loading.specs.Loaded.{IsOver}
 use Rattle.pm_tasks.specs.Archives.{TurnedAway}
-use Rattle.pm_words.specs.Sides.{sink_side, disk_side}
+use Rattle.pcp_outside.specs.Sides.{sink_side}
+use Rattle.pm_words.specs.Sides.{disk_side}
 use Rattle.pm_tasks.specs.commands.dump.{BadNext}
 use Rattle.pm_tasks.proofs.Dumped.{starts, goes_further, ends_here, stops_here, no_record, stepped}
 use Rattle.pm_tasks.proofs.Asking.{still_over}

@@ -2,7 +2,7 @@
 use Rattle.std.proofs.Common.{◌≡◌}
 use Rattle.pcp_model.specs.Disk.{contents_of}
 use Rattle.archive_window.specs.Looks.{Looks}
-use Rattle.pm_words.specs.Sides.{sink_side}
+use Rattle.pcp_outside.specs.Sides.{sink_side}
 use Rattle.pm_tasks.proofs.Dumped.{Going}
 use Rattle.pm_tasks.proofs.commands.dump.put_items.Given as goal
 

@@ -1,6 +1,6 @@
 -- A full page went to the sink whole, and another stays.
 use Rattle.std.proofs.Common.{[], refl, sym, ap, subst, ◌∙◌, ◌++◌, append-nil}
-use Rattle.pm_words.specs.Sides.{sink_side}
+use Rattle.pcp_outside.specs.Sides.{sink_side}
 use Rattle.pm_words.specs.Streams.{Sends}
 use Rattle.pm_words.proofs.Sending.{unmoved}
 use Rattle.pm_tasks.proofs.commands.dump.turn_page.Goals as goal

@@ -1,8 +1,7 @@
 -- A component as a test.
 use Rattle.std.proofs.Common.{◌≡◌, ℕ, Bool, true, false, ◌&&◌, IsTrue, ◌↔◌, List, [], ◌∷◌, sym, refl}
 use Rattle.std.specs.List.{list_all}
-use Rattle.pcp_base.specs.Names.{is_letter, is_name_byte, IsComponent}
-use Rattle.run_script.specs.Heads.{spells_component}
+use Rattle.pcp_base.specs.Names.{is_letter, is_name_byte, IsComponent, spells_component}
 
 both : (r a b : Bool) → (IsTrue r ↔ (IsTrue a × IsTrue b)) → r ≡ (a && b)
 both true true true h = refl
