@@ -8,7 +8,7 @@ ghost use Rattle.pm_recording.specs.Exact.{LastIsShown};
 ghost use Rattle.pm_recording.specs.Facts.{ArchiveFaultIsExact, ClockIsExact, Completes, HadRecovered, KeepsAll, LimitIsExact, OpensRegions, RecordsSince, RunIsExact, ScriptFaultIsExact, UsageIsExact};
 ghost use Rattle.pm_recording.specs.Recording.{run_side};
 ghost use Rattle.pm_words.specs.Sides.{IsUnread, Leaves, source_side, sink_side};
-ghost use Rattle.run_script.specs.Recording.{refused_line};
+ghost use Rattle.recordable_scripts.specs.Recording.{refused_line};
 ghost use Rattle.run_script.specs.Rules.{KeepsRules};
 
 use crate::refusal::{RecordRefusal, refusal_of};
