@@ -3,7 +3,7 @@ use Rattle.std.proofs.Common.{◌≡◌, ℕ, List, refl, sym, ◌∙◌, subst,
 use Rattle.fetch_engine.specs.declared.server.Mounted.{Mounted}
 use Rattle.record_laws.proofs.Last.{last_sample}
 use Rattle.run_script.specs.Reading.{script_of}
-use Rattle.run_script.specs.Recording.{refused_line}
+use Rattle.recordable_scripts.specs.Recording.{refused_line}
 use Rattle.run_script.specs.Rules.{KeepsRules}
 use Rattle.run_script.specs.declared.fault.ScriptFault.{ScriptFault}
 use Rattle.run_script.specs.declared.script.Script.{Script}

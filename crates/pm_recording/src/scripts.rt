@@ -2,10 +2,11 @@
 ghost use Rattle.std.specs.Prelude.{◌≡◌, ◌≤◌, IfOk, None, length};
 ghost use Rattle.pm_recording.specs.Scripts.{Answers, script_recorded};
 ghost use Rattle.pm_words.specs.Inputs.{input_limit};
-ghost use Rattle.run_script.specs.Recording.{refused_line};
+ghost use Rattle.recordable_scripts.specs.Recording.{refused_line};
 ghost use Rattle.run_script.specs.Rules.{KeepsRules};
 
 use pm_words::{InputRefusal, StageFault};
+use recordable_scripts::for_record;
 use run_script::{ReadScriptError, Script};
 use std::alloc::Global;
 
@@ -23,7 +24,7 @@ pub(crate) fn read_script(alloc: Global, input: &[u8]) -> Result<Script, StageFa
             fault,
         ))),
     };
-    match Script::for_record(&script) {
+    match for_record(&script) {
         Ok(()) => Ok(script),
         Err(fault) => Err(StageFault::Refused(InputRefusal::Script(fault))),
     }

@@ -1,7 +1,7 @@
 //! The script of an input, whose regions must have room for the seats, and whose passes must be able to act beside each other.
 ghost use Rattle.std.specs.Prelude.{◌≡◌, ◌≤◌, IfOk, None, length};
 ghost use Rattle.pm_serving.specs.Scripts.{Answers, broken_at, crowded_line, earlier, script_served, with_room};
-ghost use Rattle.run_script.specs.Recording.{refused_line};
+ghost use Rattle.recordable_scripts.specs.Recording.{refused_line};
 ghost use Rattle.pm_words.specs.Inputs.{input_limit};
 ghost use Rattle.run_script.specs.Reading.{script_of};
 ghost use Rattle.run_script.specs.Rules.{KeepsRules};
@@ -9,6 +9,7 @@ ghost use Rattle.script_passes.specs.Openings.{HaveRoom};
 
 use mmv_writer::LineFault;
 use pm_words::{InputRefusal, StageFault};
+use recordable_scripts::for_record;
 use run_script::{ReadScriptError, Script, ScriptFault, ScriptLineFault};
 use std::alloc::Global;
 
@@ -26,7 +27,7 @@ fn refused_line(script: &Script) -> Option<u64>
     requires rules { KeepsRules script.now }
     ensures { result ≡ refused_line script.now }
 {
-    match Script::for_record(script) {
+    match for_record(script) {
         Ok(()) => None,
         Err(fault) => Some(fault.line),
     }

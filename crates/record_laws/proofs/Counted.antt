@@ -22,7 +22,7 @@ use Rattle.region_words.specs.Images.{mmv, mmv_laws}
 use Rattle.region_words.proofs.Inside.{slots_below}
 use Rattle.fetch_answers.specs.declared.fetch.Fetched.{Fetched}
 use Rattle.fetch_engine.specs.declared.server.Mounted.{Mounted}
-use Rattle.run_script.specs.Recording.{refused_line}
+use Rattle.recordable_scripts.specs.Recording.{refused_line}
 use Rattle.run_script.specs.Rules.{KeepsRules}
 use Rattle.run_script.specs.declared.script.Script.{Script}
 use Rattle.script_passes.specs.Crews.{ServesScript}

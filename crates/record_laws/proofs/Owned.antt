@@ -12,7 +12,7 @@ use Rattle.region_core.specs.State.{State, after, g1}
 use Rattle.region_core.proofs.Journals.{own-append, own-mine}
 use Rattle.region_rule.specs.Changes.{left_from, next_after, puts_at, puts_left}
 use Rattle.region_rule.specs.Steps.{entry}
-use Rattle.run_script.specs.Recording.{image_words}
+use Rattle.recordable_scripts.specs.Recording.{image_words}
 use Rattle.run_script.specs.declared.script.Line.{Line}
 use Rattle.run_script.specs.declared.script.Line.TheVariants as lines
 use Rattle.script_lines.specs.declared.line.Given.{Given as Written}

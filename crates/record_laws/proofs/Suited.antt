@@ -11,7 +11,7 @@ use Rattle.mmv_format.specs.declared.rows.Slot.{Slot}
 use Rattle.mmv_layout.specs.Form.{Form, form_of, slots_of, texts_of, is_slot_of}
 use Rattle.mmv_layout.proofs.FormSays.{texts_said}
 use Rattle.region_core.specs.declared.act.Act.TheVariants.{Swap, Add}
-use Rattle.run_script.specs.Recording as recording
+use Rattle.recordable_scripts.specs.Recording as recording
 use Rattle.script_lines.specs.declared.line.Given.{Given as Written}
 use Rattle.script_lines.specs.declared.line.Given.TheVariants as written
 use Rattle.script_runs.specs.Slots.{swap_of, swap_into, slot_with, value_for, field_of, text_for, add_of, add_into, low_bits, holds_number}

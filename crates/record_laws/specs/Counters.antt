@@ -14,7 +14,7 @@ use Rattle.region_rule.specs.Steps.{entry}
 use Rattle.region_words.specs.Calls.{IsNumber}
 use Rattle.fetch_answers.specs.declared.fetch.Fetched.{Fetched}
 use Rattle.fetch_engine.specs.declared.server.Mounted.{Mounted}
-use Rattle.run_script.specs.Recording.{refused_line}
+use Rattle.recordable_scripts.specs.Recording.{refused_line}
 use Rattle.run_script.specs.Rules.{KeepsRules}
 use Rattle.run_script.specs.declared.script.Script.{Script}
 use Rattle.script_passes.specs.Crews.{ServesScript}

@@ -5,8 +5,6 @@ pub mod Heads
 pub mod Laws
 pub mod Names
 pub mod Reading
-pub mod Recording
-pub mod RecordingSteps
 pub mod Rules
 pub mod Said
 pub mod Steps

@@ -2,11 +2,9 @@
 //! ticks and flushes, written down line by line. A script's head has the images, the regions and what is logged.
 #![tactic(auto)]
 
-mod doing;
 mod draws;
 mod fault;
 mod head;
-mod holding;
 mod images;
 mod laws;
 mod made;
@@ -14,11 +12,9 @@ mod making;
 mod named;
 mod names;
 mod reading;
-mod recording;
 mod said;
 mod script;
 mod steps;
-mod suiting;
 
 pub use fault::{ReadScriptError, ScriptFault, ScriptLineFault};
 pub use laws::{generated_is_in_order, generated_is_read, scripts_are_ruled, statements_are_told};

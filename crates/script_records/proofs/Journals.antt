@@ -27,7 +27,7 @@ use Rattle.script_passes.proofs.Finals.{get_front}
 use Rattle.script_passes.proofs.Seated.{the_one}
 use Rattle.script_passes.proofs.Starting.{fresh_at, last_fresh}
 use Rattle.script_writers.specs.Hands.{IsServedAt, WritesLines}
-use Rattle.run_script.specs.Recording.{lines_of}
+use Rattle.recordable_scripts.specs.Recording.{lines_of}
 use Rattle.script_writers.specs.Written.{AreReady, HaveWritten}
 use Rattle.script_writers.proofs.Placed.{capacity_at, made_at, one_from}
 use Rattle.script_records.specs.Beside.{AtJournals, IsLegal, LoggerLoads, SeesOn, StandsBehind, WritersRan}

@@ -18,7 +18,7 @@ use Rattle.script_runs.specs.Groups.{Plan}
 use Rattle.script_runs.specs.Journals.{is_load}
 use Rattle.script_writers.specs.Hands.{IsServedAt}
 use Rattle.script_writers.specs.Lines.{HasMade}
-use Rattle.run_script.specs.Recording.{lines_of}
+use Rattle.recordable_scripts.specs.Recording.{lines_of}
 use Rattle.script_samples.specs.Samples.{Taken, AreTaken, stamps_of}
 use Rattle.script_samples.specs.Shown.{AreShown}
 

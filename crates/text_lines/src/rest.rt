@@ -5,7 +5,7 @@ ghost use Rattle.pcp_base.specs.Texts.{IsText};
 ghost use Rattle.text_lines.specs.Words.{Taken, Read, text_within, text_in_quotes, take_text, starts_missing, take_help, IsStopped, take_space, word_length, first_word, behind_word, take_word, take_as, optional, whole_line};
 
 use crate::numbers;
-use crate::text_in_quotes::{starts_quoted, text_byte};
+use crate::quoted::{starts_quoted, text_byte};
 use pcp_base::{Bytes, NoMemory, Text};
 use std::alloc::{AllocError, Global};
 use std::marker::Model;

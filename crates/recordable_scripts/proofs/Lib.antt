@@ -1,0 +1,6 @@
+pub mod Firsts
+pub mod Held
+pub mod Refusals
+pub mod Slotted
+pub mod Stages
+pub mod TextBytes
