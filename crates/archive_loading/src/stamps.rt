@@ -6,7 +6,7 @@ ghost use Rattle.archive_meta.specs.Records.{AreRecords};
 ghost use Rattle.archive_window.specs.Standing.{IsSized};
 ghost use Rattle.archive_loading.specs.Stamps.{domain_stamps, IsLatest, IsLatestOn};
 
-use archive_meta::domain_stamp;
+use meta_records::domain_stamp;
 use pcp_base::Stamp;
 
 /// A moment in microseconds since 1970.

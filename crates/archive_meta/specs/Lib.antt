@@ -1,4 +1,3 @@
-pub mod Decoding
 pub mod Enough
 pub mod Facts
 pub mod Hashing
@@ -6,9 +5,6 @@ pub mod Kept
 pub mod Laws
 pub mod Missing
 pub mod Order
-pub mod Ranges
 pub mod Records
-pub mod Room
 pub mod Said
-pub mod Stamped
 pub mod Woven

@@ -4,29 +4,15 @@ use Rattle.pcp_model.specs.declared.records.MetaRecord.{MetaRecord}
 use Rattle.pcp_model.specs.Archive.{AreRead}
 use Rattle.pcp_model.specs.Frame.{frames, IsTorn}
 use Rattle.pcp_model.specs.Records.{IsRecord, AreConsistent}
-use Rattle.archive_frame.specs.Steps.{Stands}
-use Rattle.archive_meta.specs.declared.fault.MetaFault.{MetaFault}
-use Rattle.archive_meta.specs.declared.fault.MetaFault.TheVariants.{Record, NoMemory}
+use Rattle.meta_records.specs.Framed.{RecordStands}
+use Rattle.meta_records.specs.declared.fault.MetaFault.{MetaFault}
+use Rattle.meta_records.specs.declared.fault.MetaFault.TheVariants.{Record, NoMemory}
 
 -- the bytes are these records, each framed whole
 pub record AreRecords (bytes : List ℕ) (records : List MetaRecord) : Type 0 where
   pub payloads : List (List ℕ)
   pub read : AreRead IsRecord payloads records
   pub is : bytes ≡ frames payloads
-
--- a record is framed from a byte up to another
-pub record RecordStands (bytes : List ℕ) (at next : ℕ) (r : MetaRecord) : Type 0 where
-  pub payload : List ℕ
-  pub stands : Stands bytes payload at next
-  pub reads : IsRecord payload r
-
--- no record is framed there
-abbrev pub NoRecordStands : List ℕ → ℕ → Type 0
-NoRecordStands bytes at = (next : ℕ) (r : MetaRecord) → RecordStands bytes at next r → ⊥
-
-abbrev pub IsRecordFault : List ℕ → ℕ → MetaFault → Type 0
-IsRecordFault bytes at (Record offset) = (offset ≡ at) × NoRecordStands bytes at
-IsRecordFault bytes at NoMemory = Unit {0}
 
 -- Behind records that stand already, the bytes are records up to here; at this byte no record is framed, or one
 -- that describes a metric otherwise than before.

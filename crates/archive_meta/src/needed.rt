@@ -7,7 +7,7 @@ ghost use Rattle.archive_meta.specs.Missing.{described_by, listed_from, framed_r
 
 use crate::facts::{Facts, RecordsFault};
 use crate::state::MetaState;
-use crate::writing::{put_description, put_domain};
+use meta_records::{put_description, put_domain};
 use pcp_base::{Bytes, Desc, InDom, List, PmResult, Stamp, Text};
 use pcp_model::put_word;
 use std::alloc::Global;

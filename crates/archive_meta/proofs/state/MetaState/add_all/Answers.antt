@@ -1,5 +1,6 @@
 use Rattle.archive_meta.specs.Records.{IsMetaFault}
-use Rattle.archive_meta.proofs.Frames.{adds_one, between, frame_fault, add_fault, handed_on}
+use Rattle.meta_records.proofs.OneRecord.{between}
+use Rattle.archive_meta.proofs.Frames.{adds_one, frame_fault, add_fault, handed_on}
 use Rattle.archive_meta.proofs.state.MetaState.add_all.Goals as goal
 
 pub returns-in_err-record-clause-fault : goal.returns-in_err-record-clause-fault

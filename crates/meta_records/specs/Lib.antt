@@ -1,0 +1,5 @@
+pub mod Decoding
+pub mod Framed
+pub mod Ranges
+pub mod Room
+pub mod Stamped
