@@ -5,4 +5,3 @@ pub mod LineBytes
 pub mod LineReads
 pub mod MetricWords
 pub mod ReadRanges
-pub mod Zeros

@@ -8,12 +8,12 @@ use Rattle.pcp_base.specs.declared.kind.Kind.TheVariants as kinds
 use Rattle.pcp_base.specs.declared.kind.Semantics.{Semantics}
 use Rattle.pcp_base.specs.declared.kind.Semantics.TheVariants as meanings
 use Rattle.text_lines.specs.Laws.{EndsWord, IsLineByte}
-use Rattle.text_lines.specs.Words.{take_as}
+use Rattle.text_lines.specs.Words.{take_as, name_of}
 use Rattle.text_lines.proofs.LineBytes.{plain_bytes}
 use Rattle.text_lines.proofs.Splitting.{plain_word, take_as_of}
 use Rattle.layout_text.specs.Laws.{IsNameByte, IsLineName}
 use Rattle.layout_text.specs.Spelling.{kind_part, semantics_part}
-use Rattle.layout_text.specs.Words.{name_of, kind_of, other_kind_of, semantics_of}
+use Rattle.layout_text.specs.Words.{kind_of, other_kind_of, semantics_of}
 
 pub kind_is_read : (kind : Kind) (more : List ℕ) → EndsWord more → take_as kind_of (kind_part kind ++ more) ≡ Some (kind, more)
 unfolding kind_of other_kind_of

@@ -12,14 +12,14 @@ use Rattle.layout_text.specs.declared.line.Written.{Written}
 use Rattle.layout_text.specs.declared.line.Written.TheVariants as written
 use Rattle.text_lines.specs.Laws.{IsLineByte, TakesOnly}
 use Rattle.text_lines.specs.Numbers.{◌>>=◌, whole_number, hex_number}
-use Rattle.text_lines.specs.Words.{first_word, behind_word, word_length, take_space, take_as, starts_quoted, text_in_quotes, whole_line}
+use Rattle.text_lines.specs.Words.{first_word, behind_word, word_length, take_space, take_as, starts_quoted, text_in_quotes, whole_line, name_of}
 use Rattle.text_lines.proofs.NumberRanges.{whole_range, hex_range, takes_numbers, takes_wide_numbers, takes_ints, takes_hex, takes_optional_numbers, takes_optional_ints}
 use Rattle.text_lines.proofs.Taking.{word_taken, word_inside, both_steps, passed, either, same_some, none_some, takes_as}
 use Rattle.text_lines.proofs.Splitting.{IsWord}
 use Rattle.text_lines.proofs.TextRanges.{behind_space, quoted_takes, takes_texts, takes_helps}
 use Rattle.layout_text.specs.Laws.{IsNameByte, IsLineName, IsMetric, IsWritten, IsLine, ReadLineIsLine}
 use Rattle.layout_text.specs.Lines.{mmv_line, string_line, indom_line, instance_line, metric_line, number_content, raw_content, quoted_content, words_content, last_content, value_line, line_of}
-use Rattle.layout_text.specs.Words.{name_of, kind_of, semantics_of}
+use Rattle.layout_text.specs.Words.{kind_of, semantics_of}
 
 -- where nothing is left, the last step's line is the line
 ended_is : {X : Type 0} (left : List ℕ) (x y : X) → whole_line left x ≡ Some y → x ≡ y

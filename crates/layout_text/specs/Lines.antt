@@ -5,8 +5,8 @@ use Rattle.layout_text.specs.declared.line.Line.TheVariants as lines
 use Rattle.layout_text.specs.declared.line.Written.{Written}
 use Rattle.layout_text.specs.declared.line.Written.TheVariants as written
 use Rattle.text_lines.specs.Numbers.{◌>>=◌, number32, number64, int32, whole_number, hex_number}
-use Rattle.text_lines.specs.Words.{first_word, behind_word, take_space, take_as, optional, starts_quoted, text_in_quotes, take_text, take_help, whole_line}
-use Rattle.layout_text.specs.Words.{name_of, kind_of, semantics_of}
+use Rattle.text_lines.specs.Words.{first_word, behind_word, take_space, take_as, optional, starts_quoted, text_in_quotes, take_text, take_help, whole_line, name_of}
+use Rattle.layout_text.specs.Words.{kind_of, semantics_of}
 
 unfoldable pub mmv_line : List ℕ → Option Line
 mmv_line bytes = do

@@ -1,15 +1,9 @@
--- The words of a metric's line: its name, its kind and its semantics.
-use Rattle.std.specs.Prelude.{ℕ, ◌==◌, if◌then◌else◌, List, [], ◌∷◌, Option, Some, None, codes, bytes_eq}
-use Rattle.std.specs.List.{list_any}
+-- The words of a metric's line: its kind and its semantics.
+use Rattle.std.specs.Prelude.{if◌then◌else◌, ℕ, List, Option, Some, None, codes, bytes_eq}
 use Rattle.pcp_base.specs.declared.kind.Kind.{Kind}
 use Rattle.pcp_base.specs.declared.kind.Kind.TheVariants as kinds
 use Rattle.pcp_base.specs.declared.kind.Semantics.{Semantics}
 use Rattle.pcp_base.specs.declared.kind.Semantics.TheVariants as meanings
-
--- a metric's name: a word that isn't quoted, and without a zero byte
-unfoldable pub name_of : List ℕ → Option (List ℕ)
-name_of [] = None
-name_of (b ∷ bs) = if b == 34 then None else if list_any (λ c. c == 0) (b ∷ bs) then None else Some (b ∷ bs)
 
 unfoldable pub other_kind_of : List ℕ → Option Kind
 other_kind_of word =

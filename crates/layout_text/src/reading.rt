@@ -4,11 +4,11 @@ ghost use Rattle.text_lines.specs.Words.{Read};
 ghost use Rattle.layout_text.specs.Lines.{mmv_line, string_line, indom_line, instance_line, metric_line, number_content, raw_content, quoted_content, words_content, last_content, value_line, line_of};
 
 use crate::line::{Line, Written};
-use crate::words::{take_kind, take_name, take_semantics, take_units};
+use crate::words::{take_kind, take_semantics, take_units};
 use mmv_format::MetricRow;
 use pcp_base::NoMemory;
 use std::alloc::Global;
-use text_lines::{Rest, TakeFault, hex_number, split_word, starts_quoted, whole_number};
+use text_lines::{Rest, TakeFault, hex_number, split_word, starts_quoted, take_name, whole_number};
 
 #[tactic(auto, unfolding(crate::specs::Lines::mmv_line))]
 fn mmv_line(bytes: &[u8]) -> Result<Line, TakeFault>

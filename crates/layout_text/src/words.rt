@@ -1,13 +1,11 @@
 //! The words of a metric's line, and what they mean.
 ghost use Rattle.std.specs.Prelude.{◌≡◌, IfOk};
-ghost use Rattle.pcp_base.specs.Texts.{IsText};
 ghost use Rattle.text_lines.specs.Numbers.{hex_number};
-ghost use Rattle.text_lines.specs.Words.{Read, Taken, take_as};
-ghost use Rattle.layout_text.specs.Words.{name_of, kind_of, other_kind_of, semantics_of};
+ghost use Rattle.text_lines.specs.Words.{Taken, take_as};
+ghost use Rattle.layout_text.specs.Words.{kind_of, other_kind_of, semantics_of};
 
-use pcp_base::{Kind, Semantics, Text, TextError, Units};
-use std::alloc::Global;
-use text_lines::{Rest, TakeFault, hex_number, starts_quoted};
+use pcp_base::{Kind, Semantics, Units};
+use text_lines::{Rest, TakeFault, hex_number};
 
 // The kind of a word.
 #[tactic(auto, unfolding(crate::specs::Words::kind_of))]
@@ -66,24 +64,6 @@ fn semantics_of(word: &[u8]) -> Option<Semantics>
     None
 }
 
-// A metric's name: a word that isn't quoted, without a zero byte.
-#[tactic(auto, using(crate::proofs::Zeros::no_zero, crate::proofs::Zeros::has_zero), unfolding(crate::specs::Words::name_of))]
-fn name_of(alloc: Global, word: &[u8]) -> Result<Text, TakeFault>
-    ensures { Read (name_of word.now) result }
-{
-    if word.is_empty() {
-        return Err(TakeFault::NoLine);
-    }
-    if starts_quoted(word) {
-        return Err(TakeFault::NoLine);
-    }
-    match Text::build(alloc, word) {
-        Ok(name) => Ok(name),
-        Err(TextError::Zero(_)) => Err(TakeFault::NoLine),
-        Err(TextError::NoMemory) => Err(TakeFault::NoMemory),
-    }
-}
-
 /// A kind's word, behind one space.
 #[tactic(auto, unfolding(text_lines::specs::Words::take_as))]
 pub fn take_kind(rest: &mut Rest) -> Result<Kind, TakeFault>
@@ -112,14 +92,4 @@ pub fn take_units(rest: &mut Rest) -> Result<Units, TakeFault>
     let word = rest.word()?;
     let number = hex_number(8, word).ok_or(TakeFault::NoLine)?;
     Ok(Units::of_word(number as u32))
-}
-
-/// A metric's name, behind one space.
-#[tactic(auto, unfolding(text_lines::specs::Words::take_as))]
-pub fn take_name(alloc: Global, rest: &mut Rest) -> Result<Text, TakeFault>
-    ensures { Taken (take_as name_of rest.old) result rest.new }
-{
-    let word = rest.word()?;
-    let name = name_of(alloc, word)?;
-    Ok(name)
 }

@@ -5,7 +5,7 @@ use Rattle.std.proofs.lemmas.List.{drop-drop, get_or-take, get_or-drop}
 use Rattle.mmv_format.specs.Fields.{number32, number64, byte_at, first_words, words_of}
 use Rattle.mmv_format.specs.Laws.{WordsHoldBytes, NumberHoldsBytes, NumberHoldsHalves}
 
-byte_of : (xs : List ℕ) → ((j : ℕ) → j < 8 → slice_index xs j < 256) → (r : ℕ) → r < 8 → from_le_bytes w64 xs / 2 ^ (8 * r) % 256 ≡ slice_index xs r
+pub byte_of : (xs : List ℕ) → ((j : ℕ) → j < 8 → slice_index xs j < 256) → (r : ℕ) → r < 8 → from_le_bytes w64 xs / 2 ^ (8 * r) % 256 ≡ slice_index xs r
 byte_of xs h zero l = let a = h 0 (omega arith) in omega arith
 byte_of xs h (suc zero) l = let a = h 0 (omega arith) in let b = h 1 (omega arith) in omega arith
 byte_of xs h (suc (suc zero)) l = let a = h 0 (omega arith) in let b = h 1 (omega arith) in let c = h 2 (omega arith) in omega arith
@@ -16,7 +16,7 @@ byte_of xs h (suc (suc (suc (suc (suc (suc zero)))))) l = let a = h 0 (omega ari
 byte_of xs h (suc (suc (suc (suc (suc (suc (suc zero))))))) l = let a = h 0 (omega arith) in let b = h 1 (omega arith) in let c = h 2 (omega arith) in let d = h 3 (omega arith) in let e = h 4 (omega arith) in let f = h 5 (omega arith) in let g = h 6 (omega arith) in let i = h 7 (omega arith) in omega arith
 byte_of xs h (suc (suc (suc (suc (suc (suc (suc (suc r)))))))) l = absurd (omega arith)
 
-word_at : (n q : ℕ) (bytes : List ℕ) → q < n → slice_index (first_words n bytes) q ≡ from_le_bytes w64 (take 8 (drop (8 * q) bytes))
+pub word_at : (n q : ℕ) (bytes : List ℕ) → q < n → slice_index (first_words n bytes) q ≡ from_le_bytes w64 (take 8 (drop (8 * q) bytes))
 unfolding first_words
 word_at zero q bytes h = absurd (omega arith)
 word_at (suc n) zero bytes h = refl

@@ -4,10 +4,11 @@ use Rattle.std.specs.List.{slice_get, flat_map}
 use Rattle.std.specs.Int.{w64, from_le_bytes}
 use Rattle.std.proofs.lemmas.Bool.{eq-eqb}
 use Rattle.std.proofs.lemmas.Bool.Decides.{nat_tests}
-use Rattle.std.proofs.lemmas.List.{drop-drop, get_or-take, get_or-drop}
+use Rattle.std.proofs.lemmas.List.{get_or-take, get_or-drop}
 use Rattle.std.proofs.lemmas.List.Sums.{sum_by-cons}
 use Rattle.mmv_format.specs.Fields.{number32, number64, byte_at, text_at, has_zero, first_words}
 use Rattle.mmv_format.proofs.Below.{some_holds}
+use Rattle.mmv_format.proofs.Bytes.{byte_of, word_at}
 use Rattle.mmv_writer.specs.Draft.{IsStored}
 use Rattle.mmv_spelling.specs.Spelling.{halves}
 
@@ -97,25 +98,6 @@ high_read words n j at part low high s h e is l g =
 
 -- Texts
 
-byte_of : (xs : List ℕ) → ((j : ℕ) → j < 8 → slice_index xs j < 256) → (r : ℕ) → r < 8 → from_le_bytes w64 xs / 2 ^ (8 * r) % 256 ≡ slice_index xs r
-byte_of xs h zero l = let a = h 0 (omega arith) in omega arith
-byte_of xs h (suc zero) l = let a = h 0 (omega arith) in let b = h 1 (omega arith) in omega arith
-byte_of xs h (suc (suc zero)) l = let a = h 0 (omega arith) in let b = h 1 (omega arith) in let c = h 2 (omega arith) in omega arith
-byte_of xs h (suc (suc (suc zero))) l = let a = h 0 (omega arith) in let b = h 1 (omega arith) in let c = h 2 (omega arith) in let d = h 3 (omega arith) in omega arith
-byte_of xs h (suc (suc (suc (suc zero)))) l = let a = h 0 (omega arith) in let b = h 1 (omega arith) in let c = h 2 (omega arith) in let d = h 3 (omega arith) in let e = h 4 (omega arith) in omega arith
-byte_of xs h (suc (suc (suc (suc (suc zero))))) l = let a = h 0 (omega arith) in let b = h 1 (omega arith) in let c = h 2 (omega arith) in let d = h 3 (omega arith) in let e = h 4 (omega arith) in let f = h 5 (omega arith) in omega arith
-byte_of xs h (suc (suc (suc (suc (suc (suc zero)))))) l = let a = h 0 (omega arith) in let b = h 1 (omega arith) in let c = h 2 (omega arith) in let d = h 3 (omega arith) in let e = h 4 (omega arith) in let f = h 5 (omega arith) in let g = h 6 (omega arith) in omega arith
-byte_of xs h (suc (suc (suc (suc (suc (suc (suc zero))))))) l = let a = h 0 (omega arith) in let b = h 1 (omega arith) in let c = h 2 (omega arith) in let d = h 3 (omega arith) in let e = h 4 (omega arith) in let f = h 5 (omega arith) in let g = h 6 (omega arith) in let i = h 7 (omega arith) in omega arith
-byte_of xs h (suc (suc (suc (suc (suc (suc (suc (suc r)))))))) l = absurd (omega arith)
-
-word_of_text : (n q : ℕ) (bytes : List ℕ) → q < n → slice_index (first_words n bytes) q ≡ from_le_bytes w64 (take 8 (drop (8 * q) bytes))
-unfolding first_words
-word_of_text zero q bytes h = absurd (omega arith)
-word_of_text (suc n) zero bytes h = refl
-word_of_text (suc n) (suc q) bytes h =
-    let next : 8 + 8 * q ≡ 8 * suc q = omega arith in
-    word_of_text n q (drop 8 bytes) (omega arith) ∙ ap (λ b. from_le_bytes w64 (take 8 b)) (drop-drop (8 * q) 8 bytes ∙ ap (λ m. drop m bytes) next)
-
 pub length_text : (n : ℕ) (bytes : List ℕ) → length (first_words n bytes) ≡ n
 unfolding first_words
 length_text zero bytes = refl
@@ -133,7 +115,7 @@ byte_read words n c at k text s bytes e below =
     let one : (j : ℕ) → j < 8 → slice_index group j ≡ slice_index text (8 * (k / 8) + j) = λ j l. get_or-take 8 (drop (8 * (k / 8)) text) j 0 l ∙ get_or-drop (8 * (k / 8)) text j 0 in
     let parts : 8 * (k / 8) + k % 8 ≡ k = omega arith in
     ap₂ (λ q r. slice_index words q / 2 ^ (8 * r) % 256) offset within
-    ∙ ap (λ w. w / 2 ^ (8 * (k % 8)) % 256) (s.at (k / 8) (omega arith) ∙ word_of_text c (k / 8) text (omega arith))
+    ∙ ap (λ w. w / 2 ^ (8 * (k % 8)) % 256) (s.at (k / 8) (omega arith) ∙ word_at c (k / 8) text (omega arith))
     ∙ byte_of group (λ j l. subst (λ b. b < 256) (sym (one j l)) (bytes (8 * (k / 8) + j))) (k % 8) (omega arith)
     ∙ one (k % 8) (omega arith) ∙ ap (slice_index text) parts
 

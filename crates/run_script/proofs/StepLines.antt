@@ -8,14 +8,14 @@ use Rattle.std.proofs.lemmas.List.Elements.{All-head, All-tail}
 use Rattle.text_lines.specs.Laws.{EndsWord}
 use Rattle.text_lines.specs.Numbers.{◌>>=◌, number_of, number32, number64, whole_number}
 use Rattle.text_lines.specs.Spelling.{number_part, int_part, missing_part}
-use Rattle.text_lines.specs.Words.{take_space, take_word, take_as, optional, first_word, behind_word, whole_line}
+use Rattle.text_lines.specs.Words.{take_space, take_word, take_as, optional, first_word, behind_word, whole_line, name_of}
 use Rattle.text_lines.proofs.Decimals.{number_of-decimal, decimal_is, whole-decimal}
 use Rattle.text_lines.proofs.NumberParts.{word-decimal, number_is_read}
 use Rattle.text_lines.proofs.Splitting.{IsWord, plain_word, take_as_of}
 use Rattle.script_lines.specs.declared.line.Place.{Place}
 use Rattle.script_lines.specs.declared.line.Slot.{Slot}
 use Rattle.script_lines.specs.declared.line.StepLine.TheVariants as steps
-use Rattle.script_lines.specs.Words.{name_of, instance_of, take_place, take_slot}
+use Rattle.script_lines.specs.Words.{instance_of, take_place, take_slot}
 use Rattle.script_lines.specs.Steps.{place_line, add_line, begin_line, tick_line, stamp_of, flush_line, store_line, other_line, step_line}
 use Rattle.run_script.specs.declared.script.RegionRow.{RegionRow}
 use Rattle.run_script.specs.declared.script.Line.TheVariants as lines

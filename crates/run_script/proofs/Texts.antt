@@ -12,8 +12,8 @@ use Rattle.mmv_writer.specs.declared.fault.BuildFault.TheVariants.{TooLarge}
 use Rattle.std.specs.Fmt.{digits}
 use Rattle.text_lines.specs.Lines.{lines_of, prepend, without_feed}
 use Rattle.text_lines.specs.Numbers.{number32, number64, whole_number, int32, hex_number}
-use Rattle.text_lines.specs.Words.{take_as, take_word, first_word, behind_word, optional, text_byte, text_within, text_in_quotes, take_text, take_help}
-use Rattle.layout_text.specs.Words.{name_of, kind_of, semantics_of}
+use Rattle.text_lines.specs.Words.{take_as, take_word, first_word, behind_word, optional, text_byte, text_within, text_in_quotes, take_text, take_help, name_of}
+use Rattle.layout_text.specs.Words.{kind_of, semantics_of}
 use Rattle.layout_text.specs.Lines.{line_of, mmv_line, indom_line, instance_line, metric_line, value_line, number_content, words_content, last_content}
 use Rattle.mmv_writer.specs.Rules.{indom_fault, instance_fault, metric_fault, value_fault}
 use Rattle.mmv_writer.specs.Draft.{empty_draft, with_domain, add_instance, with_instance, with_metric, with_value}

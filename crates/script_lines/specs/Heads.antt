@@ -1,8 +1,7 @@
 -- The lines of a script's head: a word, and behind it the parts that this line has, each behind one space.
 use Rattle.std.specs.Prelude.{ℕ, if◌then◌else◌, List, Option, Some, None, codes, bytes_eq}
 use Rattle.text_lines.specs.Numbers.{◌>>=◌, number_of}
-use Rattle.text_lines.specs.Words.{first_word, behind_word, take_as, whole_line}
-use Rattle.script_lines.specs.Words.{name_of}
+use Rattle.text_lines.specs.Words.{first_word, behind_word, take_as, whole_line, name_of}
 use Rattle.script_lines.specs.declared.line.HeadLine.{HeadLine}
 use Rattle.script_lines.specs.declared.line.HeadLine.TheVariants as lines
 

@@ -2,8 +2,8 @@
 use Rattle.std.specs.Prelude.{ℕ, ◌&&◌, nat_lt, if◌then◌else◌, List, Option, Some, None, codes, bytes_eq}
 use Rattle.pcp_base.specs.Time.{Moment}
 use Rattle.text_lines.specs.Numbers.{◌>>=◌, number32, number64, whole_number}
-use Rattle.text_lines.specs.Words.{first_word, behind_word, take_space, take_as, whole_line}
-use Rattle.script_lines.specs.Words.{name_of, take_place, take_slot, take_value}
+use Rattle.text_lines.specs.Words.{first_word, behind_word, take_space, take_as, whole_line, name_of}
+use Rattle.script_lines.specs.Words.{take_place, take_slot, take_value}
 use Rattle.script_lines.specs.declared.line.Place.{Place}
 use Rattle.script_lines.specs.declared.line.StepLine.{StepLine}
 use Rattle.script_lines.specs.declared.line.StepLine.TheVariants as steps

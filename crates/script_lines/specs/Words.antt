@@ -1,17 +1,11 @@
 -- The parts of a script's lines.
-use Rattle.std.specs.Prelude.{ℕ, ℤ, pos, ◌==◌, if◌then◌else◌, List, [], ◌∷◌, Option, Some, None}
-use Rattle.std.specs.List.{list_any}
+use Rattle.std.specs.Prelude.{if◌then◌else◌, ℕ, ℤ, pos, List, Option, Some}
 use Rattle.text_lines.specs.Numbers.{◌>>=◌, below, number_of, number32, whole_number}
-use Rattle.text_lines.specs.Words.{take_as, take_space, optional, starts_quoted, text_in_quotes, whole_line}
+use Rattle.text_lines.specs.Words.{name_of, take_as, take_space, optional, starts_quoted, text_in_quotes, whole_line}
 use Rattle.script_lines.specs.declared.line.Place.{Place}
 use Rattle.script_lines.specs.declared.line.Slot.{Slot}
 use Rattle.script_lines.specs.declared.line.Given.{Given}
 use Rattle.script_lines.specs.declared.line.Given.TheVariants as given
-
--- a name: a word that isn't quoted, and without a zero byte
-unfoldable pub name_of : List ℕ → Option (List ℕ)
-name_of [] = None
-name_of (b ∷ bs) = if b == 34 then None else if list_any (λ c. c == 0) (b ∷ bs) then None else Some (b ∷ bs)
 
 -- the number of an instance, which isn't negative and has 31 bits
 unfoldable pub instance_of : List ℕ → Option ℤ

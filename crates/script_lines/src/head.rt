@@ -4,10 +4,10 @@ ghost use Rattle.text_lines.specs.Words.{Read};
 ghost use Rattle.script_lines.specs.Heads.{image_line, region_line, start_line, head_line};
 
 use crate::line::HeadLine;
-use crate::words::{take_count, take_name};
+use crate::words::take_count;
 use pcp_base::NoMemory;
 use std::alloc::Global;
-use text_lines::{Rest, TakeFault, split_word};
+use text_lines::{Rest, TakeFault, split_word, take_name};
 
 #[tactic(auto, unfolding(crate::specs::Heads::image_line))]
 fn image_line(alloc: Global, bytes: &[u8]) -> Result<HeadLine, TakeFault>

@@ -4,10 +4,10 @@ ghost use Rattle.text_lines.specs.Words.{Read};
 ghost use Rattle.script_lines.specs.Steps.{place_line, swap_line, add_line, begin_line, word_line, tick_line, flush_line, store_line, other_line, step_line};
 
 use crate::line::{Place, StepLine};
-use crate::words::{take_name, take_place, take_slot, take_value};
+use crate::words::{take_place, take_slot, take_value};
 use pcp_base::{NoMemory, Stamp};
 use std::alloc::Global;
-use text_lines::{Rest, TakeFault, split_word, whole_number};
+use text_lines::{Rest, TakeFault, split_word, take_name, whole_number};
 
 // A line that names a pass alone.
 #[tactic(auto, unfolding(crate::specs::Steps::place_line))]

@@ -2,40 +2,11 @@
 ghost use Rattle.std.specs.Prelude.{◌≡◌, IfOk};
 ghost use Rattle.text_lines.specs.Numbers.{number_of};
 ghost use Rattle.text_lines.specs.Words.{Read, Taken, take_as, optional};
-ghost use Rattle.script_lines.specs.Words.{name_of, instance_of, take_place, take_slot, quoted_value, number_value, take_value};
+ghost use Rattle.script_lines.specs.Words.{instance_of, take_place, take_slot, quoted_value, number_value, take_value};
 
 use crate::line::{Given, Place, Slot};
-use pcp_base::{Text, TextError};
 use std::alloc::Global;
 use text_lines::{Rest, TakeFault, read_number, starts_quoted, whole_number};
-
-// A name: a word that isn't quoted, without a zero byte.
-#[tactic(auto, using(crate::proofs::NoZeros::no_zero, crate::proofs::NoZeros::has_zero), unfolding(crate::specs::Words::name_of))]
-fn name_of(alloc: Global, word: &[u8]) -> Result<Text, TakeFault>
-    ensures { Read (name_of word.now) result }
-{
-    if word.is_empty() {
-        return Err(TakeFault::NoLine);
-    }
-    if starts_quoted(word) {
-        return Err(TakeFault::NoLine);
-    }
-    match Text::build(alloc, word) {
-        Ok(name) => Ok(name),
-        Err(TextError::Zero(_)) => Err(TakeFault::NoLine),
-        Err(TextError::NoMemory) => Err(TakeFault::NoMemory),
-    }
-}
-
-/// A name, behind one space.
-#[tactic(auto, unfolding(text_lines::specs::Words::take_as))]
-pub fn take_name(alloc: Global, rest: &mut Rest) -> Result<Text, TakeFault>
-    ensures { Taken (take_as name_of rest.old) result rest.new }
-{
-    let word = rest.word()?;
-    let name = name_of(alloc, word)?;
-    Ok(name)
-}
 
 /// A number of at most 20 digits, behind one space.
 #[tactic(auto, unfolding(text_lines::specs::Words::take_as))]

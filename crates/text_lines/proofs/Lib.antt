@@ -4,6 +4,7 @@ pub mod Feeds
 pub mod Hex
 pub mod Hexes
 pub mod LineBytes
+pub mod NoZeros
 pub mod NumberParts
 pub mod NumberRanges
 pub mod Quoting

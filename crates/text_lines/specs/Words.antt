@@ -1,6 +1,7 @@
 -- The parts of a line. Each is taken from the bytes that are left of a line, with the one space before it; what is
 -- taken comes with the bytes behind it.
 use Rattle.std.specs.Prelude.{◌≡◌, ℕ, zero, suc, ◌+◌, ◌*◌, Bool, false, ◌&&◌, ◌||◌, ◌==◌, not, nat_le, if◌then◌else◌, List, [], ◌∷◌, length, take, drop, Option, Some, None, Result, Ok, Err, codes, bytes_eq}
+use Rattle.std.specs.List.{list_any}
 use Rattle.text_lines.specs.declared.rest.TakeFault.{TakeFault}
 use Rattle.text_lines.specs.declared.rest.TakeFault.TheVariants as faults
 use Rattle.text_lines.specs.Numbers.{◌>>=◌, is_low_hex, hex_digit}
@@ -111,3 +112,8 @@ take_help bytes = do
 -- Nothing stands behind the last part.
 abbrev pub whole_line : {X : Type 0} → List ℕ → X → Option X
 whole_line left x = if length left == 0 then Some x else None
+
+-- a name: a word that isn't quoted, and without a zero byte
+unfoldable pub name_of : List ℕ → Option (List ℕ)
+name_of [] = None
+name_of (b ∷ bs) = if b == 34 then None else if list_any (λ c. c == 0) (b ∷ bs) then None else Some (b ∷ bs)

@@ -5,6 +5,7 @@
 
 mod laws;
 mod lines;
+mod names;
 mod numbers;
 mod quoted;
 mod rest;
@@ -15,6 +16,7 @@ pub use laws::{
     written_text_is_read,
 };
 pub use lines::split_line;
+pub use names::take_name;
 pub use numbers::{hex_number, int32, number32, number64, read_number, whole_number};
 pub use quoted::starts_quoted;
 pub use rest::{Rest, TakeFault, split_word};
