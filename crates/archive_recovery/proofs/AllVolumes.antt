@@ -40,8 +40,8 @@ pub torn_stands : (bytes : List ℕ) (at : ℕ) → IsTorn (drop at bytes) → N
 torn_stands bytes at torn next x s = torn_has_none s.payload (drop next bytes) s.stands.fits (subst IsTorn (behind_record bytes s.payload at next s.stands) torn)
 
 module _ (files : Files) (l : LabelFields) where
-  abbrev Holds : (ℕ × List Item) → Type 0
-  Holds v = LabelledFile IsItem (files (Volume v.0)) l (pos v.0) v.1 []
+  abbrev IsWholeVolume : (ℕ × List Item) → Type 0
+  IsWholeVolume v = LabelledFile IsItem (files (Volume v.0)) l (pos v.0) v.1 []
 
   pub none_earlier : (t : Tally) (top : Top) → top.bare ≡ true → top.volume ≡ 0 → top.length ≡ 132 → EarlierStand files l 0 t t top
   none_earlier t top bare first size = record {
@@ -92,7 +92,7 @@ module _ (files : Files) (l : LabelFields) where
       let vs : List (ℕ × List Item) = e.volumes ++ (n, s.items) ∷ [] in
       record {
         volumes = vs;
-        each = each-append Holds e.volumes ((n, s.items) ∷ []) e.each (whole, tt);
+        each = each-append IsWholeVolume e.volumes ((n, s.items) ∷ []) e.each (whole, tt);
         ascend = ascend_last n s.items e.volumes e.ascend e.below;
         below = each-append (λ (v : ℕ × List Item). v.0 < n + 1) e.volumes ((n, s.items) ∷ []) (one_above n e.volumes e.below) (omega arith, tt);
         listed = next_listed {P = λ k. (files (Volume k) ≡ []) ⊎ Contains (numbers vs) k} n
@@ -114,7 +114,7 @@ module _ (files : Files) (l : LabelFields) where
   pub whole_below : (n : ℕ) (old new : Tally) (top : Top) → EarlierStand files l n old new top → AreWholeBelow files l n
   whole_below n old new top e k lt = ⊎_elim (λ (none : files (Volume k) ≡ []). inl none) (λ (has : Contains (numbers e.volumes) k). found has) (e.listed k lt)
     where
-      each_number : (vs : List (ℕ × List Item)) → AllByRecursion Holds vs → AllByRecursion (IsWhole files l) (numbers vs)
+      each_number : (vs : List (ℕ × List Item)) → AllByRecursion IsWholeVolume vs → AllByRecursion (IsWhole files l) (numbers vs)
       each_number [] all = tt
       each_number (v ∷ vs) all = (inr (v.1, all.0), each_number vs all.1)
 
@@ -149,7 +149,7 @@ module _ (files : Files) (l : LabelFields) where
 
   -- ---- the last volume
 
-  with_last : (n : ℕ) (items : List Item) (vs : List (ℕ × List Item)) → AllByRecursion Holds vs → Ascend vs → AllByRecursion (λ (v : ℕ × List Item). v.0 < n) vs → IsLastVolume (files (Volume n)) l n items → AreVolumes files l (vs ++ (n, items) ∷ [])
+  with_last : (n : ℕ) (items : List Item) (vs : List (ℕ × List Item)) → AllByRecursion IsWholeVolume vs → Ascend vs → AllByRecursion (λ (v : ℕ × List Item). v.0 < n) vs → IsLastVolume (files (Volume n)) l n items → AreVolumes files l (vs ++ (n, items) ∷ [])
   with_last n items [] each up below last = last
   with_last n items (v ∷ []) each up below last = (each.0, below.0, last)
   with_last n items (v ∷ w ∷ vs) each up below last = (each.0, up.0.0, with_last n items (w ∷ vs) each.1 up.1 below.1 last)
@@ -179,7 +179,7 @@ module _ (files : Files) (l : LabelFields) where
         let ends : end ≡ length left = omega (arith, length-take end (files (Volume n)), within) in
         let long : AllByRecursion (λ (v : ℕ × List Item). 132 ≤ length (files (Volume v.0))) all =
         each-append (λ (v : ℕ × List Item). 132 ≤ length (files (Volume v.0))) e.volumes ((n, items) ∷ [])
-        (each-map Holds (λ (v : ℕ × List Item). 132 ≤ length (files (Volume v.0))) (λ v h. labelled_long IsItem (files (Volume v.0)) l (pos v.0) v.1 [] h) e.volumes e.each)
+        (each-map IsWholeVolume (λ (v : ℕ × List Item). 132 ≤ length (files (Volume v.0))) (λ v h. labelled_long IsItem (files (Volume v.0)) l (pos v.0) v.1 [] h) e.volumes e.each)
         (omega (arith, low, within), tt) in
         let labelled : labelled_volumes files all ≡ all = labelled_all files all long in
         record {

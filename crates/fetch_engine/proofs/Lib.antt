@@ -1,7 +1,7 @@
 pub mod Found
 pub mod Holding
 pub mod Keeping
-pub mod Places
+pub mod SeatPasses
 pub mod Served
 pub mod Staying
 pub mod Tries

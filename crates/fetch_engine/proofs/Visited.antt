@@ -19,7 +19,7 @@ use Rattle.fetch_engine.specs.Servers.{IsServer, IsSeated, RowsAscendFrom, regio
 use Rattle.fetch_engine.specs.Visits.{IsReadBy, Visit, IsVisit, AreRead, IsLoaded, AreLoaded, AreNamed, IsAnswered, IsFetched, IsReadAt, IsReadIf, IsReadFor, lies_in}
 use Rattle.fetch_engine.specs.declared.server.Mounted.{Mounted}
 use Rattle.fetch_answers.specs.declared.shot.Shot.{Shot}
-use Rattle.fetch_engine.proofs.Places.{is_there, is_here}
+use Rattle.fetch_engine.proofs.SeatPasses.{is_there, is_here}
 use Rattle.fetch_engine.proofs.Tries.{unloaded, loaded_trans}
 
 -- Loads of all passes

@@ -33,7 +33,7 @@ impl Model for Seat {
 
 impl Seat {
     /// A note of what the seat's pass of the region at a position has seen.
-    #[tactic(auto, using(crate::proofs::Places::is_there, crate::proofs::Places::is_here, crate::proofs::Places::seated_by, crate::proofs::Holding::kept_noted))]
+    #[tactic(auto, using(crate::proofs::SeatPasses::is_there, crate::proofs::SeatPasses::is_here, crate::proofs::SeatPasses::seated_by, crate::proofs::Holding::kept_noted))]
     pub fn note(&mut self, server: &Server, index: u32) -> Note
         requires seated { IsSeated server.now self.old.tokens }
         requires there { index < length server.now }
@@ -45,7 +45,7 @@ impl Seat {
     }
 
     /// The seat's pass of the region at a position takes the longer of what it and the note have seen.
-    #[tactic(auto, using(crate::proofs::Places::is_there, crate::proofs::Places::is_here, crate::proofs::Places::seated_by, crate::proofs::Holding::kept_learned))]
+    #[tactic(auto, using(crate::proofs::SeatPasses::is_there, crate::proofs::SeatPasses::is_here, crate::proofs::SeatPasses::seated_by, crate::proofs::Holding::kept_learned))]
     pub fn learn(&mut self, server: &Server, index: u32, note: Note)
         requires seated { IsSeated server.now self.old.tokens }
         requires there { index < length server.now }
@@ -59,7 +59,7 @@ impl Seat {
 
     /// Ends another pass of the region at a position: the seat's pass keeps the list of its entries, which are all it made,
     /// and the lists that it had kept.
-    #[tactic(auto, using(crate::proofs::Places::is_there, crate::proofs::Places::is_here, crate::proofs::Places::seated_by, crate::proofs::Holding::kept_gathered))]
+    #[tactic(auto, using(crate::proofs::SeatPasses::is_there, crate::proofs::SeatPasses::is_here, crate::proofs::SeatPasses::seated_by, crate::proofs::Holding::kept_gathered))]
     pub fn gather(&mut self, server: &Server, index: u32, ended: Pass)
         requires seated { IsSeated server.now self.old.tokens }
         requires there { index < length server.now }

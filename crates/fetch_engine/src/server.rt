@@ -163,7 +163,7 @@ impl Server {
     }
 
     /// A seat with these passes, one of each region in ascending cluster.
-    #[tactic(auto, using(crate::proofs::Holding::unknown_kept, crate::proofs::Places::is_there))]
+    #[tactic(auto, using(crate::proofs::Holding::unknown_kept, crate::proofs::SeatPasses::is_there))]
     pub fn seat(&self, alloc: Global, passes: Vec<Pass>) -> Result<Seat, (Vec<Pass>, NoMemory)>
         requires { IsSeated self.now passes.items }
         ensures { MatchResult result (λ seat. seat.tokens ≡ passes.items) (λ refused. refused.0.items ≡ passes.items) }

@@ -164,7 +164,7 @@ fn read_known(
 }
 
 /// Reads what is known of each region, in order.
-#[tactic(auto, using(crate::proofs::Visited::next_read, crate::proofs::Visited::all_shots_read, crate::proofs::Visited::loaded_at, crate::proofs::Visited::many_there, crate::proofs::Visited::one_there, crate::proofs::Holding::kept_at, crate::proofs::Places::is_there))]
+#[tactic(auto, using(crate::proofs::Visited::next_read, crate::proofs::Visited::all_shots_read, crate::proofs::Visited::loaded_at, crate::proofs::Visited::many_there, crate::proofs::Visited::one_there, crate::proofs::Holding::kept_at, crate::proofs::SeatPasses::is_there))]
 pub fn read_all(
     alloc: Global,
     rows: &[Mounted],
@@ -201,7 +201,7 @@ fn read_row(alloc: Global, row: &Mounted, pass: &mut Pass) -> Result<Shot, NoMem
 }
 
 /// What was read of each region, in order.
-#[tactic(auto, using(crate::proofs::Visited::nothing_read, crate::proofs::Visited::one_read, crate::proofs::Visited::all_read, crate::proofs::Visited::loaded_at, crate::proofs::Visited::many_there, crate::proofs::Visited::one_there, crate::proofs::Places::is_there))]
+#[tactic(auto, using(crate::proofs::Visited::nothing_read, crate::proofs::Visited::one_read, crate::proofs::Visited::all_read, crate::proofs::Visited::loaded_at, crate::proofs::Visited::many_there, crate::proofs::Visited::one_there, crate::proofs::SeatPasses::is_there))]
 pub fn read_rows(
     alloc: Global,
     rows: &[Mounted],

@@ -4,7 +4,7 @@ pub mod MadeOrder
 pub mod MadeSteps
 pub mod Numbered
 pub mod Passing
-pub mod Places
+pub mod NamePositions
 pub mod Ruled
 pub mod ScriptLines
 pub mod Statements

@@ -69,7 +69,7 @@ fn may_open(said: &Said, file: &Text, image: &Image, capacity: u128, passes: u12
 }
 
 /// Adds a region on the image that stands here, if there is one, where the rules for regions have it.
-#[tactic(auto, using(crate::proofs::Places::stays), unfolding(crate::specs::Heads::region_at))]
+#[tactic(auto, using(crate::proofs::NamePositions::stays), unfolding(crate::specs::Heads::region_at))]
 pub fn add_region(
     said: &mut Said,
     place: Option<u32>,
@@ -128,7 +128,7 @@ fn statement_of(alloc: Global, line: &[u8]) -> Result<Option<Group>, NoMemory>
 }
 
 /// Adds the group of a line, where the line is one statement of the configuration.
-#[tactic(auto, using(crate::proofs::Places::stays))]
+#[tactic(auto, using(crate::proofs::NamePositions::stays))]
 pub fn add_group(alloc: Global, said: &mut Said, line: &[u8]) -> Result<(), LineStop>
     ensures step { Takes (with_group said.old (statement_of line.now)) said.new result }
     ensures kept { OnOk result (Stays said.old said.new) }

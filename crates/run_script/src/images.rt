@@ -28,7 +28,7 @@ pub fn take_first_line(
 }
 
 // Adds a whole image.
-#[tactic(auto, using(crate::proofs::Places::image_kept), unfolding(crate::specs::Reading::with_image))]
+#[tactic(auto, using(crate::proofs::NamePositions::image_kept), unfolding(crate::specs::Reading::with_image))]
 fn add_image(
     alloc: Global,
     said: &mut Said,
@@ -50,7 +50,7 @@ fn add_image(
 }
 
 /// A line among those of an image, which is without its line feed.
-#[tactic(auto, using(crate::proofs::Places::stays), unfolding(crate::specs::Reading::with_image_line))]
+#[tactic(auto, using(crate::proofs::NamePositions::stays), unfolding(crate::specs::Reading::with_image_line))]
 pub fn take_image_line(
     alloc: Global,
     said: &mut Said,

@@ -19,7 +19,7 @@ use std::collections::BTreeMap;
 use text_lines::split_line;
 
 // A line of the head between images, which is without its line feed.
-#[tactic(auto, using(crate::proofs::Places::stays), unfolding(crate::specs::Reading::with_head_line))]
+#[tactic(auto, using(crate::proofs::NamePositions::stays), unfolding(crate::specs::Reading::with_head_line))]
 fn take_head_line(
     alloc: Global,
     said: &mut Said,
@@ -60,7 +60,7 @@ fn take_head_line(
 }
 
 // A line of a script, which is without its line feed.
-#[tactic(auto, using(crate::proofs::Places::stays), unfolding(crate::specs::Reading::with_script_line))]
+#[tactic(auto, using(crate::proofs::NamePositions::stays), unfolding(crate::specs::Reading::with_script_line))]
 fn take_script_line(
     alloc: Global,
     stage: Stage,

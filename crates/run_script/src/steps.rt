@@ -111,7 +111,7 @@ fn last_behind(last: Option<Stamp>, line: &Line) -> Option<Stamp>
 }
 
 // Adds a step, if there is one.
-#[tactic(auto, using(crate::proofs::Places::stays))]
+#[tactic(auto, using(crate::proofs::NamePositions::stays))]
 fn add_line(said: &mut Said, number: u32, line: Option<Line>) -> Result<(), LineStop>
     ensures step { Takes (with_line number said.old line) said.new result }
     ensures kept { OnOk result (Stays said.old said.new) }

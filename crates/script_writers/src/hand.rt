@@ -8,7 +8,7 @@ ghost use Rattle.script_writers.specs.declared.writer.Writer.TheVariants.{Away};
 ghost use Rattle.script_writers.specs.Hands.{ActsAt, AreIdle, AreLaidDown, ArePresent, AreWriters, Comes, HasWritten, HaveRun, IsHand, IsReadyAt, IsSameHand, LaidDown, StayAway, hand_of, writer_of as writer_in};
 ghost use Rattle.script_writers.specs.Writers.{IsWriter, RunsLine, StaysWriter};
 
-use crate::places::place_at;
+use crate::positions::place_at;
 use crate::writer::Writer;
 use fetch_engine::Server;
 use pcp_base::NoMemory;

@@ -5,7 +5,7 @@
 
 mod dealing;
 mod hand;
-mod places;
+mod positions;
 mod running;
 mod stores;
 mod writer;

@@ -11,7 +11,7 @@ ghost use Rattle.script_writers.specs.Written.{AreReady, AreSame, AreWritten, Ha
 
 use crate::dealing::{deal, give_back};
 use crate::hand::Hand;
-use crate::places::clusters_of;
+use crate::positions::clusters_of;
 use fetch_engine::Server;
 use pcp_base::NoMemory;
 use pcp_outside::Turn;

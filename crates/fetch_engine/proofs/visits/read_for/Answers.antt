@@ -4,7 +4,7 @@ use Rattle.std.specs.Prelude.{position}
 use Rattle.region_rule.specs.Seats.{Token}
 use Rattle.fetch_engine.specs.Visits.{lies_in}
 use Rattle.fetch_engine.specs.declared.server.Mounted.{Mounted}
-use Rattle.fetch_engine.proofs.Places.{is_there, is_here}
+use Rattle.fetch_engine.proofs.SeatPasses.{is_there, is_here}
 use Rattle.fetch_engine.proofs.Visited.{none_loaded, one_for, loaded_for}
 use Rattle.fetch_engine.proofs.visits.read_for.Goals as goal
 

@@ -1,6 +1,6 @@
 -- The first image of a name stays, or one stands behind the others.
 use Rattle.std.proofs.Common.{◌∙◌, ap, sym, is_some}
-use Rattle.run_script.proofs.Places.{first_stays, one_more}
+use Rattle.run_script.proofs.NamePositions.{first_stays, one_more}
 use Rattle.run_script.proofs.names.keep.Goals as goal
 
 pub returns-then-is_some : goal.returns-then-is_some

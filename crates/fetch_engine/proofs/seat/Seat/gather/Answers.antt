@@ -2,7 +2,7 @@
 use Rattle.std.proofs.Common.{rules, ap, ◌∙◌}
 use Rattle.region_rule.specs.Seats.{Token}
 use Rattle.fetch_engine.specs.Servers.{IsSeated}
-use Rattle.fetch_engine.proofs.Places.{seated_at}
+use Rattle.fetch_engine.proofs.SeatPasses.{seated_at}
 use Rattle.fetch_engine.proofs.seat.Seat.gather.Goals as goal
 
 pub returns-clause-seated : goal.returns-clause-seated

@@ -8,7 +8,7 @@ use Rattle.script_passes.proofs.Turning.{was_there}
 use Rattle.script_writers.proofs.Clusters.{clusters_are}
 use Rattle.script_writers.proofs.Handed.{take_all}
 use Rattle.script_writers.proofs.Laying.{map_next}
-use Rattle.script_writers.proofs.places.clusters_of.Goals as goal
+use Rattle.script_writers.proofs.positions.clusters_of.Goals as goal
 
 pub loop-row-preserved : goal.loop-row-preserved
 loop-row-preserved c =

@@ -4,7 +4,7 @@ use Rattle.run_script.specs.declared.script.RegionRow.{RegionRow}
 use Rattle.script_passes.proofs.Placing.{cluster_at}
 use Rattle.script_passes.proofs.Turning.{was_there}
 use Rattle.script_writers.proofs.Clusters.{cluster_there, served_at}
-use Rattle.script_writers.proofs.places.place_at.Goals as goal
+use Rattle.script_writers.proofs.positions.place_at.Goals as goal
 
 pub unreachable-requires : goal.unreachable-requires
 unreachable-requires c =
