@@ -25,7 +25,7 @@ use Rattle.archive_loading.proofs.Passed.{behind_record}
 use Rattle.archive_recovery.specs.declared.counting.VolumeRead.TheVariants.{Stops}
 use Rattle.archive_recovery.specs.declared.reading.Top.{Top}
 use Rattle.archive_recovery.specs.declared.stamps.Tally.{Tally}
-use Rattle.archive_recovery.specs.Counts.{Counted}
+use Rattle.archive_recovery.specs.Counts.{CountsMore}
 use Rattle.archive_recovery.specs.RecoverFaults.{IsWhole, AreWholeBelow, VolumeIsRefused}
 use Rattle.archive_recovery.specs.Volumes.{Ascend, IsTopOf, EarlierStand, VolumesStand, VolumeStands, IsVolumeRead}
 use Rattle.archive_recovery.proofs.Latest.{counted_none, counted_on}
@@ -67,7 +67,7 @@ module _ (files : Files) (l : LabelFields) where
     ascend = s.ascend;
     below = one_above n s.volumes s.below;
     listed = next_listed {P = λ k. (files (Volume k) ≡ []) ⊎ Contains (numbers s.volumes) k} n s.listed (inl none);
-    counted = subst (Counted old (items_of s.volumes)) (sym same) s.counted;
+    counted = subst (CountsMore old (items_of s.volumes)) (sym same) s.counted;
     last = s.last;
   }
 
@@ -98,7 +98,7 @@ module _ (files : Files) (l : LabelFields) where
         listed = next_listed {P = λ k. (files (Volume k) ≡ []) ⊎ Contains (numbers vs) k} n
             (λ k lt. ⊎_elim (λ (none : files (Volume k) ≡ []). inl none) (λ (has : Contains (numbers e.volumes) k). inr (still_listed e.volumes (n, s.items) k has)) (e.listed k lt))
             (inr (last_listed e.volumes n s.items));
-        counted = subst (λ (t : List Item). Counted old t new) (items_more e.volumes n s.items) (counted_on old mid new (items_of e.volumes) s.items e.counted s.counted);
+        counted = subst (λ (t : List Item). CountsMore old t new) (items_more e.volumes n s.items) (counted_on old mid new (items_of e.volumes) s.items e.counted s.counted);
         last = inr (record {
           some = refl;
           before = e.volumes;
@@ -154,7 +154,7 @@ module _ (files : Files) (l : LabelFields) where
   with_last n items (v ∷ []) each up below last = (each.0, below.0, last)
   with_last n items (v ∷ w ∷ vs) each up below last = (each.0, up.0.0, with_last n items (w ∷ vs) each.1 up.1 below.1 last)
 
-  module _ (n : ℕ) (old mid new : Tally) (top : Top) (e : EarlierStand files l n old mid top) (past : (k : ℕ) → n < k → files (Volume k) ≡ []) (items : List Item) (counted : Counted mid items new) where
+  module _ (n : ℕ) (old mid new : Tally) (top : Top) (e : EarlierStand files l n old mid top) (past : (k : ℕ) → n < k → files (Volume k) ≡ []) (items : List Item) (counted : CountsMore mid items new) where
     abbrev all : List (ℕ × List Item)
     all = e.volumes ++ (n, items) ∷ []
 
@@ -167,8 +167,8 @@ module _ (files : Files) (l : LabelFields) where
         from_it : n ≤ k → files (Volume k) ≡ []
         from_it le = ⊎_elim (past k) (λ (also : k ≤ n). absurd (none (subst (Contains (numbers all)) (let same : n ≡ k = omega arith in same) (last_listed e.volumes n items)))) (cases_lt n k)
 
-    all_counted : Counted old (items_of all) new
-    all_counted = subst (λ (t : List Item). Counted old t new) (items_more e.volumes n items) (counted_on old mid new (items_of e.volumes) items e.counted counted)
+    all_counted : CountsMore old (items_of all) new
+    all_counted = subst (λ (t : List Item). CountsMore old t new) (items_more e.volumes n items) (counted_on old mid new (items_of e.volumes) items e.counted counted)
 
     pub whole_last : (end size : ℕ) → LabelledFile IsItem (files (Volume n)) l (pos n) items (drop end (files (Volume n))) → 132 ≤ end → end ≤ length (files (Volume n)) → size ≡ length (files (Volume n)) → IsTorn (drop end (files (Volume n)))
         → VolumesStand files l old new (Some (record { number = n; end = Some end; length = size })) (record { bare = false; volume = n; length = end })

@@ -17,7 +17,7 @@ use Rattle.archive_loading.proofs.Passed.{Passed, one_passed}
 use Rattle.archive_loading.proofs.PartsRead.{label_long}
 use Rattle.archive_recovery.specs.declared.counting.VolumeRead.TheVariants.{Stops}
 use Rattle.archive_recovery.specs.declared.stamps.Tally.{Tally}
-use Rattle.archive_recovery.specs.Counts.{Counted}
+use Rattle.archive_recovery.specs.Counts.{CountsMore}
 use Rattle.archive_recovery.specs.Volumes.{StandUpTo, ItemsEnd, ItemsBreak, VolumeStands, VolumeBreaks, IsVolumeRead}
 use Rattle.archive_recovery.proofs.Latest.{counted_none, counted_on}
 
@@ -31,12 +31,12 @@ one_stood bytes at next xs x s stands =
 pub record ItemsSoFar (bytes : List ℕ) (at : ℕ) (old new : Tally) : Type 0 where
   pub items : List Item
   pub stand : StandUpTo bytes at items
-  pub counted : Counted old items new
+  pub counted : CountsMore old items new
 
 pub no_item_yet : (bytes : List ℕ) (t : Tally) → ItemsSoFar bytes 132 t t
 no_item_yet bytes t = record { items = []; stand = record { payloads = []; read = tt; is = refl }; counted = counted_none t }
 
-pub one_item_more : (bytes : List ℕ) (at next : ℕ) (x : Item) (old mid new : Tally) → ItemsSoFar bytes at old mid → ItemStands bytes at next x → Counted mid (x ∷ []) new → ItemsSoFar bytes next old new
+pub one_item_more : (bytes : List ℕ) (at next : ℕ) (x : Item) (old mid new : Tally) → ItemsSoFar bytes at old mid → ItemStands bytes at next x → CountsMore mid (x ∷ []) new → ItemsSoFar bytes next old new
 one_item_more bytes at next x old mid new s stands c = record {
   items = s.items ++ x ∷ [];
   stand = one_stood bytes at next s.items x s.stand stands;

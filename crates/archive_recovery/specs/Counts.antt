@@ -6,6 +6,6 @@ use Rattle.archive_recovery.specs.declared.stamps.Tally.{Tally}
 use Rattle.archive_recovery.specs.Stamps.{item_stamps, IsLatest}
 
 -- these items more
-pub record Counted (old : Tally) (items : List Item) (new : Tally) : Type 0 where
+pub record CountsMore (old : Tally) (items : List Item) (new : Tally) : Type 0 where
   pub more : new.items ≡ old.items + length items
   pub on : (moments : List Moment) → IsLatest moments old.last → IsLatest (moments ++ item_stamps items) new.last

@@ -23,7 +23,7 @@ use Rattle.archive_recovery.specs.declared.reading.VolumesRead.TheVariants.{Whol
 use Rattle.archive_recovery.specs.declared.reading.Top.{Top}
 use Rattle.archive_recovery.specs.declared.mending.Last.{Last}
 use Rattle.archive_recovery.specs.declared.stamps.Tally.{Tally}
-use Rattle.archive_recovery.specs.Counts.{Counted}
+use Rattle.archive_recovery.specs.Counts.{CountsMore}
 use Rattle.archive_recovery.specs.Damage.{IsVolumeEnd}
 use Rattle.archive_recovery.specs.RecoverFaults.{AreWholeBelow, VolumeIsRefused}
 
@@ -40,7 +40,7 @@ pub record ItemsEnd (bytes : List ℕ) (end : ℕ) (old new : Tally) : Type 0 wh
   pub low : 132 ≤ end
   pub within : end ≤ length bytes
   pub torn : IsTorn (drop end bytes)
-  pub counted : Counted old items new
+  pub counted : CountsMore old items new
 
 -- or something else
 pub record ItemsBreak (bytes : List ℕ) (at : ℕ) : Type 0 where
@@ -63,7 +63,7 @@ pub record VolumeStands (bytes : List ℕ) (l : LabelFields) (n end size : ℕ) 
   pub within : end ≤ length bytes
   pub is_size : size ≡ length bytes
   pub torn : IsTorn (drop end bytes)
-  pub counted : Counted old items new
+  pub counted : CountsMore old items new
 
 -- of its label and whole records, and then something else
 pub record VolumeBreaks (bytes : List ℕ) (l : LabelFields) (n offset : ℕ) : Type 0 where
@@ -107,7 +107,7 @@ pub record EarlierStand (files : Files) (l : LabelFields) (n : ℕ) (old new : T
   pub ascend : Ascend volumes
   pub below : AllByRecursion (λ (v : ℕ × List Item). v.0 < n) volumes
   pub listed : (k : ℕ) → k < n → (files (Volume k) ≡ []) ⊎ Contains (map (λ (v : ℕ × List Item). v.0) volumes) k
-  pub counted : Counted old (items_of volumes) new
+  pub counted : CountsMore old (items_of volumes) new
   pub last : IsTopOf files l volumes top
 
 abbrev pub IsEarlier : Files → LabelFields → ℕ → Tally → Tally → Earlier → Type 0
@@ -131,7 +131,7 @@ pub record VolumesStand (files : Files) (l : LabelFields) (old new : Tally) (las
   pub are : AreVolumes files l volumes
   pub ascend : Ascend (labelled_volumes files volumes)
   pub others : (n : ℕ) → (Contains (map (λ (v : ℕ × List Item). v.0) volumes) n → ⊥) → files (Volume n) ≡ []
-  pub counted : Counted old (items_of volumes) new
+  pub counted : CountsMore old (items_of volumes) new
   pub ends : IsLastOf files l volumes last
   pub top_is : IsTopOf files l (labelled_volumes files volumes) top
 

@@ -1,7 +1,7 @@
 //! The latest stamp so far, and how many items.
 ghost use Rattle.std.specs.Prelude.{◌≡◌, [], ◌∷◌, OnOk};
 ghost use Rattle.pcp_model.specs.Payload.{stamp_of};
-ghost use Rattle.archive_recovery.specs.Counts.{Counted};
+ghost use Rattle.archive_recovery.specs.Counts.{CountsMore};
 
 use archive_loading::later;
 use pcp_base::{Item, NoMemory, Stamp};
@@ -26,7 +26,7 @@ fn stamp_of(item: &Item) -> Stamp
 impl Tally {
     /// One item more.
     pub(crate) fn count(&mut self, item: &Item) -> Result<(), NoMemory>
-        ensures { OnOk result (Counted self.old (item.now ∷ []) self.new) }
+        ensures { OnOk result (CountsMore self.old (item.now ∷ []) self.new) }
     {
         if self.items == u64::MAX {
             return Err(NoMemory);

@@ -50,7 +50,7 @@ Tells (Err (Status n)) asked = asked ≡ Err n
 Tells (Err NoMemory) asked = Unit {0}
 
 -- what a call told, or its status, has this, unless memory was refused
-abbrev pub Told : {X : Type 0} → Result X AskFault → (Result X ℤ → Type 0) → Type 0
-Told (Ok x) P = P (Ok x)
-Told (Err (Status n)) P = P (Err n)
-Told (Err NoMemory) P = Unit {0}
+abbrev pub AnswerHas : {X : Type 0} → Result X AskFault → (Result X ℤ → Type 0) → Type 0
+AnswerHas (Ok x) P = P (Ok x)
+AnswerHas (Err (Status n)) P = P (Err n)
+AnswerHas (Err NoMemory) P = Unit {0}

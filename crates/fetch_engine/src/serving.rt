@@ -1,6 +1,6 @@
 //! Fetches and name spaces of a server's regions.
 ghost use Rattle.std.specs.Prelude.{◌≡◌, ◌<◌, length, IfOk, IfErr, List as Sequence};
-ghost use Rattle.fetch_answers.specs.Asks.{desc_asked, instances_asked, Told};
+ghost use Rattle.fetch_answers.specs.Asks.{desc_asked, instances_asked, AnswerHas};
 ghost use Rattle.fetch_answers.specs.Fetches.{IsFetchFault};
 ghost use Rattle.fetch_answers.specs.Readings.{AreInOrder, RegionReading};
 ghost use Rattle.fetch_engine.specs.Servers.{IsSeated};
@@ -88,7 +88,7 @@ impl Server {
     #[tactic(auto, using(crate::proofs::Visited::in_order_for, crate::proofs::Visited::still_seated, crate::proofs::Holding::still_kept))]
     pub fn description(&self, alloc: Global, seat: &mut Seat, pmid: Pmid) -> Result<Desc, AskFault>
         requires { IsSeated self.now seat.old.tokens }
-        ensures told { Told result (λ told. (readings : Sequence RegionReading) × IsReadFor pmid self.now seat.old.tokens readings seat.new.tokens × (told ≡ desc_asked readings pmid)) }
+        ensures told { AnswerHas result (λ told. (readings : Sequence RegionReading) × IsReadFor pmid self.now seat.old.tokens readings seat.new.tokens × (told ≡ desc_asked readings pmid)) }
         ensures loads { AreLoaded seat.old.tokens seat.new.tokens }
         ensures seated { IsSeated self.now seat.new.tokens }
     {
@@ -106,7 +106,7 @@ impl Server {
         indom: InDom,
     ) -> Result<List<(i32, Text)>, AskFault>
         requires { IsSeated self.now seat.old.tokens }
-        ensures told { Told result (λ told. (readings : Sequence RegionReading) × IsReadFor indom self.now seat.old.tokens readings seat.new.tokens × (told ≡ instances_asked readings indom)) }
+        ensures told { AnswerHas result (λ told. (readings : Sequence RegionReading) × IsReadFor indom self.now seat.old.tokens readings seat.new.tokens × (told ≡ instances_asked readings indom)) }
         ensures loads { AreLoaded seat.old.tokens seat.new.tokens }
         ensures seated { IsSeated self.now seat.new.tokens }
     {

@@ -18,7 +18,7 @@ use Rattle.pcp_outside.specs.Devices.{Appends, Becomes, held_after_append, holdi
 use Rattle.logger_core.specs.Keeps.{Start, Keeps}
 use Rattle.logger_core.specs.Laws.{Announces}
 use Rattle.logger_core.specs.Meant.{Meant, Stands, items_in}
-use Rattle.logger_core.specs.Going.{Grown}
+use Rattle.logger_core.specs.Going.{GrowsBy}
 use Rattle.logger_core.specs.Runs.{Rise, AreItemsToCome, SurvivesWith}
 use Rattle.logger_core.proofs.Announced.{item_announced}
 use Rattle.logger_core.proofs.Pointwise.{added_none, added_twice, other_added}
@@ -85,7 +85,7 @@ module _ (m : Meant) (number : ℕ) (held : Holdings) (payloads : List (List ℕ
     change_is : Becomes (Volume number) (held_after_append (held (Volume number)) (frames payloads)) held new
     change_is = subst (λ t. Becomes (Volume number) (held_after_append (held (Volume number)) t) held new) is change
 
-    pub items_grown : Grown m [] [] items (with_added (Volume number) bytes m.files) number new
+    pub items_grown : GrowsBy m [] [] items (with_added (Volume number) bytes m.files) number new
     items_grown = record {
       new = record { start = m.start; files = said.files; contents = said.new; acknowledged = m.acknowledged };
       started = refl;
@@ -100,6 +100,6 @@ module _ (m : Meant) (number : ℕ) (held : Holdings) (payloads : List (List ℕ
       };
     }
 
-  pub items_after : {E : Type 0} (new : Holdings) (result : Result (Unit {0}) E) → Appends (Volume number) bytes held new result → OnOk result (Grown m [] [] items (with_added (Volume number) bytes m.files) number new)
+  pub items_after : {E : Type 0} (new : Holdings) (result : Result (Unit {0}) E) → Appends (Volume number) bytes held new result → OnOk result (GrowsBy m [] [] items (with_added (Volume number) bytes m.files) number new)
   items_after new (Ok v) change = items_grown new change
   items_after new (Err e) change = tt

@@ -12,12 +12,12 @@ use Rattle.archive_meta.specs.Enough.{AreEnough}
 use Rattle.archive_meta.specs.Records.{Adds}
 use Rattle.logger_core.specs.declared.ends.Ends.{Ends}
 use Rattle.logger_core.specs.declared.preparing.Made.{Made}
-use Rattle.logger_core.specs.Going.{Flushed, IsFlushed}
+use Rattle.logger_core.specs.Going.{FlushIsDone, IsFlushed}
 use Rattle.logger_core.specs.Logging.{IsLogged, IsMadeOf, IsPrepared}
 use Rattle.logger_core.specs.Meant.{Meant, Kept, IsAt, IsLogger}
 use Rattle.logger_core.specs.Writing.{IsBounded, ItemWritten, MayBeWritten}
 
-pub is_flushed : (m : Meant) (old : Kept) (after : Ends) (held new : Holdings) → IsLogger m old held → Flushed m old.ends after new
+pub is_flushed : (m : Meant) (old : Kept) (after : Ends) (held new : Holdings) → IsLogger m old held → FlushIsDone m old.ends after new
     → IsFlushed m old (record { label = old.label; records = old.records; ends = after; limit = old.limit; closed = old.closed }) new
 is_flushed m old after held new l f = record {
   new = f.new;
@@ -49,7 +49,7 @@ may_write m old now answer facts made held l p some enough = record {
   added = subst (λ rs. Adds rs made.records now.records) (sym l.records_are) p.added;
 }
 
-pub flushed_for : (m : Meant) (old inside : Kept) → inside ≡ old → (after : Ends) (held new : Holdings) → IsLogger m old held → (IsAt m inside.ends held → Flushed m inside.ends after new)
+pub flushed_for : (m : Meant) (old inside : Kept) → inside ≡ old → (after : Ends) (held new : Holdings) → IsLogger m old held → (IsAt m inside.ends held → FlushIsDone m inside.ends after new)
     → IsFlushed m old (record { label = inside.label; records = inside.records; ends = after; limit = inside.limit; closed = inside.closed }) new
 flushed_for m old inside is after held new l f =
     let k : IsLogger m inside held = subst (λ (x : Kept). IsLogger m x held) (sym is) l in

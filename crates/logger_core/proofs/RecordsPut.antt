@@ -14,7 +14,7 @@ use Rattle.pcp_outside.specs.Devices.{AppendsSure, Becomes, made_sure, holdings_
 use Rattle.logger_core.specs.Keeps.{Keeps, is_sure}
 use Rattle.logger_core.specs.Laws.{Announces, AreRecordsToCome}
 use Rattle.logger_core.specs.Meant.{Meant, Stands, SurvivesOf, items_in}
-use Rattle.logger_core.specs.Going.{Grown}
+use Rattle.logger_core.specs.Going.{GrowsBy}
 use Rattle.logger_core.proofs.Announced.{records_announced}
 use Rattle.logger_core.proofs.Nearer.{all_known}
 use Rattle.logger_core.proofs.Pointwise.{added_none, other_added}
@@ -30,9 +30,9 @@ nothing_read payloads (r ∷ rs) none read = absurd (subst (λ ps. AreRead IsRec
 
 -- no bytes are no records
 pub none_grown : (m : Meant) (number : ℕ) (held : Holdings) (payloads : List (List ℕ)) (records : List MetaRecord) (bytes : List ℕ) → Stands m number held → bytes ≡ frames payloads → bytes ≡ [] → AreRead IsRecord payloads records
-    → Grown m records [] [] (with_added Meta bytes m.files) number held
+    → GrowsBy m records [] [] (with_added Meta bytes m.files) number held
 none_grown m number held payloads records bytes at is none read =
-    subst (λ rs. Grown m rs [] [] (with_added Meta bytes m.files) number held) (sym (nothing_read payloads records (no_payload payloads (sym is ∙ none)) read))
+    subst (λ rs. GrowsBy m rs [] [] (with_added Meta bytes m.files) number held) (sym (nothing_read payloads records (no_payload payloads (sym is ∙ none)) read))
     record {
       new = m;
       started = refl;
@@ -68,7 +68,7 @@ module _ (m : Meant) (number : ℕ) (held : Holdings) (payloads : List (List ℕ
     meta_now : new Meta ≡ is_sure (files Meta)
     meta_now = change_is.this ∙ ap (λ t. is_sure (t ++ frames payloads)) (at.written Meta)
 
-    pub records_grown : Grown m records [] [] (with_added Meta bytes m.files) number new
+    pub records_grown : GrowsBy m records [] [] (with_added Meta bytes m.files) number new
     records_grown = record {
       new = record { start = m.start; files = files; contents = said.new; acknowledged = m.acknowledged };
       started = refl;
@@ -83,6 +83,6 @@ module _ (m : Meant) (number : ℕ) (held : Holdings) (payloads : List (List ℕ
       };
     }
 
-  pub records_after : {E : Type 0} (new : Holdings) (result : Result (Unit {0}) E) → AppendsSure Meta bytes held new result → OnOk result (Grown m records [] [] (with_added Meta bytes m.files) number new)
+  pub records_after : {E : Type 0} (new : Holdings) (result : Result (Unit {0}) E) → AppendsSure Meta bytes held new result → OnOk result (GrowsBy m records [] [] (with_added Meta bytes m.files) number new)
   records_after new (Ok v) change = records_grown new change
   records_after new (Err e) change = tt

@@ -19,7 +19,7 @@ use Rattle.pcp_outside.specs.Causes.{shown_count}
 use Rattle.logger_core.specs.declared.ends.Ends.{Ends}
 use Rattle.logger_core.specs.LogSteps.{with_run}
 use Rattle.logger_core.specs.Meant.{Meant, AreEnds, IsAt, items_in}
-use Rattle.logger_core.specs.Going.{Grown}
+use Rattle.logger_core.specs.Going.{GrowsBy}
 use Rattle.logger_core.specs.Runs.{Rise, AreItemsToCome, IsRunToCome, IsLastStamp, SurvivesWith}
 use Rattle.logger_core.specs.Steps.{last_entry}
 use Rattle.logger_core.proofs.Pointwise.{added_same}
@@ -30,7 +30,7 @@ contains_last [] x = (0, omega arith, refl)
 contains_last (y ∷ ys) x = next_contains y (ys ++ x ∷ []) x (contains_last ys x)
 
 module _ (m : Meant) (e : Ends) (held mid : Holdings) (records : List MetaRecord) (items : List Item) (meta_bytes item_bytes : List ℕ) (at : IsAt m e held) (run : IsRunToCome m records items meta_bytes item_bytes)
-    (g : Grown m records [] [] (with_added Meta meta_bytes m.files) e.volume mid) where
+    (g : GrowsBy m records [] [] (with_added Meta meta_bytes m.files) e.volume mid) where
   same_items : items_in g.new ≡ items_in m
   same_items = g.longer.items ∙ append-nil (items_in m)
 
@@ -41,14 +41,14 @@ module _ (m : Meant) (e : Ends) (held mid : Holdings) (records : List MetaRecord
     rise = subst (λ xs. Rise xs items) (sym same_items) run.rise;
   }
 
-  module _ (new : Holdings) (h : Grown g.new [] [] items (with_added (Volume e.volume) item_bytes g.new.files) e.volume new) where
+  module _ (new : Holdings) (h : GrowsBy g.new [] [] items (with_added (Volume e.volume) item_bytes g.new.files) e.volume new) where
     pub all_records : h.new.contents.records ≡ m.contents.records ++ records
     all_records = h.longer.records ∙ append-nil g.new.contents.records ∙ g.longer.records
 
     pub all_items : items_in h.new ≡ items_in m ++ items
     all_items = h.longer.items ∙ ap (λ xs. xs ++ items) same_items
 
-    abbrev pub run_grown : Grown m records [] items (with_run e.volume meta_bytes item_bytes m.files) e.volume new
+    abbrev pub run_grown : GrowsBy m records [] items (with_run e.volume meta_bytes item_bytes m.files) e.volume new
     run_grown = record {
       new = h.new;
       started = h.started ∙ g.started;

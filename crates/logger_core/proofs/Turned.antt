@@ -12,7 +12,7 @@ use Rattle.pcp_model.specs.LabelFields.{LabelFields}
 use Rattle.logger_core.specs.declared.ends.Ends.{Ends}
 use Rattle.logger_core.specs.LogSteps.{switch_entry, with_new_volume}
 use Rattle.logger_core.specs.Meant.{Meant, AreEnds, IsAt, SurvivesOf, items_in}
-use Rattle.logger_core.specs.Going.{HasRoomIfAny, LeadsToEnds, LeadIfAny, IsVolumeSure, Grown, GrownTo, Flushed, all_acknowledged}
+use Rattle.logger_core.specs.Going.{HasRoomIfAny, LeadsToEnds, LeadIfAny, IsVolumeSure, GrowsBy, GrownTo, FlushIsDone, all_acknowledged}
 use Rattle.logger_core.specs.Runs.{IsReady}
 use Rattle.logger_core.specs.Steps.{IsGreatest, due, due_in, up_to, last_entry, with_entry}
 use Rattle.logger_core.proofs.Dues.{Due, due_is, due_capped, fitting_is, room_if_any, lead_if_any}
@@ -54,7 +54,7 @@ module _ (m : Meant) (e synced now : Ends) (held new : Holdings) (at : IsAt m e 
   due_is_same : due synced.greatest synced.logged synced.entry synced.index synced.volume synced.meta synced.length ≡ due_in m.files m.contents e.volume e.greatest
   due_is_same = due_same (all_acknowledged m) synced ends ∙ ap (λ (n : ℕ). due_in m.files m.contents n synced.greatest) same ∙ ap (λ (t : Option Moment). due_in m.files m.contents e.volume t) same_greatest
 
-  pub flushed : Flushed m e now new
+  pub flushed : FlushIsDone m e now new
   flushed = record {
     new = g.0.new;
     started = g.0.started;
@@ -85,7 +85,7 @@ switch_leads m e held at sure size = lead_if_any m e held (switch_entry e.greate
 
 -- ---- a switch
 
-module _ (m : Meant) (l : LabelFields) (e flush open_ now : Ends) (new mid : Holdings) (same_label : m.contents.label ≡ l) (f : Flushed m e flush mid) (held : Holdings) (o : GrownTo f.new [] [] [] (with_new_volume l (flush.volume + 1) f.new.files) open_ held)
+module _ (m : Meant) (l : LabelFields) (e flush open_ now : Ends) (new mid : Holdings) (same_label : m.contents.label ≡ l) (f : FlushIsDone m e flush mid) (held : Holdings) (o : GrownTo f.new [] [] [] (with_new_volume l (flush.volume + 1) f.new.files) open_ held)
     (numbers : flush.volume ≡ e.volume) (open_number : open_.volume ≡ flush.volume + 1) (open_greatest : open_.greatest ≡ flush.greatest) (greatest_same : flush.greatest ≡ e.greatest) (now_number : now.volume ≡ open_.volume)
     (few : m.acknowledged ≤ length (items_in m))
     (g : GrownTo o.0.new [] (option_to_list (switch_entry open_.greatest open_.index open_.volume open_.meta)) [] (with_entry (switch_entry open_.greatest open_.index open_.volume open_.meta) o.0.new.files) now new) where
@@ -149,9 +149,9 @@ pub found_leads : (m : Meant) (e : Ends) (held : Holdings) (o : Option Entry) �
 found_leads m e held o is at sure = subst (LeadIfAny m e held) (sym is) (due_leads m e held at sure)
 
 pub flush_ok : {E : Type 0} (m : Meant) (e synced : Ends) (held new : Holdings) (o : Option Entry) (result : Result Ends E) → o ≡ due_at synced → IsAt m e held → synced.volume ≡ e.volume → synced.greatest ≡ e.greatest → AreEnds (all_acknowledged m) synced
-    → IfOk result (λ now. GrownTo (all_acknowledged m) [] (option_to_list o) [] (with_entry o m.files) now new) → IfOk result (λ now. Flushed m e now new)
+    → IfOk result (λ now. GrownTo (all_acknowledged m) [] (option_to_list o) [] (with_entry o m.files) now new) → IfOk result (λ now. FlushIsDone m e now new)
 flush_ok m e synced held new o result is at same same_greatest ends grown =
-    ok_map result (λ now. GrownTo (all_acknowledged m) [] (option_to_list o) [] (with_entry o m.files) now new) (λ now. Flushed m e now new) grown
+    ok_map result (λ now. GrownTo (all_acknowledged m) [] (option_to_list o) [] (with_entry o m.files) now new) (λ now. FlushIsDone m e now new) grown
     (λ now g. flushed m e synced now held new at same same_greatest ends (subst (λ (p : Option Entry). GrownTo (all_acknowledged m) [] (option_to_list p) [] (with_entry p m.files) now new) is g))
 
 -- nothing was put
@@ -173,10 +173,10 @@ none_put m e held at = (
 later_survives : (m n : Meant) → n.start ≡ m.start → items_in n ≡ items_in m → m.acknowledged ≤ n.acknowledged → (image : Files) → SurvivesOf n image → SurvivesOf m image
 later_survives m n started items le image w = subst (λ (s : Start). Survives s (items_in m) m.acknowledged image) started (survives_same n.start (items_in n) (items_in m) n.acknowledged m.acknowledged image items w le)
 
-pub flushed_survives : (m : Meant) (e after : Ends) (held new : Holdings) → IsAt m e held → (f : Flushed m e after new) → (image : Files) → SurvivesOf f.new image → SurvivesOf m image
+pub flushed_survives : (m : Meant) (e after : Ends) (held new : Holdings) → IsAt m e held → (f : FlushIsDone m e after new) → (image : Files) → SurvivesOf f.new image → SurvivesOf m image
 flushed_survives m e after held new at f image w = later_survives m f.new f.started f.items_same (omega (arith, few_acknowledged m e.volume held at.stands, f.all)) image w
 
-pub grown_survives : (m : Meant) (files : Files) (number : ℕ) (held : Holdings) (g : Grown m [] [] [] files number held) → (image : Files) → SurvivesOf g.new image → SurvivesOf m image
+pub grown_survives : (m : Meant) (files : Files) (number : ℕ) (held : Holdings) (g : GrowsBy m [] [] [] files number held) → (image : Files) → SurvivesOf g.new image → SurvivesOf m image
 grown_survives m files number held g image w = later_survives m g.new g.started (g.longer.items ∙ append-nil (items_in m)) (omega (arith, g.acknowledged_is)) image w
 
 abbrev pub switch_at : Ends → Option Entry
@@ -188,7 +188,7 @@ switch_found_room e o is = subst (HasRoomIfAny e) (sym is) (switch_room e)
 pub switch_found_leads : (m : Meant) (e : Ends) (held : Holdings) (o : Option Entry) → o ≡ switch_at e → IsAt m e held → IsVolumeSure e.volume held → e.length ≡ 132 → LeadIfAny m e held o
 switch_found_leads m e held o is at sure size = subst (LeadIfAny m e held) (sym is) (switch_leads m e held at sure size)
 
-pub switch_ok : {E : Type 0} (m : Meant) (l : LabelFields) (e flush open_ : Ends) (held mid mid2 new : Holdings) (found : Option Entry) (result : Result Ends E) → IsAt m e held → m.contents.label ≡ l → (f : Flushed m e flush mid) → (o : GrownTo f.new [] [] [] (with_new_volume l (flush.volume + 1) f.new.files) open_ mid2)
+pub switch_ok : {E : Type 0} (m : Meant) (l : LabelFields) (e flush open_ : Ends) (held mid mid2 new : Holdings) (found : Option Entry) (result : Result Ends E) → IsAt m e held → m.contents.label ≡ l → (f : FlushIsDone m e flush mid) → (o : GrownTo f.new [] [] [] (with_new_volume l (flush.volume + 1) f.new.files) open_ mid2)
     → flush.volume ≡ e.volume → open_.volume ≡ flush.volume + 1 → open_.greatest ≡ flush.greatest → flush.greatest ≡ e.greatest → found ≡ switch_at open_
     → IfOk result (λ now. GrownTo o.0.new [] (option_to_list found) [] (with_entry found o.0.new.files) now new) → IfOk result (λ now. (now.volume ≡ open_.volume) × (now.greatest ≡ open_.greatest) × (now.meta ≡ open_.meta) × (now.length ≡ open_.length)) → IfOk result (λ now. IsReady m e now true new)
 switch_ok m l e flush open_ held mid mid2 new found (Ok now) at same f o numbers number stamp greatest is g kept =

@@ -37,7 +37,7 @@ abbrev pub IsVolumeSure : ℕ → Holdings → Type 0
 IsVolumeSure number held = (held (Volume number)).rest ≡ []
 
 -- these files are meant now, with these records, entries and items behind those that were
-pub record Grown (m : Meant) (records : List MetaRecord) (entries : List Entry) (items : List Item) (files : Files) (number : ℕ) (held : Holdings) : Type 0 where
+pub record GrowsBy (m : Meant) (records : List MetaRecord) (entries : List Entry) (items : List Item) (files : Files) (number : ℕ) (held : Holdings) : Type 0 where
   pub new : Meant
   pub started : new.start ≡ m.start
   pub acknowledged_is : new.acknowledged ≡ m.acknowledged
@@ -47,7 +47,7 @@ pub record Grown (m : Meant) (records : List MetaRecord) (entries : List Entry) 
 
 -- and what is kept in numbers is so
 abbrev pub GrownTo : Meant → List MetaRecord → List Entry → List Item → Files → Ends → Holdings → Type 0
-GrownTo m records entries items files e held = (g : Grown m records entries items files e.volume held) × AreEnds g.new e
+GrownTo m records entries items files e held = (g : GrowsBy m records entries items files e.volume held) × AreEnds g.new e
 
 -- An entry leads up to the ends of the files, which are sure, and nothing is stamped after it.
 pub record LeadsToEnds (m : Meant) (e : Ends) (held : Holdings) (x : Entry) : Type 0 where
@@ -73,7 +73,7 @@ HasRoomIfAny e None = Unit {0}
 HasRoomIfAny e (Some x) = HasRoom e x
 
 -- what a flush leaves: every item is acknowledged
-pub record Flushed (m : Meant) (e after : Ends) (held : Holdings) : Type 0 where
+pub record FlushIsDone (m : Meant) (e after : Ends) (held : Holdings) : Type 0 where
   pub new : Meant
   pub started : new.start ≡ m.start
   pub files_are : (file : FileId) → new.files file ≡ with_entry (due_in m.files m.contents e.volume e.greatest) m.files file

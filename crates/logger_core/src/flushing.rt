@@ -3,7 +3,7 @@ ghost use Rattle.std.specs.Prelude.{◌≡◌, IfOk};
 ghost use Rattle.pcp_outside.specs.Causes.{HasCause};
 ghost use Rattle.pcp_outside.specs.Devices.{LeavesOnly};
 ghost use Rattle.std.specs.Prelude.{[], ◌∷◌, option_to_list, Some};
-ghost use Rattle.logger_core.specs.Going.{AreSmall, all_acknowledged, IsVolumeSure, GrownTo, LeadsToEnds, LeadIfAny, HasRoom, HasRoomIfAny, Flushed};
+ghost use Rattle.logger_core.specs.Going.{AreSmall, all_acknowledged, IsVolumeSure, GrownTo, LeadsToEnds, LeadIfAny, HasRoom, HasRoomIfAny, FlushIsDone};
 ghost use Rattle.logger_core.specs.Meant.{Meant, IsAt, SurvivesOf};
 ghost use Rattle.logger_core.specs.Steps.{with_entry};
 
@@ -72,7 +72,7 @@ pub(crate) fn add_entry<D: Disk>(
 /// Makes the volume sure, and puts the entry behind the index that is then due.
 pub(crate) fn flush_files<D: Disk>(disk: &mut D, ends: &Ends) -> Result<Ends, Failed>
     requires { AreSmall ends.now }
-    ensures ok { D.tells → (m : Meant) → IsAt m ends.now (D.held disk.old) → IfOk result (λ e. Flushed m ends.now e (D.held disk.new)) }
+    ensures ok { D.tells → (m : Meant) → IsAt m ends.now (D.held disk.old) → IfOk result (λ e. FlushIsDone m ends.now e (D.held disk.new)) }
     ensures any_moment { D.tells → (m : Meant) → IsAt m ends.now (D.held disk.old) → LeavesOnly D.moment D.left_since disk.old disk.new (SurvivesOf m) }
     ensures sure { D.tells → IfOk result (λ e. IsVolumeSure e.volume (D.held disk.new)) }
     ensures small { IfOk result AreSmall }

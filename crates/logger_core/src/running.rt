@@ -7,7 +7,7 @@ ghost use Rattle.pcp_model.specs.Frame.{frames};
 ghost use Rattle.pcp_model.specs.Written.{with_added};
 ghost use Rattle.pcp_outside.specs.Causes.{HasCause};
 ghost use Rattle.pcp_outside.specs.Devices.{LeavesOnly};
-ghost use Rattle.logger_core.specs.Going.{AreSmall, Grown, GrownTo};
+ghost use Rattle.logger_core.specs.Going.{AreSmall, GrowsBy, GrownTo};
 ghost use Rattle.logger_core.specs.Laws.{AreRecordsToCome};
 ghost use Rattle.logger_core.specs.LogSteps.{with_run};
 ghost use Rattle.logger_core.specs.Meant.{Meant, Stands, IsAt, SurvivesOf};
@@ -20,7 +20,7 @@ use pcp_outside::{Disk, Failed, FileId, append_synced};
 /// Puts records behind Meta, and makes them sure.
 fn add_records<D: Disk>(disk: &mut D, number: u32, bytes: &[u8]) -> Result<(), Failed>
     ensures ok { D.tells → (m : Meant) → Stands m number (D.held disk.old) → (payloads : Sequence (Sequence ℕ)) (records : Sequence Record) → bytes.now ≡ frames payloads → AreRecordsToCome m.start m.contents payloads records
-        → OnOk result (Grown m records [] [] (with_added Meta bytes.now m.files) number (D.held disk.new)) }
+        → OnOk result (GrowsBy m records [] [] (with_added Meta bytes.now m.files) number (D.held disk.new)) }
     ensures any_moment { D.tells → (m : Meant) → Stands m number (D.held disk.old) → (payloads : Sequence (Sequence ℕ)) (records : Sequence Record) → bytes.now ≡ frames payloads → AreRecordsToCome m.start m.contents payloads records
         → LeavesOnly D.moment D.left_since disk.old disk.new (SurvivesOf m) }
     ensures cause { HasCause (D.faults disk.old) (D.faults disk.new) result }
@@ -35,7 +35,7 @@ fn add_records<D: Disk>(disk: &mut D, number: u32, bytes: &[u8]) -> Result<(), F
 fn add_items<D: Disk>(disk: &mut D, number: u32, bytes: &[u8]) -> Result<(), Failed>
     requires { number < 2147483648 }
     ensures ok { D.tells → (m : Meant) → Stands m number (D.held disk.old) → (payloads : Sequence (Sequence ℕ)) (items : Sequence Logged) → bytes.now ≡ frames payloads → AreItemsToCome m payloads items
-        → OnOk result (Grown m [] [] items (with_added (Volume number) bytes.now m.files) number (D.held disk.new)) }
+        → OnOk result (GrowsBy m [] [] items (with_added (Volume number) bytes.now m.files) number (D.held disk.new)) }
     ensures any_moment { D.tells → (m : Meant) → Stands m number (D.held disk.old) → (payloads : Sequence (Sequence ℕ)) (items : Sequence Logged) → bytes.now ≡ frames payloads → AreItemsToCome m payloads items
         → LeavesOnly D.moment D.left_since disk.old disk.new (SurvivesWith m items) }
     ensures cause { HasCause (D.faults disk.old) (D.faults disk.new) result }

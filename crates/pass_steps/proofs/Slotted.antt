@@ -32,7 +32,7 @@ use Rattle.pass_steps.specs.declared.said.Said.{Said}
 use Rattle.pass_steps.specs.declared.said.Said.TheVariants as said
 use Rattle.pass_steps.specs.declared.worker.Worker.{Worker}
 use Rattle.pass_steps.specs.declared.worker.Worker.TheVariants as workers
-use Rattle.pass_steps.specs.Storing.{texts_seen, slot_seen, text_among, value_among, swap_among, swap_seen, add_seen, Stored, said_of}
+use Rattle.pass_steps.specs.Storing.{texts_seen, slot_seen, text_among, value_among, swap_among, swap_seen, add_seen, StoresOrLoads, said_of}
 use Rattle.pass_steps.specs.Workers.{IsPassOf}
 use Rattle.pass_steps.specs.Works.{Step, Grows, Quiet, region_seen, region_by, IsAtWork, Works, Rests}
 use Rattle.pass_steps.proofs.Quiet.{Left, left_by, looked, grows_refl, grows_trans, grows_step, quiet_first, quiet_last}
@@ -239,7 +239,7 @@ abbrev pub line_if : Bool → Option Said
 line_if true = Some said.Nothing
 line_if false = None
 
-pub stored_works : (region : MadeRegion) (step : Step) (old new : Token) (act : Option Act) (answer : Bool) → StoresSo step old.view act → IsStore act → Stored act old.view new.view answer → (new ≡ old) ⊎ IsSame Attached Attached old new
+pub stored_works : (region : MadeRegion) (step : Step) (old new : Token) (act : Option Act) (answer : Bool) → StoresSo step old.view act → IsStore act → StoresOrLoads act old.view new.view answer → (new ≡ old) ⊎ IsSame Attached Attached old new
     → Works region step (workers.Inside old) (workers.Inside new) (line_if answer)
 stored_works region step old new None false so is_store loads stays = record {
   stays = λ k p. moved_or_not region k old new stays p;
@@ -318,28 +318,28 @@ loads_both v u w a b = (a.0 ++ b.0, all v a.0 a.1)
     all v (x ∷ xs) r = (r.0, r.1, all r.0 xs r.2)
 
 pub swap_not : (v u w : View) (item : ℕ) (instance : Option ℤ) (slot : Slot) (value : Given) → slot_seen v item instance ≡ Some slot → form_seen u ≡ form_seen v → None ≡ value_among (texts_seen u) slot.kind value → Loads v u → Loads u w
-    → Stored (swap_seen v item instance value) v w false
+    → StoresOrLoads (swap_seen v item instance value) v w false
 swap_not v u w item instance slot value found same none a b =
     let act : swap_seen v item instance value ≡ None =
     ap (λ (o : Option Slot). swap_among (texts_seen v) o value) found
     ∙ ap (λ (o : Option ℕ). option_map (Swap slot.word) o) (ap (λ (ts : List (ℕ × List ℕ)). value_among ts slot.kind value) (sym (texts_same v u same)) ∙ sym none) in
-    subst (λ (o : Option Act). Stored o v w false) (sym act) (loads_both v u w a b)
+    subst (λ (o : Option Act). StoresOrLoads o v w false) (sym act) (loads_both v u w a b)
 
 pub swap_done : (v u m w : View) (item : ℕ) (instance : Option ℤ) (slot : Slot) (value : Given) (x n : ℕ) → slot_seen v item instance ≡ Some slot → form_seen u ≡ form_seen v → Some x ≡ value_among (texts_seen u) slot.kind value → Loads v u → Loads u m
-    → Extends mmv m (Swap slot.word x) n w → Stored (swap_seen v item instance value) v w true
+    → Extends mmv m (Swap slot.word x) n w → StoresOrLoads (swap_seen v item instance value) v w true
 swap_done v u m w item instance slot value x n found same some a b e =
     let act : swap_seen v item instance value ≡ Some (Swap slot.word x) =
     ap (λ (o : Option Slot). swap_among (texts_seen v) o value) found
     ∙ ap (λ (o : Option ℕ). option_map (Swap slot.word) o) (ap (λ (ts : List (ℕ × List ℕ)). value_among ts slot.kind value) (sym (texts_same v u same)) ∙ sym some) in
-    subst (λ (o : Option Act). Stored o v w true) (sym act) (record { middle = m; looks = loads_both v u m a b; n = n; acts = e })
+    subst (λ (o : Option Act). StoresOrLoads o v w true) (sym act) (record { middle = m; looks = loads_both v u m a b; n = n; acts = e })
 
 pub stored_answer : (region : MadeRegion) (step : Step) (old new : Token) (act : Option Act) (stored : Result Bool NoMemory) (answer : Result (Option Said) NoMemory) → answer ≡ said_of stored → StoresSo step old.view act → IsStore act
-    → MatchResult stored (Stored act old.view new.view) (λ _. Loads old.view new.view) → (new ≡ old) ⊎ IsSame Attached Attached old new
+    → MatchResult stored (StoresOrLoads act old.view new.view) (λ _. Loads old.view new.view) → (new ≡ old) ⊎ IsSame Attached Attached old new
     → MatchResult answer (λ line. Works region step (workers.Inside old) (workers.Inside new) line) (λ _. Rests region (workers.Inside old) (workers.Inside new))
 stored_answer region step old new act stored answer e so is_store did stays =
     subst (λ (a : Result (Option Said) NoMemory). MatchResult a (λ line. Works region step (workers.Inside old) (workers.Inside new) line) (λ _. Rests region (workers.Inside old) (workers.Inside new))) (sym e) (by_case stored did)
   where
-    by_case : (stored : Result Bool NoMemory) → MatchResult stored (Stored act old.view new.view) (λ _. Loads old.view new.view)
+    by_case : (stored : Result Bool NoMemory) → MatchResult stored (StoresOrLoads act old.view new.view) (λ _. Loads old.view new.view)
         → MatchResult (said_of stored) (λ line. Works region step (workers.Inside old) (workers.Inside new) line) (λ _. Rests region (workers.Inside old) (workers.Inside new))
     by_case (Ok true) d = stored_works region step old new act true so is_store d stays
     by_case (Ok false) d = stored_works region step old new act false so is_store d stays

@@ -65,10 +65,10 @@ pub record LooksThenActs (v : View) (act : Act) (w : View) : Type 0 where
   pub n : ℕ
   pub acts : Extends mmv middle act n w
 
-abbrev pub Stored : Option Act → View → View → Bool → Type 0
-Stored (Some act) v w true = LooksThenActs v act w
-Stored None v w false = Loads v w
-Stored _ v w _ = ⊥
+abbrev pub StoresOrLoads : Option Act → View → View → Bool → Type 0
+StoresOrLoads (Some act) v w true = LooksThenActs v act w
+StoresOrLoads None v w false = Loads v w
+StoresOrLoads _ v w _ = ⊥
 
 -- what a store says
 abbrev pub said_of : Result Bool NoMemory → Result (Option Said) NoMemory

@@ -8,7 +8,7 @@ ghost use Rattle.region_words.specs.Calls.{Loads};
 ghost use Rattle.script_runs.specs.PassSteps.{swaps, adds};
 ghost use Rattle.script_runs.specs.Slots.{number_for, holds_number, low_bits};
 ghost use Rattle.pass_steps.specs.Works.{IsHere, Works, Rests};
-ghost use Rattle.pass_steps.specs.Storing.{Looks, Stored, said_of, text_among, texts_seen, value_among, swap_seen, add_seen};
+ghost use Rattle.pass_steps.specs.Storing.{Looks, StoresOrLoads, said_of, text_among, texts_seen, value_among, swap_seen, add_seen};
 
 use crate::said::Said;
 use crate::worker::Worker;
@@ -83,7 +83,7 @@ fn swap_in(
     value: &Given,
 ) -> Result<bool, NoMemory>
     requires here { stint.old.region ≡ region.now }
-    ensures stored { MatchResult result (Stored (swap_seen stint.old.view item instance value.now) stint.old.view stint.new.view) (λ _. Loads stint.old.view stint.new.view) }
+    ensures stored { MatchResult result (StoresOrLoads (swap_seen stint.old.view item instance value.now) stint.old.view stint.new.view) (λ _. Loads stint.old.view stint.new.view) }
     ensures stays { (stint.new ≡ stint.old) ⊎ IsSame Attached Attached stint.old stint.new }
 {
     let slots = region.slots(alloc, stint)?;
@@ -124,7 +124,7 @@ fn add_in(
     number: i128,
 ) -> Result<bool, NoMemory>
     requires here { stint.old.region ≡ region.now }
-    ensures stored { MatchResult result (Stored (add_seen stint.old.view item instance number) stint.old.view stint.new.view) (λ _. Loads stint.old.view stint.new.view) }
+    ensures stored { MatchResult result (StoresOrLoads (add_seen stint.old.view item instance number) stint.old.view stint.new.view) (λ _. Loads stint.old.view stint.new.view) }
     ensures stays { (stint.new ≡ stint.old) ⊎ IsSame Attached Attached stint.old stint.new }
 {
     let slots = region.slots(alloc, stint)?;

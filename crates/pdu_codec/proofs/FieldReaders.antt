@@ -15,7 +15,7 @@ use Rattle.result_form.proofs.Spans.{word_takes, word_again, signed_is, signed_f
 use Rattle.pdu_codec.specs.declared.fault.PduFault.{PduFault}
 use Rattle.pdu_codec.specs.declared.fault.PduFault.TheVariants.{Body}
 use Rattle.pdu_codec.specs.Reading.{◌>>=◌, or_end, word_at, signed_at, common, given_at, state_of, state_at}
-use Rattle.pdu_codec.specs.Grammar.{Is, Both, Given, Word, Signed, State, state_word}
+use Rattle.pdu_codec.specs.Grammar.{Is, Both, IsExactly, Word, Signed, State, state_word}
 use Rattle.pdu_codec.proofs.Misfits.{Stops, short_stops}
 use Rattle.pdu_codec.proofs.Misfits.{Some as Texts}
 use Rattle.pdu_codec.proofs.Readers.{StopsAt, Reads, Code, code, plain, next, same_grammar, same_reads, done, failed, ok_is, not_both, err_is}
@@ -188,7 +188,7 @@ given_stands wanted t h =
     let same : take (length wanted) t ≡ take (length wanted) wanted = subst (λ n. take n t ≡ take n wanted) all (common_same wanted t) in
     sym (take-append-drop (length wanted) t) ∙ ap (λ x. x ++ drop (length wanted) t) (same ∙ take_all (length wanted) wanted (omega arith))
 
-given_stops : (wanted t : List ℕ) → common wanted t < length wanted → Stops (Given wanted) t (common wanted t)
+given_stops : (wanted t : List ℕ) → common wanted t < length wanted → Stops (IsExactly wanted) t (common wanted t)
 given_stops wanted t lt =
     let c : ℕ = common wanted t in
     let le = common_le wanted t in
@@ -202,7 +202,7 @@ given_stops wanted t lt =
 drop_drop : (n at next : ℕ) (bytes : List ℕ) → next ≡ at + n → drop n (drop at bytes) ≡ drop next bytes
 drop_drop n at next bytes e = drop-drop n at bytes ∙ ap (λ k. drop k bytes) (sym e)
 
-pub given_reads : (wanted : List ℕ) → Reads (Given wanted) (given_read wanted)
+pub given_reads : (wanted : List ℕ) → Reads (IsExactly wanted) (given_read wanted)
 given_reads wanted = record {
   takes = λ bytes at next n fits h e.
       let t : List ℕ = drop at bytes in
@@ -235,7 +235,7 @@ given_reads wanted = record {
 }
 
 abbrev pub given_code : List ℕ → Code ℕ
-given_code wanted = code (Given wanted) (given_read wanted) (given_reads wanted)
+given_code wanted = code (IsExactly wanted) (given_read wanted) (given_reads wanted)
 
 -- bytes that have to stand there before something
 pub regroup : {A : Type 0} (r : Result ℕ PduFault) (n : ℕ) (f : ℕ → Result A PduFault) → (r >>= f) ≡ ((r >>= numbered n) >>= λ p. f p.1)
@@ -244,9 +244,9 @@ regroup (Err e) n f = refl
 
 abbrev pub skip : {Y : Type 0} → List ℕ → Code Y → Code Y
 skip wanted a = record {
-  grammar = Both (Given wanted) (λ n. a.grammar);
+  grammar = Both (IsExactly wanted) (λ n. a.grammar);
   read = λ bytes at. given_at wanted bytes at >>= λ behind. a.read bytes behind;
-  reads = same_reads (Both (Given wanted) (λ n. a.grammar)) (next (given_code wanted) (λ n. a)).read (λ bytes at. given_at wanted bytes at >>= λ behind. a.read bytes behind) (next (given_code wanted) (λ n. a)).reads
+  reads = same_reads (Both (IsExactly wanted) (λ n. a.grammar)) (next (given_code wanted) (λ n. a)).read (λ bytes at. given_at wanted bytes at >>= λ behind. a.read bytes behind) (next (given_code wanted) (λ n. a)).reads
       (λ bytes at. regroup (given_at wanted bytes at) (length wanted) (λ behind. a.read bytes behind));
 }
 
@@ -351,7 +351,7 @@ abbrev state_code : Code Bool
 state_code = skip (0 ∷ 0 ∷ 0 ∷ []) (code Bit (λ bytes at. state_of at (slice_get bytes at)) bit_reads)
 
 abbrev StateBytes : List ℕ → Bool → Type 0
-StateBytes = Both (Given (0 ∷ 0 ∷ 0 ∷ [])) (λ n. Bit)
+StateBytes = Both (IsExactly (0 ∷ 0 ∷ 0 ∷ [])) (λ n. Bit)
 
 state_bytes : (include : Bool) → word (state_word include) ≡ 0 ∷ 0 ∷ 0 ∷ state_word include ∷ []
 unfolding word

@@ -9,7 +9,7 @@ use Rattle.pdu_codec.specs.declared.pdu.Pdu.TheVariants as pdus
 use Rattle.pdu_codec.specs.declared.types.PduType.{PduType}
 use Rattle.pdu_codec.specs.declared.types.PduType.TheVariants as types
 use Rattle.pdu_codec.specs.Types.{code_of_type, type_of}
-use Rattle.pdu_codec.specs.Grammar.{◌>>=◌, Is, Given, Word, Signed, State, TextField, Pair, HeadField, Many, Parts, zero_word}
+use Rattle.pdu_codec.specs.Grammar.{◌>>=◌, Is, IsExactly, Word, Signed, State, TextField, Pair, HeadField, Many, Parts, zero_word}
 
 -- the payload of a result
 pub record ResultBody (text : List ℕ) (p : Pdu) : Type 0 where
@@ -26,7 +26,7 @@ body_of types.Profile = do
   context ← Word
   global ← State
   count ← Word
-  none ← Given zero_word
+  none ← IsExactly zero_word
   heads ← Many HeadField count
   parts ← Parts heads
   Is (pdus.Profile context global parts)
@@ -57,7 +57,7 @@ body_of types.Instance = do
   pairs ← Many Pair count
   Is (pdus.Instance indom pairs)
 body_of types.Creds = do
-  version ← Given (0 ∷ 0 ∷ 0 ∷ 1 ∷ 1 ∷ 2 ∷ 0 ∷ 0 ∷ [])
+  version ← IsExactly (0 ∷ 0 ∷ 0 ∷ 1 ∷ 1 ∷ 2 ∷ 0 ∷ 0 ∷ [])
   Is pdus.Creds
 body_of types.PmnsIds = do
   status ← Signed

@@ -26,8 +26,8 @@ abbrev pub ◌>>=◌ : {X Y : Type 0} → (List ℕ → X → Type 0) → (X →
 G >>= H = Both G H
 
 -- these bytes, and how many they are
-abbrev pub Given : List ℕ → List ℕ → ℕ → Type 0
-Given wanted text size = (text ≡ wanted) × (size ≡ length wanted)
+abbrev pub IsExactly : List ℕ → List ℕ → ℕ → Type 0
+IsExactly wanted text size = (text ≡ wanted) × (size ≡ length wanted)
 
 -- a word of 4 bytes
 abbrev pub Word : List ℕ → ℕ → Type 0
@@ -74,7 +74,7 @@ HeadField = do
   indom ← Word
   include ← State
   count ← Word
-  none ← Given zero_word
+  none ← IsExactly zero_word
   Is (record { indom = indom; include = include; count = count })
 
 -- so many, one behind another

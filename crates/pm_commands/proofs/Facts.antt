@@ -22,7 +22,7 @@ use Rattle.pm_words.specs.CommandLine.{command_of}
 use Rattle.pm_tasks.specs.Causes.{Got, Asks, fault_of, IsReader, Finds, Cause}
 use Rattle.pm_words.specs.Serving.{Left, IsNever}
 use Rattle.pm_tasks.specs.Ends.{Ends, EndsDone, EndsUntold, HasRun}
-use Rattle.pm_commands.specs.Facts.{UsageIsExact, LimitIsExact, InputFaultIsExact, RunIsExact, ArchiveFaultIsExact, NothingIsThere, Given, Meets, refused_of, TurnsAway, IsRefused, Unwritten, IsGoodDisk, IsGoodRun, Keeps, ComesOfRun, OpensRegions}
+use Rattle.pm_commands.specs.Facts.{UsageIsExact, LimitIsExact, InputFaultIsExact, RunIsExact, ArchiveFaultIsExact, NothingIsThere, GivesInput, Meets, refused_of, TurnsAway, IsRefused, IsUnwritten, IsGoodDisk, IsGoodRun, Keeps, ComesOfRun, OpensRegions}
 use Rattle.script_passes.specs.declared.opening.Opened.{Opened}
 use Rattle.pm_tasks.specs.Regions.{AsksRun, RunsScript}
 use Rattle.pm_runs.specs.Regions.{HasRegions}
@@ -114,7 +114,7 @@ module _ (words : List (List ℕ)) (s : SourceSide) (k : SinkSide) (d : DiskSide
   one a b is other = let e : Ok a ≡ Ok b = sym is ∙ other in cc
 
   -- what was got is what was given
-  got_given : (reads : Option (List ℕ → Option InputRefusal)) (got given : List ℕ) → Got reads s got → Given reads s given → got ≡ given
+  got_given : (reads : Option (List ℕ → Option InputRefusal)) (got given : List ℕ) → Got reads s got → GivesInput reads s given → got ≡ given
   got_given None got given g h = g.0 ∙ sym h
   got_given (Some refuses) got given g h = (g.told h.0).0 ∙ sym h.1
 
@@ -148,7 +148,7 @@ module _ (words : List (List ℕ)) (s : SourceSide) (k : SinkSide) (d : DiskSide
   got_within None input some got tells = cc
   got_within (Some refuses) input some got tells = subst (λ bytes. length bytes ≤ input_limit) (got.told tells).0 got.within
 
-  given_within : (reads : Option (List ℕ → Option InputRefusal)) (input : List ℕ) → IsSome reads → Given reads s input → s.tells × (length s.left ≤ input_limit)
+  given_within : (reads : Option (List ℕ → Option InputRefusal)) (input : List ℕ) → IsSome reads → GivesInput reads s input → s.tells × (length s.left ≤ input_limit)
   given_within None input some given = cc
   given_within (Some refuses) input some given = (given.0, subst (λ bytes. length bytes ≤ input_limit) given.1 given.2)
 
@@ -390,10 +390,10 @@ module _ (words : List (List ℕ)) (s : SourceSide) (k : SinkSide) (d : DiskSide
         (λ e c b good tells file turned. turned_found 6 b good (λ a x also. wrapped_first a.command a.input (files_found d) file x (turned_here a b (Compressed file) turned) (also tells)) e c);
   }
 
-  left_unwritten : (status : ℕ) (a : Asks words s) → Left (meaning a.command) status a.input d → Unwritten words s d status
+  left_unwritten : (status : ℕ) (a : Asks words s) → Left (meaning a.command) status a.input d → IsUnwritten words s d status
   left_unwritten status a left = ⊎_elim (λ still. inl still) (λ begun. inr (a, begun)) left.files
 
-  refused_unwritten : (e : Refusal) → Caused e → Unwritten words s d (status_of e)
+  refused_unwritten : (e : Refusal) → Caused e → IsUnwritten words s d (status_of e)
   refused_unwritten (Words usage) c = inl c.2
   refused_unwritten (Reading e) c = inl c.2
   refused_unwritten (Input e) c = inl c.1
@@ -402,8 +402,8 @@ module _ (words : List (List ℕ)) (s : SourceSide) (k : SinkSide) (d : DiskSide
   refused_unwritten NoMemory c = ⊎_elim (λ still. inl still) (λ left. left_unwritten 9 left.0 left.1) c.1
 
   -- what a refusal leaves
-  pub unwritten : (status : ℕ) → Ends words s k d status → IsRefused status → Unwritten words s d status
-  unwritten status ends = by_end status (λ n. IsRefused n → Unwritten words s d n) ends (λ done h. absurd (h.0 refl)) (λ untold h. absurd (h.1 refl)) (λ e c h. refused_unwritten e c)
+  pub unwritten : (status : ℕ) → Ends words s k d status → IsRefused status → IsUnwritten words s d status
+  unwritten status ends = by_end status (λ n. IsRefused n → IsUnwritten words s d n) ends (λ done h. absurd (h.0 refl)) (λ untold h. absurd (h.1 refl)) (λ e c h. refused_unwritten e c)
 
   -- in a good run no stage has a cause
   good_apart : IsGoodRun words s k d → (at : ℕ) → command_of words ≡ Err at → ⊥

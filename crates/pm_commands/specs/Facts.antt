@@ -51,16 +51,16 @@ pub record LimitIsExact (words : List (List ℕ)) (s : SourceSide) (d : DiskSide
   pub always : IsReader words → s.tells → input_limit < length s.left → (status ≡ 7) ⊎ ((status ≡ 9) ⊎ (status ≡ 3))
 
 -- what the source gives: all that it has left, within the limit, or nothing to a command that takes no input
-abbrev pub Given : Option (List ℕ → Option InputRefusal) → SourceSide → List ℕ → Type 0
-Given None s input = input ≡ []
-Given (Some refuses) s input = s.tells × (input ≡ s.left) × (length input ≤ input_limit)
+abbrev pub GivesInput : Option (List ℕ → Option InputRefusal) → SourceSide → List ℕ → Type 0
+GivesInput None s input = input ≡ []
+GivesInput (Some refuses) s input = s.tells × (input ≡ s.left) × (length input ≤ input_limit)
 
 -- the words are a command, and this is what the source gives it
 pub record Meets (words : List (List ℕ)) (s : SourceSide) : Type 0 where
   pub command : Command
   pub words_are : command_of words ≡ Ok command
   pub input : List ℕ
-  pub given : Given (meaning command).reads s input
+  pub given : GivesInput (meaning command).reads s input
 
 -- why the command refuses what it is given, if so
 abbrev pub refused_of : {words : List (List ℕ)} {s : SourceSide} → Meets words s → Option InputRefusal
@@ -99,8 +99,8 @@ abbrev pub IsRefused : ℕ → Type 0
 IsRefused status = (status ≡ 0 → ⊥) × (status ≡ 4 → ⊥)
 
 -- The files hold what they held, or the command was stopped after its first write and leaves what it says of that.
-abbrev pub Unwritten : List (List ℕ) → SourceSide → DiskSide → ℕ → Type 0
-Unwritten words s d status = Untouched d ⊎ ((a : Asks words s) × (meaning a.command).begun status a.input d)
+abbrev pub IsUnwritten : List (List ℕ) → SourceSide → DiskSide → ℕ → Type 0
+IsUnwritten words s d status = Untouched d ⊎ ((a : Asks words s) × (meaning a.command).begun status a.input d)
 
 -- what a command that uses the disk needs of it: to tell, files that it doesn't turn away but for finding nothing in them, and a
 -- count that doesn't rise

@@ -5,7 +5,7 @@ ghost use Rattle.pcp_outside.specs.Causes.{Rose};
 ghost use Rattle.pm_words.specs.CommandLine.{FitsCommand};
 ghost use Rattle.pm_words.specs.Serving.{Serves, MayLeave, HasRecovered, HadRecovered};
 ghost use Rattle.pm_tasks.specs.Ends.{Runs, Ends, EndsDone, MayBeLeft};
-ghost use Rattle.pm_commands.specs.Facts.{UsageIsExact, LimitIsExact, InputFaultIsExact, RunIsExact, ArchiveFaultIsExact, NothingIsThere, IsAside, IsInputless, IsRefused, Unwritten, IsGoodRun, Keeps, OpensRegions};
+ghost use Rattle.pm_commands.specs.Facts.{UsageIsExact, LimitIsExact, InputFaultIsExact, RunIsExact, ArchiveFaultIsExact, NothingIsThere, IsAside, IsInputless, IsRefused, IsUnwritten, IsGoodRun, Keeps, OpensRegions};
 ghost use Rattle.pm_words.specs.Inputs.{input_limit};
 ghost use Rattle.pm_tasks.specs.Meanings.{meaning};
 ghost use Rattle.pm_tasks.specs.Regions.{AsksRun, CommandRan, RunsScript, WordsRan};
@@ -165,7 +165,7 @@ pub fn offline<I: Source, O: Sink, D: Disk>(
     ensures archive_fault { ArchiveFaultIsExact (map string_bytes words.now) (source_side I.Source input.old input.new) (disk_side D.Disk disk.old disk.new) result }
 
     // Refused: the files hold what they held, or what the command says of a stop after its first write.
-    ensures unwritten { IsRefused result → Unwritten (map string_bytes words.now) (source_side I.Source input.old input.new) (disk_side D.Disk disk.old disk.new) result }
+    ensures unwritten { IsRefused result → IsUnwritten (map string_bytes words.now) (source_side I.Source input.old input.new) (disk_side D.Disk disk.old disk.new) result }
 
     // A command that has nothing to do with the disk leaves it alone, and one without input the source.
     ensures aside { IsAside (map string_bytes words.now) → disk.new ≡ disk.old }

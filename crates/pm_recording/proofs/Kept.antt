@@ -7,7 +7,7 @@ use Rattle.fetch_answers.specs.declared.fetch.Fetched.{Fetched}
 use Rattle.record_run.specs.ImageCrashes.{MayBeAfter}
 use Rattle.record_run.specs.SinceRecovery.{FromRecovery}
 use Rattle.script_passes.specs.declared.opening.Opened.{Opened}
-use Rattle.script_records.specs.Recordings.{StaysBefore, Tried}
+use Rattle.script_records.specs.Recordings.{StaysBefore, IsTried}
 use Rattle.script_replays.specs.Replays.{SinceRecovered, disk_pair}
 use Rattle.script_runs.specs.declared.ending.Ending.{Ending}
 use Rattle.script_runs.specs.declared.ending.Ending.TheVariants as ends
@@ -132,8 +132,8 @@ module _ {C D : Type 0} (words : List (List ℕ)) (s : SourceSide) (k : SinkSide
       let done = is_done words s k o opened status ends_so zero in
       record { ran = done.ran; each = λ crash image. (runs_of words s k o opened ends.Done done.ran tells).survive crash image }
 
-  tried_of : (ending : Ending) (ran : Ran words s o opened ending) → Tried ran.has.was.recording.beside.sampled ran.has.was.recording.results ending ran.has.was.recording.tried
-  tried_of ending ran = subst (λ (x : Ending). Tried ran.has.was.recording.beside.sampled ran.has.was.recording.results x ran.has.was.recording.tried) ran.ended ran.has.was.recording.tried_are
+  tried_of : (ending : Ending) (ran : Ran words s o opened ending) → IsTried ran.has.was.recording.beside.sampled ran.has.was.recording.results ending ran.has.was.recording.tried
+  tried_of ending ran = subst (λ (x : Ending). IsTried ran.has.was.recording.beside.sampled ran.has.was.recording.results x ran.has.was.recording.tried) ran.ended ran.has.was.recording.tried_are
 
   since_of : (ending : Ending) (ran : Ran words s o opened ending) → o.disk.tells → SinceRecovered o.disk (items_of_results ran.has.was.recording.tried) o.disk_was o.disk_is ending
   since_of ending ran tells = subst (λ (x : Ending). SinceRecovered o.disk (items_of_results ran.has.was.recording.tried) o.disk_was o.disk_is x) ran.ended (ran.has.was.recording.since tells)

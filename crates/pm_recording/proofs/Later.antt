@@ -35,9 +35,9 @@ use Rattle.record_run.specs.ImageRuns.{result_for}
 use Rattle.record_run.proofs.ComeBack.{at_of}
 use Rattle.record_run.proofs.OneReason.{none_stamped}
 use Rattle.script_replays.specs.Replays.{IsRecovered}
-use Rattle.script_samples.specs.Samples.{Taken, stamps_of}
+use Rattle.script_samples.specs.Samples.{SampleTaken, stamps_of}
 use Rattle.script_samples.specs.Shown.{AreShown, LogsEach, shown_by, with_result}
-use Rattle.script_records.specs.Beside.{Sampled}
+use Rattle.script_records.specs.Beside.{IsSampled}
 use Rattle.script_records.specs.Stopping.{IsTurnedAway}
 use Rattle.pm_recording.specs.Good.{AreLater, AreRising}
 
@@ -123,7 +123,7 @@ shows_now : (pmids : List ℕ) (f shows : Fetched) → result_for pmids f ≡ So
 shows_now [] f shows is = absurd (cc)
 shows_now (p ∷ pmids) f shows is = let same : f ≡ shows = cc in ap (λ (x : Fetched). x.result.stamp) (sym same)
 
-stamp_shown : (groups : List Group) (plans : Option (List Plan)) (s : Taken) (shows : Fetched) → shown_by groups plans s ≡ Some shows → shows.result.stamp ≡ s.stamp
+stamp_shown : (groups : List Group) (plans : Option (List Plan)) (s : SampleTaken) (shows : Fetched) → shown_by groups plans s ≡ Some shows → shows.result.stamp ≡ s.stamp
 stamp_shown groups plans s shows is = shows_now _ _ shows is
 
 module _ (P : Moment → Type 0) where
@@ -134,14 +134,14 @@ module _ (P : Moment → Type 0) where
   with_one None rest this others = others
   with_one (Some f) rest this others = (this f refl, others)
 
-  results_have : (groups : List Group) (plans : Option (List Plan)) (samples : List Taken) (results : List Fetched) (later : Option (List Plan)) → AreShown groups plans samples results later → AllByRecursion P (stamps_of samples) → HaveResults results
+  results_have : (groups : List Group) (plans : Option (List Plan)) (samples : List SampleTaken) (results : List Fetched) (later : Option (List Plan)) → AreShown groups plans samples results later → AllByRecursion P (stamps_of samples) → HaveResults results
   results_have groups plans [] results later shown all = subst HaveResults (sym shown.0) tt
   results_have groups plans (s ∷ samples) results later (next, rest, few, passed, is, more) all =
       subst HaveResults (sym is) (with_one (shown_by groups plans s) rest (λ f shows. subst P (sym (stamp_shown groups plans s f shows)) all.0) (results_have groups (Some next) samples rest later more all.1))
 
 -- ---- the last moment
 
-stamps-append : (samples more : List Taken) → stamps_of (samples ++ more) ≡ stamps_of samples ++ stamps_of more
+stamps-append : (samples more : List SampleTaken) → stamps_of (samples ++ more) ≡ stamps_of samples ++ stamps_of more
 stamps-append [] more = refl
 stamps-append (s ∷ samples) more = ap (λ (l : List Moment). s.stamp ∷ l) (stamps-append samples more)
 
@@ -170,13 +170,13 @@ too_early limit f w faults.Closed last refuses is = absurd (cc)
 too_early limit f w faults.NoMemory last refuses is = absurd (cc)
 too_early limit f w faults.DiskFault last refuses is = absurd (cc)
 
-module _ {script : Script} {server : List Mounted} {first final : List Token} {ending : Ending} {moments : List Moment} {results : List Fetched} (sampled : Sampled script server first final ending moments results)
+module _ {script : Script} {server : List Mounted} {first final : List Token} {ending : Ending} {moments : List Moment} {results : List Fetched} (sampled : IsSampled script server first final ending moments results)
     (limit : ℕ) (start : Files) (all rest : List Moment) (are : all ≡ moments ++ rest) where
   -- the moments in front of a sample that logs nothing, which is the last one
-  placed : (sample : Taken) → sampled.unlogged ≡ sample ∷ [] → all ≡ stamps_of sampled.logged ++ sample.stamp ∷ (sampled.lacking ++ rest)
+  placed : (sample : SampleTaken) → sampled.unlogged ≡ sample ∷ [] → all ≡ stamps_of sampled.logged ++ sample.stamp ∷ (sampled.lacking ++ rest)
   placed sample one =
       let stamps : stamps_of (sampled.beside ++ sampled.behind) ≡ stamps_of sampled.logged ++ sample.stamp ∷ [] =
-      ap stamps_of (sampled.are ∙ ap (λ (l : List Taken). sampled.logged ++ l) one) ∙ stamps-append sampled.logged (sample ∷ []) in
+      ap stamps_of (sampled.are ∙ ap (λ (l : List SampleTaken). sampled.logged ++ l) one) ∙ stamps-append sampled.logged (sample ∷ []) in
       are ∙ ap (λ (l : List Moment). l ++ rest) (sampled.moments_are ∙ ap (λ (l : List Moment). l ++ sampled.lacking) stamps ∙ append_assoc (stamps_of sampled.logged) (sample.stamp ∷ []) sampled.lacking)
       ∙ append_assoc (stamps_of sampled.logged) (sample.stamp ∷ sampled.lacking) rest
 

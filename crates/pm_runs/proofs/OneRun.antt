@@ -30,7 +30,7 @@ use Rattle.script_runs.specs.PassSteps.{one_number}
 use Rattle.script_runs.specs.Regions.{ScriptRegion}
 use Rattle.script_runs.specs.Closing.{closed_regions}
 use Rattle.script_runs.specs.Runs.{FlushesLast, LinesRun, RunsOver, RunsTo, run_start, with_end}
-use Rattle.script_runs.specs.Steps.{FlushGoes, GoesOn, LogsResult, PassGoes, Passed, RefusesResult, Regions, RunState, Stops, TickLogs, TickStops, Ticks, asking_at, fetched_at, pass_step}
+use Rattle.script_runs.specs.Steps.{FlushGoes, GoesOn, LogsResult, PassGoes, PassesForEach, RefusesResult, Regions, RunState, Stops, TickLogs, TickStops, Ticks, asking_at, fetched_at, pass_step}
 use Rattle.pm_runs.specs.Scripts.{IsOne}
 use Rattle.record_run.proofs.OneReason.{archive_timely, last_number, no_archive, none_stamped, not_refused, one_contents, one_ends, one_greatest, one_missing, one_moment, one_refusal, recovered_once}
 
@@ -177,7 +177,7 @@ same_plans (p ∷ a) (q ∷ b) groups tables asked =
     (same_plans a b (let e : map (λ (plan : Plan). plan.group) a ≡ map (λ (plan : Plan). plan.group) b = cc in e) (let e : map (λ (plan : Plan). plan.timetable) a ≡ map (λ (plan : Plan). plan.timetable) b = cc in e)
     (let e : map (λ (plan : Plan). plan.asked) a ≡ map (λ (plan : Plan). plan.asked) b = cc in e))
 
-one_passed : (now : Moment) (old a b : List Plan) → Passed now old a → Passed now old b → a ≡ b
+one_passed : (now : Moment) (old a b : List Plan) → PassesForEach now old a → PassesForEach now old b → a ≡ b
 one_passed now old a b x y =
     same_plans a b (x.groups ∙ sym y.groups)
     (one_passing now (map (λ (plan : Plan). plan.timetable) old) (map (λ (plan : Plan). plan.timetable) a) (map (λ (plan : Plan). plan.timetable) b) x.timetables y.timetables) (x.asked ∙ sym y.asked)

@@ -38,7 +38,7 @@ use Rattle.pm_words.specs.Streams.{IsSent}
 use Rattle.pm_words.specs.Serving.{StopCause, HasServed, MayLeave, Serves, HasRecovered}
 use Rattle.pm_runs.specs.Regions.{RanRegions, pair_of}
 use Rattle.pm_runs.specs.Running.{ToldRun, WasRun}
-use Rattle.pm_runs.specs.Scripts.{HasWritten, Begun, Halts, Leads, LogsFirst, OfScript, RanFirst, Runner, ending_of, runs_script, IsTurnedAway, ScriptSince}
+use Rattle.pm_runs.specs.Scripts.{HasWritten, IsRunUnderWay, Halts, Leads, LogsFirst, OfScript, RanFirst, Runner, ending_of, runs_script, IsTurnedAway, ScriptSince}
 use Rattle.pm_runs.proofs.Mended.{not_both}
 use Rattle.pm_runs.proofs.OneRun.{one_ending}
 use Rattle.pm_runs.proofs.Refused.{refused_is_none}
@@ -368,7 +368,7 @@ is_done (ends.Changed pmid) clock why = absurd (some_or_none (Disk (FilesAway (R
 
 -- ---- a refusal whose line wants memory
 
-begun_on : (limit status : ℕ) (script : Script) (d : DiskSide) → (status ≡ 5 → ⊥) → Begun limit status script d → Begun limit 9 script d
+begun_on : (limit status : ℕ) (script : Script) (d : DiskSide) → (status ≡ 5 → ⊥) → IsRunUnderWay limit status script d → IsRunUnderWay limit 9 script d
 begun_on limit status script d other (inl five) = absurd (other five)
 begun_on limit status script d other (inr (inl (nine, w))) = inr (inl (refl, w))
 begun_on limit status script d other (inr (inr (reason, is, w))) = inr (inl (refl, λ t. inr ((w t).0, inr (ending_of reason, (w t).1))))

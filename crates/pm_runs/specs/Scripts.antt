@@ -131,8 +131,8 @@ HasWritten c input d (Disk e) front = (output : List ℕ) × (front ≡ c.front 
 HasWritten c input d NoMemory front = (front ≡ []) ⊎ ((output : List ℕ) × (front ≡ c.front output) × (d.tells → (output ≡ []) ⊎ OfScript c input (λ script. WantsWith script c.limit d output)))
 
 -- What stands where it is stopped after the first write. After a disk fault the run is on its way.
-abbrev pub Begun : ℕ → ℕ → Script → DiskSide → Type 0
-Begun limit status script d =
+abbrev pub IsRunUnderWay : ℕ → ℕ → Script → DiskSide → Type 0
+IsRunUnderWay limit status script d =
     (status ≡ 5) ⊎ (((status ≡ 9) × (d.tells → (d.after ≡ d.held) ⊎ ((output : List ℕ) × WantsWith script limit d output)))
     ⊎ ((reason : RunRefusal) × (status ≡ run_status reason) × (d.tells → (output : List ℕ) × EndsWith script limit d (ending_of reason) output)))
 
@@ -155,7 +155,7 @@ runs_script c = record {
   says = λ input d text. d.tells → OfScript c input (λ script. HasRunTo c script d text);
   begins = λ input d e front. HasWritten c input d e front;
   keeps = λ input held crash. OfScript c input (λ script. KeepsAll script c.limit (contents_of held) crash);
-  begun = λ status input d. OfScript c input (λ script. Begun c.limit status script d);
+  begun = λ status input d. OfScript c input (λ script. IsRunUnderWay c.limit status script d);
   may_leave = λ input held crash. OfScript c input (λ script. (items : List Item) × LogsFirst script c.limit (contents_of held) items × MayBeAfter items held crash);
 }
 

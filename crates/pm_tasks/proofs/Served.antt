@@ -16,7 +16,7 @@ use Rattle.pm_tasks.specs.Causes.{Asks, Got, Cause}
 use Rattle.pm_words.specs.Reading.{TookSome, UnreadCause}
 use Rattle.pm_words.specs.Serving.{StopCause, Serves, MayLeave}
 use Rattle.pm_words.specs.CommandLine.{command_of, Reads}
-use Rattle.pm_tasks.specs.Ends.{HasRun, HasBegun, Runs, Told, Ends, MayBeLeft}
+use Rattle.pm_tasks.specs.Ends.{HasRun, HasBegun, Runs, TellsOutput, Ends, MayBeLeft}
 use Rattle.pm_words.specs.Inputs.{input_limit}
 use Rattle.pm_tasks.specs.Meanings.{meaning}
 use Rattle.pm_words.specs.Refusals.{status_of, line_of, refusal_of_stage}
@@ -106,6 +106,6 @@ finishes g words s d a b c failed text status runs (now, sends, is) =
     (finished_ends words s (sink_side g a c) d (runs.front ++ text) now runs.done (sent_on g a b c runs.front text failed now runs.sent sends))
 
 -- the end of a refusal whose line was written, or a front of it
-pub refused_ends : (words : List (List ℕ)) (s : SourceSide) (k : SinkSide) (d : DiskSide) (status : ℕ) (e : Refusal) (front : List ℕ) → status ≡ status_of e → Cause words s d e × HasBegun words s d e front → Told k (front ++ line_of e)
+pub refused_ends : (words : List (List ℕ)) (s : SourceSide) (k : SinkSide) (d : DiskSide) (status : ℕ) (e : Refusal) (front : List ℕ) → status ≡ status_of e → Cause words s d e × HasBegun words s d e front → TellsOutput k (front ++ line_of e)
     → Ends words s k d status
 refused_ends words s k d status e front is stops told = inr (inr (record { refusal = e; status_is = is; cause = stops.0; front = front; begun = stops.1; told = told }))

@@ -42,8 +42,8 @@ HasBegun words s d (Disk e) front = AskedBegins words s d (Disk e) front
 HasBegun words s d NoMemory front = (front ≡ []) ⊎ AskedBegins words s d NoMemory front
 
 -- the output of a refusal: what was begun and a line, or a front of both where the sink failed
-abbrev pub Told : SinkSide → List ℕ → Type 0
-Told k text = k.tells → Wrote k.faults k.faults_after k.written k.after text
+abbrev pub TellsOutput : SinkSide → List ℕ → Type 0
+TellsOutput k text = k.tells → Wrote k.faults k.faults_after k.written k.after text
 
 -- refused
 pub record EndsRefused (words : List (List ℕ)) (s : SourceSide) (k : SinkSide) (d : DiskSide) (status : ℕ) : Type 0 where
@@ -52,7 +52,7 @@ pub record EndsRefused (words : List (List ℕ)) (s : SourceSide) (k : SinkSide)
   pub cause : Cause words s d refusal
   pub front : List ℕ
   pub begun : HasBegun words s d refusal front
-  pub told : Told k (front ++ line_of refusal)
+  pub told : TellsOutput k (front ++ line_of refusal)
 
 -- the same of the command that the words are
 pub record Runs (words : List (List ℕ)) (s : SourceSide) (k : SinkSide) (failed : Bool) (d : DiskSide) (result : Result (List ℕ) Refusal) : Type 0 where

@@ -9,7 +9,7 @@ use Rattle.pcp_outside.specs.Doors.{Connection, Report, GivesConnection}
 use Rattle.pcp_outside.specs.declared.doors.Door.{Ghosts}
 use Rattle.fetch_engine.specs.Servers.{Seated}
 use Rattle.pmcd_server.specs.Turns.{Turn, IsSession, Follow}
-use Rattle.pmcd_server.specs.Works.{Failure, Nowhere, AtNext, AtEnded, HasStopped, AreReported, Serves, Answers, Worked, Drew, GoesOn}
+use Rattle.pmcd_server.specs.Works.{Failure, Nowhere, AtNext, AtEnded, HasStopped, AreReported, Serves, Answers, WorksOn, Drew, GoesOn}
 use Rattle.pmcd_server.specs.Places.{Drawer}
 
 all_on : {X : Type 0} (Q : X → Type 0) (xs ys : List X) → AllByRecursion Q xs → AllByRecursion Q ys → AllByRecursion Q (xs ++ ys)
@@ -135,15 +135,15 @@ module _ {P In Out Time : Type 0} (rows : List Mounted) (d : Ghosts P In Out Tim
 
   -- and the places for which they were served
   pub worked_on : (count : ℕ) (seat between last : Seated) (door middle door_after : P) (ms ns : List ℕ) (ts us : List Turn) (failure : Failure)
-      → Worked rows d count seat door ms ts Nowhere between middle → Worked rows d count between middle ns us failure last door_after
-      → Worked rows d count seat door (ms ++ ns) (ts ++ us) failure last door_after
+      → WorksOn rows d count seat door ms ts Nowhere between middle → WorksOn rows d count between middle ns us failure last door_after
+      → WorksOn rows d count seat door (ms ++ ns) (ts ++ us) failure last door_after
   worked_on count seat between last door middle door_after ms ns ts us failure a b = (
     all_on (λ (p : ℕ). p < count) ms ns a.0 b.0,
     subst (λ (k : ℕ). Serves rows d k seat door (ts ++ us) failure last door_after) (sym (length-append ms ns))
         (serves_on (length ms) (length ns) seat between last door middle door_after ts us failure a.1 b.1),
   )
 
-  pub worked_none : (count : ℕ) (seat : Seated) (door : P) → Worked rows d count seat door [] [] Nowhere seat door
+  pub worked_none : (count : ℕ) (seat : Seated) (door : P) → WorksOn rows d count seat door [] [] Nowhere seat door
   worked_none count seat door = (tt, serves_none seat door)
 
 -- a number below all places was drawn

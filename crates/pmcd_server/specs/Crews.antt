@@ -10,7 +10,7 @@ use Rattle.pmcd_server.specs.Draws.{AreBelow}
 use Rattle.pmcd_server.specs.Places.{Drawer}
 use Rattle.fetch_engine.specs.Servers.{Seated}
 use Rattle.pmcd_server.specs.Turns.{Turn}
-use Rattle.pmcd_server.specs.Works.{Drew, Failure, HasDrawnAll, IsWork, Nowhere, Work, Worked}
+use Rattle.pmcd_server.specs.Works.{Drew, Failure, HasDrawnAll, IsWork, Nowhere, Work, WorksOn}
 
 -- what each did with its seat and its door
 pub record AreWorks {P In Out Time : Type 0} (rows : List Mounted) (d : Ghosts P In Out Time) (count : ℕ) (seats : List Seated) (doors : List P) (works : List (Work P)) (seats_after : List Seated) (doors_after : List P) : Type 0 where
@@ -45,7 +45,7 @@ SomeFailed (w ∷ ws) = (w.failure ≢ Nowhere) ⊎ SomeFailed ws
 abbrev pub HasWorked : {P In Out Time : Type 0} → List Mounted → Ghosts P In Out Time → ℕ → Seated → P → Drawer → Seated → P → Drawer → Bool → Type 0
 HasWorked rows d count seat door own seat_after door_after own_after is_well =
     (given : List ℕ) × (beyond : List ℕ) × (turns : List Turn) × (failure : Failure)
-    × Worked rows d count seat door given turns failure seat_after door_after
+    × WorksOn rows d count seat door given turns failure seat_after door_after
     × Drew count given beyond own own_after
     × HasDrawnAll count given beyond failure
     × MatchBool is_well (failure ≡ Nowhere) (failure ≢ Nowhere)

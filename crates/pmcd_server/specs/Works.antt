@@ -50,12 +50,12 @@ pub record Work (P : Type 0) : Type 0 where
   pub seat_after : Seated
   pub door_after : P
 
-abbrev pub Worked : {P In Out Time : Type 0} → List Mounted → Ghosts P In Out Time → ℕ → Seated → P → List ℕ → List Turn → Failure → Seated → P → Type 0
-Worked rows d count seat door places turns failure seat_after door_after =
+abbrev pub WorksOn : {P In Out Time : Type 0} → List Mounted → Ghosts P In Out Time → ℕ → Seated → P → List ℕ → List Turn → Failure → Seated → P → Type 0
+WorksOn rows d count seat door places turns failure seat_after door_after =
     AllByRecursion (λ p. p < count) places × Serves rows d (length places) seat door turns failure seat_after door_after
 
 abbrev pub IsWork : {P In Out Time : Type 0} → List Mounted → Ghosts P In Out Time → ℕ → Work P → Type 0
-IsWork rows d count w = Worked rows d count w.seat w.door w.places w.turns w.failure w.seat_after w.door_after
+IsWork rows d count w = WorksOn rows d count w.seat w.door w.places w.turns w.failure w.seat_after w.door_after
 
 -- The places were drawn, and then numbers beyond them all.
 pub record Drew (count : ℕ) (places beyond : List ℕ) (before after : Drawer) : Type 0 where

@@ -2,7 +2,7 @@
 ghost use Rattle.std.specs.Prelude.{◌≡◌, ◌≤◌, ◌<◌, ℕ, List as Sequence};
 ghost use Rattle.fetch_engine.specs.Servers.{IsSeated};
 ghost use Rattle.pmcd_server.specs.Turns.{Turn};
-ghost use Rattle.pmcd_server.specs.Works.{Answers, Drew, Failure, GoesOn, HasDrawnAll, Serves, Worked};
+ghost use Rattle.pmcd_server.specs.Works.{Answers, Drew, Failure, GoesOn, HasDrawnAll, Serves, WorksOn};
 
 use crate::places::{Drawer, Places};
 use fetch_engine::Server;
@@ -42,7 +42,7 @@ fn visit<P: Door>(
     requires here { drawer.old.word ≡ places.now }
     requires left { 0 < drawer.old.left }
     ensures works { (given : Sequence ℕ) × (beyond : Sequence ℕ) × (turns : Sequence Turn) × (failure : Failure)
-        × Worked server.now P.Door count seat.old door.old given turns failure seat.new door.new
+        × WorksOn server.now P.Door count seat.old door.old given turns failure seat.new door.new
         × Drew count given beyond drawer.old drawer.new
         × GoesOn given beyond failure result }
     ensures seated { IsSeated server.now seat.new.tokens }
@@ -68,7 +68,7 @@ pub(crate) fn work<P: Door>(
     requires here { drawer.old.word ≡ places.now }
     requires left { count ≤ drawer.old.left }
     ensures works { (given : Sequence ℕ) × (beyond : Sequence ℕ) × (turns : Sequence Turn) × (failure : Failure)
-        × Worked server.now P.Door count seat.old door.old given turns failure seat.new door.new
+        × WorksOn server.now P.Door count seat.old door.old given turns failure seat.new door.new
         × Drew count given beyond drawer.old drawer.new
         × HasDrawnAll count given beyond failure
         × Answers failure result }

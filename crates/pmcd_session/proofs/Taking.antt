@@ -5,7 +5,7 @@ use Rattle.pdu_codec.specs.declared.pdu.Pdu.{Pdu}
 use Rattle.pdu_codec.specs.declared.pdu.Pdu.TheVariants as pdus
 use Rattle.pmcd_session.specs.declared.standing.Standing.{Standing}
 use Rattle.pmcd_session.specs.Contexts.{may_set, with_profile}
-use Rattle.pmcd_session.specs.Serving.{Asks, Deed, Does, DoesIf, FetchesIf, Meets, Reaches, ReadsBy, Refuses, Serves, Sets, Silent, Tells, may_fetch, needs_moment}
+use Rattle.pmcd_session.specs.Serving.{Asks, Deed, Does, DoesIf, FetchesIf, Meets, Reaches, ReadsBy, Refuses, Serves, Sets, IsSilent, Tells, may_fetch, needs_moment}
 
 no_moment : {A : Type 0} (s : Standing A) (pdu : List ℕ) (moments : List Moment) → moments ≡ [] → Reaches s pdu moments
 no_moment s pdu moments e = subst (λ (m : List Moment). Reaches s pdu m) (sym e) tt
@@ -13,7 +13,7 @@ no_moment s pdu moments e = subst (λ (m : List Moment). Reaches s pdu m) (sym e
 refused_takes : {A : Type 0} (s : Standing A) (pdu : List ℕ) (d : Deed A) → Refuses s d → Reaches s pdu d.moments
 refused_takes {A = A} s pdu d is = no_moment s pdu d.moments (ap (λ (e : Deed A). e.moments) is)
 
-silent_takes : {A : Type 0} (s after : Standing A) (pdu : List ℕ) (d : Deed A) → Silent after d → Reaches s pdu d.moments
+silent_takes : {A : Type 0} (s after : Standing A) (pdu : List ℕ) (d : Deed A) → IsSilent after d → Reaches s pdu d.moments
 silent_takes {A = A} s after pdu d is = no_moment s pdu d.moments (ap (λ (e : Deed A). e.moments) is)
 
 told_takes : {A : Type 0} (reads : ReadsBy A) (s : Standing A) (pdu : List ℕ) (request : Pdu) (d : Deed A) → Tells reads s request d → Reaches s pdu d.moments

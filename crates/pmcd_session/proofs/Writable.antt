@@ -13,7 +13,7 @@ use Rattle.fetch_answers.specs.Readings.{RegionReading}
 use Rattle.pmcd_session.specs.declared.standing.Standing.{Standing}
 use Rattle.pmcd_session.specs.Contexts.{may_set, with_profile, profile_or_all}
 use Rattle.pmcd_session.specs.Replies.{protocol_error, desc_reply, instance_reply, one_instance, ids_reply, names_reply, some_names, name_reply, unless_missing, reply_over, names_shown, missing_among, all_of, no_metric, no_name}
-use Rattle.pmcd_session.specs.Serving.{Deed, DoesIf, FetchesIf, Meets, ReadsBy, Refuses, Serves, Sets, Silent, Tells, may_fetch}
+use Rattle.pmcd_session.specs.Serving.{Deed, DoesIf, FetchesIf, Meets, ReadsBy, Refuses, Serves, Sets, IsSilent, Tells, may_fetch}
 use Rattle.pmcd_session.proofs.Sets.{sets_fit}
 
 desc_writable : (told : Result Desc ℤ) → IsWritable (desc_reply told)
@@ -83,7 +83,7 @@ told_writable reads s request d told = subst (λ (o : Option Pdu). IfSome o IsWr
 refused_writable : {A : Type 0} (s : Standing A) (d : Deed A) → Refuses s d → IfSome d.reply IsWritable
 refused_writable {A = A} s d is = subst (λ (e : Deed A). IfSome e.reply IsWritable) (sym is) tt
 
-silent_writable : {A : Type 0} (after : Standing A) (d : Deed A) → Silent after d → IfSome d.reply IsWritable
+silent_writable : {A : Type 0} (after : Standing A) (d : Deed A) → IsSilent after d → IfSome d.reply IsWritable
 silent_writable {A = A} after d is = subst (λ (e : Deed A). IfSome e.reply IsWritable) (sym is) tt
 
 set_writable : {A : Type 0} (b : Bool) (s after : Standing A) (d : Deed A) → Sets b s after d → IfSome d.reply IsWritable

@@ -24,8 +24,8 @@ pub record Deed (A : Type 0) : Type 0 where
   pub after : Standing A
 
 -- no reply
-abbrev pub Silent : {A : Type 0} → Standing A → Deed A → Type 0
-Silent after d = d ≡ record { moments = []; reply = None; after = after }
+abbrev pub IsSilent : {A : Type 0} → Standing A → Deed A → Type 0
+IsSilent after d = d ≡ record { moments = []; reply = None; after = after }
 
 -- an error, and nothing is changed
 abbrev pub Refuses : {A : Type 0} → Standing A → Deed A → Type 0
@@ -58,7 +58,7 @@ abbrev pub may_fetch : ℕ → List ℕ → Bool
 may_fetch context pmids = nat_lt context 16 && nat_le (length pmids) 1024
 
 abbrev pub Sets : {A : Type 0} → Bool → Standing A → Standing A → Deed A → Type 0
-Sets true s after = Silent after
+Sets true s after = IsSilent after
 Sets false s after = Refuses s
 
 abbrev pub FetchesIf : {A : Type 0} → ReadsBy A → Bool → Standing A → ℕ → List ℕ → Deed A → Type 0
@@ -83,7 +83,7 @@ Serves reads s (pdus.Instance indom pairs) = Refuses s
 
 -- of one that isn't known yet
 abbrev pub Meets : {A : Type 0} → Standing A → Pdu → Deed A → Type 0
-Meets s pdus.Creds = Silent (record s { is_met = true })
+Meets s pdus.Creds = IsSilent (record s { is_met = true })
 Meets s request = Refuses s
 
 -- bytes that are no PDU ask for nothing

@@ -1,7 +1,7 @@
 //! Who reads the regions for a session.
 ghost use Rattle.std.specs.Prelude.{◌≡◌, ◌≤◌, length, ℕ, List as Sequence, Option, Some, None, IfOk};
 ghost use Rattle.fetch_answers.specs.Answers.{answer_of};
-ghost use Rattle.fetch_answers.specs.Asks.{Told, desc_asked, instances_asked};
+ghost use Rattle.fetch_answers.specs.Asks.{AnswerHas, desc_asked, instances_asked};
 ghost use Rattle.fetch_answers.specs.Readings.{RegionReading};
 ghost use Rattle.pmcd_session.specs.Replies.{names_shown, missing_among};
 
@@ -55,7 +55,7 @@ pub trait Agent {
         pmid: Pmid,
     ) -> Result<Desc, AskFault>
         requires here { sits regions.now self.old }
-        ensures told { Told result (λ told. (readings : Sequence RegionReading) × reads regions.now (Some pmid) self.old readings self.new × (told ≡ desc_asked readings pmid)) }
+        ensures told { AnswerHas result (λ told. (readings : Sequence RegionReading) × reads regions.now (Some pmid) self.old readings self.new × (told ≡ desc_asked readings pmid)) }
         ensures loads { loads regions.now self.old self.new }
         ensures here { sits regions.now self.new };
 
@@ -67,7 +67,7 @@ pub trait Agent {
         indom: InDom,
     ) -> Result<List<(i32, Text)>, AskFault>
         requires here { sits regions.now self.old }
-        ensures told { Told result (λ told. (readings : Sequence RegionReading) × reads regions.now (Some indom) self.old readings self.new × (told ≡ instances_asked readings indom)) }
+        ensures told { AnswerHas result (λ told. (readings : Sequence RegionReading) × reads regions.now (Some indom) self.old readings self.new × (told ≡ instances_asked readings indom)) }
         ensures loads { loads regions.now self.old self.new }
         ensures here { sits regions.now self.new };
 }

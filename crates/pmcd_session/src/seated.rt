@@ -1,7 +1,7 @@
 //! A seat at a server is an agent.
 ghost use Rattle.std.specs.Prelude.{◌≡◌, ◌≤◌, length, List as Sequence, Option, Some, None, IfOk};
 ghost use Rattle.fetch_answers.specs.Answers.{answer_of};
-ghost use Rattle.fetch_answers.specs.Asks.{Told, desc_asked, instances_asked};
+ghost use Rattle.fetch_answers.specs.Asks.{AnswerHas, desc_asked, instances_asked};
 ghost use Rattle.fetch_answers.specs.Readings.{RegionReading};
 ghost use Rattle.fetch_engine.specs.Servers.{IsSeated};
 ghost use Rattle.pmcd_session.specs.Agents.{LoadsRegions, ReadsRegions};

@@ -39,11 +39,11 @@ use Rattle.script_runs.specs.declared.ending.Ending.{Ending}
 use Rattle.script_runs.specs.declared.ending.Ending.TheVariants as ends
 use Rattle.script_runs.specs.Groups.{Plan, asking, asked_for}
 use Rattle.script_runs.specs.Steps.{every_instance, fetched_from, plans_at}
-use Rattle.script_samples.specs.Samples.{Taken, IsTaken, AreTaken, stamps_of}
+use Rattle.script_samples.specs.Samples.{SampleTaken, IsTaken, AreTaken, stamps_of}
 use Rattle.script_samples.specs.Shown.{AreShown, pmids_by, shown_by, with_result}
 use Rattle.script_writers.specs.Hands.{IsServedAt}
 use Rattle.script_writers.proofs.Placed.{made_at}
-use Rattle.script_records.specs.Beside.{AtJournals, Beside, EndsBy, Finished, Sampled, StopsLogging, WritersRan, start_of}
+use Rattle.script_records.specs.Beside.{AtJournals, Beside, EndsBy, IsFinishedUnlessWanting, IsSampled, StopsLogging, WritersRan, start_of}
 use Rattle.record_laws.specs.Closing.{closing, closing_of, closing_words, LastSampleIsExact}
 use Rattle.record_laws.proofs.Behind.{still_at, stable_end, image_end}
 use Rattle.record_laws.proofs.Places.{row_at}
@@ -135,15 +135,15 @@ longer_seen v w f =
 
 module _ (script : Script) (server : List Mounted) (first final : List Token) (moments : List Moment) (results : List Fetched) (keeps : KeepsRules script) (serves : ServesScript script 1 server) (seated : IsSeated server final)
     (beside : Beside script server first final ends.Done moments results) where
-  abbrev sampled : Sampled script server first final ends.Done moments results
+  abbrev sampled : IsSampled script server first final ends.Done moments results
   sampled = beside.sampled
 
   -- the writers have run
   ran : AtJournals WritersRan script server final
   ran = by_own beside.own beside.ended_by beside.writers
     where
-      by_own : (own : Ending) → EndsBy own ends.Done → Finished own (AtJournals WritersRan script server final) → AtJournals WritersRan script server final
-      by_own own (inl same) finished = subst (λ (e : Ending). Finished e (AtJournals WritersRan script server final)) (sym same) finished
+      by_own : (own : Ending) → EndsBy own ends.Done → IsFinishedUnlessWanting own (AtJournals WritersRan script server final) → AtJournals WritersRan script server final
+      by_own own (inl same) finished = subst (λ (e : Ending). IsFinishedUnlessWanting e (AtJournals WritersRan script server final)) (sym same) finished
       by_own own (inr never) finished = absurd (cc)
 
   -- The region at a position: the seat's pass behind the writers, behind the names, behind the values, and at the end
@@ -206,7 +206,7 @@ module _ (script : Script) (server : List Mounted) (first final : List Token) (m
         stable image values second_read.read
 
   -- All regions
-  module _ (s : Taken) (last : List Token) (before_is : s.before ≡ sampled.gathered) (taken : IsTaken server s) (after_is : last ≡ s.after) (loaded : AreLoaded last final) where
+  module _ (s : SampleTaken) (last : List Token) (before_is : s.before ≡ sampled.gathered) (taken : IsTaken server s) (after_is : last ≡ s.after) (loaded : AreLoaded last final) where
     as_many : length final ≡ length server
     as_many = as_many_seated server final seated
 
@@ -285,13 +285,13 @@ with_more None xs ys = refl
 with_more (Some f) xs ys = refl
 
 -- what the samples before the last one logged
-record Front (groups : List Group) (plans : Option (List Plan)) (samples : List Taken) (s : Taken) (results : List Fetched) : Type 0 where
+record Front (groups : List Group) (plans : Option (List Plan)) (samples : List SampleTaken) (s : SampleTaken) (results : List Fetched) : Type 0 where
   before : List Fetched
   by_then : Option (List Plan)
   shown : AreShown groups plans samples before by_then
   is : results ≡ before ++ with_result (shown_by groups by_then s) []
 
-front : (groups : List Group) (plans : Option (List Plan)) (samples : List Taken) (s : Taken) (results : List Fetched) (later : Option (List Plan)) → AreShown groups plans (samples ++ s ∷ []) results later → Front groups plans samples s results
+front : (groups : List Group) (plans : Option (List Plan)) (samples : List SampleTaken) (s : SampleTaken) (results : List Fetched) (later : Option (List Plan)) → AreShown groups plans (samples ++ s ∷ []) results later → Front groups plans samples s results
 front groups plans [] s results later h = record {
   before = [];
   by_then = plans;
@@ -319,15 +319,15 @@ one_item (x ∷ y ∷ ys) e = absurd (omega arith)
 
 pub last_sample : LastSampleIsExact
 last_sample script server first final moments results keeps serves seated b =
-    let sampled : Sampled script server first final ends.Done moments results = b.sampled in
+    let sampled : IsSampled script server first final ends.Done moments results = b.sampled in
     let one = one_item sampled.behind (sampled.last_behind refl) in
-    let s : Taken = one.0 in
-    let taken : AreTaken server sampled.gathered (s ∷ []) sampled.last = subst (λ (l : List Taken). AreTaken server sampled.gathered l sampled.last) one.1 sampled.taken_behind in
+    let s : SampleTaken = one.0 in
+    let taken : AreTaken server sampled.gathered (s ∷ []) sampled.last = subst (λ (l : List SampleTaken). AreTaken server sampled.gathered l sampled.last) one.1 sampled.taken_behind in
     let none = all_logged sampled.unlogged sampled.lacking sampled.stops in
     let logged : sampled.logged ≡ sampled.beside ++ s ∷ [] =
-    sym (append-nil sampled.logged) ∙ (ap (λ (l : List Taken). sampled.logged ++ l) (sym none.0) ∙ (sym sampled.are ∙ ap (λ (l : List Taken). sampled.beside ++ l) one.1)) in
+    sym (append-nil sampled.logged) ∙ (ap (λ (l : List SampleTaken). sampled.logged ++ l) (sym none.0) ∙ (sym sampled.are ∙ ap (λ (l : List SampleTaken). sampled.beside ++ l) one.1)) in
     let f : Front script.config.groups None sampled.beside s results =
-    front script.config.groups None sampled.beside s results sampled.plans (subst (λ (l : List Taken). AreShown script.config.groups None l results sampled.plans) logged sampled.shown) in
+    front script.config.groups None sampled.beside s results sampled.plans (subst (λ (l : List SampleTaken). AreShown script.config.groups None l results sampled.plans) logged sampled.shown) in
     let names : AllZip ReadAlike s.names (closing server final) = named_alike script server first final moments results keeps serves seated b s sampled.last taken.0 taken.1 taken.2 sampled.loaded_behind in
     let values : AllZip ReadAlike s.values (closing server final) = read_alike script server first final moments results keeps serves seated b s sampled.last taken.0 taken.1 taken.2 sampled.loaded_behind in
     let named : AnswerAlike s.names (closing server final) = alike_answers s.names (closing server final) names in
@@ -341,7 +341,7 @@ last_sample script server first final moments results keeps serves seated b =
       at_last = sampled.moments_are
           ∙ (ap (λ (l : List Moment). stamps_of (sampled.beside ++ sampled.behind) ++ l) none.1
           ∙ (append-nil (stamps_of (sampled.beside ++ sampled.behind))
-          ∙ (ap (λ (l : List Taken). stamps_of (sampled.beside ++ l)) one.1 ∙ map-append (λ (x : Taken). x.stamp) sampled.beside (s ∷ []))));
+          ∙ (ap (λ (l : List SampleTaken). stamps_of (sampled.beside ++ l)) one.1 ∙ map-append (λ (x : SampleTaken). x.stamp) sampled.beside (s ∷ []))));
       named = names;
       read = values;
       names = named.names;

@@ -19,7 +19,7 @@ use Rattle.script_runs.specs.declared.ending.Ending.TheVariants as ends
 use Rattle.script_writers.specs.Hands.{IsServedAt}
 use Rattle.script_writers.specs.Lines.{Writing, HasMade}
 use Rattle.script_writers.proofs.Placed.{capacity_at, made_at}
-use Rattle.script_records.specs.Beside.{AtJournals, Beside, Finished, WritersRan, start_of}
+use Rattle.script_records.specs.Beside.{AtJournals, Beside, IsFinishedUnlessWanting, WritersRan, start_of}
 use Rattle.script_records.specs.Pictured.{AreImages}
 use Rattle.record_laws.specs.Whole.{AreOfWords, NoLineIsLost, WritesAll}
 use Rattle.record_laws.proofs.Fitting.{MayChange, few_lines, lines_fit, opened_form, opened_held, opened_image, opened_low, opened_words}
@@ -29,7 +29,7 @@ use Rattle.record_laws.proofs.Summing.{AreWords}
 use Rattle.record_laws.proofs.Wrote.{IsHeld, all_write}
 
 -- the writers have run, unless they were refused memory
-ran_unless : (P : Type 0) (own_ending : Ending) → own_ending ≢ ends.NoMemory → Finished own_ending P → P
+ran_unless : (P : Type 0) (own_ending : Ending) → own_ending ≢ ends.NoMemory → IsFinishedUnlessWanting own_ending P → P
 ran_unless P ends.NoMemory other finished = absurd (other refl)
 ran_unless P ends.Done other finished = finished
 ran_unless P (ends.Condition line) other finished = finished

@@ -19,9 +19,9 @@ use Rattle.script_passes.specs.Crews.{ServesScript}
 use Rattle.script_runs.specs.Groups.{Plan}
 use Rattle.script_runs.specs.Steps.{fetched_from}
 use Rattle.script_runs.specs.declared.ending.Ending.TheVariants as ends
-use Rattle.script_samples.specs.Samples.{Taken}
+use Rattle.script_samples.specs.Samples.{SampleTaken}
 use Rattle.script_samples.specs.Shown.{AreShown, pmids_by, with_result}
-use Rattle.script_records.specs.Beside.{Beside, Sampled, start_of}
+use Rattle.script_records.specs.Beside.{Beside, IsSampled, start_of}
 
 -- the words of a region at the end of its journal, which is what the seat's pass has seen
 abbrev pub closing_words : Mounted → Token → List ℕ
@@ -44,8 +44,8 @@ logged_of groups plans readings now = with_result (result_for (pmids_by groups p
 -- The last sample is that of the last moment. Its reading for names and its reading for values show what the regions' last words say:
 -- one form, and each value word as it stands in the end. So it answers every metric as these words do. The results end with what is
 -- logged of these words, behind what the samples beside the writers logged.
-pub record LastIsExact (script : Script) (server : List Mounted) (first final : List Token) (moments : List Moment) (results : List Fetched) (sampled : Sampled script server first final ends.Done moments results) : Type 0 where
-  pub sample : Taken
+pub record LastIsExact (script : Script) (server : List Mounted) (first final : List Token) (moments : List Moment) (results : List Fetched) (sampled : IsSampled script server first final ends.Done moments results) : Type 0 where
+  pub sample : SampleTaken
   pub is : sampled.behind ≡ sample ∷ []
   pub earlier : List Moment
   pub at_last : moments ≡ earlier ++ sample.stamp ∷ []

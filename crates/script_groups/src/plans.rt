@@ -2,7 +2,7 @@
 ghost use Rattle.std.specs.Prelude.{◌≡◌, [], if◌then◌else◌, length, replicate, IfOk, OnOk};
 ghost use Rattle.script_groups.specs.Plans.{AreBeside, plans_of};
 ghost use Rattle.script_runs.specs.Groups.{asked_for, asking, plans_at_start, with_metrics};
-ghost use Rattle.script_runs.specs.Steps.{Passed, plans_at};
+ghost use Rattle.script_runs.specs.Steps.{PassesForEach, plans_at};
 
 use crate::asking::add_below;
 use crate::metrics::Metrics;
@@ -148,7 +148,7 @@ impl<'a> Plans<'a> {
 
     /// The moment has passed for each group.
     pub fn passed(&mut self, now: Stamp)
-        ensures { Passed now self.old self.new }
+        ensures { PassesForEach now self.old self.new }
     {
         self.timetables.passed(now);
     }

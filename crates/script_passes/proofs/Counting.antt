@@ -23,7 +23,7 @@ use Rattle.pass_steps.specs.declared.worker.Worker.{Worker}
 use Rattle.pass_steps.specs.Workers.{IsPassOf, view_of}
 use Rattle.pass_steps.proofs.Calling.{moved}
 use Rattle.script_passes.specs.Crews.{made_by, IsCrew, IsAlone, Stands}
-use Rattle.script_passes.specs.Sweeps.{Goes, Gathered}
+use Rattle.script_passes.specs.Sweeps.{Goes, GathersAllBut}
 use Rattle.script_passes.proofs.Crewing.{opening_by_token, same_or_other}
 
 -- f at k and the numbers behind it, n in all
@@ -110,7 +110,7 @@ made_is f (w ∷ ws) k each =
     omega arith
 
 -- once all are gathered
-pub alone_gathered : (region : MadeRegion) (crew : List Worker) (before now : Token) → IsCrew region crew before → Gathered region crew 0 before now → IsAlone crew before
+pub alone_gathered : (region : MadeRegion) (crew : List Worker) (before now : Token) → IsCrew region crew before → GathersAllBut region crew 0 before now → IsAlone crew before
 alone_gathered region crew before now is g =
     let journal : IsJournal mmv region.words region.passes now.view.seen = g.journal is.some in
     let wide : length (opening region.words region.passes).modes ≡ region.passes = length-replicate region.passes Idle in
@@ -134,7 +134,7 @@ alone_gathered region crew before now is g =
 
 -- one is gathered
 pub gather_more : (region : MadeRegion) (crew : List Worker) (left : ℕ) (before now next pass : Token) (worker : Worker) → IsCrew region crew before → slice_get crew left ≡ Some worker → view_of worker ≡ pass.view → pass.view.number ≡ left
-    → Gathered region crew (suc left) before now → Gathers mmv now.view pass.view next.view → IsSame Idle Idle now next → Gathered region crew left before next
+    → GathersAllBut region crew (suc left) before now → Gathers mmv now.view pass.view next.view → IsSame Idle Idle now next → GathersAllBut region crew left before next
 gather_more region crew left before now next pass worker is there view number g gathers same = record {
   last = moved region (length crew) Idle Idle now next same g.last;
   seen = seen ∙ g.seen;
@@ -172,7 +172,7 @@ gather_more region crew left before now next pass worker is there view number g 
         let passes : next.view.passes ≡ region.passes = next_is.in_mode.passes_are ∙ ap (λ (m : MadeRegion). m.passes) next_is.region_is in
         subst (λ (ws : List ℕ). IsJournal mmv ws region.passes next.view.seen) start (subst (λ (n : ℕ). IsJournal mmv next.view.start n next.view.seen) passes gathers.knows.journal)
 
-pub none_gathered : (region : MadeRegion) (crew : List Worker) (before : Token) → IsCrew region crew before → Gathered region crew (length crew) before before
+pub none_gathered : (region : MadeRegion) (crew : List Worker) (before : Token) → IsCrew region crew before → GathersAllBut region crew (length crew) before before
 none_gathered region crew before is = record {
   last = is.last;
   seen = refl;
@@ -183,7 +183,7 @@ none_gathered region crew before is = record {
 }
 
 -- what was seen then is the fold's journal
-pub seen_closed : (region : MadeRegion) (old crew : List Worker) (first before now : Token) → Goes region closed_region old crew first before → Gathered region crew 0 before now → IsAlone crew before → (r : ScriptRegion) → Stands r old first
+pub seen_closed : (region : MadeRegion) (old crew : List Worker) (first before now : Token) → Goes region closed_region old crew first before → GathersAllBut region crew 0 before now → IsAlone crew before → (r : ScriptRegion) → Stands r old first
     → without_looks (opening region.words region.passes) (length old) now.view.seen ≡ (closed_region r).log
 seen_closed region old crew first before now goes g alone r stands =
     let closed : Stands (closed_region r) crew before = goes.goes alone r stands in

@@ -25,7 +25,7 @@ use Rattle.pass_steps.specs.Workers.{IsPassOf, IsWorker, view_of, doing_of}
 use Rattle.pass_steps.specs.Works.{Step, Grows, Quiet, seen_log, region_by, IsAtWork, IsStep, Works, Rests, line_of}
 use Rattle.pass_steps.proofs.Calling.{moved}
 use Rattle.script_passes.specs.Crews.{made_by, IsCrew, IsAlone, Stands}
-use Rattle.script_passes.specs.Turns.{Answer, Turned, Took, Acts}
+use Rattle.script_passes.specs.Turns.{Answer, TakesTurn, Took, Acts}
 
 -- Lists
 
@@ -108,7 +108,7 @@ same_log n v w start e f g = λ i. without_looks ((e ∙ sym f) i) n (g i)
 -- One turn
 
 module _ (region : MadeRegion) (k : ℕ) (step : Step) (old new : List Worker) (before after : Token) (seen note : View) (answer : Answer)
-    (crew : IsCrew region old before) (t : Turned region k step seen old new note answer) (seen_is : seen.seen ≡ before.view.seen)
+    (crew : IsCrew region old before) (t : TakesTurn region k step seen old new note answer) (seen_is : seen.seen ≡ before.view.seen)
     (learns : Learns mmv before.view note after.view) (same : IsSame Idle Idle before after) where
   was : IsWorker region k t.was
   was = crew.each k t.was t.there

@@ -10,7 +10,7 @@ use Rattle.fetch_engine.specs.declared.server.Mounted.{Mounted}
 use Rattle.pass_steps.specs.declared.worker.Worker.{Worker}
 use Rattle.pass_steps.specs.Workers.{view_of}
 use Rattle.pass_steps.proofs.Calling.{set_there}
-use Rattle.script_passes.specs.Sweeps.{Gathered, GatheredAt}
+use Rattle.script_passes.specs.Sweeps.{GathersAllBut, GatheredAt}
 use Rattle.script_passes.specs.Turns.{IsCrewAt}
 use Rattle.script_passes.proofs.Counting.{gather_more, none_gathered}
 use Rattle.script_passes.proofs.Crewing.{number_by}
@@ -45,7 +45,7 @@ gathered_more server at crew left rest worker pass seat mid later g e view chang
     let crew_is : crew ≡ rest ++ (worker ∷ g.rest) = g.is ∙ (ap (λ (l : List Worker). l ++ g.rest) e ∙ simp append_assoc) in
     let there : slice_get crew (length rest) ≡ Some worker = ap (λ (l : List Worker). slice_get l (length rest)) crew_is ∙ get_middle rest in
     let h : GatheredAt server at (length left) crew seat mid = g.gathered in
-    let before : Gathered h.region crew (suc (length rest)) h.before h.after = subst (λ (n : ℕ). Gathered h.region crew n h.before h.after) many h.gathered in
+    let before : GathersAllBut h.region crew (suc (length rest)) h.before h.after = subst (λ (n : ℕ). GathersAllBut h.region crew n h.before h.after) many h.gathered in
     let same : h.after ≡ changes.before = the_one mid at h.after changes.before (now_at seat mid at h.before h.after h.was h.is) changes.was in
     let number : pass.view.number ≡ length rest = ap (λ (v : View). v.number) view ∙ number_by h.region (length rest) worker (h.is_crew.each (length rest) worker there) in
     record {

@@ -22,8 +22,8 @@ use Rattle.pass_steps.specs.Workers.{doing_of}
 use Rattle.pass_steps.specs.Works.{Step, ended_doing}
 use Rattle.pass_steps.proofs.Calling.{set_there, not_less}
 use Rattle.script_passes.specs.Crews.{IsAlone}
-use Rattle.script_passes.specs.Sweeps.{region_after_step, Goes, GoesAt, EndedAt, EndedBelow, AreIdle, Gathered, GatheredAt, ClosedAt}
-use Rattle.script_passes.specs.Turns.{Answer, Turned, ActsAt, IsCrewAt}
+use Rattle.script_passes.specs.Sweeps.{region_after_step, Goes, GoesAt, EndedAt, EndedBelow, AreIdle, GathersAllBut, GatheredAt, ClosedAt}
+use Rattle.script_passes.specs.Turns.{Answer, TakesTurn, ActsAt, IsCrewAt}
 use Rattle.script_passes.proofs.Counting.{alone_gathered, seen_closed}
 use Rattle.script_passes.proofs.Crewing.{get_set_same, same_or_other, acts}
 use Rattle.script_passes.proofs.Sweeping.{goes_still, goes_on, goes_as, acts_goes, each_more, changes_by, stints_by, readings_by}
@@ -206,8 +206,8 @@ pub closed_at : (server : List Mounted) (at : ℕ) (old crew : List Worker) (s t
 closed_at server at old crew s t u g h =
     let same : g.after ≡ h.before = the_one t at g.after h.before (now_at s t at g.before g.after g.was g.is) h.was in
     let region : h.region ≡ g.region = the_one (regions_in server) at h.region g.region h.placed g.placed in
-    let gathered : Gathered g.region crew 0 g.after h.after =
-    subst (λ (x : Token). Gathered g.region crew 0 x h.after) (sym same) (subst (λ (r : MadeRegion). Gathered r crew 0 h.before h.after) region h.gathered) in
+    let gathered : GathersAllBut g.region crew 0 g.after h.after =
+    subst (λ (x : Token). GathersAllBut g.region crew 0 x h.after) (sym same) (subst (λ (r : MadeRegion). GathersAllBut r crew 0 h.before h.after) region h.gathered) in
     let alone : IsAlone crew g.after = alone_gathered g.region crew g.after h.after g.goes.crew gathered in
     record {
       region = g.region;
@@ -233,7 +233,7 @@ region_at server at found region e placed = let g : Some found ≡ Some region =
 
 pub acts_at_by : (server : List Mounted) (at k : ℕ) (step : Step) (old new : List Worker) (seat mid later : List Token) (found of_note : MadeRegion) (seen note : View) (answer : Answer) (crew : IsCrewAt server at old seat)
     → Some found ≡ option_map (λ (row : Mounted). row.region) (slice_get server at) → IfSome (slice_get seat at) (λ (t : Token). (of_note ≡ t.region) × (seen ≡ note_of t.view)) → mid ≡ seat
-    → Turned found k step seen old new note answer → ChangesAt at mid later (λ before after. Learns mmv before.view note after.view) → ActsAt server at k step old new seat later answer
+    → TakesTurn found k step seen old new note answer → ChangesAt at mid later (λ before after. Learns mmv before.view note after.view) → ActsAt server at k step old new seat later answer
 acts_at_by server at k step old new seat mid later found of_note seen note answer crew e noted same turned changes =
     let region : found ≡ crew.region = region_at server at found crew.region e crew.placed in
     let before : changes.before ≡ crew.logger = the_one mid at changes.before crew.logger changes.was (ap (λ (l : List Token). slice_get l at) same ∙ crew.there) in
@@ -246,7 +246,7 @@ acts_at_by server at k step old new seat mid later found of_note seen note answe
       was = crew.there;
       after = changes.after;
       is = changes.is ∙ ap (λ (l : List Token). slice_set l at changes.after) same;
-      acts = acts crew.region k step old new crew.logger changes.after seen note answer crew.is_crew (subst (λ (r : MadeRegion). Turned r k step seen old new note answer) region turned) (ap (λ (v : View). v.seen) seen_is)
+      acts = acts crew.region k step old new crew.logger changes.after seen note answer crew.is_crew (subst (λ (r : MadeRegion). TakesTurn r k step seen old new note answer) region turned) (ap (λ (v : View). v.seen) seen_is)
           (subst (λ (t : Token). Learns mmv t.view note changes.after.view) before changes.changed) (subst (λ (t : Token). IsSame Idle Idle t changes.after) before changes.stays);
     }
 

@@ -12,7 +12,7 @@ use Rattle.pass_steps.specs.declared.worker.Worker.{Worker}
 use Rattle.pass_steps.specs.Workers.{IsWorker, view_of, doing_of}
 use Rattle.pass_steps.specs.Works.{Step, Works, Rests, ended_doing}
 use Rattle.script_passes.specs.Sweeps.{EndedAt}
-use Rattle.script_passes.specs.Turns.{Answer, Turned}
+use Rattle.script_passes.specs.Turns.{Answer, TakesTurn}
 use Rattle.script_passes.proofs.Crewing.{get_set_same, get_set_other, same_or_other}
 use Rattle.script_passes.proofs.Seated.{the_one, set_set}
 
@@ -30,7 +30,7 @@ done_here region step k ready done (Err fault) w h = w.stays k h
 
 pub turned_by : (region : MadeRegion) (k : ℕ) (step : Step) (items : List Worker) (away was ready done back : Worker) (seen note : View) (answer : Answer) → slice_get items k ≡ Some was → Learns mmv (view_of was) seen (view_of ready) → doing_of ready ≡ doing_of was
     → ((j : ℕ) → IsWorker region j was → IsWorker region j ready) → MatchResult answer (λ line. Works region step ready done line) (λ _. Rests region ready done) → back ≡ done → note ≡ note_of (view_of done)
-    → Turned region k step seen items (slice_set (slice_set items k away) k back) note answer
+    → TakesTurn region k step seen items (slice_set (slice_set items k away) k back) note answer
 turned_by region k step items away was ready done back seen note answer there learns doing readied works same noted = record {
   was = was;
   there = there;

@@ -59,7 +59,7 @@ AreIdle crew = (j : ℕ) (worker : Worker) → slice_get crew j ≡ Some worker 
 -- Gathering
 
 -- the logger's pass has gathered all passes but the first so many: it has seen all that the others made, and nothing new
-pub record Gathered (region : MadeRegion) (crew : List Worker) (left : ℕ) (before now : Token) : Type 0 where
+pub record GathersAllBut (region : MadeRegion) (crew : List Worker) (left : ℕ) (before now : Token) : Type 0 where
   pub last : IsPassOf region (length crew) Idle now
   pub seen : now.view.seen ≡ before.view.seen
   pub own_is : now.view.own ≡ before.view.own
@@ -76,7 +76,7 @@ pub record GatheredAt (server : List Mounted) (at left : ℕ) (crew : List Worke
   pub after : Token
   pub is : later ≡ slice_set seat at after
   pub is_crew : IsCrew region crew before
-  pub gathered : Gathered region crew left before after
+  pub gathered : GathersAllBut region crew left before after
 
 -- a crew was closed and gathered: nobody else acted, and the seat's pass has seen the fold's journal
 pub record ClosedAt (server : List Mounted) (at : ℕ) (crew : List Worker) (seat later : List Token) : Type 0 where

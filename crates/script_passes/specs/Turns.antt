@@ -19,7 +19,7 @@ abbrev pub Answer : Type 0
 Answer = Result (Option Said) NoMemory
 
 -- the pass of a number learned what was seen, and made its call
-pub record Turned (region : MadeRegion) (k : ℕ) (step : Step) (seen : View) (old new : List Worker) (note : View) (answer : Answer) : Type 0 where
+pub record TakesTurn (region : MadeRegion) (k : ℕ) (step : Step) (seen : View) (old new : List Worker) (note : View) (answer : Answer) : Type 0 where
   pub was : Worker
   pub there : slice_get old k ≡ Some was
   pub ready : Worker

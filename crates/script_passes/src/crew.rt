@@ -6,7 +6,7 @@ ghost use Rattle.pass_steps.specs.declared.worker.Worker.{Worker as Doer};
 ghost use Rattle.pass_steps.specs.Workers.{IsWorker};
 ghost use Rattle.pass_steps.specs.Works.{NeedsNone, step_of};
 ghost use Rattle.script_passes.specs.Sweeps.{AreIdle, ClosedAt, EndedAt, EndedBelow, GatheredAt, GoesAt, region_after_step};
-ghost use Rattle.script_passes.specs.Turns.{ActsAt, IsCrewAt, Turned};
+ghost use Rattle.script_passes.specs.Turns.{ActsAt, IsCrewAt, TakesTurn};
 
 use fetch_engine::{Seat, Server};
 use pass_steps::{Deed, Said, Worker};
@@ -30,7 +30,7 @@ fn turn(
     ensures region { result.0.region ≡ region.now }
     ensures sure { NeedsNone deed.now → IsOk result.1 }
     ensures ends { NeedsNone deed.now → EndedAt deed.now pass crew.old.items crew.new.items }
-    ensures turned { Turned region.now pass (step_of deed.now) note.view crew.old.items crew.new.items result.0.view result.1 }
+    ensures turned { TakesTurn region.now pass (step_of deed.now) note.view crew.old.items crew.new.items result.0.view result.1 }
 {
     let worker = mem::replace(&mut crew[pass], Worker::Away);
     let worker = worker.learned(region, note);

@@ -20,7 +20,7 @@ use Rattle.record_run.specs.ImageCrashes.{ComesBackTo}
 use Rattle.script_replays.specs.declared.replayed.Replayed.{Replayed}
 use Rattle.script_replays.specs.Finals.{IsFlushed, IsKept}
 use Rattle.script_samples.specs.Shown.{items_of_results}
-use Rattle.script_records.specs.Beside.{Sampled, StopsLogging}
+use Rattle.script_records.specs.Beside.{IsSampled, StopsLogging}
 use Rattle.script_records.specs.Halting.{CameOver, Halts, IsFinished, IsRecorded, StandsAfter, TellsEnd, Took}
 use Rattle.script_records.specs.Recordings.{Counts, FilesAre, MayHaveOpened}
 use Rattle.script_records.proofs.Ended.{is_failing}
@@ -29,7 +29,7 @@ use Rattle.script_records.proofs.Undone.{logging_undone}
 
 -- the same samples, where the end of all is another
 module _ {script : Script} {server : List Mounted} {first final : List Token} {ending : Ending} {moments : List Moment} {results : List Fetched} where
-  abbrev stops_else : (last : Ending) → StopsLogging last → Sampled script server first final ending moments results → Sampled script server first final last moments results
+  abbrev stops_else : (last : Ending) → StopsLogging last → IsSampled script server first final ending moments results → IsSampled script server first final last moments results
   stops_else last stops s = record {
     beside = s.beside;
     middle = s.middle;

@@ -23,7 +23,7 @@ use Rattle.record_run.specs.declared.archive.RunArchive.{RunArchive}
 use Rattle.record_run.specs.Endings.{ending_after}
 use Rattle.record_run.specs.ImageRuns.{result_for}
 use Rattle.script_samples.specs.declared.sampler.Sampler.{Sampler}
-use Rattle.script_samples.specs.Samples.{AreTaken, Taken, stamps_of}
+use Rattle.script_samples.specs.Samples.{AreTaken, SampleTaken, stamps_of}
 use Rattle.script_samples.specs.Sampling.{GoesOn, LogsAll, LogsAllBut, OverAny, Stops}
 use Rattle.script_samples.specs.Shown.{AreShown, items_of_results, pmids_by, shown_by}
 use Rattle.script_samples.proofs.Joined.{logs_but_joined, logs_joined, shown_joined}
@@ -55,15 +55,15 @@ some_result (pmid ∷ pmids) f some = refl
 
 module _ {C D : Type 0} (c : ClockGhosts C) (d : DiskGhosts D) (groups : List Group) (server : List Mounted) (plans : Option (List Plan)) (clock_was clock_is : C) (disk_was disk_is : D) (was is : RunArchive) where
   -- all that these samples show was logged; at a moment that lacks one, names may have been read from these passes to those
-  pub record Went (before after : List Token) (e : Ending) (unlogged : List Taken) (lacking : List Moment) (results : List Fetched) (later : Option (List Plan)) : Type 0 where
+  pub record Went (before after : List Token) (e : Ending) (unlogged : List SampleTaken) (lacking : List Moment) (results : List Fetched) (later : Option (List Plan)) : Type 0 where
     pub none : unlogged ≡ []
     pub lacks : (lacking ≡ []) ⊎ StopsLogging e
     pub why : NoRefusal e ⊎ AsksMany groups server before after e lacking later
     pub logs : OverAny d was disk_was disk_is (λ left items stand. LogsAll d left was.limit items stand disk_was disk_is results is)
 
   -- what the last of them shows was not
-  pub record Failed (e : Ending) (unlogged : List Taken) (results : List Fetched) (later : Option (List Plan)) : Type 0 where
-    pub s : Taken
+  pub record Failed (e : Ending) (unlogged : List SampleTaken) (results : List Fetched) (later : Option (List Plan)) : Type 0 where
+    pub s : SampleTaken
     pub one : unlogged ≡ s ∷ []
     pub fault : LogFault
     pub why : e ≡ ending_after fault
@@ -71,9 +71,9 @@ module _ {C D : Type 0} (c : ClockGhosts C) (d : DiskGhosts D) (groups : List Gr
     pub shows : shown_by groups later s ≡ Some f
     pub logs : OverAny d was disk_was disk_is (λ left items stand. LogsAllBut d left was.limit items stand disk_was disk_is results f fault is)
 
-  pub record Yields (before after : List Token) (e : Ending) (samples : List Taken) (lacking : List Moment) : Type 0 where
-    pub logged : List Taken
-    pub unlogged : List Taken
+  pub record Yields (before after : List Token) (e : Ending) (samples : List SampleTaken) (lacking : List Moment) : Type 0 where
+    pub logged : List SampleTaken
+    pub unlogged : List SampleTaken
     pub are : samples ≡ logged ++ unlogged
     pub one : length unlogged + length lacking ≤ 1
     pub moments : c.tells → c.left clock_was ≡ stamps_of samples ++ lacking ++ c.left clock_is
@@ -84,13 +84,13 @@ module _ {C D : Type 0} (c : ClockGhosts C) (d : DiskGhosts D) (groups : List Gr
     pub counted : is.logged ≡ was.logged + length results
 
 -- moments taken one behind another
-moments_joined : (xs ys : List Taken) (lacking first middle behind : List Moment) → first ≡ stamps_of xs ++ middle → middle ≡ stamps_of ys ++ lacking ++ behind → first ≡ stamps_of (xs ++ ys) ++ lacking ++ behind
+moments_joined : (xs ys : List SampleTaken) (lacking first middle behind : List Moment) → first ≡ stamps_of xs ++ middle → middle ≡ stamps_of ys ++ lacking ++ behind → first ≡ stamps_of (xs ++ ys) ++ lacking ++ behind
 moments_joined xs ys lacking first middle behind one two =
     one ∙ ap (λ (ms : List Moment). stamps_of xs ++ ms) two ∙ sym (append_assoc (stamps_of xs) (stamps_of ys ++ lacking) behind)
-    ∙ ap (λ (ms : List Moment). ms ++ behind) (sym (append_assoc (stamps_of xs) (stamps_of ys) lacking) ∙ ap (λ (ms : List Moment). ms ++ lacking) (sym (map-append (λ (s : Taken). s.stamp) xs ys)))
+    ∙ ap (λ (ms : List Moment). ms ++ behind) (sym (append_assoc (stamps_of xs) (stamps_of ys) lacking) ∙ ap (λ (ms : List Moment). ms ++ lacking) (sym (map-append (λ (s : SampleTaken). s.stamp) xs ys)))
 
 module _ {C D : Type 0} (c : ClockGhosts C) (d : DiskGhosts D) (groups : List Group) (server : List Mounted) (first middle last : Sampler) (tokens_first tokens_middle : List Token) (clock_first clock_middle clock_last : C) (disk_first disk_middle disk_last : D)
-    (xs : List Taken) (limit_same : middle.archive.limit ≡ first.archive.limit) (one : GoesOn c d groups server first middle tokens_first tokens_middle clock_first clock_middle disk_first disk_middle xs) where
+    (xs : List SampleTaken) (limit_same : middle.archive.limit ≡ first.archive.limit) (one : GoesOn c d groups server first middle tokens_first tokens_middle clock_first clock_middle disk_first disk_middle xs) where
   went_joined : (gs : List Fetched) → OverAny d middle.archive disk_middle disk_last (λ left items stand. LogsAll d left middle.archive.limit items stand disk_middle disk_last gs last.archive)
       → OverAny d first.archive disk_first disk_last (λ left items stand. LogsAll d left first.archive.limit items stand disk_first disk_last (one.results ++ gs) last.archive)
   went_joined gs two = λ tells left items least stand keeps.
@@ -105,18 +105,18 @@ module _ {C D : Type 0} (c : ClockGhosts C) (d : DiskGhosts D) (groups : List Gr
       logs_but_joined d left first.archive.limit items stand disk_first disk_middle disk_last one.results gs middle.archive last.archive a f fault
       (subst (λ (n : ℕ). LogsAllBut d left n (items ++ items_of_results one.results) a.last disk_middle disk_last gs f fault last.archive) limit_same (two tells left (items ++ items_of_results one.results) a.least a.last a.keeps))
 
-  module _ (before after : List Token) (e : Ending) (unlogged : List Taken) (lacking : List Moment) (gs : List Fetched) (later : Option (List Plan)) where
+  module _ (before after : List Token) (e : Ending) (unlogged : List SampleTaken) (lacking : List Moment) (gs : List Fetched) (later : Option (List Plan)) where
     how_joined : Went c d groups server middle.plans clock_middle clock_last disk_middle disk_last middle.archive last.archive before after e unlogged lacking gs later ⊎ Failed c d groups server middle.plans clock_middle clock_last disk_middle disk_last middle.archive last.archive e unlogged gs later
         → Went c d groups server first.plans clock_first clock_last disk_first disk_last first.archive last.archive before after e unlogged lacking (one.results ++ gs) later ⊎ Failed c d groups server first.plans clock_first clock_last disk_first disk_last first.archive last.archive e unlogged (one.results ++ gs) later
     how_joined (inl w) = inl (record { none = w.none; lacks = w.lacks; why = w.why; logs = went_joined gs w.logs })
     how_joined (inr w) = inr (record { s = w.s; one = w.one; fault = w.fault; why = w.why; f = w.f; shows = w.shows; logs = failed_joined gs w.f w.fault w.logs })
 
-  pub yields_joined : (before after : List Token) (e : Ending) (ys : List Taken) (lacking : List Moment) → Yields c d groups server middle.plans clock_middle clock_last disk_middle disk_last middle.archive last.archive before after e ys lacking
+  pub yields_joined : (before after : List Token) (e : Ending) (ys : List SampleTaken) (lacking : List Moment) → Yields c d groups server middle.plans clock_middle clock_last disk_middle disk_last middle.archive last.archive before after e ys lacking
       → Yields c d groups server first.plans clock_first clock_last disk_first disk_last first.archive last.archive before after e (xs ++ ys) lacking
   yields_joined before after e ys lacking y = record {
     logged = xs ++ y.logged;
     unlogged = y.unlogged;
-    are = ap (λ (zs : List Taken). xs ++ zs) y.are ∙ sym (append_assoc xs y.logged y.unlogged);
+    are = ap (λ (zs : List SampleTaken). xs ++ zs) y.are ∙ sym (append_assoc xs y.logged y.unlogged);
     one = y.one;
     moments = λ tells. moments_joined xs ys lacking (c.left clock_first) (c.left clock_middle) (c.left clock_last) (one.moments tells) (y.moments tells);
     results = one.results ++ y.results;
@@ -131,7 +131,7 @@ module _ {C D : Type 0} (c : ClockGhosts C) (d : DiskGhosts D) (groups : List Gr
 module _ {C D : Type 0} (c : ClockGhosts C) (d : DiskGhosts D) (groups : List Group) (server : List Mounted) (was is : Sampler) (seat_was seat_is : List Token) (clock_was clock_is : C) (disk_was disk_is : D) where
   -- It ends so, when it was to take so many samples, and so many are left of all.
   pub record Phase (e : Ending) (most left : ℕ) : Type 0 where
-    pub samples : List Taken
+    pub samples : List SampleTaken
     pub middle : List Token
     pub taken : AreTaken server seat_was samples middle
     pub loaded : AreLoaded middle seat_is
@@ -141,7 +141,7 @@ module _ {C D : Type 0} (c : ClockGhosts C) (d : DiskGhosts D) (groups : List Gr
     pub took : (before all : ℕ) → before + most + left ≡ all → Took all (before + (length samples + length lacking)) e
     pub yields : Yields c d groups server was.plans clock_was clock_is disk_was disk_is was.archive is.archive middle seat_is e samples lacking
 
-  pub goes_yields : (before after : List Token) (e : Ending) (samples : List Taken) → NoRefusal e → GoesOn c d groups server was is seat_was seat_is clock_was clock_is disk_was disk_is samples
+  pub goes_yields : (before after : List Token) (e : Ending) (samples : List SampleTaken) → NoRefusal e → GoesOn c d groups server was is seat_was seat_is clock_was clock_is disk_was disk_is samples
       → Yields c d groups server was.plans clock_was clock_is disk_was disk_is was.archive is.archive before after e samples []
   goes_yields before after e samples unrefused goes = record {
     logged = samples;
@@ -156,7 +156,7 @@ module _ {C D : Type 0} (c : ClockGhosts C) (d : DiskGhosts D) (groups : List Gr
     counted = goes.counted;
   }
 
-  pub goes_phase : (e : Ending) (samples : List Taken) (most left : ℕ) → length samples ≡ most → EndsSamples e → NoRefusal e → ((before all : ℕ) → before + most + left ≡ all → Took all (before + (length samples + 0)) e)
+  pub goes_phase : (e : Ending) (samples : List SampleTaken) (most left : ℕ) → length samples ≡ most → EndsSamples e → NoRefusal e → ((before all : ℕ) → before + most + left ≡ all → Took all (before + (length samples + 0)) e)
       → GoesOn c d groups server was is seat_was seat_is clock_was clock_is disk_was disk_is samples → Phase e most left
   goes_phase e samples most left many own unrefused took goes = record {
     samples = samples;
@@ -170,7 +170,7 @@ module _ {C D : Type 0} (c : ClockGhosts C) (d : DiskGhosts D) (groups : List Gr
     yields = goes_yields seat_is seat_is e samples unrefused goes;
   }
 
-  before_end : (e : Ending) (left : ℕ) → (e ≡ ends.ClockEnd left) ⊎ (e ≡ ends.ClockFault left) → 0 < left → (samples : List Taken) (before all : ℕ) → before + length samples + left ≡ all → EndsSamples e × NoRefusal e × Took all (before + (length samples + 0)) e
+  before_end : (e : Ending) (left : ℕ) → (e ≡ ends.ClockEnd left) ⊎ (e ≡ ends.ClockFault left) → 0 < left → (samples : List SampleTaken) (before all : ℕ) → before + length samples + left ≡ all → EndsSamples e × NoRefusal e × Took all (before + (length samples + 0)) e
   before_end e left (inl is_end) some samples before all sum = subst (λ (x : Ending). EndsSamples x × NoRefusal x × Took all (before + (length samples + 0)) x) (sym is_end) (tt, tt, (omega (arith, sum), some))
   before_end e left (inr is_end) some samples before all sum = subst (λ (x : Ending). EndsSamples x × NoRefusal x × Took all (before + (length samples + 0)) x) (sym is_end) (tt, tt, (omega (arith, sum), some))
 
@@ -178,7 +178,7 @@ module _ {C D : Type 0} (c : ClockGhosts C) (d : DiskGhosts D) (groups : List Gr
   asked {A} {B} e {many} (inl is_end) = subst (λ (x : Ending). StopsLogging x × EndsSamples x × ((samples count : ℕ) → Took samples count x)) (sym is_end) (tt, tt, λ samples count. tt)
   asked {A} {B} e {many} (inr (a, b, is_end)) = subst (λ (x : Ending). StopsLogging x × EndsSamples x × ((samples count : ℕ) → Took samples count x)) (sym is_end) (tt, tt, λ samples count. tt)
 
-  pub stops_phase : (e : Ending) (samples : List Taken) (left : ℕ) → 0 < left → Stops c d groups server was is seat_was seat_is clock_was clock_is disk_was disk_is samples left e → Phase e (length samples) left
+  pub stops_phase : (e : Ending) (samples : List SampleTaken) (left : ℕ) → 0 < left → Stops c d groups server was is seat_was seat_is clock_was clock_is disk_was disk_is samples left e → Phase e (length samples) left
   stops_phase e samples left some (inl b) =
       let ends_so : EndsSamples e × NoRefusal e × Took (0 + length samples + left) (0 + (length samples + 0)) e = before_end e left b.why some samples 0 (0 + length samples + left) refl in
       goes_phase e samples (length samples) left refl ends_so.0 ends_so.1 (λ before all sum. (before_end e left b.why some samples before all sum).2) b.goes
@@ -224,7 +224,7 @@ module _ {C D : Type 0} (c : ClockGhosts C) (d : DiskGhosts D) (groups : List Gr
           one = omega arith;
           moments = λ tells.
               s.moments tells ∙ sym (append_assoc (stamps_of samples) (s.last.stamp ∷ []) (c.left clock_is))
-              ∙ ap (λ (ms : List Moment). ms ++ c.left clock_is) (sym (map-append (λ (x : Taken). x.stamp) samples (s.last ∷ [])) ∙ sym (append-nil (stamps_of (samples ++ s.last ∷ []))));
+              ∙ ap (λ (ms : List Moment). ms ++ c.left clock_is) (sym (map-append (λ (x : SampleTaken). x.stamp) samples (s.last ∷ [])) ∙ sym (append-nil (stamps_of (samples ++ s.last ∷ []))));
           results = s.results;
           later = s.plans;
           shown = s.shown;

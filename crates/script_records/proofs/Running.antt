@@ -16,7 +16,7 @@ use Rattle.script_runs.specs.declared.ending.Ending.TheVariants as ends
 use Rattle.script_samples.specs.declared.sampler.Sampler.{Sampler}
 use Rattle.script_samples.proofs.Loading.{not_loaded}
 use Rattle.script_writers.specs.Written.{HaveWritten}
-use Rattle.script_records.specs.Beside.{AtJournals, Beside, EndsBy, IsLegal, LoggerLoads, Sampled, SeesOn, StandsBehind, WritersRan}
+use Rattle.script_records.specs.Beside.{AtJournals, Beside, EndsBy, IsLegal, LoggerLoads, IsSampled, SeesOn, StandsBehind, WritersRan}
 use Rattle.script_records.specs.Gathered.{HaveGathered}
 use Rattle.script_records.specs.Halting.{Halts, IsStandingFound, RefusedBy}
 use Rattle.script_records.specs.Pictured.{AreImages}
@@ -49,7 +49,7 @@ module _ (script : Script) (server : List Mounted) (passes : List (Vec Token)) (
         halts c d script server first.tokens waiting gathered final was is clock_was clock_is disk_was disk_is samples left e e (inl refl) w limit_same none unstarted found j.3 j.4 j.0 j.2 e (inl refl) (finished_all e (AtJournals WritersRan script server final) j.1)
 
   -- nothing is sampled
-  none_sampled : (gathered : List Token) (e : Ending) → e ≢ ends.Done → SeesOn first.tokens gathered → StandsBehind script server gathered gathered → Sampled script server first.tokens gathered e [] []
+  none_sampled : (gathered : List Token) (e : Ending) → e ≢ ends.Done → SeesOn first.tokens gathered → StandsBehind script server gathered gathered → IsSampled script server first.tokens gathered e [] []
   none_sampled gathered e undone later stands = record {
     beside = [];
     middle = first.tokens;

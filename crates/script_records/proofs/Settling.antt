@@ -26,12 +26,12 @@ use Rattle.record_run.specs.Going.{LogFails, StaysFound, StaysOpen, TurnsAway}
 use Rattle.record_run.specs.ImageCrashes.{ComesBackTo}
 use Rattle.script_replays.specs.Finals.{IsKept}
 use Rattle.script_samples.specs.declared.sampler.Sampler.{Sampler}
-use Rattle.script_samples.specs.Samples.{Taken, stamps_of}
+use Rattle.script_samples.specs.Samples.{SampleTaken, stamps_of}
 use Rattle.script_samples.specs.Sampling.{LogsAll, LogsAllBut}
 use Rattle.script_samples.specs.Shown.{AreShown, LogsEach, items_of_results}
-use Rattle.script_records.specs.Beside.{AtJournals, EndsBy, Finished, IsLegal, LoggerLoads, Sampled, SeesOn, StandsBehind, StopsLogging, WritersRan}
+use Rattle.script_records.specs.Beside.{AtJournals, EndsBy, IsFinishedUnlessWanting, IsLegal, LoggerLoads, IsSampled, SeesOn, StandsBehind, StopsLogging, WritersRan}
 use Rattle.script_records.specs.Halting.{EndsSamples, Halts, IsStandingFound, OpenedFor, RefusedBy, StandsAfter, Took}
-use Rattle.script_records.specs.Recordings.{MayHaveOpened, Tried}
+use Rattle.script_records.specs.Recordings.{MayHaveOpened, IsTried}
 use Rattle.script_records.specs.Stopping.{WhyStopped}
 use Rattle.script_records.proofs.Ended.{is_failing}
 use Rattle.script_records.proofs.Phases.{Failed, Went, Yields, told_stops}
@@ -114,8 +114,8 @@ well_before : (e ending : Ending) → EndsWith e ending → ending ≢ ends.Disk
 well_before e ending (inl same) other = λ is. other (same ∙ is)
 well_before e ending (inr (want, well)) other = well
 
-module _ {script : Script} {server : List Mounted} {first final : List Token} {ending : Ending} {moments : List Moment} {results : List Fetched} (sampled : Sampled script server first final ending moments results) where
-  pub tried_same : (x : Ending) → Tried sampled results x results
+module _ {script : Script} {server : List Mounted} {first final : List Token} {ending : Ending} {moments : List Moment} {results : List Fetched} (sampled : IsSampled script server first final ending moments results) where
+  pub tried_same : (x : Ending) → IsTried sampled results x results
   tried_same ends.Done = refl
   tried_same ends.DiskFault = inl refl
   tried_same (ends.Condition line) = refl
@@ -128,7 +128,7 @@ module _ {script : Script} {server : List Mounted} {first final : List Token} {e
   tried_same (ends.NotLater last) = refl
   tried_same (ends.Changed pmid) = refl
 
-  pub tried_is : (x : Ending) (tried : List Fetched) → x ≢ ends.DiskFault → Tried sampled results x tried → tried ≡ results
+  pub tried_is : (x : Ending) (tried : List Fetched) → x ≢ ends.DiskFault → IsTried sampled results x tried → tried ≡ results
   tried_is ends.Done tried other are = are
   tried_is ends.DiskFault tried other are = absurd (other refl)
   tried_is (ends.Condition line) tried other are = are
@@ -141,7 +141,7 @@ module _ {script : Script} {server : List Mounted} {first final : List Token} {e
   tried_is (ends.NotLater last) tried other are = are
   tried_is (ends.Changed pmid) tried other are = are
 
-pub finished_all : (own : Ending) (P : Type 0) → P → Finished own P
+pub finished_all : (own : Ending) (P : Type 0) → P → IsFinishedUnlessWanting own P
 finished_all ends.Done P p = p
 finished_all ends.DiskFault P p = p
 finished_all (ends.Condition line) P p = p
@@ -154,13 +154,13 @@ finished_all ends.NoMemory P p = tt
 finished_all (ends.NotLater last) P p = p
 finished_all (ends.Changed pmid) P p = p
 
-stamps_many : (xs : List Taken) (lacking : List Moment) → length (stamps_of xs ++ lacking) ≡ length xs + length lacking
+stamps_many : (xs : List SampleTaken) (lacking : List Moment) → length (stamps_of xs ++ lacking) ≡ length xs + length lacking
 stamps_many [] lacking = omega arith
 stamps_many (x ∷ xs) lacking = let rest = stamps_many xs lacking in omega (arith, rest)
 
 module _ {C D : Type 0} (c : ClockGhosts C) (d : DiskGhosts D) (script : Script) (server : List Mounted) (first waiting gathered final : List Token) (was is : Sampler) (clock_was clock_is : C) (disk_was disk_is : D) (samples : ℕ) (left : Files) (e ending : Ending) (ends_with : EndsWith e ending)
     (w : Whole c d script.config.groups server first waiting gathered final was is clock_was clock_is disk_was disk_is e samples) (limit_same : is.archive.limit ≡ was.archive.limit) (none : was.archive.logged ≡ 0) (unstarted : was.plans ≡ None) (found : d.tells → IsStandingFound left was.archive (d.held disk_was))
-    (later : SeesOn waiting gathered) (stands : StandsBehind script server gathered final) (legal : AtJournals IsLegal script server final) (loads : AtJournals LoggerLoads script server final) (own : Ending) (ended_by : EndsBy own ending) (writers : Finished own (AtJournals WritersRan script server final)) where
+    (later : SeesOn waiting gathered) (stands : StandsBehind script server gathered final) (legal : AtJournals IsLegal script server final) (loads : AtJournals LoggerLoads script server final) (own : Ending) (ended_by : EndsBy own ending) (writers : IsFinishedUnlessWanting own (AtJournals WritersRan script server final)) where
   abbrev y : Yields c d script.config.groups server was.plans clock_was clock_is disk_was disk_is was.archive is.archive w.before w.after e (w.beside ++ w.behind) w.lacking
   y = w.yields
 
@@ -181,7 +181,7 @@ module _ {C D : Type 0} (c : ClockGhosts C) (d : DiskGhosts D) (script : Script)
   stops_so (inl went) = stops_lack went.none went.lacks
   stops_so (inr failed) = inr (stops_by (subst (λ (x : Ending). StopsLogging x) (sym failed.why) (told_stops failed.fault).0))
 
-  abbrev sampled : Sampled script server first final ending moments y.results
+  abbrev sampled : IsSampled script server first final ending moments y.results
   sampled = record {
     beside = w.beside;
     middle = w.middle;
@@ -244,14 +244,14 @@ module _ {C D : Type 0} (c : ClockGhosts C) (d : DiskGhosts D) (script : Script)
 
   record Tries : Type 0 where
     pub tried : List Fetched
-    pub are : Tried sampled y.results ending tried
+    pub are : IsTried sampled y.results ending tried
     pub any_moment : d.tells → LeavesOnly d.moment d.left_since disk_was disk_is (ComesBackTo (items_of_results tried) 0 left)
 
   tries : How → (e ≡ ends.DiskFault) ⊎ (e ≢ ends.DiskFault) → Tries
   tries (inl went) failing = record { tried = y.results; are = tried_same sampled ending; any_moment = λ tells. (went.logs tells left [] 0 (Stand.found left) (found tells)).any_moment }
   tries (inr failed) (inl failing) = record {
     tried = y.results ++ failed.f ∷ [];
-    are = subst (λ (x : Ending). Tried sampled y.results x (y.results ++ failed.f ∷ [])) (sym (failing_still e ending ends_with failing)) (inr (failed.f, refl, (failed.s, failed.one, failed.shows)));
+    are = subst (λ (x : Ending). IsTried sampled y.results x (y.results ++ failed.f ∷ [])) (sym (failing_still e ending ends_with failing)) (inr (failed.f, refl, (failed.s, failed.one, failed.shows)));
     any_moment = λ tells. subst (λ (xs : List Item). LeavesOnly d.moment d.left_since disk_was disk_is (ComesBackTo xs 0 left)) (sym (map-append (λ (f : Fetched). Sample f.result) y.results (failed.f ∷ [])))
         (failed.logs tells left [] 0 (Stand.found left) (found tells)).any_moment;
   }

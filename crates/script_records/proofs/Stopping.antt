@@ -21,7 +21,7 @@ use Rattle.record_run.specs.declared.archive.RunArchive.{RunArchive}
 use Rattle.record_run.specs.Endings.{ending_after}
 use Rattle.record_run.specs.Going.{LogFails, TurnsAway}
 use Rattle.script_samples.specs.Shown.{pmids_by}
-use Rattle.script_records.specs.Beside.{Sampled}
+use Rattle.script_records.specs.Beside.{IsSampled}
 use Rattle.script_records.specs.Stopping.{IsTurnedAway, WhyStopped}
 
 -- an ending without a refusal
@@ -65,7 +65,7 @@ fault_why left items least last f archive held faults.DiskFault fails = inl tt
 
 -- Each ending
 
-module _ {script : Script} {server : List Mounted} {first final : List Token} {ending : Ending} {moments : List Moment} {results : List Fetched} (sampled : Sampled script server first final ending moments results) (limit : ℕ) where
+module _ {script : Script} {server : List Mounted} {first final : List Token} {ending : Ending} {moments : List Moment} {results : List Fetched} (sampled : IsSampled script server first final ending moments results) (limit : ℕ) where
   -- without a refusal nothing is to be shown
   pub unrefused : (IsFound : Files → Type 0) (e : Ending) → NoRefusal e → WhyStopped sampled limit IsFound e
   unrefused IsFound ends.Done none = tt

@@ -16,7 +16,7 @@ use Rattle.script_passes.specs.Openings.{AreMade}
 use Rattle.script_runs.specs.declared.ending.Ending.{Ending}
 use Rattle.script_runs.specs.declared.ending.Ending.TheVariants as ends
 use Rattle.script_samples.specs.declared.sampler.Sampler.{Sampler}
-use Rattle.script_samples.specs.Samples.{Taken}
+use Rattle.script_samples.specs.Samples.{SampleTaken}
 use Rattle.script_samples.specs.Sampling.{GoesOn, Stops}
 use Rattle.script_samples.proofs.Loading.{not_loaded}
 use Rattle.script_writers.specs.Written.{HaveWritten}
@@ -34,10 +34,10 @@ module _ (script : Script) (server : List Mounted) (passes : List (Vec Token)) (
     groups = script.config.groups
 
     abbrev Beside : Ending → Type 0
-    Beside e = (taken : List Taken) × (still : ℕ) × (length taken + still ≡ samples) × (0 < still) × Stops c d groups server was mid first.tokens waiting clock_was clock_mid disk_was disk_mid taken still e
+    Beside e = (taken : List SampleTaken) × (still : ℕ) × (length taken + still ≡ samples) × (0 < still) × Stops c d groups server was mid first.tokens waiting clock_was clock_mid disk_was disk_mid taken still e
 
     abbrev Went : Type 0
-    Went = (taken : List Taken) × (length taken + 1 ≡ samples) × GoesOn c d groups server was mid first.tokens waiting clock_was clock_mid disk_was disk_mid taken
+    Went = (taken : List SampleTaken) × (length taken + 1 ≡ samples) × GoesOn c d groups server was mid first.tokens waiting clock_was clock_mid disk_was disk_mid taken
 
     -- writers were refused memory
     pub run_wanted : AreImages script → Went → Halts c d clock_was clock_mid disk_was disk_mid script was.archive.limit samples server first.tokens waiting left mid.archive ends.NoMemory
@@ -65,7 +65,7 @@ module _ (script : Script) (server : List Mounted) (passes : List (Vec Token)) (
             (stopped_behind c d groups server first.tokens waiting gathered final was mid is clock_was clock_mid clock_is disk_was disk_mid disk_is limit_same taken samples sum goes e stops)
 
         -- or all were taken
-        pub run_done : Went → (s : Taken) × GoesOn c d groups server mid is gathered final clock_mid clock_is disk_mid disk_is (s ∷ []) → Halts c d clock_was clock_is disk_was disk_is script was.archive.limit samples server first.tokens final left is.archive ends.Done
+        pub run_done : Went → (s : SampleTaken) × GoesOn c d groups server mid is gathered final clock_mid clock_is disk_mid disk_is (s ∷ []) → Halts c d clock_was clock_is disk_was disk_is script was.archive.limit samples server first.tokens final left is.archive ends.Done
         run_done (taken, sum, goes) (s, more) =
             halts_written script server passes first keeps made c d waiting was is clock_was clock_is disk_was disk_is samples (limit_last ∙ limit_same) none unstarted left found loaded done gathered final ends.Done written gathers behind
             (done_behind c d groups server first.tokens waiting gathered final was mid is clock_was clock_mid clock_is disk_was disk_mid disk_is limit_same taken samples sum goes s more)

@@ -19,7 +19,7 @@ use Rattle.script_runs.specs.Journals.{is_load}
 use Rattle.script_writers.specs.Hands.{IsServedAt}
 use Rattle.script_writers.specs.Lines.{HasMade}
 use Rattle.recordable_scripts.specs.Recording.{lines_of}
-use Rattle.script_samples.specs.Samples.{Taken, AreTaken, stamps_of}
+use Rattle.script_samples.specs.Samples.{SampleTaken, AreTaken, stamps_of}
 use Rattle.script_samples.specs.Shown.{AreShown}
 
 -- the state at a region's making
@@ -69,8 +69,8 @@ StopsLogging ending = ⊥
 -- The samples of a recording: those beside the writers, and behind them at most one, whose loads stand behind every entry of a
 -- writer. What they show is logged, one behind another; where a refusal stops the logging at the last moment that was taken, that
 -- sample logs nothing, and may lack its readings.
-pub record Sampled (script : Script) (server : List Mounted) (first final : List Token) (ending : Ending) (moments : List Moment) (results : List Fetched) : Type 0 where
-  pub beside : List Taken
+pub record IsSampled (script : Script) (server : List Mounted) (first final : List Token) (ending : Ending) (moments : List Moment) (results : List Fetched) : Type 0 where
+  pub beside : List SampleTaken
   pub middle : List Token
   pub taken : AreTaken server first beside middle
   pub waiting : List Token
@@ -78,7 +78,7 @@ pub record Sampled (script : Script) (server : List Mounted) (first final : List
   pub gathered : List Token
   pub later : SeesOn waiting gathered
   pub stands : StandsBehind script server gathered final
-  pub behind : List Taken
+  pub behind : List SampleTaken
   pub last : List Token
   pub taken_behind : AreTaken server gathered behind last
   pub loaded_behind : AreLoaded last final
@@ -87,8 +87,8 @@ pub record Sampled (script : Script) (server : List Mounted) (first final : List
   -- what came to its end took its last sample behind them
   pub last_behind : ending ≡ ends.Done → length behind ≡ 1
   pub moments_are : moments ≡ stamps_of (beside ++ behind) ++ lacking
-  pub logged : List Taken
-  pub unlogged : List Taken
+  pub logged : List SampleTaken
+  pub unlogged : List SampleTaken
   pub are : beside ++ behind ≡ logged ++ unlogged
   pub one : length unlogged + length lacking ≤ 1
   pub stops : ((unlogged ≡ []) × (lacking ≡ [])) ⊎ StopsLogging ending
@@ -100,14 +100,14 @@ abbrev pub EndsBy : Ending → Ending → Type 0
 EndsBy own ending = (ending ≡ own) ⊎ (ending ≡ ends.DiskFault)
 
 -- Want of memory may leave the writers' lines unfinished, and no other end.
-abbrev pub Finished : Ending → Type 0 → Type 0
-Finished ends.NoMemory P = Unit {0}
-Finished own P = P
+abbrev pub IsFinishedUnlessWanting : Ending → Type 0 → Type 0
+IsFinishedUnlessWanting ends.NoMemory P = Unit {0}
+IsFinishedUnlessWanting own P = P
 
 pub record Beside (script : Script) (server : List Mounted) (first final : List Token) (ending : Ending) (moments : List Moment) (results : List Fetched) : Type 0 where
   pub legal : AtJournals IsLegal script server final
   pub own : Ending
   pub ended_by : EndsBy own ending
-  pub writers : Finished own (AtJournals WritersRan script server final)
+  pub writers : IsFinishedUnlessWanting own (AtJournals WritersRan script server final)
   pub loads : AtJournals LoggerLoads script server final
-  pub sampled : Sampled script server first final ending moments results
+  pub sampled : IsSampled script server first final ending moments results

@@ -21,7 +21,7 @@ use Rattle.script_replays.specs.declared.replayed.Replayed.{Replayed}
 use Rattle.script_replays.specs.Finals.{IsFlushed, IsKept}
 use Rattle.script_samples.specs.Shown.{LogsEach, items_of_results}
 use Rattle.script_records.specs.Beside.{Beside}
-use Rattle.script_records.specs.Recordings.{Counts, FilesAre, MayHaveOpened, Tried}
+use Rattle.script_records.specs.Recordings.{Counts, FilesAre, MayHaveOpened, IsTried}
 use Rattle.script_records.specs.Stopping.{WhyStopped}
 
 -- how many moments were taken
@@ -67,7 +67,7 @@ module _ {C D : Type 0} (c : ClockGhosts C) (d : DiskGhosts D) (clock_was clock_
     pub counted : ending ≢ ends.DiskFault → archive.logged ≡ length results
     pub why : d.tells → WhyStopped beside.sampled limit (λ (files : Files). files ≡ left) ending
     pub tried : List Fetched
-    pub tried_are : Tried beside.sampled results ending tried
+    pub tried_are : IsTried beside.sampled results ending tried
     pub any_moment : d.tells → LeavesOnly d.moment d.left_since middle new (ComesBackTo (items_of_results tried) 0 left)
 
 -- The end of a recording
@@ -108,5 +108,5 @@ module _ {C D : Type 0} (c : ClockGhosts C) (d : DiskGhosts D) (clock_was clock_
     pub came : d.tells → ending ≢ ends.DiskFault → CameOver limit left results ending (d.held new)
     pub why : d.tells → WhyStopped beside.sampled limit (λ (files : Files). files ≡ left) ending
     pub tried : List Fetched
-    pub tried_are : Tried beside.sampled results ending tried
+    pub tried_are : IsTried beside.sampled results ending tried
     pub any_moment : d.tells → LeavesOnly d.moment d.left_since middle new (ComesBackTo (items_of_results tried) 0 left)

@@ -21,9 +21,9 @@ use Rattle.record_run.specs.ImageCrashes.{IsAllAfter, MayBeAfter}
 use Rattle.script_replays.specs.declared.replayed.Replayed.{Replayed}
 use Rattle.script_replays.specs.Replays.{DiskPair, IsRecovered, SinceRecovered, disk_pair}
 use Rattle.script_samples.specs.Sampling.{HasEnded}
-use Rattle.script_samples.specs.Samples.{Taken}
+use Rattle.script_samples.specs.Samples.{SampleTaken}
 use Rattle.script_samples.specs.Shown.{LogsEach, items_of_results, shown_by}
-use Rattle.script_records.specs.Beside.{Beside, Sampled}
+use Rattle.script_records.specs.Beside.{Beside, IsSampled}
 use Rattle.script_records.specs.Stopping.{WhyStopped}
 
 -- Files
@@ -70,13 +70,13 @@ Records limit d results ending = CameTo limit d results ending
 
 -- what a disk that failed had on its way: nothing more, or what the sample shows at which the logging stopped
 abbrev pub OnItsWay : {script : Script} {server : List Mounted} {first final : List Token} {ending : Ending} {moments : List Moment} {results : List Fetched}
-    → Sampled script server first final ending moments results → Fetched → Type 0
-OnItsWay {script} sampled f = (s : Taken) × (sampled.unlogged ≡ s ∷ []) × (shown_by script.config.groups sampled.plans s ≡ Some f)
+    → IsSampled script server first final ending moments results → Fetched → Type 0
+OnItsWay {script} sampled f = (s : SampleTaken) × (sampled.unlogged ≡ s ∷ []) × (shown_by script.config.groups sampled.plans s ≡ Some f)
 
-abbrev pub Tried : {script : Script} {server : List Mounted} {first final : List Token} {ending : Ending} {moments : List Moment} {results : List Fetched}
-    → Sampled script server first final ending moments results → List Fetched → Ending → List Fetched → Type 0
-Tried sampled results ends.DiskFault tried = (tried ≡ results) ⊎ ((f : Fetched) × (tried ≡ results ++ f ∷ []) × OnItsWay sampled f)
-Tried sampled results ending tried = tried ≡ results
+abbrev pub IsTried : {script : Script} {server : List Mounted} {first final : List Token} {ending : Ending} {moments : List Moment} {results : List Fetched}
+    → IsSampled script server first final ending moments results → List Fetched → Ending → List Fetched → Type 0
+IsTried sampled results ends.DiskFault tried = (tried ≡ results) ⊎ ((f : Fetched) × (tried ≡ results ++ f ∷ []) × OnItsWay sampled f)
+IsTried sampled results ending tried = tried ≡ results
 
 -- Samples
 
@@ -110,6 +110,6 @@ module _ {C D : Type 0} (c : ClockGhosts C) (d : DiskGhosts D) (clock_was clock_
     -- a crash at any moment, over a settled disk, leaves all items of the start, and the first ones of what was to be logged; over any
     -- disk so from the moment on at which recovery answered
     pub tried : List Fetched
-    pub tried_are : Tried beside.sampled results r.ending tried
+    pub tried_are : IsTried beside.sampled results r.ending tried
     pub any_moment : d.tells → LeavesOnly d.moment d.left_since old new (MayBeAfter (items_of_results tried) (d.held old))
     pub since : d.tells → SinceRecovered d (items_of_results tried) old new r.ending

@@ -15,11 +15,11 @@ use Rattle.script_runs.specs.declared.ending.Ending.TheVariants as ends
 use Rattle.script_runs.specs.declared.ending.LimitKind.{LimitKind}
 use Rattle.script_runs.specs.declared.ending.LimitKind.TheVariants as kinds
 use Rattle.script_runs.specs.Archives.{Opens, Refuses, Stand, Written, ending_of}
-use Rattle.script_samples.specs.Samples.{Taken}
+use Rattle.script_samples.specs.Samples.{SampleTaken}
 use Rattle.script_samples.specs.Shown.{LogsEach, pmids_by, shown_by}
-use Rattle.script_records.specs.Beside.{Sampled}
+use Rattle.script_records.specs.Beside.{IsSampled}
 
-module _ {script : Script} {server : List Mounted} {first final : List Token} {ending : Ending} {moments : List Moment} {results : List Fetched} (sampled : Sampled script server first final ending moments results) where
+module _ {script : Script} {server : List Mounted} {first final : List Token} {ending : Ending} {moments : List Moment} {results : List Fetched} (sampled : IsSampled script server first final ending moments results) where
   -- At the moment that lacks its sample the names were read, and groups that are due ask for so many metrics by them, too many.
   pub record AsksTooMany (what : LimitKind) (number : ℕ) : Type 0 where
     pub stamp : Moment
@@ -37,7 +37,7 @@ module _ {script : Script} {server : List Mounted} {first final : List Token} {e
   -- The last sample shows this, and the archive doesn't take it, for this reason: the archive of the results before it, logged one
   -- behind another over files that were found so.
   pub record IsTurnedAway (limit : ℕ) (IsFound : Files → Type 0) (reason : Ending) : Type 0 where
-    pub sample : Taken
+    pub sample : SampleTaken
     pub one : sampled.unlogged ≡ sample ∷ []
     pub shows : Fetched
     pub shown : shown_by script.config.groups sampled.plans sample ≡ Some shows

@@ -14,7 +14,7 @@ use Rattle.script_passes.specs.Runs.{KeepsFollowing, fetched_of}
 use Rattle.script_runs.specs.Archives.{Stand}
 use Rattle.script_runs.specs.Groups.{Plan, asked_for, asking, shots_of}
 use Rattle.script_runs.specs.PassSteps.{one_number}
-use Rattle.script_runs.specs.Steps.{Passed, RunState, TickLogs, Ticks, asking_at, plans_at}
+use Rattle.script_runs.specs.Steps.{PassesForEach, RunState, TickLogs, Ticks, asking_at, plans_at}
 use Rattle.record_run.specs.declared.archive.RunArchive.{RunArchive}
 use Rattle.record_run.specs.Going.{KeepsRun}
 use Rattle.record_run.specs.ImageCrashes.{ComesBackTo}
@@ -48,7 +48,7 @@ module _ {D : Type 0} (d : DiskGhosts D) (script : Script) (server : List Mounte
     pub follows_still : Follows script server run.running middle s.regions
     follows_still = (asks script s.regions stands.follows).0
 
-    pub tick_makes : (after : List Token) (new : D) (archive : RunArchive) (later : List Plan) → Alone run.running after → LogsTick d server run.running middle after pmids now left s.items least s.stand old new archive → Passed now asked later
+    pub tick_makes : (after : List Token) (new : D) (archive : RunArchive) (later : List Plan) → Alone run.running after → LogsTick d server run.running middle after pmids now left s.items least s.stand old new archive → PassesForEach now asked later
         → archive.limit ≡ run.archive.limit → TickMakes d script run.archive.limit server left least s now run after archive later pmids old new
     tick_makes after new archive later alone logs passed limited =
         let shown : Follows script server run.running after s.regions × (logs.fetched ≡ result_for pmids (fetched_of s.regions pmids now)) = logs.shows alone script s.regions follows_still in
@@ -56,7 +56,7 @@ module _ {D : Type 0} (d : DiskGhosts D) (script : Script) (server : List Mounte
         = logs_asked run.archive.limit s now d server run.running middle after left least old new archive limited pmids logs.fetched logs.few shown.1 logs.logged in
         record {
           next = record { regions = s.regions; plans = Some later; stand = logged.0; items = logged.1; output = s.output ++ one_number (codes "tick") (length (asked_for now (asking_at script s now))) };
-          goes = ticks run.archive.limit s now script logged.0 logged.1 later (subst (λ (ps : List ℕ). TickLogs run.archive.limit s now ps logged.0 logged.1) pmids_same logged.2) (subst (λ (plans : List Plan). Passed now plans later) asked_same passed);
+          goes = ticks run.archive.limit s now script logged.0 logged.1 later (subst (λ (ps : List ℕ). TickLogs run.archive.limit s now ps logged.0 logged.1) pmids_same logged.2) (subst (λ (plans : List Plan). PassesForEach now plans later) asked_same passed);
           follows = shown.0;
           keeps = logged.3;
           plans = refl;

@@ -14,7 +14,7 @@ use Rattle.script_passes.specs.declared.running.Running.{Running}
 use Rattle.script_runs.specs.Archives.{Logs, Opens, Stand}
 use Rattle.script_runs.specs.Groups.{Plan, asked_for}
 use Rattle.script_runs.specs.PassSteps.{one_number}
-use Rattle.script_runs.specs.Steps.{Passed, RunState, TickLogs, Ticks, asking_at, fetched_at}
+use Rattle.script_runs.specs.Steps.{PassesForEach, RunState, TickLogs, Ticks, asking_at, fetched_at}
 use Rattle.record_run.specs.declared.archive.RunArchive.{RunArchive}
 use Rattle.record_run.specs.Going.{KeepsRun}
 use Rattle.record_run.specs.ImageRuns.{items_of_run, result_for}
@@ -48,6 +48,6 @@ module _ (limit : ℕ) (s : RunState) (now : Moment) where
         )
 
   -- then the moment passes, and the line is written
-  pub ticks : (script : Script) (stand : Stand) (items : List Item) (later : List Plan) → TickLogs limit s now (asked_for now (asking_at script s now)) stand items → Passed now (asking_at script s now) later
+  pub ticks : (script : Script) (stand : Stand) (items : List Item) (later : List Plan) → TickLogs limit s now (asked_for now (asking_at script s now)) stand items → PassesForEach now (asking_at script s now) later
       → Ticks script limit s now (record { regions = s.regions; plans = Some later; stand = stand; items = items; output = s.output ++ one_number (codes "tick") (length (asked_for now (asking_at script s now))) })
   ticks script stand items later logs passed = record { logs = logs; later = later; passed = passed; plans = refl; regions = refl; output = refl }

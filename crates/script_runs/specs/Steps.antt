@@ -117,7 +117,7 @@ TickLogs limit s now (pmid ∷ pmids) stand items =
     (length (pmid ∷ pmids) ≤ 1024) × LogsResult limit s now (fetched_at s (pmid ∷ pmids) now) stand items
 
 -- then the moment has passed for each group
-pub record Passed (now : Moment) (old new : List Plan) : Type 0 where
+pub record PassesForEach (now : Moment) (old new : List Plan) : Type 0 where
   pub timetables : EachPasses now (map (λ plan. plan.timetable) old) (map (λ plan. plan.timetable) new)
   pub groups : map (λ plan. plan.group) new ≡ map (λ plan. plan.group) old
   pub asked : map (λ plan. plan.asked) new ≡ map (λ plan. plan.asked) old
@@ -125,7 +125,7 @@ pub record Passed (now : Moment) (old new : List Plan) : Type 0 where
 pub record Ticks (script : Script) (limit : ℕ) (s : RunState) (now : Moment) (t : RunState) : Type 0 where
   pub logs : TickLogs limit s now (asked_for now (asking_at script s now)) t.stand t.items
   pub later : List Plan
-  pub passed : Passed now (asking_at script s now) later
+  pub passed : PassesForEach now (asking_at script s now) later
   pub plans : t.plans ≡ Some later
   pub regions : t.regions ≡ s.regions
   pub output : t.output ≡ s.output ++ one_number (codes "tick") (length (asked_for now (asking_at script s now)))

@@ -16,11 +16,11 @@ use Rattle.script_runs.specs.declared.ending.Ending.TheVariants as ends
 use Rattle.script_runs.specs.declared.ending.LimitKind.TheVariants as kinds
 use Rattle.script_runs.specs.Archives.{Stand}
 use Rattle.script_runs.specs.Groups.{Plan, asked_for, asking}
-use Rattle.script_runs.specs.Steps.{Passed, fetched_from, plans_at}
+use Rattle.script_runs.specs.Steps.{PassesForEach, fetched_from, plans_at}
 use Rattle.record_run.specs.ImageRuns.{result_for}
 use Rattle.script_samples.specs.declared.sampler.Sampler.{Sampler}
 use Rattle.script_samples.specs.Logging.{Hides, LogsOne, StopsOne}
-use Rattle.script_samples.specs.Samples.{IsTaken, Taken}
+use Rattle.script_samples.specs.Samples.{IsTaken, SampleTaken}
 use Rattle.script_samples.specs.Sampling.{AsksInVain, LogsAll, LogsAllBut, OverAny, StopsAt, TakesAt}
 use Rattle.script_samples.specs.Shown.{asking_by, pmids_by, with_result}
 
@@ -47,10 +47,10 @@ module _ {D : Type 0} (d : DiskGhosts D) (groups : List Group) (server : List Mo
     pmids_are : pmids ≡ pmids_now
     pmids_are = are ∙ ap (λ (plans : List Plan). asked_for now plans) asked_is
 
-    abbrev taken_by : List RegionReading → Taken
+    abbrev taken_by : List RegionReading → SampleTaken
     taken_by values = record { stamp = now; before = seat_was; names = names; between = middle; values = values; after = seat_is }
 
-    pub takes : (later : List Plan) → Passed now asked later → is.plans ≡ Some later → LogsOne d server middle pmids now was.archive old is.archive new seat_is → TakesAt d groups server was is seat_was seat_is old new now
+    pub takes : (later : List Plan) → PassesForEach now asked later → is.plans ≡ Some later → LogsOne d server middle pmids now was.archive old is.archive new seat_is → TakesAt d groups server was is seat_was seat_is old new now
     takes later passed plans_are l = record {
       sample = taken_by l.values;
       stamp = refl;
@@ -62,7 +62,7 @@ module _ {D : Type 0} (d : DiskGhosts D) (groups : List Group) (server : List Mo
         later,
         [],
         subst (λ (ps : List ℕ). length ps ≤ 1024) pmids_are l.few,
-        subst (λ (plans : List Plan). Passed now plans later) asked_is passed,
+        subst (λ (plans : List Plan). PassesForEach now plans later) asked_is passed,
         refl,
         (refl, plans_are),
       );

@@ -17,18 +17,18 @@ use Rattle.script_runs.specs.Steps.{fetched_from}
 use Rattle.record_run.specs.declared.archive.RunArchive.{RunArchive}
 use Rattle.record_run.specs.Going.{KeepsRun}
 use Rattle.script_samples.specs.declared.sampler.Sampler.{Sampler}
-use Rattle.script_samples.specs.Samples.{AreTaken, Taken, stamps_of}
+use Rattle.script_samples.specs.Samples.{AreTaken, SampleTaken, stamps_of}
 use Rattle.script_samples.specs.Sampling.{AskedInVain, EndsBefore, GoesOn, LogsAll, LogsAllBut, OverAny, ShownInVain, Stops}
 use Rattle.script_samples.specs.Shown.{items_of_results, pmids_by}
 use Rattle.script_samples.proofs.Joined.{logs_but_joined, logs_joined, shown_joined, taken_joined}
 
 -- moments taken one behind another
-moments_joined : (xs ys : List Taken) (first middle behind : List Moment) → first ≡ stamps_of xs ++ middle → middle ≡ stamps_of ys ++ behind → first ≡ stamps_of (xs ++ ys) ++ behind
+moments_joined : (xs ys : List SampleTaken) (first middle behind : List Moment) → first ≡ stamps_of xs ++ middle → middle ≡ stamps_of ys ++ behind → first ≡ stamps_of (xs ++ ys) ++ behind
 moments_joined xs ys first middle behind one two =
-    one ∙ ap (λ (ms : List Moment). stamps_of xs ++ ms) two ∙ sym (append_assoc (stamps_of xs) (stamps_of ys) behind) ∙ ap (λ (ms : List Moment). ms ++ behind) (sym (map-append (λ (s : Taken). s.stamp) xs ys))
+    one ∙ ap (λ (ms : List Moment). stamps_of xs ++ ms) two ∙ sym (append_assoc (stamps_of xs) (stamps_of ys) behind) ∙ ap (λ (ms : List Moment). ms ++ behind) (sym (map-append (λ (s : SampleTaken). s.stamp) xs ys))
 
 module _ {C D : Type 0} (c : ClockGhosts C) (d : DiskGhosts D) (groups : List Group) (server : List Mounted) (first middle last : Sampler) (tokens_first tokens_middle tokens_last : List Token) (clock_first clock_middle clock_last : C) (disk_first disk_middle disk_last : D)
-    (xs : List Taken) (limit_same : middle.archive.limit ≡ first.archive.limit) (one : GoesOn c d groups server first middle tokens_first tokens_middle clock_first clock_middle disk_first disk_middle xs) where
+    (xs : List SampleTaken) (limit_same : middle.archive.limit ≡ first.archive.limit) (one : GoesOn c d groups server first middle tokens_first tokens_middle clock_first clock_middle disk_first disk_middle xs) where
   all_logged : (gs : List Fetched) → OverAny d middle.archive disk_middle disk_last (λ left items stand. LogsAll d left middle.archive.limit items stand disk_middle disk_last gs last.archive)
       → OverAny d first.archive disk_first disk_last (λ left items stand. LogsAll d left first.archive.limit items stand disk_first disk_last (one.results ++ gs) last.archive)
   all_logged gs two = λ tells left items least stand keeps.
@@ -43,7 +43,7 @@ module _ {C D : Type 0} (c : ClockGhosts C) (d : DiskGhosts D) (groups : List Gr
       logs_but_joined d left first.archive.limit items stand disk_first disk_middle disk_last one.results gs middle.archive last.archive a f fault
       (subst (λ (n : ℕ). LogsAllBut d left n (items ++ items_of_results one.results) a.last disk_middle disk_last gs f fault last.archive) limit_same (two tells left (items ++ items_of_results one.results) a.least a.last a.keeps))
 
-  pub goes_joined : (ys : List Taken) → GoesOn c d groups server middle last tokens_middle tokens_last clock_middle clock_last disk_middle disk_last ys → GoesOn c d groups server first last tokens_first tokens_last clock_first clock_last disk_first disk_last (xs ++ ys)
+  pub goes_joined : (ys : List SampleTaken) → GoesOn c d groups server middle last tokens_middle tokens_last clock_middle clock_last disk_middle disk_last ys → GoesOn c d groups server first last tokens_first tokens_last clock_first clock_last disk_first disk_last (xs ++ ys)
   goes_joined ys two = record {
     taken = taken_joined server xs ys tokens_first tokens_middle tokens_last one.taken two.taken;
     moments = λ tells. moments_joined xs ys (c.left clock_first) (c.left clock_middle) (c.left clock_last) (one.moments tells) (two.moments tells);
@@ -53,13 +53,13 @@ module _ {C D : Type 0} (c : ClockGhosts C) (d : DiskGhosts D) (groups : List Gr
     counted = omega (arith, one.counted, two.counted, length-append one.results two.results);
   }
 
-  abbrev Stopped : (ys : List Taken) (left : ℕ) (ending : Ending) → Type 0
+  abbrev Stopped : (ys : List SampleTaken) (left : ℕ) (ending : Ending) → Type 0
   Stopped ys left ending = Stops c d groups server middle last tokens_middle tokens_last clock_middle clock_last disk_middle disk_last ys left ending
 
-  abbrev StoppedAll : (ys : List Taken) (left : ℕ) (ending : Ending) → Type 0
+  abbrev StoppedAll : (ys : List SampleTaken) (left : ℕ) (ending : Ending) → Type 0
   StoppedAll ys left ending = Stops c d groups server first last tokens_first tokens_last clock_first clock_last disk_first disk_last (xs ++ ys) left ending
 
-  pub stops_joined : (ys : List Taken) (left : ℕ) (ending : Ending) → Stopped ys left ending → StoppedAll ys left ending
+  pub stops_joined : (ys : List SampleTaken) (left : ℕ) (ending : Ending) → Stopped ys left ending → StoppedAll ys left ending
   stops_joined ys left ending (inl ends) = inl (record { goes = goes_joined ys ends.goes; why = ends.why })
   stops_joined ys left ending (inr (inl asked)) = inr (inl (record {
     stamp = asked.stamp;
@@ -77,7 +77,7 @@ module _ {C D : Type 0} (c : ClockGhosts C) (d : DiskGhosts D) (groups : List Gr
   }))
   stops_joined ys left ending (inr (inr shown)) = inr (inr (record {
     last = shown.last;
-    taken = subst (λ (zs : List Taken). AreTaken server tokens_first zs tokens_last) (sym (append_assoc xs ys (shown.last ∷ []))) (taken_joined server xs (ys ++ shown.last ∷ []) tokens_first tokens_middle tokens_last one.taken shown.taken);
+    taken = subst (λ (zs : List SampleTaken). AreTaken server tokens_first zs tokens_last) (sym (append_assoc xs ys (shown.last ∷ []))) (taken_joined server xs (ys ++ shown.last ∷ []) tokens_first tokens_middle tokens_last one.taken shown.taken);
     moments = λ tells. moments_joined xs ys (c.left clock_first) (c.left clock_middle) (shown.last.stamp ∷ c.left clock_last) (one.moments tells) (shown.moments tells);
     results = one.results ++ shown.results;
     plans = shown.plans;

@@ -21,13 +21,13 @@ use Rattle.record_run.specs.Going.{KeepsRun, LogFails}
 use Rattle.record_run.specs.ImageCrashes.{ComesBackTo}
 use Rattle.record_run.proofs.FlushLines.{keeps_back}
 use Rattle.record_run.proofs.Going.{comes_any}
-use Rattle.script_samples.specs.Samples.{AreTaken, Taken}
+use Rattle.script_samples.specs.Samples.{AreTaken, SampleTaken}
 use Rattle.script_samples.specs.Sampling.{LogsAll, LogsAllBut}
 use Rattle.script_samples.specs.Shown.{AreShown, LogsEach, items_of_results, shown_by, with_result}
 
 -- Samples
 
-pub taken_joined : (server : List Mounted) (xs ys : List Taken) (first middle last : List Token) → AreTaken server first xs middle → AreTaken server middle ys last → AreTaken server first (xs ++ ys) last
+pub taken_joined : (server : List Mounted) (xs ys : List SampleTaken) (first middle last : List Token) → AreTaken server first xs middle → AreTaken server middle ys last → AreTaken server first (xs ++ ys) last
 taken_joined server [] ys first middle last one two = subst (λ (t : List Token). AreTaken server t ys last) one two
 taken_joined server (x ∷ xs) ys first middle last one two = (one.0, one.1, taken_joined server xs ys x.after middle last one.2 two)
 
@@ -35,7 +35,7 @@ with_front : (o : Option Fetched) (fs gs : List Fetched) → with_result o fs ++
 with_front None fs gs = refl
 with_front (Some f) fs gs = refl
 
-pub shown_joined : (groups : List Group) (xs ys : List Taken) (first middle last : Option (List Plan)) (fs gs : List Fetched) → AreShown groups first xs fs middle → AreShown groups middle ys gs last → AreShown groups first (xs ++ ys) (fs ++ gs) last
+pub shown_joined : (groups : List Group) (xs ys : List SampleTaken) (first middle last : Option (List Plan)) (fs gs : List Fetched) → AreShown groups first xs fs middle → AreShown groups middle ys gs last → AreShown groups first (xs ++ ys) (fs ++ gs) last
 shown_joined groups [] ys first middle last fs gs one two =
     subst (λ (rs : List Fetched). AreShown groups first ys (rs ++ gs) last) (sym one.0) (subst (λ (p : Option (List Plan)). AreShown groups p ys gs last) one.1 two)
 shown_joined groups (x ∷ xs) ys first middle last fs gs (next, rest, few, passed, are, later) two = (

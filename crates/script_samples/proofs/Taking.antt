@@ -12,7 +12,7 @@ use Rattle.script_runs.specs.declared.ending.Ending.{Ending}
 use Rattle.script_runs.specs.declared.ending.Ending.TheVariants as ends
 use Rattle.record_run.specs.declared.archive.RunArchive.{RunArchive}
 use Rattle.script_samples.specs.declared.sampler.Sampler.{Sampler}
-use Rattle.script_samples.specs.Samples.{Taken}
+use Rattle.script_samples.specs.Samples.{SampleTaken}
 use Rattle.script_samples.specs.Sampling.{GoesOn, HasEnded, LogsAll, OverAny, Stops, StopsAt, TakesAt}
 use Rattle.script_samples.proofs.Joined.{none_logged}
 
@@ -32,7 +32,7 @@ module _ {C D : Type 0} (c : ClockGhosts C) (d : DiskGhosts D) (only_now : (disk
   }
 
   module _ (was is : Sampler) (seat_was seat_is : List Token) (old new : D) (clock_was clock_is : C) (now : Moment) (given : c.tells → c.left clock_was ≡ now ∷ c.left clock_is) where
-    pub takes_one : TakesAt d groups server was is seat_was seat_is old new now → (s : Taken) × GoesOn c d groups server was is seat_was seat_is clock_was clock_is old new (s ∷ [])
+    pub takes_one : TakesAt d groups server was is seat_was seat_is old new now → (s : SampleTaken) × GoesOn c d groups server was is seat_was seat_is clock_was clock_is old new (s ∷ [])
     takes_one t = (
       t.sample,
       record {

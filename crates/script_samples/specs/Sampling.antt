@@ -27,7 +27,7 @@ use Rattle.record_run.specs.Endings.{ending_after}
 use Rattle.record_run.specs.Going.{KeepsRun, LogFails}
 use Rattle.record_run.specs.ImageCrashes.{ComesBackTo}
 use Rattle.script_samples.specs.declared.sampler.Sampler.{Sampler}
-use Rattle.script_samples.specs.Samples.{Taken, IsTaken, AreTaken, stamps_of}
+use Rattle.script_samples.specs.Samples.{SampleTaken, IsTaken, AreTaken, stamps_of}
 use Rattle.script_samples.specs.Shown.{AreShown, LogsEach, items_of_results, pmids_by}
 
 -- the clock's list of moments had ended
@@ -80,7 +80,7 @@ module _ {D : Type 0} (d : DiskGhosts D) (archive : RunArchive) (old new : D) wh
 module _ {D : Type 0} (d : DiskGhosts D) (groups : List Group) (server : List Mounted) (was is : Sampler) (seat_was seat_is : List Token) (old new : D) (now : Moment) where
   -- a sample was taken, and what it shows was logged
   pub record TakesAt : Type 0 where
-    pub sample : Taken
+    pub sample : SampleTaken
     pub stamp : sample.stamp ≡ now
     pub before : sample.before ≡ seat_was
     pub after : sample.after ≡ seat_is
@@ -101,7 +101,7 @@ module _ {D : Type 0} (d : DiskGhosts D) (groups : List Group) (server : List Mo
 
   -- a sample was taken, and what it shows was not logged
   pub record ShowsInVain (ending : Ending) : Type 0 where
-    pub sample : Taken
+    pub sample : SampleTaken
     pub stamp : sample.stamp ≡ now
     pub before : sample.before ≡ seat_was
     pub after : sample.after ≡ seat_is
@@ -119,7 +119,7 @@ module _ {D : Type 0} (d : DiskGhosts D) (groups : List Group) (server : List Mo
 
 module _ {C D : Type 0} (c : ClockGhosts C) (d : DiskGhosts D) (groups : List Group) (server : List Mounted) (was is : Sampler) (seat_was seat_is : List Token) (clock_was clock_is : C) (disk_was disk_is : D) where
   -- These samples were taken, and what they show was logged.
-  pub record GoesOn (samples : List Taken) : Type 0 where
+  pub record GoesOn (samples : List SampleTaken) : Type 0 where
     pub taken : AreTaken server seat_was samples seat_is
     pub moments : c.tells → c.left clock_was ≡ stamps_of samples ++ c.left clock_is
     pub results : List Fetched
@@ -128,13 +128,13 @@ module _ {C D : Type 0} (c : ClockGhosts C) (d : DiskGhosts D) (groups : List Gr
     pub counted : is.archive.logged ≡ was.archive.logged + length results
 
   -- The clock gave no further moment.
-  pub record EndsBefore (samples : List Taken) (ending : Ending) (left : ℕ) : Type 0 where
+  pub record EndsBefore (samples : List SampleTaken) (ending : Ending) (left : ℕ) : Type 0 where
     pub goes : GoesOn samples
     pub why : (ending ≡ ends.ClockEnd left) ⊎ (ending ≡ ends.ClockFault left)
 
   -- Behind these samples one more moment was taken, and nothing was logged at it: want of memory, or too many metrics are asked
   -- for. The sample lacks its reading for values at least.
-  pub record AskedInVain (samples : List Taken) (ending : Ending) : Type 0 where
+  pub record AskedInVain (samples : List SampleTaken) (ending : Ending) : Type 0 where
     pub stamp : Moment
     pub middle : List Token
     pub taken : AreTaken server seat_was samples middle
@@ -150,8 +150,8 @@ module _ {C D : Type 0} (c : ClockGhosts C) (d : DiskGhosts D) (groups : List Gr
     pub counted : is.archive.logged ≡ was.archive.logged + length results
 
   -- Behind these samples one more was taken, and what it shows was not logged.
-  pub record ShownInVain (samples : List Taken) (ending : Ending) : Type 0 where
-    pub last : Taken
+  pub record ShownInVain (samples : List SampleTaken) (ending : Ending) : Type 0 where
+    pub last : SampleTaken
     pub taken : AreTaken server seat_was (samples ++ last ∷ []) seat_is
     pub moments : c.tells → c.left clock_was ≡ stamps_of samples ++ last.stamp ∷ c.left clock_is
     pub results : List Fetched
@@ -166,5 +166,5 @@ module _ {C D : Type 0} (c : ClockGhosts C) (d : DiskGhosts D) (groups : List Gr
     pub counted : is.archive.logged ≡ was.archive.logged + length results
 
   -- sampling stopped, when so many samples were left
-  abbrev pub Stops : List Taken → ℕ → Ending → Type 0
+  abbrev pub Stops : List SampleTaken → ℕ → Ending → Type 0
   Stops samples left ending = EndsBefore samples ending left ⊎ (AskedInVain samples ending ⊎ ShownInVain samples ending)

@@ -9,9 +9,9 @@ use Rattle.fetch_engine.specs.Visits.{names_in}
 use Rattle.log_schedule.specs.declared.config.Group.{Group}
 use Rattle.script_runs.specs.Archives.{Written, Stand, Opens, Logs}
 use Rattle.script_runs.specs.Groups.{Plan, asking, asked_for}
-use Rattle.script_runs.specs.Steps.{Passed, fetched_from, plans_at}
+use Rattle.script_runs.specs.Steps.{PassesForEach, fetched_from, plans_at}
 use Rattle.record_run.specs.ImageRuns.{result_for}
-use Rattle.script_samples.specs.Samples.{Taken}
+use Rattle.script_samples.specs.Samples.{SampleTaken}
 
 -- the groups, once those that are due have added what these names lead to
 abbrev pub asking_by : List Group → Option (List Plan) → List RegionReading → Moment → List Plan
@@ -22,7 +22,7 @@ abbrev pub pmids_by : List Group → Option (List Plan) → List RegionReading �
 pmids_by groups plans names now = asked_for now (asking_by groups plans names now)
 
 -- what a sample shows of the metrics that are asked for, where any is
-abbrev pub shown_by : List Group → Option (List Plan) → Taken → Option Fetched
+abbrev pub shown_by : List Group → Option (List Plan) → SampleTaken → Option Fetched
 shown_by groups plans s = result_for (pmids_by groups plans s.names s.stamp) (fetched_from s.values (pmids_by groups plans s.names s.stamp) s.stamp)
 
 abbrev pub with_result : Option Fetched → List Fetched → List Fetched
@@ -31,11 +31,11 @@ with_result (Some f) results = f ∷ results
 
 -- What samples show one behind another, the groups in this state before and in that state behind them: these results. The groups
 -- start at the first sample, and behind each sample its moment has passed for each group.
-abbrev pub AreShown : List Group → Option (List Plan) → List Taken → List Fetched → Option (List Plan) → Type 0
+abbrev pub AreShown : List Group → Option (List Plan) → List SampleTaken → List Fetched → Option (List Plan) → Type 0
 AreShown groups plans [] results later = (results ≡ []) × (later ≡ plans)
 AreShown groups plans (s ∷ samples) results later =
     (next : List Plan) × (rest : List Fetched) × (length (pmids_by groups plans s.names s.stamp) ≤ 1024)
-    × Passed s.stamp (asking_by groups plans s.names s.stamp) next × (results ≡ with_result (shown_by groups plans s) rest)
+    × PassesForEach s.stamp (asking_by groups plans s.names s.stamp) next × (results ≡ with_result (shown_by groups plans s) rest)
     × AreShown groups (Some next) samples rest later
 
 abbrev pub items_of_results : List Fetched → List Item

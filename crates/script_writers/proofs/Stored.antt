@@ -25,7 +25,7 @@ use Rattle.region_words.specs.Images.{mmv, mmv_laws}
 use Rattle.script_lines.specs.declared.line.Given.{Given}
 use Rattle.script_runs.specs.Journals.{is_load}
 use Rattle.script_runs.specs.Slots.{swap_of, add_of, add_into}
-use Rattle.pass_steps.specs.Storing.{Stored, LooksThenActs, swap_among, swap_seen, add_seen}
+use Rattle.pass_steps.specs.Storing.{StoresOrLoads, LooksThenActs, swap_among, swap_seen, add_seen}
 use Rattle.pass_steps.specs.Workers.{IsPassOf}
 use Rattle.pass_steps.proofs.Slotted.{swap_same, add_same}
 use Rattle.pass_steps.proofs.Calling.{moved}
@@ -121,7 +121,7 @@ module _ (v w : View) (what : List ℕ → Option Act) (seen : View → Option A
         there = still.there;
       }
 
-  pub stored_so : (o : Option Act) (b : Bool) → seen v ≡ o → Stored o v w b → StoredSo v w what
+  pub stored_so : (o : Option Act) (b : Bool) → seen v ≡ o → StoresOrLoads o v w b → StoredSo v w what
   stored_so (Some act) true is s = stored_act act is s
   stored_so (Some act) false is s = absurd s
   stored_so None true is s = absurd s
@@ -143,7 +143,7 @@ there_of k region stint p =
 
 -- what a store makes of a writer
 pub stored_did : (region : MadeRegion) (old new : Token) (what : List ℕ → Option Act) (seen : View → Option Act) (o : Option Act) (b : Bool) → Tells what seen → seen old.view ≡ o → (k : ℕ) × IsInside region k old
-    → Stored o old.view new.view b → (new ≡ old) ⊎ IsSame Attached Attached old new
+    → StoresOrLoads o old.view new.view b → (new ≡ old) ⊎ IsSame Attached Attached old new
     → Did region (λ k s entries next. (Writing.attached ≡ Writing.attached) × Stores k s what entries × (next ≡ Writing.attached)) (writers.Inside old) (writers.Inside new)
 stored_did region old new what seen o b tells is here stored stays =
     let so : StoredSo old.view new.view what = stored_so old.view new.view what seen tells here.1.0.in_mode.mode_is (there_of here.0 region old here.1) o b is stored in
@@ -162,12 +162,12 @@ looked_stays region old new loads stays k p =
     (q, there_for k region new q still.there)
 
 pub stored_answer : (region : MadeRegion) (old new : Token) (what : List ℕ → Option Act) (seen : View → Option Act) (stored : Result Bool NoMemory) (answer : Result (Unit {0}) NoMemory) → answer ≡ answer_of stored → Tells what seen → (k : ℕ) × IsInside region k old
-    → MatchResult stored (Stored (seen old.view) old.view new.view) (λ _. Loads old.view new.view) → (new ≡ old) ⊎ IsSame Attached Attached old new
+    → MatchResult stored (StoresOrLoads (seen old.view) old.view new.view) (λ _. Loads old.view new.view) → (new ≡ old) ⊎ IsSame Attached Attached old new
     → MatchResult answer (λ _. Did region (λ k s entries next. (Writing.attached ≡ Writing.attached) × Stores k s what entries × (next ≡ Writing.attached)) (writers.Inside old) (writers.Inside new)) (λ _. StaysWriter region (writers.Inside old) (writers.Inside new))
 stored_answer region old new what seen stored answer e tells here done stays =
     subst (λ (a : Result (Unit {0}) NoMemory). MatchResult a (λ _. Did region (λ k s entries next. (Writing.attached ≡ Writing.attached) × Stores k s what entries × (next ≡ Writing.attached)) (writers.Inside old) (writers.Inside new)) (λ _. StaysWriter region (writers.Inside old) (writers.Inside new))) (sym e) (by_answer stored done)
   where
-    by_answer : (r : Result Bool NoMemory) → MatchResult r (Stored (seen old.view) old.view new.view) (λ _. Loads old.view new.view)
+    by_answer : (r : Result Bool NoMemory) → MatchResult r (StoresOrLoads (seen old.view) old.view new.view) (λ _. Loads old.view new.view)
         → MatchResult (answer_of r) (λ _. Did region (λ k s entries next. (Writing.attached ≡ Writing.attached) × Stores k s what entries × (next ≡ Writing.attached)) (writers.Inside old) (writers.Inside new)) (λ _. StaysWriter region (writers.Inside old) (writers.Inside new))
     by_answer (Ok b) d = stored_did region old new what seen (seen old.view) b tells refl here d stays
     by_answer (Err x) d = looked_stays region old new d stays

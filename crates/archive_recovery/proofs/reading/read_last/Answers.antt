@@ -1,7 +1,7 @@
 use Rattle.std.proofs.Common.{ℕ, [], refl, sym, subst}
 use Rattle.pcp_base.specs.declared.file.FileId.TheVariants.{Volume}
 use Rattle.pcp_model.specs.Disk.{contents_of}
-use Rattle.archive_recovery.specs.Counts.{Counted}
+use Rattle.archive_recovery.specs.Counts.{CountsMore}
 use Rattle.archive_recovery.specs.Volumes.{IsVolumeRead, VolumeStands}
 use Rattle.archive_recovery.proofs.AllVolumes.{whole_below, stop_refused, whole_last, begun_last}
 use Rattle.archive_recovery.proofs.Latest.{counted_none}
@@ -22,7 +22,7 @@ returns-in-Begun-clause-read g c = λ tells before e past.
     let l = c.args.label.now in
     let n : ℕ = c.args.number in
     let b = subst (IsVolumeRead (files (Volume n)) l n c.args.tally.now c.read_volume.new.tally) c.in-Begun.is (c.in_ok-read_volume.ensures.read tells) in
-    begun_last files l n before c.args.tally.now c.read_volume.new.tally c.args.top e past [] (subst (Counted c.args.tally.now []) (sym b.3) (counted_none c.args.tally.now)) c.in-Begun.length refl b.0 b.1 b.2
+    begun_last files l n before c.args.tally.now c.read_volume.new.tally c.args.top e past [] (subst (CountsMore c.args.tally.now []) (sym b.3) (counted_none c.args.tally.now)) c.in-Begun.length refl b.0 b.1 b.2
 
 pub returns-in-Whole-clause-read : goal.returns-in-Whole-clause-read
 returns-in-Whole-clause-read g c = λ tells before e past.

@@ -1,6 +1,6 @@
 use Rattle.std.proofs.Common.{◌≡◌, ◌+◌, ◌++◌, ℕ, List, [], length, inl, refl, subst, arith}
 use Rattle.std.proofs.lemmas.List.{length-append}
-use Rattle.pmcd_server.specs.Works.{Drew, Failure, Worked}
+use Rattle.pmcd_server.specs.Works.{Drew, Failure, WorksOn}
 use Rattle.pmcd_server.proofs.Chains.{worked_none, worked_on, none_drawn, drew_on, answers_error, found_none, found_one}
 use Rattle.pmcd_server.proofs.worker.work.Goals as goal
 
@@ -60,7 +60,7 @@ loop-preserved g c =
       seated = c.in_ok-visit.ensures.seated;
       given = i.given ++ v.0;
       turns = i.turns ++ v.2;
-      worked = subst (λ (f : Failure). Worked rows g.P.Door c.args.count c.args.seat.now c.args.door.now (i.given ++ v.0) (i.turns ++ v.2) f c.visit.new.seat c.visit.new.door) one.0 worked;
+      worked = subst (λ (f : Failure). WorksOn rows g.P.Door c.args.count c.args.seat.now c.args.door.now (i.given ++ v.0) (i.turns ++ v.2) f c.visit.new.seat c.visit.new.door) one.0 worked;
       drew = subst (λ (b : List ℕ). Drew c.args.count (i.given ++ v.0) b c.args.drawer.now c.visit.new.drawer) one.2 drew;
       many = omega arith;
     }

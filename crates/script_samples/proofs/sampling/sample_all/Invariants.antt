@@ -3,7 +3,7 @@ use Rattle.std.proofs.Common.{◌≡◌, ◌≤◌, List, length}
 use Rattle.fetch_engine.specs.Servers.{IsSeated}
 use Rattle.fetch_engine.specs.Visits.{AreLoaded}
 use Rattle.record_run.specs.Going.{IsWorking}
-use Rattle.script_samples.specs.Samples.{Taken}
+use Rattle.script_samples.specs.Samples.{SampleTaken}
 use Rattle.script_samples.specs.Sampling.{GoesOn}
 use Rattle.script_samples.proofs.sampling.sample_all.Given as goal
 
@@ -14,7 +14,7 @@ invariant-loop-number g l = record {
   limit : l.sampler.archive.limit ≡ l.fn.sampler.archive.limit;
   few : l.sampler.archive.logged ≤ l.number;
   working : IsWorking l.fn.sampler.archive.limit l.fn.sampler.archive.standing → IsWorking l.sampler.archive.limit l.sampler.archive.standing;
-  goes : (taken : List Taken) × (length taken ≡ l.number)
+  goes : (taken : List SampleTaken) × (length taken ≡ l.number)
       × GoesOn g.C.Clock g.D.Disk l.script.config.groups l.server l.fn.sampler l.sampler l.fn.seat.tokens l.seat.tokens l.fn.clock l.clock l.fn.disk l.disk taken;
   later : g.D.Disk.faults l.fn.disk ≤ g.D.Disk.faults l.disk;
   clock_later : g.C.Clock.faults l.fn.clock ≤ g.C.Clock.faults l.clock;

@@ -4,7 +4,7 @@ use Rattle.std.specs.Int.{w128}
 use Rattle.std.proofs.lemmas.Int.{to_z-of_z}
 use Rattle.region_words.specs.Calls.{Loads}
 use Rattle.script_runs.specs.Slots.{add_of}
-use Rattle.pass_steps.specs.Storing.{Stored, add_seen}
+use Rattle.pass_steps.specs.Storing.{StoresOrLoads, add_seen}
 use Rattle.script_writers.specs.declared.writer.Writer.{Writer}
 use Rattle.script_writers.specs.declared.writer.Writer.TheVariants as writers
 use Rattle.script_writers.specs.Lines.{Stores, Writing}
@@ -14,6 +14,6 @@ use Rattle.script_writers.proofs.writer.add.Goals as goal
 
 pub returns : goal.returns
 returns c =
-    let stored = subst (λ (z : ℤ). MatchResult c.add_in-stored.result (Stored (add_seen c.in-Inside.stint.view c.args.item c.args.instance z) c.in-Inside.stint.view c.add_in-stored.new.stint.view) (λ _. Loads c.in-Inside.stint.view c.add_in-stored.new.stint.view)) (to_z-of_z w128 c.args.number c.ranges.number) c.add_in-stored.ensures.stored in
+    let stored = subst (λ (z : ℤ). MatchResult c.add_in-stored.result (StoresOrLoads (add_seen c.in-Inside.stint.view c.args.item c.args.instance z) c.in-Inside.stint.view c.add_in-stored.new.stint.view) (λ _. Loads c.in-Inside.stint.view c.add_in-stored.new.stint.view)) (to_z-of_z w128 c.args.number c.ranges.number) c.add_in-stored.ensures.stored in
     subst (λ (w : Writer). MatchResult c.answer_of.result (λ _. Did c.args.region.now (λ k s entries next. (writing_of w ≡ Writing.attached) × Stores k s (λ words. add_of words c.args.item c.args.instance c.args.number) entries × (next ≡ Writing.attached)) w (writers.Inside c.add_in-stored.new.stint)) (λ _. StaysWriter c.args.region.now w (writers.Inside c.add_in-stored.new.stint))) (sym c.in-Inside.is)
     (stored_answer c.args.region.now c.in-Inside.stint c.add_in-stored.new.stint (λ words. add_of words c.args.item c.args.instance c.args.number) (λ v. add_seen v c.args.item c.args.instance c.args.number) c.add_in-stored.result c.answer_of.result c.answer_of.ensures (tells_add c.args.item c.args.instance c.args.number) (subst (λ (w : Writer). IsHere c.args.region.now w) c.in-Inside.is c.requires.here) stored c.add_in-stored.ensures.stays)

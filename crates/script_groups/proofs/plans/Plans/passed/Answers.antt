@@ -4,7 +4,7 @@ use Rattle.log_schedule.specs.Instants.{EachPasses, Timetable}
 use Rattle.script_groups.specs.Plans.{plans_of}
 use Rattle.script_groups.proofs.Beside.{asked_in, groups_in, timetables_in}
 use Rattle.script_runs.specs.Groups.{Plan}
-use Rattle.script_runs.specs.Steps.{Passed}
+use Rattle.script_runs.specs.Steps.{PassesForEach}
 use Rattle.script_groups.proofs.plans.Plans.passed.Goals as goal
 
 pub returns : goal.returns
@@ -16,7 +16,7 @@ returns c =
     let timed = c.self.invariant.timed in
     let kept = c.self.invariant.kept in
     let timed_still = c.passed.ensures.same_length ∙ timed in
-    subst (λ (old : List Plan). Passed c.args.now old (plans_of gs us ms)) c.self.view_is record {
+    subst (λ (old : List Plan). PassesForEach c.args.now old (plans_of gs us ms)) c.self.view_is record {
       timetables = subst (λ (old : List Timetable). EachPasses c.args.now old (map (λ plan. plan.timetable) (plans_of gs us ms))) (sym (timetables_in gs ts ms timed kept))
           (subst (λ (new : List Timetable). EachPasses c.args.now ts new) (sym (timetables_in gs us ms timed_still kept)) c.passed.ensures);
       groups = groups_in gs us ms timed_still kept ∙ sym (groups_in gs ts ms timed kept);
