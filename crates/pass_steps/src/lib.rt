@@ -11,4 +11,5 @@ mod worker;
 
 pub use deed::Deed;
 pub use said::Said;
+pub use stores::{add_in, swap_in};
 pub use worker::Worker;

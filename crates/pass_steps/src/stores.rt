@@ -73,8 +73,9 @@ fn value_for(
     Ok(find_text(texts.as_slice(), text))
 }
 
-/// Swaps a value into a slot. False: there is no such slot, or it doesn't take the value.
-fn swap_in(
+/// Swaps a value into the slot of an item and an instance, in the layout that an attached pass finds. `Ok(false)`: there is no such
+/// slot, or it doesn't take the value. Then, and where memory is refused, the pass only looked at the layout.
+pub fn swap_in(
     alloc: Global,
     region: &Region,
     stint: &mut Stint,
@@ -114,8 +115,9 @@ fn low_bits(number: i128) -> u64
     number.rem_euclid(1 << 64) as u64
 }
 
-/// Adds to a slot. False: there is no such slot, or it holds no number.
-fn add_in(
+/// Adds a number, modulo 2^64, to the slot of an item and an instance, in the layout that an attached pass finds. `Ok(false)`: there
+/// is no such slot, or it holds no number. Then, and where memory is refused, the pass only looked at the layout.
+pub fn add_in(
     alloc: Global,
     region: &Region,
     stint: &mut Stint,

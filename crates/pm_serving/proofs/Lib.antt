@@ -1,5 +1,4 @@
 pub mod Facts
-pub mod Ready
 pub mod Room
 pub mod Scripted
 pub mod Stopping

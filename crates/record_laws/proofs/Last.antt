@@ -43,10 +43,10 @@ use Rattle.script_samples.specs.Samples.{SampleTaken, IsTaken, AreTaken, stamps_
 use Rattle.script_samples.specs.Shown.{AreShown, pmids_by, shown_by, with_result}
 use Rattle.script_writers.specs.Hands.{IsServedAt}
 use Rattle.script_writers.proofs.Placed.{made_at}
+use Rattle.script_writers.proofs.Ready.{row_at}
 use Rattle.script_records.specs.Beside.{AtJournals, Beside, EndsBy, IsFinishedUnlessWanting, IsSampled, StopsLogging, WritersRan, start_of}
 use Rattle.record_laws.specs.Closing.{closing, closing_of, closing_words, LastSampleIsExact}
 use Rattle.record_laws.proofs.Behind.{still_at, stable_end, image_end}
-use Rattle.record_laws.proofs.Places.{row_at}
 use Rattle.record_laws.proofs.Reading.{read_still}
 
 -- Lists

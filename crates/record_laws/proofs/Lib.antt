@@ -5,7 +5,6 @@ pub mod Fitting
 pub mod Forms
 pub mod Last
 pub mod Owned
-pub mod Places
 pub mod Reading
 pub mod Relaid
 pub mod Suited

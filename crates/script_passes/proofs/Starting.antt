@@ -40,6 +40,12 @@ first_fresh region n i pass e =
     let plus : 0 + i ≡ i = omega arith in
     get_fresh region 0 n i pass e ∙ ap (λ (m : ℕ). fresh_at region m) plus
 
+-- a pass of a region as it was made
+pub own_fresh : (seats : List Seated) (at : ℕ) (mounted : Mounted) (passes : List Token) → IsMadeAt seats at mounted passes → (k : ℕ) (pass : Token) → slice_get passes k ≡ Some pass → pass ≡ fresh_at mounted.region k
+own_fresh seats at mounted passes made k pass e =
+    first_fresh mounted.region (length passes + length seats) k pass
+    (ap (λ (l : List Token). slice_get l k) (sym made.fresh) ∙ (get_front passes made.seated k (slice_get_within passes k pass e) ∙ e))
+
 -- an idle crew by its passes
 pub idle_there : (passes : List Token) (k : ℕ) (worker : Worker) → slice_get (idle_crew passes) k ≡ Some worker → (pass : Token) × (slice_get passes k ≡ Some pass) × (workers.Idle pass ≡ worker)
 idle_there [] k worker e = absurd (cc)
@@ -71,11 +77,6 @@ module _ (seat : Seated) (at : ℕ) (mounted : Mounted) (own : List Token) (logg
   all_fresh : own ++ logger ∷ [] ≡ fresh_from mounted.region 0 (length own + 1)
   all_fresh = ap (λ (l : List Token). own ++ l) (sym (logger_only made.seated (slice_get seat.tokens at) logger made.seats_are there)) ∙ made.fresh
 
-  own_fresh : (k : ℕ) (pass : Token) → slice_get own k ≡ Some pass → pass ≡ fresh_at mounted.region k
-  own_fresh k pass e =
-      first_fresh mounted.region (length own + 1) k pass
-      (ap (λ (l : List Token). slice_get l k) (sym all_fresh) ∙ (get_front own (logger ∷ []) k (slice_get_within own k pass e) ∙ e))
-
   pub last_fresh : logger ≡ fresh_at mounted.region (length own)
   last_fresh = first_fresh mounted.region (length own + 1) (length own) logger (ap (λ (l : List Token). slice_get l (length own)) (sym all_fresh) ∙ get_seam own logger)
 
@@ -92,14 +93,14 @@ module _ (seat : Seated) (at : ℕ) (mounted : Mounted) (own : List Token) (logg
     each = λ k worker e.
         let found = idle_there own k worker e in
         subst (λ (w : Worker). IsWorker mounted.region k w) found.2
-        (subst (λ (t : Token). IsWorker mounted.region k (workers.Idle t)) (sym (own_fresh k found.0 found.1)) (fresh_worker k));
+        (subst (λ (t : Token). IsWorker mounted.region k (workers.Idle t)) (sym (own_fresh (seat ∷ []) at mounted own made k found.0 found.1)) (fresh_worker k));
     behind = λ k worker e.
         let found = idle_there own k worker e in
-        let none : length (view_of worker).seen ≡ 0 = ap (λ (w : Worker). length (view_of w).seen) (sym found.2) ∙ ap (λ (t : Token). length t.view.seen) (own_fresh k found.0 found.1) in
+        let none : length (view_of worker).seen ≡ 0 = ap (λ (w : Worker). length (view_of w).seen) (sym found.2) ∙ ap (λ (t : Token). length t.view.seen) (own_fresh (seat ∷ []) at mounted own made k found.0 found.1) in
         omega arith;
     last = subst (λ (n : ℕ). IsPassOf mounted.region n Idle logger) (sym (as_many_idle own)) (subst (λ (t : Token). IsPassOf mounted.region (length own) Idle t) (sym last_fresh) (fresh_worker (length own)));
     made =
-        let none : made_by (idle_crew own) ≡ 0 = none_made own (λ k pass e. ap (λ (t : Token). length t.view.own) (own_fresh k pass e)) in
+        let none : made_by (idle_crew own) ≡ 0 = none_made own (λ k pass e. ap (λ (t : Token). length t.view.own) (own_fresh (seat ∷ []) at mounted own made k pass e)) in
         let nor : length logger.view.own ≡ 0 = ap (λ (t : Token). length t.view.own) last_fresh in
         omega arith;
   }

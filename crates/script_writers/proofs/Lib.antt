@@ -3,6 +3,7 @@ pub mod Stored
 pub mod Called
 pub mod Lined
 pub mod Placed
+pub mod Ready
 pub mod Stepped
 pub mod Handed
 pub mod Acting

@@ -7,7 +7,6 @@ mod dealing;
 mod hand;
 mod positions;
 mod running;
-mod stores;
 mod writer;
 
 pub use running::run_writers;

@@ -9,8 +9,8 @@ ghost use Rattle.pass_steps.specs.Workers.{IsPassOf};
 ghost use Rattle.script_writers.specs.Lines.{Attaches, BeginsChange, Finishes, Makes, StepsOn, Stores, Writing};
 ghost use Rattle.script_writers.specs.Writers.{Did, HasRoom, IsHere, IsWriter, RunsLine, StaysWriter, answer_of as answer_in, stage_of, view_of, writing_of};
 
-use crate::stores::{add_in, swap_in};
 use mmv_layout::Image;
+use pass_steps::{add_in, swap_in};
 use pcp_base::NoMemory;
 use region_words::{Change, Pass, Region, Stint};
 use run_script::{Line, Script};

@@ -6,6 +6,7 @@ use Rattle.std.proofs.lemmas.List.{with_items_is}
 use Rattle.region_rule.specs.Seats.{Token}
 use Rattle.fetch_engine.specs.Servers.{IsSeated, Seated}
 use Rattle.script_writers.specs.Written.{HaveWritten}
+use Rattle.script_writers.proofs.Ready.{ready}
 use Rattle.pm_words.specs.declared.refusal.Refusal.TheVariants.{NoMemory}
 use Rattle.pmcd_server.specs.Crews.{HasServed}
 use Rattle.pmcd_server.specs.declared.fault.ServeFault.{ServeFault}
@@ -13,7 +14,6 @@ use Rattle.pmcd_server.specs.declared.fault.ServeFault.TheVariants.{Accept}
 use Rattle.pm_serving.specs.declared.refusal.ServeRefusal.TheVariants.{Before}
 use Rattle.pm_serving.specs.Ends.{StopsServing}
 use Rattle.pm_serving.specs.Serving.{doors_side}
-use Rattle.pm_serving.proofs.Ready.{ready}
 use Rattle.pm_serving.proofs.Room.{all_at}
 use Rattle.pm_serving.proofs.Stopping.{cut_so, if_ok, leaves_so, on_ok, still_many}
 use Rattle.pm_serving.proofs.together.serve_script.Goals as goal

@@ -6,8 +6,8 @@ use Rattle.script_runs.specs.declared.ending.Ending.{Ending}
 use Rattle.script_samples.specs.Samples.{SampleTaken}
 use Rattle.script_samples.specs.Sampling.{Stops}
 use Rattle.script_writers.specs.Written.{HaveWritten}
+use Rattle.script_writers.proofs.Ready.{ready}
 use Rattle.script_records.proofs.Handed.{all_here}
-use Rattle.script_records.proofs.Journals.{ready}
 use Rattle.script_records.proofs.Ways.{err_told, ok_so, ok_told, run_done, run_last, run_refused, run_stopped, run_wanted}
 use Rattle.script_records.proofs.recording.run.Goals as goal
 

@@ -2,9 +2,9 @@
 use Rattle.std.proofs.Common.{◌∷◌, [], refl, sym, ◌∙◌, subst}
 use Rattle.script_runs.specs.declared.ending.Ending.{Ending}
 use Rattle.script_runs.specs.declared.ending.Ending.TheVariants as ends
+use Rattle.script_writers.proofs.Ready.{ready}
 use Rattle.script_records.specs.Beside.{EndsBy}
 use Rattle.script_records.proofs.Handed.{all_here}
-use Rattle.script_records.proofs.Journals.{ready}
 use Rattle.script_records.proofs.Running.{beside_refused, beside_written, refused_by}
 use Rattle.script_records.proofs.recording.unrecorded.Goals as goal
 

@@ -1,15 +1,24 @@
--- Each position of a server has a region of its script.
-use Rattle.std.proofs.Common.{◌≡◌, ℕ, zero, suc, ◌<◌, ◌≤◌, Bool, true, false, ◌||◌, eqb, eqb-true, List, [], ◌∷◌, length, sym, refl, ap, subst, arith}
+-- What was opened is ready for the writers of its script: each position of the server has a region of the script, with as many passes as
+-- the script names, which are fresh.
+use Rattle.std.proofs.Common.{◌≡◌, ℕ, zero, suc, ◌<◌, ◌≤◌, Bool, true, false, ◌||◌, eqb, eqb-true, List, [], ◌∷◌, length, slice_get, Some, sym, refl, ap, subst, arith}
+use Rattle.std.specs.Global.{Vec}
 use Rattle.std.specs.List.{AllByRecursion, IsDistinct, list_any}
 use Rattle.std.proofs.lemmas.Map.Steps.{length-le_from_distinct_below}
 use Rattle.std.proofs.lemmas.Option.{slice_get_within}
+use Rattle.region_core.specs.declared.mode.Mode.TheVariants.{Idle}
+use Rattle.region_rule.specs.Seats.{Token}
+use Rattle.fetch_engine.specs.Servers.{Seated}
 use Rattle.fetch_engine.specs.declared.server.Mounted.{Mounted}
 use Rattle.run_script.specs.Rules.{KeepsRules}
 use Rattle.run_script.specs.declared.script.Script.{Script}
-use Rattle.script_passes.specs.Crews.{ServesScript}
+use Rattle.pass_steps.specs.Workers.{IsPassOf}
+use Rattle.script_passes.specs.Crews.{Serves, ServesScript}
+use Rattle.script_passes.specs.Openings.{AreMade}
 use Rattle.script_passes.proofs.Begun.{get_there}
+use Rattle.script_passes.proofs.Starting.{own_fresh}
 use Rattle.script_writers.specs.Hands.{IsServedAt}
-use Rattle.script_writers.proofs.Placed.{one_from}
+use Rattle.script_writers.specs.Written.{AreReady}
+use Rattle.script_writers.proofs.Placed.{made_at, one_from}
 
 either_false : (a b : Bool) → (a || b) ≡ false → (a ≡ false) × (b ≡ false)
 either_false true b e = absurd (cc)
@@ -62,6 +71,7 @@ module _ (script : Script) (server : List Mounted) (seats : ℕ) (keeps : KeepsR
       let found = serves.each n row.0 row.1 in
       one_more n found.0 (record { row = row.0; is = row.1; mounted = found.1; there = found.2; cluster = found.3.cluster }) (firsts n (omega arith))
 
+  -- the region of a position
   pub row_at : (j : ℕ) → j < length server → (i : ℕ) × IsServedAt script server i j
   row_at j h = by_test (firsts (length script.regions) (omega arith))
     where
@@ -79,3 +89,31 @@ module _ (script : Script) (server : List Mounted) (seats : ℕ) (keeps : KeepsR
 
       by_test : Firsts (length script.regions) → (i : ℕ) × IsServedAt script server i j
       by_test all = by_place all (list_any (eqb j) all.places) refl
+
+-- Passes as they were made
+
+module _ (script : Script) (server : List Mounted) (passes : List (Vec Token)) (seats : List Seated) (keeps : KeepsRules script) (made : AreMade script server passes seats) where
+  -- as many as the script names
+  pub as_many_made : (i j : ℕ) (at : IsServedAt script server i j) (list : Vec Token) → slice_get passes j ≡ Some list → length list.items ≡ at.row.passes
+  as_many_made i j at list e =
+      let serves : Serves script (length seats) at.row at.mounted = made_at script server (length seats) keeps made.serves i j at in
+      let a = serves.passes in
+      let b = (made.each j at.mounted list at.there e).passes in
+      omega arith
+
+  -- fresh passes are ready for writers
+  pub ready : AreReady script server passes
+  ready = record {
+    lists = made.lists;
+    few = λ j list e.
+        let long = made.lists in
+        let within = slice_get_within passes j list e in
+        let found = row_at script server (length seats) keeps made.serves j (omega arith) in
+        let many = as_many_made found.0 j found.1 list e in
+        let few = (keeps.opened found.0 found.1.row found.1.is).passes.1 in
+        omega arith;
+    many = as_many_made;
+    each = λ j k mounted list pass there list_is pass_is.
+        subst (λ (t : Token). IsPassOf mounted.region k Idle t) (sym (own_fresh seats j mounted list.items (made.each j mounted list there list_is) k pass pass_is))
+        (record { region_is = refl; number_is = refl; in_mode = record { mode_is = refl; start_is = refl; passes_are = refl } });
+  }
