@@ -7,7 +7,6 @@ pub mod Runs
 pub mod Same
 pub mod Completing
 pub mod Deeds
-pub mod Sets
 pub mod Steps
 pub mod Stops
 pub mod Streams

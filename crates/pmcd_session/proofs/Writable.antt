@@ -10,11 +10,11 @@ use Rattle.pmns_core.specs.Pairs.{Pair, pmid_of, least_name}
 use Rattle.pmns_core.specs.Below.{below, children_of}
 use Rattle.fetch_answers.specs.Asks.{desc_asked, instances_asked}
 use Rattle.fetch_answers.specs.Readings.{RegionReading}
+use Rattle.fetch_answers.proofs.SetsFit.{sets_fit}
 use Rattle.pmcd_session.specs.declared.standing.Standing.{Standing}
 use Rattle.pmcd_session.specs.Contexts.{may_set, with_profile, profile_or_all}
 use Rattle.pmcd_session.specs.Replies.{protocol_error, desc_reply, instance_reply, one_instance, ids_reply, names_reply, some_names, name_reply, unless_missing, reply_over, names_shown, missing_among, all_of, no_metric, no_name}
 use Rattle.pmcd_session.specs.Serving.{Deed, DoesIf, FetchesIf, Meets, ReadsBy, Refuses, Serves, Sets, IsSilent, Tells, may_fetch}
-use Rattle.pmcd_session.proofs.Sets.{sets_fit}
 
 desc_writable : (told : Result Desc ℤ) → IsWritable (desc_reply told)
 desc_writable (Ok desc) = tt

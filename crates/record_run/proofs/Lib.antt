@@ -9,5 +9,4 @@ pub mod Keys
 pub mod OneReason
 pub mod Openings
 pub mod Results
-pub mod Sets
 pub mod Values

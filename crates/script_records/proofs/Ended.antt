@@ -27,19 +27,6 @@ is_done ends.NoMemory = inr (λ e. cc)
 is_done (ends.NotLater last) = inr (λ e. cc)
 is_done (ends.Changed pmid) = inr (λ e. cc)
 
-pub is_failing : (e : Ending) → (e ≡ ends.DiskFault) ⊎ (e ≢ ends.DiskFault)
-is_failing ends.DiskFault = inl refl
-is_failing ends.Done = inr (λ e. cc)
-is_failing (ends.Condition line) = inr (λ e. cc)
-is_failing (ends.NotArchive file at) = inr (λ e. cc)
-is_failing (ends.Compressed file) = inr (λ e. cc)
-is_failing (ends.Limit what number) = inr (λ e. cc)
-is_failing (ends.ClockEnd samples) = inr (λ e. cc)
-is_failing (ends.ClockFault samples) = inr (λ e. cc)
-is_failing ends.NoMemory = inr (λ e. cc)
-is_failing (ends.NotLater last) = inr (λ e. cc)
-is_failing (ends.Changed pmid) = inr (λ e. cc)
-
 -- nothing is told but at the end
 pub tells_none : (e : Ending) (output : List ℕ) (logged : ℕ) → e ≢ ends.Done → output ≡ [] → TellsEnd e output logged
 tells_none ends.Done output logged other none = absurd (other refl)

@@ -19,11 +19,11 @@ use Rattle.record_run.specs.declared.archive.RunArchive.{RunArchive}
 use Rattle.record_run.specs.ImageCrashes.{ComesBackTo}
 use Rattle.script_replays.specs.declared.replayed.Replayed.{Replayed}
 use Rattle.script_replays.specs.Finals.{IsFlushed, IsKept}
+use Rattle.script_replays.proofs.Failing.{is_failing}
 use Rattle.script_samples.specs.Shown.{items_of_results}
 use Rattle.script_records.specs.Beside.{IsSampled, StopsLogging}
 use Rattle.script_records.specs.Halting.{CameOver, Halts, IsFinished, IsRecorded, StandsAfter, TellsEnd, Took}
 use Rattle.script_records.specs.Recordings.{Counts, FilesAre, MayHaveOpened}
-use Rattle.script_records.proofs.Ended.{is_failing}
 use Rattle.script_records.proofs.Settling.{tried_is, tried_same}
 use Rattle.script_records.proofs.Undone.{logging_undone}
 

@@ -25,6 +25,7 @@ use Rattle.record_run.specs.Endings.{ending_after}
 use Rattle.record_run.specs.Going.{LogFails, StaysFound, StaysOpen, TurnsAway}
 use Rattle.record_run.specs.ImageCrashes.{ComesBackTo}
 use Rattle.script_replays.specs.Finals.{IsKept}
+use Rattle.script_replays.proofs.Failing.{is_failing}
 use Rattle.script_samples.specs.declared.sampler.Sampler.{Sampler}
 use Rattle.script_samples.specs.Samples.{SampleTaken, stamps_of}
 use Rattle.script_samples.specs.Sampling.{LogsAll, LogsAllBut}
@@ -33,7 +34,6 @@ use Rattle.script_records.specs.Beside.{AtJournals, EndsBy, IsFinishedUnlessWant
 use Rattle.script_records.specs.Halting.{EndsSamples, Halts, IsStandingFound, OpenedFor, RefusedBy, StandsAfter, Took}
 use Rattle.script_records.specs.Recordings.{MayHaveOpened, IsTried}
 use Rattle.script_records.specs.Stopping.{WhyStopped}
-use Rattle.script_records.proofs.Ended.{is_failing}
 use Rattle.script_records.proofs.Phases.{Failed, Went, Yields, told_stops}
 use Rattle.script_records.proofs.Stopping.{AsksMany, NoRefusal, fault_why, turned_why, unrefused}
 use Rattle.script_records.proofs.Stretches.{Whole}

@@ -17,7 +17,7 @@ ghost use Rattle.script_records.specs.Halting.{Halts, IsRecorded, IsStandingFoun
 ghost use Rattle.script_records.specs.Pictured.{AreImages};
 ghost use Rattle.script_records.specs.Recordings.{IsRecording, MayEndRecording};
 
-use crate::ending::{finish, nothing};
+use crate::ending::finish;
 use crate::gathering::gather_all;
 use crate::images::images_are;
 use crate::samples::beside;
@@ -208,9 +208,9 @@ fn unrecorded<R: Threads + Wait + Sync, T: Turn + Sync>(
     match run_writers(rt, alloc, script, server, passes, turn) {
         Ok(done) => {
             gather_all(server, seat, done);
-            nothing(alloc, ending)
+            Replayed::nothing(alloc, ending)
         }
-        Err(_) => nothing(alloc, refused(ending)),
+        Err(_) => Replayed::nothing(alloc, refused(ending)),
     }
 }
 

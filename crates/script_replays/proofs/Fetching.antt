@@ -21,11 +21,11 @@ use Rattle.fetch_answers.specs.Bounds.{IsBounded}
 use Rattle.fetch_answers.specs.Readings.{RegionReading}
 use Rattle.fetch_engine.specs.Visits.{IsFetched, IsRead, IsVisit, ShowsLayout, Visit}
 use Rattle.fetch_answers.proofs.Bounds.{bounded}
+use Rattle.fetch_answers.proofs.SetsFit.{sets_fit}
 use Rattle.script_runs.specs.Steps.{every_instance}
 use Rattle.record_run.specs.ImageRuns.{IsResult}
 use Rattle.record_run.proofs.Enough.{AreSaid, IsSaidBy, facts_are_enough}
 use Rattle.record_run.proofs.Results.{many}
-use Rattle.record_run.proofs.Sets.{sets_fit}
 
 said_by : (v w : View) (o : Option Layout) → IsRead v o w → IsSaidBy o
 said_by v w None read = tt

@@ -22,6 +22,7 @@ use Rattle.record_run.specs.Going.{FlushesRun, KeepsRun}
 use Rattle.record_run.specs.ImageCrashes.{ComesBackTo}
 use Rattle.script_replays.specs.declared.run.Run.{Run}
 use Rattle.script_replays.specs.States.{GoesTo, HaltsAt, Stands}
+use Rattle.script_replays.proofs.Failing.{is_failing}
 
 -- what a flush makes of a run
 record FlushMakes (left : Files) (s : RunState) (archive : RunArchive) (held : Holdings) : Type 0 where
@@ -64,19 +65,6 @@ made_by left s archive held least (x ∷ xs) same flushes =
       output = refl;
       line = ap (λ (ys : List Item). flushed_line s.output ys) same;
     }
-
-is_failing : (e : Ending) → (e ≡ ends.DiskFault) ⊎ (e ≢ ends.DiskFault)
-is_failing ends.DiskFault = inl refl
-is_failing ends.Done = inr (λ e. cc)
-is_failing (ends.Condition line) = inr (λ e. cc)
-is_failing (ends.NotArchive file at) = inr (λ e. cc)
-is_failing (ends.Compressed file) = inr (λ e. cc)
-is_failing (ends.Limit what number) = inr (λ e. cc)
-is_failing (ends.ClockEnd samples) = inr (λ e. cc)
-is_failing (ends.ClockFault samples) = inr (λ e. cc)
-is_failing ends.NoMemory = inr (λ e. cc)
-is_failing (ends.NotLater last) = inr (λ e. cc)
-is_failing (ends.Changed pmid) = inr (λ e. cc)
 
 module _ {D : Type 0} (d : DiskGhosts D) (script : Script) (limit : ℕ) (server : List Mounted) (seat : List Token) (left : Files) (least : ℕ) (old new : D) (s : RunState) (run next : Run) (stands : Stands d script server left least run seat old s)
     (same_running : next.running ≡ run.running) (same_plans : next.plans ≡ run.plans) (moment : LeavesOnly d.moment d.left_since old new (ComesBackTo (s.items ++ []) 0 left)) where

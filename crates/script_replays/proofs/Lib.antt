@@ -1,6 +1,7 @@
 pub mod Behind
 pub mod BehindLast
 pub mod Causes
+pub mod Failing
 pub mod Fetching
 pub mod Finals
 pub mod FlushGoes

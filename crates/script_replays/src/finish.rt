@@ -42,8 +42,9 @@ fn flush_rest<D: Disk>(disk: &mut D, archive: &mut RunArchive) -> bool
     archive.flush(disk).is_ok()
 }
 
-/// Flushes what was logged, unless the disk failed. A disk that fails now is how the run ends.
-fn flush_last<D: Disk>(disk: &mut D, archive: &mut RunArchive, ending: Ending) -> Ending
+/// Flushes what was logged, if there is an archive to flush, unless the run ends by a disk that failed: then nothing is done. Where
+/// the disk fails now the run ends by that, whatever ended it before; else its ending stays.
+pub fn flush_last<D: Disk>(disk: &mut D, archive: &mut RunArchive, ending: Ending) -> Ending
     ensures flushed { D.tells → (left : AllFiles) (items : Sequence Logged) (stand : Stand) → IsKept left items stand archive.old (D.held disk.old) → result ≢ Failing → IsFlushed left items stand (D.held disk.new) }
     ensures any_moment { D.tells → (left : AllFiles) (items : Sequence Logged) (stand : Stand) → IsKept left items stand archive.old (D.held disk.old) → LeavesOnly D.moment D.left_since disk.old disk.new (ComesBackTo items 0 left) }
     ensures failed { ending ≡ Failing → (result ≡ ending) × (disk.new ≡ disk.old) }
@@ -61,8 +62,9 @@ fn flush_last<D: Disk>(disk: &mut D, archive: &mut RunArchive, ending: Ending) -
     Ending::DiskFault
 }
 
-/// A run that was run to its end tells how many results it logged.
-fn tell(alloc: Global, out: &mut Vec<u8>, ending: Ending, logged: u64) -> Ending
+/// A run that came to its end tells how many results it logged: the line `logged N` is put behind what was written. Where memory
+/// for it is refused nothing is put there, and the run ends by that. Any other ending stays, and nothing is told of it.
+pub fn tell(alloc: Global, out: &mut Vec<u8>, ending: Ending, logged: u64) -> Ending
     ensures others { ending ≢ AtEnd → (result ≡ ending) × (out.new.items ≡ out.old.items) }
     ensures told { ending ≡ AtEnd → ((result ≡ AtEnd) × (out.new.items ≡ out.old.items ++ one_number (codes "logged") logged)) ⊎ ((result ≡ Refused) × (out.new.items ≡ out.old.items)) }
 {

@@ -10,5 +10,6 @@ mod run;
 mod steps;
 mod ticks;
 
+pub use finish::{flush_last, tell};
 pub use replay::replay_script;
 pub use replayed::Replayed;

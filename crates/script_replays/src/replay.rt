@@ -21,7 +21,6 @@ use crate::run::Run;
 use crate::steps::run_lines;
 use archive_recovery::{Archive, RecoverFault, recover};
 use fetch_engine::{Seat, Server};
-use pcp_base::List;
 use pcp_outside::Disk;
 use record_run::{RunArchive, Standing};
 use region_words::Pass;
@@ -40,19 +39,6 @@ fn ending_of(fault: RecoverFault) -> Ending
         RecoverFault::NotArchive { file, at } => Ending::NotArchive { file, at },
         RecoverFault::DiskFault => Ending::DiskFault,
         RecoverFault::NoMemory => Ending::NoMemory,
-    }
-}
-
-/// What is told of a run that ended before its first line: no output, and no result.
-fn nothing(alloc: Global, ending: Ending) -> Replayed
-    ensures output { result.output ≡ [] }
-    ensures ending { result.ending ≡ ending }
-    ensures logged { result.logged ≡ 0 }
-{
-    Replayed {
-        output: List::empty(alloc),
-        ending,
-        logged: 0,
     }
 }
 
@@ -113,13 +99,13 @@ fn replay_with<D: Disk>(
 {
     let running = match Running::begin(alloc, script, server, seat, passes) {
         Ok(running) => running,
-        Err(_) => return nothing(alloc, Ending::NoMemory),
+        Err(_) => return Replayed::nothing(alloc, Ending::NoMemory),
     };
     match recover(alloc, disk) {
         Ok(archive) => replay_over(alloc, script, server, seat, running, disk, archive, volume),
         Err(fault) => {
             running.close(alloc, server, seat);
-            nothing(alloc, ending_of(fault))
+            Replayed::nothing(alloc, ending_of(fault))
         }
     }
 }
