@@ -6,7 +6,7 @@ ghost use Rattle.script_lines.specs.Words.{instance_of, take_place, take_slot, q
 
 use crate::line::{Given, Place, Slot};
 use std::alloc::Global;
-use text_lines::{Rest, TakeFault, read_number, starts_quoted, whole_number};
+use text_lines::{Rest, TakeFault, read_number, starts_quoted, take_name, whole_number};
 
 /// A number of at most 20 digits, behind one space.
 #[tactic(auto, unfolding(text_lines::specs::Words::take_as))]
