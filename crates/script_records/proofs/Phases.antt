@@ -24,7 +24,7 @@ use Rattle.record_run.specs.Endings.{ending_after}
 use Rattle.record_run.specs.ImageRuns.{result_for}
 use Rattle.script_samples.specs.declared.sampler.Sampler.{Sampler}
 use Rattle.script_samples.specs.Samples.{AreTaken, SampleTaken, stamps_of}
-use Rattle.script_samples.specs.Sampling.{GoesOn, LogsAll, LogsAllBut, OverAny, Stops}
+use Rattle.script_samples.specs.Sampling.{GoesOn, LogsAll, LogsAllBut, OverAny, StopsSampling}
 use Rattle.script_samples.specs.Shown.{AreShown, items_of_results, pmids_by, shown_by}
 use Rattle.script_samples.proofs.Joined.{logs_but_joined, logs_joined, shown_joined}
 use Rattle.script_samples.proofs.Loading.{not_loaded}
@@ -178,7 +178,7 @@ module _ {C D : Type 0} (c : ClockGhosts C) (d : DiskGhosts D) (groups : List Gr
   asked {A} {B} e {many} (inl is_end) = subst (λ (x : Ending). StopsLogging x × EndsSamples x × ((samples count : ℕ) → Took samples count x)) (sym is_end) (tt, tt, λ samples count. tt)
   asked {A} {B} e {many} (inr (a, b, is_end)) = subst (λ (x : Ending). StopsLogging x × EndsSamples x × ((samples count : ℕ) → Took samples count x)) (sym is_end) (tt, tt, λ samples count. tt)
 
-  pub stops_phase : (e : Ending) (samples : List SampleTaken) (left : ℕ) → 0 < left → Stops c d groups server was is seat_was seat_is clock_was clock_is disk_was disk_is samples left e → Phase e (length samples) left
+  pub stops_phase : (e : Ending) (samples : List SampleTaken) (left : ℕ) → 0 < left → StopsSampling c d groups server was is seat_was seat_is clock_was clock_is disk_was disk_is samples left e → Phase e (length samples) left
   stops_phase e samples left some (inl b) =
       let ends_so : EndsSamples e × NoRefusal e × Took (0 + length samples + left) (0 + (length samples + 0)) e = before_end e left b.why some samples 0 (0 + length samples + left) refl in
       goes_phase e samples (length samples) left refl ends_so.0 ends_so.1 (λ before all sum. (before_end e left b.why some samples before all sum).2) b.goes

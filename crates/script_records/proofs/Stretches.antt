@@ -13,7 +13,7 @@ use Rattle.script_runs.specs.declared.ending.Ending.{Ending}
 use Rattle.script_runs.specs.declared.ending.Ending.TheVariants as ends
 use Rattle.script_samples.specs.declared.sampler.Sampler.{Sampler}
 use Rattle.script_samples.specs.Samples.{AreTaken, SampleTaken}
-use Rattle.script_samples.specs.Sampling.{GoesOn, Stops}
+use Rattle.script_samples.specs.Sampling.{GoesOn, StopsSampling}
 use Rattle.script_samples.proofs.Loading.{not_loaded}
 use Rattle.script_records.specs.Beside.{SeesOn, StandsBehind}
 use Rattle.script_records.specs.Halting.{EndsSamples, Took}
@@ -71,7 +71,7 @@ module _ {C D : Type 0} (c : ClockGhosts C) (d : DiskGhosts D) (groups : List Gr
   }
 
   -- sampling stopped beside them
-  pub stopped_whole : (e : Ending) (taken : List SampleTaken) (left samples : ℕ) → length taken + left ≡ samples → 0 < left → Stops c d groups server was is first waiting clock_was clock_is disk_was disk_is taken left e
+  pub stopped_whole : (e : Ending) (taken : List SampleTaken) (left samples : ℕ) → length taken + left ≡ samples → 0 < left → StopsSampling c d groups server was is first waiting clock_was clock_is disk_was disk_is taken left e
       → Whole c d groups server first waiting gathered gathered was is clock_was clock_is disk_was disk_is e samples
   stopped_whole e taken left samples sum some stops = whole_of e (length taken) left samples sum (stops_phase c d groups server was is first waiting clock_was clock_is disk_was disk_is e taken left some stops)
       (stops_undone c d groups server was is first waiting clock_was clock_is disk_was disk_is e taken left stops)
@@ -110,7 +110,7 @@ module _ {C D : Type 0} (c : ClockGhosts C) (d : DiskGhosts D) (groups : List Gr
   }
 
   -- and it stopped behind them
-  pub stopped_behind : (e : Ending) → Stops c d groups server mid is gathered final clock_mid clock_is disk_mid disk_is [] 1 e → Behind e
+  pub stopped_behind : (e : Ending) → StopsSampling c d groups server mid is gathered final clock_mid clock_is disk_mid disk_is [] 1 e → Behind e
   stopped_behind e stops =
       let p : Phase c d groups server mid is gathered final clock_mid clock_is disk_mid disk_is e 0 1 = stops_phase c d groups server mid is gathered final clock_mid clock_is disk_mid disk_is e [] 1 (omega arith) stops in
       joined_whole e p.samples p.middle p.lacking p.taken p.loaded p.few (λ done. absurd (stops_undone c d groups server mid is gathered final clock_mid clock_is disk_mid disk_is e [] 1 stops done)) p.so_ends (p.took (length taken) samples (omega (arith, sum))) p.yields

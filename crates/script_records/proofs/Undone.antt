@@ -20,7 +20,7 @@ use Rattle.record_run.specs.Endings.{ending_after}
 use Rattle.script_replays.specs.Replays.{ended_by}
 use Rattle.script_samples.specs.declared.sampler.Sampler.{Sampler}
 use Rattle.script_samples.specs.Samples.{SampleTaken}
-use Rattle.script_samples.specs.Sampling.{Stops}
+use Rattle.script_samples.specs.Sampling.{StopsSampling}
 use Rattle.script_samples.specs.Shown.{pmids_by}
 use Rattle.script_records.specs.Beside.{EndsBy, StopsLogging}
 
@@ -57,7 +57,7 @@ either_undone e P Q n (inl want) = λ done. let no : ends.NoMemory ≡ ends.Done
 either_undone e P Q n (inr many) = λ done. let no : ends.Limit kinds.Sets n ≡ ends.Done = sym many.2 ∙ done in cc
 
 module _ {C D : Type 0} (c : ClockGhosts C) (d : DiskGhosts D) (groups : List Group) (server : List Mounted) (was is : Sampler) (seat_was seat_is : List Token) (clock_was clock_is : C) (disk_was disk_is : D) where
-  pub stops_undone : (e : Ending) (taken : List SampleTaken) (left : ℕ) → Stops c d groups server was is seat_was seat_is clock_was clock_is disk_was disk_is taken left e → e ≢ ends.Done
+  pub stops_undone : (e : Ending) (taken : List SampleTaken) (left : ℕ) → StopsSampling c d groups server was is seat_was seat_is clock_was clock_is disk_was disk_is taken left e → e ≢ ends.Done
   stops_undone e taken left (inl before) = by_clock before.why where
     by_clock : (e ≡ ends.ClockEnd left) ⊎ (e ≡ ends.ClockFault left) → e ≢ ends.Done
     by_clock (inl ended) = λ done. let no : ends.ClockEnd left ≡ ends.Done = sym ended ∙ done in cc

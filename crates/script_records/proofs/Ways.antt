@@ -17,7 +17,7 @@ use Rattle.script_runs.specs.declared.ending.Ending.{Ending}
 use Rattle.script_runs.specs.declared.ending.Ending.TheVariants as ends
 use Rattle.script_samples.specs.declared.sampler.Sampler.{Sampler}
 use Rattle.script_samples.specs.Samples.{SampleTaken}
-use Rattle.script_samples.specs.Sampling.{GoesOn, Stops}
+use Rattle.script_samples.specs.Sampling.{GoesOn, StopsSampling}
 use Rattle.script_samples.proofs.Loading.{not_loaded}
 use Rattle.script_writers.specs.Written.{HaveWritten}
 use Rattle.script_records.specs.Gathered.{HaveGathered}
@@ -34,7 +34,7 @@ module _ (script : Script) (server : List Mounted) (passes : List (Vec Token)) (
     groups = script.config.groups
 
     abbrev Beside : Ending → Type 0
-    Beside e = (taken : List SampleTaken) × (still : ℕ) × (length taken + still ≡ samples) × (0 < still) × Stops c d groups server was mid first.tokens waiting clock_was clock_mid disk_was disk_mid taken still e
+    Beside e = (taken : List SampleTaken) × (still : ℕ) × (length taken + still ≡ samples) × (0 < still) × StopsSampling c d groups server was mid first.tokens waiting clock_was clock_mid disk_was disk_mid taken still e
 
     abbrev Went : Type 0
     Went = (taken : List SampleTaken) × (length taken + 1 ≡ samples) × GoesOn c d groups server was mid first.tokens waiting clock_was clock_mid disk_was disk_mid taken
@@ -59,7 +59,7 @@ module _ (script : Script) (server : List Mounted) (passes : List (Vec Token)) (
 
       module _ (final : List Token) (is : Sampler) (clock_is : C) (disk_is : D) (behind : AreLoaded gathered final) (limit_last : is.archive.limit ≡ mid.archive.limit) where
         -- or at the last sample
-        pub run_last : (e : Ending) → Went → Stops c d groups server mid is gathered final clock_mid clock_is disk_mid disk_is [] 1 e → Halts c d clock_was clock_is disk_was disk_is script was.archive.limit samples server first.tokens final left is.archive e
+        pub run_last : (e : Ending) → Went → StopsSampling c d groups server mid is gathered final clock_mid clock_is disk_mid disk_is [] 1 e → Halts c d clock_was clock_is disk_was disk_is script was.archive.limit samples server first.tokens final left is.archive e
         run_last e (taken, sum, goes) stops =
             halts_written script server passes first keeps made c d waiting was is clock_was clock_is disk_was disk_is samples (limit_last ∙ limit_same) none unstarted left found loaded done gathered final e written gathers behind
             (stopped_behind c d groups server first.tokens waiting gathered final was mid is clock_was clock_mid clock_is disk_was disk_mid disk_is limit_same taken samples sum goes e stops)

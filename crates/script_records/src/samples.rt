@@ -8,7 +8,7 @@ ghost use Rattle.script_passes.specs.Crews.{ServesScript};
 ghost use Rattle.script_runs.specs.declared.ending.Ending.TheVariants.{DiskFault as Failing};
 ghost use Rattle.record_run.specs.Going.{IsUnclosed, IsWorking};
 ghost use Rattle.script_samples.specs.Samples.{SampleTaken};
-ghost use Rattle.script_samples.specs.Sampling.{GoesOn, MayStop, Stops};
+ghost use Rattle.script_samples.specs.Sampling.{GoesOn, MayStop, StopsSampling};
 ghost use Rattle.recordable_scripts.specs.Recording.{refused_line};
 ghost use Rattle.script_writers.specs.Written.{AreReady, HaveWritten};
 
@@ -54,7 +54,7 @@ pub(crate) fn beside<'a, R: Threads + Wait + Sync, D: Disk, C: Clock, T: Turn + 
     ensures count { sampler.new.archive.logged + 1 ≤ samples }
     ensures goes { OnOk result.1 ((taken : Sequence SampleTaken) × (length taken + 1 ≡ samples) × GoesOn C.Clock D.Disk script.now.config.groups server.now sampler.old sampler.new seat.old.tokens seat.new.tokens clock.old clock.new disk.old disk.new taken) }
     ensures stops { IfErr result.1 (λ e. (taken : Sequence SampleTaken) × (left : ℕ) × (length taken + left ≡ samples) × (0 < left)
-        × Stops C.Clock D.Disk script.now.config.groups server.now sampler.old sampler.new seat.old.tokens seat.new.tokens clock.old clock.new disk.old disk.new taken left e) }
+        × StopsSampling C.Clock D.Disk script.now.config.groups server.now sampler.old sampler.new seat.old.tokens seat.new.tokens clock.old clock.new disk.old disk.new taken left e) }
     ensures working { IsWorking sampler.old.archive.limit sampler.old.archive.standing → OnOk result.1 (IsWorking sampler.new.archive.limit sampler.new.archive.standing) }
     ensures unclosed { IsWorking sampler.old.archive.limit sampler.old.archive.standing → IfErr result.1 (λ e. e ≢ Failing → IsUnclosed sampler.new.archive.limit sampler.new.archive.standing) }
     ensures cause { IsWorking sampler.old.archive.limit sampler.old.archive.standing → IfErr result.1 (MayStop C.Clock D.Disk disk.old disk.new clock.old clock.new) }
@@ -86,7 +86,7 @@ pub(crate) fn beside<'a, R: Threads + Wait + Sync, D: Disk, C: Clock, T: Turn + 
             ensures count { sampler.exit.now.archive.logged ≤ count }
             ensures goes { OnOk result ((taken : Sequence SampleTaken) × (length taken ≡ count) × GoesOn C.Clock D.Disk script.entry.now.config.groups server.entry.now sampler.entry.now sampler.exit.now seat.entry.now.tokens seat.exit.now.tokens clock.entry.now clock.exit.now disk.entry.now disk.exit.now taken) }
             ensures stops { IfErr result (λ e. (taken : Sequence SampleTaken) × (left : ℕ) × (length taken + left ≡ samples) × (0 < left)
-                × Stops C.Clock D.Disk script.entry.now.config.groups server.entry.now sampler.entry.now sampler.exit.now seat.entry.now.tokens seat.exit.now.tokens clock.entry.now clock.exit.now disk.entry.now disk.exit.now taken left e) }
+                × StopsSampling C.Clock D.Disk script.entry.now.config.groups server.entry.now sampler.entry.now sampler.exit.now seat.entry.now.tokens seat.exit.now.tokens clock.entry.now clock.exit.now disk.entry.now disk.exit.now taken left e) }
             ensures working { IsWorking sampler.entry.now.archive.limit sampler.entry.now.archive.standing → OnOk result (IsWorking sampler.exit.now.archive.limit sampler.exit.now.archive.standing) }
             ensures unclosed { IsWorking sampler.entry.now.archive.limit sampler.entry.now.archive.standing → IfErr result (λ e. e ≢ Failing → IsUnclosed sampler.exit.now.archive.limit sampler.exit.now.archive.standing) }
             ensures cause { IsWorking sampler.entry.now.archive.limit sampler.entry.now.archive.standing → IfErr result (MayStop C.Clock D.Disk disk.entry.now disk.exit.now clock.entry.now clock.exit.now) }

@@ -23,7 +23,7 @@ use Rattle.record_run.specs.Going.{KeepsRun}
 use Rattle.record_run.specs.ImageCrashes.{ComesBackTo}
 use Rattle.record_run.proofs.FlushLines.{keeps_still}
 use Rattle.script_replays.specs.declared.run.Run.{Run}
-use Rattle.script_replays.specs.Lines.{IsOfPass, MayHavePassed, Passed}
+use Rattle.script_replays.specs.Lines.{IsOfPass, MayHavePassed, PassesLine}
 use Rattle.script_replays.specs.States.{GoesTo, HaltsAt, Stands}
 
 found_of : (S : List ScriptRegion → Type 0) (regions : List ScriptRegion) (old new : List ℕ) (o : Option Regions) → HasRun S regions old new o true → (found : Regions) × (o ≡ Some found) × S found.0 × (new ≡ old ++ found.1)
@@ -80,7 +80,7 @@ module _ (script : Script) (server : List Mounted) (line : Line) (running : Runn
   abbrev Now : List ScriptRegion → Type 0
   Now rs = Follows script server running after rs
 
-  pub has_passed : HasRun Now regions old new (pass_step script regions line) true → Passed script server running after regions line
+  pub has_passed : HasRun Now regions old new (pass_step script regions line) true → PassesLine script server running after regions line
   has_passed run = let f = found_of Now regions old new (pass_step script regions line) run in (f.0, f.1, f.2)
 
   pub may_have_passed : (e : Ending) (number : ℕ) → ((e ≡ ends.Condition number) × HasRun Now regions old new (pass_step script regions line) false) ⊎ ((e ≡ ends.NoMemory) × WasCut Now regions old new (pass_step script regions line)) → MayHavePassed script server running after regions line

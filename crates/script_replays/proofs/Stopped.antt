@@ -31,7 +31,7 @@ use Rattle.record_run.proofs.FlushLines.{keeps_still}
 use Rattle.record_run.proofs.Going.{comes_any}
 use Rattle.script_replays.specs.declared.run.Run.{Run}
 use Rattle.script_replays.specs.Lasts.{CameTo, Halts, RanFirst}
-use Rattle.script_replays.specs.Lines.{EndsIdle, Goes, HasPassed, HasPassedSome, MayHavePassed, Passed}
+use Rattle.script_replays.specs.Lines.{EndsIdle, Goes, HasPassed, HasPassedSome, MayHavePassed, PassesLine}
 use Rattle.script_replays.specs.Replays.{OnItsWay}
 use Rattle.script_replays.specs.States.{GoesTo, HaltsAt, Stands, TickOnItsWay}
 use Rattle.script_replays.proofs.Behind.{goes_lines, goes_more, stops_there}
@@ -57,7 +57,7 @@ behind_more script (first ∷ steps) step from to next is goes =
     then_more from.1 (pass_step script from.0 first.1) (λ later. steps_behind script steps later) (λ later. steps_behind script (steps ++ step ∷ []) later) to (next.0, to.1 ++ next.1) (λ r at. behind_more script steps step r to next at goes) is
 
 module _ (script : Script) (server : List Mounted) (running : Running) (seat : List Token) (count : ℕ) (step : ℕ × Line) (there : slice_get script.steps count ≡ Some step) where
-  pub passed_more : (behind : Regions) → steps_behind script (take count script.steps) (made_regions script, []) ≡ Some behind → Passed script server running seat behind.0 step.1 → HasPassed script server running seat (count + 1)
+  pub passed_more : (behind : Regions) → steps_behind script (take count script.steps) (made_regions script, []) ≡ Some behind → PassesLine script server running seat behind.0 step.1 → HasPassed script server running seat (count + 1)
   passed_more behind is (found, goes, follows) = (
     (found.0, behind.1 ++ found.1),
     ap (λ (steps : List (ℕ × Line)). steps_behind script steps (made_regions script, [])) (take_with script.steps count step there) ∙ behind_more script (take count script.steps) step (made_regions script, []) behind found is goes,

@@ -37,7 +37,7 @@ use Rattle.record_run.specs.ImageRuns.{result_for}
 use Rattle.record_run.proofs.FlushLines.{keeps_still}
 use Rattle.script_replays.specs.declared.run.Run.{Run}
 use Rattle.script_replays.specs.States.{HaltsAt, Rests, Stands}
-use Rattle.script_replays.specs.Ticking.{StopsTick, Unfetched, Unlogged}
+use Rattle.script_replays.specs.Ticking.{StopsTick, FetchesNothing, LogsNothing}
 
 -- before the archive is opened nothing was logged
 none_found : (left : Files) (limit : ℕ) (items : List Item) (least : ℕ) (files : Files) (standing : Standing) (held : Holdings) → IsStanding left limit items least (Stand.found files) standing held → items ≡ []
@@ -107,7 +107,7 @@ module _ {D : Type 0} (d : DiskGhosts D) (script : Script) (server : List Mounte
     any_moment = moment;
   }))
 
-  unfetched_so : (ending : Ending) → Unfetched d server run.running middle after pmids now left s.items least s.stand old new next.archive ending → ((1024 < length pmids) × (ending ≡ ends.Limit kinds.Sets (length pmids))) ⊎ (ending ≡ ends.NoMemory) → Halting ending
+  unfetched_so : (ending : Ending) → FetchesNothing d server run.running middle after pmids now left s.items least s.stand old new next.archive ending → ((1024 < length pmids) × (ending ≡ ends.Limit kinds.Sets (length pmids))) ⊎ (ending ≡ ends.NoMemory) → Halting ending
   unfetched_so ending u (inl (many, is)) = inl (record {
     next = s;
     stops = subst (λ (ps : List ℕ). TickStops limit s now ps ending s) are (too_many limit s now pmids ending many is);
@@ -119,10 +119,10 @@ module _ {D : Type 0} (d : DiskGhosts D) (script : Script) (server : List Mounte
   })
   unfetched_so ending u (inr is) = wants ending is (u.follows alone script s.regions follows).0 (record { stand = s.stand; same = inl refl; keeps = inl (least, u.keeps) }) u.any_moment
 
-  unfetched : (ending : Ending) → Unfetched d server run.running middle after pmids now left s.items least s.stand old new next.archive ending → Halting ending
+  unfetched : (ending : Ending) → FetchesNothing d server run.running middle after pmids now left s.items least s.stand old new next.archive ending → Halting ending
   unfetched ending u = unfetched_so ending u u.ends
 
-  module _ (ending : Ending) (u : Unlogged d server run.running middle after pmids now left s.items least s.stand old new next.archive ending) where
+  module _ (ending : Ending) (u : LogsNothing d server run.running middle after pmids now left s.items least s.stand old new next.archive ending) where
     abbrev f : Fetched
     f = u.fetched
 

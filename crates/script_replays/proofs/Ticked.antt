@@ -18,11 +18,11 @@ use Rattle.script_runs.specs.Steps.{PassesForEach, RunState, TickLogs, Ticks, as
 use Rattle.record_run.specs.declared.archive.RunArchive.{RunArchive}
 use Rattle.record_run.specs.Going.{KeepsRun}
 use Rattle.record_run.specs.ImageRuns.{items_of_run, result_for}
-use Rattle.script_replays.specs.Ticking.{Logged}
+use Rattle.script_replays.specs.Ticking.{KeepsLogged}
 
 module _ (limit : ℕ) (s : RunState) (now : Moment) where
   module _ {D : Type 0} (d : DiskGhosts D) (server : List Mounted) (running : Running) (before after : List Token) (left : Files) (least : ℕ) (old new : D) (archive : RunArchive) (limited : archive.limit ≡ limit) where
-    pub logs_asked : (pmids : List ℕ) (o : Option Fetched) → length pmids ≤ 1024 → o ≡ result_for pmids (fetched_at s pmids now) → Logged d server running before after pmids now left s.items least s.stand old new archive o
+    pub logs_asked : (pmids : List ℕ) (o : Option Fetched) → length pmids ≤ 1024 → o ≡ result_for pmids (fetched_at s pmids now) → KeepsLogged d server running before after pmids now left s.items least s.stand old new archive o
         → (stand : Stand) × (items : List Item) × TickLogs limit s now pmids stand items × KeepsRun left items least stand archive (d.held new) × (items ≡ s.items ++ items_of_run o)
     logs_asked [] None few is logged = (s.stand, s.items, (refl, refl), logged, sym (append-nil s.items))
     logs_asked [] (Some f) few is logged = absurd (none-some f (sym is))

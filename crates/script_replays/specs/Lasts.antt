@@ -26,8 +26,8 @@ pub record RanFirst (script : Script) (limit : ℕ) (left : Files) (last : RunSt
   pub lines_run : LinesRun (record script { steps = take count script.steps }) limit (take count script.steps) (run_start script left) ending last
 
 module _ {D : Type 0} (d : DiskGhosts D) (script : Script) (limit : ℕ) (server : List Mounted) (left : Files) (run : Run) (seat : List Token) (middle new : D) where
-  abbrev pub Left : List Item → Type 0
-  Left items = LeavesOnly d.moment d.left_since middle new (ComesBackTo items 0 left)
+  abbrev pub LeavesUpTo : List Item → Type 0
+  LeavesUpTo items = LeavesOnly d.moment d.left_since middle new (ComesBackTo items 0 left)
 
   -- the run came to an end of its own
   pub record CameTo (ending : Ending) : Type 0 where
@@ -37,7 +37,7 @@ module _ {D : Type 0} (d : DiskGhosts D) (script : Script) (limit : ℕ) (server
     pub least : ℕ
     pub keeps : KeepsRun left last.items least last.stand run.archive (d.held new)
     pub output : run.out.items ≡ last.output
-    pub any_moment : Left last.items
+    pub any_moment : LeavesUpTo last.items
 
   -- memory was refused
   pub record WantsBehind (ending : Ending) : Type 0 where
@@ -48,7 +48,7 @@ module _ {D : Type 0} (d : DiskGhosts D) (script : Script) (limit : ℕ) (server
     pub rests : Rests left last run.archive (d.held new)
     pub more : List ℕ
     pub output : last.output ≡ run.out.items ++ more
-    pub any_moment : Left last.items
+    pub any_moment : LeavesUpTo last.items
 
   -- the disk failed
   pub record FailsBehind (ending : Ending) : Type 0 where
@@ -59,7 +59,7 @@ module _ {D : Type 0} (d : DiskGhosts D) (script : Script) (limit : ℕ) (server
     pub output : run.out.items ≡ last.output
     pub items : List Item
     pub items_are : (items ≡ last.items) ⊎ OnItsWay script last ran.count items
-    pub any_moment : Left items
+    pub any_moment : LeavesUpTo items
 
   abbrev pub Halts : Ending → Type 0
   Halts ending = CameTo ending ⊎ (WantsBehind ending ⊎ FailsBehind ending)

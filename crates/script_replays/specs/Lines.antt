@@ -33,12 +33,12 @@ EndsIdle script regions ending =
 
 module _ (script : Script) (server : List Mounted) (running : Running) (seat : List Token) where
   -- a line was run on the regions
-  abbrev pub Passed : List ScriptRegion → Line → Type 0
-  Passed regions line = (found : Regions) × (pass_step script regions line ≡ Some found) × Follows script server running seat found.0
+  abbrev pub PassesLine : List ScriptRegion → Line → Type 0
+  PassesLine regions line = (found : Regions) × (pass_step script regions line ≡ Some found) × Follows script server running seat found.0
 
   -- or nothing was done on them
   abbrev pub MayHavePassed : List ScriptRegion → Line → Type 0
-  MayHavePassed regions line = Follows script server running seat regions ⊎ Passed regions line
+  MayHavePassed regions line = Follows script server running seat regions ⊎ PassesLine regions line
 
   -- the first lines, so many, were run on the regions
   abbrev pub HasPassed : ℕ → Type 0

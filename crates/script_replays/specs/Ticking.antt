@@ -28,27 +28,27 @@ abbrev pub Shows : List Mounted → Running → List Token → List Token → Li
 Shows server running old new pmids now o = Alone running new → KeepsFollowing server running old new (λ regions. o ≡ result_for pmids (fetched_of regions pmids now))
 
 module _ {D : Type 0} (d : DiskGhosts D) (server : List Mounted) (running : Running) (before after : List Token) (pmids : List ℕ) (now : Moment) (left : Files) (items : List Item) (least : ℕ) (stand : Stand) (old new : D) (archive : RunArchive) where
-  abbrev pub Logged : Option Fetched → Type 0
-  Logged None = KeepsRun left items least stand archive (d.held new)
-  Logged (Some f) = (f.result.stamp ≡ now) × LogsRun left items least stand f archive (d.held new)
+  abbrev pub KeepsLogged : Option Fetched → Type 0
+  KeepsLogged None = KeepsRun left items least stand archive (d.held new)
+  KeepsLogged (Some f) = (f.result.stamp ≡ now) × LogsRun left items least stand f archive (d.held new)
 
   -- what was shown is logged, if anything was asked for; a crash at any moment leaves it or not
   pub record LogsTick : Type 0 where
     pub few : length pmids ≤ 1024
     pub fetched : Option Fetched
     pub shows : Shows server running before after pmids now fetched
-    pub logged : Logged fetched
+    pub logged : KeepsLogged fetched
     pub any_moment : LeavesOnly d.moment d.left_since old new (ComesBackTo (items ++ items_of_run fetched) 0 left)
 
   -- nothing was logged: too many metrics are asked for, or memory was refused
-  pub record Unfetched (ending : Ending) : Type 0 where
+  pub record FetchesNothing (ending : Ending) : Type 0 where
     pub ends : ((1024 < length pmids) × (ending ≡ ends.Limit kinds.Sets (length pmids))) ⊎ (ending ≡ ends.NoMemory)
     pub keeps : KeepsRun left items least stand archive (d.held new)
     pub any_moment : LeavesOnly d.moment d.left_since old new (ComesBackTo items 0 left)
     pub follows : Alone running after → KeepsFollowing server running before after (λ regions. Unit {0})
 
   -- the archive refused what was shown, or the disk failed, or memory was refused
-  pub record Unlogged (ending : Ending) : Type 0 where
+  pub record LogsNothing (ending : Ending) : Type 0 where
     pub few : length pmids ≤ 1024
     pub fetched : Fetched
     pub some : 0 < length pmids
@@ -61,4 +61,4 @@ module _ {D : Type 0} (d : DiskGhosts D) (server : List Mounted) (running : Runn
     pub refused : fault ≢ DiskFault → LeavesOnly d.moment d.left_since old new (ComesBackTo items 0 left)
 
   abbrev pub StopsTick : Ending → Type 0
-  StopsTick ending = Unfetched ending ⊎ Unlogged ending
+  StopsTick ending = FetchesNothing ending ⊎ LogsNothing ending

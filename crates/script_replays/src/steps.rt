@@ -15,7 +15,7 @@ ghost use Rattle.script_runs.specs.Steps.{RunState, pass_step};
 ghost use Rattle.record_run.specs.Endings.{MayEnd};
 ghost use Rattle.record_run.specs.Going.{IsUnclosed, IsWorking};
 ghost use Rattle.script_replays.specs.Lasts.{Halts};
-ghost use Rattle.script_replays.specs.Lines.{EndsIdle, HasPassedSome, IsOfPass, MayHavePassed, Passed};
+ghost use Rattle.script_replays.specs.Lines.{EndsIdle, HasPassedSome, IsOfPass, MayHavePassed, PassesLine};
 ghost use Rattle.script_replays.specs.States.{GoesTo, HaltsAt, Stands};
 
 use crate::run::Run;
@@ -104,7 +104,7 @@ fn step<'a, D: Disk>(
     ensures working { IsWorking run.old.archive.limit run.old.archive.standing → OnOk result (IsWorking run.new.archive.limit run.new.archive.standing) }
     ensures unclosed { IsWorking run.old.archive.limit run.old.archive.standing → IfErr result (λ e. e ≢ Failing → IsUnclosed run.new.archive.limit run.new.archive.standing) }
     ensures passed { Alone run.new.running seat.new.tokens → (regions : Sequence ScriptRegion) → Follows script.now server.now run.old.running seat.old.tokens regions
-        → MatchResult result (λ _. Passed script.now server.now run.new.running seat.new.tokens regions line.now) (λ _. MayHavePassed script.now server.now run.new.running seat.new.tokens regions line.now) }
+        → MatchResult result (λ _. PassesLine script.now server.now run.new.running seat.new.tokens regions line.now) (λ _. MayHavePassed script.now server.now run.new.running seat.new.tokens regions line.now) }
     ensures goes { D.tells → Alone run.new.running seat.new.tokens → (left : AllFiles) (least : ℕ) (s : RunState) → Stands D.Disk script.now server.now left least run.old seat.old.tokens disk.old s
         → OnOk result (GoesTo D.Disk script.now run.old.archive.limit server.now left s line.now run.new seat.new.tokens disk.old disk.new) }
     ensures halts { D.tells → Alone run.new.running seat.new.tokens → (left : AllFiles) (least : ℕ) (s : RunState) → Stands D.Disk script.now server.now left least run.old seat.old.tokens disk.old s

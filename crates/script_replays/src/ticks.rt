@@ -12,7 +12,7 @@ ghost use Rattle.script_runs.specs.Groups.{asked_for as asked_by, asking, shots_
 ghost use Rattle.script_runs.specs.Regions.{ScriptRegion};
 ghost use Rattle.script_runs.specs.Steps.{RunState};
 ghost use Rattle.record_run.specs.Going.{IsUnclosed, IsWorking, KeepsRun};
-ghost use Rattle.script_replays.specs.Lines.{MayHavePassed, Passed};
+ghost use Rattle.script_replays.specs.Lines.{MayHavePassed, PassesLine};
 ghost use Rattle.script_replays.specs.States.{GoesTo, HaltsAt, Stands};
 ghost use Rattle.script_replays.specs.Ticking.{LogsTick, StopsTick};
 ghost use Rattle.record_run.specs.Endings.{MayEnd};

@@ -18,7 +18,7 @@ use Rattle.record_run.specs.declared.archive.RunArchive.{RunArchive}
 use Rattle.record_run.specs.Going.{KeepsRun}
 use Rattle.script_samples.specs.declared.sampler.Sampler.{Sampler}
 use Rattle.script_samples.specs.Samples.{AreTaken, SampleTaken, stamps_of}
-use Rattle.script_samples.specs.Sampling.{AskedInVain, EndsBefore, GoesOn, LogsAll, LogsAllBut, OverAny, ShownInVain, Stops}
+use Rattle.script_samples.specs.Sampling.{AskedInVain, EndsBefore, GoesOn, LogsAll, LogsAllBut, OverAny, ShownInVain, StopsSampling}
 use Rattle.script_samples.specs.Shown.{items_of_results, pmids_by}
 use Rattle.script_samples.proofs.Joined.{logs_but_joined, logs_joined, shown_joined, taken_joined}
 
@@ -54,10 +54,10 @@ module _ {C D : Type 0} (c : ClockGhosts C) (d : DiskGhosts D) (groups : List Gr
   }
 
   abbrev Stopped : (ys : List SampleTaken) (left : ℕ) (ending : Ending) → Type 0
-  Stopped ys left ending = Stops c d groups server middle last tokens_middle tokens_last clock_middle clock_last disk_middle disk_last ys left ending
+  Stopped ys left ending = StopsSampling c d groups server middle last tokens_middle tokens_last clock_middle clock_last disk_middle disk_last ys left ending
 
   abbrev StoppedAll : (ys : List SampleTaken) (left : ℕ) (ending : Ending) → Type 0
-  StoppedAll ys left ending = Stops c d groups server first last tokens_first tokens_last clock_first clock_last disk_first disk_last (xs ++ ys) left ending
+  StoppedAll ys left ending = StopsSampling c d groups server first last tokens_first tokens_last clock_first clock_last disk_first disk_last (xs ++ ys) left ending
 
   pub stops_joined : (ys : List SampleTaken) (left : ℕ) (ending : Ending) → Stopped ys left ending → StoppedAll ys left ending
   stops_joined ys left ending (inl ends) = inl (record { goes = goes_joined ys ends.goes; why = ends.why })

@@ -13,7 +13,7 @@ use Rattle.script_runs.specs.declared.ending.Ending.TheVariants as ends
 use Rattle.record_run.specs.declared.archive.RunArchive.{RunArchive}
 use Rattle.script_samples.specs.declared.sampler.Sampler.{Sampler}
 use Rattle.script_samples.specs.Samples.{SampleTaken}
-use Rattle.script_samples.specs.Sampling.{GoesOn, HasEnded, LogsAll, OverAny, Stops, StopsAt, TakesAt}
+use Rattle.script_samples.specs.Sampling.{GoesOn, HasEnded, LogsAll, OverAny, StopsSampling, StopsAt, TakesAt}
 use Rattle.script_samples.proofs.Joined.{none_logged}
 
 module _ {C D : Type 0} (c : ClockGhosts C) (d : DiskGhosts D) (only_now : (disk : D) (files : Files) → d.left_since disk (d.moment disk) files → CrashImage (d.held disk) files) (groups : List Group) (server : List Mounted) where
@@ -45,7 +45,7 @@ module _ {C D : Type 0} (c : ClockGhosts C) (d : DiskGhosts D) (only_now : (disk
       },
     )
 
-    pub stops_one : (left : ℕ) (ending : Ending) → StopsAt d groups server was is seat_was seat_is old new now ending → Stops c d groups server was is seat_was seat_is clock_was clock_is old new [] left ending
+    pub stops_one : (left : ℕ) (ending : Ending) → StopsAt d groups server was is seat_was seat_is old new now ending → StopsSampling c d groups server was is seat_was seat_is clock_was clock_is old new [] left ending
     stops_one left ending (inl asks) = inr (inl (record {
       stamp = now;
       middle = seat_was;
@@ -81,5 +81,5 @@ module _ {C D : Type 0} (c : ClockGhosts C) (d : DiskGhosts D) (only_now : (disk
   no_moment clock_was clock_is left ending (inr (is, rose)) = inr is
 
   pub ends_before : (sampler : Sampler) (seat : List Token) (clock_was clock_is : C) (disk : D) (left : ℕ) (ending : Ending) → (c.tells → c.left clock_is ≡ c.left clock_was)
-      → ((ending ≡ ends.ClockEnd left) × HasEnded c clock_is) ⊎ ((ending ≡ ends.ClockFault left) × Rose (c.faults clock_was) (c.faults clock_is)) → Stops c d groups server sampler sampler seat seat clock_was clock_is disk disk [] left ending
+      → ((ending ≡ ends.ClockEnd left) × HasEnded c clock_is) ⊎ ((ending ≡ ends.ClockFault left) × Rose (c.faults clock_was) (c.faults clock_is)) → StopsSampling c d groups server sampler sampler seat seat clock_was clock_is disk disk [] left ending
   ends_before sampler seat clock_was clock_is disk left ending still why = inl (record { goes = goes_nowhere sampler sampler seat clock_was clock_is disk refl still; why = no_moment clock_was clock_is left ending why })

@@ -166,5 +166,5 @@ module _ {C D : Type 0} (c : ClockGhosts C) (d : DiskGhosts D) (groups : List Gr
     pub counted : is.archive.logged ≡ was.archive.logged + length results
 
   -- sampling stopped, when so many samples were left
-  abbrev pub Stops : List SampleTaken → ℕ → Ending → Type 0
-  Stops samples left ending = EndsBefore samples ending left ⊎ (AskedInVain samples ending ⊎ ShownInVain samples ending)
+  abbrev pub StopsSampling : List SampleTaken → ℕ → Ending → Type 0
+  StopsSampling samples left ending = EndsBefore samples ending left ⊎ (AskedInVain samples ending ⊎ ShownInVain samples ending)

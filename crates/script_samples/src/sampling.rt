@@ -6,7 +6,7 @@ ghost use Rattle.fetch_engine.specs.Visits.{AreLoaded};
 ghost use Rattle.script_runs.specs.declared.ending.Ending.TheVariants.{ClockEnd as NoMoment, ClockFault as NoClock, DiskFault as Failing};
 ghost use Rattle.record_run.specs.Going.{IsUnclosed, IsWorking};
 ghost use Rattle.script_samples.specs.Samples.{SampleTaken};
-ghost use Rattle.script_samples.specs.Sampling.{GoesOn, HasEnded, MayRefuse, MayStop, Stops, StopsAt, TakesAt};
+ghost use Rattle.script_samples.specs.Sampling.{GoesOn, HasEnded, MayRefuse, MayStop, StopsSampling, StopsAt, TakesAt};
 
 use crate::asking::ask;
 use crate::logging::log_shown;
@@ -101,7 +101,7 @@ pub fn sample<'a, D: Disk, C: Clock, T: Turn>(
     ensures limit { sampler.new.archive.limit ≡ sampler.old.archive.limit }
     ensures count { sampler.new.archive.logged ≤ sampler.old.archive.logged + 1 }
     ensures goes { OnOk result ((s : SampleTaken) × GoesOn C.Clock D.Disk script.now.config.groups server.now sampler.old sampler.new seat.old.tokens seat.new.tokens clock.old clock.new disk.old disk.new (s ∷ [])) }
-    ensures stops { IfErr result (Stops C.Clock D.Disk script.now.config.groups server.now sampler.old sampler.new seat.old.tokens seat.new.tokens clock.old clock.new disk.old disk.new [] left) }
+    ensures stops { IfErr result (StopsSampling C.Clock D.Disk script.now.config.groups server.now sampler.old sampler.new seat.old.tokens seat.new.tokens clock.old clock.new disk.old disk.new [] left) }
     ensures working { IsWorking sampler.old.archive.limit sampler.old.archive.standing → OnOk result (IsWorking sampler.new.archive.limit sampler.new.archive.standing) }
     ensures unclosed { IsWorking sampler.old.archive.limit sampler.old.archive.standing → IfErr result (λ e. e ≢ Failing → IsUnclosed sampler.new.archive.limit sampler.new.archive.standing) }
     ensures cause { IsWorking sampler.old.archive.limit sampler.old.archive.standing → IfErr result (MayStop C.Clock D.Disk disk.old disk.new clock.old clock.new) }
@@ -136,7 +136,7 @@ pub fn sample_all<'a, D: Disk, C: Clock, T: Turn>(
     ensures count { sampler.new.archive.logged ≤ count }
     ensures goes { OnOk result ((taken : Sequence SampleTaken) × (length taken ≡ count) × GoesOn C.Clock D.Disk script.now.config.groups server.now sampler.old sampler.new seat.old.tokens seat.new.tokens clock.old clock.new disk.old disk.new taken) }
     ensures stops { IfErr result (λ e. (taken : Sequence SampleTaken) × (left : ℕ) × (length taken + left ≡ samples) × (0 < left)
-        × Stops C.Clock D.Disk script.now.config.groups server.now sampler.old sampler.new seat.old.tokens seat.new.tokens clock.old clock.new disk.old disk.new taken left e) }
+        × StopsSampling C.Clock D.Disk script.now.config.groups server.now sampler.old sampler.new seat.old.tokens seat.new.tokens clock.old clock.new disk.old disk.new taken left e) }
     ensures working { IsWorking sampler.old.archive.limit sampler.old.archive.standing → OnOk result (IsWorking sampler.new.archive.limit sampler.new.archive.standing) }
     ensures unclosed { IsWorking sampler.old.archive.limit sampler.old.archive.standing → IfErr result (λ e. e ≢ Failing → IsUnclosed sampler.new.archive.limit sampler.new.archive.standing) }
     ensures cause { IsWorking sampler.old.archive.limit sampler.old.archive.standing → IfErr result (MayStop C.Clock D.Disk disk.old disk.new clock.old clock.new) }

@@ -4,7 +4,7 @@ use Rattle.std.specs.Global.{Vec}
 use Rattle.region_rule.specs.Seats.{Token}
 use Rattle.script_runs.specs.declared.ending.Ending.{Ending}
 use Rattle.script_samples.specs.Samples.{SampleTaken}
-use Rattle.script_samples.specs.Sampling.{Stops}
+use Rattle.script_samples.specs.Sampling.{StopsSampling}
 use Rattle.script_writers.specs.Written.{HaveWritten}
 use Rattle.script_writers.proofs.Ready.{ready}
 use Rattle.script_records.proofs.Handed.{all_here}
@@ -30,7 +30,7 @@ returns-in-Err-early-clause-halts g c = λ left found.
     b.ensures.limit c.requires.none c.requires.unstarted left found b.ensures.loads c.requires.images c.in-Err-early.ending c.refused.result c.refused.ensures
     (err_told b.result.1 c.in-Err-early.ending
     (λ (e : Ending). (taken : List SampleTaken) × (still : ℕ) × (length taken + still ≡ c.args.samples) × (0 < still)
-    × Stops g.C.Clock g.D.Disk c.args.script.now.config.groups c.args.server.now c.args.sampler.now b.new.sampler c.args.seat.now.tokens b.new.seat.tokens c.args.clock.now b.new.clock c.args.disk.now b.new.disk taken still e)
+    × StopsSampling g.C.Clock g.D.Disk c.args.script.now.config.groups c.args.server.now c.args.sampler.now b.new.sampler c.args.seat.now.tokens b.new.seat.tokens c.args.clock.now b.new.clock c.args.disk.now b.new.disk taken still e)
     c.in-Err-early.is b.ensures.stops)
 
 pub gather_all-requires-clause-here : goal.gather_all-requires-clause-here
@@ -47,7 +47,7 @@ returns-in-Err-early-2-clause-halts g c = λ left found.
     (ok_told b.result.0 c.in-Ok.done (λ (done : Vec (Vec Token)). HaveWritten c.args.script.now c.args.server.now c.args.passes.items done.items) c.in-Ok.is b.ensures.written) c.gather_all.ensures.gathers c.in-Err-early-2.ending
     (err_told b.result.1 c.in-Err-early-2.ending
     (λ (e : Ending). (taken : List SampleTaken) × (still : ℕ) × (length taken + still ≡ c.args.samples) × (0 < still)
-    × Stops g.C.Clock g.D.Disk c.args.script.now.config.groups c.args.server.now c.args.sampler.now b.new.sampler c.args.seat.now.tokens b.new.seat.tokens c.args.clock.now b.new.clock c.args.disk.now b.new.disk taken still e)
+    × StopsSampling g.C.Clock g.D.Disk c.args.script.now.config.groups c.args.server.now c.args.sampler.now b.new.sampler c.args.seat.now.tokens b.new.seat.tokens c.args.clock.now b.new.clock c.args.disk.now b.new.disk taken still e)
     c.in-Err-early-2.is b.ensures.stops)
 
 pub returns-in-Ok-sample-clause-halts : goal.returns-in-Ok-sample-clause-halts

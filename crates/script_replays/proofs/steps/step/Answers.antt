@@ -15,7 +15,7 @@ use Rattle.record_run.specs.Endings.{MayEnd}
 use Rattle.record_run.specs.Going.{IsUnclosed, IsWorking}
 use Rattle.record_run.proofs.Going.{working_unclosed}
 use Rattle.script_replays.specs.declared.run.Run.{Run}
-use Rattle.script_replays.specs.Lines.{IsOfPass, MayHavePassed, Passed}
+use Rattle.script_replays.specs.Lines.{IsOfPass, MayHavePassed, PassesLine}
 use Rattle.script_replays.specs.States.{GoesTo, HaltsAt}
 use Rattle.script_replays.proofs.Matches.{err_of, every_err, every_ok, every_result, ok_of, result_weaker}
 use Rattle.script_replays.proofs.PassLines.{has_passed, may_have_passed, of_pass, pass_ends, pass_goes, pass_halts}
@@ -26,17 +26,17 @@ returns-in-Tick-clause-passed g c = λ alone regions follows.
     let script : Script = c.args.script.now in
     let running = c.tick.new.run.running in
     let after = c.tick.new.seat.tokens in
-    let p : Passed script c.args.server.now running after regions c.args.line.now = ((regions, []), ap (λ (l : Line). pass_step script regions l) c.in-Tick.is, c.tick.ensures.follows alone regions follows) in
-    every_result c.tick.result (λ x. Passed script c.args.server.now running after regions c.args.line.now) (λ e. MayHavePassed script c.args.server.now running after regions c.args.line.now) (λ x. p) (λ e. inr p)
+    let p : PassesLine script c.args.server.now running after regions c.args.line.now = ((regions, []), ap (λ (l : Line). pass_step script regions l) c.in-Tick.is, c.tick.ensures.follows alone regions follows) in
+    every_result c.tick.result (λ x. PassesLine script c.args.server.now running after regions c.args.line.now) (λ e. MayHavePassed script c.args.server.now running after regions c.args.line.now) (λ x. p) (λ e. inr p)
 
 pub returns-in-Flush-clause-passed : goal.returns-in-Flush-clause-passed
 returns-in-Flush-clause-passed g c = λ alone regions follows.
     let script : Script = c.args.script.now in
     let running = c.flush.new.run.running in
     let after = c.args.seat.now.tokens in
-    let p : Passed script c.args.server.now running after regions c.args.line.now =
+    let p : PassesLine script c.args.server.now running after regions c.args.line.now =
     ((regions, []), ap (λ (l : Line). pass_step script regions l) c.in-Flush.is, subst (λ (r : Running). Follows script c.args.server.now r after regions) (sym c.flush.ensures.running) follows) in
-    every_result c.flush.result (λ x. Passed script c.args.server.now running after regions c.args.line.now) (λ e. MayHavePassed script c.args.server.now running after regions c.args.line.now) (λ x. p) (λ e. inr p)
+    every_result c.flush.result (λ x. PassesLine script c.args.server.now running after regions c.args.line.now) (λ e. MayHavePassed script c.args.server.now running after regions c.args.line.now) (λ x. p) (λ e. inr p)
 
 pub returns-in_default : goal.returns-in_default
 returns-in_default g c =
@@ -64,7 +64,7 @@ returns-in_default g c =
       unclosed = λ w. every_err c.pass.result (λ (e : Ending). e ≢ ends.DiskFault → IsUnclosed next.archive.limit next.archive.standing)
           (λ e other. subst (λ (a : RunArchive). IsUnclosed a.limit a.standing) (sym same) (working_unclosed run.archive.limit run.archive.standing w));
       passed = λ alone regions follows.
-          result_weaker c.pass.result (λ x. runs regions) (λ x. Passed script server next.running after regions line) (λ e. stops regions e) (λ e. MayHavePassed script server next.running after regions line) (c.pass.ensures.runs alone regions follows)
+          result_weaker c.pass.result (λ x. runs regions) (λ x. PassesLine script server next.running after regions line) (λ e. stops regions e) (λ e. MayHavePassed script server next.running after regions line) (c.pass.ensures.runs alone regions follows)
           (λ x has. has_passed script server line next.running after regions run.out.items next.out.items has) (λ e has. may_have_passed script server line next.running after regions run.out.items next.out.items e number has);
       goes = λ tells alone left least s stands.
           ok_of c.pass.result (λ x. runs s.regions) (λ e. stops s.regions e) (GoesTo d script run.archive.limit server left s line next after disk disk) (c.pass.ensures.runs alone s.regions stands.follows)

@@ -2,7 +2,7 @@
 use Rattle.std.proofs.Common.{◌≡◌, ◌<◌, ℕ, ◌+◌, ◌-◌, List, [], ◌∷◌, ◌++◌, length, refl, ◌∙◌, arith, length-append}
 use Rattle.script_runs.specs.declared.ending.Ending.{Ending}
 use Rattle.script_samples.specs.Samples.{SampleTaken}
-use Rattle.script_samples.specs.Sampling.{Stops}
+use Rattle.script_samples.specs.Sampling.{StopsSampling}
 use Rattle.script_samples.proofs.AtMoment.{err_handed}
 use Rattle.script_samples.proofs.Causes.{stops_earlier}
 use Rattle.script_samples.proofs.Chain.{goes_joined, stops_joined}
@@ -50,7 +50,7 @@ returns-in_err-sample-clause-stops g c =
     let rest = samples - c.loop-number.number in
     let so_far = c.loop-number.invariant.goes in
     err_handed c.from_residual.result c.in_err-sample.field-0.0
-    (λ (e : Ending). (taken : List SampleTaken) × (left : ℕ) × (length taken + left ≡ samples) × (0 < left) × Stops g.C.Clock g.D.Disk groups server first last seat_first seat_last clock_first clock_last disk_first disk_last taken left e) c.from_residual.ensures.1 (
+    (λ (e : Ending). (taken : List SampleTaken) × (left : ℕ) × (length taken + left ≡ samples) × (0 < left) × StopsSampling g.C.Clock g.D.Disk groups server first last seat_first seat_last clock_first clock_last disk_first disk_last taken left e) c.from_residual.ensures.1 (
       so_far.0 ++ [],
       rest,
       omega (arith, length-append so_far.0 [], so_far.1, c.loop-number-test.true, c.requires.first),
