@@ -1,6 +1,7 @@
 -- Regions that are served under their clusters and FILEs, and the seat that has a pass of each.
 use Rattle.std.specs.Prelude.{◌≡◌, ℕ, ◌+◌, ◌<◌, ◌≤◌, Bool, ◌&&◌, ◌||◌, not, nat_lt, ◌==◌, if◌then◌else◌, List, [], ◌∷◌, ◌++◌, map, length, slice_get, slice_set, All, Option, Some, None, bytes_eq, IsPermutation}
 use Rattle.std.specs.List.{list_any}
+use Rattle.pcp_base.specs.Names.{spells_component}
 use Rattle.region_core.specs.declared.mode.Mode.TheVariants.{Idle}
 use Rattle.region_rule.specs.Seats.{Token, IsSame, MadeRegion}
 use Rattle.fetch_engine.specs.declared.server.Mounted.{Mounted}

@@ -1,6 +1,7 @@
 -- What the lines of a script's head say.
 use Rattle.std.specs.Prelude.{ℕ, ◌==◌, Bool, false, ◌&&◌, not, nat_le, if◌then◌else◌, List, [], ◌∷◌, ◌++◌, length, slice_get, bytes_eq, Option, Some, None, Result, Ok, Err}
 use Rattle.std.specs.List.{list_any}
+use Rattle.pcp_base.specs.Names.{spells_component}
 use Rattle.mmv_format.specs.Contents.{cluster_in}
 use Rattle.log_schedule.specs.declared.config.Group.{Group}
 use Rattle.log_schedule.specs.declared.stage.Stage.TheVariants as scans
