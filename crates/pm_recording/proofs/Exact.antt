@@ -1,7 +1,9 @@
--- A recording that was done shows the regions' last words, by the law of the last sample.
-use Rattle.std.proofs.Common.{◌≡◌, ℕ, List, refl, sym, ◌∙◌, subst, Option, Some, None, Result, Ok, Err}
+-- A recording that was done shows the regions' last words, and these hold all that was stored and added, by the laws of a recording.
+use Rattle.std.proofs.Common.{◌≡◌, ℕ, ◌≤◌, List, length, refl, sym, ◌∙◌, subst, arith, Option, Some, None, Result, Ok, Err}
 use Rattle.fetch_engine.specs.declared.server.Mounted.{Mounted}
+use Rattle.record_laws.proofs.Counted.{counters_are_sums, done_own}
 use Rattle.record_laws.proofs.Last.{last_sample}
+use Rattle.record_laws.proofs.Unlost.{no_line_lost}
 use Rattle.run_script.specs.Reading.{script_of}
 use Rattle.recordable_scripts.specs.Recording.{refused_line}
 use Rattle.run_script.specs.Rules.{KeepsRules}
@@ -15,10 +17,11 @@ use Rattle.script_runs.specs.declared.ending.Ending.{Ending}
 use Rattle.script_runs.specs.declared.ending.Ending.TheVariants as ends
 use Rattle.pcp_outside.specs.Sides.{SourceSide, SinkSide}
 use Rattle.pm_recording.specs.Ends.{Ends, Ran}
-use Rattle.pm_recording.specs.Exact.{LastIsShown}
+use Rattle.pm_recording.specs.Exact.{AllIsCounted, LastIsShown}
 use Rattle.pm_recording.specs.Recording.{RunSide}
 use Rattle.pm_recording.specs.Scripts.{recordable, script_recorded, unless}
 use Rattle.pm_recording.proofs.Facts.{is_done}
+use Rattle.pm_recording.proofs.Few.{steps_are_few}
 
 -- what is recorded was read
 not_refused : (told : Result Script ScriptFault) (line : Option ℕ) (found script : Script) → told ≡ Ok found → unless line found ≡ Ok script → told ≡ Ok script
@@ -31,6 +34,17 @@ was_read (Err fault) script is = absurd (cc)
 
 keeps_rules : (input : List ℕ) (script : Script) → script_recorded input ≡ Ok script → KeepsRules script
 keeps_rules input script is = scripts_are_ruled input script (was_read (script_of input) script is)
+
+-- and no line of it is refused
+not_refused_at : (line : Option ℕ) (found script : Script) → unless line found ≡ Ok script → (line ≡ None) × (found ≡ script)
+not_refused_at None found script is = (refl, cc)
+not_refused_at (Some line) found script is = absurd (cc)
+
+none_refused : (found : Result Script ScriptFault) (script : Script) → recordable found ≡ Ok script → refused_line script ≡ None
+none_refused (Ok found) script is =
+    let taken = not_refused_at (refused_line found) found script is in
+    subst (λ (x : Script). refused_line x ≡ None) taken.1 taken.0
+none_refused (Err fault) script is = absurd (cc)
 
 module _ {C D : Type 0} (words : List (List ℕ)) (s : SourceSide) (k : SinkSide) (o : RunSide C D) (opened : Option Opened) where
   module _ (ran : Ran words s o opened ends.Done) where
@@ -48,12 +62,28 @@ module _ {C D : Type 0} (words : List (List ℕ)) (s : SourceSide) (k : SinkSide
     abbrev beside : Beside ran.script server ran.has.was.first.tokens ran.has.was.last.tokens ends.Done ran.has.was.recording.moments ran.has.was.recording.results
     beside = subst (λ (x : Ending). Beside ran.script server ran.has.was.first.tokens ran.has.was.last.tokens x ran.has.was.recording.moments ran.has.was.recording.results) ran.ended ran.has.was.recording.beside
 
-    last_shown : LastIsShown words s o opened
+    abbrev last_shown : LastIsShown words s o opened
     last_shown = record {
       ran = ran;
       beside = beside;
       exact = last_sample ran.script server ran.has.was.first.tokens ran.has.was.last.tokens ran.has.was.recording.moments ran.has.was.recording.results rules serves ran.has.was.seated beside;
     }
 
+    all_counted : AllIsCounted words s o opened
+    all_counted =
+        let was = ran.has.was in
+        let refused : refused_line ran.script ≡ None = none_refused (script_of ran.asks.input) ran.script ran.good in
+        let steps : length ran.script.steps ≤ length ran.asks.input = steps_are_few ran.asks.input ran.script (was_read (script_of ran.asks.input) ran.script ran.good) in
+        let bytes : length ran.asks.input ≤ 16777216 = ran.asks.read.within in
+        record {
+          shown = last_shown;
+          counted = counters_are_sums ran.script server was.first.tokens was.last.tokens was.recording.moments was.recording.results rules refused ran.has.images ran.has.of_words serves beside;
+          whole = no_line_lost ran.script server was.first.tokens was.last.tokens ends.Done was.recording.moments was.recording.results rules refused ran.has.images ran.has.of_words (omega (arith, steps, bytes)) serves beside
+              (done_own beside.own beside.ended_by);
+        }
+
   pub shows_last : (status : ℕ) → Ends words s k o opened status → status ≡ 0 → LastIsShown words s o opened
   shows_last status ends_so zero = last_shown (is_done words s k o opened status ends_so zero).ran
+
+  pub counts_all : (status : ℕ) → Ends words s k o opened status → status ≡ 0 → AllIsCounted words s o opened
+  counts_all status ends_so zero = all_counted (is_done words s k o opened status ends_so zero).ran

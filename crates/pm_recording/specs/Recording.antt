@@ -8,6 +8,7 @@ use Rattle.run_script.specs.declared.script.Script.{Script}
 use Rattle.script_passes.specs.Openings.{IsOpened}
 use Rattle.script_passes.specs.declared.opening.Opened.{Opened}
 use Rattle.script_replays.specs.declared.replayed.Replayed.{Replayed}
+use Rattle.script_records.specs.Pictured.{AreImages, AreOfWords}
 use Rattle.script_records.specs.Recordings.{IsRecording, MayEndRecording}
 use Rattle.pm_words.specs.Sides.{IsUnread, Leaves}
 use Rattle.pm_recording.specs.declared.words.RecordWords.{RecordWords}
@@ -40,11 +41,13 @@ pub record WasRecorded {C D : Type 0} (o : RunSide C D) (asked : RecordWords) (s
   pub cause : MayEndRecording o.clock o.disk o.clock_was o.clock_is o.disk_was o.disk_is r.ending
   pub unread : IsUnread o.disk o.disk_was → Leaves o.disk o.disk_was o.disk_is CrashImage
 
--- `opened` has what is left
+-- `opened` has what is left of a script on images of 64-bit words
 pub record HasRecorded {C D : Type 0} (o : RunSide C D) (asked : RecordWords) (script : Script) (opened : Option Opened) (r : Replayed) : Type 0 where
   pub left : Opened
   pub kept : opened ≡ Some left
   pub was : WasRecorded o asked script left r
+  pub images : AreImages script
+  pub of_words : AreOfWords script
 
 -- nothing was opened, and neither the disk nor the clock was touched
 pub record IsUnrun {C D : Type 0} (o : RunSide C D) (opened : Option Opened) : Type 0 where

@@ -10,7 +10,7 @@ use pcp_base::NoMemory;
 use pcp_outside::{Clock, Disk, Turn};
 use run_script::Script;
 use script_passes::{Opened, open_script};
-use script_records::record_script;
+use script_records::{images_are, record_script};
 use script_replays::Replayed;
 use std::alloc::Global;
 use std::sync::Wait;
@@ -38,6 +38,7 @@ pub(crate) fn record_on<D: Disk, C: Clock, T: Turn + Sync, R: Threads + Wait + S
     ensures unopened { OnErr result (opened.new ≡ opened.old) }
 {
     let mut regions = open_script(alloc, &script, SEATS)?;
+    images_are(&script);
     let recorded = record_script(
         rt,
         alloc,

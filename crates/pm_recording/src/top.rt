@@ -4,7 +4,7 @@ ghost use Rattle.pcp_model.specs.Disk.{CrashImage, IsSettled};
 ghost use Rattle.pcp_outside.specs.Causes.{Rose};
 ghost use Rattle.pm_recording.specs.CommandWords.{FitsRecord};
 ghost use Rattle.pm_recording.specs.Ends.{Cause, Ends, EndsDone, IsOrder, MayBeLeft, Refuses, Tells};
-ghost use Rattle.pm_recording.specs.Exact.{LastIsShown};
+ghost use Rattle.pm_recording.specs.Exact.{AllIsCounted, LastIsShown};
 ghost use Rattle.pm_recording.specs.Facts.{ArchiveFaultIsExact, ClockIsExact, Completes, HadRecovered, KeepsAll, LimitIsExact, OpensRegions, RecordsSince, RunIsExact, ScriptFaultIsExact, UsageIsExact};
 ghost use Rattle.pm_recording.specs.Recording.{run_side};
 ghost use Rattle.pcp_outside.specs.Sides.{source_side, sink_side};
@@ -143,6 +143,9 @@ pub fn run_record<I: Source, O: Sink, D: Disk, C: Clock, T: Turn + Sync, R: Thre
     // Done: the last sample, which stands behind every writer, shows what the words of each region say in the end, and what is logged last
     // is what these words answer.
     ensures exact { result ≡ 0 → LastIsShown (map string_bytes words.now) (source_side I.Source input.old input.new) (run_side C.Clock D.Disk clock.old clock.new disk.old disk.new) opened.new }
+
+    // Done: each number that it shows so is what was stored last plus all adds since, modulo 2^64, and no line of a writer is lost.
+    ensures sums { result ≡ 0 → AllIsCounted (map string_bytes words.now) (source_side I.Source input.old input.new) (run_side C.Clock D.Disk clock.old clock.new disk.old disk.new) opened.new }
 
     // Unless a count rises or memory is refused, a good script over good files is recorded to its end.
     ensures completes { Completes (map string_bytes words.now) (source_side I.Source input.old input.new) (sink_side O.Sink out.old out.new) (run_side C.Clock D.Disk clock.old clock.new disk.old disk.new) opened.new result }

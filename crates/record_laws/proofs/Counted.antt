@@ -31,11 +31,10 @@ use Rattle.script_runs.specs.declared.ending.Ending.TheVariants as ends
 use Rattle.script_writers.specs.Hands.{IsServedAt}
 use Rattle.script_writers.proofs.Placed.{made_at}
 use Rattle.script_records.specs.Beside.{Beside, EndsBy, WritersRan, start_of}
-use Rattle.script_records.specs.Pictured.{AreImages}
+use Rattle.script_records.specs.Pictured.{AreImages, AreOfWords}
 use Rattle.record_laws.specs.Closing.{closing_words}
 use Rattle.record_laws.specs.Counters.{WordsAreSums, IsCounted, CountersAreSums}
 use Rattle.record_laws.specs.Sums.{IsSum, IsStored}
-use Rattle.record_laws.specs.Whole.{AreOfWords}
 use Rattle.record_laws.proofs.Behind.{image_end, stable_end}
 use Rattle.record_laws.proofs.Brought.{change_stores, stored_behind}
 use Rattle.record_laws.proofs.Forms.{Changed, LastBegin, changed_at, last_begin}
@@ -80,7 +79,8 @@ not_generation image slot good among number =
       λ two. none.1 (subst (λ (w : ℕ). Takes (form_of image) w 0) two (takes_zero image slot among number)),
     )
 
-done_own : (own_ending : Ending) → EndsBy own_ending ends.Done → own_ending ≢ ends.NoMemory
+-- what came to its end wasn't refused memory before
+pub done_own : (own_ending : Ending) → EndsBy own_ending ends.Done → own_ending ≢ ends.NoMemory
 done_own own_ending (inl same) none = let e : ends.Done ≡ ends.NoMemory = same ∙ none in cc
 done_own own_ending (inr never) none = cc
 

@@ -19,8 +19,7 @@ use Rattle.run_script.specs.declared.script.Script.{Script}
 use Rattle.script_passes.proofs.Begun.{get_there}
 use Rattle.script_runs.specs.Regions as regions
 use Rattle.script_writers.proofs.Lined.{at_place, both_true, may_stand}
-use Rattle.script_records.specs.Pictured.{AreImages}
-use Rattle.record_laws.specs.Whole.{AreOfWords}
+use Rattle.script_records.specs.Pictured.{AreImages, AreOfWords}
 use Rattle.record_laws.proofs.Owned.{LineFits, LinesFit}
 use Rattle.record_laws.proofs.Summing.{AreWords}
 use Rattle.record_laws.proofs.Wrote.{LineSuits, LinesSuit, IsHeld}

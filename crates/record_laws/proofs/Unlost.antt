@@ -20,8 +20,8 @@ use Rattle.script_writers.specs.Hands.{IsServedAt}
 use Rattle.script_writers.specs.Lines.{Writing, HasMade}
 use Rattle.script_writers.proofs.Placed.{capacity_at, made_at}
 use Rattle.script_records.specs.Beside.{AtJournals, Beside, IsFinishedUnlessWanting, WritersRan, start_of}
-use Rattle.script_records.specs.Pictured.{AreImages}
-use Rattle.record_laws.specs.Whole.{AreOfWords, NoLineIsLost, WritesAll}
+use Rattle.script_records.specs.Pictured.{AreImages, AreOfWords}
+use Rattle.record_laws.specs.Whole.{NoLineIsLost, WritesAll}
 use Rattle.record_laws.proofs.Fitting.{MayChange, few_lines, lines_fit, opened_form, opened_held, opened_image, opened_low, opened_words}
 use Rattle.record_laws.proofs.Forms.{form_at, not_spent}
 use Rattle.record_laws.proofs.Owned.{Bounded, Good, begun, begun_lines, bounded_lines, bounded_more, good_lines}

@@ -22,10 +22,9 @@ use Rattle.script_runs.specs.declared.ending.Ending.{Ending}
 use Rattle.script_runs.specs.declared.ending.Ending.TheVariants as ends
 use Rattle.script_writers.specs.Hands.{IsServedAt}
 use Rattle.script_records.specs.Beside.{Beside, start_of}
-use Rattle.script_records.specs.Pictured.{AreImages}
+use Rattle.script_records.specs.Pictured.{AreImages, AreOfWords}
 use Rattle.record_laws.specs.Closing.{closing_words}
 use Rattle.record_laws.specs.Sums.{IsSum, IsStored, stored_last_in, added_since}
-use Rattle.record_laws.specs.Whole.{AreOfWords}
 
 -- Whatever ended a recording, each word of each region is what was stored into it last plus all adds since, modulo 2^64.
 abbrev pub WordsAreSums : Type 0
@@ -47,10 +46,14 @@ pub record IsCounted (mounted : Mounted) (token : Token) (slot : Slot) : Type 0 
   pub sum : value ≡ (stored_last_in slot.word (word (start_of mounted) slot.word) token.view.seen + added_since slot.word 0 token.view.seen) % 2 ^ 64
   pub last : (k n : ℕ) (before behind : List Entry) → token.view.seen ≡ before ++ entry k (Begin n) ∷ behind → IsStored slot.word behind
 
--- Once a recording has come to its end, this is so of each numeric value of each region under its last layout.
+-- so it is of each numeric value of each region of a script under its last layout
+abbrev pub NumbersAreCounted : Script → List Mounted → List Token → Type 0
+NumbersAreCounted script server final = (i j : ℕ) (at : IsServedAt script server i j) (token : Token) → slice_get final j ≡ Some token
+    → (slot : Slot) → Contains (slots_of (closing_words at.mounted token)) slot → IsNumber slot.kind → IsCounted at.mounted token slot
+
+-- Once a recording has come to its end, each number is counted.
 abbrev pub CountersAreSums : Type 0
 CountersAreSums = (script : Script) (server : List Mounted) (first final : List Token) (moments : List Moment) (results : List Fetched)
     → KeepsRules script → refused_line script ≡ None → AreImages script → AreOfWords script → ServesScript script 1 server
     → Beside script server first final ends.Done moments results
-    → (i j : ℕ) (at : IsServedAt script server i j) (token : Token) → slice_get final j ≡ Some token
-    → (slot : Slot) → Contains (slots_of (closing_words at.mounted token)) slot → IsNumber slot.kind → IsCounted at.mounted token slot
+    → NumbersAreCounted script server final

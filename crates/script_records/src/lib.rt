@@ -9,4 +9,5 @@ mod images;
 mod recording;
 mod samples;
 
+pub use images::images_are;
 pub use recording::record_script;

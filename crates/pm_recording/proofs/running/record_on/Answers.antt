@@ -30,4 +30,6 @@ returns-clause-recorded g c =
         cause = e.cause;
         unread = λ none tells. e.unread tells none;
       };
+      images = c.images_are.ensures.images;
+      of_words = c.images_are.ensures.of_words;
     }

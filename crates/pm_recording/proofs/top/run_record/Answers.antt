@@ -1,6 +1,6 @@
 -- Each fact on the status follows from how the call ends.
 use Rattle.pm_recording.proofs.Completes.{completes}
-use Rattle.pm_recording.proofs.Exact.{shows_last}
+use Rattle.pm_recording.proofs.Exact.{counts_all, shows_last}
 use Rattle.pm_recording.proofs.Facts.{archive_fault_is_exact, clock_is_exact, disk_fault_rose, is_done, limit_is_exact, opens_regions, read_fault_rose, run_is_exact, script_fault_is_exact, usage_is_exact, write_fault_rose}
 use Rattle.pm_recording.proofs.Kept.{any_moment, had_since, keeps_all, settles, unread}
 use Rattle.pm_recording.proofs.top.run_record.Goals as goal
@@ -58,3 +58,6 @@ returns-clause-since g c = had_since _ _ _ _ _ c.answer.result c.answer.ensures
 
 pub returns-clause-exact : goal.returns-clause-exact
 returns-clause-exact g c = shows_last _ _ _ _ _ c.answer.result c.answer.ensures
+
+pub returns-clause-sums : goal.returns-clause-sums
+returns-clause-sums g c = counts_all _ _ _ _ _ c.answer.result c.answer.ensures
