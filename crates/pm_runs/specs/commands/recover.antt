@@ -46,6 +46,6 @@ recover = record {
   says = λ input d text. d.tells → IsOutput (contents_of d.held) text;
   begins = λ input d e front. front ≡ [];
   keeps = λ input held crash. Unit {0};
-  IsUnderWay = λ status input d. IsUnderWay status d;
+  begun = λ status input d. IsUnderWay status d;
   may_leave = λ input held crash. MayBeHalfway held crash;
 }
