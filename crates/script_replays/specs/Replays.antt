@@ -26,6 +26,7 @@ use Rattle.script_runs.specs.Regions.{ScriptRegion, made_regions}
 use Rattle.script_runs.specs.Runs.{LinesRun, RunsTo, StopsBehind, run_start}
 use Rattle.script_runs.specs.Steps.{RunState, asking_at, fetched_at}
 use Rattle.script_replays.specs.declared.replayed.Replayed.{Replayed}
+use Rattle.script_replays.specs.Lines.{Goes}
 use Rattle.record_run.specs.Going.{TakesResult}
 use Rattle.record_run.specs.ImageCrashes.{IsAllAfter, MayBeAfter}
 use Rattle.record_run.specs.SinceRecovery.{FromRecovery}
@@ -81,11 +82,12 @@ pub record WouldLog (script : Script) (limit : ℕ) (s : RunState) (now : Moment
   pub few : length (asked_for now (asking_at script s now)) ≤ 1024
   pub takes : TakesResult limit s.stand (fetched_at s (asked_for now (asking_at script s now)) now)
 
--- The disk failed behind some first lines: what is written is a front of their lines, and their items were logged, or also what the
--- next line would log was on its way.
-abbrev pub OnItsWay : Script → ℕ → RunState → ℕ → List Item → Type 0
-OnItsWay script limit s count items =
-    (number : ℕ) × (now : Moment) × (slice_get script.steps count ≡ Some (number, Tick now)) × WouldLog script limit s now
+-- The disk failed behind some first lines: what is written is a front of their lines, and their items were logged, or, where each of
+-- them was run, also what the next line would log was on its way.
+abbrev pub OnItsWay : Script → ℕ → Files → RunState → ℕ → List Item → Type 0
+OnItsWay script limit left s count items =
+    Goes script limit (take count script.steps) (run_start script left) s
+    × (number : ℕ) × (now : Moment) × (slice_get script.steps count ≡ Some (number, Tick now)) × WouldLog script limit s now
     × (items ≡ s.items ++ Sample (fetched_at s (asked_for now (asking_at script s now)) now).result ∷ [])
 
 pub record FailedBehind (script : Script) (limit : ℕ) (d : DiskPair) (output : List ℕ) (items : List Item) (regions : List ScriptRegion) : Type 0 where
@@ -98,7 +100,7 @@ pub record FailedBehind (script : Script) (limit : ℕ) (d : DiskPair) (output :
   pub lines_run : LinesRun (record script { steps = take count script.steps }) limit (take count script.steps) (run_start script left) ending last
   pub more : List ℕ
   pub output_is : last.output ≡ output ++ more
-  pub items_are : (items ≡ last.items) ⊎ OnItsWay script limit last count items
+  pub items_are : (items ≡ last.items) ⊎ OnItsWay script limit left last count items
   pub closed : regions ≡ closed_regions last.regions
 
 -- on the way of recovery nothing was run
