@@ -1,6 +1,6 @@
 -- What a call that records leaves of the disk, and what a crash leaves of it.
 use Rattle.std.proofs.Common.{◌≡◌, ◌≢◌, inl, inr, ⊎_elim, ℕ, ◌<◌, List, refl, sym, ap, ◌∙◌, subst, arith, true, false, Option, Some}
-use Rattle.pcp_model.specs.Disk.{CrashImage, Files, Holdings, IsSettled}
+use Rattle.pcp_model.specs.Disk.{CrashImage, Files, Holdings, IsSettled, contents_of}
 use Rattle.pcp_outside.specs.Devices.{LeavesOnly}
 use Rattle.pcp_outside.proofs.Crash.{started, weaker}
 use Rattle.fetch_answers.specs.declared.fetch.Fetched.{Fetched}
@@ -8,7 +8,7 @@ use Rattle.record_run.specs.ImageCrashes.{MayBeAfter}
 use Rattle.record_run.specs.SinceRecovery.{FromRecovery}
 use Rattle.script_passes.specs.declared.opening.Opened.{Opened}
 use Rattle.script_records.specs.Recordings.{StaysBefore, IsTried}
-use Rattle.script_replays.specs.Replays.{SinceRecovered, disk_pair}
+use Rattle.script_replays.specs.Replays.{IsRecovered, SinceRecovered, disk_pair}
 use Rattle.script_runs.specs.declared.ending.Ending.{Ending}
 use Rattle.script_runs.specs.declared.ending.Ending.TheVariants as ends
 use Rattle.script_samples.specs.Shown.{items_of_results}
@@ -102,7 +102,7 @@ module _ {C D : Type 0} (words : List (List ℕ)) (s : SourceSide) (k : SinkSide
 
   ran_leaves : (ending : Ending) → Ran words s o opened ending → LeavesSo May
   ran_leaves ending ran tells =
-      weaker o.disk.moment o.disk.left_since o.disk.held o.disk_was o.disk_is (MayBeAfter (items_of_results ran.has.was.recording.tried) was) (May was) (ran.has.was.recording.any_moment tells) (λ c may. inr (ending, ran, may))
+      weaker o.disk.moment o.disk.left_since o.disk.held o.disk_was o.disk_is (MayBeAfter (items_of_results (ran.has.was.recording.tried tells)) was) (May was) (ran.has.was.recording.any_moment tells) (λ c may. inr (tells, ending, ran, may))
 
   pub any_moment : OnlyNow → (status : ℕ) → End status → LeavesSo May
   any_moment only_now status ends_so = by_end words s k o opened (λ n. LeavesSo May) (λ e c u. unrun_leaves only_now u May (λ crash image. inl image)) (λ ending other ran. ran_leaves ending ran) (λ want. ran_leaves want.ran.ending want.ran.ran) status ends_so
@@ -132,15 +132,15 @@ module _ {C D : Type 0} (words : List (List ℕ)) (s : SourceSide) (k : SinkSide
       let done = is_done words s k o opened status ends_so zero in
       record { ran = done.ran; each = λ crash image. (runs_of words s k o opened ends.Done done.ran tells).survive crash image }
 
-  tried_of : (ending : Ending) (ran : Ran words s o opened ending) → IsTried ran.has.was.recording.beside.sampled ran.has.was.recording.results ending ran.has.was.recording.tried
-  tried_of ending ran = subst (λ (x : Ending). IsTried ran.has.was.recording.beside.sampled ran.has.was.recording.results x ran.has.was.recording.tried) ran.ended ran.has.was.recording.tried_are
+  tried_of : (ending : Ending) (ran : Ran words s o opened ending) (told : o.disk.tells) → IsTried ran.has.was.recording.beside.sampled ran.asks.asked.volume (IsRecovered (contents_of was)) ending (ran.has.was.recording.tried told)
+  tried_of ending ran told = subst (λ (x : Ending). IsTried ran.has.was.recording.beside.sampled ran.asks.asked.volume (IsRecovered (contents_of was)) x (ran.has.was.recording.tried told)) ran.ended (ran.has.was.recording.tried_are told)
 
-  since_of : (ending : Ending) (ran : Ran words s o opened ending) → o.disk.tells → SinceRecovered o.disk (items_of_results ran.has.was.recording.tried) o.disk_was o.disk_is ending
-  since_of ending ran tells = subst (λ (x : Ending). SinceRecovered o.disk (items_of_results ran.has.was.recording.tried) o.disk_was o.disk_is x) ran.ended (ran.has.was.recording.since tells)
+  since_of : (ending : Ending) (ran : Ran words s o opened ending) (told : o.disk.tells) → SinceRecovered o.disk (items_of_results (ran.has.was.recording.tried told)) o.disk_was o.disk_is ending
+  since_of ending ran tells = subst (λ (x : Ending). SinceRecovered o.disk (items_of_results (ran.has.was.recording.tried tells)) o.disk_was o.disk_is x) ran.ended (ran.has.was.recording.since tells)
 
-  records_since : (ending : Ending) (ran : Ran words s o opened ending) → ran.has.was.recording.tried ≡ ran.has.was.recording.results
-      → FromRecovery o.disk.held o.disk.moment o.disk.left_since (items_of_results ran.has.was.recording.tried) o.disk_was o.disk_is → RecordsSince words s o opened
-  records_since ending ran same from = record {
+  records_since : (ending : Ending) (ran : Ran words s o opened ending) (told : o.disk.tells) → ran.has.was.recording.tried told ≡ ran.has.was.recording.results
+      → FromRecovery o.disk.held o.disk.moment o.disk.left_since (items_of_results (ran.has.was.recording.tried told)) o.disk_was o.disk_is → RecordsSince words s o opened
+  records_since ending ran told same from = record {
     ending = ending;
     ran = ran;
     since = subst (λ (results : List Fetched). FromRecovery o.disk.held o.disk.moment o.disk.left_since (items_of_results results) o.disk_was o.disk_is) same from;
@@ -152,15 +152,15 @@ module _ {C D : Type 0} (words : List (List ℕ)) (s : SourceSide) (k : SinkSide
   late_since ends.DiskFault other ran had tells = absurd (never_had 5 (omega arith) (λ z. omega (arith, z)) (λ z. omega (arith, z)) (λ z. omega (arith, z)) (λ z. omega (arith, z)) had)
   late_since (ends.NotArchive file at) other ran had tells = absurd (never_had 6 (omega arith) (λ z. omega (arith, z)) (λ z. omega (arith, z)) (λ z. omega (arith, z)) (λ z. omega (arith, z)) had)
   late_since (ends.Compressed file) other ran had tells = absurd (never_had 6 (omega arith) (λ z. omega (arith, z)) (λ z. omega (arith, z)) (λ z. omega (arith, z)) (λ z. omega (arith, z)) had)
-  late_since (ends.Limit what number) other ran had tells = records_since (ends.Limit what number) ran (tried_of (ends.Limit what number) ran) (since_of (ends.Limit what number) ran tells)
-  late_since (ends.ClockEnd left) other ran had tells = records_since (ends.ClockEnd left) ran (tried_of (ends.ClockEnd left) ran) (since_of (ends.ClockEnd left) ran tells)
-  late_since (ends.ClockFault left) other ran had tells = records_since (ends.ClockFault left) ran (tried_of (ends.ClockFault left) ran) (since_of (ends.ClockFault left) ran tells)
+  late_since (ends.Limit what number) other ran had tells = records_since (ends.Limit what number) ran tells (tried_of (ends.Limit what number) ran tells) (since_of (ends.Limit what number) ran tells)
+  late_since (ends.ClockEnd left) other ran had tells = records_since (ends.ClockEnd left) ran tells (tried_of (ends.ClockEnd left) ran tells) (since_of (ends.ClockEnd left) ran tells)
+  late_since (ends.ClockFault left) other ran had tells = records_since (ends.ClockFault left) ran tells (tried_of (ends.ClockFault left) ran tells) (since_of (ends.ClockFault left) ran tells)
   late_since ends.NoMemory other ran had tells = absurd (never_had 9 (omega arith) (λ z. omega (arith, z)) (λ z. omega (arith, z)) (λ z. omega (arith, z)) (λ z. omega (arith, z)) had)
-  late_since (ends.NotLater last) other ran had tells = records_since (ends.NotLater last) ran (tried_of (ends.NotLater last) ran) (since_of (ends.NotLater last) ran tells)
-  late_since (ends.Changed pmid) other ran had tells = records_since (ends.Changed pmid) ran (tried_of (ends.Changed pmid) ran) (since_of (ends.Changed pmid) ran tells)
+  late_since (ends.NotLater last) other ran had tells = records_since (ends.NotLater last) ran tells (tried_of (ends.NotLater last) ran tells) (since_of (ends.NotLater last) ran tells)
+  late_since (ends.Changed pmid) other ran had tells = records_since (ends.Changed pmid) ran tells (tried_of (ends.Changed pmid) ran tells) (since_of (ends.Changed pmid) ran tells)
 
   done_since : Ran words s o opened ends.Done → o.disk.tells → RecordsSince words s o opened
-  done_since ran tells = records_since ends.Done ran (tried_of ends.Done ran) (since_of ends.Done ran tells)
+  done_since ran tells = records_since ends.Done ran tells (tried_of ends.Done ran tells) (since_of ends.Done ran tells)
 
   pub had_since : (status : ℕ) → End status → HadRecovered status → o.disk.tells → RecordsSince words s o opened
   had_since status ends_so = by_end words s k o opened (λ n. HadRecovered n → o.disk.tells → RecordsSince words s o opened)

@@ -118,4 +118,4 @@ Ends words s k o opened status =
 
 -- what a crash at any moment may leave: what was there, or what there was with the first ones of the run's results behind it
 abbrev pub MayBeLeft : {C D : Type 0} → List (List ℕ) → SourceSide → RunSide C D → Option Opened → Holdings → Files → Type 0
-MayBeLeft words s o opened held crash = CrashImage held crash ⊎ ((ending : Ending) × (ran : Ran words s o opened ending) × MayBeAfter (items_of_results ran.has.was.recording.tried) held crash)
+MayBeLeft words s o opened held crash = CrashImage held crash ⊎ ((told : o.disk.tells) × (ending : Ending) × (ran : Ran words s o opened ending) × MayBeAfter (items_of_results (ran.has.was.recording.tried told)) held crash)

@@ -75,8 +75,8 @@ pub record Halts (script : Script) (limit : ℕ) (start : Files) (output : List 
   pub regions : List ScriptRegion
   pub stops : StopsBehind script limit left output items regions final
 
--- Some first lines were run over what recovery leaves: of the lines that they write a front is written, and their items are logged, or
--- also what the next line asks for.
+-- Some first lines were run over what recovery leaves: of the lines that they write a front is written, and their items are logged, or,
+-- where each of them was run, also what the next line would log.
 pub record RanFirst (script : Script) (limit : ℕ) (start : Files) (output : List ℕ) (items : List Item) : Type 0 where
   pub left : Files
   pub recovered : IsRecovered start left
@@ -87,7 +87,7 @@ pub record RanFirst (script : Script) (limit : ℕ) (start : Files) (output : Li
   pub lines_run : LinesRun (record script { steps = take count script.steps }) limit (take count script.steps) (run_start script left) ending last
   pub more : List ℕ
   pub output_is : last.output ≡ output ++ more
-  pub items_are : (items ≡ last.items) ⊎ OnItsWay script last count items
+  pub items_are : (items ≡ last.items) ⊎ OnItsWay script limit left last count items
 
 -- a file stands wrapped, this is the first offset that fits no archive, or the run over these files ends so
 abbrev pub IsTurnedAway : ℕ → Found → Script → FilesRefusal → Type 0

@@ -41,7 +41,7 @@ use Rattle.script_runs.specs.Archives.{Written, Stand, OpensFound, Opens, EndsAr
 use Rattle.record_run.specs.declared.archive.RunArchive.{RunArchive}
 use Rattle.record_run.specs.declared.archive.Standing.{Standing}
 use Rattle.record_run.specs.declared.archive.Standing.TheVariants.{Found, Open, Lost}
-use Rattle.record_run.specs.Going.{AreApart, FlushesRun, IsGoing, IsOpen, IsStanding, IsUnclosed, IsWorking, LogFails, OpenMayAnswer, StaysOpen, TurnsAway, meant_of}
+use Rattle.record_run.specs.Going.{AreApart, FlushesRun, IsGoing, IsOpen, IsStanding, IsUnclosed, IsWorking, LeavesNone, LogFails, OpenMayAnswer, StaysOpen, TakesResult, TurnsAway, meant_of}
 use Rattle.record_run.specs.ImageCrashes.{ComesBack, ComesBackTo, start_of}
 use Rattle.record_run.specs.ImageLogs.{MaySurvive}
 use Rattle.record_run.specs.Opening.{IsOpened}
@@ -231,6 +231,11 @@ module _ (left : Files) (limit : ℕ) (items : List Item) (least : ℕ) (f : Fet
         (subst (λ (rs : List MetaRecord). IsRefused rs kept.ends limit f.result f.facts e) (sym g.is.records_are) (subst (λ (n : ℕ). IsRefused kept.records kept.ends n f.result f.facts e) g.limit_is refused));
   }
 
+  loggable_here : IsLoggable kept.records kept.ends kept.limit f.result f.facts → IsLoggable w.contents.records all_ends limit f.result f.facts
+  loggable_here may =
+      loggable_still w.contents.records kept.ends kept.ends.logged limit f.result f.facts
+      (subst (λ (rs : List MetaRecord). IsLoggable rs kept.ends limit f.result f.facts) (sym g.is.records_are) (subst (λ (n : ℕ). IsLoggable kept.records kept.ends n f.result f.facts) g.limit_is may))
+
   pub is_new : IsLoggable kept.records kept.ends kept.limit f.result f.facts → Contains (items_in a) (Sample f.result) → ⊥
   is_new may = is_apart a kept f.result f.facts between g.is may
 
@@ -242,8 +247,7 @@ module _ (left : Files) (limit : ℕ) (items : List Item) (least : ℕ) (f : Fet
         record {
           ends = all_ends;
           ends_are = ends_are;
-          loggable = loggable_still w.contents.records kept.ends kept.ends.logged limit f.result f.facts
-              (subst (λ (rs : List MetaRecord). IsLoggable rs kept.ends limit f.result f.facts) (sym g.is.records_are) (subst (λ (n : ℕ). IsLoggable kept.records kept.ends n f.result f.facts) g.limit_is may));
+          loggable = loggable_here may;
           step = record {
             greatest = log.step.greatest;
             is_greatest = log.step.is_greatest;
@@ -302,6 +306,22 @@ module _ (left : Files) (limit : ℕ) (items : List Item) (least : ℕ) (f : Fet
     log_fails now held before after (Full file bytes) may still = turned now held (Full file bytes) may.1 (still (λ e. cc)) may.2
     log_fails now held before after NoMemory may still = inr (stays now held may.1 (still (λ e. cc)))
     log_fails now held before after DiskFault may still = tt
+
+    module _ {D : Type 0} (d : DiskGhosts D) (first last : D) where
+      -- a crash leaves none of it, unless the disk failed
+      pub log_leaves : (now : Kept) (before after : ℕ) (e : LogFault) → LogMayAnswer kept now f.result f.facts before after e → (e ≢ DiskFault → LeavesOnly d.moment d.left_since first last (ComesBackTo items 0 left)) → LeavesNone d left limit items stand f first last e
+      log_leaves now before after Closed may none = inl (none (λ e. cc))
+      log_leaves now before after (Large bytes) may none = inl (none (λ e. cc))
+      log_leaves now before after (NotLater t) may none = inl (none (λ e. cc))
+      log_leaves now before after (Changed pmid) may none = inl (none (λ e. cc))
+      log_leaves now before after (Full file bytes) may none = inl (none (λ e. cc))
+      log_leaves now before after NoMemory may none = inl (none (λ e. cc))
+      log_leaves now before after DiskFault may none = inr (refl, record { old = w; opens = opens; ends = all_ends; ends_are = ends_are; loggable = loggable_here may.1 })
+
+module _ {D : Type 0} (d : DiskGhosts D) (left : Files) (limit : ℕ) (items : List Item) (stand : Stand) (f : Fetched) (old new : D) where
+  pub leaves_none : (e : LogFault) → e ≢ DiskFault → LeavesNone d left limit items stand f old new e → LeavesOnly d.moment d.left_since old new (ComesBackTo items 0 left)
+  leaves_none e other (inl none) = none
+  leaves_none e other (inr (is, takes)) = absurd (other is)
 
 -- opening was refused
 pub open_fails : (left : Files) (limit : ℕ) (items : List Item) (least : ℕ) (stand : Stand) (standing : Standing) (f : Fetched) (old held : Holdings) (run : RunArchive) (before after : ℕ) (e : LogFault) → IsStanding left limit items least stand standing old

@@ -8,16 +8,21 @@ use Rattle.pcp_base.specs.declared.result.Item.{Item}
 use Rattle.pcp_base.specs.declared.result.Item.TheVariants.{Sample}
 use Rattle.pcp_model.specs.Archive.{ArchiveReading, items_of}
 use Rattle.pcp_model.specs.Disk.{Files, Holdings, IsSettled, contents_of}
+use Rattle.pcp_outside.specs.declared.disk.Disk.{Ghosts as DiskGhosts}
+use Rattle.pcp_outside.specs.Devices.{LeavesOnly}
 use Rattle.fetch_answers.specs.declared.fetch.Fetched.{Fetched}
+use Rattle.logger_core.specs.declared.ends.Ends.{Ends}
 use Rattle.logger_core.specs.declared.fault.LogFault.{LogFault}
 use Rattle.logger_core.specs.declared.fault.LogFault.TheVariants.{Closed, Large, NotLater, Changed, Full, NoMemory, DiskFault}
+use Rattle.logger_core.specs.Logging.{IsLoggable}
 use Rattle.logger_core.specs.Meant.{Meant, Kept, IsLogger}
 use Rattle.logger_core.specs.Refusals.{CreateMayAnswer}
 use Rattle.logger_core.specs.Reopening.{IsLeft}
-use Rattle.script_runs.specs.Archives.{Written, Stand, OpensFound, Opens, Logs, Refuses, Flushes}
+use Rattle.script_runs.specs.Archives.{Written, Stand, EndsAre, OpensFound, Opens, Logs, Refuses, Flushes}
 use Rattle.record_run.specs.declared.archive.RunArchive.{RunArchive}
 use Rattle.record_run.specs.declared.archive.Standing.{Standing}
 use Rattle.record_run.specs.declared.archive.Standing.TheVariants.{Found, Open, Lost}
+use Rattle.record_run.specs.ImageCrashes.{ComesBackTo}
 
 -- what a logger means of an archive that was opened first
 abbrev pub meant_of : Written → Written → ℕ → Meant
@@ -124,6 +129,19 @@ LogFails left items least stand f run held (Changed pmid) = TurnsAway left items
 LogFails left items least stand f run held (Full file bytes) = TurnsAway left items least stand f (Full file bytes) run held
 LogFails left items least stand f run held NoMemory = StaysFound left items stand run held ⊎ StaysOpen left items least stand f run held
 LogFails left items least stand f run held DiskFault = Unit {0}
+
+-- The archive that its moment opens takes a result: it is later than all that is there, can be described, and has place.
+pub record TakesResult (limit : ℕ) (stand : Stand) (f : Fetched) : Type 0 where
+  pub old : Written
+  pub opens : Opens f.result.stamp stand old
+  pub ends : Ends
+  pub ends_are : EndsAre old ends
+  pub loggable : IsLoggable old.contents.records ends limit f.result f.facts
+
+-- A crash leaves none of a result that isn't logged, unless the disk failed while the archive was taking it.
+module _ {D : Type 0} (d : DiskGhosts D) (left : Files) (limit : ℕ) (items : List Item) (stand : Stand) (f : Fetched) (old new : D) where
+  abbrev pub LeavesNone : LogFault → Type 0
+  LeavesNone e = LeavesOnly d.moment d.left_since old new (ComesBackTo items 0 left) ⊎ ((e ≡ DiskFault) × TakesResult limit stand f)
 
 -- what a flush makes of an archive: before the first result nothing; then all items are acknowledged, and all is settled
 abbrev pub FlushesRun : Files → List Item → ℕ → Stand → RunArchive → Holdings → Type 0

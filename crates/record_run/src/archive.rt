@@ -7,7 +7,7 @@ ghost use Rattle.pcp_outside.specs.Causes.{Rose};
 ghost use Rattle.pcp_outside.specs.Devices.{LeavesOnly};
 ghost use Rattle.logger_core.specs.declared.fault.LogFault.TheVariants.{Closed, DiskFault, NoMemory as Refused};
 ghost use Rattle.script_runs.specs.Archives.{Stand};
-ghost use Rattle.record_run.specs.Going.{FlushesRun, IsOpen, IsStanding, IsUnclosed, IsWorking, KeepsRun, LogFails, LogsRun, OpenMayAnswer};
+ghost use Rattle.record_run.specs.Going.{FlushesRun, IsOpen, IsStanding, IsUnclosed, IsWorking, KeepsRun, LeavesNone, LogFails, LogsRun, OpenMayAnswer};
 ghost use Rattle.record_run.specs.ImageCrashes.{ComesBackTo};
 ghost use Rattle.record_run.specs.ImageRuns.{IsResult};
 
@@ -84,9 +84,9 @@ impl RunArchive {
         ensures unclosed { IsWorking self.old.limit self.old.standing → IfErr result (λ e. e ≢ DiskFault → IsUnclosed self.new.limit self.new.standing) }
         ensures any_moment { D.tells → (left : AllFiles) (items : Sequence Logged) (least : ℕ) (stand : Stand) → KeepsRun left items least stand self.old (D.held disk.old) → (more : Sequence Logged)
             → LeavesOnly D.moment D.left_since disk.old disk.new (ComesBackTo (items ++ Sample fetched.now.result ∷ more) 0 left) }
-        // A refusal that is no fault of the disk leaves none of the result.
+        // A refusal leaves none of the result, unless the disk failed while the archive was taking it.
         ensures refused { D.tells → (left : AllFiles) (items : Sequence Logged) (least : ℕ) (stand : Stand) → KeepsRun left items least stand self.old (D.held disk.old)
-            → IfErr result (λ e. e ≢ DiskFault → LeavesOnly D.moment D.left_since disk.old disk.new (ComesBackTo items 0 left)) }
+            → IfErr result (LeavesNone D.Disk left self.old.limit items stand fetched.now disk.old disk.new) }
         ensures fault { D.tells → (left : AllFiles) (items : Sequence Logged) (least : ℕ) (stand : Stand) → KeepsRun left items least stand self.old (D.held disk.old)
             → IfErr result (LogFails left items least stand fetched.now self.new (D.held disk.new)) }
         ensures cause { IsWorking self.old.limit self.old.standing → IfErr result (λ e. (e ≢ Closed) × (e ≡ DiskFault → Rose (D.faults disk.old) (D.faults disk.new))) }

@@ -103,7 +103,7 @@ module _ {C D : Type 0} (c : ClockGhosts C) (d : DiskGhosts D) (clock_was clock_
     why = h.why;
     tried = h.tried;
     tried_are = h.tried_are;
-    any_moment = λ tells. subst (λ (now : D). LeavesOnly d.moment d.left_since middle now (ComesBackTo (items_of_results h.tried) 0 left)) (sym still) (h.any_moment tells);
+    any_moment = λ told. subst (λ (now : D). LeavesOnly d.moment d.left_since middle now (ComesBackTo (items_of_results (h.tried told)) 0 left)) (sym still) (h.any_moment told);
   })
 
   module _ (well : ending ≢ ends.DiskFault) where
@@ -111,7 +111,7 @@ module _ {C D : Type 0} (c : ClockGhosts C) (d : DiskGhosts D) (clock_was clock_
     leaves tells =
         let k : (stand : Stand) × StandsAfter limit left h.results ending stand × IsKept left (items_of_results h.results) stand archive (d.held old) = h.kept tells well in
         joined d.moment d.left_since d.held middle old new (ComesBackTo (items_of_results h.results) 0 left)
-        (subst (λ (rs : List Fetched). LeavesOnly d.moment d.left_since middle old (ComesBackTo (items_of_results rs) 0 left)) (tried_is h.beside.sampled ending h.tried well h.tried_are) (h.any_moment tells)) (f.any_moment tells left (items_of_results h.results) k.0 k.2)
+        (subst (λ (rs : List Fetched). LeavesOnly d.moment d.left_since middle old (ComesBackTo (items_of_results rs) 0 left)) (tried_is h.beside.sampled limit (λ (files : Files). files ≡ left) ending (h.tried tells) well (h.tried_are tells)) (h.any_moment tells)) (f.any_moment tells left (items_of_results h.results) k.0 k.2)
 
     came_over : (last : Ending) → (MayHaveOpened ending → MayHaveOpened last) → r.ending ≢ ends.DiskFault → d.tells → CameOver limit left h.results last (d.held new)
     came_over last may other tells =
@@ -138,8 +138,8 @@ module _ {C D : Type 0} (c : ClockGhosts C) (d : DiskGhosts D) (clock_was clock_
       clock = h.clock;
       came = λ tells other. came_over ending (λ may. may) (λ failing. well (sym is ∙ failing)) tells;
       why = h.why;
-      tried = h.results;
-      tried_are = tried_same h.beside.sampled ending;
+      tried = λ told. h.results;
+      tried_are = λ told. tried_same h.beside.sampled limit (λ (files : Files). files ≡ left) ending;
       any_moment = leaves;
     })
 
@@ -155,8 +155,8 @@ module _ {C D : Type 0} (c : ClockGhosts C) (d : DiskGhosts D) (clock_was clock_
       clock = h.clock;
       came = λ tells other. absurd (other refl);
       why = λ tells. tt;
-      tried = h.results;
-      tried_are = inl refl;
+      tried = λ told. h.results;
+      tried_are = λ told. inl refl;
       any_moment = leaves;
     })
 
@@ -172,8 +172,8 @@ module _ {C D : Type 0} (c : ClockGhosts C) (d : DiskGhosts D) (clock_was clock_
       clock = h.clock;
       came = λ tells other. came_over ends.NoMemory (λ may. tt) (λ failing. let no : ends.NoMemory ≡ ends.DiskFault = sym is ∙ failing in cc) tells;
       why = λ tells. tt;
-      tried = h.results;
-      tried_are = refl;
+      tried = λ told. h.results;
+      tried_are = λ told. refl;
       any_moment = leaves;
     })
 

@@ -69,6 +69,7 @@ module _ {C D : Type 0} (c : ClockGhosts C) (d : DiskGhosts D) (groups : List Gr
     pub why : e ≡ ending_after fault
     pub f : Fetched
     pub shows : shown_by groups later s ≡ Some f
+    pub few : length (pmids_by groups later s.names s.stamp) ≤ 1024
     pub logs : OverAny d was disk_was disk_is (λ left items stand. LogsAllBut d left was.limit items stand disk_was disk_is results f fault is)
 
   pub record Yields (before after : List Token) (e : Ending) (samples : List SampleTaken) (lacking : List Moment) : Type 0 where
@@ -109,7 +110,7 @@ module _ {C D : Type 0} (c : ClockGhosts C) (d : DiskGhosts D) (groups : List Gr
     how_joined : Went c d groups server middle.plans clock_middle clock_last disk_middle disk_last middle.archive last.archive before after e unlogged lacking gs later ⊎ Failed c d groups server middle.plans clock_middle clock_last disk_middle disk_last middle.archive last.archive e unlogged gs later
         → Went c d groups server first.plans clock_first clock_last disk_first disk_last first.archive last.archive before after e unlogged lacking (one.results ++ gs) later ⊎ Failed c d groups server first.plans clock_first clock_last disk_first disk_last first.archive last.archive e unlogged (one.results ++ gs) later
     how_joined (inl w) = inl (record { none = w.none; lacks = w.lacks; why = w.why; logs = went_joined gs w.logs })
-    how_joined (inr w) = inr (record { s = w.s; one = w.one; fault = w.fault; why = w.why; f = w.f; shows = w.shows; logs = failed_joined gs w.f w.fault w.logs })
+    how_joined (inr w) = inr (record { s = w.s; one = w.one; fault = w.fault; why = w.why; f = w.f; shows = w.shows; few = w.few; logs = failed_joined gs w.f w.fault w.logs })
 
   pub yields_joined : (before after : List Token) (e : Ending) (ys : List SampleTaken) (lacking : List Moment) → Yields c d groups server middle.plans clock_middle clock_last disk_middle disk_last middle.archive last.archive before after e ys lacking
       → Yields c d groups server first.plans clock_first clock_last disk_first disk_last first.archive last.archive before after e (xs ++ ys) lacking
@@ -228,7 +229,7 @@ module _ {C D : Type 0} (c : ClockGhosts C) (d : DiskGhosts D) (groups : List Gr
           results = s.results;
           later = s.plans;
           shown = s.shown;
-          how = inr (record { s = s.last; one = refl; fault = s.fault; why = s.why; f = f; shows = some_result pmids f s.some; logs = s.logs });
+          how = inr (record { s = s.last; one = refl; fault = s.fault; why = s.why; f = f; shows = some_result pmids f s.some; few = s.few; logs = s.logs });
           counted = s.counted;
         };
       }

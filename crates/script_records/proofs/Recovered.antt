@@ -30,7 +30,7 @@ use Rattle.script_records.specs.Beside.{Beside}
 use Rattle.script_records.specs.Halting.{CameOver, EndsSamples, IsRecorded}
 use Rattle.script_records.specs.Recordings.{CameTo, Counts, IsRecording, Records}
 use Rattle.script_records.specs.Stopping.{WhyStopped}
-use Rattle.script_records.proofs.Settling.{tried_same}
+use Rattle.script_records.proofs.Settling.{tried_over, tried_same}
 use Rattle.script_records.proofs.Stopping.{why_over}
 
 -- what recovery made
@@ -49,6 +49,9 @@ module _ {C D : Type 0} (c : ClockGhosts C) (d : DiskGhosts D) (only_now : (disk
 
     recovers : WasDone d old mid archive → IsRecovered (contents_of (d.held old)) left
     recovers done = record { reading = done.w.reading; was = done.w.was; recovered = done.w.recovered }
+
+    found_recovered : WasDone d old mid archive → (files : Files) → files ≡ left → IsRecovered (contents_of (d.held old)) files
+    found_recovered done files is = subst (λ (fs : Files). IsRecovered (contents_of (d.held old)) fs) (sym is) (recovers done)
 
     came_to : (results : List Fetched) (e : Ending) → WasDone d old mid archive → CameOver limit left results e (d.held new) → CameTo limit (disk_pair d old new) results e
     came_to results e done o = record {
@@ -96,14 +99,14 @@ module _ {C D : Type 0} (c : ClockGhosts C) (d : DiskGhosts D) (only_now : (disk
       clock = f.clock;
       runs = λ tells. records_end f.results r.ending f.so_ends (done tells) (f.came tells);
       why = λ tells.
-          why_over f.beside.sampled limit (λ (files : Files). files ≡ left) (IsRecovered (contents_of (d.held old))) (λ files is. subst (λ (fs : Files). IsRecovered (contents_of (d.held old)) fs) (sym is) (recovers (done tells))) r.ending (f.why tells);
+          why_over f.beside.sampled limit (λ (files : Files). files ≡ left) (IsRecovered (contents_of (d.held old))) (found_recovered (done tells)) r.ending (f.why tells);
       tried = f.tried;
-      tried_are = f.tried_are;
+      tried_are = λ told. tried_over f.beside.sampled limit (λ (files : Files). files ≡ left) (IsRecovered (contents_of (d.held old))) (found_recovered (done told)) r.ending (f.tried told) (f.tried_are told);
       any_moment = λ tells.
-          let items : List Item = items_of_results f.tried in
+          let items : List Item = items_of_results (f.tried tells) in
           run_then d only_now old mid new (MayBeAfter items (d.held old)) (MayBeHalfway (d.held old)) (ComesBackTo items 0 left) (done tells).half (f.any_moment tells) (recovering_comes (d.held old) items) (later_comes (d.held old) (d.held mid) archive (done tells).w items);
       since = λ tells.
-          let items : List Item = items_of_results f.tried in
+          let items : List Item = items_of_results (f.tried tells) in
           let w : WasRecovered (contents_of (d.held old)) left archive = (done tells).w in
           since_end items r.ending (record {
             reading = w.reading;
@@ -133,8 +136,8 @@ module _ {C D : Type 0} (c : ClockGhosts C) (d : DiskGhosts D) (only_now : (disk
       clock = λ tells. still;
       runs = λ tells. subst (λ (x : Ending). Records limit (disk_pair d old new) [] x) (sym is) (records tells);
       why = λ tells. subst (λ (x : Ending). Why x) (sym is) why;
-      tried = [];
-      tried_are = tried_same beside.sampled r.ending;
+      tried = λ told. [];
+      tried_are = λ told. tried_same beside.sampled limit (IsRecovered (contents_of (d.held old))) r.ending;
       any_moment = λ tells. weaker d.moment d.left_since d.held old new (MayBeHalfway (d.held old)) (MayBeAfter [] (d.held old)) (half tells) (recovering_comes (d.held old) []);
       since = λ tells. subst (λ (x : Ending). SinceRecovered d [] old new x) (sym is) (since tells);
     }

@@ -22,8 +22,9 @@ use Rattle.script_runs.specs.Archives.{Opens, Refuses, Stand, Written, ending_of
 use Rattle.script_runs.specs.Groups.{Plan}
 use Rattle.record_run.specs.declared.archive.RunArchive.{RunArchive}
 use Rattle.record_run.specs.Endings.{ending_after}
-use Rattle.record_run.specs.Going.{LogFails, StaysFound, StaysOpen, TurnsAway}
+use Rattle.record_run.specs.Going.{LeavesNone, LogFails, StaysFound, StaysOpen, TurnsAway}
 use Rattle.record_run.specs.ImageCrashes.{ComesBackTo}
+use Rattle.record_run.proofs.Going.{leaves_none}
 use Rattle.script_replays.specs.Finals.{IsKept}
 use Rattle.script_replays.proofs.Failing.{is_failing}
 use Rattle.script_samples.specs.declared.sampler.Sampler.{Sampler}
@@ -32,7 +33,7 @@ use Rattle.script_samples.specs.Sampling.{LogsAll, LogsAllBut}
 use Rattle.script_samples.specs.Shown.{AreShown, LogsEach, items_of_results}
 use Rattle.script_records.specs.Beside.{AtJournals, EndsBy, IsFinishedUnlessWanting, IsLegal, LoggerLoads, IsSampled, SeesOn, StandsBehind, StopsLogging, WritersRan}
 use Rattle.script_records.specs.Halting.{EndsSamples, Halts, IsStandingFound, OpenedFor, RefusedBy, StandsAfter, Took}
-use Rattle.script_records.specs.Recordings.{MayHaveOpened, IsTried}
+use Rattle.script_records.specs.Recordings.{IsTried, MayHaveOpened, OnItsWay}
 use Rattle.script_records.specs.Stopping.{WhyStopped}
 use Rattle.script_records.proofs.Phases.{Failed, Went, Yields, told_stops}
 use Rattle.script_records.proofs.Stopping.{AsksMany, NoRefusal, fault_why, turned_why, unrefused}
@@ -114,8 +115,8 @@ well_before : (e ending : Ending) → EndsWith e ending → ending ≢ ends.Disk
 well_before e ending (inl same) other = λ is. other (same ∙ is)
 well_before e ending (inr (want, well)) other = well
 
-module _ {script : Script} {server : List Mounted} {first final : List Token} {ending : Ending} {moments : List Moment} {results : List Fetched} (sampled : IsSampled script server first final ending moments results) where
-  pub tried_same : (x : Ending) → IsTried sampled results x results
+module _ {script : Script} {server : List Mounted} {first final : List Token} {ending : Ending} {moments : List Moment} {results : List Fetched} (sampled : IsSampled script server first final ending moments results) (limit : ℕ) (IsFound : Files → Type 0) where
+  pub tried_same : (x : Ending) → IsTried sampled limit IsFound x results
   tried_same ends.Done = refl
   tried_same ends.DiskFault = inl refl
   tried_same (ends.Condition line) = refl
@@ -128,7 +129,7 @@ module _ {script : Script} {server : List Mounted} {first final : List Token} {e
   tried_same (ends.NotLater last) = refl
   tried_same (ends.Changed pmid) = refl
 
-  pub tried_is : (x : Ending) (tried : List Fetched) → x ≢ ends.DiskFault → IsTried sampled results x tried → tried ≡ results
+  pub tried_is : (x : Ending) (tried : List Fetched) → x ≢ ends.DiskFault → IsTried sampled limit IsFound x tried → tried ≡ results
   tried_is ends.Done tried other are = are
   tried_is ends.DiskFault tried other are = absurd (other refl)
   tried_is (ends.Condition line) tried other are = are
@@ -140,6 +141,25 @@ module _ {script : Script} {server : List Mounted} {first final : List Token} {e
   tried_is ends.NoMemory tried other are = are
   tried_is (ends.NotLater last) tried other are = are
   tried_is (ends.Changed pmid) tried other are = are
+
+-- over files of which less is known
+module _ {script : Script} {server : List Mounted} {first final : List Token} {ending : Ending} {moments : List Moment} {results : List Fetched} (sampled : IsSampled script server first final ending moments results) (limit : ℕ) (IsFound IsSuch : Files → Type 0) (such : (files : Files) → IsFound files → IsSuch files) where
+  way_over : (f : Fetched) → OnItsWay sampled limit IsFound f → OnItsWay sampled limit IsSuch f
+  way_over f w = record { sample = w.sample; one = w.one; few = w.few; shown = w.shown; left = w.left; found = such w.left w.found; last = w.last; logs = w.logs; takes = w.takes }
+
+  pub tried_over : (x : Ending) (tried : List Fetched) → IsTried sampled limit IsFound x tried → IsTried sampled limit IsSuch x tried
+  tried_over ends.Done tried are = are
+  tried_over ends.DiskFault tried (inl are) = inl are
+  tried_over ends.DiskFault tried (inr (f, are, way)) = inr (f, are, way_over f way)
+  tried_over (ends.Condition line) tried are = are
+  tried_over (ends.NotArchive file at) tried are = are
+  tried_over (ends.Compressed file) tried are = are
+  tried_over (ends.Limit what number) tried are = are
+  tried_over (ends.ClockEnd samples) tried are = are
+  tried_over (ends.ClockFault samples) tried are = are
+  tried_over ends.NoMemory tried are = are
+  tried_over (ends.NotLater last) tried are = are
+  tried_over (ends.Changed pmid) tried are = are
 
 pub finished_all : (own : Ending) (P : Type 0) → P → IsFinishedUnlessWanting own P
 finished_all ends.Done P p = p
@@ -242,24 +262,43 @@ module _ {C D : Type 0} (c : ClockGhosts C) (d : DiskGhosts D) (script : Script)
       let a : LogsAllBut d left was.archive.limit [] (Stand.found left) disk_was disk_is y.results failed.f failed.fault is.archive = failed.logs tells left [] 0 (Stand.found left) (found tells) in
       subst (λ (x : Ending). Why x) (sym failed.why) (why_failed failed a (fault_why left (items_of_results y.results) a.least a.last failed.f is.archive (d.held disk_is) failed.fault a.fails))
 
+  abbrev IsLeft : Files → Type 0
+  IsLeft files = files ≡ left
+
+  abbrev TriedAre : Ending → List Fetched → Type 0
+  TriedAre x tried = IsTried sampled was.archive.limit IsLeft x tried
+
+  abbrev LeavesTried : List Fetched → Type 0
+  LeavesTried tried = LeavesOnly d.moment d.left_since disk_was disk_is (ComesBackTo (items_of_results tried) 0 left)
+
   record Tries : Type 0 where
     pub tried : List Fetched
-    pub are : IsTried sampled y.results ending tried
-    pub any_moment : d.tells → LeavesOnly d.moment d.left_since disk_was disk_is (ComesBackTo (items_of_results tried) 0 left)
+    pub are : TriedAre ending tried
+    pub any_moment : LeavesTried tried
 
-  tries : How → (e ≡ ends.DiskFault) ⊎ (e ≢ ends.DiskFault) → Tries
-  tries (inl went) failing = record { tried = y.results; are = tried_same sampled ending; any_moment = λ tells. (went.logs tells left [] 0 (Stand.found left) (found tells)).any_moment }
-  tries (inr failed) (inl failing) = record {
-    tried = y.results ++ failed.f ∷ [];
-    are = subst (λ (x : Ending). IsTried sampled y.results x (y.results ++ failed.f ∷ [])) (sym (failing_still e ending ends_with failing)) (inr (failed.f, refl, (failed.s, failed.one, failed.shows)));
-    any_moment = λ tells. subst (λ (xs : List Item). LeavesOnly d.moment d.left_since disk_was disk_is (ComesBackTo xs 0 left)) (sym (map-append (λ (f : Fetched). Sample f.result) y.results (failed.f ∷ [])))
-        (failed.logs tells left [] 0 (Stand.found left) (found tells)).any_moment;
-  }
-  tries (inr failed) (inr well) = record {
-    tried = y.results;
-    are = tried_same sampled ending;
-    any_moment = λ tells. (failed.logs tells left [] 0 (Stand.found left) (found tells)).refused (λ is_fault. well (failed.why ∙ ap (λ (x : LogFault). ending_after x) is_fault));
-  }
+  tries_none : LeavesTried y.results → Tries
+  tries_none moment = record { tried = y.results; are = tried_same sampled was.archive.limit IsLeft ending; any_moment = moment }
+
+  module _ (failed : Failed c d script.config.groups server was.plans clock_was clock_is disk_was disk_is was.archive is.archive e y.unlogged y.results y.later)
+      (a : LogsAllBut d left was.archive.limit [] (Stand.found left) disk_was disk_is y.results failed.f failed.fault is.archive) where
+    -- the disk failed before the archive took it, or while it did
+    tries_failing : e ≡ ends.DiskFault → LeavesNone d left was.archive.limit (items_of_results y.results) a.last failed.f disk_was disk_is failed.fault → Tries
+    tries_failing failing (inl none) = tries_none none
+    tries_failing failing (inr (is_fault, takes)) = record {
+      tried = y.results ++ failed.f ∷ [];
+      are = subst (λ (x : Ending). TriedAre x (y.results ++ failed.f ∷ [])) (sym (failing_still e ending ends_with failing))
+          (inr (failed.f, refl, record { sample = failed.s; one = failed.one; few = failed.few; shown = failed.shows; left = left; found = refl; last = a.last; logs = a.logs; takes = takes }));
+      any_moment = subst (λ (xs : List Item). LeavesOnly d.moment d.left_since disk_was disk_is (ComesBackTo xs 0 left)) (sym (map-append (λ (f : Fetched). Sample f.result) y.results (failed.f ∷ []))) a.any_moment;
+    }
+
+    tries_failed : (e ≡ ends.DiskFault) ⊎ (e ≢ ends.DiskFault) → Tries
+    tries_failed (inl failing) = tries_failing failing a.refused
+    tries_failed (inr well) =
+        tries_none (leaves_none d left was.archive.limit (items_of_results y.results) a.last failed.f disk_was disk_is failed.fault (λ is_fault. well (failed.why ∙ ap (λ (x : LogFault). ending_after x) is_fault)) a.refused)
+
+  tries : How → d.tells → Tries
+  tries (inl went) tells = tries_none (went.logs tells left [] 0 (Stand.found left) (found tells)).any_moment
+  tries (inr failed) tells = tries_failed failed (failed.logs tells left [] 0 (Stand.found left) (found tells)) (is_failing e)
 
   kept : How → d.tells → ending ≢ ends.DiskFault → KeptAs was.archive.limit left y.results ending is.archive (d.held disk_is)
   kept (inl went) tells other =
@@ -273,7 +312,6 @@ module _ {C D : Type 0} (c : ClockGhosts C) (d : DiskGhosts D) (script : Script)
 
   pub halts : Halts c d clock_was clock_is disk_was disk_is script was.archive.limit samples server first final left is.archive ending
   halts =
-      let t : Tries = tries y.how (is_failing e) in
       record {
         moments = moments;
         results = y.results;
@@ -284,7 +322,7 @@ module _ {C D : Type 0} (c : ClockGhosts C) (d : DiskGhosts D) (script : Script)
         kept = kept y.how;
         counted = λ other. omega (arith, none, y.counted);
         why = λ tells. with_last (λ (x : Ending). Why x) e ending ends_with tt (why y.how tells);
-        tried = t.tried;
-        tried_are = t.are;
-        any_moment = t.any_moment;
+        tried = λ told. (tries y.how told).tried;
+        tried_are = λ told. (tries y.how told).are;
+        any_moment = λ told. (tries y.how told).any_moment;
       }

@@ -66,9 +66,9 @@ module _ {C D : Type 0} (c : ClockGhosts C) (d : DiskGhosts D) (clock_was clock_
     pub kept : d.tells → ending ≢ ends.DiskFault → (stand : Stand) × StandsAfter limit left results ending stand × IsKept left (items_of_results results) stand archive (d.held new)
     pub counted : ending ≢ ends.DiskFault → archive.logged ≡ length results
     pub why : d.tells → WhyStopped beside.sampled limit (λ (files : Files). files ≡ left) ending
-    pub tried : List Fetched
-    pub tried_are : IsTried beside.sampled results ending tried
-    pub any_moment : d.tells → LeavesOnly d.moment d.left_since middle new (ComesBackTo (items_of_results tried) 0 left)
+    pub tried : d.tells → List Fetched
+    pub tried_are : (told : d.tells) → IsTried beside.sampled limit (λ (files : Files). files ≡ left) ending (tried told)
+    pub any_moment : (told : d.tells) → LeavesOnly d.moment d.left_since middle new (ComesBackTo (items_of_results (tried told)) 0 left)
 
 -- The end of a recording
 
@@ -107,6 +107,6 @@ module _ {C D : Type 0} (c : ClockGhosts C) (d : DiskGhosts D) (clock_was clock_
     pub clock : c.tells → c.left clock_was ≡ moments ++ c.left clock_is
     pub came : d.tells → ending ≢ ends.DiskFault → CameOver limit left results ending (d.held new)
     pub why : d.tells → WhyStopped beside.sampled limit (λ (files : Files). files ≡ left) ending
-    pub tried : List Fetched
-    pub tried_are : IsTried beside.sampled results ending tried
-    pub any_moment : d.tells → LeavesOnly d.moment d.left_since middle new (ComesBackTo (items_of_results tried) 0 left)
+    pub tried : d.tells → List Fetched
+    pub tried_are : (told : d.tells) → IsTried beside.sampled limit (λ (files : Files). files ≡ left) ending (tried told)
+    pub any_moment : (told : d.tells) → LeavesOnly d.moment d.left_since middle new (ComesBackTo (items_of_results (tried told)) 0 left)

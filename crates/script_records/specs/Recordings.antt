@@ -1,5 +1,5 @@
 -- The recording of a script over any files: what it makes of a disk, of a clock and of regions, and why it ends.
-use Rattle.std.specs.Prelude.{◌≡◌, ◌≢◌, ◌⊎◌, ℕ, ◌+◌, ◌<◌, List, [], ◌∷◌, ◌++◌, codes, length, Some, None}
+use Rattle.std.specs.Prelude.{◌≡◌, ◌≢◌, ◌⊎◌, ℕ, ◌+◌, ◌<◌, ◌≤◌, List, [], ◌∷◌, ◌++◌, codes, length, Some, None}
 use Rattle.pcp_base.specs.Time.{Moment}
 use Rattle.pcp_model.specs.Disk.{Files, CrashImage, IsSettled, contents_of}
 use Rattle.pcp_outside.specs.Causes.{Rose}
@@ -17,12 +17,13 @@ use Rattle.script_runs.specs.declared.ending.Ending.TheVariants as ends
 use Rattle.script_runs.specs.Archives.{Stand, Written, Opens}
 use Rattle.script_runs.specs.PassSteps.{one_number}
 use Rattle.script_runs.specs.Runs.{FlushesLast}
+use Rattle.record_run.specs.Going.{TakesResult}
 use Rattle.record_run.specs.ImageCrashes.{IsAllAfter, MayBeAfter}
 use Rattle.script_replays.specs.declared.replayed.Replayed.{Replayed}
 use Rattle.script_replays.specs.Replays.{DiskPair, IsRecovered, SinceRecovered, disk_pair}
 use Rattle.script_samples.specs.Sampling.{HasEnded}
 use Rattle.script_samples.specs.Samples.{SampleTaken}
-use Rattle.script_samples.specs.Shown.{LogsEach, items_of_results, shown_by}
+use Rattle.script_samples.specs.Shown.{LogsEach, items_of_results, pmids_by, shown_by}
 use Rattle.script_records.specs.Beside.{Beside, IsSampled}
 use Rattle.script_records.specs.Stopping.{WhyStopped}
 
@@ -68,15 +69,24 @@ Records limit d results ends.NoMemory = StaysBefore d results ⊎ CameTo limit d
 Records limit d results (ends.Condition line) = ⊥
 Records limit d results ending = CameTo limit d results ending
 
--- what a disk that failed had on its way: nothing more, or what the sample shows at which the logging stopped
-abbrev pub OnItsWay : {script : Script} {server : List Mounted} {first final : List Token} {ending : Ending} {moments : List Moment} {results : List Fetched}
-    → IsSampled script server first final ending moments results → Fetched → Type 0
-OnItsWay {script} sampled f = (s : SampleTaken) × (sampled.unlogged ≡ s ∷ []) × (shown_by script.config.groups sampled.plans s ≡ Some f)
+module _ {script : Script} {server : List Mounted} {first final : List Token} {ending : Ending} {moments : List Moment} {results : List Fetched} (sampled : IsSampled script server first final ending moments results) (limit : ℕ) (IsFound : Files → Type 0) where
+  -- What the sample shows at which the logging stopped was to be logged: at most 1,024 metrics are asked for there, and the archive
+  -- takes it, that of the results before it, logged one behind another over files that were found so.
+  pub record OnItsWay (f : Fetched) : Type 0 where
+    pub sample : SampleTaken
+    pub one : sampled.unlogged ≡ sample ∷ []
+    pub few : length (pmids_by script.config.groups sampled.plans sample.names sample.stamp) ≤ 1024
+    pub shown : shown_by script.config.groups sampled.plans sample ≡ Some f
+    pub left : Files
+    pub found : IsFound left
+    pub last : Stand
+    pub logs : LogsEach limit (Stand.found left) results last
+    pub takes : TakesResult limit last f
 
-abbrev pub IsTried : {script : Script} {server : List Mounted} {first final : List Token} {ending : Ending} {moments : List Moment} {results : List Fetched}
-    → IsSampled script server first final ending moments results → List Fetched → Ending → List Fetched → Type 0
-IsTried sampled results ends.DiskFault tried = (tried ≡ results) ⊎ ((f : Fetched) × (tried ≡ results ++ f ∷ []) × OnItsWay sampled f)
-IsTried sampled results ending tried = tried ≡ results
+  -- what a disk that failed had on its way: nothing more, or that
+  abbrev pub IsTried : Ending → List Fetched → Type 0
+  IsTried ends.DiskFault tried = (tried ≡ results) ⊎ ((f : Fetched) × (tried ≡ results ++ f ∷ []) × OnItsWay f)
+  IsTried reason tried = tried ≡ results
 
 -- Samples
 
@@ -109,7 +119,7 @@ module _ {C D : Type 0} (c : ClockGhosts C) (d : DiskGhosts D) (clock_was clock_
     pub why : d.tells → WhyStopped beside.sampled limit (IsRecovered (contents_of (d.held old))) r.ending
     -- a crash at any moment, over a settled disk, leaves all items of the start, and the first ones of what was to be logged; over any
     -- disk so from the moment on at which recovery answered
-    pub tried : List Fetched
-    pub tried_are : IsTried beside.sampled results r.ending tried
-    pub any_moment : d.tells → LeavesOnly d.moment d.left_since old new (MayBeAfter (items_of_results tried) (d.held old))
-    pub since : d.tells → SinceRecovered d (items_of_results tried) old new r.ending
+    pub tried : d.tells → List Fetched
+    pub tried_are : (told : d.tells) → IsTried beside.sampled limit (IsRecovered (contents_of (d.held old))) r.ending (tried told)
+    pub any_moment : (told : d.tells) → LeavesOnly d.moment d.left_since old new (MayBeAfter (items_of_results (tried told)) (d.held old))
+    pub since : (told : d.tells) → SinceRecovered d (items_of_results (tried told)) old new r.ending

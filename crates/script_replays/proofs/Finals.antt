@@ -126,7 +126,7 @@ module _ {D : Type 0} (d : DiskGhosts D) (script : Script) (limit : ℕ) (server
   }
 
   -- the disk failed at the last flush, or before
-  failed : (last : RunState) (items : List Item) (ran : RanFirst script limit left last) (more : List ℕ) → second ≡ ends.DiskFault → last.output ≡ run.out.items ++ more → (items ≡ last.items) ⊎ OnItsWay script last ran.count items → Follows script server run.running seat last.regions
+  failed : (last : RunState) (items : List Item) (ran : RanFirst script limit left last) (more : List ℕ) → second ≡ ends.DiskFault → last.output ≡ run.out.items ++ more → (items ≡ last.items) ⊎ OnItsWay script limit left last ran.count items → Follows script server run.running seat last.regions
       → LeavesOnly d.moment d.left_since start new (ComesBackTo items 0 left) → IsFinal d script limit server left later start new r
   failed last items ran more is output items_are follows leave =
       let o : (r.ending ≡ second) × (r.output ≡ run.out.items) = others (λ e. absurd (let no : ends.DiskFault ≡ ends.Done = sym is ∙ e in cc)) in

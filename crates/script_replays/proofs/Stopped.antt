@@ -176,13 +176,13 @@ module _ {D : Type 0} (d : DiskGhosts D) (script : Script) (limit : ℕ) (server
     may_grow last (inl same) = not_grown at.s.items last.items (ap (λ (r : RunState). r.items) same)
     may_grow last (inr goes) = items_grow script limit at.s step.1 last goes
 
-    on_its_way : (items : List Item) → (items ≡ at.s.items) ⊎ TickOnItsWay script at.s step.1 items → (items ≡ at.s.items) ⊎ OnItsWay script at.s count items
+    on_its_way : (items : List Item) → (items ≡ at.s.items) ⊎ TickOnItsWay script limit at.s step.1 items → (items ≡ at.s.items) ⊎ OnItsWay script limit left at.s count items
     on_its_way items (inl same) = inl same
-    on_its_way items (inr (moment, line, same)) = inr (step.0, moment, there ∙ ap (λ (l : Line). Some (step.0, l)) line, same)
+    on_its_way items (inr (moment, line, would, same)) = inr (at.goes, step.0, moment, there ∙ ap (λ (l : Line). Some (step.0, l)) line, would, same)
 
-    fails_grow : (items : List Item) → (items ≡ at.s.items) ⊎ TickOnItsWay script at.s step.1 items → grown_by at.s.items items
+    fails_grow : (items : List Item) → (items ≡ at.s.items) ⊎ TickOnItsWay script limit at.s step.1 items → grown_by at.s.items items
     fails_grow items (inl same) = not_grown at.s.items items same
-    fails_grow items (inr (moment, line, same)) = (Sample (fetched_at at.s (asked_for moment (asking_at script at.s moment)) moment).result ∷ [], same)
+    fails_grow items (inr (moment, line, would, same)) = (Sample (fetched_at at.s (asked_for moment (asking_at script at.s moment)) moment).result ∷ [], same)
 
     pub halted : (ending : Ending) → HaltsAt d script limit server left at.s step.1 next later now new step.0 ending → Halts d script limit server left next later start new ending
     halted ending (inl e) = inl (record {

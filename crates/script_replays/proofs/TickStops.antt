@@ -31,11 +31,13 @@ use Rattle.record_run.specs.declared.archive.RunArchive.{RunArchive}
 use Rattle.record_run.specs.Endings.{ending_after}
 use Rattle.record_run.specs.declared.archive.Standing.{Standing}
 use Rattle.record_run.specs.declared.archive.Standing.TheVariants.{Found, Open, Lost}
-use Rattle.record_run.specs.Going.{IsStanding, KeepsRun, LogFails, StaysOpen, TurnsAway}
+use Rattle.record_run.specs.Going.{IsStanding, KeepsRun, LeavesNone, LogFails, StaysOpen, TakesResult, TurnsAway}
 use Rattle.record_run.specs.ImageCrashes.{ComesBackTo}
 use Rattle.record_run.specs.ImageRuns.{result_for}
 use Rattle.record_run.proofs.FlushLines.{keeps_still}
+use Rattle.record_run.proofs.Going.{leaves_none}
 use Rattle.script_replays.specs.declared.run.Run.{Run}
+use Rattle.script_replays.specs.Replays.{WouldLog}
 use Rattle.script_replays.specs.States.{HaltsAt, Rests, Stands}
 use Rattle.script_replays.specs.Ticking.{StopsTick, FetchesNothing, LogsNothing}
 
@@ -151,16 +153,22 @@ module _ {D : Type 0} (d : DiskGhosts D) (script : Script) (server : List Mounte
       any_moment = moment;
     })
 
-    faulted : (fault : LogFault) → ending ≡ ending_after fault → LogFails left s.items least s.stand f next.archive (d.held new) fault → (fault ≢ DiskFault → LeavesOnly d.moment d.left_since old new (ComesBackTo s.items 0 left)) → Halting ending
-    faulted Closed is fails refused = absurd fails
-    faulted (Large bytes) is fails refused = turned (Large bytes) (ap (λ (e : Ending). Some e) (sym is)) (refused (λ e. cc)) fails
-    faulted (NotLater last) is fails refused = turned (NotLater last) (ap (λ (e : Ending). Some e) (sym is)) (refused (λ e. cc)) fails
-    faulted (Changed pmid) is fails refused = turned (Changed pmid) (ap (λ (e : Ending). Some e) (sym is)) (refused (λ e. cc)) fails
-    faulted (Full file bytes) is fails refused = turned (Full file bytes) (ap (λ (e : Ending). Some e) (sym is)) (refused (λ e. cc)) fails
-    faulted NoMemory is (inl found) refused = wants ending is shown.0 (record { stand = s.stand; same = inl refl; keeps = inr found }) (refused (λ e. cc))
-    faulted NoMemory is (inr stays) refused =
-        wants ending is shown.0 (opened_rests left least s f next.archive (d.held new) s.stand s.items refl refl (kept_form left s.items least s.stand run.archive (d.held old) keeps) stays) (refused (λ e. cc))
-    faulted DiskFault is fails refused = inr (inr (record {
+    none_left : (fault : LogFault) → fault ≢ DiskFault → LeavesNone d left next.archive.limit s.items s.stand f old new fault → LeavesOnly d.moment d.left_since old new (ComesBackTo s.items 0 left)
+    none_left fault other refused = leaves_none d left next.archive.limit s.items s.stand f old new fault other refused
+
+    abbrev Would : List ℕ → Type 0
+    Would ps = (0 < length ps) × ((length ps ≤ 1024) × TakesResult limit s.stand (fetched_at s ps now))
+
+    would_log : TakesResult next.archive.limit s.stand f → WouldLog script limit s now
+    would_log takes =
+        let h : Would pmids = (u.some, (u.few, subst (λ (g : Fetched). TakesResult limit s.stand g) same (subst (λ (n : ℕ). TakesResult n s.stand f) same_limit takes))) in
+        let w : Would (asked_for now (asking_at script s now)) = subst Would are h in
+        record { some = w.0; few = w.1.0; takes = w.1.1 }
+
+    -- the disk failed before the archive took anything, or while it did
+    failing : ending ≡ ends.DiskFault → LeavesNone d left next.archive.limit s.items s.stand f old new DiskFault → Halting ending
+    failing is (inl none) = inr (inr (record { is = is; follows = here shown.0; output = written; items = s.items; items_are = inl refl; any_moment = none }))
+    failing is (inr (fault, takes)) = inr (inr (record {
       is = is;
       follows = here shown.0;
       output = written;
@@ -168,10 +176,22 @@ module _ {D : Type 0} (d : DiskGhosts D) (script : Script) (server : List Mounte
       items_are = inr (
         now,
         refl,
+        would_log takes,
         ap (λ (h : Fetched). s.items ++ Sample h.result ∷ []) (same ∙ ap (λ (ps : List ℕ). fetched_at s ps now) are),
       );
       any_moment = u.any_moment;
     }))
+
+    faulted : (fault : LogFault) → ending ≡ ending_after fault → LogFails left s.items least s.stand f next.archive (d.held new) fault → LeavesNone d left next.archive.limit s.items s.stand f old new fault → Halting ending
+    faulted Closed is fails refused = absurd fails
+    faulted (Large bytes) is fails refused = turned (Large bytes) (ap (λ (e : Ending). Some e) (sym is)) (none_left (Large bytes) (λ e. cc) refused) fails
+    faulted (NotLater last) is fails refused = turned (NotLater last) (ap (λ (e : Ending). Some e) (sym is)) (none_left (NotLater last) (λ e. cc) refused) fails
+    faulted (Changed pmid) is fails refused = turned (Changed pmid) (ap (λ (e : Ending). Some e) (sym is)) (none_left (Changed pmid) (λ e. cc) refused) fails
+    faulted (Full file bytes) is fails refused = turned (Full file bytes) (ap (λ (e : Ending). Some e) (sym is)) (none_left (Full file bytes) (λ e. cc) refused) fails
+    faulted NoMemory is (inl found) refused = wants ending is shown.0 (record { stand = s.stand; same = inl refl; keeps = inr found }) (none_left NoMemory (λ e. cc) refused)
+    faulted NoMemory is (inr stays) refused =
+        wants ending is shown.0 (opened_rests left least s f next.archive (d.held new) s.stand s.items refl refl (kept_form left s.items least s.stand run.archive (d.held old) keeps) stays) (none_left NoMemory (λ e. cc) refused)
+    faulted DiskFault is fails refused = failing is refused
 
   pub tick_halts : (ending : Ending) → StopsTick d server run.running middle after pmids now left s.items least s.stand old new next.archive ending → Halting ending
   tick_halts ending (inl u) = unfetched ending u

@@ -1,5 +1,5 @@
 -- What a tick logs, and what stands where it logs nothing.
-use Rattle.std.proofs.Common.{◌≡◌, ◌≢◌, ◌⊎◌, inl, inr, ℕ, ◌<◌, List, [], ◌∷◌, ◌++◌, length, None, Some, refl, ap, arith}
+use Rattle.std.proofs.Common.{◌≡◌, ◌⊎◌, inl, inr, ℕ, ◌<◌, List, [], ◌∷◌, ◌++◌, length, None, Some, refl, ap, arith}
 use Rattle.pcp_base.specs.Time.{Moment}
 use Rattle.pcp_base.specs.declared.result.Item.{Item}
 use Rattle.pcp_base.specs.declared.result.Item.TheVariants.{Sample}
@@ -11,7 +11,6 @@ use Rattle.fetch_answers.specs.declared.fetch.Fetched.{Fetched}
 use Rattle.fetch_engine.specs.declared.server.Mounted.{Mounted}
 use Rattle.fetch_engine.specs.Visits.{IsFetched}
 use Rattle.logger_core.specs.declared.fault.LogFault.{LogFault}
-use Rattle.logger_core.specs.declared.fault.LogFault.TheVariants.{DiskFault}
 use Rattle.logger_core.proofs.Calls.{no_call}
 use Rattle.script_passes.specs.declared.running.Running.{Running}
 use Rattle.script_passes.specs.Crews.{Alone}
@@ -24,7 +23,7 @@ use Rattle.script_runs.specs.Regions.{ScriptRegion}
 use Rattle.script_runs.specs.Steps.{every_instance}
 use Rattle.record_run.specs.declared.archive.RunArchive.{RunArchive}
 use Rattle.record_run.specs.Endings.{ending_after}
-use Rattle.record_run.specs.Going.{KeepsRun, LogFails, LogsRun}
+use Rattle.record_run.specs.Going.{KeepsRun, LeavesNone, LogFails, LogsRun}
 use Rattle.record_run.specs.ImageCrashes.{ComesBackTo}
 use Rattle.record_run.specs.ImageRuns.{result_for}
 use Rattle.script_replays.specs.Ticking.{LogsTick, Shows, StopsTick}
@@ -61,7 +60,7 @@ module _ (server : List Mounted) (running : Running) (before after : List Token)
 
     pub not_logged : (old new : D) (archive : RunArchive) (f : Fetched) (fault : LogFault) (ending : Ending) → 0 < length pmids → IsFetched server before every_instance pmids now f.result f.facts after → Told (λ regions. f ≡ fetched_of regions pmids now)
         → ending ≡ ending_after fault → LogFails left items least stand f archive (d.held new) fault → LeavesOnly d.moment d.left_since old new (ComesBackTo (items ++ Sample f.result ∷ []) 0 left)
-        → (fault ≢ DiskFault → LeavesOnly d.moment d.left_since old new (ComesBackTo items 0 left)) → StopsTick d server running before after pmids now left items least stand old new archive ending
+        → LeavesNone d left archive.limit items stand f old new fault → StopsTick d server running before after pmids now left items least stand old new archive ending
     not_logged old new archive f fault ending some fetched says is fails moment refused = inr (record {
       few = fetched.few;
       fetched = f;

@@ -49,7 +49,7 @@ pub record FailedOver (script : Script) (limit : ℕ) (left : Files) (r : Replay
   pub ran : RanFirst script limit left last
   pub more : List ℕ
   pub output_is : last.output ≡ r.output ++ more
-  pub items_are : (items ≡ last.items) ⊎ OnItsWay script last ran.count items
+  pub items_are : (items ≡ last.items) ⊎ OnItsWay script limit left last ran.count items
   pub closed : regions ≡ closed_regions last.regions
 
 abbrev pub RanOver : Script → ℕ → Files → Holdings → Replayed → List Item → List ScriptRegion → Ending → Type 0

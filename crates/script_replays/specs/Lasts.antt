@@ -58,7 +58,7 @@ module _ {D : Type 0} (d : DiskGhosts D) (script : Script) (limit : ℕ) (server
     pub follows : Follows script server run.running seat last.regions
     pub output : run.out.items ≡ last.output
     pub items : List Item
-    pub items_are : (items ≡ last.items) ⊎ OnItsWay script last ran.count items
+    pub items_are : (items ≡ last.items) ⊎ OnItsWay script limit left last ran.count items
     pub any_moment : LeavesUpTo items
 
   abbrev pub Halts : Ending → Type 0

@@ -1,5 +1,5 @@
 -- The run of a script over any files, by the calls of its regions: what it makes of a disk and of regions, and why it ends.
-use Rattle.std.specs.Prelude.{◌≡◌, ◌≢◌, ◌⊎◌, ℕ, ◌≤◌, List, [], ◌∷◌, ◌++◌, length, slice_get, take, Option, Some, None}
+use Rattle.std.specs.Prelude.{◌≡◌, ◌≢◌, ◌⊎◌, ℕ, ◌<◌, ◌≤◌, List, [], ◌∷◌, ◌++◌, length, slice_get, take, Option, Some, None}
 use Rattle.pcp_base.specs.Time.{Moment}
 use Rattle.pcp_base.specs.declared.file.FileId.{FileId}
 use Rattle.pcp_base.specs.declared.result.Item.{Item}
@@ -26,6 +26,8 @@ use Rattle.script_runs.specs.Regions.{ScriptRegion, made_regions}
 use Rattle.script_runs.specs.Runs.{LinesRun, RunsTo, StopsBehind, run_start}
 use Rattle.script_runs.specs.Steps.{RunState, asking_at, fetched_at}
 use Rattle.script_replays.specs.declared.replayed.Replayed.{Replayed}
+use Rattle.script_replays.specs.Lines.{Goes}
+use Rattle.record_run.specs.Going.{TakesResult}
 use Rattle.record_run.specs.ImageCrashes.{IsAllAfter, MayBeAfter}
 use Rattle.record_run.specs.SinceRecovery.{FromRecovery}
 
@@ -74,11 +76,18 @@ pub record StoppedBehind (script : Script) (limit : ℕ) (d : DiskPair) (r : Rep
   pub stops : StopsBehind script limit left r.output items regions (contents_of d.after)
   pub settled : IsSettled d.after
 
--- The disk failed behind some first lines: what is written is a front of their lines, and their items were logged, or also what the
--- next line asks for was on its way.
-abbrev pub OnItsWay : Script → RunState → ℕ → List Item → Type 0
-OnItsWay script s count items =
-    (number : ℕ) × (now : Moment) × (slice_get script.steps count ≡ Some (number, Tick now))
+-- a tick would log its item: it asks for a metric, for at most 1,024, and the archive takes what they show
+pub record WouldLog (script : Script) (limit : ℕ) (s : RunState) (now : Moment) : Type 0 where
+  pub some : 0 < length (asked_for now (asking_at script s now))
+  pub few : length (asked_for now (asking_at script s now)) ≤ 1024
+  pub takes : TakesResult limit s.stand (fetched_at s (asked_for now (asking_at script s now)) now)
+
+-- The disk failed behind some first lines: what is written is a front of their lines, and their items were logged, or, where each of
+-- them was run, also what the next line would log was on its way.
+abbrev pub OnItsWay : Script → ℕ → Files → RunState → ℕ → List Item → Type 0
+OnItsWay script limit left s count items =
+    Goes script limit (take count script.steps) (run_start script left) s
+    × (number : ℕ) × (now : Moment) × (slice_get script.steps count ≡ Some (number, Tick now)) × WouldLog script limit s now
     × (items ≡ s.items ++ Sample (fetched_at s (asked_for now (asking_at script s now)) now).result ∷ [])
 
 pub record FailedBehind (script : Script) (limit : ℕ) (d : DiskPair) (output : List ℕ) (items : List Item) (regions : List ScriptRegion) : Type 0 where
@@ -91,7 +100,7 @@ pub record FailedBehind (script : Script) (limit : ℕ) (d : DiskPair) (output :
   pub lines_run : LinesRun (record script { steps = take count script.steps }) limit (take count script.steps) (run_start script left) ending last
   pub more : List ℕ
   pub output_is : last.output ≡ output ++ more
-  pub items_are : (items ≡ last.items) ⊎ OnItsWay script last count items
+  pub items_are : (items ≡ last.items) ⊎ OnItsWay script limit left last count items
   pub closed : regions ≡ closed_regions last.regions
 
 -- on the way of recovery nothing was run

@@ -21,6 +21,7 @@ use Rattle.record_run.specs.declared.archive.RunArchive.{RunArchive}
 use Rattle.record_run.specs.Going.{KeepsRun, StaysFound}
 use Rattle.record_run.specs.ImageCrashes.{ComesBackTo}
 use Rattle.script_replays.specs.declared.run.Run.{Run}
+use Rattle.script_replays.specs.Replays.{WouldLog}
 
 -- the passes, the archive, the groups and what is written are those of the fold's state
 pub record Stands {D : Type 0} (d : DiskGhosts D) (script : Script) (server : List Mounted) (left : Files) (least : ℕ) (run : Run) (seat : List Token) (disk : D) (s : RunState) : Type 0 where
@@ -39,9 +40,9 @@ pub record Rests (left : Files) (s : RunState) (archive : RunArchive) (held : Ho
   pub keeps : ((least : ℕ) × KeepsRun left s.items least stand archive held) ⊎ StaysFound left s.items stand archive held
 
 -- what a tick that failed had on its way
-abbrev pub TickOnItsWay : Script → RunState → Line → List Item → Type 0
-TickOnItsWay script s line items =
-    (now : Moment) × (line ≡ Tick now)
+abbrev pub TickOnItsWay : Script → ℕ → RunState → Line → List Item → Type 0
+TickOnItsWay script limit s line items =
+    (now : Moment) × (line ≡ Tick now) × WouldLog script limit s now
     × (items ≡ s.items ++ Sample (fetched_at s (asked_for now (asking_at script s now)) now).result ∷ [])
 
 module _ {D : Type 0} (d : DiskGhosts D) (script : Script) (limit : ℕ) (server : List Mounted) (left : Files) (s : RunState) (line : Line) (run : Run) (seat : List Token) (old new : D) where
@@ -83,7 +84,7 @@ module _ {D : Type 0} (d : DiskGhosts D) (script : Script) (limit : ℕ) (server
     pub follows : Follows script server run.running seat s.regions
     pub output : run.out.items ≡ s.output
     pub items : List Item
-    pub items_are : (items ≡ s.items) ⊎ TickOnItsWay script s line items
+    pub items_are : (items ≡ s.items) ⊎ TickOnItsWay script limit s line items
     pub any_moment : Leaves items
 
   abbrev pub HaltsAt : ℕ → Ending → Type 0

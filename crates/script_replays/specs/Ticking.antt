@@ -1,5 +1,5 @@
 -- What a tick of a run logs, and why it ends the run.
-use Rattle.std.specs.Prelude.{◌≡◌, ◌≢◌, ◌⊎◌, ℕ, ◌<◌, ◌≤◌, List, ◌++◌, length, Option, Some, None}
+use Rattle.std.specs.Prelude.{◌≡◌, ◌⊎◌, ℕ, ◌<◌, ◌≤◌, List, ◌++◌, length, Option, Some, None}
 use Rattle.pcp_base.specs.Time.{Moment}
 use Rattle.pcp_base.specs.declared.result.Item.{Item}
 use Rattle.pcp_model.specs.Disk.{Files}
@@ -9,7 +9,6 @@ use Rattle.region_rule.specs.Seats.{Token}
 use Rattle.fetch_answers.specs.declared.fetch.Fetched.{Fetched}
 use Rattle.fetch_engine.specs.declared.server.Mounted.{Mounted}
 use Rattle.logger_core.specs.declared.fault.LogFault.{LogFault}
-use Rattle.logger_core.specs.declared.fault.LogFault.TheVariants.{DiskFault}
 use Rattle.script_passes.specs.declared.running.Running.{Running}
 use Rattle.script_passes.specs.Crews.{Alone}
 use Rattle.script_passes.specs.Runs.{KeepsFollowing, fetched_of}
@@ -19,7 +18,7 @@ use Rattle.script_runs.specs.declared.ending.LimitKind.TheVariants as kinds
 use Rattle.script_runs.specs.Archives.{Stand}
 use Rattle.record_run.specs.declared.archive.RunArchive.{RunArchive}
 use Rattle.record_run.specs.Endings.{ending_after}
-use Rattle.record_run.specs.Going.{KeepsRun, LogFails, LogsRun}
+use Rattle.record_run.specs.Going.{KeepsRun, LeavesNone, LogFails, LogsRun}
 use Rattle.record_run.specs.ImageCrashes.{ComesBackTo}
 use Rattle.record_run.specs.ImageRuns.{items_of_run, result_for}
 
@@ -58,7 +57,7 @@ module _ {D : Type 0} (d : DiskGhosts D) (server : List Mounted) (running : Runn
     pub ends : ending ≡ ending_after fault
     pub fails : LogFails left items least stand fetched archive (d.held new) fault
     pub any_moment : LeavesOnly d.moment d.left_since old new (ComesBackTo (items ++ items_of_run (Some fetched)) 0 left)
-    pub refused : fault ≢ DiskFault → LeavesOnly d.moment d.left_since old new (ComesBackTo items 0 left)
+    pub refused : LeavesNone d left archive.limit items stand fetched old new fault
 
   abbrev pub StopsTick : Ending → Type 0
   StopsTick ending = FetchesNothing ending ⊎ LogsNothing ending

@@ -1,5 +1,5 @@
 -- What is sampled and logged one behind another is sampled and logged so as a whole.
-use Rattle.std.proofs.Common.{◌≡◌, ◌≢◌, ℕ, List, [], ◌∷◌, ◌++◌, Option, None, Some, refl, sym, ap, ◌∙◌, subst, append-nil, append_assoc}
+use Rattle.std.proofs.Common.{◌≡◌, inl, inr, ℕ, List, [], ◌∷◌, ◌++◌, Option, None, Some, refl, sym, ap, ◌∙◌, subst, append-nil, append_assoc}
 use Rattle.std.proofs.lemmas.List.{map-append}
 use Rattle.pcp_base.specs.declared.result.Item.{Item}
 use Rattle.pcp_base.specs.declared.result.Item.TheVariants.{Sample}
@@ -13,11 +13,10 @@ use Rattle.fetch_engine.specs.declared.server.Mounted.{Mounted}
 use Rattle.log_schedule.specs.declared.config.Group.{Group}
 use Rattle.logger_core.proofs.Calls.{no_call}
 use Rattle.logger_core.specs.declared.fault.LogFault.{LogFault}
-use Rattle.logger_core.specs.declared.fault.LogFault.TheVariants.{DiskFault}
 use Rattle.script_runs.specs.Archives.{Stand}
 use Rattle.script_runs.specs.Groups.{Plan}
 use Rattle.record_run.specs.declared.archive.RunArchive.{RunArchive}
-use Rattle.record_run.specs.Going.{KeepsRun, LogFails}
+use Rattle.record_run.specs.Going.{KeepsRun, LeavesNone, LogFails}
 use Rattle.record_run.specs.ImageCrashes.{ComesBackTo}
 use Rattle.record_run.proofs.FlushLines.{keeps_back}
 use Rattle.record_run.proofs.Going.{comes_any}
@@ -93,6 +92,10 @@ module _ {D : Type 0} (d : DiskGhosts D) (left : Files) (limit : ℕ) (items : L
     any_moment = leaves_first (items_of_results gs) (items ++ items_of_results (fs ++ gs)) same_items (subst (λ (xs : List Item). Leaves xs middle last) same_items two.any_moment);
   }
 
+  none_first : (f : Fetched) (fault : LogFault) (top : Stand) → LeavesNone d left limit (items ++ items_of_results fs ++ items_of_results gs) top f middle last fault → LeavesNone d left limit (items ++ items_of_results (fs ++ gs)) top f first last fault
+  none_first f fault top (inl none) = inl (leaves_first (items_of_results gs) (items ++ items_of_results (fs ++ gs)) same_items (subst (λ (xs : List Item). Leaves xs middle last) same_items none))
+  none_first f fault top (inr takes) = inr takes
+
   pub logs_but_joined : (f : Fetched) (fault : LogFault) → LogsAllBut d left limit (items ++ items_of_results fs) one.last middle last gs f fault is → LogsAllBut d left limit items stand first last (fs ++ gs) f fault is
   logs_but_joined f fault two =
       let behind : items ++ items_of_results fs ++ items_of_results gs ++ Sample f.result ∷ [] ≡ items ++ items_of_results (fs ++ gs) ++ Sample f.result ∷ [] = ap (λ (xs : List Item). xs ++ Sample f.result ∷ []) same_items in
@@ -103,5 +106,5 @@ module _ {D : Type 0} (d : DiskGhosts D) (left : Files) (limit : ℕ) (items : L
         fails = subst (λ (xs : List Item). LogFails left xs two.least two.last f is (d.held last) fault) same_items two.fails;
         any_moment = leaves_first (items_of_results gs ++ Sample f.result ∷ []) (items ++ items_of_results (fs ++ gs) ++ Sample f.result ∷ [])
             (sym (append_assoc (items ++ items_of_results fs) (items_of_results gs) (Sample f.result ∷ [])) ∙ behind) (subst (λ (xs : List Item). Leaves xs middle last) behind two.any_moment);
-        refused = λ other. leaves_first (items_of_results gs) (items ++ items_of_results (fs ++ gs)) same_items (subst (λ (xs : List Item). Leaves xs middle last) same_items (two.refused other));
+        refused = none_first f fault two.last two.refused;
       }

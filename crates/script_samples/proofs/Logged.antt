@@ -10,13 +10,12 @@ use Rattle.region_rule.specs.Seats.{Token}
 use Rattle.fetch_answers.specs.declared.fetch.Fetched.{Fetched}
 use Rattle.fetch_engine.specs.declared.server.Mounted.{Mounted}
 use Rattle.logger_core.specs.declared.fault.LogFault.{LogFault}
-use Rattle.logger_core.specs.declared.fault.LogFault.TheVariants.{DiskFault}
 use Rattle.script_runs.specs.declared.ending.Ending.{Ending}
 use Rattle.script_runs.specs.Archives.{Logs, Stand}
 use Rattle.script_runs.specs.Steps.{fetched_from}
 use Rattle.record_run.specs.declared.archive.RunArchive.{RunArchive}
 use Rattle.record_run.specs.Endings.{ending_after}
-use Rattle.record_run.specs.Going.{KeepsRun, LogFails, LogsRun}
+use Rattle.record_run.specs.Going.{KeepsRun, LeavesNone, LogFails, LogsRun}
 use Rattle.record_run.specs.ImageCrashes.{ComesBackTo}
 use Rattle.record_run.specs.ImageRuns.{result_for}
 use Rattle.script_samples.specs.Logging.{LogsOne, RefusesOne, Shows}
@@ -75,7 +74,7 @@ module _ {D : Type 0} (d : DiskGhosts D) (server : List Mounted) (before : List 
     pub result_refused : (fault : LogFault) (ending : Ending) → ending ≡ ending_after fault → is.logged ≡ was.logged
         → (d.tells → (left : Files) (items : List Item) (least : ℕ) (stand : Stand) → KeepsRun left items least stand was (d.held old) → LogFails left items least stand fetched is (d.held new) fault)
         → LeavesIt
-        → (d.tells → (left : Files) (items : List Item) (least : ℕ) (stand : Stand) → KeepsRun left items least stand was (d.held old) → fault ≢ DiskFault → Leaves left old new items)
+        → (d.tells → (left : Files) (items : List Item) (least : ℕ) (stand : Stand) → KeepsRun left items least stand was (d.held old) → LeavesNone d left was.limit items stand fetched old new fault)
         → RefusesOne d server before pmids now was old is new after ending
     result_refused fault ending why count fails moment refused = record {
       some = some;
@@ -92,7 +91,7 @@ module _ {D : Type 0} (d : DiskGhosts D) (server : List Mounted) (before : List 
             logs = refl;
             fails = subst (λ (xs : List Item). LogFails left xs least stand fetched is (d.held new) fault) same (fails tells left items least stand keeps);
             any_moment = subst (λ (xs : List Item). Leaves left old new (xs ++ Sample fetched.result ∷ [])) same (moment tells left items least stand keeps []);
-            refused = λ other. subst (λ (xs : List Item). Leaves left old new xs) same (refused tells left items least stand keeps other);
+            refused = subst (λ (xs : List Item). LeavesNone d left was.limit xs stand fetched old new fault) same (refused tells left items least stand keeps);
           } in
           subst (λ (f : Fetched). LogsAllBut d left was.limit items stand old new [] f fault is) shows.is but;
       counted = count;

@@ -15,7 +15,6 @@ use Rattle.fetch_answers.specs.Readings.{RegionReading}
 use Rattle.fetch_engine.specs.Visits.{AreLoaded, AreRead}
 use Rattle.log_schedule.specs.declared.config.Group.{Group}
 use Rattle.logger_core.specs.declared.fault.LogFault.{LogFault}
-use Rattle.logger_core.specs.declared.fault.LogFault.TheVariants.{DiskFault}
 use Rattle.script_runs.specs.declared.ending.Ending.{Ending}
 use Rattle.script_runs.specs.declared.ending.Ending.TheVariants as ends
 use Rattle.script_runs.specs.declared.ending.LimitKind.TheVariants as kinds
@@ -24,7 +23,7 @@ use Rattle.script_runs.specs.Groups.{Plan}
 use Rattle.script_runs.specs.Steps.{fetched_from}
 use Rattle.record_run.specs.declared.archive.RunArchive.{RunArchive}
 use Rattle.record_run.specs.Endings.{ending_after}
-use Rattle.record_run.specs.Going.{KeepsRun, LogFails}
+use Rattle.record_run.specs.Going.{KeepsRun, LeavesNone, LogFails}
 use Rattle.record_run.specs.ImageCrashes.{ComesBackTo}
 use Rattle.script_samples.specs.declared.sampler.Sampler.{Sampler}
 use Rattle.script_samples.specs.Samples.{SampleTaken, IsTaken, AreTaken, stamps_of}
@@ -69,7 +68,7 @@ module _ {D : Type 0} (d : DiskGhosts D) (left : Files) (limit : ℕ) (items : L
     pub logs : LogsEach limit stand results last
     pub fails : LogFails left (items ++ items_of_results results) least last f archive (d.held new) fault
     pub any_moment : LeavesOnly d.moment d.left_since old new (ComesBackTo (items ++ items_of_results results ++ Sample f.result ∷ []) 0 left)
-    pub refused : fault ≢ DiskFault → LeavesOnly d.moment d.left_since old new (ComesBackTo (items ++ items_of_results results) 0 left)
+    pub refused : LeavesNone d left limit (items ++ items_of_results results) last f old new fault
 
 -- Over whatever archive the sampler keeps
 module _ {D : Type 0} (d : DiskGhosts D) (archive : RunArchive) (old new : D) where

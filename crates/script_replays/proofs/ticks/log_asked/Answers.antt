@@ -1,11 +1,12 @@
 -- What is shown is logged, where anything is asked for.
-use Rattle.std.proofs.Common.{◌≢◌, inl, inr, ℕ, ◌<◌, [], length, refl, sym, ◌∙◌, arith}
+use Rattle.std.proofs.Common.{◌≢◌, inl, inr, ℕ, ◌<◌, [], length, refl, sym, ◌∙◌, subst, arith}
 use Rattle.std.proofs.lemmas.Bool.{eqb-false, eqb-true}
 use Rattle.fetch_answers.specs.declared.fetch.FetchFault.{FetchFault}
 use Rattle.fetch_answers.specs.declared.fetch.FetchFault.TheVariants.{TooMany, NoMemory}
 use Rattle.fetch_answers.specs.Fetches.{IsFetchFault}
 use Rattle.script_runs.specs.declared.ending.Ending.TheVariants as ends
 use Rattle.script_runs.specs.declared.ending.LimitKind.TheVariants as kinds
+use Rattle.record_run.specs.Going.{LeavesNone}
 use Rattle.script_replays.proofs.Ticking.{logged_some, not_fetched, not_logged, nothing_asked}
 use Rattle.script_replays.proofs.ticks.log_asked.Goals as goal
 
@@ -45,7 +46,7 @@ returns-clause-stops g c = λ tells left items least stand k.
     let pmids = c.args.pmids.now in
     let some : 0 < length pmids = omega (arith, eqb-false (length pmids) 0 (sym c.is_empty.ensures ∙ c.if-is_empty.false)) in
     not_logged c.args.server.now c.args.running.now c.args.seat.now.tokens c.fetch.new.seat.tokens pmids c.args.now g.D.Disk left items least stand c.args.disk.now c.log.new.disk c.log.new.self c.in-Ok.fetched c.in-Err.fault c.ending_after.result some
-    c.in-Ok.ensures.fetched c.in-Ok.ensures.shows c.ending_after.ensures (c.in-Err.ensures.fault tells left items least stand k) (c.in-Err.ensures.any_moment tells left items least stand k []) (c.in-Err.ensures.refused tells left items least stand k)
+    c.in-Ok.ensures.fetched c.in-Ok.ensures.shows c.ending_after.ensures (c.in-Err.ensures.fault tells left items least stand k) (c.in-Err.ensures.any_moment tells left items least stand k []) (subst (λ (n : ℕ). LeavesNone g.D.Disk left n items stand c.in-Ok.fetched c.args.disk.now c.log.new.disk c.in-Err.fault) (sym c.in-Err.ensures.limit) (c.in-Err.ensures.refused tells left items least stand k))
 
 pub returns-then-is_empty-clause-follows : goal.returns-then-is_empty-clause-follows
 returns-then-is_empty-clause-follows g c = λ alone script regions follows. (follows, tt)

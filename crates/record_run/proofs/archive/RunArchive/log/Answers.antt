@@ -1,5 +1,5 @@
 -- The archive is opened, and the result logged.
-use Rattle.std.proofs.Common.{◌≡◌, ◌≢◌, List, [], ◌∷◌, ◌++◌, ◌+◌, ◌∙◌, false, Result, Ok, Err, sym, ap, subst, arith, append-nil, length-append}
+use Rattle.std.proofs.Common.{◌≡◌, ◌≢◌, inl, List, [], ◌∷◌, ◌++◌, ◌+◌, ◌∙◌, false, Result, Ok, Err, sym, ap, subst, arith, append-nil, length-append}
 use Rattle.std.specs.Prelude.{IfErr}
 use Rattle.std.proofs.lemmas.Result.{IfErr-weaker, on_ok_weaker}
 use Rattle.pcp_base.specs.declared.result.Item.{Item}
@@ -12,10 +12,10 @@ use Rattle.logger_core.proofs.Calls.{run_then}
 use Rattle.record_run.specs.declared.archive.RunArchive.{RunArchive}
 use Rattle.record_run.specs.declared.archive.Standing.{Standing}
 use Rattle.record_run.specs.declared.archive.Standing.TheVariants.{Open}
-use Rattle.record_run.specs.Going.{IsOpen, IsStanding, IsWorking, LogFails, LogsRun, meant_of}
+use Rattle.record_run.specs.Going.{IsOpen, IsStanding, IsWorking, LeavesNone, LogFails, LogsRun, meant_of}
 use Rattle.record_run.specs.ImageCrashes.{ComesBackTo}
 use Rattle.record_run.specs.ImageLogs.{MaySurvive}
-use Rattle.record_run.proofs.Going.{log_fails, logged_runs, may_survive, new_comes, open_still}
+use Rattle.record_run.proofs.Going.{log_fails, log_leaves, logged_runs, may_survive, new_comes, open_still}
 use Rattle.record_run.proofs.ImageLogged.{both_err, both_ok}
 use Rattle.record_run.proofs.archive.RunArchive.log.Goals as goal
 
@@ -28,20 +28,26 @@ returns-in_err-logger-clause-refused g c = λ tells left items least stand k.
     let d = g.D.Disk in
     let n = c.args.self.now.limit in
     let st = subst (λ (s : Standing). IsStanding left n items least stand s (d.held c.args.disk.now)) (sym c.replace-standing.ensures.value) k.standing in
-    every_err c.from_residual.result (λ (e : LogFault). e ≢ DiskFault → LeavesOnly d.moment d.left_since c.args.disk.now c.logger_of.new.disk (ComesBackTo items 0 left))
-    (λ e other.
-    subst (λ (xs : List Item). LeavesOnly d.moment d.left_since c.args.disk.now c.logger_of.new.disk (ComesBackTo xs 0 left)) (append-nil items) (c.logger_of.ensures.any_moment tells left items least stand st []))
+    every_err c.from_residual.result (λ (e : LogFault). LeavesNone d left n items stand c.args.fetched.now c.args.disk.now c.logger_of.new.disk e)
+    (λ e. inl (subst (λ (xs : List Item). LeavesOnly d.moment d.left_since c.args.disk.now c.logger_of.new.disk (ComesBackTo xs 0 left)) (append-nil items) (c.logger_of.ensures.any_moment tells left items least stand st [])))
 
 pub returns-else-is_ok-clause-refused : goal.returns-else-is_ok-clause-refused
 returns-else-is_ok-clause-refused g c = λ tells left items least stand k.
     let d = g.D.Disk in
+    let f = c.args.fetched.now in
     let n = c.args.self.now.limit in
-    let st = subst (λ (s : Standing). IsStanding left n items least stand s (d.held c.args.disk.now)) (sym c.replace-standing.ensures.value) k.standing in
+    let logger = c.in_ok-logger.logger in
+    let now = c.log-answer.new.self in
+    let st : IsStanding left n items least stand c.replace-standing.result (d.held c.args.disk.now) = subst (λ (s : Standing). IsStanding left n items least stand s (d.held c.args.disk.now)) (sym c.replace-standing.ensures.value) k.standing in
+    let o : IsOpen left n items least stand f.result.stamp logger (d.held c.logger_of.new.disk) = c.in_ok-logger.ensures.opened tells left items least stand st in
     let opened : LeavesOnly d.moment d.left_since c.args.disk.now c.logger_of.new.disk (ComesBackTo items 0 left) =
     subst (λ (xs : List Item). LeavesOnly d.moment d.left_since c.args.disk.now c.logger_of.new.disk (ComesBackTo xs 0 left)) (append-nil items) (c.logger_of.ensures.any_moment tells left items least stand st []) in
-    IfErr-weaker c.log-answer.result (λ (e : LogFault). e ≢ DiskFault → c.log-answer.new.disk ≡ c.logger_of.new.disk)
-    (λ (e : LogFault). e ≢ DiskFault → LeavesOnly d.moment d.left_since c.args.disk.now c.log-answer.new.disk (ComesBackTo items 0 left))
-    (λ e still other. subst (λ (now : g.row.D.Denot). LeavesOnly d.moment d.left_since c.args.disk.now now (ComesBackTo items 0 left)) (sym (still other)) opened) c.log-answer.ensures.untouched
+    both_err c.log-answer.result (λ (e : LogFault). LogMayAnswer logger now f.result f.facts (d.faults c.logger_of.new.disk) (d.faults c.log-answer.new.disk) e) (λ (e : LogFault). e ≢ DiskFault → c.log-answer.new.disk ≡ c.logger_of.new.disk)
+    (λ (e : LogFault). LeavesNone d left n items stand f c.args.disk.now c.log-answer.new.disk e)
+    (λ e may still.
+    log_leaves left n items least f o.old logger (d.held c.logger_of.new.disk) o.going c.args.self.now.logged k.counted stand o.opens d c.args.disk.now c.log-answer.new.disk now (d.faults c.logger_of.new.disk) (d.faults c.log-answer.new.disk) e may
+    (λ other. subst (λ (disk : g.row.D.Denot). LeavesOnly d.moment d.left_since c.args.disk.now disk (ComesBackTo items 0 left)) (sym (still other)) opened))
+    c.log-answer.ensures.fault c.log-answer.ensures.untouched
 
 pub returns-in_err-logger-clause-any_moment : goal.returns-in_err-logger-clause-any_moment
 returns-in_err-logger-clause-any_moment g c = λ tells left items least stand k more.
