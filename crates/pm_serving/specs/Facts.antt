@@ -37,8 +37,9 @@ pub record LimitIsExact (words : List (List ℕ)) (s : SourceSide) (status : ℕ
   pub only : status ≡ 7 → (IsAsked words × (s.tells → (input_limit < length s.left) × (s.after ≡ drop 16777217 s.left))) ⊎ ((fault : ScriptFault) × (script_status fault.fault ≡ 7) × Finds words s fault)
   pub always : IsAsked words → s.tells → input_limit < length s.left → (status ≡ 7) ⊎ ((status ≡ 9) ⊎ (status ≡ 3))
 
--- After 0 and 4 all sessions were served, after 21 some door failed. After every other status nothing was served: the doors are as
--- they were, and no regions are left; but after 9 sessions may have been served beside a writer that was refused memory.
+-- After 0 and 4 all sessions were served; after 21 some door failed, and the other workers served on: all places were drawn, unless
+-- every door failed. After every other status nothing was served: the doors are as they were, and no regions are left; but after 9
+-- sessions may have been served beside a writer that was refused memory.
 pub record ServedIsExact {P In Out Time : Type 0} (words : List (List ℕ)) (s : SourceSide) (d : DoorsSide P In Out Time) (served : Option Served) (status : ℕ) : Type 0 where
   pub done : status ≡ 0 → Ran words s d served all_served
   pub untold : status ≡ 4 → Ran words s d served all_served

@@ -113,9 +113,9 @@ where
 /// holds, and answers the exit status; where it isn't 0, the last line of the output says why. 0: COUNT sessions were served. 1: the
 /// words don't ask for sessions. 2: the input is no script, a region has more than 252 passes, or its passes can't act beside each
 /// other. 3, 4: the source or the sink failed. 7: the input is above 16 MiB, or has a 65th region. 9: memory was refused, before the
-/// first session or to a writer. 21: a door failed. The writers of the script run beside the sessions: each pass number is one, which
-/// runs the steps of its passes in order; the call ends when all have ended. After 0, 4 and 21 `served` has the regions on which it
-/// served, and their passes.
+/// first session or to a writer. 21: a door failed; the other workers served on. The writers of the script run beside the sessions:
+/// each pass number is one, which runs the steps of its passes in order; the call ends when all have ended. After 0, 4 and 21 `served`
+/// has the regions on which it served, and their passes.
 pub fn run_serve<I: Source, O: Sink, P: Door + Send, R: Threads + Wait + Sync, T: Turn + Sync>(
     rt: &R,
     alloc: Global,
@@ -149,8 +149,9 @@ where
     ensures accept_fault { result ≡ 21 → SomeRose P.Door doors.old doors.new }
 
     // After 0, 4 and 21 the regions are those of the script, each report of a door is that of a session on the seat at its position,
-    // the seat's passes have seen what these sessions did, and each pass of the script has made the entries of its own lines; after
-    // every other status nothing was served, but where a writer was refused memory.
+    // the seat's passes have seen what these sessions did, and each pass of the script has made the entries of its own lines. After 21
+    // all places were drawn, unless every door failed. After every other status nothing was served, but where a writer was refused
+    // memory.
     ensures served { ServedIsExact (map string_bytes words.now) (source_side I.Source input.old input.new) (doors_side P.Door doors.old doors.new) served.new result }
 
     // A script that may be served is served.

@@ -10,9 +10,9 @@ use Rattle.pcp_outside.specs.Causes.{Rose}
 use Rattle.pcp_outside.specs.declared.doors.Door.{Ghosts}
 use Rattle.pmcd_server.specs.Draws.{sum_below, AreBelow}
 use Rattle.pmcd_server.specs.Turns.{Turn}
-use Rattle.pmcd_server.specs.Works.{Failure, Nowhere, AtNext, AtEnded, HasStopped, AreReported, Work, IsWork}
+use Rattle.pmcd_server.specs.Works.{Failure, Nowhere, AtNext, AtEnded, HasStopped, HasDrawnAll, AreReported, Work, IsWork}
 use Rattle.pmcd_server.specs.Places.{Drawer}
-use Rattle.pmcd_server.specs.Crews.{DrewAll, places_of, NoneFailed, SomeFailed, SomeRose}
+use Rattle.pmcd_server.specs.Crews.{AllFailed, DrewAll, HaveServedOn, places_of, NoneFailed, SomeFailed, SomeRose}
 
 -- numbers below the count alone weigh, or those beyond it alone
 abbrev near : ℕ → (ℕ → ℕ) → ℕ → ℕ
@@ -166,11 +166,31 @@ module _ {P In Out Time : Type 0} (rows : List Mounted) (d : Ghosts P In Out Tim
       let nothing : sum_by weigh start.drawn ≡ 0 = ap (λ (l : List ℕ). sum_by weigh l) none in
       omega arith
 
-  -- the places drawn are numbers from 0 upwards, each once
+  failed_or : {F : Type 0} (failure : Failure) → (failure ≡ Nowhere → F) → (failure ≢ Nowhere) ⊎ F
+  failed_or Nowhere whole = inr (whole refl)
+  failed_or AtNext whole = inl (λ h. let e : AtNext ≡ Nowhere = h in cc)
+  failed_or AtEnded whole = inl (λ h. let e : AtEnded ≡ Nowhere = h in cc)
+
+  -- a worker whose door didn't fail found no place left
+  all_failed_or : (works : List (Work P)) (fs : List ℕ) → AllByRecursion (λ w. HasDrawnAll count w.places fs w.failure) works → AllFailed works ⊎ ((0 < length fs) ⊎ (count ≤ length (places_of works)))
+  all_failed_or [] fs ends = inl tt
+  all_failed_or (w ∷ works) fs ends =
+      let long : length (places_of (w ∷ works)) ≡ length w.places + length (places_of works) = length-append w.places (places_of works) in
+      ⊎_elim
+      (λ (here : w.failure ≢ Nowhere). ⊎_elim (λ (there : AllFailed works). inl (here, there))
+      (λ (whole : (0 < length fs) ⊎ (count ≤ length (places_of works))). inr (⊎_elim (λ (some : 0 < length fs). inl some) (λ (many : count ≤ length (places_of works)). inr (omega arith)) whole)) (all_failed_or works fs ends.1))
+      (λ (whole : (0 < length fs) ⊎ (count ≤ length w.places)). inr (⊎_elim (λ (some : 0 < length fs). inl some) (λ (many : count ≤ length w.places). inr (omega arith)) whole))
+      (failed_or w.failure ends.0)
+
+  -- the places drawn are numbers from 0 upwards, each once, and all of them unless every door failed
   pub served_some : (works : List (Work P)) (fs : List ℕ) (start last : Drawer) → start.drawn ≡ [] → DrewAll count works fs start last → AreBelow last.drawn (length last.drawn)
-      → AllByRecursion (IsWork rows d count) works → (m : ℕ) × (m ≤ count) × AreBelow (places_of works) m × (count ≤ length last.drawn → m ≡ count)
+      → AllByRecursion (IsWork rows d count) works → (m : ℕ) × (m ≤ count) × AreBelow (places_of works) m × HaveServedOn count m works
   served_some works fs start last none drew all each =
-      places_below count (length last.drawn) last.drawn (places_of works) fs (places_near works each) drew.far (from_none works fs start last none drew) all
+      let drawn = from_none works fs start last none drew in
+      let m = places_below count (length last.drawn) last.drawn (places_of works) fs (places_near works each) drew.far drawn all in
+      let on : HaveServedOn count m.0 works = ⊎_elim (λ (failed : AllFailed works). inr failed)
+      (λ (whole : (0 < length fs) ⊎ (count ≤ length (places_of works))). inl (m.3 (all_drawn count (length last.drawn) last.drawn (places_of works) fs drew.far drawn all whole))) (all_failed_or works fs drew.ends) in
+      (m.0, m.1, m.2, on)
 
   -- and all of them where no door failed
   pub served_all : (works : List (Work P)) (fs : List ℕ) (start last : Drawer) → start.drawn ≡ [] → DrewAll count works fs start last → AreBelow last.drawn (length last.drawn)
@@ -178,8 +198,5 @@ module _ {P In Out Time : Type 0} (rows : List Mounted) (d : Ghosts P In Out Tim
   served_all [] fs start last none drew all each well some = absurd (omega arith)
   served_all (w ∷ works) fs start last none drew all each well some =
       let m = served_some (w ∷ works) fs start last none drew all each in
-      let long : length (places_of (w ∷ works)) ≡ length w.places + length (places_of works) = length-append w.places (places_of works) in
-      let ends : (0 < length fs) ⊎ (count ≤ length (places_of (w ∷ works))) =
-      ⊎_elim (λ (beyond_there : 0 < length fs). inl beyond_there) (λ (whole : count ≤ length w.places). inr (omega arith)) (drew.ends.0 well.0) in
-      let enough : count ≤ length last.drawn = all_drawn count (length last.drawn) last.drawn (places_of (w ∷ works)) fs drew.far (from_none (w ∷ works) fs start last none drew) all ends in
-      subst (λ (n : ℕ). AreBelow (places_of (w ∷ works)) n) (m.3 enough) m.2
+      let whole : m.0 ≡ count = ⊎_elim (λ (is : m.0 ≡ count). is) (λ (failed : AllFailed (w ∷ works)). absurd (failed.0 well.0)) m.3 in
+      subst (λ (n : ℕ). AreBelow (places_of (w ∷ works)) n) whole m.2

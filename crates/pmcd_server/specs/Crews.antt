@@ -41,6 +41,14 @@ abbrev pub SomeFailed : {P : Type 0} → List (Work P) → Type 0
 SomeFailed [] = ⊥
 SomeFailed (w ∷ ws) = (w.failure ≢ Nowhere) ⊎ SomeFailed ws
 
+-- every door failed
+abbrev pub AllFailed : {P : Type 0} → List (Work P) → Type 0
+AllFailed works = AllByRecursion (λ w. w.failure ≢ Nowhere) works
+
+-- Each worker served on until no place was left or its own door failed: so all places were drawn, or every door failed.
+abbrev pub HaveServedOn : {P : Type 0} → ℕ → ℕ → List (Work P) → Type 0
+HaveServedOn count drawn works = (drawn ≡ count) ⊎ AllFailed works
+
 -- One worker drew places and served sessions for them, until no place was left, or its door failed; it tells which.
 abbrev pub HasWorked : {P In Out Time : Type 0} → List Mounted → Ghosts P In Out Time → ℕ → Seated → P → Drawer → Seated → P → Drawer → Bool → Type 0
 HasWorked rows d count seat door own seat_after door_after own_after is_well =
@@ -64,11 +72,12 @@ SomeRose d [] after = ⊥
 SomeRose d (p ∷ ps) [] = ⊥
 SomeRose d (p ∷ ps) (q ∷ qs) = Rose (d.faults p) (d.faults q) ⊎ SomeRose d ps qs
 
--- All places were drawn, and for each of them a session was served; or a door failed; or nothing was begun for want of memory.
+-- All places were drawn, and for each of them a session was served; or a door failed, and the other workers served on; or nothing
+-- was begun for want of memory.
 -- The places drawn are the numbers from 0 upwards, each once.
 abbrev pub HasServed : {P In Out Time : Type 0} → List Mounted → Ghosts P In Out Time → ℕ → List Seated → List P → List Seated → List P → Result ℕ ServeFault → Type 0
 HasServed {P} rows d count seats doors seats_after doors_after (Ok n) =
     (n ≡ count) × (works : List (Work P)) × AreWorks rows d count seats doors works seats_after doors_after × NoneFailed works × AreBelow (places_of works) count
 HasServed {P} rows d count seats doors seats_after doors_after (Err Accept) =
-    (works : List (Work P)) × AreWorks rows d count seats doors works seats_after doors_after × SomeFailed works × (n : ℕ) × (n ≤ count) × AreBelow (places_of works) n
+    (works : List (Work P)) × AreWorks rows d count seats doors works seats_after doors_after × SomeFailed works × (n : ℕ) × (n ≤ count) × AreBelow (places_of works) n × HaveServedOn count n works
 HasServed rows d count seats doors seats_after doors_after (Err NoMemory) = (seats_after ≡ seats) × (doors_after ≡ doors)

@@ -100,7 +100,8 @@ where
 
 /// Serves so many connections, by one worker for each seat over the door at its position, beside each other. Each worker
 /// draws a place, takes a connection of its door, serves a session over it and hands it back, until no place is left or its
-/// door has failed. `Accept` comes only where a door failed, and then the other workers have served on.
+/// door has failed. `Accept` comes only where a door failed, and then the other workers have served on: all places were
+/// drawn, unless every door failed.
 pub fn serve<P: Door + Send, R: Threads + Sync>(
     rt: &R,
     alloc: Global,

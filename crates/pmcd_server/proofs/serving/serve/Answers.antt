@@ -14,7 +14,7 @@ returns-then-not-is_well-clause-served g c =
     let w = c.if-not-is_well.ensures.works in
     let start : c.in_ok-places.drawer.drawn ≡ [] = ap (λ (x : Drawer). x.drawn) c.in_ok-places.ensures in
     let m = served_some c.args.server.now g.P.Door c.args.count w.0 w.1 c.in_ok-places.drawer c.run-is_well.new.drawer start w.3 c.close.ensures w.2.each in
-    (w.0, w.2, w.4, m.0, m.1, m.2)
+    (w.0, w.2, w.4, m.0, m.1, m.2, m.3)
 
 pub returns-then-not-is_well-clause-accept : goal.returns-then-not-is_well-clause-accept
 returns-then-not-is_well-clause-accept g c is =
