@@ -9,7 +9,8 @@ use Rattle.run_script.specs.declared.fault.ScriptFault.{ScriptFault}
 use Rattle.run_script.specs.declared.script.Script.{Script}
 use Rattle.script_passes.specs.declared.opening.Opened.{Opened}
 use Rattle.script_records.specs.Recordings.{Records}
-use Rattle.script_replays.specs.Replays.{disk_pair}
+use Rattle.script_records.specs.Stopping.{WhyAsked, WhyStopped}
+use Rattle.script_replays.specs.Replays.{IsRecovered, disk_pair}
 use Rattle.script_runs.specs.declared.ending.Ending.{Ending}
 use Rattle.script_runs.specs.declared.ending.Ending.TheVariants as ends
 use Rattle.script_runs.specs.declared.ending.LimitKind.{LimitKind}
@@ -23,7 +24,7 @@ use Rattle.pm_words.specs.declared.stage.ReadRefusal.TheVariants.{ReadFault, Inp
 use Rattle.pm_recording.specs.declared.words.RecordWords.{RecordWords}
 use Rattle.pm_recording.specs.CommandWords.{asked_of}
 use Rattle.pm_recording.specs.Ends.{Asks, Cause, Ends, EndsDone, Finds, IsAsked, Ran}
-use Rattle.pm_recording.specs.Facts.{ArchiveFaultIsExact, ClockIsExact, ComesOfRun, LimitIsExact, OpensRegions, RunIsExact, ScriptFaultIsExact, UsageIsExact}
+use Rattle.pm_recording.specs.Facts.{ArchiveFaultIsExact, ClockIsExact, ComesOfRun, IsLimited, LimitIsExact, OpensRegions, RunIsExact, ScriptFaultIsExact, UsageIsExact}
 use Rattle.pm_recording.specs.Good.{Meets}
 use Rattle.pm_recording.specs.Recording.{IsUnrun, RunSide}
 use Rattle.pm_recording.specs.Scripts.{script_recorded}
@@ -120,7 +121,7 @@ module _ {C D : Type 0} (words : List (List ℕ)) (s : SourceSide) (k : SinkSide
 
   abbrev LimitCause : Type 0
   LimitCause = (IsAsked words × (s.tells → (input_limit < length s.left) × (s.after ≡ drop 16777217 s.left)))
-      ⊎ (((fault : ScriptFault) × (script_status fault.fault ≡ 7) × Finds words s fault) ⊎ ((what : LimitKind) × (number : ℕ) × Ran words s o opened (ends.Limit what number)))
+      ⊎ (((fault : ScriptFault) × (script_status fault.fault ≡ 7) × Finds words s fault) ⊎ ((what : LimitKind) × (number : ℕ) × IsLimited words s o opened what number))
 
   limit_only : (e : Refusal) → Cause words s e → IsUnrun o opened → status_of e ≡ 7 → LimitCause
   limit_only (Words usage) c u h = absurd (omega (arith, h))
@@ -130,8 +131,15 @@ module _ {C D : Type 0} (words : List (List ℕ)) (s : SourceSide) (k : SinkSide
   limit_only (Disk e) c u h = absurd c
   limit_only NoMemory c u h = absurd (omega (arith, h))
 
+  limited_by : (what : LimitKind) (number : ℕ) → Ran words s o opened (ends.Limit what number) → IsLimited words s o opened what number
+  limited_by what number ran = record {
+    ran = ran;
+    asked = subst (λ (x : Ending). WhyAsked ran.has.was.recording.beside.sampled x) ran.ended ran.has.was.recording.asked;
+    why = λ tells. subst (λ (x : Ending). WhyStopped ran.has.was.recording.beside.sampled ran.asks.asked.volume (IsRecovered (contents_of (o.disk.held o.disk_was))) x) ran.ended (ran.has.was.recording.why tells);
+  }
+
   limit_ran : (ending : Ending) → ending ≢ ends.Done → Ran words s o opened ending → ended_status ending ≡ 7 → LimitCause
-  limit_ran (ends.Limit what number) other ran h = inr (inr (what, number, ran))
+  limit_ran (ends.Limit what number) other ran h = inr (inr (what, number, limited_by what number ran))
   limit_ran ending other ran h = absurd (omega (arith, h))
 
   pub limit_is_exact : (status : ℕ) → End status → LimitIsExact words s o opened status

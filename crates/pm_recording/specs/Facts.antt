@@ -11,6 +11,8 @@ use Rattle.record_run.specs.SinceRecovery.{FromRecovery}
 use Rattle.run_script.specs.declared.fault.ScriptFault.{ScriptFault}
 use Rattle.run_script.specs.declared.script.Script.{Script}
 use Rattle.script_passes.specs.declared.opening.Opened.{Opened}
+use Rattle.script_records.specs.Stopping.{WhyAsked, WhyStopped}
+use Rattle.script_replays.specs.Replays.{IsRecovered}
 use Rattle.script_runs.specs.declared.ending.Ending.{Ending}
 use Rattle.script_runs.specs.declared.ending.Ending.TheVariants as ends
 use Rattle.script_runs.specs.declared.ending.LimitKind.{LimitKind}
@@ -39,11 +41,18 @@ pub record ScriptFaultIsExact (words : List (List ℕ)) (s : SourceSide) (status
   pub only : status ≡ 2 → (fault : ScriptFault) × (script_status fault.fault ≡ 2) × Finds words s fault
   pub always : Meets words s → (fault : ScriptFault) → script_recorded s.left ≡ Err fault → (status ≡ script_status fault.fault) ⊎ ((status ≡ 9) ⊎ (status ≡ 3))
 
+-- The run ended by this limit, for its cause: so many metrics are asked for by a sample, whatever the disk tells; or else, as a disk that
+-- tells its files shows, the archive doesn't take what is shown.
+pub record IsLimited {C D : Type 0} (words : List (List ℕ)) (s : SourceSide) (o : RunSide C D) (opened : Option Opened) (what : LimitKind) (number : ℕ) : Type 0 where
+  pub ran : Ran words s o opened (ends.Limit what number)
+  pub asked : WhyAsked ran.has.was.recording.beside.sampled (ends.Limit what number)
+  pub why : o.disk.tells → WhyStopped ran.has.was.recording.beside.sampled ran.asks.asked.volume (IsRecovered (contents_of (o.disk.held o.disk_was))) (ends.Limit what number)
+
 -- 7 exactly where the input is above 16 MiB, of which one byte above the limit is taken and no further one, or the script has a
 -- region too many; else only where there is too much of something in the run
 pub record LimitIsExact {C D : Type 0} (words : List (List ℕ)) (s : SourceSide) (o : RunSide C D) (opened : Option Opened) (status : ℕ) : Type 0 where
   pub only : status ≡ 7 → (IsAsked words × (s.tells → (input_limit < length s.left) × (s.after ≡ drop 16777217 s.left)))
-      ⊎ (((fault : ScriptFault) × (script_status fault.fault ≡ 7) × Finds words s fault) ⊎ ((what : LimitKind) × (number : ℕ) × Ran words s o opened (ends.Limit what number)))
+      ⊎ (((fault : ScriptFault) × (script_status fault.fault ≡ 7) × Finds words s fault) ⊎ ((what : LimitKind) × (number : ℕ) × IsLimited words s o opened what number))
   pub always : IsAsked words → s.tells → input_limit < length s.left → (status ≡ 7) ⊎ ((status ≡ 9) ⊎ (status ≡ 3))
 
 -- The run

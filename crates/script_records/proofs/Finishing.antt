@@ -100,6 +100,7 @@ module _ {C D : Type 0} (c : ClockGhosts C) (d : DiskGhosts D) (clock_was clock_
     counts = counts_as samples h.moments h.results r ending archive.logged h.took (subst (λ (e : Ending). TellsEnd e r.output archive.logged) (ended ∙ sym is) f.told) h.counted;
     clock = h.clock;
     came = λ tells other. absurd (other is);
+    asked = h.asked;
     why = h.why;
     tried = h.tried;
     tried_are = h.tried_are;
@@ -137,6 +138,7 @@ module _ {C D : Type 0} (c : ClockGhosts C) (d : DiskGhosts D) (clock_was clock_
       counts = counts_as samples h.moments h.results r ending archive.logged h.took (told_as ending is) h.counted;
       clock = h.clock;
       came = λ tells other. came_over ending (λ may. may) (λ failing. well (sym is ∙ failing)) tells;
+      asked = h.asked;
       why = h.why;
       tried = λ told. h.results;
       tried_are = λ told. tried_same h.beside.sampled limit (λ (files : Files). files ≡ left) ending;
@@ -154,6 +156,7 @@ module _ {C D : Type 0} (c : ClockGhosts C) (d : DiskGhosts D) (clock_was clock_
       counts = told_as ends.DiskFault is;
       clock = h.clock;
       came = λ tells other. absurd (other refl);
+      asked = tt;
       why = λ tells. tt;
       tried = λ told. h.results;
       tried_are = λ told. inl refl;
@@ -171,6 +174,7 @@ module _ {C D : Type 0} (c : ClockGhosts C) (d : DiskGhosts D) (clock_was clock_
       counts = told_as ends.NoMemory is;
       clock = h.clock;
       came = λ tells other. came_over ends.NoMemory (λ may. tt) (λ failing. let no : ends.NoMemory ≡ ends.DiskFault = sym is ∙ failing in cc) tells;
+      asked = tt;
       why = λ tells. tt;
       tried = λ told. h.results;
       tried_are = λ told. refl;

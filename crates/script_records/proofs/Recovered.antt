@@ -29,7 +29,7 @@ use Rattle.script_samples.specs.Shown.{items_of_results}
 use Rattle.script_records.specs.Beside.{Beside}
 use Rattle.script_records.specs.Halting.{CameOver, EndsSamples, IsRecorded}
 use Rattle.script_records.specs.Recordings.{CameTo, Counts, IsRecording, Records}
-use Rattle.script_records.specs.Stopping.{WhyStopped}
+use Rattle.script_records.specs.Stopping.{WhyAsked, WhyStopped}
 use Rattle.script_records.proofs.Settling.{tried_over, tried_same}
 use Rattle.script_records.proofs.Stopping.{why_over}
 
@@ -98,6 +98,7 @@ module _ {C D : Type 0} (c : ClockGhosts C) (d : DiskGhosts D) (only_now : (disk
       counts = f.counts;
       clock = f.clock;
       runs = λ tells. records_end f.results r.ending f.so_ends (done tells) (f.came tells);
+      asked = f.asked;
       why = λ tells.
           why_over f.beside.sampled limit (λ (files : Files). files ≡ left) (IsRecovered (contents_of (d.held old))) (found_recovered (done tells)) r.ending (f.why tells);
       tried = f.tried;
@@ -126,8 +127,11 @@ module _ {C D : Type 0} (c : ClockGhosts C) (d : DiskGhosts D) (only_now : (disk
     abbrev Why : Ending → Type 0
     Why e = WhyStopped beside.sampled limit (IsRecovered (contents_of (d.held old))) e
 
-    refused_as : (e : Ending) → r.ending ≡ e → Counts samples [] [] r e → Why e → (d.tells → Records limit (disk_pair d old new) [] e) → (d.tells → SinceRecovered d [] old new e) → IsRecording c d clock_was clock_is old new script limit samples server first final r
-    refused_as e is counts why records since = record {
+    abbrev Asked : Ending → Type 0
+    Asked e = WhyAsked beside.sampled e
+
+    refused_as : (e : Ending) → r.ending ≡ e → Counts samples [] [] r e → Asked e → Why e → (d.tells → Records limit (disk_pair d old new) [] e) → (d.tells → SinceRecovered d [] old new e) → IsRecording c d clock_was clock_is old new script limit samples server first final r
+    refused_as e is counts asked why records since = record {
       moments = [];
       results = [];
       beside = beside;
@@ -135,6 +139,7 @@ module _ {C D : Type 0} (c : ClockGhosts C) (d : DiskGhosts D) (only_now : (disk
       counts = subst (λ (x : Ending). Counts samples [] [] r x) (sym is) counts;
       clock = λ tells. still;
       runs = λ tells. subst (λ (x : Ending). Records limit (disk_pair d old new) [] x) (sym is) (records tells);
+      asked = subst (λ (x : Ending). Asked x) (sym is) asked;
       why = λ tells. subst (λ (x : Ending). Why x) (sym is) why;
       tried = λ told. [];
       tried_are = λ told. tried_same beside.sampled limit (IsRecovered (contents_of (d.held old))) r.ending;
@@ -144,12 +149,12 @@ module _ {C D : Type 0} (c : ClockGhosts C) (d : DiskGhosts D) (only_now : (disk
 
     module _ (fault : RecoverFault) (cause : d.tells → IsRecoverFault (d.wrapped_file old) (contents_of (d.held old)) fault) (same : d.tells → fault ≢ recovery.DiskFault → d.held new ≡ d.held old) where
       wanted : fault ≢ recovery.DiskFault → r.ending ≡ ends.NoMemory → IsRecording c d clock_was clock_is old new script limit samples server first final r
-      wanted other is = refused_as ends.NoMemory is nothing tt (λ tells. inl (record { stays = same tells other; none = refl })) (λ tells. inl (refl, same tells other))
+      wanted other is = refused_as ends.NoMemory is nothing tt tt (λ tells. inl (record { stays = same tells other; none = refl })) (λ tells. inl (refl, same tells other))
 
     unrecovered : (fault : RecoverFault) → r.ending ≡ ended_by fault → (d.tells → IsRecoverFault (d.wrapped_file old) (contents_of (d.held old)) fault) → (d.tells → fault ≢ recovery.DiskFault → d.held new ≡ d.held old) → IsRecording c d clock_was clock_is old new script limit samples server first final r
-    unrecovered (recovery.Compressed file) is cause same = refused_as (ends.Compressed file) is nothing tt (λ tells. (cause tells, record { stays = same tells (λ e. cc); none = refl })) (λ tells. tt)
-    unrecovered (recovery.NotArchive file at) is cause same = refused_as (ends.NotArchive file at) is nothing tt (λ tells. (cause tells, record { stays = same tells (λ e. cc); none = refl })) (λ tells. tt)
-    unrecovered recovery.DiskFault is cause same = refused_as ends.DiskFault is nothing tt (λ tells. tt) (λ tells. inl (refl, half tells))
+    unrecovered (recovery.Compressed file) is cause same = refused_as (ends.Compressed file) is nothing tt tt (λ tells. (cause tells, record { stays = same tells (λ e. cc); none = refl })) (λ tells. tt)
+    unrecovered (recovery.NotArchive file at) is cause same = refused_as (ends.NotArchive file at) is nothing tt tt (λ tells. (cause tells, record { stays = same tells (λ e. cc); none = refl })) (λ tells. tt)
+    unrecovered recovery.DiskFault is cause same = refused_as ends.DiskFault is nothing tt tt (λ tells. tt) (λ tells. inl (refl, half tells))
     unrecovered recovery.NoMemory is cause same = wanted recovery.NoMemory cause same (λ e. cc) is
 
     pub record_refused : (fault : RecoverFault) → (r.ending ≡ ended_by fault) ⊎ ((ended_by fault ≢ ends.DiskFault) × (r.ending ≡ ends.NoMemory)) → (d.tells → IsRecoverFault (d.wrapped_file old) (contents_of (d.held old)) fault) → (d.tells → fault ≢ recovery.DiskFault → d.held new ≡ d.held old)

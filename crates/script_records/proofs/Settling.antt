@@ -34,9 +34,9 @@ use Rattle.script_samples.specs.Shown.{AreShown, LogsEach, items_of_results}
 use Rattle.script_records.specs.Beside.{AtJournals, EndsBy, IsFinishedUnlessWanting, IsLegal, LoggerLoads, IsSampled, SeesOn, StandsBehind, StopsLogging, WritersRan}
 use Rattle.script_records.specs.Halting.{EndsSamples, Halts, IsStandingFound, OpenedFor, RefusedBy, StandsAfter, Took}
 use Rattle.script_records.specs.Recordings.{IsTried, MayHaveOpened, OnItsWay}
-use Rattle.script_records.specs.Stopping.{WhyStopped}
+use Rattle.script_records.specs.Stopping.{WhyAsked, WhyStopped}
 use Rattle.script_records.proofs.Phases.{Failed, Went, Yields, told_stops}
-use Rattle.script_records.proofs.Stopping.{AsksMany, NoRefusal, fault_why, turned_why, unrefused}
+use Rattle.script_records.proofs.Stopping.{AsksMany, NoRefusal, fault_asked, fault_why, none_asked, turned_why, unrefused}
 use Rattle.script_records.proofs.Stretches.{Whole}
 use Rattle.script_records.proofs.Undone.{want_undone}
 
@@ -231,6 +231,18 @@ module _ {C D : Type 0} (c : ClockGhosts C) (d : DiskGhosts D) (script : Script)
   abbrev Why : Ending → Type 0
   Why x = WhyStopped sampled was.archive.limit (λ (files : Files). files ≡ left) x
 
+  abbrev Asked : Ending → Type 0
+  Asked x = WhyAsked sampled x
+
+  many_asked : NoRefusal e ⊎ AsksMany script.config.groups server w.before w.after e w.lacking y.later → Asked e
+  many_asked (inl none) = none_asked sampled was.archive.limit e none
+  many_asked (inr a) = subst (λ (x : Ending). Asked x) (sym a.is)
+      (λ is. record { stamp = a.stamp; lacks = a.lacks; before = w.before; after = w.after; names = a.names; read = a.read; place = w.place; many = a.many; what_is = refl; number_is = refl })
+
+  asked : How → Asked e
+  asked (inl went) = many_asked went.why
+  asked (inr failed) = subst (λ (x : Ending). Asked x) (sym failed.why) (fault_asked sampled was.archive.limit failed.fault)
+
   why_asked : NoRefusal e ⊎ AsksMany script.config.groups server w.before w.after e w.lacking y.later → Why e
   why_asked (inl none) = unrefused sampled was.archive.limit (λ (files : Files). files ≡ left) e none
   why_asked (inr a) = subst (λ (x : Ending). Why x) (sym a.is)
@@ -321,6 +333,7 @@ module _ {C D : Type 0} (c : ClockGhosts C) (d : DiskGhosts D) (script : Script)
         clock = y.moments;
         kept = kept y.how;
         counted = λ other. omega (arith, none, y.counted);
+        asked = with_last (λ (x : Ending). Asked x) e ending ends_with tt (asked y.how);
         why = λ tells. with_last (λ (x : Ending). Why x) e ending ends_with tt (why y.how tells);
         tried = λ told. (tries y.how told).tried;
         tried_are = λ told. (tries y.how told).are;

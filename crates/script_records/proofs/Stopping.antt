@@ -1,6 +1,8 @@
 -- Why a recording ends as it does, from what stopped its samples.
 use Rattle.std.proofs.Common.{◌≡◌, ◌⊎◌, inl, inr, ℕ, ◌<◌, List, [], ◌∷◌, length, Option, Some, refl, sym, subst}
 use Rattle.pcp_base.specs.Time.{Moment}
+use Rattle.pcp_base.specs.declared.file.FileId.{FileId}
+use Rattle.pcp_base.specs.declared.file.FileId.TheVariants as files
 use Rattle.pcp_base.specs.declared.result.Item.{Item}
 use Rattle.pcp_model.specs.Disk.{Files, Holdings}
 use Rattle.region_rule.specs.Seats.{Token}
@@ -15,14 +17,14 @@ use Rattle.run_script.specs.declared.script.Script.{Script}
 use Rattle.script_runs.specs.declared.ending.Ending.{Ending}
 use Rattle.script_runs.specs.declared.ending.Ending.TheVariants as ends
 use Rattle.script_runs.specs.declared.ending.LimitKind.TheVariants as kinds
-use Rattle.script_runs.specs.Archives.{Stand, ending_of}
+use Rattle.script_runs.specs.Archives.{Stand, ending_of, full_of}
 use Rattle.script_runs.specs.Groups.{Plan}
 use Rattle.record_run.specs.declared.archive.RunArchive.{RunArchive}
 use Rattle.record_run.specs.Endings.{ending_after}
 use Rattle.record_run.specs.Going.{LogFails, TurnsAway}
 use Rattle.script_samples.specs.Shown.{pmids_by}
 use Rattle.script_records.specs.Beside.{IsSampled}
-use Rattle.script_records.specs.Stopping.{IsTurnedAway, WhyStopped}
+use Rattle.script_records.specs.Stopping.{IsTurnedAway, WhyAsked, WhyStopped}
 
 -- an ending without a refusal
 abbrev pub NoRefusal : Ending → Type 0
@@ -66,6 +68,35 @@ fault_why left items least last f archive held faults.DiskFault fails = inl tt
 -- Each ending
 
 module _ {script : Script} {server : List Mounted} {first final : List Token} {ending : Ending} {moments : List Moment} {results : List Fetched} (sampled : IsSampled script server first final ending moments results) (limit : ℕ) where
+  -- no metrics were asked for in vain
+  pub none_asked : (e : Ending) → NoRefusal e → WhyAsked sampled e
+  none_asked ends.Done none = tt
+  none_asked ends.DiskFault none = tt
+  none_asked (ends.Condition line) none = tt
+  none_asked (ends.NotArchive file at) none = tt
+  none_asked (ends.Compressed file) none = tt
+  none_asked (ends.Limit what number) none = absurd none
+  none_asked (ends.ClockEnd samples) none = tt
+  none_asked (ends.ClockFault samples) none = tt
+  none_asked ends.NoMemory none = tt
+  none_asked (ends.NotLater last) none = tt
+  none_asked (ends.Changed pmid) none = tt
+
+  full_asked : (file : FileId) (bytes : ℕ) → WhyAsked sampled (full_of file bytes)
+  full_asked files.Meta bytes = λ is. cc
+  full_asked files.Index bytes = λ is. cc
+  full_asked (files.Volume n) bytes = λ is. cc
+
+  -- nor where the archive refuses a result
+  pub fault_asked : (fault : LogFault) → WhyAsked sampled (ending_after fault)
+  fault_asked faults.Closed = tt
+  fault_asked (faults.Large bytes) = λ is. cc
+  fault_asked (faults.NotLater last) = tt
+  fault_asked (faults.Changed pmid) = tt
+  fault_asked (faults.Full file bytes) = full_asked file bytes
+  fault_asked faults.NoMemory = tt
+  fault_asked faults.DiskFault = tt
+
   -- without a refusal nothing is to be shown
   pub unrefused : (IsFound : Files → Type 0) (e : Ending) → NoRefusal e → WhyStopped sampled limit IsFound e
   unrefused IsFound ends.Done none = tt

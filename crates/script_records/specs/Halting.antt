@@ -22,7 +22,7 @@ use Rattle.script_replays.specs.Finals.{IsFlushed, IsKept}
 use Rattle.script_samples.specs.Shown.{LogsEach, items_of_results}
 use Rattle.script_records.specs.Beside.{Beside}
 use Rattle.script_records.specs.Recordings.{Counts, FilesAre, MayHaveOpened, IsTried}
-use Rattle.script_records.specs.Stopping.{WhyStopped}
+use Rattle.script_records.specs.Stopping.{WhyAsked, WhyStopped}
 
 -- how many moments were taken
 abbrev pub Took : ℕ → ℕ → Ending → Type 0
@@ -65,6 +65,7 @@ module _ {C D : Type 0} (c : ClockGhosts C) (d : DiskGhosts D) (clock_was clock_
     pub clock : c.tells → c.left clock_was ≡ moments ++ c.left clock_is
     pub kept : d.tells → ending ≢ ends.DiskFault → (stand : Stand) × StandsAfter limit left results ending stand × IsKept left (items_of_results results) stand archive (d.held new)
     pub counted : ending ≢ ends.DiskFault → archive.logged ≡ length results
+    pub asked : WhyAsked beside.sampled ending
     pub why : d.tells → WhyStopped beside.sampled limit (λ (files : Files). files ≡ left) ending
     pub tried : d.tells → List Fetched
     pub tried_are : (told : d.tells) → IsTried beside.sampled limit (λ (files : Files). files ≡ left) ending (tried told)
@@ -106,6 +107,7 @@ module _ {C D : Type 0} (c : ClockGhosts C) (d : DiskGhosts D) (clock_was clock_
     pub counts : Counts samples moments results r ending
     pub clock : c.tells → c.left clock_was ≡ moments ++ c.left clock_is
     pub came : d.tells → ending ≢ ends.DiskFault → CameOver limit left results ending (d.held new)
+    pub asked : WhyAsked beside.sampled ending
     pub why : d.tells → WhyStopped beside.sampled limit (λ (files : Files). files ≡ left) ending
     pub tried : d.tells → List Fetched
     pub tried_are : (told : d.tells) → IsTried beside.sampled limit (λ (files : Files). files ≡ left) ending (tried told)

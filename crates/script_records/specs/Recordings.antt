@@ -25,7 +25,7 @@ use Rattle.script_samples.specs.Sampling.{HasEnded}
 use Rattle.script_samples.specs.Samples.{SampleTaken}
 use Rattle.script_samples.specs.Shown.{LogsEach, items_of_results, pmids_by, shown_by}
 use Rattle.script_records.specs.Beside.{Beside, IsSampled}
-use Rattle.script_records.specs.Stopping.{WhyStopped}
+use Rattle.script_records.specs.Stopping.{WhyAsked, WhyStopped}
 
 -- Files
 
@@ -115,7 +115,8 @@ module _ {C D : Type 0} (c : ClockGhosts C) (d : DiskGhosts D) (clock_was clock_
     pub counts : Counts samples moments results r r.ending
     pub clock : c.tells → c.left clock_was ≡ moments ++ c.left clock_is
     pub runs : d.tells → Records limit (disk_pair d old new) results r.ending
-    -- where it ends because a result was refused, why
+    -- where it ends because too many metrics are asked for, whatever the disk tells; and where a result was refused, why
+    pub asked : WhyAsked beside.sampled r.ending
     pub why : d.tells → WhyStopped beside.sampled limit (IsRecovered (contents_of (d.held old))) r.ending
     -- a crash at any moment, over a settled disk, leaves all items of the start, and the first ones of what was to be logged; over any
     -- disk so from the moment on at which recovery answered

@@ -51,7 +51,12 @@ module _ {script : Script} {server : List Mounted} {first final : List Token} {e
     pub refuses : Refuses limit shows old fault
     pub ends_so : ending_of fault ≡ Some reason
 
-  -- Each of these endings has its cause. Of the others nothing is said here.
+  -- The limit of sets has its cause over any disk, also one that tells nothing. Of the other endings nothing is said here.
+  abbrev pub WhyAsked : Ending → Type 0
+  WhyAsked (ends.Limit what number) = what ≡ kinds.Sets → AsksTooMany what number
+  WhyAsked reason = Unit {0}
+
+  -- Over files each of these endings has its cause. Of the others nothing is said here.
   abbrev pub WhyStopped : ℕ → (Files → Type 0) → Ending → Type 0
   WhyStopped limit IsFound (ends.Limit what number) = AsksTooMany what number ⊎ IsTurnedAway limit IsFound (ends.Limit what number)
   WhyStopped limit IsFound (ends.NotLater last) = IsTurnedAway limit IsFound (ends.NotLater last)
