@@ -122,10 +122,12 @@ returns-in-None-clause-ran g c = λ input.
     let r = c.in_ok-replayed.replayed in
     let same = is_done r.ending (no_clock (g.D.Disk.faults c.args.disk.now) (g.D.Disk.faults c.run_script.new.disk) r.ending run.cause) (sym c.of_ending.ensures ∙ c.in-None.is) in
     let was = looked_was g.D.Disk c.in_ok-script.script c.args.asked.now.volume c.args.disk.now c.run_script.new.disk c.summary.new.disk run.there r same c.summary.ensures.looks c.run_script.new.opened run refl in
-    ran_regions (making c.args.asked.now) input c.in_ok-script.script (ap (λ (s : Script). Some s) (sym c.in_ok-script.ensures)) refl g.D.Disk c.args.disk.now c.summary.new.disk c.run_script.new.opened r was (Ok c.in_ok-text-in-None.text)
-    (same, λ t.
-      summarized c.in_ok-script.script r.logged c.adds_of-adds.result.0 c.adds_of-adds.result.1 r.logged refl (c.adds_of-adds.ensures.adds ∙ ap adds_in c.as_slice.ensures) (c.adds_of-adds.ensures.total ∙ ap total_in c.as_slice.ensures) (g.D.Disk.held c.run_script.new.disk)
-      (g.D.Disk.held c.summary.new.disk) (c.summary.ensures.looks.held t) c.in_ok-text-in-None.text (c.in_ok-text-in-None.ensures.counted t))
+    ran_regions (making c.args.asked.now) input c.in_ok-script.script (ap (λ (s : Script). Some s) (sym c.in_ok-script.ensures)) refl g.D.Disk c.args.disk.now c.summary.new.disk c.run_script.new.opened r was (Ok c.in_ok-text-in-None.text) (
+      same,
+      λ t.
+          summarized c.in_ok-script.script r.logged c.adds_of-adds.result.0 c.adds_of-adds.result.1 r.logged refl (c.adds_of-adds.ensures.adds ∙ ap adds_in c.as_slice.ensures) (c.adds_of-adds.ensures.total ∙ ap total_in c.as_slice.ensures) (g.D.Disk.held c.run_script.new.disk)
+          (g.D.Disk.held c.summary.new.disk) (c.summary.ensures.looks.held t) c.in_ok-text-in-None.text (c.in_ok-text-in-None.ensures.counted t),
+    )
 
 pub returns-clause-cause : goal.returns-clause-cause
 returns-clause-cause g c = λ input.
