@@ -8,7 +8,7 @@ ghost use Rattle.pm_tasks.specs.Ends.{Runs, Ends, EndsDone, MayBeLeft};
 ghost use Rattle.pm_commands.specs.Facts.{UsageIsExact, LimitIsExact, InputFaultIsExact, RunIsExact, ArchiveFaultIsExact, NothingIsThere, IsAside, IsInputless, IsRefused, IsUnwritten, IsGoodRun, Keeps, OpensRegions};
 ghost use Rattle.pm_words.specs.Inputs.{input_limit};
 ghost use Rattle.pm_tasks.specs.Meanings.{meaning};
-ghost use Rattle.pm_tasks.specs.Regions.{AsksRun, CommandRan, RunsScript, WordsRan};
+ghost use Rattle.pm_tasks.specs.Regions.{AsksRun, CommandRan, RunsScript, StatusRan, WordsRan};
 ghost use Rattle.pm_runs.specs.Regions.{HasRegions};
 ghost use Rattle.pm_tasks.specs.Since.{CommandSince, WordsSince};
 ghost use Rattle.pcp_outside.specs.Sides.{source_side, sink_side};
@@ -43,7 +43,7 @@ fn serve<O: Sink, D: Disk>(
     ensures unread { IsUnread D.Disk disk.old → Leaves D.Disk disk.old disk.new CrashImage }
     ensures taken { D.tells → MayTake command.now (contents_of (D.held disk.old)) (D.taken disk.old) (D.taken disk.new) }
     ensures since { D.tells → HasRecovered result → CommandSince D.Disk command.now input.now disk.old disk.new }
-    ensures ran { CommandRan command.now input.now (disk_side D.Disk disk.old disk.new) opened.new }
+    ensures ran { CommandRan command.now input.now (disk_side D.Disk disk.old disk.new) opened.new result }
     ensures regions { RunsScript command.now → HasRegions result opened.new }
 {
     match command {
@@ -86,7 +86,7 @@ fn run<I: Source, O: Sink, D: Disk>(
     ensures unread { IsUnread D.Disk disk.old → Leaves D.Disk disk.old disk.new CrashImage }
     ensures taken { D.tells → TakesLittle (map string_bytes words.now) (contents_of (D.held disk.old)) (D.taken disk.old) (D.taken disk.new) }
     ensures since { D.tells → HasRecovered result → WordsSince D.Disk (map string_bytes words.now) (source_side I.Source input.old input.new) disk.old disk.new }
-    ensures ran { WordsRan (map string_bytes words.now) (source_side I.Source input.old input.new) (disk_side D.Disk disk.old disk.new) opened.new }
+    ensures ran { WordsRan (map string_bytes words.now) (source_side I.Source input.old input.new) (disk_side D.Disk disk.old disk.new) opened.new result }
     ensures regions { AsksRun (map string_bytes words.now) → HasRegions result opened.new }
 {
     let command = read_words(alloc, words)?;
@@ -111,7 +111,7 @@ fn answer<I: Source, O: Sink, D: Disk>(
     ensures unread { IsUnread D.Disk disk.old → Leaves D.Disk disk.old disk.new CrashImage }
     ensures taken { D.tells → TakesLittle (map string_bytes words.now) (contents_of (D.held disk.old)) (D.taken disk.old) (D.taken disk.new) }
     ensures since { D.tells → HadRecovered result → WordsSince D.Disk (map string_bytes words.now) (source_side I.Source input.old input.new) disk.old disk.new }
-    ensures ran { WordsRan (map string_bytes words.now) (source_side I.Source input.old input.new) (disk_side D.Disk disk.old disk.new) opened.new }
+    ensures ran { StatusRan (map string_bytes words.now) (source_side I.Source input.old input.new) (disk_side D.Disk disk.old disk.new) opened.new result }
     ensures regions { OpensRegions (map string_bytes words.now) (source_side I.Source input.old input.new) opened.new result }
 {
     let mut failed = false;
@@ -195,9 +195,10 @@ pub fn offline<I: Source, O: Sink, D: Disk>(
     // some first ones of the run.
     ensures since { D.tells → HadRecovered result → WordsSince D.Disk (map string_bytes words.now) (source_side I.Source input.old input.new) disk.old disk.new }
 
-    // The regions that are left are those on which the script's lines were run, and nothing else, as the seat has seen; where the
-    // disk tells they are the lines of the run that ended so. They are there wherever the run began, but for want of memory.
-    ensures ran { WordsRan (map string_bytes words.now) (source_side I.Source input.old input.new) (disk_side D.Disk disk.old disk.new) opened.new }
+    // The regions that are left are those on which the script's lines were run, and nothing else, as the seat has seen. Where the disk
+    // tells they are the lines of the run that the status tells of: after 0 it came to its end, and its lines and results are what is
+    // told. They are there wherever the run began, but for want of memory.
+    ensures ran { StatusRan (map string_bytes words.now) (source_side I.Source input.old input.new) (disk_side D.Disk disk.old disk.new) opened.new result }
     ensures regions { OpensRegions (map string_bytes words.now) (source_side I.Source input.old input.new) opened.new result }
 {
     answer(alloc, words, input, out, disk, opened)

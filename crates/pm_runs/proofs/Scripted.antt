@@ -1,5 +1,5 @@
 -- How a command ends that runs a script.
-use Rattle.std.proofs.Common.{◌≡◌, ◌≢◌, inl, inr, ⊎_elim, ℕ, ◌≤◌, Bool, List, [], ◌++◌, length, length-append, arith, Option, Some, None, Err, IsSome, refl, sym, ap, ◌∙◌, subst}
+use Rattle.std.proofs.Common.{◌≡◌, ◌≢◌, inl, inr, ⊎_elim, ℕ, ◌≤◌, Bool, List, [], ◌++◌, length, length-append, arith, Option, Some, None, Result, Err, IsSome, refl, sym, ap, ◌∙◌, subst}
 use Rattle.pcp_base.specs.declared.file.FileId.{FileId}
 use Rattle.pcp_base.specs.declared.result.Item.{Item}
 use Rattle.pcp_model.specs.Archive.{Readable, scan}
@@ -36,7 +36,7 @@ use Rattle.pcp_outside.specs.Sides.{SinkSide}
 use Rattle.pm_words.specs.Sides.{DiskSide, Found, Leaves, Untouched, disk_side, files_found}
 use Rattle.pm_words.specs.Streams.{IsSent}
 use Rattle.pm_words.specs.Serving.{StopCause, HasServed, MayLeave, Serves, HasRecovered}
-use Rattle.pm_runs.specs.Regions.{RanRegions, pair_of}
+use Rattle.pm_runs.specs.Regions.{AnswersRun, RanRegions, pair_of}
 use Rattle.pm_runs.specs.Running.{ToldRun, WasRun}
 use Rattle.pm_runs.specs.Scripts.{HasWritten, IsRunUnderWay, Halts, Leads, LogsFirst, OfScript, RanFirst, Runner, ending_of, runs_script, IsTurnedAway, ScriptSince}
 use Rattle.pm_runs.proofs.Mended.{not_both}
@@ -328,11 +328,19 @@ module _ (c : Runner) (input : List ℕ) (script : Script) (is : c.script input 
     since_stopped ends.NoMemory same refusal why = subst Behind (some_is NoMemory refusal why) (λ h t. absurd h)
 
   -- the regions that it leaves
-  pub ran_regions : {D : Type 0} (g : DiskGhosts D) (old new : D) (opened : Option Opened) (r : Replayed) → WasRun g script c.limit old new opened r → RanRegions c input (disk_side g old new) opened
-  ran_regions g old new opened r run = subst (λ (x : Option Opened). RanRegions c input (disk_side g old new) x) (sym run.is) (
+  pub ran_regions : {D : Type 0} (g : DiskGhosts D) (old new : D) (opened : Option Opened) (r : Replayed) → WasRun g script c.limit old new opened r → (answer : Result (List ℕ) Refusal) → AnswersRun c script (disk_side g old new) r answer
+      → RanRegions c input (disk_side g old new) opened answer
+  ran_regions g old new opened r run answer answers = subst (λ (x : Option Opened). RanRegions c input (disk_side g old new) x answer) (sym run.is) (
     script,
     is,
-    record { regions = run.regions; ran = run.ran; saw = run.saw; told = λ t. (r, (run.told t).items, (run.told t).regions, (run.told t).replays, (run.told t).saw) },
+    record {
+      run = r;
+      answers = answers;
+      regions = run.regions;
+      ran = run.ran;
+      saw = run.saw;
+      told = λ t. record { items = (run.told t).items; regions = (run.told t).regions; counted = (run.told t).counted; replays = (run.told t).replays; saw = (run.told t).saw };
+    },
   )
 
 -- a run that has no clock ends so

@@ -41,6 +41,8 @@ pub record Runner : Type 1 where
   pub says : Script → ℕ → List ℕ → Files → List ℕ → Type 0
   -- what it writes of the run's lines where the run ended before
   pub front : List ℕ → List ℕ
+  -- why what is to be written isn't told of a run that came to its end
+  pub untold : Refusal → Type 0
 
 -- what is so of the script of an input
 abbrev pub OfScript : Runner → List ℕ → (Script → Type 0) → Type 0

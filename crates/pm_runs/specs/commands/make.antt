@@ -1,5 +1,5 @@
 -- `make NUMBER TICKS VOLUME` runs the script that a number makes, and writes a summary in place of the run's lines.
-use Rattle.std.specs.Prelude.{◌≡◌, ℕ, List, [], ◌++◌, codes, length, None, Some}
+use Rattle.std.specs.Prelude.{◌≡◌, ◌⊎◌, ℕ, List, [], ◌++◌, codes, length, None, Some}
 use Rattle.pcp_base.specs.declared.file.FileId.TheVariants.{Meta}
 use Rattle.pcp_model.specs.Disk.{Files}
 use Rattle.pcp_outside.specs.Causes.{Rose, shown_count}
@@ -53,6 +53,7 @@ making asked = record {
   limit = asked.volume;
   says = λ script count output files text. Summarizes script count files text;
   front = λ output. [];
+  untold = λ e. (e ≡ NoMemory) ⊎ (e ≡ Disk DiskFault);
 }
 
 abbrev pub make : MakeWords → Meaning

@@ -7,6 +7,7 @@ use Rattle.run_script.specs.declared.script.Script.{Script}
 use Rattle.script_runs.specs.Once.{once_limit, once_script}
 use Rattle.script_runs.specs.PassSteps.{one_number}
 use Rattle.pm_words.specs.declared.words.OnceWords.{OnceWords}
+use Rattle.pm_words.specs.declared.refusal.Refusal.TheVariants.{NoMemory}
 use Rattle.pm_words.specs.Inputs.{image_refusal}
 use Rattle.pm_words.specs.Meaning.{Meaning}
 use Rattle.pm_runs.specs.Scripts.{Runner, runs_script}
@@ -25,6 +26,7 @@ logging asked = record {
   limit = once_limit;
   says = λ script count output files text. text ≡ logged_line count;
   front = λ output. [];
+  untold = λ e. e ≡ NoMemory;
 }
 
 abbrev pub once : OnceWords → Meaning

@@ -19,6 +19,7 @@ replaying volume = record {
   limit = volume;
   says = λ script count output files text. text ≡ output;
   front = λ output. output;
+  untold = λ e. ⊥;
 }
 
 abbrev pub replay : ℕ → Meaning

@@ -113,7 +113,7 @@ pub fn make<D: Disk>(
     ensures any_moment { (input : Sequence ℕ) → Leaves D.Disk disk.old disk.new (MayLeave (meaning_of_make asked.now) input) }
     ensures unread { IsUnread D.Disk disk.old → Leaves D.Disk disk.old disk.new CrashImage }
     ensures since { (input : Sequence ℕ) → D.tells → HasRecovered result → ScriptSince D.Disk (making asked.now) input disk.old disk.new }
-    ensures ran { (input : Sequence ℕ) → RanRegions (making asked.now) input (disk_side D.Disk disk.old disk.new) opened.new }
+    ensures ran { (input : Sequence ℕ) → RanRegions (making asked.now) input (disk_side D.Disk disk.old disk.new) opened.new result }
     ensures regions { HasRegions result opened.new }
 {
     let script = generate(alloc, asked.number, asked.ticks)?;

@@ -134,7 +134,7 @@ pub fn once<D: Disk>(
     ensures any_moment { Leaves D.Disk disk.old disk.new (MayLeave (meaning_of_once asked.now) input.now) }
     ensures unread { IsUnread D.Disk disk.old → Leaves D.Disk disk.old disk.new CrashImage }
     ensures since { D.tells → HasRecovered result → ScriptSince D.Disk (logging asked.now) input.now disk.old disk.new }
-    ensures ran { RanRegions (logging asked.now) input.now (disk_side D.Disk disk.old disk.new) opened.new }
+    ensures ran { RanRegions (logging asked.now) input.now (disk_side D.Disk disk.old disk.new) opened.new result }
     ensures regions { HasRegions result opened.new }
 {
     let script = prepare(alloc, asked, input)?;

@@ -52,7 +52,7 @@ pub fn replay<O: Sink, D: Disk>(
     ensures any_moment { Leaves D.Disk disk.old disk.new (MayLeave (meaning_of_replay volume) input.now) }
     ensures unread { IsUnread D.Disk disk.old → Leaves D.Disk disk.old disk.new CrashImage }
     ensures since { D.tells → HasRecovered result → ScriptSince D.Disk (replaying volume) input.now disk.old disk.new }
-    ensures ran { RanRegions (replaying volume) input.now (disk_side D.Disk disk.old disk.new) opened.new }
+    ensures ran { RanRegions (replaying volume) input.now (disk_side D.Disk disk.old disk.new) opened.new result }
     ensures regions { HasRegions result opened.new }
 {
     let script = read_script(alloc, volume, input)?;

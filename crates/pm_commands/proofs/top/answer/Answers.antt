@@ -1,10 +1,11 @@
 -- Each end of a call by what ran and what was written.
-use Rattle.std.proofs.Common.{ℕ, List, subst, ◌∙◌}
+use Rattle.std.proofs.Common.{inl, inr, ℕ, List, Ok, Err, refl, subst, ◌∙◌}
 use Rattle.pcp_outside.specs.Sides.{sink_side}
 use Rattle.pm_words.specs.Sides.{disk_side}
 use Rattle.pm_words.specs.Streams.{Finishes, IsSent}
 use Rattle.pm_commands.proofs.Facts.{done_opens, refused_opens, untold_opens}
 use Rattle.pm_commands.proofs.Memory.{ends_untold}
+use Rattle.pm_commands.proofs.Opening.{finish_tells}
 use Rattle.pm_words.specs.Serving.{HadRecovered}
 use Rattle.pm_words.proofs.Recovering.{by_status, never_nine}
 use Rattle.pm_words.proofs.Sending.{told_behind, told_no_more}
@@ -56,3 +57,15 @@ returns-in-Ok-tell-clause-regions g c = refused_opens _ _ (sink_side g.O.Sink c.
 
 pub returns-in-Err-tell-clause-regions : goal.returns-in-Err-tell-clause-regions
 returns-in-Err-tell-clause-regions g c = untold_opens _ _ (sink_side g.O.Sink c.args.out.now c.args.out.now) (disk_side g.D.Disk c.args.disk.now c.args.disk.now) _
+
+pub returns-in-Ok-clause-ran : goal.returns-in-Ok-clause-ran
+returns-in-Ok-clause-ran g c = (Ok c.in-Ok.text, finish_tells _ c.run.new.failed c.in-Ok.text _ c.finish.result c.finish.ensures, c.in-Ok.ensures.ran)
+
+pub returns-then-failed-clause-ran : goal.returns-then-failed-clause-ran
+returns-then-failed-clause-ran g c = (Err c.in-Err.refusal, inl c.status.ensures, c.in-Err.ensures.ran)
+
+pub returns-in-Ok-tell-clause-ran : goal.returns-in-Ok-tell-clause-ran
+returns-in-Ok-tell-clause-ran g c = (Err c.in-Err.refusal, inl c.status-in-Ok-tell.ensures, c.in-Err.ensures.ran)
+
+pub returns-in-Err-tell-clause-ran : goal.returns-in-Err-tell-clause-ran
+returns-in-Err-tell-clause-ran g c = (Err c.in-Err.refusal, inr (refl, c.in-Err-tell.ensures.numbered), c.in-Err.ensures.ran)

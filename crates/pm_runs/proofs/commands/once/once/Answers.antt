@@ -1,5 +1,5 @@
 -- What the run of an image tells, or why there was none.
-use Rattle.std.proofs.Common.{[], rules, inl, refl, sym, ap, ◌∙◌, arith}
+use Rattle.std.proofs.Common.{[], rules, inl, inr, Ok, Err, refl, sym, ap, ◌∙◌, arith}
 use Rattle.pm_words.specs.Refusals.{refusal_of_stage}
 use Rattle.pm_words.specs.Sides.{DiskSide, disk_side}
 use Rattle.pm_words.specs.declared.refusal.Refusal.TheVariants.{Input, NoMemory}
@@ -38,7 +38,11 @@ returns-in_err-line-in-None-clause-any_moment g c =
 
 pub returns-in_err-line-in-None-clause-ran : goal.returns-in_err-line-in-None-clause-ran
 returns-in_err-line-in-None-clause-ran g c =
-    ran_regions (logging c.args.asked.now) c.args.input.now c.in_ok-script.script c.in_ok-script.ensures.script c.in_ok-script.ensures.good g.D.Disk c.args.disk.now c.run_script.new.disk c.run_script.new.opened c.in_ok-replayed.replayed c.in_ok-replayed.ensures.run
+    let run = c.in_ok-replayed.ensures.run in
+    let r = c.in_ok-replayed.replayed in
+    let same = is_done r.ending (no_clock (g.D.Disk.faults c.args.disk.now) (g.D.Disk.faults c.run_script.new.disk) r.ending run.cause) (sym c.of_ending.ensures ∙ c.in-None.is) in
+    let ran = ran_regions (logging c.args.asked.now) c.args.input.now c.in_ok-script.script c.in_ok-script.ensures.script c.in_ok-script.ensures.good g.D.Disk c.args.disk.now c.run_script.new.disk c.run_script.new.opened r run (Err NoMemory) (inr (same, refl)) in
+    search (rules, ran)
 
 pub returns-in-None-clause-served : goal.returns-in-None-clause-served
 returns-in-None-clause-served g c =
@@ -62,7 +66,10 @@ returns-in-None-clause-since g c = λ tells behind.
 
 pub returns-in-None-clause-ran : goal.returns-in-None-clause-ran
 returns-in-None-clause-ran g c =
-    ran_regions (logging c.args.asked.now) c.args.input.now c.in_ok-script.script c.in_ok-script.ensures.script c.in_ok-script.ensures.good g.D.Disk c.args.disk.now c.run_script.new.disk c.run_script.new.opened c.in_ok-replayed.replayed c.in_ok-replayed.ensures.run
+    let run = c.in_ok-replayed.ensures.run in
+    let r = c.in_ok-replayed.replayed in
+    let same = is_done r.ending (no_clock (g.D.Disk.faults c.args.disk.now) (g.D.Disk.faults c.run_script.new.disk) r.ending run.cause) (sym c.of_ending.ensures ∙ c.in-None.is) in
+    ran_regions (logging c.args.asked.now) c.args.input.now c.in_ok-script.script c.in_ok-script.ensures.script c.in_ok-script.ensures.good g.D.Disk c.args.disk.now c.run_script.new.disk c.run_script.new.opened r run (Ok c.in_ok-line-in-None.line) (same, λ t. c.in_ok-line-in-None.ensures)
 
 pub returns-clause-cause : goal.returns-clause-cause
 returns-clause-cause g c =
@@ -83,4 +90,5 @@ returns-clause-since g c = λ tells behind.
 
 pub returns-clause-ran : goal.returns-clause-ran
 returns-clause-ran g c =
-    ran_regions (logging c.args.asked.now) c.args.input.now c.in_ok-script.script c.in_ok-script.ensures.script c.in_ok-script.ensures.good g.D.Disk c.args.disk.now c.run_script.new.disk c.run_script.new.opened c.in_ok-replayed.replayed c.in_ok-replayed.ensures.run
+    ran_regions (logging c.args.asked.now) c.args.input.now c.in_ok-script.script c.in_ok-script.ensures.script c.in_ok-script.ensures.good g.D.Disk c.args.disk.now c.run_script.new.disk c.run_script.new.opened c.in_ok-replayed.replayed c.in_ok-replayed.ensures.run (Err c.in-Some.refusal)
+    (inl (sym c.of_ending.ensures ∙ c.in-Some.is))

@@ -1,5 +1,5 @@
 -- What the run of a script tells, or why there was none.
-use Rattle.std.proofs.Common.{rules, [], refl, sym, ap, ◌∙◌, subst, List, ℕ, Bool}
+use Rattle.std.proofs.Common.{rules, inl, Ok, Err, [], refl, sym, ap, ◌∙◌, subst, List, ℕ, Bool}
 use Rattle.pcp_outside.specs.Sides.{SinkSide, sink_side}
 use Rattle.pm_words.specs.Sides.{DiskSide, disk_side}
 use Rattle.pm_words.specs.Streams.{IsSent, Sends}
@@ -50,7 +50,10 @@ returns-in-None-clause-since g c = λ tells behind.
 
 pub returns-in-None-clause-ran : goal.returns-in-None-clause-ran
 returns-in-None-clause-ran g c =
-    ran_regions (replaying c.args.volume) c.args.input.now c.in_ok-script.script c.in_ok-script.ensures.script c.in_ok-script.ensures.good g.D.Disk c.args.disk.now c.run_script.new.disk c.run_script.new.opened c.in_ok-replayed.replayed c.in_ok-replayed.ensures.run
+    let run = c.in_ok-replayed.ensures.run in
+    let r = c.in_ok-replayed.replayed in
+    let same = is_done r.ending (no_clock (g.D.Disk.faults c.args.disk.now) (g.D.Disk.faults c.run_script.new.disk) r.ending run.cause) (sym c.of_ending.ensures ∙ c.in-None.is) in
+    ran_regions (replaying c.args.volume) c.args.input.now c.in_ok-script.script c.in_ok-script.ensures.script c.in_ok-script.ensures.good g.D.Disk c.args.disk.now c.run_script.new.disk c.run_script.new.opened r run (Ok r.output) (same, λ t. refl)
 
 pub returns-in-Some-clause-serves : goal.returns-in-Some-clause-serves
 returns-in-Some-clause-serves g c =
@@ -79,4 +82,5 @@ returns-in-Some-clause-since g c = λ tells behind.
 
 pub returns-in-Some-clause-ran : goal.returns-in-Some-clause-ran
 returns-in-Some-clause-ran g c =
-    ran_regions (replaying c.args.volume) c.args.input.now c.in_ok-script.script c.in_ok-script.ensures.script c.in_ok-script.ensures.good g.D.Disk c.args.disk.now c.run_script.new.disk c.run_script.new.opened c.in_ok-replayed.replayed c.in_ok-replayed.ensures.run
+    ran_regions (replaying c.args.volume) c.args.input.now c.in_ok-script.script c.in_ok-script.ensures.script c.in_ok-script.ensures.good g.D.Disk c.args.disk.now c.run_script.new.disk c.run_script.new.opened c.in_ok-replayed.replayed c.in_ok-replayed.ensures.run (Err c.in-Some.refusal)
+    (inl (sym c.of_ending.ensures ∙ c.in-Some.is))
