@@ -1,11 +1,10 @@
 -- What the first line that can't be served makes of an input.
-use Rattle.std.proofs.Common.{◌≡◌, ℕ, List, refl, ap, ◌∙◌, Option, Some, None, option_map, Result, Ok, Err}
+use Rattle.std.proofs.Common.{◌≡◌, ℕ, List, refl, ap, ◌∙◌, Option, Some, None, option_map, Ok}
 use Rattle.run_script.specs.Reading.{script_of}
 use Rattle.recordable_scripts.specs.Recording.{refused_line}
-use Rattle.run_script.specs.declared.fault.ScriptFault.{ScriptFault}
 use Rattle.run_script.specs.declared.script.RegionRow.{RegionRow}
 use Rattle.run_script.specs.declared.script.Script.{Script}
-use Rattle.pm_serving.specs.Scripts.{broken_at, crowded_line, earlier, first_crowded, script_served, unless, unserved_line, with_room}
+use Rattle.pm_serving.specs.Scripts.{crowded_line, earlier, first_crowded, script_served, unless, unserved_line, with_room}
 
 pub served_so : (input : List ℕ) (script : Script) (line : Option ℕ) → script_of input ≡ Ok script → unserved_line script ≡ line → script_served input ≡ unless line script
 served_so input script line read is = ap with_room read ∙ ap (λ (l : Option ℕ). unless l script) is
