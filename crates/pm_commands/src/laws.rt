@@ -1,10 +1,16 @@
 //! Laws of the commands' meanings. Each is the contract of a function without parameters, which does nothing.
-ghost use Rattle.pm_commands.specs.Laws.{DoneIsWelcome, OneEnd, ReadableIsWelcome};
+ghost use Rattle.pm_commands.specs.Laws.{DoneIsWelcome, OneEnd, ReadableIsWelcome, SoundIsWelcome};
 
 /// A readable archive of which no file stands wrapped is turned away by no command that reads it whole, nor by
 /// recovery.
 pub fn readable_is_welcome()
     ensures { ReadableIsWelcome }
+{}
+
+/// A sound archive of which no file stands wrapped, and no volume ends within its label, is turned away by no command that asks by
+/// time, but where `at` finds no item.
+pub fn sound_is_welcome()
+    ensures { SoundIsWelcome }
 {}
 
 /// Files over which a script's run comes to its end, and of which none stands wrapped, aren't turned away by a command that runs it.
