@@ -1,7 +1,7 @@
 -- A recording that was done shows the regions' last words, and these hold all that was stored and added, by the laws of a recording.
 use Rattle.std.proofs.Common.{◌≡◌, ℕ, ◌≤◌, List, length, refl, sym, ◌∙◌, subst, arith, Option, Some, None, Result, Ok, Err}
 use Rattle.fetch_engine.specs.declared.server.Mounted.{Mounted}
-use Rattle.record_laws.proofs.Counted.{counters_are_sums, done_own}
+use Rattle.record_laws.proofs.Counted.{counters_are_sums}
 use Rattle.record_laws.proofs.Last.{last_sample}
 use Rattle.record_laws.proofs.Unlost.{no_line_lost}
 use Rattle.run_script.specs.Reading.{script_of}
@@ -79,7 +79,7 @@ module _ {C D : Type 0} (words : List (List ℕ)) (s : SourceSide) (k : SinkSide
           shown = last_shown;
           counted = counters_are_sums ran.script server was.first.tokens was.last.tokens was.recording.moments was.recording.results rules refused ran.has.images ran.has.of_words serves beside;
           whole = no_line_lost ran.script server was.first.tokens was.last.tokens ends.Done was.recording.moments was.recording.results rules refused ran.has.images ran.has.of_words (omega (arith, steps, bytes)) serves beside
-              (done_own beside.own beside.ended_by);
+              beside.writers;
         }
 
   pub shows_last : (status : ℕ) → Ends words s k o opened status → status ≡ 0 → LastIsShown words s o opened

@@ -8,6 +8,7 @@ use Rattle.archive_recovery.specs.RecoverFaults.{IsRefused}
 use Rattle.run_script.specs.declared.fault.ScriptFault.{ScriptFault}
 use Rattle.run_script.specs.declared.script.Script.{Script}
 use Rattle.script_passes.specs.declared.opening.Opened.{Opened}
+use Rattle.script_records.specs.Beside.{EndsBy, TellWriters}
 use Rattle.script_records.specs.Recordings.{Records}
 use Rattle.script_records.specs.Stopping.{WhyAsked, WhyStopped}
 use Rattle.script_replays.specs.Replays.{IsRecovered, disk_pair}
@@ -24,7 +25,7 @@ use Rattle.pm_words.specs.declared.stage.ReadRefusal.TheVariants.{ReadFault, Inp
 use Rattle.pm_recording.specs.declared.words.RecordWords.{RecordWords}
 use Rattle.pm_recording.specs.CommandWords.{asked_of}
 use Rattle.pm_recording.specs.Ends.{Asks, Cause, Ends, EndsDone, Finds, IsAsked, Ran}
-use Rattle.pm_recording.specs.Facts.{ArchiveFaultIsExact, ClockIsExact, ComesOfRun, IsLimited, LimitIsExact, OpensRegions, RunIsExact, ScriptFaultIsExact, UsageIsExact}
+use Rattle.pm_recording.specs.Facts.{ArchiveFaultIsExact, ClockIsExact, ComesOfRun, IsLimited, LimitIsExact, OpensRegions, RunIsExact, ScriptFaultIsExact, UsageIsExact, WritersAreTold}
 use Rattle.pm_recording.specs.Good.{Meets}
 use Rattle.pm_recording.specs.Recording.{IsUnrun, RunSide}
 use Rattle.pm_recording.specs.Scripts.{script_recorded}
@@ -316,6 +317,25 @@ module _ {C D : Type 0} (words : List (List ℕ)) (s : SourceSide) (k : SinkSide
     by_status (inr (inr (inr (inr (inr (inr (inl h))))))) = never 13 (λ z. omega (arith, z)) (λ z. omega (arith, z)) (λ z. omega (arith, z)) (λ z. omega (arith, z)) (λ z. omega (arith, z)) h
     by_status (inr (inr (inr (inr (inr (inr (inr h))))))) = never 20 (λ z. omega (arith, z)) (λ z. omega (arith, z)) (λ z. omega (arith, z)) (λ z. omega (arith, z)) (λ z. omega (arith, z)) h
 
+  -- ---- the writers
+
+  told_by : (ending : Ending) (ran : Ran words s o opened ending) (status : ℕ) → (EndsBy ends.NoMemory ending → (status ≡ 9) ⊎ (status ≡ 5)) → TellWriters ran.script ran.has.left.server ran.has.was.last.tokens ran.has.left.passes.items ending
+      → WritersAreTold words s o opened status
+  told_by ending ran status refused (inl ended) = record { ending = ending; ran = ran; told = inl ended }
+  told_by ending ran status refused (inr (none, by)) = record { ending = ending; ran = ran; told = inr (none, refused by) }
+
+  writers_told : (ending : Ending) (ran : Ran words s o opened ending) (status : ℕ) → (EndsBy ends.NoMemory ending → (status ≡ 9) ⊎ (status ≡ 5)) → WritersAreTold words s o opened status
+  writers_told ending ran status refused =
+      told_by ending ran status refused (subst (λ (x : Ending). TellWriters ran.script ran.has.left.server ran.has.was.last.tokens ran.has.left.passes.items x) ran.ended ran.has.was.writers)
+
+  refused_status : (ending : Ending) → EndsBy ends.NoMemory ending → (ended_status ending ≡ 9) ⊎ (ended_status ending ≡ 5)
+  refused_status ending (inl want) = inl (ap ended_status want)
+  refused_status ending (inr failing) = inr (ap ended_status failing)
+
+  done_unrefused : {G : Type 0} → EndsBy ends.NoMemory ends.Done → G
+  done_unrefused (inl never) = absurd (cc)
+  done_unrefused (inr never) = absurd (cc)
+
   abbrev SomeRun : Type 0
   SomeRun = (ending : Ending) × Ran words s o opened ending
 
@@ -326,6 +346,9 @@ module _ {C D : Type 0} (words : List (List ℕ)) (s : SourceSide) (k : SinkSide
         (λ done comes. is_left words s k o opened ends.Done done.ran) (λ untold comes. is_left words s k o opened ends.Done untold.ran);
     ran = by_end words s k o opened (λ n. IsSome opened → SomeRun) (λ e c u some. absurd (none_left words s k o opened u some)) (λ ending other ran some. (ending, ran)) (λ want some. (want.ran.ending, want.ran.ran)) status ends_so
         (λ done some. (ends.Done, done.ran)) (λ untold some. (ends.Done, untold.ran));
+    writers = by_end words s k o opened (λ n. IsSome opened → WritersAreTold words s o opened n) (λ e c u some. absurd (none_left words s k o opened u some))
+        (λ ending other ran some. writers_told ending ran (ended_status ending) (refused_status ending)) (λ want some. writers_told want.ran.ending want.ran.ran 9 (λ by. inl refl)) status ends_so
+        (λ done some. writers_told ends.Done done.ran 0 (λ by. done_unrefused by)) (λ untold some. writers_told ends.Done untold.ran 4 (λ by. done_unrefused by));
     unrun = by_end words s k o opened (λ n. (IsSome opened → ⊥) → IsUnrun o opened) (λ e c u none. u) (λ ending other ran none. absurd (none (is_left words s k o opened ending ran))) (λ want none. absurd (none (is_left words s k o opened want.ran.ending want.ran.ran))) status ends_so
         (λ done none. absurd (none (is_left words s k o opened ends.Done done.ran))) (λ untold none. absurd (none (is_left words s k o opened ends.Done untold.ran)));
     done = λ zero. (is_done status ends_so zero).ran;

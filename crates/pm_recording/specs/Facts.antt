@@ -1,6 +1,6 @@
 -- What a status says, fact by fact. "Always" yields to want of memory (9), to a read that failed before (3) and to a disk that
 -- fails (5), which no clause can foresee.
-use Rattle.std.specs.Prelude.{◌≡◌, ◌⊎◌, ℕ, ◌<◌, ◌≤◌, List, length, drop, Option, Some, IsSome, Ok, Err}
+use Rattle.std.specs.Prelude.{◌≡◌, ◌⊎◌, ℕ, ◌<◌, ◌≤◌, List, [], length, drop, Option, Some, IsSome, Ok, Err}
 use Rattle.pcp_base.specs.Time.{Moment}
 use Rattle.pcp_base.specs.declared.file.FileId.{FileId}
 use Rattle.pcp_model.specs.Disk.{Files, CrashImage, contents_of}
@@ -11,6 +11,8 @@ use Rattle.record_run.specs.SinceRecovery.{FromRecovery}
 use Rattle.run_script.specs.declared.fault.ScriptFault.{ScriptFault}
 use Rattle.run_script.specs.declared.script.Script.{Script}
 use Rattle.script_passes.specs.declared.opening.Opened.{Opened}
+use Rattle.script_records.specs.Beside.{AtJournals, WritersRan}
+use Rattle.script_records.specs.Gathered.{AreUsedUp}
 use Rattle.script_records.specs.Stopping.{WhyAsked, WhyStopped}
 use Rattle.script_replays.specs.Replays.{IsRecovered}
 use Rattle.script_runs.specs.declared.ending.Ending.{Ending}
@@ -84,12 +86,21 @@ pub record ClockIsExact {C D : Type 0} (words : List (List ℕ)) (s : SourceSide
 abbrev pub ComesOfRun : ℕ → Type 0
 ComesOfRun status = (status ≡ 0) ⊎ ((status ≡ 4) ⊎ ((status ≡ 5) ⊎ ((status ≡ 6) ⊎ ((status ≡ 8) ⊎ ((status ≡ 12) ⊎ ((status ≡ 13) ⊎ (status ≡ 20)))))))
 
+-- Whatever ended the run, what is left of the passes tells whether its writers ended. Lists without a pass, one for each region: each
+-- writer's lines are all run. No list: memory was refused to the writers, and the status is 9, or 5 where the disk failed too.
+pub record WritersAreTold {C D : Type 0} (words : List (List ℕ)) (s : SourceSide) (o : RunSide C D) (opened : Option Opened) (status : ℕ) : Type 0 where
+  pub ending : Ending
+  pub ran : Ran words s o opened ending
+  pub told : (AreUsedUp ran.has.left.server ran.has.left.passes.items × AtJournals WritersRan ran.script ran.has.left.server ran.has.was.last.tokens)
+      ⊎ ((ran.has.left.passes.items ≡ []) × ((status ≡ 9) ⊎ (status ≡ 5)))
+
 -- Something is left wherever the run began and memory wasn't refused, and then the script was recorded on it; where nothing is left
 -- neither the disk nor the clock was touched. After 0 and 4 it was recorded to its end.
 pub record OpensRegions {C D : Type 0} (words : List (List ℕ)) (s : SourceSide) (o : RunSide C D) (opened : Option Opened) (status : ℕ) : Type 0 where
   pub good : Meets words s → (script : Script) → script_recorded s.left ≡ Ok script → IsSome opened ⊎ ((status ≡ 9) ⊎ (status ≡ 3))
   pub run : ComesOfRun status → IsSome opened
   pub ran : IsSome opened → (ending : Ending) × Ran words s o opened ending
+  pub writers : IsSome opened → WritersAreTold words s o opened status
   pub unrun : (IsSome opened → ⊥) → IsUnrun o opened
   pub done : status ≡ 0 → Ran words s o opened ends.Done
   pub untold : status ≡ 4 → Ran words s o opened ends.Done

@@ -8,6 +8,7 @@ use Rattle.run_script.specs.declared.script.Script.{Script}
 use Rattle.script_passes.specs.Openings.{IsOpened}
 use Rattle.script_passes.specs.declared.opening.Opened.{Opened}
 use Rattle.script_replays.specs.declared.replayed.Replayed.{Replayed}
+use Rattle.script_records.specs.Beside.{TellWriters}
 use Rattle.script_records.specs.Pictured.{AreImages, AreOfWords}
 use Rattle.script_records.specs.Recordings.{IsRecording, MayEndRecording}
 use Rattle.pm_words.specs.Sides.{IsUnread, Leaves}
@@ -38,6 +39,7 @@ pub record WasRecorded {C D : Type 0} (o : RunSide C D) (asked : RecordWords) (s
   pub last_is : slice_get left.seats.items 0 ≡ Some last
   pub seated : IsSeated left.server last.tokens
   pub recording : IsRecording o.clock o.disk o.clock_was o.clock_is o.disk_was o.disk_is script asked.volume asked.samples left.server first.tokens last.tokens r
+  pub writers : TellWriters script left.server last.tokens left.passes.items r.ending
   pub cause : MayEndRecording o.clock o.disk o.clock_was o.clock_is o.disk_was o.disk_is r.ending
   pub unread : IsUnread o.disk o.disk_was → Leaves o.disk o.disk_was o.disk_is CrashImage
 

@@ -104,7 +104,7 @@ fn answer<I: Source, O: Sink, D: Disk, C: Clock, T: Turn + Sync, R: Threads + Wa
 /// isn't later than all that the archive has. 13: the archive describes a metric otherwise. 20: the clock failed. What is looked at first
 /// comes first: the words, the input, the recovery of the disk, the run, the output. Where the files or a sample are refused the writers
 /// run to their ends all the same. `opened` is `None` before; wherever the run began it has the regions on which it recorded, whose
-/// passes are gone. It waits for its source and for its writers alone.
+/// passes are gone: a list of none for each region where the writers ended, and no list where memory was refused to them. It waits for its source and for its writers alone.
 pub fn run_record<I: Source, O: Sink, D: Disk, C: Clock, T: Turn + Sync, R: Threads + Wait + Sync>(
     rt: &R,
     alloc: Global,

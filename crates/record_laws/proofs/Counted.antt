@@ -1,5 +1,5 @@
 -- The numbers of a region at the end of a recording.
-use Rattle.std.proofs.Common.{◌≡◌, ◌≢◌, inl, inr, ⊎_elim, ℕ, ◌+◌, ◌<◌, List, [], ◌∷◌, ◌++◌, append_assoc, append-nil, length, slice_get, slice_index, Contains, Some, None, sym, refl, ap, ◌∙◌, subst, arith}
+use Rattle.std.proofs.Common.{◌≡◌, ◌≢◌, ⊎_elim, ℕ, ◌+◌, ◌<◌, List, [], ◌∷◌, ◌++◌, append_assoc, append-nil, length, slice_get, slice_index, Contains, Some, None, sym, refl, ap, ◌∙◌, subst, arith}
 use Rattle.pcp_base.specs.Time.{Moment}
 use Rattle.pcp_base.specs.declared.kind.Kind.{Kind}
 use Rattle.pcp_base.specs.declared.kind.Kind.TheVariants as kinds
@@ -26,11 +26,10 @@ use Rattle.recordable_scripts.specs.Recording.{refused_line}
 use Rattle.run_script.specs.Rules.{KeepsRules}
 use Rattle.run_script.specs.declared.script.Script.{Script}
 use Rattle.script_passes.specs.Crews.{ServesScript}
-use Rattle.script_runs.specs.declared.ending.Ending.{Ending}
 use Rattle.script_runs.specs.declared.ending.Ending.TheVariants as ends
 use Rattle.script_writers.specs.Hands.{IsServedAt}
 use Rattle.script_writers.proofs.Placed.{made_at}
-use Rattle.script_records.specs.Beside.{Beside, EndsBy, WritersRan, start_of}
+use Rattle.script_records.specs.Beside.{Beside, WritersRan, start_of}
 use Rattle.script_records.specs.Pictured.{AreImages, AreOfWords}
 use Rattle.record_laws.specs.Closing.{closing_words}
 use Rattle.record_laws.specs.Counters.{WordsAreSums, IsCounted, CountersAreSums}
@@ -79,11 +78,6 @@ not_generation image slot good among number =
       λ two. none.1 (subst (λ (w : ℕ). Takes (form_of image) w 0) two (takes_zero image slot among number)),
     )
 
--- what came to its end wasn't refused memory before
-pub done_own : (own_ending : Ending) → EndsBy own_ending ends.Done → own_ending ≢ ends.NoMemory
-done_own own_ending (inl same) none = let e : ends.Done ≡ ends.NoMemory = same ∙ none in cc
-done_own own_ending (inr never) none = cc
-
 module _ (script : Script) (server : List Mounted) (first final : List Token) (moments : List Moment) (results : List Fetched) (keeps : KeepsRules script) (refused : refused_line script ≡ None) (images : AreImages script) (words : AreOfWords script)
     (serves : ServesScript script 1 server) (b : Beside script server first final ends.Done moments results) (i j : ℕ) (at : IsServedAt script server i j) (token : Token) (there : slice_get final j ≡ Some token) where
   abbrev log : List Entry
@@ -92,11 +86,8 @@ module _ (script : Script) (server : List Mounted) (first final : List Token) (m
   abbrev closed : List ℕ
   closed = closing_words at.mounted token
 
-  own_end : b.own ≢ ends.NoMemory
-  own_end = done_own b.own b.ended_by
-
   ended : WritersRan script server i j at log
-  ended = ran script server first final ends.Done moments results keeps refused images words serves b own_end i j at token there
+  ended = ran script server first final ends.Done moments results keeps refused images words serves b b.writers i j at token there
 
   passes_are : at.mounted.region.passes ≡ at.row.passes + 1
   passes_are = (made_at script server 1 keeps serves i j at).passes
@@ -108,7 +99,7 @@ module _ (script : Script) (server : List Mounted) (first final : List Token) (m
   image = image_end mmv mmv_laws at.mounted.region.words at.mounted.region.passes at.row.passes log [] log (sym (append-nil log)) (b.legal i j at token there) passes_are (b.loads i j at token there) (λ k below. refl) ended.idle
 
   abbrev May : List ℕ → Type 0
-  May = P script server first final ends.Done moments results keeps refused images words serves b own_end i j at token there
+  May = P script server first final ends.Done moments results keeps refused images words serves b b.writers i j at token there
 
   -- a number of the last layout was stored by the last change
   last_stored : (slot : Slot) → Contains (slots_of closed) slot → IsNumber slot.kind → (k n : ℕ) (before mid : List Entry) → log ≡ before ++ entry k (Begin n) ∷ mid → NoBegin mid → IsStored slot.word mid
@@ -117,13 +108,13 @@ module _ (script : Script) (server : List Mounted) (first final : List Token) (m
       let whole : log ≡ before ++ entry k (Begin n) ∷ (mid ++ []) = is ∙ ap (λ (es : List Entry). before ++ entry k (Begin n) ∷ es) (sym (append-nil mid)) in
       let end : state (start_of at.mounted) log ≡ state t mid = ap (λ (es : List Entry). state (start_of at.mounted) es) is ∙ state-append (start_of at.mounted) before (entry k (Begin n) ∷ mid) in
       let c : Changed mmv mmv_laws May at.mounted.region.words at.mounted.region.passes at.row.passes log (b.legal i j at token there) passes_are (b.loads i j at token there)
-      (words_start script server first final ends.Done moments results keeps refused images words serves b own_end i j at token there)
-      (held_images script server first final ends.Done moments results keeps refused images words serves b own_end i j at token there)
-      (good script server first final ends.Done moments results keeps refused images words serves b own_end i j at token there) k n mid [] t =
+      (words_start script server first final ends.Done moments results keeps refused images words serves b b.writers i j at token there)
+      (held_images script server first final ends.Done moments results keeps refused images words serves b b.writers i j at token there)
+      (good script server first final ends.Done moments results keeps refused images words serves b b.writers i j at token there) k n mid [] t =
       changed_at mmv mmv_laws May at.mounted.region.words at.mounted.region.passes at.row.passes log (b.legal i j at token there) passes_are (b.loads i j at token there)
-      (words_start script server first final ends.Done moments results keeps refused images words serves b own_end i j at token there)
-      (held_images script server first final ends.Done moments results keeps refused images words serves b own_end i j at token there)
-      (good script server first final ends.Done moments results keeps refused images words serves b own_end i j at token there) before k n mid [] whole none (subst IsStable end stable) in
+      (words_start script server first final ends.Done moments results keeps refused images words serves b b.writers i j at token there)
+      (held_images script server first final ends.Done moments results keeps refused images words serves b b.writers i j at token there)
+      (good script server first final ends.Done moments results keeps refused images words serves b b.writers i j at token there) before k n mid [] whole none (subst IsStable end stable) in
       let form : form_of closed ≡ form_of c.image = ap (λ (s : State). form_of s.words) end ∙ c.form in
       let there_too : Contains (slots_of c.image) slot = subst (λ (slots : List Slot). Contains slots slot) (slots_same closed c.image form) among in
       let below : slot.word < length c.image = subst (λ (s : Slot). s.word < length c.image) there_too.2 (slots_below c.image c.may.0 there_too.0 slot there_too.1) in
@@ -155,7 +146,7 @@ module _ (script : Script) (server : List Mounted) (first final : List Token) (m
         instance = instance;
         value = slice_index closed slot.word;
         content = content ∙ number_held closed slot.kind (slice_index closed slot.word) number;
-        sum = sum.exact (words_start script server first final ends.Done moments results keeps refused images words serves b own_end i j at token there);
+        sum = sum.exact (words_start script server first final ends.Done moments results keeps refused images words serves b b.writers i j at token there);
         last = behind_each slot among number;
       }
 

@@ -35,7 +35,6 @@ use Rattle.script_passes.proofs.Begun.{as_many_seated, get_there}
 use Rattle.script_passes.proofs.Crewing.{get_map}
 use Rattle.script_passes.proofs.ReadingOrder.{zip_by}
 use Rattle.script_passes.proofs.Seated.{the_one}
-use Rattle.script_runs.specs.declared.ending.Ending.{Ending}
 use Rattle.script_runs.specs.declared.ending.Ending.TheVariants as ends
 use Rattle.script_runs.specs.Groups.{Plan, asking, asked_for}
 use Rattle.script_runs.specs.Steps.{every_instance, fetched_from, plans_at}
@@ -44,7 +43,7 @@ use Rattle.script_samples.specs.Shown.{AreShown, pmids_by, shown_by, with_result
 use Rattle.script_writers.specs.Hands.{IsServedAt}
 use Rattle.script_writers.proofs.Placed.{made_at}
 use Rattle.script_writers.proofs.Ready.{row_at}
-use Rattle.script_records.specs.Beside.{AtJournals, Beside, EndsBy, IsFinishedUnlessWanting, IsSampled, StopsLogging, WritersRan, start_of}
+use Rattle.script_records.specs.Beside.{AtJournals, Beside, IsSampled, StopsLogging, WritersRan, start_of}
 use Rattle.record_laws.specs.Closing.{closing, closing_of, closing_words, LastSampleIsExact}
 use Rattle.record_laws.proofs.Behind.{still_at, stable_end, image_end}
 use Rattle.record_laws.proofs.Reading.{read_still}
@@ -140,11 +139,7 @@ module _ (script : Script) (server : List Mounted) (first final : List Token) (m
 
   -- the writers have run
   ran : AtJournals WritersRan script server final
-  ran = by_own beside.own beside.ended_by beside.writers
-    where
-      by_own : (own : Ending) → EndsBy own ends.Done → IsFinishedUnlessWanting own (AtJournals WritersRan script server final) → AtJournals WritersRan script server final
-      by_own own (inl same) finished = subst (λ (e : Ending). IsFinishedUnlessWanting e (AtJournals WritersRan script server final)) (sym same) finished
-      by_own own (inr never) finished = absurd (cc)
+  ran = beside.writers
 
   -- The region at a position: the seat's pass behind the writers, behind the names, behind the values, and at the end
   module _ (i j : ℕ) (at : IsServedAt script server i j) (begun named valued last : Token) (begun_is : slice_get sampled.gathered j ≡ Some begun) (last_is : slice_get final j ≡ Some last)

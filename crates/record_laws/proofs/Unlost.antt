@@ -1,5 +1,5 @@
 -- No line of a recording is lost.
-use Rattle.std.proofs.Common.{◌≡◌, ◌≢◌, ⊎_elim, ℕ, ◌-◌, ◌<◌, ◌≤◌, ◌^◌, List, ◌++◌, append-nil, length, slice_index, slice_get, Some, None, sym, refl, ap, ◌∙◌, subst, arith}
+use Rattle.std.proofs.Common.{◌≡◌, ◌≢◌, ⊎_elim, ℕ, ◌-◌, ◌<◌, ◌≤◌, ◌^◌, List, ◌++◌, append-nil, length, slice_index, slice_get, Some, None, sym, ap, ◌∙◌, subst, arith}
 use Rattle.pcp_base.specs.Time.{Moment}
 use Rattle.mmv_layout.specs.Form.{form_of}
 use Rattle.region_core.specs.declared.act.Entry.{Entry}
@@ -15,11 +15,10 @@ use Rattle.run_script.specs.Rules.{KeepsRules}
 use Rattle.run_script.specs.declared.script.Script.{Script}
 use Rattle.script_passes.specs.Crews.{Serves, ServesScript}
 use Rattle.script_runs.specs.declared.ending.Ending.{Ending}
-use Rattle.script_runs.specs.declared.ending.Ending.TheVariants as ends
 use Rattle.script_writers.specs.Hands.{IsServedAt}
 use Rattle.script_writers.specs.Lines.{Writing, HasMade}
 use Rattle.script_writers.proofs.Placed.{capacity_at, made_at}
-use Rattle.script_records.specs.Beside.{AtJournals, Beside, IsFinishedUnlessWanting, WritersRan, start_of}
+use Rattle.script_records.specs.Beside.{AtJournals, Beside, WritersRan, start_of}
 use Rattle.script_records.specs.Pictured.{AreImages, AreOfWords}
 use Rattle.record_laws.specs.Whole.{NoLineIsLost, WritesAll}
 use Rattle.record_laws.proofs.Fitting.{MayChange, few_lines, lines_fit, opened_form, opened_held, opened_image, opened_low, opened_words}
@@ -28,22 +27,8 @@ use Rattle.record_laws.proofs.Owned.{Bounded, Good, begun, begun_lines, bounded_
 use Rattle.record_laws.proofs.Summing.{AreWords}
 use Rattle.record_laws.proofs.Wrote.{IsHeld, all_write}
 
--- the writers have run, unless they were refused memory
-ran_unless : (P : Type 0) (own_ending : Ending) → own_ending ≢ ends.NoMemory → IsFinishedUnlessWanting own_ending P → P
-ran_unless P ends.NoMemory other finished = absurd (other refl)
-ran_unless P ends.Done other finished = finished
-ran_unless P (ends.Condition line) other finished = finished
-ran_unless P ends.DiskFault other finished = finished
-ran_unless P (ends.NotArchive file at) other finished = finished
-ran_unless P (ends.Compressed file) other finished = finished
-ran_unless P (ends.Limit what number) other finished = finished
-ran_unless P (ends.ClockEnd left) other finished = finished
-ran_unless P (ends.ClockFault left) other finished = finished
-ran_unless P (ends.NotLater last) other finished = finished
-ran_unless P (ends.Changed pmid) other finished = finished
-
 module _ (script : Script) (server : List Mounted) (first final : List Token) (ending : Ending) (moments : List Moment) (results : List Fetched) (keeps : KeepsRules script) (refused : refused_line script ≡ None) (images : AreImages script) (words : AreOfWords script)
-    (serves : ServesScript script 1 server) (b : Beside script server first final ending moments results) (own_end : b.own ≢ ends.NoMemory) (i j : ℕ) (at : IsServedAt script server i j) (token : Token) (there : slice_get final j ≡ Some token) where
+    (serves : ServesScript script 1 server) (b : Beside script server first final ending moments results) (writers : AtJournals WritersRan script server final) (i j : ℕ) (at : IsServedAt script server i j) (token : Token) (there : slice_get final j ≡ Some token) where
   abbrev log : List Entry
   log = token.view.seen
 
@@ -57,7 +42,7 @@ module _ (script : Script) (server : List Mounted) (first final : List Token) (e
   journal = b.legal i j at token there
 
   pub ran : WritersRan script server i j at log
-  ran = ran_unless (AtJournals WritersRan script server final) b.own own_end b.writers i j at token there
+  ran = writers i j at token there
 
   abbrev pub P : List ℕ → Type 0
   P = MayChange script keeps refused images i at.row at.is
@@ -118,5 +103,5 @@ module _ (script : Script) (server : List Mounted) (first final : List Token) (e
   }
 
 pub no_line_lost : NoLineIsLost
-no_line_lost script server first final ending moments results keeps refused images words few serves b own_end i j at token there k below =
-    whole script server first final ending moments results keeps refused images words serves b own_end i j at token there few k below
+no_line_lost script server first final ending moments results keeps refused images words few serves b writers i j at token there k below =
+    whole script server first final ending moments results keeps refused images words serves b writers i j at token there few k below

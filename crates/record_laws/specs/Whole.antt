@@ -1,5 +1,5 @@
 -- The lines of a writer in a recording: each made its entries, and none is missing.
-use Rattle.std.specs.Prelude.{◌≡◌, ◌≢◌, ℕ, ◌^◌, ◌<◌, ◌≤◌, List, [], ◌∷◌, ◌++◌, length, slice_get, Some, None}
+use Rattle.std.specs.Prelude.{◌≡◌, ℕ, ◌^◌, ◌<◌, ◌≤◌, List, [], ◌∷◌, ◌++◌, length, slice_get, Some, None}
 use Rattle.pcp_base.specs.Time.{Moment}
 use Rattle.region_core.specs.declared.act.Entry.{Entry}
 use Rattle.region_core.specs.Journal.{state, own}
@@ -15,10 +15,9 @@ use Rattle.run_script.specs.declared.script.Script.{Script}
 use Rattle.script_passes.specs.Crews.{ServesScript}
 use Rattle.script_runs.specs.Slots.{swap_of, add_of}
 use Rattle.script_runs.specs.declared.ending.Ending.{Ending}
-use Rattle.script_runs.specs.declared.ending.Ending.TheVariants as ends
 use Rattle.script_writers.specs.Hands.{IsServedAt}
 use Rattle.script_writers.specs.Lines.{Writing, StoresLast, IsBeginMade, LineMakes}
-use Rattle.script_records.specs.Beside.{Beside, start_of}
+use Rattle.script_records.specs.Beside.{AtJournals, Beside, WritersRan, start_of}
 use Rattle.script_records.specs.Pictured.{AreImages, AreOfWords}
 
 -- One line of pass k with all its entries: a swap and an add store what they say by the layout that stands there, and a change begins
@@ -52,10 +51,10 @@ abbrev pub PassesWriteAll : Script → List Mounted → List Token → Type 0
 PassesWriteAll script server final = (i j : ℕ) (at : IsServedAt script server i j) (token : Token) → slice_get final j ≡ Some token
     → (k : ℕ) → k < at.row.passes → WritesAll script.images k (start_of at.mounted) (lines_of i k script.steps) token.view.seen
 
--- In a recording of a script that it may take, whose writers were not refused memory, each pass made the entries of all its own lines. No
+-- In a recording of a script that it may take, whose writers have ended, each pass made the entries of all its own lines. No
 -- slot, text or kind was missing at a store, and no generation at a change. A script has at most 2^54 lines.
 abbrev pub NoLineIsLost : Type 0
 NoLineIsLost = (script : Script) (server : List Mounted) (first final : List Token) (ending : Ending) (moments : List Moment) (results : List Fetched)
     → KeepsRules script → refused_line script ≡ None → AreImages script → AreOfWords script → length script.steps ≤ 2 ^ 54 → ServesScript script 1 server
-    → (b : Beside script server first final ending moments results) → b.own ≢ ends.NoMemory
+    → Beside script server first final ending moments results → AtJournals WritersRan script server final
     → PassesWriteAll script server final

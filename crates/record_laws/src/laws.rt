@@ -21,7 +21,7 @@ pub fn counters_are_sums()
     ensures { CountersAreSums }
 {}
 
-/// In a recording of a script that it may take, whose writers were not refused memory, each writer's own entries are exactly those of its
+/// In a recording of a script that it may take, whose writers have ended, each writer's own entries are exactly those of its
 /// lines: no store finds its slot, its text or its kind missing, and no change finds the generations spent.
 pub fn no_line_is_lost()
     ensures { NoLineIsLost }

@@ -150,7 +150,7 @@ module _ {C D : Type 0} (c : ClockGhosts C) (d : DiskGhosts D) (clock_was clock_
     fails_now is = subst (λ (e : Ending). Done e) (sym is) (record {
       moments = h.moments;
       results = h.results;
-      beside = record { legal = h.beside.legal; own = h.beside.own; ended_by = inr refl; writers = h.beside.writers; loads = h.beside.loads; sampled = stops_else ends.DiskFault tt h.beside.sampled };
+      beside = record { legal = h.beside.legal; writers = tt; loads = h.beside.loads; sampled = stops_else ends.DiskFault tt h.beside.sampled };
       so_ends = tt;
       counted = λ other. absurd (other refl);
       counts = told_as ends.DiskFault is;
@@ -168,7 +168,7 @@ module _ {C D : Type 0} (c : ClockGhosts C) (d : DiskGhosts D) (clock_was clock_
     wants_now was is = subst (λ (e : Ending). Done e) (sym is) (record {
       moments = h.moments;
       results = h.results;
-      beside = record { legal = h.beside.legal; own = ends.NoMemory; ended_by = inl refl; writers = tt; loads = h.beside.loads; sampled = stops_else ends.NoMemory tt h.beside.sampled };
+      beside = record { legal = h.beside.legal; writers = tt; loads = h.beside.loads; sampled = stops_else ends.NoMemory tt h.beside.sampled };
       so_ends = tt;
       counted = λ other. f.logged ∙ h.counted well;
       counts = told_as ends.NoMemory is;

@@ -1,6 +1,7 @@
 -- One pass more is ended, and one list of passes more.
-use Rattle.std.proofs.Common.{◌≡◌, ◌≢◌, ℕ, suc, ◌+◌, ◌<◌, ◌≤◌, List, [], ◌∷◌, ◌++◌, All, append_assoc, get_or, length, length-append, length-set, slice_get, slice_set, Some, sym, refl, ap, ◌∙◌, subst, arith}
+use Rattle.std.proofs.Common.{◌≡◌, ◌≢◌, ℕ, suc, ◌+◌, ◌<◌, ◌≤◌, List, [], ◌∷◌, ◌++◌, All, append_assoc, get_or, length, length-append, length-set, slice_get, slice_set, take, Some, sym, refl, ap, ◌∙◌, subst, arith}
 use Rattle.std.specs.Global.{Vec}
+use Rattle.std.proofs.lemmas.List.{length-take-le, take_all}
 use Rattle.std.proofs.lemmas.Option.{slice_get_within}
 use mathlib.Core.Logic.{dite}
 use native.Mathlib.Decide.{dec_le}
@@ -12,10 +13,11 @@ use Rattle.fetch_engine.specs.Servers.{ChangesAt, IsRegionAt, IsSeated}
 use Rattle.fetch_engine.specs.declared.server.Mounted.{Mounted}
 use Rattle.pass_steps.proofs.Calling.{set_there}
 use Rattle.script_passes.proofs.Begun.{as_many_seated, get_there}
-use Rattle.script_passes.proofs.Crewing.{get_set_other}
+use Rattle.script_passes.proofs.Crewing.{get_set_other, get_set_same}
 use Rattle.script_passes.proofs.Finals.{get_front, get_seam}
 use Rattle.script_passes.proofs.Seated.{now_at, set_set, the_one}
-use Rattle.script_records.specs.Gathered.{AreHere, GathersAll, HasGathered, HaveGathered}
+use Rattle.script_writers.proofs.Handed.{take_next}
+use Rattle.script_records.specs.Gathered.{AreHere, AreUsedUp, GathersAll, HasGathered, HaveGathered}
 
 -- Passes of one region
 
@@ -101,21 +103,48 @@ gathers_one_list old mid new lists more list at g at_is is h =
       rest = λ j far. other j (λ same. absurd (omega arith)) ∙ g.rest j (omega arith);
     }
 
--- the passes of the next list are here
-pub next_here : (server : List Mounted) (all front back : List (Vec Token)) (list : Vec Token) (at : ℕ) → AreHere server all → all ≡ front ++ list ∷ back → at ≡ length front → All (λ (pass : Token). IsRegionAt server at pass.region) list.items
-next_here server all front back list at here is at_is =
-    subst (λ (n : ℕ). All (λ (pass : Token). IsRegionAt server n pass.region) list.items) (sym at_is) (here (length front) list (ap (λ (l : List (Vec Token)). slice_get l (length front)) is ∙ middle front))
-  where
-    middle : (front : List (Vec Token)) → slice_get (front ++ list ∷ back) (length front) ≡ Some list
-    middle [] = refl
-    middle (x ∷ xs) = middle xs
-
 -- a position of a server is one of its seat
 pub within_seated : (server : List Mounted) (tokens : List Token) (at : ℕ) → IsSeated server tokens → at < length server → at < length tokens
 within_seated server tokens at seated below = let same = as_many_seated server tokens seated in omega arith
 
-pub one_further : {A : Type 0} (at : ℕ) (yielded : List A) (x : A) → at ≡ length yielded → at + 1 ≡ length (yielded ++ x ∷ [])
-one_further at yielded x same = let long = length-append yielded (x ∷ []) in omega arith
-
 pub still_all : {A : Type 0} (all front left rest : List A) (x : A) → all ≡ front ++ left → left ≡ x ∷ rest → all ≡ (front ++ x ∷ []) ++ rest
 still_all all front left rest x is next = is ∙ (ap (λ (l : List _). front ++ l) next ∙ sym (append_assoc front (x ∷ []) rest))
+
+-- The lists below a position were ended, and have no pass any more; the others are as they were.
+pub record GathersUpTo (at : ℕ) (lists left : List (Vec Token)) (old new : List Token) : Type 0 where
+  pub as_many : length left ≡ length lists
+  pub rest : (j : ℕ) → at ≤ j → slice_get left j ≡ slice_get lists j
+  pub used : (j : ℕ) (list : Vec Token) → j < at → slice_get left j ≡ Some list → list.items ≡ []
+  pub so_far : GathersFirst (take at lists) old new
+
+pub up_to_none : (lists : List (Vec Token)) (old : List Token) → GathersUpTo 0 lists lists old old
+up_to_none lists old = record { as_many = refl; rest = λ j h. refl; used = λ j list below is. absurd (omega arith); so_far = gathers_no_list old }
+
+pub up_to_next : (at : ℕ) (lists left after : List (Vec Token)) (list none : Vec Token) (old mid new : List Token) → GathersUpTo at lists left old mid → slice_get left at ≡ Some list → at < length lists → none.items ≡ [] → after ≡ slice_set left at none
+    → (before : Token) × (last : Token) × (slice_get mid at ≡ Some before) × (new ≡ slice_set mid at last) × HasGathered list.items before last → GathersUpTo (at + 1) lists after old new
+up_to_next at lists left after list none old mid new g there within empty is h =
+    let other : (j : ℕ) → j ≢ at → slice_get after j ≡ slice_get left j = λ j differ. ap (λ (l : List (Vec Token)). slice_get l j) is ∙ get_set_other left at j none differ in
+    let here : slice_get after at ≡ Some none = ap (λ (l : List (Vec Token)). slice_get l at) is ∙ get_set_same left at none (slice_get_within left at list there) in
+    record {
+      as_many = ap (λ (l : List (Vec Token)). length l) is ∙ (length-set left at none ∙ g.as_many);
+      rest = λ j far. other j (λ same. absurd (omega arith)) ∙ g.rest j (omega arith);
+      used = λ j found below e.
+          dite (dec_le (suc j) at)
+          (λ (before : suc j ≤ at). g.used j found before (sym (other j (λ same. absurd (omega arith))) ∙ e))
+          (λ not_before.
+          let same : j ≡ at = omega arith in
+          let found_is : none ≡ found = the_one after at none found here (ap (λ (n : ℕ). slice_get after n) (sym same) ∙ e) in
+          ap (λ (l : Vec Token). l.items) (sym found_is) ∙ empty);
+      so_far = gathers_one_list old mid new (take at lists) (take (at + 1) lists) list at g.so_far (sym (length-take-le at lists (omega (arith, within)))) (take_next lists at list (sym (g.rest at (omega arith)) ∙ there)) h;
+    }
+
+-- all were ended
+pub up_to_all : (server : List Mounted) (at : ℕ) (lists left : List (Vec Token)) (old new : List Token) → length lists ≤ at → length lists ≡ length server → GathersUpTo at lists left old new → HaveGathered lists old new × AreUsedUp server left
+up_to_all server at lists left old new long many g = (
+  subst (λ (l : List (Vec Token)). HaveGathered l old new) (take_all at lists long) g.so_far.have,
+  (g.as_many ∙ many, λ j list e. g.used j list (let within = slice_get_within left j list e in let same = g.as_many in omega arith) e),
+)
+
+-- the passes of the next list are of the region there
+pub next_here : (server : List Mounted) (lists left : List (Vec Token)) (at : ℕ) (list : Vec Token) → AreHere server lists → slice_get left at ≡ slice_get lists at → slice_get left at ≡ Some list → All (λ (pass : Token). IsRegionAt server at pass.region) list.items
+next_here server lists left at list here same there = here at list (sym same ∙ there)

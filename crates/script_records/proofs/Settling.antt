@@ -163,7 +163,7 @@ module _ {script : Script} {server : List Mounted} {first final : List Token} {e
 
 pub finished_all : (own : Ending) (P : Type 0) → P → IsFinishedUnlessWanting own P
 finished_all ends.Done P p = p
-finished_all ends.DiskFault P p = p
+finished_all ends.DiskFault P p = tt
 finished_all (ends.Condition line) P p = p
 finished_all (ends.NotArchive file at) P p = p
 finished_all (ends.Compressed file) P p = p
@@ -174,13 +174,17 @@ finished_all ends.NoMemory P p = tt
 finished_all (ends.NotLater last) P p = p
 finished_all (ends.Changed pmid) P p = p
 
+pub unfinished : (ending : Ending) (P : Type 0) → EndsBy ends.NoMemory ending → IsFinishedUnlessWanting ending P
+unfinished ending P (inl want) = subst (λ (e : Ending). IsFinishedUnlessWanting e P) (sym want) tt
+unfinished ending P (inr failing) = subst (λ (e : Ending). IsFinishedUnlessWanting e P) (sym failing) tt
+
 stamps_many : (xs : List SampleTaken) (lacking : List Moment) → length (stamps_of xs ++ lacking) ≡ length xs + length lacking
 stamps_many [] lacking = omega arith
 stamps_many (x ∷ xs) lacking = let rest = stamps_many xs lacking in omega (arith, rest)
 
 module _ {C D : Type 0} (c : ClockGhosts C) (d : DiskGhosts D) (script : Script) (server : List Mounted) (first waiting gathered final : List Token) (was is : Sampler) (clock_was clock_is : C) (disk_was disk_is : D) (samples : ℕ) (left : Files) (e ending : Ending) (ends_with : EndsWith e ending)
     (w : Whole c d script.config.groups server first waiting gathered final was is clock_was clock_is disk_was disk_is e samples) (limit_same : is.archive.limit ≡ was.archive.limit) (none : was.archive.logged ≡ 0) (unstarted : was.plans ≡ None) (found : d.tells → IsStandingFound left was.archive (d.held disk_was))
-    (later : SeesOn waiting gathered) (stands : StandsBehind script server gathered final) (legal : AtJournals IsLegal script server final) (loads : AtJournals LoggerLoads script server final) (own : Ending) (ended_by : EndsBy own ending) (writers : IsFinishedUnlessWanting own (AtJournals WritersRan script server final)) where
+    (later : SeesOn waiting gathered) (stands : StandsBehind script server gathered final) (legal : AtJournals IsLegal script server final) (loads : AtJournals LoggerLoads script server final) (writers : IsFinishedUnlessWanting ending (AtJournals WritersRan script server final)) where
   abbrev y : Yields c d script.config.groups server was.plans clock_was clock_is disk_was disk_is was.archive is.archive w.before w.after e (w.beside ++ w.behind) w.lacking
   y = w.yields
 
@@ -327,7 +331,7 @@ module _ {C D : Type 0} (c : ClockGhosts C) (d : DiskGhosts D) (script : Script)
       record {
         moments = moments;
         results = y.results;
-        beside = record { legal = legal; own = own; ended_by = ended_by; writers = writers; loads = loads; sampled = sampled };
+        beside = record { legal = legal; writers = writers; loads = loads; sampled = sampled };
         took = subst (λ (n : ℕ). Took samples n ending) (sym (stamps_many (w.beside ++ w.behind) w.lacking)) (with_last (λ (x : Ending). Took samples (length (w.beside ++ w.behind) + length w.lacking) x) e ending ends_with tt w.took);
         so_ends = with_last (λ (x : Ending). EndsSamples x) e ending ends_with tt w.so_ends;
         clock = y.moments;

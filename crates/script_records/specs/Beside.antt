@@ -1,6 +1,7 @@
 -- A recording beside writers: what the threads of a script make of its regions, what is sampled meanwhile and behind them, and what is
 -- logged of it. A region's journal is what the seat's pass has seen in the end.
 use Rattle.std.specs.Prelude.{◌≡◌, ◌⊎◌, ℕ, ◌+◌, ◌<◌, ◌≤◌, true, List, [], ◌++◌, All, length, slice_get, Option, Some, None}
+use Rattle.std.specs.Global.{Vec}
 use Rattle.pcp_base.specs.Time.{Moment}
 use Rattle.region_core.specs.declared.act.Entry.{Entry}
 use Rattle.region_core.specs.declared.mode.Mode.TheVariants.{Idle}
@@ -21,6 +22,7 @@ use Rattle.script_writers.specs.Lines.{HasMade}
 use Rattle.recordable_scripts.specs.Recording.{lines_of}
 use Rattle.script_samples.specs.Samples.{SampleTaken, AreTaken, stamps_of}
 use Rattle.script_samples.specs.Shown.{AreShown}
+use Rattle.script_records.specs.Gathered.{AreUsedUp}
 
 -- the state at a region's making
 abbrev pub start_of : Mounted → State
@@ -99,15 +101,21 @@ pub record IsSampled (script : Script) (server : List Mounted) (first final : Li
 abbrev pub EndsBy : Ending → Ending → Type 0
 EndsBy own ending = (ending ≡ own) ⊎ (ending ≡ ends.DiskFault)
 
--- Want of memory may leave the writers' lines unfinished, and no other end.
+-- Want of memory may leave the writers' lines unfinished, also where a disk that failed stands before it, and no other end. Whether it did is
+-- told by what is left of the passes.
 abbrev pub IsFinishedUnlessWanting : Ending → Type 0 → Type 0
 IsFinishedUnlessWanting ends.NoMemory P = Unit {0}
-IsFinishedUnlessWanting own P = P
+IsFinishedUnlessWanting ends.DiskFault P = Unit {0}
+IsFinishedUnlessWanting ending P = P
+
+-- What is left of the script's passes tells whether the writers ended. Lists without a pass, one for each region: they ended, and each pass
+-- has made the entries of its own lines. No list at all: memory was refused to the writers, whose passes are gone with them, and the
+-- recording ended by that, or by a disk that failed too.
+abbrev pub TellWriters : Script → List Mounted → List Token → List (Vec Token) → Ending → Type 0
+TellWriters script server final left ending = (AreUsedUp server left × AtJournals WritersRan script server final) ⊎ ((left ≡ []) × EndsBy ends.NoMemory ending)
 
 pub record Beside (script : Script) (server : List Mounted) (first final : List Token) (ending : Ending) (moments : List Moment) (results : List Fetched) : Type 0 where
   pub legal : AtJournals IsLegal script server final
-  pub own : Ending
-  pub ended_by : EndsBy own ending
-  pub writers : IsFinishedUnlessWanting own (AtJournals WritersRan script server final)
+  pub writers : IsFinishedUnlessWanting ending (AtJournals WritersRan script server final)
   pub loads : AtJournals LoggerLoads script server final
   pub sampled : IsSampled script server first final ending moments results

@@ -27,3 +27,7 @@ pub record HaveGathered (lists : List (Vec Token)) (old new : List Token) : Type
 -- the passes of each list are of the region at its position
 abbrev pub AreHere : List Mounted → List (Vec Token) → Type 0
 AreHere server lists = (j : ℕ) (list : Vec Token) → slice_get lists j ≡ Some list → All (λ (pass : Token). IsRegionAt server j pass.region) list.items
+
+-- what is left of lists whose passes were all ended: one without a pass for each region
+abbrev pub AreUsedUp : List Mounted → List (Vec Token) → Type 0
+AreUsedUp server lists = (length lists ≡ length server) × ((j : ℕ) (list : Vec Token) → slice_get lists j ≡ Some list → list.items ≡ [])

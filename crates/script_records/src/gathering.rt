@@ -2,10 +2,12 @@
 ghost use Rattle.std.specs.Prelude.{◌≡◌, ◌<◌, ◌≤◌, All, length, slice_get, slice_set, Some};
 ghost use Rattle.fetch_engine.specs.Servers.{IsRegionAt, IsSeated};
 ghost use Rattle.region_rule.specs.Seats.{Token};
-ghost use Rattle.script_records.specs.Gathered.{AreHere, HasGathered, HaveGathered};
+ghost use Rattle.script_records.specs.Gathered.{AreHere, AreUsedUp, HasGathered, HaveGathered};
 
 use fetch_engine::{Seat, Server};
 use region_words::Pass;
+use std::alloc::Global;
+use std::mem;
 
 /// Ends passes of the region at a position.
 fn gather_at(server: &Server, seat: &mut Seat, at: u32, passes: Vec<Pass>)
@@ -20,18 +22,23 @@ fn gather_at(server: &Server, seat: &mut Seat, at: u32, passes: Vec<Pass>)
     }
 }
 
-/// Ends all passes: a list for each region, in ascending cluster.
-pub(crate) fn gather_all(server: &Server, seat: &mut Seat, passes: Vec<Vec<Pass>>)
+/// Ends all passes: a list for each region, in ascending cluster. An empty list is left of each.
+pub(crate) fn gather_all(
+    alloc: Global,
+    server: &Server,
+    seat: &mut Seat,
+    passes: &mut Vec<Vec<Pass>>,
+)
     requires seated { IsSeated server.now seat.old.tokens }
-    requires lists { length passes.items ≡ length server.now }
+    requires lists { length passes.old.items ≡ length server.now }
     requires few { length server.now ≤ 64 }
-    requires here { AreHere server.now passes.items }
-    ensures gathers { HaveGathered passes.items seat.old.tokens seat.new.tokens }
+    requires here { AreHere server.now passes.old.items }
+    ensures gathers { HaveGathered passes.old.items seat.old.tokens seat.new.tokens }
+    ensures used { AreUsedUp server.now passes.new.items }
     ensures seated { IsSeated server.now seat.new.tokens }
 {
-    let mut at = 0;
-    for list in passes {
-        gather_at(server, seat, at, list);
-        at += 1;
+    for at in 0..passes.len() {
+        let list = mem::replace(&mut passes[at], Vec::new(alloc));
+        gather_at(server, seat, at as u32, list);
     }
 }

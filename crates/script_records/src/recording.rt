@@ -12,7 +12,7 @@ ghost use Rattle.script_runs.specs.declared.ending.Ending.TheVariants.{DiskFault
 ghost use Rattle.record_run.specs.Going.{IsUnclosed, IsWorking};
 ghost use Rattle.script_replays.specs.Replays.{ended_by};
 ghost use Rattle.recordable_scripts.specs.Recording.{refused_line};
-ghost use Rattle.script_records.specs.Beside.{Beside};
+ghost use Rattle.script_records.specs.Beside.{Beside, TellWriters};
 ghost use Rattle.script_records.specs.Halting.{Halts, IsRecorded, IsStandingFound, RefusedBy};
 ghost use Rattle.script_records.specs.Pictured.{AreImages};
 ghost use Rattle.script_records.specs.Recordings.{IsRecording, MayEndRecording};
@@ -66,7 +66,7 @@ fn run<'a, R: Threads + Wait + Sync, D: Disk, C: Clock, T: Turn + Sync>(
     script: &'a Script,
     server: &Server,
     seat: &mut Seat,
-    passes: Vec<Vec<Pass>>,
+    passes: &mut Vec<Vec<Pass>>,
     disk: &mut D,
     clock: &mut C,
     turn: &T,
@@ -75,7 +75,7 @@ fn run<'a, R: Threads + Wait + Sync, D: Disk, C: Clock, T: Turn + Sync>(
 ) -> Ending
     requires rules { KeepsRules script.now }
     requires record { refused_line script.now ≡ None }
-    requires made { AreMade script.now server.now passes.items (seat.old ∷ []) }
+    requires made { AreMade script.now server.now passes.old.items (seat.old ∷ []) }
     requires images { AreImages script.now }
     requires limit { (1024 ≤ sampler.old.archive.limit) × (sampler.old.archive.limit ≤ 1073741824) }
     requires none { sampler.old.archive.logged ≡ 0 }
@@ -84,33 +84,24 @@ fn run<'a, R: Threads + Wait + Sync, D: Disk, C: Clock, T: Turn + Sync>(
     ensures halts { (left : AllFiles) → (D.tells → IsStandingFound left sampler.old.archive (D.held disk.old))
         → Halts C.Clock D.Disk clock.old clock.new disk.old disk.new script.now sampler.old.archive.limit samples server.now seat.old.tokens seat.new.tokens left sampler.new.archive result }
     ensures seated { IsSeated server.now seat.new.tokens }
+    ensures writers { TellWriters script.now server.now seat.new.tokens passes.new.items result }
     ensures cause { IsWorking sampler.old.archive.limit sampler.old.archive.standing → MayEndRecording C.Clock D.Disk clock.old clock.new disk.old disk.new result }
     ensures unclosed { IsWorking sampler.old.archive.limit sampler.old.archive.standing → result ≢ Failing → IsUnclosed sampler.new.archive.limit sampler.new.archive.standing }
     ensures later { D.faults disk.old ≤ D.faults disk.new }
     ensures clock_later { C.faults clock.old ≤ C.faults clock.new }
 {
-    let mut passes = passes;
     let (written, early) = beside(
-        rt,
-        alloc,
-        script,
-        server,
-        seat,
-        &mut passes,
-        disk,
-        clock,
-        turn,
-        sampler,
-        samples,
+        rt, alloc, script, server, seat, passes, disk, clock, turn, sampler, samples,
     );
-    let done = match written {
+    let mut done = match written {
         Ok(done) => done,
         Err(_) => match early {
             Ok(()) => return Ending::NoMemory,
             Err(ending) => return refused(ending),
         },
     };
-    gather_all(server, seat, done);
+    gather_all(alloc, server, seat, &mut done);
+    *passes = done;
     if let Err(ending) = early {
         return ending;
     }
@@ -138,7 +129,7 @@ fn record_over<R: Threads + Wait + Sync, D: Disk, C: Clock, T: Turn + Sync>(
     script: &Script,
     server: &Server,
     seat: &mut Seat,
-    passes: Vec<Vec<Pass>>,
+    passes: &mut Vec<Vec<Pass>>,
     disk: &mut D,
     clock: &mut C,
     turn: &T,
@@ -148,11 +139,12 @@ fn record_over<R: Threads + Wait + Sync, D: Disk, C: Clock, T: Turn + Sync>(
 ) -> Replayed
     requires rules { KeepsRules script.now }
     requires record { refused_line script.now ≡ None }
-    requires made { AreMade script.now server.now passes.items (seat.old ∷ []) }
+    requires made { AreMade script.now server.now passes.old.items (seat.old ∷ []) }
     requires images { AreImages script.now }
     requires limit { (1024 ≤ volume) × (volume ≤ 1073741824) }
     requires some { 1 ≤ samples }
     ensures seated { IsSeated server.now seat.new.tokens }
+    ensures writers { TellWriters script.now server.now seat.new.tokens passes.new.items result.ending }
     ensures records { (D.tells → IsLeft archive (D.held disk.old))
         → IsRecorded C.Clock D.Disk clock.old clock.new disk.old disk.new script.now volume samples server.now seat.old.tokens seat.new.tokens (contents_of (D.held disk.old)) result result.ending }
     ensures cause { MayEndRecording C.Clock D.Disk clock.old clock.new disk.old disk.new result.ending }
@@ -191,23 +183,26 @@ fn unrecorded<R: Threads + Wait + Sync, T: Turn + Sync>(
     script: &Script,
     server: &Server,
     seat: &mut Seat,
-    passes: Vec<Vec<Pass>>,
+    passes: &mut Vec<Vec<Pass>>,
     turn: &T,
     ending: Ending,
 ) -> Replayed
     requires rules { KeepsRules script.now }
     requires record { refused_line script.now ≡ None }
-    requires made { AreMade script.now server.now passes.items (seat.old ∷ []) }
+    requires made { AreMade script.now server.now passes.old.items (seat.old ∷ []) }
     requires images { AreImages script.now }
     ensures beside { ending ≢ AtEnd → Beside script.now server.now seat.old.tokens seat.new.tokens result.ending [] [] }
     ensures seated { IsSeated server.now seat.new.tokens }
+    ensures writers { TellWriters script.now server.now seat.new.tokens passes.new.items result.ending }
     ensures output { result.output ≡ [] }
     ensures logged { result.logged ≡ 0 }
     ensures ending { (result.ending ≡ ending) ⊎ ((ending ≢ Failing) × (result.ending ≡ Refused)) }
 {
-    match run_writers(rt, alloc, script, server, passes, turn) {
-        Ok(done) => {
-            gather_all(server, seat, done);
+    let own = mem::replace(passes, Vec::new(alloc));
+    match run_writers(rt, alloc, script, server, own, turn) {
+        Ok(mut done) => {
+            gather_all(alloc, server, seat, &mut done);
+            *passes = done;
             Replayed::nothing(alloc, ending)
         }
         Err(_) => Replayed::nothing(alloc, refused(ending)),
@@ -221,7 +216,7 @@ fn record_with<R: Threads + Wait + Sync, D: Disk, C: Clock, T: Turn + Sync>(
     script: &Script,
     server: &Server,
     seat: &mut Seat,
-    passes: Vec<Vec<Pass>>,
+    passes: &mut Vec<Vec<Pass>>,
     disk: &mut D,
     clock: &mut C,
     turn: &T,
@@ -230,12 +225,13 @@ fn record_with<R: Threads + Wait + Sync, D: Disk, C: Clock, T: Turn + Sync>(
 ) -> Replayed
     requires rules { KeepsRules script.now }
     requires record { refused_line script.now ≡ None }
-    requires made { AreMade script.now server.now passes.items (seat.old ∷ []) }
+    requires made { AreMade script.now server.now passes.old.items (seat.old ∷ []) }
     requires images { AreImages script.now }
     requires limit { (1024 ≤ volume) × (volume ≤ 1073741824) }
     requires some { 1 ≤ samples }
     ensures records { IsRecording C.Clock D.Disk clock.old clock.new disk.old disk.new script.now volume samples server.now seat.old.tokens seat.new.tokens result }
     ensures seated { IsSeated server.now seat.new.tokens }
+    ensures writers { TellWriters script.now server.now seat.new.tokens passes.new.items result.ending }
     ensures unread { D.tells → (Readable (contents_of (D.held disk.old)) → ⊥) → LeavesOnly D.moment D.left_since disk.old disk.new (CrashImage (D.held disk.old)) }
     ensures cause { MayEndRecording C.Clock D.Disk clock.old clock.new disk.old disk.new result.ending }
     ensures later { D.faults disk.old ≤ D.faults disk.new }
@@ -279,6 +275,9 @@ pub fn record_script<R: Threads + Wait + Sync, D: Disk, C: Clock, T: Turn + Sync
     ensures seats { length opened.new.seats.items ≡ 1 }
     ensures server { opened.new.server ≡ opened.old.server }
     ensures seated { (last : Seated) → slice_get opened.new.seats.items 0 ≡ Some last → IsSeated opened.new.server last.tokens }
+    // The passes are used up, and what is left of them tells whether the writers ended: where it has a list for each region each pass made
+    // the entries of all its own lines, however the recording ended; else memory was refused to the writers.
+    ensures writers { (last : Seated) → slice_get opened.new.seats.items 0 ≡ Some last → TellWriters script opened.new.server last.tokens opened.new.passes.items result.ending }
     // Where the files can't be read nothing is written.
     ensures unread { D.tells → (Readable (contents_of (D.held disk.old)) → ⊥) → LeavesOnly D.moment D.left_since disk.old disk.new (CrashImage (D.held disk.old)) }
     ensures cause { MayEndRecording C.Clock D.Disk clock.old clock.new disk.old disk.new result.ending }
@@ -286,7 +285,6 @@ pub fn record_script<R: Threads + Wait + Sync, D: Disk, C: Clock, T: Turn + Sync
     ensures clock_later { C.faults clock.old ≤ C.faults clock.new }
 {
     images_are(&script);
-    let passes = mem::replace(&mut opened.passes, Vec::new(alloc));
     let seat = &mut opened.seats[0];
     record_with(
         rt,
@@ -294,7 +292,7 @@ pub fn record_script<R: Threads + Wait + Sync, D: Disk, C: Clock, T: Turn + Sync
         &script,
         &opened.server,
         seat,
-        passes,
+        &mut opened.passes,
         disk,
         clock,
         turn,

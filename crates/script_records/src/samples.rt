@@ -1,5 +1,5 @@
 //! The samples of a recording beside its writers.
-ghost use Rattle.std.specs.Prelude.{◌≡◌, ◌≢◌, ◌+◌, ◌<◌, ◌≤◌, ℕ, None, IfErr, IfOk, OnOk, length, List as Sequence};
+ghost use Rattle.std.specs.Prelude.{◌≡◌, ◌≢◌, ◌+◌, ◌<◌, ◌≤◌, ℕ, [], None, IfErr, IfOk, OnOk, length, List as Sequence};
 ghost use Rattle.std.specs.Thread.{IsSync};
 ghost use Rattle.fetch_engine.specs.Servers.{IsSeated};
 ghost use Rattle.fetch_engine.specs.Visits.{AreLoaded};
@@ -48,6 +48,7 @@ pub(crate) fn beside<'a, R: Threads + Wait + Sync, D: Disk, C: Clock, T: Turn + 
     requires none { sampler.old.archive.logged ≡ 0 }
     requires some { 1 ≤ samples }
     ensures written { IfOk result.0 (λ done. HaveWritten script.now server.now passes.old.items done.items) }
+    ensures taken { passes.new.items ≡ [] }
     ensures seated { IsSeated server.now seat.new.tokens }
     ensures loads { AreLoaded seat.old.tokens seat.new.tokens }
     ensures limit { sampler.new.archive.limit ≡ sampler.old.archive.limit }
@@ -71,6 +72,7 @@ pub(crate) fn beside<'a, R: Threads + Wait + Sync, D: Disk, C: Clock, T: Turn + 
             requires serves { ServesScript script.now 1 server.now }
             requires ready { AreReady script.now server.now passes.now.items }
             ensures written { IfOk result (λ done. HaveWritten script.entry.now server.entry.now passes.entry.now.items done.items) }
+            ensures taken { passes.exit.now.items ≡ [] }
         {
             let passes = mem::replace(passes, Vec::new(alloc));
             run_writers(rt, alloc, script, server, passes, turn)

@@ -27,6 +27,7 @@ returns-clause-recorded g c =
         last_is = after.1;
         seated = e.seated after.0 after.1;
         recording = e.records before.0 after.0 before.1 after.1;
+        writers = e.writers after.0 after.1;
         cause = e.cause;
         unread = λ none tells. e.unread tells none;
       };

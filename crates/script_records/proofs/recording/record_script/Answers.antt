@@ -1,13 +1,12 @@
 -- A script is recorded on the regions that were opened for it.
 use Rattle.std.proofs.Common.{◌≡◌, List, ◌∷◌, [], length, Some, refl, sym, ◌∙◌, subst, arith}
 use Rattle.std.specs.Prelude.{slice_get}
-use Rattle.std.specs.Global.{Vec}
 use Rattle.std.proofs.lemmas.Option.{same_Some}
 use Rattle.fetch_engine.specs.Servers.{IsSeated, Seated}
-use Rattle.region_rule.specs.Seats.{Token}
 use Rattle.script_passes.specs.Openings.{AreMade}
 use Rattle.script_passes.proofs.Turning.{was_there}
 use Rattle.script_replays.proofs.OneSeat.{one_seat, seat_after}
+use Rattle.script_records.specs.Beside.{TellWriters}
 use Rattle.script_records.specs.Recordings.{IsRecording}
 use Rattle.script_records.proofs.recording.record_script.Goals as goal
 
@@ -17,8 +16,7 @@ record_with-requires-clause-made g c κs within =
     let seat : Seated = c.index_mut-seat.result.now in
     let one : length seats ≡ 1 = c.requires.fresh.seats_are in
     let all : seats ≡ seat ∷ [] = one_seat seats seat one (was_there seats 0 seat seat (omega (arith, one)) c.index_mut-seat.ensures.value refl) in
-    subst (λ (xs : List Seated). AreMade c.args.script c.args.opened.now.server c.replace-passes.result.items xs) all
-    (subst (λ (v : Vec (Vec Token)). AreMade c.args.script c.args.opened.now.server v.items seats) (sym c.replace-passes.ensures.value) c.requires.fresh.made)
+    subst (λ (xs : List Seated). AreMade c.args.script c.args.opened.now.server c.args.opened.now.passes.items xs) all c.requires.fresh.made
 
 pub returns-clause-records : goal.returns-clause-records
 returns-clause-records g c = λ first last is_first is_last.
@@ -38,3 +36,9 @@ returns-clause-seated g c = λ last is_last.
     let seats : List Seated = c.args.opened.now.seats.items in
     let one : length seats ≡ 1 = c.requires.fresh.seats_are in
     subst (λ (s : Seated). IsSeated c.args.opened.now.server s.tokens) (seat_after seats c.record_with.new.seat last one is_last) c.record_with.ensures.seated
+
+pub returns-clause-writers : goal.returns-clause-writers
+returns-clause-writers g c = λ last is_last.
+    let seats : List Seated = c.args.opened.now.seats.items in
+    let one : length seats ≡ 1 = c.requires.fresh.seats_are in
+    subst (λ (s : Seated). TellWriters c.args.script c.args.opened.now.server s.tokens c.record_with.new.passes.items c.record_with.result.ending) (seat_after seats c.record_with.new.seat last one is_last) c.record_with.ensures.writers

@@ -1,18 +1,21 @@
 -- The writers run, and samples are taken beside them and behind them.
-use Rattle.std.proofs.Common.{◌≡◌, ◌+◌, ◌<◌, ℕ, List, ◌∷◌, [], length, refl}
+use Rattle.std.proofs.Common.{◌≡◌, inl, inr, ◌+◌, ◌<◌, ℕ, List, ◌∷◌, [], length, refl}
 use Rattle.std.specs.Global.{Vec}
 use Rattle.region_rule.specs.Seats.{Token}
 use Rattle.script_runs.specs.declared.ending.Ending.{Ending}
+use Rattle.script_runs.specs.declared.ending.Ending.TheVariants as ends
 use Rattle.script_samples.specs.Samples.{SampleTaken}
 use Rattle.script_samples.specs.Sampling.{StopsSampling}
+use Rattle.script_samples.proofs.Loading.{not_loaded}
 use Rattle.script_writers.specs.Written.{HaveWritten}
 use Rattle.script_writers.proofs.Ready.{ready}
 use Rattle.script_records.proofs.Handed.{all_here}
+use Rattle.script_records.proofs.Running.{refused_by, written_told}
 use Rattle.script_records.proofs.Ways.{err_told, ok_so, ok_told, run_done, run_last, run_refused, run_stopped, run_wanted}
 use Rattle.script_records.proofs.recording.run.Goals as goal
 
 pub beside-written-requires-clause-ready : goal.beside-written-requires-clause-ready
-beside-written-requires-clause-ready g c κs within = ready c.args.script.now c.args.server.now c.args.passes.items (c.args.seat.now ∷ []) c.requires.rules c.requires.made
+beside-written-requires-clause-ready g c κs within = ready c.args.script.now c.args.server.now c.args.passes.now.items (c.args.seat.now ∷ []) c.requires.rules c.requires.made
 
 pub beside-written-requires-clause-seated : goal.beside-written-requires-clause-seated
 beside-written-requires-clause-seated g c κs within = c.requires.made.seated 0 c.args.seat.now refl
@@ -20,13 +23,13 @@ beside-written-requires-clause-seated g c κs within = c.requires.made.seated 0 
 pub returns-in-Ok-early-clause-halts : goal.returns-in-Ok-early-clause-halts
 returns-in-Ok-early-clause-halts g c = λ left found.
     let b = c.beside-written in
-    run_wanted c.args.script.now c.args.server.now c.args.passes.items c.args.seat.now c.requires.rules c.requires.made g.C.Clock g.D.Disk b.new.seat.tokens c.args.sampler.now b.new.sampler c.args.clock.now b.new.clock c.args.disk.now b.new.disk c.args.samples
+    run_wanted c.args.script.now c.args.server.now c.args.passes.now.items c.args.seat.now c.requires.rules c.requires.made g.C.Clock g.D.Disk b.new.seat.tokens c.args.sampler.now b.new.sampler c.args.clock.now b.new.clock c.args.disk.now b.new.disk c.args.samples
     b.ensures.limit c.requires.none c.requires.unstarted left found b.ensures.loads c.requires.images (ok_so b.result.1 c.in-Ok-early.field-0 c.in-Ok-early.is b.ensures.goes)
 
 pub returns-in-Err-early-clause-halts : goal.returns-in-Err-early-clause-halts
 returns-in-Err-early-clause-halts g c = λ left found.
     let b = c.beside-written in
-    run_refused c.args.script.now c.args.server.now c.args.passes.items c.args.seat.now c.requires.rules c.requires.made g.C.Clock g.D.Disk b.new.seat.tokens c.args.sampler.now b.new.sampler c.args.clock.now b.new.clock c.args.disk.now b.new.disk c.args.samples
+    run_refused c.args.script.now c.args.server.now c.args.passes.now.items c.args.seat.now c.requires.rules c.requires.made g.C.Clock g.D.Disk b.new.seat.tokens c.args.sampler.now b.new.sampler c.args.clock.now b.new.clock c.args.disk.now b.new.disk c.args.samples
     b.ensures.limit c.requires.none c.requires.unstarted left found b.ensures.loads c.requires.images c.in-Err-early.ending c.refused.result c.refused.ensures
     (err_told b.result.1 c.in-Err-early.ending
     (λ (e : Ending). (taken : List SampleTaken) × (still : ℕ) × (length taken + still ≡ c.args.samples) × (0 < still)
@@ -37,14 +40,14 @@ pub gather_all-requires-clause-here : goal.gather_all-requires-clause-here
 gather_all-requires-clause-here g c =
     let b = c.beside-written in
     all_here c.args.script.now c.args.server.now c.in-Ok.done.items
-    (ok_told b.result.0 c.in-Ok.done (λ (done : Vec (Vec Token)). HaveWritten c.args.script.now c.args.server.now c.args.passes.items done.items) c.in-Ok.is b.ensures.written).ready
+    (ok_told b.result.0 c.in-Ok.done (λ (done : Vec (Vec Token)). HaveWritten c.args.script.now c.args.server.now c.args.passes.now.items done.items) c.in-Ok.is b.ensures.written).ready
 
 pub returns-in-Err-early-2-clause-halts : goal.returns-in-Err-early-2-clause-halts
 returns-in-Err-early-2-clause-halts g c = λ left found.
     let b = c.beside-written in
-    run_stopped c.args.script.now c.args.server.now c.args.passes.items c.args.seat.now c.requires.rules c.requires.made g.C.Clock g.D.Disk b.new.seat.tokens c.args.sampler.now b.new.sampler c.args.clock.now b.new.clock c.args.disk.now b.new.disk c.args.samples
+    run_stopped c.args.script.now c.args.server.now c.args.passes.now.items c.args.seat.now c.requires.rules c.requires.made g.C.Clock g.D.Disk b.new.seat.tokens c.args.sampler.now b.new.sampler c.args.clock.now b.new.clock c.args.disk.now b.new.disk c.args.samples
     b.ensures.limit c.requires.none c.requires.unstarted left found b.ensures.loads c.in-Ok.done.items c.gather_all.new.seat.tokens
-    (ok_told b.result.0 c.in-Ok.done (λ (done : Vec (Vec Token)). HaveWritten c.args.script.now c.args.server.now c.args.passes.items done.items) c.in-Ok.is b.ensures.written) c.gather_all.ensures.gathers c.in-Err-early-2.ending
+    (ok_told b.result.0 c.in-Ok.done (λ (done : Vec (Vec Token)). HaveWritten c.args.script.now c.args.server.now c.args.passes.now.items done.items) c.in-Ok.is b.ensures.written) c.gather_all.ensures.gathers c.in-Err-early-2.ending
     (err_told b.result.1 c.in-Err-early-2.ending
     (λ (e : Ending). (taken : List SampleTaken) × (still : ℕ) × (length taken + still ≡ c.args.samples) × (0 < still)
     × StopsSampling g.C.Clock g.D.Disk c.args.script.now.config.groups c.args.server.now c.args.sampler.now b.new.sampler c.args.seat.now.tokens b.new.seat.tokens c.args.clock.now b.new.clock c.args.disk.now b.new.disk taken still e)
@@ -53,15 +56,39 @@ returns-in-Err-early-2-clause-halts g c = λ left found.
 pub returns-in-Ok-sample-clause-halts : goal.returns-in-Ok-sample-clause-halts
 returns-in-Ok-sample-clause-halts g c = λ left found.
     let b = c.beside-written in
-    run_done c.args.script.now c.args.server.now c.args.passes.items c.args.seat.now c.requires.rules c.requires.made g.C.Clock g.D.Disk b.new.seat.tokens c.args.sampler.now b.new.sampler c.args.clock.now b.new.clock c.args.disk.now b.new.disk c.args.samples
+    run_done c.args.script.now c.args.server.now c.args.passes.now.items c.args.seat.now c.requires.rules c.requires.made g.C.Clock g.D.Disk b.new.seat.tokens c.args.sampler.now b.new.sampler c.args.clock.now b.new.clock c.args.disk.now b.new.disk c.args.samples
     b.ensures.limit c.requires.none c.requires.unstarted left found b.ensures.loads c.in-Ok.done.items c.gather_all.new.seat.tokens
-    (ok_told b.result.0 c.in-Ok.done (λ (done : Vec (Vec Token)). HaveWritten c.args.script.now c.args.server.now c.args.passes.items done.items) c.in-Ok.is b.ensures.written) c.gather_all.ensures.gathers c.sample.new.seat.tokens c.sample.new.sampler
+    (ok_told b.result.0 c.in-Ok.done (λ (done : Vec (Vec Token)). HaveWritten c.args.script.now c.args.server.now c.args.passes.now.items done.items) c.in-Ok.is b.ensures.written) c.gather_all.ensures.gathers c.sample.new.seat.tokens c.sample.new.sampler
     c.sample.new.clock c.sample.new.disk c.sample.ensures.loads c.sample.ensures.limit (ok_so b.result.1 c.in_default.field-0 c.in_default.is b.ensures.goes) c.in-Ok-sample.ensures.goes
 
-pub returns-clause-halts : goal.returns-clause-halts
-returns-clause-halts g c = λ left found.
+pub returns-in-Err-sample-clause-halts : goal.returns-in-Err-sample-clause-halts
+returns-in-Err-sample-clause-halts g c = λ left found.
     let b = c.beside-written in
-    run_last c.args.script.now c.args.server.now c.args.passes.items c.args.seat.now c.requires.rules c.requires.made g.C.Clock g.D.Disk b.new.seat.tokens c.args.sampler.now b.new.sampler c.args.clock.now b.new.clock c.args.disk.now b.new.disk c.args.samples
+    run_last c.args.script.now c.args.server.now c.args.passes.now.items c.args.seat.now c.requires.rules c.requires.made g.C.Clock g.D.Disk b.new.seat.tokens c.args.sampler.now b.new.sampler c.args.clock.now b.new.clock c.args.disk.now b.new.disk c.args.samples
     b.ensures.limit c.requires.none c.requires.unstarted left found b.ensures.loads c.in-Ok.done.items c.gather_all.new.seat.tokens
-    (ok_told b.result.0 c.in-Ok.done (λ (done : Vec (Vec Token)). HaveWritten c.args.script.now c.args.server.now c.args.passes.items done.items) c.in-Ok.is b.ensures.written) c.gather_all.ensures.gathers c.sample.new.seat.tokens c.sample.new.sampler
+    (ok_told b.result.0 c.in-Ok.done (λ (done : Vec (Vec Token)). HaveWritten c.args.script.now c.args.server.now c.args.passes.now.items done.items) c.in-Ok.is b.ensures.written) c.gather_all.ensures.gathers c.sample.new.seat.tokens c.sample.new.sampler
     c.sample.new.clock c.sample.new.disk c.sample.ensures.loads c.sample.ensures.limit c.in-Err-sample.ending (ok_so b.result.1 c.in_default.field-0 c.in_default.is b.ensures.goes) c.in-Err-sample.ensures.stops
+
+pub returns-in-Ok-early-clause-writers : goal.returns-in-Ok-early-clause-writers
+returns-in-Ok-early-clause-writers g c = inr (c.beside-written.ensures.taken, inl refl)
+
+pub returns-in-Err-early-clause-writers : goal.returns-in-Err-early-clause-writers
+returns-in-Err-early-clause-writers g c = inr (c.beside-written.ensures.taken, refused_by c.in-Err-early.ending c.refused.result c.refused.ensures)
+
+pub returns-in-Err-early-2-clause-writers : goal.returns-in-Err-early-2-clause-writers
+returns-in-Err-early-2-clause-writers g c =
+    let b = c.beside-written in
+    written_told c.args.script.now c.args.server.now c.args.passes.now.items c.args.seat.now c.requires.rules c.requires.made c.in-Ok.done.items c.gather_all.new.passes.items b.new.seat.tokens c.gather_all.new.seat.tokens c.gather_all.new.seat.tokens c.in-Err-early-2.ending b.ensures.loads
+    (ok_told b.result.0 c.in-Ok.done (λ (done : Vec (Vec Token)). HaveWritten c.args.script.now c.args.server.now c.args.passes.now.items done.items) c.in-Ok.is b.ensures.written) c.gather_all.ensures.gathers (not_loaded c.gather_all.new.seat.tokens) c.gather_all.ensures.used
+
+pub returns-in-Ok-sample-clause-writers : goal.returns-in-Ok-sample-clause-writers
+returns-in-Ok-sample-clause-writers g c =
+    let b = c.beside-written in
+    written_told c.args.script.now c.args.server.now c.args.passes.now.items c.args.seat.now c.requires.rules c.requires.made c.in-Ok.done.items c.gather_all.new.passes.items b.new.seat.tokens c.gather_all.new.seat.tokens c.sample.new.seat.tokens ends.Done b.ensures.loads
+    (ok_told b.result.0 c.in-Ok.done (λ (done : Vec (Vec Token)). HaveWritten c.args.script.now c.args.server.now c.args.passes.now.items done.items) c.in-Ok.is b.ensures.written) c.gather_all.ensures.gathers c.sample.ensures.loads c.gather_all.ensures.used
+
+pub returns-in-Err-sample-clause-writers : goal.returns-in-Err-sample-clause-writers
+returns-in-Err-sample-clause-writers g c =
+    let b = c.beside-written in
+    written_told c.args.script.now c.args.server.now c.args.passes.now.items c.args.seat.now c.requires.rules c.requires.made c.in-Ok.done.items c.gather_all.new.passes.items b.new.seat.tokens c.gather_all.new.seat.tokens c.sample.new.seat.tokens c.in-Err-sample.ending b.ensures.loads
+    (ok_told b.result.0 c.in-Ok.done (λ (done : Vec (Vec Token)). HaveWritten c.args.script.now c.args.server.now c.args.passes.now.items done.items) c.in-Ok.is b.ensures.written) c.gather_all.ensures.gathers c.sample.ensures.loads c.gather_all.ensures.used
