@@ -41,7 +41,7 @@ use Rattle.script_runs.specs.Archives.{Written, Stand, OpensFound, Opens, EndsAr
 use Rattle.record_run.specs.declared.archive.RunArchive.{RunArchive}
 use Rattle.record_run.specs.declared.archive.Standing.{Standing}
 use Rattle.record_run.specs.declared.archive.Standing.TheVariants.{Found, Open, Lost}
-use Rattle.record_run.specs.Going.{AreApart, FlushesRun, IsGoing, IsOpen, IsStanding, IsUnclosed, IsWorking, LeavesNone, LogFails, OpenMayAnswer, StaysOpen, TakesResult, TurnsAway, meant_of}
+use Rattle.record_run.specs.Going.{AreApart, FlushesRun, IsGoing, IsOpen, IsStanding, IsUnclosed, IsWorking, LeavesNone, LogFails, OpenMayAnswer, StaysOpen, TurnsAway, meant_of}
 use Rattle.record_run.specs.ImageCrashes.{ComesBack, ComesBackTo, start_of}
 use Rattle.record_run.specs.ImageLogs.{MaySurvive}
 use Rattle.record_run.specs.Opening.{IsOpened}
