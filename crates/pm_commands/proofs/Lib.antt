@@ -3,4 +3,5 @@ pub mod Lookings
 pub mod Memory
 pub mod Nothing
 pub mod Opening
+pub mod Sounds
 pub mod Welcome

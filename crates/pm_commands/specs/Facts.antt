@@ -2,17 +2,19 @@
 -- clause can foresee.
 use Rattle.std.specs.Prelude.{◌≡◌, ◌⊎◌, ℕ, ◌<◌, ◌≤◌, List, [], length, drop, true, false, Option, Some, None, IsSome, Ok, Err}
 use Rattle.pcp_base.specs.Time.{Moment}
-use Rattle.pcp_model.specs.Disk.{Files, Holdings, CrashImage}
+use Rattle.pcp_model.specs.Disk.{Files, Holdings, CrashImage, contents_of}
 use Rattle.pcp_outside.specs.Causes.{Rose}
 use Rattle.pm_words.specs.declared.stage.InputRefusal.{InputRefusal}
 use Rattle.pm_words.specs.declared.stage.FilesRefusal.{FilesRefusal}
 use Rattle.pm_words.specs.declared.stage.FilesRefusal.TheVariants.{Run, Compressed, Nothing}
 use Rattle.pm_words.specs.declared.words.Command.{Command}
+use Rattle.pm_words.specs.declared.words.Command.TheVariants.{Once, Replay, Make, Recover}
 use Rattle.pm_words.specs.CommandLine.{command_of}
 use Rattle.pm_tasks.specs.Causes.{Asks, fault_of, Finds, IsReader}
 use Rattle.pm_words.specs.Inputs.{input_limit, refusal_of}
 use Rattle.pm_words.specs.Meaning.{Meaning}
 use Rattle.script_passes.specs.declared.opening.Opened.{Opened}
+use Rattle.pm_runs.specs.Sound.{LeavesSound}
 use Rattle.pm_tasks.specs.Meanings.{meaning}
 use Rattle.pm_tasks.specs.Regions.{AsksRun, RunsScript}
 use Rattle.pcp_base.specs.declared.file.FileId.{FileId}
@@ -130,3 +132,15 @@ ComesOfRun status = (status ≡ 0) ⊎ ((status ≡ 4) ⊎ ((status ≡ 5) ⊎ (
 pub record OpensRegions (words : List (List ℕ)) (s : SourceSide) (opened : Option Opened) (status : ℕ) : Type 0 where
   pub good : (a : Meets words s) → refused_of a ≡ None → RunsScript a.command → IsSome opened ⊎ ((status ≡ 9) ⊎ (status ≡ 3))
   pub ran : AsksRun words → ComesOfRun status → IsSome opened
+
+-- a command that writes an archive
+abbrev pub WritesArchive : Command → Type 0
+WritesArchive (Once asked) = Unit {0}
+WritesArchive (Replay volume) = Unit {0}
+WritesArchive (Make asked) = Unit {0}
+WritesArchive Recover = Unit {0}
+WritesArchive _ = ⊥
+
+-- Where the words are one, the files are whole, and sound where what recovery leaves of those before is so, as where there is no archive.
+abbrev pub StaysSound : List (List ℕ) → Holdings → Holdings → Type 0
+StaysSound words before after = (command : Command) → command_of words ≡ Ok command → WritesArchive command → LeavesSound (contents_of before) (contents_of after)

@@ -5,7 +5,7 @@ ghost use Rattle.pcp_outside.specs.Causes.{Rose};
 ghost use Rattle.pm_words.specs.CommandLine.{FitsCommand};
 ghost use Rattle.pm_words.specs.Serving.{Serves, MayLeave, HasRecovered, HadRecovered};
 ghost use Rattle.pm_tasks.specs.Ends.{Runs, Ends, EndsDone, MayBeLeft};
-ghost use Rattle.pm_commands.specs.Facts.{UsageIsExact, LimitIsExact, InputFaultIsExact, RunIsExact, ArchiveFaultIsExact, NothingIsThere, IsAside, IsInputless, IsRefused, IsUnwritten, IsGoodRun, Keeps, OpensRegions};
+ghost use Rattle.pm_commands.specs.Facts.{UsageIsExact, LimitIsExact, InputFaultIsExact, RunIsExact, ArchiveFaultIsExact, NothingIsThere, IsAside, IsInputless, IsRefused, IsUnwritten, IsGoodRun, Keeps, OpensRegions, StaysSound};
 ghost use Rattle.pm_words.specs.Inputs.{input_limit};
 ghost use Rattle.pm_tasks.specs.Meanings.{meaning};
 ghost use Rattle.pm_tasks.specs.Regions.{AsksRun, CommandRan, RunsScript, StatusRan, WordsRan};
@@ -190,6 +190,10 @@ pub fn offline<I: Source, O: Sink, D: Disk>(
 
     // Once it has ended with 0, each crash leaves what the command keeps, until something else touches the disk.
     ensures kept { result ≡ 0 → D.tells → Keeps (map string_bytes words.now) (source_side I.Source input.old input.new) (D.held disk.old) (D.held disk.new) }
+
+    // Once a command that writes an archive has ended with 0, recovery of its files changes nothing, and they are sound where what
+    // recovery leaves of those before is so, or there was no archive: then `at` and `range` tell of them what the scan says.
+    ensures sound { result ≡ 0 → D.tells → StaysSound (map string_bytes words.now) (D.held disk.old) (D.held disk.new) }
 
     // A run over any disk, settled or not: from the moment on at which recovery answered, a crash leaves all items of the start, and
     // some first ones of the run.

@@ -4,3 +4,4 @@ pub mod OneImage
 pub mod OneRun
 pub mod Refused
 pub mod Scripted
+pub mod Sound

@@ -42,6 +42,7 @@ use Rattle.pm_runs.specs.Scripts.{HasWritten, IsRunUnderWay, Halts, Leads, LogsF
 use Rattle.pm_runs.proofs.Mended.{not_both}
 use Rattle.pm_runs.proofs.OneRun.{one_ending}
 use Rattle.pm_runs.proofs.Refused.{refused_is_none}
+use Rattle.pm_runs.proofs.Sound.{run_leaves_sound}
 use Rattle.pm_runs.specs.commands.make.{WantsCounts}
 use Rattle.pm_words.proofs.Sending.{rose_later}
 use Rattle.pm_words.proofs.Serving.{left_alone}
@@ -180,7 +181,11 @@ module _ (c : Runner) (input : List ℕ) (script : Script) (is : c.script input 
           (of_script (λ s. (output : List ℕ) × (items : List Item) × (final : Files) × Leads s c.limit (contents_of d.held) ends.Done output items final)
           (r.output, (told t).items, contents_of d.after, leads ends.Done same (told t).items (told t).regions (ends_so ends.Done same t))) in
           done_taken c.limit (files_found d) both.0 both.2.1.0 both.2.1.1 both.2.1.2 (ends_so ends.Done same t).unwrapped both.2.1.3 e both.2.0;
-      done = λ t. ((ends_so ends.Done same t).unwrapped, (ends_so ends.Done same t).settled);
+      done = λ t. record {
+        unwrapped = (ends_so ends.Done same t).unwrapped;
+        settled = (ends_so ends.Done same t).settled;
+        sound = run_leaves_sound script c.limit (pair_of d) r (told t).items (told t).regions (ends_so ends.Done same t);
+      };
       says = λ t. (
         script,
         is,

@@ -1,4 +1,5 @@
 pub mod Regions
 pub mod Running
 pub mod Scripts
+pub mod Sound
 pub mod commands

@@ -28,6 +28,7 @@ use Rattle.pm_words.specs.declared.refusal.Refusal.TheVariants.{Words, Reading, 
 use Rattle.pm_words.specs.Meaning.{Meaning}
 use Rattle.pm_words.specs.Refusals.{run_status}
 use Rattle.pm_words.specs.Sides.{DiskSide, Found}
+use Rattle.pm_runs.specs.Sound.{LeavesSound}
 
 -- what is its own of such a command
 pub record Runner : Type 1 where
@@ -148,12 +149,18 @@ abbrev pub KeepsAll : Script → ℕ → Files → Files → Type 0
 KeepsAll script limit start crash =
     (output : List ℕ) × (items : List Item) × (final : Files) × Leads script limit start ends.Done output items final × IsAllAfter items start crash
 
+-- what stands where it is done: no file stood wrapped, and the files are settled, whole, and sound where they were
+pub record StandsDone (d : DiskSide) : Type 0 where
+  pub unwrapped : d.wrapped ≡ None
+  pub settled : IsSettled d.after
+  pub sound : LeavesSound (contents_of d.held) (contents_of d.after)
+
 abbrev pub runs_script : Runner → Meaning
 runs_script c = record {
   reads = c.reads;
   uses_disk = true;
   turns_away = λ input found e. OfScript c input (λ script. IsTurnedAway c.limit found script e);
-  done = λ input d. d.tells → (d.wrapped ≡ None) × IsSettled d.after;
+  done = λ input d. d.tells → StandsDone d;
   says = λ input d text. d.tells → OfScript c input (λ script. HasRunTo c script d text);
   begins = λ input d e front. HasWritten c input d e front;
   keeps = λ input held crash. OfScript c input (λ script. KeepsAll script c.limit (contents_of held) crash);

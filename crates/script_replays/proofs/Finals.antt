@@ -190,6 +190,7 @@ module _ {D : Type 0} (d : DiskGhosts D) (script : Script) (limit : ℕ) (server
         record {
           over = record { last = last; lines_run = h.lines_run; output_is = output; items_are = refl; closed = refl; flush = f.files };
           settled = f.settled;
+          whole = f.whole;
           survive = f.survive;
         }
 

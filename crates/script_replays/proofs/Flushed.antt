@@ -12,18 +12,22 @@ use Rattle.logger_core.specs.declared.fault.LogFault.TheVariants.{DiskFault}
 use Rattle.logger_core.specs.Steps.{FlushStep}
 use Rattle.logger_core.proofs.Calls.{no_call}
 use Rattle.logger_core.proofs.AsFound.{same_files}
-use Rattle.script_runs.specs.Archives.{Stand, files_of}
+use Rattle.pcp_model.specs.Archive.{ArchiveReading}
+use Rattle.logger_core.specs.Meant.{Kept}
+use Rattle.script_runs.specs.Archives.{Stand, Written, files_of}
 use Rattle.script_runs.specs.Runs.{FlushesLast}
 use Rattle.record_run.specs.declared.archive.RunArchive.{RunArchive}
 use Rattle.record_run.specs.declared.archive.Standing.{Standing}
 use Rattle.record_run.specs.declared.archive.Standing.TheVariants.{Found, Open, Lost}
-use Rattle.record_run.specs.Going.{AllSure, FlushesRun, IsStanding, IsUnclosed, IsWorking, KeepsRun, StaysFound}
+use Rattle.record_run.specs.Going.{AllSure, FlushesRun, IsGoing, IsStanding, IsUnclosed, IsWorking, KeepsRun, StaysFound}
 use Rattle.record_run.specs.ImageCrashes.{ComesBackTo}
 use Rattle.record_run.proofs.FlushLines.{keeps_still}
 use Rattle.record_run.proofs.Going.{going_comes, lost_stands, unclosed_working}
 use Rattle.record_run.proofs.ImageRun.{left_settled}
 use Rattle.record_run.proofs.Openings.{standing_comes}
 use Rattle.script_replays.specs.Finals.{IsFlushed, IsKept}
+use Rattle.script_replays.specs.Replays.{AreWhole}
+use Rattle.script_replays.proofs.WholeStays.{whole_stays}
 
 -- what recovery left, where nothing was opened
 found_comes_back : (left : Files) (held : Holdings) (items : List Item) → items ≡ [] → contents_of held ≡ left → AllSure held → (image : Files) → CrashImage held image → ComesBackTo items (length items) left image
@@ -37,6 +41,7 @@ found_flushed : (left : Files) (items : List Item) (stand : Stand) (run : RunArc
 found_flushed left items stand run held f = record {
   files = no_flush items stand (contents_of held) f.none (f.stands ∙ sym (ap (λ (t : Stand). files_of t) f.found));
   settled = left_settled held f.sure;
+  whole = λ w. subst AreWhole (sym f.stands) w;
   survive = found_comes_back left held items f.none f.stands f.sure;
 }
 
@@ -49,6 +54,20 @@ standing_least left limit items least (Stand.found files) Lost held st image cra
 standing_least left limit items least (Stand.opened w) (Found archive) held st image crash = absurd st
 standing_least left limit items least (Stand.opened w) (Open kept) held st image crash = going_comes left limit items least w kept held st image crash
 standing_least left limit items least (Stand.opened w) Lost held st image crash = absurd st
+
+-- a logger keeps its files whole
+going_whole : (left : Files) (limit : ℕ) (items : List Item) (least : ℕ) (w : Written) (kept : Kept) (held : Holdings) → IsGoing left limit items least w kept held → AreWhole (contents_of held)
+going_whole left limit items least w kept held g =
+    let k = g.is.at.stands.keeps in
+    subst AreWhole (sym (fun_ext g.is.at.stands.written)) (ArchiveReading.archive w.contents, k.is, whole_stays w.files w.contents kept.ends.volume k.is k.last k.indexed.0 k.indexed.1 k.whole)
+
+standing_whole : (left : Files) (limit : ℕ) (items : List Item) (least : ℕ) (stand : Stand) (standing : Standing) (held : Holdings) → IsStanding left limit items least stand standing held → AreWhole left → AreWhole (contents_of held)
+standing_whole left limit items least (Stand.found files) (Found archive) held st whole = subst AreWhole (sym st.1) whole
+standing_whole left limit items least (Stand.found files) (Open kept) held st whole = absurd st
+standing_whole left limit items least (Stand.found files) Lost held st whole = absurd st
+standing_whole left limit items least (Stand.opened w) (Found archive) held st whole = absurd st
+standing_whole left limit items least (Stand.opened w) (Open kept) held st whole = going_whole left limit items least w kept held st
+standing_whole left limit items least (Stand.opened w) Lost held st whole = absurd st
 
 -- nothing was logged
 none_files : (left : Files) (limit : ℕ) (least : ℕ) (stand : Stand) (standing : Standing) (held : Holdings) → IsStanding left limit [] least stand standing held → (contents_of held ≡ files_of stand) × AllSure held
@@ -63,10 +82,11 @@ module _ (left : Files) (least : ℕ) (stand : Stand) (run : RunArchive) (held :
   run_flushed : (items : List Item) → FlushesRun left items least stand run held → IsFlushed left items stand held
   run_flushed [] keeps =
       let n : (contents_of held ≡ files_of stand) × AllSure held = none_files left run.limit least stand run.standing held keeps.standing in
-      record { files = n.0; settled = left_settled held n.1; survive = keeps_still left [] least stand run held keeps }
+      record { files = n.0; settled = left_settled held n.1; whole = standing_whole left run.limit [] least stand run.standing held keeps.standing; survive = keeps_still left [] least stand run held keeps }
   run_flushed (x ∷ xs) f = record {
     files = (f.0, f.2, subst (λ (files : Files). FlushStep f.0.files f.0.contents f.0.volume files) (sym (fun_ext f.6)) f.3.step);
     settled = f.5;
+    whole = standing_whole left run.limit (x ∷ xs) (length (x ∷ xs)) (Stand.opened f.1) run.standing held f.4.standing;
     survive = standing_least left run.limit (x ∷ xs) (length (x ∷ xs)) (Stand.opened f.1) run.standing held f.4.standing;
   }
 

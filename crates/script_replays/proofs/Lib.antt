@@ -15,3 +15,4 @@ pub mod TickGoes
 pub mod TickStops
 pub mod Ticked
 pub mod Ticking
+pub mod WholeStays

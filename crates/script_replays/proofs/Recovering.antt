@@ -4,6 +4,8 @@ use Rattle.pcp_base.specs.declared.file.FileId.{FileId}
 use Rattle.pcp_base.specs.declared.result.Item.{Item}
 use Rattle.pcp_model.specs.Archive.{scan}
 use Rattle.pcp_model.specs.Disk.{CrashImage, Files, contents_of}
+use Rattle.pcp_model.specs.Recovered.{recovered_reading}
+use Rattle.pcp_model.proofs.Recovered.{recovery_reads, recovery_stays}
 use Rattle.pcp_outside.specs.declared.disk.Disk.{Ghosts as DiskGhosts}
 use Rattle.pcp_outside.specs.Causes.{Rose}
 use Rattle.pcp_outside.specs.Devices.{LeavesOnly}
@@ -80,6 +82,7 @@ module _ {D : Type 0} (d : DiskGhosts D) (only_now : (disk : D) (c : Files) → 
         unwrapped = unwrapped;
         runs = subst (λ (x : Ending). RunsTo script limit (contents_of (d.held old)) x r.output items regions (contents_of (d.held new))) (sym is) (record { reading = w.reading; was = w.was; left = left; recovered = w.recovered; over = o.over });
         settled = o.settled;
+        whole = o.whole (recovered_reading (contents_of (d.held old)) w.reading, recovery_reads (contents_of (d.held old)) left w.reading w.was w.recovered, recovery_stays (contents_of (d.held old)) left w.reading w.was w.recovered);
         survive = λ image crash. all_after (contents_of (d.held old)) left archive w items (length items) image refl (o.survive image crash);
       }
 

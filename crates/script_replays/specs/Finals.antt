@@ -19,23 +19,25 @@ use Rattle.record_run.specs.declared.archive.RunArchive.{RunArchive}
 use Rattle.record_run.specs.Going.{KeepsRun, StaysFound}
 use Rattle.record_run.specs.ImageCrashes.{ComesBackTo}
 use Rattle.script_replays.specs.declared.replayed.Replayed.{Replayed}
-use Rattle.script_replays.specs.Replays.{OnItsWay}
+use Rattle.script_replays.specs.Replays.{AreWhole, OnItsWay}
 use Rattle.script_replays.specs.Lasts.{RanFirst}
 
 -- what the end of a run flushes
 abbrev pub IsKept : Files → List Item → Stand → RunArchive → Holdings → Type 0
 IsKept left items stand archive held = ((least : ℕ) × KeepsRun left items least stand archive held) ⊎ StaysFound left items stand archive held
 
--- it was flushed: the files are these, all is settled, and a crash leaves every item
+-- it was flushed: the files are these, all is settled, and whole where recovery left it so, and a crash leaves every item
 pub record IsFlushed (left : Files) (items : List Item) (stand : Stand) (held : Holdings) : Type 0 where
   pub files : FlushesLast items stand (contents_of held)
   pub settled : IsSettled held
+  pub whole : AreWhole left → AreWhole (contents_of held)
   pub survive : (image : Files) → CrashImage held image → ComesBackTo items (length items) left image
 
 -- the run came to its end
 pub record EndedOver (script : Script) (limit : ℕ) (left : Files) (held : Holdings) (r : Replayed) (items : List Item) (regions : List ScriptRegion) (ending : Ending) : Type 0 where
   pub over : RunsOver script limit left ending r.output items regions (contents_of held)
   pub settled : IsSettled held
+  pub whole : AreWhole left → AreWhole (contents_of held)
   pub survive : (image : Files) → CrashImage held image → ComesBackTo items (length items) left image
 
 -- memory was refused

@@ -60,12 +60,17 @@ pub record StaysBefore (script : Script) (d : DiskPair) (output : List ℕ) (ite
   pub none : items ≡ []
   pub closed : regions ≡ closed_regions (made_regions script)
 
+-- recovery changes nothing of the files
+abbrev pub AreWhole : Files → Type 0
+AreWhole files = (reading : ArchiveReading) × Reads files reading × Recovers files reading files
+
 -- The run came to an end of its own: the status, the lines, the items, the regions and the files are those of the run as a fold, all
--- is settled, and a crash afterwards leaves every item.
+-- is settled and whole, and a crash afterwards leaves every item.
 pub record CameToEnd (script : Script) (limit : ℕ) (d : DiskPair) (r : Replayed) (items : List Item) (regions : List ScriptRegion) : Type 0 where
   pub unwrapped : d.wrapped ≡ None
   pub runs : RunsTo script limit (contents_of d.before) r.ending r.output items regions (contents_of d.after)
   pub settled : IsSettled d.after
+  pub whole : AreWhole (contents_of d.after)
   pub survive : (image : Files) → CrashImage d.after image → IsAllAfter items (contents_of d.before) image
 
 -- Memory was refused behind some first lines: the files are those of these lines, or the archive that the next line opens, and what

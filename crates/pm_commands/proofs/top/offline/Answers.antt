@@ -1,5 +1,6 @@
 -- Each fact on the status follows from how the call ends.
 use Rattle.pm_commands.proofs.Facts.{usage_is_exact, read_fault_rose, write_fault_rose, disk_fault_rose, limit_is_exact, input_fault_is_exact, run_is_exact, archive_fault_is_exact, nothing_is_there, unwritten, completes, is_done, settles, keeps}
+use Rattle.pm_commands.proofs.Sounds.{stays_sound}
 use Rattle.pm_commands.proofs.top.offline.Goals as goal
 
 pub returns-clause-done : goal.returns-clause-done
@@ -43,3 +44,6 @@ returns-clause-archive_fault g c = archive_fault_is_exact _ _ _ _ c.answer.resul
 
 pub returns-clause-nothing_there : goal.returns-clause-nothing_there
 returns-clause-nothing_there g c = nothing_is_there _ _ _ _ c.answer.result c.answer.ensures.ends
+
+pub returns-clause-sound : goal.returns-clause-sound
+returns-clause-sound g c = stays_sound _ _ _ _ c.answer.result c.answer.ensures.ends

@@ -2,7 +2,7 @@
 use Rattle.std.proofs.Common.{rules, inl, inr, refl, subst, sym, Err}
 use Rattle.pm_words.specs.declared.refusal.Refusal.TheVariants.{Input as AtInput}
 use Rattle.pm_words.specs.declared.words.Command.{Command}
-use Rattle.pm_words.specs.declared.words.Command.TheVariants.{Once, Make, MmvMake, MmvDump, Dump, Info, Recover, At, Range, Value}
+use Rattle.pm_words.specs.declared.words.Command.TheVariants.{Once, Make, MmvMake, MmvDump, Recover}
 use Rattle.pcp_model.specs.Disk.{contents_of}
 use Rattle.pm_tasks.specs.Archives.{nothing_before}
 use Rattle.pm_words.specs.Serving.{Serves, MayLeave}
