@@ -1,7 +1,7 @@
 //! A line of a script's head, and a step, as they were read.
 use case_book::write_text;
 use pcp_base::{NoMemory, Stamp, Text};
-use script_lines::{Given, HeadLine, Place, StepLine, read_head_line, read_step_line};
+use run_script::{Given, HeadLine, Place, StepLine, read_head_line, read_step_line};
 use std::alloc::Global;
 
 fn write_head(out: &mut String, line: &HeadLine) -> Result<(), NoMemory> {
