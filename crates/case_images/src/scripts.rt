@@ -1,9 +1,5 @@
-//! Words of a book of cases for scripts: a line of a script by itself, and whole scripts.
-#![tactic(auto)]
-
-mod lines;
-mod scripts;
-
+//! What a line of a book asks of scripts.
+use crate::{script_lines, whole_scripts};
 use case_book::{Words, read_text};
 use pcp_base::NoMemory;
 use std::alloc::Global;
@@ -14,17 +10,17 @@ use std::alloc::Global;
 pub fn tell_script(alloc: Global, rest: &str, input: &[u8]) -> Result<Option<Vec<u8>>, NoMemory> {
     let (form, behind) = rest.split_once(' ').unwrap_or((rest, ""));
     if form.is_empty() || form == "image" {
-        return scripts::tell(alloc, input, behind);
+        return whole_scripts::tell(alloc, input, behind);
     }
     if form == "make" {
-        return scripts::tell_made(alloc, Words::of(behind));
+        return whole_scripts::tell_made(alloc, Words::of(behind));
     }
     let Some(line) = read_text(alloc, behind)? else {
         return Ok(None);
     };
     match form {
-        "head" => Ok(Some(lines::tell_head(alloc, &line)?.into_bytes())),
-        "step" => Ok(Some(lines::tell_step(alloc, &line)?.into_bytes())),
+        "head" => Ok(Some(script_lines::tell_head(alloc, &line)?.into_bytes())),
+        "step" => Ok(Some(script_lines::tell_step(alloc, &line)?.into_bytes())),
         _ => Ok(None),
     }
 }

@@ -1,5 +1,5 @@
 //! Whole scripts: what they say, or their first fault. Regions and images are told by their positions.
-use crate::lines::{write_given, write_slot, write_tick};
+use crate::script_lines::{write_given, write_slot, write_tick};
 use case_book::{Words, write_text};
 use log_schedule::Group;
 use mmv_layout::Image;
