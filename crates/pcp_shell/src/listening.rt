@@ -1,9 +1,7 @@
 //! The command `serve PORT COUNT` of the program `pcp`, whose PORT is the program's: clients come in over loopback, through four
 //! doors of one listener. Only pcp and tests use it.
-#![tactic(auto)]
-
 ghost use Rattle.std.specs.Prelude.{◌≡◌, ◌⊎◌, None, map, string_bytes};
-ghost use Rattle.pcp_listening.specs.Ports.{port_of};
+ghost use Rattle.pcp_shell.specs.Ports.{port_of};
 
 use pcp_outside::{Free, Sink, Source, write_all};
 use pcp_system::TcpDoor;

@@ -1,7 +1,5 @@
 //! The command `record SAMPLES VOLUME` of the program `pcp`: samples are taken by the system's clock, a second apart, and where
 //! somebody looks on, a line is told before each. Only pcp and tests use it.
-#![tactic(auto)]
-
 ghost use Rattle.std.specs.Prelude.{◌≡◌, ℕ, Ok as Fits, Err as Bad, length, map, string_bytes};
 ghost use Rattle.pcp_outside.specs.Causes.{Rose};
 ghost use Rattle.pm_recording.specs.declared.words.RecordWords.{RecordWords as Order};
@@ -9,12 +7,10 @@ ghost use Rattle.pm_recording.specs.CommandWords.{asked_of};
 ghost use Rattle.pm_recording.specs.Facts.{ScriptFaultIsExact, UsageIsExact};
 ghost use Rattle.pcp_outside.specs.Sides.{source_side};
 
-mod progress;
-
+use crate::progress::{CountedDisk, Progress, ToldTurn};
 use pcp_outside::{Disk, Sink, Source};
 use pcp_system::{Pace, SystemClock};
 use pm_recording::{read_record_words, run_record};
-use progress::{CountedDisk, Progress, ToldTurn};
 use std::alloc::{Alloc, Global};
 use std::io::{IsTerminal, Print};
 use std::sync::Wait;

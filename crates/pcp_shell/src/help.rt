@@ -1,7 +1,5 @@
 //! The help of the program `pcp`, which the crate `clap` renders: each command with its words and what it does. Nothing else is asked
 //! of that crate; the words of a command line are read by the commands themselves.
-#![tactic(auto)]
-
 ghost use Rattle.std.specs.Prelude.{◌≡◌};
 ghost use Rattle.pcp_outside.specs.Causes.{Rose};
 
