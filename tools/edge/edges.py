@@ -91,7 +91,7 @@ def recording(base, samples):
     child = subprocess.Popen([PROGRAM, base, "record", str(samples), "1048576"], stdin=subprocess.PIPE, stdout=subprocess.PIPE)
     child.stdin.write(script())
     child.stdin.close()
-    end = time.monotonic() + 20
+    end = time.monotonic() + 60
     while not (os.path.exists(base + ".0") and os.path.getsize(base + ".0") > 132):
         assert time.monotonic() < end and child.poll() is None, "no first sample"
         time.sleep(0.01)
@@ -105,7 +105,7 @@ def try_one_writer(folder):
     assert run(base, "once", "4000000000"[:9], "0", "app", given=content(IMAGE)) == (5, b"disk fault\n")
     assert run(base, "recover") == (5, b"disk fault\n")
     assert run(base, "dump")[0] == 0
-    assert child.wait(20) == 0 and child.stdout.read() == b"logged 3\n"
+    assert child.wait(60) == 0 and child.stdout.read() == b"logged 3\n"
     assert items(base) == 3
     # The other way round: once the lock is another's, a recording is refused.
     before = files(base)
@@ -170,7 +170,7 @@ def try_regular_files(folder):
                     os.remove(f"{base}.{end}")
                 make(f"{base}.{end}")
                 given = content(IMAGE) if words[0] == "once" else script(TICKS if words[0] == "replay" else b"")
-                assert run(base, *words, given=given, seconds=10)[0] == 5, (kind, end, words)
+                assert run(base, *words, given=given)[0] == 5, (kind, end, words)
     base = os.path.join(folder, "linked")
     run(base, "once", "100", "0", "app", given=content(IMAGE))
     os.rename(base + ".0", base + "-elsewhere")
@@ -180,12 +180,13 @@ def try_regular_files(folder):
 
 
 def seconds_of(*words):
-    """The least time that a command takes, of some."""
+    """The least processor time that a command takes, of some runs: other work on the machine doesn't count."""
     took = []
     for _ in range(5):
-        start = time.monotonic()
-        run(*words)
-        took.append(time.monotonic() - start)
+        child = subprocess.Popen([PROGRAM, *words], stdin=subprocess.DEVNULL, stdout=subprocess.DEVNULL)
+        _, status, used = os.wait4(child.pid, 0)
+        child.returncode = os.waitstatus_to_exitcode(status)
+        took.append(used.ru_utime + used.ru_stime)
     return min(took)
 
 
@@ -205,7 +206,7 @@ def try_odd_names(folder):
 
 
 def connect(port):
-    end = time.monotonic() + 20
+    end = time.monotonic() + 60
     while True:
         try:
             return socket.create_connection(("127.0.0.1", port), 30)
@@ -252,7 +253,7 @@ def try_few_descriptors(folder):
         client.shutdown(socket.SHUT_WR)
     for client in clients:
         assert len(heard(client)) == 16
-    assert child.wait(20) == 0 and child.stdout.read() == b"served 6\n"
+    assert child.wait(60) == 0 and child.stdout.read() == b"served 6\n"
 
 
 def try_begun_pdus(folder):
@@ -264,11 +265,11 @@ def try_begun_pdus(folder):
     start = time.monotonic()
     heard(begun)
     took = time.monotonic() - start
-    assert 4.5 < took < 9, took
+    assert 4.5 < took < 30, took
     silent.sendall(HELLO)
     silent.shutdown(socket.SHUT_WR)
     assert len(heard(silent)) == 16
-    assert child.wait(20) == 0
+    assert child.wait(60) == 0
 
 
 def try_untaken_replies(folder):
@@ -301,7 +302,7 @@ def try_last_replies(folder):
         time.sleep(0.05)
         assert len(heard(client)) >= 16
         client.close()
-        assert child.wait(20) == 0
+        assert child.wait(60) == 0
 
 
 def on_terminal(words, given, folder, seconds, stopped=False):
@@ -329,22 +330,22 @@ def try_reasons(folder):
     run("held", "once", "100", "0", "app", given=content(IMAGE), cwd=folder)
     with open(os.path.join(folder, "held.meta"), "rb") as held:
         fcntl.flock(held, fcntl.LOCK_EX)
-        told = on_terminal(["held", "once", "101", "0", "app"], content(IMAGE), folder, 10)
+        told = on_terminal(["held", "once", "101", "0", "app"], content(IMAGE), folder, 60)
     assert told == (5, b"held.meta: another program is writing this archive (lock)\n"), told
     os.mkdir(os.path.join(folder, "held.4"))
-    told = on_terminal(["held", "dump"], b"", folder, 10)
+    told = on_terminal(["held", "dump"], b"", folder, 60)
     assert told == (5, b"held.4: not a regular file (measure)\n"), told
     with open("/dev/full", "wb") as full:
         ran = subprocess.run([PROGRAM, "x", "make", "1", "5", "1048576"], stdin=subprocess.DEVNULL, stdout=full, stderr=subprocess.PIPE, cwd=folder)
     assert ran.returncode == 4 and ran.stderr == b"", ran
-    assert on_terminal(["fine", "once", "100", "0", "app"], content(IMAGE), folder, 10) == (0, b"")
+    assert on_terminal(["fine", "once", "100", "0", "app"], content(IMAGE), folder, 60) == (0, b"")
 
 
 def try_stopped_terminal(folder):
     """A terminal that is stopped (Ctrl-S) never stops a recording."""
-    status, _ = on_terminal(["stopped", "record", "3", "1048576"], script(), folder, 20, stopped=True)
+    status, _ = on_terminal(["stopped", "record", "3", "1048576"], script(), folder, 60, stopped=True)
     assert status == 0 and items(os.path.join(folder, "stopped")) == 3
-    status, shown = on_terminal(["seen", "record", "2", "1048576"], script(), folder, 20)
+    status, shown = on_terminal(["seen", "record", "2", "1048576"], script(), folder, 60)
     assert status == 0 and shown == b"sample 1 of 2: results 0, bytes 0\nsample 2 of 2: results 1, bytes 488\n", shown
 
 
@@ -355,7 +356,7 @@ def try_signals(folder):
         child = recording(base, 100)
         time.sleep(1.2)
         child.send_signal(number)
-        assert child.wait(10) == -number and child.stdout.read() == b""
+        assert child.wait(60) == -number and child.stdout.read() == b""
         assert run(base, "recover")[0] == 0
         assert 1 <= items(base) <= 4
         port = free_port()
@@ -364,7 +365,7 @@ def try_signals(folder):
         client.sendall(HELLO)
         client.recv(1)
         child.send_signal(number)
-        assert child.wait(10) == -number and child.stdout.read() == b""
+        assert child.wait(60) == -number and child.stdout.read() == b""
 
 
 def main():
