@@ -215,9 +215,15 @@ def connect(port):
             time.sleep(0.02)
 
 
-def serving(port, count, **how):
+def served_script():
+    """The sample script as it is served: without its writers' lines."""
+    lines = content(SCRIPT).split(b"\n")
+    return b"\n".join(line for line in lines if line.split(b" ")[0] not in (b"attach", b"add", b"detach", b"log"))
+
+
+def serving(port, count, given=None, **how):
     child = subprocess.Popen([PROGRAM, "x", "serve", str(port), str(count)], stdin=subprocess.PIPE, stdout=subprocess.PIPE, **how)
-    child.stdin.write(b"".join(line + b"\n" for line in script().split(b"\n") if line and line.split()[0] not in (b"attach", b"add", b"detach", b"log")))
+    child.stdin.write(given or served_script())
     child.stdin.close()
     return child
 
@@ -275,20 +281,15 @@ def try_begun_pdus(folder):
 def try_untaken_replies(folder):
     """A client that takes none of its replies for 5 seconds is closed."""
     port = free_port()
-    child = serving(port, 1)
+    rows = b"".join(b'instance 1 %d "%s%d"\n' % (at, b"x" * 55, at) for at in range(1000, 1600))
+    given = b"image A\nmmv 1 5 0 0 1\nindom 1 - -\n" + rows + b"metric per 4 u32 counter 00100000 1 - -\nend\nregion app A 65536 1\nstart\n"
+    child = serving(port, 1, given)
     client = connect(port)
-    client.settimeout(1)
-    client.sendall(HELLO)
-    asked = struct.pack(">IIII", 16, 0x7004, 0, 0x11800402) * 4096
-    start, last = time.monotonic(), time.monotonic()
-    while time.monotonic() < start + 40 and child.poll() is None:
-        try:
-            client.sendall(asked)
-            last = time.monotonic()
-        except OSError:
-            time.sleep(0.1)
-    assert child.wait(1) == 0 and child.stdout.read() == b"served 1\n"
-    assert 3 < time.monotonic() - last < 30, time.monotonic() - last
+    client.sendall(HELLO + struct.pack(">IIIII", 20, 0x7006, 0, 0x11800401, 0xFFFFFFFF) * 500)
+    start = time.monotonic()
+    assert child.wait(60) == 0 and child.stdout.read() == b"served 1\n"
+    took = time.monotonic() - start
+    assert took > 4.5, took
     client.close()
 
 

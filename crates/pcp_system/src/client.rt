@@ -1,5 +1,5 @@
 //! What a client sends, and how long it is waited for.
-ghost use Rattle.std.specs.Prelude.{◌≡◌, [], OnOk};
+ghost use Rattle.std.specs.Prelude.{◌≡◌, ◌≤◌, [], length, IfOk, OnOk};
 ghost use Rattle.pcp_outside.specs.Causes.{HasCause};
 
 use pcp_outside::{Failed, Source};
@@ -46,6 +46,12 @@ impl Framing {
         self.seen == 0 && self.left == 0
     }
 
+    fn follow_all(&mut self, bytes: &[u8]) {
+        for byte in bytes {
+            self.follow(*byte);
+        }
+    }
+
     fn follow(&mut self, byte: u8) {
         if self.left > 0 {
             self.left -= 1;
@@ -72,7 +78,9 @@ pub struct ClientSource {
 }
 
 impl ClientSource {
-    pub(crate) fn new(stream: TcpStream, patience: Patience) -> io::Result<ClientSource> {
+    pub(crate) fn new(stream: TcpStream, patience: Patience) -> io::Result<ClientSource>
+        ensures { IfOk result (λ source. ⟦<ClientSource as Source>⟧.faults source ≡ 0) }
+    {
         stream.set_read_timeout(Some(patience.idle))?;
         Ok(ClientSource {
             stream,
@@ -88,7 +96,10 @@ impl ClientSource {
     }
 
     // Waits for the next byte as long as its place asks.
-    fn read(&mut self, buffer: &mut [u8]) -> io::Result<usize> {
+    fn read(&mut self, buffer: &mut [u8]) -> io::Result<usize>
+        ensures within { IfOk result (λ n. n ≤ length buffer.old) }
+        ensures kept { self.new.faults ≡ self.old.faults }
+    {
         let is_between = self.framing.is_between();
         if is_between != self.is_between {
             let wait = if is_between {
@@ -100,9 +111,7 @@ impl ClientSource {
             self.is_between = is_between;
         }
         let count = self.stream.read(buffer)?;
-        for byte in &buffer[..count] {
-            self.framing.follow(*byte);
-        }
+        self.framing.follow_all(&buffer[..count]);
         Ok(count)
     }
 

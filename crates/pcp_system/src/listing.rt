@@ -1,4 +1,6 @@
 //! How long the files of an archive are.
+ghost use Rattle.std.specs.Prelude.{◌<◌, ◌≤◌, length, IfOk, IfErr};
+
 use crate::archive_names::earlier;
 use pcp_outside::FileId;
 use std::alloc::{AllocError, Global};
@@ -23,7 +25,10 @@ impl Listing {
         }
     }
 
-    fn place(&self, number: u32) -> Result<usize, usize> {
+    fn place(&self, number: u32) -> Result<usize, usize>
+        ensures found { IfOk result (λ at. at < length self.now.volumes.items) }
+        ensures gap { IfErr result (λ at. at ≤ length self.now.volumes.items) }
+    {
         self.volumes
             .binary_search_by(|(found, _)| found.cmp(&number))
     }

@@ -1,4 +1,6 @@
 //! The terminal that standard error is, written to without a wait.
+ghost use Rattle.std.specs.Prelude.{◌≤◌, length, IfOk};
+
 use std::alloc::Global;
 use std::fmt::Display;
 use std::fs::{File, Files, OpenOptions};
@@ -28,7 +30,9 @@ impl Screen {
         Screen { alloc, opened }
     }
 
-    fn put(&self, bytes: &[u8]) -> io::Result<usize> {
+    fn put(&self, bytes: &[u8]) -> io::Result<usize>
+        ensures bound { IfOk result (λ n. n ≤ length bytes.now) }
+    {
         match &self.opened {
             Some(opened) => {
                 let mut to = opened;

@@ -1,5 +1,5 @@
 //! A door over a listener of the system; it tells no connections, and keeps no report.
-ghost use Rattle.std.specs.Prelude.{◌≡◌, [], OnOk};
+ghost use Rattle.std.specs.Prelude.{◌≡◌, [], IfOk, OnOk};
 ghost use Rattle.pcp_outside.specs.Causes.{HasCause};
 
 use crate::adapters::WriterSink;
@@ -7,13 +7,16 @@ use crate::client::{ClientSource, Patience};
 use crate::descriptors::stream_above;
 use crate::keepalive::keep_alive;
 use crate::times::SystemClock;
-use pcp_outside::{Door, Failed, SessionEnd};
+use pcp_outside::{Door, Failed, SessionEnd, Source};
 use std::net::{TcpListener, TcpStream};
 use std::time::Duration;
 use std::{io, thread, time};
 
 // After so many milliseconds `accept` is tried again: a client hardly notices, and the processor has little to do meanwhile.
 const PAUSE_MILLIS: u64 = 100;
+
+// So often a second descriptor of a connection is asked for, in 5 seconds; for ever, four connections could wait for each other.
+const TWIN_TRIES: u32 = 50;
 
 // The numbers of errors (errno(3)) that say nothing against the listener. Those of the network were pending on the connection
 // (accept(2)): EPERM, ENONET, EPROTO, ENOPROTOOPT, EOPNOTSUPP, ENETDOWN, ENETUNREACH, ECONNABORTED, ECONNRESET, ETIMEDOUT, EHOSTDOWN
@@ -79,14 +82,31 @@ fn accept<R: time::Clock>(listener: &TcpListener, system: &R) -> io::Result<TcpS
     Err(io::Error::from(io::ErrorKind::Other))
 }
 
+/// Another descriptor of a connection. Where there is none, it is asked for again for a while.
+fn twin_of<R: time::Clock>(stream: &TcpStream, system: &R) -> io::Result<TcpStream> {
+    for _ in 0..TWIN_TRIES {
+        match stream.try_clone() {
+            Ok(twin) => return Ok(twin),
+            Err(_) => pause(system),
+        }
+    }
+    stream.try_clone()
+}
+
 /// The two ends of a connection, whose small pieces are sent at once. A client that gives no sign of life is noticed by the system.
-fn ends_of(stream: TcpStream, patience: Patience) -> io::Result<(ClientSource, TcpStream)> {
+fn ends_of<R: time::Clock>(
+    stream: TcpStream,
+    system: &R,
+    patience: Patience,
+) -> io::Result<(ClientSource, TcpStream)>
+    ensures { IfOk result (λ ends. ⟦<ClientSource as Source>⟧.faults ends.0 ≡ 0) }
+{
     let stream = stream_above(stream)?;
     stream.set_nodelay(true)?;
     keep_alive(&stream)?;
     stream.set_write_timeout(Some(patience.begun))?;
-    let other = stream.try_clone()?;
-    Ok((ClientSource::new(stream, patience)?, other))
+    let twin = twin_of(&stream, system)?;
+    Ok((ClientSource::new(stream, patience)?, twin))
 }
 
 /// The two ends of the next connection of which they can be had. One that was given up meanwhile is passed over.
@@ -94,9 +114,11 @@ fn ends_of_next<R: time::Clock>(
     listener: &TcpListener,
     system: &R,
     patience: Patience,
-) -> io::Result<(ClientSource, TcpStream)> {
+) -> io::Result<(ClientSource, TcpStream)>
+    ensures { IfOk result (λ ends. ⟦<ClientSource as Source>⟧.faults ends.0 ≡ 0) }
+{
     for _ in 0..u64::MAX {
-        match ends_of(accept(listener, system)?, patience) {
+        match ends_of(accept(listener, system)?, system, patience) {
             Ok(ends) => return Ok(ends),
             Err(_) => pause(system),
         }
