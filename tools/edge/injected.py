@@ -3,7 +3,7 @@
 usage: injected.py PROGRAM
 
 Each run either is whole (status 0, and files as without a failure) or told (another status of the program's own), and after a
-recovery the items are those from before and a front of the run's: all of them after status 0. It prints a line for each command
+recovery the items are those from before and a front of the run's: as many as the command says after status 0. It prints a line for each command
 and call, and takes some minutes."""
 import os, re, subprocess, sys, tempfile
 from concurrent.futures import ThreadPoolExecutor
@@ -13,8 +13,11 @@ PROGRAM = ""
 # The first call of main itself; what comes before is the loader's.
 FIRST = '"/dev/null", O_RDWR'
 ERRORS = ("EIO", "ENOSPC")
-# Calls of which a failure is want of memory, or can't be.
-LEFT_OUT = ("execve", "exit", "exit_group", "mmap", "munmap", "brk", "mprotect", "arch_prctl", "rseq", "set_robust_list", "set_tid_address", "restart_syscall")
+# Calls about memory, processes and threads, which the C library makes for itself: they have no such errors.
+LEFT_OUT = (
+    "execve exit exit_group mmap munmap brk mprotect madvise arch_prctl rseq set_robust_list set_tid_address restart_syscall gettid"
+    " futex rt_sigprocmask rt_sigaction sigaltstack sched_getaffinity"
+).split()
 
 
 def content(*path):
@@ -65,6 +68,12 @@ def same(left, right, is_clocked):
     return [strip(it) for it in left] == [strip(it) for it in right]
 
 
+def acknowledged(said, before):
+    """How many items stand by what a command says."""
+    word, number = said.split()[:2]
+    return int(number) + (len(before) if word == b"logged" else 0)
+
+
 def calls_of(words, given, state):
     """Each system call of main with its number among the calls of that name, and what stands without a failure."""
     with tempfile.TemporaryDirectory() as folder:
@@ -98,8 +107,8 @@ def tried(words, given, state, call, number, error, before, after):
         wrong = ""
         if mended:
             wrong = f"recover answers {mended}"
-        elif status == 0 and not same(stands, after, is_clocked):
-            wrong = f"{len(stands)} of {len(after)} items stand after status 0"
+        elif status == 0 and len(stands) != acknowledged(said, before):
+            wrong = f"{len(stands)} items stand after {said}"
         elif not (same(stands, after[: len(stands)], is_clocked) and len(stands) >= len(before)):
             wrong = f"{len(stands)} items stand, {len(before)} stood before"
         elif status not in (0, 3, 4, 5, 8, 9, 20):
