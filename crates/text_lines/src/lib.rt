@@ -21,6 +21,6 @@ pub use numbers::{hex_number, int32, number32, number64, read_number, whole_numb
 pub use quoted::starts_quoted;
 pub use rest::{Rest, TakeFault, split_word};
 pub use writing::{
-    put_escapes, put_help, put_hex, put_hex_part, put_int, put_number, put_optional_int,
-    put_optional_number, put_text, put_whole,
+    one_number_line, put_escapes, put_help, put_hex, put_hex_part, put_int, put_number,
+    put_one_number, put_optional_int, put_optional_number, put_text, put_whole,
 };
