@@ -14,6 +14,7 @@ mod keeping;
 mod laws;
 mod missing;
 mod moments;
+mod named;
 mod needed;
 mod state;
 mod taking;
