@@ -10,7 +10,7 @@ ghost use Rattle.run_script.specs.Rules.{KeepsRules};
 ghost use Rattle.script_passes.specs.Openings.{AreMade, IsOpened};
 ghost use Rattle.script_runs.specs.declared.ending.Ending.TheVariants.{DiskFault as Failing, Done as AtEnd, NoMemory as Refused};
 ghost use Rattle.record_run.specs.Going.{IsUnclosed, IsWorking};
-ghost use Rattle.recordable_scripts.specs.Recording.{refused_line};
+ghost use Rattle.run_script.specs.Recording.{refused_line};
 ghost use Rattle.script_records.specs.Beside.{Beside, TellWriters};
 ghost use Rattle.script_records.specs.Halting.{Halts, IsRecorded, IsStandingFound, RefusedBy};
 ghost use Rattle.script_records.specs.Pictured.{AreImages};

@@ -2,7 +2,7 @@
 use Rattle.std.proofs.Common.{rules, inl, inr, refl, sym, ap, subst, ◌∙◌}
 use Rattle.pcp_model.specs.Disk.{contents_of}
 use Rattle.archive_meta.specs.Said.{metric_of_name}
-use Rattle.archive_window.proofs.Looking.{looks_on}
+use Rattle.archive_loading.proofs.Looking.{looks_on}
 use Rattle.archive_loading.specs.Loaded.{Loaded, IsOver}
 use Rattle.pm_tasks.specs.commands.value.{IsTurnedAway, HasNothing}
 use Rattle.pm_tasks.specs.Archives.{TurnedAway}
