@@ -2,18 +2,22 @@
 //! command, standard input and standard output are handed to the command, whose status is the program's. A lone `--help` prints the help.
 #![tactic(auto)]
 
-use pcp_outside::Sink;
+use pcp_outside::{Sink, Source};
 use pcp_shell::{
     asks_help, first_bad_of_record, first_bad_of_serve, is_serve, record_samples, serve_clients,
     write_help,
 };
-use pcp_system::{FileDisk, ReaderSource, WriterSink};
+use pcp_system::{FileDisk, ReaderSource, Screen, WriterSink, open_standard};
 use pm_commands::{Refusal, StageFault, Usage, offline, read_words};
 use pm_recording::is_record;
 use std::alloc::{Alloc, AllocError, Global};
 use std::env::Env;
+use std::fs::{File, Files};
 use std::io::ErrorKind;
 use std::process::ExitCode;
+use std::sync::Wait;
+use std::thread::Threads;
+use std::time::Clock;
 use std::{env, io};
 
 // The words of the command that stand before the first word that isn't UTF-8. Linux passes none of more than 128 KiB.
@@ -68,7 +72,62 @@ fn no_text(rt: &(impl Env + Alloc<A = Global>), out: &mut impl Sink) -> ExitCode
     }
 }
 
+// Runs a command on the archive, and answers its status. The files are closed before it is told why one of them failed.
+fn archive<R>(
+    rt: &R,
+    base: String,
+    command: &[String],
+    input: &mut impl Source,
+    out: &mut impl Sink,
+    screen: &Screen,
+) -> u8
+where
+    R: Files<File = File> + Threads + Wait + Clock + Alloc<A = Global> + Sync,
+{
+    let alloc = rt.alloc();
+    let mut disk = if changes_archive(command) {
+        FileDisk::new(alloc, rt, base)
+    } else {
+        FileDisk::for_reading(alloc, rt, base)
+    };
+    if is_record(command) {
+        let (status, disk) = record_samples(rt, command, input, out, disk, screen);
+        tell_of(disk, screen);
+        return status;
+    }
+    let mut opened = None;
+    let status = offline(alloc, command, input, out, &mut disk, &mut opened);
+    tell_of(disk, screen);
+    status
+}
+
+// Closes the files, and then tells why one of them failed.
+fn tell_of<R: Files<File = File>>(disk: FileDisk<'_, R>, screen: &Screen) {
+    let why = disk.why();
+    drop(disk);
+    tell(screen, why);
+}
+
+// Whether the command changes an archive.
+fn changes_archive(command: &[String]) -> bool {
+    match command {
+        [name, ..] => matches!(
+            name.as_str(),
+            "once" | "replay" | "make" | "record" | "recover"
+        ),
+        [] => false,
+    }
+}
+
+// Tells on the terminal why a call of the system failed.
+fn tell(screen: &Screen, why: Result<Option<String>, AllocError>) {
+    if let Ok(Some(line)) = why {
+        let _ = println!(screen; "{line}");
+    }
+}
+
 fn main(rt: HostRuntime) -> ExitCode {
+    let _ = open_standard(&rt);
     let alloc = rt.alloc();
     let mut out = WriterSink::new(io::writer(&rt));
     let words = match env::args(&rt) {
@@ -91,16 +150,13 @@ fn main(rt: HostRuntime) -> ExitCode {
         Err(_) => return ExitCode::from(9),
     };
     let mut input = ReaderSource::new(rt.reader());
-    if is_serve(command) {
-        return ExitCode::from(serve_clients(&rt, command, &mut input, &mut out));
-    }
-    let mut disk = FileDisk::new(alloc, &rt, base);
-    if is_record(command) {
-        let screen = rt.stderr();
-        let status = record_samples(&rt, command, &mut input, &mut out, disk, &screen);
-        return ExitCode::from(status);
-    }
-    let mut opened = None;
-    let status = offline(alloc, command, &mut input, &mut out, &mut disk, &mut opened);
+    let screen = Screen::new(alloc, &rt, &rt.stderr());
+    let status = if is_serve(command) {
+        serve_clients(&rt, command, &mut input, &mut out)
+    } else {
+        archive(&rt, base, command, &mut input, &mut out, &screen)
+    };
+    tell(&screen, input.why(alloc, "standard input"));
+    tell(&screen, out.why(alloc, "standard output"));
     ExitCode::from(status)
 }

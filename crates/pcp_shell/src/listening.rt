@@ -4,10 +4,11 @@ ghost use Rattle.std.specs.Prelude.{◌≡◌, ◌⊎◌, None, map, string_byte
 ghost use Rattle.pcp_shell.specs.Ports.{port_of};
 
 use pcp_outside::{Free, Sink, Source, write_all};
-use pcp_system::TcpDoor;
+use pcp_system::{TcpDoor, listener_above};
 use pm_serving::{read_count, run_serve};
 use pm_words::{Refusal, Usage};
 use std::alloc::{Alloc, AllocError, Global};
+use std::io;
 use std::net::{Ipv4Addr, Net, TcpListener, TcpStream};
 use std::sync::Wait;
 use std::thread::Threads;
@@ -56,6 +57,14 @@ pub fn first_bad_of_serve(alloc: Global, words: &[String]) -> Result<usize, Allo
         Ok(_) => Ok(rest.len()),
         Err(at) => Ok(at),
     }
+}
+
+// Listens at a port of 127.0.0.1.
+fn listen<R: Net<Listener = TcpListener, Stream = TcpStream>>(
+    rt: &R,
+    port: u16,
+) -> io::Result<TcpListener> {
+    listener_above(TcpListener::bind(rt, (Ipv4Addr::LOCALHOST, port))?)
 }
 
 // Serves the clients that come in at a listener, through four doors.
@@ -119,7 +128,7 @@ where
     let Some(port) = port_of(words) else {
         return no_port(rt.alloc(), out);
     };
-    let Ok(listener) = TcpListener::bind(rt, (Ipv4Addr::LOCALHOST, port)) else {
+    let Ok(listener) = listen(rt, port) else {
         let _ = write_all(out, b"listen fault\n");
         return 22;
     };

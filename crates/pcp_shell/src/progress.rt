@@ -39,6 +39,11 @@ impl<'a, D: Disk + Drop> CountedDisk<'a, D> {
         }
     }
 
+    /// The disk below.
+    pub fn into_disk(self) -> D {
+        self.disk
+    }
+
     // Counts what was appended; each result is appended at once.
     fn count(&mut self, file: FileId, bytes: usize)
         ensures { self.new.disk ≡ self.old.disk }

@@ -36,7 +36,7 @@ fn samples_to_tell<P: IsTerminal>(words: &[String], screen: &P) -> Option<u32> {
     }
 }
 
-/// Records as the words ask, by the system's clock, with a second between the samples, and answers the exit status of `run_record`.
+/// Records as the words ask, by the system's clock, with a second between the samples, and answers the exit status of `run_record` and the disk.
 /// Where there are several samples, and `screen` is a terminal, a line there tells before each what was logged so far; nothing else
 /// changes by that, also where the screen fails.
 pub fn record_samples<R, I, O, D, P>(
@@ -46,23 +46,23 @@ pub fn record_samples<R, I, O, D, P>(
     out: &mut O,
     disk: D,
     screen: &P,
-) -> u8
+) -> (u8, D)
 where
     R: Threads + Wait + Clock + Alloc<A = Global> + Sync,
     I: Source,
     O: Sink,
     D: Disk + Drop,
     P: Print + IsTerminal + Sync,
-    ensures usage { UsageIsExact (map string_bytes words.now) result }
-    ensures script_fault { ScriptFaultIsExact (map string_bytes words.now) (source_side I.Source input.old input.new) result }
-    ensures read_fault { result ≡ 3 → Rose (I.faults input.old) (I.faults input.new) }
-    ensures write_fault { result ≡ 4 → Rose (O.faults out.old) (O.faults out.new) }
+    ensures usage { UsageIsExact (map string_bytes words.now) result.0 }
+    ensures script_fault { ScriptFaultIsExact (map string_bytes words.now) (source_side I.Source input.old input.new) result.0 }
+    ensures read_fault { result.0 ≡ 3 → Rose (I.faults input.old) (I.faults input.new) }
+    ensures write_fault { result.0 ≡ 4 → Rose (O.faults out.old) (O.faults out.new) }
 {
     let told = samples_to_tell(words, screen);
     let progress = Progress::new();
     let mut disk = CountedDisk::new(disk, &progress);
     let mut opened = None;
-    run_record(
+    let status = run_record(
         rt,
         rt.alloc(),
         words,
@@ -72,5 +72,6 @@ where
         &mut SystemClock::new(rt),
         &ToldTurn::new(Pace::new(rt), screen, told, &progress),
         &mut opened,
-    )
+    );
+    (status, disk.into_disk())
 }

@@ -1,14 +1,17 @@
 //! Sources and sinks over the system's readers and writers; they tell no content.
-ghost use Rattle.std.specs.Prelude.{◌≡◌, [], OnOk};
+ghost use Rattle.std.specs.Prelude.{◌≡◌, ◌<◌, ◌≤◌, [], length, IfOk, OnOk};
 ghost use Rattle.pcp_outside.specs.Causes.{HasCause};
 
+use crate::trouble::{Call, line_of};
 use pcp_outside::{Failed, Sink, Source};
-use std::io::{ErrorKind, Read, Write};
+use std::alloc::{AllocError, Global};
+use std::io::{self, ErrorKind, Read, Write};
 
 /// A source over a reader of the system. It tells no content.
 #[derive(Drop)]
 pub struct ReaderSource<R: Read + Drop> {
     reader: R,
+    trouble: Option<io::Error>,
     faults: u64,
 }
 
@@ -16,7 +19,19 @@ impl<R: Read + Drop> ReaderSource<R> {
     pub fn new(reader: R) -> Self
         ensures { ⟦<ReaderSource<R> as Source>⟧.faults result ≡ 0 }
     {
-        ReaderSource { reader, faults: 0 }
+        ReaderSource {
+            reader,
+            trouble: None,
+            faults: 0,
+        }
+    }
+
+    /// Why the last call that failed did, of a reader that has this name.
+    pub fn why(&self, alloc: Global, name: &str) -> Result<Option<String>, AllocError> {
+        match &self.trouble {
+            Some(error) => Ok(Some(line_of(alloc, name, error, Call::Read)?)),
+            None => Ok(None),
+        }
     }
 }
 
@@ -33,7 +48,10 @@ impl<R: Read + Drop> Source for ReaderSource<R> {
             match self.reader.read(buffer) {
                 Ok(count) => return Ok(count),
                 Err(error) if error.kind() == ErrorKind::Interrupted => {}
-                Err(_) => break,
+                Err(error) => {
+                    self.trouble = Some(error);
+                    break;
+                }
             }
         }
         self.faults = self.faults.saturating_add(1);
@@ -45,6 +63,7 @@ impl<R: Read + Drop> Source for ReaderSource<R> {
 #[derive(Drop)]
 pub struct WriterSink<W: Write + Drop> {
     writer: W,
+    trouble: Option<io::Error>,
     faults: u64,
 }
 
@@ -52,7 +71,19 @@ impl<W: Write + Drop> WriterSink<W> {
     pub fn new(writer: W) -> Self
         ensures { ⟦<WriterSink<W> as Sink>⟧.faults result ≡ 0 }
     {
-        WriterSink { writer, faults: 0 }
+        WriterSink {
+            writer,
+            trouble: None,
+            faults: 0,
+        }
+    }
+
+    /// Why the last call that failed did, of a writer that has this name.
+    pub fn why(&self, alloc: Global, name: &str) -> Result<Option<String>, AllocError> {
+        match &self.trouble {
+            Some(error) => Ok(Some(line_of(alloc, name, error, Call::Write)?)),
+            None => Ok(None),
+        }
     }
 }
 
@@ -67,17 +98,32 @@ impl<W: Write + Drop> Sink for WriterSink<W> {
     /// written is flushed.
     fn put(&mut self, bytes: &[u8]) -> Result<usize, Failed> {
         for _ in 0..u64::MAX {
-            match self.writer.write(bytes) {
-                Ok(0) if !bytes.is_empty() => break,
-                Ok(count) => match self.writer.flush() {
-                    Ok(()) => return Ok(count),
-                    Err(_) => break,
-                },
+            match write_once(&mut self.writer, bytes) {
+                Ok(count) => return Ok(count),
                 Err(error) if error.kind() == ErrorKind::Interrupted => {}
-                Err(_) => break,
+                Err(error) => {
+                    self.trouble = Some(error);
+                    break;
+                }
             }
         }
         self.faults = self.faults.saturating_add(1);
         Err(Failed)
+    }
+}
+
+// Writes and flushes a front of the bytes, at least one of some.
+fn write_once<W: Write>(writer: &mut W, bytes: &[u8]) -> io::Result<usize>
+    ensures within { IfOk result (λ n. n ≤ length bytes.now) }
+    ensures progress { IfOk result (λ n. 0 < length bytes.now → 0 < n) }
+{
+    let count = writer.write(bytes)?;
+    if count == 0 && !bytes.is_empty() {
+        return Err(io::Error::from(ErrorKind::WriteZero));
+    }
+    match writer.flush() {
+        Ok(()) => Ok(count),
+        Err(error) if error.kind() == ErrorKind::Interrupted => Ok(count),
+        Err(error) => Err(error),
     }
 }

@@ -94,7 +94,8 @@ fn record<R: Threads + Wait + Clock + Alloc<A = Global> + Sync>(
     let mut input = SureSource::new(List::from_vec(SCRIPT.to_vec(alloc)?));
     let mut out = MemSink::new(alloc, List::empty(alloc));
     let disk = MemDisk::new(alloc, List::empty(alloc));
-    Ok(record_samples(rt, &words, &mut input, &mut out, disk, screen))
+    let (status, _) = record_samples(rt, &words, &mut input, &mut out, disk, screen);
+    Ok(status)
 }
 
 // How many lines a recording tells that ends with 0; `None` where it doesn't, or a line isn't as it must be.

@@ -1,6 +1,6 @@
 use Rattle.std.proofs.Common.{rules}
 use Rattle.pcp_system.proofs.Folders.{all_told}
-use Rattle.pcp_system.proofs.file_disk.read_names.Goals as goal
+use Rattle.pcp_system.proofs.archive_files.read_names.Goals as goal
 
 pub returns-in-Ok-eq0 : goal.returns-in-Ok-eq0
 returns-in-Ok-eq0 g c =

@@ -1,5 +1,5 @@
 use Rattle.std.specs.Io.KnownBytes.{Consumes}
-use Rattle.pcp_system.proofs.file_disk.read_names.Given as goal
+use Rattle.pcp_system.proofs.archive_files.read_names.Given as goal
 
 abbrev pub invariant-loop : goal.invariant-loop
 invariant-loop g l = Consumes (g.D.Read.remaining l.fn.folder) (g.D.Read.remaining l.folder) l.names.items

@@ -1,0 +1,390 @@
+#!/usr/bin/env python3
+"""Tries the program `pcp` as the system runs it: descriptors that are closed, two programs at one archive, files of other kinds, odd
+names, clients that keep silent, a terminal that is stopped, and signals. usage: edges.py PROGRAM [NAME ..]
+
+Each function `try_NAME` gets a folder of its own, and fails by an assertion. It takes half a minute in all."""
+import fcntl, os, pty, resource, select, signal, socket, struct, subprocess, sys, tempfile, time
+from concurrent.futures import ThreadPoolExecutor
+
+HERE = os.path.dirname(os.path.realpath(__file__))
+PROGRAM = ""
+IMAGE = os.path.join(HERE, "..", "..", "crates", "pcp", "stdin")
+SCRIPT = os.path.join(HERE, "..", "..", "docs", "counter.script")
+TICKS = b"".join(b"tick %d 0\n" % at for at in range(100, 105))
+
+
+def content(path):
+    with open(path, "rb") as it:
+        return it.read()
+
+
+def script(steps=b""):
+    """The sample script, with further steps."""
+    return content(SCRIPT) + steps
+
+
+def run(*words, given=b"", seconds=60, **how):
+    """Runs the program and gives its status and output."""
+    ran = subprocess.run([PROGRAM, *words], input=given, stdout=subprocess.PIPE, stderr=subprocess.PIPE, timeout=seconds, **how)
+    return ran.returncode, ran.stdout
+
+
+def files(base):
+    """The files of an archive with their contents."""
+    folder, stem = os.path.split(base)
+    return {name: content(os.path.join(folder, name)) for name in sorted(os.listdir(folder)) if name.startswith(stem + ".")}
+
+
+def items(base):
+    """How many items a sound archive has: recovery changes nothing, and each is printed."""
+    before = files(base)
+    status, said = run(base, "recover")
+    assert status == 0, (base, status, said)
+    assert files(base) == before, "recovery had to mend"
+    count = int(said.split()[1])
+    status, said = run(base, "dump")
+    assert status == 0 and said.count(b"mmv.app.hits") == count, (base, status, said[-200:])
+    return count
+
+
+def closing(*numbers):
+    """Closes descriptors in the child, before the program begins."""
+
+    def close():
+        for number in numbers:
+            os.close(number)
+
+    return close
+
+
+def try_closed_descriptors(folder):
+    """Standard streams that are closed are the null device: no file of the archive gets their numbers."""
+    writers = [("once", "100", "0", "app"), ("replay", "1048576"), ("make", "7", "20", "1048576"), ("record", "1", "1048576"), ("recover",)]
+    for words in writers:
+        given = {"once": content(IMAGE), "replay": script(TICKS), "record": script()}.get(words[0], b"")
+        for closed in [(0,), (1,), (2,), (0, 1, 2)]:
+            name = f"{words[0]}{''.join(map(str, closed))}"
+            whole, tried = (os.path.join(folder, name + kind) for kind in ("whole", "tried"))
+            if words[0] == "recover":
+                for base in (whole, tried):
+                    run(base, "replay", "1048576", given=script(TICKS))
+                    with open(base + ".0", "ab") as it:
+                        it.write(b"torn")
+            with tempfile.TemporaryFile() as source:
+                source.write(given)
+                null = open(os.devnull, "r+b")
+                how = [null if number in closed else usual for number, usual in enumerate([source, subprocess.DEVNULL, subprocess.DEVNULL])]
+                source.seek(0)
+                ordinary = subprocess.run([PROGRAM, whole, *words], stdin=how[0], stdout=how[1], stderr=how[2]).returncode
+                source.seek(0)
+                status = subprocess.run([PROGRAM, tried, *words], stdin=source, stdout=subprocess.DEVNULL, stderr=subprocess.DEVNULL, preexec_fn=closing(*closed)).returncode
+                null.close()
+            assert status == ordinary, (words, closed, status, ordinary)
+            left, right = ({key[len(name) + 5:]: it for key, it in files(base).items()} for base in (whole, tried))
+            if words[0] == "record":
+                left, right = ({key: len(it) for key, it in side.items()} for side in (left, right))
+            assert left == right, (words, closed)
+
+
+def recording(base, samples):
+    """A recording under way, which has taken its first sample."""
+    child = subprocess.Popen([PROGRAM, base, "record", str(samples), "1048576"], stdin=subprocess.PIPE, stdout=subprocess.PIPE)
+    child.stdin.write(script())
+    child.stdin.close()
+    end = time.monotonic() + 60
+    while not (os.path.exists(base + ".0") and os.path.getsize(base + ".0") > 132):
+        assert time.monotonic() < end and child.poll() is None, "no first sample"
+        time.sleep(0.01)
+    return child
+
+
+def try_one_writer(folder):
+    """While one program writes, another one is refused, and what it was refused leaves no trace."""
+    base = os.path.join(folder, "rec")
+    child = recording(base, 3)
+    assert run(base, "once", "4000000000"[:9], "0", "app", given=content(IMAGE)) == (5, b"disk fault\n")
+    assert run(base, "recover") == (5, b"disk fault\n")
+    assert run(base, "dump")[0] == 0
+    assert child.wait(60) == 0 and child.stdout.read() == b"logged 3\n"
+    assert items(base) == 3
+    # The other way round: once the lock is another's, a recording is refused.
+    before = files(base)
+    with open(base + ".meta", "rb") as held:
+        fcntl.flock(held, fcntl.LOCK_EX)
+        assert run(base, "record", "1", "1048576", given=script()) == (5, b"disk fault\n")
+    assert files(base) == before
+    fresh = os.path.join(folder, "fresh")
+    with open(fresh + ".meta", "wb") as held:
+        fcntl.flock(held, fcntl.LOCK_EX)
+        assert run(fresh, "once", "100", "0", "app", given=content(IMAGE))[0] == 5
+    assert files(fresh) == {"fresh.meta": b""}
+
+
+def pair(base, stamps):
+    """Two `once` begun at the same moment: how many items each left behind, and the sound archive's count."""
+    started = [subprocess.Popen([PROGRAM, base, "once", str(at), "0", "app"], stdin=subprocess.PIPE, stdout=subprocess.DEVNULL) for at in stamps]
+    for child in started:
+        child.stdin.write(content(IMAGE))
+    for child in started:
+        child.stdin.close()
+    return [child.wait(60) for child in started]
+
+
+def try_pairs(folder, count=300):
+    """Pairs of `once` over a new archive and over an old one: each ends with 0 and its item stands, or with 5."""
+    told = {}
+
+    def one(number):
+        base = os.path.join(folder, f"pair{number}")
+        old = 0
+        if number % 2:
+            assert run(base, "once", "50", "0", "app", given=content(IMAGE))[0] == 0
+            old = 1
+        stamps = (100, 100) if number % 4 < 2 else (100, 101)
+        ended = pair(base, stamps)
+        # The second of two items with one stamp, or with the earlier one, may come later: it is then refused as not later.
+        assert all(status in (0, 5, 12) for status in ended), ended
+        stand = items(base)
+        assert stand == old + ended.count(0), (ended, stand)
+        said = run(base, "dump")[1]
+        for status, at in zip(ended, stamps):
+            assert status != 0 or b"00:01:%02d.000000Z" % (at - 60) in said, (ended, said)
+        return tuple(ended)
+
+    with ThreadPoolExecutor(4) as pool:
+        for ended in pool.map(one, range(count)):
+            told[ended] = told.get(ended, 0) + 1
+    return told
+
+
+def try_regular_files(folder):
+    """What is no regular file is a fault at once; a link to a regular file is followed."""
+    kinds = {"fifo": os.mkfifo, "folder": os.mkdir, "device": lambda path: os.symlink("/dev/zero", path)}
+    commands = [("dump",), ("info",), ("recover",), ("once", "200", "0", "app"), ("replay", "1048576"), ("record", "1", "1048576")]
+    for kind, make in kinds.items():
+        for end in ("meta", "index", "0", "3"):
+            for words in commands:
+                base = os.path.join(folder, f"{kind}{end}{words[0]}")
+                run(base, "once", "100", "0", "app", given=content(IMAGE))
+                if os.path.exists(f"{base}.{end}"):
+                    os.remove(f"{base}.{end}")
+                make(f"{base}.{end}")
+                given = content(IMAGE) if words[0] == "once" else script(TICKS if words[0] == "replay" else b"")
+                assert run(base, *words, given=given)[0] == 5, (kind, end, words)
+    base = os.path.join(folder, "linked")
+    run(base, "once", "100", "0", "app", given=content(IMAGE))
+    os.rename(base + ".0", base + "-elsewhere")
+    os.symlink(base + "-elsewhere", base + ".0")
+    assert run(base, "once", "101", "0", "app", given=content(IMAGE))[0] == 0
+    assert items(base) == 2
+
+
+def seconds_of(*words):
+    """The least processor time that a command takes, of some runs: other work on the machine doesn't count."""
+    took = []
+    for _ in range(5):
+        child = subprocess.Popen([PROGRAM, *words], stdin=subprocess.DEVNULL, stdout=subprocess.DEVNULL)
+        _, status, used = os.wait4(child.pid, 0)
+        child.returncode = os.waitstatus_to_exitcode(status)
+        took.append(used.ru_utime + used.ru_stime)
+    return min(took)
+
+
+def try_odd_names(folder):
+    """Names that are no volume's cost nothing and change nothing."""
+    base = os.path.join(folder, "arch")
+    run(base, "replay", "1048576", given=script(TICKS))
+    commands = [("dump",), ("info",), ("at", "200", "0"), ("range", "0", "0", "900", "0"), ("value", "200", "0", "mmv.app.hits"), ("recover",)]
+    without = {words: (run(base, *words), seconds_of(base, *words)) for words in commands}
+    for end in ("2147483646", "4294967294", "20261128", "99999999999", "10000", "07", "1x", "", "0x1", "-1"):
+        with open(f"{base}.{end}", "wb") as it:
+            it.write(b"x")
+    for words, (answer, took) in without.items():
+        assert run(base, *words) == answer, words
+        more = seconds_of(base, *words) - took
+        assert more < 0.1, (words, more)
+
+
+def connect(port):
+    end = time.monotonic() + 60
+    while True:
+        try:
+            return socket.create_connection(("127.0.0.1", port), 30)
+        except ConnectionRefusedError:
+            assert time.monotonic() < end, "nobody listens"
+            time.sleep(0.02)
+
+
+def serving(port, count, **how):
+    child = subprocess.Popen([PROGRAM, "x", "serve", str(port), str(count)], stdin=subprocess.PIPE, stdout=subprocess.PIPE, **how)
+    child.stdin.write(b"".join(line + b"\n" for line in script().split(b"\n") if line and line.split()[0] not in (b"attach", b"add", b"detach", b"log")))
+    child.stdin.close()
+    return child
+
+
+def free_port():
+    with socket.socket() as it:
+        it.bind(("127.0.0.1", 0))
+        return it.getsockname()[1]
+
+
+HELLO = struct.pack(">IIIII", 20, 0x700C, 0, 1, 0x01020000)
+
+
+def heard(client):
+    """All that a client hears up to the end."""
+    said = b""
+    while True:
+        more = client.recv(65536)
+        if not more:
+            return said
+        said += more
+
+
+def try_few_descriptors(folder):
+    """A server without descriptors waits, and serves the others once there are some."""
+    port = free_port()
+    child = serving(port, 6, preexec_fn=lambda: resource.setrlimit(resource.RLIMIT_NOFILE, (8, 8)))
+    clients = [connect(port) for _ in range(6)]
+    time.sleep(0.5)
+    assert child.poll() is None
+    for client in clients:
+        client.sendall(HELLO)
+        client.shutdown(socket.SHUT_WR)
+    for client in clients:
+        assert len(heard(client)) == 16
+    assert child.wait(60) == 0 and child.stdout.read() == b"served 6\n"
+
+
+def try_begun_pdus(folder):
+    """A client that begins a PDU and sends nothing is closed after 5 seconds, one that is only silent is not."""
+    port = free_port()
+    child = serving(port, 2)
+    silent, begun = connect(port), connect(port)
+    begun.sendall(HELLO + HELLO[:7])
+    start = time.monotonic()
+    heard(begun)
+    took = time.monotonic() - start
+    assert 4.5 < took < 30, took
+    silent.sendall(HELLO)
+    silent.shutdown(socket.SHUT_WR)
+    assert len(heard(silent)) == 16
+    assert child.wait(60) == 0
+
+
+def try_untaken_replies(folder):
+    """A client that takes none of its replies for 5 seconds is closed."""
+    port = free_port()
+    child = serving(port, 1)
+    client = connect(port)
+    client.settimeout(1)
+    client.sendall(HELLO)
+    asked = struct.pack(">IIII", 16, 0x7004, 0, 0x11800402) * 4096
+    start, last = time.monotonic(), time.monotonic()
+    while time.monotonic() < start + 40 and child.poll() is None:
+        try:
+            client.sendall(asked)
+            last = time.monotonic()
+        except OSError:
+            time.sleep(0.1)
+    assert child.wait(1) == 0 and child.stdout.read() == b"served 1\n"
+    assert 3 < time.monotonic() - last < 30, time.monotonic() - last
+    client.close()
+
+
+def try_last_replies(folder):
+    """A session that ends with unread input lets its client read all replies before the connection ends."""
+    for _ in range(20):
+        port = free_port()
+        child = serving(port, 1)
+        client = connect(port)
+        client.sendall(HELLO + struct.pack(">I", 7) + bytes(40000))
+        time.sleep(0.05)
+        assert len(heard(client)) >= 16
+        client.close()
+        assert child.wait(60) == 0
+
+
+def on_terminal(words, given, folder, seconds, stopped=False):
+    """Runs the program with a terminal as standard error, which may be stopped: its status, and what the terminal showed."""
+    ours, theirs = pty.openpty()
+    if stopped:
+        os.write(ours, b"\x13")
+        time.sleep(0.1)
+    child = subprocess.Popen([PROGRAM, *words], stdin=subprocess.PIPE, stdout=subprocess.PIPE, stderr=theirs, cwd=folder)
+    child.stdin.write(given)
+    child.stdin.close()
+    status = child.wait(seconds)
+    if stopped:
+        os.write(ours, b"\x11")
+    shown = b""
+    while select.select([ours], [], [], 0.2)[0]:
+        shown += os.read(ours, 65536)
+    os.close(theirs)
+    os.close(ours)
+    return status, shown.replace(b"\r\n", b"\n")
+
+
+def try_reasons(folder):
+    """A terminal is told which call on which file failed, and why."""
+    run("held", "once", "100", "0", "app", given=content(IMAGE), cwd=folder)
+    with open(os.path.join(folder, "held.meta"), "rb") as held:
+        fcntl.flock(held, fcntl.LOCK_EX)
+        told = on_terminal(["held", "once", "101", "0", "app"], content(IMAGE), folder, 60)
+    assert told == (5, b"held.meta: another program is writing this archive (lock)\n"), told
+    os.mkdir(os.path.join(folder, "held.4"))
+    told = on_terminal(["held", "dump"], b"", folder, 60)
+    assert told == (5, b"held.4: not a regular file (measure)\n"), told
+    with open("/dev/full", "wb") as full:
+        ran = subprocess.run([PROGRAM, "x", "make", "1", "5", "1048576"], stdin=subprocess.DEVNULL, stdout=full, stderr=subprocess.PIPE, cwd=folder)
+    assert ran.returncode == 4 and ran.stderr == b"", ran
+    assert on_terminal(["fine", "once", "100", "0", "app"], content(IMAGE), folder, 60) == (0, b"")
+
+
+def try_stopped_terminal(folder):
+    """A terminal that is stopped (Ctrl-S) never stops a recording."""
+    status, _ = on_terminal(["stopped", "record", "3", "1048576"], script(), folder, 60, stopped=True)
+    assert status == 0 and items(os.path.join(folder, "stopped")) == 3
+    status, shown = on_terminal(["seen", "record", "2", "1048576"], script(), folder, 60)
+    assert status == 0 and shown == b"sample 1 of 2: results 0, bytes 0\nsample 2 of 2: results 1, bytes 488\n", shown
+
+
+def try_signals(folder):
+    """SIGINT and SIGTERM end a recording and a server as a crash does: what was made sure stands."""
+    for number in (signal.SIGINT, signal.SIGTERM):
+        base = os.path.join(folder, f"rec{number}")
+        child = recording(base, 100)
+        time.sleep(1.2)
+        child.send_signal(number)
+        assert child.wait(60) == -number and child.stdout.read() == b""
+        assert run(base, "recover")[0] == 0
+        assert 1 <= items(base) <= 4
+        port = free_port()
+        child = serving(port, 1)
+        client = connect(port)
+        client.sendall(HELLO)
+        client.recv(1)
+        child.send_signal(number)
+        assert child.wait(60) == -number and child.stdout.read() == b""
+
+
+def main():
+    global PROGRAM
+    PROGRAM = os.path.realpath(sys.argv[1])
+    failed = 0
+    for name, one in list(globals().items()):
+        if not name.startswith("try_") or (sys.argv[2:] and name[4:] not in sys.argv[2:]):
+            continue
+        with tempfile.TemporaryDirectory(prefix="edges-") as folder:
+            start = time.monotonic()
+            try:
+                said = one(folder) or ""
+            except (AssertionError, OSError, subprocess.TimeoutExpired) as error:
+                failed += 1
+                said = f"FAILED: {type(error).__name__} {error}"
+            print(f"{name[4:]}: {said or 'ok'} ({time.monotonic() - start:.1f} s)", flush=True)
+    return 1 if failed else 0
+
+
+if __name__ == "__main__":
+    sys.exit(main())

@@ -1,0 +1,138 @@
+#!/usr/bin/env python3
+"""Makes each system call of the commands that write fail once (strace(1), `-e inject`), and looks at what is told and what stands.
+usage: injected.py PROGRAM
+
+Each run either is whole (status 0, and files as without a failure) or told (another status of the program's own), and after a
+recovery the items are those from before and a front of the run's: all of them after status 0. It prints a line for each command
+and call, and takes some minutes."""
+import os, re, subprocess, sys, tempfile
+from concurrent.futures import ThreadPoolExecutor
+
+HERE = os.path.dirname(os.path.realpath(__file__))
+PROGRAM = ""
+# The first call of main itself; what comes before is the loader's.
+FIRST = '"/dev/null", O_RDWR'
+ERRORS = ("EIO", "ENOSPC")
+# Calls of which a failure is want of memory, or can't be.
+LEFT_OUT = ("execve", "exit", "exit_group", "mmap", "munmap", "brk", "mprotect", "arch_prctl", "rseq", "set_robust_list", "set_tid_address", "restart_syscall")
+
+
+def content(*path):
+    with open(os.path.join(HERE, "..", "..", *path), "rb") as it:
+        return it.read()
+
+
+IMAGE = content("crates", "pcp", "stdin")
+SCRIPT = content("docs", "counter.script")
+TICKS = SCRIPT + b"".join(b"tick %d 0\n" % at for at in range(100, 104)) + b"flush\ntick 104 0\n"
+
+# The words of each command, its input, and the archive before it: none, one of three items, or that with a torn end.
+COMMANDS = [
+    (("once", "200", "0", "app"), IMAGE, ("none", "old", "torn")),
+    (("replay", "1048576"), TICKS, ("none", "old")),
+    (("make", "7", "6", "1048576"), b"", ("none",)),
+    (("recover",), b"", ("old", "torn")),
+    (("record", "2", "1048576"), SCRIPT, ("none", "old")),
+]
+
+
+def run(folder, words, given=b"", traced=()):
+    ran = subprocess.run([*traced, PROGRAM, "arch", *words], input=given, cwd=folder, stdout=subprocess.PIPE, stderr=subprocess.DEVNULL, timeout=120)
+    return ran.returncode, ran.stdout
+
+
+def prepare(folder, state):
+    """Makes the archive from before."""
+    if state != "none":
+        for at in (b"10", b"20", b"30"):
+            run(folder, ("once", at.decode(), "0", "app"), IMAGE)
+    if state == "torn":
+        for end in ("0", "meta", "index"):
+            with open(os.path.join(folder, "arch." + end), "ab") as it:
+                it.write(b"\0\0\1")
+
+
+def lines_of(folder):
+    """The items of an archive, as they are printed, without their stamps where these are the clock's."""
+    status, said = run(folder, ("dump",))
+    if status:
+        return [b"status %d" % status]
+    return re.split(rb"(?m)^(?=\d{4}-)", said)[1:]
+
+
+def same(left, right, is_clocked):
+    strip = lambda item: re.sub(rb"^\S+ ", b"", item) if is_clocked else item
+    return [strip(it) for it in left] == [strip(it) for it in right]
+
+
+def calls_of(words, given, state):
+    """Each system call of main with its number among the calls of that name, and what stands without a failure."""
+    with tempfile.TemporaryDirectory() as folder:
+        prepare(folder, state)
+        before = lines_of(folder) if state != "none" else []
+        log = os.path.join(folder, "log")
+        status, _ = run(folder, words, given, ("strace", "-f", "-o", log))
+        assert status == 0, (words, state, status)
+        counts, calls, begun = {}, [], False
+        with open(log, encoding="utf-8", errors="replace") as it:
+            for line in it:
+                found = re.match(r"\d+ +(\w+)\(", line)
+                if not found:
+                    continue
+                name = found[1]
+                counts[name] = counts.get(name, 0) + 1
+                begun = begun or FIRST in line
+                if begun and name not in LEFT_OUT:
+                    calls.append((name, counts[name]))
+        return calls, before, lines_of(folder)
+
+
+def tried(words, given, state, call, number, error, before, after):
+    """One run with one failure: how it ended, and what is wrong."""
+    is_clocked = words[0] == "record"
+    with tempfile.TemporaryDirectory() as folder:
+        prepare(folder, state)
+        status, said = run(folder, words, given, ("strace", "-f", "-o", "/dev/null", "-e", f"inject={call}:error={error}:when={number}"))
+        mended, _ = run(folder, ("recover",))
+        stands = lines_of(folder) if os.path.exists(os.path.join(folder, "arch.meta")) and os.path.getsize(os.path.join(folder, "arch.meta")) else []
+        wrong = ""
+        if mended:
+            wrong = f"recover answers {mended}"
+        elif status == 0 and not same(stands, after, is_clocked):
+            wrong = f"{len(stands)} of {len(after)} items stand after status 0"
+        elif not (same(stands, after[: len(stands)], is_clocked) and len(stands) >= len(before)):
+            wrong = f"{len(stands)} items stand, {len(before)} stood before"
+        elif status not in (0, 3, 4, 5, 8, 9, 20):
+            wrong = f"status {status}"
+        return status, wrong and f"{' '.join(words)} ({state}): {call} {number} {error}: {wrong}"
+
+
+def main():
+    global PROGRAM
+    PROGRAM = os.path.realpath(sys.argv[1])
+    failures = []
+    total = 0
+    with ThreadPoolExecutor(8) as pool:
+        for words, given, states in COMMANDS:
+            for state in states:
+                calls, before, after = calls_of(words, given, state)
+                jobs = {(call, number, error): pool.submit(tried, words, given, state, call, number, error, before, after) for call, number in calls for error in ERRORS}
+                table = {}
+                for (call, _, _), job in jobs.items():
+                    status, wrong = job.result()
+                    ends = table.setdefault(call, {})
+                    ends[status] = ends.get(status, 0) + 1
+                    total += 1
+                    if wrong:
+                        failures.append(wrong)
+                for call, ends in sorted(table.items()):
+                    told = ", ".join(f"{'whole' if status == 0 else f'status {status}'} {count}" for status, count in sorted(ends.items()))
+                    print(f"| {words[0]} | {state} | {call} | {told} |", flush=True)
+    print(f"{total} runs, {len(failures)} wrong")
+    for wrong in failures:
+        print(wrong)
+    return 1 if failures else 0
+
+
+if __name__ == "__main__":
+    sys.exit(main())
