@@ -3,7 +3,7 @@ use Rattle.std.proofs.Common.{◌≡◌, ℕ, Bool, List, Some, All, ◌<◌, fi
 use Rattle.std.specs.List.{position_or_len}
 use Rattle.std.proofs.lemmas.List.Folds.{find_at}
 use Rattle.std.proofs.lemmas.Option.{slice_get_within, get_or_from_slice_get}
-use Rattle.mmv_format.specs.declared.rows.Slot.{Slot}
+use Rattle.mmv_layout.specs.declared.rows.Slot.{Slot}
 use Rattle.region_rule.specs.declared.view.View.{View}
 use Rattle.region_rule.specs.Calls.{TakesAll}
 use Rattle.region_words.specs.Images.{mmv}

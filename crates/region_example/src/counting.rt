@@ -1,4 +1,4 @@
-//! The counting of lines by two threads: the calls that a program makes so that it can be watched.
+//! The counting: these are the calls that a program makes so that it can be watched.
 
 ghost use Rattle.std.specs.Prelude.{◌≡◌, ◌<◌, All, IfOk, find, length, option_copied};
 ghost use Rattle.mmv_layout.specs.Form.{is_slot_of};
@@ -13,7 +13,7 @@ use std::alloc::Global;
 use std::sync::Wait;
 use std::thread::{Threads, join};
 
-// The slot of a counter's instance: it tells in which word the value stands.
+// The slot of an instance of a counter, which tells the word that holds its value.
 fn find_slot(slots: &[Slot], item: u32, instance: i32) -> Option<&Slot>
     ensures { option_copied result ≡ find (is_slot_of item instance) slots.now }
 {
@@ -22,7 +22,7 @@ fn find_slot(slots: &[Slot], item: u32, instance: i32) -> Option<&Slot>
         .find(|slot| slot.item == item && slot.instance == instance)
 }
 
-// Adds to a counter of a level, in one atomic step.
+// Adds to a counter's value for a level, in one atomic step.
 #[tactic(auto, using(crate::proofs::Slots::found_below, crate::proofs::Slots::found_takes))]
 fn add(
     region: &Region,
@@ -47,8 +47,8 @@ fn add(
     }
 }
 
-/// Counts lines. A pass attaches to the region, and waits for that while the layout is changed. Until it detaches no layout changes, so
-/// the words of the counters, its slots, are asked for once.
+/// Counts lines. The pass attaches to the region, and waits where its layout is just being changed; until it detaches the layout stays,
+/// so the slots of the values are asked for once. No other thread waits for it, whether it adds or reads.
 pub fn count<R: Wait>(
     rt: &R,
     alloc: Global,

@@ -1,15 +1,15 @@
-//! The layout of the region (mmv(5)), as layout text: the counters `lines` and `bytes`, each with an instance for each level.
+//! What the region counts: its layout (mmv(5)) has the counters `lines` and `bytes`, each with an instance for each level.
 
 ghost use Rattle.std.specs.Prelude.{◌≡◌, IfOk};
 
 use crate::level::Level;
 use anyhow::Result;
-use layout_text::layout_text;
 use mmv_layout::Image;
 use mmv_writer::read_text;
 use region_words::{Pass, Region};
 use std::alloc::Global;
 use std::sync::Wait;
+use text_lines::layout_text;
 
 /// The item of the counter `lines`.
 pub const LINES: u32 = 1;
@@ -17,8 +17,8 @@ pub const LINES: u32 = 1;
 /// The item of the counter `bytes`.
 pub const BYTES: u32 = 2;
 
-// The layout at first: version 1, generation 1, no flags, process 0 and cluster 7; a domain of two instances; two counters over it,
-// whose units are a count and bytes; and a value for each counter and instance.
+// The layout at first, as layout text: version 1, generation 1, no flags, process 0 and cluster 7; an instance domain with two
+// instances; two counters over it, whose units are a count and bytes; and a value for each counter and instance.
 const AT_FIRST: &str = "mmv 1 1 0 0 7
 indom 1 \"levels\" -
 instance 1 0 \"info\"
@@ -50,8 +50,8 @@ fn with_errors(alloc: Global, image: &Image) -> Result<Image> {
     Ok(read_text(alloc, &text)?)
 }
 
-/// Lays the region anew, so that it has an instance for errors: a change begins, which keeps threads from storing, puts the words of the
-/// new image, and ends. The counts so far are taken over. Nobody adds to them meanwhile, since the passes of both threads are here.
+/// Lays the region anew, so that it counts errors too: a change begins, which keeps every pass from attaching, puts the words of the new
+/// image, and ends. The counts so far are taken over; nobody adds to them meanwhile, since the passes of both threads are here.
 pub fn add_errors<R: Wait>(
     rt: &R,
     alloc: Global,
@@ -69,7 +69,7 @@ pub fn add_errors<R: Wait>(
     }
 }
 
-/// What an image has counted of a level; `None` where its layout doesn't have the level.
+/// The value of a counter for a level in an image, and `None` where its layout has no instance for the level.
 pub fn count_in(image: &Image, item: u32, level: Level) -> Option<u64> {
     let slot = image.slot_of(item, level as i32)?;
     Some(image.words()[slot.word as usize])

@@ -1,4 +1,4 @@
-//! Samples of the region, logged into an archive.
+//! The logging: what the region shows goes into an archive, one result at a time.
 
 ghost use Rattle.std.specs.Prelude.{◌≡◌, ◌∷◌, [], IfOk};
 ghost use Rattle.fetch_engine.specs.Servers.{IsSeated, regions_in};
@@ -18,7 +18,7 @@ use std::alloc::Global;
 // The greatest volume of the archive, in bytes.
 const VOLUME_LIMIT: u64 = 1_073_741_824;
 
-/// The server of a region alone, whose metrics are named `mmv.log.NAME`, and the seat from which it is sampled.
+/// A server of this region alone, which names its metrics `mmv.log.NAME`, and the seat of one who reads there.
 pub fn serve(alloc: Global, region: Region, cluster: u32, pass: Pass) -> Result<(Server, Seat)>
     requires here { pass.region ≡ region }
     ensures alone { IfOk result (λ made. regions_in made.0 ≡ region ∷ []) }
@@ -50,7 +50,8 @@ pub fn open(alloc: Global, disk: &mut impl Disk, stamp: Stamp) -> Result<Logger>
     Ok(Logger::create(alloc, disk, &label, VOLUME_LIMIT)?)
 }
 
-/// What all metrics of a server show now.
+/// What all metrics of a server show now, and what describes them. The region is read without a lock: where it was being changed it is
+/// read again, three times at most.
 pub fn sample(alloc: Global, server: &Server, seat: &mut Seat, stamp: Stamp) -> Result<Fetched>
     requires { IsSeated server.now seat.old.tokens }
     ensures { IsSeated server.now seat.new.tokens }
@@ -64,7 +65,7 @@ pub fn sample(alloc: Global, server: &Server, seat: &mut Seat, stamp: Stamp) -> 
     Ok(server.fetch(alloc, seat, &Profile::all(alloc), &pmids, stamp)?)
 }
 
-/// Logs a sample, and makes it sure: from then on no crash takes it away.
+/// Logs a sample as one result, and makes it sure: from then on no crash takes it away.
 pub fn log(
     alloc: Global,
     disk: &mut impl Disk,

@@ -1,7 +1,7 @@
-//! The program `region_example BASE LINES`: counts the lines and bytes of the log on standard input, by the level of each line, in a
-//! region that two threads add to, and logs the region behind each LINES lines into the archive whose files' names begin with BASE.
-//! It shows how a program is watched: `counting` adds, `layout` says what is counted, and changes it once the first error comes, and
-//! `logging` logs.
+//! The program `region_example BASE LINES`, an example of a program that lets itself be watched. It counts the lines and bytes of the
+//! log on standard input, by the level of each line, in a region: words of memory laid out as memory mapped values (mmv(5)), to which
+//! threads add while others read. Behind each LINES lines it logs what the region shows, as one result of the archive (LOGARCHIVE(5))
+//! whose files' names begin with BASE. `layout` says what is counted, `counting` counts, and `logging` logs.
 #![tactic(auto)]
 
 ghost use Rattle.std.specs.Prelude.{◌<◌};
@@ -36,7 +36,7 @@ fn has_error(lines: &[&[u8]]) -> bool {
         .any(|line| Level::of_line(line) == Level::Error)
 }
 
-// Counts lines, and logs behind each so many of them. Answers how many samples the archive has, and the region's image in the end.
+// Counts lines, and logs behind each so many of them. Answers how many results the archive has, and the words of the region in the end.
 fn run<R: Threads + Wait + Clock + Sync>(
     rt: &R,
     alloc: Global,
@@ -46,7 +46,7 @@ fn run<R: Threads + Wait + Clock + Sync>(
 ) -> Result<(u64, Image)>
     requires { 0 < every }
 {
-    // Two passes count, and the third samples.
+    // Whoever uses a region has a pass of it: two threads that count, and the logger that reads.
     let image = first_image(alloc)?;
     let (region, mut passes) = Region::make(alloc, &image, CAPACITY, 3)?;
     let (Some(first), Some(second), Some(third)) = (passes.pop(), passes.pop(), passes.pop()) else {
