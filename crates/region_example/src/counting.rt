@@ -8,6 +8,7 @@ use crate::layout::{BYTES, LINES};
 use crate::level::Level;
 use anyhow::{Result, bail};
 use mmv_layout::Slot;
+use pcp_base::List;
 use region_words::{Pass, Region, Stint, is_number};
 use std::alloc::Global;
 use std::sync::Wait;
@@ -27,7 +28,7 @@ fn find_slot(slots: &[Slot], item: u32, instance: i32) -> Option<&Slot>
 fn add(
     region: &Region,
     stint: &mut Stint,
-    slots: &[Slot],
+    slots: &List<Slot>,
     item: u32,
     level: Level,
     amount: u64,
@@ -38,7 +39,7 @@ fn add(
     ensures here { stint.new.region ≡ region.now }
     ensures slots { form_seen stint.new.view ≡ form_seen stint.old.view }
 {
-    match find_slot(slots, item, level as i32) {
+    match find_slot(slots.as_slice(), item, level as i32) {
         Some(slot) if is_number(slot.kind) => {
             stint.add(region, slot.word, amount);
             Ok(())
@@ -62,9 +63,9 @@ pub fn count<R: Wait>(
     let mut stint = region.attach_wait(rt, pass);
     let slots = region.slots(alloc, &mut stint)?;
     for line in lines {
-        let level = Level::of_line(line);
-        add(region, &mut stint, slots.as_slice(), LINES, level, 1)?;
-        add(region, &mut stint, slots.as_slice(), BYTES, level, line.len() as u64)?;
+        let (level, bytes) = (Level::of_line(line), line.len() as u64);
+        add(region, &mut stint, &slots, LINES, level, 1)?;
+        add(region, &mut stint, &slots, BYTES, level, bytes)?;
     }
     Ok(stint.detach(region))
 }

@@ -25,8 +25,12 @@ pub fn serve(alloc: Global, region: Region, cluster: u32, pass: Pass) -> Result<
     ensures seated { IfOk result (λ made. IsSeated made.0 made.1.tokens) }
 {
     let file = Text::build(alloc, b"log")?;
-    let mounted = vec![in alloc; Mounted { file, cluster, region }]?;
-    let server = Server::new(mounted)?;
+    let row = Mounted {
+        file,
+        cluster,
+        region,
+    };
+    let server = Server::new(vec![in alloc; row]?)?;
     match server.seat(alloc, vec![in alloc; pass]?) {
         Ok(seat) => Ok((server, seat)),
         Err((_, fault)) => Err(fault.into()),
@@ -73,7 +77,8 @@ pub fn log(
     sample: &Fetched,
 ) -> Result<()> {
     let result = &sample.result;
-    ensure!(!result.sets.is_empty() && fits(result), "the sample can't be written");
+    let is_writable = !result.sets.is_empty() && fits(result);
+    ensure!(is_writable, "the sample can't be written");
     logger.log(alloc, disk, result, &sample.facts)?;
     Ok(logger.flush(disk)?)
 }

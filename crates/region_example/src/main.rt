@@ -82,15 +82,14 @@ fn main(rt: HostRuntime) -> Result<()> {
     ensure!(every > 0, "LINES is 0");
     let mut input = Vec::new(alloc);
     rt.reader().read_to_end(&mut input)?;
-    let lines: Vec<&[u8]> = input
-        .split_inclusive(|byte| *byte == b'\n')
-        .collect(alloc)?;
+    let lines: Vec<&[u8]> = input.split_inclusive(|byte| *byte == b'\n').collect(alloc)?;
     let mut disk = FileDisk::new(alloc, &rt, base.to_string(alloc)?);
     let (logged, image) = run(&rt, alloc, &mut disk, &lines, every)?;
     println!(rt; "logged {logged}")?;
     for (level, name) in LEVELS {
-        let counts = (count_in(&image, LINES, level), count_in(&image, BYTES, level));
-        if let (Some(lines), Some(bytes)) = counts {
+        let lines = count_in(&image, LINES, level);
+        let bytes = count_in(&image, BYTES, level);
+        if let (Some(lines), Some(bytes)) = (lines, bytes) {
             println!(rt; "{name}: {lines} lines, {bytes} bytes")?;
         }
     }
