@@ -129,10 +129,12 @@ fn reads_that_go_on_are_those_of_the_file(rt: HostRuntime) -> Result<(), Fail> {
         disk.read(FileId::Volume(0), number as u64 * 100, &mut buffer)?;
         assert_eq!(rt; buffer.as_slice(), piece);
     }
-    disk.read(FileId::Volume(0), 7, &mut buffer)?;
-    assert_eq!(rt; Some(buffer.as_slice()), content.get(7..107));
+    disk.read(FileId::Volume(0), 0, &mut buffer)?;
+    disk.read(FileId::Volume(0), 100, &mut buffer)?;
+    disk.cut(FileId::Volume(0), 250)?;
     disk.append(FileId::Volume(0), b"new")?;
-    disk.read(FileId::Volume(0), 19_999, &mut buffer[..4])?;
-    assert_eq!(rt; buffer.get(1..4), Some(b"new".as_slice()));
+    disk.read(FileId::Volume(0), 200, &mut buffer[..53])?;
+    assert_eq!(rt; buffer.get(..50), content.get(200..250));
+    assert_eq!(rt; buffer.get(50..53), Some(b"new".as_slice()));
     Ok(())
 }
