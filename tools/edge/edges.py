@@ -8,6 +8,7 @@ from concurrent.futures import ThreadPoolExecutor
 
 HERE = os.path.dirname(os.path.realpath(__file__))
 PROGRAM = ""
+STARTED = []
 IMAGE = os.path.join(HERE, "..", "..", "crates", "pcp", "stdin")
 SCRIPT = os.path.join(HERE, "..", "..", "docs", "counter.script")
 TICKS = b"".join(b"tick %d 0\n" % at for at in range(100, 105))
@@ -21,6 +22,13 @@ def content(path):
 def script(steps=b""):
     """The sample script, with further steps."""
     return content(SCRIPT) + steps
+
+
+def start(*words, **how):
+    """Starts the program beside this one."""
+    child = subprocess.Popen([PROGRAM, *words], stdin=subprocess.PIPE, stdout=subprocess.PIPE, **how)
+    STARTED.append(child)
+    return child
 
 
 def run(*words, given=b"", seconds=60, **how):
@@ -88,7 +96,7 @@ def try_closed_descriptors(folder):
 
 def recording(base, samples):
     """A recording under way, which has taken its first sample."""
-    child = subprocess.Popen([PROGRAM, base, "record", str(samples), "1048576"], stdin=subprocess.PIPE, stdout=subprocess.PIPE)
+    child = start(base, "record", str(samples), "1048576")
     child.stdin.write(script())
     child.stdin.close()
     end = time.monotonic() + 60
@@ -222,7 +230,7 @@ def served_script():
 
 
 def serving(port, count, given=None, **how):
-    child = subprocess.Popen([PROGRAM, "x", "serve", str(port), str(count)], stdin=subprocess.PIPE, stdout=subprocess.PIPE, **how)
+    child = start("x", "serve", str(port), str(count), **how)
     child.stdin.write(given or served_script())
     child.stdin.close()
     return child
@@ -268,9 +276,9 @@ def try_begun_pdus(folder):
     child = serving(port, 2)
     silent, begun = connect(port), connect(port)
     begun.sendall(HELLO + HELLO[:7])
-    start = time.monotonic()
+    began = time.monotonic()
     heard(begun)
-    took = time.monotonic() - start
+    took = time.monotonic() - began
     assert 4.5 < took < 30, took
     silent.sendall(HELLO)
     silent.shutdown(socket.SHUT_WR)
@@ -286,9 +294,9 @@ def try_untaken_replies(folder):
     child = serving(port, 1, given)
     client = connect(port)
     client.sendall(HELLO + struct.pack(">IIIII", 20, 0x7006, 0, 0x11800401, 0xFFFFFFFF) * 500)
-    start = time.monotonic()
+    began = time.monotonic()
     assert child.wait(60) == 0 and child.stdout.read() == b"served 1\n"
-    took = time.monotonic() - start
+    took = time.monotonic() - began
     assert took > 4.5, took
     client.close()
 
@@ -312,7 +320,7 @@ def on_terminal(words, given, folder, seconds, stopped=False):
     if stopped:
         os.write(ours, b"\x13")
         time.sleep(0.1)
-    child = subprocess.Popen([PROGRAM, *words], stdin=subprocess.PIPE, stdout=subprocess.PIPE, stderr=theirs, cwd=folder)
+    child = start(*words, stderr=theirs, cwd=folder)
     child.stdin.write(given)
     child.stdin.close()
     status = child.wait(seconds)
@@ -377,13 +385,17 @@ def main():
         if not name.startswith("try_") or (sys.argv[2:] and name[4:] not in sys.argv[2:]):
             continue
         with tempfile.TemporaryDirectory(prefix="edges-") as folder:
-            start = time.monotonic()
+            began = time.monotonic()
             try:
                 said = one(folder) or ""
             except (AssertionError, OSError, subprocess.TimeoutExpired) as error:
                 failed += 1
                 said = f"FAILED: {type(error).__name__} {error}"
-            print(f"{name[4:]}: {said or 'ok'} ({time.monotonic() - start:.1f} s)", flush=True)
+            for child in STARTED:
+                if child.poll() is None:
+                    child.kill()
+            STARTED.clear()
+            print(f"{name[4:]}: {said or 'ok'} ({time.monotonic() - began:.1f} s)", flush=True)
     return 1 if failed else 0
 
 
