@@ -24,17 +24,17 @@ def script(steps=b""):
     return content(SCRIPT) + steps
 
 
+def start(*words, **how):
+    """Starts the program beside this one."""
+    child = subprocess.Popen([PROGRAM, *words], stdin=subprocess.PIPE, stdout=subprocess.PIPE, **how)
+    STARTED.append(child)
+    return child
+
+
 def run(*words, given=b"", seconds=60, **how):
     """Runs the program and gives its status and output."""
     ran = subprocess.run([PROGRAM, *words], input=given, stdout=subprocess.PIPE, stderr=subprocess.PIPE, timeout=seconds, **how)
     return ran.returncode, ran.stdout
-
-
-def begun(words, **how):
-    """A program that goes on meanwhile; it is ended with this one."""
-    child = subprocess.Popen(words, **how)
-    STARTED.append(child)
-    return child
 
 
 def files(base):
@@ -96,7 +96,7 @@ def try_closed_descriptors(folder):
 
 def recording(base, samples):
     """A recording under way, which has taken its first sample."""
-    child = begun([PROGRAM, base, "record", str(samples), "1048576"], stdin=subprocess.PIPE, stdout=subprocess.PIPE)
+    child = start(base, "record", str(samples), "1048576")
     child.stdin.write(script())
     child.stdin.close()
     end = time.monotonic() + 60
@@ -133,7 +133,7 @@ def try_one_writer(folder):
 
 def pair(base, stamps):
     """Two `once` begun at the same moment: how many items each left behind, and the sound archive's count."""
-    started = [begun([PROGRAM, base, "once", str(at), "0", "app"], stdin=subprocess.PIPE, stdout=subprocess.DEVNULL) for at in stamps]
+    started = [subprocess.Popen([PROGRAM, base, "once", str(at), "0", "app"], stdin=subprocess.PIPE, stdout=subprocess.DEVNULL) for at in stamps]
     for child in started:
         child.stdin.write(content(IMAGE))
     for child in started:
@@ -233,7 +233,7 @@ def served_script():
 
 
 def serving(port, count, given=None, **how):
-    child = begun([PROGRAM, "x", "serve", str(port), str(count)], stdin=subprocess.PIPE, stdout=subprocess.PIPE, **how)
+    child = start("x", "serve", str(port), str(count), **how)
     child.stdin.write(given or served_script())
     child.stdin.close()
     return child
@@ -278,10 +278,10 @@ def try_begun_pdus(folder):
     port = free_port()
     child = serving(port, 2)
     silent, begun = connect(port), connect(port)
-    start = time.monotonic()
+    began = time.monotonic()
     begun.sendall(HELLO + HELLO[:7])
     heard(begun)
-    took = time.monotonic() - start
+    took = time.monotonic() - began
     assert 4.5 < took < 30, took
     silent.sendall(HELLO)
     silent.shutdown(socket.SHUT_WR)
@@ -296,10 +296,10 @@ def try_untaken_replies(folder):
     given = b"image A\nmmv 1 5 0 0 1\nindom 1 - -\n" + rows + b"metric per 4 u32 counter 00100000 1 - -\nend\nregion app A 65536 1\nstart\n"
     child = serving(port, 1, given)
     client = connect(port)
-    start = time.monotonic()
+    began = time.monotonic()
     client.sendall(HELLO + struct.pack(">IIIII", 20, 0x7006, 0, 0x11800401, 0xFFFFFFFF) * 500)
     assert child.wait(60) == 0 and child.stdout.read() == b"served 1\n"
-    took = time.monotonic() - start
+    took = time.monotonic() - began
     assert took > 4.5, took
     client.close()
 
@@ -323,7 +323,7 @@ def on_terminal(words, given, folder, seconds, stopped=False):
     if stopped:
         os.write(ours, b"\x13")
         time.sleep(0.1)
-    child = begun([PROGRAM, *words], stdin=subprocess.PIPE, stdout=subprocess.PIPE, stderr=theirs, cwd=folder)
+    child = start(*words, stderr=theirs, cwd=folder)
     child.stdin.write(given)
     child.stdin.close()
     status = child.wait(seconds)
@@ -390,19 +390,18 @@ def main():
         if not name.startswith("try_") or (sys.argv[2:] and name[4:] not in sys.argv[2:]):
             continue
         with tempfile.TemporaryDirectory(prefix="edges-") as folder:
-            start = time.monotonic()
+            began = time.monotonic()
             try:
                 said = one(folder) or ""
             except (AssertionError, OSError, subprocess.TimeoutExpired) as error:
                 failed += 1
                 said = f"FAILED: {type(error).__name__} {error}"
-            finally:
-                for child in STARTED:
-                    if child.poll() is None:
-                        child.kill()
-                        child.wait()
-                STARTED.clear()
-            print(f"{name[4:]}: {said or 'ok'} ({time.monotonic() - start:.1f} s)", flush=True)
+            for child in STARTED:
+                if child.poll() is None:
+                    child.kill()
+                    child.wait()
+            STARTED.clear()
+            print(f"{name[4:]}: {said or 'ok'} ({time.monotonic() - began:.1f} s)", flush=True)
     return 1 if failed else 0
 
 
