@@ -16,11 +16,11 @@ use Rattle.pcp_model.proofs.Lengths.{length-frame}
 use Rattle.pcp_model.proofs.Unique.{both_words}
 use Rattle.archive_frame.specs.Steps.{Stands}
 use Rattle.archive_frame.proofs.Records.{Ends, stood}
-use Rattle.meta_records.specs.Framed.{RecordStands}
+use Rattle.archive_meta.specs.Framed.{RecordStands}
 use Rattle.archive_meta.specs.Records.{AreRecords}
-use Rattle.meta_records.specs.Stamped.{IsStamped}
-use Rattle.archive_window.specs.Standing.{IsSized, WasTaken, NoFrameStands}
-use Rattle.archive_window.proofs.Frames.{in_place, out_of_place}
+use Rattle.archive_meta.specs.Stamped.{IsStamped}
+use Rattle.archive_loading.specs.Standing.{IsSized, WasTaken, NoFrameStands}
+use Rattle.archive_loading.proofs.Frames.{in_place, out_of_place}
 use Rattle.archive_loading.specs.Stamps.{domain_stamps}
 
 -- bytes that say their length are one frame of the framed records that they are

@@ -1,7 +1,10 @@
+pub mod Endings
 pub mod Framed
+pub mod Frames
 pub mod LabelBytes
 pub mod Latest
 pub mod Loads
+pub mod Looking
 pub mod MetaSteps
 pub mod PartsRead
 pub mod Passed

@@ -9,14 +9,14 @@ use Rattle.pcp_model.specs.Frame.{IsTorn}
 use Rattle.pcp_model.specs.LabelFields.{LabelFields}
 use Rattle.pcp_model.specs.Labels.{IsLabel, BeginsLabel}
 use Rattle.pcp_model.specs.Records.{AreConsistent}
-use Rattle.meta_records.specs.declared.fault.MetaFault.{MetaFault}
-use Rattle.meta_records.specs.declared.fault.MetaFault.TheVariants.{Record as BadRecord, NoMemory}
-use Rattle.meta_records.specs.Framed.{RecordStands}
+use Rattle.archive_meta.specs.declared.fault.MetaFault.{MetaFault}
+use Rattle.archive_meta.specs.declared.fault.MetaFault.TheVariants.{Record as BadRecord, NoMemory}
+use Rattle.archive_meta.specs.Framed.{RecordStands}
 use Rattle.archive_meta.specs.Records.{AreRecords, Adds, AreFound, IsFrontFault}
 use Rattle.archive_meta.proofs.Frames.{adds_none, adds_one}
 use Rattle.archive_meta.proofs.Torn.{has_front, end_torn}
-use Rattle.archive_window.specs.Standing.{WasTaken, NoFrameStands}
-use Rattle.archive_window.proofs.Frames.{whole_not_torn}
+use Rattle.archive_loading.specs.Standing.{WasTaken, NoFrameStands}
+use Rattle.archive_loading.proofs.Frames.{whole_not_torn}
 use Rattle.archive_loading.proofs.PartsRead.{label_long, part_of, meta_is}
 use Rattle.archive_loading.specs.Metadata.{FrameIsAdded, FrameIsBad, NoRecordFits, MetaSoFar, AreAllRecords}
 use Rattle.archive_loading.specs.Loaded.{contents_with}

@@ -11,7 +11,7 @@ use Rattle.pcp_model.specs.Payload.{IsItem}
 use Rattle.pcp_model.proofs.Cuts.{frames-append}
 use Rattle.pcp_model.proofs.Lengths.{length-frame}
 use Rattle.archive_frame.specs.Steps.{Stands}
-use Rattle.archive_window.specs.Standing.{ItemStands}
+use Rattle.archive_loading.specs.Standing.{ItemStands}
 use Rattle.archive_loading.specs.Loaded.{IsLabelled}
 
 -- a record and what follows it

@@ -1,7 +1,11 @@
+pub mod Ending
 pub mod LoadFaults
 pub mod Loaded
+pub mod Looks
 pub mod Metadata
 pub mod Parts
 pub mod Stamps
+pub mod Standing
 pub mod Takes
+pub mod Taking
 pub mod Volumes

@@ -12,7 +12,7 @@ use Rattle.pcp_model.specs.Labels.{IsLabel, BeginsLabel}
 use Rattle.archive_frame.specs.Heads.{IsHeadFault, IsMetaLabel, IsMetaHeadFault}
 use Rattle.archive_frame.specs.declared.fault.FrameFault.{FrameFault}
 use Rattle.archive_frame.specs.declared.fault.FrameFault.TheVariants.{Torn, Size, Lengths, Label as Misfit, NoMemory as Lacking}
-use Rattle.meta_records.specs.declared.fault.MetaFault.TheVariants.{Record}
+use Rattle.archive_meta.specs.declared.fault.MetaFault.TheVariants.{Record}
 use Rattle.archive_meta.specs.Records.{IsFrontFault}
 use Rattle.temporal_index.specs.Entries.{IsFirstFault}
 use Rattle.archive_loading.specs.declared.labels.Head.{Head}

@@ -8,8 +8,8 @@ use Rattle.pcp_model.specs.LabelFields.{LabelFields}
 use Rattle.pcp_model.specs.Labels.{IsLabel, BeginsLabel}
 use Rattle.pcp_model.specs.Records.{AreConsistent}
 use Rattle.archive_frame.specs.Heads.{IsMetaLabel}
-use Rattle.meta_records.specs.declared.fault.MetaFault.TheVariants.{Record as BadRecord}
-use Rattle.meta_records.specs.Framed.{RecordStands}
+use Rattle.archive_meta.specs.declared.fault.MetaFault.TheVariants.{Record as BadRecord}
+use Rattle.archive_meta.specs.Framed.{RecordStands}
 use Rattle.archive_meta.specs.Records.{AreRecords, Adds, HasFront, IsFrontFault}
 use Rattle.archive_loading.specs.LoadFaults.{MetaLabelStops}
 use Rattle.archive_loading.specs.declared.metadata.Added.{Added}

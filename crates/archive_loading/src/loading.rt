@@ -3,15 +3,16 @@ ghost use Rattle.std.specs.Prelude.{◌≡◌, ◌+◌, ◌<◌, ◌≤◌, leng
 ghost use Rattle.pcp_base.specs.declared.file.FileId.TheVariants.{Index as IndexFile, Volume};
 ghost use Rattle.pcp_model.specs.Disk.{contents_of};
 ghost use Rattle.pcp_outside.specs.Devices.{IsVolumes};
-ghost use Rattle.archive_window.specs.Looks.{Looks, Blames};
+ghost use Rattle.archive_loading.specs.Looks.{Looks, Blames};
 ghost use Rattle.archive_loading.specs.Parts.{IsIndexPart};
 ghost use Rattle.archive_loading.specs.Volumes.{IsVolumeHead, IsVolumePart, IsVolumesPart, IsReachablePart, IsAlone};
 ghost use Rattle.archive_loading.specs.LoadFaults.{IsBeside};
 ghost use Rattle.archive_loading.specs.Takes.{label_bytes, TookLabels};
 
 use crate::labels::{Head, head_of};
+use crate::lack::Lack;
 use crate::parts::{IndexPart, index_part};
-use archive_window::{Lack, count_volumes, front_of, length_of, whole_of};
+use crate::reading::{count_volumes, front_of, length_of, whole_of};
 use pcp_base::List;
 use pcp_model::Label;
 use pcp_outside::{Disk, FileId};

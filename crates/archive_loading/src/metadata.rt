@@ -2,14 +2,16 @@
 ghost use Rattle.std.specs.Prelude.{◌≡◌, ◌-◌, ◌≤◌, length, drop, IfOk, IfErr, MatchBool};
 ghost use Rattle.pcp_base.specs.declared.file.FileId.TheVariants.{Meta};
 ghost use Rattle.pcp_model.specs.Disk.{contents_of};
-ghost use Rattle.archive_window.specs.Looks.{Looks, Blames};
-ghost use Rattle.archive_window.specs.Standing.{IsSized};
+ghost use Rattle.archive_loading.specs.Looks.{Looks, Blames};
+ghost use Rattle.archive_loading.specs.Standing.{IsSized};
 ghost use Rattle.archive_loading.specs.Metadata.{FrameIsAdded, FrameIsBad, IsAdded, FitsAdded, IsRecordsRead, IsMetaPart, IsReadTo};
 
+use crate::forward::{Taken, take_frame};
 use crate::labels::{MetaHead, meta_head};
+use crate::lack::Lack;
+use crate::reading::front_of;
 use crate::stamps::{later_by, stamp_in};
 use archive_meta::{MetaFault, MetaState};
-use archive_window::{Lack, Taken, front_of, take_frame};
 use pcp_base::{NoMemory, Stamp};
 use pcp_model::Label;
 use pcp_outside::{Disk, FileId};

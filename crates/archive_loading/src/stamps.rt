@@ -3,10 +3,10 @@ ghost use Rattle.std.specs.Prelude.{◌≡◌, ◌∷◌, [], ◌++◌, List as 
 ghost use Rattle.pcp_base.specs.Time.{Moment, microseconds};
 ghost use Rattle.pcp_model.specs.declared.records.MetaRecord.{MetaRecord as Record};
 ghost use Rattle.archive_meta.specs.Records.{AreRecords};
-ghost use Rattle.archive_window.specs.Standing.{IsSized};
+ghost use Rattle.archive_loading.specs.Standing.{IsSized};
 ghost use Rattle.archive_loading.specs.Stamps.{domain_stamps, IsLatest, IsLatestOn};
 
-use meta_records::domain_stamp;
+use archive_meta::domain_stamp;
 use pcp_base::Stamp;
 
 /// A moment in microseconds since 1970.

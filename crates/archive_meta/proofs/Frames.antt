@@ -12,10 +12,10 @@ use Rattle.pcp_model.proofs.Lengths.{length-frame}
 use Rattle.pcp_model.proofs.Cuts.{frames-append}
 use Rattle.pcp_model.proofs.Unique.{both_frames}
 use Rattle.archive_frame.specs.Steps.{Stands}
-use Rattle.meta_records.specs.declared.fault.MetaFault.{MetaFault}
-use Rattle.meta_records.specs.declared.fault.MetaFault.TheVariants.{Record, NoMemory}
-use Rattle.meta_records.specs.Framed.{RecordStands, NoRecordStands, IsRecordFault}
-use Rattle.meta_records.proofs.OneRecord.{one_record, one_stands}
+use Rattle.archive_meta.specs.declared.fault.MetaFault.{MetaFault}
+use Rattle.archive_meta.specs.declared.fault.MetaFault.TheVariants.{Record, NoMemory}
+use Rattle.archive_meta.specs.Framed.{RecordStands, NoRecordStands, IsRecordFault}
+use Rattle.archive_meta.proofs.OneRecord.{one_record, one_stands}
 use Rattle.archive_meta.specs.Laws.{RecordsGoOn}
 use Rattle.archive_meta.specs.Records.{AreRecords, IsFirstBad, IsMetaFault, IsAddFault, Adds, AreFound}
 use Rattle.archive_meta.proofs.Consistent.{consistent_front}

@@ -9,12 +9,12 @@ use Rattle.pcp_model.specs.Archive.{AreRead}
 use Rattle.pcp_model.specs.Frame.{frame, frames, IsTorn}
 use Rattle.pcp_model.specs.Records.{IsRecord, AreConsistent}
 use Rattle.pcp_model.proofs.Unique.{both_frames, torn_has_none}
-use Rattle.meta_records.specs.declared.fault.MetaFault.{MetaFault}
-use Rattle.meta_records.specs.declared.fault.MetaFault.TheVariants.{Record, NoMemory}
-use Rattle.meta_records.specs.Framed.{RecordStands, IsRecordFault}
+use Rattle.archive_meta.specs.declared.fault.MetaFault.{MetaFault}
+use Rattle.archive_meta.specs.declared.fault.MetaFault.TheVariants.{Record, NoMemory}
+use Rattle.archive_meta.specs.Framed.{RecordStands, IsRecordFault}
 use Rattle.archive_meta.specs.Records.{AreRecords, IsFirstBad, IsAddFault, IsFrontFault, HasFront, Adds, AreFound}
 use Rattle.archive_meta.proofs.Consistent.{consistent_front}
-use Rattle.meta_records.proofs.OneRecord.{one_record}
+use Rattle.archive_meta.proofs.OneRecord.{one_record}
 use Rattle.archive_meta.proofs.Frames.{frame_fault, add_fault}
 
 -- what is left of framed records behind others, in front of a torn end

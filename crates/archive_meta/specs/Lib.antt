@@ -1,10 +1,15 @@
+pub mod Decoding
 pub mod Enough
 pub mod Facts
+pub mod Framed
 pub mod Hashing
 pub mod Kept
 pub mod Laws
 pub mod Missing
 pub mod Order
+pub mod Ranges
 pub mod Records
+pub mod Room
 pub mod Said
+pub mod Stamped
 pub mod Woven

@@ -4,9 +4,9 @@ use Rattle.pcp_model.specs.declared.records.MetaRecord.{MetaRecord}
 use Rattle.pcp_model.specs.Archive.{AreRead}
 use Rattle.pcp_model.specs.Frame.{frames, IsTorn}
 use Rattle.pcp_model.specs.Records.{IsRecord, AreConsistent}
-use Rattle.meta_records.specs.Framed.{RecordStands}
-use Rattle.meta_records.specs.declared.fault.MetaFault.{MetaFault}
-use Rattle.meta_records.specs.declared.fault.MetaFault.TheVariants.{Record, NoMemory}
+use Rattle.archive_meta.specs.Framed.{RecordStands}
+use Rattle.archive_meta.specs.declared.fault.MetaFault.{MetaFault}
+use Rattle.archive_meta.specs.declared.fault.MetaFault.TheVariants.{Record, NoMemory}
 
 -- the bytes are these records, each framed whole
 pub record AreRecords (bytes : List ℕ) (records : List MetaRecord) : Type 0 where

@@ -6,8 +6,9 @@ ghost use Rattle.pcp_model.specs.Records.{AreConsistent};
 ghost use Rattle.archive_meta.specs.Records.{AreRecords, Adds, AreFound, HasFront, IsFrontFault, IsWholeEnd};
 
 use crate::counting::room_for;
+use crate::fault::MetaFault;
+use crate::framed::record_at;
 use crate::state::MetaState;
-use meta_records::{MetaFault, record_at};
 use pcp_base::be32;
 use std::alloc::Global;
 

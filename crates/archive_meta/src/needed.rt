@@ -6,8 +6,8 @@ ghost use Rattle.pcp_model.specs.Records.{description, domain, name_table};
 ghost use Rattle.archive_meta.specs.Missing.{described_by, listed_from, framed_records, large_length, at_positions, IsSpelled, IsLarge, IsLargeOf, AreMade, IsRecordsFault};
 
 use crate::facts::{Facts, RecordsFault};
+use crate::record_writing::{put_description, put_domain};
 use crate::state::MetaState;
-use meta_records::{put_description, put_domain};
 use pcp_base::{Bytes, Desc, InDom, List, PmResult, Stamp, Text};
 use pcp_model::put_word;
 use std::alloc::Global;

@@ -11,11 +11,12 @@ ghost use Rattle.archive_meta.specs.Said.{description_of, desc_of, names_of, des
 use crate::adding::is_description;
 use crate::counting::{Room, room_for};
 use crate::descriptions::{Descriptions, all_metrics};
+use crate::fault::MetaFault;
+use crate::framed::record_at;
 use crate::hashing::WordHasher;
 use crate::keeping::{cut, description_of, domain_at, push};
 use crate::moments::Moments;
 use indexmap::IndexMap;
-use meta_records::{MetaFault, record_at};
 use pcp_base::{Desc, InDom, List, NoMemory, Pmid, Stamp, Text};
 use pcp_model::MetaRecord;
 use std::alloc::Global;

@@ -24,7 +24,7 @@ use Rattle.pcp_model.proofs.OneReading.{one_reading, last_has_bytes, others_abov
 use Rattle.pcp_model.proofs.OneRecord.{one_record}
 use Rattle.pcp_model.proofs.Sound.{label_boundary, labelled_long}
 use Rattle.pcp_model.proofs.Unique.{one_file, SameFile}
-use Rattle.archive_window.specs.Standing.{ItemStands}
+use Rattle.archive_loading.specs.Standing.{ItemStands}
 use Rattle.archive_loading.specs.Loaded.{contents_with, IsHeaded, Rises, IsLabelledArchive, numbers}
 use Rattle.archive_reader.specs.Walks.{next_volumes, next_offset, StandsNext, StepsOver, EndsThere, IsEnd, Leads, AllFrom}
 use Rattle.archive_reader.proofs.Stepping.{next_over, next_here}

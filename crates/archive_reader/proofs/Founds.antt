@@ -17,7 +17,7 @@ use Rattle.pcp_model.proofs.Cuts.{length_of_label, frames-append, as_many}
 use Rattle.pcp_model.proofs.Lengths.{length-frame}
 use Rattle.pcp_model.proofs.Sound.{end_boundary}
 use Rattle.archive_frame.specs.Steps.{Stands}
-use Rattle.archive_window.specs.Ending.{ItemEnds}
+use Rattle.archive_loading.specs.Ending.{ItemEnds}
 use Rattle.archive_reader.specs.Asked.{volumes_below, last_filled, first_at, back_end}
 use Rattle.archive_loading.specs.Loaded.{Rises, numbers}
 use Rattle.archive_reader.specs.Searches.{or_else, last_of, items_before, items_from}

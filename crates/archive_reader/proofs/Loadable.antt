@@ -24,7 +24,7 @@ use Rattle.pcp_model.proofs.Sound.{labelled_long}
 use Rattle.pcp_model.proofs.Unique.{both, both_entries, one_file, one_index, SameFile}
 use Rattle.archive_frame.specs.Heads.{IsMetaLabel}
 use Rattle.archive_frame.specs.Misfits.{BeginsOne, IsFirstMisfit}
-use Rattle.meta_records.specs.declared.fault.MetaFault.TheVariants.{Record, NoMemory as Lacking}
+use Rattle.archive_meta.specs.declared.fault.MetaFault.TheVariants.{Record, NoMemory as Lacking}
 use Rattle.archive_meta.specs.Records.{HasFront}
 use Rattle.archive_meta.proofs.Torn.{front_refused}
 use Rattle.archive_loading.specs.Loaded.{contents_with}

@@ -5,8 +5,8 @@ use Rattle.std.specs.List.{AllByRecursion}
 use Rattle.pcp_base.specs.declared.file.FileId.TheVariants.{Volume}
 use Rattle.pcp_base.specs.declared.result.Item.{Item}
 use Rattle.pcp_model.specs.Disk.{Files}
-use Rattle.archive_window.specs.declared.lack.Lack.{Lack}
-use Rattle.archive_window.specs.declared.lack.Lack.TheVariants.{Disk, Memory}
+use Rattle.archive_loading.specs.declared.lack.Lack.{Lack}
+use Rattle.archive_loading.specs.declared.lack.Lack.TheVariants.{Disk, Memory}
 use Rattle.archive_reader.specs.declared.places.Place.{Place}
 use Rattle.archive_reader.specs.Lacks.{of_lack}
 use Rattle.pcp_model.specs.declared.records.MetaRecord.{MetaRecord}

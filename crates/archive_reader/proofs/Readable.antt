@@ -12,7 +12,7 @@ use Rattle.pcp_model.specs.Disk.{Files}
 use Rattle.pcp_model.specs.Frame.{IsTorn}
 use Rattle.pcp_model.specs.LabelFields.{LabelFields}
 use Rattle.pcp_model.specs.Payload.{IsItem}
-use Rattle.archive_window.specs.Standing.{ItemStands}
+use Rattle.archive_loading.specs.Standing.{ItemStands}
 use Rattle.archive_reader.specs.Laws.{IsReadAs}
 use Rattle.archive_loading.specs.Loaded.{Loaded, IsOver, contents_with, IsLabelled, IsHeaded, Rises, IsLabelledArchive, IsKeptOf, numbers}
 use Rattle.archive_reader.specs.Walks.{next_volumes, next_offset, StandsNext, StepsOver, EndsThere, IsEnd, Leads, AllFrom}

@@ -13,8 +13,8 @@ use Rattle.pcp_model.specs.Payload.{stamp_of, IsItem}
 use Rattle.pcp_model.specs.Sound.{NoItemAfter}
 use Rattle.archive_frame.specs.Steps.{Stands}
 use Rattle.archive_frame.proofs.Records.{Ends, stood}
-use Rattle.archive_window.specs.Ending.{ItemEnds, OtherEnds}
-use Rattle.archive_window.specs.Standing.{ItemStands}
+use Rattle.archive_loading.specs.Ending.{ItemEnds, OtherEnds}
+use Rattle.archive_loading.specs.Standing.{ItemStands}
 use Rattle.archive_reader.specs.Asked.{HasSegment, SegmentStops}
 use Rattle.archive_reader.specs.Searches.{segment}
 use Rattle.archive_reader.specs.Walks.{next_volumes, next_offset, StandsNext, StepsOver, EndsThere, IsEnd, IsBadThere, IsBad, Leads, AllFrom}

@@ -17,8 +17,8 @@ use Rattle.pcp_model.specs.Payload.{stamp_of}
 use Rattle.pcp_model.specs.Sound.{IsItemBy, NoItemAfter}
 use Rattle.temporal_index.specs.Seeking.{IsLast, Before, NotBefore, NotAfter, IsAfter}
 use Rattle.archive_frame.proofs.Records.{Ends, stood}
-use Rattle.archive_window.specs.Standing.{ItemStands}
-use Rattle.archive_window.specs.Taking.{IsPart, Took}
+use Rattle.archive_loading.specs.Standing.{ItemStands}
+use Rattle.archive_loading.specs.Taking.{IsPart, Took}
 use Rattle.archive_reader.specs.declared.fault.ReaderFault.{ReaderFault}
 use Rattle.archive_reader.specs.declared.fault.ReaderFault.TheVariants.{Compressed, NotArchive, DiskFault, NoMemory}
 use Rattle.archive_reader.specs.declared.segments.Ahead.TheVariants.{End as AheadEnd}

@@ -9,7 +9,7 @@ use Rattle.pcp_base.specs.declared.result.Item.{Item}
 use Rattle.pcp_model.specs.Disk.{Files}
 use Rattle.pcp_model.specs.Frame.{IsTorn}
 use Rattle.archive_frame.proofs.Records.{Ends, stood}
-use Rattle.archive_window.specs.Standing.{ItemStands, NoItemStands}
+use Rattle.archive_loading.specs.Standing.{ItemStands, NoItemStands}
 use Rattle.archive_reader.specs.declared.walking.Step.{Step}
 use Rattle.archive_reader.specs.declared.walking.Step.TheVariants.{End as StepEnd, Bad as StepBad, Item as StepItem}
 use Rattle.archive_reader.specs.Steps.{IsStood, IsWalked}

@@ -9,7 +9,7 @@ use Rattle.pcp_model.specs.declared.records.Entry.{Entry}
 use Rattle.pcp_model.specs.Disk.{Files}
 use Rattle.pcp_model.specs.Payload.{stamp_of}
 use Rattle.pcp_model.specs.Sound.{NoItemAfter}
-use Rattle.archive_window.specs.Ending.{ItemEnds, NoFrameEnds, OtherEnds}
+use Rattle.archive_loading.specs.Ending.{ItemEnds, NoFrameEnds, OtherEnds}
 use Rattle.archive_reader.specs.declared.beginning.Begin.{Begin}
 use Rattle.archive_reader.specs.declared.beginning.Begin.TheVariants.{At, Outside}
 use Rattle.archive_reader.specs.declared.fault.ReaderFault.{ReaderFault}

@@ -5,7 +5,7 @@ use Rattle.pcp_base.specs.declared.file.FileId.TheVariants.{Volume}
 use Rattle.pcp_base.specs.declared.result.Item.{Item}
 use Rattle.pcp_model.specs.Disk.{Files}
 use Rattle.pcp_model.specs.Sound.{NoItemAfter}
-use Rattle.archive_window.specs.Taking.{Took, TookBack}
+use Rattle.archive_loading.specs.Taking.{Took, TookBack}
 use Rattle.archive_reader.specs.declared.beginning.Begin.{Begin}
 use Rattle.archive_reader.specs.declared.beginning.Begin.TheVariants.{At, Outside}
 use Rattle.archive_reader.specs.Asked.{back_end}

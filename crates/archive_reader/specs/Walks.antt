@@ -6,7 +6,7 @@ use Rattle.pcp_base.specs.declared.file.FileId.TheVariants.{Volume}
 use Rattle.pcp_base.specs.declared.result.Item.{Item}
 use Rattle.pcp_model.specs.Disk.{Files}
 use Rattle.pcp_model.specs.Frame.{IsTorn}
-use Rattle.archive_window.specs.Standing.{ItemStands, NoItemStands}
+use Rattle.archive_loading.specs.Standing.{ItemStands, NoItemStands}
 
 -- the volumes from a number on
 abbrev pub volumes_from : ℕ → List (ℕ × ℕ) → List (ℕ × ℕ)

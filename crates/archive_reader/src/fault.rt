@@ -3,7 +3,7 @@ ghost use Rattle.std.specs.Prelude.{◌≡◌};
 ghost use Rattle.archive_reader.specs.declared.fault.ReaderFault.TheVariants.{NoMemory as Refused};
 ghost use Rattle.archive_reader.specs.Lacks.{of_lack};
 
-use archive_window::Lack;
+use archive_loading::Lack;
 use pcp_base::NoMemory;
 use pcp_outside::FileId;
 use thiserror::Error;

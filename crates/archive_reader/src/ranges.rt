@@ -3,7 +3,7 @@ ghost use Rattle.std.specs.Prelude.{◌≡◌, ◌≤◌, length, drop, IfOk, If
 ghost use Rattle.std.specs.List.{AllByRecursion};
 ghost use Rattle.pcp_model.specs.Disk.{contents_of};
 ghost use Rattle.pcp_outside.specs.Causes.{Rose};
-ghost use Rattle.archive_window.specs.Looks.{Looks};
+ghost use Rattle.archive_loading.specs.Looks.{Looks};
 ghost use Rattle.archive_reader.specs.declared.fault.ReaderFault.TheVariants.{DiskFault};
 ghost use Rattle.archive_reader.specs.Asked.{IsRangeOn, IsSegmentFault, IsRangeFrom, IsRangeFault, kept_from};
 ghost use Rattle.archive_loading.specs.Loaded.{IsMeasured, IsReachable};

@@ -4,7 +4,7 @@ ghost use Rattle.std.specs.List.{AllByRecursion};
 ghost use Rattle.std.specs.Option.{option_copied};
 ghost use Rattle.pcp_model.specs.Disk.{contents_of};
 ghost use Rattle.pcp_outside.specs.Causes.{Rose};
-ghost use Rattle.archive_window.specs.Looks.{Looks};
+ghost use Rattle.archive_loading.specs.Looks.{Looks};
 ghost use Rattle.archive_reader.specs.declared.fault.ReaderFault.TheVariants.{DiskFault};
 ghost use Rattle.pcp_base.specs.declared.file.FileId.TheVariants.{Meta};
 ghost use Rattle.archive_loading.specs.declared.metadata.MetaPart.TheVariants.{Begun};
@@ -28,9 +28,9 @@ use crate::values::value_from;
 use crate::walking::{Step, first_from, walk};
 use archive_loading::{
     IndexPart, MetaPart, VolumesPart, is_alone, load_index, load_meta, load_volumes, no_entries,
+    wrapped_file,
 };
 use archive_meta::MetaState;
-use archive_window::wrapped_file;
 use pcp_base::{Item, List, Pmid, Stamp, ValueSet};
 use pcp_model::Label;
 use pcp_outside::{Disk, FileId};

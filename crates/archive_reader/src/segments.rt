@@ -5,7 +5,7 @@ ghost use Rattle.pcp_base.specs.Time.{microseconds};
 ghost use Rattle.pcp_model.specs.Disk.{contents_of};
 ghost use Rattle.pcp_model.specs.Payload.{stamp_of};
 ghost use Rattle.pcp_outside.specs.Causes.{Rose};
-ghost use Rattle.archive_window.specs.Looks.{Looks};
+ghost use Rattle.archive_loading.specs.Looks.{Looks};
 ghost use Rattle.archive_reader.specs.declared.fault.ReaderFault.TheVariants.{DiskFault};
 ghost use Rattle.archive_reader.specs.Steps.{IsAhead, IsAheadFault, IsAheadIn};
 ghost use Rattle.archive_loading.specs.Loaded.{IsMeasured, IsReachable};

@@ -4,7 +4,7 @@ ghost use Rattle.std.specs.List.{AllByRecursion};
 ghost use Rattle.std.specs.Option.{option_copied};
 ghost use Rattle.pcp_model.specs.Disk.{contents_of};
 ghost use Rattle.pcp_outside.specs.Causes.{Rose};
-ghost use Rattle.archive_window.specs.Looks.{Looks};
+ghost use Rattle.archive_loading.specs.Looks.{Looks};
 ghost use Rattle.archive_reader.specs.declared.fault.ReaderFault.TheVariants.{DiskFault};
 ghost use Rattle.archive_loading.specs.Loaded.{IsMeasured, IsReachable};
 ghost use Rattle.archive_reader.specs.Values.{shows, first_shown, value_in, is_there, later_of, IsLastValued, IsValueAt, IsWholeFault};

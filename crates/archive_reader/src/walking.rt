@@ -2,13 +2,13 @@
 ghost use Rattle.std.specs.Prelude.{◌≡◌, ◌+◌, ◌<◌, ◌≤◌, length, drop, IfOk, IfErr};
 ghost use Rattle.std.specs.List.{AllByRecursion};
 ghost use Rattle.pcp_model.specs.Disk.{contents_of};
-ghost use Rattle.archive_window.specs.Looks.{Looks, Blames};
+ghost use Rattle.archive_loading.specs.Looks.{Looks, Blames};
 ghost use Rattle.archive_loading.specs.Loaded.{IsMeasured, IsReachable};
 ghost use Rattle.archive_reader.specs.Walks.{volumes_from, next_volumes, next_offset};
 ghost use Rattle.archive_reader.specs.Steps.{IsStood, IsWalked, IsIn};
 ghost use Rattle.archive_reader.specs.Takes.{TookThere, TookNext};
 
-use archive_window::{Lack, Next, next_record};
+use archive_loading::{Lack, Next, next_record};
 use pcp_base::Item;
 use pcp_outside::Disk;
 use std::alloc::Global;

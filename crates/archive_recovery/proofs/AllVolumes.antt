@@ -19,7 +19,7 @@ use Rattle.pcp_model.proofs.Lists.{each-append, each-map}
 use Rattle.pcp_model.proofs.Recovered.{labelled_all, nothing_torn}
 use Rattle.pcp_model.proofs.Sound.{labelled_long}
 use Rattle.pcp_model.proofs.Unique.{torn_has_none}
-use Rattle.archive_window.specs.Standing.{NoItemStands}
+use Rattle.archive_loading.specs.Standing.{NoItemStands}
 use Rattle.archive_loading.specs.LoadFaults.{IsFollowed}
 use Rattle.archive_loading.proofs.Passed.{behind_record}
 use Rattle.archive_recovery.specs.declared.counting.VolumeRead.TheVariants.{Stops}

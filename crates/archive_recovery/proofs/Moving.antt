@@ -5,7 +5,7 @@ use Rattle.pcp_model.specs.Disk.{Holdings, CrashImage, contents_of}
 use Rattle.pcp_outside.specs.declared.disk.Disk.{Ghosts as DiskGhosts}
 use Rattle.pcp_outside.specs.Devices.{LeavesOnly}
 use Rattle.pcp_outside.proofs.Crash.{joined, weaker}
-use Rattle.archive_window.specs.Looks.{Looks}
+use Rattle.archive_loading.specs.Looks.{Looks}
 use Rattle.archive_recovery.specs.Halfway.{MayBeHalfway}
 use Rattle.archive_recovery.proofs.Settled.{settled_begins}
 

@@ -9,7 +9,7 @@ use Rattle.pcp_model.specs.Frame.{IsTorn, frames}
 use Rattle.pcp_model.specs.LabelFields.{LabelFields}
 use Rattle.pcp_model.specs.Labels.{BeginsLabel}
 use Rattle.pcp_model.specs.Payload.{IsItem}
-use Rattle.archive_window.specs.Standing.{ItemStands, NoItemStands}
+use Rattle.archive_loading.specs.Standing.{ItemStands, NoItemStands}
 use Rattle.archive_loading.specs.declared.loading.VolumePart.TheVariants.{Headed, Stops as StopsAt}
 use Rattle.archive_loading.specs.Loaded.{IsLabelled}
 use Rattle.archive_loading.specs.Volumes.{IsVolumePart}

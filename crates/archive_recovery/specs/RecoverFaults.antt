@@ -12,7 +12,7 @@ use Rattle.pcp_model.specs.Disk.{Files}
 use Rattle.pcp_model.specs.Frame.{IsTorn}
 use Rattle.pcp_model.specs.LabelFields.{LabelFields}
 use Rattle.pcp_model.specs.Payload.{IsItem}
-use Rattle.archive_window.specs.Standing.{NoItemStands}
+use Rattle.archive_loading.specs.Standing.{NoItemStands}
 use Rattle.archive_loading.specs.LoadFaults.{MetaStops, IndexStops, VolumeStops, IsFollowed, MetaIs, HeadIs}
 use Rattle.archive_recovery.specs.declared.outcome.RecoverFault.{RecoverFault}
 use Rattle.archive_recovery.specs.declared.outcome.RecoverFault.TheVariants.{Compressed, NotArchive, DiskFault, NoMemory}

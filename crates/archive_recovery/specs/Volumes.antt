@@ -10,7 +10,7 @@ use Rattle.pcp_model.specs.LabelFields.{LabelFields}
 use Rattle.pcp_model.specs.Labels.{BeginsLabel}
 use Rattle.pcp_model.specs.Payload.{IsItem}
 use Rattle.pcp_model.specs.Recovered.{IsMended, labelled_volumes}
-use Rattle.archive_window.specs.Standing.{NoItemStands}
+use Rattle.archive_loading.specs.Standing.{NoItemStands}
 use Rattle.archive_loading.specs.LoadFaults.{LabelStops}
 use Rattle.archive_recovery.specs.declared.counting.ItemsRead.{ItemsRead}
 use Rattle.archive_recovery.specs.declared.counting.ItemsRead.TheVariants.{Whole as WholeItems, Stops as ItemsStop}

@@ -2,12 +2,11 @@
 ghost use Rattle.std.specs.Prelude.{◌≡◌, ◌<◌, ◌≤◌, length, IfOk, IfErr};
 ghost use Rattle.pcp_base.specs.declared.file.FileId.TheVariants.{Volume};
 ghost use Rattle.pcp_model.specs.Disk.{contents_of};
-ghost use Rattle.archive_window.specs.Looks.{Looks, Blames};
+ghost use Rattle.archive_loading.specs.Looks.{Looks, Blames};
 ghost use Rattle.archive_recovery.specs.Volumes.{IsItemsRead, IsVolumeRead};
 
 use crate::stamps::Tally;
-use archive_loading::{VolumePart, load_volume};
-use archive_window::{Lack, Next, next_record};
+use archive_loading::{Lack, Next, VolumePart, load_volume, next_record};
 use pcp_model::Label;
 use pcp_outside::Disk;
 use std::alloc::Global;

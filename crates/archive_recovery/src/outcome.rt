@@ -3,8 +3,8 @@ ghost use Rattle.std.specs.Prelude.{◌≡◌};
 ghost use Rattle.archive_recovery.specs.declared.outcome.RecoverFault.TheVariants.{NoMemory as Refused, DiskFault as Failing};
 ghost use Rattle.archive_recovery.specs.Lacks.{of_lack};
 
+use archive_loading::Lack;
 use archive_meta::MetaState;
-use archive_window::Lack;
 use pcp_base::{NoMemory, Stamp};
 use pcp_model::Label;
 use pcp_outside::{Failed, FileId};

@@ -3,13 +3,13 @@ ghost use Rattle.std.specs.Prelude.{◌≡◌, ◌<◌, ℕ, [], IfOk, IfErr};
 ghost use Rattle.archive_recovery.specs.declared.stamps.Tally.{Tally as Counts};
 ghost use Rattle.pcp_base.specs.declared.file.FileId.TheVariants.{Volume};
 ghost use Rattle.pcp_model.specs.Disk.{contents_of};
-ghost use Rattle.archive_window.specs.Looks.{Looks, Blames};
+ghost use Rattle.archive_loading.specs.Looks.{Looks, Blames};
 ghost use Rattle.archive_recovery.specs.Volumes.{EarlierStand, IsEarlier, IsVolumesRead, LastIsLow};
 
 use crate::counting::{VolumeRead, read_volume};
 use crate::mending::Last;
 use crate::stamps::Tally;
-use archive_window::{Lack, count_volumes};
+use archive_loading::{Lack, count_volumes};
 use pcp_model::Label;
 use pcp_outside::Disk;
 use std::alloc::Global;

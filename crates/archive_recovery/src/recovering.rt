@@ -17,9 +17,8 @@ use crate::outcome::{Archive, RecoverFault};
 use crate::survey::{Sighted, Survey, sight};
 use crate::whole::mend;
 use archive_frame::label_bytes;
-use archive_loading::no_entries;
+use archive_loading::{no_entries, wrapped_file};
 use archive_meta::MetaState;
-use archive_window::wrapped_file;
 use pcp_outside::{Disk, FileId};
 use std::alloc::Global;
 

@@ -1,11 +1,11 @@
 //! A builder of an image, given rows (`build LINE`) or the bytes of lines (`take LINE`).
 use case_book::{Answer, Kept, Line};
-use layout_text::{Line as TextLine, Written, read_line};
 use mmv_layout::{Content, ValueRow};
 use mmv_writer::{BuildFault, Builder, LineError, LineFault, take_head, take_line};
 use pcp_base::NoMemory;
 use pm_print::{image_bytes, line_fault_text};
 use std::alloc::Global;
+use text_lines::{Line as TextLine, Written, read_line};
 
 /// The builder, and how many lines it was given.
 #[derive(Drop)]

@@ -1,9 +1,9 @@
 //! Lines of layout text (mmv(5)), and the content of values by their kind.
 use case_book::Words;
-use layout_text::{Line, Written, content_of, read_line, write_line, written_of};
 use mmv_layout::Content;
 use pcp_base::{Kind, NoMemory};
 use std::alloc::Global;
+use text_lines::{Line, Written, content_of, read_line, write_line, written_of};
 
 // `line LINE`: the line as it is written again.
 fn rewrite(alloc: Global, line: &str) -> Result<Option<Vec<u8>>, NoMemory> {

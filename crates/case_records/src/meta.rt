@@ -1,8 +1,7 @@
 //! The records of an archive's Meta file (LOGARCHIVE(5)), behind its label.
 use crate::facts::{desc_of, tell_needs};
-use archive_meta::{MetaFault, MetaState};
+use archive_meta::{MetaFault, MetaState, domain_stamp, put_description, put_domain};
 use case_book::{Words, text_of};
-use meta_records::{domain_stamp, put_description, put_domain};
 use pcp_base::{Desc, InDom, List, NoMemory, Stamp, Text};
 use std::alloc::Global;
 

@@ -1,6 +1,6 @@
 //! What the lines of a book act on: what a case has outside of the program, and the parts whose calls no command makes.
-//! A word's function stands in the crate of its part: `case_outside`, `case_commands`, `case_crashes`, `case_images`,
-//! `case_logger`, `case_parts`, `case_records`, `case_regions` or `case_scripts`.
+//! A word's function stands in the crate of its part: `case_outside`, `case_commands`, `case_images`,
+//! `case_logger`, `case_parts` or `case_records`.
 mod parts;
 
 use crate::scene::parts::Parts;
@@ -56,9 +56,9 @@ impl Subject for Scene {
             "file" | "files" | "calls" | "taken" => outside.drive.look(alloc, kept, answer, line),
             "stream" => outside.call_stream(alloc, answer, rest),
             "disk" => outside.drive.call(alloc, kept, answer, rest),
-            "crash" | "cuts" => case_crashes::crash(alloc, &mut outside.drive, kept, answer, line),
+            "crash" | "cuts" => case_commands::crash(alloc, &mut outside.drive, kept, answer, line),
             "recovered" => {
-                case_crashes::recovered(alloc, &mut outside.drive, kept, answer, line)
+                case_commands::recovered(alloc, &mut outside.drive, kept, answer, line)
             }
             "logger" => self.logging.call(alloc, &mut outside.drive, answer, rest),
             "image" => tell_image(alloc, answer, &outside.input, rest),

@@ -1,16 +1,16 @@
 -- Items, serials and texts of an image are within their bounds.
 use Rattle.std.proofs.Common.{◌≡◌, ℕ, zero, suc, ◌+◌, ◌<◌, ◌≤◌, Bool, true, false, List, [], ◌∷◌, length, Some, None, sym, subst, refl, arith, cond, nat_eq, nat_le, All}
 use Rattle.std.proofs.lemmas.List.Elements.{All-append}
-use Rattle.mmv_format.specs.Fields.{number64, text_at, byte_at}
-use Rattle.mmv_format.specs.declared.rows.Content.{Content}
-use Rattle.mmv_format.specs.declared.rows.Content.TheVariants.{Number, Choice, Raw}
-use Rattle.mmv_format.specs.declared.rows.ValueRow.{ValueRow}
-use Rattle.mmv_format.specs.Sizes.{string_size}
-use Rattle.mmv_format.specs.EntryFields.{item_in_metric, serial_in_metric, serial_in_indom, extra_in_value}
-use Rattle.mmv_format.specs.Entries.{metric_count, metric_at, value_count, value_at, indom_count, indom_at, is_good_metric, has_good_fields, serial_leads, is_no_domain, is_indom_serial, has_serial, is_good_indom}
-use Rattle.mmv_format.specs.Images.{is_image}
-use Rattle.mmv_format.specs.declared.rows.Layout.{Layout}
-use Rattle.mmv_format.proofs.Below.{both_left, both_right}
+use Rattle.mmv_layout.specs.Fields.{number64, text_at, byte_at}
+use Rattle.mmv_layout.specs.declared.rows.Content.{Content}
+use Rattle.mmv_layout.specs.declared.rows.Content.TheVariants.{Number, Choice, Raw}
+use Rattle.mmv_layout.specs.declared.rows.ValueRow.{ValueRow}
+use Rattle.mmv_layout.specs.Sizes.{string_size}
+use Rattle.mmv_layout.specs.EntryFields.{item_in_metric, serial_in_metric, serial_in_indom, extra_in_value}
+use Rattle.mmv_layout.specs.Entries.{metric_count, metric_at, value_count, value_at, indom_count, indom_at, is_good_metric, has_good_fields, serial_leads, is_no_domain, is_indom_serial, has_serial, is_good_indom}
+use Rattle.mmv_layout.specs.Images.{is_image}
+use Rattle.mmv_layout.specs.declared.rows.Layout.{Layout}
+use Rattle.mmv_layout.proofs.Below.{both_left, both_right}
 use Rattle.mmv_layout.specs.Rows.{list_below, metric_row, metrics_of, serial_of, content_of, value_row, values_of, string_text, type_of, layout_of}
 use Rattle.mmv_layout.proofs.Goods.{le_of, eq_of, some_at, or_right, good_metric, good_indom}
 use Rattle.fetch_answers.specs.Bounds.{FitsSerial, FitsMetric, FitsContent, IsBounded}

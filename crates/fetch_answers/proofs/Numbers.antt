@@ -8,11 +8,11 @@ use Rattle.std.specs.BTreeMap.{BTreeMap, get, insert_entry}
 use Rattle.std.proofs.lemmas.Bool.{eqb-true}
 use Rattle.std.proofs.lemmas.List.{get_or-map, length-map, take_all}
 use Rattle.std.proofs.lemmas.List.Sums.{fold_more}
-use Rattle.mmv_format.specs.Entries.{value_count, value_at}
-use Rattle.mmv_format.specs.Images.{IsImage}
-use Rattle.mmv_format.specs.declared.rows.Content.{Content}
-use Rattle.mmv_format.specs.declared.rows.MetricRow.{MetricRow}
-use Rattle.mmv_format.specs.declared.rows.ValueRow.{ValueRow}
+use Rattle.mmv_layout.specs.Entries.{value_count, value_at}
+use Rattle.mmv_layout.specs.Images.{IsImage}
+use Rattle.mmv_layout.specs.declared.rows.Content.{Content}
+use Rattle.mmv_layout.specs.declared.rows.MetricRow.{MetricRow}
+use Rattle.mmv_layout.specs.declared.rows.ValueRow.{ValueRow}
 use Rattle.mmv_layout.specs.Rows.{list_below, layout_of, value_row, values_of}
 use Rattle.mmv_layout.proofs.RowLists.{rows_front, rows_length}
 use Rattle.fetch_answers.specs.Indexes.{HasMetrics}

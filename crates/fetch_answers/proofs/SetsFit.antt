@@ -6,8 +6,8 @@ use Rattle.pcp_base.specs.Results.{HasContent, Fits}
 use Rattle.pcp_base.specs.Typed.{TypedBytes}
 use Rattle.pcp_base.specs.declared.kind.Kind.{Kind}
 use Rattle.pcp_base.specs.declared.kind.Kind.TheVariants as kinds
-use Rattle.mmv_format.specs.declared.rows.Layout.{Layout}
-use Rattle.mmv_format.specs.declared.rows.MetricRow.{MetricRow}
+use Rattle.mmv_layout.specs.declared.rows.Layout.{Layout}
+use Rattle.mmv_layout.specs.declared.rows.MetricRow.{MetricRow}
 use Rattle.profile_filter.specs.Kept.{Settings}
 use Rattle.fetch_answers.specs.Answers.{region_of, metric_with, indom_in, region_body, layout_body, metric_body, set_of}
 use Rattle.fetch_answers.specs.Readings.{RegionReading}

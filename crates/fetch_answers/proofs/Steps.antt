@@ -5,7 +5,7 @@ use Rattle.std.specs.Map.{values_of}
 use Rattle.std.specs.Ordering.{int_cmp}
 use Rattle.std.specs.BTreeMap.{insert_entry}
 use Rattle.std.proofs.lemmas.List.Sums.{fold_more}
-use Rattle.mmv_format.specs.declared.rows.Content.{Content}
+use Rattle.mmv_layout.specs.declared.rows.Content.{Content}
 use Rattle.fetch_answers.specs.Answers.{ascending}
 use Rattle.fetch_answers.specs.Bounds.{FitsContent}
 

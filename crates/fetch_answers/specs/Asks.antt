@@ -3,9 +3,9 @@
 use Rattle.std.specs.Prelude.{◌≡◌, ℕ, ℤ, negsuc, ◌==◌, List, find, Option, Some, None, Result, Ok, Err}
 use Rattle.pcp_base.specs.Ids.{item_of}
 use Rattle.pcp_base.specs.declared.desc.Desc.{Desc}
-use Rattle.mmv_format.specs.declared.rows.IndomRow.{IndomRow}
-use Rattle.mmv_format.specs.declared.rows.Layout.{Layout}
-use Rattle.mmv_format.specs.declared.rows.MetricRow.{MetricRow}
+use Rattle.mmv_layout.specs.declared.rows.IndomRow.{IndomRow}
+use Rattle.mmv_layout.specs.declared.rows.Layout.{Layout}
+use Rattle.mmv_layout.specs.declared.rows.MetricRow.{MetricRow}
 use Rattle.fetch_answers.specs.Answers.{region_of, metric_with, desc_of, ascending}
 use Rattle.fetch_answers.specs.Readings.{RegionReading}
 use Rattle.fetch_answers.specs.declared.asks.AskFault.{AskFault}

@@ -1,8 +1,8 @@
 -- The name space of regions (pmns(5)), and the regions that were missed.
 use Rattle.std.specs.Prelude.{ℕ, ◌%◌, ◌==◌, if◌then◌else◌, codes, List, [], ◌∷◌, ◌++◌, map, fold, Option, Some, None, Result, Ok, Err}
 use Rattle.pcp_base.specs.Ids.{pmid_word}
-use Rattle.mmv_format.specs.declared.rows.Layout.{Layout}
-use Rattle.mmv_format.specs.declared.rows.MetricRow.{MetricRow}
+use Rattle.mmv_layout.specs.declared.rows.Layout.{Layout}
+use Rattle.mmv_layout.specs.declared.rows.MetricRow.{MetricRow}
 use Rattle.pmns_core.specs.Pairs.{Pair}
 use Rattle.pmns_core.specs.Adding.{after_adding}
 use Rattle.pmns_core.specs.declared.fault.NamesFault.{NamesFault}

@@ -3,13 +3,13 @@
 use Rattle.std.specs.Prelude.{◌≡◌, ℕ, ℤ, suc, negsuc, ◌==◌, if◌then◌else◌, List, [], ◌∷◌, fold, map, Option, None, Some, unwrap_or, length, slice_index}
 use Rattle.std.specs.Ordering.{nat_cmp, int_cmp}
 use Rattle.std.specs.BTreeMap.{BTreeMap, get, insert_entry}
-use Rattle.mmv_format.specs.Entries.{value_at}
-use Rattle.mmv_format.specs.Images.{IsImage}
-use Rattle.mmv_format.specs.declared.rows.Content.{Content}
-use Rattle.mmv_format.specs.declared.rows.MetricRow.{MetricRow}
-use Rattle.mmv_format.specs.declared.rows.IndomRow.{IndomRow}
-use Rattle.mmv_format.specs.declared.rows.Slot.{Slot}
-use Rattle.mmv_format.specs.declared.rows.ValueRow.{ValueRow}
+use Rattle.mmv_layout.specs.Entries.{value_at}
+use Rattle.mmv_layout.specs.Images.{IsImage}
+use Rattle.mmv_layout.specs.declared.rows.Content.{Content}
+use Rattle.mmv_layout.specs.declared.rows.MetricRow.{MetricRow}
+use Rattle.mmv_layout.specs.declared.rows.IndomRow.{IndomRow}
+use Rattle.mmv_layout.specs.declared.rows.Slot.{Slot}
+use Rattle.mmv_layout.specs.declared.rows.ValueRow.{ValueRow}
 use Rattle.mmv_layout.specs.Form.{slots_of}
 use Rattle.mmv_layout.specs.Rows.{content_of, layout_of}
 use Rattle.fetch_answers.specs.Indexes.{HasMetrics}

@@ -1,6 +1,6 @@
 -- What is known of regions: what each said when it was read, or that it was missed.
 use Rattle.std.specs.Prelude.{ℕ, ◌<◌, ◌≤◌, ◌+◌, List, [], ◌∷◌, Option, option_map, All}
-use Rattle.mmv_format.specs.declared.rows.Layout.{Layout}
+use Rattle.mmv_layout.specs.declared.rows.Layout.{Layout}
 use Rattle.mmv_layout.specs.Rows.{layout_of}
 use Rattle.fetch_answers.specs.declared.shot.Shot.{Shot}
 

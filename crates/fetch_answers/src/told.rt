@@ -10,8 +10,7 @@ ghost use Rattle.fetch_answers.specs.Values.{values_with};
 
 use crate::index::{RowNumbers, metrics_by_item, rows_by_item};
 use crate::shot::layout_in;
-use mmv_format::value_count;
-use mmv_layout::{Image, IndomRow, MetricRow};
+use mmv_layout::{Image, IndomRow, MetricRow, value_count};
 use pcp_base::{List, NoMemory};
 use std::alloc::Global;
 use std::collections::BTreeMap;

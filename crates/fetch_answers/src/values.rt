@@ -6,10 +6,10 @@ ghost use Rattle.fetch_answers.specs.Values.{block_of, bytes_of, blocks_of, keep
 
 use crate::index::RowNumbers;
 use byteorder::{BigEndian, ByteOrder};
-use mmv_format::{
-    STRING_SIZE, extra_in_value, metric_of, text_at, type_in_metric, value_at, value_in_value,
+use mmv_layout::{
+    Content, STRING_SIZE, extra_in_value, metric_of, text_at, type_in_metric, value_at,
+    value_in_value,
 };
-use mmv_layout::Content;
 use pcp_base::{Block, Body, Bytes, InDom, Kind, List, NoMemory};
 use profile_filter::Profile;
 use std::alloc::Global;

@@ -1,9 +1,9 @@
 -- What is kept beside words stays with their form.
 use Rattle.std.proofs.Common.{◌≡◌, ℕ, ℤ, List, length, map, ap, sym, subst, ◌∙◌, refl, slice_index}
 use Rattle.std.specs.BTreeMap.{BTreeMap}
-use Rattle.mmv_format.specs.declared.rows.MetricRow.{MetricRow}
-use Rattle.mmv_format.specs.declared.rows.IndomRow.{IndomRow}
-use Rattle.mmv_format.specs.declared.rows.Slot.{Slot}
+use Rattle.mmv_layout.specs.declared.rows.MetricRow.{MetricRow}
+use Rattle.mmv_layout.specs.declared.rows.IndomRow.{IndomRow}
+use Rattle.mmv_layout.specs.declared.rows.Slot.{Slot}
 use Rattle.mmv_layout.specs.Form.{Form, form_of}
 use Rattle.mmv_layout.specs.Rows.{layout_of}
 use Rattle.mmv_layout.specs.ShapeLaws.{IsFormOf}

@@ -1,6 +1,6 @@
 -- What tries of reading a region tell of its journal.
 use Rattle.std.proofs.Common.{◌≡◌, ◌⊎◌, inl, inr, ℕ, zero, suc, ◌+◌, ◌<◌, ◌≤◌, List, [], ◌∷◌, ◌++◌, length, slice_index, Contains, Option, Some, None, append-nil, length-append, sym, refl, ap, ◌∙◌, subst, arith}
-use Rattle.mmv_format.specs.declared.rows.Slot.{Slot}
+use Rattle.mmv_layout.specs.declared.rows.Slot.{Slot}
 use Rattle.mmv_layout.specs.Form.{slots_of}
 use Rattle.mmv_layout.specs.Rows.{layout_of}
 use Rattle.region_core.specs.declared.mode.Mode.TheVariants.{Idle}

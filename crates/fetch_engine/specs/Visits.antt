@@ -5,8 +5,8 @@ use Rattle.pcp_base.specs.declared.result.PmResult.{PmResult}
 use Rattle.pmns_core.specs.Pairs.{Pair}
 use Rattle.profile_filter.specs.Kept.{Settings}
 use Rattle.archive_meta.specs.declared.facts.Facts.{Facts}
-use Rattle.mmv_format.specs.declared.rows.Layout.{Layout}
-use Rattle.mmv_format.specs.declared.rows.Slot.{Slot}
+use Rattle.mmv_layout.specs.declared.rows.Layout.{Layout}
+use Rattle.mmv_layout.specs.declared.rows.Slot.{Slot}
 use Rattle.mmv_layout.specs.Form.{slots_of}
 use Rattle.mmv_layout.specs.Rows.{layout_of}
 use Rattle.region_core.specs.declared.mode.Mode.TheVariants.{Idle}

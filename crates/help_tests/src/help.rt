@@ -1,7 +1,7 @@
 //! The help names each command with its words.
 use pcp_base::List;
-use pcp_help::write_help;
 use pcp_outside::MemSink;
+use pcp_shell::write_help;
 use std::test::Fail;
 
 const LINES: [&str; 13] = [

@@ -1,11 +1,11 @@
 -- Where the sections of an image lie.
 use Rattle.std.proofs.Common.{◌≡◌, ◌≢◌, ℕ, zero, suc, ◌+◌, ◌*◌, ◌%◌, ◌^◌, ◌<◌, ◌≤◌, Bool, true, false, not, List, length, ap₂, sym, subst, ◌∙◌, refl, arith, nat_eq, nat_le, if◌then◌else◌}
 use Rattle.std.proofs.lemmas.Bool.Decides.{nat_tests}
-use Rattle.mmv_format.specs.Contents.{bytes_in, contents_in, type_in, count_in, offset_in, section_bytes, end_in, section_lies, has_good_section, is_aligned, sections_are_good, sections_are_aligned, find_section, section_of, entry_at}
-use Rattle.mmv_format.specs.Sizes.{header_size, value_size, string_size}
-use Rattle.mmv_format.specs.Entries.{value_count, value_at, string_count, string_at}
-use Rattle.mmv_format.specs.Images.{has_good_header, is_image}
-use Rattle.mmv_format.proofs.Below.{all_at, both_left, both_right}
+use Rattle.mmv_layout.specs.Contents.{bytes_in, contents_in, type_in, count_in, offset_in, section_bytes, end_in, section_lies, has_good_section, is_aligned, sections_are_good, sections_are_aligned, find_section, section_of, entry_at}
+use Rattle.mmv_layout.specs.Sizes.{header_size, value_size, string_size}
+use Rattle.mmv_layout.specs.Entries.{value_count, value_at, string_count, string_at}
+use Rattle.mmv_layout.specs.Images.{has_good_header, is_image}
+use Rattle.mmv_layout.proofs.Below.{all_at, both_left, both_right}
 use Rattle.mmv_layout.proofs.Goods.{le_of, eq_of, or_right, header, sections, aligned}
 
 -- a contents entry of a type, with the section's offset and number of entries

@@ -3,14 +3,14 @@ use Rattle.std.proofs.Common.{◌≡◌, ℕ, zero, suc, negsuc, ◌+◌, ◌*�
 use Rattle.std.proofs.lemmas.Bool.Decides.{nat_tests}
 use Rattle.pcp_base.specs.Codes.{kind_of_code}
 use Rattle.pcp_base.specs.declared.kind.Kind.TheVariants as kinds
-use Rattle.mmv_format.specs.Fields.{number64}
-use Rattle.mmv_format.specs.Sizes.{value_size}
-use Rattle.mmv_format.specs.EntryFields.{extra_offset_in_value, extra_in_value}
-use Rattle.mmv_format.specs.Entries.{value_count, value_at, string_count, string_at}
-use Rattle.mmv_format.specs.Images.{is_image}
-use Rattle.mmv_format.specs.declared.rows.Slot.{Slot}
-use Rattle.mmv_format.specs.declared.rows.ValueRow.{ValueRow}
-use Rattle.mmv_format.specs.declared.rows.Content.TheVariants.{Number, Choice, Raw}
+use Rattle.mmv_layout.specs.Fields.{number64}
+use Rattle.mmv_layout.specs.Sizes.{value_size}
+use Rattle.mmv_layout.specs.EntryFields.{extra_offset_in_value, extra_in_value}
+use Rattle.mmv_layout.specs.Entries.{value_count, value_at, string_count, string_at}
+use Rattle.mmv_layout.specs.Images.{is_image}
+use Rattle.mmv_layout.specs.declared.rows.Slot.{Slot}
+use Rattle.mmv_layout.specs.declared.rows.ValueRow.{ValueRow}
+use Rattle.mmv_layout.specs.declared.rows.Content.TheVariants.{Number, Choice, Raw}
 use Rattle.mmv_layout.specs.Rows.{string_text, type_of, content_of, value_row, values_of, strings_of, layout_of}
 use Rattle.mmv_layout.specs.Form.{slot_in, slot_at, slots_of, texts_of, offsets_of, subjects_of, form_of}
 use Rattle.mmv_layout.specs.Says.{Says}

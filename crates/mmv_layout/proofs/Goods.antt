@@ -1,11 +1,11 @@
 -- What is known of the entries of an image.
 use Rattle.std.proofs.Common.{◌≡◌, ℕ, zero, suc, ◌+◌, ◌*◌, ◌<◌, ◌≤◌, Bool, true, false, ◌||◌, ◌⊎◌, inl, inr, List, sym, refl, arith, nat_eq, nat_le, true≢false, ⊎_elim}
 use Rattle.std.proofs.lemmas.Bool.Decides.{nat_tests}
-use Rattle.mmv_format.specs.Below.{some_below}
-use Rattle.mmv_format.specs.Contents.{sections_are_good, sections_are_aligned}
-use Rattle.mmv_format.specs.Entries.{leads, indom_count, instance_count, metric_count, value_count, string_count, is_good_indom, is_good_instance, is_good_metric, is_good_value, is_good_string, indoms_are_good, instances_are_good, metrics_are_good, values_are_good, strings_are_good}
-use Rattle.mmv_format.specs.Images.{has_good_header, is_image}
-use Rattle.mmv_format.proofs.Below.{all_at, both_left, both_right}
+use Rattle.mmv_layout.specs.Below.{some_below}
+use Rattle.mmv_layout.specs.Contents.{sections_are_good, sections_are_aligned}
+use Rattle.mmv_layout.specs.Entries.{leads, indom_count, instance_count, metric_count, value_count, string_count, is_good_indom, is_good_instance, is_good_metric, is_good_value, is_good_string, indoms_are_good, instances_are_good, metrics_are_good, values_are_good, strings_are_good}
+use Rattle.mmv_layout.specs.Images.{has_good_header, is_image}
+use Rattle.mmv_layout.proofs.Below.{all_at, both_left, both_right}
 use Rattle.mmv_layout.specs.Says.{LeadsTo}
 
 pub le_of : (a b : ℕ) → nat_le a b ≡ true → a ≤ b

@@ -2,13 +2,13 @@
 use Rattle.std.proofs.Common.{◌≡◌, ◌≢◌, ℕ, ◌+◌, ◌*◌, ◌<◌, ◌≤◌, Bool, true, false, not, ◌||◌, ◌⊎◌, inl, inr, List, length, ap, ap₂, sym, subst, ◌∙◌, refl, arith, nat_eq, nat_le, nat_lt, ⊎_elim}
 use Rattle.std.proofs.lemmas.Bool.Decides.{nat_tests}
 use Rattle.std.proofs.lemmas.Bool.{cases_order}
-use Rattle.mmv_format.specs.Contents.{bytes_in, is_short, contents_in, type_in, count_in, offset_in, section_bytes, end_in, are_apart, is_first_of_type, has_good_section, sections_are_good, find_section, section_of, entry_at, entry_end}
-use Rattle.mmv_format.specs.Sizes.{header_size, entry_size, indom_size, instance_size, metric_size, value_size, string_size}
-use Rattle.mmv_format.specs.EntryFields.{metric_offset_in_value}
-use Rattle.mmv_format.specs.Entries.{indom_count, indom_at, instance_count, instance_at, metric_count, metric_at, value_count, value_at, string_count, string_at}
-use Rattle.mmv_format.specs.Images.{has_good_header, is_image}
-use Rattle.mmv_format.proofs.Below.{all_at, both_left, both_right}
-use Rattle.mmv_faults.proofs.Images.{short_words}
+use Rattle.mmv_layout.specs.Contents.{bytes_in, is_short, contents_in, type_in, count_in, offset_in, section_bytes, end_in, are_apart, is_first_of_type, has_good_section, sections_are_good, find_section, section_of, entry_at, entry_end}
+use Rattle.mmv_layout.specs.Sizes.{header_size, entry_size, indom_size, instance_size, metric_size, value_size, string_size}
+use Rattle.mmv_layout.specs.EntryFields.{metric_offset_in_value}
+use Rattle.mmv_layout.specs.Entries.{indom_count, indom_at, instance_count, instance_at, metric_count, metric_at, value_count, value_at, string_count, string_at}
+use Rattle.mmv_layout.specs.Images.{has_good_header, is_image}
+use Rattle.mmv_layout.proofs.Below.{all_at, both_left, both_right}
+use Rattle.mmv_layout.proofs.Images.{short_words}
 use Rattle.mmv_layout.proofs.Goods.{le_of, header, sections}
 use Rattle.mmv_layout.proofs.EntryOffsets.{Entry, entry_of, Lies, section_stands, some_of, Stands, value_stands}
 

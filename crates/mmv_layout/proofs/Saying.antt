@@ -7,19 +7,19 @@ use Rattle.pcp_base.specs.declared.kind.Kind.{Kind}
 use Rattle.pcp_base.specs.declared.kind.Kind.TheVariants as kinds
 use Rattle.pcp_base.specs.declared.kind.Semantics.{Semantics}
 use Rattle.pcp_base.specs.declared.kind.Semantics.TheVariants as meanings
-use Rattle.mmv_format.specs.Fields.{number64}
-use Rattle.mmv_format.specs.Sizes.{indom_size, instance_size, metric_size, value_size, string_size}
-use Rattle.mmv_format.specs.EntryFields.{count_in_indom, first_in_indom, short_offset_in_indom, long_offset_in_indom, type_in_metric, semantics_in_metric, serial_in_metric, short_offset_in_metric, long_offset_in_metric, extra_in_value, instance_in_value}
-use Rattle.mmv_format.specs.Contents.{section_of, first_generation, second_generation}
-use Rattle.mmv_format.specs.Entries.{indom_at, metric_count, metric_at, value_count, value_at, help_leads, is_good_indom, is_good_metric, has_good_fields, is_good_value, metric_of, instance_leads, choice_leads, is_no_domain, is_kind, is_semantics}
-use Rattle.mmv_format.specs.Images.{has_good_header, is_image}
-use Rattle.mmv_format.proofs.Below.{both_left, both_right}
-use Rattle.mmv_format.specs.declared.rows.IndomRow.{IndomRow}
-use Rattle.mmv_format.specs.declared.rows.MetricRow.{MetricRow}
-use Rattle.mmv_format.specs.declared.rows.ValueRow.{ValueRow}
-use Rattle.mmv_format.specs.declared.rows.Content.{Content}
-use Rattle.mmv_format.specs.declared.rows.Content.TheVariants.{Number, Choice, Raw}
-use Rattle.mmv_format.specs.declared.rows.Layout.{Layout}
+use Rattle.mmv_layout.specs.Fields.{number64}
+use Rattle.mmv_layout.specs.Sizes.{indom_size, instance_size, metric_size, value_size, string_size}
+use Rattle.mmv_layout.specs.EntryFields.{count_in_indom, first_in_indom, short_offset_in_indom, long_offset_in_indom, type_in_metric, semantics_in_metric, serial_in_metric, short_offset_in_metric, long_offset_in_metric, extra_in_value, instance_in_value}
+use Rattle.mmv_layout.specs.Contents.{section_of, first_generation, second_generation}
+use Rattle.mmv_layout.specs.Entries.{indom_at, metric_count, metric_at, value_count, value_at, help_leads, is_good_indom, is_good_metric, has_good_fields, is_good_value, metric_of, instance_leads, choice_leads, is_no_domain, is_kind, is_semantics}
+use Rattle.mmv_layout.specs.Images.{has_good_header, is_image}
+use Rattle.mmv_layout.proofs.Below.{both_left, both_right}
+use Rattle.mmv_layout.specs.declared.rows.IndomRow.{IndomRow}
+use Rattle.mmv_layout.specs.declared.rows.MetricRow.{MetricRow}
+use Rattle.mmv_layout.specs.declared.rows.ValueRow.{ValueRow}
+use Rattle.mmv_layout.specs.declared.rows.Content.{Content}
+use Rattle.mmv_layout.specs.declared.rows.Content.TheVariants.{Number, Choice, Raw}
+use Rattle.mmv_layout.specs.declared.rows.Layout.{Layout}
 use Rattle.mmv_layout.specs.Rows.{list_below, number_of, string_text, help_of, instance_row, instances_of, indom_row, serial_of, metric_row, type_of, domain_of, instance_of, content_of, value_row, indoms_of, metrics_of, values_of, strings_of, layout_of}
 use Rattle.mmv_layout.specs.Says.{EachAt, InSection, LeadsTo, HelpAt, InstanceAt, IndomAt, IsNull, IsNamed, SerialIs, MetricAt, InstanceOf, ContentAt, ValueAt, TextAt, Says, SaysOneLayout}
 use Rattle.mmv_layout.proofs.RowLists.{rows_length, each_only, each_there}

@@ -6,14 +6,14 @@ use Rattle.std.proofs.lemmas.Bool.{cases_eq, eq-eqb}
 use Rattle.pcp_base.specs.Codes.{kind_of_code}
 use Rattle.pcp_base.specs.declared.kind.Kind.{Kind}
 use Rattle.pcp_base.specs.declared.kind.Kind.TheVariants as kinds
-use Rattle.mmv_format.specs.Fields.{number64}
-use Rattle.mmv_format.specs.Sizes.{header_size, value_size}
-use Rattle.mmv_format.specs.EntryFields.{extra_offset_in_value, extra_in_value, metric_offset_in_value}
-use Rattle.mmv_format.specs.Contents.{section_bytes, section_of}
-use Rattle.mmv_format.specs.Entries.{leads, leads_to_string, value_count, value_at, string_count, string_at, choice_leads, is_good_value}
-use Rattle.mmv_format.specs.Images.{has_good_header, is_image}
-use Rattle.mmv_format.proofs.Below.{both_left, both_right, some_holds}
-use Rattle.mmv_format.specs.declared.rows.Slot.{Slot}
+use Rattle.mmv_layout.specs.Fields.{number64}
+use Rattle.mmv_layout.specs.Sizes.{header_size, value_size}
+use Rattle.mmv_layout.specs.EntryFields.{extra_offset_in_value, extra_in_value, metric_offset_in_value}
+use Rattle.mmv_layout.specs.Contents.{section_bytes, section_of}
+use Rattle.mmv_layout.specs.Entries.{leads, leads_to_string, value_count, value_at, string_count, string_at, choice_leads, is_good_value}
+use Rattle.mmv_layout.specs.Images.{has_good_header, is_image}
+use Rattle.mmv_layout.proofs.Below.{both_left, both_right, some_holds}
+use Rattle.mmv_layout.specs.declared.rows.Slot.{Slot}
 use Rattle.mmv_layout.specs.Rows.{type_of}
 use Rattle.mmv_layout.specs.Form.{slot_in, slot_at, slots_of, offsets_of, form_of}
 use Rattle.mmv_layout.specs.ShapeLaws.{TakesAs, IsAlike, HasGenerationTwice, GenerationIsNoValue, ValueKeepsTheForm, LengthKeepsTheForm, GenerationKeepsTheForm}

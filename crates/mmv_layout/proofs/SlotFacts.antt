@@ -3,12 +3,12 @@ use Rattle.std.proofs.Common.{◌≡◌, ◌≢◌, ℕ, ℤ, ◌+◌, ◌*◌, 
 use Rattle.std.specs.List.{find}
 use Rattle.std.specs.Ordering.{int_eq}
 use Rattle.std.proofs.lemmas.Bool.Decides.{nat_tests, Decides-int_eq, not_from_Decides}
-use Rattle.mmv_format.specs.EntryFields.{item_in_metric}
-use Rattle.mmv_format.specs.Sizes.{header_size, value_size}
-use Rattle.mmv_format.specs.Entries.{value_count, value_at, metric_at, is_good_metric, has_good_fields}
-use Rattle.mmv_format.specs.Images.{is_image}
-use Rattle.mmv_format.proofs.Below.{both_left, both_right}
-use Rattle.mmv_format.specs.declared.rows.Slot.{Slot}
+use Rattle.mmv_layout.specs.EntryFields.{item_in_metric}
+use Rattle.mmv_layout.specs.Sizes.{header_size, value_size}
+use Rattle.mmv_layout.specs.Entries.{value_count, value_at, metric_at, is_good_metric, has_good_fields}
+use Rattle.mmv_layout.specs.Images.{is_image}
+use Rattle.mmv_layout.proofs.Below.{both_left, both_right}
+use Rattle.mmv_layout.specs.declared.rows.Slot.{Slot}
 use Rattle.mmv_layout.specs.Rows.{type_of}
 use Rattle.mmv_layout.specs.Form.{slot_in, slot_at, slots_of, is_slot_of, IsSlotOf, IsOther}
 use Rattle.mmv_layout.proofs.Goods.{le_of, eq_of, good_metric, good_value}

@@ -11,8 +11,8 @@ use Rattle.std.proofs.lemmas.Bool.{eqb-true}
 use Rattle.std.proofs.lemmas.Bool.Decides.{Decides-int_eq}
 use Rattle.std.proofs.lemmas.List.{take_more}
 use Rattle.std.proofs.lemmas.List.Folds.{find-append}
-use Rattle.mmv_format.specs.declared.rows.Slot.{Slot}
-use Rattle.mmv_format.proofs.Below.{both_left, both_right}
+use Rattle.mmv_layout.specs.declared.rows.Slot.{Slot}
+use Rattle.mmv_layout.proofs.Below.{both_left, both_right}
 use Rattle.mmv_layout.specs.Form.{slots_of, is_slot_of}
 use Rattle.mmv_layout.specs.SlotTables.{slot_order, slot_in, HasSlots, Keeps, Finds}
 use Rattle.mmv_layout.proofs.SlotFacts.{slot_found}

@@ -3,11 +3,11 @@ use Rattle.std.proofs.Common.{◌≡◌, ℕ, negsuc, ◌^◌, ◌<◌, Bool, tr
 use Rattle.std.specs.Int.{cast_signed, cast_unsigned}
 use Rattle.std.proofs.lemmas.Int.{of_z-to_z}
 use Rattle.std.proofs.lemmas.Bool.{eq-eqb, cases_order}
-use Rattle.mmv_format.specs.Fields.{number32, number64}
-use Rattle.mmv_format.specs.EntryFields.{domain_in_instance, number_offset_in_instance, number_in_instance, item_in_metric, serial_in_metric, metric_in_value, instance_in_value}
-use Rattle.mmv_format.specs.Entries.{indom_count, indom_at, instance_count, instance_at, metric_count, metric_at, value_count, value_at, metric_of, is_no_domain, has_serial, is_new_indom, is_good_indom, is_same_instance, is_new_instance, is_good_instance, is_same_metric, is_new_metric, is_good_metric, instance_leads, is_same_value, is_new_value, is_good_value}
-use Rattle.mmv_format.specs.Images.{is_image}
-use Rattle.mmv_format.proofs.Below.{all_at, both_left, both_right}
+use Rattle.mmv_layout.specs.Fields.{number32, number64}
+use Rattle.mmv_layout.specs.EntryFields.{domain_in_instance, number_offset_in_instance, number_in_instance, item_in_metric, serial_in_metric, metric_in_value, instance_in_value}
+use Rattle.mmv_layout.specs.Entries.{indom_count, indom_at, instance_count, instance_at, metric_count, metric_at, value_count, value_at, metric_of, is_no_domain, has_serial, is_new_indom, is_good_indom, is_same_instance, is_new_instance, is_good_instance, is_same_metric, is_new_metric, is_good_metric, instance_leads, is_same_value, is_new_value, is_good_value}
+use Rattle.mmv_layout.specs.Images.{is_image}
+use Rattle.mmv_layout.proofs.Below.{all_at, both_left, both_right}
 use Rattle.mmv_layout.specs.Rows.{item_of, domain_of, instance_of}
 use Rattle.mmv_layout.specs.Form.{slot_at, HasOneSlotEach}
 use Rattle.mmv_layout.specs.Says.{LeadsTo}

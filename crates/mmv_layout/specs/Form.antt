@@ -5,12 +5,12 @@ use Rattle.std.specs.Ordering.{int_eq}
 use Rattle.std.specs.List.{filter_map, Contains}
 use Rattle.pcp_base.specs.Codes.{kind_of_code}
 use Rattle.pcp_base.specs.declared.kind.Kind.TheVariants.{I32}
-use Rattle.mmv_format.specs.Contents.{version_in, flags_in, process_in, cluster_in}
-use Rattle.mmv_format.specs.Images.{IsImage}
-use Rattle.mmv_format.specs.Entries.{value_count, value_at, string_count, string_at}
-use Rattle.mmv_format.specs.declared.rows.IndomRow.{IndomRow}
-use Rattle.mmv_format.specs.declared.rows.MetricRow.{MetricRow}
-use Rattle.mmv_format.specs.declared.rows.Slot.{Slot}
+use Rattle.mmv_layout.specs.Contents.{version_in, flags_in, process_in, cluster_in}
+use Rattle.mmv_layout.specs.Images.{IsImage}
+use Rattle.mmv_layout.specs.Entries.{value_count, value_at, string_count, string_at}
+use Rattle.mmv_layout.specs.declared.rows.IndomRow.{IndomRow}
+use Rattle.mmv_layout.specs.declared.rows.MetricRow.{MetricRow}
+use Rattle.mmv_layout.specs.declared.rows.Slot.{Slot}
 use Rattle.mmv_layout.specs.Rows.{list_below, string_text, item_of, type_of, instance_of, indoms_of, metrics_of, strings_of}
 
 -- the slot of the value at an offset, in this word; the instance is -1 where the metric has no domain

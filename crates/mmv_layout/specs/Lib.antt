@@ -1,5 +1,17 @@
+pub mod Below
+pub mod ByteLaws
+pub mod Contents
+pub mod Entries
+pub mod EntryFields
+pub mod FaultLaws
+pub mod Faults
+pub mod Fields
 pub mod Form
+pub mod Images
+pub mod Keys
+pub mod Lowest
 pub mod Rows
 pub mod Says
 pub mod ShapeLaws
+pub mod Sizes
 pub mod SlotTables

@@ -2,19 +2,19 @@
 -- section order, with the fields of that entry.
 use Rattle.std.specs.Prelude.{◌≡◌, ◌≢◌, ℕ, ℤ, ◌+◌, ◌<◌, ◌≤◌, ◌⊎◌, List, [], ◌∷◌, length, Option, None, Some}
 use Rattle.pcp_base.specs.Codes.{code_of_kind, code_of_semantics}
-use Rattle.mmv_format.specs.declared.contents.Section.{Section}
-use Rattle.mmv_format.specs.Fields.{number64, text_at}
-use Rattle.mmv_format.specs.Sizes.{indom_size, instance_size, metric_size, value_size, string_size}
-use Rattle.mmv_format.specs.EntryFields.{serial_in_indom, count_in_indom, first_in_indom, short_offset_in_indom, long_offset_in_indom, name_in_instance, name_in_metric, item_in_metric, type_in_metric, semantics_in_metric, units_in_metric, serial_in_metric, short_offset_in_metric, long_offset_in_metric, extra_in_value, instance_in_value}
-use Rattle.mmv_format.specs.Contents.{version_in, first_generation, second_generation, flags_in, process_in, cluster_in, section_of, process_in}
-use Rattle.mmv_format.specs.Entries.{instance_count, instance_at, metric_count, metric_at, string_count, string_at, metric_of}
-use Rattle.mmv_format.specs.Images.{IsImage}
-use Rattle.mmv_format.specs.declared.rows.IndomRow.{IndomRow}
-use Rattle.mmv_format.specs.declared.rows.MetricRow.{MetricRow}
-use Rattle.mmv_format.specs.declared.rows.ValueRow.{ValueRow}
-use Rattle.mmv_format.specs.declared.rows.Content.{Content}
-use Rattle.mmv_format.specs.declared.rows.Content.TheVariants.{Number, Choice, Raw}
-use Rattle.mmv_format.specs.declared.rows.Layout.{Layout}
+use Rattle.mmv_layout.specs.declared.contents.Section.{Section}
+use Rattle.mmv_layout.specs.Fields.{number64, text_at}
+use Rattle.mmv_layout.specs.Sizes.{indom_size, instance_size, metric_size, value_size, string_size}
+use Rattle.mmv_layout.specs.EntryFields.{serial_in_indom, count_in_indom, first_in_indom, short_offset_in_indom, long_offset_in_indom, name_in_instance, name_in_metric, item_in_metric, type_in_metric, semantics_in_metric, units_in_metric, serial_in_metric, short_offset_in_metric, long_offset_in_metric, extra_in_value, instance_in_value}
+use Rattle.mmv_layout.specs.Contents.{version_in, first_generation, second_generation, flags_in, process_in, cluster_in, section_of, process_in}
+use Rattle.mmv_layout.specs.Entries.{instance_count, instance_at, metric_count, metric_at, string_count, string_at, metric_of}
+use Rattle.mmv_layout.specs.Images.{IsImage}
+use Rattle.mmv_layout.specs.declared.rows.IndomRow.{IndomRow}
+use Rattle.mmv_layout.specs.declared.rows.MetricRow.{MetricRow}
+use Rattle.mmv_layout.specs.declared.rows.ValueRow.{ValueRow}
+use Rattle.mmv_layout.specs.declared.rows.Content.{Content}
+use Rattle.mmv_layout.specs.declared.rows.Content.TheVariants.{Number, Choice, Raw}
+use Rattle.mmv_layout.specs.declared.rows.Layout.{Layout}
 use Rattle.mmv_layout.specs.Rows.{number_of, item_of, type_of, domain_of}
 
 -- row k of a list stands at an offset and k times the size of a row

@@ -1,19 +1,23 @@
 //! An image: words whose form is known.
 ghost use Rattle.std.specs.Prelude.{◌≡◌, ◌≢◌, ◌<◌, ◌≤◌, ◌^◌, ◌⊎◌, negsuc, length, All, Contains, IfOk, IfSome, OnOk, Err, None, MatchOption};
-ghost use Rattle.mmv_format.specs.Contents.{cluster_in, is_short};
-ghost use Rattle.mmv_format.specs.Fields.{words_of};
-ghost use Rattle.mmv_faults.specs.Faults.{image_in, image_of};
-ghost use Rattle.mmv_format.specs.Images.{IsImage};
+ghost use Rattle.mmv_layout.specs.Contents.{cluster_in, is_short};
+ghost use Rattle.mmv_layout.specs.Fields.{words_of};
+ghost use Rattle.mmv_layout.specs.Faults.{image_in, image_of};
+ghost use Rattle.mmv_layout.specs.Images.{IsImage};
 ghost use Rattle.mmv_layout.specs.Form.{slots_of, texts_of, IsSlotOf, IsOther};
 ghost use Rattle.mmv_layout.specs.Rows.{layout_of};
 ghost use Rattle.mmv_layout.specs.SlotTables.{Finds};
 ghost use Rattle.mmv_layout.specs.Says.{Says};
 
+use crate::fault::ImageFault;
+use crate::fields::words_of;
+use crate::first_fault::image_fault;
+use crate::header::cluster_in;
 use crate::layout::layout;
+use crate::rows::{Layout, Slot};
+use crate::sizes::HEADER_SIZE;
 use crate::slot_table::SlotTable;
 use crate::slots::{slot_of, slots, texts};
-use mmv_faults::{ImageFault, image_fault};
-use mmv_format::{HEADER_SIZE, Layout, Slot, cluster_in, words_of};
 use pcp_base::{List, NoMemory, Text};
 use std::alloc::Global;
 use std::marker::Model;
@@ -33,7 +37,7 @@ pub struct Image {
 
 impl Model for Image {
     ghost use Rattle.std.specs.Prelude.{List as Sequence, ℕ};
-    ghost use Rattle.mmv_format.specs.Images.{IsImage};
+    ghost use Rattle.mmv_layout.specs.Images.{IsImage};
 
     ghost Value = { Sequence ℕ };
 
@@ -44,7 +48,7 @@ impl Model for Image {
 
 impl Image {
     /// The image that words are, or their first fault. Further words may follow the sections, up to 65,536 in all.
-    #[tactic(auto, using(mmv_faults::proofs::Images::is_image_where), unfolding(mmv_faults::specs::Faults::image_in))]
+    #[tactic(auto, using(crate::proofs::Images::is_image_where), unfolding(crate::specs::Faults::image_in))]
     pub fn parse(alloc: Global, words: Vec<u64>) -> Result<Image, ImageFault>
         ensures image { (result ≡ Err ImageFault.NoMemory) ⊎ (result ≡ image_in words.items) }
         ensures words { IfOk result (λ image. image ≡ words.items) }
@@ -65,7 +69,7 @@ impl Image {
     }
 
     /// The image that bytes are, or their first fault: `Short` also where they are no whole number of words.
-    #[tactic(auto, using(mmv_faults::proofs::Images::large_bytes), unfolding(mmv_faults::specs::Faults::image_of))]
+    #[tactic(auto, using(crate::proofs::Images::large_bytes), unfolding(crate::specs::Faults::image_of))]
     pub fn from_bytes(alloc: Global, bytes: &[u8]) -> Result<Image, ImageFault>
         ensures image { (result ≡ Err ImageFault.NoMemory) ⊎ (result ≡ image_of bytes.now) }
         ensures words { IfOk result (λ image. image ≡ words_of bytes.now) }
@@ -99,7 +103,7 @@ impl Image {
     }
 
     /// The words, in order; at least 5 and at most 65,536.
-    #[tactic(auto, using(mmv_faults::proofs::Images::at_least_five, mmv_faults::proofs::Images::at_most))]
+    #[tactic(auto, using(crate::proofs::Images::at_least_five, crate::proofs::Images::at_most))]
     pub fn words(&self) -> &[u64]
         ensures value { result.now ≡ self.now }
         ensures image { IsImage self.now }
@@ -110,7 +114,7 @@ impl Image {
     }
 
     /// The cluster that the metric is served in, at most 4095.
-    #[tactic(auto, using(mmv_faults::proofs::Images::cluster_fits))]
+    #[tactic(auto, using(crate::proofs::Images::cluster_fits))]
     pub fn cluster(&self) -> u32
         ensures value { result ≡ cluster_in self.now }
         ensures bound { result ≤ 4095 }

@@ -1,20 +1,25 @@
 //! What an image says, row by row.
 ghost use Rattle.std.specs.Prelude.{◌≡◌, ◌<◌, ◌^◌, IfOk};
-ghost use Rattle.mmv_format.specs.Images.{IsImage};
-ghost use Rattle.mmv_format.specs.Sizes.{string_size};
-ghost use Rattle.mmv_format.specs.Fields.{text_at};
+ghost use Rattle.mmv_layout.specs.Images.{IsImage};
+ghost use Rattle.mmv_layout.specs.Sizes.{string_size};
+ghost use Rattle.mmv_layout.specs.Fields.{text_at};
 ghost use Rattle.mmv_layout.specs.Says.{Says};
 ghost use Rattle.mmv_layout.specs.Rows.{number_of, help_of, instance_row, instances_of, indom_row, serial_of, metric_row, instance_of, content_of, value_row, indoms_of, metrics_of, values_of, strings_of, layout_of};
 
-use mmv_format::{
-    Content, IndomRow, Layout, MetricRow, STRING_SIZE, ValueRow, cluster_in, count_in_indom,
-    extra_in_value, first_generation, flags_in, indom_at, indom_count, instance_in_value,
-    is_no_domain, item_in_metric, long_offset_in_indom, long_offset_in_metric, metric_at,
-    metric_count, metric_of, name_in_instance, name_in_metric, number_in_instance, number64,
-    process_in, run_at, semantics_in_metric, serial_in_indom, serial_in_metric,
-    short_offset_in_indom, short_offset_in_metric, string_at, string_count, text_at,
-    type_in_metric, units_in_metric, value_at, value_count, value_in_value, version_in,
+use crate::entries::{
+    indom_at, indom_count, is_no_domain, metric_at, metric_count, metric_of, run_at, string_at,
+    string_count, value_at, value_count,
 };
+use crate::entry_fields::{
+    count_in_indom, extra_in_value, instance_in_value, item_in_metric, long_offset_in_indom,
+    long_offset_in_metric, name_in_instance, name_in_metric, number_in_instance,
+    semantics_in_metric, serial_in_indom, serial_in_metric, short_offset_in_indom,
+    short_offset_in_metric, type_in_metric, units_in_metric, value_in_value,
+};
+use crate::fields::{number64, text_at};
+use crate::header::{cluster_in, first_generation, flags_in, process_in, version_in};
+use crate::rows::{Content, IndomRow, Layout, MetricRow, ValueRow};
+use crate::sizes::STRING_SIZE;
 use pcp_base::{Kind, List, NoMemory, Semantics, Text, Units};
 use std::alloc::Global;
 

@@ -1,11 +1,11 @@
 //! The value words of an image by item and instance.
 ghost use Rattle.std.specs.Prelude.{◌≡◌, IfOk, OnOk};
-ghost use Rattle.mmv_format.specs.Images.{IsImage};
+ghost use Rattle.mmv_layout.specs.Images.{IsImage};
 ghost use Rattle.mmv_layout.specs.Form.{slots_of};
 ghost use Rattle.mmv_layout.specs.SlotTables.{Finds, HasSlots, Keeps, slot_in};
 
+use crate::rows::Slot;
 use crate::slots::slots;
-use mmv_format::Slot;
 use pcp_base::NoMemory;
 use std::alloc::Global;
 use std::collections::BTreeMap;

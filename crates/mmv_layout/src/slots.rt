@@ -1,14 +1,14 @@
 //! The value words and the strings of an image.
 ghost use Rattle.std.specs.Prelude.{◌≡◌, ◌≢◌, ◌<◌, ◌≤◌, ◌^◌, ◌⊎◌, length, None, IfOk, IfSome, MatchOption, All, Contains};
 ghost use Rattle.std.specs.List.{find};
-ghost use Rattle.mmv_format.specs.Images.{IsImage};
+ghost use Rattle.mmv_layout.specs.Images.{IsImage};
 ghost use Rattle.mmv_layout.specs.Rows.{item_of, type_of};
 ghost use Rattle.mmv_layout.specs.Form.{slot_in, slot_at, slots_of, is_slot_of, texts_of, IsSlotOf, IsOther};
 
+use crate::entries::{metric_of, string_at, string_count, value_at, value_count};
+use crate::entry_fields::{item_in_metric, type_in_metric};
 use crate::layout::{instance_of, string_text};
-use mmv_format::{
-    Slot, item_in_metric, metric_of, string_at, string_count, type_in_metric, value_at, value_count,
-};
+use crate::rows::Slot;
 use pcp_base::{Kind, List, NoMemory, Text};
 use std::alloc::Global;
 

@@ -5,24 +5,24 @@ use Rattle.std.specs.Int.{w32, cast_unsigned}
 use Rattle.std.specs.Ordering.{int_eq}
 use Rattle.std.proofs.lemmas.Bool.{eq-eqb, eqb-true, eqb-false}
 use Rattle.std.proofs.lemmas.Bool.Decides.{nat_tests}
-use Rattle.mmv_format.specs.Fields.{number32, number64, byte_at, text_at, first_words}
-use Rattle.mmv_format.specs.EntryFields.{same_name, count_offset_in_indom, first_offset_in_indom, short_offset_in_indom, long_offset_in_indom, number_offset_in_instance, name_offset_in_instance}
-use Rattle.mmv_format.specs.Entries.{indom_at, instance_at, indom_count, instance_count, leads_to_instance, help_leads, is_instance_of, has_good_run, has_serial, is_new_indom, is_serial, is_good_indom, has_text, lies_in_run, is_same_instance, is_new_instance, is_instance_number, is_good_instance, indoms_are_good, instances_are_good}
-use Rattle.mmv_format.specs.declared.rows.IndomRow.{IndomRow}
-use Rattle.mmv_format.specs.declared.rows.Layout.{Layout}
-use Rattle.mmv_format.proofs.Below.{both_left, both_right}
+use Rattle.mmv_layout.specs.Fields.{number32, number64, byte_at, text_at, first_words}
+use Rattle.mmv_layout.specs.EntryFields.{same_name, count_offset_in_indom, first_offset_in_indom, short_offset_in_indom, long_offset_in_indom, number_offset_in_instance, name_offset_in_instance}
+use Rattle.mmv_layout.specs.Entries.{indom_at, instance_at, indom_count, instance_count, leads_to_instance, help_leads, is_instance_of, has_good_run, has_serial, is_new_indom, is_serial, is_good_indom, has_text, lies_in_run, is_same_instance, is_new_instance, is_instance_number, is_good_instance, indoms_are_good, instances_are_good}
+use Rattle.mmv_layout.specs.declared.rows.IndomRow.{IndomRow}
+use Rattle.mmv_layout.specs.declared.rows.Layout.{Layout}
+use Rattle.mmv_layout.proofs.Below.{both_left, both_right}
 use Rattle.mmv_writer.specs.Draft.{Each, IsInstance, IsDraft}
-use Rattle.mmv_spelling.specs.Offsets.{instances_in, counts_of, words_in}
-use Rattle.mmv_spelling.specs.Spelling.{halves, domain_offset, domain_words, instance_words, image_with_strings, first_instance}
+use Rattle.mmv_writer.specs.Offsets.{instances_in, counts_of, words_in}
+use Rattle.mmv_writer.specs.Spelling.{halves, domain_offset, domain_words, instance_words, image_with_strings, first_instance}
 use Rattle.mmv_writer.proofs.Rows.{either_left, either_right}
 use Rattle.mmv_writer.proofs.Sections.{all_hold}
 use Rattle.mmv_writer.proofs.Standing.{Stands, stands_right, word_read, high_read, byte_read, text_read, zero_read}
 use Rattle.mmv_writer.proofs.Wanted.{HasHelp}
-use Rattle.mmv_spelling.proofs.Positions.{get_below, get_some, same_row, before_this, Member, member}
+use Rattle.mmv_writer.proofs.Positions.{get_below, get_some, same_row, before_this, Member, member}
 use Rattle.mmv_writer.proofs.Spelt.{domains_from, instances_from, offsets, find_indoms, find_instances}
 use Rattle.mmv_writer.proofs.Marks.{indom_is, instance_is, leads_there, indom_leads, instance_leads_to, help_good, stand_domain, stand_instance, serial_read, run_read, first_read, first_is, owner_read}
-use Rattle.mmv_format.specs.Sizes.{indom_size, instance_size}
-use Rattle.mmv_spelling.specs.Offsets.{name_length, indom_length, instance_length}
+use Rattle.mmv_layout.specs.Sizes.{indom_size, instance_size}
+use Rattle.mmv_writer.specs.Offsets.{name_length, indom_length, instance_length}
 
 back : (draft : Layout) (s : List (List ℕ)) (at i : ℕ) → at ≡ 8 * (domains_from draft s + indom_length * i) → (offsets draft s).indoms + indom_size * i ≡ at
 back draft s at i e = omega arith

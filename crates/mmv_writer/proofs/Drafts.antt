@@ -6,12 +6,12 @@ use Rattle.std.specs.Int.RustNames.{FitsSigned}
 use Rattle.std.proofs.lemmas.Bool.Decides.{nat_tests}
 use Rattle.std.proofs.lemmas.Bool.{eqb-true, eq-eqb, leb-true}
 use Rattle.std.specs.Ordering.{int_eq}
-use Rattle.mmv_format.specs.Sizes.{is_version}
-use Rattle.mmv_format.specs.declared.rows.IndomRow.{IndomRow}
-use Rattle.mmv_format.specs.declared.rows.MetricRow.{MetricRow}
-use Rattle.mmv_format.specs.declared.rows.ValueRow.{ValueRow}
-use Rattle.mmv_format.specs.declared.rows.Layout.{Layout}
-use Rattle.mmv_format.specs.Entries.{is_serial}
+use Rattle.mmv_layout.specs.Sizes.{is_version}
+use Rattle.mmv_layout.specs.declared.rows.IndomRow.{IndomRow}
+use Rattle.mmv_layout.specs.declared.rows.MetricRow.{MetricRow}
+use Rattle.mmv_layout.specs.declared.rows.ValueRow.{ValueRow}
+use Rattle.mmv_layout.specs.declared.rows.Layout.{Layout}
+use Rattle.mmv_layout.specs.Entries.{is_serial}
 use Rattle.mmv_writer.specs.declared.fault.BuildFault.{BuildFault}
 use Rattle.mmv_writer.specs.declared.fault.BuildFault.TheVariants.{Name, Duplicate, Unknown, Serial, Item}
 use Rattle.mmv_writer.specs.Rules.{is_long, is_long_help, has_domain, header_fault, indom_fault, is_instance_name, is_same_instance, has_same_instance, instance_fault, is_metric_name, is_same_metric, lacks_domain, unknown_or, metric_fault, has_instance, fits_instance, fits_kind, fits_metric, fits_some_metric, is_same_value, is_long_content, value_fault, text_fault}

@@ -8,17 +8,17 @@ use Rattle.std.proofs.lemmas.Bool.{eq-eqb}
 use Rattle.std.proofs.lemmas.Bool.Decides.{nat_tests, Decides-int_eq}
 use Rattle.pcp_base.specs.Codes.{code_of_kind, kind_of_code}
 use Rattle.pcp_base.specs.declared.kind.Kind.TheVariants.{I32}
-use Rattle.mmv_format.specs.declared.rows.ValueRow.{ValueRow}
-use Rattle.mmv_format.specs.declared.rows.Content.TheVariants.{Number, Choice, Raw}
-use Rattle.mmv_format.specs.Fields.{number32, number64, byte_at, text_at, has_zero}
-use Rattle.mmv_format.specs.Sizes.{name_width, indom_size, instance_size, string_size}
-use Rattle.mmv_format.specs.EntryFields.{same_name, serial_in_indom, count_in_indom, first_in_indom, short_offset_in_indom, long_offset_in_indom, domain_in_instance, number_offset_in_instance, number_in_instance, name_offset_in_instance, name_in_instance, name_in_metric, item_in_metric, type_in_metric, serial_in_metric, short_offset_in_metric, long_offset_in_metric, value_in_value, extra_in_value, instance_in_value}
-use Rattle.mmv_format.specs.Contents.{section_of}
-use Rattle.mmv_format.specs.Entries.{leads_to_string, indom_count, indom_at, instance_count, instance_at, metric_count, metric_at, value_count, value_at, string_count, string_at, help_leads, is_instance_of, has_good_run, has_serial, is_good_indom, has_text, lies_in_run, is_same_instance, is_new_instance, is_instance_number, is_good_instance, has_name, is_kind, is_no_domain, is_indom_serial, serial_leads, is_same_metric, has_good_fields, is_good_metric, metric_of, instance_leads, choice_leads, is_good_value, is_good_string}
-use Rattle.mmv_format.specs.Images.{has_good_header, is_image}
-use Rattle.mmv_format.proofs.Below.{all_at, both_left, both_right}
-use Rattle.mmv_faults.proofs.Images.{cluster_fits}
-use Rattle.mmv_format.proofs.Texts.{text_clean, text_short}
+use Rattle.mmv_layout.specs.declared.rows.ValueRow.{ValueRow}
+use Rattle.mmv_layout.specs.declared.rows.Content.TheVariants.{Number, Choice, Raw}
+use Rattle.mmv_layout.specs.Fields.{number32, number64, byte_at, text_at, has_zero}
+use Rattle.mmv_layout.specs.Sizes.{name_width, indom_size, instance_size, string_size}
+use Rattle.mmv_layout.specs.EntryFields.{same_name, serial_in_indom, count_in_indom, first_in_indom, short_offset_in_indom, long_offset_in_indom, domain_in_instance, number_offset_in_instance, number_in_instance, name_offset_in_instance, name_in_instance, name_in_metric, item_in_metric, type_in_metric, serial_in_metric, short_offset_in_metric, long_offset_in_metric, value_in_value, extra_in_value, instance_in_value}
+use Rattle.mmv_layout.specs.Contents.{section_of}
+use Rattle.mmv_layout.specs.Entries.{leads_to_string, indom_count, indom_at, instance_count, instance_at, metric_count, metric_at, value_count, value_at, string_count, string_at, help_leads, is_instance_of, has_good_run, has_serial, is_good_indom, has_text, lies_in_run, is_same_instance, is_new_instance, is_instance_number, is_good_instance, has_name, is_kind, is_no_domain, is_indom_serial, serial_leads, is_same_metric, has_good_fields, is_good_metric, metric_of, instance_leads, choice_leads, is_good_value, is_good_string}
+use Rattle.mmv_layout.specs.Images.{has_good_header, is_image}
+use Rattle.mmv_layout.proofs.Below.{all_at, both_left, both_right}
+use Rattle.mmv_layout.proofs.Images.{cluster_fits}
+use Rattle.mmv_layout.proofs.Texts.{text_clean, text_short}
 use Rattle.mmv_layout.specs.Rows.{list_below, number_of, string_text, help_of, instance_row, instances_of, indom_row, serial_of, metric_row, type_of, domain_of, instance_of, content_of, value_row, indoms_of, metrics_of, values_of, strings_of, layout_of}
 use Rattle.mmv_layout.specs.Says.{LeadsTo}
 use Rattle.mmv_layout.proofs.Goods.{le_of, eq_of, or_right, some_at, leads_there, header, good_indom, good_instance, good_metric, good_value, good_string}

@@ -3,19 +3,19 @@ use Rattle.std.proofs.Common.{◌≡◌, ℕ, ◌*◌, ◌%◌, ◌<◌, ◌≤�
 use Rattle.std.proofs.lemmas.Bool.{eq-eqb}
 use Rattle.std.proofs.lemmas.Bool.Decides.{nat_tests}
 use Rattle.std.proofs.Math.Nat.{mul-mod_right}
-use Rattle.mmv_format.specs.Fields.{number32, number64}
-use Rattle.mmv_format.specs.Sizes.{is_version}
-use Rattle.mmv_format.specs.Images.{is_cluster, has_good_header, is_image}
+use Rattle.mmv_layout.specs.Fields.{number32, number64}
+use Rattle.mmv_layout.specs.Sizes.{is_version}
+use Rattle.mmv_layout.specs.Images.{is_cluster, has_good_header, is_image}
 use Rattle.std.specs.Prelude.{Option, Some, None, is_none, Ok}
-use Rattle.mmv_faults.specs.Faults.{image_fault, unless_fault, image_in}
-use Rattle.mmv_faults.proofs.Images.{images_same}
-use Rattle.mmv_format.proofs.Versions.{version_fits}
-use Rattle.mmv_format.specs.declared.rows.Layout.{Layout}
+use Rattle.mmv_layout.specs.Faults.{image_fault, unless_fault, image_in}
+use Rattle.mmv_layout.proofs.Images.{images_same}
+use Rattle.mmv_layout.proofs.Versions.{version_fits}
+use Rattle.mmv_layout.specs.declared.rows.Layout.{Layout}
 use Rattle.mmv_writer.specs.Draft.{IsDraft}
-use Rattle.mmv_spelling.specs.Offsets.{counts_of, sections_in, words_in}
-use Rattle.mmv_spelling.specs.Spelling.{header_words, image_with_strings, all_strings, image_words}
+use Rattle.mmv_writer.specs.Offsets.{counts_of, sections_in, words_in}
+use Rattle.mmv_writer.specs.Spelling.{header_words, image_with_strings, all_strings, image_words}
 use Rattle.mmv_writer.specs.Laws.{DraftsAreImages}
-use Rattle.mmv_spelling.proofs.Lengths.{length_spelled}
+use Rattle.mmv_writer.proofs.Lengths.{length_spelled}
 use Rattle.mmv_writer.proofs.Standing.{low_read, high_read, word_read}
 use Rattle.mmv_writer.proofs.Spelt.{stand_header, spelt_sections, spelt_aligned}
 use Rattle.mmv_writer.proofs.DomainTests.{good_indoms, good_instances}

@@ -1,10 +1,10 @@
 -- The kind of the metric with an item, by the place of its row.
 use Rattle.std.proofs.Common.{◌≡◌, ℕ, suc, ◌+◌, Bool, true, false, not, ◌||◌, cond, nat_eq, List, [], ◌∷◌, ap, sym, ◌∙◌, refl, arith, Option, Some, None, option_map}
 use Rattle.std.specs.List.{list_any, slice_get, position, position_or_len}
-use Rattle.mmv_format.specs.declared.rows.MetricRow.{MetricRow}
+use Rattle.mmv_layout.specs.declared.rows.MetricRow.{MetricRow}
 use Rattle.mmv_writer.specs.Reading.{kind_in}
 use Rattle.mmv_writer.proofs.Kept.{position_at}
-use Rattle.mmv_spelling.proofs.Positions.{get_some}
+use Rattle.mmv_writer.proofs.Positions.{get_some}
 
 pub no_kind : (metrics : List MetricRow) (item : ℕ) → list_any (λ m. nat_eq m.item item) metrics ≡ false → kind_in metrics item ≡ None
 no_kind [] item h = refl

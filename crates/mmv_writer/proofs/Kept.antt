@@ -9,18 +9,18 @@ use Rattle.std.specs.BTreeMap.{BTreeMap, get}
 use Rattle.std.specs.BTreeSet.{BTreeSet, contains}
 use Rattle.std.proofs.lemmas.Bool.{eqb-true}
 use Rattle.std.proofs.lemmas.Bool.Decides.{nat_tests}
-use Rattle.mmv_format.specs.declared.rows.IndomRow.{IndomRow}
-use Rattle.mmv_format.specs.declared.rows.MetricRow.{MetricRow}
-use Rattle.mmv_format.specs.declared.rows.ValueRow.{ValueRow}
-use Rattle.mmv_spelling.proofs.Positions.{Passes, first_passes, get_some, same_row}
-use Rattle.mmv_spelling.proofs.Firsts.{any_snoc, position_snoc, position_some}
+use Rattle.mmv_layout.specs.declared.rows.IndomRow.{IndomRow}
+use Rattle.mmv_layout.specs.declared.rows.MetricRow.{MetricRow}
+use Rattle.mmv_layout.specs.declared.rows.ValueRow.{ValueRow}
+use Rattle.mmv_writer.proofs.Positions.{Passes, first_passes, get_some, same_row}
+use Rattle.mmv_writer.proofs.Firsts.{any_snoc, position_snoc, position_some}
 use Rattle.mmv_writer.specs.declared.keys.DomainKeys.{DomainKeys}
 use Rattle.mmv_writer.specs.declared.keys.RowKeys.{RowKeys}
 use Rattle.mmv_writer.specs.Rules.{has_domain, has_same_instance, has_instance, is_same_metric, fits_instance, fits_kind, fits_metric, fits_some_metric, is_same_number}
 use Rattle.mmv_writer.specs.Draft.{Apart, add_instance, empty_draft}
 use Rattle.mmv_writer.specs.Keys.{domain_in, place_of, numbers_have, names_have, has_name, is_named, HasDomains, HasItems, HasMetricNames, HasValues, HasKeys, value_order, AddsMember, KeepsAllMembers, fits_domain, IsEmptyDomain, AreNoKeys}
 use Rattle.std.proofs.lemmas.Slice.Eq.{bytes_eq-Decides}
-use Rattle.mmv_writer.proofs.Lookups.{at_serial}
+use Rattle.mmv_writer.proofs.RowLookups.{at_serial}
 
 -- Positions
 

@@ -3,25 +3,25 @@ use Rattle.std.proofs.Common.{◌≡◌, ℕ, ◌+◌, ◌*◌, ◌<◌, ◌≤�
 use Rattle.std.specs.List.{slice_get, flat_map, position_or_len}
 use Rattle.std.proofs.lemmas.Bool.{eq-eqb}
 use Rattle.std.proofs.lemmas.Bool.Decides.{nat_tests}
-use Rattle.mmv_format.specs.Fields.{number32, number64, first_words}
-use Rattle.mmv_format.specs.Contents.{section_of}
-use Rattle.mmv_format.specs.Entries.{leads, indom_at, instance_at, metric_at, value_at, string_at, leads_to_indom, leads_to_instance, leads_to_metric, leads_to_string, help_leads}
-use Rattle.mmv_format.proofs.Below.{some_holds, both_right}
-use Rattle.mmv_format.specs.declared.contents.Section.{Section}
-use Rattle.mmv_format.specs.declared.rows.IndomRow.{IndomRow}
-use Rattle.mmv_format.specs.declared.rows.MetricRow.{MetricRow}
-use Rattle.mmv_format.specs.declared.rows.ValueRow.{ValueRow}
-use Rattle.mmv_format.specs.declared.rows.Layout.{Layout}
+use Rattle.mmv_layout.specs.Fields.{number32, number64, first_words}
+use Rattle.mmv_layout.specs.Contents.{section_of}
+use Rattle.mmv_layout.specs.Entries.{leads, indom_at, instance_at, metric_at, value_at, string_at, leads_to_indom, leads_to_instance, leads_to_metric, leads_to_string, help_leads}
+use Rattle.mmv_layout.proofs.Below.{some_holds, both_right}
+use Rattle.mmv_layout.specs.declared.contents.Section.{Section}
+use Rattle.mmv_layout.specs.declared.rows.IndomRow.{IndomRow}
+use Rattle.mmv_layout.specs.declared.rows.MetricRow.{MetricRow}
+use Rattle.mmv_layout.specs.declared.rows.ValueRow.{ValueRow}
+use Rattle.mmv_layout.specs.declared.rows.Layout.{Layout}
 use Rattle.mmv_writer.specs.Draft.{IsDraft}
-use Rattle.mmv_spelling.specs.Offsets.{instances_in, counts_of, words_in}
-use Rattle.mmv_spelling.specs.Spelling.{string_offset, help_offset, domain_of, domain_offset, instance_offset, domain_words, instance_words, metric_words, value_words, domain_section, instance_section, metric_section, value_section, string_section, image_with_strings, first_instance}
-use Rattle.mmv_spelling.proofs.Lengths.{length_domain, length_instance, length_metric, length_value, length_even}
+use Rattle.mmv_writer.specs.Offsets.{instances_in, counts_of, words_in}
+use Rattle.mmv_writer.specs.Spelling.{string_offset, help_offset, domain_of, domain_offset, instance_offset, domain_words, instance_words, metric_words, value_words, domain_section, instance_section, metric_section, value_section, string_section, image_with_strings, first_instance}
+use Rattle.mmv_writer.proofs.Lengths.{length_domain, length_instance, length_metric, length_value, length_even}
 use Rattle.mmv_writer.proofs.Standing.{Stands, stands_entry, stands_group, word_read, low_read, high_read, length_text}
 use Rattle.mmv_writer.proofs.Wanted.{Has, HasHelp}
-use Rattle.mmv_spelling.proofs.Positions.{Passes, first_passes, position_is, get_below, before_this}
+use Rattle.mmv_writer.proofs.Positions.{Passes, first_passes, position_is, get_below, before_this}
 use Rattle.mmv_writer.proofs.Spelt.{domains_from, instances_from, metrics_from, values_from, strings_from, offsets, stand_domains, stand_instances, stand_metrics, stand_values, stand_strings, Finds, find_indoms, find_instances, find_metrics, find_values, find_strings}
-use Rattle.mmv_format.specs.Sizes.{indom_size, instance_size, metric_size, string_size}
-use Rattle.mmv_spelling.specs.Offsets.{indom_length, instance_length, metric_length, value_length, string_length}
+use Rattle.mmv_layout.specs.Sizes.{indom_size, instance_size, metric_size, string_size}
+use Rattle.mmv_writer.specs.Offsets.{indom_length, instance_length, metric_length, value_length, string_length}
 
 -- Offsets of entries
 

@@ -9,24 +9,24 @@ use Rattle.pcp_base.specs.declared.kind.Kind.{Kind}
 use Rattle.pcp_base.specs.declared.kind.Kind.TheVariants as kinds
 use Rattle.pcp_base.specs.declared.kind.Semantics.{Semantics}
 use Rattle.pcp_base.specs.declared.kind.Semantics.TheVariants as meanings
-use Rattle.mmv_format.specs.Fields.{number32, text_at, first_words}
-use Rattle.mmv_format.specs.EntryFields.{same_name}
-use Rattle.mmv_format.specs.Entries.{indom_at, indom_count, metric_at, metric_count, string_at, string_count, help_leads, has_serial, has_name, is_kind, is_semantics, is_no_domain, is_indom_serial, serial_leads, is_same_metric, is_new_metric, is_item, has_good_fields, is_good_metric, is_good_string, metrics_are_good, strings_are_good}
-use Rattle.mmv_format.specs.declared.rows.MetricRow.{MetricRow}
-use Rattle.mmv_format.specs.declared.rows.Layout.{Layout}
-use Rattle.mmv_format.proofs.Below.{both_left, both_right, some_holds}
+use Rattle.mmv_layout.specs.Fields.{number32, text_at, first_words}
+use Rattle.mmv_layout.specs.EntryFields.{same_name}
+use Rattle.mmv_layout.specs.Entries.{indom_at, indom_count, metric_at, metric_count, string_at, string_count, help_leads, has_serial, has_name, is_kind, is_semantics, is_no_domain, is_indom_serial, serial_leads, is_same_metric, is_new_metric, is_item, has_good_fields, is_good_metric, is_good_string, metrics_are_good, strings_are_good}
+use Rattle.mmv_layout.specs.declared.rows.MetricRow.{MetricRow}
+use Rattle.mmv_layout.specs.declared.rows.Layout.{Layout}
+use Rattle.mmv_layout.proofs.Below.{both_left, both_right, some_holds}
 use Rattle.mmv_writer.specs.Rules.{has_domain}
 use Rattle.mmv_writer.specs.Draft.{Each, HasDomain, IsMetric, IsString, IsDraft}
-use Rattle.mmv_spelling.specs.Offsets.{counts_of, words_in}
-use Rattle.mmv_spelling.specs.Spelling.{halves, help_offset, domain_of, serial_word, metric_words, image_with_strings}
+use Rattle.mmv_writer.specs.Offsets.{counts_of, words_in}
+use Rattle.mmv_writer.specs.Spelling.{halves, help_offset, domain_of, serial_word, metric_words, image_with_strings}
 use Rattle.mmv_writer.proofs.Sections.{all_hold}
 use Rattle.mmv_writer.proofs.Standing.{Stands, stands_left, stands_right, word_read, low_read, high_read, text_read, zero_read, length_text}
 use Rattle.mmv_writer.proofs.Wanted.{HasHelp}
-use Rattle.mmv_spelling.proofs.Positions.{Passes, first_passes, get_below, get_some}
+use Rattle.mmv_writer.proofs.Positions.{Passes, first_passes, get_below, get_some}
 use Rattle.mmv_writer.proofs.Spelt.{metrics_from, strings_from, offsets, find_indoms, find_metrics, find_strings}
 use Rattle.mmv_writer.proofs.Marks.{indom_is, metric_is, string_is, help_good, stand_metric, stand_string, serial_fits, serial_read}
-use Rattle.mmv_format.specs.EntryFields.{item_offset_in_metric, type_offset_in_metric, semantics_offset_in_metric, serial_offset_in_metric, short_offset_in_metric, long_offset_in_metric}
-use Rattle.mmv_spelling.specs.Offsets.{name_length, metric_length, string_length}
+use Rattle.mmv_layout.specs.EntryFields.{item_offset_in_metric, type_offset_in_metric, semantics_offset_in_metric, serial_offset_in_metric, short_offset_in_metric, long_offset_in_metric}
+use Rattle.mmv_writer.specs.Offsets.{name_length, metric_length, string_length}
 
 -- The words of a metric behind its name
 

@@ -9,37 +9,37 @@ use Rattle.std.proofs.lemmas.Bool.Decides.{nat_tests}
 use Rattle.pcp_base.specs.Codes.{code_of_kind, code_of_semantics}
 use Rattle.pcp_base.specs.declared.kind.Kind.{Kind}
 use Rattle.pcp_base.specs.declared.kind.Kind.TheVariants as kinds
-use Rattle.mmv_format.specs.Fields.{number32, number64}
-use Rattle.mmv_format.specs.Contents.{section_of}
-use Rattle.mmv_format.specs.Entries.{instance_at, metric_at, string_at, metric_of}
+use Rattle.mmv_layout.specs.Fields.{number32, number64}
+use Rattle.mmv_layout.specs.Contents.{section_of}
+use Rattle.mmv_layout.specs.Entries.{instance_at, metric_at, string_at, metric_of}
 use Rattle.mmv_layout.specs.Says.{EachAt, InSection, StringAt, HelpAt, InstanceAt, IndomAt, SerialIs, MetricAt, InstanceOf, ContentAt, ValueAt, TextAt, Says}
 use Rattle.mmv_layout.specs.Rows as rows
-use Rattle.mmv_format.specs.declared.contents.Section.{Section}
-use Rattle.mmv_format.specs.declared.rows.IndomRow.{IndomRow}
-use Rattle.mmv_format.specs.declared.rows.MetricRow.{MetricRow}
-use Rattle.mmv_format.specs.declared.rows.ValueRow.{ValueRow}
-use Rattle.mmv_format.specs.declared.rows.Content.{Content}
-use Rattle.mmv_format.specs.declared.rows.Content.TheVariants.{Number, Choice, Raw}
-use Rattle.mmv_format.specs.declared.rows.Layout.{Layout}
-use Rattle.mmv_format.proofs.Below.{both_left, both_right}
-use Rattle.mmv_format.proofs.Versions.{version_fits}
+use Rattle.mmv_layout.specs.declared.contents.Section.{Section}
+use Rattle.mmv_layout.specs.declared.rows.IndomRow.{IndomRow}
+use Rattle.mmv_layout.specs.declared.rows.MetricRow.{MetricRow}
+use Rattle.mmv_layout.specs.declared.rows.ValueRow.{ValueRow}
+use Rattle.mmv_layout.specs.declared.rows.Content.{Content}
+use Rattle.mmv_layout.specs.declared.rows.Content.TheVariants.{Number, Choice, Raw}
+use Rattle.mmv_layout.specs.declared.rows.Layout.{Layout}
+use Rattle.mmv_layout.proofs.Below.{both_left, both_right}
+use Rattle.mmv_layout.proofs.Versions.{version_fits}
 use Rattle.mmv_writer.specs.Rules.{fits_instance, fits_kind, fits_metric}
 use Rattle.mmv_writer.specs.Draft.{Each, IsString, IsInstance, HasDomain, IsMetric, IsDraft}
-use Rattle.mmv_spelling.specs.Offsets.{instances_in, counts_of, sections_in, words_in}
-use Rattle.mmv_spelling.specs.Spelling.{string_offset, help_offset, domain_of, serial_word, header_words, domain_words, value_words, value_field, extra_field, instance_field, image_with_strings, all_strings, image_words}
+use Rattle.mmv_writer.specs.Offsets.{instances_in, counts_of, sections_in, words_in}
+use Rattle.mmv_writer.specs.Spelling.{string_offset, help_offset, domain_of, serial_word, header_words, domain_words, value_words, value_field, extra_field, instance_field, image_with_strings, all_strings, image_words}
 use Rattle.mmv_writer.specs.Saying.{DraftsAreSaid, with_all_strings}
-use Rattle.mmv_spelling.proofs.Lengths.{length_spelled, sections_most}
+use Rattle.mmv_writer.proofs.Lengths.{length_spelled, sections_most}
 use Rattle.mmv_writer.proofs.Standing.{word_read, low_read, high_read, text_read}
 use Rattle.mmv_writer.proofs.Wanted.{Has, HasHelp, HasContent, same_bytes, domain_helps, metric_helps, value_texts, strings_short}
-use Rattle.mmv_spelling.proofs.Positions.{Passes, first_passes, get_below, before_this}
+use Rattle.mmv_writer.proofs.Positions.{Passes, first_passes, get_below, before_this}
 use Rattle.mmv_writer.proofs.Spelt.{domains_from, instances_from, metrics_from, values_from, strings_from, offsets, stand_header, Finds, find_indoms, find_instances, find_metrics, find_values, find_strings}
 use Rattle.mmv_writer.proofs.Marks.{instance_is, metric_is, string_is, stand_domain, stand_value, stand_string, serial_fits, serial_read, run_read, first_read, first_is}
 use Rattle.mmv_writer.proofs.DomainTests.{name_from, number_read, short_name}
 use Rattle.mmv_writer.proofs.MetricTests.{fields_of, stand_fields, meaning_fits, item_read, kind_read, meaning_read, metric_serial_read, name_read, fits_string}
 use Rattle.mmv_writer.proofs.ValueTests.{metric_index, metric_found, domain_found, index_in, member_found, metric_field, extra_read, instance_read, one_at_least, same_int}
-use Rattle.mmv_format.specs.Sizes.{indom_size, instance_size, metric_size, value_size, string_size}
-use Rattle.mmv_format.specs.EntryFields.{item_offset_in_metric, type_offset_in_metric, semantics_offset_in_metric, units_offset_in_metric, serial_offset_in_metric, short_offset_in_metric, long_offset_in_metric, count_offset_in_indom, first_offset_in_indom, short_offset_in_indom, long_offset_in_indom, number_offset_in_instance, name_offset_in_instance, extra_offset_in_value, metric_offset_in_value, instance_offset_in_value}
-use Rattle.mmv_spelling.specs.Offsets.{name_length, indom_length, instance_length, metric_length, value_length, string_length}
+use Rattle.mmv_layout.specs.Sizes.{indom_size, instance_size, metric_size, value_size, string_size}
+use Rattle.mmv_layout.specs.EntryFields.{item_offset_in_metric, type_offset_in_metric, semantics_offset_in_metric, units_offset_in_metric, serial_offset_in_metric, short_offset_in_metric, long_offset_in_metric, count_offset_in_indom, first_offset_in_indom, short_offset_in_indom, long_offset_in_indom, number_offset_in_instance, name_offset_in_instance, extra_offset_in_value, metric_offset_in_value, instance_offset_in_value}
+use Rattle.mmv_writer.specs.Offsets.{name_length, indom_length, instance_length, metric_length, value_length, string_length}
 
 -- Rows one after the other
 

@@ -3,12 +3,12 @@ use Rattle.std.proofs.Common.{◌≡◌, ◌≢◌, ℕ, zero, suc, ◌+◌, ◌
 use Rattle.std.specs.List.{slice_get}
 use Rattle.std.proofs.lemmas.Bool.{eq-eqb, eqb-true, eqb-false, cases_lt}
 use Rattle.std.proofs.lemmas.Bool.Decides.{nat_tests}
-use Rattle.mmv_format.specs.Below.{all_below}
-use Rattle.mmv_format.specs.Contents.{bytes_in, contents_in, type_in, count_in, offset_in, section_bytes, end_in, is_type, section_lies, are_apart, is_first_of_type, has_good_section, is_aligned, sections_are_good, sections_are_aligned, find_section, section_of}
-use Rattle.mmv_format.specs.declared.contents.Section.{Section}
-use Rattle.mmv_spelling.specs.Spelling.{halves}
+use Rattle.mmv_layout.specs.Below.{all_below}
+use Rattle.mmv_layout.specs.Contents.{bytes_in, contents_in, type_in, count_in, offset_in, section_bytes, end_in, is_type, section_lies, are_apart, is_first_of_type, has_good_section, is_aligned, sections_are_good, sections_are_aligned, find_section, section_of}
+use Rattle.mmv_layout.specs.declared.contents.Section.{Section}
+use Rattle.mmv_writer.specs.Spelling.{halves}
 use Rattle.mmv_writer.proofs.Rows.{get_below}
-use Rattle.mmv_format.specs.Sizes.{indom_size, instance_size, metric_size, value_size, string_size}
+use Rattle.mmv_layout.specs.Sizes.{indom_size, instance_size, metric_size, value_size, string_size}
 
 -- a contents entry: type, count and offset
 pub record Entry : Type 0 where

@@ -3,18 +3,18 @@ use Rattle.std.proofs.Common.{◌≡◌, ℕ, ◌+◌, ◌*◌, ◌<◌, ◌≤�
 use Rattle.std.specs.List.{slice_get, flat_map}
 use Rattle.std.proofs.lemmas.List.Concat.{flat_map-append}
 use Rattle.std.proofs.lemmas.Bool.{eqb-true}
-use Rattle.mmv_format.specs.Contents.{section_bytes, section_of, sections_are_good, sections_are_aligned}
-use Rattle.mmv_format.specs.declared.contents.Section.{Section}
-use Rattle.mmv_format.specs.declared.rows.Layout.{Layout}
-use Rattle.mmv_spelling.specs.declared.offsets.Counts.{Counts}
-use Rattle.mmv_spelling.specs.declared.offsets.SectionOffsets.{SectionOffsets}
-use Rattle.mmv_spelling.specs.Offsets.{instances_in, counts_of, one_if_some, sections_in, section_offsets, words_in}
-use Rattle.mmv_spelling.specs.Spelling.{halves, header_words, entry_words, contents_words, domain_section, instance_section, metric_section, value_section, string_section, sections_words, image_with_strings}
-use Rattle.mmv_spelling.proofs.Lengths.{length_header, length_contents, length_domains, length_instances, length_metrics, length_values, length_spelled, sections_most}
+use Rattle.mmv_layout.specs.Contents.{section_bytes, section_of, sections_are_good, sections_are_aligned}
+use Rattle.mmv_layout.specs.declared.contents.Section.{Section}
+use Rattle.mmv_layout.specs.declared.rows.Layout.{Layout}
+use Rattle.mmv_writer.specs.declared.offsets.Counts.{Counts}
+use Rattle.mmv_writer.specs.declared.offsets.SectionOffsets.{SectionOffsets}
+use Rattle.mmv_writer.specs.Offsets.{instances_in, counts_of, one_if_some, sections_in, section_offsets, words_in}
+use Rattle.mmv_writer.specs.Spelling.{halves, header_words, entry_words, contents_words, domain_section, instance_section, metric_section, value_section, string_section, sections_words, image_with_strings}
+use Rattle.mmv_writer.proofs.Lengths.{length_header, length_contents, length_domains, length_instances, length_metrics, length_values, length_spelled, sections_most}
 use Rattle.mmv_writer.proofs.Standing.{Stands, stands_whole, stands_left, stands_right, stands_entry, word_read, low_read, high_read}
 use Rattle.mmv_writer.proofs.Sections.{Entry, kept, words_of_entry, IsEntry, Laid, laid_kept, laid_at, Reads, pick, pick_skip, pick_hit, section_is, good_sections, aligned_sections}
-use Rattle.mmv_format.specs.Sizes.{string_size}
-use Rattle.mmv_spelling.specs.Offsets.{indom_length, instance_length, metric_length, value_length}
+use Rattle.mmv_layout.specs.Sizes.{string_size}
+use Rattle.mmv_writer.specs.Offsets.{indom_length, instance_length, metric_length, value_length}
 
 -- The words at which the sections begin
 

@@ -6,11 +6,11 @@ use Rattle.std.proofs.lemmas.Bool.{eq-eqb}
 use Rattle.std.proofs.lemmas.Bool.Decides.{nat_tests}
 use Rattle.std.proofs.lemmas.List.{get_or-take, get_or-drop}
 use Rattle.std.proofs.lemmas.List.Sums.{sum_by-cons}
-use Rattle.mmv_format.specs.Fields.{number32, number64, byte_at, text_at, has_zero, first_words}
-use Rattle.mmv_format.proofs.Below.{some_holds}
-use Rattle.mmv_format.proofs.Bytes.{byte_of, word_at}
+use Rattle.mmv_layout.specs.Fields.{number32, number64, byte_at, text_at, has_zero, first_words}
+use Rattle.mmv_layout.proofs.Below.{some_holds}
+use Rattle.mmv_layout.proofs.Bytes.{byte_of, word_at}
 use Rattle.mmv_writer.specs.Draft.{IsStored}
-use Rattle.mmv_spelling.specs.Spelling.{halves}
+use Rattle.mmv_writer.specs.Spelling.{halves}
 
 -- from word n on
 pub record Stands (words : List ℕ) (n : ℕ) (part : List ℕ) : Type 0 where

@@ -4,24 +4,24 @@ use Rattle.std.specs.List.{list_any}
 use Rattle.std.proofs.lemmas.Bool.{eq-eqb}
 use Rattle.pcp_base.specs.declared.kind.Kind.{Kind}
 use Rattle.pcp_base.specs.declared.kind.Kind.TheVariants as kinds
-use Rattle.mmv_format.specs.declared.rows.IndomRow.{IndomRow}
-use Rattle.mmv_format.specs.declared.rows.MetricRow.{MetricRow}
-use Rattle.mmv_format.specs.declared.rows.ValueRow.{ValueRow}
-use Rattle.mmv_format.specs.declared.rows.Content.{Content}
-use Rattle.mmv_format.specs.declared.rows.Content.TheVariants as contents
-use Rattle.mmv_format.specs.declared.rows.Layout.{Layout}
+use Rattle.mmv_layout.specs.declared.rows.IndomRow.{IndomRow}
+use Rattle.mmv_layout.specs.declared.rows.MetricRow.{MetricRow}
+use Rattle.mmv_layout.specs.declared.rows.ValueRow.{ValueRow}
+use Rattle.mmv_layout.specs.declared.rows.Content.{Content}
+use Rattle.mmv_layout.specs.declared.rows.Content.TheVariants as contents
+use Rattle.mmv_layout.specs.declared.rows.Layout.{Layout}
 use Rattle.mmv_layout.specs.Rows.{layout_of}
 use Rattle.mmv_layout.proofs.Saying.{says_layout}
 use Rattle.text_lines.specs.Laws.{IsLineByte, IsTextByte}
-use Rattle.layout_text.specs.declared.line.Line.{Line}
-use Rattle.layout_text.specs.declared.line.Line.TheVariants as lines
-use Rattle.layout_text.specs.declared.line.Written.{Written}
-use Rattle.layout_text.specs.declared.line.Written.TheVariants as written
-use Rattle.layout_text.specs.Contents.{number_in_range, number_as, text_as, raw_as, content_of}
-use Rattle.layout_text.specs.Laws.{IsLine, IsWritten}
-use Rattle.layout_text.specs.Whole.{layout_text}
-use Rattle.layout_text.proofs.ReadRanges.{line_range}
-use Rattle.mmv_spelling.specs.Spelling.{image_words}
+use Rattle.text_lines.specs.declared.layout_line.Line.{Line}
+use Rattle.text_lines.specs.declared.layout_line.Line.TheVariants as lines
+use Rattle.text_lines.specs.declared.layout_line.Written.{Written}
+use Rattle.text_lines.specs.declared.layout_line.Written.TheVariants as written
+use Rattle.text_lines.specs.Contents.{number_in_range, number_as, text_as, raw_as, content_of}
+use Rattle.text_lines.specs.LayoutLaws.{IsLine, IsWritten}
+use Rattle.text_lines.specs.Whole.{layout_text}
+use Rattle.text_lines.proofs.ReadRanges.{line_range}
+use Rattle.mmv_writer.specs.Spelling.{image_words}
 use Rattle.mmv_writer.specs.declared.fault.BuildFault.{BuildFault}
 use Rattle.mmv_writer.specs.declared.fault.BuildFault.TheVariants.{Name, Duplicate, Serial, Item}
 use Rattle.mmv_writer.specs.declared.line_fault.LineFault.{LineFault}

@@ -1,6 +1,6 @@
 -- A line of a text says what its bytes say.
 use Rattle.std.proofs.Common.{◌≡◌, ℕ, List, [], ◌∷◌, ◌++◌, ap}
-use Rattle.layout_text.specs.Lines.{line_of}
+use Rattle.text_lines.specs.LayoutLines.{line_of}
 use Rattle.text_lines.proofs.Feeds.{fed}
 use Rattle.mmv_writer.specs.Reading.{full_line_of, said_by}
 

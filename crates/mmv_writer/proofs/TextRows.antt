@@ -1,7 +1,7 @@
 -- What each line of a text makes of the draft of the lines before it.
 use Rattle.std.proofs.Common.{◌≡◌, ℕ, nat_eq, false, ◌+◌, ◌<◌, List, [], ◌∷◌, length, refl, ap, ◌∙◌, arith, Ok, Err}
-use Rattle.mmv_format.specs.declared.rows.Layout.{Layout}
-use Rattle.layout_text.specs.Lines.{line_of}
+use Rattle.mmv_layout.specs.declared.rows.Layout.{Layout}
+use Rattle.text_lines.specs.LayoutLines.{line_of}
 use Rattle.mmv_writer.specs.declared.line_fault.LineFault.{LineFault}
 use Rattle.mmv_writer.specs.declared.line_fault.LineFault.TheVariants.{Grammar}
 use Rattle.mmv_writer.specs.declared.line_fault.TextFault.{TextFault}

@@ -6,31 +6,31 @@ use Rattle.std.proofs.lemmas.Bool.{eq-eqb, eqb-true, eqb-false}
 use Rattle.std.proofs.lemmas.Bool.Decides.{nat_tests, Decides-int_eq}
 use Rattle.pcp_base.specs.Codes.{code_of_kind}
 use Rattle.pcp_base.specs.declared.kind.Kind.{Kind}
-use Rattle.mmv_format.specs.Fields.{number32, number64}
-use Rattle.mmv_format.specs.Entries.{value_at, value_count, leads_to_indom, leads_to_instance, leads_to_string, metric_of, is_no_domain, instance_leads, choice_leads, is_same_value, is_new_value, is_good_value, values_are_good}
-use Rattle.mmv_format.specs.declared.rows.IndomRow.{IndomRow}
-use Rattle.mmv_format.specs.declared.rows.MetricRow.{MetricRow}
-use Rattle.mmv_format.specs.declared.rows.ValueRow.{ValueRow}
-use Rattle.mmv_format.specs.declared.rows.Content.{Content}
-use Rattle.mmv_format.specs.declared.rows.Content.TheVariants.{Number, Choice, Raw}
-use Rattle.mmv_format.specs.declared.rows.Layout.{Layout}
-use Rattle.mmv_format.proofs.Below.{both_left, both_right}
+use Rattle.mmv_layout.specs.Fields.{number32, number64}
+use Rattle.mmv_layout.specs.Entries.{value_at, value_count, leads_to_indom, leads_to_instance, leads_to_string, metric_of, is_no_domain, instance_leads, choice_leads, is_same_value, is_new_value, is_good_value, values_are_good}
+use Rattle.mmv_layout.specs.declared.rows.IndomRow.{IndomRow}
+use Rattle.mmv_layout.specs.declared.rows.MetricRow.{MetricRow}
+use Rattle.mmv_layout.specs.declared.rows.ValueRow.{ValueRow}
+use Rattle.mmv_layout.specs.declared.rows.Content.{Content}
+use Rattle.mmv_layout.specs.declared.rows.Content.TheVariants.{Number, Choice, Raw}
+use Rattle.mmv_layout.specs.declared.rows.Layout.{Layout}
+use Rattle.mmv_layout.proofs.Below.{both_left, both_right}
 use Rattle.mmv_writer.specs.Rules.{is_same_metric, has_instance, fits_instance, fits_kind, fits_metric, is_same_number}
 use Rattle.mmv_writer.specs.Rules as rules
 use Rattle.mmv_writer.specs.Draft.{Each, IsDraft}
-use Rattle.mmv_spelling.specs.Offsets.{instances_in, counts_of, words_in}
-use Rattle.mmv_spelling.specs.Spelling.{domain_of, instance_offset, serial_word, value_words, extra_field, serial_in, serial_of, members_in, member_of, instance_field, image_with_strings}
+use Rattle.mmv_writer.specs.Offsets.{instances_in, counts_of, words_in}
+use Rattle.mmv_writer.specs.Spelling.{domain_of, instance_offset, serial_word, value_words, extra_field, serial_in, serial_of, members_in, member_of, instance_field, image_with_strings}
 use Rattle.mmv_writer.proofs.Rows.{either_left}
 use Rattle.mmv_writer.proofs.Sections.{all_hold}
 use Rattle.mmv_writer.proofs.Standing.{word_read}
 use Rattle.mmv_writer.proofs.Wanted.{HasContent}
-use Rattle.mmv_spelling.proofs.Positions.{Passes, first_passes, position_is, find_at, get_below, get_some, same_row, before_this}
+use Rattle.mmv_writer.proofs.Positions.{Passes, first_passes, position_is, find_at, get_below, get_some, same_row, before_this}
 use Rattle.mmv_writer.proofs.Spelt.{values_from, offsets, find_values}
 use Rattle.mmv_writer.proofs.Marks.{value_is, indom_leads, instance_leads_to, metric_leads, string_leads, stand_value, serial_fits, serial_read, owner_read}
 use Rattle.mmv_writer.proofs.MetricTests.{kind_read, metric_serial_read}
-use Rattle.mmv_format.specs.Sizes.{indom_size, instance_size, metric_size}
-use Rattle.mmv_format.specs.EntryFields.{type_offset_in_metric, serial_offset_in_metric, extra_offset_in_value, metric_offset_in_value, instance_offset_in_value}
-use Rattle.mmv_spelling.specs.Offsets.{value_length}
+use Rattle.mmv_layout.specs.Sizes.{indom_size, instance_size, metric_size}
+use Rattle.mmv_layout.specs.EntryFields.{type_offset_in_metric, serial_offset_in_metric, extra_offset_in_value, metric_offset_in_value, instance_offset_in_value}
+use Rattle.mmv_writer.specs.Offsets.{value_length}
 
 -- where keys differ, the first row with a key is the one that some row with it is
 pub only_one : {T : Type 0} (key : T → ℕ) (rest : T → Bool) (n : ℕ) (xs : List T) → ((i j : ℕ) (a b : T) → i < j → slice_get xs i ≡ Some a → slice_get xs j ≡ Some b → nat_eq (key a) (key b) ≡ false) → list_any (λ x. nat_eq (key x) n && rest x) xs ≡ true → Passes xs (position_or_len (λ x. nat_eq (key x) n) xs) (λ x. nat_eq (key x) n && rest x)

@@ -2,12 +2,12 @@
 use Rattle.std.proofs.Common.{◌≡◌, ℕ, zero, suc, Bool, true, false, ◌&&◌, ◌||◌, List, [], ◌∷◌, ◌++◌, ap, ap₂, sym, subst, ◌∙◌, refl, cond, bytes_eq, nat_eq, Option, Some, None}
 use Rattle.std.specs.List.{list_any, slice_get, flat_map}
 use Rattle.std.proofs.lemmas.Bool.{eqb-true, eq-eqb}
-use Rattle.mmv_format.specs.declared.rows.Content.{Content}
-use Rattle.mmv_format.specs.declared.rows.Content.TheVariants.{Number, Choice, Raw}
-use Rattle.mmv_format.specs.declared.rows.Layout.{Layout}
-use Rattle.mmv_format.proofs.Below.{both_left, both_right}
+use Rattle.mmv_layout.specs.declared.rows.Content.{Content}
+use Rattle.mmv_layout.specs.declared.rows.Content.TheVariants.{Number, Choice, Raw}
+use Rattle.mmv_layout.specs.declared.rows.Layout.{Layout}
+use Rattle.mmv_layout.proofs.Below.{both_left, both_right}
 use Rattle.mmv_writer.specs.Draft.{Each, IsString, IsHelp, IsContent, IsDraft}
-use Rattle.mmv_spelling.specs.Spelling.{texts_of, texts_in, reference_texts, with_missing, all_strings}
+use Rattle.mmv_writer.specs.Spelling.{texts_of, texts_in, reference_texts, with_missing, all_strings}
 use Rattle.mmv_writer.proofs.Rows.{any_longer, each_snoc}
 
 pub same_bytes : (a b : List ℕ) → bytes_eq a b ≡ true → a ≡ b

@@ -7,16 +7,16 @@ use Rattle.std.proofs.lemmas.Bool.Decides.{Decides-int_eq}
 use Rattle.pcp_base.specs.Names.{is_letter, is_name_byte, spells}
 use Rattle.pcp_base.specs.Texts.{IsText}
 use Rattle.pcp_base.specs.declared.kind.Kind.{Kind}
-use Rattle.mmv_format.specs.declared.rows.IndomRow.{IndomRow}
-use Rattle.mmv_format.specs.declared.rows.Content.{Content}
-use Rattle.mmv_format.specs.declared.rows.Content.TheVariants as contents
-use Rattle.mmv_format.proofs.Below.{both_left, both_right}
+use Rattle.mmv_layout.specs.declared.rows.IndomRow.{IndomRow}
+use Rattle.mmv_layout.specs.declared.rows.Content.{Content}
+use Rattle.mmv_layout.specs.declared.rows.Content.TheVariants as contents
+use Rattle.mmv_layout.proofs.Below.{both_left, both_right}
 use Rattle.text_lines.specs.Laws.{IsTextByte, IsInt32}
-use Rattle.layout_text.specs.Contents.{written_of}
-use Rattle.layout_text.proofs.ContentRanges.{content_stands}
-use Rattle.layout_text.specs.Laws.{IsNameByte, IsLineName, IsWritten}
-use Rattle.mmv_spelling.proofs.Positions.{first_passes}
-use Rattle.mmv_format.specs.Entries.{is_serial}
+use Rattle.text_lines.specs.Contents.{written_of}
+use Rattle.text_lines.proofs.ContentRanges.{content_stands}
+use Rattle.text_lines.specs.LayoutLaws.{IsNameByte, IsLineName, IsWritten}
+use Rattle.mmv_writer.proofs.Positions.{first_passes}
+use Rattle.mmv_layout.specs.Entries.{is_serial}
 use Rattle.mmv_writer.specs.Rules.{is_metric_name, fits_instance}
 use Rattle.mmv_writer.specs.Draft.{Each, IsStored, IsHelp, IsNumber, IsDomain, HasDomain, IsContent}
 use Rattle.mmv_writer.specs.TextLaws.{HasFields}

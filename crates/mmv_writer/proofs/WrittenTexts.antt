@@ -5,28 +5,28 @@ use Rattle.std.specs.Int.{is_negative}
 use Rattle.std.proofs.lemmas.Bool.{eqb-true, eq-eqb, le-leb}
 use Rattle.std.proofs.lemmas.Bool.Decides.{nat_tests}
 use Rattle.pcp_base.specs.declared.kind.Kind.{Kind}
-use Rattle.mmv_format.specs.declared.rows.IndomRow.{IndomRow}
-use Rattle.mmv_format.specs.declared.rows.MetricRow.{MetricRow}
-use Rattle.mmv_format.specs.declared.rows.ValueRow.{ValueRow}
-use Rattle.mmv_format.specs.declared.rows.Content.{Content}
-use Rattle.mmv_format.specs.declared.rows.Content.TheVariants as contents
-use Rattle.mmv_format.specs.declared.rows.Layout.{Layout}
+use Rattle.mmv_layout.specs.declared.rows.IndomRow.{IndomRow}
+use Rattle.mmv_layout.specs.declared.rows.MetricRow.{MetricRow}
+use Rattle.mmv_layout.specs.declared.rows.ValueRow.{ValueRow}
+use Rattle.mmv_layout.specs.declared.rows.Content.{Content}
+use Rattle.mmv_layout.specs.declared.rows.Content.TheVariants as contents
+use Rattle.mmv_layout.specs.declared.rows.Layout.{Layout}
 use Rattle.mmv_layout.specs.Rows.{layout_of}
-use Rattle.mmv_format.proofs.Below.{both_left, both_right}
-use Rattle.mmv_format.proofs.Versions.{version_fits}
+use Rattle.mmv_layout.proofs.Below.{both_left, both_right}
+use Rattle.mmv_layout.proofs.Versions.{version_fits}
 use Rattle.mmv_layout.proofs.Saying.{says_layout}
 use Rattle.text_lines.specs.Laws.{IsLineByte}
-use Rattle.layout_text.specs.declared.line.Line.{Line}
-use Rattle.layout_text.specs.declared.line.Line.TheVariants as lines
-use Rattle.layout_text.specs.Contents.{written_of}
-use Rattle.layout_text.specs.Laws.{IsLine}
-use Rattle.layout_text.specs.Spelling.{line_text, full_line}
-use Rattle.layout_text.specs.Whole.{strings_text, instances_text, indom_text, indoms_text, metrics_text, kind_of_item, value_text, values_text, layout_text}
-use Rattle.layout_text.proofs.LineBytes.{line_in_line}
-use Rattle.layout_text.proofs.LineReads.{line_is_read}
-use Rattle.mmv_spelling.specs.Spelling.{image_words}
-use Rattle.mmv_spelling.proofs.Positions.{first_passes}
-use Rattle.mmv_format.specs.Entries.{is_serial}
+use Rattle.text_lines.specs.declared.layout_line.Line.{Line}
+use Rattle.text_lines.specs.declared.layout_line.Line.TheVariants as lines
+use Rattle.text_lines.specs.Contents.{written_of}
+use Rattle.text_lines.specs.LayoutLaws.{IsLine}
+use Rattle.text_lines.specs.LayoutSpelling.{line_text, full_line}
+use Rattle.text_lines.specs.Whole.{strings_text, instances_text, indom_text, indoms_text, metrics_text, kind_of_item, value_text, values_text, layout_text}
+use Rattle.text_lines.proofs.LayoutLineBytes.{line_in_line}
+use Rattle.text_lines.proofs.LineReads.{line_is_read}
+use Rattle.mmv_writer.specs.Spelling.{image_words}
+use Rattle.mmv_writer.proofs.Positions.{first_passes}
+use Rattle.mmv_layout.specs.Entries.{is_serial}
 use Rattle.mmv_writer.specs.declared.fault.BuildFault.{BuildFault}
 use Rattle.mmv_writer.specs.declared.fault.BuildFault.TheVariants.{Name, Duplicate, Unknown, Serial, Item, TooLarge}
 use Rattle.mmv_writer.specs.declared.line_fault.LineFault.TheVariants.{Build}

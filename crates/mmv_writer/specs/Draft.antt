@@ -1,14 +1,14 @@
 -- What a builder has been given: a layout of which all rules for rows hold, and what each row adds to it.
 use Rattle.std.specs.Prelude.{◌≡◌, ℕ, ◌<◌, ◌≤◌, ◌^◌, ℤ, pos, Bool, true, false, ◌==◌, if◌then◌else◌, List, [], ◌∷◌, ◌++◌, Option, Some, None, slice_get, slice_index, ◌⊎◌}
 use Rattle.pcp_base.specs.Texts.{IsText}
-use Rattle.mmv_format.specs.Sizes.{is_version}
-use Rattle.mmv_format.specs.declared.rows.IndomRow.{IndomRow}
-use Rattle.mmv_format.specs.declared.rows.MetricRow.{MetricRow}
-use Rattle.mmv_format.specs.declared.rows.ValueRow.{ValueRow}
-use Rattle.mmv_format.specs.declared.rows.Content.{Content}
-use Rattle.mmv_format.specs.declared.rows.Content.TheVariants.{Number, Choice, Raw}
-use Rattle.mmv_format.specs.declared.rows.Layout.{Layout}
-use Rattle.mmv_format.specs.Entries.{is_serial}
+use Rattle.mmv_layout.specs.Sizes.{is_version}
+use Rattle.mmv_layout.specs.declared.rows.IndomRow.{IndomRow}
+use Rattle.mmv_layout.specs.declared.rows.MetricRow.{MetricRow}
+use Rattle.mmv_layout.specs.declared.rows.ValueRow.{ValueRow}
+use Rattle.mmv_layout.specs.declared.rows.Content.{Content}
+use Rattle.mmv_layout.specs.declared.rows.Content.TheVariants.{Number, Choice, Raw}
+use Rattle.mmv_layout.specs.declared.rows.Layout.{Layout}
+use Rattle.mmv_layout.specs.Entries.{is_serial}
 use Rattle.mmv_writer.specs.declared.fault.BuildFault.{BuildFault}
 use Rattle.mmv_writer.specs.declared.fault.BuildFault.TheVariants.{NoMemory}
 use Rattle.mmv_writer.specs.Rules.{is_long, has_domain, is_instance_name, is_same_instance, is_metric_name, is_same_metric, fits_some_metric, is_same_value}

@@ -1,10 +1,10 @@
 -- What the definitions of this crate say together.
 use Rattle.std.specs.Prelude.{◌≡◌, ℕ, ◌≤◌, true, List, length}
-use Rattle.mmv_format.specs.Images.{is_image, IsImage}
-use Rattle.mmv_format.specs.declared.rows.Layout.{Layout}
+use Rattle.mmv_layout.specs.Images.{is_image, IsImage}
+use Rattle.mmv_layout.specs.declared.rows.Layout.{Layout}
 use Rattle.mmv_layout.specs.Rows.{layout_of}
 use Rattle.mmv_writer.specs.Draft.{IsDraft}
-use Rattle.mmv_spelling.specs.Spelling.{image_words}
+use Rattle.mmv_writer.specs.Spelling.{image_words}
 
 -- the spelling of a draft that has at most 65,536 words is an image
 abbrev pub DraftsAreImages : Type 0

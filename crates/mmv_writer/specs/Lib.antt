@@ -1,8 +1,11 @@
 pub mod Draft
 pub mod Keys
 pub mod Laws
+pub mod Offsets
 pub mod Reading
 pub mod Refusals
 pub mod Rules
 pub mod Saying
+pub mod Spelling
+pub mod Tables
 pub mod TextLaws

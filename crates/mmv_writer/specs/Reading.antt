@@ -2,14 +2,14 @@
 -- the lines. A line's number counts from 1.
 use Rattle.std.specs.Prelude.{◌≡◌, ℕ, ℤ, ◌+◌, ◌==◌, nat_le, if◌then◌else◌, min, List, [], ◌∷◌, length, Option, Some, None, Result, Ok, Err}
 use Rattle.pcp_base.specs.declared.kind.Kind.{Kind}
-use Rattle.mmv_format.specs.declared.rows.MetricRow.{MetricRow}
-use Rattle.mmv_format.specs.declared.rows.Content.{Content}
-use Rattle.mmv_format.specs.declared.rows.Layout.{Layout}
-use Rattle.layout_text.specs.declared.line.Line.{Line}
-use Rattle.layout_text.specs.declared.line.Line.TheVariants as lines
-use Rattle.layout_text.specs.declared.line.Written.{Written}
-use Rattle.layout_text.specs.Contents.{content_of}
-use Rattle.layout_text.specs.Lines.{line_of}
+use Rattle.mmv_layout.specs.declared.rows.MetricRow.{MetricRow}
+use Rattle.mmv_layout.specs.declared.rows.Content.{Content}
+use Rattle.mmv_layout.specs.declared.rows.Layout.{Layout}
+use Rattle.text_lines.specs.declared.layout_line.Line.{Line}
+use Rattle.text_lines.specs.declared.layout_line.Line.TheVariants as lines
+use Rattle.text_lines.specs.declared.layout_line.Written.{Written}
+use Rattle.text_lines.specs.Contents.{content_of}
+use Rattle.text_lines.specs.LayoutLines.{line_of}
 use Rattle.text_lines.specs.Lines.{lines_of, without_feed}
 use Rattle.mmv_writer.specs.declared.fault.BuildFault.{BuildFault}
 use Rattle.mmv_writer.specs.declared.fault.BuildFault.TheVariants as builds
@@ -22,7 +22,7 @@ use Rattle.mmv_writer.specs.declared.line_fault.ReadTextError.{ReadTextError}
 use Rattle.mmv_writer.specs.declared.line_fault.ReadTextError.TheVariants as ends
 use Rattle.mmv_writer.specs.Rules.{header_fault, indom_fault, instance_fault, metric_fault, value_fault, text_fault}
 use Rattle.mmv_writer.specs.Draft.{empty_draft, new_domain, with_domain, with_instance, with_metric, with_value, with_string}
-use Rattle.mmv_spelling.specs.Spelling.{image_words}
+use Rattle.mmv_writer.specs.Spelling.{image_words}
 
 -- Lines
 

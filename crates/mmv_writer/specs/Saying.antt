@@ -1,9 +1,9 @@
 -- What the spelling of a draft says.
 use Rattle.std.specs.Prelude.{◌≤◌, length}
 use Rattle.mmv_layout.specs.Says.{Says}
-use Rattle.mmv_format.specs.declared.rows.Layout.{Layout}
+use Rattle.mmv_layout.specs.declared.rows.Layout.{Layout}
 use Rattle.mmv_writer.specs.Draft.{IsDraft}
-use Rattle.mmv_spelling.specs.Spelling.{all_strings, image_words}
+use Rattle.mmv_writer.specs.Spelling.{all_strings, image_words}
 
 -- a draft with the strings that it lacked
 abbrev pub with_all_strings : Layout → Layout

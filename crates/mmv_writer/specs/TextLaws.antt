@@ -1,13 +1,13 @@
 -- What texts, drafts and images say of each other.
 use Rattle.std.specs.Prelude.{◌≡◌, ℕ, ◌<◌, ◌≤◌, List, length, All, Some, Ok}
-use Rattle.mmv_format.specs.declared.rows.ValueRow.{ValueRow}
-use Rattle.mmv_format.specs.declared.rows.Content.{Content}
-use Rattle.mmv_format.specs.declared.rows.Content.TheVariants.{Number, Choice, Raw}
-use Rattle.mmv_format.specs.declared.rows.Layout.{Layout}
+use Rattle.mmv_layout.specs.declared.rows.ValueRow.{ValueRow}
+use Rattle.mmv_layout.specs.declared.rows.Content.{Content}
+use Rattle.mmv_layout.specs.declared.rows.Content.TheVariants.{Number, Choice, Raw}
+use Rattle.mmv_layout.specs.declared.rows.Layout.{Layout}
 use Rattle.mmv_layout.specs.Rows.{layout_of}
-use Rattle.layout_text.specs.Contents.{content_of, written_of}
-use Rattle.layout_text.specs.Whole.{kind_of_item, layout_text}
-use Rattle.mmv_spelling.specs.Spelling.{image_words}
+use Rattle.text_lines.specs.Contents.{content_of, written_of}
+use Rattle.text_lines.specs.Whole.{kind_of_item, layout_text}
+use Rattle.mmv_writer.specs.Spelling.{image_words}
 use Rattle.mmv_writer.specs.Draft.{Each, IsDraft}
 use Rattle.mmv_writer.specs.Saying.{with_all_strings}
 use Rattle.mmv_writer.specs.Reading.{text_draft, text_image}

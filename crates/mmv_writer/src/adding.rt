@@ -36,7 +36,7 @@ pub fn add_domain(
 }
 
 /// Adds an instance behind others of the domain with a serial; a refusal leaves them and the keys.
-#[tactic(auto, using(crate::proofs::Lookups::all_held))]
+#[tactic(auto, using(crate::proofs::RowLookups::all_held))]
 fn add_to(
     instances: &mut List<(i32, Text)>,
     domains: &mut BTreeMap<u32, DomainKeys>,

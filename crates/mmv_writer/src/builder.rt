@@ -2,19 +2,19 @@
 ghost use Rattle.std.specs.Prelude.{◌≡◌, ◌≤◌, ◌<◌, ◌^◌, length, None, Some, MatchResult, OnOk, OnErr, IfOk, IfErr};
 ghost use Rattle.std.specs.List.{list_any};
 ghost use Rattle.mmv_writer.specs.Rules.{header_fault, indom_fault, has_domain, has_same_instance, instance_fault, is_same_metric, lacks_domain, metric_fault, fits_some_metric, is_same_value, value_fault, text_fault};
-ghost use Rattle.mmv_spelling.specs.Spelling.{image_words};
+ghost use Rattle.mmv_writer.specs.Spelling.{image_words};
 ghost use Rattle.mmv_writer.specs.Refusals.{IsTooLarge};
 ghost use Rattle.mmv_writer.specs.Reading.{kind_in};
 ghost use Rattle.mmv_writer.specs.Draft.{IsStored, IsHelp, IsContent, IsDraft, IsRefusal, empty_draft, new_domain, with_domain, with_instance, with_metric, with_value, with_string};
 
 use crate::adding::{add_domain, add_instance, add_metric, add_value};
+use crate::drafting::words_of_draft;
 use crate::fault::BuildFault;
 use crate::keys::{RowKeys, has_domain, has_either, has_metric};
 use crate::rules::{
     fits_metric, header_fault, is_instance_name, is_long_content, is_long_help, is_metric_name,
     is_serial, text_fault,
 };
-use crate::spelling::words_of_draft;
 use mmv_layout::{Image, IndomRow, Layout, MetricRow, ValueRow};
 use pcp_base::{Kind, List, NoMemory, Text};
 use std::alloc::Global;
@@ -29,7 +29,7 @@ pub struct Builder {
 }
 
 impl Model for Builder {
-    ghost use Rattle.mmv_format.specs.declared.rows.Layout.{Layout};
+    ghost use Rattle.mmv_layout.specs.declared.rows.Layout.{Layout};
     ghost use Rattle.mmv_writer.specs.Draft.{IsDraft};
     ghost use Rattle.mmv_writer.specs.Keys.{HasKeys};
 

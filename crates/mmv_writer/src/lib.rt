@@ -1,17 +1,25 @@
 //! Writes images of memory mapped values, version 1 (mmv(5)). A builder takes the rows of an image one by one and
-//! refuses a row that would break the format; what was built is then spelled in one way alone, without gaps.
+//! refuses a row that would break the format; what was built is then spelled in one way alone, without gaps: which strings
+//! it has, where its sections stand, and the words themselves. A whole layout text is read line after line.
 #![tactic(auto)]
 
 mod adding;
 mod builder;
+mod drafting;
 mod fault;
 mod keys;
 mod laws;
 mod line_fault;
+mod lookups;
+mod offsets;
 mod reading;
+mod references;
 mod rules;
 mod spelling;
+mod strings;
+mod tables;
 mod text_laws;
+mod words;
 
 pub use builder::Builder;
 pub use fault::BuildFault;

@@ -1,15 +1,14 @@
 //! A whole layout text as an image, and its lines one by one.
-ghost use Rattle.layout_text.specs.Lines.{line_of};
+ghost use Rattle.text_lines.specs.LayoutLines.{line_of};
 ghost use Rattle.text_lines.specs.Lines.{lines_of};
 ghost use Rattle.mmv_writer.specs.Reading.{kind_in, with_written, with_line, with_said, with_head, words_within_limit, text_image, Takes, MakesBuilder, Answers, Adds};
 
 use crate::builder::Builder;
 use crate::fault::BuildFault;
 use crate::line_fault::{LineError, LineFault, ReadTextError, TextFault};
-use layout_text::{Line, Written, content_of, read_line};
 use mmv_layout::{Image, ValueRow};
 use std::alloc::Global;
-use text_lines::split_line;
+use text_lines::{Line, Written, content_of, read_line, split_line};
 
 // Adds a value of the metric with this item.
 fn take_value(

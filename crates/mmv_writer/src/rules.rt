@@ -1,15 +1,14 @@
 //! The rules of single rows.
 ghost use Rattle.std.specs.Prelude.{◌≡◌, ◌<◌, ◌&&◌, ◌==◌, ℕ, false, None, bytes_eq, slice_index};
 ghost use Rattle.std.specs.List.{list_any};
-ghost use Rattle.mmv_format.specs.Entries.{is_serial};
+ghost use Rattle.mmv_layout.specs.Entries.{is_serial};
 ghost use Rattle.mmv_writer.specs.Rules.{is_long, is_long_help, header_fault, is_instance_name, is_metric_name, fits_kind, is_long_content, text_fault};
 ghost use Rattle.mmv_writer.specs.Keys.{fits_domain};
 ghost use Rattle.mmv_writer.specs.Draft.{IsStored, IsHelp, IsContent, IsString};
 
 use crate::fault::BuildFault;
 use crate::keys::{DomainKeys, fits_domain};
-use mmv_format::is_version;
-use mmv_layout::{Content, MetricRow, ValueRow};
+use mmv_layout::{Content, MetricRow, ValueRow, is_version};
 use pcp_base::{Kind, Text, is_name};
 use std::collections::BTreeMap;
 

@@ -4,7 +4,7 @@ use Rattle.std.specs.List.{zip}
 use Rattle.pcp_base.specs.declared.memory.NoMemory.{NoMemory}
 use Rattle.pcp_base.specs.declared.kind.Kind.{Kind}
 use Rattle.pcp_base.specs.declared.kind.Kind.TheVariants as kinds
-use Rattle.mmv_format.specs.declared.rows.Slot.{Slot}
+use Rattle.mmv_layout.specs.declared.rows.Slot.{Slot}
 use Rattle.mmv_layout.specs.Form.{Form, form_of, is_slot_of, slots_of, texts_of}
 use Rattle.region_core.specs.declared.act.Act.{Act}
 use Rattle.region_core.specs.declared.act.Act.TheVariants.{Load, Swap, Add}
@@ -22,8 +22,8 @@ use Rattle.region_rule.specs.Seats.{MadeRegion, Token, IsSame}
 use Rattle.region_words.specs.Calls.{form_seen, Loads, IsNumber}
 use Rattle.region_words.specs.Images.{mmv}
 use Rattle.region_words.proofs.Inside.{numbers_take, slots_take, texts_inside}
-use Rattle.script_lines.specs.declared.line.Given.{Given}
-use Rattle.script_lines.specs.declared.line.Given.TheVariants as given
+use Rattle.run_script.specs.declared.lines.Given.{Given}
+use Rattle.run_script.specs.declared.lines.Given.TheVariants as given
 use Rattle.script_runs.specs.Journals.{is_load, is_attached, is_look}
 use Rattle.script_runs.specs.PassSteps as steps
 use Rattle.script_runs.specs.Regions.{Doing, ScriptRegion, with_act}

@@ -4,7 +4,7 @@ use Rattle.std.specs.List.{zip}
 use Rattle.pcp_base.specs.declared.memory.NoMemory.{NoMemory}
 use Rattle.pcp_base.specs.declared.kind.Kind.{Kind}
 use Rattle.pcp_base.specs.declared.kind.Kind.TheVariants as kinds
-use Rattle.mmv_format.specs.declared.rows.Slot.{Slot}
+use Rattle.mmv_layout.specs.declared.rows.Slot.{Slot}
 use Rattle.mmv_layout.specs.Form.{is_slot_of}
 use Rattle.region_core.specs.declared.act.Act.{Act}
 use Rattle.region_core.specs.declared.act.Act.TheVariants.{Swap}
@@ -14,8 +14,8 @@ use Rattle.region_rule.specs.Seats.{Token, IsSame}
 use Rattle.region_rule.specs.Steps.{Extends}
 use Rattle.region_words.specs.Calls.{form_seen, Loads}
 use Rattle.region_words.specs.Images.{mmv}
-use Rattle.script_lines.specs.declared.line.Given.{Given}
-use Rattle.script_lines.specs.declared.line.Given.TheVariants as given
+use Rattle.run_script.specs.declared.lines.Given.{Given}
+use Rattle.run_script.specs.declared.lines.Given.TheVariants as given
 use Rattle.script_runs.specs.Slots.{number_for, add_into}
 use Rattle.pass_steps.specs.declared.said.Said.{Said}
 use Rattle.pass_steps.specs.declared.said.Said.TheVariants as said

@@ -1,6 +1,6 @@
 //! What a line lets a pass do.
 use mmv_layout::Image;
-use script_lines::Given;
+use run_script::Given;
 
 /// What a line lets a pass do.
 #[derive(Clone, Copy)]

@@ -12,13 +12,12 @@ ghost use Rattle.pass_steps.specs.Storing.{Looks, StoresOrLoads, said_of, text_a
 
 use crate::said::Said;
 use crate::worker::Worker;
-use layout_text::{Written, content_of};
-use mmv_format::Content;
-use mmv_layout::Slot;
+use mmv_layout::{Content, Slot};
 use pcp_base::{Kind, NoMemory, Text};
 use region_words::{Region, Stint};
-use script_lines::Given;
+use run_script::Given;
 use std::alloc::Global;
+use text_lines::{Written, content_of};
 
 /// The slot of an item and an instance; without an instance the metric has no domain.
 fn find_slot(slots: &[Slot], item: u32, instance: Option<i32>) -> Option<&Slot>

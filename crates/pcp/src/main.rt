@@ -2,10 +2,11 @@
 //! command, standard input and standard output are handed to the command, whose status is the program's. A lone `--help` prints the help.
 #![tactic(auto)]
 
-use pcp_help::{asks_help, write_help};
-use pcp_listening::{first_bad_of_serve, is_serve, serve_clients};
 use pcp_outside::Sink;
-use pcp_recording::{first_bad_of_record, record_samples};
+use pcp_shell::{
+    asks_help, first_bad_of_record, first_bad_of_serve, is_serve, record_samples, serve_clients,
+    write_help,
+};
 use pcp_system::{FileDisk, ReaderSource, WriterSink};
 use pm_commands::{Refusal, StageFault, Usage, offline, read_words};
 use pm_recording::is_record;

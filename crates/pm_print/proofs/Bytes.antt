@@ -4,12 +4,12 @@ use Rattle.std.specs.Prelude.{is_none, nat_lt}
 use Rattle.std.specs.List.{AllByRecursion}
 use Rattle.std.proofs.lemmas.List.Elements.{recursion_from_All}
 use Rattle.std.proofs.lemmas.Nat.{from_le_bytes-to_le_bytes_8}
-use Rattle.mmv_faults.specs.declared.fault.ImageFault.{ImageFault}
-use Rattle.mmv_faults.specs.declared.fault.ImageFault.TheVariants.{Short}
-use Rattle.mmv_format.specs.Fields.{first_words, words_of}
-use Rattle.mmv_faults.specs.Faults.{image_of, image_in, image_fault, unless_fault}
-use Rattle.mmv_format.specs.Contents.{is_short}
-use Rattle.mmv_faults.proofs.Images.{images_same, at_least_five, short_words}
+use Rattle.mmv_layout.specs.declared.fault.ImageFault.{ImageFault}
+use Rattle.mmv_layout.specs.declared.fault.ImageFault.TheVariants.{Short}
+use Rattle.mmv_layout.specs.Fields.{first_words, words_of}
+use Rattle.mmv_layout.specs.Faults.{image_of, image_in, image_fault, unless_fault}
+use Rattle.mmv_layout.specs.Contents.{is_short}
+use Rattle.mmv_layout.proofs.Images.{images_same, at_least_five, short_words}
 use Rattle.pm_print.specs.Bytes.{bytes_of}
 use Rattle.pm_print.specs.Laws.{BytesAreTheImage}
 

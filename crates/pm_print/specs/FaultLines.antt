@@ -1,8 +1,8 @@
 -- The line of each fault of an input: its name and its fields.
 use Rattle.std.specs.Prelude.{ℕ, List, [], ◌∷◌, ◌++◌, codes}
 use Rattle.std.specs.Fmt.{decimal}
-use Rattle.mmv_faults.specs.declared.fault.ImageFault.{ImageFault}
-use Rattle.mmv_faults.specs.declared.fault.ImageFault.TheVariants as faults
+use Rattle.mmv_layout.specs.declared.fault.ImageFault.{ImageFault}
+use Rattle.mmv_layout.specs.declared.fault.ImageFault.TheVariants as faults
 use Rattle.mmv_writer.specs.declared.fault.BuildFault.TheVariants as builds
 use Rattle.mmv_writer.specs.declared.line_fault.LineFault.{LineFault}
 use Rattle.mmv_writer.specs.declared.line_fault.LineFault.TheVariants as lines

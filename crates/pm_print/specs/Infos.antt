@@ -13,7 +13,7 @@ use Rattle.pcp_base.specs.declared.kind.Semantics.{Semantics}
 use Rattle.pcp_model.specs.declared.records.MetaRecord.{MetaRecord}
 use Rattle.pcp_model.specs.declared.records.MetaRecord.TheVariants.{Description, Domain, Other}
 use Rattle.archive_meta.specs.Said.{description_of, described_metrics}
-use Rattle.layout_text.specs.Spelling.{kind_part, semantics_part}
+use Rattle.text_lines.specs.LayoutSpelling.{kind_part, semantics_part}
 use Rattle.text_lines.specs.Spelling.{number_part, hex_part}
 use Rattle.pm_print.specs.Sets.{pmid_text}
 

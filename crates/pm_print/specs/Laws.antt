@@ -1,7 +1,7 @@
 -- What the definitions of this crate say together.
 use Rattle.std.specs.Prelude.{◌≡◌, ℕ, ◌<◌, ◌^◌, List, All, Ok}
-use Rattle.mmv_faults.specs.Faults.{image_of}
-use Rattle.mmv_format.specs.Images.{IsImage}
+use Rattle.mmv_layout.specs.Faults.{image_of}
+use Rattle.mmv_layout.specs.Images.{IsImage}
 use Rattle.pm_print.specs.Bytes.{bytes_of}
 
 -- the bytes of an image are read as this image

@@ -5,10 +5,10 @@ ghost use Rattle.pm_print.specs.Bytes.{bytes_of};
 ghost use Rattle.pm_print.specs.Dumps.{dump_of};
 
 use byteorder::{ByteOrder, LittleEndian};
-use layout_text::layout_text;
 use mmv_layout::Image;
 use pcp_base::{Bytes, List, NoMemory};
 use std::alloc::{AllocError, Global};
+use text_lines::layout_text;
 
 /// The layout text of an image: all strings, each domain with its instances, the metrics, then the values, in the
 /// order of their sections. `i32` and `u32` values are written by the low 32 bits of their value field.

@@ -8,11 +8,10 @@ ghost use Rattle.pm_print.specs.Rows.{listed_rows};
 use crate::sets::put_pmid;
 use crate::values::put_decimal;
 use archive_meta::MetaState;
-use layout_text::{put_kind, put_semantics};
 use pcp_base::{Bytes, Desc, InDom, Kind, List, NoMemory, Pmid, Semantics, Text};
 use std::alloc::Global;
 use std::collections::BTreeMap;
-use text_lines::{put_hex_part, put_number};
+use text_lines::{put_hex_part, put_kind, put_number, put_semantics};
 
 // Descriptions by name, and for equal names by the number of the row.
 type Rows = BTreeMap<(Vec<u8>, usize), Desc>;

@@ -5,7 +5,7 @@ use Rattle.record_laws.proofs.Counted.{counters_are_sums}
 use Rattle.record_laws.proofs.Last.{last_sample}
 use Rattle.record_laws.proofs.Unlost.{no_line_lost}
 use Rattle.run_script.specs.Reading.{script_of}
-use Rattle.recordable_scripts.specs.Recording.{refused_line}
+use Rattle.run_script.specs.Recording.{refused_line}
 use Rattle.run_script.specs.Rules.{KeepsRules}
 use Rattle.run_script.specs.declared.fault.ScriptFault.{ScriptFault}
 use Rattle.run_script.specs.declared.script.Script.{Script}

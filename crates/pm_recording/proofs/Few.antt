@@ -1,20 +1,20 @@
 -- A script has no more steps than its input has bytes: each line says one at most.
 use Rattle.std.proofs.Common.{◌≡◌, ℕ, suc, ◌+◌, ◌≤◌, Bool, true, false, List, [], ◌∷◌, ◌++◌, length, length-append, Option, Some, None, Result, Ok, Err, subst, arith}
 use Rattle.std.specs.Prelude.{◌==◌, if◌then◌else◌, nat_le, min, slice_get, codes, bytes_eq}
-use Rattle.mmv_format.specs.declared.rows.Layout.{Layout}
+use Rattle.mmv_layout.specs.declared.rows.Layout.{Layout}
 use Rattle.text_lines.specs.Lines.{prepend, lines_of, without_feed}
-use Rattle.mmv_spelling.specs.Spelling.{image_words}
-use Rattle.layout_text.specs.Lines.{line_of}
+use Rattle.mmv_writer.specs.Spelling.{image_words}
+use Rattle.text_lines.specs.LayoutLines.{line_of}
 use Rattle.mmv_writer.specs.declared.line_fault.LineFault.{LineFault}
 use Rattle.mmv_writer.specs.declared.line_fault.LineFault.TheVariants.{Build, Condition}
 use Rattle.mmv_writer.specs.declared.fault.BuildFault.TheVariants.{TooLarge}
 use Rattle.mmv_writer.specs.Reading.{with_head, with_said}
 use Rattle.log_schedule.specs.declared.config.Group.{Group}
-use Rattle.script_lines.specs.declared.line.StepLine.{StepLine}
-use Rattle.script_lines.specs.declared.line.HeadLine.{HeadLine}
-use Rattle.script_lines.specs.declared.line.HeadLine.TheVariants as heads
-use Rattle.script_lines.specs.Heads.{head_line}
-use Rattle.script_lines.specs.Steps.{step_line}
+use Rattle.run_script.specs.declared.lines.StepLine.{StepLine}
+use Rattle.run_script.specs.declared.lines.HeadLine.{HeadLine}
+use Rattle.run_script.specs.declared.lines.HeadLine.TheVariants as heads
+use Rattle.run_script.specs.HeadLines.{head_line}
+use Rattle.run_script.specs.StepLines.{step_line}
 use Rattle.run_script.specs.declared.fault.ScriptLineFault.{ScriptLineFault}
 use Rattle.run_script.specs.declared.fault.ScriptLineFault.TheVariants as faults
 use Rattle.run_script.specs.declared.fault.ScriptFault.{ScriptFault}

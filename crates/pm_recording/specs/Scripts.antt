@@ -5,7 +5,7 @@ use Rattle.run_script.specs.declared.fault.ScriptFault.{ScriptFault}
 use Rattle.run_script.specs.declared.fault.ScriptLineFault.TheVariants.{Line}
 use Rattle.run_script.specs.declared.script.Script.{Script}
 use Rattle.run_script.specs.Reading.{script_of}
-use Rattle.recordable_scripts.specs.Recording.{refused_line}
+use Rattle.run_script.specs.Recording.{refused_line}
 use Rattle.pm_words.specs.declared.stage.InputRefusal.{InputRefusal}
 use Rattle.pm_words.specs.declared.stage.InputRefusal.TheVariants.{Script as Scripted}
 use Rattle.pm_words.specs.declared.stage.StageFault.{StageFault}

@@ -2,7 +2,7 @@
 ghost use Rattle.std.specs.Prelude.{◌≡◌, IfOk, OnErr};
 ghost use Rattle.pm_recording.specs.CommandWords.{FitsRecord};
 ghost use Rattle.pm_recording.specs.Recording.{HasRecorded, run_side};
-ghost use Rattle.recordable_scripts.specs.Recording.{refused_line};
+ghost use Rattle.run_script.specs.Recording.{refused_line};
 ghost use Rattle.run_script.specs.Rules.{KeepsRules};
 
 use crate::words::RecordWords;

@@ -2,12 +2,11 @@
 ghost use Rattle.std.specs.Prelude.{◌≡◌, ◌≤◌, IfOk, None, length};
 ghost use Rattle.pm_recording.specs.Scripts.{Answers, script_recorded};
 ghost use Rattle.pm_words.specs.Inputs.{input_limit};
-ghost use Rattle.recordable_scripts.specs.Recording.{refused_line};
+ghost use Rattle.run_script.specs.Recording.{refused_line};
 ghost use Rattle.run_script.specs.Rules.{KeepsRules};
 
 use pm_words::{InputRefusal, StageFault};
-use recordable_scripts::for_record;
-use run_script::{ReadScriptError, Script};
+use run_script::{ReadScriptError, Script, for_record};
 use std::alloc::Global;
 
 /// The script of an input, or why it isn't recorded.

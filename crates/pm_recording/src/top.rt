@@ -9,7 +9,7 @@ ghost use Rattle.pm_recording.specs.Facts.{ArchiveFaultIsExact, ClockIsExact, Co
 ghost use Rattle.pm_recording.specs.Recording.{run_side};
 ghost use Rattle.pcp_outside.specs.Sides.{source_side, sink_side};
 ghost use Rattle.pm_words.specs.Sides.{IsUnread, Leaves};
-ghost use Rattle.recordable_scripts.specs.Recording.{refused_line};
+ghost use Rattle.run_script.specs.Recording.{refused_line};
 ghost use Rattle.run_script.specs.Rules.{KeepsRules};
 
 use crate::refusal::{RecordRefusal, refusal_of};

@@ -1,7 +1,7 @@
 -- What the first line that can't be served makes of an input.
 use Rattle.std.proofs.Common.{◌≡◌, ℕ, List, refl, ap, ◌∙◌, Option, Some, None, option_map, Ok}
 use Rattle.run_script.specs.Reading.{script_of}
-use Rattle.recordable_scripts.specs.Recording.{refused_line}
+use Rattle.run_script.specs.Recording.{refused_line}
 use Rattle.run_script.specs.declared.script.RegionRow.{RegionRow}
 use Rattle.run_script.specs.declared.script.Script.{Script}
 use Rattle.pm_serving.specs.Scripts.{crowded_line, earlier, first_crowded, script_served, unless, unserved_line, with_room}

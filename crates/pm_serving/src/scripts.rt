@@ -1,7 +1,7 @@
 //! The script of an input, whose regions must have room for the seats, and whose passes must be able to act beside each other.
 ghost use Rattle.std.specs.Prelude.{◌≡◌, ◌≤◌, IfOk, None, length};
 ghost use Rattle.pm_serving.specs.Scripts.{Answers, broken_at, crowded_line, earlier, script_served, with_room};
-ghost use Rattle.recordable_scripts.specs.Recording.{refused_line};
+ghost use Rattle.run_script.specs.Recording.{refused_line};
 ghost use Rattle.pm_words.specs.Inputs.{input_limit};
 ghost use Rattle.run_script.specs.Reading.{script_of};
 ghost use Rattle.run_script.specs.Rules.{KeepsRules};
@@ -9,8 +9,7 @@ ghost use Rattle.script_passes.specs.Openings.{HaveRoom};
 
 use mmv_writer::LineFault;
 use pm_words::{InputRefusal, StageFault};
-use recordable_scripts::for_record;
-use run_script::{ReadScriptError, Script, ScriptFault, ScriptLineFault};
+use run_script::{ReadScriptError, Script, ScriptFault, ScriptLineFault, for_record};
 use std::alloc::Global;
 
 // The line of the first region without room for the seats.

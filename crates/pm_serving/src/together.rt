@@ -4,7 +4,7 @@ ghost use Rattle.std.specs.List.{AllByRecursion};
 ghost use Rattle.std.specs.Thread.{IsSend, IsSync};
 ghost use Rattle.fetch_engine.specs.Servers.{IsSeated};
 ghost use Rattle.pmcd_server.specs.Crews.{HasServed};
-ghost use Rattle.recordable_scripts.specs.Recording.{refused_line};
+ghost use Rattle.run_script.specs.Recording.{refused_line};
 ghost use Rattle.run_script.specs.Rules.{KeepsRules};
 ghost use Rattle.script_passes.specs.Crews.{ServesScript};
 ghost use Rattle.script_passes.specs.Openings.{HaveRoom};

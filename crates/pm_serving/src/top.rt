@@ -7,7 +7,7 @@ ghost use Rattle.pm_serving.specs.Facts.{IsGoodRun, LimitIsExact, ScriptFaultIsE
 ghost use Rattle.pm_serving.specs.Refusals.{served_line};
 ghost use Rattle.pm_serving.specs.Serving.{doors_side};
 ghost use Rattle.pcp_outside.specs.Sides.{source_side, sink_side};
-ghost use Rattle.recordable_scripts.specs.Recording.{refused_line};
+ghost use Rattle.run_script.specs.Recording.{refused_line};
 ghost use Rattle.run_script.specs.Rules.{KeepsRules};
 ghost use Rattle.script_passes.specs.Openings.{HaveRoom};
 

@@ -3,7 +3,7 @@ use Rattle.std.proofs.Common.{◌≡◌, inl, inr, ℕ, List, sym, ap, ◌∙◌
 use Rattle.pcp_base.specs.Time.{Moment}
 use Rattle.pcp_model.specs.Disk.{Files, Holdings, contents_of}
 use Rattle.pcp_outside.specs.declared.disk.Disk.{Ghosts as DiskGhosts}
-use Rattle.archive_window.specs.Looks.{Looks}
+use Rattle.archive_loading.specs.Looks.{Looks}
 use Rattle.archive_loading.specs.Loaded.{Loaded, IsOver}
 use Rattle.archive_loading.specs.Takes.{TookLabels}
 use Rattle.archive_reader.specs.Asked.{at_begin, range_begin}

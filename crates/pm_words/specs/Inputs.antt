@@ -1,6 +1,6 @@
 -- What an input must be for the commands that read one.
 use Rattle.std.specs.Prelude.{◌≡◌, ℕ, List, [], Option, Some, None, Result, Ok, Err}
-use Rattle.mmv_faults.specs.declared.fault.ImageFault.{ImageFault}
+use Rattle.mmv_layout.specs.declared.fault.ImageFault.{ImageFault}
 use Rattle.mmv_writer.specs.declared.line_fault.TextFault.{TextFault}
 use Rattle.run_script.specs.declared.fault.ScriptFault.{ScriptFault}
 use Rattle.run_script.specs.declared.script.Script.{Script}

@@ -1,7 +1,7 @@
 //! What a recording tells on a terminal.
 use pcp_base::List;
 use pcp_outside::{MemDisk, MemSink, SureSource};
-use pcp_recording::record_samples;
+use pcp_shell::record_samples;
 use std::alloc::{Alloc, AllocError, Global};
 use std::fmt::Display;
 use std::io::{self, ErrorKind, IsTerminal, Print};

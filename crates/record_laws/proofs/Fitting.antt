@@ -5,12 +5,12 @@ use Rattle.std.proofs.lemmas.Bool.{ltb-true}
 use Rattle.std.proofs.lemmas.List.{get_or_append_left, length-replicate}
 use Rattle.std.proofs.lemmas.List.Elements.{All-nil, All-cons}
 use Rattle.std.proofs.lemmas.Option.{get_or_from_slice_get, slice_get_within}
-use Rattle.mmv_format.specs.Fields.{number64}
+use Rattle.mmv_layout.specs.Fields.{number64}
 use Rattle.mmv_layout.specs.Form.{form_of}
 use Rattle.region_core.specs.Shape.{IsWord, IsLike}
 use Rattle.region_core.specs.State.{with_zeros, opening}
 use Rattle.region_words.specs.Images.{mmv, mmv_laws}
-use Rattle.recordable_scripts.specs.Recording.{changed_to, fits_in, held_by, high_region, image_words, is_at, lines_of, opened_on, opens_low, or_else, place_of, refused_line, slot_in, suits, takes_add, takes_swap, unrest_line, with_change, words_or_none, wrong_step}
+use Rattle.run_script.specs.Recording.{changed_to, fits_in, held_by, high_region, image_words, is_at, lines_of, opened_on, opens_low, or_else, place_of, refused_line, slot_in, suits, takes_add, takes_swap, unrest_line, with_change, words_or_none, wrong_step}
 use Rattle.run_script.specs.Rules.{KeepsRules, IsPlaced}
 use Rattle.run_script.specs.declared.script.Line.{Line}
 use Rattle.run_script.specs.declared.script.Line.TheVariants as lines

@@ -12,14 +12,14 @@ use Rattle.region_core.specs.State.{State, after, g1}
 use Rattle.region_core.proofs.Journals.{own-append, own-mine}
 use Rattle.region_rule.specs.Changes.{left_from, next_after, puts_at, puts_left}
 use Rattle.region_rule.specs.Steps.{entry}
-use Rattle.recordable_scripts.specs.Recording.{image_words}
+use Rattle.run_script.specs.Recording.{image_words}
 use Rattle.run_script.specs.declared.script.Line.{Line}
 use Rattle.run_script.specs.declared.script.Line.TheVariants as lines
-use Rattle.script_lines.specs.declared.line.Given.{Given as Written}
+use Rattle.run_script.specs.declared.lines.Given.{Given as Written}
 use Rattle.script_runs.specs.Journals.{is_load}
 use Rattle.script_runs.specs.Slots.{swap_of, swap_into, slot_with, value_for, add_of, add_into, holds_number, low_bits}
 use Rattle.script_writers.specs.Lines.{Writing, Makes, IsBounced, AreBounced, Attaches, takes, Stores, IsBeginMade, Spends, BeginsChange, next_put, next_place, StepsOn, Finishes, LineMakes, LinesMake}
-use Rattle.mmv_format.specs.declared.rows.Slot.{Slot}
+use Rattle.mmv_layout.specs.declared.rows.Slot.{Slot}
 use Rattle.record_laws.proofs.Behind.{AreLoads, first_load, other_loads, own_mine, own_other}
 use Rattle.record_laws.proofs.Relaid.{NoBegin, is_begin, not_begin, puts_next, change_acts}
 

@@ -1,6 +1,6 @@
 -- A reading whose loads stand where nothing changes any more.
 use Rattle.std.proofs.Common.{◌≡◌, ℕ, ◌<◌, ◌≤◌, length, slice_index, Option, Some, None, sym, refl, ap, ◌∙◌, subst, arith}
-use Rattle.mmv_format.specs.declared.rows.Layout.{Layout}
+use Rattle.mmv_layout.specs.declared.rows.Layout.{Layout}
 use Rattle.mmv_layout.specs.Rows.{layout_of}
 use Rattle.region_core.specs.Journal.{state_at}
 use Rattle.region_core.specs.Readings.{IsFoundBetween, HasLayout, IsAgainBetween, Missed}

@@ -4,16 +4,16 @@ use Rattle.std.specs.List.{find, list_any}
 use Rattle.std.specs.Prelude.{bytes_eq, unwrap_or}
 use Rattle.pcp_base.specs.declared.kind.Kind.{Kind}
 use Rattle.pcp_base.specs.declared.kind.Kind.TheVariants as kinds
-use Rattle.layout_text.specs.Contents.{number_in_range, number_as}
-use Rattle.mmv_format.specs.declared.rows.Content.{Content}
-use Rattle.mmv_format.specs.declared.rows.Content.TheVariants as contents
-use Rattle.mmv_format.specs.declared.rows.Slot.{Slot}
+use Rattle.text_lines.specs.Contents.{number_in_range, number_as}
+use Rattle.mmv_layout.specs.declared.rows.Content.{Content}
+use Rattle.mmv_layout.specs.declared.rows.Content.TheVariants as contents
+use Rattle.mmv_layout.specs.declared.rows.Slot.{Slot}
 use Rattle.mmv_layout.specs.Form.{Form, form_of, slots_of, texts_of, is_slot_of}
 use Rattle.mmv_layout.proofs.FormSays.{texts_said}
 use Rattle.region_core.specs.declared.act.Act.TheVariants.{Swap, Add}
-use Rattle.recordable_scripts.specs.Recording as recording
-use Rattle.script_lines.specs.declared.line.Given.{Given as Written}
-use Rattle.script_lines.specs.declared.line.Given.TheVariants as written
+use Rattle.run_script.specs.Recording as recording
+use Rattle.run_script.specs.declared.lines.Given.{Given as Written}
+use Rattle.run_script.specs.declared.lines.Given.TheVariants as written
 use Rattle.script_runs.specs.Slots.{swap_of, swap_into, slot_with, value_for, field_of, text_for, add_of, add_into, low_bits, holds_number}
 
 -- Words of one form

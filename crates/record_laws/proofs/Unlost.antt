@@ -10,7 +10,7 @@ use Rattle.region_rule.specs.Seats.{Token}
 use Rattle.region_words.specs.Images.{mmv, mmv_laws}
 use Rattle.fetch_answers.specs.declared.fetch.Fetched.{Fetched}
 use Rattle.fetch_engine.specs.declared.server.Mounted.{Mounted}
-use Rattle.recordable_scripts.specs.Recording.{held_by, lines_of, refused_line}
+use Rattle.run_script.specs.Recording.{held_by, lines_of, refused_line}
 use Rattle.run_script.specs.Rules.{KeepsRules}
 use Rattle.run_script.specs.declared.script.Script.{Script}
 use Rattle.script_passes.specs.Crews.{Serves, ServesScript}

@@ -15,7 +15,7 @@ use Rattle.region_core.proofs.Runs.{mode_after, mode_own}
 use Rattle.region_core.proofs.Sound.{IsSound, inside_shut, sound_opening, sound_run}
 use Rattle.region_rule.specs.Steps.{entry}
 use Rattle.region_words.specs.Images.{mmv, mmv_laws}
-use Rattle.recordable_scripts.specs.Recording.{image_words, slot_in, takes_add, takes_swap}
+use Rattle.run_script.specs.Recording.{image_words, slot_in, takes_add, takes_swap}
 use Rattle.run_script.specs.declared.script.Line.{Line}
 use Rattle.run_script.specs.declared.script.Line.TheVariants as lines
 use Rattle.script_runs.specs.Slots.{swap_of, add_of}

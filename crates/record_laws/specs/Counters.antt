@@ -1,9 +1,9 @@
 -- What the numbers of a region come to in a recording, as its journal tells them.
 use Rattle.std.specs.Prelude.{◌≡◌, ℕ, ◌+◌, ◌%◌, ◌^◌, ◌<◌, negsuc, List, ◌∷◌, ◌++◌, length, slice_get, Contains, Some, None, unwrap_or}
 use Rattle.pcp_base.specs.Time.{Moment}
-use Rattle.mmv_format.specs.declared.rows.Content.TheVariants.{Number}
-use Rattle.mmv_format.specs.declared.rows.Slot.{Slot}
-use Rattle.mmv_format.specs.declared.rows.ValueRow.{ValueRow}
+use Rattle.mmv_layout.specs.declared.rows.Content.TheVariants.{Number}
+use Rattle.mmv_layout.specs.declared.rows.Slot.{Slot}
+use Rattle.mmv_layout.specs.declared.rows.ValueRow.{ValueRow}
 use Rattle.mmv_layout.specs.Form.{slots_of}
 use Rattle.mmv_layout.specs.Rows.{layout_of}
 use Rattle.region_core.specs.declared.act.Act.TheVariants.{Begin}
@@ -14,7 +14,7 @@ use Rattle.region_rule.specs.Steps.{entry}
 use Rattle.region_words.specs.Calls.{IsNumber}
 use Rattle.fetch_answers.specs.declared.fetch.Fetched.{Fetched}
 use Rattle.fetch_engine.specs.declared.server.Mounted.{Mounted}
-use Rattle.recordable_scripts.specs.Recording.{refused_line}
+use Rattle.run_script.specs.Recording.{refused_line}
 use Rattle.run_script.specs.Rules.{KeepsRules}
 use Rattle.run_script.specs.declared.script.Script.{Script}
 use Rattle.script_passes.specs.Crews.{ServesScript}

@@ -7,7 +7,7 @@ use Rattle.region_core.specs.State.{State}
 use Rattle.region_rule.specs.Seats.{Token}
 use Rattle.fetch_answers.specs.declared.fetch.Fetched.{Fetched}
 use Rattle.fetch_engine.specs.declared.server.Mounted.{Mounted}
-use Rattle.recordable_scripts.specs.Recording.{image_words, lines_of, refused_line}
+use Rattle.run_script.specs.Recording.{image_words, lines_of, refused_line}
 use Rattle.run_script.specs.Rules.{KeepsRules}
 use Rattle.run_script.specs.declared.script.Line.{Line}
 use Rattle.run_script.specs.declared.script.Line.TheVariants as lines

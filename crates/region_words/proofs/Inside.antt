@@ -5,8 +5,8 @@ use Rattle.std.proofs.lemmas.Option.{slice_get_within, get_or_from_slice_get}
 use Rattle.pcp_base.specs.declared.kind.Kind.{Kind}
 use Rattle.pcp_base.specs.declared.kind.Kind.TheVariants as kinds
 use Rattle.pcp_base.specs.declared.memory.NoMemory.{NoMemory}
-use Rattle.mmv_format.specs.Images.{IsImage}
-use Rattle.mmv_format.specs.declared.rows.Slot.{Slot}
+use Rattle.mmv_layout.specs.Images.{IsImage}
+use Rattle.mmv_layout.specs.declared.rows.Slot.{Slot}
 use Rattle.mmv_layout.specs.Form.{slots_of, texts_of, Form, form_of}
 use Rattle.mmv_layout.specs.ShapeLaws.{TakesAs}
 use Rattle.mmv_layout.proofs.FormSays.{texts_said}

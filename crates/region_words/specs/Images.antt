@@ -1,7 +1,7 @@
 -- Images of memory mapped values as a kind of layout.
 use Rattle.std.specs.Prelude.{ℕ, List}
 use Rattle.region_core.specs.Shape.{Shaping, IsShape}
-use Rattle.mmv_format.specs.Images.{IsImage}
+use Rattle.mmv_layout.specs.Images.{IsImage}
 use Rattle.mmv_layout.specs.Form.{Form, form_of}
 use Rattle.mmv_layout.specs.ShapeLaws.{Takes}
 use Rattle.mmv_layout.proofs.Shapes.{has_twice, is_no_value, value_keeps, length_keeps, generation_keeps}

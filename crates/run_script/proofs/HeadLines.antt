@@ -1,15 +1,15 @@
 -- The head of a generated script is read as its images, its regions and its group.
 use Rattle.std.proofs.Common.{◌≡◌, ℕ, ◌+◌, ◌≤◌, Bool, true, false, cond, not, ◌&&◌, List, [], ◌∷◌, ◌++◌, length, min, refl, sym, ap, ◌∙◌, arith, codes, le-leb, None, Ok, Err}
 use Rattle.std.specs.Fmt.{digits}
-use Rattle.mmv_format.specs.Fields.{number32, number64}
-use Rattle.mmv_format.specs.Contents.{cluster_in}
-use Rattle.mmv_spelling.specs.Spelling.{header_words, image_with_strings, image_words}
+use Rattle.mmv_layout.specs.Fields.{number32, number64}
+use Rattle.mmv_layout.specs.Contents.{cluster_in}
+use Rattle.mmv_writer.specs.Spelling.{header_words, image_with_strings, image_words}
 use Rattle.text_lines.specs.Lines.{prepend, lines_of}
 use Rattle.text_lines.specs.Spelling.{number_part, int_part, text_part, hex_part, hex_text, quoted_text}
 use Rattle.text_lines.specs.Words.{take_as, take_word, first_word, behind_word, name_of}
-use Rattle.layout_text.specs.Spelling.{codes_parts, links_parts, line_text, full_line}
-use Rattle.layout_text.specs.Whole.{indom_text, value_text, layout_text}
-use Rattle.script_lines.specs.Heads.{image_line, region_line, start_line, head_line}
+use Rattle.text_lines.specs.LayoutSpelling.{codes_parts, links_parts, line_text, full_line}
+use Rattle.text_lines.specs.Whole.{indom_text, value_text, layout_text}
+use Rattle.run_script.specs.HeadLines.{image_line, region_line, start_line, head_line}
 use Rattle.mmv_writer.specs.declared.line_fault.LineFault.TheVariants.{Condition, Build}
 use Rattle.mmv_writer.specs.declared.fault.BuildFault.TheVariants.{TooLarge}
 use Rattle.mmv_writer.specs.Reading.{text_draft}

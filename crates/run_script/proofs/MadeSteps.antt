@@ -4,9 +4,9 @@ use Rattle.std.specs.Prelude.{◌/◌, ◌%◌, if◌then◌else◌}
 use Rattle.std.proofs.lemmas.Grind.{flat_map-append}
 use Rattle.pcp_base.specs.Time.{Moment, microseconds}
 use Rattle.text_lines.specs.Lines.{lines_of}
-use Rattle.script_lines.specs.declared.line.StepLine.{StepLine}
-use Rattle.script_lines.specs.declared.line.StepLine.TheVariants as steps
-use Rattle.script_lines.specs.Steps.{step_line}
+use Rattle.run_script.specs.declared.lines.StepLine.{StepLine}
+use Rattle.run_script.specs.declared.lines.StepLine.TheVariants as steps
+use Rattle.run_script.specs.StepLines.{step_line}
 use Rattle.run_script.specs.declared.script.Line.{Line}
 use Rattle.run_script.specs.declared.script.Line.TheVariants as lines
 use Rattle.run_script.specs.declared.said.Said.{Said}

@@ -6,7 +6,7 @@ use Rattle.std.specs.Cmp.Lexicographic.{slice_cmp}
 use Rattle.std.specs.Map.{lookup}
 use Rattle.std.specs.BTreeMap.{BTreeMap, is_at, insert_entry}
 use Rattle.std.proofs.lemmas.Slice.Eq.{bytes_eq-Decides}
-use Rattle.mmv_spelling.proofs.Firsts.{found_insert, position_some, position_snoc}
+use Rattle.mmv_writer.proofs.Firsts.{found_insert, position_some, position_snoc}
 use Rattle.run_script.specs.declared.said.Said.{Said}
 use Rattle.run_script.specs.Names.{place_in, Tells, TellsOneMore, Keeps, Stays}
 

@@ -2,12 +2,12 @@
 use Rattle.std.proofs.Common.{◌≡◌, ℕ, suc, ◌+◌, Bool, true, false, cond, not, ◌==◌, List, [], ◌∷◌, ◌++◌, length, refl, ap, subst, ◌∙◌, arith, append_assoc, codes, bytes_eq, Option, Some, None, Result, Ok, Err}
 use Rattle.std.specs.List.{list_all}
 use Rattle.std.proofs.lemmas.Slice.Eq.{bytes_eq-Decides}
-use Rattle.mmv_format.specs.declared.rows.Layout.{Layout}
-use Rattle.mmv_spelling.specs.Spelling.{image_words}
+use Rattle.mmv_layout.specs.declared.rows.Layout.{Layout}
+use Rattle.mmv_writer.specs.Spelling.{image_words}
 use Rattle.text_lines.specs.Lines.{prepend, lines_of, without_feed}
 use Rattle.text_lines.specs.Words.{first_word}
 use Rattle.text_lines.proofs.Feeds.{fed, feed_lines, other_lines}
-use Rattle.layout_text.specs.Lines.{line_of}
+use Rattle.text_lines.specs.LayoutLines.{line_of}
 use Rattle.mmv_writer.specs.declared.line_fault.LineFault.{LineFault}
 use Rattle.mmv_writer.specs.Reading.{full_line_of, said_by, with_said, with_head, with_lines, draft_of, and_then as and_rows}
 use Rattle.run_script.specs.declared.said.Said.{Said}

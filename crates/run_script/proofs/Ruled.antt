@@ -7,25 +7,25 @@ use Rattle.std.proofs.lemmas.Bool.{eq-eqb}
 use Rattle.std.proofs.lemmas.Slice.Eq.{bytes_eq-Decides}
 use Rattle.pcp_base.specs.Names.{is_letter, is_name_byte, IsComponent, spells_component}
 use Rattle.pcp_base.specs.Time.{Moment, microseconds}
-use Rattle.mmv_format.specs.Contents.{cluster_in}
-use Rattle.mmv_format.specs.declared.rows.Layout.{Layout}
-use Rattle.mmv_spelling.specs.Spelling.{image_words}
-use Rattle.mmv_spelling.proofs.Firsts.{position_some}
+use Rattle.mmv_layout.specs.Contents.{cluster_in}
+use Rattle.mmv_layout.specs.declared.rows.Layout.{Layout}
+use Rattle.mmv_writer.specs.Spelling.{image_words}
+use Rattle.mmv_writer.proofs.Firsts.{position_some}
 use Rattle.mmv_writer.specs.declared.line_fault.LineFault.{LineFault}
 use Rattle.mmv_writer.specs.declared.line_fault.LineFault.TheVariants.{Condition, Build}
 use Rattle.mmv_writer.specs.declared.fault.BuildFault.TheVariants.{TooLarge}
 use Rattle.mmv_writer.specs.Reading.{with_head, with_said}
-use Rattle.layout_text.specs.Lines.{line_of}
+use Rattle.text_lines.specs.LayoutLines.{line_of}
 use Rattle.text_lines.specs.Lines.{lines_of, without_feed}
-use Rattle.script_lines.specs.declared.line.Place.{Place}
-use Rattle.script_lines.specs.declared.line.Slot.{Slot}
-use Rattle.script_lines.specs.declared.line.Given.{Given}
-use Rattle.script_lines.specs.declared.line.StepLine.{StepLine}
-use Rattle.script_lines.specs.declared.line.StepLine.TheVariants as steps
-use Rattle.script_lines.specs.declared.line.HeadLine.{HeadLine}
-use Rattle.script_lines.specs.declared.line.HeadLine.TheVariants as heads
-use Rattle.script_lines.specs.Heads.{head_line}
-use Rattle.script_lines.specs.Steps.{step_line}
+use Rattle.run_script.specs.declared.lines.Place.{Place}
+use Rattle.run_script.specs.declared.lines.Slot.{Slot}
+use Rattle.run_script.specs.declared.lines.Given.{Given}
+use Rattle.run_script.specs.declared.lines.StepLine.{StepLine}
+use Rattle.run_script.specs.declared.lines.StepLine.TheVariants as steps
+use Rattle.run_script.specs.declared.lines.HeadLine.{HeadLine}
+use Rattle.run_script.specs.declared.lines.HeadLine.TheVariants as heads
+use Rattle.run_script.specs.HeadLines.{head_line}
+use Rattle.run_script.specs.StepLines.{step_line}
 use Rattle.run_script.specs.declared.fault.ScriptLineFault.{ScriptLineFault}
 use Rattle.run_script.specs.declared.fault.ScriptLineFault.TheVariants as faults
 use Rattle.run_script.specs.declared.fault.ScriptFault.{ScriptFault}

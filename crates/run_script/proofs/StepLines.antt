@@ -12,11 +12,11 @@ use Rattle.text_lines.specs.Words.{take_space, take_word, take_as, optional, fir
 use Rattle.text_lines.proofs.Decimals.{number_of-decimal, decimal_is, whole-decimal}
 use Rattle.text_lines.proofs.NumberParts.{word-decimal, number_is_read}
 use Rattle.text_lines.proofs.Splitting.{IsWord, plain_word, take_as_of}
-use Rattle.script_lines.specs.declared.line.Place.{Place}
-use Rattle.script_lines.specs.declared.line.Slot.{Slot}
-use Rattle.script_lines.specs.declared.line.StepLine.TheVariants as steps
-use Rattle.script_lines.specs.Words.{instance_of, take_place, take_slot}
-use Rattle.script_lines.specs.Steps.{place_line, add_line, begin_line, tick_line, stamp_of, flush_line, store_line, other_line, step_line}
+use Rattle.run_script.specs.declared.lines.Place.{Place}
+use Rattle.run_script.specs.declared.lines.Slot.{Slot}
+use Rattle.run_script.specs.declared.lines.StepLine.TheVariants as steps
+use Rattle.run_script.specs.LineWords.{instance_of, take_place, take_slot}
+use Rattle.run_script.specs.StepLines.{place_line, add_line, begin_line, tick_line, stamp_of, flush_line, store_line, other_line, step_line}
 use Rattle.run_script.specs.declared.script.RegionRow.{RegionRow}
 use Rattle.run_script.specs.declared.script.Line.TheVariants as lines
 use Rattle.run_script.specs.Steps.{pass_below, pass_at, pass_of}

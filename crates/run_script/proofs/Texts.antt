@@ -2,10 +2,10 @@
 use Rattle.std.proofs.Common.{◌≡◌, ℕ, zero, suc, ◌+◌, ◌≤◌, List, [], ◌∷◌, ◌++◌, length, min, Ok, Err, refl, ap, sym, subst, ◌∙◌, cond, arith}
 use Rattle.std.proofs.lemmas.Bool.{le-leb}
 use Rattle.std.specs.Prelude.{Bool, true, false, if◌then◌else◌, codes}
-use Rattle.mmv_format.specs.declared.rows.Layout.{Layout}
-use Rattle.mmv_spelling.specs.Offsets.{sections_in}
-use Rattle.mmv_spelling.specs.Spelling.{image_words, all_strings, with_missing}
-use Rattle.mmv_spelling.proofs.Lengths.{length_spelled}
+use Rattle.mmv_layout.specs.declared.rows.Layout.{Layout}
+use Rattle.mmv_writer.specs.Offsets.{sections_in}
+use Rattle.mmv_writer.specs.Spelling.{image_words, all_strings, with_missing}
+use Rattle.mmv_writer.proofs.Lengths.{length_spelled}
 use Rattle.mmv_writer.specs.declared.line_fault.LineFault.TheVariants.{Build}
 use Rattle.mmv_writer.specs.declared.line_fault.TextFault.{TextFault}
 use Rattle.mmv_writer.specs.declared.fault.BuildFault.TheVariants.{TooLarge}
@@ -13,8 +13,8 @@ use Rattle.std.specs.Fmt.{digits}
 use Rattle.text_lines.specs.Lines.{lines_of, prepend, without_feed}
 use Rattle.text_lines.specs.Numbers.{number32, number64, whole_number, int32, hex_number}
 use Rattle.text_lines.specs.Words.{take_as, take_word, first_word, behind_word, optional, text_byte, text_within, text_in_quotes, take_text, take_help, name_of}
-use Rattle.layout_text.specs.Words.{kind_of, semantics_of}
-use Rattle.layout_text.specs.Lines.{line_of, mmv_line, indom_line, instance_line, metric_line, value_line, number_content, words_content, last_content}
+use Rattle.text_lines.specs.LayoutWords.{kind_of, semantics_of}
+use Rattle.text_lines.specs.LayoutLines.{line_of, mmv_line, indom_line, instance_line, metric_line, value_line, number_content, words_content, last_content}
 use Rattle.mmv_writer.specs.Rules.{indom_fault, instance_fault, metric_fault, value_fault}
 use Rattle.mmv_writer.specs.Draft.{empty_draft, with_domain, add_instance, with_instance, with_metric, with_value}
 use Rattle.mmv_writer.specs.Reading.{text_image, image_of, text_draft, draft_of, with_lines, with_said, with_head, with_line, full_line_of, words_within_limit}

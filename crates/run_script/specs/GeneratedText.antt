@@ -3,9 +3,9 @@
 use Rattle.std.specs.Prelude.{ℕ, ◌==◌, Bool, true, false, if◌then◌else◌, List, [], ◌∷◌, ◌++◌, codes, decimal}
 use Rattle.std.specs.List.{flat_map}
 use Rattle.text_lines.specs.Spelling.{number_part, int_part, text_part, optional_int_part}
-use Rattle.layout_text.specs.Whole.{layout_text}
-use Rattle.script_lines.specs.declared.line.Given.{Given}
-use Rattle.script_lines.specs.declared.line.Given.TheVariants as given
+use Rattle.text_lines.specs.Whole.{layout_text}
+use Rattle.run_script.specs.declared.lines.Given.{Given}
+use Rattle.run_script.specs.declared.lines.Given.TheVariants as given
 use Rattle.run_script.specs.declared.script.Line.{Line}
 use Rattle.run_script.specs.declared.script.Line.TheVariants as lines
 use Rattle.run_script.specs.Generated.{layout, all_steps}

@@ -2,7 +2,7 @@
 use Rattle.std.specs.Prelude.{ℕ, ◌==◌, Bool, false, ◌&&◌, not, nat_le, if◌then◌else◌, List, [], ◌∷◌, ◌++◌, length, slice_get, bytes_eq, Option, Some, None, Result, Ok, Err}
 use Rattle.std.specs.List.{list_any}
 use Rattle.pcp_base.specs.Names.{spells_component}
-use Rattle.mmv_format.specs.Contents.{cluster_in}
+use Rattle.mmv_layout.specs.Contents.{cluster_in}
 use Rattle.log_schedule.specs.declared.config.Group.{Group}
 use Rattle.log_schedule.specs.declared.stage.Stage.TheVariants as scans
 use Rattle.log_schedule.specs.Scanning.{State, run, at_start}

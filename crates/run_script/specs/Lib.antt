@@ -1,10 +1,15 @@
 pub mod Faults
 pub mod Generated
 pub mod GeneratedText
+pub mod HeadLines
 pub mod Heads
 pub mod Laws
+pub mod LineWords
 pub mod Names
 pub mod Reading
+pub mod Recording
+pub mod RecordingSteps
 pub mod Rules
 pub mod Said
+pub mod StepLines
 pub mod Steps

@@ -1,17 +1,17 @@
 -- What a whole script says: its lines one after another, or the first fault in their order. A line's number counts from 1.
 use Rattle.std.specs.Prelude.{◌≡◌, ℕ, ◌+◌, Bool, ◌&&◌, not, nat_le, if◌then◌else◌, min, List, [], ◌∷◌, ◌++◌, length, Option, Some, None, is_some, Result, Ok, Err, codes, bytes_eq}
-use Rattle.mmv_format.specs.declared.rows.Layout.{Layout}
-use Rattle.layout_text.specs.Lines.{line_of}
+use Rattle.mmv_layout.specs.declared.rows.Layout.{Layout}
+use Rattle.text_lines.specs.LayoutLines.{line_of}
 use Rattle.text_lines.specs.Lines.{lines_of, without_feed}
 use Rattle.mmv_writer.specs.declared.line_fault.LineFault.{LineFault}
 use Rattle.mmv_writer.specs.declared.line_fault.LineFault.TheVariants.{Grammar, Condition, Build}
 use Rattle.mmv_writer.specs.declared.fault.BuildFault.TheVariants.{TooLarge}
 use Rattle.mmv_writer.specs.Reading.{with_head, with_said}
-use Rattle.mmv_spelling.specs.Spelling.{image_words}
-use Rattle.script_lines.specs.declared.line.HeadLine.{HeadLine}
-use Rattle.script_lines.specs.declared.line.HeadLine.TheVariants as heads
-use Rattle.script_lines.specs.Heads.{head_line}
-use Rattle.script_lines.specs.Steps.{step_line}
+use Rattle.mmv_writer.specs.Spelling.{image_words}
+use Rattle.run_script.specs.declared.lines.HeadLine.{HeadLine}
+use Rattle.run_script.specs.declared.lines.HeadLine.TheVariants as heads
+use Rattle.run_script.specs.HeadLines.{head_line}
+use Rattle.run_script.specs.StepLines.{step_line}
 use Rattle.run_script.specs.declared.fault.ScriptLineFault.{ScriptLineFault}
 use Rattle.run_script.specs.declared.fault.ScriptLineFault.TheVariants.{Line}
 use Rattle.run_script.specs.declared.fault.ScriptFault.{ScriptFault}

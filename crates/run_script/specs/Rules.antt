@@ -2,7 +2,7 @@
 use Rattle.std.specs.Prelude.{◌≡◌, ◌≢◌, ℕ, ◌<◌, ◌≤◌, List, length, slice_get, Option, Some, option_map}
 use Rattle.pcp_base.specs.Names.{IsComponent}
 use Rattle.pcp_base.specs.Time.{Moment, microseconds}
-use Rattle.mmv_format.specs.Contents.{cluster_in}
+use Rattle.mmv_layout.specs.Contents.{cluster_in}
 use Rattle.run_script.specs.declared.script.RegionRow.{RegionRow}
 use Rattle.run_script.specs.declared.script.Line.{Line}
 use Rattle.run_script.specs.declared.script.Line.TheVariants as lines

@@ -3,11 +3,11 @@ use Rattle.std.specs.Prelude.{ℕ, ℤ, nat_lt, if◌then◌else◌, List, [], �
 use Rattle.std.specs.List.{position}
 use Rattle.pcp_base.specs.Time.{Moment, microseconds}
 use Rattle.mmv_writer.specs.declared.line_fault.LineFault.TheVariants.{Grammar, Condition}
-use Rattle.script_lines.specs.declared.line.Place.{Place}
-use Rattle.script_lines.specs.declared.line.Slot.{Slot}
-use Rattle.script_lines.specs.declared.line.Given.{Given}
-use Rattle.script_lines.specs.declared.line.StepLine.{StepLine}
-use Rattle.script_lines.specs.declared.line.StepLine.TheVariants as steps
+use Rattle.run_script.specs.declared.lines.Place.{Place}
+use Rattle.run_script.specs.declared.lines.Slot.{Slot}
+use Rattle.run_script.specs.declared.lines.Given.{Given}
+use Rattle.run_script.specs.declared.lines.StepLine.{StepLine}
+use Rattle.run_script.specs.declared.lines.StepLine.TheVariants as steps
 use Rattle.run_script.specs.declared.fault.ScriptLineFault.{ScriptLineFault}
 use Rattle.run_script.specs.declared.fault.ScriptLineFault.TheVariants as faults
 use Rattle.run_script.specs.declared.script.RegionRow.{RegionRow}

@@ -1,7 +1,7 @@
 //! The lines of an image in a script's head.
 ghost use Rattle.std.specs.Prelude.{◌≡◌, ◌<◌, length, OnOk};
-ghost use Rattle.layout_text.specs.Lines.{line_of};
-ghost use Rattle.mmv_spelling.specs.Spelling.{image_words};
+ghost use Rattle.text_lines.specs.LayoutLines.{line_of};
+ghost use Rattle.mmv_writer.specs.Spelling.{image_words};
 ghost use Rattle.mmv_writer.specs.Reading.{with_head};
 ghost use Rattle.run_script.specs.Names.{Tells, Keeps};
 ghost use Rattle.run_script.specs.Reading.{Goes, in_image, with_image, with_image_line};

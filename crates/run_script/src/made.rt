@@ -1,7 +1,7 @@
 //! The script that a number makes. Its images are read from their layout texts.
 ghost use Rattle.std.specs.Prelude.{◌≡◌, ◌≤◌, ◌+◌, IfOk, OnOk, if◌then◌else◌, [], ◌∷◌, ◌++◌};
 ghost use Rattle.pcp_base.specs.Texts.{IsText};
-ghost use Rattle.mmv_spelling.specs.Spelling.{image_words};
+ghost use Rattle.mmv_writer.specs.Spelling.{image_words};
 ghost use Rattle.run_script.specs.Generated.{layout, images, regions, group, generated_script};
 
 use crate::making::all_steps;

@@ -2,8 +2,8 @@
 ghost use Rattle.std.specs.Prelude.{◌≡◌};
 ghost use Rattle.run_script.specs.Steps.{attaches, detaches, swaps, adds, begins, steps_on, finishes, loads, reads, ends};
 
+use crate::lines::{Given, Slot};
 use crate::script::Line;
-use script_lines::{Given, Slot};
 
 pub fn attaches(at: Option<(u32, u32)>) -> Option<Line>
     ensures { result ≡ attaches at }

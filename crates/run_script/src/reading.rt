@@ -1,19 +1,20 @@
 //! A whole script, line by line.
 ghost use Rattle.std.specs.Prelude.{◌≡◌, ◌≤◌, length, OnOk};
 ghost use Rattle.text_lines.specs.Lines.{lines_of};
-ghost use Rattle.script_lines.specs.Heads.{head_line};
+ghost use Rattle.run_script.specs.HeadLines.{head_line};
 ghost use Rattle.run_script.specs.Said.{nothing};
 ghost use Rattle.run_script.specs.Names.{IsKept, Keeps};
 ghost use Rattle.run_script.specs.Reading.{Goes, Leads, Answers, with_head_line, with_script_line, ended_at, script_of};
 
 use crate::fault::{LineStop, ReadScriptError};
 use crate::head::{add_group, add_region, may_name};
+use crate::head_line::read_head_line;
 use crate::images::{take_first_line, take_image_line};
+use crate::lines::HeadLine;
 use crate::names::place_of;
 use crate::said::{Said, Stage};
 use crate::script::Script;
 use crate::steps::take_step;
-use script_lines::{HeadLine, read_head_line};
 use std::alloc::Global;
 use std::collections::BTreeMap;
 use text_lines::split_line;

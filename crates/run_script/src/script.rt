@@ -1,8 +1,8 @@
 //! A script that was read.
+use crate::lines::Given;
 use log_schedule::Config;
 use mmv_layout::Image;
 use pcp_base::{List, Stamp, Text};
-use script_lines::Given;
 
 /// A region of a script: its FILE, the position of the image that it opens on, its capacity in words, the number of its
 /// passes, and the number of its line.

@@ -5,15 +5,16 @@ ghost use Rattle.pcp_base.specs.Time.{microseconds};
 ghost use Rattle.run_script.specs.Faults.{Takes};
 ghost use Rattle.run_script.specs.Names.{IsKept, Stays};
 ghost use Rattle.run_script.specs.Steps.{pass_of, is_later, ticks, step_of, last_behind, with_line, with_step};
-ghost use Rattle.script_lines.specs.Steps.{step_line};
+ghost use Rattle.run_script.specs.StepLines.{step_line};
 
 use crate::fault::LineStop;
+use crate::lines::{Place, StepLine};
 use crate::named;
 use crate::names::place_of;
 use crate::said::Said;
 use crate::script::{Line, RegionRow};
+use crate::step_line::read_step_line;
 use pcp_base::{Stamp, Text};
-use script_lines::{Place, StepLine, read_step_line};
 use std::alloc::Global;
 use std::collections::BTreeMap;
 

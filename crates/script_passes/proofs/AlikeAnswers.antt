@@ -14,11 +14,11 @@ use Rattle.pcp_base.specs.declared.kind.Kind.TheVariants as kinds
 use Rattle.pcp_base.specs.declared.result.ValueSet.{ValueSet}
 use Rattle.pmns_core.specs.Pairs.{Pair}
 use Rattle.profile_filter.specs.Kept.{Settings}
-use Rattle.mmv_format.specs.declared.rows.Content.{Content}
-use Rattle.mmv_format.specs.declared.rows.Content.TheVariants.{Number, Choice, Raw}
-use Rattle.mmv_format.specs.declared.rows.Layout.{Layout}
-use Rattle.mmv_format.specs.declared.rows.MetricRow.{MetricRow}
-use Rattle.mmv_format.specs.declared.rows.ValueRow.{ValueRow}
+use Rattle.mmv_layout.specs.declared.rows.Content.{Content}
+use Rattle.mmv_layout.specs.declared.rows.Content.TheVariants.{Number, Choice, Raw}
+use Rattle.mmv_layout.specs.declared.rows.Layout.{Layout}
+use Rattle.mmv_layout.specs.declared.rows.MetricRow.{MetricRow}
+use Rattle.mmv_layout.specs.declared.rows.ValueRow.{ValueRow}
 use Rattle.fetch_answers.specs.Answers.{is_of, region_of, metric_with, indom_in, metric_body, layout_body, region_body, set_of, answer_of, metric_fact, layout_fact, region_fact, fact_of, layout_instances, region_instances, instances_of, metrics_in, domains_in, domains_of, shown_of, facts_of}
 use Rattle.fetch_answers.specs.Names.{with_region, with_layout}
 use Rattle.fetch_answers.specs.Readings.{RegionReading}

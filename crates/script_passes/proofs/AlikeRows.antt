@@ -4,18 +4,18 @@ use Rattle.std.proofs.lemmas.Bool.Decides.{nat_tests}
 use Rattle.pcp_base.specs.Codes.{kind_of_code}
 use Rattle.pcp_base.specs.declared.kind.Kind.{Kind}
 use Rattle.pcp_base.specs.declared.kind.Kind.TheVariants as kinds
-use Rattle.mmv_format.specs.Fields.{number64}
-use Rattle.mmv_format.specs.Sizes.{string_size, value_size}
-use Rattle.mmv_format.specs.EntryFields.{extra_in_value}
-use Rattle.mmv_format.specs.Contents.{section_of}
-use Rattle.mmv_format.specs.Entries.{value_count, value_at, string_count, string_at, leads_to_string, choice_leads, is_good_value}
-use Rattle.mmv_format.specs.Images.{is_image}
-use Rattle.mmv_format.specs.declared.rows.Content.{Content}
-use Rattle.mmv_format.specs.declared.rows.Content.TheVariants.{Number, Choice, Raw}
-use Rattle.mmv_format.specs.declared.rows.Layout.{Layout}
-use Rattle.mmv_format.specs.declared.rows.Slot.{Slot}
-use Rattle.mmv_format.specs.declared.rows.ValueRow.{ValueRow}
-use Rattle.mmv_format.proofs.Below.{both_left, both_right}
+use Rattle.mmv_layout.specs.Fields.{number64}
+use Rattle.mmv_layout.specs.Sizes.{string_size, value_size}
+use Rattle.mmv_layout.specs.EntryFields.{extra_in_value}
+use Rattle.mmv_layout.specs.Contents.{section_of}
+use Rattle.mmv_layout.specs.Entries.{value_count, value_at, string_count, string_at, leads_to_string, choice_leads, is_good_value}
+use Rattle.mmv_layout.specs.Images.{is_image}
+use Rattle.mmv_layout.specs.declared.rows.Content.{Content}
+use Rattle.mmv_layout.specs.declared.rows.Content.TheVariants.{Number, Choice, Raw}
+use Rattle.mmv_layout.specs.declared.rows.Layout.{Layout}
+use Rattle.mmv_layout.specs.declared.rows.Slot.{Slot}
+use Rattle.mmv_layout.specs.declared.rows.ValueRow.{ValueRow}
+use Rattle.mmv_layout.proofs.Below.{both_left, both_right}
 use Rattle.mmv_layout.specs.Form.{Form, form_of, slot_in, slot_at, slots_of, offsets_of, subjects_of}
 use Rattle.mmv_layout.specs.Rows.{list_below, string_text, item_of, type_of, instance_of, content_of, value_row, values_of, strings_of, layout_of}
 use Rattle.mmv_layout.specs.Says.{LeadsTo}

@@ -13,7 +13,7 @@ use Rattle.std.proofs.lemmas.Map.Keys.{IsDistinct-head, IsDistinct-tail, IsDisti
 use Rattle.std.proofs.lemmas.Option.{slice_get-get_or}
 use Rattle.std.proofs.lemmas.Slice.Eq.{bytes_eq-Decides}
 use Rattle.pcp_base.specs.Names.{is_letter, is_name_byte, IsComponent, spells_component}
-use Rattle.mmv_format.specs.Contents.{cluster_in}
+use Rattle.mmv_layout.specs.Contents.{cluster_in}
 use Rattle.fetch_engine.specs.Servers.{has_cluster, has_wrong_cluster, has_file, has_wrong_file, wrong_cluster, wrong_file, fault_of_file, fault_of_cluster, server_fault, RowsAscendFrom, IsServer, IsServerOf}
 use Rattle.fetch_engine.specs.declared.server.Mounted.{Mounted}
 use Rattle.fetch_engine.specs.declared.server.ServerFault.TheVariants.{TooMany}

@@ -5,7 +5,7 @@ use Rattle.std.specs.List.{position_from}
 use Rattle.std.proofs.lemmas.Option.{slice_get_within}
 use mathlib.Core.Logic.{dite}
 use native.Mathlib.Decide.{dec_le}
-use Rattle.mmv_format.specs.Contents.{cluster_in}
+use Rattle.mmv_layout.specs.Contents.{cluster_in}
 use Rattle.region_rule.specs.Seats.{MadeRegion, Token}
 use Rattle.fetch_engine.specs.Servers.{RowsAscendFrom, IsSeated, regions_in, regions_of}
 use Rattle.fetch_engine.specs.declared.server.Mounted.{Mounted}

@@ -4,9 +4,9 @@ use Rattle.std.specs.List.{AllZip}
 use Rattle.pcp_base.specs.Time.{Moment}
 use Rattle.pcp_base.specs.declared.result.ValueSet.{ValueSet}
 use Rattle.profile_filter.specs.Kept.{Settings}
-use Rattle.mmv_format.specs.Images.{IsImage}
-use Rattle.mmv_format.specs.declared.rows.Layout.{Layout}
-use Rattle.mmv_format.specs.declared.rows.Slot.{Slot}
+use Rattle.mmv_layout.specs.Images.{IsImage}
+use Rattle.mmv_layout.specs.declared.rows.Layout.{Layout}
+use Rattle.mmv_layout.specs.declared.rows.Slot.{Slot}
 use Rattle.mmv_layout.specs.Form.{form_of, slots_of}
 use Rattle.mmv_layout.specs.Rows.{layout_of}
 use Rattle.fetch_answers.specs.Answers.{answer_of, facts_of}

@@ -1,7 +1,7 @@
 -- The passes of a script's regions and the logger's: what each has seen, and how that stands to a run as a fold.
 use Rattle.std.specs.Prelude.{◌≡◌, ℕ, Bool, ◌+◌, ◌<◌, ◌≤◌, List, length, map, slice_get, Some}
 use Rattle.std.specs.Global.{Vec}
-use Rattle.mmv_format.specs.Contents.{cluster_in}
+use Rattle.mmv_layout.specs.Contents.{cluster_in}
 use Rattle.region_core.specs.declared.mode.Mode.TheVariants.{Idle}
 use Rattle.region_core.specs.Gate.{total}
 use Rattle.region_core.specs.State.{with_zeros}

@@ -21,7 +21,7 @@ use Rattle.script_passes.proofs.Begun.{as_many_seated, get_there}
 use Rattle.script_passes.proofs.Seated.{the_one}
 use Rattle.script_passes.proofs.Starting.{fresh_at, last_fresh, own_fresh}
 use Rattle.script_writers.specs.Hands.{IsServedAt, WritesLines}
-use Rattle.recordable_scripts.specs.Recording.{lines_of}
+use Rattle.run_script.specs.Recording.{lines_of}
 use Rattle.script_writers.specs.Written.{HaveWritten}
 use Rattle.script_writers.proofs.Placed.{capacity_at, made_at}
 use Rattle.script_writers.proofs.Ready.{as_many_made}

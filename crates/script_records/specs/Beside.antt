@@ -19,7 +19,7 @@ use Rattle.script_runs.specs.Groups.{Plan}
 use Rattle.script_runs.specs.Journals.{is_load}
 use Rattle.script_writers.specs.Hands.{IsServedAt}
 use Rattle.script_writers.specs.Lines.{HasMade}
-use Rattle.recordable_scripts.specs.Recording.{lines_of}
+use Rattle.run_script.specs.Recording.{lines_of}
 use Rattle.script_samples.specs.Samples.{SampleTaken, AreTaken, stamps_of}
 use Rattle.script_samples.specs.Shown.{AreShown}
 use Rattle.script_records.specs.Gathered.{AreUsedUp}

@@ -11,7 +11,7 @@ ghost use Rattle.script_passes.specs.Openings.{AreMade, IsOpened};
 ghost use Rattle.script_runs.specs.declared.ending.Ending.TheVariants.{DiskFault as Failing, Done as AtEnd, NoMemory as Refused};
 ghost use Rattle.record_run.specs.Going.{IsUnclosed, IsWorking};
 ghost use Rattle.script_replays.specs.Replays.{ended_by};
-ghost use Rattle.recordable_scripts.specs.Recording.{refused_line};
+ghost use Rattle.run_script.specs.Recording.{refused_line};
 ghost use Rattle.script_records.specs.Beside.{Beside, TellWriters};
 ghost use Rattle.script_records.specs.Halting.{Halts, IsRecorded, IsStandingFound, RefusedBy};
 ghost use Rattle.script_records.specs.Pictured.{AreImages};

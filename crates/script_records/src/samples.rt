@@ -9,7 +9,7 @@ ghost use Rattle.script_runs.specs.declared.ending.Ending.TheVariants.{DiskFault
 ghost use Rattle.record_run.specs.Going.{IsUnclosed, IsWorking};
 ghost use Rattle.script_samples.specs.Samples.{SampleTaken};
 ghost use Rattle.script_samples.specs.Sampling.{GoesOn, MayStop, StopsSampling};
-ghost use Rattle.recordable_scripts.specs.Recording.{refused_line};
+ghost use Rattle.run_script.specs.Recording.{refused_line};
 ghost use Rattle.script_writers.specs.Written.{AreReady, HaveWritten};
 
 use fetch_engine::{Seat, Server};

@@ -6,7 +6,7 @@ use Rattle.pcp_base.specs.Results.{Fits}
 use Rattle.pcp_base.specs.Time.{Moment}
 use Rattle.pcp_base.specs.declared.result.PmResult.{PmResult}
 use Rattle.pcp_base.specs.declared.result.ValueSet.{ValueSet}
-use Rattle.mmv_format.specs.declared.rows.Layout.{Layout}
+use Rattle.mmv_layout.specs.declared.rows.Layout.{Layout}
 use Rattle.mmv_layout.specs.Rows.{layout_of}
 use Rattle.mmv_writer.specs.Draft.{IsDraft}
 use Rattle.mmv_writer.proofs.ImageDrafts.{layouts_are_drafts}

@@ -5,7 +5,7 @@ use Rattle.region_core.specs.declared.act.Act.{Act}
 use Rattle.region_core.specs.declared.act.Act.TheVariants.{Load, Enter, Leave, Take, Begin, Put, End, Free}
 use Rattle.region_core.specs.State.{word, g1, g2}
 use Rattle.region_rule.specs.Changes.{next_after, left_from, puts_left}
-use Rattle.script_lines.specs.declared.line.Given.{Given}
+use Rattle.run_script.specs.declared.lines.Given.{Given}
 use Rattle.script_runs.specs.Regions.{Doing, ScriptRegion, capacity_of, with_act, all_acted, does}
 use Rattle.script_runs.specs.Slots.{swap_of, add_of}
 

@@ -1,6 +1,6 @@
 -- A region as a script's steps see it: its state, what each of its passes is doing, and the entries that they made.
 use Rattle.std.specs.Prelude.{ℕ, ◌+◌, List, [], ◌∷◌, ◌++◌, length, map, replicate, slice_get, slice_set, Option, Some, None}
-use Rattle.mmv_format.specs.Contents.{cluster_in}
+use Rattle.mmv_layout.specs.Contents.{cluster_in}
 use Rattle.region_core.specs.declared.act.Act.{Act}
 use Rattle.region_core.specs.declared.act.Entry.{Entry}
 use Rattle.region_core.specs.State.{State, after, opening, with_zeros}

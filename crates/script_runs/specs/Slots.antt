@@ -4,15 +4,15 @@ use Rattle.std.specs.Prelude.{ℕ, ℤ, pos, negsuc, unsigned_abs, ◌^◌, Bool
 use Rattle.std.specs.Int.{int_rem_euclid}
 use Rattle.pcp_base.specs.declared.kind.Kind.{Kind}
 use Rattle.pcp_base.specs.declared.kind.Kind.TheVariants as kinds
-use Rattle.mmv_format.specs.declared.rows.Content.{Content}
-use Rattle.mmv_format.specs.declared.rows.Content.TheVariants as contents
-use Rattle.mmv_format.specs.declared.rows.Slot.{Slot}
+use Rattle.mmv_layout.specs.declared.rows.Content.{Content}
+use Rattle.mmv_layout.specs.declared.rows.Content.TheVariants as contents
+use Rattle.mmv_layout.specs.declared.rows.Slot.{Slot}
 use Rattle.mmv_layout.specs.Form.{is_slot_of, slots_of, texts_of}
-use Rattle.layout_text.specs.Contents.{number_as}
+use Rattle.text_lines.specs.Contents.{number_as}
 use Rattle.region_core.specs.declared.act.Act.{Act}
 use Rattle.region_core.specs.declared.act.Act.TheVariants.{Swap, Add}
-use Rattle.script_lines.specs.declared.line.Given.{Given}
-use Rattle.script_lines.specs.declared.line.Given.TheVariants as given
+use Rattle.run_script.specs.declared.lines.Given.{Given}
+use Rattle.run_script.specs.declared.lines.Given.TheVariants as given
 
 -- the slot of an item and an instance; without an instance the metric has no domain
 abbrev pub slot_with : List ℕ → ℕ → Option ℤ → Option Slot

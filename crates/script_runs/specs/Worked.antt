@@ -10,7 +10,7 @@ use Rattle.log_schedule.specs.declared.config.Group.{Group}
 use Rattle.run_script.specs.declared.script.Line.{Line}
 use Rattle.run_script.specs.declared.script.Line.TheVariants.{Attach, Detach, Swap, Add, Begin, Step, Finish, Load, Word, Done}
 use Rattle.run_script.specs.declared.script.Script.{Script}
-use Rattle.script_lines.specs.declared.line.Given.TheVariants.{Choice}
+use Rattle.run_script.specs.declared.lines.Given.TheVariants.{Choice}
 use Rattle.script_runs.specs.Regions.{ScriptRegion, made_regions}
 use Rattle.script_runs.specs.Groups.{shots_of, metrics_of, with_metrics}
 use Rattle.script_runs.specs.Steps.{Regions, steps_behind, fetched_from}

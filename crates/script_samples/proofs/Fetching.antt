@@ -4,7 +4,7 @@ use Rattle.std.specs.List.{AllByRecursion}
 use Rattle.std.proofs.lemmas.List.Elements.{recursion_from_All}
 use Rattle.pcp_base.specs.Time.{Moment}
 use Rattle.pcp_base.specs.declared.result.PmResult.{PmResult}
-use Rattle.mmv_format.specs.declared.rows.Layout.{Layout}
+use Rattle.mmv_layout.specs.declared.rows.Layout.{Layout}
 use Rattle.mmv_layout.specs.Rows.{layout_of}
 use Rattle.mmv_writer.specs.Draft.{IsDraft}
 use Rattle.mmv_writer.proofs.ImageDrafts.{layouts_are_drafts}

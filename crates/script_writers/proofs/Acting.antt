@@ -12,7 +12,7 @@ use Rattle.script_passes.proofs.Seated.{set_set}
 use Rattle.script_writers.specs.declared.writer.Writer.{Writer}
 use Rattle.script_writers.specs.declared.writer.Writer.TheVariants as writers
 use Rattle.script_writers.specs.Lines.{Writing}
-use Rattle.recordable_scripts.specs.Recording.{may_come}
+use Rattle.run_script.specs.Recording.{may_come}
 use Rattle.script_writers.specs.Writers.{HasRoom, IsHere, IsWriter, RunsLine, StaysWriter, stage_of, view_of, writing_of}
 use Rattle.script_writers.specs.Hands.{ActsAt, IsReadyAt, LaidDown}
 use Rattle.script_writers.proofs.Handed.{get_at}

@@ -9,7 +9,7 @@ use Rattle.region_rule.specs.Seats.{Token}
 use Rattle.fetch_engine.specs.declared.server.Mounted.{Mounted}
 use Rattle.run_script.specs.declared.script.Script.{Script}
 use Rattle.pass_steps.specs.Workers.{IsPassOf}
-use Rattle.recordable_scripts.specs.Recording.{lines_of}
+use Rattle.run_script.specs.Recording.{lines_of}
 use Rattle.script_writers.specs.Dealing.{AreDealt, all_back, column, empty_hands, lists_of, some_of, with_back, with_list, with_pass}
 use Rattle.script_writers.specs.Hands.{HasWritten, IsHand, IsSameHand, KnownHand, WritesLines}
 use Rattle.script_writers.specs.Written.{AreReady, AreSame, AreWritten, HaveWritten}

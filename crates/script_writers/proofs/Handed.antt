@@ -13,7 +13,7 @@ use Rattle.run_script.specs.declared.script.Script.{Script}
 use Rattle.pass_steps.specs.Workers.{IsPassOf}
 use Rattle.script_writers.specs.declared.writer.Writer.{Writer}
 use Rattle.script_writers.specs.declared.writer.Writer.TheVariants as writers
-use Rattle.recordable_scripts.specs.Recording.{Stage, lines_of, may_come, place_of, refused_line, stage_behind}
+use Rattle.run_script.specs.Recording.{Stage, lines_of, may_come, place_of, refused_line, stage_behind}
 use Rattle.script_writers.specs.Lines.{Writing, LinesMake}
 use Rattle.script_writers.specs.Writers.{Grew, IsWriter, RunsLines, stage_of, view_of, writing_of}
 use Rattle.script_writers.specs.Hands.{AreIdle, AreLaidDown, ArePresent, AreWriters, Comes, HasWritten, HaveRun, IsHand, IsSameHand, KnownHand, LaidDown, LaysDown, StayAway, writer_of}

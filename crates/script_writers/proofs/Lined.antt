@@ -13,7 +13,7 @@ use Rattle.run_script.specs.declared.script.Line.{Line}
 use Rattle.run_script.specs.declared.script.Line.TheVariants as lines
 use Rattle.run_script.specs.declared.script.Script.{Script}
 use Rattle.script_writers.specs.declared.writer.Writer.{Writer}
-use Rattle.recordable_scripts.specs.Recording.{Stage, place_of, is_at, lines_of, stage_after, stage_behind, is_idle, may_come, comes_at, suits, or_else, high_region, wrong_step, has_more, all_rest, unrest_line, line_behind, refused_line}
+use Rattle.run_script.specs.Recording.{Stage, place_of, is_at, lines_of, stage_after, stage_behind, is_idle, may_come, comes_at, suits, or_else, high_region, wrong_step, has_more, all_rest, unrest_line, line_behind, refused_line}
 use Rattle.script_writers.specs.Lines.{Writing, LineMakes, LinesMake, BeginsChange, StepsOn, Finishes}
 use Rattle.script_writers.specs.Writers.{RunsLine, RunsLines, stage_of, view_of, writing_of}
 use Rattle.script_writers.proofs.Entries.{grew_refl, grew_trans, now_grown}

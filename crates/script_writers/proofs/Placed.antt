@@ -16,7 +16,7 @@ use Rattle.script_passes.proofs.Crewing.{get_set_same, get_set_other, same_or_ot
 use Rattle.script_passes.proofs.Placing.{one_place, one_row}
 use Rattle.script_writers.specs.declared.writer.Writer.{Writer}
 use Rattle.script_writers.specs.declared.writer.Writer.TheVariants as writers
-use Rattle.recordable_scripts.specs.Recording.{place_of, is_at, suits, fits_in, image_words}
+use Rattle.run_script.specs.Recording.{place_of, is_at, suits, fits_in, image_words}
 use Rattle.script_writers.specs.Writers.{HasRoom, IsWriter, RunsLine, RunsLines, StaysWriter}
 use Rattle.script_writers.specs.Hands.{ActsAt, ArePresent, AreWriters, Comes, HaveRun, IsReadyAt, IsServedAt, StayAway}
 use Rattle.script_writers.proofs.Lined.{both_true, names_pass, region_in, runs_none, runs_one}

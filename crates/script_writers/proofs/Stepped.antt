@@ -10,7 +10,7 @@ use Rattle.run_script.specs.declared.script.Line.{Line}
 use Rattle.run_script.specs.declared.script.Script.{Script}
 use Rattle.script_passes.specs.Crews.{ServesScript}
 use Rattle.script_writers.specs.declared.writer.Writer.{Writer}
-use Rattle.recordable_scripts.specs.Recording.{place_of}
+use Rattle.run_script.specs.Recording.{place_of}
 use Rattle.script_writers.specs.Writers.{RunsLine, StaysWriter}
 use Rattle.script_writers.specs.Hands.{ActsAt, ArePresent, AreWriters, HaveRun, IsServedAt, StayAway}
 use Rattle.script_writers.proofs.Lined.{names_pass}

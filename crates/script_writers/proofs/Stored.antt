@@ -22,7 +22,7 @@ use Rattle.region_rule.specs.Reads.{Reads}
 use Rattle.region_rule.proofs.Lawful.{stays_inside, steps_inside}
 use Rattle.region_words.specs.Calls.{form_seen, Loads}
 use Rattle.region_words.specs.Images.{mmv, mmv_laws}
-use Rattle.script_lines.specs.declared.line.Given.{Given}
+use Rattle.run_script.specs.declared.lines.Given.{Given}
 use Rattle.script_runs.specs.Journals.{is_load}
 use Rattle.script_runs.specs.Slots.{swap_of, add_of, add_into}
 use Rattle.pass_steps.specs.Storing.{StoresOrLoads, LooksThenActs, swap_among, swap_seen, add_seen}

@@ -5,7 +5,7 @@ use Rattle.region_core.specs.declared.mode.Mode.TheVariants.{Idle}
 use Rattle.region_rule.specs.Seats.{MadeRegion, Token}
 use Rattle.region_rule.specs.Views.{now}
 use Rattle.fetch_engine.specs.declared.server.Mounted.{Mounted}
-use Rattle.recordable_scripts.specs.Recording.{is_at, lines_of, may_come, place_of}
+use Rattle.run_script.specs.Recording.{is_at, lines_of, may_come, place_of}
 use Rattle.run_script.specs.declared.script.RegionRow.{RegionRow}
 use Rattle.run_script.specs.declared.script.Line.{Line}
 use Rattle.run_script.specs.declared.script.Script.{Script}

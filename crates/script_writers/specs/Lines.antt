@@ -9,7 +9,7 @@ use Rattle.region_core.specs.Journal.{state, own}
 use Rattle.region_core.specs.State.{State, g1, IsIn}
 use Rattle.region_rule.specs.Changes.{next_after, left_from, puts_left}
 use Rattle.region_rule.specs.Steps.{entry}
-use Rattle.recordable_scripts.specs.Recording.{image_words}
+use Rattle.run_script.specs.Recording.{image_words}
 use Rattle.run_script.specs.declared.script.Line.{Line}
 use Rattle.run_script.specs.declared.script.Line.TheVariants as lines
 use Rattle.script_runs.specs.Journals.{is_load}

@@ -9,7 +9,7 @@ use Rattle.region_rule.specs.declared.view.View.{View}
 use Rattle.region_rule.specs.Tokens.{spent_view}
 use Rattle.region_rule.specs.Seats.{MadeRegion, Token}
 use Rattle.region_rule.specs.Views.{now}
-use Rattle.recordable_scripts.specs.Recording.{Stage, image_words}
+use Rattle.run_script.specs.Recording.{Stage, image_words}
 use Rattle.run_script.specs.declared.script.Line.{Line}
 use Rattle.run_script.specs.declared.script.Line.TheVariants as lines
 use Rattle.pass_steps.specs.Workers.{IsPassOf}

@@ -4,7 +4,7 @@ use Rattle.std.specs.Global.{Vec}
 use Rattle.region_core.specs.declared.mode.Mode.TheVariants.{Idle}
 use Rattle.region_rule.specs.Seats.{Token}
 use Rattle.fetch_engine.specs.declared.server.Mounted.{Mounted}
-use Rattle.recordable_scripts.specs.Recording.{lines_of}
+use Rattle.run_script.specs.Recording.{lines_of}
 use Rattle.run_script.specs.declared.script.Script.{Script}
 use Rattle.pass_steps.specs.Workers.{IsPassOf}
 use Rattle.script_writers.specs.Hands.{HasWritten, IsSameHand, IsServedAt, KnownHand, WritesLines}

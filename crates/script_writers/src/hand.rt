@@ -1,7 +1,7 @@
 //! One writer, a pass number: it runs the lines of its passes in all regions, in order.
 ghost use Rattle.std.specs.Prelude.{◌≡◌, ◌⊎◌, ◌<◌, ◌≤◌, ◌+◌, ◌∷◌, ℕ, [], None, true, length, map, replicate, slice_get, Some, IsSome, OnOk, MatchResult, vec_capacity};
 ghost use Rattle.fetch_engine.specs.declared.server.Mounted.{Mounted};
-ghost use Rattle.recordable_scripts.specs.Recording.{place_of as place_in, refused_line, suits};
+ghost use Rattle.run_script.specs.Recording.{place_of as place_in, refused_line, suits};
 ghost use Rattle.run_script.specs.Rules.{IsPlaced, KeepsRules};
 ghost use Rattle.script_passes.specs.Crews.{ServesScript, clusters_in};
 ghost use Rattle.script_writers.specs.declared.writer.Writer.TheVariants.{Away};

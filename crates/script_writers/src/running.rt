@@ -3,7 +3,7 @@ ghost use Rattle.std.specs.Prelude.{◌≡◌, ℕ, None, IfOk};
 ghost use Rattle.std.specs.Bool.{OnTrue};
 ghost use Rattle.std.specs.List.{AllByRecursion};
 ghost use Rattle.std.specs.Thread.{IsSync};
-ghost use Rattle.recordable_scripts.specs.Recording.{refused_line};
+ghost use Rattle.run_script.specs.Recording.{refused_line};
 ghost use Rattle.run_script.specs.Rules.{KeepsRules};
 ghost use Rattle.script_passes.specs.Crews.{ServesScript, clusters_in};
 ghost use Rattle.script_writers.specs.Hands.{HasWritten, IsHand, IsSameHand};

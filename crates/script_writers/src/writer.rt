@@ -2,7 +2,7 @@
 ghost use Rattle.std.specs.Prelude.{◌≡◌, ◌<◌, ◌≤◌, ℕ, ◌∷◌, [], true, length, MatchResult};
 ghost use Rattle.region_core.specs.declared.act.Act.TheVariants.{Leave};
 ghost use Rattle.region_core.specs.declared.mode.Mode.TheVariants.{Idle};
-ghost use Rattle.recordable_scripts.specs.Recording.{image_words, is_attached, is_changing, is_idle, may_come};
+ghost use Rattle.run_script.specs.Recording.{image_words, is_attached, is_changing, is_idle, may_come};
 ghost use Rattle.run_script.specs.Rules.{IsPlaced};
 ghost use Rattle.script_runs.specs.Slots.{add_of, swap_of};
 ghost use Rattle.pass_steps.specs.Workers.{IsPassOf};
@@ -13,8 +13,7 @@ use mmv_layout::Image;
 use pass_steps::{add_in, swap_in};
 use pcp_base::NoMemory;
 use region_words::{Change, Pass, Region, Stint};
-use run_script::{Line, Script};
-use script_lines::Given;
+use run_script::{Given, Line, Script};
 use std::alloc::Global;
 use std::sync::Wait;
 

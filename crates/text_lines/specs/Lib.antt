@@ -1,5 +1,11 @@
+pub mod Contents
 pub mod Laws
+pub mod LayoutLaws
+pub mod LayoutLines
+pub mod LayoutSpelling
+pub mod LayoutWords
 pub mod Lines
 pub mod Numbers
 pub mod Spelling
+pub mod Whole
 pub mod Words

@@ -1,11 +1,9 @@
 //! Parts whose calls no command makes. A line calls one; what it tells is the output, and there is no status.
 use archive_meta::MetaState;
 use case_book::{Answer, Line, Words};
-use case_images::tell_text;
-use case_parts::{Filter, Schedule, tell_names, tell_value};
+use case_images::{tell_script, tell_text};
+use case_parts::{Filter, Schedule, tell_journal, tell_names, tell_value};
 use case_records::{tell_meta, tell_record, tell_result};
-use case_regions::tell_journal;
-use case_scripts::tell_script;
 use pcp_base::NoMemory;
 use pmns_core::Names;
 use std::alloc::Global;

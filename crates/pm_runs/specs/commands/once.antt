@@ -1,8 +1,8 @@
 -- `once SEC USEC FILE` reads an image and runs it as a script over any files: one region under the name FILE, all of whose metrics
 -- are logged at one tick. It writes how many results were logged.
 use Rattle.std.specs.Prelude.{◌≡◌, ℕ, List, [], codes, Option, Some, None, Result, Ok, Err}
-use Rattle.mmv_faults.specs.declared.fault.ImageFault.{ImageFault}
-use Rattle.mmv_faults.specs.Faults.{image_of}
+use Rattle.mmv_layout.specs.declared.fault.ImageFault.{ImageFault}
+use Rattle.mmv_layout.specs.Faults.{image_of}
 use Rattle.run_script.specs.declared.script.Script.{Script}
 use Rattle.script_runs.specs.Once.{once_limit, once_script}
 use Rattle.script_runs.specs.PassSteps.{one_number}

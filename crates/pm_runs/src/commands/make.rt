@@ -2,7 +2,7 @@
 ghost use Rattle.std.specs.Prelude.{◌≡◌, ◌≤◌, ℕ, List as Sequence, [], IfErr, IfOk, None};
 ghost use Rattle.pcp_base.specs.declared.file.FileId.TheVariants.{Meta};
 ghost use Rattle.pcp_model.specs.Disk.{CrashImage, contents_of};
-ghost use Rattle.archive_window.specs.Looks.{Looks};
+ghost use Rattle.archive_loading.specs.Looks.{Looks};
 ghost use Rattle.script_runs.specs.Summaries.{adds_in, total_in};
 ghost use Rattle.pm_words.specs.Serving.{StopCause, HasServed, MayLeave, HasRecovered};
 ghost use Rattle.pm_runs.specs.Regions.{HasRegions, RanRegions};

@@ -2,7 +2,7 @@
 ghost use Rattle.std.specs.Prelude.{◌≡◌, ◌≤◌, [], ◌∷◌, length, IfErr, IfOk, OnOk, None, Some};
 ghost use Rattle.pcp_base.specs.Names.{IsComponent};
 ghost use Rattle.pcp_model.specs.Disk.{CrashImage};
-ghost use Rattle.mmv_format.specs.Images.{IsImage};
+ghost use Rattle.mmv_layout.specs.Images.{IsImage};
 ghost use Rattle.run_script.specs.Rules.{KeepsRules};
 ghost use Rattle.script_runs.specs.Once.{once_group, once_region, once_script};
 ghost use Rattle.pm_words.specs.Inputs.{input_limit, refusal_of, Refuses};

@@ -1,5 +1,5 @@
 -- `mmv-dump` reads an image and gives the layout text of it.
-use Rattle.mmv_faults.specs.Faults.{image_of}
+use Rattle.mmv_layout.specs.Faults.{image_of}
 use Rattle.pm_print.specs.Dumps.{dump_of}
 use Rattle.pm_words.specs.Inputs.{image_refusal, made_of}
 use Rattle.pm_words.specs.Meaning.{Meaning, converts}

@@ -1,7 +1,7 @@
 //! The command `at SEC USEC`: the last item that isn't stamped after a moment.
 ghost use Rattle.std.specs.Prelude.{IfOk, IfErr};
 ghost use Rattle.pcp_model.specs.Disk.{contents_of};
-ghost use Rattle.archive_window.specs.Looks.{Looks};
+ghost use Rattle.archive_loading.specs.Looks.{Looks};
 ghost use Rattle.pm_tasks.specs.Archives.{TurnedAway};
 ghost use Rattle.pm_words.specs.Sides.{disk_side, files_found};
 ghost use Rattle.pm_tasks.specs.Takes.{TookAt};

@@ -1,7 +1,7 @@
 //! The command `dump`: the label of an archive and all its items.
 ghost use Rattle.std.specs.Prelude.{◌≡◌, ◌++◌, false, Some, IfOk, IfErr, OnOk, OnErr};
 ghost use Rattle.pcp_model.specs.Disk.{contents_of};
-ghost use Rattle.archive_window.specs.Looks.{Looks};
+ghost use Rattle.archive_loading.specs.Looks.{Looks};
 ghost use Rattle.archive_loading.specs.Loaded.{IsOver};
 ghost use Rattle.pm_tasks.specs.Archives.{TurnedAway};
 ghost use Rattle.pcp_outside.specs.Sides.{sink_side};

@@ -1,6 +1,6 @@
 //! The command `info`: the descriptions of an archive.
 ghost use Rattle.std.specs.Prelude.{IfOk, IfErr};
-ghost use Rattle.archive_window.specs.Looks.{Looks};
+ghost use Rattle.archive_loading.specs.Looks.{Looks};
 ghost use Rattle.pm_tasks.specs.Archives.{TurnedAway};
 ghost use Rattle.pm_words.specs.Sides.{disk_side, files_found};
 ghost use Rattle.pm_tasks.specs.commands.info.{IsTurnedAway, IsOutput};

@@ -1,6 +1,6 @@
 //! The command `mmv-dump`: an image becomes its layout text.
 ghost use Rattle.std.specs.Prelude.{◌≡◌, IfOk, IfErr, OnOk, None};
-ghost use Rattle.mmv_faults.specs.Faults.{image_of};
+ghost use Rattle.mmv_layout.specs.Faults.{image_of};
 ghost use Rattle.pm_print.specs.Dumps.{dump_of};
 ghost use Rattle.pm_words.specs.Inputs.{refusal_of, made_of, Refuses};
 ghost use Rattle.pm_tasks.specs.commands.mmv_dump.{mmv_dump as meaning_of_dump};

@@ -1,7 +1,7 @@
 //! The command `range SEC USEC SEC USEC`: the items between two moments.
 ghost use Rattle.std.specs.Prelude.{◌≡◌, ◌++◌, IfOk, IfErr, OnOk};
 ghost use Rattle.pcp_model.specs.Disk.{contents_of};
-ghost use Rattle.archive_window.specs.Looks.{Looks};
+ghost use Rattle.archive_loading.specs.Looks.{Looks};
 ghost use Rattle.pm_print.specs.Items.{items_text};
 ghost use Rattle.pm_tasks.specs.Archives.{TurnedAway};
 ghost use Rattle.pm_words.specs.Sides.{disk_side, files_found};

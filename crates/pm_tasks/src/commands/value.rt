@@ -2,7 +2,7 @@
 ghost use Rattle.std.specs.Prelude.{◌≡◌, IfOk, IfErr, bytes_eq};
 ghost use Rattle.archive_meta.specs.Said.{description_of, names_of};
 ghost use Rattle.pcp_model.specs.Disk.{contents_of};
-ghost use Rattle.archive_window.specs.Looks.{Looks};
+ghost use Rattle.archive_loading.specs.Looks.{Looks};
 ghost use Rattle.archive_loading.specs.Loaded.{IsOver};
 ghost use Rattle.pm_tasks.specs.Archives.{TurnedAway};
 ghost use Rattle.pm_words.specs.Sides.{disk_side, files_found};

@@ -4,7 +4,7 @@ use Rattle.pcp_model.proofs.Lists.{each-append}
 use Rattle.archive_loading.specs.Volumes.{IsVolumePart}
 use Rattle.archive_loading.proofs.loading.load_heads.Goals.{in-Empty, in-Headed+in_ok-push-in-Headed}
 use Rattle.pcp_model.specs.Disk.{contents_of}
-use Rattle.archive_window.proofs.Looking.{looks_none, looks_on}
+use Rattle.archive_loading.proofs.Looking.{looks_none, looks_on}
 use Rattle.archive_loading.specs.Loaded.{IsReachable}
 use Rattle.pcp_base.specs.declared.file.FileId.TheVariants.{Volume}
 use Rattle.archive_loading.proofs.LabelBytes.{none_taken, one_label, labels_below, labels_so_far}

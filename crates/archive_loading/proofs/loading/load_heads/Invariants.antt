@@ -1,5 +1,5 @@
 use Rattle.pcp_model.specs.Disk.{contents_of}
-use Rattle.archive_window.specs.Looks.{Looks}
+use Rattle.archive_loading.specs.Looks.{Looks}
 use Rattle.std.specs.Prelude.{◌+◌, ◌≤◌}
 use Rattle.archive_loading.specs.Loaded.{IsReachable}
 use Rattle.archive_loading.specs.Takes.{label_bytes}

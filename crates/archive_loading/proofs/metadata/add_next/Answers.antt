@@ -1,7 +1,7 @@
 use Rattle.std.proofs.Common.{◌≡◌, ℕ, ◌+◌, ◌-◌, ◌≤◌, List, length, refl, ap, subst, arith}
 use Rattle.pcp_base.specs.declared.file.FileId.TheVariants.{Meta}
 use Rattle.pcp_model.specs.Disk.{contents_of}
-use Rattle.archive_window.specs.Standing.{IsTaken, WasTaken}
+use Rattle.archive_loading.specs.Standing.{IsTaken, WasTaken}
 use Rattle.archive_loading.proofs.Loads.{when_true, when_false}
 use Rattle.archive_loading.specs.Metadata.{FrameIsAdded, FrameIsBad}
 use Rattle.archive_loading.proofs.MetaSteps.{torn_behind, not_torn_behind, no_frame_fits, frame_not_torn, bad_fits, frame_stands}

@@ -1,7 +1,7 @@
 use Rattle.std.proofs.Common.{◌∙◌, ◌≤◌, ℕ, List, length, take, negsuc, sym, ap, subst, arith}
 use Rattle.pcp_base.specs.declared.file.FileId.TheVariants.{Meta}
 use Rattle.pcp_model.specs.Disk.{contents_of}
-use Rattle.archive_window.proofs.Looking.{looks_on}
+use Rattle.archive_loading.proofs.Looking.{looks_on}
 use Rattle.pcp_model.specs.Labels.{IsLabel}
 use Rattle.archive_loading.specs.LoadFaults.{IsMetaPrefix}
 use Rattle.archive_loading.specs.Metadata.{IsRecordsRead, AreAllRecords}

@@ -1,7 +1,7 @@
 use Rattle.std.proofs.Common.{◌-◌, ◌<◌, ◌≤◌, ℕ, List, drop, subst, arith}
 use Rattle.pcp_base.specs.declared.file.FileId.TheVariants.{Meta}
 use Rattle.pcp_model.specs.Disk.{contents_of}
-use Rattle.archive_window.proofs.Looking.{looks_on}
+use Rattle.archive_loading.proofs.Looking.{looks_on}
 use Rattle.archive_loading.specs.Metadata.{IsAdded, FitsAdded}
 use Rattle.archive_loading.proofs.MetaSteps.{same_so_far, one_record_more, all_records, at_their_end, record_stops}
 use Rattle.archive_loading.proofs.metadata.read_records.Goals as goal

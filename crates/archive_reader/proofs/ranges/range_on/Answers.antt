@@ -1,6 +1,6 @@
 use Rattle.std.proofs.Common.{◌<◌, ℕ, List, length, drop, sym, subst, arith}
 use Rattle.pcp_model.specs.Disk.{contents_of}
-use Rattle.archive_window.proofs.Looking.{looks_none, looks_on}
+use Rattle.archive_loading.proofs.Looking.{looks_none, looks_on}
 use Rattle.std.specs.List.{AllByRecursion}
 use Rattle.archive_loading.specs.Loaded.{IsMeasured}
 use Rattle.archive_reader.specs.Steps.{IsAhead, IsAheadFault, IsAheadIn}

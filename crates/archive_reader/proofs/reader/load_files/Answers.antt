@@ -1,4 +1,4 @@
-use Rattle.archive_window.proofs.Looking.{looks_on}
+use Rattle.archive_loading.proofs.Looking.{looks_on}
 use Rattle.archive_reader.proofs.reader.load_files.Goals as goal
 
 pub returns-in-Whole-clause-looks : goal.returns-in-Whole-clause-looks

@@ -1,7 +1,7 @@
 use Rattle.std.proofs.Common.{◌<◌, ℕ, List, length, drop, subst, arith}
 use Rattle.pcp_base.specs.declared.file.FileId.TheVariants.{Volume}
 use Rattle.pcp_model.specs.Disk.{contents_of}
-use Rattle.archive_window.proofs.Looking.{looks_on}
+use Rattle.archive_loading.proofs.Looking.{looks_on}
 use Rattle.archive_reader.specs.Steps.{IsWalked, IsIn}
 use Rattle.archive_reader.specs.Takes.{TookNext}
 use Rattle.archive_reader.proofs.Spanned.{goes_on, all_here, bad_here}

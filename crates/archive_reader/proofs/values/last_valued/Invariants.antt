@@ -1,6 +1,6 @@
 use Rattle.std.proofs.Common.{◌≤◌, length}
 use Rattle.pcp_model.specs.Disk.{contents_of}
-use Rattle.archive_window.specs.Looks.{Looks}
+use Rattle.archive_loading.specs.Looks.{Looks}
 use Rattle.archive_reader.proofs.Spanned.{SoFar}
 use Rattle.archive_reader.proofs.Valued.{ValueSoFar}
 use Rattle.archive_reader.proofs.values.last_valued.Given as goal

@@ -3,7 +3,7 @@ use Rattle.std.specs.Prelude.{slice_index_or}
 use Rattle.std.proofs.lemmas.List.{drop_more}
 use Rattle.pcp_base.specs.declared.file.FileId.TheVariants.{Volume}
 use Rattle.pcp_model.specs.Disk.{contents_of}
-use Rattle.archive_window.specs.Standing.{IsNextRecord}
+use Rattle.archive_loading.specs.Standing.{IsNextRecord}
 use Rattle.archive_reader.proofs.Stepping.{stood_torn}
 use Rattle.archive_reader.proofs.walking.stand.Goals as goal
 

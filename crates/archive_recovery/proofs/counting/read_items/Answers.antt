@@ -1,8 +1,8 @@
 use Rattle.std.proofs.Common.{◌<◌, ◌≤◌, ℕ, List, subst, arith}
 use Rattle.pcp_base.specs.declared.file.FileId.TheVariants.{Volume}
 use Rattle.pcp_model.specs.Disk.{contents_of}
-use Rattle.archive_window.specs.Standing.{IsNextRecord, FitsNext}
-use Rattle.archive_window.proofs.Looking.{looks_on}
+use Rattle.archive_loading.specs.Standing.{IsNextRecord, FitsNext}
+use Rattle.archive_loading.proofs.Looking.{looks_on}
 use Rattle.archive_recovery.proofs.OneVolume.{one_item_more, items_break}
 use Rattle.archive_recovery.proofs.counting.read_items.Goals as goal
 

@@ -1,7 +1,7 @@
 use Rattle.std.proofs.Common.{ℕ, true, List, refl, subst, inr}
 use Rattle.pcp_base.specs.declared.file.FileId.TheVariants.{Volume}
 use Rattle.pcp_model.specs.Disk.{contents_of}
-use Rattle.archive_window.proofs.Looking.{looks_on}
+use Rattle.archive_loading.proofs.Looking.{looks_on}
 use Rattle.archive_loading.specs.Volumes.{IsVolumePart}
 use Rattle.archive_recovery.specs.Volumes.{IsItemsRead}
 use Rattle.archive_recovery.proofs.OneVolume.{begun_here, label_here, volume_stands, volume_breaks}

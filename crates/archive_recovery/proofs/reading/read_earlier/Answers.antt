@@ -1,7 +1,7 @@
 use Rattle.std.proofs.Common.{◌+◌, ℕ, sym, subst}
 use Rattle.pcp_base.specs.declared.file.FileId.TheVariants.{Volume}
 use Rattle.pcp_model.specs.Disk.{contents_of}
-use Rattle.archive_window.proofs.Looking.{looks_on}
+use Rattle.archive_loading.proofs.Looking.{looks_on}
 use Rattle.archive_recovery.specs.Volumes.{IsVolumeRead, EarlierStand}
 use Rattle.archive_recovery.proofs.AllVolumes.{whole_below, is_followed, begun_refused, torn_refused, stop_refused, empty_more, volume_more}
 use Rattle.archive_recovery.proofs.reading.read_earlier.Goals.{in-Empty, in-Whole+else-end-length}

@@ -1,5 +1,5 @@
 use Rattle.pcp_model.specs.Disk.{contents_of}
-use Rattle.archive_window.specs.Looks.{Looks}
+use Rattle.archive_loading.specs.Looks.{Looks}
 use Rattle.archive_recovery.specs.Volumes.{EarlierStand}
 use Rattle.archive_recovery.proofs.reading.read_earlier.Given as goal
 

@@ -1,6 +1,6 @@
 use Rattle.pcp_base.specs.declared.file.FileId.TheVariants.{Meta}
 use Rattle.pcp_outside.proofs.Crash.{weaker}
-use Rattle.archive_window.proofs.Looking.{looks_none}
+use Rattle.archive_loading.proofs.Looking.{looks_none}
 use Rattle.archive_recovery.specs.Halfway.{MayBeHalfway}
 use Rattle.archive_recovery.specs.Mending.{MayBeCut}
 use Rattle.archive_recovery.proofs.Moving.{only_looked}

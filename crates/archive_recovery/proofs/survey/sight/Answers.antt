@@ -1,7 +1,7 @@
 use Rattle.std.proofs.Common.{sym, subst}
 use Rattle.pcp_base.specs.declared.file.FileId.TheVariants.{Meta}
 use Rattle.pcp_model.specs.Disk.{contents_of}
-use Rattle.archive_window.proofs.Looking.{looks_on}
+use Rattle.archive_loading.proofs.Looking.{looks_on}
 use Rattle.archive_loading.specs.Metadata.{HasEnd, IsMetaPart, IsReadTo}
 use Rattle.archive_recovery.specs.declared.mending.Tail.{Tail}
 use Rattle.archive_recovery.specs.declared.stamps.Tally.{Tally}

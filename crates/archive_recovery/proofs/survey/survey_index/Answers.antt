@@ -1,7 +1,7 @@
 use Rattle.std.proofs.Common.{inl, subst}
 use Rattle.pcp_base.specs.declared.file.FileId.TheVariants.{Meta, Index}
 use Rattle.pcp_model.specs.Disk.{contents_of}
-use Rattle.archive_window.proofs.Looking.{looks_on}
+use Rattle.archive_loading.proofs.Looking.{looks_on}
 use Rattle.archive_loading.specs.Parts.{IsIndexPart}
 use Rattle.archive_loading.proofs.MetaSteps.{meta_reads}
 use Rattle.archive_recovery.proofs.survey.survey_index.Goals as goal

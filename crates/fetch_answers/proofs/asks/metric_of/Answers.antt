@@ -1,6 +1,6 @@
 use Rattle.std.proofs.Common.{◌==◌, sym, subst, Option}
 use Rattle.std.specs.Prelude.{IfSome}
-use Rattle.mmv_format.specs.declared.rows.MetricRow.{MetricRow}
+use Rattle.mmv_layout.specs.declared.rows.MetricRow.{MetricRow}
 use Rattle.fetch_answers.specs.Bounds.{FitsMetric}
 use Rattle.fetch_answers.proofs.Found.{found_fits}
 use Rattle.fetch_answers.proofs.asks.metric_of.Goals as goal

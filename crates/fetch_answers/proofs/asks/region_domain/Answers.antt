@@ -1,8 +1,8 @@
 use Rattle.std.proofs.Common.{ℕ, ◌==◌, List, Option, Some, sym, subst}
 use Rattle.std.specs.Prelude.{option_map}
 use Rattle.std.specs.List.{find}
-use Rattle.mmv_format.specs.declared.rows.IndomRow.{IndomRow}
-use Rattle.mmv_format.specs.declared.rows.Layout.{Layout}
+use Rattle.mmv_layout.specs.declared.rows.IndomRow.{IndomRow}
+use Rattle.mmv_layout.specs.declared.rows.Layout.{Layout}
 use Rattle.mmv_layout.specs.Rows.{layout_of}
 use Rattle.fetch_answers.specs.Asks.{Tells, layout_domain, row_asked}
 use Rattle.fetch_answers.proofs.asks.region_domain.Goals as goal

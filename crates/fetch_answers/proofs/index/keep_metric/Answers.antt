@@ -4,7 +4,7 @@ use Rattle.std.proofs.Common.{arith}
 use Rattle.std.proofs.lemmas.Grind.{common_steps}
 use Rattle.std.specs.Ordering.{nat_cmp}
 use Rattle.std.specs.BTreeMap.{get}
-use Rattle.mmv_format.specs.declared.rows.MetricRow.{MetricRow}
+use Rattle.mmv_layout.specs.declared.rows.MetricRow.{MetricRow}
 use Rattle.fetch_answers.proofs.Indexes.{old_stays, new_found}
 use Rattle.fetch_answers.proofs.index.keep_metric.Goals as goal
 

@@ -1,6 +1,6 @@
 -- The value words so far.
 use Rattle.std.proofs.Common.{◌≡◌, take, map}
-use Rattle.mmv_format.specs.declared.rows.Slot.{Slot}
+use Rattle.mmv_layout.specs.declared.rows.Slot.{Slot}
 use Rattle.fetch_answers.proofs.told.indexes_of.Given as goal
 
 abbrev pub invariant-loop-slot : goal.invariant-loop-slot

@@ -1,6 +1,6 @@
 -- A text of an image is no longer than its string.
 use Rattle.std.proofs.Common.{◌≡◌, ◌≤◌, ℕ, List, length, sym, subst}
-use Rattle.mmv_format.specs.Fields.{text_at}
+use Rattle.mmv_layout.specs.Fields.{text_at}
 use Rattle.fetch_answers.proofs.Bounds.{text_length}
 use Rattle.fetch_answers.proofs.values.content_at.Goals as goal
 

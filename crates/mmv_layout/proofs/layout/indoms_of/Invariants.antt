@@ -1,6 +1,6 @@
 -- The rows so far.
 use Rattle.std.proofs.Common.{◌≡◌}
-use Rattle.mmv_format.specs.Entries.{indom_at}
+use Rattle.mmv_layout.specs.Entries.{indom_at}
 use Rattle.mmv_layout.specs.Rows.{list_below, indom_row}
 use Rattle.mmv_layout.proofs.layout.indoms_of.Given as goal
 

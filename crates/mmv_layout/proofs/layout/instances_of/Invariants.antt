@@ -1,7 +1,7 @@
 -- The rows so far.
 use Rattle.std.proofs.Common.{◌≡◌, ◌+◌, ◌*◌}
-use Rattle.mmv_format.specs.EntryFields.{first_in_indom}
-use Rattle.mmv_format.specs.Sizes.{instance_size}
+use Rattle.mmv_layout.specs.EntryFields.{first_in_indom}
+use Rattle.mmv_layout.specs.Sizes.{instance_size}
 use Rattle.mmv_layout.specs.Rows.{list_below, instance_row}
 use Rattle.mmv_layout.proofs.layout.instances_of.Given as goal
 

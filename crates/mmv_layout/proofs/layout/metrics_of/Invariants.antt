@@ -1,6 +1,6 @@
 -- The rows so far.
 use Rattle.std.proofs.Common.{◌≡◌}
-use Rattle.mmv_format.specs.Entries.{metric_at}
+use Rattle.mmv_layout.specs.Entries.{metric_at}
 use Rattle.mmv_layout.specs.Rows.{list_below, metric_row}
 use Rattle.mmv_layout.proofs.layout.metrics_of.Given as goal
 

@@ -1,6 +1,6 @@
 -- The rows so far.
 use Rattle.std.proofs.Common.{◌≡◌}
-use Rattle.mmv_format.specs.Entries.{value_at}
+use Rattle.mmv_layout.specs.Entries.{value_at}
 use Rattle.mmv_layout.specs.Rows.{list_below, value_row}
 use Rattle.mmv_layout.proofs.layout.values_of.Given as goal
 

@@ -3,7 +3,7 @@ use Rattle.std.proofs.Common.{◌≡◌, true, false, is_some, Option, None, Som
 use Rattle.std.proofs.lemmas.Int.{to_z-of_z}
 use Rattle.std.specs.Ordering.{is_eq}
 use Rattle.std.specs.BTreeMap.{get}
-use Rattle.mmv_format.specs.declared.rows.Slot.{Slot}
+use Rattle.mmv_layout.specs.declared.rows.Slot.{Slot}
 use Rattle.mmv_layout.specs.SlotTables.{slot_order}
 use Rattle.mmv_layout.proofs.SlotTables.{keeps_old, keeps_new}
 use Rattle.mmv_layout.proofs.slot_table.keep.Goals as goal

@@ -2,7 +2,7 @@
 use Rattle.std.proofs.Common.{◌≡◌, ◌<◌, true, None, Some, ap, sym, subst, ◌∙◌, arith, w32, to_z, of_z}
 use Rattle.std.proofs.lemmas.Int.{to_z-of_z}
 use Rattle.std.specs.List.{filter_map, find}
-use Rattle.mmv_format.specs.Entries.{value_at, value_count}
+use Rattle.mmv_layout.specs.Entries.{value_at, value_count}
 use Rattle.mmv_layout.specs.Rows.{list_below}
 use Rattle.mmv_layout.specs.Form.{slot_at, slots_of, is_slot_of}
 use Rattle.mmv_layout.proofs.EntryOffsets.{value_near}

@@ -2,8 +2,8 @@
 use Rattle.std.proofs.Common.{◌≡◌, ◌<◌, ◌≤◌, ◌⊎◌, length, inl, inr, Option, None, Some, subst, List, ℕ, ℤ, IfSome, MatchOption, All, Contains, true, refl, w32}
 use Rattle.std.proofs.lemmas.Int.{to_z-of_z}
 use Rattle.std.specs.List.{find}
-use Rattle.mmv_format.specs.Images.{is_image}
-use Rattle.mmv_format.specs.declared.rows.Slot.{Slot}
+use Rattle.mmv_layout.specs.Images.{is_image}
+use Rattle.mmv_layout.specs.declared.rows.Slot.{Slot}
 use Rattle.mmv_layout.specs.Form.{slots_of, is_slot_of, IsSlotOf, IsOther}
 use Rattle.mmv_layout.proofs.SlotFacts.{slot_found, slot_lies, slot_item}
 use Rattle.mmv_layout.proofs.slots.slot_of.Goals as goal

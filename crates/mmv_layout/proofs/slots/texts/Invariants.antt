@@ -1,6 +1,6 @@
 -- The texts so far.
 use Rattle.std.proofs.Common.{◌≡◌}
-use Rattle.mmv_format.specs.Entries.{string_at}
+use Rattle.mmv_layout.specs.Entries.{string_at}
 use Rattle.mmv_layout.specs.Rows.{list_below, string_text}
 use Rattle.mmv_layout.proofs.slots.texts.Given as goal
 

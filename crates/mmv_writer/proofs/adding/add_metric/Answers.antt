@@ -3,8 +3,8 @@ use Rattle.std.proofs.Common.{◌≡◌, ◌∙◌, ◌||◌, ◌-◌, ap, cond,
 use Rattle.std.specs.Ordering.{nat_cmp, is_eq}
 use Rattle.std.specs.BTreeMap.{get}
 use Rattle.mmv_writer.specs.Keys.{is_named, HasItems}
-use Rattle.mmv_spelling.proofs.Firsts.{taken_back}
-use Rattle.mmv_writer.proofs.Lookups.{reads, reads_insert}
+use Rattle.mmv_writer.proofs.Firsts.{taken_back}
+use Rattle.mmv_writer.proofs.RowLookups.{reads, reads_insert}
 use Rattle.mmv_writer.proofs.Kept.{metric_kept, names_kept, item_back}
 use Rattle.mmv_writer.proofs.adding.add_metric.Goals as goal
 

@@ -1,6 +1,6 @@
 -- The spelling of a draft is an image.
 use Rattle.std.proofs.Common.{sym, subst}
-use Rattle.mmv_format.specs.Images.{IsImage}
+use Rattle.mmv_layout.specs.Images.{IsImage}
 use Rattle.mmv_writer.proofs.Images.{drafts_are_images}
 use Rattle.mmv_writer.proofs.builder.image_of.Goals as goal
 

@@ -1,6 +1,6 @@
 -- A script that is read keeps the rules, and where no line of it is unserved all its regions have room.
 use Rattle.std.proofs.Common.{◌≡◌, ℕ, sym, ap, ◌∙◌, Option, None}
-use Rattle.recordable_scripts.specs.Recording.{refused_line}
+use Rattle.run_script.specs.Recording.{refused_line}
 use Rattle.run_script.proofs.Ruled.{scripts_are_ruled}
 use Rattle.pm_serving.specs.Scripts.{earlier, unserved_line}
 use Rattle.pm_serving.proofs.Room.{have_room}

@@ -2,9 +2,9 @@
 use Rattle.std.proofs.Common.{refl}
 use Rattle.std.specs.Fmt.{digits}
 use Rattle.text_lines.specs.Spelling.{number_part}
-use Rattle.mmv_format.specs.Contents.{find_section, section_of}
-use Rattle.mmv_format.specs.Entries.{metric_of}
-use Rattle.mmv_format.specs.Fields.{number64, number32, byte_at, text_at}
+use Rattle.mmv_layout.specs.Contents.{find_section, section_of}
+use Rattle.mmv_layout.specs.Entries.{metric_of}
+use Rattle.mmv_layout.specs.Fields.{number64, number32, byte_at, text_at}
 use Rattle.mmv_layout.specs.Form.{slot_at, slots_of, texts_of}
 use Rattle.mmv_layout.specs.Rows.{list_below, help_of, instances_of, indom_row, serial_of, metric_row, instance_of, content_of, value_row, indoms_of, metrics_of, values_of, strings_of, layout_of}
 use Rattle.script_runs.specs.Worked.{AddsOne, ReadsAround, ReadsBehind, IsBusy, ShowsBusy, IsBounced, IsSpent, IsTooLarge, ShowsOther, ShowsMissed, ShowsText, AreRefused}

@@ -1,5 +1,5 @@
 use Rattle.std.proofs.Common.{◌≡◌, ℕ, Some, sym, ap, ◌∙◌}
-use Rattle.recordable_scripts.specs.Recording.{place_of}
+use Rattle.run_script.specs.Recording.{place_of}
 use Rattle.script_writers.proofs.Placed.{ready_at}
 use Rattle.script_writers.proofs.Stepped.{region_there, step_away, step_present, step_run, step_writers}
 use Rattle.script_writers.proofs.hand.run_step.Goals as goal

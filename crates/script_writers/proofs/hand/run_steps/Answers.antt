@@ -2,7 +2,7 @@ use Rattle.std.proofs.Common.{◌≡◌, ◌<◌, ◌≤◌, ℕ, List, [], ◌�
 use Rattle.run_script.specs.declared.script.Line.{Line}
 use Rattle.script_passes.proofs.Turning.{was_there}
 use Rattle.script_writers.specs.Hands.{HaveRun}
-use Rattle.recordable_scripts.specs.Recording.{place_of}
+use Rattle.run_script.specs.Recording.{place_of}
 use Rattle.script_writers.proofs.Handed.{away_more, away_none, comes_next, run_more, run_none, take_all, take_next}
 use Rattle.script_writers.proofs.Lined.{may_stand, names_some}
 use Rattle.script_writers.proofs.hand.run_steps.Goals as goal

@@ -1,5 +1,5 @@
 use Rattle.archive_meta.specs.Records.{IsMetaFault}
-use Rattle.meta_records.proofs.OneRecord.{between}
+use Rattle.archive_meta.proofs.OneRecord.{between}
 use Rattle.archive_meta.proofs.Frames.{adds_one, frame_fault, add_fault, handed_on}
 use Rattle.archive_meta.proofs.state.MetaState.add_all.Goals as goal
 

@@ -1,5 +1,5 @@
 use Rattle.archive_meta.specs.Records.{IsFrontFault}
-use Rattle.meta_records.proofs.OneRecord.{between}
+use Rattle.archive_meta.proofs.OneRecord.{between}
 use Rattle.archive_meta.proofs.Frames.{adds_one, handed_on}
 use Rattle.archive_meta.proofs.Torn.{front_frame_fault, front_add_fault, end_torn}
 use Rattle.archive_meta.proofs.state.MetaState.add_front.Goals as goal

@@ -1,4 +1,4 @@
-use Rattle.archive_window.proofs.Looking.{looks_on}
+use Rattle.archive_loading.proofs.Looking.{looks_on}
 use Rattle.archive_reader.proofs.reader.ArchiveReader.load.Goals as goal
 
 pub returns-in-None-clause-looks : goal.returns-in-None-clause-looks

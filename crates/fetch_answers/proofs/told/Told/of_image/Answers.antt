@@ -1,8 +1,8 @@
 -- There is a row for each value.
 use Rattle.std.proofs.Common.{rules, ◌≡◌, List, length, ap, sym, ◌∙◌}
-use Rattle.mmv_format.specs.Entries.{value_count}
-use Rattle.mmv_format.specs.declared.rows.Layout.{Layout}
-use Rattle.mmv_format.specs.declared.rows.ValueRow.{ValueRow}
+use Rattle.mmv_layout.specs.Entries.{value_count}
+use Rattle.mmv_layout.specs.declared.rows.Layout.{Layout}
+use Rattle.mmv_layout.specs.declared.rows.ValueRow.{ValueRow}
 use Rattle.mmv_layout.specs.Rows.{layout_of}
 use Rattle.fetch_answers.proofs.Numbers.{many_rows}
 use Rattle.fetch_answers.proofs.told.Told.of_image.Goals as goal

@@ -2,7 +2,7 @@
 use Rattle.std.proofs.Common.{◌∙◌, ap, sym, is_some, nat_eq, ◌&&◌}
 use Rattle.std.specs.Option.{option_copied}
 use Rattle.mmv_writer.specs.Rules.{fits_kind, fits_some_metric}
-use Rattle.mmv_spelling.proofs.Firsts.{position_some}
+use Rattle.mmv_writer.proofs.Firsts.{position_some}
 use Rattle.mmv_writer.proofs.Kept.{no_metric, row_there, one_metric, domain_fits}
 use Rattle.mmv_writer.proofs.builder.Builder.fits_some_metric.Goals as goal
 

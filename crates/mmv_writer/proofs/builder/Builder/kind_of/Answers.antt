@@ -1,8 +1,8 @@
 -- The first metric with the item is found.
 use Rattle.std.proofs.Common.{◌∙◌, ap, sym, is_some, nat_eq}
 use Rattle.std.specs.Option.{option_copied}
-use Rattle.mmv_format.specs.declared.rows.Layout.{Layout}
-use Rattle.mmv_spelling.proofs.Firsts.{position_some}
+use Rattle.mmv_layout.specs.declared.rows.Layout.{Layout}
+use Rattle.mmv_writer.proofs.Firsts.{position_some}
 use Rattle.mmv_writer.specs.Reading.{kind_in}
 use Rattle.mmv_writer.proofs.ItemKinds.{no_kind, kind_there}
 use Rattle.mmv_writer.proofs.builder.Builder.kind_of.Goals as goal

@@ -2,7 +2,7 @@
 use Rattle.std.proofs.Common.{◌≡◌, ◌∙◌, ap, refl, rules, cond, true}
 use Rattle.std.specs.Ordering.{int_eq, int_cmp}
 use Rattle.std.specs.BTreeSet.{contains}
-use Rattle.mmv_writer.proofs.Lookups.{reads, reads_insert, cond_or}
+use Rattle.mmv_writer.proofs.RowLookups.{reads, reads_insert, cond_or}
 use Rattle.mmv_writer.proofs.keys.DomainKeys.add.Goals as goal
 
 pub returns-clause-ok : goal.returns-clause-ok

@@ -3,7 +3,7 @@ use Rattle.pcp_base.specs.declared.file.FileId.TheVariants.{Meta, Volume}
 use Rattle.pcp_model.specs.Disk.{Holdings, contents_of}
 use Rattle.pcp_outside.specs.Causes.{shown_count}
 use Rattle.pcp_outside.specs.Devices.{IsVolumes}
-use Rattle.archive_window.proofs.Looking.{looked, looks_on}
+use Rattle.archive_loading.proofs.Looking.{looked, looks_on}
 use Rattle.script_runs.specs.Summaries.{HasVolumes}
 use Rattle.pm_runs.specs.commands.make.{counted_text}
 use Rattle.pm_runs.proofs.commands.make.summary.Goals as goal

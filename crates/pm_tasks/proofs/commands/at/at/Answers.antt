@@ -2,7 +2,7 @@
 use Rattle.std.proofs.Common.{rules, inl, inr, refl, ap, subst, ◌∙◌, Some, None}
 use Rattle.pcp_base.specs.Time.{Moment}
 use Rattle.pcp_model.specs.Disk.{Holdings, contents_of}
-use Rattle.archive_window.proofs.Looking.{looks_on}
+use Rattle.archive_loading.proofs.Looking.{looks_on}
 use Rattle.archive_loading.specs.Loaded.{Loaded, IsOver}
 use Rattle.archive_reader.specs.Asked.{at_begin, IsAtFrom}
 use Rattle.pm_print.specs.Items.{item_text}

@@ -1,6 +1,6 @@
 -- An archive that is loaded, and its items.
 use Rattle.std.proofs.Common.{rules, inl, ◌++◌, ap, ◌∙◌}
-use Rattle.archive_window.proofs.Looking.{looks_on}
+use Rattle.archive_loading.proofs.Looking.{looks_on}
 use Rattle.archive_loading.specs.Loaded.{Loaded, IsOver}
 use Rattle.pcp_outside.specs.Sides.{SinkSide, sink_side}
 use Rattle.pm_words.specs.Sides.{disk_side}

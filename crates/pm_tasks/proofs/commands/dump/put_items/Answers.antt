@@ -1,7 +1,7 @@
 -- The items that were read, one behind another, are those of the archive.
 use Rattle.std.proofs.Common.{rules, true, false, sym, subst, ◌∙◌, refl}
 use Rattle.pcp_model.specs.Disk.{contents_of}
-use Rattle.archive_window.proofs.Looking.{looks_none, looks_on}
+use Rattle.archive_loading.proofs.Looking.{looks_none, looks_on}
 use Rattle.archive_loading.specs.Loaded.{IsOver}
 use Rattle.pm_tasks.specs.Archives.{TurnedAway}
 use Rattle.pcp_outside.specs.Sides.{sink_side}

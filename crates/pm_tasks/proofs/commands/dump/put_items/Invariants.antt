@@ -1,7 +1,7 @@
 -- The text so far is that of the items that were read, a front of it is sent, and the files are as they were.
 use Rattle.std.proofs.Common.{◌≡◌}
 use Rattle.pcp_model.specs.Disk.{contents_of}
-use Rattle.archive_window.specs.Looks.{Looks}
+use Rattle.archive_loading.specs.Looks.{Looks}
 use Rattle.pcp_outside.specs.Sides.{sink_side}
 use Rattle.pm_tasks.proofs.Dumped.{Going}
 use Rattle.pm_tasks.proofs.commands.dump.put_items.Given as goal

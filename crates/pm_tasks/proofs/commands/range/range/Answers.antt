@@ -1,7 +1,7 @@
 -- The items that a search answers.
 use Rattle.std.proofs.Common.{rules, inl, ap, subst, ◌∙◌}
 use Rattle.pcp_model.specs.Disk.{Holdings, contents_of}
-use Rattle.archive_window.proofs.Looking.{looks_on}
+use Rattle.archive_loading.proofs.Looking.{looks_on}
 use Rattle.archive_loading.specs.Loaded.{Loaded, IsOver}
 use Rattle.archive_reader.specs.Asked.{range_begin, IsRangeFrom}
 use Rattle.pm_print.specs.Items.{items_text}

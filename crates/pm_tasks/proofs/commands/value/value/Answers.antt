@@ -1,7 +1,7 @@
 -- The values of the metric that a name leads to, or that there are none.
 use Rattle.std.proofs.Common.{rules, inl, inr, refl, sym, ap, subst, ◌∙◌}
 use Rattle.pcp_model.specs.Disk.{contents_of}
-use Rattle.archive_window.proofs.Looking.{looks_on}
+use Rattle.archive_loading.proofs.Looking.{looks_on}
 use Rattle.archive_loading.specs.Loaded.{Loaded, IsOver}
 use Rattle.pm_tasks.specs.commands.value.{IsTurnedAway, metric_of_name, HasNothing}
 use Rattle.pm_tasks.specs.Archives.{TurnedAway}

@@ -1,0 +1,26 @@
+//! Why bytes are no records of Meta (LOGARCHIVE(5)).
+ghost use Rattle.std.specs.Prelude.{◌≡◌};
+ghost use Rattle.archive_meta.specs.declared.fault.MetaFault.TheVariants.{NoMemory as Refused};
+
+use pcp_base::NoMemory;
+use thiserror::Error;
+
+/// Why bytes are no records of Meta.
+#[derive(Clone, Copy, Debug, PartialEq, Eq, Error)]
+pub enum MetaFault {
+    /// The first bytes that are no record: its frame isn't whole, its payload is refused, or it is a second description
+    /// of a metric that differs from the first. Its first byte is counted from the start of the bytes handed in.
+    #[error("the record of Meta at byte {at} is wrong")]
+    Record { at: u64 },
+    /// Memory was refused.
+    #[error("out of memory")]
+    NoMemory,
+}
+
+impl From<NoMemory> for MetaFault {
+    ghost from_gives = { λ _ e. e ≡ Refused };
+
+    fn from(_error: NoMemory) -> MetaFault {
+        MetaFault::NoMemory
+    }
+}

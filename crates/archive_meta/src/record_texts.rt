@@ -1,0 +1,64 @@
+//! The texts of a record.
+ghost use Rattle.std.specs.Prelude.{◌≡◌, ◌+◌, ◌<◌, ◌≤◌, length, take, position, IfOk, IfSome, IfNone};
+ghost use Rattle.pcp_base.specs.Texts.{IsText};
+ghost use Rattle.archive_meta.specs.Decoding.{is_zero, text_of, name_at, first_name};
+
+use memchr::memchr;
+use pcp_base::{List, NoMemory, Text, be32};
+use std::alloc::Global;
+
+/// Where the first zero byte stands.
+fn zero_in(bytes: &[u8]) -> Option<usize>
+    ensures value { result ≡ position is_zero bytes.now }
+    ensures within { IfSome result (λ at. at < length bytes.now) }
+    ensures front { IfSome result (λ at. IsText (take at bytes.now)) }
+    ensures all { IfNone result (IsText bytes.now) }
+{
+    memchr(0, bytes)
+}
+
+/// The text of bytes of which none is zero.
+#[tactic(auto, using(crate::proofs::ZeroBytes::text_clean))]
+fn clean_text(alloc: Global, bytes: &[u8]) -> Result<Option<Text>, NoMemory>
+    requires { IsText bytes.now }
+    ensures { IfOk result (λ found. found ≡ text_of bytes.now) }
+{
+    Ok(Some(Text::of_clean(List::from_vec(Vec::from_slice(alloc, bytes)?))))
+}
+
+/// The name that begins at an offset of a table, up to the first zero byte.
+#[tactic(auto, unfolding(crate::specs::Decoding::name_at))]
+pub fn name_at(alloc: Global, table: &[u8], offset: u32) -> Result<Option<Text>, NoMemory>
+    ensures { IfOk result (λ found. found ≡ name_at table.now offset) }
+{
+    let from = offset as usize;
+    if table.len() < from {
+        return Ok(None);
+    }
+    let rest = &table[from..];
+    match zero_in(rest) {
+        Some(end) => clean_text(alloc, &rest[..end]),
+        None => Ok(None),
+    }
+}
+
+/// The name with which bytes begin, whose length stands in front of it.
+#[tactic(auto, unfolding(crate::specs::Decoding::first_name))]
+pub fn first_name(alloc: Global, bytes: &[u8]) -> Result<Option<Text>, NoMemory>
+    ensures name { IfOk result (λ found. found ≡ first_name bytes.now) }
+    ensures within { IfOk result (λ found. IfSome found (λ name. 4 + length name ≤ length bytes.now)) }
+{
+    let Some(word) = be32(bytes, 0) else {
+        return Ok(None);
+    };
+    let rest = &bytes[4..];
+    let size = word as usize;
+    if rest.len() < size {
+        return Ok(None);
+    }
+    let name = &rest[..size];
+    match zero_in(name) {
+        Some(_) => Ok(None),
+        None => clean_text(alloc, name),
+    }
+}

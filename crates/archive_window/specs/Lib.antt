@@ -1,4 +1,0 @@
-pub mod Ending
-pub mod Looks
-pub mod Standing
-pub mod Taking

@@ -1,6 +1,0 @@
-pub mod Contents
-pub mod Laws
-pub mod Lines
-pub mod Spelling
-pub mod Whole
-pub mod Words

@@ -1,6 +1,0 @@
-use Rattle.std.proofs.Common.{arith}
-use Rattle.meta_records.proofs.RecordsRead.{stamped_is}
-use Rattle.meta_records.proofs.reading.domain_stamp.Goals as goal
-
-pub returns : goal.returns
-returns c = stamped_is c.args.payload.now c.stamped_in.result (λ i. omega (arith, c.type_inv.payload i)) c.stamped_in.ensures

@@ -1,9 +1,0 @@
-pub mod Again
-pub mod Firsts
-pub mod Images
-pub mod KeyLists
-pub mod Lies
-pub mod Lowest
-pub mod Nones
-pub mod Seen
-pub mod Told

@@ -1,4 +1,0 @@
-pub mod Faults
-pub mod Keys
-pub mod Laws
-pub mod Lowest

@@ -1,6 +1,0 @@
-pub mod Below
-pub mod Bytes
-pub mod Sections
-pub mod Standing
-pub mod Texts
-pub mod Versions

@@ -1,0 +1,10 @@
+-- The first that is found decides.
+use Rattle.std.proofs.Common.{arith}
+use Rattle.mmv_layout.specs.Entries.{metric_count, metric_at}
+use Rattle.mmv_layout.specs.Faults.{kind_fault, code_fault}
+use Rattle.mmv_layout.proofs.Firsts.{found_stops}
+use Rattle.mmv_layout.proofs.metrics.kind_fault.Goals as goal
+
+pub returns-in-Some : goal.returns-in-Some
+unfolding kind_fault
+returns-in-Some c = found_stops (metric_count c.args.words.now) c.loop-i.i _ (λ i. code_fault c.args.words.now (metric_at c.args.words.now i)) (omega arith) c.loop-i.invariant (grind arith)

@@ -1,9 +1,0 @@
--- The texts of one row more.
-use Rattle.std.proofs.Common.{◌++◌, arith}
-use Rattle.mmv_spelling.specs.Spelling.{texts_in}
-use Rattle.mmv_spelling.specs.Tables.{texts_behind}
-use Rattle.mmv_spelling.proofs.Missing.{written_more}
-use Rattle.mmv_spelling.proofs.strings.push_of_values.Goals as goal
-
-pub loop-row-preserved : goal.loop-row-preserved
-loop-row-preserved c = written_more (λ row. texts_in row.content) (texts_behind c.args.texts.now.items) (texts_behind c.loop-row.texts.items) (texts_behind c.push_content.new.texts.items) c.args.rows.now c.loop-row.row-index c.row-item.result (omega arith) c.row-item.is c.loop-row.invariant c.in_ok-push_content.ensures

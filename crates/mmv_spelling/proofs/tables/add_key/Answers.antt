@@ -1,6 +1,0 @@
--- One text more is looked up.
-use Rattle.mmv_spelling.proofs.Firsts.{key_put}
-use Rattle.mmv_spelling.proofs.tables.add_key.Goals as goal
-
-pub returns : goal.returns
-returns c = key_put c.args.firsts.now c.insert.new.self c.in_ok-key.key c.in_ok-insert.ensures.entries c.requires

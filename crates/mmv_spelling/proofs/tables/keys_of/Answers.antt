@@ -1,6 +1,0 @@
--- At first there is no text.
-use Rattle.mmv_spelling.proofs.Firsts.{key_none}
-use Rattle.mmv_spelling.proofs.tables.keys_of.Goals as goal
-
-pub loop-text-init : goal.loop-text-init
-loop-text-init c = key_none c.new-firsts.result c.new-firsts.ensures.empty

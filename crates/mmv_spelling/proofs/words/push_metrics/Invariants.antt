@@ -1,8 +1,0 @@
--- The entries of the rows that the loop has passed are written.
-use Rattle.std.proofs.Common.{◌≡◌, ◌++◌, take}
-use Rattle.std.specs.List.{flat_map}
-use Rattle.mmv_spelling.specs.Spelling.{metric_words}
-use Rattle.mmv_spelling.proofs.words.push_metrics.Given as goal
-
-abbrev pub invariant-loop-row : goal.invariant-loop-row
-invariant-loop-row l = l.out.items ≡ l.initial.out.items ++ flat_map (λ row. metric_words l.offsets l.strings row) (take l.row-index l.metrics)

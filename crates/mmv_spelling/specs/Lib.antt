@@ -1,3 +1,0 @@
-pub mod Offsets
-pub mod Spelling
-pub mod Tables

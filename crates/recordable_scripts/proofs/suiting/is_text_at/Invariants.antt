@@ -1,6 +1,0 @@
--- The bytes so far are equal.
-use Rattle.recordable_scripts.proofs.TextBytes.{Agrees}
-use Rattle.recordable_scripts.proofs.suiting.is_text_at.Given as goal
-
-abbrev pub invariant-loop-k : goal.invariant-loop-k
-invariant-loop-k l = Agrees l.words l.place l.text l.k l.rest
