@@ -1,6 +1,6 @@
 use Rattle.std.proofs.Common.{◌≡◌, ◌≤◌, ◌-◌, length, drop}
-use Rattle.pm_tasks.specs.commands.value.{first_named}
-use Rattle.pm_tasks.proofs.commands.value.first_named.Given as goal
+use Rattle.archive_meta.specs.Said.{first_named}
+use Rattle.archive_meta.proofs.named.first_named.Given as goal
 
 abbrev pub invariant-loop-index : goal.invariant-loop-index
 invariant-loop-index l = record {

@@ -1,6 +1,6 @@
 use Rattle.std.proofs.Common.{◌≡◌, ◌≤◌, ◌-◌, length, drop}
-use Rattle.pm_tasks.specs.commands.value.{has_name}
-use Rattle.pm_tasks.proofs.commands.value.has_name.Given as goal
+use Rattle.archive_meta.specs.Said.{has_name}
+use Rattle.archive_meta.proofs.named.has_name.Given as goal
 
 abbrev pub invariant-loop-index : goal.invariant-loop-index
 invariant-loop-index l = record {
