@@ -1,7 +1,8 @@
 -- The server of one region has that region alone.
-use Rattle.std.proofs.Common.{◌≡◌, ℕ, List, [], ◌∷◌, length, refl, ap, arith}
+use Rattle.std.proofs.Common.{◌≡◌, ℕ, List, [], ◌∷◌, Some, length, slice_get, option_map, refl, ap, ◌∙◌, arith}
 use Rattle.std.proofs.lemmas.List.Elements.{All-cons, All-nil}
 use Rattle.std.proofs.lemmas.List.Sorted.{All-permutation, length_permutation}
+use Rattle.region_rule.specs.Seats.{MadeRegion}
 use Rattle.fetch_engine.specs.declared.server.Mounted.{Mounted}
 use Rattle.fetch_engine.specs.Servers.{IsServerOf, regions_in}
 
@@ -9,5 +10,13 @@ pub alone : (row : Mounted) (rows : List Mounted) → IsServerOf (row ∷ []) ro
 alone row [] server = absurd (let long = length_permutation (row ∷ []) [] server.same in omega arith)
 alone row (x ∷ []) server =
     let same = All-permutation (λ (r : Mounted). r.region ≡ row.region) (row ∷ []) (x ∷ []) server.same (All-cons (λ (r : Mounted). r.region ≡ row.region) row [] refl (All-nil (λ (r : Mounted). r.region ≡ row.region))) in
-    ap (λ r. r ∷ []) (same 0 row (omega arith))
+    ap (λ (r : MadeRegion). r ∷ []) (same 0 row (omega arith))
 alone row (x ∷ y ∷ rows) server = absurd (let long = length_permutation (row ∷ []) (x ∷ y ∷ rows) server.same in omega arith)
+
+-- and it is the one at its first place
+pub only : (rows : List Mounted) (region found : MadeRegion) → regions_in rows ≡ region ∷ [] → Some found ≡ option_map (λ (row : Mounted). row.region) (slice_get rows 0) → found ≡ region
+only [] region found alone there = absurd (cc)
+only (row ∷ rows) region found alone there =
+    let first : row.region ≡ region = cc in
+    let same : found ≡ row.region = cc in
+    same ∙ first

@@ -24,7 +24,7 @@ fn find_slot(slots: &[Slot], item: u32, instance: i32) -> Option<&Slot>
 }
 
 // Adds to a counter's value for a level, in one atomic step.
-#[tactic(auto, using(crate::proofs::Slots::found_below, crate::proofs::Slots::found_takes))]
+#[tactic(auto, using(crate::proofs::Slots::found_takes))]
 fn add(
     region: &Region,
     stint: &mut Stint,

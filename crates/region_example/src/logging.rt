@@ -19,6 +19,7 @@ use std::alloc::Global;
 const VOLUME_LIMIT: u64 = 1_073_741_824;
 
 /// A server of this region alone, which names its metrics `mmv.log.NAME`, and the seat of one who reads there.
+#[tactic(auto, using(crate::proofs::Alone::alone))]
 pub fn serve(alloc: Global, region: Region, cluster: u32, pass: Pass) -> Result<(Server, Seat)>
     requires here { pass.region ≡ region }
     ensures alone { IfOk result (λ made. regions_in made.0 ≡ region ∷ []) }
@@ -77,8 +78,8 @@ pub fn log(
     sample: &Fetched,
 ) -> Result<()> {
     let result = &sample.result;
-    let is_writable = !result.sets.is_empty() && fits(result);
-    ensure!(is_writable, "the sample can't be written");
+    ensure!(!result.sets.is_empty(), "no metric is shown");
+    ensure!(fits(result), "the sample can't be written");
     logger.log(alloc, disk, result, &sample.facts)?;
     Ok(logger.flush(disk)?)
 }
