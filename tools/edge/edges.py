@@ -76,8 +76,7 @@ def try_closed_descriptors(folder):
             if words[0] == "recover":
                 for base in (whole, tried):
                     run(base, "replay", "1048576", given=script(TICKS))
-                    with open(base + ".0", "ab") as it:
-                        it.write(b"torn")
+                    os.truncate(base + ".0", os.path.getsize(base + ".0") - 5)
             with tempfile.TemporaryFile() as source:
                 source.write(given)
                 null = open(os.devnull, "r+b")
