@@ -87,7 +87,7 @@ def try_closed_descriptors(folder):
                 source.seek(0)
                 status = subprocess.run([PROGRAM, tried, *words], stdin=source, stdout=subprocess.DEVNULL, stderr=subprocess.DEVNULL, preexec_fn=closing(*closed)).returncode
                 null.close()
-            assert status == ordinary, (words, closed, status, ordinary)
+            assert status == ordinary and (ordinary == 0 or 0 in closed), (words, closed, status, ordinary)
             left, right = ({key[len(name) + 5:]: it for key, it in files(base).items()} for base in (whole, tried))
             if words[0] == "record":
                 left, right = ({key: len(it) for key, it in side.items()} for side in (left, right))
@@ -110,9 +110,12 @@ def try_one_writer(folder):
     """While one program writes, another one is refused, and what it was refused leaves no trace."""
     base = os.path.join(folder, "rec")
     child = recording(base, 3)
+    # (it holds the lock while it is stopped)
+    child.send_signal(signal.SIGSTOP)
     assert run(base, "once", "4000000000"[:9], "0", "app", given=content(IMAGE)) == (5, b"disk fault\n")
     assert run(base, "recover") == (5, b"disk fault\n")
     assert run(base, "dump")[0] == 0
+    child.send_signal(signal.SIGCONT)
     assert child.wait(60) == 0 and child.stdout.read() == b"logged 3\n"
     assert items(base) == 3
     # The other way round: once the lock is another's, a recording is refused.
@@ -151,7 +154,7 @@ def try_pairs(folder, count=300):
         stamps = (100, 100) if number % 4 < 2 else (100, 101)
         ended = pair(base, stamps)
         # The second of two items with one stamp, or with the earlier one, may come later: it is then refused as not later.
-        assert all(status in (0, 5, 12) for status in ended), ended
+        assert 0 in ended and all(status in (0, 5, 12) for status in ended), ended
         stand = items(base)
         assert stand == old + ended.count(0), (ended, stand)
         said = run(base, "dump")[1]
@@ -275,8 +278,8 @@ def try_begun_pdus(folder):
     port = free_port()
     child = serving(port, 2)
     silent, begun = connect(port), connect(port)
-    begun.sendall(HELLO + HELLO[:7])
     began = time.monotonic()
+    begun.sendall(HELLO + HELLO[:7])
     heard(begun)
     took = time.monotonic() - began
     assert 4.5 < took < 30, took
@@ -293,8 +296,8 @@ def try_untaken_replies(folder):
     given = b"image A\nmmv 1 5 0 0 1\nindom 1 - -\n" + rows + b"metric per 4 u32 counter 00100000 1 - -\nend\nregion app A 65536 1\nstart\n"
     child = serving(port, 1, given)
     client = connect(port)
-    client.sendall(HELLO + struct.pack(">IIIII", 20, 0x7006, 0, 0x11800401, 0xFFFFFFFF) * 500)
     began = time.monotonic()
+    client.sendall(HELLO + struct.pack(">IIIII", 20, 0x7006, 0, 0x11800401, 0xFFFFFFFF) * 500)
     assert child.wait(60) == 0 and child.stdout.read() == b"served 1\n"
     took = time.monotonic() - began
     assert took > 4.5, took
@@ -327,7 +330,7 @@ def on_terminal(words, given, folder, seconds, stopped=False):
     if stopped:
         os.write(ours, b"\x11")
     shown = b""
-    while select.select([ours], [], [], 0.2)[0]:
+    while select.select([ours], [], [], 1)[0]:
         shown += os.read(ours, 65536)
     os.close(theirs)
     os.close(ours)
@@ -367,7 +370,7 @@ def try_signals(folder):
         child.send_signal(number)
         assert child.wait(60) == -number and child.stdout.read() == b""
         assert run(base, "recover")[0] == 0
-        assert 1 <= items(base) <= 4
+        assert 1 <= items(base)
         port = free_port()
         child = serving(port, 1)
         client = connect(port)
@@ -381,6 +384,8 @@ def main():
     global PROGRAM
     PROGRAM = os.path.realpath(sys.argv[1])
     failed = 0
+    # (a shell that begins this in the background leaves SIGINT ignored, and a child would too)
+    signal.signal(signal.SIGINT, signal.default_int_handler)
     for name, one in list(globals().items()):
         if not name.startswith("try_") or (sys.argv[2:] and name[4:] not in sys.argv[2:]):
             continue
@@ -394,6 +399,7 @@ def main():
             for child in STARTED:
                 if child.poll() is None:
                     child.kill()
+                    child.wait()
             STARTED.clear()
             print(f"{name[4:]}: {said or 'ok'} ({time.monotonic() - began:.1f} s)", flush=True)
     return 1 if failed else 0

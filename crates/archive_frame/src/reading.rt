@@ -1,6 +1,5 @@
 //! The reader of a label: its fields are looked at from the first byte to the last, and then its texts are taken.
 ghost use Rattle.std.specs.Prelude.{◌≡◌, ◌⊎◌, ℕ, ℤ, ◌+◌, ◌<◌, ◌≤◌, negsuc, length, take, drop, Result, Ok, Err, Option, Some, None, IfOk, IfErr};
-ghost use Rattle.pcp_base.specs.Texts.{IsText};
 ghost use Rattle.pcp_model.specs.LabelFields.{LabelFields};
 ghost use Rattle.pcp_model.specs.Labels.{IsLabel, BeginsLabel};
 ghost use Rattle.archive_frame.specs.declared.fault.FrameFault.TheVariants.{NoMemory as Refused};
@@ -10,7 +9,7 @@ ghost use Rattle.archive_frame.specs.Labels.{IsLabelOf, IsWanted, IsFileNumber, 
 use crate::fault::FrameFault;
 use crate::parts::{Wanted, misfit, number_at, text_at, wanted_at, word_up_to};
 use crate::writing::LABEL;
-use pcp_base::{List, NoMemory, Stamp, Text};
+use pcp_base::{Stamp, Text};
 use pcp_model::Label;
 use std::alloc::Global;
 
@@ -60,23 +59,14 @@ fn look(bytes: &[u8], wanted: Wanted) -> Result<Said, FrameFault>
     })
 }
 
-/// A text of bytes that are known to have no zero byte.
-fn text_of(alloc: Global, bytes: &[u8]) -> Result<Text, NoMemory>
-    requires { IsText bytes.now }
-    ensures { IfOk result (λ t. t ≡ bytes.now) }
-{
-    let copy = Vec::from_slice(alloc, bytes)?;
-    Ok(Text::of_clean(List::from_vec(copy)))
-}
-
 /// The label that is wanted, and its number.
 fn read(alloc: Global, bytes: &[u8], wanted: Wanted) -> Result<(Label, i32), FrameFault>
     ensures found { IfOk result (λ read. IsLabel bytes.now read.0 read.1 × IsWanted wanted read.1) }
     ensures fault { IfErr result (IsLabelFault (IsLabelOf (IsWanted wanted)) bytes.now) }
 {
     let said = look(bytes, wanted)?;
-    let host = text_of(alloc, &bytes[24..24 + said.host])?;
-    let zone = text_of(alloc, &bytes[88..88 + said.zone])?;
+    let host = Text::clean_copy(alloc, &bytes[24..24 + said.host])?;
+    let zone = Text::clean_copy(alloc, &bytes[88..88 + said.zone])?;
     let Some(label) = Label::build(said.pid, said.start, host, zone) else {
         // The texts come of fields of 64 and 40 bytes and end before a zero byte there.
         unreachable!()

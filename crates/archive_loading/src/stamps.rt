@@ -1,6 +1,6 @@
 //! The latest stamp of the domains' records that were read.
 ghost use Rattle.std.specs.Prelude.{◌≡◌, ◌∷◌, [], ◌++◌, List as Sequence, Some, option_to_list};
-ghost use Rattle.pcp_base.specs.Time.{Moment, microseconds};
+ghost use Rattle.pcp_base.specs.Time.{Moment};
 ghost use Rattle.pcp_model.specs.declared.records.MetaRecord.{MetaRecord as Record};
 ghost use Rattle.archive_meta.specs.Records.{AreRecords};
 ghost use Rattle.archive_loading.specs.Standing.{IsSized};
@@ -9,20 +9,13 @@ ghost use Rattle.archive_loading.specs.Stamps.{domain_stamps, IsLatest, IsLatest
 use archive_meta::domain_stamp;
 use pcp_base::Stamp;
 
-/// A moment in microseconds since 1970.
-fn microseconds(t: Stamp) -> u64
-    ensures { result ≡ microseconds t }
-{
-    u64::from(t.sec()) * 1_000_000 + u64::from(t.usec())
-}
-
 /// The latest stamp where one more comes.
 pub fn later(last: Option<Stamp>, stamp: Stamp) -> Stamp
     ensures { (moments : Sequence Moment) → IsLatest moments last → IsLatest (moments ++ stamp ∷ []) (Some result) }
 {
     match last {
         Some(t) => {
-            if microseconds(t) < microseconds(stamp) {
+            if t.microseconds() < stamp.microseconds() {
                 stamp
             } else {
                 t

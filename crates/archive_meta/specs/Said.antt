@@ -1,5 +1,5 @@
 -- What records of Meta say of metrics (LOGARCHIVE(5)): the first description of a metric counts.
-use Rattle.std.specs.Prelude.{ℕ, ℤ, Bool, false, nat_eq, if◌then◌else◌, fold, List, [], ◌∷◌, ◌++◌, Option, Some, None}
+use Rattle.std.specs.Prelude.{ℕ, ℤ, Bool, true, false, nat_eq, bytes_eq, if◌then◌else◌, fold, List, [], ◌∷◌, ◌++◌, Option, Some, None}
 use Rattle.std.specs.List.{list_any}
 use Rattle.pcp_base.specs.declared.desc.Desc.{Desc}
 use Rattle.pcp_model.specs.declared.records.MetaRecord.{MetaRecord}
@@ -56,3 +56,21 @@ seen_after seen Other = seen
 
 abbrev pub described_metrics : List MetaRecord → List ℕ
 described_metrics records = fold seen_after [] records
+
+-- whether a name is among these, or among those of a metric
+abbrev pub has_name : List ℕ → List (List ℕ) → Bool
+has_name name [] = false
+has_name name (n ∷ names) = if bytes_eq n name then true else has_name name names
+
+abbrev pub is_named : List ℕ → Option (List (List ℕ)) → Bool
+is_named name None = false
+is_named name (Some names) = has_name name names
+
+-- the first of these metrics that has a name
+abbrev pub first_named : List MetaRecord → List ℕ → List ℕ → Option ℕ
+first_named records name [] = None
+first_named records name (pmid ∷ pmids) = if is_named name (names_of (description_of pmid records)) then Some pmid else first_named records name pmids
+
+-- a name leads to the first metric that has it, in the order in which metrics are first described
+abbrev pub metric_of_name : List MetaRecord → List ℕ → Option ℕ
+metric_of_name records name = first_named records name (described_metrics records)

@@ -17,6 +17,7 @@ mod keeping;
 mod laws;
 mod missing;
 mod moments;
+mod named;
 mod needed;
 mod record;
 mod record_names;

@@ -57,13 +57,6 @@ impl PartialOrd for Listing {
 /// Where the records of domains stand.
 pub type Moments = BTreeSet<Listing>;
 
-/// A moment in microseconds since 1970.
-fn microseconds(t: Stamp) -> u64
-    ensures { result ≡ microseconds t }
-{
-    u64::from(t.sec()) * 1_000_000 + u64::from(t.usec())
-}
-
 /// The listing of a record from a moment on, which stands here.
 fn listed(indom: InDom, t: Stamp, at: usize) -> Listing
     requires { at < 4294967296 }
@@ -72,7 +65,7 @@ fn listed(indom: InDom, t: Stamp, at: usize) -> Listing
     Listing {
         indom: indom.word(),
         at: at as u32,
-        from: microseconds(t),
+        from: t.microseconds(),
     }
 }
 

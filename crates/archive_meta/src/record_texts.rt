@@ -4,7 +4,7 @@ ghost use Rattle.pcp_base.specs.Texts.{IsText};
 ghost use Rattle.archive_meta.specs.Decoding.{is_zero, text_of, name_at, first_name};
 
 use memchr::memchr;
-use pcp_base::{List, NoMemory, Text, be32};
+use pcp_base::{NoMemory, Text, be32};
 use std::alloc::Global;
 
 /// Where the first zero byte stands.
@@ -23,7 +23,7 @@ fn clean_text(alloc: Global, bytes: &[u8]) -> Result<Option<Text>, NoMemory>
     requires { IsText bytes.now }
     ensures { IfOk result (λ found. found ≡ text_of bytes.now) }
 {
-    Ok(Some(Text::of_clean(List::from_vec(Vec::from_slice(alloc, bytes)?))))
+    Ok(Some(Text::clean_copy(alloc, bytes)?))
 }
 
 /// The name that begins at an offset of a table, up to the first zero byte.

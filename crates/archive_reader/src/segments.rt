@@ -1,7 +1,6 @@
 //! The records of a segment, one after another: from a place on up to the first one stamped after a moment.
 ghost use Rattle.std.specs.Prelude.{◌≡◌, ◌≤◌, length, drop, IfOk, IfErr};
 ghost use Rattle.std.specs.List.{AllByRecursion};
-ghost use Rattle.pcp_base.specs.Time.{microseconds};
 ghost use Rattle.pcp_model.specs.Disk.{contents_of};
 ghost use Rattle.pcp_model.specs.Payload.{stamp_of};
 ghost use Rattle.pcp_outside.specs.Causes.{Rose};
@@ -27,12 +26,6 @@ pub enum Ahead {
     Item(Item, usize, u64),
 }
 
-fn microseconds(stamp: Stamp) -> u64
-    ensures { result ≡ microseconds stamp }
-{
-    stamp.sec() as u64 * 1_000_000 + stamp.usec() as u64
-}
-
 fn stamp_of(item: &Item) -> Stamp
     ensures { result ≡ stamp_of item.now }
 {
@@ -46,14 +39,14 @@ fn stamp_of(item: &Item) -> Stamp
 pub fn is_after(item: &Item, t: Stamp) -> bool
     ensures { result ≡ is_after t item.now }
 {
-    microseconds(t) < microseconds(stamp_of(item))
+    t.microseconds() < stamp_of(item).microseconds()
 }
 
 /// Whether an item is stamped before a moment.
 pub fn is_before(item: &Item, t: Stamp) -> bool
     ensures { result ≡ is_before t item.now }
 {
-    microseconds(stamp_of(item)) < microseconds(t)
+    stamp_of(item).microseconds() < t.microseconds()
 }
 
 /// The next item of a segment.

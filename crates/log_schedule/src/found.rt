@@ -1,7 +1,6 @@
 //! What has been read so far of a configuration.
 
-ghost use Rattle.std.specs.Prelude.{◌≡◌, ◌<◌, [], ◌∷◌, ◌++◌, IfOk, OnOk, None};
-ghost use Rattle.pcp_base.specs.Texts.{IsText};
+ghost use Rattle.std.specs.Prelude.{◌≡◌, ◌<◌, [], ◌∷◌, ◌++◌, OnOk, None};
 ghost use Rattle.log_schedule.specs.Scanning.{after_act, with_statement, with_name};
 
 use crate::config::Group;
@@ -97,7 +96,7 @@ impl Found {
     fn end_name(&mut self) -> Result<(), NoMemory>
         ensures { OnOk result (self.new ≡ with_name self.old) }
     {
-        let name = text_of(self.alloc, self.name.as_slice())?;
+        let name = Text::clean_copy(self.alloc, self.name.as_slice())?;
         self.names.push(name)
     }
 
@@ -111,12 +110,4 @@ impl Found {
             names,
         })
     }
-}
-
-// The text of bytes of which none is zero.
-fn text_of(alloc: Global, bytes: &[u8]) -> Result<Text, NoMemory>
-    requires { IsText bytes.now }
-    ensures { IfOk result (λ text. text ≡ bytes.now) }
-{
-    Ok(Text::of_clean(List::from_vec(Vec::from_slice(alloc, bytes)?)))
 }

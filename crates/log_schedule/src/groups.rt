@@ -4,7 +4,7 @@ ghost use Rattle.std.specs.Prelude.{◌≡◌, ◌<◌, ◌↔◌, map, length, 
 ghost use Rattle.log_schedule.specs.Instants.{Due, EachPasses, Follows, Passes, timetable_from};
 
 use crate::config::{Config, Group};
-use crate::instants::{first_from, micros_of, stamp_of};
+use crate::instants::{first_from, stamp_of};
 use pcp_base::{NoMemory, Stamp};
 use std::alloc::Global;
 use std::marker::Model;
@@ -44,7 +44,7 @@ impl Plan {
         ensures { IsTrue result ↔ Due self.now now }
     {
         match self.next {
-            Some(next) => micros_of(next) <= micros_of(now),
+            Some(next) => next.microseconds() <= now.microseconds(),
             None => false,
         }
     }
@@ -67,8 +67,8 @@ impl Plan {
         ensures { Follows self.now now self.now.next result }
     {
         let before = self.next?;
-        let from = (micros_of(now) + 1).max(micros_of(before));
-        let found = first_from(micros_of(self.start), self.interval.unwrap_or(0), from)?;
+        let from = (now.microseconds() + 1).max(before.microseconds());
+        let found = first_from(self.start.microseconds(), self.interval.unwrap_or(0), from)?;
         Some(stamp_of(found))
     }
 }

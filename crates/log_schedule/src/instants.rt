@@ -9,14 +9,6 @@ use pcp_base::Stamp;
 /// The first microsecond that no stamp can tell: 2^31 seconds.
 pub const END: u64 = 2_147_483_648_000_000;
 
-/// Microseconds since 1970.
-pub fn micros_of(stamp: Stamp) -> u64
-    ensures value { result ≡ microseconds stamp }
-    ensures range { result < 2147483648000000 }
-{
-    stamp.sec() as u64 * 1_000_000 + stamp.usec() as u64
-}
-
 /// The stamp so many microseconds after 1970 began.
 pub fn stamp_of(count: u64) -> Stamp
     requires { count < 2147483648000000 }

@@ -2,7 +2,6 @@
 ghost use Rattle.std.specs.Prelude.{◌≡◌, ◌<◌, ◌≤◌, ◌+◌, length, IfOk, IfErr, OnOk};
 ghost use Rattle.std.specs.List.{AllByRecursion};
 ghost use Rattle.pcp_base.specs.Results.{Fits};
-ghost use Rattle.pcp_base.specs.Time.{microseconds};
 ghost use Rattle.pcp_model.specs.Payload.{payload_length};
 ghost use Rattle.archive_meta.specs.Facts.{FitSets, IsFirstChange};
 ghost use Rattle.archive_meta.specs.Missing.{AreMade};
@@ -65,13 +64,6 @@ fn missing_records(
     }
 }
 
-/// A moment in microseconds since 1970.
-fn microseconds(t: Stamp) -> u64
-    ensures { result ≡ microseconds t }
-{
-    u64::from(t.sec()) * 1_000_000 + u64::from(t.usec())
-}
-
 /// Whether a moment is after the greatest stamp.
 fn check_stamp(greatest: Option<Stamp>, stamp: Stamp) -> Result<(), LogFault>
     ensures later { OnOk result (IsLater greatest stamp) }
@@ -80,7 +72,7 @@ fn check_stamp(greatest: Option<Stamp>, stamp: Stamp) -> Result<(), LogFault>
     let Some(last) = greatest else {
         return Ok(());
     };
-    if microseconds(stamp) <= microseconds(last) {
+    if stamp.microseconds() <= last.microseconds() {
         return Err(LogFault::NotLater { last });
     }
     Ok(())

@@ -153,10 +153,11 @@ fn reads_that_go_on_are_those_of_the_file(rt: HostRuntime) -> Result<(), Fail> {
         content.push((at % 251) as u8)?;
     }
     fs::write(&rt, "ahead.0", content.as_slice())?;
-    let mut disk = disk_at(rt.alloc(), &rt, "ahead")?;
     assert!(rt; goes_on(&mut disk, &content));
-    assert!(rt; stands(&mut disk, 7, b"\x07\x08\x09"));
+    assert!(rt; goes_on(&mut disk, content.get(..200).unwrap_or(&[])));
+    disk.cut(FileId::Volume(0), 250)?;
     disk.append(FileId::Volume(0), b"new")?;
-    assert!(rt; stands(&mut disk, 20_000, b"new"));
+    assert!(rt; stands(&mut disk, 200, content.get(200..250).unwrap_or(&[])));
+    assert!(rt; stands(&mut disk, 250, b"new"));
     Ok(())
 }

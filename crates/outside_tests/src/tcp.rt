@@ -26,7 +26,7 @@ fn a_client_comes_in_through_a_door(rt: HostRuntime) -> Result<(), Fail> {
 }
 
 // What the source of a client answers to two reads, where the client sends these bytes and then keeps silent.
-fn two_reads<R>(rt: &R, sent: &[u8]) -> Result<[Result<usize, Failed>; 2], Fail>
+fn two_reads<R>(rt: &R, idle: Duration, sent: &[u8]) -> Result<[Result<usize, Failed>; 2], Fail>
 where
     R: Net<Listener = TcpListener, Stream = TcpStream> + Clock,
 {
@@ -34,7 +34,7 @@ where
     let mut client = TcpStream::connect(rt, listener.local_addr()?)?;
     let patience = Patience {
         begun: Duration::from_millis(50),
-        idle: Duration::from_millis(300),
+        idle,
     };
     let mut door = TcpDoor::with_patience(&listener, rt, patience);
     let (mut input, _out, _time) = door.next()?;
@@ -46,11 +46,15 @@ where
 #[test]
 fn a_client_that_keeps_silent_is_given_up(rt: HostRuntime) -> Result<(), Fail> {
     let start = Instant::now(&rt)?;
-    assert_eq!(rt; two_reads(&rt, &[0, 0, 0])?, [Ok(3), Err(Failed)]);
-    assert!(rt; start.elapsed(&rt)? < Duration::from_millis(250));
+    let (long, short) = (Duration::from_secs(30), Duration::from_millis(300));
+    assert_eq!(rt; two_reads(&rt, long, &[0, 0, 0])?, [Ok(3), Err(Failed)]);
+    assert!(rt; start.elapsed(&rt)? < Duration::from_secs(15));
     let start = Instant::now(&rt)?;
-    assert_eq!(rt; two_reads(&rt, &[0, 0, 0, 5, 1])?, [Ok(5), Err(Failed)]);
-    assert!(rt; start.elapsed(&rt)? >= Duration::from_millis(300));
+    assert_eq!(rt;
+        two_reads(&rt, short, &[0, 0, 0, 5, 1])?,
+        [Ok(5), Err(Failed)]
+    );
+    assert!(rt; start.elapsed(&rt)? >= short);
     Ok(())
 }
 

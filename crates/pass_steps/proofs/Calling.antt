@@ -14,7 +14,7 @@ use Rattle.region_rule.specs.Calls.{Opened, Attaches, Bounces, Detaches}
 use Rattle.region_words.specs.Images.{mmv}
 use Rattle.script_runs.specs.Journals.{is_look}
 use Rattle.script_runs.specs.PassSteps as steps
-use Rattle.script_runs.specs.PassSteps.{one_number, two_numbers}
+use Rattle.text_lines.specs.Spelling.{one_number, two_numbers}
 use Rattle.script_runs.specs.Regions.{Doing, ScriptRegion, capacity_of, with_act, does}
 use Rattle.pass_steps.specs.declared.said.Said.{Said}
 use Rattle.pass_steps.specs.declared.said.Said.TheVariants as said

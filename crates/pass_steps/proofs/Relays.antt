@@ -16,7 +16,8 @@ use Rattle.region_rule.specs.Seats.{MadeRegion, Token, IsSame}
 use Rattle.region_words.specs.Images.{mmv}
 use Rattle.script_runs.specs.Journals.{is_load, is_attached, is_look}
 use Rattle.script_runs.specs.PassSteps as steps
-use Rattle.script_runs.specs.PassSteps.{Outcome, one_number, two_numbers, new_generation}
+use Rattle.text_lines.specs.Spelling.{one_number, two_numbers}
+use Rattle.script_runs.specs.PassSteps.{Outcome, new_generation}
 use Rattle.script_runs.specs.Regions.{Doing, ScriptRegion, capacity_of, with_act, all_acted, does}
 use Rattle.pass_steps.specs.declared.said.Said.TheVariants as said
 use Rattle.pass_steps.specs.declared.worker.Worker.{Worker}

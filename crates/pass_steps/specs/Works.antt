@@ -9,7 +9,8 @@ use Rattle.region_rule.specs.Views.{opening_of, now}
 use Rattle.region_rule.specs.Seats.{MadeRegion}
 use Rattle.script_runs.specs.Journals.{without_looks}
 use Rattle.script_runs.specs.PassSteps as steps
-use Rattle.script_runs.specs.PassSteps.{Outcome, one_number, two_numbers}
+use Rattle.text_lines.specs.Spelling.{one_number, two_numbers}
+use Rattle.script_runs.specs.PassSteps.{Outcome}
 use Rattle.script_runs.specs.Regions.{Doing, ScriptRegion}
 use Rattle.pass_steps.specs.declared.deed.Deed.{Deed}
 use Rattle.pass_steps.specs.declared.deed.Deed.TheVariants as deeds

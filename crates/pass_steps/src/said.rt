@@ -1,11 +1,11 @@
 //! What a step says, and the line that tells it.
 ghost use Rattle.std.specs.Prelude.{◌≡◌, ◌++◌, OnOk, OnErr};
-ghost use Rattle.script_runs.specs.PassSteps.{one_number, two_numbers};
+ghost use Rattle.text_lines.specs.Spelling.{two_numbers};
 ghost use Rattle.pass_steps.specs.Works.{line_of};
 
 use pcp_base::NoMemory;
 use std::alloc::Global;
-use text_lines::put_number;
+use text_lines::{put_number, put_one_number};
 
 /// What a step says.
 #[derive(Clone, Copy)]
@@ -21,15 +21,6 @@ pub enum Said {
     Word { value: u64 },
     Stable { generation: u64 },
     Again { first: u64, last: u64 },
-}
-
-fn put_one(out: &mut Vec<u8>, name: &[u8], number: u64) -> Result<(), NoMemory>
-    ensures { OnOk result (out.new.items ≡ out.old.items ++ one_number name.now number) }
-{
-    out.extend_from_slice(name)?;
-    put_number(out, number)?;
-    out.push(b'\n')?;
-    Ok(())
 }
 
 fn put_two(out: &mut Vec<u8>, name: &[u8], first: u64, second: u64) -> Result<(), NoMemory>
@@ -49,13 +40,13 @@ impl Said {
         match *self {
             Said::Nothing => Ok(()),
             Said::Attached => Ok(out.extend_from_slice(b"attached\n")?),
-            Said::Bounced { gate } => put_one(out, b"Changing", gate),
+            Said::Bounced { gate } => put_one_number(out, b"Changing", gate),
             Said::TooLarge { need, capacity } => put_two(out, b"TooLarge", need, capacity),
-            Said::Busy { gate } => put_one(out, b"Busy", gate),
-            Said::Spent { generation } => put_one(out, b"Spent", generation),
-            Said::Begun { generation } => put_one(out, b"begun", generation),
-            Said::Word { value } => put_one(out, b"word", value),
-            Said::Stable { generation } => put_one(out, b"stable", generation),
+            Said::Busy { gate } => put_one_number(out, b"Busy", gate),
+            Said::Spent { generation } => put_one_number(out, b"Spent", generation),
+            Said::Begun { generation } => put_one_number(out, b"begun", generation),
+            Said::Word { value } => put_one_number(out, b"word", value),
+            Said::Stable { generation } => put_one_number(out, b"stable", generation),
             Said::Again { first, last } => put_two(out, b"Again", first, last),
         }
     }

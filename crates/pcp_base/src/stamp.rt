@@ -1,7 +1,7 @@
 //! Moments, to the microsecond.
 
 ghost use Rattle.std.specs.Prelude.{◌≡◌, ◌≤◌, ◌<◌, ◌⊎◌, MatchOption};
-ghost use Rattle.pcp_base.specs.Time.{IsMoment};
+ghost use Rattle.pcp_base.specs.Time.{IsMoment, microseconds};
 
 use crate::duplicate::Duplicate;
 use crate::memory::NoMemory;
@@ -52,6 +52,14 @@ impl Stamp {
         ensures range { IsMoment self }
     {
         self.usec
+    }
+
+    /// Microseconds since the start of 1970 in UTC, below 2^31 seconds.
+    pub fn microseconds(self) -> u64
+        ensures value { result ≡ microseconds self }
+        ensures range { result < 2147483648000000 }
+    {
+        u64::from(self.sec) * 1_000_000 + u64::from(self.usec)
     }
 }
 

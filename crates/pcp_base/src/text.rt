@@ -1,6 +1,6 @@
 //! Texts without a zero byte, by which formats end them.
 
-ghost use Rattle.std.specs.Prelude.{◌≡◌, MatchResult};
+ghost use Rattle.std.specs.Prelude.{◌≡◌, IfOk, MatchResult};
 ghost use Rattle.pcp_base.specs.Texts.{IsText, IsTextError};
 ghost use Rattle.pcp_base.specs.declared.text.TextError.TheVariants.{NoMemory as Refused};
 
@@ -70,6 +70,14 @@ impl Text {
         ensures { result ≡ bytes }
     {
         Text { bytes }
+    }
+
+    /// The text of a copy of bytes that are known to have no zero byte.
+    pub fn clean_copy(alloc: Global, bytes: &[u8]) -> Result<Text, NoMemory>
+        requires { IsText bytes.now }
+        ensures { IfOk result (λ text. text ≡ bytes.now) }
+    {
+        Ok(Text::of_clean(Bytes::from_vec(Vec::from_slice(alloc, bytes)?)))
     }
 
     /// The bytes, none of them zero.

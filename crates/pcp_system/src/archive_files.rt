@@ -11,6 +11,9 @@ use std::alloc::{AllocError, Global};
 use std::fs::{File, Files, OpenOptions, TryLockError};
 use std::io::{self, ErrorKind, Read, Write};
 
+// So often a folder whose files grow is listed again: a logger waits for its disk between any two appends.
+const MOST_LISTINGS: u32 = 20;
+
 /// The files `BASE.meta`, `BASE.index`, `BASE.0` and so on, as the system's folder lists them at the first call. One that is no regular
 /// file is a fault. Files that aren't there cost no call to the system.
 #[derive(Drop)]
@@ -112,6 +115,20 @@ impl<'a, R: Files<File = File>> ArchiveFiles<'a, R> {
         Ok(listing)
     }
 
+    // The files as they stood at one moment, though a program may write them meanwhile: two listings, one behind the other, are equal.
+    // Where they never are, the last one.
+    fn list_of_a_moment(&self) -> Result<Listing, Trouble> {
+        let mut listing = self.list()?;
+        for _ in 0..MOST_LISTINGS {
+            let again = self.list()?;
+            if again == listing {
+                break;
+            }
+            listing = again;
+        }
+        Ok(listing)
+    }
+
     // Lists the folder where that isn't done. Where the files may be changed and Meta is there, the lock comes before.
     fn look(&mut self) -> Result<(), Trouble> {
         if self.is_listed {
@@ -121,7 +138,11 @@ impl<'a, R: Files<File = File>> ArchiveFiles<'a, R> {
             self.measure(FileId::Meta)?;
             self.lock = self.lock_existing()?;
         }
-        self.listing = self.list()?;
+        self.listing = if self.writes {
+            self.list()?
+        } else {
+            self.list_of_a_moment()?
+        };
         self.is_listed = true;
         Ok(())
     }
@@ -340,10 +361,17 @@ impl<'a, R: Files<File = File>> ArchiveFiles<'a, R> {
         self.begin_change(Call::Cut, file)?;
         self.forget(file);
         self.is_listed = false;
-        if let Some(opened) = self.writer_of(file)? {
-            of_file(Call::Cut, file, opened.set_len(len))?;
-            self.sure(file, opened.sync_all())?;
-            self.keep(file, opened)?;
+        match self.writer_of(file)? {
+            Some(opened) => {
+                let answer = match of_file(Call::Cut, file, opened.set_len(len)) {
+                    Ok(()) => self.sure(file, opened.sync_all()),
+                    Err(trouble) => Err(trouble),
+                };
+                self.keep(file, opened)?;
+                answer?;
+            }
+            None if len > 0 => return Err(refused(Call::Cut, file, "the file is gone")),
+            None => {}
         }
         self.listing.set(file, len)?;
         self.is_listed = true;

@@ -2,9 +2,9 @@
 ghost use Rattle.std.specs.Prelude.{◌≡◌, ◌≤◌, [], length, IfOk, OnOk};
 ghost use Rattle.pcp_outside.specs.Causes.{HasCause};
 
+use crate::connection::Connection;
 use pcp_outside::{Failed, Source};
 use std::io::{self, ErrorKind, Read};
-use std::net::{Shutdown, TcpStream};
 use std::time::Duration;
 
 /// How long a client is waited for, before its connection is closed.
@@ -70,7 +70,7 @@ impl Framing {
 /// A source over a client's connection. It tells no content.
 #[derive(Drop)]
 pub struct ClientSource {
-    stream: TcpStream,
+    connection: Connection,
     patience: Patience,
     framing: Framing,
     is_between: bool,
@@ -78,12 +78,12 @@ pub struct ClientSource {
 }
 
 impl ClientSource {
-    pub(crate) fn new(stream: TcpStream, patience: Patience) -> io::Result<ClientSource>
+    pub(crate) fn new(connection: Connection, patience: Patience) -> io::Result<ClientSource>
         ensures { IfOk result (λ source. ⟦<ClientSource as Source>⟧.faults source ≡ 0) }
     {
-        stream.set_read_timeout(Some(patience.idle))?;
+        connection.set_read_timeout(patience.idle)?;
         Ok(ClientSource {
-            stream,
+            connection,
             patience,
             framing: Framing {
                 seen: 0,
@@ -107,25 +107,24 @@ impl ClientSource {
             } else {
                 self.patience.begun
             };
-            self.stream.set_read_timeout(Some(wait))?;
+            self.connection.set_read_timeout(wait)?;
             self.is_between = is_between;
         }
-        let count = self.stream.read(buffer)?;
+        let count = self.connection.read(buffer)?;
         self.framing.follow_all(&buffer[..count]);
         Ok(count)
     }
 
     /// Says that nothing more is sent, and takes some of what still comes in, so that the client can read all replies.
     pub(crate) fn part(self) {
-        let mut stream = self.stream;
+        let mut connection = self.connection;
         let wait = Duration::from_secs(LAST_WAIT_SECONDS);
-        let told = stream.shutdown(Shutdown::Write);
-        if told.is_err() || stream.set_read_timeout(Some(wait)).is_err() {
+        if connection.end_writing().is_err() || connection.set_read_timeout(wait).is_err() {
             return;
         }
         let mut buffer = [0u8; 4096];
         for _ in 0..LAST_READS {
-            match stream.read(&mut buffer) {
+            match connection.read(&mut buffer) {
                 Ok(0) | Err(_) => return,
                 Ok(_) => {}
             }

@@ -7,6 +7,7 @@ mod adapters;
 mod archive_files;
 mod archive_names;
 mod client;
+mod connection;
 mod descriptors;
 mod file_disk;
 mod keepalive;
@@ -19,6 +20,7 @@ mod trouble;
 
 pub use adapters::{ReaderSource, WriterSink};
 pub use client::{ClientSource, Patience};
+pub use connection::Connection;
 pub use descriptors::{listener_above, open_standard};
 pub use file_disk::FileDisk;
 pub use screen::Screen;

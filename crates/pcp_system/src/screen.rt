@@ -1,6 +1,7 @@
 //! The terminal that standard error is, written to without a wait.
 ghost use Rattle.std.specs.Prelude.{◌≤◌, length, IfOk};
 
+use crate::descriptors::file_above;
 use std::alloc::Global;
 use std::fmt::Display;
 use std::fs::{File, Files, OpenOptions};
@@ -44,9 +45,11 @@ impl Screen {
 }
 
 fn opened_anew<R: Files<File = File>>(files: &R) -> io::Result<File> {
-    let opened = OpenOptions::new()
-        .write(true)
-        .open(files, "/proc/self/fd/2")?;
+    let opened = file_above(
+        OpenOptions::new()
+            .write(true)
+            .open(files, "/proc/self/fd/2")?,
+    )?;
     if os::set_nonblocking(opened.as_raw_fd(), true) < 0 {
         return Err(io::Error::from(ErrorKind::Unsupported));
     }

@@ -4,19 +4,18 @@ ghost use Rattle.pcp_outside.specs.Causes.{HasCause};
 
 use crate::adapters::WriterSink;
 use crate::client::{ClientSource, Patience};
+use crate::connection::Connection;
 use crate::descriptors::stream_above;
 use crate::keepalive::keep_alive;
 use crate::times::SystemClock;
 use pcp_outside::{Door, Failed, SessionEnd, Source};
+use std::alloc::{Alloc, Global};
 use std::net::{TcpListener, TcpStream};
 use std::time::Duration;
 use std::{io, thread, time};
 
 // After so many milliseconds `accept` is tried again: a client hardly notices, and the processor has little to do meanwhile.
 const PAUSE_MILLIS: u64 = 100;
-
-// So often a second descriptor of a connection is asked for, in 5 seconds; for ever, four connections could wait for each other.
-const TWIN_TRIES: u32 = 50;
 
 // The numbers of errors (errno(3)) that say nothing against the listener. Those of the network were pending on the connection
 // (accept(2)): EPERM, ENONET, EPROTO, ENOPROTOOPT, EOPNOTSUPP, ENETDOWN, ENETUNREACH, ECONNABORTED, ECONNRESET, ETIMEDOUT, EHOSTDOWN
@@ -27,14 +26,14 @@ const PASSING: [i32; 18] = [
 
 /// A door through which a listener's connections come in; several doors may share one listener. It tells no connections.
 #[derive(Drop)]
-pub struct TcpDoor<'a, R: time::Clock> {
+pub struct TcpDoor<'a, R: time::Clock + Alloc<A = Global>> {
     listener: &'a TcpListener,
     system: &'a R,
     patience: Patience,
     faults: u64,
 }
 
-impl<'a, R: time::Clock> TcpDoor<'a, R> {
+impl<'a, R: time::Clock + Alloc<A = Global>> TcpDoor<'a, R> {
     pub fn new(listener: &'a TcpListener, system: &'a R) -> Self
         ensures { ⟦<TcpDoor<'a, R> as Door>⟧.faults result ≡ 0 }
     {
@@ -82,43 +81,32 @@ fn accept<R: time::Clock>(listener: &TcpListener, system: &R) -> io::Result<TcpS
     Err(io::Error::from(io::ErrorKind::Other))
 }
 
-/// Another descriptor of a connection. Where there is none, it is asked for again for a while.
-fn twin_of<R: time::Clock>(stream: &TcpStream, system: &R) -> io::Result<TcpStream> {
-    for _ in 0..TWIN_TRIES {
-        match stream.try_clone() {
-            Ok(twin) => return Ok(twin),
-            Err(_) => pause(system),
-        }
-    }
-    stream.try_clone()
-}
-
 /// The two ends of a connection, whose small pieces are sent at once. A client that gives no sign of life is noticed by the system.
-fn ends_of<R: time::Clock>(
+fn ends_of(
+    alloc: Global,
     stream: TcpStream,
-    system: &R,
     patience: Patience,
-) -> io::Result<(ClientSource, TcpStream)>
+) -> io::Result<(ClientSource, Connection)>
     ensures { IfOk result (λ ends. ⟦<ClientSource as Source>⟧.faults ends.0 ≡ 0) }
 {
     let stream = stream_above(stream)?;
     stream.set_nodelay(true)?;
     keep_alive(&stream)?;
     stream.set_write_timeout(Some(patience.begun))?;
-    let twin = twin_of(&stream, system)?;
-    Ok((ClientSource::new(stream, patience)?, twin))
+    let (input, out) = Connection::pair(alloc, stream)?;
+    Ok((ClientSource::new(input, patience)?, out))
 }
 
 /// The two ends of the next connection of which they can be had. One that was given up meanwhile is passed over.
-fn ends_of_next<R: time::Clock>(
+fn ends_of_next<R: time::Clock + Alloc<A = Global>>(
     listener: &TcpListener,
     system: &R,
     patience: Patience,
-) -> io::Result<(ClientSource, TcpStream)>
+) -> io::Result<(ClientSource, Connection)>
     ensures { IfOk result (λ ends. ⟦<ClientSource as Source>⟧.faults ends.0 ≡ 0) }
 {
     for _ in 0..u64::MAX {
-        match ends_of(accept(listener, system)?, system, patience) {
+        match ends_of(system.alloc(), accept(listener, system)?, patience) {
             Ok(ends) => return Ok(ends),
             Err(_) => pause(system),
         }
@@ -126,10 +114,10 @@ fn ends_of_next<R: time::Clock>(
     Err(io::Error::from(io::ErrorKind::Other))
 }
 
-impl<'a, R: time::Clock> Door for TcpDoor<'a, R> {
+impl<'a, R: time::Clock + Alloc<A = Global>> Door for TcpDoor<'a, R> {
     type In = ClientSource;
 
-    type Out = WriterSink<TcpStream>;
+    type Out = WriterSink<Connection>;
 
     type Time = SystemClock<'a, R>;
 
@@ -148,7 +136,7 @@ impl<'a, R: time::Clock> Door for TcpDoor<'a, R> {
     /// Waits for a connection as long as the system does, and fails only where the listener itself can't be used.
     fn next(
         &mut self,
-    ) -> Result<(ClientSource, WriterSink<TcpStream>, SystemClock<'a, R>), Failed> {
+    ) -> Result<(ClientSource, WriterSink<Connection>, SystemClock<'a, R>), Failed> {
         match ends_of_next(self.listener, self.system, self.patience) {
             Ok((input, out)) => Ok((input, WriterSink::new(out), SystemClock::new(self.system))),
             Err(_) => {
@@ -162,7 +150,7 @@ impl<'a, R: time::Clock> Door for TcpDoor<'a, R> {
     fn ended(
         &mut self,
         input: ClientSource,
-        _out: WriterSink<TcpStream>,
+        _out: WriterSink<Connection>,
         _time: SystemClock<'a, R>,
         _end: SessionEnd,
     ) -> Result<(), Failed> {

@@ -1,10 +1,9 @@
 //! The fields of bodies: words, states and texts.
 ghost use Rattle.std.specs.Prelude.{◌≡◌, ◌≤◌, length, IfOk};
-ghost use Rattle.pcp_base.specs.Texts.{IsText};
 ghost use Rattle.pdu_codec.specs.Reading.{Gives, word_at, signed_at, common, given_at, state_of, state_at, clean_length, text_behind, text_at};
 
 use crate::fault::PduFault;
-use pcp_base::{List, NoMemory, Text, be32};
+use pcp_base::{Text, be32};
 use std::alloc::Global;
 
 /// A zero word.
@@ -101,15 +100,6 @@ fn clean_length(bytes: &[u8]) -> usize
     count
 }
 
-/// A text of bytes that are known to have no zero byte.
-fn text_of(alloc: Global, bytes: &[u8]) -> Result<Text, NoMemory>
-    requires { IsText bytes.now }
-    ensures { IfOk result (λ t. t ≡ bytes.now) }
-{
-    let copy = Vec::from_slice(alloc, bytes)?;
-    Ok(Text::of_clean(List::from_vec(copy)))
-}
-
 /// The text of so many bytes that begins at a byte, and the byte behind its padding.
 #[tactic(auto, using(crate::proofs::TextReaders::clean_text))]
 fn text_behind(
@@ -136,7 +126,7 @@ fn text_behind(
             at: bytes.len() as u64,
         });
     }
-    Ok((text_of(alloc, text)?, end))
+    Ok((Text::clean_copy(alloc, text)?, end))
 }
 
 /// The text whose length stands at a byte, and the byte behind its padding.

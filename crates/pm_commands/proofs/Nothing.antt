@@ -3,6 +3,7 @@ use Rattle.std.proofs.Common.{◌≡◌, ◌⊎◌, inl, inr, ⊎_elim, ℕ, Lis
 use Rattle.pcp_base.specs.Time.{Moment}
 use Rattle.pcp_base.specs.declared.file.FileId.{FileId}
 use Rattle.pcp_base.specs.declared.result.ValueSet.{ValueSet}
+use Rattle.archive_meta.specs.Said.{metric_of_name}
 use Rattle.archive_loading.specs.Loaded.{Loaded}
 use Rattle.archive_reader.specs.Asked.{at_begin, IsAtFrom}
 use Rattle.archive_reader.specs.Values.{IsValueAt}
@@ -61,10 +62,10 @@ at_said t f stamp text (inr b) said =
 
 -- ---- the values that a metric last had
 
-value_else : (asked : ValueWords) (f : Found) (r : Loaded) (o : Option ℕ) → value.metric_of_name r.records asked.name ≡ o → value.HasNothing f r asked.stamp o → (e : FilesRefusal) → value.IsStopped asked r f e → files_status e ≡ 11
+value_else : (asked : ValueWords) (f : Found) (r : Loaded) (o : Option ℕ) → metric_of_name r.records asked.name ≡ o → value.HasNothing f r asked.stamp o → (e : FilesRefusal) → value.IsStopped asked r f e → files_status e ≡ 11
 value_else asked f r o is none (Run reason) why = absurd why
 value_else asked f r o is none (Compressed file) why = absurd why
-value_else asked f r None is none (NotArchive file offset) why = absurd (none_or_some ℕ why.0 (value.metric_of_name r.records asked.name) is why.1)
+value_else asked f r None is none (NotArchive file offset) why = absurd (none_or_some ℕ why.0 (metric_of_name r.records asked.name) is why.1)
 value_else asked f r (Some pmid) is none (NotArchive file offset) why = absurd ((value_answers_once f.files r pmid asked.stamp).apart None file offset none.0 why.2)
 value_else asked f r o is none (Nothing stamp) why = refl
 
@@ -72,11 +73,11 @@ value_nothing : (asked : ValueWords) (f : Found) (stamp : Moment) (e : FilesRefu
 value_nothing asked f stamp e (inl n) other = absurd n
 value_nothing asked f stamp e (inr b) (inl n) = absurd (not_refused f b.0 b.1 e n)
 value_nothing asked f stamp e (inr b) (inr c) =
-    value_else asked f b.0 (value.metric_of_name b.0.records asked.name) refl b.2.1 e (subst (λ (r : Loaded). value.IsStopped asked r f e) (one_load f b.0 c.0 b.1 c.1) c.2)
+    value_else asked f b.0 (metric_of_name b.0.records asked.name) refl b.2.1 e (subst (λ (r : Loaded). value.IsStopped asked r f e) (one_load f b.0 c.0 b.1 c.1) c.2)
 
-value_none : (asked : ValueWords) (f : Found) (r : Loaded) (o : Option ℕ) → value.metric_of_name r.records asked.name ≡ o → value.HasNothing f r asked.stamp o → (pmid : ℕ) → value.metric_of_name r.records asked.name ≡ Some pmid
+value_none : (asked : ValueWords) (f : Found) (r : Loaded) (o : Option ℕ) → metric_of_name r.records asked.name ≡ o → value.HasNothing f r asked.stamp o → (pmid : ℕ) → metric_of_name r.records asked.name ≡ Some pmid
     → (v : Moment × ValueSet) → IsValueAt f.files r.volumes pmid asked.stamp (Some v) → ⊥
-value_none asked f r None is none pmid also v found = none_or_some ℕ pmid (value.metric_of_name r.records asked.name) is also
+value_none asked f r None is none pmid also v found = none_or_some ℕ pmid (metric_of_name r.records asked.name) is also
 value_none asked f r (Some other) is none pmid also v found =
     let same : Some pmid ≡ Some other = sym also ∙ is in
     let one : pmid ≡ other = cc in
@@ -88,8 +89,8 @@ value_said asked f stamp text (inl n) said = n
 value_said asked f stamp text (inr b) said =
     let same = one_load f b.0 said.0 b.1 said.1 in
     let v = said.4.0 in
-    value_none asked f b.0 (value.metric_of_name b.0.records asked.name) refl b.2.1 said.2
-    (subst (λ (r : Loaded). value.metric_of_name r.records asked.name ≡ Some said.2) same said.3) v
+    value_none asked f b.0 (metric_of_name b.0.records asked.name) refl b.2.1 said.2
+    (subst (λ (r : Loaded). metric_of_name r.records asked.name ≡ Some said.2) same said.3) v
     (subst (λ (r : Loaded). IsValueAt f.files r.volumes said.2 asked.stamp (Some v)) same said.4.1)
 
 -- ---- of each command

@@ -26,7 +26,7 @@ use Rattle.run_script.specs.declared.script.Script.{Script}
 use Rattle.script_runs.specs.declared.ending.Ending.{Ending}
 use Rattle.script_runs.specs.Archives.{EndsAre, Flushes, Logs, Opens, OpensFound, Refuses, Stand, Written, ending_of, run_label}
 use Rattle.script_runs.specs.Groups.{Plan, asked_for}
-use Rattle.script_runs.specs.PassSteps.{one_number}
+use Rattle.text_lines.specs.Spelling.{one_number}
 use Rattle.script_runs.specs.Regions.{ScriptRegion}
 use Rattle.script_runs.specs.Closing.{closed_regions}
 use Rattle.script_runs.specs.Runs.{FlushesLast, LinesRun, RunsOver, RunsTo, run_start, with_end}

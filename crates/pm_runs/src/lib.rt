@@ -4,7 +4,6 @@
 #![tactic(auto)]
 
 mod commands;
-mod lines;
 mod running;
 
 pub use commands::make::make;

@@ -1,6 +1,6 @@
 -- How a call that serves and is refused ends: its status and its last line.
-use Rattle.std.specs.Prelude.{ℕ, List, [], ◌∷◌, ◌++◌, IsSome, codes}
-use Rattle.std.specs.Fmt.{decimal}
+use Rattle.std.specs.Prelude.{ℕ, List, IsSome, codes}
+use Rattle.text_lines.specs.Spelling.{one_number}
 use Rattle.pm_words.specs.Refusals.{status_of, line_of, numbered_line_of}
 use Rattle.pm_serving.specs.declared.refusal.ServeRefusal.{ServeRefusal}
 use Rattle.pm_serving.specs.declared.refusal.ServeRefusal.TheVariants.{Before, Accept}
@@ -15,7 +15,7 @@ serving_line Accept = codes "accept fault\n"
 
 -- the line of a call that served so many sessions
 abbrev pub served_line : ℕ → List ℕ
-served_line count = codes "served " ++ (decimal count ++ 10 ∷ [])
+served_line count = one_number (codes "served") count
 
 -- a line that takes memory, which no refusal behind a session has
 abbrev pub IsNumbered : ServeRefusal → Type 0

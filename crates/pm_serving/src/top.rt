@@ -16,13 +16,14 @@ use crate::scripts::read_script;
 use crate::served::Served;
 use crate::together::serve_script;
 use crate::words::read_count;
-use pcp_base::{Bytes, List, NoMemory};
+use pcp_base::{Bytes, NoMemory};
 use pcp_outside::{Door, Sink, Source, Turn, write_all};
 use pm_words::{Refusal, Usage, read_input};
 use run_script::Script;
 use std::alloc::Global;
 use std::sync::Wait;
 use std::thread::Threads;
+use text_lines::one_number_line;
 
 // How many sessions are asked for, and the script of the input.
 fn prepare<I: Source>(
@@ -48,8 +49,7 @@ fn prepare<I: Source>(
 fn served_line(alloc: Global, count: u32) -> Result<Bytes, NoMemory>
     ensures { IfOk result (λ line. line ≡ served_line count) }
 {
-    let line = format!(in alloc; "served {count}\n")?;
-    Ok(List::from_vec(line.into_bytes()))
+    one_number_line(alloc, b"served", u64::from(count))
 }
 
 // Does what the words ask for, and tells the line to write. All memory of the call itself but the writers' is taken before the first

@@ -7,6 +7,7 @@ use Rattle.pcp_base.specs.declared.result.ValueSet.{ValueSet}
 use Rattle.pcp_model.specs.Disk.{Files, contents_of}
 use Rattle.pcp_outside.specs.Causes.{Rose}
 use Rattle.pcp_outside.specs.declared.disk.Disk.{Ghosts as DiskGhosts}
+use Rattle.archive_meta.specs.Said.{metric_of_name}
 use Rattle.archive_loading.specs.Looks.{Looks}
 use Rattle.archive_reader.specs.Asked.{at_begin, range_begin, IsAtFrom, IsAtFault, IsRangeFrom, IsRangeFault}
 use Rattle.archive_loading.specs.Loaded.{Loaded, IsOver}
@@ -39,14 +40,14 @@ range_unwrapped files volumes to (At n offset) file why = why
 range_unwrapped files volumes to (Outside n offset) file why = why
 
 -- of the metric that a name leads to
-pub of_named : (asked : ValueWords) (pmid : ℕ) (r : Loaded) → value.metric_of_name r.records asked.name ≡ Some pmid → (f : Found) (e : FilesRefusal) → value.HasNoValue pmid asked.stamp r f e → value.IsStopped asked r f e
+pub of_named : (asked : ValueWords) (pmid : ℕ) (r : Loaded) → metric_of_name r.records asked.name ≡ Some pmid → (f : Found) (e : FilesRefusal) → value.HasNoValue pmid asked.stamp r f e → value.IsStopped asked r f e
 of_named asked pmid r is f (Run reason) why = why
 of_named asked pmid r is f (Compressed file) why = why
 of_named asked pmid r is f (NotArchive file offset) why = (pmid, is, why)
 of_named asked pmid r is f (Nothing stamp) why = (why.0, subst (value.HasNothing f r asked.stamp) (sym is) (why.1, why.2))
 
 -- its text
-pub said_of : (asked : ValueWords) (f g : Found) (r : Loaded) (pmid : ℕ) (result : Result (List ℕ) Refusal) → IsLoaded f r → value.metric_of_name r.records asked.name ≡ Some pmid → g.files ≡ f.files
+pub said_of : (asked : ValueWords) (f g : Found) (r : Loaded) (pmid : ℕ) (result : Result (List ℕ) Refusal) → IsLoaded f r → metric_of_name r.records asked.name ≡ Some pmid → g.files ≡ f.files
     → IfOk result (value.HasValue g r pmid asked.stamp) → IfOk result (value.IsOutput asked f)
 said_of asked f g r pmid (Ok text) loaded is same has =
     (r, loaded, pmid, is, subst (λ (w : Files). value.HasValue record { files = w; wrapped = f.wrapped } r pmid asked.stamp text) same has)
@@ -85,7 +86,7 @@ module _ {D : Type 0} (g : DiskGhosts D) (r : Loaded) (a b : D) where
   value_stops pmid t faults.NoMemory why rose = tt
 
   -- told of the metric that the name leads to
-  pub turned_of : (c : D) (asked : ValueWords) (pmid : ℕ) (result : Result (List ℕ) Refusal) → Looks g a b → (g.tells → IsLoaded (files_found (disk_side g a c)) r) → value.metric_of_name r.records asked.name ≡ Some pmid
+  pub turned_of : (c : D) (asked : ValueWords) (pmid : ℕ) (result : Result (List ℕ) Refusal) → Looks g a b → (g.tells → IsLoaded (files_found (disk_side g a c)) r) → metric_of_name r.records asked.name ≡ Some pmid
       → IfErr result (TurnedAway (value.HasNoValue pmid asked.stamp r) (disk_side g b c)) → IfErr result (TurnedAway (value.IsTurnedAway asked) (disk_side g a c))
   turned_of c asked pmid (Ok text) looks loaded is away = tt
   turned_of c asked pmid (Err e) looks loaded is away =

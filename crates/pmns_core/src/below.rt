@@ -54,7 +54,7 @@ fn push_all(
         if !key.as_slice().starts_with(front.as_slice()) {
             return Ok(());
         }
-        found.push((text_of(alloc, key.as_slice())?, *pmid))?;
+        found.push((Text::clean_copy(alloc, key.as_slice())?, *pmid))?;
     }
     Ok(())
 }
@@ -138,15 +138,7 @@ fn texts_of(alloc: Global, parts: &Parts) -> Result<List<(Text, bool)>, NoMemory
     let mut found = List::empty(alloc);
     let mut rest = parts.range(..);
     while let Some((key, is_leaf)) = rest.next() {
-        found.push((text_of(alloc, key.as_slice())?, *is_leaf))?;
+        found.push((Text::clean_copy(alloc, key.as_slice())?, *is_leaf))?;
     }
     Ok(found)
-}
-
-/// The text of bytes of which none is zero.
-pub fn text_of(alloc: Global, bytes: &[u8]) -> Result<Text, NoMemory>
-    requires { IsText bytes.now }
-    ensures { IfOk result (λ text. text ≡ bytes.now) }
-{
-    Ok(Text::of_clean(List::from_vec(Vec::from_slice(alloc, bytes)?)))
 }

@@ -61,6 +61,12 @@ pub loads_behind : (xs ys : List Entry) → AreLoads (xs ++ ys) → AreLoads ys
 loads_behind [] ys h = h
 loads_behind (x ∷ xs) ys h = loads_behind xs ys (other_loads x (xs ++ ys) h)
 
+pub head_same : (x y : Entry) (xs ys : List Entry) → x ∷ xs ≡ y ∷ ys → x ≡ y
+head_same x y xs ys e = cc
+
+pub tail_same : (x y : Entry) (xs ys : List Entry) → x ∷ xs ≡ y ∷ ys → xs ≡ ys
+tail_same x y xs ys e = cc
+
 -- the entries of a pass, by the first one
 pub own_mine : (e : Entry) (es : List Entry) (n : ℕ) → e.by ≡ n → own n (e ∷ es) ≡ e ∷ own n es
 own_mine e es n same = ap (λ (b : Bool). own_then b e (own n es)) (eq-eqb e.by n same)

@@ -9,7 +9,7 @@ use Rattle.region_core.specs.Journal.{own}
 use Rattle.region_rule.specs.Changes.{puts_at}
 use Rattle.region_rule.specs.Steps.{entry}
 use Rattle.record_laws.specs.Sums.{IsStored, stored_by}
-use Rattle.record_laws.proofs.Behind.{own_mine, own_other}
+use Rattle.record_laws.proofs.Behind.{head_same, own_mine, own_other, tail_same}
 use Rattle.record_laws.proofs.Relaid.{change_acts}
 
 -- Acts among which a word is stored
@@ -60,12 +60,6 @@ stored_acts w k (act ∷ acts) behind (inl p) = record {
   stores = put_stores w p.0 act p.1;
 }
 stored_acts w k (act ∷ acts) behind (inr h) = stored_more w (entry k act) (map (λ (a : Act). entry k a) acts ++ behind) (stored_acts w k acts behind h)
-
-head_same : (x y : Entry) (xs ys : List Entry) → x ∷ xs ≡ y ∷ ys → x ≡ y
-head_same x y xs ys e = cc
-
-tail_same : (x y : Entry) (xs ys : List Entry) → x ∷ xs ≡ y ∷ ys → xs ≡ ys
-tail_same x y xs ys e = cc
 
 -- what a pass stores stands in the journal
 own_stored : (w k : ℕ) (es front rest : List Entry) (x : Entry) (v : ℕ) → own k es ≡ front ++ x ∷ rest → stored_by w x.act ≡ Some v → IsStored w es

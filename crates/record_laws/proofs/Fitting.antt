@@ -20,6 +20,7 @@ use Rattle.script_passes.proofs.Begun.{get_there}
 use Rattle.script_runs.specs.Regions as regions
 use Rattle.script_writers.proofs.Lined.{at_place, both_true, may_stand}
 use Rattle.script_records.specs.Pictured.{AreImages, AreOfWords}
+use Rattle.region_rule.proofs.Places.{word_of}
 use Rattle.record_laws.proofs.Owned.{LineFits, LinesFit}
 use Rattle.record_laws.proofs.Summing.{AreWords}
 use Rattle.record_laws.proofs.Wrote.{LineSuits, LinesSuit, IsHeld}
@@ -161,11 +162,6 @@ module _ (script : Script) (keeps : KeepsRules script) (refused : refused_line s
   zeros_words zero = All-nil IsWord
   zeros_words (suc n) = All-cons IsWord 0 (replicate n 0) (omega arith) (zeros_words n)
 
-  word_in : (ws : List ℕ) (u : ℕ) → All IsWord ws → IsWord (slice_index ws u)
-  word_in [] u all = omega arith
-  word_in (x ∷ xs) zero all = all 0 0 (omega arith)
-  word_in (x ∷ xs) (suc u) all = word_in xs u (λ k d h. all (suc k) d (omega arith))
-
   joined_words : (xs ys : List ℕ) → All IsWord xs → All IsWord ys → All IsWord (xs ++ ys)
   joined_words [] ys a b = b
   joined_words (x ∷ xs) ys a b = All-cons IsWord x (xs ++ ys) (a 0 0 (omega arith)) (joined_words xs ys (λ k d h. a (suc k) d (omega arith)) b)
@@ -196,7 +192,7 @@ module _ (script : Script) (keeps : KeepsRules script) (refused : refused_line s
       let opens = (keeps.opened i row row_is).opens in
       let all : All IsWord opens.0.1 = subst (λ (x : List ℕ × List ℕ). All IsWord x.1) (get_or_from_slice_get script.images row.image opens.0 opens.0 opens.1) (words row.image opens.0 (slice_get_within script.images row.image opens.0 opens.1)) in
       let image : All IsWord opened_image = subst (λ (ws : List ℕ). All IsWord ws) (sym (ap words_or_none opens.1)) all in
-      subst (λ (ws : List ℕ). IsWord (slice_index (with_zeros ws row.capacity) u)) (sym words_are) (word_in (with_zeros opened_image row.capacity) u (joined_words opened_image (replicate (row.capacity - length opened_image) 0) image (zeros_words (row.capacity - length opened_image))))
+      subst (λ (ws : List ℕ). IsWord (slice_index (with_zeros ws row.capacity) u)) (sym words_are) (word_of (with_zeros opened_image row.capacity) u (joined_words opened_image (replicate (row.capacity - length opened_image) 0) image (zeros_words (row.capacity - length opened_image))))
 
   low_row : (rows : List RegionRow) (m : ℕ) (r : RegionRow) → slice_get rows m ≡ Some r → high_region script rows ≡ None → opens_low script r ≡ true
   low_row [] m r e f = absurd (cc)

@@ -20,7 +20,7 @@ use Rattle.script_runs.specs.Journals.{is_load}
 use Rattle.record_laws.proofs.Behind.{AreLoads, first_load, loads_behind, own_mine, own_other}
 use Rattle.record_laws.proofs.Owned.{Bounded, begun, Good, BeginsGood, good_at, one_if}
 use Rattle.record_laws.proofs.Relaid.{NoBegin, is_begin, not_begin, calm, change_acts, Under, relaid}
-use Rattle.record_laws.proofs.Summing.{AreWords, put_word, words_run}
+use Rattle.record_laws.proofs.Summing.{AreWords, words_run}
 
 -- The last beginning of a change
 
@@ -118,7 +118,7 @@ module _ (S : Shaping) (laws : IsShape S) (P : List ℕ → Type 0) (words : Lis
         is_image = is_image.0;
         room = omega arith;
         few = omega arith;
-        words = put_word s.words 1 g allowed.ready.3 (words_run S start before (legal-front S start before (entry k (Begin g) ∷ (mid ++ post)) (subst (λ (es : List Entry). IsLegal S start es) whole journal.legal)) are_words);
+        words = words_run S s (entry k (Begin g) ∷ []) (allowed, tt) (words_run S start before (legal-front S start before (entry k (Begin g) ∷ (mid ++ post)) (subst (λ (es : List Entry). IsLegal S start es) whole journal.legal)) are_words);
         fits = allowed.ready.3;
         next_is = inl refl;
         most = omega arith;

@@ -20,8 +20,9 @@ use Rattle.script_runs.specs.Journals.{is_load}
 use Rattle.script_runs.specs.Slots.{swap_of, swap_into, slot_with, value_for, add_of, add_into, holds_number, low_bits}
 use Rattle.script_writers.specs.Lines.{Writing, Makes, IsBounced, AreBounced, Attaches, takes, Stores, IsBeginMade, Spends, BeginsChange, next_put, next_place, StepsOn, Finishes, LineMakes, LinesMake}
 use Rattle.mmv_layout.specs.declared.rows.Slot.{Slot}
+use Rattle.region_rule.proofs.Places.{puts_next}
 use Rattle.record_laws.proofs.Behind.{AreLoads, first_load, other_loads, own_mine, own_other}
-use Rattle.record_laws.proofs.Relaid.{NoBegin, is_begin, not_begin, puts_next, change_acts}
+use Rattle.record_laws.proofs.Relaid.{NoBegin, is_begin, not_begin, change_acts}
 
 -- Entries without a beginning
 

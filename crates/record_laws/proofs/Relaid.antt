@@ -17,9 +17,9 @@ use Rattle.region_core.proofs.Sound.{IsSound, sound_after}
 use Rattle.region_core.proofs.Stretch.{IsStill, still_run, first_kept}
 use Rattle.region_rule.specs.Changes.{next_after, left_from, puts_at, puts_left}
 use Rattle.region_rule.specs.Steps.{entry}
-use Rattle.region_rule.proofs.Finishing.{puts_none}
-use Rattle.record_laws.proofs.Behind.{own_mine, own_other}
-use Rattle.record_laws.proofs.Summing.{AreWords, put_word}
+use Rattle.region_rule.proofs.Places.{all_stored, all_words, apart, next_below, next_least, next_most, puts_next, puts_none, renewed, some_left}
+use Rattle.record_laws.proofs.Behind.{head_same, own_mine, own_other, tail_same}
+use Rattle.record_laws.proofs.Summing.{AreWords, words_run}
 
 -- Lists that hold no beginning of a change
 
@@ -34,97 +34,9 @@ NoBegin (e ∷ es) = (is_begin e.act ≡ false) × NoBegin es
 pub not_begin : (act : Act) (n : ℕ) → is_begin act ≡ false → act ≡ Begin n → ⊥
 not_begin act n e same = let begins : is_begin act ≡ true = ap is_begin same in cc
 
--- The stores of a change
-
-suc_is : (k a b : ℕ) → cond (eqb (suc k) 0) a b ≡ b
-suc_is k a b = ap (λ (t : Bool). cond t a b) (ne_eqb (suc k) 0 (λ (e : suc k ≡ 0). omega arith))
-
-left_suc : (k : ℕ) (image : List ℕ) → left_from (suc k) image ≡ length image - suc k
-left_suc k image = suc_is k (length image - 2) (length image - suc k)
-
-puts_suc : (k : ℕ) (image : List ℕ) → puts_left (suc k) image ≡ puts_at (suc k) (drop (suc k) image)
-puts_suc k image = ap (λ (t : Bool). cond t (Put 0 (slice_index image 0) ∷ puts_at 3 (drop 3 image)) (puts_at (suc k) (drop (suc k) image))) (ne_eqb (suc k) 0 (λ (e : suc k ≡ 0). omega arith))
-
-pub puts_next : (next : ℕ) (image : List ℕ) → 0 < left_from next image → puts_left next image ≡ Put next (slice_index image next) ∷ puts_left (next_after next) image
-puts_next zero image h = refl
-puts_next (suc k) image h =
-    let left = left_suc k image in
-    let below : suc k < length image = omega arith in
-    let after : next_after (suc k) ≡ suc (suc k) = suc_is k 3 (suc k + 1) ∙ add-one (suc k) in
-    puts_suc k image ∙ ap (λ (xs : List ℕ). puts_at (suc k) xs) (drop_at image (suc k) (slice_index image (suc k)) (at_or image (suc k) 0 below))
-    ∙ ap (λ (rest : List Act). Put (suc k) (slice_index image (suc k)) ∷ rest) (sym (puts_suc (suc k) image) ∙ ap (λ (j : ℕ). puts_left j image) (sym after))
-
-all_stored : (next : ℕ) (image : List ℕ) → 2 < length image → next ≤ length image → left_from next image ≡ 0 → next ≡ length image
-all_stored zero image wide most none = omega arith
-all_stored (suc k) image wide most none = let e = left_suc k image in omega arith
-
-some_left : (next : ℕ) (image : List ℕ) → 2 < length image → 0 < left_from next image → next < length image
-some_left zero image wide h = omega arith
-some_left (suc k) image wide h = let e = left_suc k image in omega arith
-
-next_suc : (k : ℕ) → next_after (suc k) ≡ suc k + 1
-next_suc k = suc_is k 3 (suc k + 1)
-
-next_least : (next : ℕ) → (next ≡ 0) ⊎ (3 ≤ next) → 3 ≤ next_after next
-next_least zero p = omega arith
-next_least (suc k) p = let e = next_suc k in ⊎_elim (λ (e : suc k ≡ 0). absurd (omega arith)) (λ (q : 3 ≤ suc k). omega arith) p
-
-next_below : (next i : ℕ) → i < next_after next → i ≢ 1 → i ≢ 2 → (i ≡ next) ⊎ (i < next)
-next_below zero i h one two = inl (omega arith)
-next_below (suc k) i h one two = let e = next_suc k in dite (ℕ_discrete i (suc k)) (λ (e : i ≡ suc k). inl e) (λ (ne : i ≢ suc k). inr (omega arith))
-
-next_most : (next : ℕ) (image : List ℕ) → next < length image → 2 < length image → next_after next ≤ length image
-next_most zero image h wide = omega arith
-next_most (suc k) image h wide = let e = next_suc k in omega arith
-
-apart : (next i : ℕ) → (next ≡ 0) ⊎ (3 ≤ next) → 0 < i → i < 3 → i ≢ next
-apart next i p some few = ⊎_elim (λ (e : next ≡ 0). λ (q : i ≡ next). omega arith) (λ (e : 3 ≤ next). λ (q : i ≡ next). omega arith) p
-
--- an image, and what lies behind it in other words
-abbrev over : List ℕ → List ℕ → List ℕ
-over image ws = image ++ drop (length image) ws
-
--- an image whose words are all stored, with what lies behind it, but for the second generation
-renewed : (image ws : List ℕ) (n : ℕ) → 2 < length image → length image ≤ length ws → slice_index ws 1 ≡ n → ((i : ℕ) → i < length image → i ≢ 1 → i ≢ 2 → slice_index ws i ≡ slice_index image i)
-    → with_generation (image ++ drop (length image) ws) n ≡ set ws 2 n
-renewed image ws n wide room first written =
-    ext_get_or 0 (with_generation (over image ws) n) (set ws 2 n) lengths (λ i below. at i (dite (ℕ_discrete i 2) (λ e. inl e) (λ m. inr m)))
-  where
-    long : length (over image ws) ≡ length ws
-    long = let a = length-append image (drop (length image) ws) in let b = length-drop (length image) ws in omega arith
-
-    front : length (set (over image ws) 1 n) ≡ length (over image ws)
-    front = length-set (over image ws) 1 n
-
-    lengths : length (with_generation (over image ws) n) ≡ length (set ws 2 n)
-    lengths = let a = length-set (set (over image ws) 1 n) 2 n in let b = length-set ws 2 n in let c = front in let d = long in omega arith
-
-    behind : (i : ℕ) → i ≢ 1 → i ≢ 2 → slice_index (over image ws) i ≡ slice_index ws i
-    behind i one two = dite (dec_le (suc i) (length image))
-        (λ (h : suc i ≤ length image). get_or_append_left image (drop (length image) ws) 0 i (omega arith) ∙ sym (written i (omega arith) one two))
-        (λ (h : ¬ (suc i ≤ length image)).
-        let k : ℕ = i - length image in
-        let e : i ≡ length image + k = omega arith in
-        ap (λ (j : ℕ). slice_index (over image ws) j) e ∙ get_or-append-add image (drop (length image) ws) k 0 ∙ get_or-drop (length image) ws k 0 ∙ ap (λ (j : ℕ). slice_index ws j) (sym e))
-
-    others : (i : ℕ) → i ≢ 2 → slice_index (set (over image ws) 1 n) i ≡ slice_index ws i
-    others i two = dite (ℕ_discrete i 1)
-        (λ (e : i ≡ 1). let d = long in subst (λ (j : ℕ). slice_index (set (over image ws) 1 n) j ≡ slice_index ws j) (sym e) (get_or-set_same (over image ws) 1 n 0 (omega arith) ∙ sym first))
-        (λ (one : i ≢ 1). get_or-set_other (over image ws) 1 i n 0 one ∙ behind i one two)
-
-    at : (i : ℕ) → (i ≡ 2) ⊎ (i ≢ 2) → slice_index (with_generation (over image ws) n) i ≡ slice_index (set ws 2 n) i
-    at i = ⊎_elim
-        (λ (e : i ≡ 2). let c = front in let d = long in
-        subst (λ (j : ℕ). slice_index (with_generation (over image ws) n) j ≡ slice_index (set ws 2 n) j) (sym e) (get_or-set_same (set (over image ws) 1 n) 2 n 0 (omega arith) ∙ sym (get_or-set_same ws 2 n 0 (omega arith))))
-        (λ (two : i ≢ 2). get_or-set_other (set (over image ws) 1 n) 2 i n 0 two ∙ others i two ∙ sym (get_or-set_other ws 2 i n 0 two))
-
 -- what is left of a change
 abbrev pub change_acts : ℕ → List ℕ → ℕ → List Act
 change_acts at image n = puts_left at image ++ (End n ∷ Free ∷ [])
-
-all_words : (ws : List ℕ) → ((u : ℕ) → IsWord (slice_index ws u)) → All IsWord ws
-all_words [] h = All-nil IsWord
-all_words (x ∷ xs) h = All-cons IsWord x xs (h 0) (all_words xs (λ u. h (suc u)))
 
 module _ (S : Shaping) (laws : IsShape S) where
   -- while no change begins the first generation stays
@@ -185,7 +97,7 @@ module _ (S : Shaping) (laws : IsShape S) where
         is_image = u.is_image;
         room = omega arith;
         few = omega arith;
-        words = put_word s.words at x a.ready.5 u.words;
+        words = words_run S s (entry k (Put at x) ∷ []) (a, tt) u.words;
         fits = u.fits;
         next_is = inr (next_least at u.next_is);
         most = next_most at image below both.0;
@@ -216,12 +128,6 @@ module _ (S : Shaping) (laws : IsShape S) where
         stable = get_or-set_other ws 2 1 n 0 (λ (e : 1 ≡ 2). omega arith) ∙ (u.first ∙ sym (get_or-set_same ws 2 n 0 (omega arith)));
         form = ap (λ (xs : List ℕ). S.form xs) (sym same) ∙ (renumbered.form ∙ like.form);
       }
-
-  head_same : (x y : Entry) (xs ys : List Entry) → x ∷ xs ≡ y ∷ ys → x ≡ y
-  head_same x y xs ys e = cc
-
-  tail_same : (x y : Entry) (xs ys : List Entry) → x ∷ xs ≡ y ∷ ys → xs ≡ ys
-  tail_same x y xs ys e = cc
 
   -- where the generations agree again, the words have the form of its image
   pub relaid : (s : State) (k at n : ℕ) (image : List ℕ) (mid tail behind : List Entry) → IsSound S s → IsLegal S s mid → Under s k at n image

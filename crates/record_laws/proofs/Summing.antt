@@ -9,6 +9,8 @@ use Rattle.region_core.specs.Journal.{state, IsLegal, IsJournal}
 use Rattle.region_core.specs.Shape.{Shaping, IsWord}
 use Rattle.region_core.specs.State.{State, word, plus, after, opening, after_take, IsAllowed}
 use Rattle.region_core.proofs.Runs.{wide_run}
+use Rattle.region_rule.proofs.Places.{all_words, word_of}
+use Rattle.region_rule.proofs.Relaying.{fit_run}
 use Rattle.record_laws.specs.Sums.{stored_by, added_by, stored_last_in, sum_after, added_since, IsSum}
 
 abbrev Same : ℕ → ℕ → Type 0
@@ -41,9 +43,6 @@ added words u w d opened sum below h false e =
     let is : slice_index (set words u (plus (slice_index words u) d)) w ≡ slice_index words w = get_or-set_other words u w (plus (slice_index words u) d) 0 (λ (same : w ≡ u). differ (sym same)) in
     omega arith
 
-taken : (s : State) (k : ℕ) (b : Bool) → (after_take s k b).words ≡ s.words
-taken s k b = refl
-
 -- one act
 summed_after : (s : State) (k w opened sum : ℕ) (act : Act) → w < length s.words → Same (word s w) (opened + sum)
     → Same (word (after s k act) w) (unwrap_or (stored_by w act) opened + sum_after (stored_by w act) (sum + added_by w act))
@@ -70,32 +69,9 @@ summed s w opened sum (e ∷ es) below h =
 abbrev pub AreWords : State → Type 0
 AreWords s = (u : ℕ) → IsWord (word s u)
 
-pub put_word : (words : List ℕ) (w v : ℕ) → IsWord v → ((u : ℕ) → IsWord (slice_index words u)) → (u : ℕ) → IsWord (slice_index (set words w v) u)
-put_word [] w v fits h u = h u
-put_word (x ∷ xs) zero v fits h zero = fits
-put_word (x ∷ xs) zero v fits h (suc u) = h (suc u)
-put_word (x ∷ xs) (suc w) v fits h zero = h 0
-put_word (x ∷ xs) (suc w) v fits h (suc u) = put_word xs w v fits (λ n. h (suc n)) u
-
 module _ (S : Shaping) where
-  words_after : (s : State) (k : ℕ) (act : Act) → IsAllowed S s k act → AreWords s → AreWords (after s k act)
-  words_after s k (Load w) a h = h
-  words_after s k (Swap w v) a h = put_word s.words w v a.ready.2 h
-  words_after s k (Add w d) a h = put_word s.words w (plus (word s w) d) (fits (word s w) d) h
-    where
-      fits : (n d : ℕ) → IsWord (plus n d)
-      fits n d = omega arith
-  words_after s k Enter a h = h
-  words_after s k Leave a h = h
-  words_after s k Take a h = h
-  words_after s k (Begin n) a h = put_word s.words 1 n a.ready.3 h
-  words_after s k (Put w v) a h = put_word s.words w v a.ready.5 h
-  words_after s k (End n) a h = put_word s.words 2 n (subst IsWord a.ready.1 (h 1)) h
-  words_after s k Free a h = h
-
   pub words_run : (s : State) (es : List Entry) → IsLegal S s es → AreWords s → AreWords (state s es)
-  words_run s [] l h = h
-  words_run s (e ∷ es) l h = words_run (after s e.by e.act) es l.1 (words_after s e.by e.act l.0 h)
+  words_run s es l h u = word_of (state s es).words u (fit_run S s es (all_words s.words h) l)
 
   pub is_sum : (words : List ℕ) (passes : ℕ) (log : List Entry) (w : ℕ) → IsJournal S words passes log → w < length words → IsSum (opening words passes) log w
   is_sum words passes log w journal below =

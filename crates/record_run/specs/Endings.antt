@@ -8,7 +8,7 @@ use Rattle.logger_core.specs.declared.fault.LogFault.TheVariants as faults
 use Rattle.script_runs.specs.declared.ending.Ending.{Ending}
 use Rattle.script_runs.specs.declared.ending.Ending.TheVariants as ends
 use Rattle.script_runs.specs.Archives.{ending_of, full_of}
-use Rattle.script_runs.specs.PassSteps.{one_number}
+use Rattle.text_lines.specs.Spelling.{one_number}
 
 abbrev pub full_ending : FileId → ℕ → Ending
 full_ending file bytes = full_of file bytes

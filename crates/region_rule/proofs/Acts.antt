@@ -3,7 +3,9 @@ use Rattle.std.proofs.Common.{◌≡◌, ◌≢◌, ℕ, suc, ◌+◌, ◌-◌, 
 use Rattle.std.proofs.Math.Nat.{add-mod_right}
 use lib.Seq.{set-get_or}
 use prog.Atomic.{either}
-use Rattle.atomic_table.specs.Table.{State as Table, Allows}
+use Rattle.atomic_table.specs.Seated.{TableId}
+use Rattle.atomic_table.specs.Table.{State as Table, Me, Allows}
+use Rattle.atomic_table.specs.declared.shared.Seat.{Seat}
 use Rattle.region_core.specs.declared.mode.Mode.{Mode}
 use Rattle.region_core.specs.declared.mode.Mode.TheVariants.{Idle, Attached, Bounced, Changing}
 use Rattle.region_core.specs.declared.act.Act.{Act}
@@ -19,6 +21,7 @@ use Rattle.region_core.proofs.Runs.{gate_inside, gate_bounced, gate_changing, wi
 use Rattle.region_rule.specs.declared.view.View.{View}
 use Rattle.region_rule.specs.declared.view.Role.TheVariants.{Numbered}
 use Rattle.region_rule.specs.Views.{table_words, opening_of, now, IsOneJournal}
+use Rattle.region_rule.specs.Seats.{MadeRegion, IsSeatOf}
 use Rattle.region_rule.specs.Steps.{Extends}
 use Rattle.region_rule.proofs.Keeps.{Ahead, Fitting, Steady, allows}
 
@@ -51,6 +54,46 @@ module _ (S : Shaping) (laws : IsShape S) where
       subst (λ (ws : List ℕ). Allows (λ (s : Table (Unit {0}) View). IsOneJournal S ws passes s.words s.views) slots id (v, c) i f (λ n me. Extends S v act (tell n) me.0 × (me.1 ≡ c))) start
       (subst (λ (p : ℕ). Allows (λ (s : Table (Unit {0}) View). IsOneJournal S v.start p s.words s.views) slots id (v, c) i f (λ n me. Extends S v act (tell n) me.0 × (me.1 ≡ c))) count
       (allows S laws v c act i f tell slots id is steady))
+
+  -- a seat of a region steps on the region's table, as the table keeps it
+  module _ (table : TableId) (words : List ℕ) (passes capacity : ℕ) (region : MadeRegion) (seat : Seat (Unit {0}) View) (same : record { table = table; words = words; passes = passes } ≡ region)
+      (here : IsSeatOf region seat) (counted : table.words ≡ length words + 1) (full : length words ≡ capacity) (some_of : 2 < capacity) where
+    abbrev pub Steps : (i : ℕ) (f : ℕ → ℕ) (leads : ℕ → Me (Unit {0}) View → Type 0) → Type 0
+    Steps i f leads =
+        (seat.table_id ≡ table) × (i < table.words) × Allows (λ (s : Table (Unit {0}) View). IsOneJournal S words passes s.words s.views) table.slots seat.id seat.me i f leads
+
+    is_table : seat.table_id ≡ table
+    is_table = ap (λ (r : MadeRegion). r.table) (here.is ∙ sym same)
+
+    is_start : seat.me.0.start ≡ words
+    is_start = ap (λ (r : MadeRegion). r.words) (here.is ∙ sym same)
+
+    is_count : seat.me.0.passes ≡ passes
+    is_count = ap (λ (r : MadeRegion). r.passes) (here.is ∙ sym same)
+
+    -- on a word that has its number in the table
+    pub on_cell : (act : Act) (i : ℕ) (f tell : ℕ → ℕ) → i < 4 → Steady S seat.me.0 (Fitting S seat.me.0 act i f tell) → Steps i f (λ n me. Extends S seat.me.0 act (tell n) me.0 × (me.1 ≡ seat.me.1))
+    on_cell act i f tell few steady =
+        (is_table, omega (arith, few, counted, full, some_of), at_cell words passes seat.me.0 seat.me.1 act i f tell table.slots seat.id is_start is_count here.named steady)
+
+    -- on an image word
+    on_kept : (act : ℕ → Act) (w : ℕ) (f tell : ℕ → ℕ) → w < length words → (w < length seat.me.0.start → Steady S seat.me.0 (Fitting S seat.me.0 (act w) (suc w) f tell))
+        → Steps (w + 1) f (λ n me. Extends S seat.me.0 (act ((w + 1) - 1)) (tell n) me.0 × (me.1 ≡ seat.me.1))
+    on_kept act w f tell below steady = (
+      is_table,
+      omega (arith, below, counted),
+      at_word words passes seat.me.0 seat.me.1 act w f tell table.slots seat.id is_start is_count here.named
+          (steady (subst (λ (ws : List ℕ). w < length ws) (sym is_start) below)),
+    )
+
+    pub on_word : (act : ℕ → Act) (w : ℕ) (f tell : ℕ → ℕ) → w < length region.words → (w < length seat.me.0.start → Steady S seat.me.0 (Fitting S seat.me.0 (act w) (suc w) f tell))
+        → Steps (w + 1) f (λ n me. Extends S seat.me.0 (act ((w + 1) - 1)) (tell n) me.0 × (me.1 ≡ seat.me.1))
+    on_word act w f tell below steady = on_kept act w f tell (subst (λ (r : MadeRegion). w < length r.words) (sym same) below) steady
+
+    -- on one of the first three image words
+    pub on_first : (act : ℕ → Act) (w : ℕ) (f tell : ℕ → ℕ) → w < 3 → (w < length seat.me.0.start → Steady S seat.me.0 (Fitting S seat.me.0 (act w) (suc w) f tell))
+        → Steps (w + 1) f (λ n me. Extends S seat.me.0 (act ((w + 1) - 1)) (tell n) me.0 × (me.1 ≡ seat.me.1))
+    on_first act w f tell few steady = on_kept act w f tell (omega (arith, few, full, some_of)) steady
 
   -- the pass's mode wherever the journal went on
   in_mode : (v : View) (m : Mode) (rest : List Entry) → v.mode ≡ m → Ahead S v rest → IsIn m (state (now v) rest) v.number

@@ -1,36 +1,10 @@
 -- The stores of a change, one after the other.
-use Rattle.std.proofs.Common.{◌≡◌, ℕ, zero, suc, ◌+◌, ◌-◌, ◌<◌, Bool, cond, List, [], ◌∷◌, ◌++◌, length, drop, slice_index, eqb, ne_eqb, add-one, sym, refl, ap, ◌∙◌, subst, arith}
-use Rattle.std.proofs.lemmas.List.{drop_all}
-use Rattle.region_core.proofs.Lists.{at_or, drop_at}
+use Rattle.std.proofs.Common.{◌≡◌, ℕ, zero, suc, ◌+◌, ◌-◌, ◌<◌, List, ◌++◌, length, slice_index, add-one, sym, ap, ◌∙◌, subst, arith}
 use Rattle.region_core.specs.declared.act.Act.{Act}
-use Rattle.region_core.specs.declared.act.Act.TheVariants.{Put}
 use Rattle.region_core.specs.Shape.{Shaping}
 use Rattle.region_rule.specs.declared.view.View.{View}
-use Rattle.region_rule.specs.Changes.{Relaying, next_after, left_from, left_of, puts_at, puts_left, Acts, Stores}
-
-suc_is : (k : ℕ) (a b : ℕ) → cond (eqb (suc k) 0) a b ≡ b
-suc_is k a b = ap (λ (t : Bool). cond t a b) (ne_eqb (suc k) 0 (λ (e : suc k ≡ 0). omega arith))
-
-left_suc : (k : ℕ) (image : List ℕ) → left_from (suc k) image ≡ length image - suc k
-left_suc k image = suc_is k (length image - 2) (length image - suc k)
-
-puts_suc : (k : ℕ) (image : List ℕ) → puts_left (suc k) image ≡ puts_at (suc k) (drop (suc k) image)
-puts_suc k image = ap (λ (t : Bool). cond t (Put 0 (slice_index image 0) ∷ puts_at 3 (drop 3 image)) (puts_at (suc k) (drop (suc k) image))) (ne_eqb (suc k) 0 (λ (e : suc k ≡ 0). omega arith))
-
--- the first of the stores that are left, and those after it
-puts_next : (next : ℕ) (image : List ℕ) → 0 < left_from next image → puts_left next image ≡ Put next (slice_index image next) ∷ puts_left (next_after next) image
-puts_next zero image h = refl
-puts_next (suc k) image h =
-    let left = left_suc k image in
-    let below : suc k < length image = omega arith in
-    let after : next_after (suc k) ≡ suc (suc k) = suc_is k 3 (suc k + 1) ∙ add-one (suc k) in
-    puts_suc k image ∙ ap (λ (xs : List ℕ). puts_at (suc k) xs) (drop_at image (suc k) (slice_index image (suc k)) (at_or image (suc k) 0 below))
-    ∙ ap (λ (rest : List Act). Put (suc k) (slice_index image (suc k)) ∷ rest) (sym (puts_suc (suc k) image) ∙ ap (λ (j : ℕ). puts_left j image) (sym after))
-
--- at the image's end none is left
-pub puts_none : (next : ℕ) (image : List ℕ) → 2 < length image → next ≡ length image → puts_left next image ≡ []
-puts_none zero image wide e = absurd (omega arith)
-puts_none (suc k) image wide e = puts_suc k image ∙ ap (λ (xs : List ℕ). puts_at (suc k) xs) (drop_all (suc k) image (omega arith))
+use Rattle.region_rule.specs.Changes.{Relaying, next_after, left_from, left_of, puts_left, Acts, Stores}
+use Rattle.region_rule.proofs.Places.{suc_is, left_suc, puts_next}
 
 -- whatever a change does from here on, it did from there on
 abbrev pub Continues : Shaping → Relaying → Relaying → Type 0

@@ -1,10 +1,10 @@
 -- What a pass that has gathered every other one reads: the last state.
-use Rattle.std.proofs.Common.{◌≡◌, ◌≢◌, ℕ, zero, suc, ◌+◌, ◌<◌, Bool, true, false, List, [], ◌∷◌, ◌++◌, All, length, get_or, slice_index, eqb, eqb-true, ext_get_or, append-nil, sym, refl, ap, ◌∙◌, subst, arith}
+use Rattle.std.proofs.Common.{◌≡◌, ℕ, zero, suc, ◌+◌, ◌<◌, Bool, true, false, List, [], ◌∷◌, ◌++◌, All, length, get_or, slice_index, eqb, eqb-true, ext_get_or, append-nil, sym, refl, ap, ◌∙◌, subst, arith}
 use Rattle.region_core.specs.declared.act.Act.TheVariants.{Load}
 use Rattle.region_core.specs.declared.act.Entry.{Entry}
 use Rattle.region_core.specs.declared.mode.Mode.TheVariants.{Idle}
 use Rattle.region_core.specs.Shape.{Shaping}
-use Rattle.region_core.specs.State.{State, word, g1, g2, IsIn}
+use Rattle.region_core.specs.State.{State, word, g1, IsIn}
 use Rattle.region_core.specs.Journal.{state}
 use Rattle.region_core.proofs.Runs.{wide_run}
 use Rattle.region_rule.specs.declared.view.View.{View}

@@ -1,12 +1,12 @@
 -- A reading under way goes on over loads and over what it learns, and shows or is refused at its end.
-use Rattle.std.proofs.Common.{◌≡◌, ◌≢◌, ℕ, ◌+◌, ◌<◌, ◌≤◌, List, [], ◌∷◌, ◌++◌, All, length, take, get_or, length-append, sym, refl, ap, ◌∙◌, subst, arith}
+use Rattle.std.proofs.Common.{◌≡◌, ◌≢◌, ℕ, ◌+◌, ◌<◌, ◌≤◌, List, [], ◌∷◌, ◌++◌, All, length, get_or, length-append, sym, ap, ◌∙◌, subst, arith}
 use Rattle.std.proofs.lemmas.List.Elements.{All-push}
 use Rattle.region_core.specs.declared.act.Act.TheVariants.{Load}
 use Rattle.region_core.specs.declared.act.Entry.{Entry}
 use Rattle.region_core.specs.Shape.{Shaping, IsShape}
 use Rattle.region_core.specs.State.{State, word, g1, g2, opening}
-use Rattle.region_core.specs.Journal.{state, state_at, IsJournal}
-use Rattle.region_core.specs.Readings.{LoadsAt, IsFoundBetween, HasLayout, Reading}
+use Rattle.region_core.specs.Journal.{state_at, IsJournal}
+use Rattle.region_core.specs.Readings.{LoadsAt, IsFoundBetween, HasLayout}
 use Rattle.region_core.proofs.Lasting.{state_longer, loads_longer, found_longer}
 use Rattle.region_core.proofs.Positions.{layout_at}
 use Rattle.region_rule.specs.declared.view.View.{View}

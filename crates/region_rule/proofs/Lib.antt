@@ -3,6 +3,7 @@ pub mod Acts
 pub mod Fronts
 pub mod Tokens
 pub mod Rows
+pub mod Places
 pub mod Relaying
 pub mod Finishing
 pub mod Showing

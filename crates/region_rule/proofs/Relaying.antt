@@ -1,10 +1,6 @@
 -- What is true while a change is under way, step by step.
-use Rattle.std.proofs.Common.{◌≡◌, ◌≢◌, ℕ, zero, suc, ◌+◌, ◌-◌, ◌<◌, ◌≤◌, ◌⊎◌, Bool, true, false, cond, List, [], ◌∷◌, ◌++◌, All, length, set, drop, slice_index, eqb, ne_eqb, length-set, length-append, length-drop, get_or-set_same, get_or-set_other, ext_get_or, sym, refl, ap, ◌∙◌, subst, inl, inr, ⊎_elim, arith}
+use Rattle.std.proofs.Common.{◌≡◌, ◌≢◌, ℕ, ◌<◌, ◌≤◌, Bool, true, false, List, [], ◌∷◌, ◌++◌, All, length, set, drop, slice_index, eqb, length-append, length-drop, get_or-set_same, get_or-set_other, sym, refl, ap, ◌∙◌, subst, inl, inr, ⊎_elim, arith}
 use Rattle.std.proofs.lemmas.List.Elements.{All-set, All-drop}
-use Rattle.std.proofs.lemmas.List.{get_or_append_left, get_or-append-add, get_or-drop}
-use Rattle.std.proofs.Common.{lit<}
-use mathlib.Core.Logic.{dite}
-use native.Mathlib.Decide.{ℕ_discrete, dec_le}
 use Rattle.region_core.specs.declared.mode.Mode.{Mode}
 use Rattle.region_core.specs.declared.mode.Mode.TheVariants.{Idle, Changing}
 use Rattle.region_core.specs.declared.act.Act.{Act}
@@ -21,51 +17,8 @@ use Rattle.region_rule.specs.declared.view.View.{View}
 use Rattle.region_rule.specs.Views.{opening_of, now}
 use Rattle.region_rule.specs.Steps.{entry, Extends}
 use Rattle.region_rule.specs.Calls.{Learns}
-use Rattle.region_rule.specs.Changes.{next_after, left_from, UnderWay}
-
--- the words of a list of words are words, and so is the 0 past its end
-word_of : (ws : List ℕ) (i : ℕ) → All IsWord ws → IsWord (slice_index ws i)
-word_of [] i all = lit< tt
-word_of (x ∷ xs) zero all = all 0 0 (omega arith)
-word_of (x ∷ xs) (suc i) all = word_of xs i (λ k d h. all (suc k) d (omega arith))
-
--- an image, and what lies behind it in other words
-abbrev over : List ℕ → List ℕ → List ℕ
-over image ws = image ++ drop (length image) ws
-
--- an image whose words are all stored, with what lies behind it, but for the second generation
-renewed : (image ws : List ℕ) (n : ℕ) → 2 < length image → length image ≤ length ws → slice_index ws 1 ≡ n → ((i : ℕ) → i < length image → i ≢ 1 → i ≢ 2 → slice_index ws i ≡ slice_index image i)
-    → with_generation (image ++ drop (length image) ws) n ≡ set ws 2 n
-renewed image ws n wide room first written =
-    ext_get_or 0 (with_generation (over image ws) n) (set ws 2 n) lengths (λ i below. at i (dite (ℕ_discrete i 2) (λ e. inl e) (λ m. inr m)))
-  where
-    long : length (over image ws) ≡ length ws
-    long = let a = length-append image (drop (length image) ws) in let b = length-drop (length image) ws in omega arith
-
-    front : length (set (over image ws) 1 n) ≡ length (over image ws)
-    front = length-set (over image ws) 1 n
-
-    lengths : length (with_generation (over image ws) n) ≡ length (set ws 2 n)
-    lengths = let a = length-set (set (over image ws) 1 n) 2 n in let b = length-set ws 2 n in let c = front in let d = long in omega arith
-
-    behind : (i : ℕ) → i ≢ 1 → i ≢ 2 → slice_index (over image ws) i ≡ slice_index ws i
-    behind i one two = dite (dec_le (suc i) (length image))
-        (λ (h : suc i ≤ length image). get_or_append_left image (drop (length image) ws) 0 i (omega arith) ∙ sym (written i (omega arith) one two))
-        (λ (h : ¬ (suc i ≤ length image)).
-        let k : ℕ = i - length image in
-        let e : i ≡ length image + k = omega arith in
-        ap (λ (j : ℕ). slice_index (over image ws) j) e ∙ get_or-append-add image (drop (length image) ws) k 0 ∙ get_or-drop (length image) ws k 0 ∙ ap (λ (j : ℕ). slice_index ws j) (sym e))
-
-    others : (i : ℕ) → i ≢ 2 → slice_index (set (over image ws) 1 n) i ≡ slice_index ws i
-    others i two = dite (ℕ_discrete i 1)
-        (λ (e : i ≡ 1). let d = long in subst (λ (j : ℕ). slice_index (set (over image ws) 1 n) j ≡ slice_index ws j) (sym e) (get_or-set_same (over image ws) 1 n 0 (omega arith) ∙ sym first))
-        (λ (one : i ≢ 1). get_or-set_other (over image ws) 1 i n 0 one ∙ behind i one two)
-
-    at : (i : ℕ) → (i ≡ 2) ⊎ (i ≢ 2) → slice_index (with_generation (over image ws) n) i ≡ slice_index (set ws 2 n) i
-    at i = ⊎_elim
-        (λ (e : i ≡ 2). let c = front in let d = long in
-        subst (λ (j : ℕ). slice_index (with_generation (over image ws) n) j ≡ slice_index (set ws 2 n) j) (sym e) (get_or-set_same (set (over image ws) 1 n) 2 n 0 (omega arith) ∙ sym (get_or-set_same ws 2 n 0 (omega arith))))
-        (λ (two : i ≢ 2). get_or-set_other (set (over image ws) 1 n) 2 i n 0 two ∙ others i two ∙ sym (get_or-set_other ws 2 i n 0 two))
+use Rattle.region_rule.specs.Changes.{next_after, UnderWay}
+use Rattle.region_rule.proofs.Places.{apart, next_least, next_below, next_most, renewed, word_of}
 
 after_take_words : (s : State) (k : ℕ) (b : Bool) → (after_take s k b).words ≡ s.words
 after_take_words s k true = refl
@@ -85,7 +38,7 @@ module _ (S : Shaping) where
   fit_after s k (End n) all a = All-set IsWord s.words 2 n (subst IsWord a.ready.1 (word_of s.words 1 all)) all
   fit_after s k Free all a = all
 
-  fit_run : (s : State) (es : List Entry) → All IsWord s.words → IsLegal S s es → All IsWord (state s es).words
+  pub fit_run : (s : State) (es : List Entry) → All IsWord s.words → IsLegal S s es → All IsWord (state s es).words
   fit_run s [] all l = all
   fit_run s (e ∷ es) all l = fit_run (after s e.by e.act) es (fit_after s e.by e.act all l.0) l.1
 
@@ -163,17 +116,6 @@ module _ (S : Shaping) where
           written = λ i h. absurd (omega arith);
         }
 
-    next_suc : (k : ℕ) → next_after (suc k) ≡ suc k + 1
-    next_suc k = ap (λ (b : Bool). cond b 3 (suc k + 1)) (ne_eqb (suc k) 0 (λ (e : suc k ≡ 0). omega arith))
-
-    next_index : (next : ℕ) → (next ≡ 0) ⊎ (3 ≤ next) → (3 ≤ next_after next) × ((i : ℕ) → i < next_after next → i ≢ 1 → i ≢ 2 → (i ≡ next) ⊎ (i < next))
-    next_index zero p = (omega arith, λ i h n m. inl (omega arith))
-    next_index (suc k) p = let e = next_suc k in (⊎_elim (λ (e : suc k ≡ 0). absurd (omega arith)) (λ (q : 3 ≤ suc k). omega arith) p, λ i h n m. dite (ℕ_discrete i (suc k)) (λ (e : i ≡ suc k). inl e) (λ (ne : i ≢ suc k). inr (omega arith)))
-
-    next_most : (next : ℕ) (image : List ℕ) → next < length image → 2 < length image → next_after next ≤ length image
-    next_most zero image h wide = omega arith
-    next_most (suc k) image h wide = let e = next_suc k in omega arith
-
     -- the next word was stored
     pub put_under : (v w : View) (image : List ℕ) (next n y : ℕ) → UnderWay S v image next n → Extends S v (Put next (slice_index image next)) y w → next < length image → UnderWay S w image (next_after next) n
     put_under v w image next n y u e below =
@@ -183,9 +125,8 @@ module _ (S : Shaping) where
         let long = wide_now v in
         let room = u.room in
         let there : next < length (now v).words = omega arith in
-        let at = next_index next u.next_is in
-        let not_first : 1 ≢ next = ⊎_elim (λ (p : next ≡ 0). λ (q : 1 ≡ next). omega arith) (λ (p : 3 ≤ next). λ (q : 1 ≡ next). omega arith) u.next_is in
-        let not_second : 2 ≢ next = ⊎_elim (λ (p : next ≡ 0). λ (q : 2 ≡ next). omega arith) (λ (p : 3 ≤ next). λ (q : 2 ≡ next). omega arith) u.next_is in
+        let not_first : 1 ≢ next = apart next 1 u.next_is (omega arith) (omega arith) in
+        let not_second : 2 ≢ next = apart next 2 u.next_is (omega arith) (omega arith) in
         let first : slice_index (set (now v).words next x) 1 ≡ slice_index (now v).words 1 = get_or-set_other (now v).words next 1 x 0 not_first in
         let second : slice_index (set (now v).words next x) 2 ≡ slice_index (now v).words 2 = get_or-set_other (now v).words next 2 x 0 not_second in
         let same_start : w.start ≡ v.start = ap (λ (z : View). z.start) e.is in
@@ -201,12 +142,12 @@ module _ (S : Shaping) where
           room = subst (λ (ws : List ℕ). length image ≤ length ws) (sym same_start) u.room;
           first = ap (λ (ws : List ℕ). slice_index ws 1) words ∙ first ∙ u.first;
           second = λ q. u.second (sym second ∙ ap (λ (ws : List ℕ). slice_index ws 2) (sym words) ∙ q);
-          next_is = inr at.0;
+          next_is = inr (next_least next u.next_is);
           most = next_most next image below both.0;
           written = λ i h one two. ap (λ (ws : List ℕ). slice_index ws i) words ∙ ⊎_elim
               (λ (q : i ≡ next). subst (λ (j : ℕ). slice_index (set (now v).words next x) j ≡ slice_index image j) (sym q) (get_or-set_same (now v).words next x 0 there))
               (λ (q : i < next). get_or-set_other (now v).words next i x 0 (λ (r : i ≡ next). omega arith) ∙ u.written i q one two)
-              (at.1 i h one two);
+              (next_below next i h one two);
         }
 
     -- once all words are stored, the second generation makes an image
@@ -281,20 +222,3 @@ module _ (S : Shaping) where
         let takes : Extends S v Take 0 u = subst (λ (n : ℕ). Extends S v Take n u) free take in
         let t = taken v u takes idle in
         loaded u x old load t.0 takes.mode t.1
-
-    -- where no word is left, the next one is the image's end
-    pub all_stored : (v : View) (image : List ℕ) (next n : ℕ) → UnderWay S v image next n → left_from next image ≡ 0 → next ≡ length image
-    all_stored v image zero n u e = let both = laws.generations image u.is_image in let wide = both.0 in let none : length image - 2 ≡ 0 = e in absurd (omega arith)
-    all_stored v image (suc k) n u e =
-        let most = u.most in
-        let none : length image - suc k ≡ 0 = sym (left_suc k image) ∙ e in
-        omega arith
-      where
-        left_suc : (k : ℕ) (image : List ℕ) → left_from (suc k) image ≡ length image - suc k
-        left_suc k image = ap (λ (b : Bool). cond b (length image - 2) (length image - suc k)) (ne_eqb (suc k) 0 (λ (q : suc k ≡ 0). omega arith))
-
-    -- and where some are, the next one is before it
-    pub some_left : (image : List ℕ) (next : ℕ) → 2 < length image → left_from next image ≢ 0 → next < length image
-    some_left image zero wide h = omega arith
-    some_left image (suc k) wide h = dite (dec_le (suc (suc k)) (length image)) (λ (q : suc (suc k) ≤ length image). omega arith)
-        (λ (q : ¬ (suc (suc k) ≤ length image)). absurd (h (ap (λ (b : Bool). cond b (length image - 2) (length image - suc k)) (ne_eqb (suc k) 0 (λ (r : suc k ≡ 0). omega arith)) ∙ omega arith)))

@@ -114,17 +114,9 @@ fn add_image(
     requires { IsText name.now }
     ensures { OnOk result (images.new ≡ images.old ++ (name.now, image) ∷ []) }
 {
-    let name = text_of(alloc, name)?;
+    let name = Text::clean_copy(alloc, name)?;
     images.push((name, image))?;
     Ok(())
-}
-
-// The text of bytes that have no zero.
-fn text_of(alloc: Global, bytes: &[u8]) -> Result<Text, NoMemory>
-    requires { IsText bytes.now }
-    ensures { IfOk result (λ text. text ≡ bytes.now) }
-{
-    Ok(Text::of_clean(List::from_vec(Vec::from_slice(alloc, bytes)?)))
 }
 
 #[tactic(auto, unfolding(crate::specs::Generated::images))]
@@ -151,7 +143,7 @@ fn add_region(
     ensures { OnOk result (regions.new ≡ regions.old ++ record { file = file.now; image = image; capacity = 2048; passes = 4; line = 247 + image } ∷ []) }
 {
     regions.push(RegionRow {
-        file: text_of(alloc, file)?,
+        file: Text::clean_copy(alloc, file)?,
         image,
         capacity: 2048,
         passes: 4,
@@ -176,7 +168,7 @@ fn config(alloc: Global) -> Result<Config, NoMemory>
     ensures { IfOk result (λ made. made.groups ≡ group ∷ []) }
 {
     let mut names = List::empty(alloc);
-    names.push(text_of(alloc, b"mmv")?)?;
+    names.push(Text::clean_copy(alloc, b"mmv")?)?;
     let mut groups = List::empty(alloc);
     groups.push(Group {
         interval: Some(1000),

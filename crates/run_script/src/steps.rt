@@ -1,7 +1,6 @@
 //! What the steps of a script say: the regions, passes and images that they name.
 ghost use Rattle.std.specs.Prelude.{◌≡◌, ◌<◌, ◌≤◌, length, bytes_eq, OnOk, IfSome};
 ghost use Rattle.std.specs.List.{position};
-ghost use Rattle.pcp_base.specs.Time.{microseconds};
 ghost use Rattle.run_script.specs.Faults.{Takes};
 ghost use Rattle.run_script.specs.Names.{IsKept, Stays};
 ghost use Rattle.run_script.specs.Steps.{pass_of, is_later, ticks, step_of, last_behind, with_line, with_step};
@@ -41,20 +40,13 @@ fn pass_of(regions: &[RegionRow], place: &Place) -> Option<(u32, u32)>
     Some((at as u32, place.pass as u32))
 }
 
-// A stamp in microseconds since 1970.
-fn microseconds(stamp: Stamp) -> u64
-    ensures { result ≡ microseconds stamp }
-{
-    u64::from(stamp.sec()) * 1_000_000 + u64::from(stamp.usec())
-}
-
 // Whether a stamp is after the last tick's, if there was one.
 fn is_later(last: Option<Stamp>, stamp: Stamp) -> bool
     ensures { result ≡ is_later last stamp }
 {
     match last {
         None => true,
-        Some(last) => microseconds(last) < microseconds(stamp),
+        Some(last) => last.microseconds() < stamp.microseconds(),
     }
 }
 

@@ -7,7 +7,7 @@ use Rattle.pcp_outside.specs.Devices.{LeavesOnly}
 use Rattle.script_runs.specs.declared.ending.Ending.{Ending}
 use Rattle.script_runs.specs.declared.ending.Ending.TheVariants as ends
 use Rattle.script_runs.specs.Archives.{Stand}
-use Rattle.script_runs.specs.PassSteps.{one_number}
+use Rattle.text_lines.specs.Spelling.{one_number}
 use Rattle.record_run.specs.declared.archive.RunArchive.{RunArchive}
 use Rattle.record_run.specs.ImageCrashes.{ComesBackTo}
 use Rattle.script_replays.specs.declared.replayed.Replayed.{Replayed}

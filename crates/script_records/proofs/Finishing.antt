@@ -13,7 +13,7 @@ use Rattle.run_script.specs.declared.script.Script.{Script}
 use Rattle.script_runs.specs.declared.ending.Ending.{Ending}
 use Rattle.script_runs.specs.declared.ending.Ending.TheVariants as ends
 use Rattle.script_runs.specs.Archives.{Stand}
-use Rattle.script_runs.specs.PassSteps.{one_number}
+use Rattle.text_lines.specs.Spelling.{one_number}
 use Rattle.script_runs.specs.Runs.{FlushesLast}
 use Rattle.record_run.specs.declared.archive.RunArchive.{RunArchive}
 use Rattle.record_run.specs.ImageCrashes.{ComesBackTo}

@@ -10,7 +10,6 @@ ghost use Rattle.run_script.specs.Rules.{KeepsRules};
 ghost use Rattle.script_passes.specs.Openings.{AreMade, IsOpened};
 ghost use Rattle.script_runs.specs.declared.ending.Ending.TheVariants.{DiskFault as Failing, Done as AtEnd, NoMemory as Refused};
 ghost use Rattle.record_run.specs.Going.{IsUnclosed, IsWorking};
-ghost use Rattle.script_replays.specs.Replays.{ended_by};
 ghost use Rattle.run_script.specs.Recording.{refused_line};
 ghost use Rattle.script_records.specs.Beside.{Beside, TellWriters};
 ghost use Rattle.script_records.specs.Halting.{Halts, IsRecorded, IsStandingFound, RefusedBy};
@@ -21,14 +20,14 @@ use crate::ending::finish;
 use crate::gathering::gather_all;
 use crate::images::images_are;
 use crate::samples::beside;
-use archive_recovery::{Archive, RecoverFault, recover};
+use archive_recovery::{Archive, recover};
 use fetch_engine::{Seat, Server};
 use pcp_outside::{Clock, Disk, Turn};
 use record_run::{RunArchive, Standing};
 use region_words::Pass;
 use run_script::Script;
 use script_passes::Opened;
-use script_replays::Replayed;
+use script_replays::{Replayed, ending_of};
 use script_runs::Ending;
 use script_samples::{Sampler, sample};
 use script_writers::run_writers;
@@ -36,18 +35,6 @@ use std::alloc::Global;
 use std::mem;
 use std::sync::Wait;
 use std::thread::Threads;
-
-/// How a recording ends whose files aren't recovered.
-fn ending_of(fault: RecoverFault) -> Ending
-    ensures { result ≡ ended_by fault }
-{
-    match fault {
-        RecoverFault::Compressed { file } => Ending::Compressed { file },
-        RecoverFault::NotArchive { file, at } => Ending::NotArchive { file, at },
-        RecoverFault::DiskFault => Ending::DiskFault,
-        RecoverFault::NoMemory => Ending::NoMemory,
-    }
-}
 
 /// How a recording ends whose writers were refused memory, and which would end so: a disk that failed stands before it.
 fn refused(ending: Ending) -> Ending

@@ -26,7 +26,7 @@ use Rattle.script_runs.specs.declared.ending.LimitKind.TheVariants as kinds
 use Rattle.script_runs.specs.Archives.{Opens, Stand, Written, ending_of, full_of}
 use Rattle.script_runs.specs.Closing.{closed_regions}
 use Rattle.script_runs.specs.Groups.{asked_for}
-use Rattle.script_runs.specs.PassSteps.{one_number}
+use Rattle.text_lines.specs.Spelling.{one_number}
 use Rattle.script_runs.specs.Regions.{ScriptRegion}
 use Rattle.script_runs.specs.Runs.{FlushesLast, LinesRun, are_idle, run_start, line_behind, with_end}
 use Rattle.script_runs.specs.Steps.{RunState, Stops, TickStops, asking_at}

@@ -13,7 +13,7 @@ use Rattle.script_passes.specs.Crews.{Follows}
 use Rattle.script_runs.specs.declared.ending.Ending.{Ending}
 use Rattle.script_runs.specs.declared.ending.Ending.TheVariants as ends
 use Rattle.script_runs.specs.Archives.{Stand}
-use Rattle.script_runs.specs.PassSteps.{one_number}
+use Rattle.text_lines.specs.Spelling.{one_number}
 use Rattle.script_runs.specs.Regions.{ScriptRegion}
 use Rattle.script_runs.specs.Steps.{FlushGoes, RunState}
 use Rattle.record_run.specs.declared.archive.RunArchive.{RunArchive}

@@ -13,7 +13,7 @@ use Rattle.script_passes.specs.Crews.{Alone, Follows}
 use Rattle.script_passes.specs.Runs.{KeepsFollowing, fetched_of}
 use Rattle.script_runs.specs.Archives.{Stand}
 use Rattle.script_runs.specs.Groups.{Plan, asked_for, asking, shots_of}
-use Rattle.script_runs.specs.PassSteps.{one_number}
+use Rattle.text_lines.specs.Spelling.{one_number}
 use Rattle.script_runs.specs.Steps.{PassesForEach, RunState, TickLogs, Ticks, asking_at, plans_at}
 use Rattle.record_run.specs.declared.archive.RunArchive.{RunArchive}
 use Rattle.record_run.specs.Going.{KeepsRun}

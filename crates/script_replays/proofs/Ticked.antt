@@ -13,7 +13,7 @@ use Rattle.run_script.specs.declared.script.Script.{Script}
 use Rattle.script_passes.specs.declared.running.Running.{Running}
 use Rattle.script_runs.specs.Archives.{Logs, Opens, Stand}
 use Rattle.script_runs.specs.Groups.{Plan, asked_for}
-use Rattle.script_runs.specs.PassSteps.{one_number}
+use Rattle.text_lines.specs.Spelling.{one_number}
 use Rattle.script_runs.specs.Steps.{PassesForEach, RunState, TickLogs, Ticks, asking_at, fetched_at}
 use Rattle.record_run.specs.declared.archive.RunArchive.{RunArchive}
 use Rattle.record_run.specs.Going.{KeepsRun}

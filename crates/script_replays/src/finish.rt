@@ -11,7 +11,7 @@ ghost use Rattle.script_passes.specs.Seen.{HaveSeen};
 ghost use Rattle.script_runs.specs.declared.ending.Ending.TheVariants.{Done as AtEnd, DiskFault as Failing, NoMemory as Refused};
 ghost use Rattle.script_runs.specs.Archives.{Stand};
 ghost use Rattle.script_runs.specs.Closing.{closed_regions};
-ghost use Rattle.script_runs.specs.PassSteps.{one_number};
+ghost use Rattle.text_lines.specs.Spelling.{one_number};
 ghost use Rattle.script_runs.specs.Regions.{ScriptRegion};
 ghost use Rattle.record_run.specs.Endings.{MayEnd};
 ghost use Rattle.record_run.specs.Going.{IsUnclosed};

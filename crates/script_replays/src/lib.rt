@@ -11,5 +11,5 @@ mod steps;
 mod ticks;
 
 pub use finish::{flush_last, tell};
-pub use replay::replay_script;
+pub use replay::{ending_of, replay_script};
 pub use replayed::Replayed;

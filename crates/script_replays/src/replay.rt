@@ -31,7 +31,7 @@ use std::alloc::Global;
 use std::mem;
 
 /// How a run ends whose files aren't recovered.
-fn ending_of(fault: RecoverFault) -> Ending
+pub fn ending_of(fault: RecoverFault) -> Ending
     ensures { result ≡ ended_by fault }
 {
     match fault {

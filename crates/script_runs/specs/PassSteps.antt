@@ -1,6 +1,6 @@
 -- What a step makes of its region, and the line that it writes. A step whose condition fails makes nothing.
 use Rattle.std.specs.Prelude.{ℕ, ℤ, ◌+◌, ◌-◌, ◌^◌, ◌==◌, nat_lt, max, if◌then◌else◌, List, [], ◌∷◌, ◌++◌, length, codes, slice_index, Option, Some, None}
-use Rattle.text_lines.specs.Spelling.{number_part}
+use Rattle.text_lines.specs.Spelling.{one_number, two_numbers}
 use Rattle.region_core.specs.declared.act.Act.{Act}
 use Rattle.region_core.specs.declared.act.Act.TheVariants.{Load, Enter, Leave, Take, Begin, Put, End, Free}
 use Rattle.region_core.specs.State.{word, g1, g2}
@@ -12,12 +12,6 @@ use Rattle.script_runs.specs.Slots.{swap_of, add_of}
 -- the region afterwards, and the line
 abbrev pub Outcome : Type 0
 Outcome = ScriptRegion × List ℕ
-
-abbrev pub one_number : List ℕ → ℕ → List ℕ
-one_number name n = name ++ (number_part n ++ 10 ∷ [])
-
-abbrev pub two_numbers : List ℕ → ℕ → ℕ → List ℕ
-two_numbers name n m = name ++ (number_part n ++ (number_part m ++ 10 ∷ []))
 
 -- a step that writes nothing
 abbrev pub no_output : ScriptRegion → Option Outcome

@@ -20,7 +20,8 @@ use Rattle.script_runs.specs.declared.ending.Ending.TheVariants as ends
 use Rattle.script_runs.specs.declared.ending.LimitKind.TheVariants as kinds
 use Rattle.script_runs.specs.Regions.{Doing, ScriptRegion, doing_of, words_at}
 use Rattle.script_runs.specs.PassSteps as steps
-use Rattle.script_runs.specs.PassSteps.{Outcome, one_number}
+use Rattle.text_lines.specs.Spelling.{one_number}
+use Rattle.script_runs.specs.PassSteps.{Outcome}
 use Rattle.script_runs.specs.Groups.{Plan, shots_of, plans_at_start, asking, asked_for}
 use Rattle.script_runs.specs.Archives.{Written, Stand, Opens, Logs, Refuses, Flushes, ending_of}
 

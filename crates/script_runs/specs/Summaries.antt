@@ -5,7 +5,7 @@ use Rattle.pcp_base.specs.declared.file.FileId.TheVariants.{Meta, Volume}
 use Rattle.pcp_model.specs.Disk.{Files}
 use Rattle.run_script.specs.declared.script.Line.{Line}
 use Rattle.run_script.specs.declared.script.Line.TheVariants as lines
-use Rattle.script_runs.specs.PassSteps.{one_number}
+use Rattle.text_lines.specs.Spelling.{one_number}
 
 abbrev pub adds_in : List (ℕ × Line) → ℕ
 adds_in [] = 0

@@ -30,12 +30,6 @@ impl Model for Index {
     ghost view = { λ a. a.entries };
 }
 
-fn microseconds(stamp: Stamp) -> u64
-    ensures { result ≡ microseconds stamp }
-{
-    stamp.sec() as u64 * 1_000_000 + stamp.usec() as u64
-}
-
 /// The last entry that stands before a time in microseconds, and its position.
 fn last_before(entries: &[Entry], time: u64) -> Option<(u64, Entry)>
     ensures { MatchOption result (AllByRecursion (λ e. time ≤ microseconds e.stamp) entries.now)
@@ -45,7 +39,7 @@ fn last_before(entries: &[Entry], time: u64) -> Option<(u64, Entry)>
     while left > 0 {
         let entry = entries[left - 1];
         left -= 1;
-        if microseconds(entry.stamp) < time {
+        if entry.stamp.microseconds() < time {
             return Some((left as u64, entry));
         }
     }
@@ -101,14 +95,14 @@ impl Index {
     pub fn seek_at(&self, t: Stamp) -> Option<(u64, Entry)>
         ensures { MatchOption result (AllByRecursion (IsAfter t) self.now) (IsLast (NotAfter t) (IsAfter t) self.now) }
     {
-        last_before(self.entries.as_slice(), microseconds(t) + 1)
+        last_before(self.entries.as_slice(), t.microseconds() + 1)
     }
 
     /// The last entry before a moment, and its position.
     pub fn seek_before(&self, t: Stamp) -> Option<(u64, Entry)>
         ensures { MatchOption result (AllByRecursion (NotBefore t) self.now) (IsLast (Before t) (NotBefore t) self.now) }
     {
-        last_before(self.entries.as_slice(), microseconds(t))
+        last_before(self.entries.as_slice(), t.microseconds())
     }
 }
 

@@ -51,3 +51,10 @@ optional_int_part (Some n) = int_part n
 abbrev pub help_part : Option (List ℕ) → List ℕ
 help_part None = missing_part
 help_part (Some text) = text_part text
+
+-- a line of a name and one number, or two
+abbrev pub one_number : List ℕ → ℕ → List ℕ
+one_number name n = name ++ (number_part n ++ 10 ∷ [])
+
+abbrev pub two_numbers : List ℕ → ℕ → ℕ → List ℕ
+two_numbers name n m = name ++ (number_part n ++ (number_part m ++ 10 ∷ []))

@@ -37,6 +37,6 @@ pub use quoted::starts_quoted;
 pub use rest::{Rest, TakeFault, split_word};
 pub use whole::layout_text;
 pub use writing::{
-    put_escapes, put_help, put_hex, put_hex_part, put_int, put_number, put_optional_int,
-    put_optional_number, put_text, put_whole,
+    one_number_line, put_escapes, put_help, put_hex, put_hex_part, put_int, put_number,
+    put_one_number, put_optional_int, put_optional_number, put_text, put_whole,
 };

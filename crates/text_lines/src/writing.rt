@@ -1,10 +1,11 @@
 //! The parts of a line in their one spelling, each behind its space.
-ghost use Rattle.std.specs.Prelude.{◌≡◌, ◌++◌, ◌∷◌, [], ◌<◌, ◌≤◌, OnOk};
-ghost use Rattle.text_lines.specs.Spelling.{hex_glyph, hex_text, escape, escapes, quoted_text, number_part, int_part, text_part, hex_part, optional_number_part, optional_int_part, help_part};
+ghost use Rattle.std.specs.Prelude.{◌≡◌, ◌++◌, ◌∷◌, [], ◌<◌, ◌≤◌, IfOk, OnOk};
+ghost use Rattle.text_lines.specs.Spelling.{hex_glyph, hex_text, escape, escapes, quoted_text, number_part, int_part, text_part, hex_part, optional_number_part, optional_int_part, help_part, one_number};
 
 use crate::quoted::is_plain;
 use itoa::Buffer;
-use pcp_base::{NoMemory, Text};
+use pcp_base::{Bytes, NoMemory, Text};
+use std::alloc::Global;
 
 /// The lower case hexadecimal digit of a number.
 fn hex_glyph(digit: u8) -> u8
@@ -137,4 +138,23 @@ pub fn put_help(out: &mut Vec<u8>, help: &Option<Text>) -> Result<(), NoMemory>
         None => out.extend_from_slice(b" -")?,
     }
     Ok(())
+}
+
+/// A line of a name and a number.
+pub fn put_one_number(out: &mut Vec<u8>, name: &[u8], number: u64) -> Result<(), NoMemory>
+    ensures { OnOk result (out.new.items ≡ out.old.items ++ one_number name.now number) }
+{
+    out.extend_from_slice(name)?;
+    put_number(out, number)?;
+    out.push(b'\n')?;
+    Ok(())
+}
+
+/// The line of a name and a number.
+pub fn one_number_line(alloc: Global, name: &[u8], number: u64) -> Result<Bytes, NoMemory>
+    ensures { IfOk result (λ line. line ≡ one_number name.now number) }
+{
+    let mut line = Vec::new(alloc);
+    put_one_number(&mut line, name, number)?;
+    Ok(Bytes::from_vec(line))
 }

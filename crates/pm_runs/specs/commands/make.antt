@@ -7,7 +7,7 @@ use Rattle.run_script.specs.declared.script.Line.{Line}
 use Rattle.run_script.specs.declared.script.Line.TheVariants as lines
 use Rattle.run_script.specs.declared.script.Script.{Script}
 use Rattle.run_script.specs.Generated.{generated_script}
-use Rattle.script_runs.specs.PassSteps.{one_number}
+use Rattle.text_lines.specs.Spelling.{one_number}
 use Rattle.script_runs.specs.Summaries.{HasVolumes, amount, summary}
 use Rattle.pm_words.specs.declared.words.MakeWords.{MakeWords}
 use Rattle.pm_words.specs.declared.stage.DiskRefusal.TheVariants.{DiskFault}

@@ -5,7 +5,7 @@ use Rattle.mmv_layout.specs.declared.fault.ImageFault.{ImageFault}
 use Rattle.mmv_layout.specs.Faults.{image_of}
 use Rattle.run_script.specs.declared.script.Script.{Script}
 use Rattle.script_runs.specs.Once.{once_limit, once_script}
-use Rattle.script_runs.specs.PassSteps.{one_number}
+use Rattle.text_lines.specs.Spelling.{one_number}
 use Rattle.pm_words.specs.declared.words.OnceWords.{OnceWords}
 use Rattle.pm_words.specs.declared.refusal.Refusal.TheVariants.{NoMemory}
 use Rattle.pm_words.specs.Inputs.{image_refusal}

@@ -1,6 +1,6 @@
 -- `recover` mends an archive that was stopped anywhere, and writes how many items it has.
-use Rattle.std.specs.Prelude.{◌≡◌, ◌⊎◌, ℕ, true, List, [], ◌∷◌, ◌++◌, length, codes, Some, None}
-use Rattle.std.specs.Fmt.{decimal}
+use Rattle.std.specs.Prelude.{◌≡◌, ◌⊎◌, ℕ, true, List, [], length, codes, Some, None}
+use Rattle.text_lines.specs.Spelling.{one_number}
 use Rattle.pcp_base.specs.declared.file.FileId.{FileId}
 use Rattle.pcp_model.specs.Archive.{ArchiveReading, Reads, scan}
 use Rattle.pcp_model.specs.Disk.{Files, contents_of}
@@ -27,7 +27,7 @@ pub record IsMendedSide (d : DiskSide) : Type 0 where
   pub sure : (file : FileId) → (d.after file).rest ≡ []
 
 abbrev pub items_line : ℕ → List ℕ
-items_line n = codes "items " ++ (decimal n ++ 10 ∷ [])
+items_line n = one_number (codes "items") n
 
 -- how many items the scan has
 abbrev pub IsOutput : Files → List ℕ → Type 0

@@ -10,7 +10,6 @@ ghost use Rattle.pm_runs.specs.Scripts.{HasWritten, ScriptSince};
 ghost use Rattle.pm_runs.specs.commands.make.{make as meaning_of_make, making, add_in, amount_in, counted_text, HasCounted, WantsCounts};
 ghost use Rattle.pm_words.specs.Sides.{disk_side, IsUnread, Leaves};
 
-use crate::lines::put_count;
 use crate::running::run_script;
 use pcp_base::{Bytes, FileId, List, NoMemory};
 use pcp_outside::Disk;
@@ -18,6 +17,7 @@ use pm_words::{DiskRefusal, MakeWords, Refusal, of_ending};
 use run_script::{Line, generate};
 use script_passes::Opened;
 use std::alloc::Global;
+use text_lines::put_one_number;
 
 // Whether a step is an add, as a count, and what it adds.
 fn added(line: &Line) -> (u64, u64)
@@ -65,11 +65,11 @@ fn counted_text(
     ensures { IfOk result (λ text. text ≡ counted_text items volumes meta adds total) }
 {
     let mut out = Vec::new(alloc);
-    put_count(&mut out, b"items", items)?;
-    put_count(&mut out, b"volumes", volumes as u64)?;
-    put_count(&mut out, b"meta", meta)?;
-    put_count(&mut out, b"adds", adds)?;
-    put_count(&mut out, b"total", total)?;
+    put_one_number(&mut out, b"items", items)?;
+    put_one_number(&mut out, b"volumes", volumes as u64)?;
+    put_one_number(&mut out, b"meta", meta)?;
+    put_one_number(&mut out, b"adds", adds)?;
+    put_one_number(&mut out, b"total", total)?;
     Ok(List::from_vec(out))
 }
 

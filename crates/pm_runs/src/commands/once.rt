@@ -12,7 +12,6 @@ ghost use Rattle.pm_runs.specs.Regions.{RanRegions, HasRegions};
 ghost use Rattle.pm_runs.specs.Scripts.{HasWritten, ScriptSince};
 ghost use Rattle.pm_runs.specs.commands.once.{once as meaning_of_once, logging, logged_line};
 
-use crate::lines::put_count;
 use crate::running::run_script;
 use log_schedule::{Config, Group};
 use mmv_layout::{Image, ImageFault};
@@ -22,6 +21,7 @@ use pm_words::{InputRefusal, OnceWords, Refusal, StageFault, of_ending};
 use run_script::{Line, RegionRow, Script};
 use script_passes::Opened;
 use std::alloc::Global;
+use text_lines::one_number_line;
 
 // The volume limit, which is the greatest.
 const LIMIT: u64 = 1_073_741_824;
@@ -113,9 +113,7 @@ fn prepare(
 fn logged_line(alloc: Global, count: u64) -> Result<Bytes, NoMemory>
     ensures { IfOk result (λ line. line ≡ logged_line count) }
 {
-    let mut line = Vec::new(alloc);
-    put_count(&mut line, b"logged", count)?;
-    Ok(List::from_vec(line))
+    one_number_line(alloc, b"logged", count)
 }
 
 /// Runs the image of an input, over any files, and tells how many results were logged.

@@ -6,17 +6,17 @@ ghost use Rattle.pm_words.specs.Sides.{disk_side, IsUnread, Leaves};
 ghost use Rattle.pm_runs.specs.commands.recover.{recover as meaning_of_recover, items_line};
 
 use archive_recovery::recover as mend_archive;
-use pcp_base::{Bytes, List as Sequence, NoMemory};
+use pcp_base::{Bytes, NoMemory};
 use pcp_outside::Disk;
 use pm_words::Refusal;
 use std::alloc::Global;
+use text_lines::one_number_line;
 
 // The line that tells how many items there are.
 fn items_line(alloc: Global, items: u64) -> Result<Bytes, NoMemory>
     ensures { IfOk result (λ line. line ≡ items_line items) }
 {
-    let line = format!(in alloc; "items {items}\n")?;
-    Ok(Sequence::from_vec(line.into_bytes()))
+    one_number_line(alloc, b"items", items)
 }
 
 /// Mends the archive, whatever the input, and tells how many items it has.

@@ -1,9 +1,8 @@
 -- `value SEC USEC NAME` writes the values that a metric last had at a moment, and when.
-use Rattle.std.specs.Prelude.{◌≡◌, ℕ, Bool, true, false, if◌then◌else◌, List, [], ◌∷◌, Option, Some, None, bytes_eq}
+use Rattle.std.specs.Prelude.{◌≡◌, ℕ, List, Option, Some, None}
 use Rattle.pcp_base.specs.Time.{Moment}
 use Rattle.pcp_base.specs.declared.result.ValueSet.{ValueSet}
-use Rattle.pcp_model.specs.declared.records.MetaRecord.{MetaRecord}
-use Rattle.archive_meta.specs.Said.{described_metrics, description_of, names_of}
+use Rattle.archive_meta.specs.Said.{metric_of_name}
 use Rattle.archive_loading.specs.Loaded.{Loaded}
 use Rattle.archive_reader.specs.Values.{IsValueAt, IsWholeFault, value_at}
 use Rattle.archive_reader.specs.declared.fault.ReaderFault.TheVariants as faults
@@ -14,23 +13,6 @@ use Rattle.pm_words.specs.declared.words.ValueWords.{ValueWords}
 use Rattle.pm_tasks.specs.Archives.{IsLoaded, TurnedAfter, OverReadable, looks, nothing_before}
 use Rattle.pm_words.specs.Meaning.{Meaning}
 use Rattle.pm_words.specs.Sides.{Found}
-
-abbrev pub has_name : List ℕ → List (List ℕ) → Bool
-has_name name [] = false
-has_name name (n ∷ names) = if bytes_eq n name then true else has_name name names
-
-abbrev pub is_named : List ℕ → Option (List (List ℕ)) → Bool
-is_named name None = false
-is_named name (Some names) = has_name name names
-
--- the first of these metrics that has a name
-abbrev pub first_named : List MetaRecord → List ℕ → List ℕ → Option ℕ
-first_named records name [] = None
-first_named records name (pmid ∷ pmids) = if is_named name (names_of (description_of pmid records)) then Some pmid else first_named records name pmids
-
--- a name leads to the first metric that has it, in the order in which metrics are first described
-abbrev pub metric_of_name : List MetaRecord → List ℕ → Option ℕ
-metric_of_name records name = first_named records name (described_metrics records)
 
 -- the text of a metric's values at a moment
 abbrev pub HasValue : Found → Loaded → ℕ → Moment → List ℕ → Type 0

@@ -1,6 +1,5 @@
 //! The command `value SEC USEC NAME`: the values that a metric last had at a moment.
-ghost use Rattle.std.specs.Prelude.{◌≡◌, IfOk, IfErr, bytes_eq};
-ghost use Rattle.archive_meta.specs.Said.{description_of, names_of};
+ghost use Rattle.std.specs.Prelude.{◌≡◌, IfOk, IfErr};
 ghost use Rattle.pcp_model.specs.Disk.{contents_of};
 ghost use Rattle.archive_loading.specs.Looks.{Looks};
 ghost use Rattle.archive_loading.specs.Loaded.{IsOver};
@@ -9,65 +8,14 @@ ghost use Rattle.pm_words.specs.Sides.{disk_side, files_found};
 ghost use Rattle.pm_words.specs.declared.refusal.Refusal.TheVariants.{Disk};
 ghost use Rattle.pm_words.specs.declared.stage.DiskRefusal.TheVariants.{Files};
 ghost use Rattle.pm_words.specs.declared.stage.FilesRefusal.TheVariants.{Nothing};
-ghost use Rattle.pm_tasks.specs.commands.value.{has_name, is_named, first_named, metric_of_name, HasValue, HasNoValue, IsTurnedAway, IsOutput};
+ghost use Rattle.pm_tasks.specs.commands.value.{HasValue, HasNoValue, IsTurnedAway, IsOutput};
 
-use archive_meta::MetaState;
 use archive_reader::ArchiveReader;
-use pcp_base::{Bytes, NoMemory, Pmid, Stamp, Text};
+use pcp_base::{Bytes, Pmid, Stamp};
 use pcp_outside::Disk;
 use pm_print::set_text;
 use pm_words::{DiskRefusal, FilesRefusal, Refusal, ValueWords};
 use std::alloc::Global;
-
-fn is_name(text: &Text, name: &[u8]) -> bool
-    ensures { result ≡ bytes_eq text.now name.now }
-{
-    text.as_slice() == name
-}
-
-fn has_name(names: &[Text], name: &[u8]) -> bool
-    ensures { result ≡ has_name name.now names.now }
-{
-    let mut index = 0;
-    while index < names.len() {
-        if is_name(&names[index], name) {
-            return true;
-        }
-        index += 1;
-    }
-    false
-}
-
-// Whether a metric has this name.
-fn is_named(meta: &MetaState, pmid: Pmid, name: &[u8]) -> bool
-    ensures { result ≡ is_named name.now (names_of (description_of pmid meta.now)) }
-{
-    match meta.names(pmid) {
-        Some(names) => has_name(names.as_slice(), name),
-        None => false,
-    }
-}
-
-fn first_named(meta: &MetaState, pmids: &[Pmid], name: &[u8]) -> Option<Pmid>
-    ensures { result ≡ first_named meta.now name.now pmids.now }
-{
-    let mut index = 0;
-    while index < pmids.len() {
-        if is_named(meta, pmids[index], name) {
-            return Some(pmids[index]);
-        }
-        index += 1;
-    }
-    None
-}
-
-// The metric that a name leads to.
-fn metric_of_name(alloc: Global, meta: &MetaState, name: &[u8]) -> Result<Option<Pmid>, NoMemory>
-    ensures { IfOk result (λ pmid. pmid ≡ metric_of_name meta.now name.now) }
-{
-    let pmids = meta.pmids(alloc)?;
-    Ok(first_named(meta, pmids.as_slice(), name))
-}
 
 fn nothing_at(stamp: Stamp) -> Refusal
     ensures { result ≡ Disk (Files (Nothing stamp)) }
@@ -105,7 +53,7 @@ pub fn value<D: Disk>(alloc: Global, asked: &ValueWords, disk: &mut D) -> Result
     ensures looks { Looks D.Disk disk.old disk.new }
 {
     let mut reader = ArchiveReader::load(alloc, disk)?;
-    let pmid = metric_of_name(alloc, reader.meta(), asked.name.as_slice())?;
+    let pmid = reader.meta().metric_of_name(alloc, asked.name.as_slice())?;
     match pmid {
         Some(pmid) => values_text(alloc, disk, &mut reader, pmid, asked.stamp),
         None => Err(nothing_at(asked.stamp)),

@@ -3,7 +3,7 @@ use Rattle.std.proofs.Common.{◌≡◌, inl, inr, ℕ, List, ◌++◌, length, 
 use Rattle.run_script.specs.declared.script.Line.TheVariants.{Tick}
 use Rattle.script_runs.specs.declared.ending.Ending.{Ending}
 use Rattle.script_runs.specs.Groups.{Plan}
-use Rattle.script_runs.specs.PassSteps.{one_number}
+use Rattle.text_lines.specs.Spelling.{one_number}
 use Rattle.script_runs.specs.Steps.{plans_at}
 use Rattle.script_replays.specs.declared.run.Run.{Run}
 use Rattle.script_replays.specs.States.{HaltsAt}

@@ -1,9 +1,10 @@
 -- The values of the metric that a name leads to, or that there are none.
 use Rattle.std.proofs.Common.{rules, inl, inr, refl, sym, ap, subst, ◌∙◌}
 use Rattle.pcp_model.specs.Disk.{contents_of}
+use Rattle.archive_meta.specs.Said.{metric_of_name}
 use Rattle.archive_loading.proofs.Looking.{looks_on}
 use Rattle.archive_loading.specs.Loaded.{Loaded, IsOver}
-use Rattle.pm_tasks.specs.commands.value.{IsTurnedAway, metric_of_name, HasNothing}
+use Rattle.pm_tasks.specs.commands.value.{IsTurnedAway, HasNothing}
 use Rattle.pm_tasks.specs.Archives.{TurnedAway}
 use Rattle.pm_words.specs.Sides.{disk_side, files_found}
 use Rattle.pm_tasks.proofs.Asking.{not_loaded, is_loaded, still_over}

@@ -1,5 +1,4 @@
-use Rattle.std.proofs.Common.{ℕ, List, sym, ap, subst}
-use Rattle.region_rule.specs.declared.view.View.{View}
+use Rattle.std.proofs.Common.{sym, subst}
 use Rattle.region_rule.specs.Calls.{Opened}
 use Rattle.region_rule.specs.Reads.{HasRead}
 use Rattle.region_rule.proofs.HasRead.{has_shown, has_refused}

@@ -1,5 +1,5 @@
-use Rattle.std.proofs.Common.{ℕ, List, sym, ap, subst}
-use Rattle.region_rule.specs.Calls.{Opened, Learns}
+use Rattle.std.proofs.Common.{sym, ap, subst}
+use Rattle.region_rule.specs.Calls.{Opened}
 use Rattle.region_rule.specs.Reads.{HasRead}
 use Rattle.region_rule.proofs.Fronts.{learned}
 use Rattle.region_rule.proofs.HasRead.{has_learned}

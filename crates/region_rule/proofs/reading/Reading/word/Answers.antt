@@ -1,4 +1,4 @@
-use Rattle.std.proofs.Common.{ℕ, List, [], ◌∷◌, ◌++◌, sym, subst}
+use Rattle.std.proofs.Common.{sym, subst}
 use Rattle.region_rule.specs.Calls.{Opened}
 use Rattle.region_rule.specs.Reads.{HasRead}
 use Rattle.region_rule.proofs.HasRead.{has_more}

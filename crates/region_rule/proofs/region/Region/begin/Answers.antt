@@ -1,23 +1,13 @@
-use Rattle.std.proofs.Common.{◌≡◌, sym, ap, ◌∙◌, arith}
+use Rattle.std.proofs.Common.{arith}
 use Rattle.region_core.specs.declared.act.Act.TheVariants.{Begin}
-use Rattle.region_rule.specs.Seats.{MadeRegion, region_of}
-use Rattle.region_rule.proofs.Acts.{at_cell, begins}
+use Rattle.region_rule.proofs.Acts.{on_cell, begins}
 use Rattle.region_rule.proofs.region.Region.begin.Goals as goal
 
 pub store-requires : goal.store-requires
 store-requires g c =
     let S = g.S.Shape.shaping in
     let laws = g.S.Shape.laws in
-    let r = c.self.inside in
     let v = c.args.seat.now.me.0 in
-    let region : MadeRegion = record { table = r.table.shared.table_id; words = r.table.shared.key.words; passes = r.table.shared.key.passes } in
-    let is : region_of c.args.seat.now ≡ region = c.requires.here.is ∙ sym c.self.view_is in
-    let start : v.start ≡ region.words = ap (λ (p : MadeRegion). p.words) is in
-    let count = c.self.invariant.0 in
-    let capacity = c.self.invariant.1 in
-    let some_of = c.self.invariant.2 in (
-      ap (λ (p : MadeRegion). p.table) is,
-      omega arith,
-      at_cell S laws region.words region.passes v c.args.seat.now.me.1 (Begin c.args.generation) 2 (λ _. c.args.generation) (λ _. c.args.generation) region.table.slots c.args.seat.now.id start (ap (λ (p : MadeRegion). p.passes) is) c.requires.here.named
-          (begins S laws v c.args.generation c.requires.changing c.requires.stable c.requires.above c.ranges.generation.fits),
-    )
+    let shared = c.self.inside.table.shared in
+    on_cell S laws shared.table_id shared.key.words shared.key.passes c.self.inside.capacity c.args.self.now c.args.seat.now c.self.view_is c.requires.here c.self.invariant.0 c.self.invariant.1 c.self.invariant.2
+    (Begin c.args.generation) 2 (λ _. c.args.generation) (λ _. c.args.generation) (omega arith) (begins S laws v c.args.generation c.requires.changing c.requires.stable c.requires.above c.ranges.generation.fits)

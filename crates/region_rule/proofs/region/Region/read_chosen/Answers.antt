@@ -1,4 +1,4 @@
-use Rattle.std.proofs.Common.{◌≡◌, ℕ, List, length, sym, ap, refl, ◌∙◌, subst}
+use Rattle.std.proofs.Common.{◌≡◌, ℕ, List, sym, refl, ◌∙◌, subst}
 use Rattle.std.specs.List.{zip}
 use Rattle.region_rule.specs.Seats.{Token}
 use Rattle.region_rule.specs.Reads.{WholeReading, ReadsChosen, ReadsChosenAgain}

@@ -1,24 +1,14 @@
-use Rattle.std.proofs.Common.{◌≡◌, ◌^◌, eqb, sym, ap, ◌∙◌, arith}
+use Rattle.std.proofs.Common.{◌^◌, eqb, arith}
 use Rattle.region_core.specs.declared.act.Act.TheVariants.{Take}
 use prog.Atomic.{either}
-use Rattle.region_rule.specs.Seats.{MadeRegion, region_of}
-use Rattle.region_rule.proofs.Acts.{at_cell, takes}
+use Rattle.region_rule.proofs.Acts.{on_cell, takes}
 use Rattle.region_rule.proofs.region.Region.take.Goals as goal
 
 pub compare_exchange-requires : goal.compare_exchange-requires
 compare_exchange-requires g c =
     let S = g.S.Shape.shaping in
     let laws = g.S.Shape.laws in
-    let r = c.self.inside in
     let v = c.args.seat.now.me.0 in
-    let region : MadeRegion = record { table = r.table.shared.table_id; words = r.table.shared.key.words; passes = r.table.shared.key.passes } in
-    let is : region_of c.args.seat.now ≡ region = c.requires.here.is ∙ sym c.self.view_is in
-    let start : v.start ≡ region.words = ap (λ (p : MadeRegion). p.words) is in
-    let count = c.self.invariant.0 in
-    let capacity = c.self.invariant.1 in
-    let some_of = c.self.invariant.2 in (
-      ap (λ (p : MadeRegion). p.table) is,
-      omega arith,
-      at_cell S laws region.words region.passes v c.args.seat.now.me.1 Take 0 (λ n. either (eqb n 0) (2 ^ 63) n) (λ n. n) region.table.slots c.args.seat.now.id start (ap (λ (p : MadeRegion). p.passes) is) c.requires.here.named
-          (takes S laws v c.requires.idle),
-    )
+    let shared = c.self.inside.table.shared in
+    on_cell S laws shared.table_id shared.key.words shared.key.passes c.self.inside.capacity c.args.self.now c.args.seat.now c.self.view_is c.requires.here c.self.invariant.0 c.self.invariant.1 c.self.invariant.2
+    Take 0 (λ n. either (eqb n 0) (2 ^ 63) n) (λ n. n) (omega arith) (takes S laws v c.requires.idle)
