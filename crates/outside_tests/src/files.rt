@@ -153,6 +153,7 @@ fn reads_that_go_on_are_those_of_the_file(rt: HostRuntime) -> Result<(), Fail> {
         content.push((at % 251) as u8)?;
     }
     fs::write(&rt, "ahead.0", content.as_slice())?;
+    let mut disk = disk_at(rt.alloc(), &rt, "ahead")?;
     assert!(rt; goes_on(&mut disk, &content));
     assert!(rt; goes_on(&mut disk, content.get(..200).unwrap_or(&[])));
     disk.cut(FileId::Volume(0), 250)?;
