@@ -155,11 +155,11 @@ fn reads_that_go_on_are_those_of_the_file(rt: HostRuntime) -> Result<(), Fail> {
     fs::write(&rt, "ahead.0", content.as_slice())?;
     let mut disk = disk_at(rt.alloc(), &rt, "ahead")?;
     assert!(rt; goes_on(&mut disk, &content));
-    assert!(rt; goes_on(&mut disk, &content[..200]));
+    assert!(rt; goes_on(&mut disk, content.get(..200).unwrap_or(&[])));
     // The bytes from 200 on were read ahead, and aren't those of the file any more.
     disk.cut(FileId::Volume(0), 250)?;
     disk.append(FileId::Volume(0), b"new")?;
-    assert!(rt; stands(&mut disk, 200, &content[200..250]));
+    assert!(rt; stands(&mut disk, 200, content.get(200..250).unwrap_or(&[])));
     assert!(rt; stands(&mut disk, 250, b"new"));
     Ok(())
 }
