@@ -4,7 +4,7 @@ ghost use Rattle.std.specs.Prelude.{◌≡◌, ◌∷◌, [], IfOk};
 ghost use Rattle.fetch_engine.specs.Servers.{IsSeated, regions_in};
 
 use anyhow::{Context, Result, ensure};
-use archive_recovery::recover;
+use archive_recovery::{Archive, recover};
 use fetch_engine::{Fetched, Mounted, Seat, Server};
 use logger_core::Logger;
 use pcp_base::{Stamp, Text};
@@ -43,16 +43,26 @@ pub fn now(clock: &mut impl Clock) -> Result<Stamp> {
     clock.now()?.context("the clock shows no moment")
 }
 
-/// The logger of an archive, which is recovered first, and begun where there is none.
-pub fn open(alloc: Global, disk: &mut impl Disk, stamp: Stamp) -> Result<Logger> {
-    let archive = recover(alloc, disk)?;
+// The label of a new archive.
+fn first_label(alloc: Global, stamp: Stamp) -> Result<Label> {
+    let host = Text::build(alloc, b"localhost")?;
+    let zone = Text::build(alloc, b"UTC")?;
+    Label::build(1, stamp, host, zone).context("a text of the label is too long")
+}
+
+// The logger of an archive that recovery left, or of a new one.
+fn go_on(alloc: Global, disk: &mut impl Disk, archive: Archive, stamp: Stamp) -> Result<Logger> {
     if archive.label.is_some() {
         return Ok(Logger::reopen(disk, archive, VOLUME_LIMIT)?);
     }
-    let host = Text::build(alloc, b"localhost")?;
-    let zone = Text::build(alloc, b"UTC")?;
-    let label = Label::build(1, stamp, host, zone).context("a text of the label is too long")?;
+    let label = first_label(alloc, stamp)?;
     Ok(Logger::create(alloc, disk, &label, VOLUME_LIMIT)?)
+}
+
+/// The logger of an archive, which is recovered first, and begun where there is none.
+pub fn open(alloc: Global, disk: &mut impl Disk, stamp: Stamp) -> Result<Logger> {
+    let archive = recover(alloc, disk)?;
+    go_on(alloc, disk, archive, stamp)
 }
 
 /// What all metrics of a server show now, and what describes them. The region is read without a lock: where it was being changed it is
