@@ -1,6 +1,7 @@
 //! A door over loopback.
 use pcp_outside::{Door, Failed, SessionEnd, Source, read_to_limit, write_all};
 use pcp_system::{Patience, TcpDoor};
+use std::alloc::{Alloc, Global};
 use std::io::{Read, Write};
 use std::net::{Net, Shutdown, TcpListener, TcpStream};
 use std::test::Fail;
@@ -28,7 +29,7 @@ fn a_client_comes_in_through_a_door(rt: HostRuntime) -> Result<(), Fail> {
 // What the source of a client answers to two reads, where the client sends these bytes and then keeps silent.
 fn two_reads<R>(rt: &R, idle: Duration, sent: &[u8]) -> Result<[Result<usize, Failed>; 2], Fail>
 where
-    R: Net<Listener = TcpListener, Stream = TcpStream> + Clock,
+    R: Net<Listener = TcpListener, Stream = TcpStream> + Clock + Alloc<A = Global>,
 {
     let listener = TcpListener::bind(rt, "127.0.0.1:0")?;
     let mut client = TcpStream::connect(rt, listener.local_addr()?)?;

@@ -93,7 +93,7 @@ fn words_of(alloc: Global, line: &str) -> Result<Vec<String>, AllocError> {
 }
 
 // The call alone, over four doors of a listener: whoever calls this has nothing to do with its contract.
-fn serve_four<R: Threads + Wait + Clock + Send + Sync>(
+fn serve_four<R: Threads + Wait + Clock + Alloc<A = Global> + Send + Sync>(
     rt: &R,
     alloc: Global,
     listener: &TcpListener,
@@ -113,7 +113,7 @@ fn serve_four<R: Threads + Wait + Clock + Send + Sync>(
 }
 
 // Serves so many clients of a listener. Gives the output, or none where that isn't done.
-fn serve_all<R: Threads + Wait + Clock + Send + Sync>(
+fn serve_all<R: Threads + Wait + Clock + Alloc<A = Global> + Send + Sync>(
     rt: &R,
     alloc: Global,
     listener: &TcpListener,
@@ -201,7 +201,13 @@ fn serve_to<R>(
     held: &Held,
 ) -> Result<(bool, bool), Fail>
 where
-    R: Net<Listener = TcpListener, Stream = TcpStream> + Threads + Wait + Clock + Send + Sync,
+    R: Net<Listener = TcpListener, Stream = TcpStream>
+        + Threads
+        + Wait
+        + Clock
+        + Alloc<A = Global>
+        + Send
+        + Sync,
 {
     let listener = TcpListener::bind(rt, "127.0.0.1:0")?;
     let address = listener.local_addr()?;
