@@ -93,3 +93,19 @@ pub fn log(
     logger.log(alloc, disk, result, &sample.facts)?;
     Ok(logger.flush(disk)?)
 }
+
+/// Logs what all metrics of a server show now.
+pub fn log_sample(
+    alloc: Global,
+    disk: &mut impl Disk,
+    logger: &mut Logger,
+    server: &Server,
+    seat: &mut Seat,
+    stamp: Stamp,
+) -> Result<()>
+    requires { IsSeated server.now seat.old.tokens }
+    ensures { IsSeated server.now seat.new.tokens }
+{
+    let shown = sample(alloc, server, seat, stamp)?;
+    log(alloc, disk, logger, &shown)
+}

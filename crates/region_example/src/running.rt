@@ -1,15 +1,17 @@
 //! The work of the program: it makes the region, has its lines counted, and logs.
 
-ghost use Rattle.std.specs.Prelude.{◌<◌};
+ghost use Rattle.std.specs.Prelude.{◌≡◌, ◌∷◌, ◌<◌, []};
+ghost use Rattle.fetch_engine.specs.Servers.{IsSeated, regions_in};
 
 use crate::counting::count_together;
 use crate::layout::{add_errors, first_image};
 use crate::level::Level;
-use crate::logging::{log, now, open, sample, serve};
+use crate::logging::{log_sample, now, open, serve};
 use anyhow::{Result, bail};
+use fetch_engine::{Seat, Server};
 use mmv_layout::Image;
 use pcp_outside::{Clock, Disk};
-use region_words::Region;
+use region_words::{Pass, Region};
 use std::alloc::Global;
 use std::sync::Wait;
 use std::thread::Threads;
@@ -23,8 +25,43 @@ fn has_error(lines: &[&[u8]]) -> bool {
         .any(|line| Level::of_line(line) == Level::Error)
 }
 
-/// Counts lines, and logs behind each so many of them. Answers how many results the archive has, and the words of the region in the end.
+// Counts lines, and logs behind each so many of them. Answers how many results the archive has, and the words of the region in the end.
 #[tactic(auto, using(crate::proofs::Alone::only))]
+fn count_all<R: Threads + Wait + Sync>(
+    rt: &R,
+    alloc: Global,
+    disk: &mut impl Disk,
+    clock: &mut impl Clock,
+    server: &Server,
+    seat: &mut Seat,
+    workers: (Pass, Pass),
+    lines: &[&[u8]],
+    every: usize,
+) -> Result<(u64, Image)>
+    requires some { 0 < every }
+    requires seated { IsSeated server.now seat.old.tokens }
+    requires first { regions_in server.now ≡ workers.0.region ∷ [] }
+    requires second { regions_in server.now ≡ workers.1.region ∷ [] }
+{
+    let Some(region) = server.region(0) else {
+        bail!("the server has no region");
+    };
+    let mut logger = open(alloc, disk, now(clock)?)?;
+    let mut workers = workers;
+    let mut has_errors = false;
+    for batch in lines.chunks(every) {
+        if !has_errors && has_error(batch) {
+            workers = add_errors(rt, alloc, region, workers)?;
+            has_errors = true;
+        }
+        workers = count_together(rt, alloc, region, workers, batch)?;
+        log_sample(alloc, disk, &mut logger, server, seat, now(clock)?)?;
+    }
+    Ok((logger.logged(), region.read_image(alloc, &mut workers.0)?))
+}
+
+/// Makes the region, has the lines counted in it, and logs it behind each so many of them. Answers how many results the archive has, and
+/// the words of the region in the end.
 pub fn run<R: Threads + Wait + Sync>(
     rt: &R,
     alloc: Global,
@@ -41,21 +78,9 @@ pub fn run<R: Threads + Wait + Sync>(
     let (Some(first), Some(second), Some(third)) = (passes.pop(), passes.pop(), passes.pop()) else {
         bail!("a pass is missing");
     };
-    let mut workers = (first, second);
     let (server, mut seat) = serve(alloc, region, image.cluster(), third)?;
-    let Some(region) = server.region(0) else {
-        bail!("the server has no region");
-    };
-    let mut logger = open(alloc, disk, now(clock)?)?;
-    let mut has_errors = false;
-    for batch in lines.chunks(every) {
-        if !has_errors && has_error(batch) {
-            workers = add_errors(rt, alloc, region, workers)?;
-            has_errors = true;
-        }
-        workers = count_together(rt, alloc, region, workers, batch)?;
-        let shown = sample(alloc, &server, &mut seat, now(clock)?)?;
-        log(alloc, disk, &mut logger, &shown)?;
-    }
-    Ok((logger.logged(), region.read_image(alloc, &mut workers.0)?))
+    let workers = (first, second);
+    count_all(
+        rt, alloc, disk, clock, &server, &mut seat, workers, lines, every,
+    )
 }
