@@ -19,7 +19,6 @@ use std::alloc::Global;
 const VOLUME_LIMIT: u64 = 1_073_741_824;
 
 /// A server of this region alone, which names its metrics `mmv.log.NAME`, and the seat of one who reads there.
-#[tactic(auto, using(crate::proofs::Alone::alone))]
 pub fn serve(alloc: Global, region: Region, cluster: u32, pass: Pass) -> Result<(Server, Seat)>
     requires here { pass.region ≡ region }
     ensures alone { IfOk result (λ made. regions_in made.0 ≡ region ∷ []) }
