@@ -1,9 +1,11 @@
 -- A recording that was done shows the regions' last words, and these hold all that was stored and added, by the laws of a recording.
-use Rattle.std.proofs.Common.{◌≡◌, ℕ, ◌≤◌, List, length, refl, sym, ◌∙◌, subst, arith, Option, Some, None, Result, Ok, Err}
+use Rattle.std.proofs.Common.{◌≡◌, inl, inr, ℕ, ◌≤◌, List, length, refl, sym, ◌∙◌, subst, arith, Option, Some, None, Result, Ok, Err}
+use Rattle.std.specs.Global.{Vec}
 use Rattle.fetch_engine.specs.declared.server.Mounted.{Mounted}
 use Rattle.record_laws.proofs.Counted.{counters_are_sums}
 use Rattle.record_laws.proofs.Last.{last_sample}
 use Rattle.record_laws.proofs.Unlost.{no_line_lost}
+use Rattle.region_rule.specs.Seats.{Token}
 use Rattle.run_script.specs.Reading.{script_of}
 use Rattle.run_script.specs.Recording.{refused_line}
 use Rattle.run_script.specs.Rules.{KeepsRules}
@@ -11,8 +13,9 @@ use Rattle.run_script.specs.declared.fault.ScriptFault.{ScriptFault}
 use Rattle.run_script.specs.declared.script.Script.{Script}
 use Rattle.run_script.proofs.Ruled.{scripts_are_ruled}
 use Rattle.script_passes.specs.Crews.{ServesScript}
+use Rattle.script_passes.specs.Lasts.{AreLast}
 use Rattle.script_passes.specs.declared.opening.Opened.{Opened}
-use Rattle.script_records.specs.Beside.{Beside}
+use Rattle.script_records.specs.Beside.{Beside, TellWriters}
 use Rattle.script_runs.specs.declared.ending.Ending.{Ending}
 use Rattle.script_runs.specs.declared.ending.Ending.TheVariants as ends
 use Rattle.pcp_outside.specs.Sides.{SourceSide, SinkSide}
@@ -46,6 +49,12 @@ none_refused (Ok found) script is =
     subst (λ (x : Script). refused_line x ≡ None) taken.1 taken.0
 none_refused (Err fault) script is = absurd (cc)
 
+-- writers that were refused memory end no recording well
+told_last : (script : Script) (server : List Mounted) (final : List Token) (left : List (Vec Token)) → TellWriters script server final left ends.Done → AreLast final
+told_last script server final left (inl ended) = ended.last
+told_last script server final left (inr (none, inl never)) = absurd (cc)
+told_last script server final left (inr (none, inr never)) = absurd (cc)
+
 module _ {C D : Type 0} (words : List (List ℕ)) (s : SourceSide) (k : SinkSide) (o : RunSide C D) (opened : Option Opened) where
   module _ (ran : Ran words s o opened ends.Done) where
     abbrev server : List Mounted
@@ -77,6 +86,7 @@ module _ {C D : Type 0} (words : List (List ℕ)) (s : SourceSide) (k : SinkSide
         let bytes : length ran.asks.input ≤ 16777216 = ran.asks.read.within in
         record {
           shown = last_shown;
+          gathered = told_last ran.script server was.last.tokens ran.has.left.passes.items (subst (λ (x : Ending). TellWriters ran.script server was.last.tokens ran.has.left.passes.items x) ran.ended was.writers);
           counted = counters_are_sums ran.script server was.first.tokens was.last.tokens was.recording.moments was.recording.results rules refused ran.has.images ran.has.of_words serves beside;
           whole = no_line_lost ran.script server was.first.tokens was.last.tokens ends.Done was.recording.moments was.recording.results rules refused ran.has.images ran.has.of_words (omega (arith, steps, bytes)) serves beside
               beside.writers;

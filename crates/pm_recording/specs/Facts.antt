@@ -11,8 +11,7 @@ use Rattle.record_run.specs.SinceRecovery.{FromRecovery}
 use Rattle.run_script.specs.declared.fault.ScriptFault.{ScriptFault}
 use Rattle.run_script.specs.declared.script.Script.{Script}
 use Rattle.script_passes.specs.declared.opening.Opened.{Opened}
-use Rattle.script_records.specs.Beside.{AtJournals, WritersRan}
-use Rattle.script_records.specs.Gathered.{AreUsedUp}
+use Rattle.script_records.specs.Beside.{WritersEnded}
 use Rattle.script_records.specs.Stopping.{WhyAsked, WhyStopped}
 use Rattle.script_replays.specs.Replays.{IsRecovered}
 use Rattle.script_runs.specs.declared.ending.Ending.{Ending}
@@ -87,11 +86,11 @@ abbrev pub ComesOfRun : ℕ → Type 0
 ComesOfRun status = (status ≡ 0) ⊎ ((status ≡ 4) ⊎ ((status ≡ 5) ⊎ ((status ≡ 6) ⊎ ((status ≡ 8) ⊎ ((status ≡ 12) ⊎ ((status ≡ 13) ⊎ (status ≡ 20)))))))
 
 -- Whatever ended the run, what is left of the passes tells whether its writers ended. Lists without a pass, one for each region: each
--- writer's lines are all run. No list: memory was refused to the writers, and the status is 9, or 5 where the disk failed too.
+-- writer's lines are all run, and the seat has gathered every pass, so that no entry can stand behind what it has seen. No list: memory was refused to the writers, and the status is 9, or 5 where the disk failed too.
 pub record WritersAreTold {C D : Type 0} (words : List (List ℕ)) (s : SourceSide) (o : RunSide C D) (opened : Option Opened) (status : ℕ) : Type 0 where
   pub ending : Ending
   pub ran : Ran words s o opened ending
-  pub told : (AreUsedUp ran.has.left.server ran.has.left.passes.items × AtJournals WritersRan ran.script ran.has.left.server ran.has.was.last.tokens)
+  pub told : WritersEnded ran.script ran.has.left.server ran.has.was.last.tokens ran.has.left.passes.items
       ⊎ ((ran.has.left.passes.items ≡ []) × ((status ≡ 9) ⊎ (status ≡ 5)))
 
 -- Something is left wherever the run began and memory wasn't refused, and then the script was recorded on it; where nothing is left

@@ -1,7 +1,7 @@
 -- A run that begins with what was opened: its passes have done nothing, and stand where its regions stand as they are made.
-use Rattle.std.proofs.Common.{◌≡◌, ℕ, zero, suc, ◌+◌, ◌<◌, ◌≤◌, List, [], ◌∷◌, ◌++◌, map, length, length-append, slice_get, Some, sym, refl, ap, ◌∙◌, subst, arith}
+use Rattle.std.proofs.Common.{◌≡◌, ℕ, zero, suc, ◌<◌, ◌≤◌, List, [], ◌∷◌, length, slice_get, Some, sym, refl, ap, ◌∙◌, subst, arith}
 use Rattle.std.specs.Global.{Vec}
-use Rattle.std.proofs.lemmas.List.{length-map, map_push}
+use Rattle.std.proofs.lemmas.List.{length-map}
 use Rattle.std.proofs.lemmas.Option.{slice_get_within}
 use Rattle.region_rule.specs.Seats.{MadeRegion, Token}
 use Rattle.fetch_engine.specs.Servers.{Seated, IsSeated}
@@ -12,13 +12,12 @@ use Rattle.script_runs.specs.Regions.{ScriptRegion, made_region, made_regions}
 use Rattle.pass_steps.specs.declared.worker.Worker.{Worker}
 use Rattle.script_passes.specs.declared.running.Running.{Running}
 use Rattle.script_passes.specs.Crews.{clusters_in, IsCrew, IsFollowed, IsManned, Follows, Serves}
-use Rattle.script_passes.specs.Openings.{idle_crew, AreCrews, AreIdleAt, AreMade}
-use Rattle.script_passes.specs.Sweeps.{AreIdle}
+use Rattle.script_passes.specs.Openings.{idle_crew, AreCrews, AreMade, AreWaiting}
 use Rattle.script_passes.proofs.Crewing.{get_map}
-use Rattle.script_passes.proofs.Finals.{get_front}
 use Rattle.script_passes.proofs.Placing.{one_place}
+use Rattle.script_passes.proofs.Returning.{AreLastFrom}
 use Rattle.script_passes.proofs.Seated.{the_one}
-use Rattle.script_passes.proofs.Starting.{all_rest, fresh_crew, stands_first}
+use Rattle.script_passes.proofs.Starting.{fresh_crew, stands_first}
 
 pub get_there : {A : Type 0} (xs : List A) (i : ℕ) → i < length xs → (x : A) × (slice_get xs i ≡ Some x)
 get_there [] i h = absurd (omega arith)
@@ -28,78 +27,52 @@ get_there (x ∷ xs) (suc i) h = get_there xs i (omega arith)
 -- each crew has its list of passes
 crew_of : (passes : List (Vec Token)) (crews : List (Vec Worker)) (j : ℕ) (crew : Vec Worker) → AreCrews passes crews → slice_get crews j ≡ Some crew → (own : Vec Token) × (slice_get passes j ≡ Some own) × (crew.items ≡ idle_crew own.items)
 crew_of passes crews j crew are there =
-    by_lists passes crews j there (λ n. ap (λ (l : List (List Worker)). slice_get l n) are)
-  where
-    by_lists : (passes : List (Vec Token)) (crews : List (Vec Worker)) (j : ℕ) → slice_get crews j ≡ Some crew
-        → ((n : ℕ) → slice_get (map (λ (crew : Vec Worker). crew.items) crews) n ≡ slice_get (map (λ (own : Vec Token). idle_crew own.items) passes) n) → (own : Vec Token) × (slice_get passes j ≡ Some own) × (crew.items ≡ idle_crew own.items)
-    by_lists passes [] j e same = absurd (cc)
-    by_lists [] (c ∷ crews) j e same = absurd (let none = same zero in cc)
-    by_lists (own ∷ passes) (c ∷ crews) zero e same =
-        let is : c ≡ crew = cc in
-        let first = same zero in
-        let items : c.items ≡ idle_crew own.items = cc in
-        (own, refl, ap (λ (x : Vec Worker). x.items) (sym is) ∙ items)
-    by_lists (own ∷ passes) (c ∷ crews) (suc j) e same = by_lists passes crews j e (λ n. same (suc n))
-
-pub as_many_crews : (passes : List (Vec Token)) (crews : List (Vec Worker)) → AreCrews passes crews → length crews ≡ length passes
-as_many_crews passes crews are =
-    sym (length-map crews (λ (crew : Vec Worker). crew.items)) ∙ (ap (λ (l : List (List Worker)). length l) are ∙ length-map passes (λ (own : Vec Token). idle_crew own.items))
-
--- one crew more
-pub one_more_crew : (ready : List (Vec Token)) (crews more : List (Vec Worker)) (own : Vec Token) (crew : Vec Worker) → AreCrews ready crews → more ≡ crews ++ crew ∷ [] → crew.items ≡ idle_crew own.items → AreCrews (ready ++ own ∷ []) more
-one_more_crew ready crews more own crew are is items =
-    ap (λ (l : List (Vec Worker)). map (λ (crew : Vec Worker). crew.items) l) is
-    ∙ (map_push (λ (crew : Vec Worker). crew.items) crews crew ∙ ((λ i. are i ++ items i ∷ []) ∙ sym (map_push (λ (own : Vec Token). idle_crew own.items) ready own)))
-
--- for which there is room
-pub room_left : (passes ready left rest : List (Vec Token)) (crews : List (Vec Worker)) (own : Vec Token) → AreCrews ready crews → passes ≡ ready ++ left → left ≡ own ∷ rest → length crews < length passes
-room_left passes ready left rest crews own are is more =
-    let a = as_many_crews ready crews are in
-    let b : length passes ≡ length ready + length left = ap (λ (l : List (Vec Token)). length l) is ∙ length-append ready left in
-    let c : length left ≡ suc (length rest) = ap (λ (l : List (Vec Token)). length l) more in
-    omega arith
+    let many = are.as_many in
+    let within = slice_get_within crews j crew there in
+    let own = get_there passes j (omega arith) in
+    (own.0, own.1, are.each j own.0 crew own.1 there)
 
 pub as_many_seated : (server : List Mounted) (tokens : List Token) → IsSeated server tokens → length tokens ≡ length server
 as_many_seated server tokens seated =
     sym (length-map tokens (λ (t : Token). t.region)) ∙ (ap (λ (l : List MadeRegion). length l) seated ∙ length-map server (λ (m : Mounted). m.region))
 
 module _ (script : Script) (server : List Mounted) (passes : List (Vec Token)) (seat : Seated) (made : AreMade script server passes (seat ∷ [])) where
-  -- the first crews are ready
-  pub first_crews : (ready left : List (Vec Token)) (crews : List (Vec Worker)) → passes ≡ ready ++ left → AreCrews ready crews → AreIdleAt server crews seat.tokens
-  first_crews ready left crews is are j crew there =
-      let found = crew_of ready crews j crew are there in
-      let own_is : slice_get passes j ≡ Some found.0 =
-      ap (λ (l : List (Vec Token)). slice_get l j) is ∙ (get_front ready left j (slice_get_within ready j found.0 found.1) ∙ found.1) in
-      let within = slice_get_within passes j found.0 own_is in
+  -- the passes wait to be put to work
+  pub waiting_first : AreWaiting server passes seat.tokens
+  waiting_first j own there =
+      let within = slice_get_within passes j own there in
       let many = made.lists in
       let seats = as_many_seated server seat.tokens (made.seated 0 seat refl) in
       let mounted = get_there server j (omega arith) in
-      let logger = get_there seat.tokens j (omega arith) in (
-        record {
-          region = mounted.0.region;
-          placed = get_map (λ (m : Mounted). m.region) server j mounted.0 mounted.1;
-          logger = logger.0;
-          there = logger.1;
-          is_crew = subst (λ (l : List Worker). IsCrew mounted.0.region l logger.0) (sym found.2)
-              (fresh_crew seat j mounted.0 found.0.items logger.0 (made.each j mounted.0 found.0 mounted.1 own_is) logger.1);
-        },
-        subst (λ (l : List Worker). AreIdle l) (sym found.2) (all_rest found.0.items),
-      )
+      let logger = get_there seat.tokens j (omega arith) in
+      record {
+        region = mounted.0.region;
+        placed = get_map (λ (m : Mounted). m.region) server j mounted.0 mounted.1;
+        logger = logger.0;
+        there = logger.1;
+        is_crew = fresh_crew seat j mounted.0 own.items logger.0 (made.each j mounted.0 own mounted.1 there) logger.1;
+      }
 
-  pub few_crews : (ready left : List (Vec Token)) (crews : List (Vec Worker)) → passes ≡ ready ++ left → AreCrews ready crews → length crews ≤ 64
-  few_crews ready left crews is are =
-      let a = as_many_crews ready crews are in
+  pub few_lists : length passes ≤ 64
+  few_lists =
       let many = made.lists in
       let few = made.serves.in_order.few in
-      let b : length passes ≡ length ready + length left = ap (λ (l : List (Vec Token)). length l) is ∙ length-append ready left in
       omega arith
+
+  -- none of whom is behind the last one
+  pub none_behind : AreLastFrom (length passes) seat.tokens
+  none_behind j token far e =
+      let many = made.lists in
+      let seats = as_many_seated server seat.tokens (made.seated 0 seat refl) in
+      let within = slice_get_within seat.tokens j token e in
+      absurd (omega arith)
 
   module _ (running : Running) (clusters : running.clusters.items ≡ clusters_in server) (are : AreCrews passes running.crews.items) where
     pub manned_first : IsManned server running seat.tokens
     manned_first = record {
       in_order = made.serves.in_order;
       clusters = clusters;
-      as_many = as_many_crews passes running.crews.items are ∙ made.lists;
+      as_many = are.as_many ∙ made.lists;
       seated = made.seated 0 seat refl;
       crews = λ j mounted crew logger m_is crew_is logger_is.
           let found = crew_of passes running.crews.items j crew are crew_is in

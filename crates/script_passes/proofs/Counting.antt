@@ -1,5 +1,5 @@
 -- A list of entries has as many as all numbers together, and so shows that nobody else made one.
-use Rattle.std.proofs.Common.{◌≡◌, ◌≢◌, ℕ, zero, suc, ◌+◌, ◌<◌, ◌≤◌, ◌⊎◌, Bool, true, false, List, [], ◌∷◌, length, nat_lt, eqb, eq-eqb, ne_eqb, slice_get, Some, if◌then◌else◌, inl, inr, ⊎_elim, sym, refl, ap, ◌∙◌, subst, arith}
+use Rattle.std.proofs.Common.{◌≡◌, ◌≢◌, ℕ, zero, suc, ◌+◌, ◌<◌, ◌≤◌, ◌⊎◌, Bool, true, false, List, [], ◌∷◌, ◌++◌, length, nat_lt, eqb, eq-eqb, ne_eqb, slice_get, Some, if◌then◌else◌, inl, inr, ⊎_elim, sym, refl, ap, ◌∙◌, subst, arith}
 use Rattle.std.proofs.lemmas.Bool.{ltb-true, lt-ltb}
 use Rattle.std.proofs.lemmas.List.{length-replicate}
 use Rattle.std.proofs.lemmas.Option.{slice_get_within}
@@ -11,8 +11,9 @@ use Rattle.region_core.specs.State.{opening}
 use Rattle.region_core.specs.Journal.{own, own_then, IsJournal}
 use Rattle.region_core.proofs.Runs.{none_past}
 use Rattle.region_rule.specs.declared.view.View.{View}
-use Rattle.region_rule.specs.Views.{opening_of}
+use Rattle.region_rule.specs.Views.{count, one_if, opening_of}
 use Rattle.region_rule.specs.Tokens.{HasLists}
+use Rattle.region_rule.proofs.Fronts.{count-append}
 use Rattle.region_rule.specs.Calls.{Gathers}
 use Rattle.region_rule.specs.Seats.{MadeRegion, Token, IsSame}
 use Rattle.region_words.specs.Images.{mmv}
@@ -146,6 +147,14 @@ gather_more region crew left before now next pass worker is there view number g 
       ap (λ (n : ℕ). own n next.view.seen) (s ∙ sym number) ∙ (lists.0 ∙ (ap (λ (v : View). v.own) (sym view) ∙ ap (λ (x : Worker). (view_of x).own) w_is)))
       (λ (n : k ≢ left). ap (λ (l : List Entry). own k l) seen ∙ g.theirs k w (omega arith) e)
       (same_or_other k left);
+  kept = λ k w h e.
+      let many : count k next.view.kept ≡ one_if (eqb pass.view.number k) + count k (pass.view.kept ++ now.view.kept) = ap (λ (v : View). count k v.kept) gathers.is in
+      let apart : count k (pass.view.kept ++ now.view.kept) ≡ count k pass.view.kept + count k now.view.kept = count-append k pass.view.kept now.view.kept in
+      ⊎_elim
+      (λ (s : k ≡ left). let here : one_if (eqb pass.view.number k) ≡ 1 = ap (λ (b : Bool). one_if b) (eq-eqb pass.view.number k (number ∙ sym s)) in omega arith)
+      (λ (n : k ≢ left). let before : 0 < count k now.view.kept = g.kept k w (omega arith) e in omega arith)
+      (same_or_other k left);
+  knows = λ h. gathers.knows;
   journal = journal;
   mine = λ h. subst (λ (n : ℕ). own n next.view.seen ≡ next.view.own) (moved region (length crew) Idle Idle now next same g.last).number_is gathers.knows.had;
 }
@@ -178,6 +187,8 @@ none_gathered region crew before is = record {
   seen = refl;
   own_is = refl;
   theirs = λ k w h e. let b = slice_get_within crew k w e in absurd (omega arith);
+  kept = λ k w h e. let b = slice_get_within crew k w e in absurd (omega arith);
+  knows = λ h. absurd (omega arith);
   journal = λ h. absurd (omega arith);
   mine = λ h. absurd (omega arith);
 }

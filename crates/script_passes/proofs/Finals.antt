@@ -1,10 +1,11 @@
 -- All crews closed: nobody else acted, and the seat has seen the fold's journals.
 use Rattle.std.proofs.Common.{◌≡◌, ◌≢◌, ℕ, zero, suc, ◌<◌, ◌≤◌, List, [], ◌∷◌, ◌++◌, map, length, slice_get, Some, ⊎_elim, sym, refl, ap, ◌∙◌, subst, arith}
 use Rattle.std.specs.Global.{Vec}
+use Rattle.std.proofs.lemmas.List.{length-map}
 use Rattle.std.proofs.lemmas.Option.{slice_get_within}
 use Rattle.region_core.specs.State.{opening}
 use Rattle.region_rule.specs.Seats.{MadeRegion, Token}
-use Rattle.fetch_engine.specs.Servers.{IsRegionAt, regions_in}
+use Rattle.fetch_engine.specs.Servers.{IsRegionAt, IsSeated, regions_in}
 use Rattle.fetch_engine.specs.declared.server.Mounted.{Mounted}
 use Rattle.run_script.specs.declared.script.RegionRow.{RegionRow}
 use Rattle.run_script.specs.declared.script.Script.{Script}
@@ -14,6 +15,7 @@ use Rattle.script_runs.specs.Regions.{ScriptRegion}
 use Rattle.pass_steps.specs.declared.worker.Worker.{Worker}
 use Rattle.script_passes.specs.declared.running.Running.{Running}
 use Rattle.script_passes.specs.Crews.{IsCrew, IsAlone, Stands, IsFollowed, IsManned, Alone, Follows, Serves}
+use Rattle.script_passes.specs.Lasts.{IsLastPass}
 use Rattle.script_passes.specs.Seen.{IsSeenAt, HaveSeen}
 use Rattle.script_passes.specs.Sweeps.{ClosedAt}
 use Rattle.script_passes.specs.Turns.{IsCrewAt}
@@ -29,6 +31,7 @@ pub record Closed (server : List Mounted) (at : ℕ) (crew : List Worker) (start
   pub after : Token
   pub is : slice_get seat at ≡ Some after
   pub of_region : after.region ≡ region
+  pub last : IsLastPass after
   pub alone : IsAlone crew before
   pub seen : (r : ScriptRegion) → Stands r crew before → without_looks (opening region.words region.passes) (length crew) after.view.seen ≡ (closed_region r).log
 
@@ -62,7 +65,7 @@ one_closed server n crews left rest crew start seat later c there many same clos
       subst (λ (i : ℕ). Closed server i other.items start later) (sym s) (subst (λ (x : Vec Worker). Closed server n x.items start later) is here))
       (λ (s : j ≢ n).
       let d : Closed server j other.items start seat = c.above j other (omega arith) e in
-      record { region = d.region; placed = d.placed; before = d.before; was = d.was; after = d.after; is = else_ j s ∙ d.is; of_region = d.of_region; alone = d.alone; seen = d.seen })
+      record { region = d.region; placed = d.placed; before = d.before; was = d.was; after = d.after; is = else_ j s ∙ d.is; of_region = d.of_region; last = d.last; alone = d.alone; seen = d.seen })
       (same_or_other j n);
 }
   where
@@ -78,6 +81,7 @@ one_closed server n crews left rest crew start seat later c there many same clos
       after = closed.after;
       is = now_at seat later n closed.before closed.after closed.was closed.is;
       of_region = closed.of_region;
+      last = closed.last;
       alone = closed.alone;
       seen = closed.seen;
     }
@@ -101,10 +105,17 @@ get_there [] i h = absurd (omega arith)
 get_there (x ∷ xs) zero h = (x, refl)
 get_there (x ∷ xs) (suc i) h = get_there xs i (omega arith)
 
-pub have_seen : (server : List Mounted) (running : Running) (left : List (Vec Worker)) (start seat : List Token) (script : Script) (regions : List ScriptRegion) → IsManned server running start → ClosedFrom server 0 running.crews.items left start seat
+pub have_seen : (server : List Mounted) (running : Running) (left : List (Vec Worker)) (start seat : List Token) (script : Script) (regions : List ScriptRegion) → IsManned server running start → IsSeated server seat → ClosedFrom server 0 running.crews.items left start seat
     → Follows script server running start regions → HaveSeen script (closed_regions regions) server seat
-have_seen server running left start seat script regions manned c follows = record {
+have_seen server running left start seat script regions manned seated c follows = record {
   as_many = length_mapped closed_region regions ∙ follows.as_many;
+  last = λ j token e.
+      let many : length seat ≡ length server = sym (length-map seat (λ (t : Token). t.region)) ∙ (ap (λ (l : List MadeRegion). length l) seated ∙ length-map server (λ (m : Mounted). m.region)) in
+      let within = slice_get_within seat j token e in
+      let crews = manned.as_many in
+      let crew = get_there running.crews.items j (omega arith) in
+      let d : Closed server j crew.0.items start seat = c.above j crew.0 (omega arith) crew.1 in
+      subst (λ (t : Token). IsLastPass t) (the_one seat j d.after token d.is e) d.last;
   each = λ i row r row_is r_is. each i row r row_is (get_mapped closed_region regions i r r_is);
 }
   where

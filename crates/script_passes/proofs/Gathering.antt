@@ -1,5 +1,6 @@
 -- The seat's pass gathers the passes of a crew, the last first.
 use Rattle.std.proofs.Common.{◌≡◌, ℕ, suc, List, [], ◌∷◌, ◌++◌, append_assoc, append-nil, length, slice_get, slice_set, Some, sym, refl, ap, ◌∙◌, subst}
+use Rattle.std.proofs.lemmas.List.{map_push}
 use Rattle.region_core.specs.declared.mode.Mode.TheVariants.{Idle}
 use Rattle.region_rule.specs.Seats.{Token, IsSame}
 use Rattle.region_rule.specs.declared.view.View.{View}
@@ -8,8 +9,10 @@ use Rattle.region_words.specs.Images.{mmv}
 use Rattle.fetch_engine.specs.Servers.{ChangesAt}
 use Rattle.fetch_engine.specs.declared.server.Mounted.{Mounted}
 use Rattle.pass_steps.specs.declared.worker.Worker.{Worker}
+use Rattle.pass_steps.specs.declared.worker.Worker.TheVariants as workers
 use Rattle.pass_steps.specs.Workers.{view_of}
 use Rattle.pass_steps.proofs.Calling.{set_there}
+use Rattle.script_passes.specs.Openings.{idle_crew}
 use Rattle.script_passes.specs.Sweeps.{GathersAllBut, GatheredAt}
 use Rattle.script_passes.specs.Turns.{IsCrewAt}
 use Rattle.script_passes.proofs.Counting.{gather_more, none_gathered}
@@ -80,3 +83,14 @@ among server at crew left rest worker seat mid g e =
     get_middle : (xs : List Worker) → slice_get (xs ++ (worker ∷ g.rest)) (length xs) ≡ Some worker
     get_middle [] = refl
     get_middle (x ∷ xs) = get_middle xs
+
+-- Passes that were not put to work
+
+pub idle_last : (passes rest : List Token) (pass : Token) → passes ≡ rest ++ pass ∷ [] → idle_crew passes ≡ idle_crew rest ++ workers.Idle pass ∷ []
+idle_last passes rest pass is = ap (λ (l : List Token). idle_crew l) is ∙ map_push (λ (p : Token). workers.Idle p) rest pass
+
+-- one of them is of the region there
+pub passes_there : (passes left rest : List Token) (pass : Token) (server : List Mounted) (at : ℕ) (seat mid : List Token) (c : IsCrewAt server at (idle_crew passes) seat) → Gathering server at (idle_crew passes) (idle_crew left) seat mid
+    → left ≡ rest ++ pass ∷ [] → pass.region ≡ c.region
+passes_there passes left rest pass server at seat mid c g is =
+    (c.is_crew.each (length (idle_crew rest)) (workers.Idle pass) (among server at (idle_crew passes) (idle_crew left) (idle_crew rest) (workers.Idle pass) seat mid g (idle_last left rest pass is))).region_is

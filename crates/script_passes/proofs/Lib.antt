@@ -5,7 +5,9 @@ pub mod Counting
 pub mod Crewing
 pub mod Finals
 pub mod Gathering
+pub mod Filling
 pub mod Idling
+pub mod Lasting
 pub mod OpeningHands
 pub mod OpeningServer
 pub mod Openings

@@ -1,15 +1,16 @@
--- The seat gathers passes that do nothing: the crews that are left stay as they were, and the seat has seen nothing new.
-use Rattle.std.proofs.Common.{◌≡◌, ◌≢◌, ℕ, List, [], ◌∷◌, ◌++◌, length, slice_get, Some, ⊎_elim, sym, ap, ◌∙◌, arith}
+-- The seat gathers passes that do nothing: those that are left stay as they were, and the seat has seen nothing new.
+use Rattle.std.proofs.Common.{◌≡◌, ◌≢◌, ℕ, ◌+◌, ◌≤◌, List, [], ◌∷◌, ◌++◌, length, length-append, slice_get, Some, ⊎_elim, sym, ap, ◌∙◌, subst, arith}
 use Rattle.std.specs.Global.{Vec}
 use Rattle.std.proofs.lemmas.Option.{slice_get_within}
 use Rattle.region_rule.specs.Seats.{Token}
 use Rattle.fetch_engine.specs.declared.server.Mounted.{Mounted}
-use Rattle.pass_steps.specs.declared.worker.Worker.{Worker}
-use Rattle.script_passes.specs.Openings.{AreIdleAt, SeesTheSame}
+use Rattle.script_passes.specs.Lasts.{IsLastPass}
+use Rattle.script_passes.specs.Openings.{AreWaiting, SeesTheSame, idle_crew}
 use Rattle.script_passes.specs.Sweeps.{GatheredAt}
 use Rattle.script_passes.specs.Turns.{IsCrewAt}
 use Rattle.script_passes.proofs.Crewing.{get_set_other, same_or_other}
 use Rattle.script_passes.proofs.Finals.{get_front}
+use Rattle.script_passes.proofs.Lasting.{last_pass}
 use Rattle.script_passes.proofs.Seated.{the_one, now_at}
 
 pub sees_itself : (seat : List Token) → SeesTheSame seat seat
@@ -17,24 +18,35 @@ sees_itself seat j before after e f =
     let same : after ≡ before = the_one seat j after before f e in
     (ap (λ (t : Token). t.region) same, ap (λ (t : Token). t.view.seen) same)
 
-module _ (server : List Mounted) (crews rest : List (Vec Worker)) (crew : Vec Worker) (seat later : List Token) (is : crews ≡ rest ++ crew ∷ []) (gathered : GatheredAt server (length rest) 0 crew.items seat later) where
+-- the passes from one position on have gathered all others
+abbrev pub AreLastFrom : ℕ → List Token → Type 0
+AreLastFrom n seat = (j : ℕ) (token : Token) → n ≤ j → slice_get seat j ≡ Some token → IsLastPass token
+
+module _ (server : List Mounted) (lists rest : List (Vec Token)) (list : Vec Token) (seat later : List Token) (is : lists ≡ rest ++ list ∷ []) (gathered : GatheredAt server (length rest) 0 (idle_crew list.items) seat later) where
   else_where : (j : ℕ) → j ≢ length rest → slice_get later j ≡ slice_get seat j
   else_where j other = ap (λ (l : List Token). slice_get l j) gathered.is ∙ get_set_other seat (length rest) j gathered.after other
 
-  pub idle_still : AreIdleAt server crews seat → AreIdleAt server rest later
-  idle_still idle j own there =
+  pub waiting_still : AreWaiting server lists seat → AreWaiting server rest later
+  waiting_still waiting j own there =
       let within = slice_get_within rest j own there in
-      let was = idle j own (ap (λ (l : List (Vec Worker)). slice_get l j) is ∙ (get_front rest (crew ∷ []) j within ∙ there)) in
-      let before : IsCrewAt server j own.items seat = was.0 in (
-        record {
-          region = before.region;
-          placed = before.placed;
-          logger = before.logger;
-          there = else_where j (λ same. absurd (omega arith)) ∙ before.there;
-          is_crew = before.is_crew;
-        },
-        was.1,
-      )
+      let before : IsCrewAt server j (idle_crew own.items) seat = waiting j own (ap (λ (l : List (Vec Token)). slice_get l j) is ∙ (get_front rest (list ∷ []) j within ∙ there)) in
+      record {
+        region = before.region;
+        placed = before.placed;
+        logger = before.logger;
+        there = else_where j (λ same. absurd (omega arith)) ∙ before.there;
+        is_crew = before.is_crew;
+      }
+
+  pub last_still : AreLastFrom (length lists) seat → AreLastFrom (length rest) later
+  last_still last j token far e = ⊎_elim
+      (λ (here : j ≡ length rest).
+      let now : slice_get later j ≡ Some gathered.after = ap (λ (i : ℕ). slice_get later i) here ∙ now_at seat later (length rest) gathered.before gathered.after gathered.was gathered.is in
+      subst (λ (t : Token). IsLastPass t) (the_one later j gathered.after token now e) (last_pass gathered.region (idle_crew list.items) gathered.before gathered.after gathered.is_crew gathered.gathered))
+      (λ (other : j ≢ length rest).
+      let many : length lists ≡ length rest + 1 = ap (λ (l : List (Vec Token)). length l) is ∙ length-append rest (list ∷ []) in
+      last j token (omega arith) (sym (else_where j other) ∙ e))
+      (same_or_other j (length rest))
 
   pub sees_still : (start : List Token) → SeesTheSame start seat → SeesTheSame start later
   sees_still start same j before after e f = ⊎_elim

@@ -26,6 +26,7 @@ use Rattle.script_passes.specs.Sweeps.{region_after_step, Goes, GoesAt, EndedAt,
 use Rattle.script_passes.specs.Turns.{Answer, TakesTurn, ActsAt, IsCrewAt}
 use Rattle.script_passes.proofs.Counting.{alone_gathered, seen_closed}
 use Rattle.script_passes.proofs.Crewing.{get_set_same, same_or_other, acts}
+use Rattle.script_passes.proofs.Lasting.{last_pass}
 use Rattle.script_passes.proofs.Sweeping.{goes_still, goes_on, goes_as, acts_goes, each_more, changes_by, stints_by, readings_by}
 
 -- Lists
@@ -217,6 +218,7 @@ closed_at server at old crew s t u g h =
       after = h.after;
       is = h.is ∙ (ap (λ (l : List Token). slice_set l at h.after) g.is ∙ set_set s at g.after h.after);
       of_region = gathered.last.region_is;
+      last = last_pass g.region crew g.after h.after g.goes.crew gathered;
       alone = g.goes.alone alone;
       seen = λ r stands. seen_closed g.region old crew g.before g.after h.after g.goes gathered alone r stands;
     }

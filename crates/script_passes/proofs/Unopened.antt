@@ -12,6 +12,7 @@ use Rattle.run_script.specs.declared.script.Script.{Script}
 use Rattle.script_runs.specs.Closing.{change_ended, stint_ended, reading_ended, each_pass, by_all, closed_region, closed_regions}
 use Rattle.script_runs.specs.Journals.{without_looks}
 use Rattle.script_runs.specs.Regions.{Doing, ScriptRegion, or_idle, doing_of as does_in, made_region, made_regions}
+use Rattle.script_passes.specs.Lasts.{AreLast}
 use Rattle.script_passes.specs.Openings.{AreMade, SeesTheSame}
 use Rattle.script_passes.specs.Seen.{IsSeenAt, HaveSeen}
 use Rattle.script_passes.proofs.Crewing.{get_map}
@@ -54,10 +55,11 @@ long_closed : (script : Script) (rows : List RegionRow) → length (map closed_r
 long_closed script [] = refl
 long_closed script (x ∷ xs) = ap suc (long_closed script xs)
 
-pub unopened : (script : Script) (server : List Mounted) (passes : List (Vec Token)) (seat : Seated) (later : List Token) → AreMade script server passes (seat ∷ []) → SeesTheSame seat.tokens later → IsSeated server later
+pub unopened : (script : Script) (server : List Mounted) (passes : List (Vec Token)) (seat : Seated) (later : List Token) → AreMade script server passes (seat ∷ []) → SeesTheSame seat.tokens later → AreLast later → IsSeated server later
     → HaveSeen script (closed_regions (made_regions script)) server later
-unopened script server passes seat later made same seated = record {
+unopened script server passes seat later made same last seated = record {
   as_many = long_closed script script.regions;
+  last = last;
   each = λ i row r row_is r_is. each i row r row_is r_is;
 }
   where

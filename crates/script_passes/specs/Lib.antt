@@ -4,6 +4,7 @@ pub mod Turns
 pub mod Sweeps
 pub mod Openings
 pub mod Makings
+pub mod Lasts
 pub mod Seen
 pub mod Runs
 pub mod Lines

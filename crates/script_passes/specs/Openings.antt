@@ -1,5 +1,5 @@
 -- What opening a script's regions makes: each on its image, with fresh passes.
-use Rattle.std.specs.Prelude.{◌≡◌, ℕ, ◌+◌, ◌<◌, ◌≤◌, List, ◌++◌, length, map, slice_get, Option, Some}
+use Rattle.std.specs.Prelude.{◌≡◌, ℕ, ◌+◌, ◌<◌, ◌≤◌, List, [], ◌++◌, length, map, slice_get, Option, Some, vec_capacity}
 use Rattle.std.specs.Global.{Vec}
 use Rattle.region_rule.specs.Calls.{fresh_from}
 use Rattle.region_rule.specs.Seats.{Token}
@@ -11,7 +11,6 @@ use Rattle.pass_steps.specs.declared.worker.Worker.{Worker}
 use Rattle.pass_steps.specs.declared.worker.Worker.TheVariants as workers
 use Rattle.script_passes.specs.declared.opening.Opened.{Opened}
 use Rattle.script_passes.specs.Crews.{ServesScript}
-use Rattle.script_passes.specs.Sweeps.{AreIdle}
 use Rattle.script_passes.specs.Turns.{IsCrewAt}
 
 -- each region has room for its own passes and a pass of each seat
@@ -48,12 +47,21 @@ abbrev pub idle_crew : List Token → List Worker
 idle_crew passes = map (λ pass. workers.Idle pass) passes
 
 -- each list of passes as a crew
-abbrev pub AreCrews : List (Vec Token) → List (Vec Worker) → Type 0
-AreCrews passes crews = map (λ (crew : Vec Worker). crew.items) crews ≡ map (λ (own : Vec Token). idle_crew own.items) passes
+pub record AreCrews (passes : List (Vec Token)) (crews : List (Vec Worker)) : Type 0 where
+  pub as_many : length crews ≡ length passes
+  pub each : (j : ℕ) (own : Vec Token) (crew : Vec Worker) → slice_get passes j ≡ Some own → slice_get crews j ≡ Some crew → crew.items ≡ idle_crew own.items
 
--- crews of the first regions of a server, none of whose passes does anything
-abbrev pub AreIdleAt : List Mounted → List (Vec Worker) → List Token → Type 0
-AreIdleAt server crews seat = (j : ℕ) (crew : Vec Worker) → slice_get crews j ≡ Some crew → IsCrewAt server j crew.items seat × AreIdle crew.items
+-- crews without a pass, each with room for the passes of its list
+pub record HaveRoomsFor (passes : List (Vec Token)) (rooms : List (Vec Worker)) : Type 0 where
+  pub as_many : length rooms ≡ length passes
+  pub each : (j : ℕ) (own : Vec Token) (room : Vec Worker) → slice_get passes j ≡ Some own → slice_get rooms j ≡ Some room → (room.items ≡ []) × (length own.items ≤ vec_capacity room)
+
+abbrev pub AreBare : List (Vec Worker) → Type 0
+AreBare rooms = (j : ℕ) (room : Vec Worker) → slice_get rooms j ≡ Some room → room.items ≡ []
+
+-- the passes of the first regions of a server, none of which does anything
+abbrev pub AreWaiting : List Mounted → List (Vec Token) → List Token → Type 0
+AreWaiting server passes seat = (j : ℕ) (own : Vec Token) → slice_get passes j ≡ Some own → IsCrewAt server j (idle_crew own.items) seat
 
 -- each pass of a seat is of the same region, and has seen the same
 abbrev pub SeesTheSame : List Token → List Token → Type 0

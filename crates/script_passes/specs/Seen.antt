@@ -10,6 +10,7 @@ use Rattle.script_runs.specs.Journals.{without_looks}
 use Rattle.script_runs.specs.Regions.{ScriptRegion, made_regions}
 use Rattle.script_runs.specs.Steps.{steps_behind, Regions}
 use Rattle.script_passes.specs.Crews.{Serves}
+use Rattle.script_passes.specs.Lasts.{AreLast}
 
 -- What a region's journal says of the passes of its script: entry by entry what the steps and the end of the run make.
 abbrev pub HasSeen : RegionRow → ScriptRegion → Token → Type 0
@@ -26,9 +27,10 @@ pub record IsSeenAt (script : Script) (row : RegionRow) (r : ScriptRegion) (serv
   pub region_is : token.region ≡ mounted.region
   pub seen : HasSeen row r token
 
--- so it is of all regions
+-- so it is of all regions, and these journals are whole: the seat has gathered every pass
 pub record HaveSeen (script : Script) (regions : List ScriptRegion) (server : List Mounted) (seat : List Token) : Type 0 where
   pub as_many : length regions ≡ length script.regions
+  pub last : AreLast seat
   pub each : (i : ℕ) (row : RegionRow) (r : ScriptRegion) → slice_get script.regions i ≡ Some row → slice_get regions i ≡ Some r → IsSeenAt script row r server seat
 
 -- some first lines were run, and then all was closed

@@ -4,6 +4,8 @@ use Rattle.region_core.specs.declared.mode.Mode.TheVariants.{Idle}
 use Rattle.region_core.specs.State.{opening}
 use Rattle.region_core.specs.Journal.{own, IsJournal}
 use Rattle.region_rule.specs.Seats.{MadeRegion, Token}
+use Rattle.region_rule.specs.Tokens.{Knows}
+use Rattle.region_rule.specs.Views.{count}
 use Rattle.fetch_engine.specs.Servers.{IsRegionAt}
 use Rattle.fetch_engine.specs.declared.server.Mounted.{Mounted}
 use Rattle.region_words.specs.Images.{mmv}
@@ -16,6 +18,7 @@ use Rattle.pass_steps.specs.declared.worker.Worker.{Worker}
 use Rattle.pass_steps.specs.Workers.{IsPassOf, view_of, doing_of}
 use Rattle.pass_steps.specs.Works.{Step, ended_doing}
 use Rattle.script_passes.specs.Crews.{IsCrew, IsAlone, Stands}
+use Rattle.script_passes.specs.Lasts.{IsLastPass}
 
 -- a step that a pass takes only where it can
 abbrev pub outcome_or : ScriptRegion → Option Outcome → ScriptRegion
@@ -64,6 +67,8 @@ pub record GathersAllBut (region : MadeRegion) (crew : List Worker) (left : ℕ)
   pub seen : now.view.seen ≡ before.view.seen
   pub own_is : now.view.own ≡ before.view.own
   pub theirs : (k : ℕ) (worker : Worker) → left ≤ k → slice_get crew k ≡ Some worker → own k now.view.seen ≡ (view_of worker).own
+  pub kept : (k : ℕ) (worker : Worker) → left ≤ k → slice_get crew k ≡ Some worker → 0 < count k now.view.kept
+  pub knows : left < length crew → Knows mmv now.view
   pub journal : left < length crew → IsJournal mmv region.words region.passes now.view.seen
   pub mine : left < length crew → own (length crew) now.view.seen ≡ now.view.own
 
@@ -78,7 +83,7 @@ pub record GatheredAt (server : List Mounted) (at left : ℕ) (crew : List Worke
   pub is_crew : IsCrew region crew before
   pub gathered : GathersAllBut region crew left before after
 
--- a crew was closed and gathered: nobody else acted, and the seat's pass has seen the fold's journal
+-- a crew was closed and gathered: nobody else acted, and the seat's pass has seen the fold's journal, which is whole
 pub record ClosedAt (server : List Mounted) (at : ℕ) (crew : List Worker) (seat later : List Token) : Type 0 where
   pub region : MadeRegion
   pub placed : IsRegionAt server at region
@@ -87,5 +92,6 @@ pub record ClosedAt (server : List Mounted) (at : ℕ) (crew : List Worker) (sea
   pub after : Token
   pub is : later ≡ slice_set seat at after
   pub of_region : after.region ≡ region
+  pub last : IsLastPass after
   pub alone : IsAlone crew before
   pub seen : (r : ScriptRegion) → Stands r crew before → without_looks (opening region.words region.passes) (length crew) after.view.seen ≡ (closed_region r).log

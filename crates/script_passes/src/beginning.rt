@@ -1,13 +1,14 @@
 //! What a run begins with: the clusters of a script's regions, and their passes, none of which does anything.
-ghost use Rattle.std.specs.Prelude.{◌≡◌, ◌≤◌, ◌∷◌, [], IfOk, OnErr, length, map, List as Sequence};
+ghost use Rattle.std.specs.Prelude.{◌≡◌, ◌≤◌, ◌∷◌, [], IfOk, length, vec_capacity, List as Sequence};
 ghost use Rattle.fetch_engine.specs.Servers.{IsSeated};
 ghost use Rattle.fetch_engine.specs.declared.server.Mounted.{Mounted};
 ghost use Rattle.run_script.specs.Rules.{KeepsRules};
 ghost use Rattle.script_passes.specs.Crews.{ServesScript, clusters_in};
-ghost use Rattle.script_passes.specs.Openings.{AreCrews, AreIdleAt, AreMade, SeesTheSame};
+ghost use Rattle.script_passes.specs.Lasts.{AreLast};
+ghost use Rattle.script_passes.specs.Openings.{AreBare, AreCrews, AreMade, HaveRoomsFor, SeesTheSame, idle_crew};
 ghost use Rattle.run_script.specs.declared.script.Script.{Script as Lines};
 
-use crate::crew::gather_all;
+use crate::crew::gather_passes;
 use fetch_engine::{Seat, Server};
 use pass_steps::Worker;
 use pcp_base::NoMemory;
@@ -29,56 +30,66 @@ pub fn clusters_of(alloc: Global, script: &Script) -> Result<Vec<u32>, NoMemory>
     Ok(clusters)
 }
 
-/// Passes none of which does anything.
-pub fn crew_of(alloc: Global, passes: Vec<Pass>) -> Result<Vec<Worker>, NoMemory>
-    ensures { IfOk result (λ crew. crew.items ≡ map (λ pass. Worker.Idle pass) passes.items) }
+/// Lets go of crews without a pass.
+fn let_go(rooms: Vec<Vec<Worker>>)
+    requires bare { AreBare rooms.items }
 {
-    let Ok(mut crew) = Vec::with_capacity(alloc, passes.len()) else {
-        return Err(NoMemory);
-    };
-    for pass in passes {
-        crew.push_reserved(Worker::Idle(pass));
+    let mut rooms = rooms;
+    while let Some(room) = rooms.pop() {
+        room.destroy_empty();
     }
-    Ok(crew)
+    rooms.destroy_empty();
 }
 
-/// The seat gathers the passes of crews, none of which does anything.
-fn give_back(server: &Server, seat: &mut Seat, crews: Vec<Vec<Worker>>)
-    requires seated { IsSeated server.now seat.old.tokens }
-    requires few { length crews.items ≤ 64 }
-    requires crews { AreIdleAt server.now crews.items seat.old.tokens }
-    ensures same { SeesTheSame seat.old.tokens seat.new.tokens }
-    ensures seated { IsSeated server.now seat.new.tokens }
+/// A crew for each list of passes, which has room for them and none of them yet.
+pub fn rooms_for(alloc: Global, passes: &[Vec<Pass>]) -> Result<Vec<Vec<Worker>>, NoMemory>
+    ensures { IfOk result (λ rooms. HaveRoomsFor passes.now rooms.items) }
 {
-    let mut crews = crews;
-    while let Some(crew) = crews.pop() {
-        gather_all(crew, server, seat, crews.len() as u32);
-    }
-    crews.destroy_empty();
-}
-
-/// The passes of a script's regions. Where memory is refused the seat gathers those that were ready, and nothing was done.
-pub fn crews_of(
-    alloc: Global,
-    server: &Server,
-    seat: &mut Seat,
-    passes: Vec<Vec<Pass>>,
-) -> Result<Vec<Vec<Worker>>, NoMemory>
-    requires made { (script : Lines) × AreMade script server.now passes.items (seat.old ∷ []) }
-    ensures crews { IfOk result (λ crews. AreCrews passes.items crews.items) }
-    ensures untouched { IfOk result (λ _. seat.new ≡ seat.old) }
-    ensures given_back { OnErr result (SeesTheSame seat.old.tokens seat.new.tokens) }
-    ensures seated { IsSeated server.now seat.new.tokens }
-{
-    let Ok(mut crews) = Vec::with_capacity(alloc, passes.len()) else {
+    let Ok(mut rooms) = Vec::with_capacity(alloc, passes.len()) else {
         return Err(NoMemory);
     };
     for list in passes {
-        let Ok(crew) = crew_of(alloc, list) else {
-            give_back(server, seat, crews);
+        let Ok(room) = Vec::with_capacity(alloc, list.len()) else {
+            let_go(rooms);
             return Err(NoMemory);
         };
-        crews.push_reserved(crew);
+        rooms.push_reserved(room);
     }
-    Ok(crews)
+    Ok(rooms)
+}
+
+/// Puts passes into a crew that has room for them.
+fn fill(crew: &mut Vec<Worker>, passes: Vec<Pass>)
+    requires bare { crew.old.items ≡ [] }
+    requires room { length passes.items ≤ vec_capacity crew.old }
+    ensures { crew.new.items ≡ idle_crew passes.items }
+{
+    for pass in passes {
+        crew.push_reserved(Worker::Idle(pass));
+    }
+}
+
+/// Puts the passes of each list into the crew that has room for them.
+pub fn fill_all(crews: &mut Vec<Vec<Worker>>, passes: Vec<Vec<Pass>>)
+    requires rooms { HaveRoomsFor passes.items crews.old.items }
+    ensures { AreCrews passes.items crews.new.items }
+{
+    let mut passes = passes;
+    while let Some(list) = passes.pop() {
+        let at = passes.len();
+        fill(&mut crews[at], list);
+    }
+}
+
+/// The seat gathers the passes of a script's regions, none of which was put to work.
+pub fn give_back(server: &Server, seat: &mut Seat, passes: Vec<Vec<Pass>>)
+    requires made { (script : Lines) × AreMade script server.now passes.items (seat.old ∷ []) }
+    ensures same { SeesTheSame seat.old.tokens seat.new.tokens }
+    ensures last { AreLast seat.new.tokens }
+    ensures seated { IsSeated server.now seat.new.tokens }
+{
+    let mut passes = passes;
+    while let Some(list) = passes.pop() {
+        gather_passes(list, server, seat, passes.len() as u32);
+    }
 }

@@ -5,13 +5,14 @@ ghost use Rattle.script_runs.specs.Closing.{closed_region, each_pass};
 ghost use Rattle.pass_steps.specs.declared.worker.Worker.{Worker as Doer};
 ghost use Rattle.pass_steps.specs.Workers.{IsWorker};
 ghost use Rattle.pass_steps.specs.Works.{NeedsNone, step_of};
+ghost use Rattle.script_passes.specs.Openings.{idle_crew};
 ghost use Rattle.script_passes.specs.Sweeps.{AreIdle, ClosedAt, EndedAt, EndedBelow, GatheredAt, GoesAt, region_after_step};
 ghost use Rattle.script_passes.specs.Turns.{ActsAt, IsCrewAt, TakesTurn};
 
 use fetch_engine::{Seat, Server};
 use pass_steps::{Deed, Said, Worker};
 use pcp_base::NoMemory;
-use region_words::{Note, Region};
+use region_words::{Note, Pass, Region};
 use std::alloc::Global;
 use std::mem;
 
@@ -104,7 +105,7 @@ fn end_all(alloc: Global, crew: &mut Vec<Worker>, server: &Server, seat: &mut Se
 }
 
 /// Gathers all passes of a crew, none of which does anything.
-pub fn gather_all(crew: Vec<Worker>, server: &Server, seat: &mut Seat, at: u32)
+fn gather_all(crew: Vec<Worker>, server: &Server, seat: &mut Seat, at: u32)
     requires seated { IsSeated server.now seat.old.tokens }
     requires crew { IsCrewAt server.now at crew.items seat.old.tokens }
     requires idle { AreIdle crew.items }
@@ -119,6 +120,19 @@ pub fn gather_all(crew: Vec<Worker>, server: &Server, seat: &mut Seat, at: u32)
         seat.gather(server, at, worker.into_pass(region));
     }
     crew.destroy_empty();
+}
+
+/// Gathers passes that were not put to work.
+pub fn gather_passes(passes: Vec<Pass>, server: &Server, seat: &mut Seat, at: u32)
+    requires seated { IsSeated server.now seat.old.tokens }
+    requires crew { IsCrewAt server.now at (idle_crew passes.items) seat.old.tokens }
+    ensures gathered { GatheredAt server.now at 0 (idle_crew passes.items) seat.old.tokens seat.new.tokens }
+    ensures seated { IsSeated server.now seat.new.tokens }
+{
+    let mut passes = passes;
+    while let Some(pass) = passes.pop() {
+        seat.gather(server, at, pass);
+    }
 }
 
 /// Ends what the passes of a crew do, and gathers them.

@@ -11,6 +11,6 @@ mod opening;
 mod reading;
 mod running;
 
-pub use laws::alike_answers_alike;
+pub use laws::{alike_answers_alike, last_leaves_the_gate};
 pub use opening::{Opened, open_script};
 pub use running::Running;

@@ -16,7 +16,7 @@ ghost use Rattle.script_passes.specs.Openings.{AreMade};
 ghost use Rattle.script_passes.specs.Runs.{HasDone, HasRun, WasCut};
 ghost use Rattle.script_passes.specs.Seen.{HaveSeen};
 
-use crate::beginning::{clusters_of, crews_of};
+use crate::beginning::{clusters_of, fill_all, give_back, rooms_for};
 use crate::crew::{act, close_crew};
 use crate::lines::deed_of;
 use fetch_engine::{Seat, Server};
@@ -48,7 +48,7 @@ fn is_idle(crew: &[Worker]) -> bool
 }
 
 impl Running {
-    /// Takes the passes that were opened for a script. Where memory is refused nothing was done.
+    /// Takes the passes that were opened for a script. Where memory is refused nothing was done, and the seat gathers them.
     pub fn begin(
         alloc: Global,
         script: &Script,
@@ -64,11 +64,14 @@ impl Running {
         ensures seated { IsSeated server.now seat.new.tokens }
     {
         let Ok(clusters) = clusters_of(alloc, script) else {
+            give_back(server, seat, passes);
             return Err(NoMemory);
         };
-        let Ok(crews) = crews_of(alloc, server, seat, passes) else {
+        let Ok(mut crews) = rooms_for(alloc, &passes) else {
+            give_back(server, seat, passes);
             return Err(NoMemory);
         };
+        fill_all(&mut crews, passes);
         Ok(Running { clusters, crews })
     }
 

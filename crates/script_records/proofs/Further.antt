@@ -1,5 +1,5 @@
 -- What loads add to what a pass has seen, and what a pass knows that has ended others.
-use Rattle.std.proofs.Common.{◌≡◌, ◌≢◌, ℕ, zero, suc, ◌<◌, ◌⊎◌, true, List, [], ◌∷◌, ◌++◌, All, append_assoc, append-nil, length, slice_get, Some, inl, inr, ⊎_elim, sym, refl, ap, ◌∙◌, subst, arith}
+use Rattle.std.proofs.Common.{◌≡◌, ◌≢◌, ℕ, zero, suc, ◌+◌, ◌<◌, ◌⊎◌, Bool, true, eqb, eq-eqb, List, [], ◌∷◌, ◌++◌, All, append_assoc, append-nil, length, slice_get, Some, inl, inr, ⊎_elim, sym, refl, ap, ◌∙◌, subst, arith}
 use Rattle.std.proofs.lemmas.List.{append_cancel_left}
 use Rattle.std.proofs.lemmas.List.Elements.{All-append}
 use Rattle.region_core.specs.declared.act.Act.TheVariants.{Load}
@@ -15,7 +15,7 @@ use Rattle.region_rule.specs.Reads.{Reads}
 use Rattle.region_rule.specs.Seats.{Token}
 use Rattle.region_rule.specs.Steps.{Extends, entry}
 use Rattle.region_rule.specs.Tokens.{AreIdle, HasLists, Knows}
-use Rattle.region_rule.specs.Views.{HasNone, IsFront, now, opening_of}
+use Rattle.region_rule.specs.Views.{HasNone, IsFront, count, now, one_if, opening_of}
 use Rattle.region_words.specs.Images.{mmv}
 use Rattle.script_runs.specs.Journals.{is_load}
 use Rattle.script_records.specs.Gathered.{GathersAll}
@@ -53,6 +53,13 @@ idle_kept s (x ∷ xs) k es h i = ⊎_elim
     (λ (r : IsKept xs k es). idle_kept s xs k es h.1 r)
     i
 
+count_kept : (kept : List (ℕ × List Entry)) (k : ℕ) (es : List Entry) → IsKept kept k es → 0 < count k kept
+count_kept [] k es i = absurd i
+count_kept (x ∷ xs) k es i = ⊎_elim
+    (λ (e : (x.0 ≡ k) × (x.1 ≡ es)). let here : one_if (eqb x.0 k) ≡ 1 = ap (λ (b : Bool). one_if b) (eq-eqb x.0 k e.0) in omega arith)
+    (λ (r : IsKept xs k es). let rest : 0 < count k xs = count_kept xs k es r in omega arith)
+    i
+
 -- Loads
 
 abbrev pub AreLoads : List Entry → Type 0
@@ -74,6 +81,8 @@ pub record Looked (v w : View) : Type 0 where
   pub start : w.start ≡ v.start
   pub passes : w.passes ≡ v.passes
   pub kept : w.kept ≡ v.kept
+  pub mode : w.mode ≡ v.mode
+  pub stands : IsIn v.mode (now v) v.number → IsIn w.mode (now w) w.number
   pub others : (k : ℕ) (es : List Entry) → k ≢ v.number → IsKept v.kept k es → own k more ≡ []
   pub legal : IsLawful v → IsLawful w
 
@@ -96,6 +105,8 @@ looked_still v = record {
   start = refl;
   passes = refl;
   kept = refl;
+  mode = refl;
+  stands = λ h. h;
   others = λ k es n i. refl;
   legal = λ h. h;
 }
@@ -112,6 +123,8 @@ looked_once v w i n e = record {
   start = ap (λ (x : View). x.start) e.is;
   passes = ap (λ (x : View). x.passes) e.is;
   kept = ap (λ (x : View). x.kept) e.is;
+  mode = ap (λ (x : View). x.mode) e.is;
+  stands = λ h. e.mode;
   others = λ k es differ is. own-others v.number k e.between (Load i) (λ same. differ (sym same)) ∙ none_kept e.between v.kept k es e.gathered is;
   legal = λ h. subst (λ (x : View). IsLawful x) (sym e.is) e.journal;
 }
@@ -130,6 +143,8 @@ looked_on v u w a b = record {
   start = b.start ∙ a.start;
   passes = b.passes ∙ a.passes;
   kept = b.kept ∙ a.kept;
+  mode = b.mode ∙ a.mode;
+  stands = λ h. b.stands (a.stands h);
   others = λ k es differ is.
       let first : own k a.more ≡ [] = a.others k es differ is in
       let second : own k b.more ≡ [] = b.others k es (λ same. differ (same ∙ a.number)) (subst (λ (l : List (ℕ × List Entry)). IsKept l k es) (sym a.kept) is) in
@@ -151,6 +166,7 @@ pub record Ended (v : View) (passes : List Token) (w : View) : Type 0 where
   pub number : w.number ≡ v.number
   pub start : w.start ≡ v.start
   pub passes_are : w.passes ≡ v.passes
+  pub mode : w.mode ≡ v.mode
   pub kept : (k : ℕ) (es : List Entry) → IsKept v.kept k es → IsKept w.kept k es
   pub each : (n : ℕ) (pass : Token) → slice_get passes n ≡ Some pass → IsFront pass.view.seen w.seen × IsKept w.kept pass.view.number pass.view.own
   pub knows : 0 < length passes → Knows mmv w
@@ -167,6 +183,7 @@ ended v w [] g = subst (λ (x : View). Ended v [] x) (sym g) (record {
   number = refl;
   start = refl;
   passes_are = refl;
+  mode = refl;
   kept = λ k es i. i;
   each = λ n pass e. absurd (cc);
   knows = λ h. absurd (omega arith);
@@ -184,6 +201,7 @@ ended v w (pass ∷ passes) g = one_more v g.0 w pass passes g.1 (ended g.0 w pa
       number = r.number ∙ ap (λ (x : View). x.number) g.is;
       start = r.start ∙ ap (λ (x : View). x.start) g.is;
       passes_are = r.passes_are ∙ ap (λ (x : View). x.passes) g.is;
+      mode = r.mode ∙ ap (λ (x : View). x.mode) g.is;
       kept = λ k es i. r.kept k es (subst (λ (x : View). IsKept x.kept k es) (sym g.is) (inr (kept_behind pass.view.kept v.kept k es i)));
       each = each;
       knows = λ h. k;
@@ -202,10 +220,10 @@ ended v w (pass ∷ passes) g = one_more v g.0 w pass passes g.1 (ended g.0 w pa
 -- of the others made what it made before it was ended, and is idle
 module _ (first waiting gathered final : View) (passes : List Token) (none : first.seen ≡ []) (nor : first.own ≡ [])
     (a : Looked first waiting) (b : Ended waiting passes gathered) (c : Looked gathered final) (some : 0 < length passes) where
-  start_is : final.start ≡ first.start
+  pub start_is : final.start ≡ first.start
   start_is = c.start ∙ (b.start ∙ a.start)
 
-  passes_is : final.passes ≡ first.passes
+  pub passes_is : final.passes ≡ first.passes
   passes_is = c.passes ∙ (b.passes_are ∙ a.passes)
 
   pub legal_then : IsJournal mmv first.start first.passes final.seen
@@ -220,6 +238,22 @@ module _ (first waiting gathered final : View) (passes : List Token) (none : fir
       let all : own first.number final.seen ≡ a.made ++ c.made =
       ap (λ (l : List Entry). own first.number l) c.seen ∙ (own-append first.number gathered.seen c.more ∙ (λ i. before i ++ after i)) in
       subst (λ (l : List Entry). AreLoads l) (sym all) (All-append (λ (e : Entry). is_load e.act ≡ true) a.made c.made a.looks c.looks)
+
+  pub number_then : final.number ≡ first.number
+  number_then = c.number ∙ (b.number ∙ a.number)
+
+  -- its own mode
+  pub mode_then : final.mode ≡ first.mode
+  mode_then = c.mode ∙ (b.mode ∙ a.mode)
+
+  pub stands_then : IsIn final.mode (now final) final.number
+  stands_then = c.stands (b.knows some).mode
+
+  -- it keeps the number of each that it ended
+  pub counted : (n : ℕ) (pass : Token) → slice_get passes n ≡ Some pass → 0 < count pass.view.number final.kept
+  counted n pass there =
+      let found = b.each n pass there in
+      subst (λ (l : List (ℕ × List Entry)). 0 < count pass.view.number l) (sym c.kept) (count_kept gathered.kept pass.view.number pass.view.own found.1)
 
   -- one of the others
   pub record Stood (k : ℕ) (more : List Entry) : Type 0 where

@@ -1,34 +1,41 @@
 -- The journals that a seat's passes have seen behind the writers: each is legal, and has just what the writers made of their lines, and
 -- loads of the seat's pass.
-use Rattle.std.proofs.Common.{◌≡◌, ℕ, zero, suc, ◌-◌, ◌<◌, List, [], ◌∷◌, ◌++◌, All, length, replicate, slice_get, Some, sym, refl, ap, ◌∙◌, subst, arith}
+use Rattle.std.proofs.Common.{◌≡◌, ◌≢◌, ℕ, zero, suc, ◌+◌, ◌-◌, ◌<◌, List, [], ◌∷◌, ◌++◌, All, length, map, replicate, slice_get, Some, ⊎_elim, sym, refl, ap, ◌∙◌, subst, arith}
 use Rattle.std.specs.Global.{Vec}
 use Rattle.std.proofs.lemmas.Option.{get_or_from_slice_get, slice_get_within}
 use Rattle.region_core.specs.declared.act.Entry.{Entry}
-use Rattle.region_core.specs.Journal.{own, IsJournal}
+use Rattle.region_core.specs.declared.mode.Mode.{Mode}
+use Rattle.region_core.specs.declared.mode.Mode.TheVariants.{Idle}
+use Rattle.region_core.specs.Journal.{own, state, IsJournal}
 use Rattle.region_core.specs.Shape.{IsWord}
-use Rattle.region_core.specs.State.{with_zeros}
-use Rattle.region_rule.specs.Seats.{Token}
+use Rattle.region_core.specs.State.{IsIn, State, opening, with_zeros}
+use Rattle.region_rule.specs.declared.view.View.{View}
+use Rattle.region_rule.specs.Seats.{MadeRegion, Token}
+use Rattle.region_rule.specs.Views.{count, now, opening_of}
 use Rattle.region_words.specs.Images.{mmv, mmv_laws}
-use Rattle.fetch_engine.specs.Servers.{Seated}
+use Rattle.fetch_engine.specs.Servers.{IsSeated, Seated}
 use Rattle.fetch_engine.specs.Visits.{AreLoaded, IsLoaded}
 use Rattle.fetch_engine.specs.declared.server.Mounted.{Mounted}
 use Rattle.run_script.specs.Rules.{KeepsRules}
 use Rattle.run_script.specs.declared.script.Script.{Script}
 use Rattle.script_runs.specs.Regions.{words_at, words_or_none}
 use Rattle.script_passes.specs.Crews.{Serves}
+use Rattle.script_passes.specs.Lasts.{AreLast}
 use Rattle.script_passes.specs.Openings.{AreMade}
 use Rattle.script_passes.proofs.Begun.{as_many_seated, get_there}
+use Rattle.script_passes.proofs.Crewing.{same_or_other}
 use Rattle.script_passes.proofs.Seated.{the_one}
 use Rattle.script_passes.proofs.Starting.{fresh_at, last_fresh, own_fresh}
 use Rattle.script_writers.specs.Hands.{IsServedAt, WritesLines}
 use Rattle.run_script.specs.Recording.{lines_of}
 use Rattle.script_writers.specs.Written.{HaveWritten}
+use Rattle.script_writers.proofs.Handed.{get_mapped}
 use Rattle.script_writers.proofs.Placed.{capacity_at, made_at}
-use Rattle.script_writers.proofs.Ready.{as_many_made}
+use Rattle.script_writers.proofs.Ready.{as_many_made, row_at}
 use Rattle.script_records.specs.Beside.{AtJournals, IsLegal, LoggerLoads, SeesOn, StandsBehind, WritersRan}
 use Rattle.script_records.specs.Gathered.{HaveGathered}
 use Rattle.script_records.specs.Pictured.{AreImages}
-use Rattle.script_records.proofs.Further.{AreLoads, Ended, Looked, Stood, ended, legal_then, loads_then, looked, stood}
+use Rattle.script_records.proofs.Further.{AreLoads, Ended, Looked, Stood, counted, ended, legal_then, loads_then, looked, mode_then, number_then, passes_is, stands_then, start_is, stood}
 
 -- Images, with zeros behind them
 
@@ -215,6 +222,42 @@ module _ (script : Script) (server : List Mounted) (passes : List (Vec Token)) (
     loads_behind i j at last e =
         let c = course i j at last e in
         loads_then (fresh_at at.mounted.region at.row.passes).view c.before.view c.after.view last.view c.ran.items refl refl c.looked_before c.ended_then c.looked_after c.some_of
+
+    -- the seat's pass of a region is its last one
+    pub all_last : IsSeated server final → AreLast final
+    all_last seated j last e =
+        let long = as_many_seated server final seated in
+        let within = slice_get_within final j last e in
+        let row = row_at script server 1 keeps made.serves j (omega arith) in
+        let i : ℕ = row.0 in
+        let at : IsServedAt script server i j = row.1 in
+        let c = course i j at last e in
+        let first : View = (fresh_at at.mounted.region at.row.passes).view in
+        let region : last.region ≡ at.mounted.region = the_one (map (λ (m : Mounted). m.region) server) j last.region at.mounted.region
+        (subst (λ (l : List MadeRegion). slice_get l j ≡ Some last.region) seated (get_mapped (λ (t : Token). t.region) final j last e)) (get_mapped (λ (m : Mounted). m.region) server j at.mounted at.there) in
+        let start : last.view.start ≡ at.mounted.region.words = start_is first c.before.view c.after.view last.view c.ran.items refl refl c.looked_before c.ended_then c.looked_after c.some_of in
+        let passes : last.view.passes ≡ at.mounted.region.passes = passes_is first c.before.view c.after.view last.view c.ran.items refl refl c.looked_before c.ended_then c.looked_after c.some_of in
+        let number : last.view.number ≡ at.row.passes = number_then first c.before.view c.after.view last.view c.ran.items refl refl c.looked_before c.ended_then c.looked_after c.some_of in
+        let mode : last.view.mode ≡ Idle = mode_then first c.before.view c.after.view last.view c.ran.items refl refl c.looked_before c.ended_then c.looked_after c.some_of in
+        let stands : IsIn last.view.mode (now last.view) last.view.number = stands_then first c.before.view c.after.view last.view c.ran.items refl refl c.looked_before c.ended_then c.looked_after c.some_of in
+        let many : at.mounted.region.passes ≡ at.row.passes + 1 = (made_at script server 1 keeps made.serves i j at).passes in
+        let from : opening_of last.view ≡ opening at.mounted.region.words at.mounted.region.passes = λ i. opening (start i) (passes i) in
+        let all : last.region.passes ≡ at.mounted.region.passes = ap (λ (r : MadeRegion). r.passes) region in
+        record {
+          in_mode = record { mode_is = mode; start_is = start ∙ ap (λ (r : MadeRegion). r.words) (sym region); passes_are = passes ∙ sym all };
+          last = λ k below other.
+              let ran_many = written.ready.many i j at c.ran c.ran_is in
+              let new = get_there c.ran.items k (omega arith) in
+              let its : new.0.view.number ≡ k = (written.ready.each j k at.mounted c.ran new.0 at.there c.ran_is new.1).number_is in
+              subst (λ (n : ℕ). 0 < count n last.view.kept) its (counted first c.before.view c.after.view last.view c.ran.items refl refl c.looked_before c.ended_then c.looked_after c.some_of k new.0 new.1);
+          journal = subst (λ (r : MadeRegion). IsJournal mmv r.words r.passes last.view.seen) (sym region) (legal_behind i j at last e);
+          idle = λ k below. subst (λ (r : MadeRegion). IsIn Idle (state (opening r.words r.passes) last.view.seen) k) (sym region) (⊎_elim
+              (λ (same : k ≡ at.row.passes).
+              subst (λ (s : State). IsIn Idle (state s last.view.seen) k) from
+              (subst (λ (n : ℕ). IsIn Idle (now last.view) n) (number ∙ sym same) (subst (λ (m : Mode). IsIn m (now last.view) last.view.number) mode stands)))
+              (λ (other : k ≢ at.row.passes). (writers_behind i j at last e).idle k (omega arith))
+              (same_or_other k at.row.passes));
+        }
 
     sees_on : SeesOn waiting gathered
     sees_on = (

@@ -6,7 +6,7 @@ use Rattle.pcp_outside.specs.declared.clocks.Clock.{Ghosts as ClockGhosts}
 use Rattle.pcp_outside.specs.declared.disk.Disk.{Ghosts as DiskGhosts}
 use Rattle.region_rule.specs.Seats.{Token}
 use Rattle.fetch_engine.specs.declared.server.Mounted.{Mounted}
-use Rattle.fetch_engine.specs.Servers.{Seated}
+use Rattle.fetch_engine.specs.Servers.{IsSeated, Seated}
 use Rattle.fetch_engine.specs.Visits.{AreLoaded}
 use Rattle.run_script.specs.Rules.{KeepsRules}
 use Rattle.run_script.specs.declared.script.Script.{Script}
@@ -20,7 +20,7 @@ use Rattle.script_records.specs.Beside.{AtJournals, Beside, EndsBy, IsLegal, Log
 use Rattle.script_records.specs.Gathered.{AreUsedUp, HaveGathered}
 use Rattle.script_records.specs.Halting.{EndsAs, Halts, IsStandingFound, RefusedBy}
 use Rattle.script_records.specs.Pictured.{AreImages}
-use Rattle.script_records.proofs.Journals.{journals, unwritten}
+use Rattle.script_records.proofs.Journals.{all_last, journals, unwritten}
 use Rattle.script_records.proofs.Settling.{EndsWith, finished_all, halts, unfinished}
 use Rattle.script_records.proofs.Stretches.{Whole, sees_same, stands_same}
 use Rattle.script_records.proofs.Undone.{want_undone}
@@ -99,8 +99,8 @@ module _ (script : Script) (server : List Mounted) (passes : List (Vec Token)) (
 
   -- What is left of the passes
 
-  pub written_told : (done left : List (Vec Token)) (waiting gathered final : List Token) (e : Ending) → AreLoaded first.tokens waiting → HaveWritten script server passes done → HaveGathered done waiting gathered → AreLoaded gathered final → AreUsedUp server left → TellWriters script server final left e
-  written_told done left waiting gathered final e loaded written gathers behind used =
+  pub written_told : (done left : List (Vec Token)) (waiting gathered final : List Token) (e : Ending) → AreLoaded first.tokens waiting → HaveWritten script server passes done → HaveGathered done waiting gathered → AreLoaded gathered final → AreUsedUp server left → IsSeated server final → TellWriters script server final left e
+  written_told done left waiting gathered final e loaded written gathers behind used seated =
       let j : AtJournals IsLegal script server final × AtJournals WritersRan script server final × AtJournals LoggerLoads script server final × SeesOn waiting gathered × StandsBehind script server gathered final =
       journals script server passes first keeps made done waiting gathered final written loaded gathers behind in
-      inl (used, j.1)
+      inl (record { used = used; ran = j.1; last = all_last script server passes first keeps made done waiting gathered final written loaded gathers behind seated })

@@ -13,6 +13,7 @@ use Rattle.fetch_answers.specs.declared.fetch.Fetched.{Fetched}
 use Rattle.fetch_engine.specs.declared.server.Mounted.{Mounted}
 use Rattle.fetch_engine.specs.Visits.{AreLoaded}
 use Rattle.run_script.specs.declared.script.Script.{Script}
+use Rattle.script_passes.specs.Lasts.{AreLast}
 use Rattle.script_runs.specs.declared.ending.Ending.{Ending}
 use Rattle.script_runs.specs.declared.ending.Ending.TheVariants as ends
 use Rattle.script_runs.specs.Groups.{Plan}
@@ -108,11 +109,17 @@ IsFinishedUnlessWanting ends.NoMemory P = Unit {0}
 IsFinishedUnlessWanting ends.DiskFault P = Unit {0}
 IsFinishedUnlessWanting ending P = P
 
--- What is left of the script's passes tells whether the writers ended. Lists without a pass, one for each region: they ended, and each pass
--- has made the entries of its own lines. No list at all: memory was refused to the writers, whose passes are gone with them, and the
+-- The writers ended: a list without a pass is left of each region, each pass has made the entries of its own lines, and the seat has gathered
+-- every pass, so that these journals are whole
+pub record WritersEnded (script : Script) (server : List Mounted) (final : List Token) (left : List (Vec Token)) : Type 0 where
+  pub used : AreUsedUp server left
+  pub ran : AtJournals WritersRan script server final
+  pub last : AreLast final
+
+-- What is left of the script's passes tells whether the writers ended. Lists without a pass, one for each region: they ended. No list at all: memory was refused to the writers, whose passes are gone with them, and the
 -- recording ended by that, or by a disk that failed too.
 abbrev pub TellWriters : Script → List Mounted → List Token → List (Vec Token) → Ending → Type 0
-TellWriters script server final left ending = (AreUsedUp server left × AtJournals WritersRan script server final) ⊎ ((left ≡ []) × EndsBy ends.NoMemory ending)
+TellWriters script server final left ending = WritersEnded script server final left ⊎ ((left ≡ []) × EndsBy ends.NoMemory ending)
 
 pub record Beside (script : Script) (server : List Mounted) (first final : List Token) (ending : Ending) (moments : List Moment) (results : List Fetched) : Type 0 where
   pub legal : AtJournals IsLegal script server final

@@ -79,16 +79,16 @@ pub returns-in-Err-early-2-clause-writers : goal.returns-in-Err-early-2-clause-w
 returns-in-Err-early-2-clause-writers g c =
     let b = c.beside-written in
     written_told c.args.script.now c.args.server.now c.args.passes.now.items c.args.seat.now c.requires.rules c.requires.made c.in-Ok.done.items c.gather_all.new.passes.items b.new.seat.tokens c.gather_all.new.seat.tokens c.gather_all.new.seat.tokens c.in-Err-early-2.ending b.ensures.loads
-    (ok_told b.result.0 c.in-Ok.done (λ (done : Vec (Vec Token)). HaveWritten c.args.script.now c.args.server.now c.args.passes.now.items done.items) c.in-Ok.is b.ensures.written) c.gather_all.ensures.gathers (not_loaded c.gather_all.new.seat.tokens) c.gather_all.ensures.used
+    (ok_told b.result.0 c.in-Ok.done (λ (done : Vec (Vec Token)). HaveWritten c.args.script.now c.args.server.now c.args.passes.now.items done.items) c.in-Ok.is b.ensures.written) c.gather_all.ensures.gathers (not_loaded c.gather_all.new.seat.tokens) c.gather_all.ensures.used c.gather_all.ensures.seated
 
 pub returns-in-Ok-sample-clause-writers : goal.returns-in-Ok-sample-clause-writers
 returns-in-Ok-sample-clause-writers g c =
     let b = c.beside-written in
     written_told c.args.script.now c.args.server.now c.args.passes.now.items c.args.seat.now c.requires.rules c.requires.made c.in-Ok.done.items c.gather_all.new.passes.items b.new.seat.tokens c.gather_all.new.seat.tokens c.sample.new.seat.tokens ends.Done b.ensures.loads
-    (ok_told b.result.0 c.in-Ok.done (λ (done : Vec (Vec Token)). HaveWritten c.args.script.now c.args.server.now c.args.passes.now.items done.items) c.in-Ok.is b.ensures.written) c.gather_all.ensures.gathers c.sample.ensures.loads c.gather_all.ensures.used
+    (ok_told b.result.0 c.in-Ok.done (λ (done : Vec (Vec Token)). HaveWritten c.args.script.now c.args.server.now c.args.passes.now.items done.items) c.in-Ok.is b.ensures.written) c.gather_all.ensures.gathers c.sample.ensures.loads c.gather_all.ensures.used c.sample.ensures.seated
 
 pub returns-in-Err-sample-clause-writers : goal.returns-in-Err-sample-clause-writers
 returns-in-Err-sample-clause-writers g c =
     let b = c.beside-written in
     written_told c.args.script.now c.args.server.now c.args.passes.now.items c.args.seat.now c.requires.rules c.requires.made c.in-Ok.done.items c.gather_all.new.passes.items b.new.seat.tokens c.gather_all.new.seat.tokens c.sample.new.seat.tokens c.in-Err-sample.ending b.ensures.loads
-    (ok_told b.result.0 c.in-Ok.done (λ (done : Vec (Vec Token)). HaveWritten c.args.script.now c.args.server.now c.args.passes.now.items done.items) c.in-Ok.is b.ensures.written) c.gather_all.ensures.gathers c.sample.ensures.loads c.gather_all.ensures.used
+    (ok_told b.result.0 c.in-Ok.done (λ (done : Vec (Vec Token)). HaveWritten c.args.script.now c.args.server.now c.args.passes.now.items done.items) c.in-Ok.is b.ensures.written) c.gather_all.ensures.gathers c.sample.ensures.loads c.gather_all.ensures.used c.sample.ensures.seated

@@ -38,7 +38,7 @@ returns-in-Err-clause-seated g c = c.requires.made.seated 0 c.args.seat.now refl
 pub returns-in-Ok-clause-writers : goal.returns-in-Ok-clause-writers
 returns-in-Ok-clause-writers g c =
     written_told c.args.script.now c.args.server.now c.args.passes.now.items c.args.seat.now c.requires.rules c.requires.made c.in-Ok.done.items c.gather_all.new.passes.items c.args.seat.now.tokens c.gather_all.new.seat.tokens c.gather_all.new.seat.tokens c.nothing.result.ending (not_loaded c.args.seat.now.tokens)
-    (subst (λ (own : Vec (Vec Token)). HaveWritten c.args.script.now c.args.server.now own.items c.in-Ok.done.items) c.replace-own.ensures.value c.in-Ok.ensures) c.gather_all.ensures.gathers (not_loaded c.gather_all.new.seat.tokens) c.gather_all.ensures.used
+    (subst (λ (own : Vec (Vec Token)). HaveWritten c.args.script.now c.args.server.now own.items c.in-Ok.done.items) c.replace-own.ensures.value c.in-Ok.ensures) c.gather_all.ensures.gathers (not_loaded c.gather_all.new.seat.tokens) c.gather_all.ensures.used c.gather_all.ensures.seated
 
 pub returns-in-Err-clause-writers : goal.returns-in-Err-clause-writers
 returns-in-Err-clause-writers g c =

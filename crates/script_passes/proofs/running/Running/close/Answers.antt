@@ -37,5 +37,5 @@ returns-clause-alone c =
 pub returns-clause-seen : goal.returns-clause-seen
 returns-clause-seen c = λ script regions follows.
     let none : length c.loop-crew.crews.items ≡ 0 = search rules in
-    have_seen c.args.server.now c.args.self c.loop-crew.crews.items c.args.seat.now.tokens c.loop-crew.seat.tokens script regions c.requires.manned
+    have_seen c.args.server.now c.args.self c.loop-crew.crews.items c.args.seat.now.tokens c.loop-crew.seat.tokens script regions c.requires.manned c.loop-crew.invariant.0
     (subst (λ (n : ℕ). ClosedFrom c.args.server.now n c.args.self.crews.items c.loop-crew.crews.items c.args.seat.now.tokens c.loop-crew.seat.tokens) none c.loop-crew.invariant.1) follows
