@@ -199,9 +199,9 @@ pub fn offline<I: Source, O: Sink, D: Disk>(
     // some first ones of the run.
     ensures since { D.tells → HadRecovered result → WordsSince D.Disk (map string_bytes words.now) (source_side I.Source input.old input.new) disk.old disk.new }
 
-    // The regions that are left are those on which the script's lines were run, and nothing else, as the seat has seen. Where the disk
-    // tells they are the lines of the run that the status tells of: after 0 it came to its end, and its lines and results are what is
-    // told. They are there wherever the run began, but for want of memory.
+    // The regions that are left are those on which the script's lines were run, and nothing else, as the seat has seen, which has gathered
+    // every pass: no entry can stand behind that. Where the disk tells they are the lines of the run that the status tells of: after 0 it
+    // came to its end, and its lines and results are what is told. They are there wherever the run began, but for want of memory.
     ensures ran { StatusRan (map string_bytes words.now) (source_side I.Source input.old input.new) (disk_side D.Disk disk.old disk.new) opened.new result }
     ensures regions { OpensRegions (map string_bytes words.now) (source_side I.Source input.old input.new) opened.new result }
 {

@@ -136,15 +136,17 @@ pub fn run_record<I: Source, O: Sink, D: Disk, C: Clock, T: Turn + Sync, R: Thre
     ensures run_refused { RunIsExact (map string_bytes words.now) (source_side I.Source input.old input.new) (run_side C.Clock D.Disk clock.old clock.new disk.old disk.new) opened.new result }
     ensures clock { ClockIsExact (map string_bytes words.now) (source_side I.Source input.old input.new) (run_side C.Clock D.Disk clock.old clock.new disk.old disk.new) opened.new result }
 
-    // The regions that are left are those of the script, on which its writers ran and the seat sampled, as its passes have seen; they
-    // are there wherever the run began, but for want of memory, and else neither the disk nor the clock was touched.
+    // The regions that are left are those of the script, on which its writers ran and the seat sampled, as its passes have seen; where the
+    // writers ended it has gathered every pass, so that no entry can stand behind that. They are there wherever the run began, but for
+    // want of memory, and else neither the disk nor the clock was touched.
     ensures regions { OpensRegions (map string_bytes words.now) (source_side I.Source input.old input.new) (run_side C.Clock D.Disk clock.old clock.new disk.old disk.new) opened.new result }
 
     // Done: the last sample, which stands behind every writer, shows what the words of each region say in the end, and what is logged last
     // is what these words answer.
     ensures exact { result ≡ 0 → LastIsShown (map string_bytes words.now) (source_side I.Source input.old input.new) (run_side C.Clock D.Disk clock.old clock.new disk.old disk.new) opened.new }
 
-    // Done: each number that it shows so is what was stored last plus all adds since, modulo 2^64, and no line of a writer is lost.
+    // Done: each number that it shows so is what was stored last plus all adds since, modulo 2^64, no line of a writer is lost, and no
+    // pass is left that could act behind it.
     ensures sums { result ≡ 0 → AllIsCounted (map string_bytes words.now) (source_side I.Source input.old input.new) (run_side C.Clock D.Disk clock.old clock.new disk.old disk.new) opened.new }
 
     // Unless a count rises or memory is refused, a good script over good files is recorded to its end.

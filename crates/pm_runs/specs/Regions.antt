@@ -19,7 +19,7 @@ use Rattle.pm_runs.specs.Scripts.{Runner, OfScript}
 abbrev pub pair_of : DiskSide → DiskPair
 pair_of d = record { wrapped = d.wrapped; before = d.held; after = d.after }
 
--- there is a first seat, and it has seen these journals of the regions
+-- there is a first seat, and it has seen these journals of the regions, which are whole: it has gathered every pass
 abbrev pub SeatSaw : Script → List ScriptRegion → Opened → Type 0
 SeatSaw script regions o = (seat : Seated) × (slice_get o.seats.items 0 ≡ Some seat) × HaveSeen script regions o.server seat.tokens
 
