@@ -1,5 +1,5 @@
 //! The files of an archive in the system's folder.
-use pcp_outside::{Disk, Failed, FileId, append_synced};
+use pcp_outside::{Disk, FileId, append_synced};
 use pcp_system::FileDisk;
 use std::alloc::{AllocError, Global};
 use std::fs::{self, File, Files};
@@ -44,17 +44,21 @@ fn is_index_synced(disk: &mut impl Disk) -> bool {
 }
 
 // Appends to Meta and two volumes, and cuts one of these to nothing and the other to 5 bytes.
-fn fill<R: Files<File = File>>(disk: &mut FileDisk<'_, R>) -> Result<(), Failed> {
-    append_synced(disk, FileId::Volume(0), b"abc")?;
-    append_synced(disk, FileId::Volume(0), b"def")?;
-    append_synced(disk, FileId::Meta, b"m")?;
-    disk.append(FileId::Volume(3), b"z")?;
-    disk.cut(FileId::Volume(3), 0)?;
-    disk.cut(FileId::Volume(0), 5)
+fn is_filled<D: Disk>(disk: &mut D) -> bool
+    requires { D.tells → ⊥ }
+{
+    append_synced(disk, FileId::Volume(0), b"abc").is_ok()
+        && append_synced(disk, FileId::Volume(0), b"def").is_ok()
+        && append_synced(disk, FileId::Meta, b"m").is_ok()
+        && disk.append(FileId::Volume(3), b"z").is_ok()
+        && disk.cut(FileId::Volume(3), 0).is_ok()
+        && disk.cut(FileId::Volume(0), 5).is_ok()
 }
 
 // Whether these bytes stand at an offset of the volume 0.
-fn stands<R: Files<File = File>>(disk: &mut FileDisk<'_, R>, at: u64, bytes: &[u8]) -> bool {
+fn stands<D: Disk>(disk: &mut D, at: u64, bytes: &[u8]) -> bool
+    requires { D.tells → ⊥ }
+{
     let mut buffer = [0u8; 100];
     let count = bytes.len().min(100);
     let is_read = disk
@@ -64,6 +68,31 @@ fn stands<R: Files<File = File>>(disk: &mut FileDisk<'_, R>, at: u64, bytes: &[u
 }
 
 // Calls of the system alone.
+fn is_written<R: Files<File = File>>(rt: &R, names: &[&str], text: &[u8]) -> bool {
+    for name in names {
+        if fs::write(rt, *name, text).is_err() {
+            return false;
+        }
+    }
+    true
+}
+
+fn is_linked<R: Files<File = File>>(rt: &R, name: &str, link: &str) -> bool {
+    symlink(rt, name, link).is_ok()
+}
+
+fn is_folder<R: Files<File = File>>(rt: &R, name: &str) -> bool {
+    fs::create_dir(rt, name).is_ok()
+}
+
+fn is_renamed<R: Files<File = File>>(rt: &R, from: &str, to: &str) -> bool {
+    fs::rename(rt, from, to).is_ok()
+}
+
+fn len_of<R: Files<File = File>>(rt: &R, name: &str) -> Option<u64> {
+    Some(fs::metadata(rt, name).ok()?.len())
+}
+
 fn measure<R: Files<File = File>>(
     alloc: Global,
     rt: &R,
@@ -72,30 +101,25 @@ fn measure<R: Files<File = File>>(
     Ok(meta_len(&mut disk_at(alloc, rt, base)?))
 }
 
-fn has_three_bytes<R: Files<File = File>>(rt: &R, name: &str) -> bool {
-    match fs::metadata(rt, name) {
-        Ok(found) => found.len() == 3,
-        Err(_) => false,
-    }
-}
-
-fn is_renamed<R: Files<File = File>>(rt: &R, from: &str, to: &str) -> bool {
-    fs::rename(rt, from, to).is_ok()
-}
-
 // Whether an empty disk keeps what is appended, cut and synced.
-fn keeps<R: Files<File = File>>(disk: &mut FileDisk<'_, R>) -> bool {
+fn keeps<D: Disk>(disk: &mut D) -> bool
+    requires { D.tells → ⊥ }
+{
     volumes(disk) == Some(0)
-        && fill(disk).is_ok()
+        && is_filled(disk)
         && first_len(disk) == Some(5)
         && volumes(disk) == Some(1)
         && stands(disk, 2, b"cde")
         && is_index_synced(disk)
 }
 
+fn keeps_files<R: Files<File = File>>(alloc: Global, rt: &R) -> Result<bool, AllocError> {
+    Ok(keeps(&mut disk_at(alloc, rt, "outside_files")?))
+}
+
 #[test]
 fn the_system_keeps_the_files_of_an_archive(rt: HostRuntime) -> Result<(), Fail> {
-    assert!(rt; keeps(&mut disk_at(rt.alloc(), &rt, "outside_files")?));
+    assert!(rt; keeps_files(rt.alloc(), &rt)?);
     Ok(())
 }
 
@@ -103,10 +127,17 @@ fn names_told(disk: &mut impl Disk) -> (Option<u32>, Option<FileId>) {
     (volumes(disk), wrapped(disk))
 }
 
+fn odd_told<R: Files<File = File>>(
+    alloc: Global,
+    rt: &R,
+) -> Result<(Option<u32>, Option<FileId>), AllocError> {
+    Ok(names_told(&mut disk_at(alloc, rt, "odd")?))
+}
+
 // Files that are wrapped are no volumes either, and the first of them is told.
 #[test]
 fn names_of_no_volume_are_passed_over(rt: HostRuntime) -> Result<(), Fail> {
-    for name in [
+    let names = [
         "odd.1",
         "odd.07",
         "odd.2x",
@@ -115,32 +146,34 @@ fn names_of_no_volume_are_passed_over(rt: HostRuntime) -> Result<(), Fail> {
         "odd.99999999999",
         "odd.12.gz",
         "odd.2.xz",
-    ] {
-        fs::write(&rt, name, "x")?;
-    }
-    let told = names_told(&mut disk_at(rt.alloc(), &rt, "odd")?);
+    ];
+    assert!(rt; is_written(&rt, &names, b"x"));
+    let told = odd_told(rt.alloc(), &rt)?;
     assert_eq!(rt; told, (Some(2), Some(FileId::Volume(2))));
     Ok(())
 }
 
 // What a disk tells of files that it can't measure.
 fn why_unmeasured<R: Files<File = File>>(
-    disk: &mut FileDisk<'_, R>,
-) -> Result<Option<String>, AllocError> {
-    match meta_len(disk) {
-        Some(_) => Ok(None),
-        None => disk.why(),
+    alloc: Global,
+    rt: &R,
+    base: &str,
+) -> Result<String, AllocError> {
+    let mut disk = disk_at(alloc, rt, base)?;
+    let is_measured = meta_len(&mut disk).is_some();
+    let why = disk.why()?;
+    match why {
+        Some(why) if !is_measured => Ok(why),
+        _ => Ok(String::new(alloc)),
     }
 }
 
 #[test]
 fn a_link_is_followed_and_a_folder_is_a_fault(rt: HostRuntime) -> Result<(), Fail> {
-    let alloc = rt.alloc();
-    fs::write(&rt, "kinds-elsewhere", "abc")?;
-    symlink(&rt, "kinds-elsewhere", "kinds.meta")?;
-    assert!(rt; measure(alloc, &rt, "kinds")? == Some(3));
-    fs::create_dir(&rt, "kinds.4")?;
-    let why = why_unmeasured(&mut disk_at(alloc, &rt, "kinds")?)?.unwrap_or(String::new(alloc));
+    assert!(rt; is_written(&rt, &["kinds-elsewhere"], b"abc"));
+    assert!(rt; is_linked(&rt, "kinds-elsewhere", "kinds.meta"));
+    assert!(rt; measure(rt.alloc(), &rt, "kinds")? == Some(3) && is_folder(&rt, "kinds.4"));
+    let why = why_unmeasured(rt.alloc(), &rt, "kinds")?;
     assert_eq!(rt; why.as_str(), "kinds.4: not a regular file (measure)");
     Ok(())
 }
@@ -159,22 +192,30 @@ fn writes_alone<R: Files<File = File>>(
         && !is_appended(other, b"x");
     let is_locked = measure(alloc, rt, "one_writer")?.is_none();
     drop(one);
-    Ok(is_sole && is_locked && !is_appended(other, b"x") && has_three_bytes(rt, "one_writer.meta"))
+    let is_kept = !is_appended(other, b"x") && len_of(rt, "one_writer.meta") == Some(3);
+    Ok(is_sole && is_locked && is_kept)
+}
+
+fn one_writes<R: Files<File = File>>(alloc: Global, rt: &R) -> Result<bool, AllocError> {
+    let one = disk_at(alloc, rt, "one_writer")?;
+    writes_alone(alloc, rt, one, &mut disk_at(alloc, rt, "one_writer")?)
 }
 
 #[test]
 fn one_disk_writes_an_archive(rt: HostRuntime) -> Result<(), Fail> {
-    let one = disk_at(rt.alloc(), &rt, "one_writer")?;
-    let mut other = disk_at(rt.alloc(), &rt, "one_writer")?;
-    assert!(rt; writes_alone(rt.alloc(), &rt, one, &mut other)?);
+    assert!(rt; one_writes(rt.alloc(), &rt)?);
     Ok(())
+}
+
+fn is_untouched<R: Files<File = File>>(alloc: Global, rt: &R) -> Result<bool, AllocError> {
+    let base = String::from_str(alloc, "for_reading")?;
+    let is_written = is_appended(&mut FileDisk::for_reading(alloc, rt, base), b"x");
+    Ok(!is_written && len_of(rt, "for_reading.meta").is_none())
 }
 
 #[test]
 fn a_disk_for_reading_changes_nothing(rt: HostRuntime) -> Result<(), Fail> {
-    let base = String::from_str(rt.alloc(), "for_reading")?;
-    assert!(rt; !is_appended(&mut FileDisk::for_reading(rt.alloc(), &rt, base), b"x"));
-    assert!(rt; !fs::exists(&rt, "for_reading.meta")?);
+    assert!(rt; is_untouched(rt.alloc(), &rt)?);
     Ok(())
 }
 
@@ -186,17 +227,21 @@ fn stays_failed<R: Files<File = File>>(rt: &R, disk: &mut impl Disk) -> bool {
         && is_renamed(rt, "away", "here")
         && !is_synced(disk)
         && !is_appended(disk, b"def")
-        && has_three_bytes(rt, "here/arch.meta")
+        && len_of(rt, "here/arch.meta") == Some(3)
+}
+
+fn a_sync_fails<R: Files<File = File>>(alloc: Global, rt: &R) -> Result<bool, AllocError> {
+    let is_made = is_folder(rt, "here");
+    Ok(stays_failed(rt, &mut disk_at(alloc, rt, "here/arch")?) && is_made)
 }
 
 #[test]
 fn a_sync_that_failed_stays_failed(rt: HostRuntime) -> Result<(), Fail> {
-    fs::create_dir(&rt, "here")?;
-    assert!(rt; stays_failed(&rt, &mut disk_at(rt.alloc(), &rt, "here/arch")?));
+    assert!(rt; a_sync_fails(rt.alloc(), &rt)?);
     Ok(())
 }
 
-// 20,000 bytes, of which no two ranges that are read are alike.
+// 20,000 bytes, of which no two pieces side by side are alike.
 fn content_of(alloc: Global) -> Result<Vec<u8>, AllocError> {
     let mut content = Vec::new(alloc);
     for at in 0..20_000u32 {
@@ -206,7 +251,9 @@ fn content_of(alloc: Global) -> Result<Vec<u8>, AllocError> {
 }
 
 // Whether reads that go on give all of the volume 0.
-fn goes_on<R: Files<File = File>>(disk: &mut FileDisk<'_, R>, content: &[u8]) -> bool {
+fn goes_on<D: Disk>(disk: &mut D, content: &[u8]) -> bool
+    requires { D.tells → ⊥ }
+{
     for (number, piece) in content.chunks(100).enumerate() {
         if !stands(disk, number as u64 * 100, piece) {
             return false;
@@ -216,7 +263,9 @@ fn goes_on<R: Files<File = File>>(disk: &mut FileDisk<'_, R>, content: &[u8]) ->
 }
 
 // Whether reads are those of the file, also behind a change of what was read ahead.
-fn reads_on<R: Files<File = File>>(disk: &mut FileDisk<'_, R>, content: &[u8]) -> bool {
+fn reads_on<D: Disk>(disk: &mut D, content: &[u8]) -> bool
+    requires { D.tells → ⊥ }
+{
     goes_on(disk, content)
         && goes_on(disk, content.get(..200).unwrap_or(&[]))
         && disk.cut(FileId::Volume(0), 250).is_ok()
@@ -225,10 +274,14 @@ fn reads_on<R: Files<File = File>>(disk: &mut FileDisk<'_, R>, content: &[u8]) -
         && stands(disk, 250, b"new")
 }
 
+fn reads_ahead<R: Files<File = File>>(alloc: Global, rt: &R) -> Result<bool, AllocError> {
+    let content = content_of(alloc)?;
+    let is_made = is_written(rt, &["ahead.0"], content.as_slice());
+    Ok(reads_on(&mut disk_at(alloc, rt, "ahead")?, &content) && is_made)
+}
+
 #[test]
 fn reads_that_go_on_are_those_of_the_file(rt: HostRuntime) -> Result<(), Fail> {
-    let content = content_of(rt.alloc())?;
-    fs::write(&rt, "ahead.0", content.as_slice())?;
-    assert!(rt; reads_on(&mut disk_at(rt.alloc(), &rt, "ahead")?, &content));
+    assert!(rt; reads_ahead(rt.alloc(), &rt)?);
     Ok(())
 }

@@ -11,6 +11,7 @@ use std::sync::Wait;
 use std::sync::atomic::{AtomicBool, AtomicU64, Ordering};
 use std::test::Fail;
 use std::thread::{self, Threads};
+use std::time::{Clock, Duration};
 
 // Two regions, each with a counter that opens on 7.
 const HEAD: &[u8] =
@@ -44,10 +45,11 @@ const BESIDE: [Hold; 10] = [
 // What the items of that recording show of both counters.
 const SHOWN: [[u8; 2]; 5] = [[7, 7], [12, 7], [12, 12], [17, 17], [17, 17]];
 
-// Holds steps, each for so many tries, counts the calls of each writer and the logger, and tells whether one came out of its order or
-// waited too long.
+// Holds steps, each for so many milliseconds, counts the calls of each writer and the logger, and tells whether one came out of its
+// order or waited too long.
 #[derive(Drop)]
-struct Held {
+struct Held<'a, R: Clock> {
+    rt: &'a R,
     holds: &'static [Hold],
     first: AtomicU64,
     second: AtomicU64,
@@ -55,9 +57,10 @@ struct Held {
     fails: AtomicBool,
 }
 
-impl Held {
-    fn new(holds: &'static [Hold]) -> Self {
+impl<'a, R: Clock> Held<'a, R> {
+    fn new(rt: &'a R, holds: &'static [Hold]) -> Self {
         Held {
+            rt,
             holds,
             first: AtomicU64::new(0),
             second: AtomicU64::new(0),
@@ -76,17 +79,17 @@ impl Held {
     }
 
     fn wait(&self, who: u32, step: u64) {
-        for _ in 0..20_000_000u32 {
+        for _ in 0..10_000u32 {
             if self.calls(who).load(Ordering::SeqCst) > step || self.fails.load(Ordering::SeqCst) {
                 return;
             }
-            thread::yield_now();
+            thread::sleep(self.rt, Duration::from_millis(1));
         }
         self.fails.store(true, Ordering::SeqCst);
     }
 }
 
-impl Turn for Held {
+impl<'a, R: Clock> Turn for Held<'a, R> {
     fn turn(&self, who: u32, step: u64) {
         if self.calls(who).fetch_add(1, Ordering::SeqCst) != step {
             self.fails.store(true, Ordering::SeqCst);
@@ -123,16 +126,16 @@ const ONE: Case = Case {
     holds: &[],
 };
 
-// What a recording came to: its status, its output, the first volume, how many calls changed a file, what the regions that are left
-// show of both counters, and whether a step came out of its order or waited too long.
-#[derive(Drop)]
+// What a recording came to: its status, whether its output is as it must be, whether each step came in its order and in time, how many
+// calls changed a file, and what both counters show in the regions that are left and in the items of the first volume.
+#[derive(Clone, Copy)]
 struct Ran {
     status: u8,
-    out: Vec<u8>,
-    volume: Vec<u8>,
+    is_told: bool,
+    is_held: bool,
     moments: usize,
-    counters: Option<[u32; 2]>,
-    fails: bool,
+    left: Option<[u32; 2]>,
+    items: [[u8; 2]; 5],
 }
 
 // The words of a line.
@@ -151,22 +154,23 @@ fn input_of(alloc: Global, steps: &[u8]) -> Result<SureSource, AllocError> {
     Ok(SureSource::new(List::from_vec(script)))
 }
 
-// A clock of whole seconds, where these calls fail.
-fn clock_of(alloc: Global, seconds: &[u32], fails: &[u64]) -> Result<ListClock, AllocError> {
+// A clock of whole seconds.
+fn clock_of(alloc: Global, case: &Case) -> Result<ListClock, AllocError> {
     let mut moments = Vec::new(alloc);
-    for second in seconds {
+    for second in case.seconds {
         if let Some(moment) = Stamp::build(*second, 0) {
             moments.push(moment)?;
         }
     }
-    let fails = List::from_vec(fails.to_vec(alloc)?);
+    let fails = List::from_vec(case.clock_fails.to_vec(alloc)?);
     Ok(ListClock::new(List::from_vec(moments), fails))
 }
 
-// A disk of which these calls fail: an empty one, or one on which a label was begun by the first call.
-fn disk_of(alloc: Global, fails: &[u64], is_begun: bool) -> Result<MemDisk, AllocError> {
-    let mut disk = MemDisk::new(alloc, List::from_vec(fails.to_vec(alloc)?));
-    if is_begun {
+// An empty disk, or one on which a label was begun by the first call.
+fn disk_of(alloc: Global, case: &Case) -> Result<MemDisk, AllocError> {
+    let fails = List::from_vec(case.disk_fails.to_vec(alloc)?);
+    let mut disk = MemDisk::new(alloc, fails);
+    if case.is_begun {
         let _ = disk.append(FileId::Meta, b"\x00\x00\x00\x84");
     }
     Ok(disk)
@@ -197,7 +201,7 @@ fn counters_of(alloc: Global, server: &Server, seat: &mut Seat) -> Option<[u32; 
 
 // The call, and what the regions show that it leaves: whoever calls this has nothing to do with its contract.
 #[tactic(auto, using(crate::proofs::Left::is_seated))]
-fn run<R: Threads + Wait + Sync>(
+fn run<R: Threads + Wait + Clock + Sync>(
     rt: &R,
     alloc: Global,
     words: &[String],
@@ -205,7 +209,7 @@ fn run<R: Threads + Wait + Sync>(
     out: &mut MemSink,
     disk: &mut MemDisk,
     clock: &mut ListClock,
-    turn: &Held,
+    turn: &Held<'_, R>,
 ) -> (u8, Option<[u32; 2]>) {
     let mut opened = None;
     let status = run_record(rt, alloc, words, input, out, disk, clock, turn, &mut opened);
@@ -218,24 +222,43 @@ fn run<R: Threads + Wait + Sync>(
     (status, counters_of(alloc, &left.server, seat))
 }
 
-// Records as the case says.
-fn record<R: Threads + Wait + Sync>(rt: &R, alloc: Global, case: &Case) -> Result<Ran, AllocError> {
+fn byte_at(bytes: &[u8], at: usize) -> u8 {
+    *bytes.get(at).unwrap_or(&0)
+}
+
+// The low bytes of both counters in the first items of a volume, and 0 where none is.
+fn items_in(volume: &[u8]) -> [[u8; 2]; 5] {
+    let mut shown = [[0u8; 2]; 5];
+    let items = volume.get(132..).unwrap_or(&[]).chunks(60);
+    for (item, both) in items.zip(shown.iter_mut()) {
+        *both = [byte_at(item, 35), byte_at(item, 55)];
+    }
+    shown
+}
+
+// Records as the case says, which is to write this.
+fn record<R: Threads + Wait + Clock + Sync>(
+    rt: &R,
+    alloc: Global,
+    case: &Case,
+    told: &[u8],
+) -> Result<Ran, AllocError> {
     let words = words_of(alloc, case.line)?;
     let mut input = input_of(alloc, case.steps)?;
+    let mut clock = clock_of(alloc, case)?;
+    let mut disk = disk_of(alloc, case)?;
     let mut out = MemSink::new(alloc, List::empty(alloc));
-    let mut disk = disk_of(alloc, case.disk_fails, case.is_begun)?;
-    let mut clock = clock_of(alloc, case.seconds, case.clock_fails)?;
-    let held = Held::new(case.holds);
-    let (status, counters) = run(
+    let held = Held::new(rt, case.holds);
+    let (status, left) = run(
         rt, alloc, &words, &mut input, &mut out, &mut disk, &mut clock, &held,
     );
     Ok(Ran {
         status,
-        out: out.bytes().to_vec(alloc)?,
-        volume: disk.bytes(FileId::Volume(0)).to_vec(alloc)?,
+        is_told: out.bytes() == told,
+        is_held: !held.fails.load(Ordering::SeqCst),
         moments: disk.moments(),
-        counters,
-        fails: held.fails.load(Ordering::SeqCst),
+        left,
+        items: items_in(disk.bytes(FileId::Volume(0))),
     })
 }
 
@@ -249,24 +272,16 @@ fn beside(rt: HostRuntime) -> Result<(), Fail> {
         holds: &BESIDE,
         ..ONE
     };
-    let ran = record(&rt, rt.alloc(), &case)?;
-    assert_eq!(rt; (ran.status, ran.fails), (0, false));
-    assert_eq!(rt; ran.out.as_slice(), b"logged 5\n".as_slice());
-    assert_eq!(rt; ran.counters, Some([17, 17]));
-    let items = ran.volume.get(132..).unwrap_or(&[]);
-    assert_eq!(rt; items.len(), 300);
-    for (item, shown) in items.chunks(60).zip(SHOWN) {
-        assert_eq!(rt;
-            (item.get(35), item.get(55)),
-            (Some(&shown[0]), Some(&shown[1]))
-        );
-    }
+    let ran = record(&rt, rt.alloc(), &case, b"logged 5\n")?;
+    assert!(rt; ran.status == 0 && ran.is_told && ran.is_held);
+    assert_eq!(rt; ran.items, SHOWN);
+    assert_eq!(rt; ran.left, Some([17, 17]));
     Ok(())
 }
 
 // How recordings end: where the clock ends or fails, and where the disk fails at its first call, in the recovery or for the first
 // sample, the writers run all the same. A reading is no step of a writer.
-const ENDINGS: [(Case, u8, &[u8], usize, Option<[u32; 2]>); 5] = [
+const ENDINGS: [(Case, u8, &[u8], Option<[u32; 2]>); 5] = [
     (
         Case {
             seconds: &[],
@@ -274,7 +289,6 @@ const ENDINGS: [(Case, u8, &[u8], usize, Option<[u32; 2]>); 5] = [
         },
         8,
         b"clock end 1\n",
-        0,
         Some([17, 17]),
     ),
     (
@@ -284,7 +298,6 @@ const ENDINGS: [(Case, u8, &[u8], usize, Option<[u32; 2]>); 5] = [
         },
         20,
         b"clock fault 1\n",
-        0,
         Some([17, 17]),
     ),
     (
@@ -295,7 +308,6 @@ const ENDINGS: [(Case, u8, &[u8], usize, Option<[u32; 2]>); 5] = [
         },
         5,
         b"disk fault\n",
-        1,
         Some([17, 17]),
     ),
     (
@@ -306,7 +318,6 @@ const ENDINGS: [(Case, u8, &[u8], usize, Option<[u32; 2]>); 5] = [
         },
         5,
         b"disk fault\n",
-        0,
         Some([17, 17]),
     ),
     (
@@ -316,21 +327,20 @@ const ENDINGS: [(Case, u8, &[u8], usize, Option<[u32; 2]>); 5] = [
         },
         2,
         b"input line 15 Condition\n",
-        0,
         None,
     ),
 ];
 
+// Nothing is done to any file, but for the label that was begun.
 #[test]
 fn endings(rt: HostRuntime) -> Result<(), Fail> {
-    for (case, status, out, moments, counters) in &ENDINGS {
-        let ran = record(&rt, rt.alloc(), case)?;
-        assert_eq!(rt; (ran.status, ran.out.as_slice()), (*status, *out));
-        assert_eq!(rt;
-            (ran.moments, ran.counters, ran.fails),
-            (*moments, *counters, false),
+    for (case, status, told, left) in &ENDINGS {
+        let ran = record(&rt, rt.alloc(), case, told)?;
+        assert!(rt;
+            ran.is_told && ran.moments == usize::from(case.is_begun),
             "{status}"
         );
+        assert_eq!(rt; (ran.status, ran.left), (*status, *left));
     }
     Ok(())
 }

@@ -10,7 +10,7 @@ use std::sync::Wait;
 use std::sync::atomic::{AtomicBool, AtomicU64, Ordering};
 use std::test::Fail;
 use std::thread::Threads;
-use std::time::Clock;
+use std::time::{Clock, Duration};
 use std::{io, thread};
 
 const SCRIPT: &[u8] = b"image D\nmmv 1 5 0 0 1\nindom 1 - -\ninstance 1 0 \"a\"\n\
@@ -59,17 +59,19 @@ const KNOWN: &[u8] =
 const WORDS: [&str; 2] = ["serve", "2"];
 
 // Holds each step of a writer behind its first one until as many clients were answered, and a client's question until the step was
-// reached, each for so many tries, and tells whether one came too late.
+// reached, each for so many milliseconds, and tells whether one came too late.
 #[derive(Drop)]
-struct Held {
+struct Held<'a, R: Clock> {
+    rt: &'a R,
     reached: AtomicU64,
     answered: AtomicU64,
     is_late: AtomicBool,
 }
 
-impl Held {
-    fn new() -> Self {
+impl<'a, R: Clock> Held<'a, R> {
+    fn new(rt: &'a R) -> Self {
         Held {
+            rt,
             reached: AtomicU64::new(0),
             answered: AtomicU64::new(0),
             is_late: AtomicBool::new(false),
@@ -77,17 +79,17 @@ impl Held {
     }
 
     fn wait(&self, count: &AtomicU64, least: u64) {
-        for _ in 0..20_000_000u32 {
+        for _ in 0..10_000u32 {
             if count.load(Ordering::SeqCst) >= least || self.is_late.load(Ordering::SeqCst) {
                 return;
             }
-            thread::yield_now();
+            thread::sleep(self.rt, Duration::from_millis(1));
         }
         self.is_late.store(true, Ordering::SeqCst);
     }
 }
 
-impl Turn for Held {
+impl<'a, R: Clock> Turn for Held<'a, R> {
     fn turn(&self, _who: u32, step: u64) {
         self.reached.store(step, Ordering::SeqCst);
         self.wait(&self.answered, step);
@@ -102,7 +104,7 @@ fn serve_four<R: Threads + Wait + Clock + Alloc<A = Global> + Send + Sync>(
     words: &[String],
     input: &mut SureSource,
     out: &mut MemSink,
-    turn: &Held,
+    turn: &Held<'_, R>,
 ) -> u8 {
     let mut doors = [
         TcpDoor::new(listener, rt),
@@ -120,7 +122,7 @@ fn serve_two<R: Threads + Wait + Clock + Alloc<A = Global> + Send + Sync>(
     alloc: Global,
     listener: &TcpListener,
     steps: &[u8],
-    turn: &Held,
+    turn: &Held<'_, R>,
 ) -> Result<bool, AllocError> {
     let mut words = Vec::new(alloc);
     for word in WORDS {
@@ -155,11 +157,11 @@ fn ask_all<R: Net<Stream = TcpStream>>(
 }
 
 // Whether all is answered as it must be, where each time the writer is before a step: before it adds, and behind that.
-fn ask_live<R: Net<Stream = TcpStream>>(
+fn ask_live<R: Net<Stream = TcpStream> + Clock>(
     rt: &R,
     alloc: Global,
     address: SocketAddr,
-    held: &Held,
+    held: &Held<'_, R>,
 ) -> io::Result<bool> {
     let mut is_told = true;
     for (step, value) in [(1, 3), (2, 8)] {
@@ -200,12 +202,12 @@ fn ask_beside<R: Net<Stream = TcpStream>>(rt: &R, address: SocketAddr) -> io::Re
 }
 
 // Asks by two clients: beside each other where the script has no step, else one after the other beside its steps.
-fn ask<R: Net<Stream = TcpStream>>(
+fn ask<R: Net<Stream = TcpStream> + Clock>(
     rt: &R,
     alloc: Global,
     address: SocketAddr,
     steps: &[u8],
-    held: &Held,
+    held: &Held<'_, R>,
 ) -> io::Result<bool> {
     if steps.is_empty() {
         ask_beside(rt, address)
@@ -225,7 +227,7 @@ where
         + Send
         + Sync,
 {
-    let held = Held::new();
+    let held = Held::new(rt);
     let listener = TcpListener::bind(rt, "127.0.0.1:0")?;
     let address = listener.local_addr()?;
     let (is_told, is_done) = thread::join(
