@@ -1,3 +1,4 @@
+pub mod Endings
 pub mod Facts
 pub mod Room
 pub mod Scripted

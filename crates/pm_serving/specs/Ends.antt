@@ -17,7 +17,7 @@ use Rattle.pm_serving.specs.declared.refusal.ServeRefusal.TheVariants.{Before, A
 use Rattle.pm_serving.specs.declared.served.Served.{Served}
 use Rattle.pm_serving.specs.CommandWords.{count_of}
 use Rattle.pm_words.specs.Reading.{WasRead, ReadCause, TookSome}
-use Rattle.pm_serving.specs.Refusals.{serving_status, serving_line, served_line}
+use Rattle.pm_serving.specs.Refusals.{IsNumbered, serving_status, serving_line, served_line}
 use Rattle.pm_serving.specs.Scripts.{script_served}
 use Rattle.pm_serving.specs.Serving.{DoorsSide, IsUnserved, Leaves, WereCut}
 
@@ -106,3 +106,16 @@ pub record EndsRefused {P In Out Time : Type 0} (words : List (List ℕ)) (s : S
 
 abbrev pub Ends : {P In Out Time : Type 0} → List (List ℕ) → SourceSide → SinkSide → DoorsSide P In Out Time → Option Served → ℕ → Type 0
 Ends words s k d served status = ((status ≡ 0) × EndsDone words s k d served) ⊎ (((status ≡ 4) × EndsUntold words s k d served) ⊎ ((e : ServeRefusal) × (status ≡ serving_status e) × EndsRefused words s k d served e))
+
+-- What is written and answered in the end, whatever ran: this line and 0, or a front of it and 4 where the sink failed; or the refusal's line and
+-- its status, or nothing and 9 where memory was refused for it.
+
+abbrev pub EndsWithLine : SinkSide → ℕ → List ℕ → Type 0
+EndsWithLine k status line =
+    ((status ≡ 0) × (k.tells → k.after ≡ k.written ++ line))
+    ⊎ ((status ≡ 4) × Rose k.faults k.faults_after × (k.tells → (n : ℕ) × (k.after ≡ k.written ++ take n line)))
+
+abbrev pub EndsWithRefusal : SinkSide → ℕ → ServeRefusal → Type 0
+EndsWithRefusal k status e =
+    ((status ≡ serving_status e) × (k.tells → Wrote k.faults k.faults_after k.written k.after (serving_line e)))
+    ⊎ ((status ≡ 9) × IsNumbered e × (k.tells → k.after ≡ k.written))

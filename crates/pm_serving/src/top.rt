@@ -2,7 +2,7 @@
 ghost use Rattle.std.specs.Prelude.{◌≡◌, ◌⊎◌, length, map, string_bytes, IfOk, MatchResult, None};
 ghost use Rattle.pcp_outside.specs.Causes.{Rose};
 ghost use Rattle.pmcd_server.specs.Crews.{SomeRose};
-ghost use Rattle.pm_serving.specs.Ends.{Cause, Ends, EndsDone, IsOrder, Refuses, Tells};
+ghost use Rattle.pm_serving.specs.Ends.{Cause, Ends, EndsDone, EndsWithLine, EndsWithRefusal, IsOrder, Refuses, Tells};
 ghost use Rattle.pm_serving.specs.Facts.{IsGoodRun, LimitIsExact, ScriptFaultIsExact, ServedIsExact, UsageIsExact};
 ghost use Rattle.pm_serving.specs.Refusals.{served_line};
 ghost use Rattle.pm_serving.specs.Serving.{doors_side};
@@ -78,26 +78,11 @@ where
     Ok(line)
 }
 
-// Serves, and writes the last line.
-fn answer<I: Source, O: Sink, P: Door + Send, R: Threads + Wait + Sync, T: Turn + Sync>(
-    rt: &R,
-    alloc: Global,
-    words: &[String],
-    input: &mut I,
-    out: &mut O,
-    doors: &mut [P],
-    turn: &T,
-    served: &mut Option<Served>,
-) -> u8
-where
-    P::In: Send,
-    P::Out: Send,
-    P::Time: Send,
-    requires four { length doors.old ≡ 4 }
-    requires fresh { served.old ≡ None }
-    ensures { Ends (map string_bytes words.now) (source_side I.Source input.old input.new) (sink_side O.Sink out.old out.new) (doors_side P.Door doors.old doors.new) served.new result }
+// Writes the last line of a call that came to this, and tells its status.
+fn tell_end<O: Sink>(alloc: Global, out: &mut O, ran: Result<Bytes, ServeRefusal>) -> u8
+    ensures { MatchResult ran (EndsWithLine (sink_side O.Sink out.old out.new) result) (EndsWithRefusal (sink_side O.Sink out.old out.new) result) }
 {
-    match run(rt, alloc, words, input, doors, turn, served) {
+    match ran {
         Ok(line) => match write_all(out, line.as_slice()) {
             Ok(()) => 0,
             Err(_) => 4,
@@ -157,5 +142,6 @@ where
     // A script that may be served is served.
     ensures completes { IsGoodRun (map string_bytes words.now) (source_side I.Source input.old input.new) (sink_side O.Sink out.old out.new) (doors_side P.Door doors.old doors.new) → (result ≡ 0) ⊎ (result ≡ 9) }
 {
-    answer(rt, alloc, words, input, out, doors, turn, served)
+    let ran = run(rt, alloc, words, input, doors, turn, served);
+    tell_end(alloc, out, ran)
 }
