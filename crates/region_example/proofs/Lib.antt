@@ -1,2 +1,3 @@
-pub mod Alone
 pub mod Slots
+pub mod Adds
+pub mod End

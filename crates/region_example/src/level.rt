@@ -1,9 +1,9 @@
 //! The levels of a log's lines.
 
 ghost use Rattle.std.specs.Prelude.{◌≡◌};
-ghost use Rattle.region_example.specs.Levels.{level_of};
+ghost use Rattle.region_example.specs.Levels.{instance_of, level_of};
 
-/// How grave a line of a log is. Each level is an instance of the region's domain, numbered from 0 in this order.
+/// How grave a line of a log is. Each level is an instance of the region's domain.
 #[derive(Clone, Copy, Debug, PartialEq, Eq)]
 pub enum Level {
     Info,
@@ -30,5 +30,12 @@ impl Level {
             return Level::Warning;
         }
         Level::Info
+    }
+
+    /// The number of the level's instance.
+    pub fn instance(self) -> i32
+        ensures { result ≡ instance_of self }
+    {
+        self as i32
     }
 }

@@ -1,41 +1,19 @@
-//! The logging: what the region shows goes into an archive, one result at a time.
-
-ghost use Rattle.std.specs.Prelude.{◌≡◌, ◌∷◌, [], IfOk};
-ghost use Rattle.fetch_engine.specs.Servers.{IsSeated, regions_in};
+//! The logging: what the region shows goes into an archive (LOGARCHIVE(5)), one result at a time.
 
 use anyhow::{Context, Result, ensure};
 use archive_recovery::{Archive, recover};
-use fetch_engine::{Fetched, Mounted, Seat, Server};
+use fetch_answers::{Fetched, Shot, answer, names_of};
 use logger_core::Logger;
-use pcp_base::{Stamp, Text};
+use mmv_layout::Image;
+use pcp_base::{List, Stamp, Text};
 use pcp_model::Label;
 use pcp_outside::{Clock, Disk};
 use profile_filter::Profile;
-use region_words::{Pass, Region};
 use result_form::fits;
 use std::alloc::Global;
 
 // The greatest volume of the archive, in bytes.
 const VOLUME_LIMIT: u64 = 1_073_741_824;
-
-/// A server of this region alone, which names its metrics `mmv.log.NAME`, and the seat of one who reads there.
-pub fn serve(alloc: Global, region: Region, cluster: u32, pass: Pass) -> Result<(Server, Seat)>
-    requires here { pass.region ≡ region }
-    ensures alone { IfOk result (λ made. regions_in made.0 ≡ region ∷ []) }
-    ensures seated { IfOk result (λ made. IsSeated made.0 made.1.tokens) }
-{
-    let file = Text::build(alloc, b"log")?;
-    let row = Mounted {
-        file,
-        cluster,
-        region,
-    };
-    let server = Server::new(vec![in alloc; row]?)?;
-    match server.seat(alloc, vec![in alloc; pass]?) {
-        Ok(seat) => Ok((server, seat)),
-        Err((_, fault)) => Err(fault.into()),
-    }
-}
 
 /// The moment by a clock.
 pub fn now(clock: &mut impl Clock) -> Result<Stamp> {
@@ -64,47 +42,34 @@ pub fn open(alloc: Global, disk: &mut impl Disk, stamp: Stamp) -> Result<Logger>
     go_on(alloc, disk, archive, stamp)
 }
 
-/// What all metrics of a server show now, and what describes them. The region is read without a lock: where it was being changed it is
-/// read again, three times at most.
-pub fn sample(alloc: Global, server: &Server, seat: &mut Seat, stamp: Stamp) -> Result<Fetched>
-    requires { IsSeated server.now seat.old.tokens }
-    ensures { IsSeated server.now seat.new.tokens }
-{
-    let named = server.names(alloc, seat)?;
+// What a fetch of all metrics of an image answers (pmFetch(3)). Their names are `mmv.log.lines` and `mmv.log.bytes`.
+fn fetch(alloc: Global, image: Image, stamp: Stamp) -> Result<Fetched> {
+    let shots = [Shot {
+        file: Text::build(alloc, b"log")?,
+        cluster: image.cluster(),
+        image: Some(image),
+    }];
+    let named = names_of(alloc, &shots)?;
     let root = Text::build(alloc, b"mmv")?;
-    let mut pmids = Vec::new(alloc);
+    let mut pmids = List::empty(alloc);
     for (_, pmid) in named.names.traverse(alloc, &root)?.as_slice() {
         pmids.push(*pmid)?;
     }
-    Ok(server.fetch(alloc, seat, &Profile::all(alloc), &pmids, stamp)?)
+    let profile = Profile::all(alloc);
+    Ok(answer(alloc, &shots, &profile, pmids.as_slice(), stamp)?)
 }
 
-/// Logs a sample as one result, and makes it sure: from then on no crash takes it away.
+/// Logs what an image shows as one result, and makes it sure: from then on no crash takes it away.
 pub fn log(
     alloc: Global,
     disk: &mut impl Disk,
     logger: &mut Logger,
-    sample: &Fetched,
-) -> Result<()> {
-    let result = &sample.result;
-    ensure!(!result.sets.is_empty(), "no metric is shown");
-    ensure!(fits(result), "the sample can't be written");
-    logger.log(alloc, disk, result, &sample.facts)?;
-    Ok(logger.flush(disk)?)
-}
-
-/// Logs what all metrics of a server show now.
-pub fn log_sample(
-    alloc: Global,
-    disk: &mut impl Disk,
-    logger: &mut Logger,
-    server: &Server,
-    seat: &mut Seat,
+    image: Image,
     stamp: Stamp,
-) -> Result<()>
-    requires { IsSeated server.now seat.old.tokens }
-    ensures { IsSeated server.now seat.new.tokens }
-{
-    let shown = sample(alloc, server, seat, stamp)?;
-    log(alloc, disk, logger, &shown)
+) -> Result<()> {
+    let shown = fetch(alloc, image, stamp)?;
+    ensure!(!shown.result.sets.is_empty(), "no metric is shown");
+    ensure!(fits(&shown.result), "the result can't be written");
+    logger.log(alloc, disk, &shown.result, &shown.facts)?;
+    Ok(logger.flush(disk)?)
 }

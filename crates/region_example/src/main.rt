@@ -29,9 +29,10 @@ fn main(rt: HostRuntime) -> Result<()> {
     let mut input = Vec::new(alloc);
     rt.reader().read_to_end(&mut input)?;
     let lines: Vec<&[u8]> = input.split_inclusive(|byte| *byte == b'\n').collect(alloc)?;
+    let batches: Vec<&[&[u8]]> = lines.chunks(every).collect(alloc)?;
     let mut disk = FileDisk::new(alloc, &rt, base.to_string(alloc)?);
     let mut clock = SystemClock::new(&rt);
-    let (logged, image) = run(&rt, alloc, &mut disk, &mut clock, &lines, every)?;
+    let (logged, image) = run(&rt, alloc, &mut disk, &mut clock, &batches)?;
     println!(rt; "logged {logged}")?;
     for (level, name) in LEVELS {
         let lines = count_in(&image, LINES, level);

@@ -1,14 +1,13 @@
 //! The work of the program: it makes the region, has its lines counted, and logs.
 
-ghost use Rattle.std.specs.Prelude.{◌≡◌, ◌<◌, IfOk};
-ghost use Rattle.fetch_engine.specs.Servers.{IsSeated};
+ghost use Rattle.std.specs.Prelude.{[], IfOk};
+ghost use Rattle.region_example.specs.Counts.{AreOf, CountsHalves, HasCounted, IsCounted};
 
 use crate::counting::count_together;
-use crate::layout::{add_errors, first_image};
+use crate::layout::{add_errors, last_image, make_region};
 use crate::level::Level;
-use crate::logging::{log_sample, now, open, serve};
-use anyhow::{Result, bail};
-use fetch_engine::{Seat, Server};
+use crate::logging::{log, now, open};
+use anyhow::Result;
 use mmv_layout::Image;
 use pcp_outside::{Clock, Disk};
 use region_words::{Pass, Region};
@@ -16,87 +15,66 @@ use std::alloc::Global;
 use std::sync::Wait;
 use std::thread::Threads;
 
-// How many words the region has: enough for the layout with all levels.
-const CAPACITY: u32 = 512;
-
 fn has_error(lines: &[&[u8]]) -> bool {
     lines
         .iter()
         .any(|line| Level::of_line(line) == Level::Error)
 }
 
-// Lays the region anew before lines are counted of which one is the first error.
-fn make_ready<R: Wait>(
+// Counts a batch of lines, for which the region is laid anew if one of them is an error.
+fn count_batch<R: Threads + Wait + Sync>(
     rt: &R,
     alloc: Global,
     region: &Region,
-    workers: (Pass, Pass),
+    passes: (Pass, Pass),
     lines: &[&[u8]],
-    has_errors: &mut bool,
 ) -> Result<(Pass, Pass)>
-    requires here { (workers.0.region ≡ region.now) × (workers.1.region ≡ region.now) }
-    ensures here { IfOk result (λ workers. (workers.0.region ≡ region.now) × (workers.1.region ≡ region.now)) }
+    requires here { AreOf region.now passes }
+    ensures here { IfOk result (AreOf region.now) }
+    ensures counts { IfOk result (CountsHalves lines.now passes) }
 {
-    if *has_errors || !has_error(lines) {
-        return Ok(workers);
+    if !has_error(lines) {
+        return count_together(rt, alloc, region, passes, lines);
     }
-    *has_errors = true;
-    add_errors(rt, alloc, region, workers)
+    let passes = add_errors(rt, alloc, region, passes)?;
+    count_together(rt, alloc, region, passes, lines)
 }
 
-// Counts lines, and logs behind each so many of them. Answers how many results the archive has, and the words of the region in the end.
+// Counts batches of lines in a region, and logs it behind each. Answers how many results the archive has, and the last image.
 fn count_all<R: Threads + Wait + Sync>(
     rt: &R,
     alloc: Global,
     disk: &mut impl Disk,
     clock: &mut impl Clock,
-    server: &Server,
     region: &Region,
-    seat: &mut Seat,
-    workers: (Pass, Pass),
-    lines: &[&[u8]],
-    every: usize,
+    passes: (Pass, Pass),
+    batches: &[&[&[u8]]],
 ) -> Result<(u64, Image)>
-    requires some { 0 < every }
-    requires seated { IsSeated server.now seat.old.tokens }
-    requires here { (workers.0.region ≡ region.now) × (workers.1.region ≡ region.now) }
+    requires here { AreOf region.now passes }
+    requires fresh { HasCounted [] passes.0.view passes.1.view }
+    ensures { IfOk result (λ told. IsCounted batches.now told.1) }
 {
     let mut logger = open(alloc, disk, now(clock)?)?;
-    let mut workers = workers;
-    let mut has_errors = false;
-    for batch in lines.chunks(every) {
-        workers = make_ready(rt, alloc, region, workers, batch, &mut has_errors)?;
-        workers = count_together(rt, alloc, region, workers, batch)?;
-        log_sample(alloc, disk, &mut logger, server, seat, now(clock)?)?;
+    let mut passes = passes;
+    for batch in batches {
+        passes = count_batch(rt, alloc, region, passes, batch)?;
+        let image = region.read_image(alloc, &mut passes.0)?;
+        log(alloc, disk, &mut logger, image, now(clock)?)?;
     }
-    Ok((logger.logged(), region.read_image(alloc, &mut workers.0)?))
+    Ok((logger.logged(), last_image(alloc, region, passes)?))
 }
 
-/// Makes the region, has the lines counted in it, and logs it behind each so many of them. Answers how many results the archive has, and
-/// the words of the region in the end.
-#[tactic(auto, using(crate::proofs::Alone::only))]
+/// Makes the region, has batches of lines counted in it by two threads, and logs it behind each. Answers how many results the archive
+/// has, and the last image of the region.
 pub fn run<R: Threads + Wait + Sync>(
     rt: &R,
     alloc: Global,
     disk: &mut impl Disk,
     clock: &mut impl Clock,
-    lines: &[&[u8]],
-    every: usize,
+    batches: &[&[&[u8]]],
 ) -> Result<(u64, Image)>
-    requires { 0 < every }
+    ensures { IfOk result (λ told. IsCounted batches.now told.1) }
 {
-    // Whoever uses a region has a pass of it: two threads that count, and the logger that reads.
-    let image = first_image(alloc)?;
-    let (region, mut passes) = Region::make(alloc, &image, CAPACITY, 3)?;
-    let (Some(first), Some(second), Some(third)) = (passes.pop(), passes.pop(), passes.pop()) else {
-        bail!("a pass is missing");
-    };
-    let (server, mut seat) = serve(alloc, region, image.cluster(), third)?;
-    let Some(region) = server.region(0) else {
-        bail!("the server has no region");
-    };
-    let workers = (first, second);
-    count_all(
-        rt, alloc, disk, clock, &server, region, &mut seat, workers, lines, every,
-    )
+    let (region, passes) = make_region(alloc)?;
+    count_all(rt, alloc, disk, clock, &region, passes, batches)
 }

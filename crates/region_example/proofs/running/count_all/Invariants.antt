@@ -1,7 +1,7 @@
--- The passes of both threads are still of the region, and the seat is still the server's.
-use Rattle.std.proofs.Common.{◌≡◌}
-use Rattle.fetch_engine.specs.Servers.{IsSeated}
+-- The passes are those of the region, and the batches so far were counted.
+use Rattle.std.proofs.Common.{take}
+use Rattle.region_example.specs.Counts.{AreOf, HasCounted}
 use Rattle.region_example.proofs.running.count_all.Given as goal
 
 abbrev pub invariant-loop-batch : goal.invariant-loop-batch
-invariant-loop-batch g l = (l.workers.0.region ≡ l.region) × (l.workers.1.region ≡ l.region) × IsSeated l.server l.seat.tokens
+invariant-loop-batch g l = AreOf l.region l.passes × HasCounted (take l.batch-index l.batches) l.passes.0.view l.passes.1.view
