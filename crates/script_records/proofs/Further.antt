@@ -1,5 +1,5 @@
 -- What loads add to what a pass has seen, and what a pass knows that has ended others.
-use Rattle.std.proofs.Common.{◌≡◌, ◌≢◌, ℕ, zero, suc, ◌+◌, ◌<◌, ◌⊎◌, Bool, true, eqb, eq-eqb, List, [], ◌∷◌, ◌++◌, All, append_assoc, append-nil, length, slice_get, Some, inl, inr, ⊎_elim, sym, refl, ap, ◌∙◌, subst, arith}
+use Rattle.std.proofs.Common.{◌≡◌, ◌≢◌, ℕ, zero, suc, ◌<◌, ◌⊎◌, Bool, true, eqb, eq-eqb, List, [], ◌∷◌, ◌++◌, All, append_assoc, append-nil, length, slice_get, Some, inl, inr, ⊎_elim, sym, refl, ap, ◌∙◌, subst, arith}
 use Rattle.std.proofs.lemmas.List.{append_cancel_left}
 use Rattle.std.proofs.lemmas.List.Elements.{All-append}
 use Rattle.region_core.specs.declared.act.Act.TheVariants.{Load}
