@@ -14,32 +14,21 @@ fn disk_at<'a, R: Files<File = File>>(
     Ok(FileDisk::new(alloc, rt, String::from_str(alloc, base)?))
 }
 
-#[test]
-fn the_system_keeps_the_files_of_an_archive(rt: HostRuntime) -> Result<(), Fail> {
-    let mut disk = disk_at(rt.alloc(), &rt, "outside_files")?;
-    assert_eq!(rt; disk.volumes(), Ok(0));
-    append_synced(&mut disk, FileId::Volume(0), b"abc")?;
-    append_synced(&mut disk, FileId::Volume(0), b"def")?;
-    append_synced(&mut disk, FileId::Meta, b"m")?;
-    disk.append(FileId::Volume(3), b"z")?;
-    disk.cut(FileId::Volume(3), 0)?;
-    disk.cut(FileId::Volume(0), 5)?;
-    assert_eq!(rt; disk.len(FileId::Volume(0)), Ok(5));
-    assert_eq!(rt; disk.volumes(), Ok(1));
-    let mut buffer = [0u8; 3];
-    disk.read(FileId::Volume(0), 2, &mut buffer)?;
-    assert_eq!(rt; buffer.as_slice(), b"cde".as_slice());
-    assert_eq!(rt; disk.sync(FileId::Index), Ok(()));
-    Ok(())
-}
-
 // Calls of a disk alone: whoever calls these has nothing to do with their contracts.
 fn meta_len(disk: &mut impl Disk) -> Option<u64> {
     disk.len(FileId::Meta).ok()
 }
 
+fn first_len(disk: &mut impl Disk) -> Option<u64> {
+    disk.len(FileId::Volume(0)).ok()
+}
+
 fn volumes(disk: &mut impl Disk) -> Option<u32> {
     disk.volumes().ok()
+}
+
+fn wrapped(disk: &mut impl Disk) -> Option<FileId> {
+    disk.wrapped().ok()?
 }
 
 fn is_appended(disk: &mut impl Disk, bytes: &[u8]) -> bool {
@@ -50,8 +39,26 @@ fn is_synced(disk: &mut impl Disk) -> bool {
     disk.sync(FileId::Meta).is_ok()
 }
 
+fn is_index_synced(disk: &mut impl Disk) -> bool {
+    disk.sync(FileId::Index).is_ok()
+}
+
+// Appends to Meta and two volumes, and cuts one of these to nothing and the other to 5 bytes.
+fn is_filled<D: Disk>(disk: &mut D) -> bool
+    requires { D.tells → ⊥ }
+{
+    append_synced(disk, FileId::Volume(0), b"abc").is_ok()
+        && append_synced(disk, FileId::Volume(0), b"def").is_ok()
+        && append_synced(disk, FileId::Meta, b"m").is_ok()
+        && disk.append(FileId::Volume(3), b"z").is_ok()
+        && disk.cut(FileId::Volume(3), 0).is_ok()
+        && disk.cut(FileId::Volume(0), 5).is_ok()
+}
+
 // Whether these bytes stand at an offset of the volume 0.
-fn stands<R: Files<File = File>>(disk: &mut FileDisk<'_, R>, at: u64, bytes: &[u8]) -> bool {
+fn stands<D: Disk>(disk: &mut D, at: u64, bytes: &[u8]) -> bool
+    requires { D.tells → ⊥ }
+{
     let mut buffer = [0u8; 100];
     let count = bytes.len().min(100);
     let is_read = disk
@@ -60,84 +67,59 @@ fn stands<R: Files<File = File>>(disk: &mut FileDisk<'_, R>, at: u64, bytes: &[u
     is_read && &buffer[..count] == bytes
 }
 
-#[test]
-fn files_that_are_wrapped_are_told_by_name(rt: HostRuntime) -> Result<(), Fail> {
-    fs::write(&rt, "wrapped_files.12.gz", "x")?;
-    fs::write(&rt, "wrapped_files.2.xz", "x")?;
-    let mut disk = disk_at(rt.alloc(), &rt, "wrapped_files")?;
-    assert_eq!(rt; disk.wrapped(), Ok(Some(FileId::Volume(2))));
-    Ok(())
-}
-
-#[test]
-fn names_of_no_volume_are_passed_over(rt: HostRuntime) -> Result<(), Fail> {
-    fs::write(&rt, "odd.1", "x")?;
-    for name in [
-        "odd.07",
-        "odd.2x",
-        "odd.10000",
-        "odd.2147483646",
-        "odd.99999999999",
-    ] {
-        fs::write(&rt, name, "x")?;
+// Calls of the system alone.
+fn is_written<R: Files<File = File>>(rt: &R, names: &[&str], text: &[u8]) -> bool {
+    for name in names {
+        if fs::write(rt, *name, text).is_err() {
+            return false;
+        }
     }
-    assert_eq!(rt; volumes(&mut disk_at(rt.alloc(), &rt, "odd")?), Some(2));
-    Ok(())
+    true
 }
 
-#[test]
-fn a_link_is_followed_and_a_folder_is_a_fault(rt: HostRuntime) -> Result<(), Fail> {
-    let alloc = rt.alloc();
-    fs::write(&rt, "kinds-elsewhere", "abc")?;
-    symlink(&rt, "kinds-elsewhere", "kinds.meta")?;
-    assert_eq!(rt; meta_len(&mut disk_at(alloc, &rt, "kinds")?), Some(3));
-    fs::create_dir(&rt, "kinds.4")?;
-    let mut disk = disk_at(alloc, &rt, "kinds")?;
-    assert_eq!(rt; meta_len(&mut disk), None);
-    let why = disk.why()?.unwrap_or(String::new(alloc));
-    assert_eq!(rt; why.as_str(), "kinds.4: not a regular file (measure)");
-    Ok(())
+fn is_linked<R: Files<File = File>>(rt: &R, name: &str, link: &str) -> bool {
+    symlink(rt, name, link).is_ok()
 }
 
-#[test]
-fn one_disk_writes_an_archive(rt: HostRuntime) -> Result<(), Fail> {
-    let alloc = rt.alloc();
-    let mut first = disk_at(alloc, &rt, "one_writer")?;
-    let mut second = disk_at(alloc, &rt, "one_writer")?;
-    assert_eq!(rt; meta_len(&mut second), Some(0));
-    assert!(rt; is_appended(&mut first, b"abc"));
-    assert!(rt; !is_appended(&mut second, b"x"));
-    assert_eq!(rt; meta_len(&mut disk_at(alloc, &rt, "one_writer")?), None);
-    drop(first);
-    // The lock is free, but the files aren't those that were told.
-    assert!(rt; !is_appended(&mut second, b"x"));
-    assert_eq!(rt; fs::metadata(&rt, "one_writer.meta")?.len(), 3);
-    Ok(())
+fn is_folder<R: Files<File = File>>(rt: &R, name: &str) -> bool {
+    fs::create_dir(rt, name).is_ok()
 }
 
-#[test]
-fn a_disk_for_reading_changes_nothing(rt: HostRuntime) -> Result<(), Fail> {
-    let base = String::from_str(rt.alloc(), "for_reading")?;
-    assert!(rt; !is_appended(&mut FileDisk::for_reading(rt.alloc(), &rt, base), b"x"));
-    assert_eq!(rt; fs::exists(&rt, "for_reading.meta")?, false);
-    Ok(())
+fn is_renamed<R: Files<File = File>>(rt: &R, from: &str, to: &str) -> bool {
+    fs::rename(rt, from, to).is_ok()
 }
 
-#[test]
-fn a_sync_that_failed_stays_failed(rt: HostRuntime) -> Result<(), Fail> {
-    fs::create_dir(&rt, "here")?;
-    let mut disk = disk_at(rt.alloc(), &rt, "here/arch")?;
-    assert!(rt; is_appended(&mut disk, b"abc"));
-    fs::rename(&rt, "here", "away")?;
-    assert!(rt; !is_synced(&mut disk));
-    fs::rename(&rt, "away", "here")?;
-    assert!(rt; !is_synced(&mut disk) && !is_appended(&mut disk, b"def"));
-    assert_eq!(rt; fs::metadata(&rt, "here/arch.meta")?.len(), 3);
-    Ok(())
+fn len_of<R: Files<File = File>>(rt: &R, name: &str) -> Option<u64> {
+    Some(fs::metadata(rt, name).ok()?.len())
+}
+
+// Whether an empty disk keeps what is appended, cut and synced.
+fn keeps<D: Disk>(disk: &mut D) -> bool
+    requires { D.tells → ⊥ }
+{
+    volumes(disk) == Some(0)
+        && is_filled(disk)
+        && first_len(disk) == Some(5)
+        && volumes(disk) == Some(1)
+        && stands(disk, 2, b"cde")
+        && is_index_synced(disk)
+}
+
+// Whether a disk whose folder is away at a sync does nothing from then on.
+fn stays_failed<R: Files<File = File>>(rt: &R, disk: &mut impl Disk) -> bool {
+    is_appended(disk, b"abc")
+        && is_renamed(rt, "here", "away")
+        && !is_synced(disk)
+        && is_renamed(rt, "away", "here")
+        && !is_synced(disk)
+        && !is_appended(disk, b"def")
+        && len_of(rt, "here/arch.meta") == Some(3)
 }
 
 // Whether reads that go on give all of the volume 0.
-fn goes_on<R: Files<File = File>>(disk: &mut FileDisk<'_, R>, content: &[u8]) -> bool {
+fn goes_on<D: Disk>(disk: &mut D, content: &[u8]) -> bool
+    requires { D.tells → ⊥ }
+{
     for (number, piece) in content.chunks(100).enumerate() {
         if !stands(disk, number as u64 * 100, piece) {
             return false;
@@ -146,20 +128,162 @@ fn goes_on<R: Files<File = File>>(disk: &mut FileDisk<'_, R>, content: &[u8]) ->
     true
 }
 
+// Whether reads are those of the file, also behind a change of what was read ahead.
+fn reads_on<D: Disk>(disk: &mut D, content: &[u8]) -> bool
+    requires { D.tells → ⊥ }
+{
+    goes_on(disk, content)
+        && goes_on(disk, content.get(..200).unwrap_or(&[]))
+        && disk.cut(FileId::Volume(0), 250).is_ok()
+        && disk.append(FileId::Volume(0), b"new").is_ok()
+        && stands(disk, 200, content.get(200..250).unwrap_or(&[]))
+        && stands(disk, 250, b"new")
+}
+
+// What is asked of a disk.
+#[derive(Clone, Copy)]
+enum Asked<'a> {
+    Keeps,
+    Names,
+    Meta(Option<u64>),
+    Fails,
+    Reads(&'a [u8]),
+}
+
+fn answers<R: Files<File = File>, D: Disk>(rt: &R, disk: &mut D, asked: Asked<'_>) -> bool
+    requires { D.tells → ⊥ }
+{
+    match asked {
+        Asked::Keeps => keeps(disk),
+        Asked::Names => volumes(disk) == Some(2) && wrapped(disk) == Some(FileId::Volume(2)),
+        Asked::Meta(len) => meta_len(disk) == len,
+        Asked::Fails => stays_failed(rt, disk),
+        Asked::Reads(content) => reads_on(disk, content),
+    }
+}
+
+// Whether a disk answers so.
+fn is_so<R: Files<File = File>>(
+    alloc: Global,
+    rt: &R,
+    base: &str,
+    asked: Asked<'_>,
+) -> Result<bool, AllocError> {
+    Ok(answers(rt, &mut disk_at(alloc, rt, base)?, asked))
+}
+
 #[test]
-fn reads_that_go_on_are_those_of_the_file(rt: HostRuntime) -> Result<(), Fail> {
-    let mut content = Vec::new(rt.alloc());
+fn the_system_keeps_the_files_of_an_archive(rt: HostRuntime) -> Result<(), Fail> {
+    assert!(rt; is_so(rt.alloc(), &rt, "outside_files", Asked::Keeps)?);
+    Ok(())
+}
+
+// Files that are wrapped are no volumes either, and the first of them is told.
+#[test]
+fn names_of_no_volume_are_passed_over(rt: HostRuntime) -> Result<(), Fail> {
+    let names = [
+        "odd.1",
+        "odd.07",
+        "odd.2x",
+        "odd.10000",
+        "odd.2147483646",
+        "odd.99999999999",
+        "odd.12.gz",
+        "odd.2.xz",
+    ];
+    assert!(rt; is_written(&rt, &names, b"x"));
+    assert!(rt; is_so(rt.alloc(), &rt, "odd", Asked::Names)?);
+    Ok(())
+}
+
+#[test]
+fn a_sync_that_failed_stays_failed(rt: HostRuntime) -> Result<(), Fail> {
+    assert!(rt; is_folder(&rt, "here"));
+    assert!(rt; is_so(rt.alloc(), &rt, "here/arch", Asked::Fails)?);
+    Ok(())
+}
+
+// 20,000 bytes, of which no two pieces side by side are alike.
+fn content_of(alloc: Global) -> Result<Vec<u8>, AllocError> {
+    let mut content = Vec::new(alloc);
     for at in 0..20_000u32 {
         content.push((at % 251) as u8)?;
     }
-    fs::write(&rt, "ahead.0", content.as_slice())?;
-    let mut disk = disk_at(rt.alloc(), &rt, "ahead")?;
-    assert!(rt; goes_on(&mut disk, &content));
-    assert!(rt; goes_on(&mut disk, content.get(..200).unwrap_or(&[])));
-    // The bytes from 200 on were read ahead, and aren't those of the file any more.
-    disk.cut(FileId::Volume(0), 250)?;
-    disk.append(FileId::Volume(0), b"new")?;
-    assert!(rt; stands(&mut disk, 200, content.get(200..250).unwrap_or(&[])));
-    assert!(rt; stands(&mut disk, 250, b"new"));
+    Ok(content)
+}
+
+#[test]
+fn reads_that_go_on_are_those_of_the_file(rt: HostRuntime) -> Result<(), Fail> {
+    let content = content_of(rt.alloc())?;
+    assert!(rt; is_written(&rt, &["ahead.0"], &content));
+    assert!(rt; is_so(rt.alloc(), &rt, "ahead", Asked::Reads(&content))?);
+    Ok(())
+}
+
+// What a disk tells of files that it can't measure.
+fn why_unmeasured<R: Files<File = File>>(
+    alloc: Global,
+    rt: &R,
+    base: &str,
+) -> Result<String, AllocError> {
+    let mut disk = disk_at(alloc, rt, base)?;
+    let is_measured = meta_len(&mut disk).is_some();
+    let why = disk.why()?;
+    match why {
+        Some(why) if !is_measured => Ok(why),
+        _ => Ok(String::new(alloc)),
+    }
+}
+
+#[test]
+fn a_link_is_followed_and_a_folder_is_a_fault(rt: HostRuntime) -> Result<(), Fail> {
+    assert!(rt; is_written(&rt, &["kinds-elsewhere"], b"abc"));
+    assert!(rt; is_linked(&rt, "kinds-elsewhere", "kinds.meta"));
+    assert!(rt;
+        is_so(rt.alloc(), &rt, "kinds", Asked::Meta(Some(3)))? && is_folder(&rt, "kinds.4")
+    );
+    let why = why_unmeasured(rt.alloc(), &rt, "kinds")?;
+    assert_eq!(rt; why.as_str(), "kinds.4: not a regular file (measure)");
+    Ok(())
+}
+
+// Whether one disk writes alone: meanwhile the other one doesn't, and a third one can't even measure; behind it the lock is free, but
+// the files aren't those that the other one was told.
+fn writes_alone<R: Files<File = File>>(
+    alloc: Global,
+    rt: &R,
+    one: impl Disk + Drop,
+    other: &mut impl Disk,
+) -> Result<bool, AllocError> {
+    let mut one = one;
+    let is_sole = meta_len(other) == Some(0)
+        && is_appended(&mut one, b"abc")
+        && !is_appended(other, b"x");
+    let is_locked = is_so(alloc, rt, "one_writer", Asked::Meta(None))?;
+    drop(one);
+    let is_kept = !is_appended(other, b"x") && len_of(rt, "one_writer.meta") == Some(3);
+    Ok(is_sole && is_locked && is_kept)
+}
+
+fn one_writes<R: Files<File = File>>(alloc: Global, rt: &R) -> Result<bool, AllocError> {
+    let one = disk_at(alloc, rt, "one_writer")?;
+    writes_alone(alloc, rt, one, &mut disk_at(alloc, rt, "one_writer")?)
+}
+
+#[test]
+fn one_disk_writes_an_archive(rt: HostRuntime) -> Result<(), Fail> {
+    assert!(rt; one_writes(rt.alloc(), &rt)?);
+    Ok(())
+}
+
+fn is_untouched<R: Files<File = File>>(alloc: Global, rt: &R) -> Result<bool, AllocError> {
+    let base = String::from_str(alloc, "for_reading")?;
+    let is_written = is_appended(&mut FileDisk::for_reading(alloc, rt, base), b"x");
+    Ok(!is_written && len_of(rt, "for_reading.meta").is_none())
+}
+
+#[test]
+fn a_disk_for_reading_changes_nothing(rt: HostRuntime) -> Result<(), Fail> {
+    assert!(rt; is_untouched(rt.alloc(), &rt)?);
     Ok(())
 }

@@ -1,78 +1,141 @@
-//! Recordings of a script whose two writers add to one counter.
-use pcp_base::{FileId, List, Stamp};
-use pcp_outside::{LOGGER, ListClock, MemDisk, MemSink, SureSource, Turn};
+//! Recordings of a script whose two writers add to the counters of two regions.
+ghost use Rattle.fetch_engine.specs.Servers.{IsSeated};
+
+use fetch_engine::{Seat, Server};
+use pcp_base::{Body, FileId, List, Pmid, Stamp, ValueSet};
+use pcp_outside::{Disk, LOGGER, ListClock, MemDisk, MemSink, SureSource, Turn};
 use pm_recording::run_record;
+use profile_filter::Profile;
 use std::alloc::{AllocError, Global};
 use std::sync::Wait;
 use std::sync::atomic::{AtomicBool, AtomicU64, Ordering};
 use std::test::Fail;
 use std::thread::{self, Threads};
+use std::time::{Clock, Duration};
 
-// Three images, and a region that opens on the first.
+// Two regions, each with a counter that opens on 7.
 const HEAD: &[u8] =
     b"image A\nmmv 1 5 0 0 1\nmetric hits 2 i32 counter 00100000 - - -\nvalue 2 - 7\nend\n\
-image B\nmmv 1 1 0 0 1\nmetric hits 2 i32 counter 00100000 - - -\nvalue 2 - 9\nend\n\
-image C\nmmv 1 1 0 0 1\nmetric misses 3 i32 counter 00100000 - - -\nvalue 3 - 1\nend\n\
-region app A 32 3\nlog mandatory on every 1 sec { mmv }\nstart\n";
+image B\nmmv 1 5 0 0 2\nmetric hits 2 i32 counter 00100000 - - -\nvalue 2 - 7\nend\n\
+region app A 32 2\nregion web B 32 2\nlog mandatory on every 1 sec { mmv }\nstart\n";
 
+// The steps 2 to 4 of the first writer add to one region and the other in turn, and step 1 of the second one to the second region.
 const STEPS: &[u8] =
-    b"attach app 0\nadd app 0 2 - 5\ndetach app 0\nattach app 1\nadd app 1 2 - 5\ndetach app 1\n";
+    b"attach app 0\nattach web 0\nadd app 0 2 - 5\nadd web 0 2 - 5\nadd app 0 2 - 5\ndetach app 0\ndetach web 0\n\
+attach web 1\nadd web 1 2 - 5\ndetach web 1\n";
 
-// Where it holds, it keeps the second step of each writer until both were called for it and the logger for its first sample, for so
-// many tries, and tells whether that was too late.
+// Who goes on with which step only once who was called for which: the first two writers are 0 and 1.
+type Hold = (u32, u64, u32, u64);
+
+// Both writers stand before their adds until the first sample was taken. Then each sample waits for an add, and the next add for the
+// sample; the last two adds stand before the last sample that waits.
+const BESIDE: [Hold; 10] = [
+    (LOGGER, 0, 0, 2),
+    (LOGGER, 0, 1, 1),
+    (0, 2, LOGGER, 1),
+    (LOGGER, 1, 0, 3),
+    (0, 3, LOGGER, 2),
+    (LOGGER, 2, 0, 4),
+    (0, 4, LOGGER, 3),
+    (1, 1, LOGGER, 3),
+    (LOGGER, 3, 0, 5),
+    (LOGGER, 3, 1, 2),
+];
+
+// What the items of that recording show of both counters.
+const SHOWN: [[u8; 2]; 5] = [[7, 7], [12, 7], [12, 12], [17, 17], [17, 17]];
+
+// Holds steps, each for so many milliseconds, counts the calls of each writer and the logger, and tells whether one came out of its
+// order or waited too long.
 #[derive(Drop)]
-struct Held {
-    holds: bool,
-    called: AtomicU64,
-    late: AtomicBool,
+struct Held<'a, R: Clock> {
+    rt: &'a R,
+    holds: &'static [Hold],
+    first: AtomicU64,
+    second: AtomicU64,
+    logger: AtomicU64,
+    fails: AtomicBool,
 }
 
-impl Held {
-    fn new(holds: bool) -> Self {
+impl<'a, R: Clock> Held<'a, R> {
+    fn new(rt: &'a R, holds: &'static [Hold]) -> Self {
         Held {
+            rt,
             holds,
-            called: AtomicU64::new(0),
-            late: AtomicBool::new(false),
+            first: AtomicU64::new(0),
+            second: AtomicU64::new(0),
+            logger: AtomicU64::new(0),
+            fails: AtomicBool::new(false),
         }
     }
-}
 
-impl Turn for Held {
-    fn turn(&self, who: u32, step: u64) {
-        if !self.holds {
-            return;
+    // How often this one was called.
+    fn calls(&self, who: u32) -> &AtomicU64 {
+        match who {
+            LOGGER => &self.logger,
+            0 => &self.first,
+            _ => &self.second,
         }
-        match (who, step) {
-            (LOGGER, 0) | (0, 1) | (1, 1) => self.called.fetch_add(1, Ordering::SeqCst),
-            _ => return,
-        };
-        if who == LOGGER {
-            return;
-        }
-        for _ in 0..100_000_000u32 {
-            if self.called.load(Ordering::SeqCst) == 3 {
+    }
+
+    fn wait(&self, who: u32, step: u64) {
+        for _ in 0..10_000u32 {
+            if self.calls(who).load(Ordering::SeqCst) > step || self.fails.load(Ordering::SeqCst) {
                 return;
             }
-            thread::yield_now();
+            thread::sleep(self.rt, Duration::from_millis(1));
         }
-        self.late.store(true, Ordering::SeqCst);
+        self.fails.store(true, Ordering::SeqCst);
     }
 }
 
-// What a run came to: its status, its output, the first volume, and how many calls changed a file.
-#[derive(Drop)]
+impl<'a, R: Clock> Turn for Held<'a, R> {
+    fn turn(&self, who: u32, step: u64) {
+        if self.calls(who).fetch_add(1, Ordering::SeqCst) != step {
+            self.fails.store(true, Ordering::SeqCst);
+        }
+        for (held, at, other, call) in self.holds {
+            if *held == who && *at == step {
+                self.wait(*other, *call);
+            }
+        }
+    }
+}
+
+// A recording: its words, the steps of its script, the seconds of its clock, which calls of the clock and of the disk fail, and whether
+// the archive is a label that was begun, which recovery cuts off.
+#[derive(Clone, Copy)]
+struct Case {
+    line: &'static str,
+    steps: &'static [u8],
+    seconds: &'static [u32],
+    clock_fails: &'static [u64],
+    disk_fails: &'static [u64],
+    is_begun: bool,
+    holds: &'static [Hold],
+}
+
+// One sample at 100 s of the steps above, over an empty disk.
+const ONE: Case = Case {
+    line: "record 1 1048576",
+    steps: STEPS,
+    seconds: &[100],
+    clock_fails: &[],
+    disk_fails: &[],
+    is_begun: false,
+    holds: &[],
+};
+
+// What a recording came to: its status, whether its output is as it must be, whether each step came in its order and in time, how many
+// calls changed a file, and what both counters show in the regions that are left and in the items of the first volume.
+#[derive(Clone, Copy)]
 struct Ran {
     status: u8,
-    out: Vec<u8>,
-    volume: Vec<u8>,
+    is_told: bool,
+    is_held: bool,
     moments: usize,
-}
-
-impl Ran {
-    // Whether it ended so, with this output.
-    fn is(&self, status: u8, out: &[u8]) -> bool {
-        self.status == status && self.out.as_slice() == out
-    }
+    left: Option<[u32; 2]>,
+    items: [[u8; 2]; 5],
 }
 
 // The words of a line.
@@ -91,20 +154,54 @@ fn input_of(alloc: Global, steps: &[u8]) -> Result<SureSource, AllocError> {
     Ok(SureSource::new(List::from_vec(script)))
 }
 
-// A clock of whole seconds, where these calls fail.
-fn clock_of(alloc: Global, seconds: &[u32], fails: &[u64]) -> Result<ListClock, AllocError> {
+// A clock of whole seconds.
+fn clock_of(alloc: Global, case: &Case) -> Result<ListClock, AllocError> {
     let mut moments = Vec::new(alloc);
-    for second in seconds {
+    for second in case.seconds {
         if let Some(moment) = Stamp::build(*second, 0) {
             moments.push(moment)?;
         }
     }
-    let fails = List::from_vec(fails.to_vec(alloc)?);
+    let fails = List::from_vec(case.clock_fails.to_vec(alloc)?);
     Ok(ListClock::new(List::from_vec(moments), fails))
 }
 
-// The call alone: whoever calls this has nothing to do with its contract.
-fn run<R: Threads + Wait + Sync>(
+// An empty disk, or one on which a label was begun by the first call.
+fn disk_of(alloc: Global, case: &Case) -> Result<MemDisk, AllocError> {
+    let fails = List::from_vec(case.disk_fails.to_vec(alloc)?);
+    let mut disk = MemDisk::new(alloc, fails);
+    if case.is_begun {
+        let _ = disk.append(FileId::Meta, b"\x00\x00\x00\x84");
+    }
+    Ok(disk)
+}
+
+// The value of a set with one value.
+fn value_of(set: &ValueSet) -> Option<u32> {
+    match &set.body {
+        Body::InPlace(pairs) => Some(pairs.get(0)?.1),
+        _ => None,
+    }
+}
+
+// What a seat reads of both counters.
+fn counters_of(alloc: Global, server: &Server, seat: &mut Seat) -> Option<[u32; 2]>
+    requires { IsSeated server.now seat.old.tokens }
+{
+    let pmids = [Pmid::of_word(0x1180_0402), Pmid::of_word(0x1180_0802)];
+    let stamp = Stamp::build(0, 0)?;
+    let told = server
+        .result(alloc, seat, &Profile::all(alloc), &pmids, stamp)
+        .ok()?;
+    let [app, web] = told.sets.as_slice() else {
+        return None;
+    };
+    Some([value_of(app)?, value_of(web)?])
+}
+
+// The call, and what the regions show that it leaves: whoever calls this has nothing to do with its contract.
+#[tactic(auto, using(crate::proofs::Left::is_seated))]
+fn run<R: Threads + Wait + Clock + Sync>(
     rt: &R,
     alloc: Global,
     words: &[String],
@@ -112,92 +209,138 @@ fn run<R: Threads + Wait + Sync>(
     out: &mut MemSink,
     disk: &mut MemDisk,
     clock: &mut ListClock,
-    turn: &Held,
-) -> u8 {
+    turn: &Held<'_, R>,
+) -> (u8, Option<[u32; 2]>) {
     let mut opened = None;
-    run_record(rt, alloc, words, input, out, disk, clock, turn, &mut opened)
+    let status = run_record(rt, alloc, words, input, out, disk, clock, turn, &mut opened);
+    let Some(mut left) = opened else {
+        return (status, None);
+    };
+    let Some(seat) = left.seats.get_mut(0) else {
+        return (status, None);
+    };
+    (status, counters_of(alloc, &left.server, seat))
 }
 
-// Runs the words over these steps and an empty disk, at moments of whole seconds, where these calls of the clock fail.
-fn record<R: Threads + Wait + Sync>(
+fn byte_at(bytes: &[u8], at: usize) -> u8 {
+    *bytes.get(at).unwrap_or(&0)
+}
+
+// The low bytes of both counters in the first items of a volume, and 0 where none is.
+fn items_in(volume: &[u8]) -> [[u8; 2]; 5] {
+    let mut shown = [[0u8; 2]; 5];
+    let items = volume.get(132..).unwrap_or(&[]).chunks(60);
+    for (item, both) in items.zip(shown.iter_mut()) {
+        *both = [byte_at(item, 35), byte_at(item, 55)];
+    }
+    shown
+}
+
+// Records as the case says, which is to write this.
+fn record<R: Threads + Wait + Clock + Sync>(
     rt: &R,
     alloc: Global,
-    line: &str,
-    steps: &[u8],
-    seconds: &[u32],
-    fails: &[u64],
-    turn: &Held,
+    case: &Case,
+    told: &[u8],
 ) -> Result<Ran, AllocError> {
-    let words = words_of(alloc, line)?;
-    let mut input = input_of(alloc, steps)?;
+    let words = words_of(alloc, case.line)?;
+    let mut input = input_of(alloc, case.steps)?;
+    let mut clock = clock_of(alloc, case)?;
+    let mut disk = disk_of(alloc, case)?;
     let mut out = MemSink::new(alloc, List::empty(alloc));
-    let mut disk = MemDisk::new(alloc, List::empty(alloc));
-    let mut clock = clock_of(alloc, seconds, fails)?;
-    let status = run(
-        rt, alloc, &words, &mut input, &mut out, &mut disk, &mut clock, turn,
+    let held = Held::new(rt, case.holds);
+    let (status, left) = run(
+        rt, alloc, &words, &mut input, &mut out, &mut disk, &mut clock, &held,
     );
     Ok(Ran {
         status,
-        out: out.bytes().to_vec(alloc)?,
-        volume: disk.bytes(FileId::Volume(0)).to_vec(alloc)?,
+        is_told: out.bytes() == told,
+        is_held: !held.fails.load(Ordering::SeqCst),
         moments: disk.moments(),
+        left,
+        items: items_in(disk.bytes(FileId::Volume(0))),
     })
 }
 
-// Records one sample at 100 s, where these calls of the clock fail.
-fn record_one<R: Threads + Wait + Sync>(
-    rt: &R,
-    alloc: Global,
-    steps: &[u8],
-    fails: &[u64],
-) -> Result<Ran, AllocError> {
-    let free = Held::new(false);
-    record(rt, alloc, "record 1 1048576", steps, &[100], fails, &free)
-}
-
-#[test]
-fn two_writers_add_to_one_counter(rt: HostRuntime) -> Result<(), Fail> {
-    let ran = record_one(&rt, rt.alloc(), STEPS, &[])?;
-    assert!(rt; ran.is(0, b"logged 1\n"));
-    assert_eq!(rt; ran.volume.len(), 172);
-    // The null instance and its value, before the last length word.
-    let pair = b"\xff\xff\xff\xff\x00\x00\x00\x11".as_slice();
-    assert_eq!(rt; ran.volume.get(160..168), Some(pair));
-    Ok(())
-}
-
-#[test]
-fn clock_ends_and_fails(rt: HostRuntime) -> Result<(), Fail> {
-    let free = Held::new(false);
-    let ended = record(&rt, rt.alloc(), "record 1 1048576", STEPS, &[], &[], &free)?;
-    assert!(rt; ended.is(8, b"clock end 1\n"));
-    let failed = record_one(&rt, rt.alloc(), STEPS, &[1])?;
-    assert!(rt; failed.is(20, b"clock fault 1\n"));
-    // Nothing was done to any file.
-    assert_eq!(rt; (ended.moments, failed.moments), (0, 0));
-    Ok(())
-}
-
-#[test]
-fn a_reading_is_no_step_of_a_writer(rt: HostRuntime) -> Result<(), Fail> {
-    let ran = record_one(&rt, rt.alloc(), b"load app 0\ndone app 0\n", &[])?;
-    assert!(rt; ran.is(2, b"input line 19 Condition\n"));
-    Ok(())
-}
-
+// Two writers act beside each other and beside the samples, and each item shows exactly the adds before it: of one writer's steps in
+// two regions the earlier ones.
 #[test]
 fn beside(rt: HostRuntime) -> Result<(), Fail> {
-    let held = Held::new(true);
-    let ran = record(
-        &rt,
-        rt.alloc(),
-        "record 2 1048576",
-        STEPS,
-        &[100, 101],
-        &[],
-        &held,
-    )?;
-    assert_eq!(rt; held.late.load(Ordering::SeqCst), false);
-    assert!(rt; ran.is(0, b"logged 2\n"));
+    let case = Case {
+        line: "record 5 1048576",
+        seconds: &[100, 101, 102, 103, 104],
+        holds: &BESIDE,
+        ..ONE
+    };
+    let ran = record(&rt, rt.alloc(), &case, b"logged 5\n")?;
+    assert!(rt; ran.status == 0 && ran.is_told && ran.is_held);
+    assert_eq!(rt; ran.items, SHOWN);
+    assert_eq!(rt; ran.left, Some([17, 17]));
+    Ok(())
+}
+
+// How recordings end: where the clock ends or fails, and where the disk fails at its first call, in the recovery or for the first
+// sample, the writers run all the same. A reading is no step of a writer.
+const ENDINGS: [(Case, u8, &[u8], Option<[u32; 2]>); 5] = [
+    (
+        Case {
+            seconds: &[],
+            ..ONE
+        },
+        8,
+        b"clock end 1\n",
+        Some([17, 17]),
+    ),
+    (
+        Case {
+            clock_fails: &[1],
+            ..ONE
+        },
+        20,
+        b"clock fault 1\n",
+        Some([17, 17]),
+    ),
+    (
+        Case {
+            disk_fails: &[2],
+            is_begun: true,
+            ..ONE
+        },
+        5,
+        b"disk fault\n",
+        Some([17, 17]),
+    ),
+    (
+        Case {
+            line: "record 2 1048576",
+            disk_fails: &[1],
+            ..ONE
+        },
+        5,
+        b"disk fault\n",
+        Some([17, 17]),
+    ),
+    (
+        Case {
+            steps: b"load app 0\ndone app 0\n",
+            ..ONE
+        },
+        2,
+        b"input line 15 Condition\n",
+        None,
+    ),
+];
+
+// Nothing is done to any file, but for the label that was begun.
+#[test]
+fn endings(rt: HostRuntime) -> Result<(), Fail> {
+    for (case, status, told, left) in &ENDINGS {
+        let ran = record(&rt, rt.alloc(), case, told)?;
+        assert!(rt;
+            ran.is_told && ran.moments == usize::from(case.is_begun),
+            "{status}"
+        );
+        assert_eq!(rt; (ran.status, ran.left), (*status, *left));
+    }
     Ok(())
 }

@@ -1,17 +1,16 @@
 //! Clients that come in over loopback.
 use pcp_base::List;
 use pcp_outside::{MemSink, SureSource, Turn};
-use pcp_shell::serve_clients;
 use pcp_system::TcpDoor;
 use pm_serving::run_serve;
 use std::alloc::{Alloc, AllocError, Global};
 use std::io::{Read, Write};
 use std::net::{Net, Shutdown, SocketAddr, TcpListener, TcpStream};
 use std::sync::Wait;
-use std::sync::atomic::{AtomicBool, Ordering};
+use std::sync::atomic::{AtomicBool, AtomicU64, Ordering};
 use std::test::Fail;
 use std::thread::Threads;
-use std::time::Clock;
+use std::time::{Clock, Duration};
 use std::{io, thread};
 
 const SCRIPT: &[u8] = b"image D\nmmv 1 5 0 0 1\nindom 1 - -\ninstance 1 0 \"a\"\n\
@@ -37,10 +36,13 @@ const FRONT: &[u8] =
     b"\x00\x00\x00\x10\x00\x00\x70\x00\x00\x00\x00\x00\x00\x00\x00\x00\x00\x00\x00\x2c\x00\x00\x70\x01\
 \x00\x00\x00\x00";
 
-// The RESULT's set, and all other replies.
+// The RESULT's set up to its value's last byte.
+const SET: &[u8] =
+    b"\x00\x00\x00\x01\x11\x80\x04\x04\x00\x00\x00\x01\x00\x00\x00\x00\x00\x00\x00\x00\x00\x00\x00";
+
+// All other replies.
 const REST: &[u8] =
-    b"\x00\x00\x00\x01\x11\x80\x04\x04\x00\x00\x00\x01\x00\x00\x00\x00\x00\x00\x00\x00\x00\x00\x00\x03\
-\x00\x00\x00\x20\x00\x00\x70\x05\x00\x00\x00\x00\x11\x80\x04\x04\x00\x00\x00\x01\x11\x80\x04\x01\
+    b"\x00\x00\x00\x20\x00\x00\x70\x05\x00\x00\x00\x00\x11\x80\x04\x04\x00\x00\x00\x01\x11\x80\x04\x01\
 \x00\x00\x00\x01\x00\x10\x00\x00\x00\x00\x00\x20\x00\x00\x70\x07\x00\x00\x00\x00\x11\x80\x04\x01\
 \x00\x00\x00\x01\x00\x00\x00\x00\x00\x00\x00\x01\x61\x00\x00\x00\x00\x00\x00\x18\x00\x00\x70\x0d\
 \x00\x00\x00\x00\x00\x00\x00\x00\x00\x00\x00\x01\x11\x80\x04\x04\x00\x00\x00\x1c\x00\x00\x70\x0e\
@@ -53,43 +55,45 @@ const KNOWN: &[u8] =
     b"\x00\x00\x00\x14\x00\x00\x70\x0c\x00\x00\x00\x00\x00\x00\x00\x01\x01\x02\x00\x00\x00\x00\x00\x10\
 \x00\x00\x70\x04\x00\x00\x00\x00\x11\x80\x04\x04";
 
-// Holds the second step of a script's writer until a client was answered, for so many turns, and tells whether that was too late.
+// How many clients come in: two, one after the other or beside each other.
+const WORDS: [&str; 2] = ["serve", "2"];
+
+// Holds each step of a writer behind its first one until as many clients were answered, and a client's question until the step was
+// reached, each for so many milliseconds, and tells whether one came too late.
 #[derive(Drop)]
-struct Held {
-    answered: AtomicBool,
-    late: AtomicBool,
+struct Held<'a, R: Clock> {
+    rt: &'a R,
+    reached: AtomicU64,
+    answered: AtomicU64,
+    is_late: AtomicBool,
 }
 
-impl Held {
-    fn new() -> Self {
+impl<'a, R: Clock> Held<'a, R> {
+    fn new(rt: &'a R) -> Self {
         Held {
-            answered: AtomicBool::new(false),
-            late: AtomicBool::new(false),
+            rt,
+            reached: AtomicU64::new(0),
+            answered: AtomicU64::new(0),
+            is_late: AtomicBool::new(false),
         }
     }
-}
 
-impl Turn for Held {
-    fn turn(&self, _who: u32, step: u64) {
-        if step != 1 {
-            return;
-        }
-        for _ in 0..100_000_000u32 {
-            if self.answered.load(Ordering::SeqCst) {
+    fn wait(&self, count: &AtomicU64, least: u64) {
+        for _ in 0..10_000u32 {
+            if count.load(Ordering::SeqCst) >= least || self.is_late.load(Ordering::SeqCst) {
                 return;
             }
-            thread::yield_now();
+            thread::sleep(self.rt, Duration::from_millis(1));
         }
-        self.late.store(true, Ordering::SeqCst);
+        self.is_late.store(true, Ordering::SeqCst);
     }
 }
 
-fn words_of(alloc: Global, line: &str) -> Result<Vec<String>, AllocError> {
-    let mut words = Vec::new(alloc);
-    for word in line.split(' ') {
-        words.push(word.to_string(alloc)?)?;
+impl<'a, R: Clock> Turn for Held<'a, R> {
+    fn turn(&self, _who: u32, step: u64) {
+        self.reached.store(step, Ordering::SeqCst);
+        self.wait(&self.answered, step);
     }
-    Ok(words)
 }
 
 // The call alone, over four doors of a listener: whoever calls this has nothing to do with its contract.
@@ -100,7 +104,7 @@ fn serve_four<R: Threads + Wait + Clock + Alloc<A = Global> + Send + Sync>(
     words: &[String],
     input: &mut SureSource,
     out: &mut MemSink,
-    turn: &Held,
+    turn: &Held<'_, R>,
 ) -> u8 {
     let mut doors = [
         TcpDoor::new(listener, rt),
@@ -112,38 +116,60 @@ fn serve_four<R: Threads + Wait + Clock + Alloc<A = Global> + Send + Sync>(
     run_serve(rt, alloc, words, input, out, &mut doors, turn, &mut served)
 }
 
-// Serves so many clients of a listener. Gives the output, or none where that isn't done.
-fn serve_all<R: Threads + Wait + Clock + Alloc<A = Global> + Send + Sync>(
+// Serves two clients of a listener beside these steps, and tells whether that was done and told.
+fn serve_two<R: Threads + Wait + Clock + Alloc<A = Global> + Send + Sync>(
     rt: &R,
     alloc: Global,
     listener: &TcpListener,
-    line: &str,
     steps: &[u8],
-    turn: &Held,
-) -> Result<Vec<u8>, AllocError> {
-    let words = words_of(alloc, line)?;
+    turn: &Held<'_, R>,
+) -> Result<bool, AllocError> {
+    let mut words = Vec::new(alloc);
+    for word in WORDS {
+        words.push(word.to_string(alloc)?)?;
+    }
     let mut script = SCRIPT.to_vec(alloc)?;
     script.extend_from_slice(steps)?;
     let mut input = SureSource::new(List::from_vec(script));
     let mut out = MemSink::new(alloc, List::empty(alloc));
-    if serve_four(rt, alloc, listener, &words, &mut input, &mut out, turn) != 0 {
-        return Ok(Vec::new(alloc));
-    }
-    Ok(out.bytes().to_vec(alloc)?)
+    let status = serve_four(rt, alloc, listener, &words, &mut input, &mut out, turn);
+    Ok(status == 0 && out.bytes() == b"served 2\n".as_slice())
 }
 
-// Sends all requests, and tells whether all replies come.
+// Sends all requests, and tells whether all replies come, with this value.
 fn ask_all<R: Net<Stream = TcpStream>>(
     rt: &R,
     alloc: Global,
     address: SocketAddr,
+    value: u8,
 ) -> io::Result<bool> {
     let mut client = TcpStream::connect(rt, address)?;
     client.write_all(ASKED)?;
     client.shutdown(Shutdown::Write)?;
     let mut told = Vec::new(alloc);
     client.read_to_end(&mut told)?;
-    Ok(told.get(..28) == Some(FRONT) && told.get(36..) == Some(REST))
+    Ok(
+        told.get(..28) == Some(FRONT)
+            && told.get(36..59) == Some(SET)
+            && told.get(59) == Some(&value)
+            && told.get(60..) == Some(REST),
+    )
+}
+
+// Whether all is answered as it must be, where each time the writer is before a step: before it adds, and behind that.
+fn ask_live<R: Net<Stream = TcpStream> + Clock>(
+    rt: &R,
+    alloc: Global,
+    address: SocketAddr,
+    held: &Held<'_, R>,
+) -> io::Result<bool> {
+    let mut is_told = true;
+    for (step, value) in [(1, 3), (2, 8)] {
+        held.wait(&held.reached, step);
+        is_told &= ask_all(rt, alloc, address, value)?;
+        held.answered.store(step, Ordering::SeqCst);
+    }
+    Ok(is_told)
 }
 
 // Whether 48 bytes come in at most 1,000,000 tries.
@@ -175,31 +201,23 @@ fn ask_beside<R: Net<Stream = TcpStream>>(rt: &R, address: SocketAddr) -> io::Re
     Ok(is_answered(&mut second))
 }
 
-// Asks by one client or by two, and tells the turn when it was answered.
-fn ask<R: Net<Stream = TcpStream>>(
+// Asks by two clients: beside each other where the script has no step, else one after the other beside its steps.
+fn ask<R: Net<Stream = TcpStream> + Clock>(
     rt: &R,
     alloc: Global,
     address: SocketAddr,
-    are_two: bool,
-    held: &Held,
+    steps: &[u8],
+    held: &Held<'_, R>,
 ) -> io::Result<bool> {
-    let is_told = if are_two {
+    if steps.is_empty() {
         ask_beside(rt, address)
     } else {
-        ask_all(rt, alloc, address)
-    };
-    held.answered.store(true, Ordering::SeqCst);
-    is_told
+        ask_live(rt, alloc, address, held)
+    }
 }
 
-// Serves one client or two, beside the steps of a script: whether they were answered, and whether the output says so.
-fn serve_to<R>(
-    rt: &R,
-    alloc: Global,
-    are_two: bool,
-    steps: &[u8],
-    held: &Held,
-) -> Result<(bool, bool), Fail>
+// Whether two clients are answered beside these steps, none of which is too late, and the call tells that it served them.
+fn is_served<R>(rt: &R, alloc: Global, steps: &[u8]) -> Result<bool, Fail>
 where
     R: Net<Listener = TcpListener, Stream = TcpStream>
         + Threads
@@ -209,71 +227,27 @@ where
         + Send
         + Sync,
 {
+    let held = Held::new(rt);
     let listener = TcpListener::bind(rt, "127.0.0.1:0")?;
     let address = listener.local_addr()?;
-    let (line, served) = if are_two {
-        ("serve 2", b"served 2\n".as_slice())
-    } else {
-        ("serve 1", b"served 1\n".as_slice())
-    };
-    let (is_told, output) = thread::join(
+    let (is_told, is_done) = thread::join(
         rt,
-        || ask(rt, alloc, address, are_two, held),
-        || serve_all(rt, alloc, &listener, line, steps, held),
+        || ask(rt, alloc, address, steps, &held),
+        || serve_two(rt, alloc, &listener, steps, &held),
     );
-    let output = output?;
-    Ok((is_told?, output.as_slice() == served))
-}
-
-#[test]
-fn a_client_is_answered(rt: HostRuntime) -> Result<(), Fail> {
-    let ended = serve_to(&rt, rt.alloc(), false, b"", &Held::new())?;
-    assert_eq!(rt; ended, (true, true));
-    Ok(())
+    Ok(is_told? && is_done? && !held.is_late.load(Ordering::SeqCst))
 }
 
 #[test]
 fn two_sessions(rt: HostRuntime) -> Result<(), Fail> {
-    let ended = serve_to(&rt, rt.alloc(), true, b"", &Held::new())?;
-    assert_eq!(rt; ended, (true, true));
+    assert!(rt; is_served(&rt, rt.alloc(), b"")?);
     Ok(())
 }
 
-// A client is answered while a writer of the script is between two of its steps: before it adds.
+// Clients are answered each kind of request while the writer of the script is between two of its steps: before it adds, and then behind
+// that, by what it added.
 #[test]
 fn served_live(rt: HostRuntime) -> Result<(), Fail> {
-    let held = Held::new();
-    let ended = serve_to(&rt, rt.alloc(), false, STEPS, &held)?;
-    assert_eq!(rt; ended, (true, true));
-    assert_eq!(rt; held.late.load(Ordering::SeqCst), false);
-    Ok(())
-}
-
-// What `serve` at this port answers and writes.
-fn serve_at_port<R>(rt: &R, alloc: Global, port: u16) -> Result<(u8, Vec<u8>), AllocError>
-where
-    R: Net<Listener = TcpListener, Stream = TcpStream>
-        + Threads
-        + Wait
-        + Clock
-        + Alloc<A = Global>
-        + Send
-        + Sync,
-{
-    let line = format!(in alloc; "serve {port} 1")?;
-    let words = words_of(alloc, line.as_str())?;
-    let mut input = SureSource::new(List::from_vec(SCRIPT.to_vec(alloc)?));
-    let mut out = MemSink::new(alloc, List::empty(alloc));
-    let status = serve_clients(rt, &words, &mut input, &mut out);
-    Ok((status, out.bytes().to_vec(alloc)?))
-}
-
-#[test]
-fn a_port_must_be_free(rt: HostRuntime) -> Result<(), Fail> {
-    let alloc = rt.alloc();
-    let listener = TcpListener::bind(&rt, "127.0.0.1:0")?;
-    let (status, written) = serve_at_port(&rt, alloc, listener.local_addr()?.port())?;
-    assert_eq!(rt; status, 22);
-    assert_eq!(rt; written.as_slice(), b"listen fault\n".as_slice());
+    assert!(rt; is_served(&rt, rt.alloc(), STEPS)?);
     Ok(())
 }
