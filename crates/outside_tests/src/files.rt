@@ -93,14 +93,6 @@ fn len_of<R: Files<File = File>>(rt: &R, name: &str) -> Option<u64> {
     Some(fs::metadata(rt, name).ok()?.len())
 }
 
-fn measure<R: Files<File = File>>(
-    alloc: Global,
-    rt: &R,
-    base: &str,
-) -> Result<Option<u64>, AllocError> {
-    Ok(meta_len(&mut disk_at(alloc, rt, base)?))
-}
-
 // Whether an empty disk keeps what is appended, cut and synced.
 fn keeps<D: Disk>(disk: &mut D) -> bool
     requires { D.tells → ⊥ }
@@ -113,112 +105,6 @@ fn keeps<D: Disk>(disk: &mut D) -> bool
         && is_index_synced(disk)
 }
 
-fn keeps_files<R: Files<File = File>>(alloc: Global, rt: &R) -> Result<bool, AllocError> {
-    Ok(keeps(&mut disk_at(alloc, rt, "outside_files")?))
-}
-
-#[test]
-fn the_system_keeps_the_files_of_an_archive(rt: HostRuntime) -> Result<(), Fail> {
-    assert!(rt; keeps_files(rt.alloc(), &rt)?);
-    Ok(())
-}
-
-fn names_told(disk: &mut impl Disk) -> (Option<u32>, Option<FileId>) {
-    (volumes(disk), wrapped(disk))
-}
-
-fn odd_told<R: Files<File = File>>(
-    alloc: Global,
-    rt: &R,
-) -> Result<(Option<u32>, Option<FileId>), AllocError> {
-    Ok(names_told(&mut disk_at(alloc, rt, "odd")?))
-}
-
-// Files that are wrapped are no volumes either, and the first of them is told.
-#[test]
-fn names_of_no_volume_are_passed_over(rt: HostRuntime) -> Result<(), Fail> {
-    let names = [
-        "odd.1",
-        "odd.07",
-        "odd.2x",
-        "odd.10000",
-        "odd.2147483646",
-        "odd.99999999999",
-        "odd.12.gz",
-        "odd.2.xz",
-    ];
-    assert!(rt; is_written(&rt, &names, b"x"));
-    let told = odd_told(rt.alloc(), &rt)?;
-    assert_eq!(rt; told, (Some(2), Some(FileId::Volume(2))));
-    Ok(())
-}
-
-// What a disk tells of files that it can't measure.
-fn why_unmeasured<R: Files<File = File>>(
-    alloc: Global,
-    rt: &R,
-    base: &str,
-) -> Result<String, AllocError> {
-    let mut disk = disk_at(alloc, rt, base)?;
-    let is_measured = meta_len(&mut disk).is_some();
-    let why = disk.why()?;
-    match why {
-        Some(why) if !is_measured => Ok(why),
-        _ => Ok(String::new(alloc)),
-    }
-}
-
-#[test]
-fn a_link_is_followed_and_a_folder_is_a_fault(rt: HostRuntime) -> Result<(), Fail> {
-    assert!(rt; is_written(&rt, &["kinds-elsewhere"], b"abc"));
-    assert!(rt; is_linked(&rt, "kinds-elsewhere", "kinds.meta"));
-    assert!(rt; measure(rt.alloc(), &rt, "kinds")? == Some(3) && is_folder(&rt, "kinds.4"));
-    let why = why_unmeasured(rt.alloc(), &rt, "kinds")?;
-    assert_eq!(rt; why.as_str(), "kinds.4: not a regular file (measure)");
-    Ok(())
-}
-
-// Whether one disk writes alone: meanwhile the other one doesn't, and a third one can't even measure; behind it the lock is free, but
-// the files aren't those that the other one was told.
-fn writes_alone<R: Files<File = File>>(
-    alloc: Global,
-    rt: &R,
-    one: impl Disk + Drop,
-    other: &mut impl Disk,
-) -> Result<bool, AllocError> {
-    let mut one = one;
-    let is_sole = meta_len(other) == Some(0)
-        && is_appended(&mut one, b"abc")
-        && !is_appended(other, b"x");
-    let is_locked = measure(alloc, rt, "one_writer")?.is_none();
-    drop(one);
-    let is_kept = !is_appended(other, b"x") && len_of(rt, "one_writer.meta") == Some(3);
-    Ok(is_sole && is_locked && is_kept)
-}
-
-fn one_writes<R: Files<File = File>>(alloc: Global, rt: &R) -> Result<bool, AllocError> {
-    let one = disk_at(alloc, rt, "one_writer")?;
-    writes_alone(alloc, rt, one, &mut disk_at(alloc, rt, "one_writer")?)
-}
-
-#[test]
-fn one_disk_writes_an_archive(rt: HostRuntime) -> Result<(), Fail> {
-    assert!(rt; one_writes(rt.alloc(), &rt)?);
-    Ok(())
-}
-
-fn is_untouched<R: Files<File = File>>(alloc: Global, rt: &R) -> Result<bool, AllocError> {
-    let base = String::from_str(alloc, "for_reading")?;
-    let is_written = is_appended(&mut FileDisk::for_reading(alloc, rt, base), b"x");
-    Ok(!is_written && len_of(rt, "for_reading.meta").is_none())
-}
-
-#[test]
-fn a_disk_for_reading_changes_nothing(rt: HostRuntime) -> Result<(), Fail> {
-    assert!(rt; is_untouched(rt.alloc(), &rt)?);
-    Ok(())
-}
-
 // Whether a disk whose folder is away at a sync does nothing from then on.
 fn stays_failed<R: Files<File = File>>(rt: &R, disk: &mut impl Disk) -> bool {
     is_appended(disk, b"abc")
@@ -228,26 +114,6 @@ fn stays_failed<R: Files<File = File>>(rt: &R, disk: &mut impl Disk) -> bool {
         && !is_synced(disk)
         && !is_appended(disk, b"def")
         && len_of(rt, "here/arch.meta") == Some(3)
-}
-
-fn a_sync_fails<R: Files<File = File>>(alloc: Global, rt: &R) -> Result<bool, AllocError> {
-    let is_made = is_folder(rt, "here");
-    Ok(stays_failed(rt, &mut disk_at(alloc, rt, "here/arch")?) && is_made)
-}
-
-#[test]
-fn a_sync_that_failed_stays_failed(rt: HostRuntime) -> Result<(), Fail> {
-    assert!(rt; a_sync_fails(rt.alloc(), &rt)?);
-    Ok(())
-}
-
-// 20,000 bytes, of which no two pieces side by side are alike.
-fn content_of(alloc: Global) -> Result<Vec<u8>, AllocError> {
-    let mut content = Vec::new(alloc);
-    for at in 0..20_000u32 {
-        content.push((at % 251) as u8)?;
-    }
-    Ok(content)
 }
 
 // Whether reads that go on give all of the volume 0.
@@ -274,14 +140,150 @@ fn reads_on<D: Disk>(disk: &mut D, content: &[u8]) -> bool
         && stands(disk, 250, b"new")
 }
 
-fn reads_ahead<R: Files<File = File>>(alloc: Global, rt: &R) -> Result<bool, AllocError> {
-    let content = content_of(alloc)?;
-    let is_made = is_written(rt, &["ahead.0"], content.as_slice());
-    Ok(reads_on(&mut disk_at(alloc, rt, "ahead")?, &content) && is_made)
+// What is asked of a disk.
+#[derive(Clone, Copy)]
+enum Asked<'a> {
+    Keeps,
+    Names,
+    Meta(Option<u64>),
+    Fails,
+    Reads(&'a [u8]),
+}
+
+fn answers<R: Files<File = File>, D: Disk>(rt: &R, disk: &mut D, asked: Asked<'_>) -> bool
+    requires { D.tells → ⊥ }
+{
+    match asked {
+        Asked::Keeps => keeps(disk),
+        Asked::Names => volumes(disk) == Some(2) && wrapped(disk) == Some(FileId::Volume(2)),
+        Asked::Meta(len) => meta_len(disk) == len,
+        Asked::Fails => stays_failed(rt, disk),
+        Asked::Reads(content) => reads_on(disk, content),
+    }
+}
+
+// Whether a disk answers so.
+fn is_so<R: Files<File = File>>(
+    alloc: Global,
+    rt: &R,
+    base: &str,
+    asked: Asked<'_>,
+) -> Result<bool, AllocError> {
+    Ok(answers(rt, &mut disk_at(alloc, rt, base)?, asked))
+}
+
+#[test]
+fn the_system_keeps_the_files_of_an_archive(rt: HostRuntime) -> Result<(), Fail> {
+    assert!(rt; is_so(rt.alloc(), &rt, "outside_files", Asked::Keeps)?);
+    Ok(())
+}
+
+// Files that are wrapped are no volumes either, and the first of them is told.
+#[test]
+fn names_of_no_volume_are_passed_over(rt: HostRuntime) -> Result<(), Fail> {
+    let names = [
+        "odd.1",
+        "odd.07",
+        "odd.2x",
+        "odd.10000",
+        "odd.2147483646",
+        "odd.99999999999",
+        "odd.12.gz",
+        "odd.2.xz",
+    ];
+    assert!(rt; is_written(&rt, &names, b"x"));
+    assert!(rt; is_so(rt.alloc(), &rt, "odd", Asked::Names)?);
+    Ok(())
+}
+
+#[test]
+fn a_sync_that_failed_stays_failed(rt: HostRuntime) -> Result<(), Fail> {
+    assert!(rt; is_folder(&rt, "here"));
+    assert!(rt; is_so(rt.alloc(), &rt, "here/arch", Asked::Fails)?);
+    Ok(())
+}
+
+// 20,000 bytes, of which no two pieces side by side are alike.
+fn content_of(alloc: Global) -> Result<Vec<u8>, AllocError> {
+    let mut content = Vec::new(alloc);
+    for at in 0..20_000u32 {
+        content.push((at % 251) as u8)?;
+    }
+    Ok(content)
 }
 
 #[test]
 fn reads_that_go_on_are_those_of_the_file(rt: HostRuntime) -> Result<(), Fail> {
-    assert!(rt; reads_ahead(rt.alloc(), &rt)?);
+    let content = content_of(rt.alloc())?;
+    assert!(rt; is_written(&rt, &["ahead.0"], &content));
+    assert!(rt; is_so(rt.alloc(), &rt, "ahead", Asked::Reads(&content))?);
+    Ok(())
+}
+
+// What a disk tells of files that it can't measure.
+fn why_unmeasured<R: Files<File = File>>(
+    alloc: Global,
+    rt: &R,
+    base: &str,
+) -> Result<String, AllocError> {
+    let mut disk = disk_at(alloc, rt, base)?;
+    let is_measured = meta_len(&mut disk).is_some();
+    let why = disk.why()?;
+    match why {
+        Some(why) if !is_measured => Ok(why),
+        _ => Ok(String::new(alloc)),
+    }
+}
+
+#[test]
+fn a_link_is_followed_and_a_folder_is_a_fault(rt: HostRuntime) -> Result<(), Fail> {
+    assert!(rt; is_written(&rt, &["kinds-elsewhere"], b"abc"));
+    assert!(rt; is_linked(&rt, "kinds-elsewhere", "kinds.meta"));
+    assert!(rt;
+        is_so(rt.alloc(), &rt, "kinds", Asked::Meta(Some(3)))? && is_folder(&rt, "kinds.4")
+    );
+    let why = why_unmeasured(rt.alloc(), &rt, "kinds")?;
+    assert_eq!(rt; why.as_str(), "kinds.4: not a regular file (measure)");
+    Ok(())
+}
+
+// Whether one disk writes alone: meanwhile the other one doesn't, and a third one can't even measure; behind it the lock is free, but
+// the files aren't those that the other one was told.
+fn writes_alone<R: Files<File = File>>(
+    alloc: Global,
+    rt: &R,
+    one: impl Disk + Drop,
+    other: &mut impl Disk,
+) -> Result<bool, AllocError> {
+    let mut one = one;
+    let is_sole = meta_len(other) == Some(0)
+        && is_appended(&mut one, b"abc")
+        && !is_appended(other, b"x");
+    let is_locked = is_so(alloc, rt, "one_writer", Asked::Meta(None))?;
+    drop(one);
+    let is_kept = !is_appended(other, b"x") && len_of(rt, "one_writer.meta") == Some(3);
+    Ok(is_sole && is_locked && is_kept)
+}
+
+fn one_writes<R: Files<File = File>>(alloc: Global, rt: &R) -> Result<bool, AllocError> {
+    let one = disk_at(alloc, rt, "one_writer")?;
+    writes_alone(alloc, rt, one, &mut disk_at(alloc, rt, "one_writer")?)
+}
+
+#[test]
+fn one_disk_writes_an_archive(rt: HostRuntime) -> Result<(), Fail> {
+    assert!(rt; one_writes(rt.alloc(), &rt)?);
+    Ok(())
+}
+
+fn is_untouched<R: Files<File = File>>(alloc: Global, rt: &R) -> Result<bool, AllocError> {
+    let base = String::from_str(alloc, "for_reading")?;
+    let is_written = is_appended(&mut FileDisk::for_reading(alloc, rt, base), b"x");
+    Ok(!is_written && len_of(rt, "for_reading.meta").is_none())
+}
+
+#[test]
+fn a_disk_for_reading_changes_nothing(rt: HostRuntime) -> Result<(), Fail> {
+    assert!(rt; is_untouched(rt.alloc(), &rt)?);
     Ok(())
 }
