@@ -1,5 +1,5 @@
 -- A recording leaves one seat, which is of the regions that it leaves.
-use Rattle.std.proofs.Common.{◌≡◌, ℕ, List, length, Option, Some, IsSome, refl, subst, sym}
+use Rattle.std.proofs.Common.{◌≡◌, ℕ, List, Option, Some, IsSome, refl, subst, sym}
 use Rattle.std.specs.Prelude.{slice_get}
 use Rattle.pcp_outside.specs.Sides.{SourceSide}
 use Rattle.fetch_engine.specs.Servers.{IsSeated, Seated}
