@@ -97,10 +97,10 @@ impl<'a, R: Clock> Turn for Held<'a, R> {
 }
 
 // The call alone, over four doors of a listener: whoever calls this has nothing to do with its contract.
-fn serve_four<R: Threads + Wait + Clock + Alloc<A = Global> + Send + Sync>(
-    rt: &R,
+fn serve_four<'a, R: Threads + Wait + Clock + Alloc<A = Global> + Send + Sync>(
+    rt: &'a R,
     alloc: Global,
-    listener: &TcpListener,
+    listener: &'a TcpListener,
     words: &[String],
     input: &mut SureSource,
     out: &mut MemSink,
