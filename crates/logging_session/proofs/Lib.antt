@@ -1,0 +1,9 @@
+pub mod ComeBack
+pub mod Events
+pub mod Flushes
+pub mod Going
+pub mod Logged
+pub mod Openings
+pub mod Placed
+pub mod Sessions
+pub mod WholeStays
