@@ -12,7 +12,7 @@ use Rattle.archive_meta.specs.Enough.{AreEnough}
 use Rattle.archive_meta.specs.Records.{Adds}
 use Rattle.logger_core.specs.declared.ends.Ends.{Ends}
 use Rattle.logger_core.specs.declared.preparing.Made.{Made}
-use Rattle.logger_core.specs.Going.{FlushIsDone, IsFlushed}
+use Rattle.logger_core.specs.Going.{FlushIsDone, IsFlushed, all_acknowledged}
 use Rattle.logger_core.specs.Logging.{IsLogged, IsMadeOf, IsPrepared}
 use Rattle.logger_core.specs.Meant.{Meant, Kept, IsAt, IsLogger}
 use Rattle.logger_core.specs.Writing.{IsBounded, ItemWritten, MayBeWritten}
@@ -37,6 +37,7 @@ is_logged m old now records answer facts held new l w = record {
   said = w.said;
   items_are = w.items_are;
   still = w.still;
+  acknowledged_is = w.acknowledged_is;
   is = record { at = w.at; label_is = w.label_same ∙ l.label_is; records_are = w.records_are };
 }
 
@@ -54,6 +55,13 @@ pub flushed_for : (m : Meant) (old inside : Kept) → inside ≡ old → (after 
 flushed_for m old inside is after held new l f =
     let k : IsLogger m inside held = subst (λ (x : Kept). IsLogger m x held) (sym is) l in
     subst (λ (x : Kept). IsFlushed m x (record { label = inside.label; records = inside.records; ends = after; limit = inside.limit; closed = inside.closed }) new) is (is_flushed m inside after held new k (f k.at))
+
+-- the volume was made sure: the logger keeps the same archive
+pub synced_for : (m : Meant) (old inside : Kept) → inside ≡ old → (after : Ends) (held new : Holdings) → IsLogger m old held → (IsAt m inside.ends held → IsAt (all_acknowledged m) after new)
+    → IsLogger (all_acknowledged m) (record { label = inside.label; records = inside.records; ends = after; limit = inside.limit; closed = inside.closed }) new
+synced_for m old inside is after held new l f =
+    let k : IsLogger m inside held = subst (λ (x : Kept). IsLogger m x held) (sym is) l in
+    record { at = f k.at; label_is = k.label_is; records_are = k.records_are }
 
 -- what was prepared, as the logger then is
 module _ (m : Meant) (old now inside : Kept) (answer : PmResult) (facts : Facts) (made : Made) (held : Holdings) (l : IsLogger m old held) (p : IsPrepared old now answer facts made) (is : inside ≡ now) where

@@ -211,6 +211,7 @@ module _ (m : Meant) (e start now : Ends) (held mid new : Holdings) (limit : ℕ
     said = g.0.longer.records ∙ ap (λ rs. rs ++ w.is.metadata.missing) ready.records_same;
     items_are = g.0.longer.items ∙ ap (λ xs. xs ++ Sample answer ∷ []) ready.items_same;
     still = omega (arith, ready.still, g.0.acknowledged_is);
+    acknowledged_is = g.0.acknowledged_is ∙ ready.acknowledged_is;
     label_same = g.0.longer.label ∙ ready.label_same;
     records_are = g.0.longer.records ∙ ap (λ rs. rs ++ w.is.metadata.missing) ready.records_same ∙ sym (after_is m e held limit answer facts after made at w);
     at = record { stands = g.0.stands; ends = g.1 };

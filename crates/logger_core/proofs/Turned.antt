@@ -124,6 +124,7 @@ module _ (m : Meant) (l : LabelFields) (e flush open_ now : Ends) (new mid : Hol
     records_same = g.0.longer.records ∙ append-nil o.0.new.contents.records ∙ o.0.longer.records ∙ append-nil f.new.contents.records ∙ f.records_same;
     items_same = g.0.longer.items ∙ append-nil (items_in o.0.new) ∙ o.0.longer.items ∙ append-nil (items_in f.new) ∙ f.items_same;
     still = omega (arith, few, g.0.acknowledged_is, o.0.acknowledged_is, f.all);
+    acknowledged_is = g.0.acknowledged_is ∙ o.0.acknowledged_is ∙ f.all;
     files_are = λ file. g.0.files_are file ∙ ap (λ x. with_entry x o.0.new.files file) entry_is
         ∙ entry_same (switch_entry e.greatest (length (flushed_files Index)) (e.volume + 1) (length (flushed_files Meta))) o.0.new.files (with_new_volume m.contents.label (e.volume + 1) flushed_files) opened_are file;
     number = now_number ∙ number_is;
@@ -131,7 +132,7 @@ module _ (m : Meant) (l : LabelFields) (e flush open_ now : Ends) (new mid : Hol
   }
 
 pub ready_already : (m : Meant) (e : Ends) (held : Holdings) → IsAt m e held → IsReady m e e false held
-ready_already m e held at = record { new = m; started = refl; label_same = refl; records_same = refl; items_same = refl; still = omega arith; files_are = λ file. refl; number = refl; at = at }
+ready_already m e held at = record { new = m; started = refl; label_same = refl; records_same = refl; items_same = refl; still = omega arith; acknowledged_is = refl; files_are = λ file. refl; number = refl; at = at }
 
 -- ---- the same with what was found due
 

@@ -1,5 +1,5 @@
 -- How a call goes on: what it makes of what a logger means, and what the disk then holds.
-use Rattle.std.specs.Prelude.{◌≡◌, ℕ, ◌+◌, ◌<◌, ◌≤◌, List, [], length, Option, None, Some}
+use Rattle.std.specs.Prelude.{◌≡◌, ℕ, ◌+◌, ◌<◌, ◌≤◌, Bool, if◌then◌else◌, List, [], length, Option, None, Some}
 use Rattle.pcp_base.specs.declared.file.FileId.{FileId}
 use Rattle.pcp_base.specs.declared.file.FileId.TheVariants.{Volume}
 use Rattle.pcp_base.specs.declared.result.Item.{Item}
@@ -31,6 +31,19 @@ acknowledging n m = record { start = m.start; files = m.files; contents = m.cont
 -- all items are acknowledged
 abbrev pub all_acknowledged : Meant → Meant
 all_acknowledged m = acknowledging (length (items_in m)) m
+
+-- How many items are acknowledged once one more is logged: as many as were, or where the archive went on in the next volume all
+-- that stood before it.
+abbrev pub acknowledged_before : Bool → Meant → ℕ
+acknowledged_before crossing m = if crossing then length (items_in m) else m.acknowledged
+
+-- the same numbers, with every item counted as acknowledged
+abbrev pub all_counted : Ends → Ends
+all_counted e = record { meta = e.meta; index = e.index; volume = e.volume; length = e.length; greatest = e.greatest; entry = e.entry; logged = e.logged; acknowledged = e.logged }
+
+-- the same logger, which counts so
+abbrev pub counting_all : Kept → Kept
+counting_all l = record { label = l.label; records = l.records; ends = all_counted l.ends; limit = l.limit; closed = l.closed }
 
 -- all bytes of a volume are sure
 abbrev pub IsVolumeSure : ℕ → Holdings → Type 0

@@ -20,6 +20,7 @@ use Rattle.logger_core.specs.declared.ends.Ends.{Ends}
 use Rattle.logger_core.specs.declared.fault.LogFault.{LogFault}
 use Rattle.logger_core.specs.declared.fault.LogFault.TheVariants.{Closed, Large, NotLater, Changed, Full, NoMemory, DiskFault}
 use Rattle.logger_core.specs.declared.preparing.Made.{Made}
+use Rattle.logger_core.specs.Going.{acknowledged_before}
 use Rattle.logger_core.specs.LogSteps.{LogStep, crosses}
 use Rattle.logger_core.specs.Meant.{Meant, Kept, IsLogger, items_in}
 
@@ -78,7 +79,7 @@ pub record IsMadeOf (records : List MetaRecord) (e : Ends) (limit : ℕ) (answer
   pub range : ResultInRange answer
 
 -- A result was logged: the files are those after it, the records of Meta that were missing stand behind the others, and all
--- items of before stand before it.
+-- items of before stand before it. It is not acknowledged; where the archive went on in the next volume, all items of before are.
 pub record IsLogged (m : Meant) (old now : Kept) (answer : PmResult) (facts : Facts) (held : Holdings) : Type 0 where
   pub new : Meant
   pub started : new.start ≡ m.start
@@ -86,6 +87,7 @@ pub record IsLogged (m : Meant) (old now : Kept) (answer : PmResult) (facts : Fa
   pub said : new.contents.records ≡ m.contents.records ++ step.missing
   pub items_are : items_in new ≡ items_in m ++ Sample answer ∷ []
   pub still : m.acknowledged ≤ new.acknowledged
+  pub acknowledged_is : new.acknowledged ≡ acknowledged_before step.crossing m
   pub is : IsLogger new now held
 
 -- a result may be logged

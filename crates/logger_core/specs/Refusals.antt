@@ -18,7 +18,7 @@ CreateMayAnswer before after (Full file bytes) = ⊥
 CreateMayAnswer before after NoMemory = Unit {0}
 CreateMayAnswer before after DiskFault = Rose before after
 
--- a flush is refused where the logger is closed, or by the disk, which closes it
+-- a flush or a sync is refused where the logger is closed, or by the disk, which closes it
 abbrev pub FlushMayAnswer : Kept → Kept → ℕ → ℕ → LogFault → Type 0
 FlushMayAnswer old new before after Closed = (old.closed ≡ true) × (new ≡ old)
 FlushMayAnswer old new before after (Large bytes) = ⊥

@@ -12,6 +12,7 @@ use Rattle.pcp_model.specs.Frame.{frames}
 use Rattle.pcp_model.specs.Payload.{IsItem, stamp_of}
 use Rattle.pcp_model.specs.Sound.{NoItemAfter, NoDomainAfter}
 use Rattle.logger_core.specs.declared.ends.Ends.{Ends}
+use Rattle.logger_core.specs.Going.{acknowledged_before}
 use Rattle.logger_core.specs.Laws.{AreRecordsToCome, Survives}
 use Rattle.logger_core.specs.LogSteps.{base_files, base_number}
 use Rattle.logger_core.specs.Meant.{Meant, items_in, IsAt}
@@ -56,6 +57,7 @@ pub record IsReady (m : Meant) (e after : Ends) (crossing : Bool) (held : Holdin
   pub records_same : new.contents.records ≡ m.contents.records
   pub items_same : items_in new ≡ items_in m
   pub still : m.acknowledged ≤ new.acknowledged
+  pub acknowledged_is : new.acknowledged ≡ acknowledged_before crossing m
   pub files_are : (file : FileId) → new.files file ≡ base_files crossing m.files m.contents e.volume e.greatest file
   pub number : after.volume ≡ base_number crossing e.volume
   pub at : IsAt new after held

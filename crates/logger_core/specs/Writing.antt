@@ -9,6 +9,7 @@ use Rattle.archive_meta.specs.Enough.{AreEnough}
 use Rattle.archive_meta.specs.Records.{Adds}
 use Rattle.logger_core.specs.declared.ends.Ends.{Ends}
 use Rattle.logger_core.specs.declared.preparing.Made.{Made}
+use Rattle.logger_core.specs.Going.{acknowledged_before}
 use Rattle.logger_core.specs.Logging.{IsMadeOf}
 use Rattle.logger_core.specs.LogSteps.{LogStep}
 use Rattle.logger_core.specs.Meant.{Meant, IsAt, items_in}
@@ -34,6 +35,7 @@ pub record ItemWritten (m : Meant) (e now : Ends) (limit : ℕ) (answer : PmResu
   pub said : new.contents.records ≡ m.contents.records ++ step.missing
   pub items_are : items_in new ≡ items_in m ++ Sample answer ∷ []
   pub still : m.acknowledged ≤ new.acknowledged
+  pub acknowledged_is : new.acknowledged ≡ acknowledged_before step.crossing m
   pub label_same : new.contents.label ≡ m.contents.label
   pub records_are : new.contents.records ≡ after
   pub at : IsAt new now held

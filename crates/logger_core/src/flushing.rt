@@ -3,7 +3,7 @@ ghost use Rattle.std.specs.Prelude.{◌≡◌, IfOk};
 ghost use Rattle.pcp_outside.specs.Causes.{HasCause};
 ghost use Rattle.pcp_outside.specs.Devices.{LeavesOnly};
 ghost use Rattle.std.specs.Prelude.{[], ◌∷◌, option_to_list, Some};
-ghost use Rattle.logger_core.specs.Going.{AreSmall, all_acknowledged, IsVolumeSure, GrownTo, LeadsToEnds, LeadIfAny, HasRoom, HasRoomIfAny, FlushIsDone};
+ghost use Rattle.logger_core.specs.Going.{AreSmall, all_acknowledged, all_counted, IsVolumeSure, GrownTo, LeadsToEnds, LeadIfAny, HasRoom, HasRoomIfAny, FlushIsDone};
 ghost use Rattle.logger_core.specs.Meant.{Meant, IsAt, SurvivesOf};
 ghost use Rattle.logger_core.specs.Steps.{with_entry};
 
@@ -14,11 +14,12 @@ use pcp_outside::{Disk, Failed, FileId};
 use temporal_index::entry_bytes;
 
 /// Makes the volume sure that is written: every item is acknowledged.
-fn sync_volume<D: Disk>(disk: &mut D, ends: &Ends) -> Result<Ends, Failed>
+pub(crate) fn sync_volume<D: Disk>(disk: &mut D, ends: &Ends) -> Result<Ends, Failed>
     requires { AreSmall ends.now }
     ensures ok { D.tells → (m : Meant) → IsAt m ends.now (D.held disk.old) → IfOk result (λ e. IsAt (all_acknowledged m) e (D.held disk.new)) }
     ensures sure { D.tells → IfOk result (λ e. IsVolumeSure e.volume (D.held disk.new)) }
     ensures any_moment { D.tells → (m : Meant) → IsAt m ends.now (D.held disk.old) → LeavesOnly D.moment D.left_since disk.old disk.new (SurvivesOf m) }
+    ensures counted { IfOk result (λ e. e ≡ all_counted ends.now) }
     ensures small { IfOk result AreSmall }
     ensures same { IfOk result (λ e. (e.volume ≡ ends.now.volume) × (e.greatest ≡ ends.now.greatest) × (e.meta ≡ ends.now.meta) × (e.length ≡ ends.now.length)) }
     ensures cause { HasCause (D.faults disk.old) (D.faults disk.new) result }

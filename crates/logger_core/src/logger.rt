@@ -12,7 +12,7 @@ ghost use Rattle.logger_core.specs.Logging.{IsLogged, IsLoggable, IsPrepared, Pr
 ghost use Rattle.logger_core.specs.Runs.{SurvivesWith};
 ghost use Rattle.logger_core.specs.Writing.{IsBounded};
 ghost use Rattle.logger_core.specs.Created.{HasNoItem, IsCreated, first_ends};
-ghost use Rattle.logger_core.specs.Going.{AreSmall, IsFlushed, IsVolumeSure};
+ghost use Rattle.logger_core.specs.Going.{AreSmall, IsFlushed, IsVolumeSure, all_acknowledged, counting_all};
 ghost use Rattle.logger_core.specs.Meant.{Meant, IsLogger, SurvivesOf};
 ghost use Rattle.logger_core.specs.Refusals.{FlushMayAnswer, CreateMayAnswer};
 ghost use Rattle.logger_core.specs.Reopening.{IsLeft, IsReopened, SameFiles, ends_of};
@@ -20,7 +20,7 @@ ghost use Rattle.logger_core.specs.Reopening.{IsLeft, IsReopened, SameFiles, end
 use crate::creating::write_labels;
 use crate::ends::Ends;
 use crate::fault::LogFault;
-use crate::flushing::flush_files;
+use crate::flushing::{flush_files, sync_volume};
 use crate::logging::write_item;
 use crate::opening::ends_of;
 use crate::preparing::{Made, prepare};
@@ -226,6 +226,39 @@ impl Logger {
         }
     }
 
+    /// Makes every logged item sure, and puts no entry behind the index: `Ok` acknowledges them all. No memory is taken.
+    pub fn sync<D: Disk>(&mut self, disk: &mut D) -> Result<(), LogFault>
+        // The files are as they were, and every item is acknowledged.
+        ensures done { D.tells → (m : Meant) → IsLogger m self.old (D.held disk.old) → OnOk result (IsLogger (all_acknowledged m) self.new (D.held disk.new)) }
+        // Nothing of the logger changes but how many are acknowledged.
+        ensures counted { OnOk result (self.new ≡ counting_all self.old) }
+        // After Ok it may be called again, with the same volume limit.
+        ensures open_ { OnOk result ((self.new.limit ≡ self.old.limit) × (self.new.closed ≡ false)) }
+        // A crash at any moment leaves the first items, all acknowledged ones among them, each described.
+        ensures any_moment { D.tells → (m : Meant) → IsLogger m self.old (D.held disk.old) → LeavesOnly D.moment D.left_since disk.old disk.new (SurvivesOf m) }
+        // The volume that is written is wholly sure.
+        ensures sure { D.tells → OnOk result (IsVolumeSure self.new.ends.volume (D.held disk.new)) }
+        // Closed comes exactly after a fault of the disk, and then nothing is touched.
+        ensures closed { self.old.closed ≡ true → (result ≡ Err Closed) × (self.new ≡ self.old) × (disk.new ≡ disk.old) }
+        // Which refusal it is; a fault of the disk closes the logger.
+        ensures fault { IfErr result (λ e. FlushMayAnswer self.old self.new (D.faults disk.old) (D.faults disk.new) e) }
+        ensures later { D.faults disk.old ≤ D.faults disk.new }
+    {
+        if self.closed {
+            return Err(LogFault::Closed);
+        }
+        match sync_volume(disk, &self.ends) {
+            Ok(ends) => {
+                self.ends = ends;
+                Ok(())
+            }
+            Err(_) => {
+                self.closed = true;
+                Err(LogFault::DiskFault)
+            }
+        }
+    }
+
     /// All that is written of a result; the metadata know of it then.
     fn prepared(
         &mut self,
@@ -239,6 +272,7 @@ impl Logger {
         ensures bounded { IfOk result (IsBounded self.old.ends) }
         ensures small { AreSmall self.old.ends }
         ensures limited { self.old.limit ≤ 1073741824 }
+        ensures closed { self.old.closed ≡ true → (result ≡ Err Closed) × (self.new ≡ self.old) }
         ensures fault { IfErr result (PrepareMayAnswer self.old self.new answer.now facts.now) }
     {
         let is_closed = self.closed;
@@ -262,7 +296,8 @@ impl Logger {
     ) -> Result<(), LogFault>
         requires some { 0 < length answer.now.sets }
         requires fits { AllByRecursion Fits answer.now.sets }
-        // The result is the last item, and the files are those after it.
+        // The result is the last item, and the files are those after it. It isn't acknowledged: earlier items are where the next
+        // volume was opened.
         ensures done { D.tells → AreEnough facts.now answer.now.sets → (m : Meant) → IsLogger m self.old (D.held disk.old) → OnOk result (IsLogged m self.old self.new answer.now facts.now (D.held disk.new)) }
         // Ok comes only for a result that may be logged.
         ensures loggable { OnOk result ((self.old.closed ≡ false) × IsLoggable self.old.records self.old.ends self.old.limit answer.now facts.now) }
@@ -270,6 +305,8 @@ impl Logger {
         ensures open_ { OnOk result ((self.new.limit ≡ self.old.limit) × (self.new.closed ≡ false)) }
         // A crash at any moment leaves the first items, perhaps the new one too, all acknowledged ones among them, each described.
         ensures any_moment { D.tells → AreEnough facts.now answer.now.sets → (m : Meant) → IsLogger m self.old (D.held disk.old) → LeavesOnly D.moment D.left_since disk.old disk.new (SurvivesWith m (Sample answer.now ∷ [])) }
+        // Closed comes exactly after a fault of the disk, and then nothing is touched.
+        ensures closed { self.old.closed ≡ true → (result ≡ Err Closed) × (self.new ≡ self.old) × (disk.new ≡ disk.old) }
         // Each refusal has its cause; all but a fault of the disk leave the logger as it was, and that one closes it.
         ensures fault { IfErr result (λ e. LogMayAnswer self.old self.new answer.now facts.now (D.faults disk.old) (D.faults disk.new) e) }
         // Every refusal but a fault of the disk leaves the disk untouched.
