@@ -11,14 +11,14 @@ use Rattle.pcp_model.specs.LabelFields.{LabelFields}
 use Rattle.pcp_model.specs.Labels.{BeginsLabel}
 use Rattle.pcp_model.specs.Laws.{EndsWhole}
 use Rattle.pcp_model.proofs.OneReading.{one_reading}
-use Rattle.logger_core.specs.Going.{IsFlushed, IsVolumeSure}
+use Rattle.logger_core.specs.Going.{IsFlushed, IsVolumeSure, all_acknowledged, counting_all}
 use Rattle.logger_core.specs.Keeps.{Start}
 use Rattle.logger_core.specs.Meant.{Kept, IsLogger}
 use Rattle.logger_core.specs.Steps.{FlushStep, with_entry}
 use Rattle.logging_session.specs.Events.{Event, items_by}
 use Rattle.logging_session.specs.Keeping.{AreApart, IsGoing, meant_of}
 use Rattle.logging_session.specs.Written.{Written, Flushes}
-use Rattle.logging_session.proofs.Events.{items_more, sure_flushed}
+use Rattle.logging_session.proofs.Events.{items_more, sure_flushed, sure_synced}
 use Rattle.logging_session.proofs.Logged.{is_settled}
 
 -- files without their index, and what they are read as
@@ -114,3 +114,24 @@ flush_goes left limit events w kept now old held g f limit_same open_ sure =
         settled = λ none. is_settled f.new now.ends.volume held f.is.at.stands sure;
       },
     )
+
+-- ---- what is synced goes on
+
+pub sync_goes : (left : Files) (limit : ℕ) (events : List Event) (w : Written) (kept now : Kept) (old held : Holdings) (g : IsGoing left limit events w kept old) → (l : IsLogger (all_acknowledged (meant_of g.first w g.acknowledged)) now held)
+    → now ≡ counting_all kept → IsVolumeSure now.ends.volume held → IsGoing left limit (events ++ Event.synced ∷ []) w now held
+sync_goes left limit events w kept now old held g l same sure =
+    let items : items_by (events ++ Event.synced ∷ []) ≡ items_by events = items_more events Event.synced ∙ append-nil (items_by events) in
+    record {
+      label = g.label;
+      first = g.first;
+      opens = g.opens;
+      acknowledged = length (items_of w.contents.volumes);
+      is = l;
+      volume = ap (λ (k : Kept). k.ends.volume) same ∙ g.volume;
+      open_ = ap (λ (k : Kept). k.closed) same ∙ g.open_;
+      limit_is = ap (λ (k : Kept). k.limit) same ∙ g.limit_is;
+      items_are = g.items_are ∙ ap (λ (xs : List Item). items_of g.first.contents.volumes ++ xs) (sym items);
+      apart = subst (λ (xs : List Item). AreApart (items_of g.first.contents.volumes) xs) (sym items) g.apart;
+      enough = omega (arith, ap length g.items_are, length-append (items_of g.first.contents.volumes) (items_by events), sure_synced events);
+      settled = λ none. is_settled (all_acknowledged (meant_of g.first w g.acknowledged)) now.ends.volume held l.at.stands sure;
+    }

@@ -3,6 +3,7 @@ pub mod Events
 pub mod Flushes
 pub mod Going
 pub mod Logged
+pub mod Logging
 pub mod Openings
 pub mod Placed
 pub mod Sessions

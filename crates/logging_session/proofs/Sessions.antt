@@ -11,28 +11,34 @@ use Rattle.pcp_model.specs.Archive.{items_of}
 use Rattle.pcp_model.specs.Disk.{CrashImage, Files, Holdings, IsSettled, contents_of}
 use Rattle.pcp_outside.specs.Causes.{shown_count}
 use Rattle.archive_recovery.specs.declared.outcome.Archive.{Archive}
-use Rattle.logger_core.specs.Going.{IsFlushed, IsVolumeSure}
-use Rattle.logger_core.specs.Logging.{IsLoggable, IsLogged}
+use Rattle.logger_core.specs.declared.fault.LogFault.{LogFault}
+use Rattle.logger_core.specs.declared.fault.LogFault.TheVariants.{Closed, Large, NotLater, Changed, Full, NoMemory, DiskFault}
+use Rattle.logger_core.specs.Going.{IsFlushed, IsVolumeSure, all_acknowledged, counting_all}
+use Rattle.logger_core.specs.Logging.{IsLoggable, IsLogged, LogMayAnswer}
 use Rattle.logger_core.specs.Meant.{Kept, IsLogger, Meant}
 use Rattle.logger_core.specs.Reopening.{IsLeft}
 use Rattle.logger_core.proofs.AsFound.{same_files}
 use Rattle.logging_session.specs.declared.place.Place.{Place}
 use Rattle.logging_session.specs.declared.place.Place.TheVariants.{Found, Open, Lost, Failed}
-use Rattle.logging_session.specs.Answers.{ComesBackBy}
+use Rattle.logging_session.specs.Answers.{ComesBackBy, TakeFails}
 use Rattle.logging_session.specs.ComingBack.{ComesBackTo}
 use Rattle.logging_session.specs.Events.{Event, LeadFrom, behind, items_by, opening}
 use Rattle.logging_session.specs.Keeping.{AllSure, AreWhole, Carried, IsGoing, IsPlace, IsUntouched, Keeps, meant_of}
 use Rattle.logging_session.specs.Opening.{IsOpened}
 use Rattle.logging_session.specs.Written.{Flushes, Logs, Report, Stand, Written, files_of, starting}
-use Rattle.logging_session.proofs.Events.{behind_is, items_more, lead_more}
-use Rattle.logging_session.proofs.Flushes.{flush_goes}
-use Rattle.logging_session.proofs.Going.{going_comes, going_whole, log_goes}
-use Rattle.logging_session.proofs.Logged.{is_settled}
+use Rattle.logging_session.proofs.Events.{behind_is, items_more, lead_more, opening_is}
+use Rattle.logging_session.proofs.Flushes.{flush_goes, sync_goes}
+use Rattle.logging_session.proofs.Going.{going_comes, going_whole, log_goes, turned_refuses, would_take}
+use Rattle.logging_session.proofs.Logged.{is_settled, not_closed}
 use Rattle.logging_session.proofs.Openings.{standing_comes}
 
 -- the same session, which stands elsewhere
 abbrev pub with_place : Carried → Place → Carried
 with_place s p = record { label = s.label; limit = s.limit; logged = s.logged; place = p }
+
+-- and where it stood before it is the same
+pub put_back : (s t : Carried) (p : Place) → s ≡ t → s.place ≡ p → with_place s p ≡ t
+put_back s t p same is = ap (λ (q : Place). with_place s q) (sym is) ∙ same
 
 -- what recovery left is settled
 pub left_settled : (held : Holdings) → AllSure held → IsSettled held
@@ -73,6 +79,17 @@ untouched_comes : (left : Files) (events : List Event) (files : Files) (held : H
 untouched_comes left events files held u image comes =
     subst (λ (es : List Event). ComesBackBy es left image) (sym u.none) (subst (λ (f : Files). ComesBackTo [] 0 f image) u.stands comes)
 
+-- why a logger doesn't log
+module _ (left : Files) (limit : ℕ) (events : List Event) (r : Report) (stand : Stand) (kept now : Kept) (old : Holdings) (o : StandsOpen left limit events stand kept old) where
+  pub take_fails : (before after : ℕ) (e : LogFault) → LogMayAnswer kept now r.result r.facts before after e → TakeFails stand limit r e
+  take_fails before after Closed may = not_closed kept.closed may.0 o.going.open_
+  take_fails before after (Large bytes) may = (o.w, o.is, turned_refuses left limit events r o.w kept old o.going (Large bytes) may.2)
+  take_fails before after (NotLater last) may = (o.w, o.is, turned_refuses left limit events r o.w kept old o.going (NotLater last) may.2)
+  take_fails before after (Changed pmid) may = (o.w, o.is, turned_refuses left limit events r o.w kept old o.going (Changed pmid) may.2)
+  take_fails before after (Full file bytes) may = (o.w, o.is, turned_refuses left limit events r o.w kept old o.going (Full file bytes) may.2)
+  take_fails before after NoMemory may = tt
+  take_fails before after DiskFault may = (o.w, o.is, would_take left limit events r o.w kept old o.going may.1)
+
 module _ (left : Files) (events : List Event) (s : Carried) (old : Holdings) (k : Keeps left events s old) where
   at_place : (p : Place) → s.place ≡ p → IsPlace left s.limit events k.stand p old
   at_place p is = subst (λ (q : Place). IsPlace left s.limit events k.stand q old) is k.place
@@ -91,6 +108,20 @@ module _ (left : Files) (events : List Event) (s : Carried) (old : Holdings) (k 
 
   pub when_opened_leads : (kept : Kept) → (is : s.place ≡ Open kept) → LeadFrom s.label s.limit left events (Stand.opened (when_open kept is).w)
   when_opened_leads kept is = subst (λ (t : Stand). LeadFrom s.label s.limit left events t) (when_open kept is).is k.lead
+
+  -- nothing was done before it is open
+  pub idles : (archive : Archive) → s.place ≡ Found archive → (e : Event) → Keeps left (behind events e) s old
+  idles archive is e =
+      let u : StandsUntouched left events k.stand old = (when_found archive is).1 in
+      subst (λ (es : List Event). Keeps left (behind es e) s old) (sym u.untouched.none) (subst (λ (es : List Event). Keeps left es s old) u.untouched.none k)
+
+  pub idle_settles : (archive : Archive) → s.place ≡ Found archive → IsSettled old
+  idle_settles archive is = let u : StandsUntouched left events k.stand old = (when_found archive is).1 in left_settled old u.untouched.sure
+
+  -- once it is open it is opened no more
+  pub opens_no_more : (kept : Kept) → (is : s.place ≡ Open kept) → (stamp : Moment) → Keeps left (opening stamp events) s old
+  opens_no_more kept is stamp =
+      subst (λ (es : List Event). Keeps left es s old) (sym (opening_is s.label s.limit left events (when_open kept is).w stamp (when_opened_leads kept is))) k
 
   pub same_kept : (t : Carried) (held : Holdings) → t ≡ s → held ≡ old → Keeps left events t held
   same_kept t held same still = subst (λ (c : Carried). Keeps left events c held) (sym same) (subst (λ (h : Holdings). Keeps left events s h) (sym still) k)
@@ -180,6 +211,25 @@ module _ (left : Files) (events : List Event) (s : Carried) (old : Holdings) (k 
       let f : IsFlushed (meant_of g.first o.w g.acknowledged) kept now held = flush (meant_of g.first o.w g.acknowledged) g.is in
       is_settled f.new now.ends.volume held f.is.at.stands sure
 
+  pub syncs : (kept now : Kept) (held : Holdings) → (is : s.place ≡ Open kept) → ((m : Meant) → IsLogger m kept old → IsLogger (all_acknowledged m) now held) → now ≡ counting_all kept → IsVolumeSure now.ends.volume held
+      → Keeps left (behind events Event.synced) (with_place s (Open now)) held
+  syncs kept now held is sync same sure =
+      let o : StandsOpen left s.limit events k.stand kept old = when_open kept is in
+      let g : IsGoing left s.limit events o.w kept old = o.going in
+      let lead = when_opened_leads kept is in
+      subst (λ (es : List Event). Keeps left es (with_place s (Open now)) held) (sym (behind_is s.label s.limit left events o.w Event.synced lead)) record {
+        stand = Stand.opened o.w;
+        lead = lead_more s.label s.limit (Stand.found left) events (Stand.opened o.w) Event.synced (Stand.opened o.w) lead refl;
+        place = sync_goes left s.limit events o.w kept now old held g (sync (meant_of g.first o.w g.acknowledged) g.is) same sure;
+        counted = omega (arith, k.counted, ap length (items_more events Event.synced), length-append (items_by events) []);
+      }
+
+  pub sync_settles : (kept now : Kept) (held : Holdings) → (is : s.place ≡ Open kept) → ((m : Meant) → IsLogger m kept old → IsLogger (all_acknowledged m) now held) → IsVolumeSure now.ends.volume held → IsSettled held
+  sync_settles kept now held is sync sure =
+      let o : StandsOpen left s.limit events k.stand kept old = when_open kept is in
+      let g : IsGoing left s.limit events o.w kept old = o.going in
+      is_settled (all_acknowledged (meant_of g.first o.w g.acknowledged)) now.ends.volume held (sync (meant_of g.first o.w g.acknowledged) g.is).at.stands sure
+
 -- ---- whatever is kept
 
 module _ (left : Files) (limit : ℕ) (events : List Event) (held : Holdings) where
@@ -242,3 +292,6 @@ module _ (left : Files) (events : List Event) (s : Carried) (held : Holdings) (k
 
   pub kept_settled : s.logged ≡ 0 → IsSettled held
   kept_settled none = place_settled left s.limit events held k.stand s.place k.place (kept_none none)
+
+  pub kept_some : (s.logged ≡ 0 → ⊥) → length (items_by events) ≡ 0 → ⊥
+  kept_some some none = some (k.counted ∙ ap shown_count none)

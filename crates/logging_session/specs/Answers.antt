@@ -84,8 +84,8 @@ TakeMayAnswer old new before after DiskFault = IsFailed new × Rose before after
 TakeMayAnswer old new before after fault = new ≡ old
 
 -- an archive that is open refuses the result, or the disk failed while it was taking it
-abbrev pub TakeFails : Files → List Event → Report → Carried → LogFault → Type 0
-TakeFails left events r s Closed = ⊥
-TakeFails left events r s NoMemory = Unit {0}
-TakeFails left events r s DiskFault = WouldLog s left events r
-TakeFails left events r s fault = (w : Written) × LeadFrom s.label s.limit left events (Stand.opened w) × Refuses s.limit r w fault
+abbrev pub TakeFails : Stand → ℕ → Report → LogFault → Type 0
+TakeFails stand limit r Closed = ⊥
+TakeFails stand limit r NoMemory = Unit {0}
+TakeFails stand limit r DiskFault = (w : Written) × (stand ≡ Stand.opened w) × Takes limit r w
+TakeFails stand limit r fault = (w : Written) × (stand ≡ Stand.opened w) × Refuses limit r w fault

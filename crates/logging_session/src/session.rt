@@ -1,5 +1,5 @@
 //! A session, and its calls.
-ghost use Rattle.std.specs.Prelude.{◌≡◌, ◌≢◌, ◌+◌, ◌<◌, ◌≤◌, ◌++◌, ◌∷◌, [], length, List as Sequence, Err, Ok, IfErr, OnErr, OnOk};
+ghost use Rattle.std.specs.Prelude.{◌≡◌, ◌≢◌, ◌+◌, ◌<◌, ◌≤◌, ◌++◌, ◌∷◌, [], length, List as Sequence, true, false, Err, Ok, IfErr, OnErr, OnOk};
 ghost use Rattle.std.specs.List.{AllByRecursion};
 ghost use Rattle.pcp_base.specs.Results.{Fits};
 ghost use Rattle.pcp_base.specs.declared.result.Item.TheVariants.{Sample};
@@ -130,8 +130,8 @@ impl Session {
             → OnOk result (Keeps left (events ++ Event.logged (record { result = answer.now; facts = facts.now }) ∷ []) self.new (D.held disk.new)) }
         ensures any_moment { D.tells → AreEnough facts.now answer.now.sets → (left : AllFiles) (events : Sequence Event) → Keeps left events self.old (D.held disk.old)
             → LeavesOnly D.moment D.left_since disk.old disk.new (ComesBackWith events (Sample answer.now ∷ []) left) }
-        ensures fault { D.tells → AreEnough facts.now answer.now.sets → (left : AllFiles) (events : Sequence Event) → Keeps left events self.old (D.held disk.old)
-            → IfErr result (TakeFails left events (record { result = answer.now; facts = facts.now }) self.old) }
+        ensures fault { D.tells → AreEnough facts.now answer.now.sets → (left : AllFiles) (events : Sequence Event) → (k : Keeps left events self.old (D.held disk.old))
+            → IfErr result (TakeFails k.stand self.old.limit (record { result = answer.now; facts = facts.now })) }
         ensures untouched { IfErr result (λ e. e ≢ DiskFault → disk.new ≡ disk.old) }
         ensures open_ { OnOk result (IsOpen self.new) }
         ensures cause { IfErr result (TakeMayAnswer self.old self.new (D.faults disk.old) (D.faults disk.new)) }
@@ -215,11 +215,48 @@ impl Session {
                 self.place = Place::Found(archive);
                 Ok(())
             }
-            Place::Open(mut logger) => {
-                logger.flush(disk)?;
-                self.place = Place::Open(logger);
+            Place::Open(mut logger) => match logger.flush(disk) {
+                Ok(()) => {
+                    self.place = Place::Open(logger);
+                    Ok(())
+                }
+                Err(fault) => Err(fault),
+            },
+            Place::Lost => {
+                self.place = Place::Lost;
+                Err(LogFault::Closed)
+            }
+            Place::Failed => Err(LogFault::Closed),
+        }
+    }
+
+    /// Makes all that was logged sure, and puts no entry behind the index: `Ok` acknowledges it. Before the archive is open nothing is done.
+    pub fn sync<D: Disk>(&mut self, disk: &mut D) -> Result<(), LogFault>
+        ensures done { D.tells → (left : AllFiles) (events : Sequence Event) → Keeps left events self.old (D.held disk.old) → OnOk result (Keeps left (behind events Event.synced) self.new (D.held disk.new)) }
+        ensures settled { D.tells → (left : AllFiles) (events : Sequence Event) → Keeps left events self.old (D.held disk.old) → OnOk result (IsSettled (D.held disk.new)) }
+        ensures any_moment { D.tells → (left : AllFiles) (events : Sequence Event) → Keeps left events self.old (D.held disk.old)
+            → LeavesOnly D.moment D.left_since disk.old disk.new (ComesBackBy events left) }
+        ensures closed { IsClosed self.old → (result ≡ Err Closed) × (self.new ≡ self.old) × (disk.new ≡ disk.old) }
+        // Before the archive is open nothing is done.
+        ensures idle { IsFound self.old → (result ≡ Ok tt) × (self.new ≡ self.old) × (disk.new ≡ disk.old) }
+        ensures working { OnOk result (IsWorking self.old × IsWorking self.new) }
+        ensures open_ { OnOk result (IsOpen self.old → IsOpen self.new) }
+        ensures cause { IfErr result (FlushMayAnswer self.old self.new (D.faults disk.old) (D.faults disk.new)) }
+        ensures same { (self.new.label ≡ self.old.label) × (self.new.limit ≡ self.old.limit) × (self.new.logged ≡ self.old.logged) }
+        ensures later { D.faults disk.old ≤ D.faults disk.new }
+    {
+        match mem::replace(&mut self.place, Place::Failed) {
+            Place::Found(archive) => {
+                self.place = Place::Found(archive);
                 Ok(())
             }
+            Place::Open(mut logger) => match logger.sync(disk) {
+                Ok(()) => {
+                    self.place = Place::Open(logger);
+                    Ok(())
+                }
+                Err(fault) => Err(fault),
+            },
             Place::Lost => {
                 self.place = Place::Lost;
                 Err(LogFault::Closed)
