@@ -104,6 +104,9 @@ flush_answers old new kept now before after e open_ failed usable may =
     let c : (e ≡ DiskFault) × Rose before after = flush_rose kept now before after e usable may in
     subst (λ (f : LogFault). FlushMayAnswer old new before after f) (sym c.0) (open_, failed, c.1)
 
+pub lost_answers : (old lost : Carried) (before after : ℕ) (e : LogFault) → e ≡ NoMemory → IsFound old → IsLost lost → OpenMayAnswer old lost before after e
+lost_answers old lost before after e is found now = subst (λ (f : LogFault). OpenMayAnswer old lost before after f) (sym is) (found, now)
+
 -- a creation is refused for want of memory, or by the disk
 pub open_answers : (old failed : Carried) (before after : ℕ) (e : LogFault) → IsFound old → IsFailed failed → CreateMayAnswer before after e → e ≢ NoMemory → OpenMayAnswer old failed before after e
 open_answers old failed before after Closed found is may other = absurd may

@@ -96,11 +96,13 @@ impl Session {
                         self.place = Place::Open(logger);
                         Ok(())
                     }
-                    Err(LogFault::NoMemory) => {
-                        self.place = Place::Lost;
-                        Err(LogFault::NoMemory)
-                    }
-                    Err(fault) => Err(fault),
+                    Err(fault) => match fault {
+                        LogFault::NoMemory => {
+                            self.place = Place::Lost;
+                            Err(fault)
+                        }
+                        _ => Err(fault),
+                    },
                 }
             }
             Place::Open(logger) => {
@@ -150,11 +152,13 @@ impl Session {
                 self.logged = self.logged.saturating_add(1);
                 Ok(())
             }
-            Err(LogFault::DiskFault) => Err(LogFault::DiskFault),
-            Err(fault) => {
-                self.place = Place::Open(logger);
-                Err(fault)
-            }
+            Err(fault) => match fault {
+                LogFault::DiskFault => Err(fault),
+                _ => {
+                    self.place = Place::Open(logger);
+                    Err(fault)
+                }
+            },
         }
     }
 

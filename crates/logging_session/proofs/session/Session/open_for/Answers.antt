@@ -11,7 +11,7 @@ use Rattle.logging_session.specs.Events.{Event, opening}
 use Rattle.logging_session.specs.Keeping.{Carried, Keeps}
 use Rattle.logging_session.specs.Written.{starting}
 use Rattle.logging_session.specs.Opening.{IsOpened}
-use Rattle.logging_session.proofs.Placed.{failed_closed, failed_is, failed_not_open, found_is, found_not_closed, found_not_open, lost_closed, lost_not_open, open_answers, open_is, open_not_closed, open_rose, same_count}
+use Rattle.logging_session.proofs.Placed.{failed_closed, failed_is, failed_not_open, found_is, found_not_closed, found_not_open, lost_answers, lost_closed, lost_not_open, open_answers, open_is, open_not_closed, open_rose, same_count}
 use Rattle.logging_session.proofs.Sessions.{found_comes, kept_comes, loses, opens, opens_no_more, put_back, same_kept, when_found, with_place}
 use Rattle.logging_session.proofs.session.Session.open_for.Goals as goal
 
@@ -40,8 +40,8 @@ returns-in-Ok g c =
       later = c.open.ensures.later;
     }
 
-pub returns-in-Err-NoMemory : goal.returns-in-Err-NoMemory
-returns-in-Err-NoMemory g c =
+pub returns-in-NoMemory : goal.returns-in-NoMemory
+returns-in-NoMemory g c =
     let d = g.D.Disk in
     let s : Carried = record { label = c.self.inside.label; limit = c.self.inside.limit; logged = c.self.inside.logged; place = c.self.inside.place } in
     let old = c.args.self.now in
@@ -53,17 +53,17 @@ returns-in-Err-NoMemory g c =
       done = λ tells left events k. tt;
       any_moment = λ tells left events k.
           weaker d.moment d.left_since d.held c.args.disk.now c.open.new.disk (ComesBackTo [] 0 (contents_of held)) (ComesBackBy events left) (c.open.ensures.any_moment tells (when_found left events old held k a was).0) (found_comes left events old held k a was);
-      refused = λ tells left events k other. loses left events s held (subst (λ (t : Carried). Keeps left events t held) (sym c.self.view_is) k) a (d.held c.open.new.disk) is (ap d.held (c.in-Err-NoMemory.ensures.untouched refl));
+      refused = λ tells left events k other. loses left events s held (subst (λ (t : Carried). Keeps left events t held) (sym c.self.view_is) k) a (d.held c.open.new.disk) is (ap d.held (c.in-Err.ensures.untouched c.in-NoMemory.is));
       closed = λ h. found_not_closed old a was h;
       stays = λ h. found_not_open old a was h;
       open_ = tt;
-      cause = (found_is old a was, tt);
+      cause = lost_answers old (with_place s Lost) (d.faults c.args.disk.now) (d.faults c.open.new.disk) c.in-Err.fault c.in-NoMemory.is (found_is old a was) tt;
       same = (ap (λ (t : Carried). t.label) c.self.view_is, ap (λ (t : Carried). t.limit) c.self.view_is, ap (λ (t : Carried). t.logged) c.self.view_is);
       later = c.open.ensures.later;
     }
 
-pub returns-in-Err : goal.returns-in-Err
-returns-in-Err g c =
+pub returns-in_default : goal.returns-in_default
+returns-in_default g c =
     let d = g.D.Disk in
     let s : Carried = record { label = c.self.inside.label; limit = c.self.inside.limit; logged = c.self.inside.logged; place = c.self.inside.place } in
     let old = c.args.self.now in
@@ -75,11 +75,11 @@ returns-in-Err g c =
       done = λ tells left events k. tt;
       any_moment = λ tells left events k.
           weaker d.moment d.left_since d.held c.args.disk.now c.open.new.disk (ComesBackTo [] 0 (contents_of held)) (ComesBackBy events left) (c.open.ensures.any_moment tells (when_found left events old held k a was).0) (found_comes left events old held k a was);
-      refused = λ tells left events k other. open_rose (d.faults c.args.disk.now) (d.faults c.open.new.disk) c.in-Err.fault c.in-Err.ensures.fault c.in-Err.not-NoMemory other;
+      refused = λ tells left events k other. open_rose (d.faults c.args.disk.now) (d.faults c.open.new.disk) c.in-Err.fault c.in-Err.ensures.fault c.in_default.not-NoMemory other;
       closed = λ h. found_not_closed old a was h;
       stays = λ h. found_not_open old a was h;
       open_ = tt;
-      cause = open_answers old (with_place s c.replace.new.dest) (d.faults c.args.disk.now) (d.faults c.open.new.disk) c.in-Err.fault (found_is old a was) (failed_is (with_place s c.replace.new.dest) c.replace.ensures.after) c.in-Err.ensures.fault c.in-Err.not-NoMemory;
+      cause = open_answers old (with_place s c.replace.new.dest) (d.faults c.args.disk.now) (d.faults c.open.new.disk) c.in-Err.fault (found_is old a was) (failed_is (with_place s c.replace.new.dest) c.replace.ensures.after) c.in-Err.ensures.fault c.in_default.not-NoMemory;
       same = (ap (λ (t : Carried). t.label) c.self.view_is, ap (λ (t : Carried). t.limit) c.self.view_is, ap (λ (t : Carried). t.logged) c.self.view_is);
       later = c.open.ensures.later;
     }

@@ -49,8 +49,8 @@ returns-in-Ok g c =
       later = c.log.ensures.later;
     }
 
-pub returns-in-Err-DiskFault : goal.returns-in-Err-DiskFault
-returns-in-Err-DiskFault g c =
+pub returns-in-DiskFault : goal.returns-in-DiskFault
+returns-in-DiskFault g c =
     let d = g.D.Disk in
     let s : Carried = record { label = c.self.inside.label; limit = c.self.inside.limit; logged = c.self.inside.logged; place = c.self.inside.place } in
     let old = c.args.self.now in
@@ -62,26 +62,27 @@ returns-in-Err-DiskFault g c =
     let is : s.place ≡ Open logger = sym c.replace.ensures.value ∙ c.in-Open.is in
     let was : old.place ≡ Open logger = sym (ap (λ (t : Carried). t.place) c.self.view_is) ∙ is in
     let may = open_may_log s logger is c.self.invariant.logger in
+    let e = c.in-Err.fault in
     record {
       done = λ tells enough left events k. tt;
       any_moment = λ tells enough left events k.
           let o = when_open left events old held k logger was in
           let m = meant_of o.going.first o.w o.going.acknowledged in
           weaker d.moment d.left_since d.held c.args.disk.now c.log.new.disk (MaySurvive m (Sample r.result)) (ComesBackWith events (Sample r.result ∷ []) left)
-          (failing_survives d g.met.D.Disk.only_now m logger now r.result r.facts c.args.disk.now c.log.new.disk DiskFault o.going.is c.in-Err-DiskFault.ensures.fault c.in-Err-DiskFault.ensures.untouched (c.log.ensures.any_moment tells enough m o.going.is))
+          (failing_survives d g.met.D.Disk.only_now m logger now r.result r.facts c.args.disk.now c.log.new.disk e o.going.is c.in-Err.ensures.fault c.in-Err.ensures.untouched (c.log.ensures.any_moment tells enough m o.going.is))
           (new_comes left old.limit events o.w logger held o.going (Sample r.result));
-      fault = λ tells enough left events k. take_fails left old.limit events r k.stand logger now held (when_open left events old held k logger was) (d.faults c.args.disk.now) (d.faults c.log.new.disk) DiskFault c.in-Err-DiskFault.ensures.fault;
-      untouched = λ other. absurd (other refl);
+      fault = λ tells enough left events k. take_fails left old.limit events r k.stand logger now held (when_open left events old held k logger was) (d.faults c.args.disk.now) (d.faults c.log.new.disk) e c.in-Err.ensures.fault;
+      untouched = λ other. absurd (other c.in-DiskFault.is);
       open_ = tt;
-      cause = take_answers old (with_place s c.replace.new.dest) logger now r.result r.facts (d.faults c.args.disk.now) (d.faults c.log.new.disk) DiskFault may.0 (failed_is (with_place s c.replace.new.dest) c.replace.ensures.after) c.in-Err-DiskFault.ensures.fault refl;
+      cause = take_answers old (with_place s c.replace.new.dest) logger now r.result r.facts (d.faults c.args.disk.now) (d.faults c.log.new.disk) e may.0 (failed_is (with_place s c.replace.new.dest) c.replace.ensures.after) c.in-Err.ensures.fault c.in-DiskFault.is;
       counted = tt;
       uncounted = ap (λ (t : Carried). t.logged) c.self.view_is;
       same = (ap (λ (t : Carried). t.label) c.self.view_is, ap (λ (t : Carried). t.limit) c.self.view_is);
       later = c.log.ensures.later;
     }
 
-pub returns-in-Err : goal.returns-in-Err
-returns-in-Err g c =
+pub returns-in_default : goal.returns-in_default
+returns-in_default g c =
     let d = g.D.Disk in
     let s : Carried = record { label = c.self.inside.label; limit = c.self.inside.limit; logged = c.self.inside.logged; place = c.self.inside.place } in
     let old = c.args.self.now in
@@ -96,7 +97,7 @@ returns-in-Err g c =
     let e = c.in-Err.fault in
     let before = d.faults c.args.disk.now in
     let then_ = d.faults c.log.new.disk in
-    let still : now ≡ logger = take_same logger now r.result r.facts before then_ e may.0 c.in-Err.ensures.fault c.in-Err.not-DiskFault in
+    let still : now ≡ logger = take_same logger now r.result r.facts before then_ e may.0 c.in-Err.ensures.fault c.in_default.not-DiskFault in
     let same : with_place s (Open now) ≡ old = put_back s old (Open now) c.self.view_is (is ∙ ap (λ (l : Kept). Open l) (sym still)) in
     record {
       done = λ tells enough left events k. tt;
@@ -109,7 +110,7 @@ returns-in-Err g c =
       fault = λ tells enough left events k. take_fails left old.limit events r k.stand logger now held (when_open left events old held k logger was) (d.faults c.args.disk.now) (d.faults c.log.new.disk) e c.in-Err.ensures.fault;
       untouched = c.in-Err.ensures.untouched;
       open_ = tt;
-      cause = take_stays old (with_place s (Open now)) logger now r.result r.facts before then_ e may.0 c.in-Err.ensures.fault c.in-Err.not-DiskFault same;
+      cause = take_stays old (with_place s (Open now)) logger now r.result r.facts before then_ e may.0 c.in-Err.ensures.fault c.in_default.not-DiskFault same;
       counted = tt;
       uncounted = ap (λ (t : Carried). t.logged) c.self.view_is;
       same = (ap (λ (t : Carried). t.label) c.self.view_is, ap (λ (t : Carried). t.limit) c.self.view_is);
