@@ -32,7 +32,7 @@ returns-in-Ok g c =
     let may = open_may_log s logger is c.self.invariant.logger in
     record {
       done = λ tells enough left events k.
-          logs left events s held (subst (λ (t : Carried). Keeps left events t held) (sym c.self.view_is) k) r logger now after c.saturating_add.result is c.in-Ok.ensures.loggable.1 (c.in-Ok.ensures.done tells enough) c.in-Ok.ensures.open_.0 c.in-Ok.ensures.open_.1 c.saturating_add.ensures;
+          logs left events s held (subst (λ (t : Carried). Keeps left events t held) (sym c.self.view_is) k) r logger now after c.saturating_add-self-inside.result is c.in-Ok.ensures.loggable.1 (c.in-Ok.ensures.done tells enough) c.in-Ok.ensures.open_.0 c.in-Ok.ensures.open_.1 c.saturating_add-self-inside.ensures;
       any_moment = λ tells enough left events k.
           let o = when_open left events old held k logger was in
           let m = meant_of o.going.first o.w o.going.acknowledged in
@@ -43,7 +43,7 @@ returns-in-Ok g c =
       untouched = tt;
       open_ = tt;
       cause = tt;
-      counted = c.saturating_add.ensures ∙ ap (λ (t : Carried). min (t.logged + 1) 18446744073709551615) c.self.view_is;
+      counted = c.saturating_add-self-inside.ensures ∙ ap (λ (t : Carried). min (t.logged + 1) 18446744073709551615) c.self.view_is;
       uncounted = tt;
       same = (ap (λ (t : Carried). t.label) c.self.view_is, ap (λ (t : Carried). t.limit) c.self.view_is);
       later = c.log.ensures.later;
@@ -81,8 +81,8 @@ returns-in-DiskFault g c =
       later = c.log.ensures.later;
     }
 
-pub returns-in_default : goal.returns-in_default
-returns-in_default g c =
+pub returns-in_default-fault : goal.returns-in_default-fault
+returns-in_default-fault g c =
     let d = g.D.Disk in
     let s : Carried = record { label = c.self.inside.label; limit = c.self.inside.limit; logged = c.self.inside.logged; place = c.self.inside.place } in
     let old = c.args.self.now in
@@ -97,7 +97,7 @@ returns-in_default g c =
     let e = c.in-Err.fault in
     let before = d.faults c.args.disk.now in
     let then_ = d.faults c.log.new.disk in
-    let still : now ≡ logger = take_same logger now r.result r.facts before then_ e may.0 c.in-Err.ensures.fault c.in_default.not-DiskFault in
+    let still : now ≡ logger = take_same logger now r.result r.facts before then_ e may.0 c.in-Err.ensures.fault c.in_default-fault.not-DiskFault in
     let same : with_place s (Open now) ≡ old = put_back s old (Open now) c.self.view_is (is ∙ ap (λ (l : Kept). Open l) (sym still)) in
     record {
       done = λ tells enough left events k. tt;
@@ -110,9 +110,20 @@ returns-in_default g c =
       fault = λ tells enough left events k. take_fails left old.limit events r k.stand logger now held (when_open left events old held k logger was) (d.faults c.args.disk.now) (d.faults c.log.new.disk) e c.in-Err.ensures.fault;
       untouched = c.in-Err.ensures.untouched;
       open_ = tt;
-      cause = take_stays old (with_place s (Open now)) logger now r.result r.facts before then_ e may.0 c.in-Err.ensures.fault c.in_default.not-DiskFault same;
+      cause = take_stays old (with_place s (Open now)) logger now r.result r.facts before then_ e may.0 c.in-Err.ensures.fault c.in_default-fault.not-DiskFault same;
       counted = tt;
       uncounted = ap (λ (t : Carried). t.logged) c.self.view_is;
       same = (ap (λ (t : Carried). t.label) c.self.view_is, ap (λ (t : Carried). t.limit) c.self.view_is);
       later = c.log.ensures.later;
     }
+
+pub invariant_of-self-in_default-fault : goal.invariant_of-self-in_default-fault
+invariant_of-self-in_default-fault g c =
+    let d = g.D.Disk in
+    let s : Carried = record { label = c.self.inside.label; limit = c.self.inside.limit; logged = c.self.inside.logged; place = c.self.inside.place } in
+    let logger = c.in-Open.logger in
+    let now = c.log.new.self in
+    let is : s.place ≡ Open logger = sym c.replace.ensures.value ∙ c.in-Open.is in
+    let may = open_may_log s logger is c.self.invariant.logger in
+    let still : now ≡ logger = take_same logger now c.args.answer.now c.args.facts.now (d.faults c.args.disk.now) (d.faults c.log.new.disk) c.in-Err.fault may.0 c.in-Err.ensures.fault c.in_default-fault.not-DiskFault in
+    record { low = c.self.invariant.low; high = c.self.invariant.high; logger = (ap (λ (l : Kept). l.closed) still ∙ may.0, ap (λ (l : Kept). l.limit) still ∙ may.1) }
