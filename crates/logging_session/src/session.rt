@@ -142,22 +142,21 @@ impl Session {
         ensures same { (self.new.label ≡ self.old.label) × (self.new.limit ≡ self.old.limit) }
         ensures later { D.faults disk.old ≤ D.faults disk.new }
     {
-        let Place::Open(mut logger) = mem::replace(&mut self.place, Place::Failed) else {
+        let Place::Open(logger) = &mut self.place else {
             // It is open.
             unreachable!()
         };
         match logger.log(alloc, disk, answer, facts) {
             Ok(()) => {
-                self.place = Place::Open(logger);
                 self.logged = self.logged.saturating_add(1);
                 Ok(())
             }
             Err(fault) => match fault {
-                LogFault::DiskFault => Err(fault),
-                _ => {
-                    self.place = Place::Open(logger);
+                LogFault::DiskFault => {
+                    self.place = Place::Failed;
                     Err(fault)
                 }
+                _ => Err(fault),
             },
         }
     }
@@ -214,22 +213,16 @@ impl Session {
         ensures same { (self.new.label ≡ self.old.label) × (self.new.limit ≡ self.old.limit) × (self.new.logged ≡ self.old.logged) }
         ensures later { D.faults disk.old ≤ D.faults disk.new }
     {
-        match mem::replace(&mut self.place, Place::Failed) {
-            Place::Found(archive) => {
-                self.place = Place::Found(archive);
-                Ok(())
-            }
-            Place::Open(mut logger) => match logger.flush(disk) {
-                Ok(()) => {
-                    self.place = Place::Open(logger);
-                    Ok(())
+        match &mut self.place {
+            Place::Found(_) => Ok(()),
+            Place::Open(logger) => match logger.flush(disk) {
+                Ok(()) => Ok(()),
+                Err(fault) => {
+                    self.place = Place::Failed;
+                    Err(fault)
                 }
-                Err(fault) => Err(fault),
             },
-            Place::Lost => {
-                self.place = Place::Lost;
-                Err(LogFault::Closed)
-            }
+            Place::Lost => Err(LogFault::Closed),
             Place::Failed => Err(LogFault::Closed),
         }
     }
@@ -249,22 +242,16 @@ impl Session {
         ensures same { (self.new.label ≡ self.old.label) × (self.new.limit ≡ self.old.limit) × (self.new.logged ≡ self.old.logged) }
         ensures later { D.faults disk.old ≤ D.faults disk.new }
     {
-        match mem::replace(&mut self.place, Place::Failed) {
-            Place::Found(archive) => {
-                self.place = Place::Found(archive);
-                Ok(())
-            }
-            Place::Open(mut logger) => match logger.sync(disk) {
-                Ok(()) => {
-                    self.place = Place::Open(logger);
-                    Ok(())
+        match &mut self.place {
+            Place::Found(_) => Ok(()),
+            Place::Open(logger) => match logger.sync(disk) {
+                Ok(()) => Ok(()),
+                Err(fault) => {
+                    self.place = Place::Failed;
+                    Err(fault)
                 }
-                Err(fault) => Err(fault),
             },
-            Place::Lost => {
-                self.place = Place::Lost;
-                Err(LogFault::Closed)
-            }
+            Place::Lost => Err(LogFault::Closed),
             Place::Failed => Err(LogFault::Closed),
         }
     }

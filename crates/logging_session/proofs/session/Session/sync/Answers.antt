@@ -10,7 +10,7 @@ use Rattle.logging_session.specs.Events.{Event, behind}
 use Rattle.logging_session.specs.Keeping.{Carried, Keeps, meant_of}
 use Rattle.logging_session.proofs.Going.{survivor_comes}
 use Rattle.logging_session.proofs.Placed.{failed_closed, failed_is, failed_not_found, flush_answers, found_is, found_not_closed, found_not_open, lost_closed, lost_not_found, open_is, open_may_log, open_not_closed, open_not_found, same_count}
-use Rattle.logging_session.proofs.Sessions.{idle_settles, idles, kept_comes, put_back, sync_settles, syncs, when_open, with_place}
+use Rattle.logging_session.proofs.Sessions.{idle_settles, idles, kept_comes, sync_settles, syncs, when_open, with_place}
 use Rattle.logging_session.proofs.session.Session.sync.Goals as goal
 
 pub returns-in-Found : goal.returns-in-Found
@@ -19,17 +19,17 @@ returns-in-Found g c =
     let s : Carried = record { label = c.self.inside.label; limit = c.self.inside.limit; logged = c.self.inside.logged; place = c.self.inside.place } in
     let old = c.args.self.now in
     let held = d.held c.args.disk.now in
-    let a = c.in-Found.archive in
-    let is : s.place ≡ Found a = sym c.replace.ensures.value ∙ c.in-Found.is in
+    let a = c.in-Found.field-0 in
+    let is : s.place ≡ Found a = c.in-Found.is in
     let was : old.place ≡ Found a = sym (ap (λ (t : Carried). t.place) c.self.view_is) ∙ is in
-    let same : with_place s (Found a) ≡ old = put_back s old (Found a) c.self.view_is is in
+    let same : s ≡ old = c.self.view_is in
     record {
       done = λ tells left events k. subst (λ (t : Carried). Keeps left (behind events Event.synced) t held) (sym same) (idles left events old held k a was Event.synced);
       settled = λ tells left events k. idle_settles left events old held k a was;
       any_moment = λ tells left events k. no_call d g.met.D.Disk.only_now c.args.disk.now (ComesBackBy events left) (kept_comes left events old held k);
       closed = λ h. found_not_closed old a was h;
       idle = λ h. (refl, same, refl);
-      working = (inl (found_is old a was), inl tt);
+      working = (inl (found_is old a was), inl (found_is s a is));
       open_ = λ h. found_not_open old a was h;
       cause = tt;
       same = (ap (λ (t : Carried). t.label) c.self.view_is, ap (λ (t : Carried). t.limit) c.self.view_is, ap (λ (t : Carried). t.logged) c.self.view_is);
@@ -42,9 +42,9 @@ returns-in-Lost g c =
     let s : Carried = record { label = c.self.inside.label; limit = c.self.inside.limit; logged = c.self.inside.logged; place = c.self.inside.place } in
     let old = c.args.self.now in
     let held = d.held c.args.disk.now in
-    let is : s.place ≡ Lost = sym c.replace.ensures.value ∙ c.in-Lost.is in
+    let is : s.place ≡ Lost = c.in-Lost.is in
     let was : old.place ≡ Lost = sym (ap (λ (t : Carried). t.place) c.self.view_is) ∙ is in
-    let same : with_place s Lost ≡ old = put_back s old Lost c.self.view_is is in
+    let same : s ≡ old = c.self.view_is in
     record {
       done = λ tells left events k. tt;
       settled = λ tells left events k. tt;
@@ -64,9 +64,9 @@ returns-in-Failed g c =
     let s : Carried = record { label = c.self.inside.label; limit = c.self.inside.limit; logged = c.self.inside.logged; place = c.self.inside.place } in
     let old = c.args.self.now in
     let held = d.held c.args.disk.now in
-    let is : s.place ≡ Failed = sym c.replace.ensures.value ∙ c.in-Failed.is in
+    let is : s.place ≡ Failed = c.in-Failed.is in
     let was : old.place ≡ Failed = sym (ap (λ (t : Carried). t.place) c.self.view_is) ∙ is in
-    let same : with_place s c.replace.new.dest ≡ old = ap (λ (p : Place). with_place s p) c.replace.ensures.after ∙ put_back s old Failed c.self.view_is is in
+    let same : s ≡ old = c.self.view_is in
     record {
       done = λ tells left events k. tt;
       settled = λ tells left events k. tt;
@@ -89,7 +89,7 @@ returns-in-Ok g c =
     let after = d.held c.sync.new.disk in
     let logger = c.in-Open.logger in
     let now = c.sync.new.self in
-    let is : s.place ≡ Open logger = sym c.replace.ensures.value ∙ c.in-Open.is in
+    let is : s.place ≡ Open logger = c.in-Open.is in
     let was : old.place ≡ Open logger = sym (ap (λ (t : Carried). t.place) c.self.view_is) ∙ is in
     let new : with_place s (Open now) ≡ with_place old (Open now) = ap (λ (t : Carried). with_place t (Open now)) c.self.view_is in
     record {
@@ -117,7 +117,7 @@ returns-in-Err g c =
     let held = d.held c.args.disk.now in
     let logger = c.in-Open.logger in
     let now = c.sync.new.self in
-    let is : s.place ≡ Open logger = sym c.replace.ensures.value ∙ c.in-Open.is in
+    let is : s.place ≡ Open logger = c.in-Open.is in
     let was : old.place ≡ Open logger = sym (ap (λ (t : Carried). t.place) c.self.view_is) ∙ is in
     record {
       done = λ tells left events k. tt;
@@ -130,7 +130,7 @@ returns-in-Err g c =
       idle = λ h. open_not_found old logger was h;
       working = tt;
       open_ = tt;
-      cause = flush_answers old (with_place s c.replace.new.dest) logger now (d.faults c.args.disk.now) (d.faults c.sync.new.disk) c.in-Err.fault (open_is old logger was) (failed_is (with_place s c.replace.new.dest) c.replace.ensures.after) (open_may_log s logger is c.self.invariant.logger).0 c.in-Err.ensures.fault;
+      cause = flush_answers old (with_place s Failed) logger now (d.faults c.args.disk.now) (d.faults c.sync.new.disk) c.in-Err.fault (open_is old logger was) tt (open_may_log s logger is c.self.invariant.logger).0 c.in-Err.ensures.fault;
       same = (ap (λ (t : Carried). t.label) c.self.view_is, ap (λ (t : Carried). t.limit) c.self.view_is, ap (λ (t : Carried). t.logged) c.self.view_is);
       later = c.sync.ensures.later;
     }

@@ -27,7 +27,7 @@ returns-in-Ok g c =
     let logger = c.in-Open.logger in
     let now = c.log.new.self in
     let r : Report = record { result = c.args.answer.now; facts = c.args.facts.now } in
-    let is : s.place ≡ Open logger = sym c.replace.ensures.value ∙ c.in-Open.is in
+    let is : s.place ≡ Open logger = c.in-Open.is in
     let was : old.place ≡ Open logger = sym (ap (λ (t : Carried). t.place) c.self.view_is) ∙ is in
     let may = open_may_log s logger is c.self.invariant.logger in
     record {
@@ -59,7 +59,7 @@ returns-in-DiskFault g c =
     let logger = c.in-Open.logger in
     let now = c.log.new.self in
     let r : Report = record { result = c.args.answer.now; facts = c.args.facts.now } in
-    let is : s.place ≡ Open logger = sym c.replace.ensures.value ∙ c.in-Open.is in
+    let is : s.place ≡ Open logger = c.in-Open.is in
     let was : old.place ≡ Open logger = sym (ap (λ (t : Carried). t.place) c.self.view_is) ∙ is in
     let may = open_may_log s logger is c.self.invariant.logger in
     let e = c.in-Err.fault in
@@ -74,7 +74,7 @@ returns-in-DiskFault g c =
       fault = λ tells enough left events k. take_fails left old.limit events r k.stand logger now held (when_open left events old held k logger was) (d.faults c.args.disk.now) (d.faults c.log.new.disk) e c.in-Err.ensures.fault;
       untouched = λ other. absurd (other c.in-DiskFault.is);
       open_ = tt;
-      cause = take_answers old (with_place s c.replace.new.dest) logger now r.result r.facts (d.faults c.args.disk.now) (d.faults c.log.new.disk) e may.0 (failed_is (with_place s c.replace.new.dest) c.replace.ensures.after) c.in-Err.ensures.fault c.in-DiskFault.is;
+      cause = take_answers old (with_place s Failed) logger now r.result r.facts (d.faults c.args.disk.now) (d.faults c.log.new.disk) e may.0 tt c.in-Err.ensures.fault c.in-DiskFault.is;
       counted = tt;
       uncounted = ap (λ (t : Carried). t.logged) c.self.view_is;
       same = (ap (λ (t : Carried). t.label) c.self.view_is, ap (λ (t : Carried). t.limit) c.self.view_is);
@@ -91,7 +91,7 @@ returns-in_default-fault g c =
     let logger = c.in-Open.logger in
     let now = c.log.new.self in
     let r : Report = record { result = c.args.answer.now; facts = c.args.facts.now } in
-    let is : s.place ≡ Open logger = sym c.replace.ensures.value ∙ c.in-Open.is in
+    let is : s.place ≡ Open logger = c.in-Open.is in
     let was : old.place ≡ Open logger = sym (ap (λ (t : Carried). t.place) c.self.view_is) ∙ is in
     let may = open_may_log s logger is c.self.invariant.logger in
     let e = c.in-Err.fault in
@@ -123,7 +123,7 @@ invariant_of-self-in_default-fault g c =
     let s : Carried = record { label = c.self.inside.label; limit = c.self.inside.limit; logged = c.self.inside.logged; place = c.self.inside.place } in
     let logger = c.in-Open.logger in
     let now = c.log.new.self in
-    let is : s.place ≡ Open logger = sym c.replace.ensures.value ∙ c.in-Open.is in
+    let is : s.place ≡ Open logger = c.in-Open.is in
     let may = open_may_log s logger is c.self.invariant.logger in
     let still : now ≡ logger = take_same logger now c.args.answer.now c.args.facts.now (d.faults c.args.disk.now) (d.faults c.log.new.disk) c.in-Err.fault may.0 c.in-Err.ensures.fault c.in_default-fault.not-DiskFault in
     record { low = c.self.invariant.low; high = c.self.invariant.high; logger = (ap (λ (l : Kept). l.closed) still ∙ may.0, ap (λ (l : Kept). l.limit) still ∙ may.1) }
