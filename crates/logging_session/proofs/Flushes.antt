@@ -6,7 +6,7 @@ use Rattle.pcp_base.specs.declared.file.FileId.TheVariants.{Meta, Index, Volume}
 use Rattle.pcp_base.specs.declared.result.Item.{Item}
 use Rattle.pcp_model.specs.declared.records.Entry.{Entry}
 use Rattle.pcp_model.specs.Archive.{ArchiveContents, ArchiveReading, AreVolumes, IsArchive, items_of}
-use Rattle.pcp_model.specs.Disk.{Files, Holdings, contents_of}
+use Rattle.pcp_model.specs.Disk.{Files, Holdings}
 use Rattle.pcp_model.specs.LabelFields.{LabelFields}
 use Rattle.pcp_model.specs.Labels.{BeginsLabel}
 use Rattle.pcp_model.specs.Laws.{EndsWhole}

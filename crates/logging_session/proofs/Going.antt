@@ -1,5 +1,5 @@
 -- The archive of a session that is open: what a logger goes on with, and what a crash leaves of it.
-use Rattle.std.proofs.Common.{◌≡◌, inl, inr, ℕ, ◌+◌, ◌≤◌, false, List, [], ◌∷◌, ◌++◌, length, take, min, refl, sym, ap, ap₂, ◌∙◌, subst, arith, append-nil, length-append}
+use Rattle.std.proofs.Common.{◌≡◌, inl, inr, ℕ, ◌+◌, ◌≤◌, false, List, [], ◌∷◌, ◌++◌, length, take, min, refl, sym, ap, ap₂, ◌∙◌, subst, arith, length-append}
 use Rattle.std.specs.Prelude.{Contains}
 use Rattle.std.proofs.lemmas.List.Elements.{Contains-append_left}
 use Rattle.std.proofs.lemmas.List.{append_assoc, take-append-le, take_min}
@@ -27,7 +27,6 @@ use Rattle.logger_core.specs.Logging.{IsLoggable, IsLogged, IsRefused}
 use Rattle.logger_core.specs.Meant.{Meant, Kept, IsLogger, SurvivesOf, items_in}
 use Rattle.logger_core.specs.Recovering.{HoldsFirst}
 use Rattle.logger_core.specs.Reopening.{as_found}
-use Rattle.logger_core.specs.Runs.{SurvivesWith}
 use Rattle.logger_core.proofs.Rests.{image_survives, survives_same}
 use Rattle.logging_session.specs.ComingBack.{ComesBack, ComesBackTo, start_of}
 use Rattle.logging_session.specs.Events.{Event, acknowledged_by, items_by}

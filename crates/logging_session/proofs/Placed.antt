@@ -1,5 +1,5 @@
 -- What holds of a session by where its archive stands, over any disk.
-use Rattle.std.proofs.Common.{◌≡◌, ◌≢◌, ◌⊎◌, inl, inr, ⊎_elim, ℕ, ◌+◌, ◌≤◌, false, true, refl, sym, ap, ◌∙◌, subst, arith}
+use Rattle.std.proofs.Common.{◌≡◌, ◌≢◌, ◌⊎◌, inl, inr, ⊎_elim, ℕ, ◌≤◌, false, refl, sym, subst, arith}
 use Rattle.pcp_base.specs.declared.result.PmResult.{PmResult}
 use Rattle.pcp_outside.specs.Causes.{Rose}
 use Rattle.archive_meta.specs.declared.facts.Facts.{Facts}
@@ -11,8 +11,8 @@ use Rattle.logger_core.specs.Meant.{Kept}
 use Rattle.logger_core.specs.Refusals.{CreateMayAnswer, FlushMayAnswer as LoggerMayFlush}
 use Rattle.logging_session.specs.declared.place.Place.{Place}
 use Rattle.logging_session.specs.declared.place.Place.TheVariants.{Found, Open, Lost, Failed}
-use Rattle.logging_session.specs.Answers.{FlushMayAnswer, LogMayAnswer, OpenMayAnswer, StaysOpen, TakeMayAnswer}
-use Rattle.logging_session.specs.Keeping.{Carried, HasFailed, HasFound, HasLogger, HasLost, IsClosed, IsFailed, IsFound, IsLost, IsOpen, IsWorking, MayLog}
+use Rattle.logging_session.specs.Answers.{FlushMayAnswer, OpenMayAnswer, TakeMayAnswer}
+use Rattle.logging_session.specs.Keeping.{Carried, HasFailed, HasFound, HasLogger, HasLost, IsClosed, IsFailed, IsFound, IsLost, IsOpen, MayLog}
 use Rattle.logging_session.proofs.Logged.{not_closed}
 
 neither : {A : Type 0} → ⊥ ⊎ ⊥ → A

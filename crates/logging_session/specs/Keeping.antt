@@ -1,6 +1,6 @@
 -- What a session keeps of its archive, and what the disk then holds: what recovery left, until it is opened, and from then on a logger
 -- of what was opened.
-use Rattle.std.specs.Prelude.{◌≡◌, ◌⊎◌, ℕ, ◌+◌, ◌≤◌, false, List, [], ◌∷◌, ◌++◌, length, Contains}
+use Rattle.std.specs.Prelude.{◌≡◌, ◌⊎◌, ℕ, ◌+◌, ◌≤◌, false, List, [], ◌++◌, length, Contains}
 use Rattle.std.specs.List.{AllByRecursion}
 use Rattle.pcp_base.specs.declared.file.FileId.{FileId}
 use Rattle.pcp_base.specs.declared.result.Item.{Item}

@@ -1,10 +1,10 @@
 -- What was logged is flushed.
-use Rattle.std.proofs.Common.{◌≡◌, ◌≢◌, inr, List, [], Result, Ok, Err, refl, sym, ap, ◌∙◌, subst, arith, length}
+use Rattle.std.proofs.Common.{◌≡◌, inr, List, Result, Ok, Err, refl, sym, ap, ◌∙◌, subst}
 use Rattle.std.specs.Prelude.{OnOk}
-use Rattle.pcp_model.specs.Disk.{Holdings, contents_of}
+use Rattle.pcp_model.specs.Disk.{contents_of}
 use Rattle.logger_core.proofs.Calls.{no_call}
 use Rattle.logging_session.specs.Answers.{ComesBackBy}
-use Rattle.logging_session.specs.Events.{Event, behind, closing, items_by}
+use Rattle.logging_session.specs.Events.{Event, behind}
 use Rattle.logging_session.specs.Keeping.{AreWhole, Carried, IsFailed, IsWorking, Keeps}
 use Rattle.logging_session.proofs.Events.{closing_none, closing_some}
 use Rattle.logging_session.proofs.Placed.{same_count, working_not_failed}

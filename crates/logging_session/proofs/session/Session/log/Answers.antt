@@ -1,5 +1,5 @@
 -- The archive is opened, and handed the result.
-use Rattle.std.proofs.Common.{◌≡◌, ◌≢◌, inl, inr, [], ◌∷◌, Result, Ok, Err, refl, sym, ap, ◌∙◌, subst, arith}
+use Rattle.std.proofs.Common.{◌≡◌, ◌≢◌, inl, [], ◌∷◌, Result, Ok, Err, ap}
 use Rattle.std.specs.Prelude.{IfErr}
 use Rattle.pcp_base.specs.declared.result.Item.TheVariants.{Sample}
 use Rattle.pcp_outside.proofs.Crash.{weaker}
@@ -9,7 +9,7 @@ use Rattle.logger_core.proofs.Calls.{run_then}
 use Rattle.logger_core.proofs.Keeping.{handed_on}
 use Rattle.logging_session.specs.Answers.{ComesBackBy, ComesBackWith, LeavesNone, LogFails, LogMayAnswer, TakeFails, TakeMayAnswer}
 use Rattle.logging_session.specs.Events.{opening}
-use Rattle.logging_session.specs.Keeping.{IsOpen, Keeps}
+use Rattle.logging_session.specs.Keeping.{Keeps}
 use Rattle.logging_session.specs.Written.{Report}
 use Rattle.logging_session.proofs.Logging.{by_then, leaves_none, log_fails, open_fails, open_may, take_may, with_then}
 use Rattle.logging_session.proofs.session.Session.log.Goals as goal

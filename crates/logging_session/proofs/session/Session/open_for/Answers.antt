@@ -1,5 +1,5 @@
 -- The archive is opened, where it isn't open.
-use Rattle.std.proofs.Common.{◌≡◌, ◌≢◌, inl, inr, [], refl, sym, ap, ◌∙◌, subst, arith}
+use Rattle.std.proofs.Common.{◌≡◌, inl, inr, [], refl, sym, ap, ◌∙◌, subst}
 use Rattle.pcp_model.specs.Disk.{contents_of}
 use Rattle.pcp_outside.proofs.Crash.{weaker}
 use Rattle.logger_core.proofs.Calls.{no_call}
@@ -7,10 +7,8 @@ use Rattle.logging_session.specs.declared.place.Place.{Place}
 use Rattle.logging_session.specs.declared.place.Place.TheVariants.{Found, Open, Lost, Failed}
 use Rattle.logging_session.specs.Answers.{ComesBackBy}
 use Rattle.logging_session.specs.ComingBack.{ComesBackTo}
-use Rattle.logging_session.specs.Events.{Event, opening}
+use Rattle.logging_session.specs.Events.{opening}
 use Rattle.logging_session.specs.Keeping.{Carried, Keeps}
-use Rattle.logging_session.specs.Written.{starting}
-use Rattle.logging_session.specs.Opening.{IsOpened}
 use Rattle.logging_session.proofs.Placed.{failed_closed, failed_is, failed_not_open, found_is, found_not_closed, found_not_open, lost_answers, lost_closed, lost_not_open, open_answers, open_is, open_not_closed, open_rose, same_count}
 use Rattle.logging_session.proofs.Sessions.{found_comes, kept_comes, loses, opens, opens_no_more, put_back, same_kept, when_found, with_place}
 use Rattle.logging_session.proofs.session.Session.open_for.Goals as goal

@@ -1,15 +1,14 @@
 -- What is open is synced.
-use Rattle.std.proofs.Common.{◌≡◌, inl, inr, refl, sym, ap, ◌∙◌, subst, arith}
+use Rattle.std.proofs.Common.{◌≡◌, inl, inr, refl, sym, ap, ◌∙◌, subst}
 use Rattle.pcp_outside.proofs.Crash.{weaker}
 use Rattle.logger_core.specs.Meant.{SurvivesOf}
 use Rattle.logger_core.proofs.Calls.{no_call}
-use Rattle.logging_session.specs.declared.place.Place.{Place}
 use Rattle.logging_session.specs.declared.place.Place.TheVariants.{Found, Open, Lost, Failed}
 use Rattle.logging_session.specs.Answers.{ComesBackBy}
 use Rattle.logging_session.specs.Events.{Event, behind}
 use Rattle.logging_session.specs.Keeping.{Carried, Keeps, meant_of}
 use Rattle.logging_session.proofs.Going.{survivor_comes}
-use Rattle.logging_session.proofs.Placed.{failed_closed, failed_is, failed_not_found, flush_answers, found_is, found_not_closed, found_not_open, lost_closed, lost_not_found, open_is, open_may_log, open_not_closed, open_not_found, same_count}
+use Rattle.logging_session.proofs.Placed.{failed_closed, failed_not_found, flush_answers, found_is, found_not_closed, found_not_open, lost_closed, lost_not_found, open_is, open_may_log, open_not_closed, open_not_found, same_count}
 use Rattle.logging_session.proofs.Sessions.{idle_settles, idles, kept_comes, sync_settles, syncs, when_open, with_place}
 use Rattle.logging_session.proofs.session.Session.sync.Goals as goal
 

@@ -1,19 +1,16 @@
 -- The result is handed to the logger.
-use Rattle.std.proofs.Common.{◌≡◌, ◌≢◌, inl, inr, List, [], ◌∷◌, ◌++◌, ◌+◌, refl, sym, ap, ◌∙◌, subst, arith}
+use Rattle.std.proofs.Common.{◌≡◌, [], ◌∷◌, ◌+◌, sym, ap, ◌∙◌, subst}
 use Rattle.std.specs.Prelude.{min}
-use Rattle.pcp_base.specs.declared.result.Item.{Item}
 use Rattle.pcp_base.specs.declared.result.Item.TheVariants.{Sample}
 use Rattle.pcp_outside.proofs.Crash.{weaker}
-use Rattle.logger_core.specs.declared.fault.LogFault.TheVariants.{DiskFault}
 use Rattle.logger_core.specs.Meant.{Kept}
-use Rattle.logging_session.specs.declared.place.Place.TheVariants.{Found, Open, Lost, Failed}
-use Rattle.logging_session.specs.Answers.{ComesBackWith, TakeFails}
-use Rattle.logging_session.specs.Events.{Event}
-use Rattle.logging_session.specs.Keeping.{Carried, HasLogger, Keeps, meant_of}
+use Rattle.logging_session.specs.declared.place.Place.TheVariants.{Open, Failed}
+use Rattle.logging_session.specs.Answers.{ComesBackWith}
+use Rattle.logging_session.specs.Keeping.{Carried, Keeps, meant_of}
 use Rattle.logging_session.specs.Written.{Report}
 use Rattle.logging_session.proofs.Going.{new_comes}
 use Rattle.logging_session.proofs.Logged.{MaySurvive, failing_survives, taken_survives}
-use Rattle.logging_session.proofs.Placed.{failed_is, open_may_log, take_answers, take_same, take_stays}
+use Rattle.logging_session.proofs.Placed.{open_may_log, take_answers, take_same, take_stays}
 use Rattle.logging_session.proofs.Sessions.{logs, put_back, take_fails, when_open, with_place}
 use Rattle.logging_session.proofs.session.Session.take.Goals as goal
 
