@@ -20,6 +20,7 @@ use Rattle.logging_session.specs.Keeping.{AreApart, IsGoing, meant_of}
 use Rattle.logging_session.specs.Written.{Written, Flushes}
 use Rattle.logging_session.proofs.Events.{items_more, sure_flushed, sure_synced}
 use Rattle.logging_session.proofs.Logged.{is_settled}
+use Rattle.logging_session.proofs.OneReason.{last_number}
 
 -- files without their index, and what they are read as
 abbrev no_index : Files → Files
@@ -65,18 +66,6 @@ contents_stay files new c d o is now step =
     let same : no_index new ≡ no_index files = ap no_index (fun_ext step) ∙ others_stay o files in
     let one : ArchiveReading.archive (no_entries d) ≡ ArchiveReading.archive (no_entries c) =
     one_reading (no_index files) (ArchiveReading.archive (no_entries d)) (ArchiveReading.archive (no_entries c)) (subst (λ (f : Files). IsArchive f (no_entries d)) same (without_index new d now)) (without_index files c is) in cc
-
--- ---- the last volume has one number
-
-abbrev first_number : List (ℕ × List Item) → ℕ
-first_number [] = 0
-first_number (v ∷ vs) = v.0
-
-last_number : (a b : List (ℕ × List Item)) (m n : ℕ) (xs ys : List Item) → a ++ (m, xs) ∷ [] ≡ b ++ (n, ys) ∷ [] → m ≡ n
-last_number [] [] m n xs ys same = ap first_number same
-last_number [] (v ∷ b) m n xs ys same = absurd (omega (arith, ap length same, length-append b ((n, ys) ∷ [])))
-last_number (v ∷ a) [] m n xs ys same = absurd (omega (arith, ap length same, length-append a ((m, xs) ∷ [])))
-last_number (v ∷ a) (w ∷ b) m n xs ys same = last_number a b m n xs ys (let e : a ++ (m, xs) ∷ [] ≡ b ++ (n, ys) ∷ [] = cc in e)
 
 -- ---- what is flushed goes on
 

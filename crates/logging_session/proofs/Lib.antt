@@ -4,7 +4,9 @@ pub mod Flushes
 pub mod Going
 pub mod Logged
 pub mod Logging
+pub mod OneReason
 pub mod Openings
 pub mod Placed
+pub mod Recovering
 pub mod Sessions
 pub mod WholeStays

@@ -25,9 +25,6 @@ module _ (s : Carried) (archive : Archive) (is : s.place ≡ Found archive) wher
   pub found_not_open : {A : Type 0} → IsOpen s → A
   found_not_open open_ = absurd (subst HasLogger is open_)
 
-  pub found_not_failed : IsFailed s → ⊥
-  found_not_failed failed = subst HasFailed is failed
-
   pub found_not_closed : {A : Type 0} → IsClosed s → A
   found_not_closed closed = neither (subst (λ (p : Place). HasLost p ⊎ HasFailed p) is closed)
 
@@ -37,9 +34,6 @@ module _ (s : Carried) (kept : Kept) (is : s.place ≡ Open kept) where
 
   pub open_not_found : {A : Type 0} → IsFound s → A
   open_not_found found = absurd (subst HasFound is found)
-
-  pub open_not_failed : IsFailed s → ⊥
-  open_not_failed failed = subst HasFailed is failed
 
   pub open_not_closed : {A : Type 0} → IsClosed s → A
   open_not_closed closed = neither (subst (λ (p : Place). HasLost p ⊎ HasFailed p) is closed)

@@ -62,17 +62,9 @@ found_stands : (left : Files) (limit : ℕ) (events : List Event) (stand : Stand
 found_stands left limit events (Stand.found files) archive held is = (is.0, record { files = files; is = refl; untouched = is.1 })
 found_stands left limit events (Stand.opened w) archive held is = absurd is
 
-lost_stands : (left : Files) (limit : ℕ) (events : List Event) (stand : Stand) (held : Holdings) → IsPlace left limit events stand Lost held → StandsUntouched left events stand held
-lost_stands left limit events (Stand.found files) held is = record { files = files; is = refl; untouched = is }
-lost_stands left limit events (Stand.opened w) held is = absurd is
-
 open_stands : (left : Files) (limit : ℕ) (events : List Event) (stand : Stand) (kept : Kept) (held : Holdings) → IsPlace left limit events stand (Open kept) held → StandsOpen left limit events stand kept held
 open_stands left limit events (Stand.found files) kept held is = absurd is
 open_stands left limit events (Stand.opened w) kept held is = record { w = w; is = refl; going = is }
-
-failed_stands : {A : Type 0} (left : Files) (limit : ℕ) (events : List Event) (stand : Stand) (held : Holdings) → IsPlace left limit events stand Failed held → A
-failed_stands left limit events (Stand.found files) held is = absurd is
-failed_stands left limit events (Stand.opened w) held is = absurd is
 
 -- what is untouched comes back
 untouched_comes : (left : Files) (events : List Event) (files : Files) (held : Holdings) → IsUntouched left events files held → (image : Files) → ComesBackTo [] 0 (contents_of held) image → ComesBackBy events left image
@@ -97,14 +89,8 @@ module _ (left : Files) (events : List Event) (s : Carried) (old : Holdings) (k 
   pub when_found : (archive : Archive) → s.place ≡ Found archive → IsLeft archive old × StandsUntouched left events k.stand old
   when_found archive is = found_stands left s.limit events k.stand archive old (at_place (Found archive) is)
 
-  pub when_lost : s.place ≡ Lost → StandsUntouched left events k.stand old
-  when_lost is = lost_stands left s.limit events k.stand old (at_place Lost is)
-
   pub when_open : (kept : Kept) → s.place ≡ Open kept → StandsOpen left s.limit events k.stand kept old
   when_open kept is = open_stands left s.limit events k.stand kept old (at_place (Open kept) is)
-
-  pub when_failed : {A : Type 0} → s.place ≡ Failed → A
-  when_failed is = failed_stands left s.limit events k.stand old (at_place Failed is)
 
   pub when_opened_leads : (kept : Kept) → (is : s.place ≡ Open kept) → LeadFrom s.label s.limit left events (Stand.opened (when_open kept is).w)
   when_opened_leads kept is = subst (λ (t : Stand). LeadFrom s.label s.limit left events t) (when_open kept is).is k.lead
