@@ -69,6 +69,44 @@ impl Session {
         self.logged
     }
 
+    /// Opens the archive, which is as recovery left it.
+    fn open_found<D: Disk>(
+        &mut self,
+        alloc: Global,
+        disk: &mut D,
+        stamp: Stamp,
+    ) -> Result<(), LogFault>
+        requires found { IsFound self.old }
+        ensures done { D.tells → (left : AllFiles) (events : Sequence Event) → Keeps left events self.old (D.held disk.old)
+            → OnOk result (Keeps left (opening stamp events) self.new (D.held disk.new)) }
+        ensures any_moment { D.tells → (left : AllFiles) (events : Sequence Event) → Keeps left events self.old (D.held disk.old)
+            → LeavesOnly D.moment D.left_since disk.old disk.new (ComesBackBy events left) }
+        ensures refused { D.tells → (left : AllFiles) (events : Sequence Event) → Keeps left events self.old (D.held disk.old)
+            → IfErr result (λ e. e ≢ DiskFault → Keeps left events self.new (D.held disk.new)) }
+        ensures open_ { OnOk result (IsOpen self.new) }
+        ensures cause { IfErr result (OpenMayAnswer self.old self.new (D.faults disk.old) (D.faults disk.new)) }
+        ensures same { (self.new.label ≡ self.old.label) × (self.new.limit ≡ self.old.limit) × (self.new.logged ≡ self.old.logged) }
+        ensures later { D.faults disk.old ≤ D.faults disk.new }
+    {
+        let Place::Found(archive) = mem::replace(&mut self.place, Place::Failed) else {
+            // It is as recovery left it.
+            unreachable!()
+        };
+        match open(alloc, disk, archive, &self.label, stamp, self.limit) {
+            Ok(logger) => {
+                self.place = Place::Open(logger);
+                Ok(())
+            }
+            Err(fault) => match fault {
+                LogFault::NoMemory => {
+                    self.place = Place::Lost;
+                    Err(fault)
+                }
+                _ => Err(fault),
+            },
+        }
+    }
+
     /// Opens the archive for a result of this moment, where it isn't open.
     fn open_for<D: Disk>(
         &mut self,
@@ -89,30 +127,10 @@ impl Session {
         ensures same { (self.new.label ≡ self.old.label) × (self.new.limit ≡ self.old.limit) × (self.new.logged ≡ self.old.logged) }
         ensures later { D.faults disk.old ≤ D.faults disk.new }
     {
-        match mem::replace(&mut self.place, Place::Failed) {
-            Place::Found(archive) => {
-                match open(alloc, disk, archive, &self.label, stamp, self.limit) {
-                    Ok(logger) => {
-                        self.place = Place::Open(logger);
-                        Ok(())
-                    }
-                    Err(fault) => match fault {
-                        LogFault::NoMemory => {
-                            self.place = Place::Lost;
-                            Err(fault)
-                        }
-                        _ => Err(fault),
-                    },
-                }
-            }
-            Place::Open(logger) => {
-                self.place = Place::Open(logger);
-                Ok(())
-            }
-            Place::Lost => {
-                self.place = Place::Lost;
-                Err(LogFault::Closed)
-            }
+        match &self.place {
+            Place::Found(_) => self.open_found(alloc, disk, stamp),
+            Place::Open(_) => Ok(()),
+            Place::Lost => Err(LogFault::Closed),
             Place::Failed => Err(LogFault::Closed),
         }
     }
