@@ -1,0 +1,12 @@
+pub mod ComeBack
+pub mod Events
+pub mod Flushes
+pub mod Going
+pub mod Logged
+pub mod Logging
+pub mod OneReason
+pub mod Openings
+pub mod Placed
+pub mod Recovering
+pub mod Sessions
+pub mod WholeStays

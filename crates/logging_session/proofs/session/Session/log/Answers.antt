@@ -1,0 +1,109 @@
+-- The archive is opened, and handed the result.
+use Rattle.std.proofs.Common.{◌≡◌, ◌≢◌, inl, [], ◌∷◌, Result, Ok, Err, ap}
+use Rattle.std.specs.Prelude.{IfErr}
+use Rattle.pcp_base.specs.declared.result.Item.TheVariants.{Sample}
+use Rattle.pcp_outside.proofs.Crash.{weaker}
+use Rattle.logger_core.specs.declared.fault.LogFault.{LogFault}
+use Rattle.logger_core.specs.declared.fault.LogFault.TheVariants.{DiskFault}
+use Rattle.logger_core.proofs.Calls.{run_then}
+use Rattle.logger_core.proofs.Keeping.{handed_on}
+use Rattle.logging_session.specs.Answers.{ComesBackBy, ComesBackWith, LeavesNone, LogFails, LogMayAnswer, TakeFails, TakeMayAnswer}
+use Rattle.logging_session.specs.Events.{opening}
+use Rattle.logging_session.specs.Keeping.{Keeps}
+use Rattle.logging_session.specs.Written.{Report}
+use Rattle.logging_session.proofs.Logging.{by_then, leaves_none, log_fails, open_fails, open_may, take_may, with_then}
+use Rattle.logging_session.proofs.session.Session.log.Goals as goal
+
+every_err : {T E : Type 0} (r : Result T E) (Q : E → Type 0) → ((e : E) → Q e) → IfErr r Q
+every_err (Ok v) Q each = tt
+every_err (Err e) Q each = each e
+
+both_err : {T E : Type 0} (r : Result T E) (P Q R : E → Type 0) → ((e : E) → P e → Q e → R e) → IfErr r P → IfErr r Q → IfErr r R
+both_err (Ok v) P Q R f p q = tt
+both_err (Err e) P Q R f p q = f e p q
+
+three_err : {T E : Type 0} (r : Result T E) (P Q S R : E → Type 0) → ((e : E) → P e → Q e → S e → R e) → IfErr r P → IfErr r Q → IfErr r S → IfErr r R
+three_err (Ok v) P Q S R f p q s = tt
+three_err (Err e) P Q S R f p q s = f e p q s
+
+pub returns-in_err-open_for-clause-any_moment : goal.returns-in_err-open_for-clause-any_moment
+returns-in_err-open_for-clause-any_moment g c = λ tells enough left events k.
+    let d = g.D.Disk in
+    let x = Sample c.args.answer.now in
+    weaker d.moment d.left_since d.held c.args.disk.now c.open_for.new.disk (ComesBackBy events left) (ComesBackWith events (x ∷ []) left) (c.open_for.ensures.any_moment tells left events k) (by_then left events c.args.answer.now.stamp x)
+
+pub returns-in_err-open_for-clause-refused : goal.returns-in_err-open_for-clause-refused
+returns-in_err-open_for-clause-refused g c = λ tells enough left events k.
+    let d = g.D.Disk in
+    let r : Report = record { result = c.args.answer.now; facts = c.args.facts.now } in
+    every_err c.from_residual.result (λ (e : LogFault). LeavesNone d left events r c.args.self.now c.args.disk.now c.open_for.new.disk e) (λ e. inl (c.open_for.ensures.any_moment tells left events k))
+
+pub returns-in_err-open_for-clause-fault : goal.returns-in_err-open_for-clause-fault
+returns-in_err-open_for-clause-fault g c = λ tells enough left events k.
+    let d = g.D.Disk in
+    let r : Report = record { result = c.args.answer.now; facts = c.args.facts.now } in
+    let e = c.in_err-open_for.field-0.0 in
+    handed_on c.from_residual.result e (λ f. LogFails left events r c.args.self.now c.open_for.new.self (d.held c.open_for.new.disk) f) c.from_residual.ensures.1
+    (open_fails left events r c.args.self.now c.open_for.new.self (d.held c.open_for.new.disk) (d.faults c.args.disk.now) (d.faults c.open_for.new.disk) e c.in_err-open_for.ensures.cause (c.in_err-open_for.ensures.refused tells left events k))
+
+pub returns-in_err-open_for-clause-cause : goal.returns-in_err-open_for-clause-cause
+returns-in_err-open_for-clause-cause g c =
+    let d = g.D.Disk in
+    let e = c.in_err-open_for.field-0.0 in
+    let before = d.faults c.args.disk.now in
+    let after = d.faults c.open_for.new.disk in
+    handed_on c.from_residual.result e (λ f. LogMayAnswer c.args.self.now c.open_for.new.self before after f) c.from_residual.ensures.1
+    (open_may c.args.self.now c.open_for.new.self before after e c.in_err-open_for.ensures.cause)
+
+pub returns-clause-done : goal.returns-clause-done
+returns-clause-done g c = λ tells enough left events k. c.take.ensures.done tells enough left (opening c.args.answer.now.stamp events) (c.in_ok-open_for.ensures.done tells left events k)
+
+pub returns-clause-any_moment : goal.returns-clause-any_moment
+returns-clause-any_moment g c = λ tells enough left events k.
+    let d = g.D.Disk in
+    let x = Sample c.args.answer.now in
+    let stamp = c.args.answer.now.stamp in
+    run_then d g.met.D.Disk.only_now c.args.disk.now c.open_for.new.disk c.take.new.disk (ComesBackWith events (x ∷ []) left) (ComesBackBy events left) (ComesBackWith (opening stamp events) (x ∷ []) left)
+    (c.open_for.ensures.any_moment tells left events k) (c.take.ensures.any_moment tells enough left (opening stamp events) (c.in_ok-open_for.ensures.done tells left events k))
+    (by_then left events stamp x) (with_then left events stamp x)
+
+pub returns-clause-refused : goal.returns-clause-refused
+returns-clause-refused g c = λ tells enough left events k.
+    let d = g.D.Disk in
+    let r : Report = record { result = c.args.answer.now; facts = c.args.facts.now } in
+    let middle = c.open_for.new.self in
+    let mid = c.open_for.new.disk in
+    let last = c.take.new.disk in
+    let es = opening r.result.stamp events in
+    let opened : Keeps left es middle (d.held mid) = c.in_ok-open_for.ensures.done tells left events k in
+    both_err c.take.result (λ (e : LogFault). e ≢ DiskFault → last ≡ mid) (λ (e : LogFault). TakeFails opened.stand middle.limit r e) (λ (e : LogFault). LeavesNone d left events r c.args.self.now c.args.disk.now last e)
+    (λ e still fails. leaves_none left events r middle c.take.new.self (d.held mid) (d.held last) opened c.in_ok-open_for.ensures.open_.1 d c.args.disk.now mid last c.args.self.now e
+    c.open_for.ensures.same.0 c.open_for.ensures.same.1 (c.open_for.ensures.any_moment tells left events k) still fails)
+    c.take.ensures.untouched (c.take.ensures.fault tells enough left es opened)
+
+pub returns-clause-fault : goal.returns-clause-fault
+returns-clause-fault g c = λ tells enough left events k.
+    let d = g.D.Disk in
+    let r : Report = record { result = c.args.answer.now; facts = c.args.facts.now } in
+    let middle = c.open_for.new.self in
+    let mid = c.open_for.new.disk in
+    let last = c.take.new.disk in
+    let es = opening r.result.stamp events in
+    let before = d.faults mid in
+    let after = d.faults last in
+    let opened : Keeps left es middle (d.held mid) = c.in_ok-open_for.ensures.done tells left events k in
+    three_err c.take.result (λ (e : LogFault). TakeMayAnswer middle c.take.new.self before after e) (λ (e : LogFault). e ≢ DiskFault → last ≡ mid) (λ (e : LogFault). TakeFails opened.stand middle.limit r e)
+    (λ (e : LogFault). LogFails left events r c.args.self.now c.take.new.self (d.held last) e)
+    (λ e may still fails. log_fails left events r middle c.take.new.self (d.held mid) (d.held last) opened c.in_ok-open_for.ensures.open_.1 c.args.self.now before after e may (λ other. ap d.held (still other)) fails)
+    c.take.ensures.cause c.take.ensures.untouched (c.take.ensures.fault tells enough left es opened)
+
+pub returns-clause-cause : goal.returns-clause-cause
+returns-clause-cause g c =
+    let d = g.D.Disk in
+    let middle = c.open_for.new.self in
+    let before = d.faults c.open_for.new.disk in
+    let after = d.faults c.take.new.disk in
+    let start = d.faults c.args.disk.now in
+    let o = c.in_ok-open_for.ensures.open_ in
+    both_err c.take.result (λ (e : LogFault). TakeMayAnswer middle c.take.new.self before after e) (λ (e : LogFault). TakeMayAnswer middle c.take.new.self before after e) (λ (e : LogFault). LogMayAnswer c.args.self.now c.take.new.self start after e)
+    (λ e may also. take_may c.args.self.now middle c.take.new.self start before after e o.0 o.1 (λ was. (c.open_for.ensures.stays was).1) c.open_for.ensures.later may) c.take.ensures.cause c.take.ensures.cause

@@ -1,0 +1,91 @@
+-- What the calls of a session answer, what stands after each answer, and what a crash leaves meanwhile.
+use Rattle.std.specs.Prelude.{◌≡◌, ◌⊎◌, ℕ, List, ◌++◌}
+use Rattle.pcp_base.specs.declared.result.Item.{Item}
+use Rattle.pcp_model.specs.Disk.{Files, Holdings}
+use Rattle.pcp_outside.specs.Causes.{Rose}
+use Rattle.pcp_outside.specs.Devices.{LeavesOnly}
+use Rattle.pcp_outside.specs.declared.disk.Disk.{Ghosts as DiskGhosts}
+use Rattle.logger_core.specs.declared.fault.LogFault.{LogFault}
+use Rattle.logger_core.specs.declared.fault.LogFault.TheVariants.{Closed, Large, NotLater, Changed, Full, NoMemory, DiskFault}
+use Rattle.logging_session.specs.ComingBack.{ComesBackTo}
+use Rattle.logging_session.specs.Events.{Event, LeadFrom, acknowledged_by, items_by, opening}
+use Rattle.logging_session.specs.Keeping.{Carried, IsClosed, IsFailed, IsFound, IsLost, IsOpen, IsWorking, Keeps}
+use Rattle.logging_session.specs.Written.{Refuses, Report, Stand, Takes, Written}
+
+-- A crash leaves the items of the start and the first ones of these events, all that they acknowledge among them
+abbrev pub ComesBackBy : List Event → Files → Files → Type 0
+ComesBackBy events left image = ComesBackTo (items_by events) (acknowledged_by events) left image
+
+-- perhaps with more items behind them
+abbrev pub ComesBackWith : List Event → List Item → Files → Files → Type 0
+ComesBackWith events more left image = ComesBackTo (items_by events ++ more) (acknowledged_by events) left image
+
+-- The archive that these events left, which is open, doesn't take the result.
+pub record TurnsAway (left : Files) (events : List Event) (r : Report) (fault : LogFault) (s : Carried) (held : Holdings) : Type 0 where
+  pub keeps : Keeps left events s held
+  pub w : Written
+  pub stands : keeps.stand ≡ Stand.opened w
+  pub refuses : Refuses s.limit r w fault
+
+-- Which refusal `log` answers, and what then stands: what was opened for the result stays open.
+abbrev pub LogFails : Files → List Event → Report → Carried → Carried → Holdings → LogFault → Type 0
+LogFails left events r old new held Closed = IsClosed old × Keeps left events new held
+LogFails left events r old new held (Large bytes) = TurnsAway left (opening r.result.stamp events) r (Large bytes) new held
+LogFails left events r old new held (NotLater last) = TurnsAway left (opening r.result.stamp events) r (NotLater last) new held
+LogFails left events r old new held (Changed pmid) = TurnsAway left (opening r.result.stamp events) r (Changed pmid) new held
+LogFails left events r old new held (Full file bytes) = TurnsAway left (opening r.result.stamp events) r (Full file bytes) new held
+LogFails left events r old new held NoMemory = (IsFound old × IsLost new × Keeps left events new held) ⊎ (IsOpen new × Keeps left (opening r.result.stamp events) new held)
+LogFails left events r old new held DiskFault = IsFailed new
+
+-- the archive that these events leave, which is open, takes the result
+pub record WouldLog (s : Carried) (left : Files) (events : List Event) (r : Report) : Type 0 where
+  pub w : Written
+  pub lead : LeadFrom s.label s.limit left events (Stand.opened w)
+  pub takes : Takes s.limit r w
+
+-- A crash leaves none of a result that isn't logged, unless the disk failed while the archive was taking it.
+module _ {D : Type 0} (d : DiskGhosts D) (left : Files) (events : List Event) (r : Report) (s : Carried) (old new : D) where
+  abbrev pub LeavesNone : LogFault → Type 0
+  LeavesNone fault = LeavesOnly d.moment d.left_since old new (ComesBackBy events left) ⊎ ((fault ≡ DiskFault) × WouldLog s left (opening r.result.stamp events) r)
+
+-- ---- over any disk
+
+-- it is open, and as it was where it was open before
+abbrev pub StaysOpen : Carried → Carried → Type 0
+StaysOpen old new = IsWorking old × IsOpen new × (IsOpen old → new ≡ old)
+
+-- Which refusal `log` answers of a session, and what it leaves of it: only a fault of the disk, whose count then rose, and want of memory
+-- while the archive is opened end the session.
+abbrev pub LogMayAnswer : Carried → Carried → ℕ → ℕ → LogFault → Type 0
+LogMayAnswer old new before after Closed = IsClosed old × (new ≡ old)
+LogMayAnswer old new before after NoMemory = (IsFound old × IsLost new) ⊎ StaysOpen old new
+LogMayAnswer old new before after DiskFault = IsWorking old × IsFailed new × Rose before after
+LogMayAnswer old new before after fault = StaysOpen old new
+
+-- a flush, a sync or the close is refused where the session is closed, or by the disk, which closes it
+abbrev pub FlushMayAnswer : Carried → Carried → ℕ → ℕ → LogFault → Type 0
+FlushMayAnswer old new before after Closed = IsClosed old × (new ≡ old)
+FlushMayAnswer old new before after DiskFault = IsOpen old × IsFailed new × Rose before after
+FlushMayAnswer old new before after fault = ⊥
+
+-- ---- the steps of `log`
+
+-- the archive is opened, where it wasn't
+abbrev pub OpenMayAnswer : Carried → Carried → ℕ → ℕ → LogFault → Type 0
+OpenMayAnswer old new before after Closed = IsClosed old × (new ≡ old)
+OpenMayAnswer old new before after NoMemory = IsFound old × IsLost new
+OpenMayAnswer old new before after DiskFault = IsFound old × IsFailed new × Rose before after
+OpenMayAnswer old new before after fault = ⊥
+
+-- and then is handed the result
+abbrev pub TakeMayAnswer : Carried → Carried → ℕ → ℕ → LogFault → Type 0
+TakeMayAnswer old new before after Closed = ⊥
+TakeMayAnswer old new before after DiskFault = IsFailed new × Rose before after
+TakeMayAnswer old new before after fault = new ≡ old
+
+-- an archive that is open refuses the result, or the disk failed while it was taking it
+abbrev pub TakeFails : Stand → ℕ → Report → LogFault → Type 0
+TakeFails stand limit r Closed = ⊥
+TakeFails stand limit r NoMemory = Unit {0}
+TakeFails stand limit r DiskFault = (w : Written) × (stand ≡ Stand.opened w) × Takes limit r w
+TakeFails stand limit r fault = (w : Written) × (stand ≡ Stand.opened w) × Refuses limit r w fault

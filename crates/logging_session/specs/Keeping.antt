@@ -1,0 +1,139 @@
+-- What a session keeps of its archive, and what the disk then holds: what recovery left, until it is opened, and from then on a logger
+-- of what was opened.
+use Rattle.std.specs.Prelude.{◌≡◌, ◌⊎◌, ℕ, ◌+◌, ◌≤◌, false, List, [], ◌++◌, length, Contains}
+use Rattle.std.specs.List.{AllByRecursion}
+use Rattle.pcp_base.specs.declared.file.FileId.{FileId}
+use Rattle.pcp_base.specs.declared.result.Item.{Item}
+use Rattle.pcp_model.specs.Archive.{ArchiveReading, Reads, items_of}
+use Rattle.pcp_model.specs.Disk.{Files, Holdings, IsSettled, contents_of}
+use Rattle.pcp_model.specs.LabelFields.{LabelFields}
+use Rattle.pcp_model.specs.Recovered.{Recovers}
+use Rattle.pcp_outside.specs.Causes.{shown_count}
+use Rattle.logger_core.specs.Meant.{Meant, Kept, IsLogger}
+use Rattle.logger_core.specs.Reopening.{IsLeft}
+use Rattle.logging_session.specs.declared.place.Place.{Place}
+use Rattle.logging_session.specs.declared.place.Place.TheVariants.{Found, Open, Lost, Failed}
+use Rattle.logging_session.specs.Events.{Event, LeadFrom, items_by, acknowledged_by}
+use Rattle.logging_session.specs.Written.{OpensFound, Stand, Written}
+
+-- What a session is seen as: the label of an archive that it would make (but for its moment), the volume limit, how many results it
+-- logged, and where its archive stands: as recovery left it; with a logger that goes on with it; or nothing more is logged, since
+-- memory was refused when it was to be opened, or the disk failed.
+pub record Carried : Type 0 where
+  pub label : LabelFields
+  pub limit : ℕ
+  pub logged : ℕ
+  pub place : Place
+
+-- a logger that is kept may log, and has the session's volume limit
+abbrev pub MayLog : ℕ → Place → Type 0
+MayLog limit (Found archive) = Unit {0}
+MayLog limit (Open kept) = (kept.closed ≡ false) × (kept.limit ≡ limit)
+MayLog limit Lost = Unit {0}
+MayLog limit Failed = Unit {0}
+
+-- what holds of every session
+pub record IsSession (limit : ℕ) (place : Place) : Type 0 where
+  pub low : 1024 ≤ limit
+  pub high : limit ≤ 1073741824
+  pub logger : MayLog limit place
+
+-- what a logger means of an archive that was opened first
+abbrev pub meant_of : Written → Written → ℕ → Meant
+meant_of first w acknowledged = record {
+  start = record { files = first.files; reading = ArchiveReading.archive first.contents };
+  files = w.files;
+  contents = w.contents;
+  acknowledged = acknowledged;
+}
+
+-- every byte is sure
+abbrev pub AllSure : Holdings → Type 0
+AllSure held = (file : FileId) → (held file).rest ≡ []
+
+-- none of these items stands among others
+abbrev pub AreApart : List Item → List Item → Type 0
+AreApart others items = AllByRecursion (λ x. Contains others x → ⊥) items
+
+-- Over what recovery left an archive was opened, into which a logger has logged these items since, each with a stamp of its own; all that
+-- stood before are acknowledged, and at least so many of them.
+pub record IsGoing (left : Files) (limit : ℕ) (events : List Event) (w : Written) (kept : Kept) (held : Holdings) : Type 0 where
+  pub label : LabelFields
+  pub first : Written
+  pub opens : OpensFound label left first.files first.contents
+  pub acknowledged : ℕ
+  pub is : IsLogger (meant_of first w acknowledged) kept held
+  pub volume : kept.ends.volume ≡ w.volume
+  pub open_ : kept.closed ≡ false
+  pub limit_is : kept.limit ≡ limit
+  pub items_are : items_of w.contents.volumes ≡ items_of first.contents.volumes ++ items_by events
+  pub apart : AreApart (items_of first.contents.volumes) (items_by events)
+  pub enough : length (items_of first.contents.volumes) + acknowledged_by events ≤ acknowledged
+  -- where nothing was logged all is settled
+  pub settled : items_by events ≡ [] → IsSettled held
+
+-- as recovery left it: nothing was done
+pub record IsUntouched (left : Files) (events : List Event) (files : Files) (held : Holdings) : Type 0 where
+  pub stands : contents_of held ≡ left
+  pub same : files ≡ left
+  pub none : events ≡ []
+  pub sure : AllSure held
+
+abbrev pub IsPlace : Files → ℕ → List Event → Stand → Place → Holdings → Type 0
+IsPlace left limit events (Stand.found files) (Found archive) held = IsLeft archive held × IsUntouched left events files held
+IsPlace left limit events (Stand.found files) Lost held = IsUntouched left events files held
+IsPlace left limit events (Stand.opened w) (Open kept) held = IsGoing left limit events w kept held
+IsPlace left limit events stand place held = ⊥
+
+-- Over what recovery left, these events led to the files that stand on the disk, with so many results logged.
+pub record Keeps (left : Files) (events : List Event) (s : Carried) (held : Holdings) : Type 0 where
+  pub stand : Stand
+  pub lead : LeadFrom s.label s.limit left events stand
+  pub place : IsPlace left s.limit events stand s.place held
+  pub counted : s.logged ≡ shown_count (length (items_by events))
+
+-- ---- over any disk
+
+abbrev pub HasFound : Place → Type 0
+HasFound (Found archive) = Unit {0}
+HasFound place = ⊥
+
+-- the archive isn't opened yet
+abbrev pub IsFound : Carried → Type 0
+IsFound s = HasFound s.place
+
+abbrev pub HasLogger : Place → Type 0
+HasLogger (Open kept) = Unit {0}
+HasLogger place = ⊥
+
+-- a logger goes on with the archive
+abbrev pub IsOpen : Carried → Type 0
+IsOpen s = HasLogger s.place
+
+abbrev pub HasLost : Place → Type 0
+HasLost Lost = Unit {0}
+HasLost place = ⊥
+
+-- memory was refused when the archive was to be opened
+abbrev pub IsLost : Carried → Type 0
+IsLost s = HasLost s.place
+
+abbrev pub HasFailed : Place → Type 0
+HasFailed Failed = Unit {0}
+HasFailed place = ⊥
+
+-- the disk failed
+abbrev pub IsFailed : Carried → Type 0
+IsFailed s = HasFailed s.place
+
+-- it may log
+abbrev pub IsWorking : Carried → Type 0
+IsWorking s = HasFound s.place ⊎ HasLogger s.place
+
+-- nothing more is logged
+abbrev pub IsClosed : Carried → Type 0
+IsClosed s = HasLost s.place ⊎ HasFailed s.place
+
+-- recovery changes nothing of the files
+abbrev pub AreWhole : Files → Type 0
+AreWhole files = (reading : ArchiveReading) × Reads files reading × Recovers files reading files

@@ -1,0 +1,29 @@
+-- What holds of what a session keeps.
+use Rattle.std.specs.Prelude.{◌≡◌, ℕ, ◌≤◌, List, ◌++◌}
+use Rattle.pcp_base.specs.declared.file.FileId.{FileId}
+use Rattle.pcp_base.specs.declared.result.Item.{Item}
+use Rattle.pcp_model.specs.Disk.{Files, Holdings, CrashImage, contents_of}
+use Rattle.logging_session.specs.Answers.{ComesBackBy}
+use Rattle.logging_session.specs.ComingBack.{ComesBackTo}
+use Rattle.logging_session.specs.Events.{Event, LeadFrom}
+use Rattle.logging_session.specs.Keeping.{AreWhole, Carried, Keeps}
+use Rattle.logging_session.specs.Written.{Stand, files_of}
+
+-- Whatever a crash leaves of what the disk then holds comes back, with all that is acknowledged.
+abbrev pub KeptSessionsSurvive : Type 0
+KeptSessionsSurvive = (left : Files) (events : List Event) (s : Carried) (held : Holdings) (image : Files) → Keeps left events s held → CrashImage held image
+    → ComesBackBy events left image
+
+-- the files on the disk are those to which the events lead
+abbrev pub KeptFilesAreLed : Type 0
+KeptFilesAreLed = (left : Files) (events : List Event) (s : Carried) (held : Holdings) → Keeps left events s held
+    → (stand : Stand) × LeadFrom s.label s.limit left events stand × ((file : FileId) → contents_of held file ≡ files_of stand file)
+
+-- and recovery changes nothing of them, where it had left what it leaves alone
+abbrev pub KeptFilesAreWhole : Type 0
+KeptFilesAreWhole = (left : Files) (events : List Event) (s : Carried) (held : Holdings) → Keeps left events s held → AreWhole left → AreWhole (contents_of held)
+
+-- What comes back to the first ones of some items comes back to those of more, with fewer of them at least. So what is acknowledged at one
+-- moment stays so while others follow.
+abbrev pub FewerComeBack : Type 0
+FewerComeBack = (more rest : List Item) (j k : ℕ) (left image : Files) → j ≤ k → ComesBackTo more k left image → ComesBackTo (more ++ rest) j left image

@@ -1,0 +1,23 @@
+//! What holds of what a session keeps. Each is the contract of a function without parameters, which does nothing.
+ghost use Rattle.logging_session.specs.Laws.{FewerComeBack, KeptFilesAreLed, KeptFilesAreWhole, KeptSessionsSurvive};
+
+/// Whatever a crash leaves of what the disk holds between two calls comes back: the items of the start, and the first ones that were logged
+/// since, all that a flush acknowledged among them.
+pub fn kept_sessions_survive()
+    ensures { KeptSessionsSurvive }
+{}
+
+/// The files between two calls are those to which the session's events lead.
+pub fn kept_files_are_led()
+    ensures { KeptFilesAreLed }
+{}
+
+/// Recovery changes nothing of them.
+pub fn kept_files_are_whole()
+    ensures { KeptFilesAreWhole }
+{}
+
+/// What comes back to the first ones of some items comes back to those of more.
+pub fn fewer_come_back()
+    ensures { FewerComeBack }
+{}
