@@ -12,7 +12,9 @@ use Rattle.logger_core.specs.declared.fault.LogFault.TheVariants.{Closed, Large,
 use Rattle.logging_session.specs.Answers.{ComesBackBy, ComesBackWith, LeavesNone, LogFails, LogMayAnswer, OpenMayAnswer, StaysOpen, TakeFails, TakeMayAnswer, TurnsAway, WouldLog}
 use Rattle.logging_session.specs.ComingBack.{ComesBackTo}
 use Rattle.logging_session.specs.Events.{Event, LeadFrom, acknowledged_by, items_by, opening}
-use Rattle.logging_session.specs.Keeping.{Carried, IsOpen, IsWorking, Keeps}
+use Rattle.logging_session.specs.Keeping.{Carried, HasLogger, HasLost, IsLost, IsOpen, IsWorking, Keeps}
+use Rattle.logging_session.specs.declared.place.Place.{Place}
+use Rattle.logging_session.specs.declared.place.Place.TheVariants.{Found, Open, Lost, Failed}
 use Rattle.logging_session.specs.Written.{Refuses, Report, Stand, Takes, Written}
 use Rattle.logging_session.proofs.Events.{opening_items, opening_sure}
 use Rattle.logging_session.proofs.Going.{comes_more}
@@ -54,6 +56,25 @@ take_may old middle new start before after (Changed pmid) working open_ stays le
 take_may old middle new start before after (Full file bytes) working open_ stays le may = stays_open old middle new working open_ stays may
 take_may old middle new start before after NoMemory working open_ stays le may = inr (stays_open old middle new working open_ stays may)
 take_may old middle new start before after DiskFault working open_ stays le may = (working, may.0, rose_since start before after le may.1)
+
+-- a session that is open isn't lost by it
+open_not_lost : {A : Type 0} (p : Place) → HasLogger p → HasLost p → A
+open_not_lost (Found archive) open_ lost = absurd open_
+open_not_lost (Open kept) open_ lost = absurd lost
+open_not_lost Lost open_ lost = absurd open_
+open_not_lost Failed open_ lost = absurd open_
+
+same_not_lost : {A : Type 0} (middle new : Carried) → IsOpen middle → new ≡ middle → IsLost new → A
+same_not_lost middle new open_ same lost = open_not_lost middle.place open_ (subst IsLost same lost)
+
+pub take_not_lost : {A : Type 0} (middle new : Carried) (before after : ℕ) (e : LogFault) → IsOpen middle → TakeMayAnswer middle new before after e → e ≢ DiskFault → IsLost new → A
+take_not_lost middle new before after Closed open_ may other lost = absurd may
+take_not_lost middle new before after (Large bytes) open_ may other lost = same_not_lost middle new open_ may lost
+take_not_lost middle new before after (NotLater last) open_ may other lost = same_not_lost middle new open_ may lost
+take_not_lost middle new before after (Changed pmid) open_ may other lost = same_not_lost middle new open_ may lost
+take_not_lost middle new before after (Full file bytes) open_ may other lost = same_not_lost middle new open_ may lost
+take_not_lost middle new before after NoMemory open_ may other lost = same_not_lost middle new open_ may lost
+take_not_lost middle new before after DiskFault open_ may other lost = absurd (other refl)
 
 module _ (left : Files) (events : List Event) (r : Report) (middle new : Carried) (between held : Holdings) (k : Keeps left (opening r.result.stamp events) middle between) (open_ : IsOpen middle) where
   turned : (e : LogFault) → new ≡ middle → held ≡ between → (w : Written) × (k.stand ≡ Stand.opened w) × Refuses middle.limit r w e → TurnsAway left (opening r.result.stamp events) r e new held

@@ -1,5 +1,5 @@
 //! A session, and its calls.
-ghost use Rattle.std.specs.Prelude.{◌≡◌, ◌≢◌, ◌+◌, ◌<◌, ◌≤◌, ◌++◌, ◌∷◌, [], length, List as Sequence, true, false, Err, Ok, IfErr, OnErr, OnOk};
+ghost use Rattle.std.specs.Prelude.{◌≡◌, ◌≢◌, ◌⊎◌, ◌+◌, ◌<◌, ◌≤◌, ◌++◌, ◌∷◌, [], length, List as Sequence, true, false, Err, Ok, IfErr, OnErr, OnOk};
 ghost use Rattle.std.specs.List.{AllByRecursion};
 ghost use Rattle.pcp_base.specs.Results.{Fits};
 ghost use Rattle.pcp_base.specs.declared.result.Item.TheVariants.{Sample};
@@ -11,7 +11,7 @@ ghost use Rattle.logger_core.specs.declared.fault.LogFault.TheVariants.{Closed, 
 ghost use Rattle.logger_core.specs.Reopening.{IsLeft};
 ghost use Rattle.logging_session.specs.Answers.{ComesBackBy, ComesBackWith, FlushMayAnswer, LeavesNone, LogFails, LogMayAnswer, OpenMayAnswer, TakeFails, TakeMayAnswer};
 ghost use Rattle.logging_session.specs.Events.{Event, behind, closing, opening, with_report};
-ghost use Rattle.logging_session.specs.Keeping.{AreWhole, IsClosed, IsFailed, IsFound, IsOpen, IsWorking, Keeps};
+ghost use Rattle.logging_session.specs.Keeping.{AreWhole, IsClosed, IsFailed, IsFound, IsLost, IsOpen, IsWorking, Keeps};
 
 use crate::opening::open;
 use crate::place::Place;
@@ -83,6 +83,7 @@ impl Session {
             → LeavesOnly D.moment D.left_since disk.old disk.new (ComesBackBy events left) }
         ensures refused { D.tells → (left : AllFiles) (events : Sequence Event) → Keeps left events self.old (D.held disk.old)
             → IfErr result (λ e. e ≢ DiskFault → Keeps left events self.new (D.held disk.new)) }
+        ensures untouched { IfErr result (λ e. e ≢ DiskFault → disk.new ≡ disk.old) }
         ensures open_ { OnOk result (IsOpen self.new) }
         ensures cause { IfErr result (OpenMayAnswer self.old self.new (D.faults disk.old) (D.faults disk.new)) }
         ensures same { (self.new.label ≡ self.old.label) × (self.new.limit ≡ self.old.limit) × (self.new.logged ≡ self.old.logged) }
@@ -122,6 +123,7 @@ impl Session {
             → IfErr result (λ e. e ≢ DiskFault → Keeps left events self.new (D.held disk.new)) }
         ensures closed { IsClosed self.old → (result ≡ Err Closed) × (self.new ≡ self.old) × (disk.new ≡ disk.old) }
         ensures stays { IsOpen self.old → (result ≡ Ok tt) × (self.new ≡ self.old) × (disk.new ≡ disk.old) }
+        ensures untouched { IfErr result (λ e. e ≢ DiskFault → disk.new ≡ disk.old) }
         ensures open_ { OnOk result (IsWorking self.old × IsOpen self.new) }
         ensures cause { IfErr result (OpenMayAnswer self.old self.new (D.faults disk.old) (D.faults disk.new)) }
         ensures same { (self.new.label ≡ self.old.label) × (self.new.limit ≡ self.old.limit) × (self.new.logged ≡ self.old.logged) }
@@ -202,6 +204,8 @@ impl Session {
         // What stands after each refusal: what was opened for the result stays open.
         ensures fault { D.tells → AreEnough facts.now answer.now.sets → (left : AllFiles) (events : Sequence Event) → Keeps left events self.old (D.held disk.old)
             → IfErr result (LogFails left events (record { result = answer.now; facts = facts.now }) self.old self.new (D.held disk.new)) }
+        // Nothing is touched by a refusal but to open the archive, which then stays open.
+        ensures untouched { IfErr result (λ e. e ≢ DiskFault → (IsOpen self.old ⊎ IsLost self.new) → disk.new ≡ disk.old) }
         // A closed session answers so, and touches nothing.
         ensures closed { IsClosed self.old → (result ≡ Err Closed) × (self.new ≡ self.old) × (disk.new ≡ disk.old) }
         ensures open_ { OnOk result (IsWorking self.old × IsOpen self.new) }
@@ -297,6 +301,7 @@ impl Session {
         // Where nothing was logged nothing is done.
         ensures idle { self.old.logged ≡ 0 → (IsFailed self.old → ⊥) → (result ≡ Ok tt) × (self.new ≡ self.old) × (disk.new ≡ disk.old) }
         ensures open_ { OnOk result (IsFailed self.new → ⊥) }
+        ensures stays { OnOk result (IsOpen self.old → IsOpen self.new) }
         ensures cause { IfErr result (FlushMayAnswer self.old self.new (D.faults disk.old) (D.faults disk.new)) }
         ensures same { (self.new.label ≡ self.old.label) × (self.new.limit ≡ self.old.limit) × (self.new.logged ≡ self.old.logged) }
         ensures later { D.faults disk.old ≤ D.faults disk.new }

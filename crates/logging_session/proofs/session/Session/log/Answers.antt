@@ -1,5 +1,5 @@
 -- The archive is opened, and handed the result.
-use Rattle.std.proofs.Common.{◌≡◌, ◌≢◌, inl, [], ◌∷◌, Result, Ok, Err, ap}
+use Rattle.std.proofs.Common.{◌≡◌, ◌≢◌, ◌⊎◌, ⊎_elim, ◌∙◌, inl, [], ◌∷◌, Result, Ok, Err, ap}
 use Rattle.std.specs.Prelude.{IfErr}
 use Rattle.pcp_base.specs.declared.result.Item.TheVariants.{Sample}
 use Rattle.pcp_outside.proofs.Crash.{weaker}
@@ -9,9 +9,9 @@ use Rattle.logger_core.proofs.Calls.{run_then}
 use Rattle.logger_core.proofs.Keeping.{handed_on}
 use Rattle.logging_session.specs.Answers.{ComesBackBy, ComesBackWith, LeavesNone, LogFails, LogMayAnswer, TakeFails, TakeMayAnswer}
 use Rattle.logging_session.specs.Events.{opening}
-use Rattle.logging_session.specs.Keeping.{Keeps}
+use Rattle.logging_session.specs.Keeping.{IsLost, IsOpen, Keeps}
 use Rattle.logging_session.specs.Written.{Report}
-use Rattle.logging_session.proofs.Logging.{by_then, leaves_none, log_fails, open_fails, open_may, take_may, with_then}
+use Rattle.logging_session.proofs.Logging.{by_then, leaves_none, log_fails, open_fails, open_may, take_may, take_not_lost, with_then}
 use Rattle.logging_session.proofs.session.Session.log.Goals as goal
 
 every_err : {T E : Type 0} (r : Result T E) (Q : E → Type 0) → ((e : E) → Q e) → IfErr r Q
@@ -54,6 +54,26 @@ returns-in_err-open_for-clause-cause g c =
     let after = d.faults c.open_for.new.disk in
     handed_on c.from_residual.result e (λ f. LogMayAnswer c.args.self.now c.open_for.new.self before after f) c.from_residual.ensures.1
     (open_may c.args.self.now c.open_for.new.self before after e c.in_err-open_for.ensures.cause)
+
+pub returns-in_err-open_for-clause-untouched : goal.returns-in_err-open_for-clause-untouched
+returns-in_err-open_for-clause-untouched g c =
+    let e = c.in_err-open_for.field-0.0 in
+    handed_on c.from_residual.result e (λ f. f ≢ DiskFault → (IsOpen c.args.self.now ⊎ IsLost c.open_for.new.self) → c.open_for.new.disk ≡ c.args.disk.now) c.from_residual.ensures.1
+    (λ other h. c.in_err-open_for.ensures.untouched other)
+
+pub returns-clause-untouched : goal.returns-clause-untouched
+returns-clause-untouched g c =
+    let d = g.D.Disk in
+    let old = c.args.self.now in
+    let middle = c.open_for.new.self in
+    let new = c.take.new.self in
+    let first = c.args.disk.now in
+    let mid = c.open_for.new.disk in
+    let last = c.take.new.disk in
+    both_err c.take.result (λ (e : LogFault). TakeMayAnswer middle new (d.faults mid) (d.faults last) e) (λ (e : LogFault). e ≢ DiskFault → last ≡ mid) (λ (e : LogFault). e ≢ DiskFault → (IsOpen old ⊎ IsLost new) → last ≡ first)
+    (λ e may still other h. ⊎_elim (λ (was : IsOpen old). still other ∙ (c.open_for.ensures.stays was).2)
+    (λ (lost : IsLost new). take_not_lost middle new (d.faults mid) (d.faults last) e c.in_ok-open_for.ensures.open_.1 may other lost) h)
+    c.take.ensures.cause c.take.ensures.untouched
 
 pub returns-clause-done : goal.returns-clause-done
 returns-clause-done g c = λ tells enough left events k. c.take.ensures.done tells enough left (opening c.args.answer.now.stamp events) (c.in_ok-open_for.ensures.done tells left events k)

@@ -27,6 +27,7 @@ returns-in-Ok g c =
       any_moment = λ tells left events k.
           weaker d.moment d.left_since d.held c.args.disk.now c.open.new.disk (ComesBackTo [] 0 (contents_of held)) (ComesBackBy events left) (c.open.ensures.any_moment tells (when_found left events old held k a was).0) (found_comes left events old held k a was);
       refused = λ tells left events k. tt;
+      untouched = tt;
       open_ = tt;
       cause = tt;
       same = (ap (λ (t : Carried). t.label) c.self.view_is, ap (λ (t : Carried). t.limit) c.self.view_is, ap (λ (t : Carried). t.logged) c.self.view_is);
@@ -47,6 +48,7 @@ returns-in-NoMemory g c =
       any_moment = λ tells left events k.
           weaker d.moment d.left_since d.held c.args.disk.now c.open.new.disk (ComesBackTo [] 0 (contents_of held)) (ComesBackBy events left) (c.open.ensures.any_moment tells (when_found left events old held k a was).0) (found_comes left events old held k a was);
       refused = λ tells left events k other. loses left events s held (subst (λ (t : Carried). Keeps left events t held) (sym c.self.view_is) k) a (d.held c.open.new.disk) is (ap d.held (c.in-Err.ensures.untouched c.in-NoMemory.is));
+      untouched = λ other. c.in-Err.ensures.untouched c.in-NoMemory.is;
       open_ = tt;
       cause = lost_answers old (with_place s Lost) (d.faults c.args.disk.now) (d.faults c.open.new.disk) c.in-Err.fault c.in-NoMemory.is (found_is old a was) tt;
       same = (ap (λ (t : Carried). t.label) c.self.view_is, ap (λ (t : Carried). t.limit) c.self.view_is, ap (λ (t : Carried). t.logged) c.self.view_is);
@@ -67,6 +69,7 @@ returns-in_default-fault g c =
       any_moment = λ tells left events k.
           weaker d.moment d.left_since d.held c.args.disk.now c.open.new.disk (ComesBackTo [] 0 (contents_of held)) (ComesBackBy events left) (c.open.ensures.any_moment tells (when_found left events old held k a was).0) (found_comes left events old held k a was);
       refused = λ tells left events k other. open_rose (d.faults c.args.disk.now) (d.faults c.open.new.disk) c.in-Err.fault c.in-Err.ensures.fault c.in_default-fault.not-NoMemory other;
+      untouched = λ other. open_rose {A = c.open.new.disk ≡ c.args.disk.now} (d.faults c.args.disk.now) (d.faults c.open.new.disk) c.in-Err.fault c.in-Err.ensures.fault c.in_default-fault.not-NoMemory other;
       open_ = tt;
       cause = open_answers old (with_place s c.replace.new.dest) (d.faults c.args.disk.now) (d.faults c.open.new.disk) c.in-Err.fault (found_is old a was) (failed_is (with_place s c.replace.new.dest) c.replace.ensures.after) c.in-Err.ensures.fault c.in_default-fault.not-NoMemory;
       same = (ap (λ (t : Carried). t.label) c.self.view_is, ap (λ (t : Carried). t.limit) c.self.view_is, ap (λ (t : Carried). t.logged) c.self.view_is);
