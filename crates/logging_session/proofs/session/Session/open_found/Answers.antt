@@ -3,7 +3,7 @@ use Rattle.std.proofs.Common.{◌≡◌, [], sym, ap, ◌∙◌, subst}
 use Rattle.pcp_model.specs.Disk.{contents_of}
 use Rattle.pcp_outside.proofs.Crash.{weaker}
 use Rattle.logging_session.specs.declared.place.Place.TheVariants.{Found, Lost}
-use Rattle.logging_session.specs.Answers.{ComesBackBy}
+use Rattle.logging_session.specs.Answers.{ComesBackBy, WantsMemory}
 use Rattle.logging_session.specs.ComingBack.{ComesBackTo}
 use Rattle.logging_session.specs.Keeping.{Carried, Keeps}
 use Rattle.logging_session.proofs.Placed.{failed_is, found_is, lost_answers, open_answers, open_rose}
@@ -50,7 +50,7 @@ returns-in-NoMemory g c =
       refused = λ tells left events k other. loses left events s held (subst (λ (t : Carried). Keeps left events t held) (sym c.self.view_is) k) a (d.held c.open.new.disk) is (ap d.held (c.in-Err.ensures.untouched c.in-NoMemory.is));
       untouched = λ other. c.in-Err.ensures.untouched c.in-NoMemory.is;
       open_ = tt;
-      cause = lost_answers old (with_place s Lost) (d.faults c.args.disk.now) (d.faults c.open.new.disk) c.in-Err.fault c.in-NoMemory.is (found_is old a was) tt;
+      cause = lost_answers old (with_place s Lost) (d.faults c.args.disk.now) (d.faults c.open.new.disk) c.in-Err.fault c.in-NoMemory.is (found_is old a was) tt (subst WantsMemory (sym was) (c.in-Err.ensures.cause c.in-NoMemory.is));
       same = (ap (λ (t : Carried). t.label) c.self.view_is, ap (λ (t : Carried). t.limit) c.self.view_is, ap (λ (t : Carried). t.logged) c.self.view_is);
       later = c.open.ensures.later;
     }
