@@ -1,13 +1,16 @@
 -- What the calls of a session answer, what stands after each answer, and what a crash leaves meanwhile.
-use Rattle.std.specs.Prelude.{◌≡◌, ◌⊎◌, ℕ, List, ◌++◌}
+use Rattle.std.specs.Prelude.{◌≡◌, ◌⊎◌, ℕ, ◌+◌, Bool, true, false, List, ◌++◌}
 use Rattle.pcp_base.specs.declared.result.Item.{Item}
 use Rattle.pcp_model.specs.Disk.{Files, Holdings}
+use Rattle.pcp_model.specs.Payload.{payload_length}
 use Rattle.pcp_outside.specs.Causes.{Rose}
 use Rattle.pcp_outside.specs.Devices.{LeavesOnly}
 use Rattle.pcp_outside.specs.declared.disk.Disk.{Ghosts as DiskGhosts}
+use Rattle.logger_core.specs.declared.ends.Ends.{Ends}
 use Rattle.logger_core.specs.declared.fault.LogFault.{LogFault}
 use Rattle.logger_core.specs.declared.fault.LogFault.TheVariants.{Closed, Large, NotLater, Changed, Full, NoMemory, DiskFault}
 use Rattle.logger_core.specs.Logging.{IsLoggable, IsRefused}
+use Rattle.logger_core.specs.LogSteps.{crosses}
 use Rattle.logging_session.specs.declared.place.Place.{Place}
 use Rattle.logging_session.specs.declared.place.Place.TheVariants.{Found, Open}
 use Rattle.logging_session.specs.ComingBack.{ComesBackTo}
@@ -80,6 +83,17 @@ LogMayAnswer r old new before after Closed = IsClosed old × (new ≡ old)
 LogMayAnswer r old new before after NoMemory = (IsFound old × IsLost new × WantsMemory old.place) ⊎ StaysOpen old new
 LogMayAnswer r old new before after DiskFault = IsWorking old × IsFailed new × Rose before after
 LogMayAnswer r old new before after fault = StaysOpen old new × IsFor new.place r fault
+
+-- How a logger's numbers go on with a result: where its record crosses the volume limit the next volume is written, and all that was
+-- logged before is acknowledged; else the volume is the same one, and as many are.
+abbrev pub CountsBy : Bool → Ends → Ends → Type 0
+CountsBy true old new = (new.volume ≡ old.volume + 1) × (new.acknowledged ≡ old.logged)
+CountsBy false old new = (new.volume ≡ old.volume) × (new.acknowledged ≡ old.acknowledged)
+
+-- so many are acknowledged exactly, where the session was open before
+abbrev pub CountsOn : Report → Place → Place → Type 0
+CountsOn r (Open old) (Open new) = CountsBy (crosses old.limit old.ends.length (payload_length r.result + 8)) old.ends new.ends
+CountsOn r old new = Unit {0}
 
 -- a flush, a sync or the close is refused where the session is closed, or by the disk, which closes it
 abbrev pub FlushMayAnswer : Carried → Carried → ℕ → ℕ → LogFault → Type 0

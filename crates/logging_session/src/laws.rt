@@ -1,10 +1,15 @@
 //! What holds of what a session keeps. Each is the contract of a function without parameters, which does nothing.
-ghost use Rattle.logging_session.specs.Laws.{FewerComeBack, KeptFilesAreLed, KeptFilesAreWhole, KeptSessionsSurvive};
+ghost use Rattle.logging_session.specs.Laws.{FewerComeBack, KeptCountsSurvive, KeptFilesAreLed, KeptFilesAreWhole, KeptSessionsSurvive};
 
 /// Whatever a crash leaves of what the disk holds between two calls comes back: the items of the start, and the first ones that were logged
 /// since, all that a flush acknowledged among them.
 pub fn kept_sessions_survive()
     ensures { KeptSessionsSurvive }
+{}
+
+/// They come back with all that the logger counts as acknowledged.
+pub fn kept_counts_survive()
+    ensures { KeptCountsSurvive }
 {}
 
 /// The files between two calls are those to which the session's events lead.

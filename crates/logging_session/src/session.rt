@@ -9,7 +9,7 @@ ghost use Rattle.pcp_outside.specs.Devices.{LeavesOnly};
 ghost use Rattle.archive_meta.specs.Enough.{AreEnough};
 ghost use Rattle.logger_core.specs.declared.fault.LogFault.TheVariants.{Closed, DiskFault, NoMemory as Refused};
 ghost use Rattle.logger_core.specs.Reopening.{IsLeft};
-ghost use Rattle.logging_session.specs.Answers.{ComesBackBy, ComesBackWith, FlushMayAnswer, LeavesNone, LogFails, LogMayAnswer, MayTake, OpenMayAnswer, TakeFails, TakeMayAnswer};
+ghost use Rattle.logging_session.specs.Answers.{ComesBackBy, ComesBackWith, CountsOn, FlushMayAnswer, LeavesNone, LogFails, LogMayAnswer, MayTake, OpenMayAnswer, TakeFails, TakeMayAnswer};
 ghost use Rattle.logging_session.specs.Events.{Event, behind, closing, opening, with_report};
 ghost use Rattle.logging_session.specs.Keeping.{AreWhole, IsClosed, IsFailed, IsFound, IsLost, IsOpen, IsWorking, Keeps};
 
@@ -155,6 +155,8 @@ impl Session {
         ensures fault { D.tells → AreEnough facts.now answer.now.sets → (left : AllFiles) (events : Sequence Event) → (k : Keeps left events self.old (D.held disk.old))
             → IfErr result (TakeFails k.stand self.old.limit (record { result = answer.now; facts = facts.now })) }
         ensures untouched { IfErr result (λ e. e ≢ DiskFault → disk.new ≡ disk.old) }
+        ensures counts { D.tells → AreEnough facts.now answer.now.sets → (left : AllFiles) (events : Sequence Event) → Keeps left events self.old (D.held disk.old)
+            → OnOk result (CountsOn (record { result = answer.now; facts = facts.now }) self.old.place self.new.place) }
         ensures loggable { OnOk result (MayTake self.old.place (record { result = answer.now; facts = facts.now })) }
         ensures open_ { OnOk result (IsOpen self.new) }
         ensures cause { IfErr result (TakeMayAnswer (record { result = answer.now; facts = facts.now }) self.old self.new (D.faults disk.old) (D.faults disk.new)) }
@@ -209,6 +211,9 @@ impl Session {
         ensures untouched { IfErr result (λ e. e ≢ DiskFault → (IsOpen self.old ⊎ IsLost self.new) → disk.new ≡ disk.old) }
         // A closed session answers so, and touches nothing.
         ensures closed { IsClosed self.old → (result ≡ Err Closed) × (self.new ≡ self.old) × (disk.new ≡ disk.old) }
+        // It isn't acknowledged: as many are as before, or all earlier ones where the next volume was opened.
+        ensures counts { D.tells → AreEnough facts.now answer.now.sets → (left : AllFiles) (events : Sequence Event) → Keeps left events self.old (D.held disk.old)
+            → OnOk result (CountsOn (record { result = answer.now; facts = facts.now }) self.old.place self.new.place) }
         // Of an open session Ok comes only for a result that may be logged.
         ensures loggable { OnOk result (MayTake self.old.place (record { result = answer.now; facts = facts.now })) }
         ensures open_ { OnOk result (IsWorking self.old × IsOpen self.new) }
