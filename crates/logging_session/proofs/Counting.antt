@@ -1,11 +1,11 @@
 -- How many items are acknowledged once a result is logged, and which volume is written then.
-use Rattle.std.proofs.Common.{◌≡◌, ◌≢◌, ◌⊎◌, inl, inr, ⊎_elim, ℕ, ◌+◌, ◌<◌, ◌≤◌, pos, Bool, true, false, List, [], ◌++◌, length, Option, None, Some, refl, sym, ap, ◌∙◌, subst, arith, length-append}
+use Rattle.std.proofs.Common.{◌≡◌, ⊎_elim, ℕ, ◌+◌, ◌<◌, ◌≤◌, pos, Bool, true, false, [], ◌++◌, length, Option, None, Some, refl, sym, ap, ◌∙◌, arith, length-append}
 use Rattle.std.proofs.lemmas.Bool.{cases_lt}
 use Rattle.pcp_base.specs.Time.{Moment}
 use Rattle.pcp_base.specs.declared.file.FileId.TheVariants.{Meta, Index, Volume}
 use Rattle.pcp_base.specs.declared.result.PmResult.{PmResult}
 use Rattle.pcp_model.specs.declared.records.Entry.{Entry}
-use Rattle.pcp_model.specs.Archive.{ArchiveContents, IsArchive, items_of}
+use Rattle.pcp_model.specs.Archive.{ArchiveContents, IsArchive}
 use Rattle.pcp_model.specs.Disk.{Files, Holdings}
 use Rattle.pcp_model.specs.Frame.{frame}
 use Rattle.pcp_model.specs.Labels.{label}
@@ -19,7 +19,7 @@ use Rattle.pcp_outside.specs.Causes.{shown_count}
 use Rattle.archive_meta.specs.declared.facts.Facts.{Facts}
 use Rattle.archive_meta.specs.Missing.{framed_records}
 use Rattle.logger_core.specs.Going.{acknowledged_before}
-use Rattle.logger_core.specs.LogSteps.{LogStep, base_files, base_number, crosses, switch_entry, with_new_volume, with_run}
+use Rattle.logger_core.specs.LogSteps.{LogStep, base_files, base_number, crosses, switch_entry, with_new_volume}
 use Rattle.logger_core.specs.Logging.{IsLogged}
 use Rattle.logger_core.specs.Meant.{IsLogger, Kept, Meant}
 use Rattle.logger_core.specs.Steps.{due_in, with_entry}
