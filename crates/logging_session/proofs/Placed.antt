@@ -11,7 +11,7 @@ use Rattle.logger_core.specs.Meant.{Kept}
 use Rattle.logger_core.specs.Refusals.{CreateMayAnswer, FlushMayAnswer as LoggerMayFlush}
 use Rattle.logging_session.specs.declared.place.Place.{Place}
 use Rattle.logging_session.specs.declared.place.Place.TheVariants.{Found, Open, Lost, Failed}
-use Rattle.logging_session.specs.Answers.{CountsOn, FlushMayAnswer, IsFor, MayTake, OpenMayAnswer, TakeMayAnswer, WantsMemory}
+use Rattle.logging_session.specs.Answers.{FlushMayAnswer, IsFor, MayTake, OpenMayAnswer, TakeMayAnswer, WantsMemory}
 use Rattle.logging_session.specs.Written.{Report}
 use Rattle.logging_session.specs.Keeping.{Carried, HasFailed, HasFound, HasLogger, HasLost, IsClosed, IsFailed, IsFound, IsLost, IsOpen, MayLog}
 use Rattle.logging_session.proofs.Logged.{not_closed}
@@ -160,10 +160,3 @@ taken_before (Found archive) q r same may = tt
 taken_before (Open kept) q r same may = subst (λ (t : Place). MayTake t r) (same tt) may
 taken_before Lost q r same may = tt
 taken_before Failed q r same may = tt
-
--- and it counted on from there
-pub counted_before : (p q now : Place) (r : Report) → (HasLogger p → q ≡ p) → CountsOn r q now → CountsOn r p now
-counted_before (Found archive) q now r same counts = tt
-counted_before (Open kept) q now r same counts = subst (λ (t : Place). CountsOn r t now) (same tt) counts
-counted_before Lost q now r same counts = tt
-counted_before Failed q now r same counts = tt

@@ -3,7 +3,7 @@ use Rattle.std.specs.Prelude.{◌≡◌, ◌⊎◌, ℕ, ◌+◌, Bool, true, fa
 use Rattle.pcp_base.specs.declared.result.Item.{Item}
 use Rattle.pcp_model.specs.Disk.{Files, Holdings}
 use Rattle.pcp_model.specs.Payload.{payload_length}
-use Rattle.pcp_outside.specs.Causes.{Rose}
+use Rattle.pcp_outside.specs.Causes.{Rose, shown_count}
 use Rattle.pcp_outside.specs.Devices.{LeavesOnly}
 use Rattle.pcp_outside.specs.declared.disk.Disk.{Ghosts as DiskGhosts}
 use Rattle.logger_core.specs.declared.ends.Ends.{Ends}
@@ -87,12 +87,13 @@ LogMayAnswer r old new before after fault = StaysOpen old new × IsFor new.place
 -- How a logger's numbers go on with a result: where its record crosses the volume limit the next volume is written, and all that was
 -- logged before is acknowledged; else the volume is the same one, and as many are.
 abbrev pub CountsBy : Bool → Ends → Ends → Type 0
-CountsBy true old new = (new.volume ≡ old.volume + 1) × (new.acknowledged ≡ old.logged)
-CountsBy false old new = (new.volume ≡ old.volume) × (new.acknowledged ≡ old.acknowledged)
+CountsBy true old new = (new.volume ≡ old.volume + 1) × (new.acknowledged ≡ old.logged) × (new.logged ≡ shown_count (old.logged + 1))
+CountsBy false old new = (new.volume ≡ old.volume) × (new.acknowledged ≡ old.acknowledged) × (new.logged ≡ shown_count (old.logged + 1))
 
--- so many are acknowledged exactly, where the session was open before
+-- So many are acknowledged exactly: of an archive that is opened for the result, all others.
 abbrev pub CountsOn : Report → Place → Place → Type 0
 CountsOn r (Open old) (Open new) = CountsBy (crosses old.limit old.ends.length (payload_length r.result + 8)) old.ends new.ends
+CountsOn r (Found archive) (Open new) = new.ends.logged ≡ shown_count (new.ends.acknowledged + 1)
 CountsOn r old new = Unit {0}
 
 -- a flush, a sync or the close is refused where the session is closed, or by the disk, which closes it
@@ -109,6 +110,11 @@ OpenMayAnswer old new before after Closed = IsClosed old × (new ≡ old)
 OpenMayAnswer old new before after NoMemory = IsFound old × IsLost new × WantsMemory old.place
 OpenMayAnswer old new before after DiskFault = IsFound old × IsFailed new × Rose before after
 OpenMayAnswer old new before after fault = ⊥
+
+-- all that it has is acknowledged
+abbrev pub CountsAll : Place → Type 0
+CountsAll (Open kept) = kept.ends.acknowledged ≡ kept.ends.logged
+CountsAll place = Unit {0}
 
 -- and then is handed the result
 abbrev pub TakeMayAnswer : Report → Carried → Carried → ℕ → ℕ → LogFault → Type 0

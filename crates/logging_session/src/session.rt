@@ -9,7 +9,7 @@ ghost use Rattle.pcp_outside.specs.Devices.{LeavesOnly};
 ghost use Rattle.archive_meta.specs.Enough.{AreEnough};
 ghost use Rattle.logger_core.specs.declared.fault.LogFault.TheVariants.{Closed, DiskFault, NoMemory as Refused};
 ghost use Rattle.logger_core.specs.Reopening.{IsLeft};
-ghost use Rattle.logging_session.specs.Answers.{ComesBackBy, ComesBackWith, CountsOn, FlushMayAnswer, LeavesNone, LogFails, LogMayAnswer, MayTake, OpenMayAnswer, TakeFails, TakeMayAnswer};
+ghost use Rattle.logging_session.specs.Answers.{ComesBackBy, ComesBackWith, CountsAll, CountsOn, FlushMayAnswer, LeavesNone, LogFails, LogMayAnswer, MayTake, OpenMayAnswer, TakeFails, TakeMayAnswer};
 ghost use Rattle.logging_session.specs.Events.{Event, behind, closing, opening, with_report};
 ghost use Rattle.logging_session.specs.Keeping.{AreWhole, IsClosed, IsFailed, IsFound, IsLost, IsOpen, IsWorking, Keeps};
 
@@ -83,6 +83,7 @@ impl Session {
             → LeavesOnly D.moment D.left_since disk.old disk.new (ComesBackBy events left) }
         ensures refused { D.tells → (left : AllFiles) (events : Sequence Event) → Keeps left events self.old (D.held disk.old)
             → IfErr result (λ e. e ≢ DiskFault → Keeps left events self.new (D.held disk.new)) }
+        ensures counts { D.tells → (left : AllFiles) (events : Sequence Event) → Keeps left events self.old (D.held disk.old) → OnOk result (CountsAll self.new.place) }
         ensures untouched { IfErr result (λ e. e ≢ DiskFault → disk.new ≡ disk.old) }
         ensures open_ { OnOk result (IsOpen self.new) }
         ensures cause { IfErr result (OpenMayAnswer self.old self.new (D.faults disk.old) (D.faults disk.new)) }
@@ -123,6 +124,7 @@ impl Session {
             → IfErr result (λ e. e ≢ DiskFault → Keeps left events self.new (D.held disk.new)) }
         ensures closed { IsClosed self.old → (result ≡ Err Closed) × (self.new ≡ self.old) × (disk.new ≡ disk.old) }
         ensures stays { IsOpen self.old → (result ≡ Ok tt) × (self.new ≡ self.old) × (disk.new ≡ disk.old) }
+        ensures counts { IsFound self.old → D.tells → (left : AllFiles) (events : Sequence Event) → Keeps left events self.old (D.held disk.old) → OnOk result (CountsAll self.new.place) }
         ensures untouched { IfErr result (λ e. e ≢ DiskFault → disk.new ≡ disk.old) }
         ensures open_ { OnOk result (IsWorking self.old × IsOpen self.new) }
         ensures cause { IfErr result (OpenMayAnswer self.old self.new (D.faults disk.old) (D.faults disk.new)) }

@@ -12,7 +12,8 @@ use Rattle.logging_session.specs.Events.{opening}
 use Rattle.logging_session.specs.Keeping.{Carried, IsLost, IsOpen, Keeps}
 use Rattle.logging_session.specs.Written.{Report}
 use Rattle.logging_session.proofs.Logging.{by_then, leaves_none, log_fails, open_fails, open_may, take_may, take_not_lost, with_then}
-use Rattle.logging_session.proofs.Placed.{counted_before, taken_before}
+use Rattle.logging_session.proofs.Counting.{counted_from}
+use Rattle.logging_session.proofs.Placed.{taken_before}
 use Rattle.logging_session.proofs.session.Session.log.Goals as goal
 
 every_err : {T E : Type 0} (r : Result T E) (Q : E → Type 0) → ((e : E) → Q e) → IfErr r Q
@@ -95,7 +96,8 @@ returns-clause-counts g c = λ tells enough left events k.
     let old = c.args.self.now in
     let middle = c.open_for.new.self in
     let new = c.take.new.self in
-    on_ok c.take.result (CountsOn r middle.place new.place) (CountsOn r old.place new.place) (counted_before old.place middle.place new.place r (λ was. ap (λ (t : Carried). t.place) (c.open_for.ensures.stays was).1))
+    on_ok c.take.result (CountsOn r middle.place new.place) (CountsOn r old.place new.place)
+    (counted_from old.place middle.place new.place r (λ was. ap (λ (t : Carried). t.place) (c.open_for.ensures.stays was).1) c.in_ok-open_for.ensures.open_.1 (λ found. c.in_ok-open_for.ensures.counts found tells left events k))
     (c.take.ensures.counts tells enough left (opening c.args.answer.now.stamp events) (c.in_ok-open_for.ensures.done tells left events k))
 
 pub returns-clause-done : goal.returns-clause-done
