@@ -1,5 +1,5 @@
 //! The archive that a session goes on with: what recovery left, or where it left no label a new one.
-ghost use Rattle.std.specs.Prelude.{◌≡◌, ◌≤◌, false, [], IfOk, IfErr};
+ghost use Rattle.std.specs.Prelude.{◌≡◌, ◌≤◌, false, [], None as Nothing, IfOk, IfErr};
 ghost use Rattle.pcp_model.specs.Disk.{IsEmpty, contents_of};
 ghost use Rattle.pcp_outside.specs.Devices.{LeavesOnly};
 ghost use Rattle.logger_core.specs.declared.fault.LogFault.TheVariants.{NoMemory as Refused};
@@ -53,6 +53,7 @@ pub(crate) fn open<D: Disk>(
     ensures any_moment { D.tells → IsLeft archive (D.held disk.old) → LeavesOnly D.moment D.left_since disk.old disk.new (ComesBackTo [] 0 (contents_of (D.held disk.old))) }
     ensures fault { IfErr result (λ e. CreateMayAnswer (D.faults disk.old) (D.faults disk.new) e) }
     ensures cause { IfErr result (λ e. e ≡ Refused → MayWantMemory archive) }
+    ensures labelled { (archive.label ≡ Nothing → ⊥) → disk.new ≡ disk.old }
     ensures untouched { IfErr result (λ e. e ≡ Refused → disk.new ≡ disk.old) }
     ensures later { D.faults disk.old ≤ D.faults disk.new }
 {

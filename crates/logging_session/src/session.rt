@@ -11,7 +11,7 @@ ghost use Rattle.logger_core.specs.declared.fault.LogFault.TheVariants.{Closed, 
 ghost use Rattle.logger_core.specs.Reopening.{IsLeft};
 ghost use Rattle.logging_session.specs.Answers.{ComesBackBy, ComesBackWith, CountsAll, CountsOn, FlushMayAnswer, LeavesNone, LogFails, LogMayAnswer, MayTake, OpenMayAnswer, TakeFails, TakeMayAnswer};
 ghost use Rattle.logging_session.specs.Events.{Event, behind, closing, opening, with_report};
-ghost use Rattle.logging_session.specs.Keeping.{AreWhole, IsClosed, IsFailed, IsFound, IsLost, IsOpen, IsWorking, Keeps};
+ghost use Rattle.logging_session.specs.Keeping.{AreWhole, IsClosed, IsFailed, IsFound, IsLabelled, IsLost, IsOpen, IsWorking, Keeps};
 
 use crate::opening::open;
 use crate::place::Place;
@@ -84,6 +84,7 @@ impl Session {
         ensures refused { D.tells → (left : AllFiles) (events : Sequence Event) → Keeps left events self.old (D.held disk.old)
             → IfErr result (λ e. e ≢ DiskFault → Keeps left events self.new (D.held disk.new)) }
         ensures counts { D.tells → (left : AllFiles) (events : Sequence Event) → Keeps left events self.old (D.held disk.old) → OnOk result (CountsAll self.new.place) }
+        ensures labelled { IsLabelled self.old → disk.new ≡ disk.old }
         ensures untouched { IfErr result (λ e. e ≢ DiskFault → disk.new ≡ disk.old) }
         ensures open_ { OnOk result (IsOpen self.new) }
         ensures cause { IfErr result (OpenMayAnswer self.old self.new (D.faults disk.old) (D.faults disk.new)) }
@@ -125,6 +126,7 @@ impl Session {
         ensures closed { IsClosed self.old → (result ≡ Err Closed) × (self.new ≡ self.old) × (disk.new ≡ disk.old) }
         ensures stays { IsOpen self.old → (result ≡ Ok tt) × (self.new ≡ self.old) × (disk.new ≡ disk.old) }
         ensures counts { IsFound self.old → D.tells → (left : AllFiles) (events : Sequence Event) → Keeps left events self.old (D.held disk.old) → OnOk result (CountsAll self.new.place) }
+        ensures labelled { IsLabelled self.old → disk.new ≡ disk.old }
         ensures untouched { IfErr result (λ e. e ≢ DiskFault → disk.new ≡ disk.old) }
         ensures open_ { OnOk result (IsWorking self.old × IsOpen self.new) }
         ensures cause { IfErr result (OpenMayAnswer self.old self.new (D.faults disk.old) (D.faults disk.new)) }
@@ -209,8 +211,8 @@ impl Session {
         // What stands after each refusal: what was opened for the result stays open.
         ensures fault { D.tells → AreEnough facts.now answer.now.sets → (left : AllFiles) (events : Sequence Event) → Keeps left events self.old (D.held disk.old)
             → IfErr result (LogFails left events (record { result = answer.now; facts = facts.now }) self.old self.new (D.held disk.new)) }
-        // Nothing is touched by a refusal but to open the archive, which then stays open.
-        ensures untouched { IfErr result (λ e. e ≢ DiskFault → (IsOpen self.old ⊎ IsLost self.new) → disk.new ≡ disk.old) }
+        // Nothing is touched by a refusal but to make the archive, where there was none, which then stays open.
+        ensures untouched { IfErr result (λ e. e ≢ DiskFault → (IsOpen self.old ⊎ IsLost self.new ⊎ IsLabelled self.old) → disk.new ≡ disk.old) }
         // A closed session answers so, and touches nothing.
         ensures closed { IsClosed self.old → (result ≡ Err Closed) × (self.new ≡ self.old) × (disk.new ≡ disk.old) }
         // It isn't acknowledged: as many are as before, or all earlier ones where the next volume was opened.

@@ -70,3 +70,6 @@ pub returns-clause-cause : goal.returns-clause-cause
 returns-clause-cause g c =
     let a = c.args.archive in
     err_weaker c.reopen.result (λ (e : LogFault). (e ≡ NoMemory) × (AreSmall (ends_of a) → ⊥)) (λ (e : LogFault). e ≡ NoMemory → MayWantMemory a) (λ e why is. inr why.1) c.reopen.ensures.fault
+
+pub returns-then-is_none-clause-labelled : goal.returns-then-is_none-clause-labelled
+returns-then-is_none-clause-labelled g c = λ labelled. absurd (labelled (none_is c.args.archive.label c.is_none.result c.is_none.ensures c.if-is_none.true))

@@ -9,7 +9,7 @@ use Rattle.logger_core.proofs.Calls.{run_then}
 use Rattle.logger_core.proofs.Keeping.{handed_on}
 use Rattle.logging_session.specs.Answers.{ComesBackBy, ComesBackWith, CountsOn, LeavesNone, LogFails, LogMayAnswer, MayTake, TakeFails, TakeMayAnswer}
 use Rattle.logging_session.specs.Events.{opening}
-use Rattle.logging_session.specs.Keeping.{Carried, IsLost, IsOpen, Keeps}
+use Rattle.logging_session.specs.Keeping.{Carried, IsLabelled, IsLost, IsOpen, Keeps}
 use Rattle.logging_session.specs.Written.{Report}
 use Rattle.logging_session.proofs.Logging.{by_then, leaves_none, log_fails, open_fails, open_may, take_may, take_not_lost, with_then}
 use Rattle.logging_session.proofs.Counting.{counted_from}
@@ -65,7 +65,7 @@ returns-in_err-open_for-clause-cause g c =
 pub returns-in_err-open_for-clause-untouched : goal.returns-in_err-open_for-clause-untouched
 returns-in_err-open_for-clause-untouched g c =
     let e = c.in_err-open_for.field-0.0 in
-    handed_on c.from_residual.result e (λ f. f ≢ DiskFault → (IsOpen c.args.self.now ⊎ IsLost c.open_for.new.self) → c.open_for.new.disk ≡ c.args.disk.now) c.from_residual.ensures.1
+    handed_on c.from_residual.result e (λ f. f ≢ DiskFault → (IsOpen c.args.self.now ⊎ IsLost c.open_for.new.self ⊎ IsLabelled c.args.self.now) → c.open_for.new.disk ≡ c.args.disk.now) c.from_residual.ensures.1
     (λ other h. c.in_err-open_for.ensures.untouched other)
 
 pub returns-clause-untouched : goal.returns-clause-untouched
@@ -78,9 +78,10 @@ returns-clause-untouched g c =
     let first = c.args.disk.now in
     let mid = c.open_for.new.disk in
     let last = c.take.new.disk in
-    both_err c.take.result (λ (e : LogFault). TakeMayAnswer r middle new (d.faults mid) (d.faults last) e) (λ (e : LogFault). e ≢ DiskFault → last ≡ mid) (λ (e : LogFault). e ≢ DiskFault → (IsOpen old ⊎ IsLost new) → last ≡ first)
+    both_err c.take.result (λ (e : LogFault). TakeMayAnswer r middle new (d.faults mid) (d.faults last) e) (λ (e : LogFault). e ≢ DiskFault → last ≡ mid) (λ (e : LogFault). e ≢ DiskFault → (IsOpen old ⊎ IsLost new ⊎ IsLabelled old) → last ≡ first)
     (λ e may still other h. ⊎_elim (λ (was : IsOpen old). still other ∙ (c.open_for.ensures.stays was).2)
-    (λ (lost : IsLost new). take_not_lost r middle new (d.faults mid) (d.faults last) e c.in_ok-open_for.ensures.open_.1 may other lost) h)
+    (λ (rest : IsLost new ⊎ IsLabelled old). ⊎_elim (λ (lost : IsLost new). take_not_lost r middle new (d.faults mid) (d.faults last) e c.in_ok-open_for.ensures.open_.1 may other lost)
+    (λ (labelled : IsLabelled old). still other ∙ c.open_for.ensures.labelled labelled) rest) h)
     c.take.ensures.cause c.take.ensures.untouched
 
 pub returns-clause-loggable : goal.returns-clause-loggable
