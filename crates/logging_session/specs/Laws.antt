@@ -5,10 +5,12 @@ use Rattle.pcp_base.specs.declared.result.Item.{Item}
 use Rattle.pcp_model.specs.Archive.{ArchiveReading, Reads, scan}
 use Rattle.pcp_model.specs.Disk.{Files, Holdings, CrashImage, contents_of}
 use Rattle.pcp_model.specs.Recovered.{Recovers}
+use Rattle.archive_recovery.specs.declared.outcome.Archive.{Archive}
+use Rattle.archive_recovery.specs.Told.{WasRecovered}
 use Rattle.logging_session.specs.declared.place.Place.{Place}
 use Rattle.logging_session.specs.declared.place.Place.TheVariants.{Open}
 use Rattle.logging_session.specs.Answers.{ComesBackBy}
-use Rattle.logging_session.specs.ComingBack.{ComesBack, ComesBackTo, start_of}
+use Rattle.logging_session.specs.ComingBack.{ComesBack, ComesBackTo, MayBeAfter, start_of}
 use Rattle.logging_session.specs.Events.{Event, LeadFrom, items_by}
 use Rattle.logging_session.specs.Keeping.{AreWhole, Carried, Keeps}
 use Rattle.logging_session.specs.Written.{Stand, files_of}
@@ -41,3 +43,7 @@ KeptFilesAreWhole = (left : Files) (events : List Event) (s : Carried) (held : H
 -- moment stays so while others follow.
 abbrev pub FewerComeBack : Type 0
 FewerComeBack = (more rest : List Item) (j k : ℕ) (left image : Files) → j ≤ k → ComesBackTo more k left image → ComesBackTo (more ++ rest) j left image
+
+-- What comes back to what recovery left comes back to what stood before it.
+abbrev pub RecoveredComeBack : Type 0
+RecoveredComeBack = (old mid : Holdings) (archive : Archive) (more : List Item) (k : ℕ) (image : Files) → WasRecovered (contents_of old) (contents_of mid) archive → ComesBackTo more k (contents_of mid) image → MayBeAfter more k old image
