@@ -235,6 +235,9 @@ module _ (left files : Files) (r : ArchiveReading) (reads : Reads files r) (reco
     of_opened (inl new) = of_new new.0 new.2
     of_opened (inr old) = of_old old.0 old.1
 
+    pub opened_items : OpensFound l left opened c → items_of c.volumes ≡ scan r
+    opened_items opens = (of_opened opens).0
+
     pub opened_comes : OpensFound l left opened c → (more : List Item) (k : ℕ) (image : Files) (w : Survives (as_found opened c).start (items_of c.volumes ++ more) (length (items_of c.volumes) + k) image)
         → AllByRecursion (Described w.new.records) (drop (length (items_of c.volumes)) (items_of w.new.volumes)) → ComesBack (start_of files r left) (scan r ++ more) (length (scan r) + k) image
     opened_comes opens more k image w new =

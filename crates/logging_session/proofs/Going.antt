@@ -1,5 +1,5 @@
 -- The archive of a session that is open: what a logger goes on with, and what a crash leaves of it.
-use Rattle.std.proofs.Common.{◌≡◌, inl, inr, ℕ, ◌+◌, ◌≤◌, false, List, [], ◌∷◌, ◌++◌, length, take, min, refl, sym, ap, ap₂, ◌∙◌, subst, arith, length-append}
+use Rattle.std.proofs.Common.{◌≡◌, inl, inr, ℕ, ◌+◌, ◌-◌, ◌≤◌, false, List, [], ◌∷◌, ◌++◌, length, take, min, refl, sym, ap, ap₂, ◌∙◌, subst, arith, length-append}
 use Rattle.std.specs.Prelude.{Contains}
 use Rattle.std.proofs.lemmas.List.Elements.{Contains-append_left}
 use Rattle.std.proofs.lemmas.List.{append_assoc, take-append-le, take_min}
@@ -7,12 +7,12 @@ use Rattle.pcp_base.specs.declared.file.FileId.TheVariants.{Meta, Index, Volume}
 use Rattle.pcp_base.specs.declared.result.Item.{Item}
 use Rattle.pcp_base.specs.declared.result.Item.TheVariants.{Sample}
 use Rattle.pcp_model.specs.declared.records.MetaRecord.{MetaRecord}
-use Rattle.pcp_model.specs.Archive.{ArchiveReading, items_of, scan}
+use Rattle.pcp_model.specs.Archive.{ArchiveReading, Reads, items_of, scan}
 use Rattle.pcp_model.specs.Disk.{CrashImage, Files, Holdings, contents_of}
 use Rattle.pcp_model.specs.Frame.{frame}
 use Rattle.pcp_model.specs.LabelFields.{LabelFields}
 use Rattle.pcp_model.specs.Payload.{payload, payload_length}
-use Rattle.pcp_model.specs.Recovered.{recovered_reading}
+use Rattle.pcp_model.specs.Recovered.{Recovers, recovered_reading}
 use Rattle.pcp_model.proofs.Lists.{each-append}
 use Rattle.archive_meta.specs.declared.facts.Facts.{Facts}
 use Rattle.archive_meta.specs.Missing.{framed_records}
@@ -32,7 +32,7 @@ use Rattle.logging_session.specs.ComingBack.{ComesBack, ComesBackTo, start_of}
 use Rattle.logging_session.specs.Events.{Event, acknowledged_by, items_by}
 use Rattle.logging_session.specs.Keeping.{AreApart, AreWhole, IsGoing, meant_of}
 use Rattle.logging_session.specs.Written.{EndsAre, Logs, OpensFound, Refuses, Report, Takes, Written}
-use Rattle.logging_session.proofs.ComeBack.{each_new, fewer, opened_comes}
+use Rattle.logging_session.proofs.ComeBack.{each_new, fewer, opened_comes, opened_items}
 use Rattle.logging_session.proofs.Events.{items_more, sure_logged}
 use Rattle.logging_session.proofs.Logged.{MaySurvive, is_apart}
 use Rattle.logging_session.proofs.WholeStays.{whole_stays}
@@ -90,6 +90,16 @@ module _ (left : Files) (limit : ℕ) (events : List Event) (w : Written) (kept 
 
   pub going_comes : (image : Files) → CrashImage held image → ComesBackTo items sure left image
   going_comes image crash = survivor_comes image (image_survives m kept.ends.volume held g.is.at.stands image crash)
+
+  -- with as many as the logger counts as acknowledged
+  pub going_counts : (files image : Files) (r : ArchiveReading) → CrashImage held image → Reads files r → Recovers files r left → ComesBack (start_of files r left) (scan r ++ items) kept.ends.acknowledged image
+  going_counts files image r crash reads recovered =
+      let found : List Item = items_of g.first.contents.volumes in
+      let more : ℕ = g.acknowledged - length found in
+      let v : Survives m.start (found ++ items) g.acknowledged image = survives_same m.start (items_in m) (found ++ items) g.acknowledged g.acknowledged image g.items_are (image_survives m kept.ends.volume held g.is.at.stands image crash) (omega arith) in
+      let same : found ≡ scan r = opened_items left files r reads recovered g.label g.first.files g.first.contents g.opens in
+      fewer (start_of files r left) (scan r ++ items) (length (scan r) + more) kept.ends.acknowledged image (omega (arith, g.is.at.ends.acknowledged_is, g.enough, ap length same))
+      (survivors_come left g.label g.first g.opens items more g.acknowledged image g.apart (omega (arith, g.enough)) v files r reads recovered)
 
   with_new : (x : Item) → items_in m ++ x ∷ [] ≡ items_of g.first.contents.volumes ++ (items ++ x ∷ [])
   with_new x = ap (λ (xs : List Item). xs ++ x ∷ []) g.items_are ∙ append_assoc (items_of g.first.contents.volumes) items (x ∷ [])

@@ -1,4 +1,5 @@
 pub mod ComeBack
+pub mod Counting
 pub mod Events
 pub mod Flushes
 pub mod Going

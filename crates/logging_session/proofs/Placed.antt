@@ -11,7 +11,8 @@ use Rattle.logger_core.specs.Meant.{Kept}
 use Rattle.logger_core.specs.Refusals.{CreateMayAnswer, FlushMayAnswer as LoggerMayFlush}
 use Rattle.logging_session.specs.declared.place.Place.{Place}
 use Rattle.logging_session.specs.declared.place.Place.TheVariants.{Found, Open, Lost, Failed}
-use Rattle.logging_session.specs.Answers.{FlushMayAnswer, OpenMayAnswer, TakeMayAnswer}
+use Rattle.logging_session.specs.Answers.{FlushMayAnswer, IsFor, MayTake, OpenMayAnswer, TakeMayAnswer, WantsMemory}
+use Rattle.logging_session.specs.Written.{Report}
 use Rattle.logging_session.specs.Keeping.{Carried, HasFailed, HasFound, HasLogger, HasLost, IsClosed, IsFailed, IsFound, IsLost, IsOpen, MayLog}
 use Rattle.logging_session.proofs.Logged.{not_closed}
 
@@ -98,8 +99,8 @@ flush_answers old new kept now before after e open_ failed usable may =
     let c : (e ≡ DiskFault) × Rose before after = flush_rose kept now before after e usable may in
     subst (λ (f : LogFault). FlushMayAnswer old new before after f) (sym c.0) (open_, failed, c.1)
 
-pub lost_answers : (old lost : Carried) (before after : ℕ) (e : LogFault) → e ≡ NoMemory → IsFound old → IsLost lost → OpenMayAnswer old lost before after e
-lost_answers old lost before after e is found now = subst (λ (f : LogFault). OpenMayAnswer old lost before after f) (sym is) (found, now)
+pub lost_answers : (old lost : Carried) (before after : ℕ) (e : LogFault) → e ≡ NoMemory → IsFound old → IsLost lost → WantsMemory old.place → OpenMayAnswer old lost before after e
+lost_answers old lost before after e is found now why = subst (λ (f : LogFault). OpenMayAnswer old lost before after f) (sym is) (found, now, why)
 
 -- a creation is refused for want of memory, or by the disk
 pub open_answers : (old failed : Carried) (before after : ℕ) (e : LogFault) → IsFound old → IsFailed failed → CreateMayAnswer before after e → e ≢ NoMemory → OpenMayAnswer old failed before after e
@@ -122,7 +123,7 @@ open_rose before after NoMemory may other also = absurd (other refl)
 open_rose before after DiskFault may other also = absurd (also refl)
 
 -- what an open archive answers of a result
-pub take_answers : (old new : Carried) (kept now : Kept) (answer : PmResult) (facts : Facts) (before after : ℕ) (e : LogFault) → kept.closed ≡ false → IsFailed new → LoggerMayLog kept now answer facts before after e → e ≡ DiskFault → TakeMayAnswer old new before after e
+pub take_answers : (old new : Carried) (kept now : Kept) (answer : PmResult) (facts : Facts) (before after : ℕ) (e : LogFault) → kept.closed ≡ false → IsFailed new → LoggerMayLog kept now answer facts before after e → e ≡ DiskFault → TakeMayAnswer (record { result = answer; facts = facts }) old new before after e
 take_answers old new kept now answer facts before after Closed usable failed may is = absurd (cc)
 take_answers old new kept now answer facts before after (Large bytes) usable failed may is = absurd (cc)
 take_answers old new kept now answer facts before after (NotLater last) usable failed may is = absurd (cc)
@@ -141,14 +142,21 @@ take_same kept now answer facts before after (Full file bytes) usable may other 
 take_same kept now answer facts before after NoMemory usable may other = may.1
 take_same kept now answer facts before after DiskFault usable may other = absurd (other refl)
 
-pub take_stays : (old new : Carried) (kept now : Kept) (answer : PmResult) (facts : Facts) (before after : ℕ) (e : LogFault) → kept.closed ≡ false → LoggerMayLog kept now answer facts before after e → e ≢ DiskFault → new ≡ old → TakeMayAnswer old new before after e
-take_stays old new kept now answer facts before after Closed usable may other same = not_closed kept.closed may.0 usable
-take_stays old new kept now answer facts before after (Large bytes) usable may other same = same
-take_stays old new kept now answer facts before after (NotLater last) usable may other same = same
-take_stays old new kept now answer facts before after (Changed pmid) usable may other same = same
-take_stays old new kept now answer facts before after (Full file bytes) usable may other same = same
-take_stays old new kept now answer facts before after NoMemory usable may other same = same
-take_stays old new kept now answer facts before after DiskFault usable may other same = absurd (other refl)
+pub take_stays : (old new : Carried) (kept now : Kept) (answer : PmResult) (facts : Facts) (before after : ℕ) (e : LogFault) → kept.closed ≡ false → LoggerMayLog kept now answer facts before after e → e ≢ DiskFault → new ≡ old → old.place ≡ Open kept → TakeMayAnswer (record { result = answer; facts = facts }) old new before after e
+take_stays old new kept now answer facts before after Closed usable may other same was = not_closed kept.closed may.0 usable
+take_stays old new kept now answer facts before after (Large bytes) usable may other same was = (same, subst (λ (p : Place). IsFor p (record { result = answer; facts = facts }) (Large bytes)) (sym was) may.2)
+take_stays old new kept now answer facts before after (NotLater last) usable may other same was = (same, subst (λ (p : Place). IsFor p (record { result = answer; facts = facts }) (NotLater last)) (sym was) may.2)
+take_stays old new kept now answer facts before after (Changed pmid) usable may other same was = (same, subst (λ (p : Place). IsFor p (record { result = answer; facts = facts }) (Changed pmid)) (sym was) may.2)
+take_stays old new kept now answer facts before after (Full file bytes) usable may other same was = (same, subst (λ (p : Place). IsFor p (record { result = answer; facts = facts }) (Full file bytes)) (sym was) may.2)
+take_stays old new kept now answer facts before after NoMemory usable may other same was = same
+take_stays old new kept now answer facts before after DiskFault usable may other same was = absurd (other refl)
 
 pub same_count : (n : ℕ) → n ≤ n
 same_count n = omega arith
+
+-- what an open session took it could take before, where it was open before
+pub taken_before : (p q : Place) (r : Report) → (HasLogger p → q ≡ p) → MayTake q r → MayTake p r
+taken_before (Found archive) q r same may = tt
+taken_before (Open kept) q r same may = subst (λ (t : Place). MayTake t r) (same tt) may
+taken_before Lost q r same may = tt
+taken_before Failed q r same may = tt

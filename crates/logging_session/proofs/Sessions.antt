@@ -7,8 +7,9 @@ use Rattle.pcp_base.specs.declared.file.FileId.{FileId}
 use Rattle.pcp_base.specs.declared.file.FileId.TheVariants.{Meta, Index, Volume}
 use Rattle.pcp_base.specs.declared.result.Item.{Item}
 use Rattle.pcp_base.specs.declared.result.Item.TheVariants.{Sample}
-use Rattle.pcp_model.specs.Archive.{items_of}
+use Rattle.pcp_model.specs.Archive.{ArchiveReading, Reads, items_of, scan}
 use Rattle.pcp_model.specs.Disk.{CrashImage, Files, Holdings, IsSettled, contents_of}
+use Rattle.pcp_model.specs.Recovered.{Recovers}
 use Rattle.pcp_outside.specs.Causes.{shown_count}
 use Rattle.archive_recovery.specs.declared.outcome.Archive.{Archive}
 use Rattle.logger_core.specs.declared.fault.LogFault.{LogFault}
@@ -21,14 +22,16 @@ use Rattle.logger_core.proofs.AsFound.{same_files}
 use Rattle.logging_session.specs.declared.place.Place.{Place}
 use Rattle.logging_session.specs.declared.place.Place.TheVariants.{Found, Open, Lost, Failed}
 use Rattle.logging_session.specs.Answers.{ComesBackBy, TakeFails}
-use Rattle.logging_session.specs.ComingBack.{ComesBackTo}
-use Rattle.logging_session.specs.Events.{Event, LeadFrom, behind, items_by, opening}
+use Rattle.logging_session.specs.ComingBack.{ComesBack, ComesBackTo, start_of}
+use Rattle.logging_session.specs.Events.{Event, LeadFrom, acknowledged_by, behind, items_by, opening}
 use Rattle.logging_session.specs.Keeping.{AllSure, AreWhole, Carried, IsGoing, IsPlace, IsUntouched, Keeps, meant_of}
+use Rattle.logging_session.specs.Laws.{sure_in}
 use Rattle.logging_session.specs.Opening.{IsOpened}
 use Rattle.logging_session.specs.Written.{Flushes, Logs, Report, Stand, Written, files_of, starting}
+use Rattle.logging_session.proofs.ComeBack.{fewer}
 use Rattle.logging_session.proofs.Events.{behind_is, items_more, lead_more, opening_is}
 use Rattle.logging_session.proofs.Flushes.{flush_goes, sync_goes}
-use Rattle.logging_session.proofs.Going.{going_comes, going_whole, log_goes, turned_refuses, would_take}
+use Rattle.logging_session.proofs.Going.{going_comes, going_counts, going_whole, log_goes, turned_refuses, would_take}
 use Rattle.logging_session.proofs.Logged.{is_settled, not_closed}
 use Rattle.logging_session.proofs.Openings.{standing_comes}
 
@@ -218,6 +221,9 @@ module _ (left : Files) (events : List Event) (s : Carried) (old : Holdings) (k 
 
 -- ---- whatever is kept
 
+at_least_none : (events : List Event) (left files image : Files) (r : ArchiveReading) → ComesBack (start_of files r left) (scan r ++ items_by events) (length (scan r) + acknowledged_by events) image → ComesBack (start_of files r left) (scan r ++ items_by events) 0 image
+at_least_none events left files image r comes = fewer (start_of files r left) (scan r ++ items_by events) (length (scan r) + acknowledged_by events) 0 image (omega arith) comes
+
 module _ (left : Files) (limit : ℕ) (events : List Event) (held : Holdings) where
   place_comes : (stand : Stand) (place : Place) → IsPlace left limit events stand place held → (image : Files) → CrashImage held image → ComesBackBy events left image
   place_comes (Stand.found files) (Found archive) is image crash = untouched_comes left events files held is.1 image (standing_comes held [] image (same_files held is.1.sure image crash))
@@ -228,6 +234,17 @@ module _ (left : Files) (limit : ℕ) (events : List Event) (held : Holdings) wh
   place_comes (Stand.opened w) (Found archive) is image crash = absurd is
   place_comes (Stand.opened w) Lost is image crash = absurd is
   place_comes (Stand.opened w) Failed is image crash = absurd is
+
+  place_counts : (stand : Stand) (place : Place) → IsPlace left limit events stand place held → (files image : Files) (r : ArchiveReading) → CrashImage held image → Reads files r → Recovers files r left
+      → ComesBack (start_of files r left) (scan r ++ items_by events) (sure_in place) image
+  place_counts (Stand.found f) (Found archive) is files image r crash reads recovered = at_least_none events left files image r (place_comes (Stand.found f) (Found archive) is image crash files r reads recovered)
+  place_counts (Stand.found f) Lost is files image r crash reads recovered = at_least_none events left files image r (place_comes (Stand.found f) Lost is image crash files r reads recovered)
+  place_counts (Stand.found f) (Open kept) is files image r crash reads recovered = absurd is
+  place_counts (Stand.found f) Failed is files image r crash reads recovered = absurd is
+  place_counts (Stand.opened w) (Open kept) is files image r crash reads recovered = going_counts left limit events w kept held is files image r crash reads recovered
+  place_counts (Stand.opened w) (Found archive) is files image r crash reads recovered = absurd is
+  place_counts (Stand.opened w) Lost is files image r crash reads recovered = absurd is
+  place_counts (Stand.opened w) Failed is files image r crash reads recovered = absurd is
 
   place_files : (stand : Stand) (place : Place) → IsPlace left limit events stand place held → contents_of held ≡ files_of stand
   place_files (Stand.found files) (Found archive) is = is.1.stands ∙ sym is.1.same
@@ -266,6 +283,9 @@ no_item (x ∷ items) none = absurd (omega (arith, none))
 module _ (left : Files) (events : List Event) (s : Carried) (held : Holdings) (k : Keeps left events s held) where
   pub kept_comes : (image : Files) → CrashImage held image → ComesBackBy events left image
   kept_comes image crash = place_comes left s.limit events held k.stand s.place k.place image crash
+
+  pub kept_counts : (files image : Files) (r : ArchiveReading) → CrashImage held image → Reads files r → Recovers files r left → ComesBack (start_of files r left) (scan r ++ items_by events) (sure_in s.place) image
+  kept_counts files image r crash reads recovered = place_counts left s.limit events held k.stand s.place k.place files image r crash reads recovered
 
   pub kept_files : (file : FileId) → contents_of held file ≡ files_of k.stand file
   kept_files file = ap (λ (f : Files). f file) (place_files left s.limit events held k.stand s.place k.place)

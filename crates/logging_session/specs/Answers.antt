@@ -1,15 +1,22 @@
 -- What the calls of a session answer, what stands after each answer, and what a crash leaves meanwhile.
-use Rattle.std.specs.Prelude.{◌≡◌, ◌⊎◌, ℕ, List, ◌++◌}
+use Rattle.std.specs.Prelude.{◌≡◌, ◌⊎◌, ℕ, ◌+◌, Bool, true, false, List, ◌++◌}
 use Rattle.pcp_base.specs.declared.result.Item.{Item}
 use Rattle.pcp_model.specs.Disk.{Files, Holdings}
-use Rattle.pcp_outside.specs.Causes.{Rose}
+use Rattle.pcp_model.specs.Payload.{payload_length}
+use Rattle.pcp_outside.specs.Causes.{Rose, shown_count}
 use Rattle.pcp_outside.specs.Devices.{LeavesOnly}
 use Rattle.pcp_outside.specs.declared.disk.Disk.{Ghosts as DiskGhosts}
+use Rattle.logger_core.specs.declared.ends.Ends.{Ends}
 use Rattle.logger_core.specs.declared.fault.LogFault.{LogFault}
 use Rattle.logger_core.specs.declared.fault.LogFault.TheVariants.{Closed, Large, NotLater, Changed, Full, NoMemory, DiskFault}
+use Rattle.logger_core.specs.Logging.{IsLoggable, IsRefused}
+use Rattle.logger_core.specs.LogSteps.{crosses}
+use Rattle.logging_session.specs.declared.place.Place.{Place}
+use Rattle.logging_session.specs.declared.place.Place.TheVariants.{Found, Open}
 use Rattle.logging_session.specs.ComingBack.{ComesBackTo}
 use Rattle.logging_session.specs.Events.{Event, LeadFrom, acknowledged_by, items_by, opening}
 use Rattle.logging_session.specs.Keeping.{Carried, IsClosed, IsFailed, IsFound, IsLost, IsOpen, IsWorking, Keeps}
+use Rattle.logging_session.specs.Opening.{MayWantMemory}
 use Rattle.logging_session.specs.Written.{Refuses, Report, Stand, Takes, Written}
 
 -- A crash leaves the items of the start and the first ones of these events, all that they acknowledge among them
@@ -54,13 +61,40 @@ module _ {D : Type 0} (d : DiskGhosts D) (left : Files) (events : List Event) (r
 abbrev pub StaysOpen : Carried → Carried → Type 0
 StaysOpen old new = IsWorking old × IsOpen new × (IsOpen old → new ≡ old)
 
+-- the logger that goes on with the archive turns the result away for this reason
+abbrev pub IsFor : Place → Report → LogFault → Type 0
+IsFor (Open kept) r fault = IsRefused kept.records kept.ends kept.limit r.result r.facts fault
+IsFor place r fault = ⊥
+
+-- where one goes on with it, it may log the result
+abbrev pub MayTake : Place → Report → Type 0
+MayTake (Open kept) r = IsLoggable kept.records kept.ends kept.limit r.result r.facts
+MayTake place r = Unit {0}
+
+-- the archive that recovery left may want memory to be opened
+abbrev pub WantsMemory : Place → Type 0
+WantsMemory (Found archive) = MayWantMemory archive
+WantsMemory place = ⊥
+
 -- Which refusal `log` answers of a session, and what it leaves of it: only a fault of the disk, whose count then rose, and want of memory
--- while the archive is opened end the session.
-abbrev pub LogMayAnswer : Carried → Carried → ℕ → ℕ → LogFault → Type 0
-LogMayAnswer old new before after Closed = IsClosed old × (new ≡ old)
-LogMayAnswer old new before after NoMemory = (IsFound old × IsLost new) ⊎ StaysOpen old new
-LogMayAnswer old new before after DiskFault = IsWorking old × IsFailed new × Rose before after
-LogMayAnswer old new before after fault = StaysOpen old new
+-- while the archive is opened end the session. What turns a result away has its cause in the logger that then stands.
+abbrev pub LogMayAnswer : Report → Carried → Carried → ℕ → ℕ → LogFault → Type 0
+LogMayAnswer r old new before after Closed = IsClosed old × (new ≡ old)
+LogMayAnswer r old new before after NoMemory = (IsFound old × IsLost new × WantsMemory old.place) ⊎ StaysOpen old new
+LogMayAnswer r old new before after DiskFault = IsWorking old × IsFailed new × Rose before after
+LogMayAnswer r old new before after fault = StaysOpen old new × IsFor new.place r fault
+
+-- How a logger's numbers go on with a result: where its record crosses the volume limit the next volume is written, and all that was
+-- logged before is acknowledged; else the volume is the same one, and as many are.
+abbrev pub CountsBy : Bool → Ends → Ends → Type 0
+CountsBy true old new = (new.volume ≡ old.volume + 1) × (new.acknowledged ≡ old.logged) × (new.logged ≡ shown_count (old.logged + 1))
+CountsBy false old new = (new.volume ≡ old.volume) × (new.acknowledged ≡ old.acknowledged) × (new.logged ≡ shown_count (old.logged + 1))
+
+-- So many are acknowledged exactly: of an archive that is opened for the result, all others.
+abbrev pub CountsOn : Report → Place → Place → Type 0
+CountsOn r (Open old) (Open new) = CountsBy (crosses old.limit old.ends.length (payload_length r.result + 8)) old.ends new.ends
+CountsOn r (Found archive) (Open new) = new.ends.logged ≡ shown_count (new.ends.acknowledged + 1)
+CountsOn r old new = Unit {0}
 
 -- a flush, a sync or the close is refused where the session is closed, or by the disk, which closes it
 abbrev pub FlushMayAnswer : Carried → Carried → ℕ → ℕ → LogFault → Type 0
@@ -73,15 +107,21 @@ FlushMayAnswer old new before after fault = ⊥
 -- the archive is opened, where it wasn't
 abbrev pub OpenMayAnswer : Carried → Carried → ℕ → ℕ → LogFault → Type 0
 OpenMayAnswer old new before after Closed = IsClosed old × (new ≡ old)
-OpenMayAnswer old new before after NoMemory = IsFound old × IsLost new
+OpenMayAnswer old new before after NoMemory = IsFound old × IsLost new × WantsMemory old.place
 OpenMayAnswer old new before after DiskFault = IsFound old × IsFailed new × Rose before after
 OpenMayAnswer old new before after fault = ⊥
 
+-- all that it has is acknowledged
+abbrev pub CountsAll : Place → Type 0
+CountsAll (Open kept) = kept.ends.acknowledged ≡ kept.ends.logged
+CountsAll place = Unit {0}
+
 -- and then is handed the result
-abbrev pub TakeMayAnswer : Carried → Carried → ℕ → ℕ → LogFault → Type 0
-TakeMayAnswer old new before after Closed = ⊥
-TakeMayAnswer old new before after DiskFault = IsFailed new × Rose before after
-TakeMayAnswer old new before after fault = new ≡ old
+abbrev pub TakeMayAnswer : Report → Carried → Carried → ℕ → ℕ → LogFault → Type 0
+TakeMayAnswer r old new before after Closed = ⊥
+TakeMayAnswer r old new before after DiskFault = IsFailed new × Rose before after
+TakeMayAnswer r old new before after NoMemory = new ≡ old
+TakeMayAnswer r old new before after fault = (new ≡ old) × IsFor old.place r fault
 
 -- an archive that is open refuses the result, or the disk failed while it was taking it
 abbrev pub TakeFails : Stand → ℕ → Report → LogFault → Type 0

@@ -26,13 +26,8 @@ abbrev pub ComesBackTo : List Item → ℕ → Files → Files → Type 0
 ComesBackTo more k left image =
     (files : Files) (r : ArchiveReading) → Reads files r → Recovers files r left → ComesBack (start_of files r left) (scan r ++ more) (length (scan r) + k) image
 
--- what a crash leaves at any moment of a run that began over these files, on a settled disk
-abbrev pub MayBeAfter : List Item → Holdings → Files → Type 0
-MayBeAfter more held image =
+-- what a crash leaves at any moment from these files on, on a settled disk, with at least k of those more
+abbrev pub MayBeAfter : List Item → ℕ → Holdings → Files → Type 0
+MayBeAfter more k held image =
     IsSettled held → (r : ArchiveReading) → Reads (contents_of held) r → (left : Files) → Recovers (contents_of held) r left
-    → ComesBack (start_of (contents_of held) r left) (scan r ++ more) (length (scan r)) image
-
--- what a crash leaves after a run over these files
-abbrev pub IsAllAfter : List Item → Files → Files → Type 0
-IsAllAfter more start image =
-    (r : ArchiveReading) → Reads start r → (left : Files) → Recovers start r left → ComesBack (start_of start r left) (scan r ++ more) (length (scan r ++ more)) image
+    → ComesBack (start_of (contents_of held) r left) (scan r ++ more) (length (scan r) + k) image

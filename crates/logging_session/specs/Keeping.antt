@@ -1,6 +1,6 @@
 -- What a session keeps of its archive, and what the disk then holds: what recovery left, until it is opened, and from then on a logger
 -- of what was opened.
-use Rattle.std.specs.Prelude.{◌≡◌, ◌⊎◌, ℕ, ◌+◌, ◌≤◌, false, List, [], ◌++◌, length, Contains}
+use Rattle.std.specs.Prelude.{◌≡◌, ◌⊎◌, ℕ, ◌+◌, ◌≤◌, false, List, [], ◌++◌, length, Contains, None}
 use Rattle.std.specs.List.{AllByRecursion}
 use Rattle.pcp_base.specs.declared.file.FileId.{FileId}
 use Rattle.pcp_base.specs.declared.result.Item.{Item}
@@ -101,6 +101,14 @@ HasFound place = ⊥
 -- the archive isn't opened yet
 abbrev pub IsFound : Carried → Type 0
 IsFound s = HasFound s.place
+
+-- and has a label, so that it is opened as it stands
+abbrev pub HasLabel : Place → Type 0
+HasLabel (Found archive) = archive.label ≡ None → ⊥
+HasLabel place = ⊥
+
+abbrev pub IsLabelled : Carried → Type 0
+IsLabelled s = HasLabel s.place
 
 abbrev pub HasLogger : Place → Type 0
 HasLogger (Open kept) = Unit {0}

@@ -9,5 +9,8 @@ mod opening;
 mod place;
 mod session;
 
-pub use laws::{fewer_come_back, kept_files_are_led, kept_files_are_whole, kept_sessions_survive};
+pub use laws::{
+    fewer_come_back, kept_counts_survive, kept_files_are_led, kept_files_are_whole,
+    kept_sessions_survive, recovered_come_back,
+};
 pub use session::Session;

@@ -1,5 +1,5 @@
 //! The archive that a session goes on with: what recovery left, or where it left no label a new one.
-ghost use Rattle.std.specs.Prelude.{◌≡◌, ◌≤◌, false, [], IfOk, IfErr};
+ghost use Rattle.std.specs.Prelude.{◌≡◌, ◌≤◌, false, [], None as Nothing, IfOk, IfErr};
 ghost use Rattle.pcp_model.specs.Disk.{IsEmpty, contents_of};
 ghost use Rattle.pcp_outside.specs.Devices.{LeavesOnly};
 ghost use Rattle.logger_core.specs.declared.fault.LogFault.TheVariants.{NoMemory as Refused};
@@ -8,7 +8,7 @@ ghost use Rattle.logger_core.specs.Refusals.{CreateMayAnswer};
 ghost use Rattle.logger_core.specs.Reopening.{IsLeft};
 ghost use Rattle.logging_session.specs.Written.{starting};
 ghost use Rattle.logging_session.specs.ComingBack.{ComesBackTo};
-ghost use Rattle.logging_session.specs.Opening.{IsOpened};
+ghost use Rattle.logging_session.specs.Opening.{IsOpened, MayWantMemory};
 
 use crate::label::label_at;
 use archive_frame::Label;
@@ -52,6 +52,8 @@ pub(crate) fn open<D: Disk>(
     ensures open_ { IfOk result (λ l. (l.closed ≡ false) × (l.limit ≡ limit)) }
     ensures any_moment { D.tells → IsLeft archive (D.held disk.old) → LeavesOnly D.moment D.left_since disk.old disk.new (ComesBackTo [] 0 (contents_of (D.held disk.old))) }
     ensures fault { IfErr result (λ e. CreateMayAnswer (D.faults disk.old) (D.faults disk.new) e) }
+    ensures cause { IfErr result (λ e. e ≡ Refused → MayWantMemory archive) }
+    ensures labelled { (archive.label ≡ Nothing → ⊥) → disk.new ≡ disk.old }
     ensures untouched { IfErr result (λ e. e ≡ Refused → disk.new ≡ disk.old) }
     ensures later { D.faults disk.old ≤ D.faults disk.new }
 {

@@ -1,5 +1,5 @@
 //! A session, and its calls.
-ghost use Rattle.std.specs.Prelude.{◌≡◌, ◌≢◌, ◌+◌, ◌<◌, ◌≤◌, ◌++◌, ◌∷◌, [], length, List as Sequence, true, false, Err, Ok, IfErr, OnErr, OnOk};
+ghost use Rattle.std.specs.Prelude.{◌≡◌, ◌≢◌, ◌⊎◌, ◌+◌, ◌<◌, ◌≤◌, ◌++◌, ◌∷◌, [], length, List as Sequence, true, false, Err, Ok, IfErr, OnErr, OnOk};
 ghost use Rattle.std.specs.List.{AllByRecursion};
 ghost use Rattle.pcp_base.specs.Results.{Fits};
 ghost use Rattle.pcp_base.specs.declared.result.Item.TheVariants.{Sample};
@@ -9,9 +9,9 @@ ghost use Rattle.pcp_outside.specs.Devices.{LeavesOnly};
 ghost use Rattle.archive_meta.specs.Enough.{AreEnough};
 ghost use Rattle.logger_core.specs.declared.fault.LogFault.TheVariants.{Closed, DiskFault, NoMemory as Refused};
 ghost use Rattle.logger_core.specs.Reopening.{IsLeft};
-ghost use Rattle.logging_session.specs.Answers.{ComesBackBy, ComesBackWith, FlushMayAnswer, LeavesNone, LogFails, LogMayAnswer, OpenMayAnswer, TakeFails, TakeMayAnswer};
+ghost use Rattle.logging_session.specs.Answers.{ComesBackBy, ComesBackWith, CountsAll, CountsOn, FlushMayAnswer, LeavesNone, LogFails, LogMayAnswer, MayTake, OpenMayAnswer, TakeFails, TakeMayAnswer};
 ghost use Rattle.logging_session.specs.Events.{Event, behind, closing, opening, with_report};
-ghost use Rattle.logging_session.specs.Keeping.{AreWhole, IsClosed, IsFailed, IsFound, IsOpen, IsWorking, Keeps};
+ghost use Rattle.logging_session.specs.Keeping.{AreWhole, IsClosed, IsFailed, IsFound, IsLabelled, IsLost, IsOpen, IsWorking, Keeps};
 
 use crate::opening::open;
 use crate::place::Place;
@@ -83,6 +83,9 @@ impl Session {
             → LeavesOnly D.moment D.left_since disk.old disk.new (ComesBackBy events left) }
         ensures refused { D.tells → (left : AllFiles) (events : Sequence Event) → Keeps left events self.old (D.held disk.old)
             → IfErr result (λ e. e ≢ DiskFault → Keeps left events self.new (D.held disk.new)) }
+        ensures counts { D.tells → (left : AllFiles) (events : Sequence Event) → Keeps left events self.old (D.held disk.old) → OnOk result (CountsAll self.new.place) }
+        ensures labelled { IsLabelled self.old → disk.new ≡ disk.old }
+        ensures untouched { IfErr result (λ e. e ≢ DiskFault → disk.new ≡ disk.old) }
         ensures open_ { OnOk result (IsOpen self.new) }
         ensures cause { IfErr result (OpenMayAnswer self.old self.new (D.faults disk.old) (D.faults disk.new)) }
         ensures same { (self.new.label ≡ self.old.label) × (self.new.limit ≡ self.old.limit) × (self.new.logged ≡ self.old.logged) }
@@ -122,6 +125,9 @@ impl Session {
             → IfErr result (λ e. e ≢ DiskFault → Keeps left events self.new (D.held disk.new)) }
         ensures closed { IsClosed self.old → (result ≡ Err Closed) × (self.new ≡ self.old) × (disk.new ≡ disk.old) }
         ensures stays { IsOpen self.old → (result ≡ Ok tt) × (self.new ≡ self.old) × (disk.new ≡ disk.old) }
+        ensures counts { IsFound self.old → D.tells → (left : AllFiles) (events : Sequence Event) → Keeps left events self.old (D.held disk.old) → OnOk result (CountsAll self.new.place) }
+        ensures labelled { IsLabelled self.old → disk.new ≡ disk.old }
+        ensures untouched { IfErr result (λ e. e ≢ DiskFault → disk.new ≡ disk.old) }
         ensures open_ { OnOk result (IsWorking self.old × IsOpen self.new) }
         ensures cause { IfErr result (OpenMayAnswer self.old self.new (D.faults disk.old) (D.faults disk.new)) }
         ensures same { (self.new.label ≡ self.old.label) × (self.new.limit ≡ self.old.limit) × (self.new.logged ≡ self.old.logged) }
@@ -153,8 +159,11 @@ impl Session {
         ensures fault { D.tells → AreEnough facts.now answer.now.sets → (left : AllFiles) (events : Sequence Event) → (k : Keeps left events self.old (D.held disk.old))
             → IfErr result (TakeFails k.stand self.old.limit (record { result = answer.now; facts = facts.now })) }
         ensures untouched { IfErr result (λ e. e ≢ DiskFault → disk.new ≡ disk.old) }
+        ensures counts { D.tells → AreEnough facts.now answer.now.sets → (left : AllFiles) (events : Sequence Event) → Keeps left events self.old (D.held disk.old)
+            → OnOk result (CountsOn (record { result = answer.now; facts = facts.now }) self.old.place self.new.place) }
+        ensures loggable { OnOk result (MayTake self.old.place (record { result = answer.now; facts = facts.now })) }
         ensures open_ { OnOk result (IsOpen self.new) }
-        ensures cause { IfErr result (TakeMayAnswer self.old self.new (D.faults disk.old) (D.faults disk.new)) }
+        ensures cause { IfErr result (TakeMayAnswer (record { result = answer.now; facts = facts.now }) self.old self.new (D.faults disk.old) (D.faults disk.new)) }
         ensures counted { OnOk result (self.new.logged ≡ shown_count (self.old.logged + 1)) }
         ensures uncounted { OnErr result (self.new.logged ≡ self.old.logged) }
         ensures same { (self.new.label ≡ self.old.label) × (self.new.limit ≡ self.old.limit) }
@@ -202,10 +211,17 @@ impl Session {
         // What stands after each refusal: what was opened for the result stays open.
         ensures fault { D.tells → AreEnough facts.now answer.now.sets → (left : AllFiles) (events : Sequence Event) → Keeps left events self.old (D.held disk.old)
             → IfErr result (LogFails left events (record { result = answer.now; facts = facts.now }) self.old self.new (D.held disk.new)) }
+        // Nothing is touched by a refusal but to make the archive, where there was none, which then stays open.
+        ensures untouched { IfErr result (λ e. e ≢ DiskFault → (IsOpen self.old ⊎ IsLost self.new ⊎ IsLabelled self.old) → disk.new ≡ disk.old) }
         // A closed session answers so, and touches nothing.
         ensures closed { IsClosed self.old → (result ≡ Err Closed) × (self.new ≡ self.old) × (disk.new ≡ disk.old) }
+        // It isn't acknowledged: as many are as before, or all earlier ones where the next volume was opened.
+        ensures counts { D.tells → AreEnough facts.now answer.now.sets → (left : AllFiles) (events : Sequence Event) → Keeps left events self.old (D.held disk.old)
+            → OnOk result (CountsOn (record { result = answer.now; facts = facts.now }) self.old.place self.new.place) }
+        // Of an open session Ok comes only for a result that may be logged.
+        ensures loggable { OnOk result (MayTake self.old.place (record { result = answer.now; facts = facts.now })) }
         ensures open_ { OnOk result (IsWorking self.old × IsOpen self.new) }
-        ensures cause { IfErr result (LogMayAnswer self.old self.new (D.faults disk.old) (D.faults disk.new)) }
+        ensures cause { IfErr result (LogMayAnswer (record { result = answer.now; facts = facts.now }) self.old self.new (D.faults disk.old) (D.faults disk.new)) }
         ensures counted { OnOk result (self.new.logged ≡ shown_count (self.old.logged + 1)) }
         ensures uncounted { OnErr result (self.new.logged ≡ self.old.logged) }
         ensures same { (self.new.label ≡ self.old.label) × (self.new.limit ≡ self.old.limit) }
@@ -297,6 +313,7 @@ impl Session {
         // Where nothing was logged nothing is done.
         ensures idle { self.old.logged ≡ 0 → (IsFailed self.old → ⊥) → (result ≡ Ok tt) × (self.new ≡ self.old) × (disk.new ≡ disk.old) }
         ensures open_ { OnOk result (IsFailed self.new → ⊥) }
+        ensures stays { OnOk result (IsOpen self.old → IsOpen self.new) }
         ensures cause { IfErr result (FlushMayAnswer self.old self.new (D.faults disk.old) (D.faults disk.new)) }
         ensures same { (self.new.label ≡ self.old.label) × (self.new.limit ≡ self.old.limit) × (self.new.logged ≡ self.old.logged) }
         ensures later { D.faults disk.old ≤ D.faults disk.new }

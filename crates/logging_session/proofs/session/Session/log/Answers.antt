@@ -1,22 +1,28 @@
 -- The archive is opened, and handed the result.
-use Rattle.std.proofs.Common.{◌≡◌, ◌≢◌, inl, [], ◌∷◌, Result, Ok, Err, ap}
-use Rattle.std.specs.Prelude.{IfErr}
+use Rattle.std.proofs.Common.{◌≡◌, ◌≢◌, ◌⊎◌, ⊎_elim, ◌∙◌, inl, [], ◌∷◌, Result, Ok, Err, ap}
+use Rattle.std.specs.Prelude.{IfErr, OnOk}
 use Rattle.pcp_base.specs.declared.result.Item.TheVariants.{Sample}
 use Rattle.pcp_outside.proofs.Crash.{weaker}
 use Rattle.logger_core.specs.declared.fault.LogFault.{LogFault}
 use Rattle.logger_core.specs.declared.fault.LogFault.TheVariants.{DiskFault}
 use Rattle.logger_core.proofs.Calls.{run_then}
 use Rattle.logger_core.proofs.Keeping.{handed_on}
-use Rattle.logging_session.specs.Answers.{ComesBackBy, ComesBackWith, LeavesNone, LogFails, LogMayAnswer, TakeFails, TakeMayAnswer}
+use Rattle.logging_session.specs.Answers.{ComesBackBy, ComesBackWith, CountsOn, LeavesNone, LogFails, LogMayAnswer, MayTake, TakeFails, TakeMayAnswer}
 use Rattle.logging_session.specs.Events.{opening}
-use Rattle.logging_session.specs.Keeping.{Keeps}
+use Rattle.logging_session.specs.Keeping.{Carried, IsLabelled, IsLost, IsOpen, Keeps}
 use Rattle.logging_session.specs.Written.{Report}
-use Rattle.logging_session.proofs.Logging.{by_then, leaves_none, log_fails, open_fails, open_may, take_may, with_then}
+use Rattle.logging_session.proofs.Logging.{by_then, leaves_none, log_fails, open_fails, open_may, take_may, take_not_lost, with_then}
+use Rattle.logging_session.proofs.Counting.{counted_from}
+use Rattle.logging_session.proofs.Placed.{taken_before}
 use Rattle.logging_session.proofs.session.Session.log.Goals as goal
 
 every_err : {T E : Type 0} (r : Result T E) (Q : E → Type 0) → ((e : E) → Q e) → IfErr r Q
 every_err (Ok v) Q each = tt
 every_err (Err e) Q each = each e
+
+on_ok : {T E : Type 0} (r : Result T E) (P Q : Type 0) → (P → Q) → OnOk r P → OnOk r Q
+on_ok (Ok v) P Q f p = f p
+on_ok (Err e) P Q f p = tt
 
 both_err : {T E : Type 0} (r : Result T E) (P Q R : E → Type 0) → ((e : E) → P e → Q e → R e) → IfErr r P → IfErr r Q → IfErr r R
 both_err (Ok v) P Q R f p q = tt
@@ -48,12 +54,52 @@ returns-in_err-open_for-clause-fault g c = λ tells enough left events k.
 
 pub returns-in_err-open_for-clause-cause : goal.returns-in_err-open_for-clause-cause
 returns-in_err-open_for-clause-cause g c =
+    let r : Report = record { result = c.args.answer.now; facts = c.args.facts.now } in
     let d = g.D.Disk in
     let e = c.in_err-open_for.field-0.0 in
     let before = d.faults c.args.disk.now in
     let after = d.faults c.open_for.new.disk in
-    handed_on c.from_residual.result e (λ f. LogMayAnswer c.args.self.now c.open_for.new.self before after f) c.from_residual.ensures.1
-    (open_may c.args.self.now c.open_for.new.self before after e c.in_err-open_for.ensures.cause)
+    handed_on c.from_residual.result e (λ f. LogMayAnswer r c.args.self.now c.open_for.new.self before after f) c.from_residual.ensures.1
+    (open_may r c.args.self.now c.open_for.new.self before after e c.in_err-open_for.ensures.cause)
+
+pub returns-in_err-open_for-clause-untouched : goal.returns-in_err-open_for-clause-untouched
+returns-in_err-open_for-clause-untouched g c =
+    let e = c.in_err-open_for.field-0.0 in
+    handed_on c.from_residual.result e (λ f. f ≢ DiskFault → (IsOpen c.args.self.now ⊎ IsLost c.open_for.new.self ⊎ IsLabelled c.args.self.now) → c.open_for.new.disk ≡ c.args.disk.now) c.from_residual.ensures.1
+    (λ other h. c.in_err-open_for.ensures.untouched other)
+
+pub returns-clause-untouched : goal.returns-clause-untouched
+returns-clause-untouched g c =
+    let r : Report = record { result = c.args.answer.now; facts = c.args.facts.now } in
+    let d = g.D.Disk in
+    let old = c.args.self.now in
+    let middle = c.open_for.new.self in
+    let new = c.take.new.self in
+    let first = c.args.disk.now in
+    let mid = c.open_for.new.disk in
+    let last = c.take.new.disk in
+    both_err c.take.result (λ (e : LogFault). TakeMayAnswer r middle new (d.faults mid) (d.faults last) e) (λ (e : LogFault). e ≢ DiskFault → last ≡ mid) (λ (e : LogFault). e ≢ DiskFault → (IsOpen old ⊎ IsLost new ⊎ IsLabelled old) → last ≡ first)
+    (λ e may still other h. ⊎_elim (λ (was : IsOpen old). still other ∙ (c.open_for.ensures.stays was).2)
+    (λ (rest : IsLost new ⊎ IsLabelled old). ⊎_elim (λ (lost : IsLost new). take_not_lost r middle new (d.faults mid) (d.faults last) e c.in_ok-open_for.ensures.open_.1 may other lost)
+    (λ (labelled : IsLabelled old). still other ∙ c.open_for.ensures.labelled labelled) rest) h)
+    c.take.ensures.cause c.take.ensures.untouched
+
+pub returns-clause-loggable : goal.returns-clause-loggable
+returns-clause-loggable g c =
+    let r : Report = record { result = c.args.answer.now; facts = c.args.facts.now } in
+    let old = c.args.self.now in
+    let middle = c.open_for.new.self in
+    on_ok c.take.result (MayTake middle.place r) (MayTake old.place r) (taken_before old.place middle.place r (λ was. ap (λ (t : Carried). t.place) (c.open_for.ensures.stays was).1)) c.take.ensures.loggable
+
+pub returns-clause-counts : goal.returns-clause-counts
+returns-clause-counts g c = λ tells enough left events k.
+    let r : Report = record { result = c.args.answer.now; facts = c.args.facts.now } in
+    let old = c.args.self.now in
+    let middle = c.open_for.new.self in
+    let new = c.take.new.self in
+    on_ok c.take.result (CountsOn r middle.place new.place) (CountsOn r old.place new.place)
+    (counted_from old.place middle.place new.place r (λ was. ap (λ (t : Carried). t.place) (c.open_for.ensures.stays was).1) c.in_ok-open_for.ensures.open_.1 (λ found. c.in_ok-open_for.ensures.counts found tells left events k))
+    (c.take.ensures.counts tells enough left (opening c.args.answer.now.stamp events) (c.in_ok-open_for.ensures.done tells left events k))
 
 pub returns-clause-done : goal.returns-clause-done
 returns-clause-done g c = λ tells enough left events k. c.take.ensures.done tells enough left (opening c.args.answer.now.stamp events) (c.in_ok-open_for.ensures.done tells left events k)
@@ -92,18 +138,19 @@ returns-clause-fault g c = λ tells enough left events k.
     let before = d.faults mid in
     let after = d.faults last in
     let opened : Keeps left es middle (d.held mid) = c.in_ok-open_for.ensures.done tells left events k in
-    three_err c.take.result (λ (e : LogFault). TakeMayAnswer middle c.take.new.self before after e) (λ (e : LogFault). e ≢ DiskFault → last ≡ mid) (λ (e : LogFault). TakeFails opened.stand middle.limit r e)
+    three_err c.take.result (λ (e : LogFault). TakeMayAnswer r middle c.take.new.self before after e) (λ (e : LogFault). e ≢ DiskFault → last ≡ mid) (λ (e : LogFault). TakeFails opened.stand middle.limit r e)
     (λ (e : LogFault). LogFails left events r c.args.self.now c.take.new.self (d.held last) e)
     (λ e may still fails. log_fails left events r middle c.take.new.self (d.held mid) (d.held last) opened c.in_ok-open_for.ensures.open_.1 c.args.self.now before after e may (λ other. ap d.held (still other)) fails)
     c.take.ensures.cause c.take.ensures.untouched (c.take.ensures.fault tells enough left es opened)
 
 pub returns-clause-cause : goal.returns-clause-cause
 returns-clause-cause g c =
+    let r : Report = record { result = c.args.answer.now; facts = c.args.facts.now } in
     let d = g.D.Disk in
     let middle = c.open_for.new.self in
     let before = d.faults c.open_for.new.disk in
     let after = d.faults c.take.new.disk in
     let start = d.faults c.args.disk.now in
     let o = c.in_ok-open_for.ensures.open_ in
-    both_err c.take.result (λ (e : LogFault). TakeMayAnswer middle c.take.new.self before after e) (λ (e : LogFault). TakeMayAnswer middle c.take.new.self before after e) (λ (e : LogFault). LogMayAnswer c.args.self.now c.take.new.self start after e)
-    (λ e may also. take_may c.args.self.now middle c.take.new.self start before after e o.0 o.1 (λ was. (c.open_for.ensures.stays was).1) c.open_for.ensures.later may) c.take.ensures.cause c.take.ensures.cause
+    both_err c.take.result (λ (e : LogFault). TakeMayAnswer r middle c.take.new.self before after e) (λ (e : LogFault). TakeMayAnswer r middle c.take.new.self before after e) (λ (e : LogFault). LogMayAnswer r c.args.self.now c.take.new.self start after e)
+    (λ e may also. take_may r c.args.self.now middle c.take.new.self start before after e o.0 o.1 (λ was. (c.open_for.ensures.stays was).1) c.open_for.ensures.later may) c.take.ensures.cause c.take.ensures.cause

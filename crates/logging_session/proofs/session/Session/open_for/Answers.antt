@@ -5,7 +5,7 @@ use Rattle.logger_core.proofs.Calls.{no_call}
 use Rattle.logging_session.specs.declared.place.Place.TheVariants.{Found, Open, Lost, Failed}
 use Rattle.logging_session.specs.Answers.{ComesBackBy}
 use Rattle.logging_session.specs.Keeping.{IsOpen, IsWorking, Carried}
-use Rattle.logging_session.proofs.Placed.{failed_closed, failed_not_open, found_is, found_not_closed, found_not_open, lost_closed, lost_not_open, open_is, open_not_closed, same_count}
+use Rattle.logging_session.proofs.Placed.{failed_closed, failed_not_open, found_is, found_not_closed, found_not_open, lost_closed, lost_not_open, open_is, open_not_closed, open_not_found, same_count}
 use Rattle.logging_session.proofs.Sessions.{kept_comes, opens_no_more}
 use Rattle.logging_session.proofs.session.Session.open_for.Goals as goal
 
@@ -32,6 +32,9 @@ returns-in-Found g c =
       refused = λ tells left events k. c.open_found.ensures.refused tells left events k;
       closed = λ h. found_not_closed old a was h;
       stays = λ h. found_not_open old a was h;
+      counts = λ found tells left events k. c.open_found.ensures.counts tells left events k;
+      labelled = c.open_found.ensures.labelled;
+      untouched = c.open_found.ensures.untouched;
       open_ = on_ok c.open_found.result (IsOpen c.open_found.new.self) (IsWorking old × IsOpen c.open_found.new.self) (λ open_. (inl (found_is old a was), open_)) c.open_found.ensures.open_;
       cause = c.open_found.ensures.cause;
       same = c.open_found.ensures.same;
@@ -53,6 +56,9 @@ returns-in-Open g c =
       refused = λ tells left events k. tt;
       closed = λ h. open_not_closed old logger was h;
       stays = λ h. (refl, refl, refl);
+      counts = λ found tells left events k. open_not_found old logger was found;
+      labelled = λ h. refl;
+      untouched = tt;
       open_ = (inr (open_is old logger was), open_is old logger was);
       cause = tt;
       same = (refl, refl, refl);
@@ -73,6 +79,9 @@ returns-in-Lost g c =
       refused = λ tells left events k other. k;
       closed = λ h. (refl, refl, refl);
       stays = λ h. lost_not_open old was h;
+      counts = λ found tells left events k. tt;
+      labelled = λ h. refl;
+      untouched = λ other. refl;
       open_ = tt;
       cause = (lost_closed old was, refl);
       same = (refl, refl, refl);
@@ -93,6 +102,9 @@ returns-in-Failed g c =
       refused = λ tells left events k other. k;
       closed = λ h. (refl, refl, refl);
       stays = λ h. failed_not_open old was h;
+      counts = λ found tells left events k. tt;
+      labelled = λ h. refl;
+      untouched = λ other. refl;
       open_ = tt;
       cause = (failed_closed old was, refl);
       same = (refl, refl, refl);

@@ -3,9 +3,11 @@ use Rattle.std.proofs.Common.{◌≡◌, [], sym, ap, ◌∙◌, subst}
 use Rattle.pcp_model.specs.Disk.{contents_of}
 use Rattle.pcp_outside.proofs.Crash.{weaker}
 use Rattle.logging_session.specs.declared.place.Place.TheVariants.{Found, Lost}
-use Rattle.logging_session.specs.Answers.{ComesBackBy}
+use Rattle.logging_session.specs.Answers.{ComesBackBy, WantsMemory}
 use Rattle.logging_session.specs.ComingBack.{ComesBackTo}
-use Rattle.logging_session.specs.Keeping.{Carried, Keeps}
+use Rattle.logging_session.specs.Keeping.{Carried, HasLabel, Keeps}
+use Rattle.logging_session.specs.Written.{starting}
+use Rattle.logging_session.proofs.Counting.{opened_counts}
 use Rattle.logging_session.proofs.Placed.{failed_is, found_is, lost_answers, open_answers, open_rose}
 use Rattle.logging_session.proofs.Sessions.{found_comes, loses, opens, when_found, with_place}
 use Rattle.logging_session.proofs.session.Session.open_found.Goals as goal
@@ -27,6 +29,9 @@ returns-in-Ok g c =
       any_moment = λ tells left events k.
           weaker d.moment d.left_since d.held c.args.disk.now c.open.new.disk (ComesBackTo [] 0 (contents_of held)) (ComesBackBy events left) (c.open.ensures.any_moment tells (when_found left events old held k a was).0) (found_comes left events old held k a was);
       refused = λ tells left events k. tt;
+      counts = λ tells left events k. opened_counts (starting s.label c.args.stamp) (contents_of held) logger after (c.in-Ok.ensures.opened tells (when_found left events old held k a was).0);
+      labelled = λ h. c.open.ensures.labelled (subst HasLabel was h);
+      untouched = tt;
       open_ = tt;
       cause = tt;
       same = (ap (λ (t : Carried). t.label) c.self.view_is, ap (λ (t : Carried). t.limit) c.self.view_is, ap (λ (t : Carried). t.logged) c.self.view_is);
@@ -47,8 +52,11 @@ returns-in-NoMemory g c =
       any_moment = λ tells left events k.
           weaker d.moment d.left_since d.held c.args.disk.now c.open.new.disk (ComesBackTo [] 0 (contents_of held)) (ComesBackBy events left) (c.open.ensures.any_moment tells (when_found left events old held k a was).0) (found_comes left events old held k a was);
       refused = λ tells left events k other. loses left events s held (subst (λ (t : Carried). Keeps left events t held) (sym c.self.view_is) k) a (d.held c.open.new.disk) is (ap d.held (c.in-Err.ensures.untouched c.in-NoMemory.is));
+      counts = λ tells left events k. tt;
+      labelled = λ h. c.open.ensures.labelled (subst HasLabel was h);
+      untouched = λ other. c.in-Err.ensures.untouched c.in-NoMemory.is;
       open_ = tt;
-      cause = lost_answers old (with_place s Lost) (d.faults c.args.disk.now) (d.faults c.open.new.disk) c.in-Err.fault c.in-NoMemory.is (found_is old a was) tt;
+      cause = lost_answers old (with_place s Lost) (d.faults c.args.disk.now) (d.faults c.open.new.disk) c.in-Err.fault c.in-NoMemory.is (found_is old a was) tt (subst WantsMemory (sym was) (c.in-Err.ensures.cause c.in-NoMemory.is));
       same = (ap (λ (t : Carried). t.label) c.self.view_is, ap (λ (t : Carried). t.limit) c.self.view_is, ap (λ (t : Carried). t.logged) c.self.view_is);
       later = c.open.ensures.later;
     }
@@ -66,7 +74,10 @@ returns-in_default-fault g c =
       done = λ tells left events k. tt;
       any_moment = λ tells left events k.
           weaker d.moment d.left_since d.held c.args.disk.now c.open.new.disk (ComesBackTo [] 0 (contents_of held)) (ComesBackBy events left) (c.open.ensures.any_moment tells (when_found left events old held k a was).0) (found_comes left events old held k a was);
-      refused = λ tells left events k other. open_rose (d.faults c.args.disk.now) (d.faults c.open.new.disk) c.in-Err.fault c.in-Err.ensures.fault c.in_default-fault.not-NoMemory other;
+      refused = λ tells left events k other. open_rose {A = Keeps left events (with_place s c.replace.new.dest) (d.held c.open.new.disk)} (d.faults c.args.disk.now) (d.faults c.open.new.disk) c.in-Err.fault c.in-Err.ensures.fault c.in_default-fault.not-NoMemory other;
+      counts = λ tells left events k. tt;
+      labelled = λ h. c.open.ensures.labelled (subst HasLabel was h);
+      untouched = λ other. open_rose {A = c.open.new.disk ≡ c.args.disk.now} (d.faults c.args.disk.now) (d.faults c.open.new.disk) c.in-Err.fault c.in-Err.ensures.fault c.in_default-fault.not-NoMemory other;
       open_ = tt;
       cause = open_answers old (with_place s c.replace.new.dest) (d.faults c.args.disk.now) (d.faults c.open.new.disk) c.in-Err.fault (found_is old a was) (failed_is (with_place s c.replace.new.dest) c.replace.ensures.after) c.in-Err.ensures.fault c.in_default-fault.not-NoMemory;
       same = (ap (λ (t : Carried). t.label) c.self.view_is, ap (λ (t : Carried). t.limit) c.self.view_is, ap (λ (t : Carried). t.logged) c.self.view_is);

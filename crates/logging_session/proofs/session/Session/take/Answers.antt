@@ -4,10 +4,12 @@ use Rattle.std.specs.Prelude.{min}
 use Rattle.pcp_base.specs.declared.result.Item.TheVariants.{Sample}
 use Rattle.pcp_outside.proofs.Crash.{weaker}
 use Rattle.logger_core.specs.Meant.{Kept}
+use Rattle.logging_session.specs.declared.place.Place.{Place}
 use Rattle.logging_session.specs.declared.place.Place.TheVariants.{Open, Failed}
-use Rattle.logging_session.specs.Answers.{ComesBackWith}
+use Rattle.logging_session.specs.Answers.{ComesBackWith, CountsOn, MayTake}
 use Rattle.logging_session.specs.Keeping.{Carried, Keeps, meant_of}
 use Rattle.logging_session.specs.Written.{Report}
+use Rattle.logging_session.proofs.Counting.{counts_by}
 use Rattle.logging_session.proofs.Going.{new_comes}
 use Rattle.logging_session.proofs.Logged.{MaySurvive, failing_survives, taken_survives}
 use Rattle.logging_session.proofs.Placed.{open_may_log, take_answers, take_same, take_stays}
@@ -38,6 +40,11 @@ returns-in-Ok g c =
           (new_comes left old.limit events o.w logger held o.going (Sample r.result));
       fault = λ tells enough left events k. tt;
       untouched = tt;
+      counts = λ tells enough left events k.
+          let o = when_open left events old held k logger was in
+          let m = meant_of o.going.first o.w o.going.acknowledged in
+          subst (λ (p : Place). CountsOn r p (Open now)) (sym was) (counts_by m logger now r.result r.facts held after o.going.is (c.in-Ok.ensures.done tells enough m o.going.is));
+      loggable = subst (λ (p : Place). MayTake p r) (sym was) c.in-Ok.ensures.loggable.1;
       open_ = tt;
       cause = tt;
       counted = c.saturating_add-self-inside.ensures ∙ ap (λ (t : Carried). min (t.logged + 1) 18446744073709551615) c.self.view_is;
@@ -70,6 +77,8 @@ returns-in-DiskFault g c =
           (new_comes left old.limit events o.w logger held o.going (Sample r.result));
       fault = λ tells enough left events k. take_fails left old.limit events r k.stand logger now held (when_open left events old held k logger was) (d.faults c.args.disk.now) (d.faults c.log.new.disk) e c.in-Err.ensures.fault;
       untouched = λ other. absurd (other c.in-DiskFault.is);
+      counts = λ tells enough left events k. tt;
+      loggable = tt;
       open_ = tt;
       cause = take_answers old (with_place s Failed) logger now r.result r.facts (d.faults c.args.disk.now) (d.faults c.log.new.disk) e may.0 tt c.in-Err.ensures.fault c.in-DiskFault.is;
       counted = tt;
@@ -106,8 +115,10 @@ returns-in_default-fault g c =
           (new_comes left old.limit events o.w logger held o.going (Sample r.result));
       fault = λ tells enough left events k. take_fails left old.limit events r k.stand logger now held (when_open left events old held k logger was) (d.faults c.args.disk.now) (d.faults c.log.new.disk) e c.in-Err.ensures.fault;
       untouched = c.in-Err.ensures.untouched;
+      counts = λ tells enough left events k. tt;
+      loggable = tt;
       open_ = tt;
-      cause = take_stays old (with_place s (Open now)) logger now r.result r.facts before then_ e may.0 c.in-Err.ensures.fault c.in_default-fault.not-DiskFault same;
+      cause = take_stays old (with_place s (Open now)) logger now r.result r.facts before then_ e may.0 c.in-Err.ensures.fault c.in_default-fault.not-DiskFault same was;
       counted = tt;
       uncounted = ap (λ (t : Carried). t.logged) c.self.view_is;
       same = (ap (λ (t : Carried). t.label) c.self.view_is, ap (λ (t : Carried). t.limit) c.self.view_is);
