@@ -1,5 +1,5 @@
 -- What a session keeps, by where its archive stands, and what a call makes of it.
-use Rattle.std.proofs.Common.{◌≡◌, inr, ℕ, ◌+◌, false, List, [], ◌∷◌, ◌++◌, length, refl, sym, ap, ◌∙◌, subst, arith, append-nil, length-append}
+use Rattle.std.proofs.Common.{◌≡◌, inr, ℕ, ◌+◌, Bool, true, false, List, [], ◌∷◌, ◌++◌, length, refl, sym, ap, ◌∙◌, subst, arith, append-nil, length-append}
 use Rattle.std.specs.Prelude.{min}
 use Rattle.std.proofs.Math.Path.{fun_ext}
 use Rattle.pcp_base.specs.Time.{Moment}
@@ -21,9 +21,9 @@ use Rattle.logger_core.specs.Reopening.{IsLeft}
 use Rattle.logger_core.proofs.AsFound.{same_files}
 use Rattle.logging_session.specs.declared.place.Place.{Place}
 use Rattle.logging_session.specs.declared.place.Place.TheVariants.{Found, Open, Lost, Failed}
-use Rattle.logging_session.specs.Answers.{ComesBackBy, TakeFails}
+use Rattle.logging_session.specs.Answers.{ComesBackBy, IsMadeSure, TakeFails}
 use Rattle.logging_session.specs.ComingBack.{ComesBack, ComesBackTo, start_of}
-use Rattle.logging_session.specs.Events.{Event, LeadFrom, acknowledged_by, behind, items_by, opening}
+use Rattle.logging_session.specs.Events.{Event, LeadFrom, acknowledged_by, behind, items_by, opening, sure_event}
 use Rattle.logging_session.specs.Keeping.{AllSure, AreWhole, Carried, IsGoing, IsPlace, IsUntouched, Keeps, meant_of}
 use Rattle.logging_session.specs.Laws.{sure_in}
 use Rattle.logging_session.specs.Opening.{IsOpened}
@@ -178,7 +178,7 @@ module _ (left : Files) (events : List Event) (s : Carried) (old : Holdings) (k 
 
   -- ---- flushing
 
-  pub flushes : (kept now : Kept) (held : Holdings) → (is : s.place ≡ Open kept) → ((m : Meant) → IsLogger m kept old → IsFlushed m kept now held) → now.limit ≡ kept.limit → now.closed ≡ false → IsVolumeSure now.ends.volume held
+  flushes : (kept now : Kept) (held : Holdings) → (is : s.place ≡ Open kept) → ((m : Meant) → IsLogger m kept old → IsFlushed m kept now held) → now.limit ≡ kept.limit → now.closed ≡ false → IsVolumeSure now.ends.volume held
       → Keeps left (behind events Event.flushed) (with_place s (Open now)) held
   flushes kept now held is flush limit_same open_ sure =
       let o : StandsOpen left s.limit events k.stand kept old = when_open kept is in
@@ -193,14 +193,14 @@ module _ (left : Files) (events : List Event) (s : Carried) (old : Holdings) (k 
         counted = omega (arith, k.counted, ap length (items_more events Event.flushed), length-append (items_by events) []);
       }
 
-  pub flush_settles : (kept now : Kept) (held : Holdings) → (is : s.place ≡ Open kept) → ((m : Meant) → IsLogger m kept old → IsFlushed m kept now held) → IsVolumeSure now.ends.volume held → IsSettled held
+  flush_settles : (kept now : Kept) (held : Holdings) → (is : s.place ≡ Open kept) → ((m : Meant) → IsLogger m kept old → IsFlushed m kept now held) → IsVolumeSure now.ends.volume held → IsSettled held
   flush_settles kept now held is flush sure =
       let o : StandsOpen left s.limit events k.stand kept old = when_open kept is in
       let g : IsGoing left s.limit events o.w kept old = o.going in
       let f : IsFlushed (meant_of g.first o.w g.acknowledged) kept now held = flush (meant_of g.first o.w g.acknowledged) g.is in
       is_settled f.new now.ends.volume held f.is.at.stands sure
 
-  pub syncs : (kept now : Kept) (held : Holdings) → (is : s.place ≡ Open kept) → ((m : Meant) → IsLogger m kept old → IsLogger (all_acknowledged m) now held) → now ≡ counting_all kept → IsVolumeSure now.ends.volume held
+  syncs : (kept now : Kept) (held : Holdings) → (is : s.place ≡ Open kept) → ((m : Meant) → IsLogger m kept old → IsLogger (all_acknowledged m) now held) → now ≡ counting_all kept → IsVolumeSure now.ends.volume held
       → Keeps left (behind events Event.synced) (with_place s (Open now)) held
   syncs kept now held is sync same sure =
       let o : StandsOpen left s.limit events k.stand kept old = when_open kept is in
@@ -213,11 +213,22 @@ module _ (left : Files) (events : List Event) (s : Carried) (old : Holdings) (k 
         counted = omega (arith, k.counted, ap length (items_more events Event.synced), length-append (items_by events) []);
       }
 
-  pub sync_settles : (kept now : Kept) (held : Holdings) → (is : s.place ≡ Open kept) → ((m : Meant) → IsLogger m kept old → IsLogger (all_acknowledged m) now held) → IsVolumeSure now.ends.volume held → IsSettled held
+  sync_settles : (kept now : Kept) (held : Holdings) → (is : s.place ≡ Open kept) → ((m : Meant) → IsLogger m kept old → IsLogger (all_acknowledged m) now held) → IsVolumeSure now.ends.volume held → IsSettled held
   sync_settles kept now held is sync sure =
       let o : StandsOpen left s.limit events k.stand kept old = when_open kept is in
       let g : IsGoing left s.limit events o.w kept old = o.going in
       is_settled (all_acknowledged (meant_of g.first o.w g.acknowledged)) now.ends.volume held (sync (meant_of g.first o.w g.acknowledged) g.is).at.stands sure
+
+  pub makes_sure : (puts_entry : Bool) (kept now : Kept) (held : Holdings) → (is : s.place ≡ Open kept) → ((m : Meant) → IsLogger m kept old → IsMadeSure puts_entry m kept now held) → now.limit ≡ kept.limit → now.closed ≡ false
+      → IsVolumeSure now.ends.volume held → Keeps left (behind events (sure_event puts_entry)) (with_place s (Open now)) held
+  makes_sure true kept now held is done limit_same open_ sure = flushes kept now held is done limit_same open_ sure
+  makes_sure false kept now held is done limit_same open_ sure =
+      let o : StandsOpen left s.limit events k.stand kept old = when_open kept is in
+      syncs kept now held is (λ m at. (done m at).0) (done (meant_of o.going.first o.w o.going.acknowledged) o.going.is).1 sure
+
+  pub sure_settles : (puts_entry : Bool) (kept now : Kept) (held : Holdings) → (is : s.place ≡ Open kept) → ((m : Meant) → IsLogger m kept old → IsMadeSure puts_entry m kept now held) → IsVolumeSure now.ends.volume held → IsSettled held
+  sure_settles true kept now held is done sure = flush_settles kept now held is done sure
+  sure_settles false kept now held is done sure = sync_settles kept now held is (λ m at. (done m at).0) sure
 
 -- ---- whatever is kept
 

@@ -9,8 +9,10 @@ use Rattle.pcp_outside.specs.declared.disk.Disk.{Ghosts as DiskGhosts}
 use Rattle.logger_core.specs.declared.ends.Ends.{Ends}
 use Rattle.logger_core.specs.declared.fault.LogFault.{LogFault}
 use Rattle.logger_core.specs.declared.fault.LogFault.TheVariants.{Closed, Large, NotLater, Changed, Full, NoMemory, DiskFault}
+use Rattle.logger_core.specs.Going.{IsFlushed, all_acknowledged, counting_all}
 use Rattle.logger_core.specs.Logging.{IsLoggable, IsRefused}
 use Rattle.logger_core.specs.LogSteps.{crosses}
+use Rattle.logger_core.specs.Meant.{IsLogger, Kept, Meant}
 use Rattle.logging_session.specs.declared.place.Place.{Place}
 use Rattle.logging_session.specs.declared.place.Place.TheVariants.{Found, Open}
 use Rattle.logging_session.specs.ComingBack.{ComesBackTo}
@@ -101,6 +103,13 @@ abbrev pub FlushMayAnswer : Carried → Carried → ℕ → ℕ → LogFault →
 FlushMayAnswer old new before after Closed = IsClosed old × (new ≡ old)
 FlushMayAnswer old new before after DiskFault = IsOpen old × IsFailed new × Rose before after
 FlushMayAnswer old new before after fault = ⊥
+
+-- ---- the step of a flush and of a sync
+
+-- A logger made all sure: with the entry that is then due, or with none, where nothing of it changes but how many are acknowledged.
+abbrev pub IsMadeSure : Bool → Meant → Kept → Kept → Holdings → Type 0
+IsMadeSure true m old now held = IsFlushed m old now held
+IsMadeSure false m old now held = IsLogger (all_acknowledged m) now held × (now ≡ counting_all old)
 
 -- ---- the steps of `log`
 

@@ -1,6 +1,6 @@
 -- What a session does to its archive, event by event, and what the events leave: the files, the items, and how many of these are
 -- acknowledged.
-use Rattle.std.specs.Prelude.{◌≡◌, ℕ, ◌+◌, List, [], ◌∷◌, ◌++◌}
+use Rattle.std.specs.Prelude.{◌≡◌, ℕ, ◌+◌, Bool, true, false, List, [], ◌∷◌, ◌++◌}
 use Rattle.pcp_base.specs.Time.{Moment}
 use Rattle.pcp_base.specs.declared.result.Item.{Item}
 use Rattle.pcp_base.specs.declared.result.Item.TheVariants.{Sample}
@@ -28,6 +28,11 @@ with_report events r = opening r.result.stamp events ++ Event.logged r ∷ []
 abbrev pub behind : List Event → Event → List Event
 behind [] event = []
 behind (e ∷ events) event = (e ∷ events) ++ event ∷ []
+
+-- all is made sure, and where that is wanted an entry put
+abbrev pub sure_event : Bool → Event
+sure_event true = Event.flushed
+sure_event false = Event.synced
 
 -- the items that were logged, in their order
 abbrev pub items_by : List Event → List Item

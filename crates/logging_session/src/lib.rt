@@ -8,6 +8,7 @@ mod laws;
 mod opening;
 mod place;
 mod session;
+mod sure;
 
 pub use laws::{
     fewer_come_back, kept_counts_survive, kept_files_are_led, kept_files_are_whole,

@@ -10,11 +10,12 @@ ghost use Rattle.archive_meta.specs.Enough.{AreEnough};
 ghost use Rattle.logger_core.specs.declared.fault.LogFault.TheVariants.{Closed, DiskFault, NoMemory as Refused};
 ghost use Rattle.logger_core.specs.Reopening.{IsLeft};
 ghost use Rattle.logging_session.specs.Answers.{ComesBackBy, ComesBackWith, CountsAll, CountsOn, FlushMayAnswer, LeavesNone, LogFails, LogMayAnswer, MayTake, OpenMayAnswer, TakeFails, TakeMayAnswer};
-ghost use Rattle.logging_session.specs.Events.{Event, behind, closing, opening, with_report};
+ghost use Rattle.logging_session.specs.Events.{Event, behind, closing, opening, sure_event, with_report};
 ghost use Rattle.logging_session.specs.Keeping.{AreWhole, IsClosed, IsFailed, IsFound, IsLabelled, IsLost, IsOpen, IsWorking, Keeps};
 
 use crate::opening::open;
 use crate::place::Place;
+use crate::sure::make_logger_sure;
 use archive_frame::Label;
 use archive_meta::Facts;
 use archive_recovery::Archive;
@@ -231,6 +232,35 @@ impl Session {
         self.take(alloc, disk, answer, facts)
     }
 
+    /// Makes all that was logged sure, and where that is wanted puts an entry behind the index where one is due: `Ok` acknowledges it. Before
+    /// the archive is open nothing is done.
+    fn make_sure<D: Disk>(&mut self, disk: &mut D, puts_entry: bool) -> Result<(), LogFault>
+        ensures done { D.tells → (left : AllFiles) (events : Sequence Event) → Keeps left events self.old (D.held disk.old) → OnOk result (Keeps left (behind events (sure_event puts_entry)) self.new (D.held disk.new)) }
+        ensures settled { D.tells → (left : AllFiles) (events : Sequence Event) → Keeps left events self.old (D.held disk.old) → OnOk result (IsSettled (D.held disk.new)) }
+        ensures any_moment { D.tells → (left : AllFiles) (events : Sequence Event) → Keeps left events self.old (D.held disk.old)
+            → LeavesOnly D.moment D.left_since disk.old disk.new (ComesBackBy events left) }
+        ensures closed { IsClosed self.old → (result ≡ Err Closed) × (self.new ≡ self.old) × (disk.new ≡ disk.old) }
+        ensures idle { IsFound self.old → (result ≡ Ok tt) × (self.new ≡ self.old) × (disk.new ≡ disk.old) }
+        ensures working { OnOk result (IsWorking self.old × IsWorking self.new) }
+        ensures open_ { OnOk result (IsOpen self.old → IsOpen self.new) }
+        ensures cause { IfErr result (FlushMayAnswer self.old self.new (D.faults disk.old) (D.faults disk.new)) }
+        ensures same { (self.new.label ≡ self.old.label) × (self.new.limit ≡ self.old.limit) × (self.new.logged ≡ self.old.logged) }
+        ensures later { D.faults disk.old ≤ D.faults disk.new }
+    {
+        match &mut self.place {
+            Place::Found(_) => Ok(()),
+            Place::Open(logger) => match make_logger_sure(logger, disk, puts_entry) {
+                Ok(()) => Ok(()),
+                Err(fault) => {
+                    self.place = Place::Failed;
+                    Err(fault)
+                }
+            },
+            Place::Lost => Err(LogFault::Closed),
+            Place::Failed => Err(LogFault::Closed),
+        }
+    }
+
     /// Makes all that was logged sure, and puts an entry behind the index where one is due: `Ok` acknowledges it. Before the archive is open
     /// nothing is done.
     pub fn flush<D: Disk>(&mut self, disk: &mut D) -> Result<(), LogFault>
@@ -247,18 +277,7 @@ impl Session {
         ensures same { (self.new.label ≡ self.old.label) × (self.new.limit ≡ self.old.limit) × (self.new.logged ≡ self.old.logged) }
         ensures later { D.faults disk.old ≤ D.faults disk.new }
     {
-        match &mut self.place {
-            Place::Found(_) => Ok(()),
-            Place::Open(logger) => match logger.flush(disk) {
-                Ok(()) => Ok(()),
-                Err(fault) => {
-                    self.place = Place::Failed;
-                    Err(fault)
-                }
-            },
-            Place::Lost => Err(LogFault::Closed),
-            Place::Failed => Err(LogFault::Closed),
-        }
+        self.make_sure(disk, true)
     }
 
     /// Makes all that was logged sure, and puts no entry behind the index: `Ok` acknowledges it. Before the archive is open nothing is done.
@@ -276,18 +295,7 @@ impl Session {
         ensures same { (self.new.label ≡ self.old.label) × (self.new.limit ≡ self.old.limit) × (self.new.logged ≡ self.old.logged) }
         ensures later { D.faults disk.old ≤ D.faults disk.new }
     {
-        match &mut self.place {
-            Place::Found(_) => Ok(()),
-            Place::Open(logger) => match logger.sync(disk) {
-                Ok(()) => Ok(()),
-                Err(fault) => {
-                    self.place = Place::Failed;
-                    Err(fault)
-                }
-            },
-            Place::Lost => Err(LogFault::Closed),
-            Place::Failed => Err(LogFault::Closed),
-        }
+        self.make_sure(disk, false)
     }
 
     /// Whether the disk failed.
