@@ -7,7 +7,7 @@ use Rattle.region_rule.specs.Calls.{fresh_from}
 use Rattle.fetch_engine.specs.Servers.{IsRegionAt, Seated}
 use Rattle.fetch_engine.specs.declared.server.Mounted.{Mounted}
 use Rattle.run_script.specs.declared.script.Script.{Script}
-use Rattle.script_passes.specs.Openings.{AreMade, IsMadeAt}
+use Rattle.run_passes.specs.Openings.{AreMade, IsMadeAt}
 use Rattle.case_sessions.specs.Openings.{AreOf, ArePasses}
 
 -- a fresh pass is of its region

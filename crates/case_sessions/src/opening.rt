@@ -9,8 +9,8 @@ use mmv_layout::Image;
 use pcp_base::{List, NoMemory, Text};
 use pmcd_session::SessionSeat;
 use region_words::Pass;
+use run_passes::{Opened, open_script};
 use run_script::{ReadScriptError, Script};
-use script_passes::{Opened, open_script};
 use std::alloc::Global;
 
 /// A pass of the region at a place, in ascending cluster, and an image that it may lay.

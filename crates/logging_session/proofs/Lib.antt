@@ -1,5 +1,6 @@
 pub mod ComeBack
 pub mod Counting
+pub mod Course
 pub mod Events
 pub mod Flushes
 pub mod Going

@@ -93,12 +93,16 @@ module _ (left : Files) (events : List Event) (r : Report) (middle new : Carried
   log_fails old before after DiskFault may still fails = may.0
 
   -- the same session but for where it stands
+  pub opened_leads : (old : Carried) → middle.label ≡ old.label → middle.limit ≡ old.limit → (w : Written) → k.stand ≡ Stand.opened w → LeadFrom old.label old.limit left (opening r.result.stamp events) (Stand.opened w)
+  opened_leads old label limit w is =
+      subst (λ (l : LabelFields). LeadFrom l old.limit left (opening r.result.stamp events) (Stand.opened w)) label
+      (subst (λ (n : ℕ). LeadFrom middle.label n left (opening r.result.stamp events) (Stand.opened w)) limit
+      (subst (λ (s : Stand). LeadFrom middle.label middle.limit left (opening r.result.stamp events) s) is k.lead))
+
   pub would_log : (old : Carried) → middle.label ≡ old.label → middle.limit ≡ old.limit → (w : Written) × (k.stand ≡ Stand.opened w) × Takes middle.limit r w → WouldLog old left (opening r.result.stamp events) r
   would_log old label limit t = record {
     w = t.0;
-    lead = subst (λ (l : LabelFields). LeadFrom l old.limit left (opening r.result.stamp events) (Stand.opened t.0)) label
-        (subst (λ (n : ℕ). LeadFrom middle.label n left (opening r.result.stamp events) (Stand.opened t.0)) limit
-        (subst (λ (s : Stand). LeadFrom middle.label middle.limit left (opening r.result.stamp events) s) t.1 k.lead));
+    lead = opened_leads old label limit t.0 t.1;
     takes = subst (λ (n : ℕ). Takes n r t.0) limit t.2;
   }
 

@@ -16,7 +16,7 @@ use Rattle.logging_session.specs.Written.{Report}
 use Rattle.logging_session.specs.Keeping.{Carried, HasFailed, HasFound, HasLogger, HasLost, IsClosed, IsFailed, IsFound, IsLost, IsOpen, MayLog}
 use Rattle.logging_session.proofs.Logged.{not_closed}
 
-neither : {A : Type 0} → ⊥ ⊎ ⊥ → A
+pub neither : {A : Type 0} → ⊥ ⊎ ⊥ → A
 neither h = ⊎_elim (λ (no : ⊥). absurd no) (λ (no : ⊥). absurd no) h
 
 module _ (s : Carried) (archive : Archive) (is : s.place ≡ Found archive) where

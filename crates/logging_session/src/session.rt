@@ -1,5 +1,5 @@
 //! A session, and its calls.
-ghost use Rattle.std.specs.Prelude.{◌≡◌, ◌≢◌, ◌⊎◌, ◌+◌, ◌<◌, ◌≤◌, ◌++◌, ◌∷◌, [], length, List as Sequence, true, false, Err, Ok, IfErr, OnErr, OnOk};
+ghost use Rattle.std.specs.Prelude.{◌≡◌, ◌≢◌, ◌⊎◌, ◌+◌, ◌<◌, ◌≤◌, ◌++◌, ◌∷◌, [], length, List as Sequence, true, false, Err, Ok, IfErr, MatchResult, OnErr, OnOk};
 ghost use Rattle.std.specs.List.{AllByRecursion};
 ghost use Rattle.pcp_base.specs.Results.{Fits};
 ghost use Rattle.pcp_base.specs.declared.result.Item.TheVariants.{Sample};
@@ -10,6 +10,7 @@ ghost use Rattle.archive_meta.specs.Enough.{AreEnough};
 ghost use Rattle.logger_core.specs.declared.fault.LogFault.TheVariants.{Closed, DiskFault, NoMemory as Refused};
 ghost use Rattle.logger_core.specs.Reopening.{IsLeft};
 ghost use Rattle.logging_session.specs.Answers.{ComesBackBy, ComesBackWith, CountsAll, CountsOn, FlushMayAnswer, LeavesNone, LogFails, LogMayAnswer, MayTake, OpenMayAnswer, TakeFails, TakeMayAnswer};
+ghost use Rattle.logging_session.specs.Course.{HasKept, HasNotClosed, HasNotFlushed, HasNotLogged};
 ghost use Rattle.logging_session.specs.Events.{Event, behind, closing, opening, sure_event, with_report};
 ghost use Rattle.logging_session.specs.Keeping.{AreWhole, IsClosed, IsFailed, IsFound, IsLabelled, IsLost, IsOpen, IsWorking, Keeps};
 
@@ -212,6 +213,9 @@ impl Session {
         // What stands after each refusal: what was opened for the result stays open.
         ensures fault { D.tells → AreEnough facts.now answer.now.sets → (left : AllFiles) (events : Sequence Event) → Keeps left events self.old (D.held disk.old)
             → IfErr result (LogFails left events (record { result = answer.now; facts = facts.now }) self.old self.new (D.held disk.new)) }
+        // Event by event: it was opened, and then it took the result.
+        ensures went { D.tells → AreEnough facts.now answer.now.sets → (left : AllFiles) (events : Sequence Event) (start : D) → HasKept D.Disk left events start self.old disk.old
+            → MatchResult result (λ _. HasKept D.Disk left (with_report events (record { result = answer.now; facts = facts.now })) start self.new disk.new) (HasNotLogged D.Disk left events (record { result = answer.now; facts = facts.now }) start self.old self.new disk.new) }
         // Nothing is touched by a refusal but to make the archive, where there was none, which then stays open.
         ensures untouched { IfErr result (λ e. e ≢ DiskFault → (IsOpen self.old ⊎ IsLost self.new ⊎ IsLabelled self.old) → disk.new ≡ disk.old) }
         // A closed session answers so, and touches nothing.
@@ -268,6 +272,8 @@ impl Session {
         ensures settled { D.tells → (left : AllFiles) (events : Sequence Event) → Keeps left events self.old (D.held disk.old) → OnOk result (IsSettled (D.held disk.new)) }
         ensures any_moment { D.tells → (left : AllFiles) (events : Sequence Event) → Keeps left events self.old (D.held disk.old)
             → LeavesOnly D.moment D.left_since disk.old disk.new (ComesBackBy events left) }
+        ensures went { D.tells → (left : AllFiles) (events : Sequence Event) (start : D) → HasKept D.Disk left events start self.old disk.old
+            → MatchResult result (λ _. HasKept D.Disk left (behind events Event.flushed) start self.new disk.new) (HasNotFlushed D.Disk left events start self.old self.new disk.new) }
         ensures closed { IsClosed self.old → (result ≡ Err Closed) × (self.new ≡ self.old) × (disk.new ≡ disk.old) }
         // Before the archive is open nothing is done.
         ensures idle { IsFound self.old → (result ≡ Ok tt) × (self.new ≡ self.old) × (disk.new ≡ disk.old) }
@@ -286,6 +292,8 @@ impl Session {
         ensures settled { D.tells → (left : AllFiles) (events : Sequence Event) → Keeps left events self.old (D.held disk.old) → OnOk result (IsSettled (D.held disk.new)) }
         ensures any_moment { D.tells → (left : AllFiles) (events : Sequence Event) → Keeps left events self.old (D.held disk.old)
             → LeavesOnly D.moment D.left_since disk.old disk.new (ComesBackBy events left) }
+        ensures went { D.tells → (left : AllFiles) (events : Sequence Event) (start : D) → HasKept D.Disk left events start self.old disk.old
+            → MatchResult result (λ _. HasKept D.Disk left (behind events Event.synced) start self.new disk.new) (HasNotFlushed D.Disk left events start self.old self.new disk.new) }
         ensures closed { IsClosed self.old → (result ≡ Err Closed) × (self.new ≡ self.old) × (disk.new ≡ disk.old) }
         // Before the archive is open nothing is done.
         ensures idle { IsFound self.old → (result ≡ Ok tt) × (self.new ≡ self.old) × (disk.new ≡ disk.old) }
@@ -317,6 +325,8 @@ impl Session {
         ensures whole { D.tells → (left : AllFiles) (events : Sequence Event) → Keeps left events self.old (D.held disk.old) → AreWhole left → OnOk result (AreWhole (contents_of (D.held disk.new))) }
         ensures any_moment { D.tells → (left : AllFiles) (events : Sequence Event) → Keeps left events self.old (D.held disk.old)
             → LeavesOnly D.moment D.left_since disk.old disk.new (ComesBackBy events left) }
+        ensures went { D.tells → (left : AllFiles) (events : Sequence Event) (start : D) → HasKept D.Disk left events start self.old disk.old
+            → MatchResult result (λ _. HasKept D.Disk left (closing events) start self.new disk.new) (HasNotClosed D.Disk left events start self.old disk.new) }
         ensures failed { IsFailed self.old → (result ≡ Err Closed) × (self.new ≡ self.old) × (disk.new ≡ disk.old) }
         // Where nothing was logged nothing is done.
         ensures idle { self.old.logged ≡ 0 → (IsFailed self.old → ⊥) → (result ≡ Ok tt) × (self.new ≡ self.old) × (disk.new ≡ disk.old) }

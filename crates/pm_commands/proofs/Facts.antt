@@ -23,7 +23,7 @@ use Rattle.pm_tasks.specs.Causes.{Got, Asks, fault_of, IsReader, Finds, Cause}
 use Rattle.pm_words.specs.Serving.{Left, IsNever}
 use Rattle.pm_tasks.specs.Ends.{Ends, EndsDone, EndsUntold, HasRun}
 use Rattle.pm_commands.specs.Facts.{UsageIsExact, LimitIsExact, InputFaultIsExact, RunIsExact, ArchiveFaultIsExact, NothingIsThere, GivesInput, Meets, refused_of, TurnsAway, IsRefused, IsUnwritten, IsGoodDisk, IsGoodRun, Keeps, ComesOfRun, OpensRegions}
-use Rattle.script_passes.specs.declared.opening.Opened.{Opened}
+use Rattle.run_passes.specs.declared.opening.Opened.{Opened}
 use Rattle.pm_tasks.specs.Regions.{AsksRun, RunsScript}
 use Rattle.pm_runs.specs.Regions.{HasRegions}
 use Rattle.pm_words.specs.Inputs.{input_limit, refusal_of}

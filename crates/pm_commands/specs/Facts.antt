@@ -13,7 +13,7 @@ use Rattle.pm_words.specs.CommandLine.{command_of}
 use Rattle.pm_tasks.specs.Causes.{Asks, fault_of, Finds, IsReader}
 use Rattle.pm_words.specs.Inputs.{input_limit, refusal_of}
 use Rattle.pm_words.specs.Meaning.{Meaning}
-use Rattle.script_passes.specs.declared.opening.Opened.{Opened}
+use Rattle.run_passes.specs.declared.opening.Opened.{Opened}
 use Rattle.pm_runs.specs.Sound.{LeavesSound}
 use Rattle.pm_tasks.specs.Meanings.{meaning}
 use Rattle.pm_tasks.specs.Regions.{AsksRun, RunsScript}

@@ -3,10 +3,10 @@
 use Rattle.std.specs.Prelude.{◌≡◌, ℕ, ◌<◌, ◌≤◌, List, length, None}
 use Rattle.pcp_base.specs.Time.{Moment}
 use Rattle.pcp_base.specs.declared.file.FileId.TheVariants.{Volume}
-use Rattle.pcp_base.specs.declared.result.Item.{Item}
 use Rattle.pcp_model.specs.Archive.{Readable}
 use Rattle.pcp_model.specs.Disk.{Files}
 use Rattle.pcp_model.specs.Sound.{Sound}
+use Rattle.logging_session.specs.Events.{Event}
 use Rattle.run_script.specs.declared.script.Script.{Script}
 use Rattle.script_runs.specs.declared.ending.Ending.{Ending}
 use Rattle.script_runs.specs.declared.ending.Ending.TheVariants as ends
@@ -17,7 +17,7 @@ use Rattle.pm_words.specs.declared.words.ValueWords.{ValueWords}
 use Rattle.pm_words.specs.Refusals.{files_status}
 use Rattle.pm_words.specs.Sides.{Found}
 use Rattle.pm_runs.specs.Scripts as scripts
-use Rattle.pm_runs.specs.Scripts.{IsOne, Leads}
+use Rattle.pm_runs.specs.Scripts.{IsOne, IsOwn, Leads}
 use Rattle.pm_tasks.specs.commands.at as at
 use Rattle.pm_tasks.specs.commands.dump as dump
 use Rattle.pm_tasks.specs.commands.info as info
@@ -48,8 +48,8 @@ SoundIsWelcome = (f : Found) → Sound f.files → HasWholeLabels f.files → f.
 
 -- a command that runs a script turns no files away over which the run comes to its end
 abbrev pub DoneIsWelcome : Type 0
-DoneIsWelcome = (f : Found) (script : Script) (limit : ℕ) (output : List ℕ) (items : List Item) (final : Files) → Leads script limit f.files ends.Done output items final → f.wrapped ≡ None → (e : FilesRefusal) → scripts.IsTurnedAway limit f script e → ⊥
+DoneIsWelcome = (f : Found) (script : Script) (limit : ℕ) (output : List ℕ) (events : List Event) (final : Files) → Leads script limit f.files ends.Done output events final → f.wrapped ≡ None → (e : FilesRefusal) → scripts.IsTurnedAway limit f script e → ⊥
 
--- a script runs over files to one end, with one output, the same items, regions and files
+-- a script runs over files to one end of its own, with one output, the same events, regions and files
 abbrev pub OneEnd : Type 0
-OneEnd = (script : Script) (limit : ℕ) (start : Files) (a b : Ending) (o p : List ℕ) (i j : List Item) (r s : List ScriptRegion) (f g : Files) → RunsTo script limit start a o i r f → RunsTo script limit start b p j s g → IsOne a b o p i j r s f g
+OneEnd = (script : Script) (limit : ℕ) (start : Files) (a b : Ending) → IsOwn a → IsOwn b → (o p : List ℕ) (d e : List Event) (r s : List ScriptRegion) (f g : Files) → RunsTo script limit start a o d r f → RunsTo script limit start b p e s g → IsOne a b o p d e r s f g

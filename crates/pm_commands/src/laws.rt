@@ -18,7 +18,7 @@ pub fn done_is_welcome()
     ensures { DoneIsWelcome }
 {}
 
-/// A script runs over files to one end, with one output, and the same items, regions and files.
+/// A script runs over files to one end of its own, with one output, and the same events, regions and files.
 pub fn one_end()
     ensures { OneEnd }
 {}

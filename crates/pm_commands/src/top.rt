@@ -20,7 +20,7 @@ use pcp_outside::{Disk, Sink, Source};
 use pm_runs::{make, once, recover, replay};
 use pm_tasks::{at, dump, get_input, info, mmv_dump, mmv_make, range, value};
 use pm_words::{Command, Refusal, finish, read_words};
-use script_passes::Opened;
+use run_passes::Opened;
 use std::alloc::Global;
 
 // Does what a command asks for with its input. What it writes before it is done goes to the sink unless that has failed.
@@ -43,7 +43,7 @@ fn serve<O: Sink, D: Disk>(
     ensures unread { IsUnread D.Disk disk.old → Leaves D.Disk disk.old disk.new CrashImage }
     ensures taken { D.tells → MayTake command.now (contents_of (D.held disk.old)) (D.taken disk.old) (D.taken disk.new) }
     ensures since { D.tells → HasRecovered result → CommandSince D.Disk command.now input.now disk.old disk.new }
-    ensures ran { CommandRan command.now input.now (disk_side D.Disk disk.old disk.new) opened.new result }
+    ensures ran { CommandRan D.Disk command.now input.now disk.old disk.new opened.new result }
     ensures regions { RunsScript command.now → HasRegions result opened.new }
 {
     match command {
@@ -86,7 +86,7 @@ fn run<I: Source, O: Sink, D: Disk>(
     ensures unread { IsUnread D.Disk disk.old → Leaves D.Disk disk.old disk.new CrashImage }
     ensures taken { D.tells → TakesLittle (map string_bytes words.now) (contents_of (D.held disk.old)) (D.taken disk.old) (D.taken disk.new) }
     ensures since { D.tells → HasRecovered result → WordsSince D.Disk (map string_bytes words.now) (source_side I.Source input.old input.new) disk.old disk.new }
-    ensures ran { WordsRan (map string_bytes words.now) (source_side I.Source input.old input.new) (disk_side D.Disk disk.old disk.new) opened.new result }
+    ensures ran { WordsRan D.Disk (map string_bytes words.now) (source_side I.Source input.old input.new) disk.old disk.new opened.new result }
     ensures regions { AsksRun (map string_bytes words.now) → HasRegions result opened.new }
 {
     let command = read_words(alloc, words)?;
@@ -111,7 +111,7 @@ fn answer<I: Source, O: Sink, D: Disk>(
     ensures unread { IsUnread D.Disk disk.old → Leaves D.Disk disk.old disk.new CrashImage }
     ensures taken { D.tells → TakesLittle (map string_bytes words.now) (contents_of (D.held disk.old)) (D.taken disk.old) (D.taken disk.new) }
     ensures since { D.tells → HadRecovered result → WordsSince D.Disk (map string_bytes words.now) (source_side I.Source input.old input.new) disk.old disk.new }
-    ensures ran { StatusRan (map string_bytes words.now) (source_side I.Source input.old input.new) (disk_side D.Disk disk.old disk.new) opened.new result }
+    ensures ran { StatusRan D.Disk (map string_bytes words.now) (source_side I.Source input.old input.new) disk.old disk.new opened.new result }
     ensures regions { OpensRegions (map string_bytes words.now) (source_side I.Source input.old input.new) opened.new result }
 {
     let mut failed = false;
@@ -195,14 +195,15 @@ pub fn offline<I: Source, O: Sink, D: Disk>(
     // recovery leaves of those before is so, or there was no archive: then `at` and `range` tell of them what the scan says.
     ensures sound { result ≡ 0 → D.tells → StaysSound (map string_bytes words.now) (D.held disk.old) (D.held disk.new) }
 
-    // A run over any disk, settled or not: from the moment on at which recovery answered, a crash leaves all items of the start, and
-    // some first ones of the run.
+    // A run over any disk, settled or not: from the moment on at which recovery answered, the disk went by the run's events, and a crash
+    // leaves all items of the start, and some first ones of the run, all that were acknowledged before among them.
     ensures since { D.tells → HadRecovered result → WordsSince D.Disk (map string_bytes words.now) (source_side I.Source input.old input.new) disk.old disk.new }
 
     // The regions that are left are those on which the script's lines were run, and nothing else, as the seat has seen, which has gathered
-    // every pass: no entry can stand behind that. Where the disk tells they are the lines of the run that the status tells of: after 0 it
-    // came to its end, and its lines and results are what is told. They are there wherever the run began, but for want of memory.
-    ensures ran { StatusRan (map string_bytes words.now) (source_side I.Source input.old input.new) (disk_side D.Disk disk.old disk.new) opened.new result }
+    // every pass: no entry can stand behind that. They are the lines of the run that the status tells of: after 0 it came to its end, and its
+    // lines and results are what is told. Where the disk tells, its files are those of the same run, event by event, after each status. The
+    // regions are there wherever the run began, but for want of memory.
+    ensures ran { StatusRan D.Disk (map string_bytes words.now) (source_side I.Source input.old input.new) disk.old disk.new opened.new result }
     ensures regions { OpensRegions (map string_bytes words.now) (source_side I.Source input.old input.new) opened.new result }
 {
     answer(alloc, words, input, out, disk, opened)

@@ -1,13 +1,17 @@
 -- What may be recorded is.
-use Rattle.std.proofs.Common.{◌≡◌, ◌≢◌, ◌⊎◌, inl, inr, ⊎_elim, ℕ, ◌<◌, ◌≤◌, List, length, refl, sym, ap, ◌∙◌, subst, arith, Option, Some, None, Ok, Err}
+use Rattle.std.proofs.Common.{◌≡◌, ◌≢◌, ◌⊎◌, inl, inr, ℕ, ◌<◌, ◌≤◌, List, length, refl, sym, ap, ◌∙◌, subst, arith, Option, Some, None, Ok, Err}
 use Rattle.pcp_base.specs.Time.{Moment}
-use Rattle.pcp_model.specs.Disk.{contents_of}
-use Rattle.script_passes.specs.declared.opening.Opened.{Opened}
-use Rattle.script_replays.specs.Replays.{IsRecovered}
-use Rattle.script_records.specs.Stopping.{WhyStopped}
+use Rattle.pcp_model.specs.Disk.{Files, contents_of}
+use Rattle.run_archive.specs.Outcomes.{left_of}
+use Rattle.run_archive.specs.Shown.{events_of}
+use Rattle.run_passes.specs.declared.opening.Opened.{Opened}
+use Rattle.record_run.specs.Stopping.{ShowsLast, TurnsLastAway, WhyStopped, shown_last}
 use Rattle.script_runs.specs.declared.ending.Ending.{Ending}
 use Rattle.script_runs.specs.declared.ending.Ending.TheVariants as ends
-use Rattle.pm_runs.proofs.Refused.{refused_is_none}
+use Rattle.script_runs.specs.declared.ending.LimitKind.{LimitKind}
+use Rattle.script_runs.specs.declared.ending.LimitKind.TheVariants as kinds
+use Rattle.script_runs.specs.Archives.{IsRecovered, IsTurnedAway}
+use Rattle.pm_words.proofs.Unreadable.{refused_is_none}
 use Rattle.pm_words.specs.Refusals.{status_of}
 use Rattle.pcp_outside.specs.Sides.{SourceSide, SinkSide}
 use Rattle.pm_words.specs.declared.refusal.Refusal.{Refusal}
@@ -15,13 +19,13 @@ use Rattle.pm_words.specs.declared.refusal.Refusal.TheVariants.{Words, Reading, 
 use Rattle.pm_words.specs.declared.stage.ReadRefusal.TheVariants.{ReadFault, InputLimit}
 use Rattle.pm_recording.specs.declared.words.RecordWords.{RecordWords}
 use Rattle.pm_recording.specs.CommandWords.{asked_of}
-use Rattle.pm_recording.specs.Ends.{Cause, Ends, Ran}
+use Rattle.pm_recording.specs.Ends.{Cause, Ends, Ran, course_of}
 use Rattle.pm_recording.specs.Facts.{Completes}
-use Rattle.pm_recording.specs.Good.{IsGoodRun}
+use Rattle.pm_recording.specs.Good.{IsGoodRun, IsLastTurnedAway}
 use Rattle.pm_recording.specs.Recording.{RunSide}
 use Rattle.pm_recording.specs.Scripts.{script_recorded}
 use Rattle.pm_recording.proofs.Endings.{apart, by_end, cause_of, ended_status, not_both, of_left, one_order, too_long}
-use Rattle.pm_recording.proofs.Facts.{had_moments, moments_left, runs_of}
+use Rattle.pm_recording.proofs.Facts.{Went, compressed, gone_on, had_moments, moments_left, no_archive}
 use Rattle.pm_recording.proofs.Later.{not_late}
 use Rattle.pm_recording.proofs.Stopping.{counts_of}
 
@@ -35,14 +39,42 @@ module _ {C D : Type 0} (words : List (List ℕ)) (s : SourceSide) (k : SinkSide
   early_wants (Disk e) c = absurd c
   early_wants NoMemory c = refl
 
-  why_of : (ending : Ending) (ran : Ran words s o opened ending) → WhyStopped ran.has.was.recording.beside.sampled ran.asks.asked.volume (IsRecovered (contents_of (o.disk.held o.disk_was))) ending
-  why_of ending ran = subst (λ (x : Ending). WhyStopped ran.has.was.recording.beside.sampled ran.asks.asked.volume (IsRecovered (contents_of (o.disk.held o.disk_was))) x) ran.ended (ran.has.was.recording.why good.disk.tells)
+  why_of : (ending : Ending) (ran : Ran words s o opened ending) → WhyStopped ran.has.was.recording.beside.sampled ending
+  why_of ending ran = subst (λ (x : Ending). WhyStopped ran.has.was.recording.beside.sampled x) ran.ended ran.has.was.recording.why
+
+  -- the files that recovery left
+  module _ (reason : Ending) (ran : Ran words s o opened reason) (went : Went words s k o opened ran good.disk.tells reason) where
+    abbrev found : Files
+    found = left_of o.disk ran.asks.asked.volume (course_of ran good.disk.tells).events (course_of ran good.disk.tells).more o.disk_was o.disk_is went
+
+    abbrev recovered : IsRecovered (contents_of (o.disk.held o.disk_was)) found
+    recovered = record { reading = went.reading; was = went.was; recovered = went.recovered }
+
+    turned_away : (last : ShowsLast ran.has.was.recording.beside.sampled) → IsTurnedAway ran.asks.asked.volume found (events_of ran.has.was.recording.results) (shown_last ran.has.was.recording.beside.sampled last) reason → IsLastTurnedAway ran reason
+    turned_away last away = record { left = found; recovered = recovered; last = last; away = away }
 
   -- no sample comes too early
   timely : (last : Moment) → Ran words s o opened (ends.NotLater last) → ⊥
   timely last ran =
-      not_late ran.has.was.recording.beside.sampled ran.asks.asked.volume (contents_of (o.disk.held o.disk_was)) (o.clock.left o.clock_was) (o.clock.left o.clock_is) (ran.has.was.recording.clock good.clock.tells) good.clock.rising good.clock.later last
-      (why_of (ends.NotLater last) ran)
+      let gone = gone_on words s k o opened (ends.NotLater last) ran good.disk.tells (λ z. z) in
+      not_late ran.has.was.recording.beside.sampled ran.asks.asked.volume (contents_of (o.disk.held o.disk_was)) (o.clock.left o.clock_was) (o.clock.left o.clock_is) (ran.has.was.recording.clock good.clock.tells) good.clock.rising good.clock.later
+      (found (ends.NotLater last) ran gone.0) (recovered (ends.NotLater last) ran gone.0) gone.1.0 last gone.1.1
+
+  -- none asks for too many metrics, and what each shows has its place
+  too_large : (what : LimitKind) (number : ℕ) (ran : Ran words s o opened (ends.Limit what number)) (went : Went words s k o opened ran good.disk.tells (ends.Limit what number))
+      → TurnsLastAway ran.has.was.recording.beside.sampled ran.asks.asked.volume (found (ends.Limit what number) ran went) (ends.Limit what number) (course_of ran good.disk.tells).events (course_of ran good.disk.tells).more → ⊥
+  too_large what number ran went did = (good.welcome (ends.Limit what number) ran).small what number (turned_away (ends.Limit what number) ran went did.0 did.1)
+
+  unlimited : (what : LimitKind) (number : ℕ) → Ran words s o opened (ends.Limit what number) → ⊥
+  unlimited kinds.Sets number ran = (good.welcome (ends.Limit kinds.Sets number) ran).few number (why_of (ends.Limit kinds.Sets number) ran)
+  unlimited kinds.Record number ran = let gone = gone_on words s k o opened (ends.Limit kinds.Record number) ran good.disk.tells (λ z. z) in too_large kinds.Record number ran gone.0 gone.1
+  unlimited kinds.Meta number ran = let gone = gone_on words s k o opened (ends.Limit kinds.Meta number) ran good.disk.tells (λ z. z) in too_large kinds.Meta number ran gone.0 gone.1
+  unlimited kinds.Index number ran = let gone = gone_on words s k o opened (ends.Limit kinds.Index number) ran good.disk.tells (λ z. z) in too_large kinds.Index number ran gone.0 gone.1
+  unlimited kinds.Volume number ran = let gone = gone_on words s k o opened (ends.Limit kinds.Volume number) ran good.disk.tells (λ z. z) in too_large kinds.Volume number ran gone.0 gone.1
+
+  unchanged : (pmid : ℕ) → Ran words s o opened (ends.Changed pmid) → ⊥
+  unchanged pmid ran =
+      let gone = gone_on words s k o opened (ends.Changed pmid) ran good.disk.tells (λ z. z) in (good.welcome (ends.Changed pmid) ran).same pmid (turned_away (ends.Changed pmid) ran gone.0 gone.1.0 gone.1.1)
 
   -- the run ends by the clock alone, where its moments have ended; or for want of memory
   abbrev ByClock : Ending → Type 0
@@ -52,15 +84,14 @@ module _ {C D : Type 0} (words : List (List ℕ)) (s : SourceSide) (k : SinkSide
   late_by ends.Done other ran = absurd (other refl)
   late_by (ends.Condition line) other ran = absurd (cause_of words s k o opened (ends.Condition line) ran)
   late_by ends.DiskFault other ran = absurd (good.disk.kept (cause_of words s k o opened ends.DiskFault ran))
-  late_by (ends.NotArchive file at) other ran = absurd (refused_is_none (contents_of (o.disk.held o.disk_was)) file at good.disk.readable (runs_of words s k o opened (ends.NotArchive file at) ran good.disk.tells).0.1)
-  late_by (ends.Compressed file) other ran = let e : None ≡ Some file = sym good.disk.unwrapped ∙ (runs_of words s k o opened (ends.Compressed file) ran good.disk.tells).0 in absurd (cc)
-  late_by (ends.Limit what number) other ran =
-      let welcome = good.welcome (ends.Limit what number) ran in absurd (⊎_elim (welcome.few what number) (welcome.small what number) (why_of (ends.Limit what number) ran))
+  late_by (ends.NotArchive file at) other ran = absurd (refused_is_none (contents_of (o.disk.held o.disk_was)) file at good.disk.readable (no_archive words s k o opened file at ran good.disk.tells))
+  late_by (ends.Compressed file) other ran = let e : None ≡ Some file = sym good.disk.unwrapped ∙ compressed words s k o opened file ran good.disk.tells in absurd (cc)
+  late_by (ends.Limit what number) other ran = absurd (unlimited what number ran)
   late_by (ends.ClockEnd left) other ran = inl (left, refl)
   late_by (ends.ClockFault left) other ran = absurd (good.clock.kept (cause_of words s k o opened (ends.ClockFault left) ran))
   late_by ends.NoMemory other ran = inr refl
   late_by (ends.NotLater last) other ran = absurd (timely last ran)
-  late_by (ends.Changed pmid) other ran = absurd ((good.welcome (ends.Changed pmid) ran).same pmid (why_of (ends.Changed pmid) ran))
+  late_by (ends.Changed pmid) other ran = absurd (unchanged pmid ran)
 
   -- and by the clock only where it has fewer moments than samples
   ended_short : (left : ℕ) → Ran words s o opened (ends.ClockEnd left) → (asked : RecordWords) → asked_of words ≡ Ok asked → asked.samples ≤ length (o.clock.left o.clock_was) → ⊥

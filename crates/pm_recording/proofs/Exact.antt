@@ -2,9 +2,9 @@
 use Rattle.std.proofs.Common.{◌≡◌, inl, inr, ℕ, ◌≤◌, List, length, refl, sym, ◌∙◌, subst, arith, Option, Some, None, Result, Ok, Err}
 use Rattle.std.specs.Global.{Vec}
 use Rattle.fetch_engine.specs.declared.server.Mounted.{Mounted}
-use Rattle.record_laws.proofs.Counted.{counters_are_sums}
-use Rattle.record_laws.proofs.Last.{last_sample}
-use Rattle.record_laws.proofs.Unlost.{no_line_lost}
+use Rattle.record_run.proofs.Counted.{counters_are_sums}
+use Rattle.record_run.proofs.Last.{last_sample}
+use Rattle.record_run.proofs.Unlost.{no_line_lost}
 use Rattle.region_rule.specs.Seats.{Token}
 use Rattle.run_script.specs.Reading.{script_of}
 use Rattle.run_script.specs.Recording.{refused_line}
@@ -12,10 +12,10 @@ use Rattle.run_script.specs.Rules.{KeepsRules}
 use Rattle.run_script.specs.declared.fault.ScriptFault.{ScriptFault}
 use Rattle.run_script.specs.declared.script.Script.{Script}
 use Rattle.run_script.proofs.Ruled.{scripts_are_ruled}
-use Rattle.script_passes.specs.Crews.{ServesScript}
-use Rattle.script_passes.specs.Lasts.{AreLast}
-use Rattle.script_passes.specs.declared.opening.Opened.{Opened}
-use Rattle.script_records.specs.Beside.{Beside, TellWriters}
+use Rattle.run_passes.specs.Crews.{ServesScript}
+use Rattle.run_passes.specs.Lasts.{AreLast}
+use Rattle.run_passes.specs.declared.opening.Opened.{Opened}
+use Rattle.record_run.specs.Beside.{Beside, TellWriters}
 use Rattle.script_runs.specs.declared.ending.Ending.{Ending}
 use Rattle.script_runs.specs.declared.ending.Ending.TheVariants as ends
 use Rattle.pcp_outside.specs.Sides.{SourceSide, SinkSide}

@@ -1,5 +1,5 @@
 -- Each fact on a status follows from how the call ends.
-use Rattle.std.proofs.Common.{◌≡◌, ◌≢◌, ◌⊎◌, inl, inr, ℕ, ◌+◌, ◌<◌, List, length, drop, length-append, refl, sym, ap, ◌∙◌, subst, arith, Option, Some, None, IsSome, Ok, Err}
+use Rattle.std.proofs.Common.{◌≡◌, ◌≢◌, ◌⊎◌, inl, inr, ⊎_elim, ℕ, ◌+◌, ◌<◌, List, [], length, drop, length-append, refl, sym, ap, ◌∙◌, subst, arith, Option, Some, None, IsSome, Ok, Err}
 use Rattle.pcp_base.specs.Time.{Moment}
 use Rattle.pcp_base.specs.declared.file.FileId.{FileId}
 use Rattle.pcp_model.specs.Disk.{contents_of}
@@ -7,15 +7,14 @@ use Rattle.pcp_outside.specs.Causes.{Rose}
 use Rattle.archive_recovery.specs.RecoverFaults.{IsRefused}
 use Rattle.run_script.specs.declared.fault.ScriptFault.{ScriptFault}
 use Rattle.run_script.specs.declared.script.Script.{Script}
-use Rattle.script_passes.specs.declared.opening.Opened.{Opened}
-use Rattle.script_records.specs.Beside.{EndsBy, TellWriters}
-use Rattle.script_records.specs.Recordings.{Records}
-use Rattle.script_records.specs.Stopping.{WhyAsked, WhyStopped}
-use Rattle.script_replays.specs.Replays.{IsRecovered, disk_pair}
+use Rattle.run_passes.specs.declared.opening.Opened.{Opened}
+use Rattle.record_run.specs.Beside.{EndsBy, TellWriters}
+use Rattle.record_run.specs.Stopping.{LoggingDid}
 use Rattle.script_runs.specs.declared.ending.Ending.{Ending}
 use Rattle.script_runs.specs.declared.ending.Ending.TheVariants as ends
 use Rattle.script_runs.specs.declared.ending.LimitKind.{LimitKind}
-use Rattle.script_samples.specs.Sampling.{HasEnded}
+use Rattle.run_archive.specs.Outcomes.{IsUnrecovered, WentOn, left_of}
+use Rattle.run_archive.specs.Sampling.{HasEnded}
 use Rattle.pm_words.specs.Inputs.{input_limit}
 use Rattle.pm_words.specs.Refusals.{input_status, script_status, status_of}
 use Rattle.pcp_outside.specs.Sides.{SourceSide, SinkSide}
@@ -24,8 +23,8 @@ use Rattle.pm_words.specs.declared.refusal.Refusal.TheVariants.{Words, Reading, 
 use Rattle.pm_words.specs.declared.stage.ReadRefusal.TheVariants.{ReadFault, InputLimit}
 use Rattle.pm_recording.specs.declared.words.RecordWords.{RecordWords}
 use Rattle.pm_recording.specs.CommandWords.{asked_of}
-use Rattle.pm_recording.specs.Ends.{Asks, Cause, Ends, EndsDone, Finds, IsAsked, Ran}
-use Rattle.pm_recording.specs.Facts.{ArchiveFaultIsExact, ClockIsExact, ComesOfRun, IsLimited, LimitIsExact, OpensRegions, RunIsExact, ScriptFaultIsExact, UsageIsExact, WritersAreTold}
+use Rattle.pm_recording.specs.Ends.{Asks, Cause, Ends, EndsDone, Finds, IsAsked, Ran, course_of}
+use Rattle.pm_recording.specs.Facts.{ArchiveFaultIsExact, ClockIsExact, ComesOfRun, LimitIsExact, OpensRegions, RunIsExact, ScriptFaultIsExact, UsageIsExact, WritersAreTold}
 use Rattle.pm_recording.specs.Good.{Meets}
 use Rattle.pm_recording.specs.Recording.{IsUnrun, RunSide}
 use Rattle.pm_recording.specs.Scripts.{script_recorded}
@@ -122,7 +121,7 @@ module _ {C D : Type 0} (words : List (List ℕ)) (s : SourceSide) (k : SinkSide
 
   abbrev LimitCause : Type 0
   LimitCause = (IsAsked words × (s.tells → (input_limit < length s.left) × (s.after ≡ drop 16777217 s.left)))
-      ⊎ (((fault : ScriptFault) × (script_status fault.fault ≡ 7) × Finds words s fault) ⊎ ((what : LimitKind) × (number : ℕ) × IsLimited words s o opened what number))
+      ⊎ (((fault : ScriptFault) × (script_status fault.fault ≡ 7) × Finds words s fault) ⊎ ((what : LimitKind) × (number : ℕ) × Ran words s o opened (ends.Limit what number)))
 
   limit_only : (e : Refusal) → Cause words s e → IsUnrun o opened → status_of e ≡ 7 → LimitCause
   limit_only (Words usage) c u h = absurd (omega (arith, h))
@@ -132,15 +131,8 @@ module _ {C D : Type 0} (words : List (List ℕ)) (s : SourceSide) (k : SinkSide
   limit_only (Disk e) c u h = absurd c
   limit_only NoMemory c u h = absurd (omega (arith, h))
 
-  limited_by : (what : LimitKind) (number : ℕ) → Ran words s o opened (ends.Limit what number) → IsLimited words s o opened what number
-  limited_by what number ran = record {
-    ran = ran;
-    asked = subst (λ (x : Ending). WhyAsked ran.has.was.recording.beside.sampled x) ran.ended ran.has.was.recording.asked;
-    why = λ tells. subst (λ (x : Ending). WhyStopped ran.has.was.recording.beside.sampled ran.asks.asked.volume (IsRecovered (contents_of (o.disk.held o.disk_was))) x) ran.ended (ran.has.was.recording.why tells);
-  }
-
   limit_ran : (ending : Ending) → ending ≢ ends.Done → Ran words s o opened ending → ended_status ending ≡ 7 → LimitCause
-  limit_ran (ends.Limit what number) other ran h = inr (inr (what, number, limited_by what number ran))
+  limit_ran (ends.Limit what number) other ran h = inr (inr (what, number, ran))
   limit_ran ending other ran h = absurd (omega (arith, h))
 
   pub limit_is_exact : (status : ℕ) → End status → LimitIsExact words s o opened status
@@ -232,8 +224,36 @@ module _ {C D : Type 0} (words : List (List ℕ)) (s : SourceSide) (k : SinkSide
 
   -- ---- the files at the start
 
-  pub runs_of : (ending : Ending) (ran : Ran words s o opened ending) → o.disk.tells → Records ran.asks.asked.volume (disk_pair o.disk o.disk_was o.disk_is) ran.has.was.recording.results ending
-  runs_of ending ran tells = subst (λ (x : Ending). Records ran.asks.asked.volume (disk_pair o.disk o.disk_was o.disk_is) ran.has.was.recording.results x) ran.ended (ran.has.was.recording.runs tells)
+  module _ {ending : Ending} (ran : Ran words s o opened ending) (told : o.disk.tells) where
+    -- recovery didn't answer, for this reason
+    abbrev pub Unrecovered : Ending → Type 0
+    Unrecovered reason = IsUnrecovered o.disk o.disk_was o.disk_is reason × ((course_of ran told).events ≡ []) × ((course_of ran told).more ≡ []) × ((ran.has.was.recording.moments ≡ []) × (ran.has.was.recording.results ≡ []))
+
+    abbrev pub Went : Ending → Type 0
+    Went reason = WentOn o.disk ran.asks.asked.volume (course_of ran told).events (course_of ran told).more o.disk_was o.disk_is reason
+
+    abbrev pub Did : (reason : Ending) → Went reason → Type 0
+    Did reason went =
+        LoggingDid ran.has.was.recording.beside.sampled ran.asks.asked.volume (left_of o.disk ran.asks.asked.volume (course_of ran told).events (course_of ran told).more o.disk_was o.disk_is went) reason (course_of ran told).events
+        (course_of ran told).more
+
+    abbrev pub Began : Ending → Type 0
+    Began reason = Unrecovered reason ⊎ ((went : Went reason) × Did reason went)
+
+  pub began_of : (ending : Ending) (ran : Ran words s o opened ending) (told : o.disk.tells) → Began ran told ending
+  began_of ending ran told = subst (λ (x : Ending). Began ran told x) ran.ended (course_of ran told).on.begun
+
+  -- but for the files, the disk and want of memory each ending comes behind it
+  pub gone_on : (ending : Ending) (ran : Ran words s o opened ending) (told : o.disk.tells) → (IsUnrecovered o.disk o.disk_was o.disk_is ending → ⊥) → (went : Went ran told ending) × Did ran told ending went
+  gone_on ending ran told answered = ⊎_elim (λ (u : Unrecovered ran told ending). absurd (answered u.0)) (λ (g : (went : Went ran told ending) × Did ran told ending went). g) (began_of ending ran told)
+
+  pub compressed : (file : FileId) → Ran words s o opened (ends.Compressed file) → o.disk.tells → o.disk.wrapped_file o.disk_was ≡ Some file
+  compressed file ran told =
+      ⊎_elim (λ (u : Unrecovered ran told (ends.Compressed file)). u.0.0) (λ (g : (went : Went ran told (ends.Compressed file)) × Did ran told (ends.Compressed file) went). absurd g.1) (began_of (ends.Compressed file) ran told)
+
+  pub no_archive : (file : FileId) (at : ℕ) → Ran words s o opened (ends.NotArchive file at) → o.disk.tells → IsRefused (contents_of (o.disk.held o.disk_was)) file at
+  no_archive file at ran told =
+      ⊎_elim (λ (u : Unrecovered ran told (ends.NotArchive file at)). u.0.0.1) (λ (g : (went : Went ran told (ends.NotArchive file at)) × Did ran told (ends.NotArchive file at) went). absurd g.1) (began_of (ends.NotArchive file at) ran told)
 
   unwrapped_not : (file : FileId) → o.disk.wrapped_file o.disk_was ≡ Some file → o.disk.wrapped_file o.disk_was ≡ None → ⊥
   unwrapped_not file some none = let e : None ≡ Some file = sym none ∙ some in cc
@@ -243,8 +263,8 @@ module _ {C D : Type 0} (words : List (List ℕ)) (s : SourceSide) (k : SinkSide
       ⊎ ((file : FileId) × (at : ℕ) × Ran words s o opened (ends.NotArchive file at) × (o.disk.tells → IsRefused (contents_of (o.disk.held o.disk_was)) file at))
 
   archive_only : (ending : Ending) → ending ≢ ends.Done → Ran words s o opened ending → ended_status ending ≡ 6 → FilesCause
-  archive_only (ends.Compressed file) other ran h = inl (file, ran, λ tells. (runs_of (ends.Compressed file) ran tells).0)
-  archive_only (ends.NotArchive file at) other ran h = inr (file, at, ran, λ tells. (runs_of (ends.NotArchive file at) ran tells).0.1)
+  archive_only (ends.Compressed file) other ran h = inl (file, ran, compressed file ran)
+  archive_only (ends.NotArchive file at) other ran h = inr (file, at, ran, no_archive file at ran)
   archive_only ending other ran h = absurd (omega (arith, h))
 
   abbrev TurnedAway : ℕ → Type 0
@@ -259,8 +279,11 @@ module _ {C D : Type 0} (words : List (List ℕ)) (s : SourceSide) (k : SinkSide
     wrapped_early (Disk e) c u = absurd c
     wrapped_early NoMemory c u = inr (inl refl)
 
+    not_gone : (ending : Ending) → (IsUnrecovered o.disk o.disk_was o.disk_is ending → ⊥) → Ran words s o opened ending → ⊥
+    not_gone ending answered ran = unwrapped_not file wraps (gone_on ending ran tells answered).0.unwrapped
+
     wrapped_done : Ran words s o opened ends.Done → ⊥
-    wrapped_done ran = unwrapped_not file wraps (runs_of ends.Done ran tells).unwrapped
+    wrapped_done ran = not_gone ends.Done (λ z. z) ran
 
     wrapped_late : (ending : Ending) → ending ≢ ends.Done → Ran words s o opened ending → TurnedAway (ended_status ending)
     wrapped_late ends.Done other ran = absurd (other refl)
@@ -268,12 +291,12 @@ module _ {C D : Type 0} (words : List (List ℕ)) (s : SourceSide) (k : SinkSide
     wrapped_late ends.DiskFault other ran = inr (inr (inr refl))
     wrapped_late (ends.NotArchive f at) other ran = inl refl
     wrapped_late (ends.Compressed f) other ran = inl refl
-    wrapped_late (ends.Limit what number) other ran = absurd (unwrapped_not file wraps (runs_of (ends.Limit what number) ran tells).unwrapped)
-    wrapped_late (ends.ClockEnd left) other ran = absurd (unwrapped_not file wraps (runs_of (ends.ClockEnd left) ran tells).unwrapped)
-    wrapped_late (ends.ClockFault left) other ran = absurd (unwrapped_not file wraps (runs_of (ends.ClockFault left) ran tells).unwrapped)
+    wrapped_late (ends.Limit what number) other ran = absurd (not_gone (ends.Limit what number) (λ z. z) ran)
+    wrapped_late (ends.ClockEnd left) other ran = absurd (not_gone (ends.ClockEnd left) (λ z. z) ran)
+    wrapped_late (ends.ClockFault left) other ran = absurd (not_gone (ends.ClockFault left) (λ z. z) ran)
     wrapped_late ends.NoMemory other ran = inr (inl refl)
-    wrapped_late (ends.NotLater last) other ran = absurd (unwrapped_not file wraps (runs_of (ends.NotLater last) ran tells).unwrapped)
-    wrapped_late (ends.Changed pmid) other ran = absurd (unwrapped_not file wraps (runs_of (ends.Changed pmid) ran tells).unwrapped)
+    wrapped_late (ends.NotLater last) other ran = absurd (not_gone (ends.NotLater last) (λ z. z) ran)
+    wrapped_late (ends.Changed pmid) other ran = absurd (not_gone (ends.Changed pmid) (λ z. z) ran)
 
     turned_away : (status : ℕ) → End status → TurnedAway status
     turned_away status ends_so = by_end words s k o opened TurnedAway wrapped_early wrapped_late (λ want. inr (inl refl)) status ends_so (λ done. absurd (wrapped_done done.ran)) (λ untold. absurd (wrapped_done untold.ran))

@@ -3,15 +3,15 @@ use Rattle.std.proofs.Common.{◌≡◌, ◌≢◌, inl, inr, ⊎_elim, ℕ, ◌
 use Rattle.pcp_model.specs.Disk.{CrashImage, Files, Holdings, IsSettled, contents_of}
 use Rattle.pcp_outside.specs.Devices.{LeavesOnly}
 use Rattle.pcp_outside.proofs.Crash.{started, weaker}
-use Rattle.fetch_answers.specs.declared.fetch.Fetched.{Fetched}
-use Rattle.record_run.specs.ImageCrashes.{MayBeAfter}
-use Rattle.record_run.specs.SinceRecovery.{FromRecovery}
-use Rattle.script_passes.specs.declared.opening.Opened.{Opened}
-use Rattle.script_records.specs.Recordings.{StaysBefore, IsTried}
-use Rattle.script_replays.specs.Replays.{IsRecovered, SinceRecovered, disk_pair}
+use Rattle.pcp_base.specs.declared.result.Item.{Item}
+use Rattle.logging_session.specs.ComingBack.{MayBeAfter}
+use Rattle.logging_session.specs.Events.{items_by}
+use Rattle.run_archive.specs.Crashes.{IsAllAfter}
+use Rattle.run_archive.specs.Outcomes.{IsUnrecovered}
+use Rattle.run_archive.specs.Shown.{items_of_results}
+use Rattle.run_passes.specs.declared.opening.Opened.{Opened}
 use Rattle.script_runs.specs.declared.ending.Ending.{Ending}
 use Rattle.script_runs.specs.declared.ending.Ending.TheVariants as ends
-use Rattle.script_samples.specs.Shown.{items_of_results}
 use Rattle.pm_words.specs.Refusals.{status_of}
 use Rattle.pcp_outside.specs.Sides.{SourceSide, SinkSide}
 use Rattle.pm_words.specs.Sides.{IsUnread, Leaves}
@@ -20,12 +20,16 @@ use Rattle.pm_words.specs.declared.refusal.Refusal.TheVariants.{Disk}
 use Rattle.pm_words.specs.declared.stage.DiskRefusal.TheVariants.{DiskFault}
 use Rattle.pm_recording.specs.declared.refusal.RecordRefusal.{RecordRefusal}
 use Rattle.pm_recording.specs.declared.refusal.RecordRefusal.TheVariants.{Common}
-use Rattle.pm_recording.specs.Ends.{Cause, Ends, MayBeLeft, Ran, RanWanting}
+use Rattle.pm_recording.specs.Ends.{Cause, Ends, MayBeLeft, Ran, RanWanting, course_of, items_of}
 use Rattle.pm_recording.specs.Facts.{HadRecovered, KeepsAll, RecordsSince}
 use Rattle.pm_recording.specs.Recording.{IsUnrun, RunSide}
 use Rattle.pm_recording.specs.Refusals.{TakesMemory, recording_refusal}
 use Rattle.pm_recording.proofs.Endings.{by_end, cause_of, ended_status, never_early}
-use Rattle.pm_recording.proofs.Facts.{is_done, runs_of}
+use Rattle.pm_recording.proofs.Facts.{Did, Unrecovered, Went, began_of, gone_on, is_done}
+use Rattle.pm_recording.proofs.Items.{items_are, of_opened, of_results}
+
+done_not_failed : ends.Done ≡ ends.DiskFault → ⊥
+done_not_failed failed = cc
 
 never_had : (n : ℕ) → 4 < n → n ≢ 8 → n ≢ 12 → n ≢ 13 → n ≢ 20 → HadRecovered n → ⊥
 never_had n high eight twelve thirteen twenty (inl h) = omega (arith, h, high)
@@ -50,29 +54,30 @@ module _ {C D : Type 0} (words : List (List ℕ)) (s : SourceSide) (k : SinkSide
   unrun_settles : IsUnrun o opened → Settles
   unrun_settles unrun tells settled = subst (λ (d : D). IsSettled (o.disk.held d)) (sym unrun.disk) settled
 
-  stays : (results : List Fetched) → StaysBefore (disk_pair o.disk o.disk_was o.disk_is) results → IsSettled was → IsSettled (o.disk.held o.disk_is)
-  stays results before settled = subst IsSettled (sym before.stays) settled
+  -- where recovery didn't answer the disk stayed, unless it failed
+  settles_by : (ending : Ending) → ending ≢ ends.DiskFault → (IsUnrecovered o.disk o.disk_was o.disk_is ending → o.disk.held o.disk_is ≡ was) → Ran words s o opened ending → Settles
+  settles_by ending other stayed ran tells settled =
+      ⊎_elim (λ (u : Unrecovered words s k o opened ran tells ending). subst IsSettled (sym (stayed u.0)) settled)
+      (λ (g : (went : Went words s k o opened ran tells ending) × Did words s k o opened ran tells ending went). (g.0.flushed other).settled) (began_of words s k o opened ending ran tells)
 
   ran_settles : (ending : Ending) → ending ≢ ends.DiskFault → Ran words s o opened ending → Settles
-  ran_settles ends.Done other ran tells settled = (runs_of words s k o opened ends.Done ran tells).settled
-  ran_settles (ends.Condition line) other ran tells settled = absurd (cause_of words s k o opened (ends.Condition line) ran)
-  ran_settles ends.DiskFault other ran tells settled = absurd (other refl)
-  ran_settles (ends.NotArchive file at) other ran tells settled = stays ran.has.was.recording.results (runs_of words s k o opened (ends.NotArchive file at) ran tells).1 settled
-  ran_settles (ends.Compressed file) other ran tells settled = stays ran.has.was.recording.results (runs_of words s k o opened (ends.Compressed file) ran tells).1 settled
-  ran_settles (ends.Limit what number) other ran tells settled = (runs_of words s k o opened (ends.Limit what number) ran tells).settled
-  ran_settles (ends.ClockEnd left) other ran tells settled = (runs_of words s k o opened (ends.ClockEnd left) ran tells).settled
-  ran_settles (ends.ClockFault left) other ran tells settled = (runs_of words s k o opened (ends.ClockFault left) ran tells).settled
-  ran_settles ends.NoMemory other ran tells settled = ⊎_elim (λ before. stays ran.has.was.recording.results before settled) (λ came. came.settled) (runs_of words s k o opened ends.NoMemory ran tells)
-  ran_settles (ends.NotLater last) other ran tells settled = (runs_of words s k o opened (ends.NotLater last) ran tells).settled
-  ran_settles (ends.Changed pmid) other ran tells settled = (runs_of words s k o opened (ends.Changed pmid) ran tells).settled
+  ran_settles ends.Done other = settles_by ends.Done other (λ z. absurd z)
+  ran_settles (ends.Condition line) other = settles_by (ends.Condition line) other (λ z. absurd z)
+  ran_settles ends.DiskFault other = absurd (other refl)
+  ran_settles (ends.NotArchive file at) other = settles_by (ends.NotArchive file at) other (λ z. z.1)
+  ran_settles (ends.Compressed file) other = settles_by (ends.Compressed file) other (λ z. z.1)
+  ran_settles (ends.Limit what number) other = settles_by (ends.Limit what number) other (λ z. absurd z)
+  ran_settles (ends.ClockEnd left) other = settles_by (ends.ClockEnd left) other (λ z. absurd z)
+  ran_settles (ends.ClockFault left) other = settles_by (ends.ClockFault left) other (λ z. absurd z)
+  ran_settles ends.NoMemory other = settles_by ends.NoMemory other (λ z. z)
+  ran_settles (ends.NotLater last) other = settles_by (ends.NotLater last) other (λ z. absurd z)
+  ran_settles (ends.Changed pmid) other = settles_by (ends.Changed pmid) other (λ z. absurd z)
 
   late_settles : (ending : Ending) → ending ≢ ends.Done → Ran words s o opened ending → (ended_status ending ≡ 5 → ⊥) → Settles
   late_settles ending other ran five = ran_settles ending (λ failed. five (ap ended_status failed)) ran
 
   done_settles : Ran words s o opened ends.Done → Settles
-  done_settles ran = ran_settles ends.Done (λ failed. done_fails failed) ran where
-    done_fails : ends.Done ≡ ends.DiskFault → ⊥
-    done_fails failed = cc
+  done_settles ran = ran_settles ends.Done done_not_failed ran
 
   -- the line of a disk that failed takes no memory
   takes_none : (e : RecordRefusal) → Some (Common (Disk DiskFault)) ≡ Some e → TakesMemory e → ⊥
@@ -102,7 +107,7 @@ module _ {C D : Type 0} (words : List (List ℕ)) (s : SourceSide) (k : SinkSide
 
   ran_leaves : (ending : Ending) → Ran words s o opened ending → LeavesSo May
   ran_leaves ending ran tells =
-      weaker o.disk.moment o.disk.left_since o.disk.held o.disk_was o.disk_is (MayBeAfter (items_of_results (ran.has.was.recording.tried tells)) was) (May was) (ran.has.was.recording.any_moment tells) (λ c may. inr (tells, ending, ran, may))
+      weaker o.disk.moment o.disk.left_since o.disk.held o.disk_was o.disk_is (MayBeAfter (items_of ran tells) 0 was) (May was) (course_of ran tells).on.any_moment (λ c may. inr (tells, ending, ran, may))
 
   pub any_moment : OnlyNow → (status : ℕ) → End status → LeavesSo May
   any_moment only_now status ends_so = by_end words s k o opened (λ n. LeavesSo May) (λ e c u. unrun_leaves only_now u May (λ crash image. inl image)) (λ ending other ran. ran_leaves ending ran) (λ want. ran_leaves want.ran.ending want.ran.ran) status ends_so
@@ -129,41 +134,39 @@ module _ {C D : Type 0} (words : List (List ℕ)) (s : SourceSide) (k : SinkSide
 
   pub keeps_all : (status : ℕ) → End status → status ≡ 0 → o.disk.tells → KeepsAll words s o opened
   keeps_all status ends_so zero tells =
-      let done = is_done words s k o opened status ends_so zero in
-      record { ran = done.ran; each = λ crash image. (runs_of words s k o opened ends.Done done.ran tells).survive crash image }
+      let ran = (is_done words s k o opened status ends_so zero).ran in
+      let gone = gone_on words s k o opened ends.Done ran tells (λ z. z) in
+      let results = ran.has.was.recording.results in
+      let logged : items_by (course_of ran tells).events ≡ items_of_results results = ap items_by gone.1.0 ∙ items_are results in
+      record { ran = ran; each = λ crash image. subst (λ (items : List Item). IsAllAfter items (contents_of was) crash) logged ((gone.0.flushed done_not_failed).survive crash image) }
 
-  tried_of : (ending : Ending) (ran : Ran words s o opened ending) (told : o.disk.tells) → IsTried ran.has.was.recording.beside.sampled ran.asks.asked.volume (IsRecovered (contents_of was)) ending (ran.has.was.recording.tried told)
-  tried_of ending ran told = subst (λ (x : Ending). IsTried ran.has.was.recording.beside.sampled ran.asks.asked.volume (IsRecovered (contents_of was)) x (ran.has.was.recording.tried told)) ran.ended (ran.has.was.recording.tried_are told)
-
-  since_of : (ending : Ending) (ran : Ran words s o opened ending) (told : o.disk.tells) → SinceRecovered o.disk (items_of_results (ran.has.was.recording.tried told)) o.disk_was o.disk_is ending
-  since_of ending ran tells = subst (λ (x : Ending). SinceRecovered o.disk (items_of_results (ran.has.was.recording.tried tells)) o.disk_was o.disk_is x) ran.ended (ran.has.was.recording.since tells)
-
-  records_since : (ending : Ending) (ran : Ran words s o opened ending) (told : o.disk.tells) → ran.has.was.recording.tried told ≡ ran.has.was.recording.results
-      → FromRecovery o.disk.held o.disk.moment o.disk.left_since (items_of_results (ran.has.was.recording.tried told)) o.disk_was o.disk_is → RecordsSince words s o opened
-  records_since ending ran told same from = record {
+  since_by : (ending : Ending) → (IsUnrecovered o.disk o.disk_was o.disk_is ending → ⊥) → (ran : Ran words s o opened ending)
+      → ((told : o.disk.tells) (went : Went words s k o opened ran told ending) → Did words s k o opened ran told ending went → items_of ran told ≡ items_of_results ran.has.was.recording.results) → RecordsSince words s o opened
+  since_by ending answered ran items = record {
     ending = ending;
     ran = ran;
-    since = subst (λ (results : List Fetched). FromRecovery o.disk.held o.disk.moment o.disk.left_since (items_of_results results) o.disk_was o.disk_is) same from;
+    gone = λ told. let g = gone_on words s k o opened ending ran told answered in record { went = g.0; did = g.1; items = items told g.0 g.1 };
   }
 
-  late_since : (ending : Ending) → ending ≢ ends.Done → Ran words s o opened ending → HadRecovered (ended_status ending) → o.disk.tells → RecordsSince words s o opened
-  late_since ends.Done other ran had tells = absurd (other refl)
-  late_since (ends.Condition line) other ran had tells = absurd (cause_of words s k o opened (ends.Condition line) ran)
-  late_since ends.DiskFault other ran had tells = absurd (never_had 5 (omega arith) (λ z. omega (arith, z)) (λ z. omega (arith, z)) (λ z. omega (arith, z)) (λ z. omega (arith, z)) had)
-  late_since (ends.NotArchive file at) other ran had tells = absurd (never_had 6 (omega arith) (λ z. omega (arith, z)) (λ z. omega (arith, z)) (λ z. omega (arith, z)) (λ z. omega (arith, z)) had)
-  late_since (ends.Compressed file) other ran had tells = absurd (never_had 6 (omega arith) (λ z. omega (arith, z)) (λ z. omega (arith, z)) (λ z. omega (arith, z)) (λ z. omega (arith, z)) had)
-  late_since (ends.Limit what number) other ran had tells = records_since (ends.Limit what number) ran tells (tried_of (ends.Limit what number) ran tells) (since_of (ends.Limit what number) ran tells)
-  late_since (ends.ClockEnd left) other ran had tells = records_since (ends.ClockEnd left) ran tells (tried_of (ends.ClockEnd left) ran tells) (since_of (ends.ClockEnd left) ran tells)
-  late_since (ends.ClockFault left) other ran had tells = records_since (ends.ClockFault left) ran tells (tried_of (ends.ClockFault left) ran tells) (since_of (ends.ClockFault left) ran tells)
-  late_since ends.NoMemory other ran had tells = absurd (never_had 9 (omega arith) (λ z. omega (arith, z)) (λ z. omega (arith, z)) (λ z. omega (arith, z)) (λ z. omega (arith, z)) had)
-  late_since (ends.NotLater last) other ran had tells = records_since (ends.NotLater last) ran tells (tried_of (ends.NotLater last) ran tells) (since_of (ends.NotLater last) ran tells)
-  late_since (ends.Changed pmid) other ran had tells = records_since (ends.Changed pmid) ran tells (tried_of (ends.Changed pmid) ran tells) (since_of (ends.Changed pmid) ran tells)
+  late_since : (ending : Ending) → ending ≢ ends.Done → Ran words s o opened ending → HadRecovered (ended_status ending) → RecordsSince words s o opened
+  late_since ends.Done other ran had = absurd (other refl)
+  late_since (ends.Condition line) other ran had = absurd (cause_of words s k o opened (ends.Condition line) ran)
+  late_since ends.DiskFault other ran had = absurd (never_had 5 (omega arith) (λ z. omega (arith, z)) (λ z. omega (arith, z)) (λ z. omega (arith, z)) (λ z. omega (arith, z)) had)
+  late_since (ends.NotArchive file at) other ran had = absurd (never_had 6 (omega arith) (λ z. omega (arith, z)) (λ z. omega (arith, z)) (λ z. omega (arith, z)) (λ z. omega (arith, z)) had)
+  late_since (ends.Compressed file) other ran had = absurd (never_had 6 (omega arith) (λ z. omega (arith, z)) (λ z. omega (arith, z)) (λ z. omega (arith, z)) (λ z. omega (arith, z)) had)
+  late_since (ends.Limit what number) other ran had = absurd (never_had 7 (omega arith) (λ z. omega (arith, z)) (λ z. omega (arith, z)) (λ z. omega (arith, z)) (λ z. omega (arith, z)) had)
+  late_since (ends.ClockEnd left) other ran had = since_by (ends.ClockEnd left) (λ z. z) ran (λ told went did. of_results ran.has.was.recording.results (course_of ran told).events (course_of ran told).more did.0 did.1)
+  late_since (ends.ClockFault left) other ran had = since_by (ends.ClockFault left) (λ z. z) ran (λ told went did. of_results ran.has.was.recording.results (course_of ran told).events (course_of ran told).more did.0 did.1)
+  late_since ends.NoMemory other ran had = absurd (never_had 9 (omega arith) (λ z. omega (arith, z)) (λ z. omega (arith, z)) (λ z. omega (arith, z)) (λ z. omega (arith, z)) had)
+  late_since (ends.NotLater last) other ran had =
+      since_by (ends.NotLater last) (λ z. z) ran (λ told went did. of_opened ran.has.was.recording.results did.0.sample.stamp (course_of ran told).events (course_of ran told).more did.2 did.3)
+  late_since (ends.Changed pmid) other ran had =
+      since_by (ends.Changed pmid) (λ z. z) ran (λ told went did. of_opened ran.has.was.recording.results did.0.sample.stamp (course_of ran told).events (course_of ran told).more did.2 did.3)
 
-  done_since : Ran words s o opened ends.Done → o.disk.tells → RecordsSince words s o opened
-  done_since ran tells = records_since ends.Done ran tells (tried_of ends.Done ran tells) (since_of ends.Done ran tells)
+  done_since : Ran words s o opened ends.Done → RecordsSince words s o opened
+  done_since ran = since_by ends.Done (λ z. z) ran (λ told went did. of_results ran.has.was.recording.results (course_of ran told).events (course_of ran told).more did.0 did.1)
 
-  pub had_since : (status : ℕ) → End status → HadRecovered status → o.disk.tells → RecordsSince words s o opened
-  had_since status ends_so = by_end words s k o opened (λ n. HadRecovered n → o.disk.tells → RecordsSince words s o opened)
-      (λ e c u had tells. early_had e c had) late_since
-      (λ want had tells. absurd (never_had 9 (omega arith) (λ z. omega (arith, z)) (λ z. omega (arith, z)) (λ z. omega (arith, z)) (λ z. omega (arith, z)) had)) status ends_so
-      (λ done had tells. done_since done.ran tells) (λ untold had tells. done_since untold.ran tells)
+  pub had_since : (status : ℕ) → End status → HadRecovered status → RecordsSince words s o opened
+  had_since status ends_so = by_end words s k o opened (λ n. HadRecovered n → RecordsSince words s o opened) (λ e c u had. early_had e c had) late_since
+      (λ want had. absurd (never_had 9 (omega arith) (λ z. omega (arith, z)) (λ z. omega (arith, z)) (λ z. omega (arith, z)) (λ z. omega (arith, z)) had)) status ends_so
+      (λ done had. done_since done.ran) (λ untold had. done_since untold.ran)

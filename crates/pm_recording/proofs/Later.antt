@@ -1,5 +1,6 @@
 -- Over moments that rise, and stand behind every stamp there, no result comes too early for the archive.
 use Rattle.std.proofs.Common.{◌≡◌, inl, inr, ℕ, ℤ, suc, ◌<◌, ◌≤◌, List, [], ◌∷◌, ◌++◌, map, Contains, Option, Some, None, refl, sym, ap, ◌∙◌, subst, arith, append_assoc}
+use Rattle.std.proofs.lemmas.List.{append-nil}
 use Rattle.std.specs.List.{AllByRecursion}
 use Rattle.pcp_base.specs.Time.{Moment, microseconds}
 use Rattle.pcp_base.specs.declared.desc.Desc.{Desc}
@@ -11,6 +12,7 @@ use Rattle.pcp_model.specs.declared.records.MetaRecord.{MetaRecord}
 use Rattle.pcp_model.specs.declared.records.MetaRecord.TheVariants.{Description, Domain, Other}
 use Rattle.pcp_model.specs.Archive.{ArchiveContents, items_of}
 use Rattle.pcp_model.specs.Disk.{Files}
+use Rattle.pcp_model.specs.LabelFields.{LabelFields}
 use Rattle.pcp_model.specs.Payload.{stamp_of}
 use Rattle.pcp_model.specs.Sound.{IsItemBy, IsRecordBy, NoDomainAfter, NoItemAfter}
 use Rattle.pcp_model.proofs.Lists.{each-append, each-map}
@@ -26,19 +28,19 @@ use Rattle.logger_core.specs.declared.fault.LogFault.TheVariants as faults
 use Rattle.logger_core.specs.Logging.{IsLater}
 use Rattle.logger_core.specs.Steps.{IsGreatest, IsStampIn}
 use Rattle.logger_core.proofs.Whole.{each_contained}
+use Rattle.logging_session.specs.Events.{Event, Lead, LeadFrom, opening}
+use Rattle.logging_session.specs.Written.{Logs, Opens, Refuses, Report, Stand, Written, starting}
+use Rattle.logging_session.proofs.ComeBack.{at_of}
+use Rattle.logging_session.proofs.OneReason.{none_stamped}
 use Rattle.run_script.specs.declared.script.Script.{Script}
 use Rattle.script_runs.specs.declared.ending.Ending.{Ending}
 use Rattle.script_runs.specs.declared.ending.Ending.TheVariants as ends
-use Rattle.script_runs.specs.Archives.{Logs, Opens, Refuses, Stand, Written, ending_of, run_label}
+use Rattle.script_runs.specs.Archives.{IsRecovered, IsTurnedAway, ending_of, report_of, run_label}
 use Rattle.script_runs.specs.Groups.{Plan}
-use Rattle.record_run.specs.ImageRuns.{result_for}
-use Rattle.record_run.proofs.ComeBack.{at_of}
-use Rattle.record_run.proofs.OneReason.{none_stamped}
-use Rattle.script_replays.specs.Replays.{IsRecovered}
-use Rattle.script_samples.specs.Samples.{SampleTaken, stamps_of}
-use Rattle.script_samples.specs.Shown.{AreShown, LogsEach, shown_by, with_result}
-use Rattle.script_records.specs.Beside.{IsSampled}
-use Rattle.script_records.specs.Stopping.{IsTurnedAway}
+use Rattle.run_archive.specs.Samples.{SampleTaken, stamps_of}
+use Rattle.run_archive.specs.Shown.{AreShown, events_of, result_for, shown_by, with_result, with_results}
+use Rattle.record_run.specs.Beside.{IsSampled}
+use Rattle.record_run.specs.Stopping.{ShowsLast, shown_last}
 use Rattle.pm_recording.specs.Good.{AreLater, AreRising}
 
 -- ---- what is logged has the greatest stamp
@@ -80,21 +82,37 @@ not_above : (c : ArchiveContents) (s t : Moment) → IsStampIn c s → NoItemAft
 not_above c s t (inl (x, has, same)) items domains = subst (λ (m : Moment). microseconds m ≤ microseconds t) same (at_of (IsItemBy t) (items_of c.volumes) x items has)
 not_above c s t (inr (indom, pairs, has)) items domains = at_of (IsRecordBy t) c.records (Domain s indom pairs) domains has
 
-module _ (limit : ℕ) (f : Fetched) (old new : Written) (logs : Logs limit f old new) where
+module _ (limit : ℕ) (r : Report) (old new : Written) (logs : Logs limit r old new) where
   abbrev now : Moment
-  now = f.result.stamp
+  now = r.result.stamp
 
   items_now : NoItemAfter now (items_of new.contents.volumes)
-  items_now = subst (NoItemAfter now) (sym logs.items) (each-append (IsItemBy now) (items_of old.contents.volumes) (Sample f.result ∷ [])
+  items_now = subst (NoItemAfter now) (sym logs.items) (each-append (IsItemBy now) (items_of old.contents.volumes) (Sample r.result ∷ [])
       (items_by old.contents logs.ends.greatest now logs.ends_are.are.greatest logs.loggable.later) (omega arith, tt))
 
   domains_now : NoDomainAfter now new.contents.records
   domains_now = subst (NoDomainAfter now) (sym logs.records) (each-append (IsRecordBy now) old.contents.records logs.step.missing
       (domains_by old.contents logs.ends.greatest now logs.ends_are.are.greatest logs.loggable.later)
-      (missing_by old.contents.records f.facts f.result logs.step.missing logs.step.needed))
+      (missing_by old.contents.records r.facts r.result logs.step.missing logs.step.needed))
 
   logged_last : (s : Moment) → IsStampIn new.contents s → microseconds s ≤ microseconds now
   logged_last s is = not_above new.contents s now is items_now domains_now
+
+-- ---- the events of results
+
+abbrev reports : List Fetched → List Event
+reports results = map (λ (f : Fetched). Event.logged (report_of f)) results
+
+reports_behind : (e : Event) (events : List Event) (results : List Fetched) → with_results (e ∷ events) results ≡ e ∷ events ++ reports results
+reports_behind e events [] = ap (λ (es : List Event). e ∷ es) (sym (append-nil events))
+reports_behind e events (f ∷ results) = reports_behind e (events ++ Event.logged (report_of f) ∷ []) results ∙ ap (λ (es : List Event). e ∷ es) (append_assoc events (Event.logged (report_of f) ∷ []) (reports results))
+
+-- the first one opens the archive, or else the next result does
+opened_first : (now : Moment) (results : List Fetched) → (stamp : Moment) × (opening now (events_of results) ≡ Event.opened stamp ∷ reports results)
+opened_first now [] = (now, refl)
+opened_first now (f ∷ results) =
+    let are : events_of (f ∷ results) ≡ Event.opened f.result.stamp ∷ reports (f ∷ results) = reports_behind (Event.opened f.result.stamp) (Event.logged (report_of f) ∷ []) results in
+    (f.result.stamp, ap (λ (es : List Event). opening now es) are)
 
 -- ---- what stands is stamped before a moment
 
@@ -102,20 +120,26 @@ module _ (now : Moment) where
   abbrev IsEarlier : Moment → Type 0
   IsEarlier t = microseconds t < microseconds now
 
-  abbrev Earlier : Stand → Type 0
-  Earlier stand = (stamp : Moment) (w : Written) → Opens stamp stand w → (t : Moment) → IsStampIn w.contents t → IsEarlier t
+  abbrev Earlier : Written → Type 0
+  Earlier w = (t : Moment) → IsStampIn w.contents t → IsEarlier t
 
-  found_earlier : (start left : Files) (moments : List Moment) → AreLater start moments → IsRecovered start left → Contains moments now → Earlier (Stand.found left)
-  found_earlier start left moments later recovered has stamp w (inl x, whole) t is = absurd (none_stamped (run_label stamp) t (subst (λ (c : ArchiveContents). IsStampIn c t) x.2 is))
-  found_earlier start left moments later recovered has stamp w (inr x, whole) t is = later left w.contents recovered x.1 t now is has
+  found_earlier : (start left : Files) (moments : List Moment) → AreLater start moments → IsRecovered start left → Contains moments now → (l : LabelFields) (w : Written) → Opens l left w → Earlier w
+  found_earlier start left moments later recovered has l w (inl x, whole) t is = absurd (none_stamped l t (subst (λ (c : ArchiveContents). IsStampIn c t) x.2 is))
+  found_earlier start left moments later recovered has l w (inr x, whole) t is = later left w.contents recovered x.1 t now is has
 
-  logged_earlier : (limit : ℕ) (f : Fetched) (old new : Written) → Logs limit f old new → IsEarlier f.result.stamp → Earlier (Stand.opened new)
-  logged_earlier limit f old new logs before stamp w same t is =
-      let by = logged_last limit f old new logs t (subst (λ (v : Written). IsStampIn v.contents t) same is) in omega (arith, by, before)
+  logged_earlier : (limit : ℕ) (r : Report) (old new : Written) → Logs limit r old new → IsEarlier r.result.stamp → Earlier new
+  logged_earlier limit r old new logs before t is = let by = logged_last limit r old new logs t is in omega (arith, by, before)
 
-  all_earlier : (limit : ℕ) (stand : Stand) (results : List Fetched) (last : Stand) → LogsEach limit stand results last → AllByRecursion (λ (f : Fetched). IsEarlier f.result.stamp) results → Earlier stand → Earlier last
-  all_earlier limit stand [] last same before here = subst Earlier (sym same) here
-  all_earlier limit stand (f ∷ results) last (old, new, opens, logs, more) before here = all_earlier limit (Stand.opened new) results last more before.1 (logged_earlier limit f old new logs before.0)
+  all_earlier : (l : LabelFields) (limit : ℕ) (old : Written) (results : List Fetched) (last : Written) → Lead l limit (Stand.opened old) (reports results) (Stand.opened last)
+      → AllByRecursion (λ (f : Fetched). IsEarlier f.result.stamp) results → Earlier old → Earlier last
+  all_earlier l limit old [] last is before here = let same : last ≡ old = cc in subst Earlier (sym same) here
+  all_earlier l limit old (f ∷ results) last (next, (new, logs, is), more) before here =
+      all_earlier l limit new results last (subst (λ (stand : Stand). Lead l limit stand (reports results) (Stand.opened last)) is more) before.1 (logged_earlier limit (report_of f) old new logs before.0)
+
+  led_earlier : (start left : Files) (moments : List Moment) → AreLater start moments → IsRecovered start left → Contains moments now → (l : LabelFields) (limit : ℕ) (stamp : Moment) (results : List Fetched) (last : Written)
+      → LeadFrom l limit left (Event.opened stamp ∷ reports results) (Stand.opened last) → AllByRecursion (λ (f : Fetched). IsEarlier f.result.stamp) results → Earlier last
+  led_earlier start left moments later recovered has l limit stamp results last (next, (w, opens, is), more) before =
+      all_earlier l limit w results last (subst (λ (stand : Stand). Lead l limit stand (reports results) (Stand.opened last)) is more) before (found_earlier start left moments later recovered has (starting l stamp) w opens)
 
 -- ---- the results of samples have their stamps
 
@@ -160,15 +184,15 @@ full_apart files.Meta bytes last is = cc
 full_apart files.Index bytes last is = cc
 full_apart (files.Volume n) bytes last is = cc
 
-too_early : (limit : ℕ) (f : Fetched) (w : Written) (fault : LogFault) (last : Moment) → Refuses limit f w fault → ending_of fault ≡ Some (ends.NotLater last) → (t : Moment) × IsStampIn w.contents t × (microseconds f.result.stamp ≤ microseconds t)
-too_early limit f w (faults.NotLater t) last refuses is =
+too_early : (limit : ℕ) (r : Report) (w : Written) (fault : LogFault) (last : Moment) → Refuses limit r w fault → ending_of fault ≡ Some (ends.NotLater last) → (t : Moment) × IsStampIn w.contents t × (microseconds r.result.stamp ≤ microseconds t)
+too_early limit r w (faults.NotLater t) last refuses is =
     let greatest : IsGreatest w.contents (Some t) = subst (λ (g : Option Moment). IsGreatest w.contents g) refuses.refused.2 refuses.ends_are.are.greatest in (t, greatest.0, refuses.refused.3)
-too_early limit f w (faults.Large bytes) last refuses is = absurd (cc)
-too_early limit f w (faults.Changed pmid) last refuses is = absurd (cc)
-too_early limit f w (faults.Full file bytes) last refuses is = absurd (full_apart file bytes last is)
-too_early limit f w faults.Closed last refuses is = absurd (cc)
-too_early limit f w faults.NoMemory last refuses is = absurd (cc)
-too_early limit f w faults.DiskFault last refuses is = absurd (cc)
+too_early limit r w (faults.Large bytes) last refuses is = absurd (cc)
+too_early limit r w (faults.Changed pmid) last refuses is = absurd (cc)
+too_early limit r w (faults.Full file bytes) last refuses is = absurd (full_apart file bytes last is)
+too_early limit r w faults.Closed last refuses is = absurd (cc)
+too_early limit r w faults.NoMemory last refuses is = absurd (cc)
+too_early limit r w faults.DiskFault last refuses is = absurd (cc)
 
 module _ {script : Script} {server : List Mounted} {first final : List Token} {ending : Ending} {moments : List Moment} {results : List Fetched} (sampled : IsSampled script server first final ending moments results)
     (limit : ℕ) (start : Files) (all rest : List Moment) (are : all ≡ moments ++ rest) where
@@ -180,15 +204,16 @@ module _ {script : Script} {server : List Mounted} {first final : List Token} {e
       are ∙ ap (λ (l : List Moment). l ++ rest) (sampled.moments_are ∙ ap (λ (l : List Moment). l ++ sampled.lacking) stamps ∙ append_assoc (stamps_of sampled.logged) (sample.stamp ∷ []) sampled.lacking)
       ∙ append_assoc (stamps_of sampled.logged) (sample.stamp ∷ sampled.lacking) rest
 
-  pub not_late : AreRising all → AreLater start all → (last : Moment) → IsTurnedAway sampled limit (IsRecovered start) (ends.NotLater last) → ⊥
-  not_late rising later last away =
-      let now = away.sample.stamp in
-      let place = placed away.sample away.one in
+  pub not_late : AreRising all → AreLater start all → (left : Files) → IsRecovered start left → (x : ShowsLast sampled) (last : Moment) → IsTurnedAway limit left (events_of results) (shown_last sampled x) (ends.NotLater last) → ⊥
+  not_late rising later left recovered x last away =
+      let now = x.sample.stamp in
+      let place = placed x.sample x.one in
       let front : AllByRecursion (IsEarlier now) (stamps_of sampled.logged) = rising_front (stamps_of sampled.logged) now (sampled.lacking ++ rest) (subst AreRising place rising) in
       let has : Contains all now = subst (λ (l : List Moment). Contains l now) (sym place) (has_between (stamps_of sampled.logged) now (sampled.lacking ++ rest)) in
       let before = results_have (IsEarlier now) script.config.groups None sampled.logged results sampled.plans sampled.shown front in
-      let earlier = all_earlier now limit (Stand.found away.left) results away.last away.logs before (found_earlier now start away.left all later away.found has) in
-      let found = too_early limit away.shows away.old away.fault last away.refuses away.ends_so in
-      let low : microseconds found.0 < microseconds now = earlier away.shows.result.stamp away.old away.opens found.0 found.1 in
-      let high : microseconds now ≤ microseconds found.0 = subst (λ (t : Moment). microseconds t ≤ microseconds found.0) (stamp_shown script.config.groups sampled.plans away.sample away.shows away.shown) found.2 in
+      let first = opened_first now results in
+      let lead : LeadFrom run_label limit left (Event.opened first.0 ∷ reports results) (Stand.opened away.w) = subst (λ (events : List Event). LeadFrom run_label limit left events (Stand.opened away.w)) first.1 away.lead in
+      let found = too_early limit (report_of (shown_last sampled x)) away.w away.fault last away.refuses away.ends in
+      let low : microseconds found.0 < microseconds now = led_earlier now start left all later recovered has run_label limit first.0 results away.w lead before found.0 found.1 in
+      let high : microseconds now ≤ microseconds found.0 = found.2 in
       omega (arith, low, high)

@@ -3,6 +3,7 @@ pub mod Endings
 pub mod Exact
 pub mod Facts
 pub mod Few
+pub mod Items
 pub mod Kept
 pub mod Later
 pub mod Stopping

@@ -1,9 +1,9 @@
 -- What a script's run is told as, and why nothing was run.
 use Rattle.std.proofs.Common.{◌≡◌, inl, inr, ℕ, ◌≤◌, List, length, true, false, refl, sym, ◌∙◌, subst, arith, Option, Some, None, IsSome, Err}
 use Rattle.std.proofs.lemmas.List.{drop_all}
-use Rattle.script_passes.specs.declared.opening.Opened.{Opened}
-use Rattle.script_records.specs.Recordings.{Counts}
-use Rattle.script_replays.specs.declared.replayed.Replayed.{Replayed}
+use Rattle.run_passes.specs.declared.opening.Opened.{Opened}
+use Rattle.record_run.specs.Recordings.{Counts}
+use Rattle.run_archive.specs.declared.replayed.Replayed.{Replayed}
 use Rattle.script_runs.specs.declared.ending.Ending.{Ending}
 use Rattle.script_runs.specs.declared.ending.Ending.TheVariants as ends
 use Rattle.run_script.specs.declared.script.Script.{Script}

@@ -1,16 +1,18 @@
 -- How a call that records ends. What is looked at first comes first: the words, the input, then the files, and last what the run
 -- meets; want of memory may come at any place.
 use Rattle.std.specs.Prelude.{◌≡◌, ◌⊎◌, ℕ, List, ◌++◌, length, take, Option, Some, Ok, Err}
+use Rattle.pcp_base.specs.declared.result.Item.{Item}
 use Rattle.pcp_model.specs.Disk.{Files, Holdings, CrashImage}
 use Rattle.pcp_outside.specs.Causes.{Rose}
-use Rattle.record_run.specs.ImageCrashes.{MayBeAfter}
+use Rattle.logging_session.specs.ComingBack.{MayBeAfter}
+use Rattle.logging_session.specs.Events.{items_by}
 use Rattle.run_script.specs.declared.fault.ScriptFault.{ScriptFault}
 use Rattle.run_script.specs.declared.script.Script.{Script}
-use Rattle.script_passes.specs.declared.opening.Opened.{Opened}
-use Rattle.script_replays.specs.declared.replayed.Replayed.{Replayed}
+use Rattle.run_passes.specs.declared.opening.Opened.{Opened}
+use Rattle.run_archive.specs.declared.replayed.Replayed.{Replayed}
 use Rattle.script_runs.specs.declared.ending.Ending.{Ending}
 use Rattle.script_runs.specs.declared.ending.Ending.TheVariants as ends
-use Rattle.script_samples.specs.Shown.{items_of_results}
+use Rattle.record_run.specs.Recordings.{RecordsFiles}
 use Rattle.pm_words.specs.Reading.{WasRead, ReadCause, TookSome}
 use Rattle.pm_words.specs.Refusals.{Wrote}
 use Rattle.pcp_outside.specs.Sides.{SourceSide, SinkSide}
@@ -68,6 +70,15 @@ pub record Ran {C D : Type 0} (words : List (List ℕ)) (s : SourceSide) (o : Ru
 abbrev pub count_of : {C D : Type 0} {words : List (List ℕ)} {s : SourceSide} {o : RunSide C D} {opened : Option Opened} {ending : Ending} → Ran words s o opened ending → ℕ
 count_of ran = length ran.has.was.recording.results
 
+module _ {C D : Type 0} {words : List (List ℕ)} {s : SourceSide} {o : RunSide C D} {opened : Option Opened} {ending : Ending} (ran : Ran words s o opened ending) (told : o.disk.tells) where
+  -- over a disk that tells: what was done to its archive, event by event
+  abbrev pub course_of : RecordsFiles o.disk ran.asks.asked.volume o.disk_was o.disk_is ran.has.was.recording.beside.sampled
+  course_of = ran.has.was.recording.told told
+
+  -- the items of the results that were logged, and behind them what was on its way when the disk failed
+  abbrev pub items_of : List Item
+  items_of = items_by course_of.events ++ course_of.more
+
 -- it ran to an ending that is this refusal
 pub record RanTo {C D : Type 0} (words : List (List ℕ)) (s : SourceSide) (o : RunSide C D) (opened : Option Opened) (e : RecordRefusal) : Type 0 where
   pub ending : Ending
@@ -116,6 +127,6 @@ Ends words s k o opened status =
     ((status ≡ 0) × EndsDone words s k o opened)
     ⊎ (((status ≡ 4) × EndsUntold words s k o opened) ⊎ ((e : RecordRefusal) × (status ≡ recording_status e) × EndsRefused words s k o opened e))
 
--- what a crash at any moment may leave: what was there, or what there was with the first ones of the run's results behind it
+-- what a crash at any moment may leave: what was there, or what there was with the first ones of the run's items behind it
 abbrev pub MayBeLeft : {C D : Type 0} → List (List ℕ) → SourceSide → RunSide C D → Option Opened → Holdings → Files → Type 0
-MayBeLeft words s o opened held crash = CrashImage held crash ⊎ ((told : o.disk.tells) × (ending : Ending) × (ran : Ran words s o opened ending) × MayBeAfter (items_of_results (ran.has.was.recording.tried told)) held crash)
+MayBeLeft words s o opened held crash = CrashImage held crash ⊎ ((told : o.disk.tells) × (ending : Ending) × (ran : Ran words s o opened ending) × MayBeAfter (items_of ran told) 0 held crash)

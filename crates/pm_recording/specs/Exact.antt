@@ -1,13 +1,13 @@
 -- What a recording that was done shows in the end: of each region what its words say once every writer has ended, which is all that was
 -- stored and added.
 use Rattle.std.specs.Prelude.{ℕ, List, Option}
-use Rattle.script_passes.specs.Lasts.{AreLast}
-use Rattle.script_passes.specs.declared.opening.Opened.{Opened}
+use Rattle.run_passes.specs.Lasts.{AreLast}
+use Rattle.run_passes.specs.declared.opening.Opened.{Opened}
 use Rattle.script_runs.specs.declared.ending.Ending.TheVariants as ends
-use Rattle.script_records.specs.Beside.{Beside}
-use Rattle.record_laws.specs.Closing.{LastIsExact}
-use Rattle.record_laws.specs.Counters.{NumbersAreCounted}
-use Rattle.record_laws.specs.Whole.{PassesWriteAll}
+use Rattle.record_run.specs.Beside.{Beside}
+use Rattle.record_run.specs.Closing.{LastIsExact}
+use Rattle.record_run.specs.Counters.{NumbersAreCounted}
+use Rattle.record_run.specs.Whole.{PassesWriteAll}
 use Rattle.pcp_outside.specs.Sides.{SourceSide}
 use Rattle.pm_recording.specs.Ends.{Ran}
 use Rattle.pm_recording.specs.Recording.{RunSide}

@@ -6,25 +6,24 @@ use Rattle.pcp_base.specs.declared.file.FileId.{FileId}
 use Rattle.pcp_model.specs.Disk.{Files, CrashImage, contents_of}
 use Rattle.pcp_outside.specs.Causes.{Rose}
 use Rattle.archive_recovery.specs.RecoverFaults.{IsRefused}
-use Rattle.record_run.specs.ImageCrashes.{IsAllAfter}
-use Rattle.record_run.specs.SinceRecovery.{FromRecovery}
 use Rattle.run_script.specs.declared.fault.ScriptFault.{ScriptFault}
 use Rattle.run_script.specs.declared.script.Script.{Script}
-use Rattle.script_passes.specs.declared.opening.Opened.{Opened}
-use Rattle.script_records.specs.Beside.{WritersEnded}
-use Rattle.script_records.specs.Stopping.{WhyAsked, WhyStopped}
-use Rattle.script_replays.specs.Replays.{IsRecovered}
+use Rattle.run_passes.specs.declared.opening.Opened.{Opened}
+use Rattle.record_run.specs.Beside.{WritersEnded}
+use Rattle.record_run.specs.Stopping.{LoggingDid}
 use Rattle.script_runs.specs.declared.ending.Ending.{Ending}
 use Rattle.script_runs.specs.declared.ending.Ending.TheVariants as ends
 use Rattle.script_runs.specs.declared.ending.LimitKind.{LimitKind}
-use Rattle.script_samples.specs.Sampling.{HasEnded}
-use Rattle.script_samples.specs.Shown.{items_of_results}
+use Rattle.run_archive.specs.Crashes.{IsAllAfter}
+use Rattle.run_archive.specs.Outcomes.{WentOn, left_of}
+use Rattle.run_archive.specs.Sampling.{HasEnded}
+use Rattle.run_archive.specs.Shown.{items_of_results}
 use Rattle.pm_words.specs.Inputs.{input_limit}
 use Rattle.pm_words.specs.Refusals.{script_status}
 use Rattle.pcp_outside.specs.Sides.{SourceSide, SinkSide}
 use Rattle.pm_recording.specs.declared.words.RecordWords.{RecordWords}
 use Rattle.pm_recording.specs.CommandWords.{asked_of}
-use Rattle.pm_recording.specs.Ends.{IsAsked, Finds, Ran}
+use Rattle.pm_recording.specs.Ends.{IsAsked, Finds, Ran, course_of, items_of}
 use Rattle.pm_recording.specs.Good.{Meets, IsGoodRun}
 use Rattle.pm_recording.specs.Recording.{RunSide, IsUnrun}
 use Rattle.pm_recording.specs.Scripts.{script_recorded}
@@ -42,18 +41,12 @@ pub record ScriptFaultIsExact (words : List (List ℕ)) (s : SourceSide) (status
   pub only : status ≡ 2 → (fault : ScriptFault) × (script_status fault.fault ≡ 2) × Finds words s fault
   pub always : Meets words s → (fault : ScriptFault) → script_recorded s.left ≡ Err fault → (status ≡ script_status fault.fault) ⊎ ((status ≡ 9) ⊎ (status ≡ 3))
 
--- The run ended by this limit, for its cause: so many metrics are asked for by a sample, whatever the disk tells; or else, as a disk that
--- tells its files shows, the archive doesn't take what is shown.
-pub record IsLimited {C D : Type 0} (words : List (List ℕ)) (s : SourceSide) (o : RunSide C D) (opened : Option Opened) (what : LimitKind) (number : ℕ) : Type 0 where
-  pub ran : Ran words s o opened (ends.Limit what number)
-  pub asked : WhyAsked ran.has.was.recording.beside.sampled (ends.Limit what number)
-  pub why : o.disk.tells → WhyStopped ran.has.was.recording.beside.sampled ran.asks.asked.volume (IsRecovered (contents_of (o.disk.held o.disk_was))) (ends.Limit what number)
-
 -- 7 exactly where the input is above 16 MiB, of which one byte above the limit is taken and no further one, or the script has a
--- region too many; else only where there is too much of something in the run
+-- region too many; else only where the recording ended by a limit, for the cause that it tells over any disk: a sample asks for too many
+-- metrics, or shows what the archive, over a disk that tells, has no place for
 pub record LimitIsExact {C D : Type 0} (words : List (List ℕ)) (s : SourceSide) (o : RunSide C D) (opened : Option Opened) (status : ℕ) : Type 0 where
   pub only : status ≡ 7 → (IsAsked words × (s.tells → (input_limit < length s.left) × (s.after ≡ drop 16777217 s.left)))
-      ⊎ (((fault : ScriptFault) × (script_status fault.fault ≡ 7) × Finds words s fault) ⊎ ((what : LimitKind) × (number : ℕ) × IsLimited words s o opened what number))
+      ⊎ (((fault : ScriptFault) × (script_status fault.fault ≡ 7) × Finds words s fault) ⊎ ((what : LimitKind) × (number : ℕ) × Ran words s o opened (ends.Limit what number)))
   pub always : IsAsked words → s.tells → input_limit < length s.left → (status ≡ 7) ⊎ ((status ≡ 9) ⊎ (status ≡ 3))
 
 -- The run
@@ -94,7 +87,9 @@ pub record WritersAreTold {C D : Type 0} (words : List (List ℕ)) (s : SourceSi
       ⊎ ((ran.has.left.passes.items ≡ []) × ((status ≡ 9) ⊎ (status ≡ 5)))
 
 -- Something is left wherever the run began and memory wasn't refused, and then the script was recorded on it; where nothing is left
--- neither the disk nor the clock was touched. After 0 and 4 it was recorded to its end.
+-- neither the disk nor the clock was touched. After 0 and 4 it was recorded to its end. What was recorded tells after every status, 5, 7 and
+-- 9 too, what was done to a disk that tells: recovery didn't answer, and nothing was logged; or it did, and from then on the disk went by
+-- what the logging did, event by event.
 pub record OpensRegions {C D : Type 0} (words : List (List ℕ)) (s : SourceSide) (o : RunSide C D) (opened : Option Opened) (status : ℕ) : Type 0 where
   pub good : Meets words s → (script : Script) → script_recorded s.left ≡ Ok script → IsSome opened ⊎ ((status ≡ 9) ⊎ (status ≡ 3))
   pub run : ComesOfRun status → IsSome opened
@@ -110,12 +105,19 @@ pub record OpensRegions {C D : Type 0} (words : List (List ℕ)) (s : SourceSide
 abbrev pub HadRecovered : ℕ → Type 0
 HadRecovered status = (status ≡ 0) ⊎ ((status ≡ 4) ⊎ ((status ≡ 8) ⊎ ((status ≡ 12) ⊎ ((status ≡ 13) ⊎ (status ≡ 20)))))
 
--- over any disk, settled or not: from the moment on at which recovery answered, a crash leaves all items of the start, and the first
--- ones of the run's results
+-- recovery had answered, and from that moment on the disk went by what the logging did, event by event
+pub record HasGoneOn {C D : Type 0} {words : List (List ℕ)} {s : SourceSide} {o : RunSide C D} {opened : Option Opened} {ending : Ending} (ran : Ran words s o opened ending) (told : o.disk.tells) : Type 0 where
+  pub went : WentOn o.disk ran.asks.asked.volume (course_of ran told).events (course_of ran told).more o.disk_was o.disk_is ending
+  pub did : LoggingDid ran.has.was.recording.beside.sampled ran.asks.asked.volume (left_of o.disk ran.asks.asked.volume (course_of ran told).events (course_of ran told).more o.disk_was o.disk_is went) ending
+      (course_of ran told).events (course_of ran told).more
+  pub items : items_of ran told ≡ items_of_results ran.has.was.recording.results
+
+-- So it was over any disk that tells, settled or not. A crash from that moment on leaves all items of the start, the first ones of the run's
+-- results, and of these all that the events by then acknowledge.
 pub record RecordsSince {C D : Type 0} (words : List (List ℕ)) (s : SourceSide) (o : RunSide C D) (opened : Option Opened) : Type 0 where
   pub ending : Ending
   pub ran : Ran words s o opened ending
-  pub since : FromRecovery o.disk.held o.disk.moment o.disk.left_since (items_of_results ran.has.was.recording.results) o.disk_was o.disk_is
+  pub gone : (told : o.disk.tells) → HasGoneOn ran told
 
 -- each crash from now on leaves all items of the start, and all results
 pub record KeepsAll {C D : Type 0} (words : List (List ℕ)) (s : SourceSide) (o : RunSide C D) (opened : Option Opened) : Type 0 where

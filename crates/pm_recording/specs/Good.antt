@@ -7,12 +7,13 @@ use Rattle.pcp_model.specs.Disk.{Files, contents_of}
 use Rattle.pcp_outside.specs.Causes.{Rose}
 use Rattle.logger_core.specs.Steps.{IsStampIn}
 use Rattle.run_script.specs.declared.script.Script.{Script}
-use Rattle.script_passes.specs.declared.opening.Opened.{Opened}
-use Rattle.script_replays.specs.Replays.{IsRecovered}
+use Rattle.run_passes.specs.declared.opening.Opened.{Opened}
+use Rattle.script_runs.specs.Archives.{IsRecovered, IsTurnedAway}
 use Rattle.script_runs.specs.declared.ending.Ending.{Ending}
 use Rattle.script_runs.specs.declared.ending.Ending.TheVariants as ends
 use Rattle.script_runs.specs.declared.ending.LimitKind.{LimitKind}
-use Rattle.script_records.specs.Stopping.{AsksTooMany, IsTurnedAway}
+use Rattle.run_archive.specs.Shown.{events_of}
+use Rattle.record_run.specs.Stopping.{AsksTooMany, ShowsLast, shown_last}
 use Rattle.pm_words.specs.Inputs.{input_limit}
 use Rattle.pcp_outside.specs.Sides.{SourceSide, SinkSide}
 use Rattle.pm_recording.specs.Ends.{IsAsked, Ran}
@@ -55,11 +56,18 @@ pub record IsGoodClock {C D : Type 0} (o : RunSide C D) : Type 0 where
 
 -- What is shown
 
+-- What the last sample shows is turned away by the archive of the results before it, logged one behind another over what recovery left.
+pub record IsLastTurnedAway {C D : Type 0} {words : List (List ℕ)} {s : SourceSide} {o : RunSide C D} {opened : Option Opened} {ending : Ending} (ran : Ran words s o opened ending) (reason : Ending) : Type 0 where
+  pub left : Files
+  pub recovered : IsRecovered (contents_of (o.disk.held o.disk_was)) left
+  pub last : ShowsLast ran.has.was.recording.beside.sampled
+  pub away : IsTurnedAway ran.asks.asked.volume left (events_of ran.has.was.recording.results) (shown_last ran.has.was.recording.beside.sampled last) reason
+
 -- No sample asks for too many metrics, none shows one that the archive describes otherwise, and what each shows has its place there.
 pub record IsWelcome {C D : Type 0} {words : List (List ℕ)} {s : SourceSide} {o : RunSide C D} {opened : Option Opened} {ending : Ending} (ran : Ran words s o opened ending) : Type 0 where
-  pub few : (what : LimitKind) (number : ℕ) → AsksTooMany ran.has.was.recording.beside.sampled what number → ⊥
-  pub small : (what : LimitKind) (number : ℕ) → IsTurnedAway ran.has.was.recording.beside.sampled ran.asks.asked.volume (IsRecovered (contents_of (o.disk.held o.disk_was))) (ends.Limit what number) → ⊥
-  pub same : (pmid : ℕ) → IsTurnedAway ran.has.was.recording.beside.sampled ran.asks.asked.volume (IsRecovered (contents_of (o.disk.held o.disk_was))) (ends.Changed pmid) → ⊥
+  pub few : (number : ℕ) → AsksTooMany ran.has.was.recording.beside.sampled number → ⊥
+  pub small : (what : LimitKind) (number : ℕ) → IsLastTurnedAway ran (ends.Limit what number) → ⊥
+  pub same : (pmid : ℕ) → IsLastTurnedAway ran (ends.Changed pmid) → ⊥
 
 pub record IsGoodRun {C D : Type 0} (words : List (List ℕ)) (s : SourceSide) (k : SinkSide) (o : RunSide C D) (opened : Option Opened) : Type 0 where
   pub meets : Meets words s

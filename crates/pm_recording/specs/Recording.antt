@@ -5,12 +5,12 @@ use Rattle.pcp_outside.specs.declared.clocks.Clock.{Ghosts as ClockGhosts}
 use Rattle.pcp_outside.specs.declared.disk.Disk.{Ghosts as DiskGhosts}
 use Rattle.fetch_engine.specs.Servers.{IsSeated, Seated}
 use Rattle.run_script.specs.declared.script.Script.{Script}
-use Rattle.script_passes.specs.Openings.{IsOpened}
-use Rattle.script_passes.specs.declared.opening.Opened.{Opened}
-use Rattle.script_replays.specs.declared.replayed.Replayed.{Replayed}
-use Rattle.script_records.specs.Beside.{TellWriters}
-use Rattle.script_records.specs.Pictured.{AreImages, AreOfWords}
-use Rattle.script_records.specs.Recordings.{IsRecording, MayEndRecording}
+use Rattle.run_passes.specs.Openings.{IsOpened}
+use Rattle.run_passes.specs.declared.opening.Opened.{Opened}
+use Rattle.run_archive.specs.declared.replayed.Replayed.{Replayed}
+use Rattle.record_run.specs.Beside.{TellWriters}
+use Rattle.record_run.specs.Pictured.{AreImages, AreOfWords}
+use Rattle.record_run.specs.Recordings.{IsRecording, MayEndRecording}
 use Rattle.pm_words.specs.Sides.{IsUnread, Leaves}
 use Rattle.pm_recording.specs.declared.words.RecordWords.{RecordWords}
 

@@ -19,8 +19,8 @@ use crate::words::{RecordWords, read_record_words};
 use pcp_base::Bytes;
 use pcp_outside::{Clock, Disk, Sink, Source, Turn, write_all};
 use pm_words::{Refusal, Usage, read_input};
+use run_passes::Opened;
 use run_script::Script;
-use script_passes::Opened;
 use std::alloc::Global;
 use std::sync::Wait;
 use std::thread::Threads;
@@ -156,7 +156,7 @@ pub fn run_record<I: Source, O: Sink, D: Disk, C: Clock, T: Turn + Sync, R: Thre
     ensures settled { (result ≡ 5 → ⊥) → D.tells → IsSettled (D.held disk.old) → IsSettled (D.held disk.new) }
 
     // Nothing that was there is lost: a crash at any moment leaves what one at the start might have left, or over a settled disk all
-    // items of the start and the first ones of the run's results.
+    // items of the start and the first ones of the run's.
     ensures any_moment { Leaves D.Disk disk.old disk.new (MayBeLeft (map string_bytes words.now) (source_side I.Source input.old input.new) (run_side C.Clock D.Disk clock.old clock.new disk.old disk.new) opened.new) }
 
     // Files that are no archive stay as they were.
@@ -165,9 +165,9 @@ pub fn run_record<I: Source, O: Sink, D: Disk, C: Clock, T: Turn + Sync, R: Thre
     // Once it has ended with 0, each crash leaves all results, until something else touches the disk.
     ensures kept { result ≡ 0 → D.tells → KeepsAll (map string_bytes words.now) (source_side I.Source input.old input.new) (run_side C.Clock D.Disk clock.old clock.new disk.old disk.new) opened.new }
 
-    // Over any disk, settled or not: from the moment on at which recovery answered, a crash leaves all items of the start, and some
-    // first ones of the run's results.
-    ensures since { HadRecovered result → D.tells → RecordsSince (map string_bytes words.now) (source_side I.Source input.old input.new) (run_side C.Clock D.Disk clock.old clock.new disk.old disk.new) opened.new }
+    // Over any disk, settled or not: from the moment on at which recovery answered it went by what was logged, event by event, and a
+    // crash leaves all items of the start, the first ones of the run's results, and all of these that are acknowledged by then.
+    ensures since { HadRecovered result → RecordsSince (map string_bytes words.now) (source_side I.Source input.old input.new) (run_side C.Clock D.Disk clock.old clock.new disk.old disk.new) opened.new }
 {
     answer(rt, alloc, words, input, out, disk, clock, turn, opened)
 }

@@ -1,6 +1,9 @@
 pub mod Counting
+pub mod Looked
 pub mod Mended
+pub mod OneArchive
 pub mod OneImage
+pub mod OneLine
 pub mod OneRun
 pub mod Refused
 pub mod Scripted

@@ -8,11 +8,10 @@ use Rattle.pcp_model.specs.Sound.{IsSound}
 use Rattle.pcp_model.proofs.OneReading.{one_reading}
 use Rattle.pcp_model.proofs.Recovered.{recovery_reads, recovery_stays}
 use Rattle.pcp_outside.proofs.Images.{image_now}
-use Rattle.run_script.specs.declared.script.Script.{Script}
-use Rattle.script_runs.specs.Regions.{ScriptRegion}
-use Rattle.record_run.specs.ImageCrashes.{IsAllAfter}
-use Rattle.script_replays.specs.declared.replayed.Replayed.{Replayed}
-use Rattle.script_replays.specs.Replays.{CameToEnd, DiskPair}
+use Rattle.pcp_outside.specs.declared.disk.Disk.{Ghosts as DiskGhosts}
+use Rattle.logging_session.specs.Events.{Event, items_by}
+use Rattle.run_archive.specs.Crashes.{IsAllAfter}
+use Rattle.run_archive.specs.Outcomes.{IsFlushed}
 use Rattle.pm_words.specs.Sides.{DiskSide}
 use Rattle.pm_runs.specs.Sound.{LeavesSound, RecoversSound}
 use Rattle.pm_runs.specs.commands.recover.{IsMendedSide}
@@ -24,13 +23,14 @@ module _ (start after left : Files) (was reading : ArchiveReading) (read_at_star
       let holds = back.comes after (subst (λ (r : ArchiveReading). Recovers after r after) (one_reading after reading back.reading reads back.reads) whole) in
       subst (λ (r : ArchiveReading). IsSound after r) (one_reading after (recovered_reading after back.reading) reading holds.reads reads) (holds.sound (good was read_at_start left recovers))
 
-pub run_leaves_sound : (script : Script) (limit : ℕ) (d : DiskPair) (r : Replayed) (items : List Item) (regions : List ScriptRegion) → CameToEnd script limit d r items regions → LeavesSound (contents_of d.before) (contents_of d.after)
-run_leaves_sound script limit d r items regions x = record {
-  reading = x.whole.0;
-  reads = x.whole.1;
-  whole = x.whole.2;
-  sound = stays_sound (contents_of d.before) (contents_of d.after) x.runs.left x.runs.reading x.whole.0 x.runs.was x.runs.recovered x.whole.1 x.whole.2 items (x.survive (contents_of d.after) (image_now d.after));
-}
+module _ {D : Type 0} (d : DiskGhosts D) (limit : ℕ) (events : List Event) (more : List Item) (old new : D) where
+  pub run_leaves_sound : (left : Files) (reading : ArchiveReading) → Reads (contents_of (d.held old)) reading → Recovers (contents_of (d.held old)) reading left → IsFlushed d limit events more old new left → LeavesSound (contents_of (d.held old)) (contents_of (d.held new))
+  run_leaves_sound left reading was recovers x = record {
+    reading = x.whole.0;
+    reads = x.whole.1;
+    whole = x.whole.2;
+    sound = stays_sound (contents_of (d.held old)) (contents_of (d.held new)) left reading x.whole.0 was recovers x.whole.1 x.whole.2 (items_by events) (x.survive (contents_of (d.held new)) (image_now (d.held new)));
+  }
 
 pub mended_is_sound : (d : DiskSide) → IsMendedSide d → LeavesSound (contents_of d.held) (contents_of d.after)
 mended_is_sound d m = record {

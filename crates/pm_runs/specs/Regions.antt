@@ -1,27 +1,19 @@
 -- The regions that a command leaves on which it ran a script.
-use Rattle.std.specs.Prelude.{◌≡◌, ◌≢◌, ◌⊎◌, ℕ, List, length, slice_get, Option, Some, None, Result, Ok, Err, IsSome}
-use Rattle.pcp_base.specs.declared.result.Item.{Item}
+use Rattle.std.specs.Prelude.{◌≡◌, ◌⊎◌, ℕ, List, length, slice_get, Option, Some, None, Result, Ok, Err, IsSome}
 use Rattle.pcp_model.specs.Disk.{contents_of}
-use Rattle.fetch_engine.specs.Servers.{Seated}
+use Rattle.pcp_outside.specs.declared.disk.Disk.{Ghosts as DiskGhosts}
+use Rattle.fetch_engine.specs.Servers.{IsSeated, Seated}
 use Rattle.run_script.specs.declared.script.Script.{Script}
 use Rattle.script_runs.specs.declared.ending.Ending.TheVariants as ends
-use Rattle.script_runs.specs.Regions.{ScriptRegion}
-use Rattle.script_passes.specs.declared.opening.Opened.{Opened}
-use Rattle.script_passes.specs.Seen.{HaveSeen, RanLines}
-use Rattle.script_replays.specs.declared.replayed.Replayed.{Replayed}
-use Rattle.script_replays.specs.Replays.{DiskPair, Replays}
+use Rattle.run_passes.specs.Crews.{ServesScript}
+use Rattle.run_passes.specs.declared.opening.Opened.{Opened}
+use Rattle.run_archive.specs.declared.replayed.Replayed.{Replayed}
+use Rattle.record_run.specs.Replays.{IsReplay}
 use Rattle.pm_words.specs.declared.refusal.Refusal.{Refusal}
 use Rattle.pm_words.specs.declared.refusal.Refusal.TheVariants.{Words, Reading, Input, Disk, NoMemory}
 use Rattle.pm_words.specs.Refusals.{ending_refusal}
-use Rattle.pm_words.specs.Sides.{DiskSide}
+use Rattle.pm_words.specs.Sides.{DiskSide, disk_side}
 use Rattle.pm_runs.specs.Scripts.{Runner, OfScript}
-
-abbrev pub pair_of : DiskSide → DiskPair
-pair_of d = record { wrapped = d.wrapped; before = d.held; after = d.after }
-
--- there is a first seat, and it has seen these journals of the regions, which are whole: it has gathered every pass
-abbrev pub SeatSaw : Script → List ScriptRegion → Opened → Type 0
-SeatSaw script regions o = (seat : Seated) × (slice_get o.seats.items 0 ≡ Some seat) × HaveSeen script regions o.server seat.tokens
 
 -- What a command answers whose run was this. Done: the run came to its end, and its results and lines are what is told. Refused: so
 -- the run ended; or it came to its end, and what is to be written of it isn't told.
@@ -29,31 +21,25 @@ abbrev pub AnswersRun : Runner → Script → DiskSide → Replayed → Result (
 AnswersRun c script d run (Ok text) = (run.ending ≡ ends.Done) × (d.tells → c.says script run.logged run.output (contents_of d.after) text)
 AnswersRun c script d run (Err e) = (ending_refusal run.ending ≡ Some e) ⊎ ((run.ending ≡ ends.Done) × c.untold e)
 
--- the regions are those of this run as a fold over the files, which logged these items
-pub record AreOfRun (script : Script) (limit : ℕ) (d : DiskSide) (o : Opened) (run : Replayed) : Type 0 where
-  pub items : List Item
-  pub regions : List ScriptRegion
-  pub counted : run.ending ≢ ends.DiskFault → run.logged ≡ length items
-  pub replays : Replays script limit (pair_of d) run items regions run.ending
-  pub saw : SeatSaw script regions o
-
--- Some first lines of a script were run on regions, and nothing else, until all was closed. Over a disk that tells they are the lines
--- of the run of which this is the answer.
-pub record RanOn (c : Runner) (script : Script) (d : DiskSide) (o : Opened) (answer : Result (List ℕ) Refusal) : Type 0 where
+-- The regions are those of the script, read by one seat. Its lines were run on them and nothing else, as the fold says, until all was closed,
+-- and the seat has gathered every pass. Over a disk that tells, its files are those of the same run, of which this is the answer.
+pub record RanOn {D : Type 0} (g : DiskGhosts D) (c : Runner) (script : Script) (old new : D) (o : Opened) (answer : Result (List ℕ) Refusal) : Type 0 where
   pub run : Replayed
-  pub answers : AnswersRun c script d run answer
-  pub regions : List ScriptRegion
-  pub ran : RanLines script regions
-  pub saw : SeatSaw script regions o
-  pub told : d.tells → AreOfRun script c.limit d o run
+  pub answers : AnswersRun c script (disk_side g old new) run answer
+  pub serves : ServesScript script 1 o.server
+  pub seats : length o.seats.items ≡ 1
+  pub seat : Seated
+  pub seat_is : slice_get o.seats.items 0 ≡ Some seat
+  pub seated : IsSeated o.server seat.tokens
+  pub is : IsReplay g script c.limit o.server seat.tokens old new run
 
 abbrev pub IfThere : Option Opened → (Opened → Type 0) → Type 0
 IfThere None P = Unit {0}
 IfThere (Some o) P = P o
 
 -- the regions that are there were those of the input's script, in the run that was so answered
-abbrev pub RanRegions : Runner → List ℕ → DiskSide → Option Opened → Result (List ℕ) Refusal → Type 0
-RanRegions c input d opened answer = IfThere opened (λ o. OfScript c input (λ script. RanOn c script d o answer))
+abbrev pub RanRegions : {D : Type 0} → DiskGhosts D → Runner → List ℕ → D → D → Option Opened → Result (List ℕ) Refusal → Type 0
+RanRegions g c input old new opened answer = IfThere opened (λ o. OfScript c input (λ script. RanOn g c script old new o answer))
 
 -- it leaves regions wherever the run began and memory didn't run out
 abbrev pub HasRegions : Result (List ℕ) Refusal → Option Opened → Type 0

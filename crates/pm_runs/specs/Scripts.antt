@@ -1,21 +1,20 @@
 -- Commands that run a script over any files: which script an input is, what its run makes of the files, what is written of it, and
 -- what stands where it ends before its end.
-use Rattle.std.specs.Prelude.{◌≡◌, ◌⊎◌, ℕ, ◌≤◌, true, List, [], ◌++◌, length, take, Option, Some, None}
+use Rattle.std.specs.Prelude.{◌≡◌, ◌⊎◌, ℕ, true, List, [], ◌++◌, length, Option, Some, None}
 use Rattle.pcp_base.specs.declared.result.Item.{Item}
-use Rattle.pcp_model.specs.Archive.{ArchiveReading, Reads}
 use Rattle.pcp_model.specs.Disk.{Files, IsSettled, contents_of}
-use Rattle.pcp_model.specs.Recovered.{Recovers}
+use Rattle.pcp_outside.specs.declared.disk.Disk.{Ghosts as DiskGhosts}
 use Rattle.archive_recovery.specs.RecoverFaults.{IsRefused}
+use Rattle.logging_session.specs.ComingBack.{MayBeAfter}
+use Rattle.logging_session.specs.Events.{Event, items_by}
 use Rattle.run_script.specs.declared.script.Script.{Script}
 use Rattle.script_runs.specs.declared.ending.Ending.{Ending}
 use Rattle.script_runs.specs.declared.ending.Ending.TheVariants as ends
+use Rattle.script_runs.specs.Archives.{IsRecovered}
 use Rattle.script_runs.specs.Regions.{ScriptRegion}
-use Rattle.script_runs.specs.Runs.{LinesRun, RunsTo, StopsBehind, run_start}
-use Rattle.script_runs.specs.Steps.{RunState}
-use Rattle.script_replays.specs.Replays.{IsRecovered, OnItsWay}
-use Rattle.pcp_outside.specs.declared.disk.Disk.{Ghosts as DiskGhosts}
-use Rattle.record_run.specs.SinceRecovery.{FromRecovery}
-use Rattle.record_run.specs.ImageCrashes.{IsAllAfter, MayBeAfter}
+use Rattle.script_runs.specs.Runs.{Does, RanTo, RunsTo}
+use Rattle.run_archive.specs.Crashes.{IsAllAfter}
+use Rattle.run_archive.specs.Outcomes.{WentOn, left_of}
 use Rattle.pm_words.specs.declared.stage.InputRefusal.{InputRefusal}
 use Rattle.pm_words.specs.declared.stage.FilesRefusal.{FilesRefusal}
 use Rattle.pm_words.specs.declared.stage.FilesRefusal.TheVariants.{Run, Compressed, NotArchive, Nothing}
@@ -56,74 +55,66 @@ ending_of (Limit what number) = ends.Limit what number
 ending_of (NotLater last) = ends.NotLater last
 ending_of (Changed pmid) = ends.Changed pmid
 
--- a script runs over files to an ending, with these lines written, these items logged, and these files
-pub record Leads (script : Script) (limit : ℕ) (start : Files) (ending : Ending) (output : List ℕ) (items : List Item) (final : Files) : Type 0 where
-  pub regions : List ScriptRegion
-  pub runs : RunsTo script limit start ending output items regions final
+-- the endings that a run comes to by itself: of its lines, or of the archive that turns a result away
+abbrev pub IsOwn : Ending → Type 0
+IsOwn ends.Done = Unit {0}
+IsOwn (ends.Condition line) = Unit {0}
+IsOwn (ends.Limit what number) = Unit {0}
+IsOwn (ends.NotLater last) = Unit {0}
+IsOwn (ends.Changed pmid) = Unit {0}
+IsOwn ending = ⊥
 
--- two runs that end so are one
-pub record IsOne (a b : Ending) (o p : List ℕ) (i j : List Item) (r s : List ScriptRegion) (f g : Files) : Type 0 where
-  pub ending : a ≡ b
-  pub output : o ≡ p
-  pub items : i ≡ j
-  pub regions : r ≡ s
-  pub files : f ≡ g
-
--- it stops behind some of its lines, before its end
-pub record Halts (script : Script) (limit : ℕ) (start : Files) (output : List ℕ) (items : List Item) (final : Files) : Type 0 where
-  pub reading : ArchiveReading
-  pub was : Reads start reading
-  pub left : Files
-  pub recovered : Recovers start reading left
-  pub regions : List ScriptRegion
-  pub stops : StopsBehind script limit left output items regions final
-
--- Some first lines were run over what recovery leaves: of the lines that they write a front is written, and their items are logged, or,
--- where each of them was run, also what the next line would log.
-pub record RanFirst (script : Script) (limit : ℕ) (start : Files) (output : List ℕ) (items : List Item) : Type 0 where
+-- A run over files, which are recovered first: it went to this ending, with these lines written, this done to the archive, these items on
+-- their way when the disk failed, and the regions closed so.
+pub record RunsSo (script : Script) (limit : ℕ) (start : Files) (ending : Ending) (output : List ℕ) (events : List Event) (more : List Item) (regions : List ScriptRegion) : Type 0 where
   pub left : Files
   pub recovered : IsRecovered start left
-  pub count : ℕ
-  pub within : count ≤ length script.steps
-  pub ending : Ending
-  pub last : RunState
-  pub lines_run : LinesRun (record script { steps = take count script.steps }) limit (take count script.steps) (run_start script left) ending last
-  pub more : List ℕ
-  pub output_is : last.output ≡ output ++ more
-  pub items_are : (items ≡ last.items) ⊎ OnItsWay script limit left last count items
+  pub ran : RanTo script ending output regions
+  pub does : Does script limit left ran.count ran.last ending events more
+
+-- a script runs over files to an ending, with these lines written, this done to the archive, and these files
+pub record Leads (script : Script) (limit : ℕ) (start : Files) (ending : Ending) (output : List ℕ) (events : List Event) (final : Files) : Type 0 where
+  pub regions : List ScriptRegion
+  pub runs : RunsTo script limit start ending output events regions final
+
+-- two runs that end so are one
+pub record IsOne (a b : Ending) (o p : List ℕ) (d e : List Event) (r s : List ScriptRegion) (f g : Files) : Type 0 where
+  pub ending : a ≡ b
+  pub output : o ≡ p
+  pub events : d ≡ e
+  pub regions : r ≡ s
+  pub files : f ≡ g
 
 -- a file stands wrapped, this is the first offset that fits no archive, or the run over these files ends so
 abbrev pub IsTurnedAway : ℕ → Found → Script → FilesRefusal → Type 0
 IsTurnedAway limit found script (Compressed file) = found.wrapped ≡ Some file
 IsTurnedAway limit found script (NotArchive file at) = (found.wrapped ≡ None) × IsRefused found.files file at
-IsTurnedAway limit found script (Run reason) = (found.wrapped ≡ None) × (output : List ℕ) × (items : List Item) × (final : Files) × Leads script limit found.files (ending_of reason) output items final
+IsTurnedAway limit found script (Run reason) = (found.wrapped ≡ None) × (output : List ℕ) × (events : List Event) × (final : Files) × Leads script limit found.files (ending_of reason) output events final
 IsTurnedAway limit found script (Nothing stamp) = ⊥
 
 -- the run came to its end: the files are its files, all is settled, and this is to be written
 pub record HasRunTo (c : Runner) (script : Script) (d : DiskSide) (text : List ℕ) : Type 0 where
   pub output : List ℕ
-  pub items : List Item
-  pub leads : Leads script c.limit (contents_of d.held) ends.Done output items (contents_of d.after)
-  pub says : c.says script (length items) output (contents_of d.after) text
+  pub events : List Event
+  pub leads : Leads script c.limit (contents_of d.held) ends.Done output events (contents_of d.after)
+  pub says : c.says script (length (items_by events)) output (contents_of d.after) text
 
--- The lines that a run has written before a refusal's line, and the files: where it is refused by itself they are those of the run.
--- Where memory ran out or the disk failed, a front is written of those of some first lines; a run that has ended may want memory for
--- its last line.
+-- The lines that a run has written before a refusal's line, and the files, which are those of the run. Where memory ran out, that ended
+-- it, or its last line wants memory.
 abbrev pub EndsWith : Script → ℕ → DiskSide → Ending → List ℕ → Type 0
-EndsWith script limit d ending output = (items : List Item) × Leads script limit (contents_of d.held) ending output items (contents_of d.after)
-
-abbrev pub HaltsWith : Script → ℕ → DiskSide → List ℕ → Type 0
-HaltsWith script limit d output = (items : List Item) × Halts script limit (contents_of d.held) output items (contents_of d.after)
+EndsWith script limit d ending output = (events : List Event) × Leads script limit (contents_of d.held) ending output events (contents_of d.after)
 
 abbrev pub WantsWith : Script → ℕ → DiskSide → List ℕ → Type 0
-WantsWith script limit d output = HaltsWith script limit d output ⊎ ((ending : Ending) × EndsWith script limit d ending output)
+WantsWith script limit d output = (ending : Ending) × EndsWith script limit d ending output
 
+-- Where the disk failed, nothing was written, or exactly the lines of the run so far.
 abbrev pub StoppedAt : Script → ℕ → DiskSide → DiskRefusal → List ℕ → Type 0
 StoppedAt script limit d (FilesAway (Run reason)) output = EndsWith script limit d (ending_of reason) output
 StoppedAt script limit d (FilesAway (Compressed file)) output = output ≡ []
 StoppedAt script limit d (FilesAway (NotArchive file at)) output = output ≡ []
 StoppedAt script limit d (FilesAway (Nothing stamp)) output = ⊥
-StoppedAt script limit d DiskFault output = (output ≡ []) ⊎ ((items : List Item) × RanFirst script limit (contents_of d.held) output items)
+StoppedAt script limit d DiskFault output =
+    (output ≡ []) ⊎ ((events : List Event) × (more : List Item) × (regions : List ScriptRegion) × RunsSo script limit (contents_of d.held) ends.DiskFault output events more regions)
 
 -- what such a command has written before the line of a refusal
 abbrev pub HasWritten : Runner → List ℕ → DiskSide → Refusal → List ℕ → Type 0
@@ -139,15 +130,17 @@ IsRunUnderWay limit status script d =
     (status ≡ 5) ⊎ (((status ≡ 9) × (d.tells → (d.after ≡ d.held) ⊎ ((output : List ℕ) × WantsWith script limit d output)))
     ⊎ ((reason : RunRefusal) × (status ≡ run_status reason) × (d.tells → (output : List ℕ) × EndsWith script limit d (ending_of reason) output)))
 
--- the items that a run logs, or the first of them
+-- the items that a run logged, and those on their way when the disk failed; or none
 abbrev pub LogsFirst : Script → ℕ → Files → List Item → Type 0
 LogsFirst script limit start items =
-    (items ≡ []) ⊎ (((output : List ℕ) × RanFirst script limit start output items) ⊎ ((ending : Ending) × (output : List ℕ) × (final : Files) × Leads script limit start ending output items final))
+    (items ≡ [])
+    ⊎ ((ending : Ending) × (output : List ℕ) × (events : List Event) × (more : List Item) × (regions : List ScriptRegion) × RunsSo script limit start ending output events more regions
+    × (items ≡ items_by events ++ more))
 
 -- what a crash leaves once the run has come to its end
 abbrev pub KeepsAll : Script → ℕ → Files → Files → Type 0
 KeepsAll script limit start crash =
-    (output : List ℕ) × (items : List Item) × (final : Files) × Leads script limit start ends.Done output items final × IsAllAfter items start crash
+    (output : List ℕ) × (events : List Event) × (final : Files) × Leads script limit start ends.Done output events final × IsAllAfter (items_by events) start crash
 
 -- what stands where it is done: no file stood wrapped, and the files are settled, whole, and sound where they were
 pub record StandsDone (d : DiskSide) : Type 0 where
@@ -165,9 +158,12 @@ runs_script c = record {
   begins = λ input d e front. HasWritten c input d e front;
   keeps = λ input held crash. OfScript c input (λ script. KeepsAll script c.limit (contents_of held) crash);
   begun = λ status input d. OfScript c input (λ script. IsRunUnderWay c.limit status script d);
-  may_leave = λ input held crash. OfScript c input (λ script. (items : List Item) × LogsFirst script c.limit (contents_of held) items × MayBeAfter items held crash);
+  may_leave = λ input held crash. OfScript c input (λ script. (items : List Item) × LogsFirst script c.limit (contents_of held) items × MayBeAfter items 0 held crash);
 }
 
--- from the moment on at which recovery answered, of a script's run that logged these items
+-- From recovery's answer on the disk went by the events of the script's run, one behind another, each acknowledged from its flush on.
 abbrev pub ScriptSince : {D : Type 0} → DiskGhosts D → Runner → List ℕ → D → D → Type 0
-ScriptSince g c input old new = OfScript c input (λ script. (items : List Item) × LogsFirst script c.limit (contents_of (g.held old)) items × FromRecovery g.held g.moment g.left_since items old new)
+ScriptSince g c input old new =
+    OfScript c input (λ script.
+    (ending : Ending) × (output : List ℕ) × (regions : List ScriptRegion) × (ran : RanTo script ending output regions) × (events : List Event) × (more : List Item) × (w : WentOn g c.limit events more old new ending)
+    × Does script c.limit (left_of g c.limit events more old new w) ran.count ran.last ending events more)

@@ -5,9 +5,10 @@ ghost use Rattle.pm_runs.specs.Running.{WasRun};
 
 use pcp_base::NoMemory;
 use pcp_outside::Disk;
+use record_run::replay_script;
+use run_archive::Replayed;
+use run_passes::{Opened, open_script};
 use run_script::Script;
-use script_passes::{Opened, open_script};
-use script_replays::{Replayed, replay_script};
 use std::alloc::Global;
 
 /// Opens the regions of a script and runs it on them, over any files; the regions are handed out.

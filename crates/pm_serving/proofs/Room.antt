@@ -3,7 +3,7 @@ use Rattle.std.proofs.Common.{◌≡◌, ℕ, zero, suc, ◌≤◌, Bool, true, 
 use Rattle.std.specs.List.{AllByRecursion}
 use Rattle.std.proofs.lemmas.Bool.{ltb-false}
 use Rattle.run_script.specs.declared.script.RegionRow.{RegionRow}
-use Rattle.script_passes.specs.Openings.{HaveRoom}
+use Rattle.run_passes.specs.Openings.{HaveRoom}
 use Rattle.pm_serving.specs.Scripts.{first_crowded}
 
 none_some : {A : Type 0} (x : A) → None ≡ Some x → ⊥

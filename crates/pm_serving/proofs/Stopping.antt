@@ -9,8 +9,8 @@ use Rattle.pmcd_server.specs.Works.{Work}
 use Rattle.pmcd_server.specs.declared.fault.ServeFault.{ServeFault}
 use Rattle.pmcd_server.specs.declared.fault.ServeFault.TheVariants as faults
 use Rattle.run_script.specs.declared.script.Script.{Script}
-use Rattle.script_passes.specs.Openings.{IsOpened}
-use Rattle.script_writers.specs.Written.{HaveWritten}
+use Rattle.run_passes.specs.Openings.{IsOpened}
+use Rattle.run_passes.specs.Written.{HaveWritten}
 use Rattle.pm_words.specs.Refusals.{refusal_of_stage}
 use Rattle.pcp_outside.specs.Sides.{SourceSide}
 use Rattle.pm_words.specs.declared.refusal.Refusal.TheVariants.{Words, Reading, Input, Disk, NoMemory}

@@ -4,9 +4,9 @@ use Rattle.pcp_outside.specs.declared.doors.Door.{Ghosts}
 use Rattle.pmcd_server.specs.Crews.{HasServed}
 use Rattle.pmcd_server.specs.declared.fault.ServeFault.{ServeFault}
 use Rattle.run_script.specs.declared.script.Script.{Script}
-use Rattle.script_passes.specs.Openings.{IsOpened}
-use Rattle.script_passes.specs.declared.opening.Opened.{Opened}
-use Rattle.script_writers.specs.Written.{HaveWritten}
+use Rattle.run_passes.specs.Openings.{IsOpened}
+use Rattle.run_passes.specs.declared.opening.Opened.{Opened}
+use Rattle.run_passes.specs.Written.{HaveWritten}
 use Rattle.fetch_engine.specs.Servers.{Seated}
 use Rattle.pm_serving.specs.declared.served.Served.{Served}
 

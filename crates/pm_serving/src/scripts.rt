@@ -5,7 +5,7 @@ ghost use Rattle.run_script.specs.Recording.{refused_line};
 ghost use Rattle.pm_words.specs.Inputs.{input_limit};
 ghost use Rattle.run_script.specs.Reading.{script_of};
 ghost use Rattle.run_script.specs.Rules.{KeepsRules};
-ghost use Rattle.script_passes.specs.Openings.{HaveRoom};
+ghost use Rattle.run_passes.specs.Openings.{HaveRoom};
 
 use mmv_writer::LineFault;
 use pm_words::{InputRefusal, StageFault};

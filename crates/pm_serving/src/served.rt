@@ -2,14 +2,14 @@
 ghost use Rattle.std.specs.Prelude.{◌≡◌, IfOk};
 ghost use Rattle.pm_serving.specs.Serving.{opened_as};
 ghost use Rattle.run_script.specs.Rules.{KeepsRules};
-ghost use Rattle.script_passes.specs.Openings.{HaveRoom, IsOpened};
+ghost use Rattle.run_passes.specs.Openings.{HaveRoom, IsOpened};
 
 use fetch_engine::{Seat, Server};
 use pcp_base::NoMemory;
 use pmcd_session::SessionSeat;
 use region_words::Pass;
+use run_passes::open_script;
 use run_script::Script;
-use script_passes::open_script;
 use std::alloc::Global;
 
 const SEATS: u32 = 4;

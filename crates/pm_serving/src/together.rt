@@ -6,9 +6,9 @@ ghost use Rattle.fetch_engine.specs.Servers.{IsSeated};
 ghost use Rattle.pmcd_server.specs.Crews.{HasServed};
 ghost use Rattle.run_script.specs.Recording.{refused_line};
 ghost use Rattle.run_script.specs.Rules.{KeepsRules};
-ghost use Rattle.script_passes.specs.Crews.{ServesScript};
-ghost use Rattle.script_passes.specs.Openings.{HaveRoom};
-ghost use Rattle.script_writers.specs.Written.{AreReady, HaveWritten};
+ghost use Rattle.run_passes.specs.Crews.{ServesScript};
+ghost use Rattle.run_passes.specs.Openings.{HaveRoom};
+ghost use Rattle.run_passes.specs.Written.{AreReady, HaveWritten};
 ghost use Rattle.pm_serving.specs.Ends.{StopsServing, all_served};
 ghost use Rattle.pm_serving.specs.Serving.{Leaves, doors_side};
 
@@ -21,8 +21,8 @@ use pm_words::Refusal;
 use pmcd_server::{ServeFault, serve};
 use pmcd_session::SessionSeat;
 use region_words::Pass;
+use run_passes::run_writers;
 use run_script::Script;
-use script_writers::run_writers;
 use std::alloc::Global;
 use std::mem;
 use std::sync::Wait;
@@ -66,7 +66,10 @@ where
             ensures { IfOk result (λ done. HaveWritten script.entry.now server.entry.now passes.entry.now.items done.items) }
         {
             let passes = mem::replace(passes, Vec::new(alloc));
-            run_writers(rt, alloc, script, server, passes, turn)
+            match run_writers(rt, alloc, script, server, passes, turn) {
+                Ok(done) => Ok(done),
+                Err(_back) => Err(NoMemory),
+            }
         },
         &mut || -> Result<u32, ServeFault>
             requires sync { IsSync R.row × IsSend P.row }

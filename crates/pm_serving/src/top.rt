@@ -9,7 +9,7 @@ ghost use Rattle.pm_serving.specs.Serving.{doors_side};
 ghost use Rattle.pcp_outside.specs.Sides.{source_side, sink_side};
 ghost use Rattle.run_script.specs.Recording.{refused_line};
 ghost use Rattle.run_script.specs.Rules.{KeepsRules};
-ghost use Rattle.script_passes.specs.Openings.{HaveRoom};
+ghost use Rattle.run_passes.specs.Openings.{HaveRoom};
 
 use crate::refusal::ServeRefusal;
 use crate::scripts::read_script;

@@ -2,3 +2,4 @@ mod Components
 pub mod Recovering
 pub mod Sending
 pub mod Serving
+pub mod Unreadable

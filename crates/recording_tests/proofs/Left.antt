@@ -3,7 +3,7 @@ use Rattle.std.proofs.Common.{◌≡◌, ℕ, List, Option, Some, IsSome, refl, 
 use Rattle.std.specs.Prelude.{slice_get}
 use Rattle.pcp_outside.specs.Sides.{SourceSide}
 use Rattle.fetch_engine.specs.Servers.{IsSeated, Seated}
-use Rattle.script_passes.specs.declared.opening.Opened.{Opened}
+use Rattle.run_passes.specs.declared.opening.Opened.{Opened}
 use Rattle.pm_recording.specs.Facts.{OpensRegions}
 use Rattle.pm_recording.specs.Recording.{RunSide}
 

@@ -1,79 +1,33 @@
--- The archive of a run (pmlogger(1), LOGARCHIVE(5)), as whole files: what recovery left, until the run's first result opens it,
--- and from then on what was logged into it.
-use Rattle.std.specs.Prelude.{◌≡◌, ◌⊎◌, ℕ, [], ◌∷◌, ◌++◌, codes, Option, Some, None}
-use Rattle.pcp_base.specs.Time.{Moment}
+-- The archive of a run (pmlogger(1), LOGARCHIVE(5)): its label, what is logged of a fetch, and why it turns a result away.
+use Rattle.std.specs.Prelude.{◌≡◌, ℕ, List, codes, Option, Some, None}
 use Rattle.pcp_base.specs.declared.file.FileId.{FileId}
 use Rattle.pcp_base.specs.declared.file.FileId.TheVariants as files
-use Rattle.pcp_base.specs.declared.result.Item.TheVariants.{Sample}
-use Rattle.pcp_model.specs.Archive.{ArchiveContents, IsArchive, items_of}
-use Rattle.pcp_model.specs.Disk.{Files, IsEmpty}
+use Rattle.pcp_model.specs.Archive.{ArchiveReading, Reads}
+use Rattle.pcp_model.specs.Disk.{Files}
 use Rattle.pcp_model.specs.LabelFields.{LabelFields}
-use Rattle.pcp_model.specs.Laws.{EndsWhole}
-use Rattle.pcp_model.specs.Written.{created_files}
+use Rattle.pcp_model.specs.Recovered.{Recovers}
 use Rattle.fetch_answers.specs.declared.fetch.Fetched.{Fetched}
-use Rattle.logger_core.specs.declared.ends.Ends.{Ends}
 use Rattle.logger_core.specs.declared.fault.LogFault.{LogFault}
 use Rattle.logger_core.specs.declared.fault.LogFault.TheVariants as faults
-use Rattle.logger_core.specs.Created.{no_items}
-use Rattle.logger_core.specs.Logging.{IsLoggable, IsRefused}
-use Rattle.logger_core.specs.LogSteps.{LogStep}
-use Rattle.logger_core.specs.Meant.{AreEnds}
-use Rattle.logger_core.specs.Reopening.{as_found}
-use Rattle.logger_core.specs.Steps.{FlushStep}
+use Rattle.logging_session.specs.Events.{Event, LeadFrom, opening}
+use Rattle.logging_session.specs.Written.{Refuses, Report, Stand, Takes, Written}
 use Rattle.script_runs.specs.declared.ending.Ending.{Ending}
 use Rattle.script_runs.specs.declared.ending.Ending.TheVariants as ends
 use Rattle.script_runs.specs.declared.ending.LimitKind.TheVariants as kinds
 
--- files, what they are read as, and the volume that is written
-pub record Written : Type 0 where
-  pub files : Files
-  pub contents : ArchiveContents
-  pub volume : ℕ
+-- the label of a new archive, but for its moment, which is that of its first result
+abbrev pub run_label : LabelFields
+run_label = record { pid = 1; start = record { sec = 0; usec = 0 }; host = codes "localhost"; zone = codes "UTC" }
 
--- before the run's first result, and from it on
-pub data Stand : Type 0 where
-  found : Files → Stand
-  opened : Written → Stand
+-- the files at the start, and what recovery leaves of them
+pub record IsRecovered (start left : Files) : Type 0 where
+  pub reading : ArchiveReading
+  pub was : Reads start reading
+  pub recovered : Recovers start reading left
 
-abbrev pub files_of : Stand → Files
-files_of (Stand.found left) = left
-files_of (Stand.opened w) = w.files
-
--- a new archive begins with its first result
-abbrev pub run_label : Moment → LabelFields
-run_label stamp = record { pid = 1; start = stamp; host = codes "localhost"; zone = codes "UTC" }
-
--- the first result opens what recovery left, or where it left no label a new archive
-abbrev pub OpensFound : Moment → Files → Files → ArchiveContents → Type 0
-OpensFound stamp left files c =
-    (IsEmpty left × (files ≡ created_files (run_label stamp)) × (c ≡ no_items (run_label stamp))) ⊎ ((files ≡ left) × IsArchive left c)
-
--- the archive into which a result is logged
-abbrev pub Opens : Moment → Stand → Written → Type 0
-Opens stamp (Stand.found left) w = OpensFound stamp left w.files w.contents × EndsWhole w.files w.contents w.volume
-Opens stamp (Stand.opened w) v = v ≡ w
-
--- what a logger keeps in numbers of it
-pub record EndsAre (w : Written) (ends : Ends) : Type 0 where
-  pub are : AreEnds (as_found w.files w.contents) ends
-  pub volume : ends.volume ≡ w.volume
-
--- a result is logged into an archive
-pub record Logs (limit : ℕ) (f : Fetched) (old new : Written) : Type 0 where
-  pub ends : Ends
-  pub ends_are : EndsAre old ends
-  pub loggable : IsLoggable old.contents.records ends limit f.result f.facts
-  pub step : LogStep old.files old.contents old.volume limit f.result f.facts new.files
-  pub is : IsArchive new.files new.contents
-  pub records : new.contents.records ≡ old.contents.records ++ step.missing
-  pub items : items_of new.contents.volumes ≡ items_of old.contents.volumes ++ Sample f.result ∷ []
-  pub last : EndsWhole new.files new.contents new.volume
-
--- an archive that doesn't take a result, for this reason
-pub record Refuses (limit : ℕ) (f : Fetched) (w : Written) (fault : LogFault) : Type 0 where
-  pub ends : Ends
-  pub ends_are : EndsAre w ends
-  pub refused : IsRefused w.contents.records ends limit f.result f.facts fault
+-- what is logged of a fetch
+abbrev pub report_of : Fetched → Report
+report_of f = record { result = f.result; facts = f.facts }
 
 abbrev pub full_of : FileId → ℕ → Ending
 full_of files.Meta bytes = ends.Limit kinds.Meta bytes
@@ -90,11 +44,16 @@ ending_of faults.Closed = None
 ending_of faults.NoMemory = None
 ending_of faults.DiskFault = None
 
--- a flush
-pub record Flushes (old new : Written) : Type 0 where
-  pub step : FlushStep old.files old.contents old.volume new.files
-  pub is : IsArchive new.files new.contents
-  pub records : new.contents.records ≡ old.contents.records
-  pub items : items_of new.contents.volumes ≡ items_of old.contents.volumes
-  pub volume : new.volume ≡ old.volume
-  pub last : EndsWhole new.files new.contents new.volume
+-- The archive that these events left, opened for the result if it wasn't, doesn't take it, and so the run ends.
+pub record IsTurnedAway (limit : ℕ) (left : Files) (events : List Event) (f : Fetched) (ending : Ending) : Type 0 where
+  pub w : Written
+  pub lead : LeadFrom run_label limit left (opening f.result.stamp events) (Stand.opened w)
+  pub fault : LogFault
+  pub refuses : Refuses limit (report_of f) w fault
+  pub ends : ending_of fault ≡ Some ending
+
+-- it takes it: the result is later than all that is there, can be described, and has place
+pub record IsTaken (limit : ℕ) (left : Files) (events : List Event) (f : Fetched) : Type 0 where
+  pub w : Written
+  pub lead : LeadFrom run_label limit left (opening f.result.stamp events) (Stand.opened w)
+  pub takes : Takes limit (report_of f) w

@@ -1,6 +1,6 @@
 -- What the groups of a configuration ask for at a tick (pmlogger(1)). A group keeps the metrics that it has asked for, in the
 -- order in which they were first found.
-use Rattle.std.specs.Prelude.{ℕ, ◌==◌, ◌+◌, Bool, false, nat_le, nat_lt, if◌then◌else◌, List, [], ◌∷◌, ◌++◌, map, fold, flat_map, Option, Some, None}
+use Rattle.std.specs.Prelude.{ℕ, ◌==◌, Bool, false, nat_le, nat_lt, if◌then◌else◌, List, [], ◌∷◌, ◌++◌, map, fold, flat_map, Option, Some, None}
 use Rattle.std.specs.List.{list_any}
 use Rattle.pcp_base.specs.Time.{Moment, microseconds}
 use Rattle.pmns_core.specs.Pairs.{Pair}

@@ -1,8 +1,7 @@
--- What each line of a script does to a run: to its regions, to what its groups ask for, and to its archive.
-use Rattle.std.specs.Prelude.{◌≡◌, ◌⊎◌, ℕ, ◌<◌, ◌≤◌, true, List, [], ◌∷◌, ◌++◌, codes, length, map, option_map, slice_get, slice_set, Option, Some, None}
+-- What each line of a script does to a run: to its regions, to what its groups ask for, and which events it makes of its archive.
+use Rattle.std.specs.Prelude.{◌≡◌, ℕ, ◌≤◌, true, List, [], ◌∷◌, ◌++◌, codes, length, map, option_map, slice_get, slice_set, Option, Some, None}
 use Rattle.pcp_base.specs.Time.{Moment}
 use Rattle.pcp_base.specs.declared.result.Item.{Item}
-use Rattle.pcp_base.specs.declared.result.Item.TheVariants.{Sample}
 use Rattle.pmns_core.specs.Pairs.{Pair}
 use Rattle.profile_filter.specs.Kept.{Settings}
 use Rattle.fetch_answers.specs.declared.fetch.Fetched.{Fetched}
@@ -11,26 +10,22 @@ use Rattle.fetch_answers.specs.Names.{names_of}
 use Rattle.fetch_answers.specs.Readings.{RegionReading, reading_of}
 use Rattle.log_schedule.specs.declared.config.Group.{Group}
 use Rattle.log_schedule.specs.Instants.{EachPasses}
-use Rattle.logger_core.specs.declared.fault.LogFault.{LogFault}
+use Rattle.logging_session.specs.Events.{Event, items_by, with_report}
 use Rattle.run_script.specs.declared.script.Line.{Line}
 use Rattle.run_script.specs.declared.script.Line.TheVariants as lines
 use Rattle.run_script.specs.declared.script.Script.{Script}
-use Rattle.script_runs.specs.declared.ending.Ending.{Ending}
-use Rattle.script_runs.specs.declared.ending.Ending.TheVariants as ends
-use Rattle.script_runs.specs.declared.ending.LimitKind.TheVariants as kinds
 use Rattle.script_runs.specs.Regions.{Doing, ScriptRegion, doing_of, words_at}
 use Rattle.script_runs.specs.PassSteps as steps
 use Rattle.text_lines.specs.Spelling.{one_number}
 use Rattle.script_runs.specs.PassSteps.{Outcome}
 use Rattle.script_runs.specs.Groups.{Plan, shots_of, plans_at_start, asking, asked_for}
-use Rattle.script_runs.specs.Archives.{Written, Stand, Opens, Logs, Refuses, Flushes, ending_of}
+use Rattle.script_runs.specs.Archives.{report_of}
 
--- Regions, the groups once they have started, the archive, the items logged by this run, and the lines written
+-- Regions, the groups once they have started, what was done to the archive, and the lines written
 pub record RunState : Type 0 where
   pub regions : List ScriptRegion
   pub plans : Option (List Plan)
-  pub stand : Stand
-  pub items : List Item
+  pub events : List Event
   pub output : List ℕ
 
 -- Passes
@@ -102,71 +97,48 @@ fetched_from readings pmids now = record {
 abbrev pub fetched_at : RunState → List ℕ → Moment → Fetched
 fetched_at s pmids now = fetched_from (map reading_of (shots_of s.regions)) pmids now
 
--- a result is logged
-pub record LogsResult (limit : ℕ) (s : RunState) (now : Moment) (f : Fetched) (stand : Stand) (items : List Item) : Type 0 where
-  pub old : Written
-  pub opens : Opens now s.stand old
-  pub new : Written
-  pub logs : Logs limit f old new
-  pub stand_is : stand ≡ Stand.opened new
-  pub items_are : items ≡ s.items ++ Sample f.result ∷ []
-
--- Where these metrics are asked for, their result is logged; where none is, nothing.
-abbrev pub TickLogs : ℕ → RunState → Moment → List ℕ → Stand → List Item → Type 0
-TickLogs limit s now [] stand items = (stand ≡ s.stand) × (items ≡ s.items)
-TickLogs limit s now (pmid ∷ pmids) stand items =
-    (length (pmid ∷ pmids) ≤ 1024) × LogsResult limit s now (fetched_at s (pmid ∷ pmids) now) stand items
-
 -- then the moment has passed for each group
 pub record PassesForEach (now : Moment) (old new : List Plan) : Type 0 where
   pub timetables : EachPasses now (map (λ plan. plan.timetable) old) (map (λ plan. plan.timetable) new)
   pub groups : map (λ plan. plan.group) new ≡ map (λ plan. plan.group) old
   pub asked : map (λ plan. plan.asked) new ≡ map (λ plan. plan.asked) old
 
-pub record Ticks (script : Script) (limit : ℕ) (s : RunState) (now : Moment) (t : RunState) : Type 0 where
-  pub logs : TickLogs limit s now (asked_for now (asking_at script s now)) t.stand t.items
+-- the metrics that a tick asks for
+abbrev pub pmids_at : Script → RunState → Moment → List ℕ
+pmids_at script s now = asked_for now (asking_at script s now)
+
+-- what it shows of them is logged, where it asks for any
+abbrev pub with_shown : RunState → Moment → List ℕ → List Event
+with_shown s now [] = s.events
+with_shown s now (pmid ∷ pmids) = with_report s.events (report_of (fetched_at s (pmid ∷ pmids) now))
+
+-- at most 1,024 metrics are asked for, and the moment has passed for each group
+pub record Ticks (script : Script) (s : RunState) (now : Moment) (t : RunState) : Type 0 where
+  pub few : length (pmids_at script s now) ≤ 1024
   pub later : List Plan
   pub passed : PassesForEach now (asking_at script s now) later
-  pub plans : t.plans ≡ Some later
-  pub regions : t.regions ≡ s.regions
-  pub output : t.output ≡ s.output ++ one_number (codes "tick") (length (asked_for now (asking_at script s now)))
-
--- A result that isn't logged: the archive was opened before.
-pub record RefusesResult (limit : ℕ) (s : RunState) (now : Moment) (f : Fetched) (ending : Ending) (t : RunState) : Type 0 where
-  pub old : Written
-  pub opens : Opens now s.stand old
-  pub fault : LogFault
-  pub refuses : Refuses limit f old fault
-  pub ends : ending_of fault ≡ Some ending
-  pub after : t ≡ record s { stand = Stand.opened old }
-
--- above 1,024 metrics the run ends, and the archive isn't opened
-abbrev pub HasTooMany : RunState → List ℕ → Ending → RunState → Type 0
-HasTooMany s pmids ending t = (1024 < length pmids) × (ending ≡ ends.Limit kinds.Sets (length pmids)) × (t ≡ s)
-
-abbrev pub TickStops : ℕ → RunState → Moment → List ℕ → Ending → RunState → Type 0
-TickStops limit s now [] ending t = ⊥
-TickStops limit s now (pmid ∷ pmids) ending t =
-    HasTooMany s (pmid ∷ pmids) ending t ⊎ ((length (pmid ∷ pmids) ≤ 1024) × RefusesResult limit s now (fetched_at s (pmid ∷ pmids) now) ending t)
+  pub after : t ≡ record {
+    regions = s.regions;
+    plans = Some later;
+    events = with_shown s now (pmids_at script s now);
+    output = s.output ++ one_number (codes "tick") (length (pmids_at script s now));
+  }
 
 -- Flushes
 
 -- before the run's first result nothing is done or written
-abbrev pub FlushGoes : List Item → RunState → RunState → Type 0
-FlushGoes [] s t = t ≡ s
-FlushGoes (item ∷ items) s t =
-    (old : Written) × (new : Written) × (s.stand ≡ Stand.opened old) × Flushes old new
-    × (t ≡ record s { stand = Stand.opened new; output = s.output ++ one_number (codes "flushed") (length (item ∷ items)) })
+abbrev pub flushing : List Item → RunState → RunState
+flushing [] s = s
+flushing (item ∷ items) s = record s { events = s.events ++ Event.flushed ∷ []; output = s.output ++ one_number (codes "flushed") (length (item ∷ items)) }
 
 -- Lines
 
 -- a line is run
-abbrev pub GoesOn : Script → ℕ → RunState → Line → RunState → Type 0
-GoesOn script limit s (lines.Tick now) t = Ticks script limit s now t
-GoesOn script limit s lines.Flush t = FlushGoes s.items s t
-GoesOn script limit s line t = PassGoes script s line t
+abbrev pub GoesOn : Script → RunState → Line → RunState → Type 0
+GoesOn script s (lines.Tick now) t = Ticks script s now t
+GoesOn script s lines.Flush t = t ≡ flushing (items_by s.events) s
+GoesOn script s line t = PassGoes script s line t
 
--- a line ends the run
-abbrev pub Stops : Script → ℕ → RunState → ℕ → Line → Ending → RunState → Type 0
-Stops script limit s number (lines.Tick now) ending t = TickStops limit s now (asked_for now (asking_at script s now)) ending t
-Stops script limit s number line ending t = (pass_step script s.regions line ≡ None) × (ending ≡ ends.Condition number) × (t ≡ s)
+-- a line of a pass whose condition fails; ticks and flushes have none
+abbrev pub Fails : Script → RunState → Line → Type 0
+Fails script s line = pass_step script s.regions line ≡ None

@@ -14,8 +14,8 @@ use crate::running::run_script;
 use pcp_base::{Bytes, FileId, List, NoMemory};
 use pcp_outside::Disk;
 use pm_words::{DiskRefusal, MakeWords, Refusal, of_ending};
+use run_passes::Opened;
 use run_script::{Line, generate};
-use script_passes::Opened;
 use std::alloc::Global;
 use text_lines::put_one_number;
 
@@ -113,7 +113,7 @@ pub fn make<D: Disk>(
     ensures any_moment { (input : Sequence ℕ) → Leaves D.Disk disk.old disk.new (MayLeave (meaning_of_make asked.now) input) }
     ensures unread { IsUnread D.Disk disk.old → Leaves D.Disk disk.old disk.new CrashImage }
     ensures since { (input : Sequence ℕ) → D.tells → HasRecovered result → ScriptSince D.Disk (making asked.now) input disk.old disk.new }
-    ensures ran { (input : Sequence ℕ) → RanRegions (making asked.now) input (disk_side D.Disk disk.old disk.new) opened.new result }
+    ensures ran { (input : Sequence ℕ) → RanRegions D.Disk (making asked.now) input disk.old disk.new opened.new result }
     ensures regions { HasRegions result opened.new }
 {
     let script = generate(alloc, asked.number, asked.ticks)?;

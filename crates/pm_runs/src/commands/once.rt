@@ -18,8 +18,8 @@ use mmv_layout::{Image, ImageFault};
 use pcp_base::{Bytes, Duplicate, List, NoMemory, Text};
 use pcp_outside::Disk;
 use pm_words::{InputRefusal, OnceWords, Refusal, StageFault, of_ending};
+use run_passes::Opened;
 use run_script::{Line, RegionRow, Script};
-use script_passes::Opened;
 use std::alloc::Global;
 use text_lines::one_number_line;
 
@@ -132,7 +132,7 @@ pub fn once<D: Disk>(
     ensures any_moment { Leaves D.Disk disk.old disk.new (MayLeave (meaning_of_once asked.now) input.now) }
     ensures unread { IsUnread D.Disk disk.old → Leaves D.Disk disk.old disk.new CrashImage }
     ensures since { D.tells → HasRecovered result → ScriptSince D.Disk (logging asked.now) input.now disk.old disk.new }
-    ensures ran { RanRegions (logging asked.now) input.now (disk_side D.Disk disk.old disk.new) opened.new result }
+    ensures ran { RanRegions D.Disk (logging asked.now) input.now disk.old disk.new opened.new result }
     ensures regions { HasRegions result opened.new }
 {
     let script = prepare(alloc, asked, input)?;

@@ -14,8 +14,8 @@ use crate::running::run_script;
 use pcp_base::Bytes;
 use pcp_outside::{Disk, Sink};
 use pm_words::{InputRefusal, Refusal, StageFault, of_ending, send};
+use run_passes::Opened;
 use run_script::{ReadScriptError, Script};
-use script_passes::Opened;
 use std::alloc::Global;
 
 // The script of an input.
@@ -52,7 +52,7 @@ pub fn replay<O: Sink, D: Disk>(
     ensures any_moment { Leaves D.Disk disk.old disk.new (MayLeave (meaning_of_replay volume) input.now) }
     ensures unread { IsUnread D.Disk disk.old → Leaves D.Disk disk.old disk.new CrashImage }
     ensures since { D.tells → HasRecovered result → ScriptSince D.Disk (replaying volume) input.now disk.old disk.new }
-    ensures ran { RanRegions (replaying volume) input.now (disk_side D.Disk disk.old disk.new) opened.new result }
+    ensures ran { RanRegions D.Disk (replaying volume) input.now disk.old disk.new opened.new result }
     ensures regions { HasRegions result opened.new }
 {
     let script = read_script(alloc, volume, input)?;

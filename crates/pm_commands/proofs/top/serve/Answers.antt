@@ -229,7 +229,7 @@ pub returns-in-Replay-clause-since : goal.returns-in-Replay-clause-since
 returns-in-Replay-clause-since g c = λ tells behind. subst (λ (command : Command). CommandSince g.D.Disk command c.args.input.now c.args.disk.now c.replay.new.disk) (sym c.in-Replay.is) (c.replay.ensures.since tells behind)
 
 pub returns-in-Replay-clause-ran : goal.returns-in-Replay-clause-ran
-returns-in-Replay-clause-ran g c = subst (λ (command : Command). CommandRan command c.args.input.now (disk_side g.D.Disk c.args.disk.now c.replay.new.disk) c.replay.new.opened c.replay.result) (sym c.in-Replay.is) c.replay.ensures.ran
+returns-in-Replay-clause-ran g c = subst (λ (command : Command). CommandRan g.D.Disk command c.args.input.now c.args.disk.now c.replay.new.disk c.replay.new.opened c.replay.result) (sym c.in-Replay.is) c.replay.ensures.ran
 
 pub returns-in-Replay-clause-regions : goal.returns-in-Replay-clause-regions
 returns-in-Replay-clause-regions g c = λ runs. c.replay.ensures.regions
@@ -247,73 +247,73 @@ pub returns-in-Make-clause-since : goal.returns-in-Make-clause-since
 returns-in-Make-clause-since g c = λ tells behind. subst (λ (command : Command). CommandSince g.D.Disk command c.args.input.now c.args.disk.now c.make.new.disk) (sym c.in-Make.is) ((c.make.ensures.since c.args.input.now) tells behind)
 
 pub returns-in-Make-clause-ran : goal.returns-in-Make-clause-ran
-returns-in-Make-clause-ran g c = subst (λ (command : Command). CommandRan command c.args.input.now (disk_side g.D.Disk c.args.disk.now c.make.new.disk) c.make.new.opened c.make.result) (sym c.in-Make.is) (c.make.ensures.ran c.args.input.now)
+returns-in-Make-clause-ran g c = subst (λ (command : Command). CommandRan g.D.Disk command c.args.input.now c.args.disk.now c.make.new.disk c.make.new.opened c.make.result) (sym c.in-Make.is) (c.make.ensures.ran c.args.input.now)
 
 pub returns-in-Make-clause-regions : goal.returns-in-Make-clause-regions
 returns-in-Make-clause-regions g c = λ runs. c.make.ensures.regions
 
 pub returns-in-Once-clause-ran : goal.returns-in-Once-clause-ran
-returns-in-Once-clause-ran g c = subst (λ (command : Command). CommandRan command c.args.input.now (disk_side g.D.Disk c.args.disk.now c.once.new.disk) c.once.new.opened c.once.result) (sym c.in-Once.is) c.once.ensures.ran
+returns-in-Once-clause-ran g c = subst (λ (command : Command). CommandRan g.D.Disk command c.args.input.now c.args.disk.now c.once.new.disk c.once.new.opened c.once.result) (sym c.in-Once.is) c.once.ensures.ran
 
 pub returns-in-Once-clause-regions : goal.returns-in-Once-clause-regions
 returns-in-Once-clause-regions g c = λ runs. c.once.ensures.regions
 
 pub returns-in-Dump-clause-ran : goal.returns-in-Dump-clause-ran
-returns-in-Dump-clause-ran g c = subst (λ (command : Command). CommandRan command c.args.input.now (disk_side g.D.Disk c.args.disk.now c.dump.new.disk) c.args.opened.now c.dump.result) (sym c.in-Dump.is) c.requires.closed
+returns-in-Dump-clause-ran g c = subst (λ (command : Command). CommandRan g.D.Disk command c.args.input.now c.args.disk.now c.dump.new.disk c.args.opened.now c.dump.result) (sym c.in-Dump.is) c.requires.closed
 
 pub returns-in-Dump-clause-regions : goal.returns-in-Dump-clause-regions
 returns-in-Dump-clause-regions g c = λ runs. absurd (subst RunsScript c.in-Dump.is runs)
 
 pub returns-in-Info-clause-ran : goal.returns-in-Info-clause-ran
-returns-in-Info-clause-ran g c = subst (λ (command : Command). CommandRan command c.args.input.now (disk_side g.D.Disk c.args.disk.now c.info.new.disk) c.args.opened.now c.info.result) (sym c.in-Info.is) c.requires.closed
+returns-in-Info-clause-ran g c = subst (λ (command : Command). CommandRan g.D.Disk command c.args.input.now c.args.disk.now c.info.new.disk c.args.opened.now c.info.result) (sym c.in-Info.is) c.requires.closed
 
 pub returns-in-Info-clause-regions : goal.returns-in-Info-clause-regions
 returns-in-Info-clause-regions g c = λ runs. absurd (subst RunsScript c.in-Info.is runs)
 
 pub returns-in-Recover-clause-ran : goal.returns-in-Recover-clause-ran
-returns-in-Recover-clause-ran g c = subst (λ (command : Command). CommandRan command c.args.input.now (disk_side g.D.Disk c.args.disk.now c.recover.new.disk) c.args.opened.now c.recover.result) (sym c.in-Recover.is) c.requires.closed
+returns-in-Recover-clause-ran g c = subst (λ (command : Command). CommandRan g.D.Disk command c.args.input.now c.args.disk.now c.recover.new.disk c.args.opened.now c.recover.result) (sym c.in-Recover.is) c.requires.closed
 
 pub returns-in-Recover-clause-regions : goal.returns-in-Recover-clause-regions
 returns-in-Recover-clause-regions g c = λ runs. absurd (subst RunsScript c.in-Recover.is runs)
 
 pub returns-in-At-clause-ran : goal.returns-in-At-clause-ran
-returns-in-At-clause-ran g c = subst (λ (command : Command). CommandRan command c.args.input.now (disk_side g.D.Disk c.args.disk.now c.at.new.disk) c.args.opened.now c.at.result) (sym c.in-At.is) c.requires.closed
+returns-in-At-clause-ran g c = subst (λ (command : Command). CommandRan g.D.Disk command c.args.input.now c.args.disk.now c.at.new.disk c.args.opened.now c.at.result) (sym c.in-At.is) c.requires.closed
 
 pub returns-in-At-clause-regions : goal.returns-in-At-clause-regions
 returns-in-At-clause-regions g c = λ runs. absurd (subst RunsScript c.in-At.is runs)
 
 pub returns-in-Range-clause-ran : goal.returns-in-Range-clause-ran
-returns-in-Range-clause-ran g c = subst (λ (command : Command). CommandRan command c.args.input.now (disk_side g.D.Disk c.args.disk.now c.range.new.disk) c.args.opened.now c.range.result) (sym c.in-Range.is) c.requires.closed
+returns-in-Range-clause-ran g c = subst (λ (command : Command). CommandRan g.D.Disk command c.args.input.now c.args.disk.now c.range.new.disk c.args.opened.now c.range.result) (sym c.in-Range.is) c.requires.closed
 
 pub returns-in-Range-clause-regions : goal.returns-in-Range-clause-regions
 returns-in-Range-clause-regions g c = λ runs. absurd (subst RunsScript c.in-Range.is runs)
 
 pub returns-in-Value-clause-ran : goal.returns-in-Value-clause-ran
-returns-in-Value-clause-ran g c = subst (λ (command : Command). CommandRan command c.args.input.now (disk_side g.D.Disk c.args.disk.now c.value.new.disk) c.args.opened.now c.value.result) (sym c.in-Value.is) c.requires.closed
+returns-in-Value-clause-ran g c = subst (λ (command : Command). CommandRan g.D.Disk command c.args.input.now c.args.disk.now c.value.new.disk c.args.opened.now c.value.result) (sym c.in-Value.is) c.requires.closed
 
 pub returns-in-Value-clause-regions : goal.returns-in-Value-clause-regions
 returns-in-Value-clause-regions g c = λ runs. absurd (subst RunsScript c.in-Value.is runs)
 
 pub returns-in_err-image-in-MmvMake-clause-ran : goal.returns-in_err-image-in-MmvMake-clause-ran
-returns-in_err-image-in-MmvMake-clause-ran g c = aside_ran c.args.command.now c.args.input.now (disk_side g.D.Disk c.args.disk.now c.args.disk.now) c.args.opened.now _ (inl c.in-MmvMake.is) c.requires.closed
+returns-in_err-image-in-MmvMake-clause-ran g c = aside_ran g.D.Disk c.args.command.now c.args.input.now c.args.disk.now c.args.disk.now c.args.opened.now _ (inl c.in-MmvMake.is) c.requires.closed
 
 pub returns-in_err-image-in-MmvMake-clause-regions : goal.returns-in_err-image-in-MmvMake-clause-regions
 returns-in_err-image-in-MmvMake-clause-regions g c = λ runs. absurd (subst RunsScript c.in-MmvMake.is runs)
 
 pub returns-in_ok-image-in-MmvMake-clause-ran : goal.returns-in_ok-image-in-MmvMake-clause-ran
-returns-in_ok-image-in-MmvMake-clause-ran g c = aside_ran c.args.command.now c.args.input.now (disk_side g.D.Disk c.args.disk.now c.args.disk.now) c.args.opened.now _ (inl c.in-MmvMake.is) c.requires.closed
+returns-in_ok-image-in-MmvMake-clause-ran g c = aside_ran g.D.Disk c.args.command.now c.args.input.now c.args.disk.now c.args.disk.now c.args.opened.now _ (inl c.in-MmvMake.is) c.requires.closed
 
 pub returns-in_ok-image-in-MmvMake-clause-regions : goal.returns-in_ok-image-in-MmvMake-clause-regions
 returns-in_ok-image-in-MmvMake-clause-regions g c = λ runs. absurd (subst RunsScript c.in-MmvMake.is runs)
 
 pub returns-in_err-text-in-MmvDump-clause-ran : goal.returns-in_err-text-in-MmvDump-clause-ran
-returns-in_err-text-in-MmvDump-clause-ran g c = aside_ran c.args.command.now c.args.input.now (disk_side g.D.Disk c.args.disk.now c.args.disk.now) c.args.opened.now _ (inr c.in-MmvDump.is) c.requires.closed
+returns-in_err-text-in-MmvDump-clause-ran g c = aside_ran g.D.Disk c.args.command.now c.args.input.now c.args.disk.now c.args.disk.now c.args.opened.now _ (inr c.in-MmvDump.is) c.requires.closed
 
 pub returns-in_err-text-in-MmvDump-clause-regions : goal.returns-in_err-text-in-MmvDump-clause-regions
 returns-in_err-text-in-MmvDump-clause-regions g c = λ runs. absurd (subst RunsScript c.in-MmvDump.is runs)
 
 pub returns-in_ok-text-in-MmvDump-clause-ran : goal.returns-in_ok-text-in-MmvDump-clause-ran
-returns-in_ok-text-in-MmvDump-clause-ran g c = aside_ran c.args.command.now c.args.input.now (disk_side g.D.Disk c.args.disk.now c.args.disk.now) c.args.opened.now _ (inr c.in-MmvDump.is) c.requires.closed
+returns-in_ok-text-in-MmvDump-clause-ran g c = aside_ran g.D.Disk c.args.command.now c.args.input.now c.args.disk.now c.args.disk.now c.args.opened.now _ (inr c.in-MmvDump.is) c.requires.closed
 
 pub returns-in_ok-text-in-MmvDump-clause-regions : goal.returns-in_ok-text-in-MmvDump-clause-regions
 returns-in_ok-text-in-MmvDump-clause-regions g c = λ runs. absurd (subst RunsScript c.in-MmvDump.is runs)

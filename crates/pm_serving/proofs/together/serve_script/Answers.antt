@@ -5,8 +5,8 @@ use Rattle.std.specs.List.{AllByRecursion}
 use Rattle.std.proofs.lemmas.List.{with_items_is}
 use Rattle.region_rule.specs.Seats.{Token}
 use Rattle.fetch_engine.specs.Servers.{IsSeated, Seated}
-use Rattle.script_writers.specs.Written.{HaveWritten}
-use Rattle.script_writers.proofs.Ready.{ready}
+use Rattle.run_passes.specs.Written.{HaveWritten}
+use Rattle.run_passes.proofs.Ready.{ready}
 use Rattle.pm_words.specs.declared.refusal.Refusal.TheVariants.{NoMemory}
 use Rattle.pmcd_server.specs.Crews.{HasServed}
 use Rattle.pmcd_server.specs.declared.fault.ServeFault.{ServeFault}

@@ -1,11 +1,14 @@
 -- What was logged is flushed.
 use Rattle.std.proofs.Common.{◌≡◌, inr, List, Result, Ok, Err, refl, sym, ap, ◌∙◌, subst}
 use Rattle.std.specs.Prelude.{OnOk}
+use Rattle.std.proofs.lemmas.Result.{MatchResult-weaker}
 use Rattle.pcp_model.specs.Disk.{contents_of}
 use Rattle.logger_core.proofs.Calls.{no_call}
 use Rattle.logging_session.specs.Answers.{ComesBackBy}
+use Rattle.logging_session.specs.Course.{HasKept}
 use Rattle.logging_session.specs.Events.{Event, behind}
 use Rattle.logging_session.specs.Keeping.{AreWhole, Carried, IsFailed, IsWorking, Keeps}
+use Rattle.logging_session.proofs.Course.{kept_not_failed, not_closed_by}
 use Rattle.logging_session.proofs.Events.{closing_none, closing_some}
 use Rattle.logging_session.proofs.Placed.{same_count, working_not_failed}
 use Rattle.logging_session.proofs.Sessions.{kept_comes, kept_none, kept_settled, kept_some, kept_whole}
@@ -24,6 +27,7 @@ returns-then-has_failed g c =
       settled = λ tells left events k. tt;
       whole = λ tells left events k whole. tt;
       any_moment = λ tells left events k. no_call d g.met.D.Disk.only_now c.args.disk.now (ComesBackBy events left) (kept_comes left events c.args.self.now (d.held c.args.disk.now) k);
+      went = λ tells left events start h. kept_not_failed left events c.args.self.now (d.held c.args.disk.now) h.keeps failed;
       failed = λ h. (refl, refl, refl);
       idle = λ none other. absurd (other failed);
       open_ = tt;
@@ -45,6 +49,7 @@ returns-then-self-eq0 g c =
       settled = λ tells left events k. kept_settled left events old held k none;
       whole = λ tells left events k whole. kept_whole left events old held k whole;
       any_moment = λ tells left events k. no_call d g.met.D.Disk.only_now c.args.disk.now (ComesBackBy events left) (kept_comes left events old held k);
+      went = λ tells left events start h. subst (λ (es : List Event). HasKept d left es start old c.args.disk.now) (sym (closing_none events (kept_none left events old held h.keeps none))) h;
       failed = λ h. absurd (other h);
       idle = λ none other. (refl, refl, refl);
       open_ = other;
@@ -69,6 +74,11 @@ returns g c =
       whole = λ tells left events k whole.
           on_ok c.flush.result (Keeps left (behind events Event.flushed) new after) (AreWhole (contents_of after)) (λ now. kept_whole left (behind events Event.flushed) new after now whole) (c.flush.ensures.done tells left events k);
       any_moment = λ tells left events k. c.flush.ensures.any_moment tells left events k;
+      went = λ tells left events start h.
+          let more = kept_some left events old held h.keeps some in
+          MatchResult-weaker c.flush.result (c.flush.ensures.went tells left events start h)
+          (λ v now. subst (λ (es : List Event). HasKept d left es start new c.flush.new.disk) (sym (closing_some events more)) now)
+          (λ e fails. not_closed_by d left g.met.D.Disk.only_now events start c.args.disk.now c.flush.new.disk old new h more e fails);
       failed = λ h. absurd (other h);
       idle = λ none also. absurd (some none);
       open_ = on_ok c.flush.result (IsWorking old × IsWorking new) (IsFailed new → ⊥) (λ w. working_not_failed new.place w.1) c.flush.ensures.working;

@@ -1,6 +1,7 @@
 -- The archive is opened, and handed the result.
-use Rattle.std.proofs.Common.{◌≡◌, ◌≢◌, ◌⊎◌, ⊎_elim, ◌∙◌, inl, [], ◌∷◌, Result, Ok, Err, ap}
-use Rattle.std.specs.Prelude.{IfErr, OnOk}
+use Rattle.std.proofs.Common.{◌≡◌, ◌≢◌, ◌⊎◌, ⊎_elim, ◌∙◌, inl, [], ◌∷◌, Result, Ok, Err, sym, ap, subst}
+use Rattle.std.specs.Prelude.{IfErr, IsErrAnd, MatchResult, OnOk}
+use Rattle.std.proofs.lemmas.Result.{err_from_is_err_and}
 use Rattle.pcp_base.specs.declared.result.Item.TheVariants.{Sample}
 use Rattle.pcp_outside.proofs.Crash.{weaker}
 use Rattle.logger_core.specs.declared.fault.LogFault.{LogFault}
@@ -8,11 +9,13 @@ use Rattle.logger_core.specs.declared.fault.LogFault.TheVariants.{DiskFault}
 use Rattle.logger_core.proofs.Calls.{run_then}
 use Rattle.logger_core.proofs.Keeping.{handed_on}
 use Rattle.logging_session.specs.Answers.{ComesBackBy, ComesBackWith, CountsOn, LeavesNone, LogFails, LogMayAnswer, MayTake, TakeFails, TakeMayAnswer}
-use Rattle.logging_session.specs.Events.{opening}
+use Rattle.logging_session.specs.Course.{HasKept, HasNotLogged}
+use Rattle.logging_session.specs.Events.{opening, with_report}
 use Rattle.logging_session.specs.Keeping.{Carried, IsLabelled, IsLost, IsOpen, Keeps}
 use Rattle.logging_session.specs.Written.{Report}
 use Rattle.logging_session.proofs.Logging.{by_then, leaves_none, log_fails, open_fails, open_may, take_may, take_not_lost, with_then}
 use Rattle.logging_session.proofs.Counting.{counted_from}
+use Rattle.logging_session.proofs.Course.{kept_opened, not_opened, take_went}
 use Rattle.logging_session.proofs.Placed.{taken_before}
 use Rattle.logging_session.proofs.session.Session.log.Goals as goal
 
@@ -31,6 +34,10 @@ both_err (Err e) P Q R f p q = f e p q
 three_err : {T E : Type 0} (r : Result T E) (P Q S R : E → Type 0) → ((e : E) → P e → Q e → S e → R e) → IfErr r P → IfErr r Q → IfErr r S → IfErr r R
 three_err (Ok v) P Q S R f p q s = tt
 three_err (Err e) P Q S R f p q s = f e p q s
+
+-- what `?` hands on
+at_err : {T : Type 0} (r : Result T LogFault) (e : LogFault) (P : T → Type 0) (Q : LogFault → Type 0) → IsErrAnd r (λ y. y ≡ e) → Q e → MatchResult r P Q
+at_err r e P Q was q = let p = err_from_is_err_and r was in subst (λ x. MatchResult x P Q) (sym p.1) (subst Q (sym p.2) q)
 
 pub returns-in_err-open_for-clause-any_moment : goal.returns-in_err-open_for-clause-any_moment
 returns-in_err-open_for-clause-any_moment g c = λ tells enough left events k.
@@ -154,3 +161,30 @@ returns-clause-cause g c =
     let o = c.in_ok-open_for.ensures.open_ in
     both_err c.take.result (λ (e : LogFault). TakeMayAnswer r middle c.take.new.self before after e) (λ (e : LogFault). TakeMayAnswer r middle c.take.new.self before after e) (λ (e : LogFault). LogMayAnswer r c.args.self.now c.take.new.self start after e)
     (λ e may also. take_may r c.args.self.now middle c.take.new.self start before after e o.0 o.1 (λ was. (c.open_for.ensures.stays was).1) c.open_for.ensures.later may) c.take.ensures.cause c.take.ensures.cause
+
+pub returns-in_err-open_for-clause-went : goal.returns-in_err-open_for-clause-went
+returns-in_err-open_for-clause-went g c = λ tells enough left events start h.
+    let d = g.D.Disk in
+    let r : Report = record { result = c.args.answer.now; facts = c.args.facts.now } in
+    let old = c.args.self.now in
+    let new = c.open_for.new.self in
+    let first = c.args.disk.now in
+    let last = c.open_for.new.disk in
+    let e = c.in_err-open_for.field-0.0 in
+    at_err c.from_residual.result e (λ _. HasKept d left (with_report events r) start new last) (λ f. HasNotLogged d left events r start old new last f) c.from_residual.ensures.1
+    (not_opened d left g.met.D.Disk.only_now start first last old new c.open_for.ensures.same.0 c.open_for.ensures.same.1 events r h (c.open_for.ensures.any_moment tells left events h.keeps)
+    (d.faults first) (d.faults last) e c.in_err-open_for.ensures.cause (c.in_err-open_for.ensures.refused tells left events h.keeps))
+
+pub returns-clause-went : goal.returns-clause-went
+returns-clause-went g c = λ tells enough left events start h.
+    let d = g.D.Disk in
+    let r : Report = record { result = c.args.answer.now; facts = c.args.facts.now } in
+    let old = c.args.self.now in
+    let middle = c.open_for.new.self in
+    let mid = c.open_for.new.disk in
+    let es = opening r.result.stamp events in
+    let opened : Keeps left es middle (d.held mid) = c.in_ok-open_for.ensures.done tells left events h.keeps in
+    let now : HasKept d left es start middle mid = kept_opened d left g.met.D.Disk.only_now start c.args.disk.now mid old middle c.open_for.ensures.same.0 c.open_for.ensures.same.1 r.result.stamp events h (c.open_for.ensures.any_moment tells left events h.keeps) opened in
+    take_went d left g.met.D.Disk.only_now events r start mid c.take.new.disk old middle c.take.new.self opened c.in_ok-open_for.ensures.open_.1 c.open_for.ensures.same.0 c.open_for.ensures.same.1 now.went
+    c.take.result (d.faults mid) (d.faults c.take.new.disk) c.take.ensures.same.0 c.take.ensures.same.1 (c.take.ensures.any_moment tells enough left es opened)
+    (c.take.ensures.done tells enough left es opened) c.take.ensures.cause c.take.ensures.untouched (c.take.ensures.fault tells enough left es opened)

@@ -11,7 +11,8 @@ use Rattle.pm_words.specs.declared.refusal.Refusal.{Refusal}
 use Rattle.pm_words.specs.declared.refusal.Refusal.TheVariants.{Words, Reading, Input, Disk, NoMemory}
 use Rattle.pm_runs.specs.commands.make.{Summarizes, HasCounted, WantsCounts, making}
 use Rattle.pm_runs.proofs.Counting.{few_adds, small_total}
-use Rattle.pm_runs.proofs.Scripted.{any_moment, has_served, is_done, looked_was, no_clock, ran_regions, since_done, since_stopped, stops, uncounted}
+use Rattle.pm_runs.proofs.Looked.{looked_was}
+use Rattle.pm_runs.proofs.Scripted.{any_moment, has_served, is_done, no_clock, ran_regions, since_done, since_stopped, stops, uncounted}
 use Rattle.pm_runs.proofs.commands.make.make.Goals as goal
 
 -- what was counted of a run before a look at the disk is its summary
@@ -50,8 +51,8 @@ returns-in_err-text-in-None-clause-cause g c = λ input.
     let run = c.in_ok-replayed.ensures.run in
     let r = c.in_ok-replayed.replayed in
     let same = is_done r.ending (no_clock (g.D.Disk.faults c.args.disk.now) (g.D.Disk.faults c.run_script.new.disk) r.ending run.cause) (sym c.of_ending.ensures ∙ c.in-None.is) in
-    let was = looked_was g.D.Disk c.in_ok-script.script c.args.asked.now.volume c.args.disk.now c.run_script.new.disk c.summary.new.disk run.there r same c.summary.ensures.looks c.run_script.new.opened run refl in
-    let stopped = uncounted (making c.args.asked.now) input c.in_ok-script.script (ap (λ (s : Script). Some s) (sym c.in_ok-script.ensures)) refl refl g.D.Disk c.args.disk.now c.summary.new.disk was.there r same was.told (g.D.Disk.faults c.run_script.new.disk) run.later
+    let was = looked_was g.D.Disk c.in_ok-script.script c.args.asked.now.volume c.args.disk.now c.run_script.new.disk c.summary.new.disk c.run_script.new.opened r same c.summary.ensures.looks run in
+    let stopped = uncounted (making c.args.asked.now) input c.in_ok-script.script (ap (λ (s : Script). Some s) (sym c.in_ok-script.ensures)) refl g.D.Disk c.args.disk.now c.summary.new.disk c.run_script.new.opened r was refl same (g.D.Disk.faults c.run_script.new.disk) run.later
     c.in_err-text-in-None.field-0.0 c.in_err-text-in-None.ensures.cause in
     search (rules, stopped)
 
@@ -61,15 +62,15 @@ returns-in_err-text-in-None-clause-any_moment g c = λ input.
     let run = c.in_ok-replayed.ensures.run in
     let r = c.in_ok-replayed.replayed in
     let same = is_done r.ending (no_clock (g.D.Disk.faults c.args.disk.now) (g.D.Disk.faults c.run_script.new.disk) r.ending run.cause) (sym c.of_ending.ensures ∙ c.in-None.is) in
-    let was = looked_was g.D.Disk c.in_ok-script.script c.args.asked.now.volume c.args.disk.now c.run_script.new.disk c.summary.new.disk run.there r same c.summary.ensures.looks c.run_script.new.opened run refl in
-    any_moment (making c.args.asked.now) input c.in_ok-script.script (ap (λ (s : Script). Some s) (sym c.in_ok-script.ensures)) refl g.D.Disk c.args.disk.now c.summary.new.disk was.there r was.told was.cause
+    let was = looked_was g.D.Disk c.in_ok-script.script c.args.asked.now.volume c.args.disk.now c.run_script.new.disk c.summary.new.disk c.run_script.new.opened r same c.summary.ensures.looks run in
+    any_moment (making c.args.asked.now) input c.in_ok-script.script (ap (λ (s : Script). Some s) (sym c.in_ok-script.ensures)) refl g.D.Disk c.args.disk.now c.summary.new.disk c.run_script.new.opened r was
 
 pub returns-in_err-text-in-None-clause-unread : goal.returns-in_err-text-in-None-clause-unread
 returns-in_err-text-in-None-clause-unread g c =
     let run = c.in_ok-replayed.ensures.run in
     let r = c.in_ok-replayed.replayed in
     let same = is_done r.ending (no_clock (g.D.Disk.faults c.args.disk.now) (g.D.Disk.faults c.run_script.new.disk) r.ending run.cause) (sym c.of_ending.ensures ∙ c.in-None.is) in
-    let was = looked_was g.D.Disk c.in_ok-script.script c.args.asked.now.volume c.args.disk.now c.run_script.new.disk c.summary.new.disk run.there r same c.summary.ensures.looks c.run_script.new.opened run refl in
+    let was = looked_was g.D.Disk c.in_ok-script.script c.args.asked.now.volume c.args.disk.now c.run_script.new.disk c.summary.new.disk c.run_script.new.opened r same c.summary.ensures.looks run in
     was.unread
 
 pub returns-in_err-text-in-None-clause-ran : goal.returns-in_err-text-in-None-clause-ran
@@ -77,7 +78,7 @@ returns-in_err-text-in-None-clause-ran g c = λ input.
     let run = c.in_ok-replayed.ensures.run in
     let r = c.in_ok-replayed.replayed in
     let same = is_done r.ending (no_clock (g.D.Disk.faults c.args.disk.now) (g.D.Disk.faults c.run_script.new.disk) r.ending run.cause) (sym c.of_ending.ensures ∙ c.in-None.is) in
-    let was = looked_was g.D.Disk c.in_ok-script.script c.args.asked.now.volume c.args.disk.now c.run_script.new.disk c.summary.new.disk run.there r same c.summary.ensures.looks c.run_script.new.opened run refl in
+    let was = looked_was g.D.Disk c.in_ok-script.script c.args.asked.now.volume c.args.disk.now c.run_script.new.disk c.summary.new.disk c.run_script.new.opened r same c.summary.ensures.looks run in
     let ran = ran_regions (making c.args.asked.now) input c.in_ok-script.script (ap (λ (s : Script). Some s) (sym c.in_ok-script.ensures)) refl g.D.Disk c.args.disk.now c.summary.new.disk c.run_script.new.opened r was
     (Err c.in_err-text-in-None.field-0.0) (inr (same, untold_counts (g.D.Disk.faults c.run_script.new.disk) (g.D.Disk.faults c.summary.new.disk) c.in_err-text-in-None.field-0.0 c.in_err-text-in-None.ensures.cause)) in
     search (rules, ran)
@@ -87,8 +88,8 @@ returns-in-None-clause-served g c = λ input.
     let run = c.in_ok-replayed.ensures.run in
     let r = c.in_ok-replayed.replayed in
     let same = is_done r.ending (no_clock (g.D.Disk.faults c.args.disk.now) (g.D.Disk.faults c.run_script.new.disk) r.ending run.cause) (sym c.of_ending.ensures ∙ c.in-None.is) in
-    let was = looked_was g.D.Disk c.in_ok-script.script c.args.asked.now.volume c.args.disk.now c.run_script.new.disk c.summary.new.disk run.there r same c.summary.ensures.looks c.run_script.new.opened run refl in
-    has_served (making c.args.asked.now) input c.in_ok-script.script (ap (λ (s : Script). Some s) (sym c.in_ok-script.ensures)) refl g.D.Disk c.args.disk.now c.summary.new.disk was.there r was.told was.cause c.in_ok-text-in-None.text same (λ t count is.
+    let was = looked_was g.D.Disk c.in_ok-script.script c.args.asked.now.volume c.args.disk.now c.run_script.new.disk c.summary.new.disk c.run_script.new.opened r same c.summary.ensures.looks run in
+    has_served (making c.args.asked.now) input c.in_ok-script.script (ap (λ (s : Script). Some s) (sym c.in_ok-script.ensures)) refl g.D.Disk c.args.disk.now c.summary.new.disk c.run_script.new.opened r was c.in_ok-text-in-None.text same (λ t count is.
     summarized c.in_ok-script.script r.logged c.adds_of-adds.result.0 c.adds_of-adds.result.1 count is (c.adds_of-adds.ensures.adds ∙ ap adds_in c.as_slice.ensures) (c.adds_of-adds.ensures.total ∙ ap total_in c.as_slice.ensures) (g.D.Disk.held c.run_script.new.disk)
     (g.D.Disk.held c.summary.new.disk) (c.summary.ensures.looks.held t) c.in_ok-text-in-None.text (c.in_ok-text-in-None.ensures.counted t))
 
@@ -97,15 +98,15 @@ returns-in-None-clause-any_moment g c = λ input.
     let run = c.in_ok-replayed.ensures.run in
     let r = c.in_ok-replayed.replayed in
     let same = is_done r.ending (no_clock (g.D.Disk.faults c.args.disk.now) (g.D.Disk.faults c.run_script.new.disk) r.ending run.cause) (sym c.of_ending.ensures ∙ c.in-None.is) in
-    let was = looked_was g.D.Disk c.in_ok-script.script c.args.asked.now.volume c.args.disk.now c.run_script.new.disk c.summary.new.disk run.there r same c.summary.ensures.looks c.run_script.new.opened run refl in
-    any_moment (making c.args.asked.now) input c.in_ok-script.script (ap (λ (s : Script). Some s) (sym c.in_ok-script.ensures)) refl g.D.Disk c.args.disk.now c.summary.new.disk was.there r was.told was.cause
+    let was = looked_was g.D.Disk c.in_ok-script.script c.args.asked.now.volume c.args.disk.now c.run_script.new.disk c.summary.new.disk c.run_script.new.opened r same c.summary.ensures.looks run in
+    any_moment (making c.args.asked.now) input c.in_ok-script.script (ap (λ (s : Script). Some s) (sym c.in_ok-script.ensures)) refl g.D.Disk c.args.disk.now c.summary.new.disk c.run_script.new.opened r was
 
 pub returns-in-None-clause-unread : goal.returns-in-None-clause-unread
 returns-in-None-clause-unread g c =
     let run = c.in_ok-replayed.ensures.run in
     let r = c.in_ok-replayed.replayed in
     let same = is_done r.ending (no_clock (g.D.Disk.faults c.args.disk.now) (g.D.Disk.faults c.run_script.new.disk) r.ending run.cause) (sym c.of_ending.ensures ∙ c.in-None.is) in
-    let was = looked_was g.D.Disk c.in_ok-script.script c.args.asked.now.volume c.args.disk.now c.run_script.new.disk c.summary.new.disk run.there r same c.summary.ensures.looks c.run_script.new.opened run refl in
+    let was = looked_was g.D.Disk c.in_ok-script.script c.args.asked.now.volume c.args.disk.now c.run_script.new.disk c.summary.new.disk c.run_script.new.opened r same c.summary.ensures.looks run in
     was.unread
 
 pub returns-in-None-clause-since : goal.returns-in-None-clause-since
@@ -113,15 +114,15 @@ returns-in-None-clause-since g c = λ input tells behind.
     let run = c.in_ok-replayed.ensures.run in
     let r = c.in_ok-replayed.replayed in
     let same = is_done r.ending (no_clock (g.D.Disk.faults c.args.disk.now) (g.D.Disk.faults c.run_script.new.disk) r.ending run.cause) (sym c.of_ending.ensures ∙ c.in-None.is) in
-    let was = looked_was g.D.Disk c.in_ok-script.script c.args.asked.now.volume c.args.disk.now c.run_script.new.disk c.summary.new.disk run.there r same c.summary.ensures.looks c.run_script.new.opened run refl in
-    since_done (making c.args.asked.now) input c.in_ok-script.script (ap (λ (s : Script). Some s) (sym c.in_ok-script.ensures)) refl g.D.Disk c.args.disk.now c.summary.new.disk was.there r was.told was.cause same tells
+    let was = looked_was g.D.Disk c.in_ok-script.script c.args.asked.now.volume c.args.disk.now c.run_script.new.disk c.summary.new.disk c.run_script.new.opened r same c.summary.ensures.looks run in
+    since_done (making c.args.asked.now) input c.in_ok-script.script (ap (λ (s : Script). Some s) (sym c.in_ok-script.ensures)) refl g.D.Disk c.args.disk.now c.summary.new.disk c.run_script.new.opened r was same tells
 
 pub returns-in-None-clause-ran : goal.returns-in-None-clause-ran
 returns-in-None-clause-ran g c = λ input.
     let run = c.in_ok-replayed.ensures.run in
     let r = c.in_ok-replayed.replayed in
     let same = is_done r.ending (no_clock (g.D.Disk.faults c.args.disk.now) (g.D.Disk.faults c.run_script.new.disk) r.ending run.cause) (sym c.of_ending.ensures ∙ c.in-None.is) in
-    let was = looked_was g.D.Disk c.in_ok-script.script c.args.asked.now.volume c.args.disk.now c.run_script.new.disk c.summary.new.disk run.there r same c.summary.ensures.looks c.run_script.new.opened run refl in
+    let was = looked_was g.D.Disk c.in_ok-script.script c.args.asked.now.volume c.args.disk.now c.run_script.new.disk c.summary.new.disk c.run_script.new.opened r same c.summary.ensures.looks run in
     ran_regions (making c.args.asked.now) input c.in_ok-script.script (ap (λ (s : Script). Some s) (sym c.in_ok-script.ensures)) refl g.D.Disk c.args.disk.now c.summary.new.disk c.run_script.new.opened r was (Ok c.in_ok-text-in-None.text) (
       same,
       λ t.
@@ -133,19 +134,19 @@ pub returns-clause-cause : goal.returns-clause-cause
 returns-clause-cause g c = λ input.
     let run = c.in_ok-replayed.ensures.run in
     let r = c.in_ok-replayed.replayed in
-    stops (making c.args.asked.now) input c.in_ok-script.script (ap (λ (s : Script). Some s) (sym c.in_ok-script.ensures)) refl g.D.Disk c.args.disk.now c.run_script.new.disk run.there r run.told run.cause r.ending refl c.in-Some.refusal (sym c.of_ending.ensures ∙ c.in-Some.is)
+    stops (making c.args.asked.now) input c.in_ok-script.script (ap (λ (s : Script). Some s) (sym c.in_ok-script.ensures)) refl g.D.Disk c.args.disk.now c.run_script.new.disk c.run_script.new.opened r run r.ending refl c.in-Some.refusal (sym c.of_ending.ensures ∙ c.in-Some.is)
 
 pub returns-clause-any_moment : goal.returns-clause-any_moment
 returns-clause-any_moment g c = λ input.
     let run = c.in_ok-replayed.ensures.run in
     let r = c.in_ok-replayed.replayed in
-    any_moment (making c.args.asked.now) input c.in_ok-script.script (ap (λ (s : Script). Some s) (sym c.in_ok-script.ensures)) refl g.D.Disk c.args.disk.now c.run_script.new.disk run.there r run.told run.cause
+    any_moment (making c.args.asked.now) input c.in_ok-script.script (ap (λ (s : Script). Some s) (sym c.in_ok-script.ensures)) refl g.D.Disk c.args.disk.now c.run_script.new.disk c.run_script.new.opened r run
 
 pub returns-clause-since : goal.returns-clause-since
 returns-clause-since g c = λ input tells behind.
     let run = c.in_ok-replayed.ensures.run in
     let r = c.in_ok-replayed.replayed in
-    since_stopped (making c.args.asked.now) input c.in_ok-script.script (ap (λ (s : Script). Some s) (sym c.in_ok-script.ensures)) refl g.D.Disk c.args.disk.now c.run_script.new.disk run.there r run.told run.cause r.ending refl c.in-Some.refusal (sym c.of_ending.ensures ∙ c.in-Some.is) behind tells
+    since_stopped (making c.args.asked.now) input c.in_ok-script.script (ap (λ (s : Script). Some s) (sym c.in_ok-script.ensures)) refl g.D.Disk c.args.disk.now c.run_script.new.disk c.run_script.new.opened r run r.ending refl c.in-Some.refusal (sym c.of_ending.ensures ∙ c.in-Some.is) behind tells
 
 pub returns-clause-ran : goal.returns-clause-ran
 returns-clause-ran g c = λ input.

@@ -28,13 +28,13 @@ returns-in_err-line-in-None-clause-cause g c =
     let run = c.in_ok-replayed.ensures.run in
     let r = c.in_ok-replayed.replayed in
     let same = is_done r.ending (no_clock (g.D.Disk.faults c.args.disk.now) (g.D.Disk.faults c.run_script.new.disk) r.ending run.cause) (sym c.of_ending.ensures ∙ c.in-None.is) in
-    let why = uncounted (logging c.args.asked.now) c.args.input.now c.in_ok-script.script c.in_ok-script.ensures.script c.in_ok-script.ensures.good refl g.D.Disk c.args.disk.now c.run_script.new.disk run.there r same run.told (g.D.Disk.faults c.args.disk.now) (omega arith) NoMemory tt in
+    let why = uncounted (logging c.args.asked.now) c.args.input.now c.in_ok-script.script c.in_ok-script.ensures.script c.in_ok-script.ensures.good g.D.Disk c.args.disk.now c.run_script.new.disk c.run_script.new.opened r run refl same (g.D.Disk.faults c.args.disk.now) (omega arith) NoMemory tt in
     search (rules, why)
 
 pub returns-in_err-line-in-None-clause-any_moment : goal.returns-in_err-line-in-None-clause-any_moment
 returns-in_err-line-in-None-clause-any_moment g c =
     let run = c.in_ok-replayed.ensures.run in
-    any_moment (logging c.args.asked.now) c.args.input.now c.in_ok-script.script c.in_ok-script.ensures.script c.in_ok-script.ensures.good g.D.Disk c.args.disk.now c.run_script.new.disk run.there c.in_ok-replayed.replayed run.told run.cause
+    any_moment (logging c.args.asked.now) c.args.input.now c.in_ok-script.script c.in_ok-script.ensures.script c.in_ok-script.ensures.good g.D.Disk c.args.disk.now c.run_script.new.disk c.run_script.new.opened c.in_ok-replayed.replayed run
 
 pub returns-in_err-line-in-None-clause-ran : goal.returns-in_err-line-in-None-clause-ran
 returns-in_err-line-in-None-clause-ran g c =
@@ -49,20 +49,20 @@ returns-in-None-clause-served g c =
     let run = c.in_ok-replayed.ensures.run in
     let r = c.in_ok-replayed.replayed in
     let same = is_done r.ending (no_clock (g.D.Disk.faults c.args.disk.now) (g.D.Disk.faults c.run_script.new.disk) r.ending run.cause) (sym c.of_ending.ensures ∙ c.in-None.is) in
-    has_served (logging c.args.asked.now) c.args.input.now c.in_ok-script.script c.in_ok-script.ensures.script c.in_ok-script.ensures.good g.D.Disk c.args.disk.now c.run_script.new.disk run.there r run.told run.cause c.in_ok-line-in-None.line same
+    has_served (logging c.args.asked.now) c.args.input.now c.in_ok-script.script c.in_ok-script.ensures.script c.in_ok-script.ensures.good g.D.Disk c.args.disk.now c.run_script.new.disk c.run_script.new.opened r run c.in_ok-line-in-None.line same
     (λ t count is. c.in_ok-line-in-None.ensures ∙ ap logged_line is)
 
 pub returns-in-None-clause-any_moment : goal.returns-in-None-clause-any_moment
 returns-in-None-clause-any_moment g c =
     let run = c.in_ok-replayed.ensures.run in
-    any_moment (logging c.args.asked.now) c.args.input.now c.in_ok-script.script c.in_ok-script.ensures.script c.in_ok-script.ensures.good g.D.Disk c.args.disk.now c.run_script.new.disk run.there c.in_ok-replayed.replayed run.told run.cause
+    any_moment (logging c.args.asked.now) c.args.input.now c.in_ok-script.script c.in_ok-script.ensures.script c.in_ok-script.ensures.good g.D.Disk c.args.disk.now c.run_script.new.disk c.run_script.new.opened c.in_ok-replayed.replayed run
 
 pub returns-in-None-clause-since : goal.returns-in-None-clause-since
 returns-in-None-clause-since g c = λ tells behind.
     let run = c.in_ok-replayed.ensures.run in
     let r = c.in_ok-replayed.replayed in
     let same = is_done r.ending (no_clock (g.D.Disk.faults c.args.disk.now) (g.D.Disk.faults c.run_script.new.disk) r.ending run.cause) (sym c.of_ending.ensures ∙ c.in-None.is) in
-    since_done (logging c.args.asked.now) c.args.input.now c.in_ok-script.script c.in_ok-script.ensures.script c.in_ok-script.ensures.good g.D.Disk c.args.disk.now c.run_script.new.disk run.there r run.told run.cause same tells
+    since_done (logging c.args.asked.now) c.args.input.now c.in_ok-script.script c.in_ok-script.ensures.script c.in_ok-script.ensures.good g.D.Disk c.args.disk.now c.run_script.new.disk c.run_script.new.opened r run same tells
 
 pub returns-in-None-clause-ran : goal.returns-in-None-clause-ran
 returns-in-None-clause-ran g c =
@@ -75,18 +75,18 @@ pub returns-clause-cause : goal.returns-clause-cause
 returns-clause-cause g c =
     let run = c.in_ok-replayed.ensures.run in
     let r = c.in_ok-replayed.replayed in
-    stops (logging c.args.asked.now) c.args.input.now c.in_ok-script.script c.in_ok-script.ensures.script c.in_ok-script.ensures.good g.D.Disk c.args.disk.now c.run_script.new.disk run.there r run.told run.cause r.ending refl c.in-Some.refusal (sym c.of_ending.ensures ∙ c.in-Some.is)
+    stops (logging c.args.asked.now) c.args.input.now c.in_ok-script.script c.in_ok-script.ensures.script c.in_ok-script.ensures.good g.D.Disk c.args.disk.now c.run_script.new.disk c.run_script.new.opened r run r.ending refl c.in-Some.refusal (sym c.of_ending.ensures ∙ c.in-Some.is)
 
 pub returns-clause-any_moment : goal.returns-clause-any_moment
 returns-clause-any_moment g c =
     let run = c.in_ok-replayed.ensures.run in
-    any_moment (logging c.args.asked.now) c.args.input.now c.in_ok-script.script c.in_ok-script.ensures.script c.in_ok-script.ensures.good g.D.Disk c.args.disk.now c.run_script.new.disk run.there c.in_ok-replayed.replayed run.told run.cause
+    any_moment (logging c.args.asked.now) c.args.input.now c.in_ok-script.script c.in_ok-script.ensures.script c.in_ok-script.ensures.good g.D.Disk c.args.disk.now c.run_script.new.disk c.run_script.new.opened c.in_ok-replayed.replayed run
 
 pub returns-clause-since : goal.returns-clause-since
 returns-clause-since g c = λ tells behind.
     let run = c.in_ok-replayed.ensures.run in
     let r = c.in_ok-replayed.replayed in
-    since_stopped (logging c.args.asked.now) c.args.input.now c.in_ok-script.script c.in_ok-script.ensures.script c.in_ok-script.ensures.good g.D.Disk c.args.disk.now c.run_script.new.disk run.there r run.told run.cause r.ending refl c.in-Some.refusal (sym c.of_ending.ensures ∙ c.in-Some.is) behind tells
+    since_stopped (logging c.args.asked.now) c.args.input.now c.in_ok-script.script c.in_ok-script.ensures.script c.in_ok-script.ensures.good g.D.Disk c.args.disk.now c.run_script.new.disk c.run_script.new.opened r run r.ending refl c.in-Some.refusal (sym c.of_ending.ensures ∙ c.in-Some.is) behind tells
 
 pub returns-clause-ran : goal.returns-clause-ran
 returns-clause-ran g c =

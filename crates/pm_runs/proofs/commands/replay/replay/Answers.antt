@@ -32,21 +32,21 @@ returns-in-None-clause-serves g c =
     let same = is_done r.ending (no_clock (g.D.Disk.faults c.args.disk.now) (g.D.Disk.faults c.run_script.new.disk) r.ending run.cause) (sym c.of_ending.ensures ∙ c.in-None.is) in record {
       front = [];
       sent = unsent g.O.Sink c.args.out.now c.args.failed.now c.requires.fresh;
-      done = has_served (replaying c.args.volume) c.args.input.now c.in_ok-script.script c.in_ok-script.ensures.script c.in_ok-script.ensures.good g.D.Disk c.args.disk.now c.run_script.new.disk run.there r run.told run.cause r.output same (λ t count is. refl);
+      done = has_served (replaying c.args.volume) c.args.input.now c.in_ok-script.script c.in_ok-script.ensures.script c.in_ok-script.ensures.good g.D.Disk c.args.disk.now c.run_script.new.disk c.run_script.new.opened r run r.output same (λ t count is. refl);
       stops = tt;
     }
 
 pub returns-in-None-clause-any_moment : goal.returns-in-None-clause-any_moment
 returns-in-None-clause-any_moment g c =
     let run = c.in_ok-replayed.ensures.run in
-    any_moment (replaying c.args.volume) c.args.input.now c.in_ok-script.script c.in_ok-script.ensures.script c.in_ok-script.ensures.good g.D.Disk c.args.disk.now c.run_script.new.disk run.there c.in_ok-replayed.replayed run.told run.cause
+    any_moment (replaying c.args.volume) c.args.input.now c.in_ok-script.script c.in_ok-script.ensures.script c.in_ok-script.ensures.good g.D.Disk c.args.disk.now c.run_script.new.disk c.run_script.new.opened c.in_ok-replayed.replayed run
 
 pub returns-in-None-clause-since : goal.returns-in-None-clause-since
 returns-in-None-clause-since g c = λ tells behind.
     let run = c.in_ok-replayed.ensures.run in
     let r = c.in_ok-replayed.replayed in
     let same = is_done r.ending (no_clock (g.D.Disk.faults c.args.disk.now) (g.D.Disk.faults c.run_script.new.disk) r.ending run.cause) (sym c.of_ending.ensures ∙ c.in-None.is) in
-    since_done (replaying c.args.volume) c.args.input.now c.in_ok-script.script c.in_ok-script.ensures.script c.in_ok-script.ensures.good g.D.Disk c.args.disk.now c.run_script.new.disk run.there r run.told run.cause same tells
+    since_done (replaying c.args.volume) c.args.input.now c.in_ok-script.script c.in_ok-script.ensures.script c.in_ok-script.ensures.good g.D.Disk c.args.disk.now c.run_script.new.disk c.run_script.new.opened r run same tells
 
 pub returns-in-None-clause-ran : goal.returns-in-None-clause-ran
 returns-in-None-clause-ran g c =
@@ -64,20 +64,20 @@ returns-in-Some-clause-serves g c =
       front = r.output;
       sent = subst (λ (piece : List ℕ). IsSent k piece c.send.result) c.as_slice.ensures (subst (λ (failed : Bool). Sends k failed c.as_slice.result.now c.send.result) c.requires.fresh sent);
       done = tt;
-      stops = stops (replaying c.args.volume) c.args.input.now c.in_ok-script.script c.in_ok-script.ensures.script c.in_ok-script.ensures.good g.D.Disk c.args.disk.now c.run_script.new.disk run.there r run.told run.cause r.ending refl c.in-Some.refusal
+      stops = stops (replaying c.args.volume) c.args.input.now c.in_ok-script.script c.in_ok-script.ensures.script c.in_ok-script.ensures.good g.D.Disk c.args.disk.now c.run_script.new.disk c.run_script.new.opened r run r.ending refl c.in-Some.refusal
           (sym c.of_ending.ensures ∙ c.in-Some.is);
     }
 
 pub returns-in-Some-clause-any_moment : goal.returns-in-Some-clause-any_moment
 returns-in-Some-clause-any_moment g c =
     let run = c.in_ok-replayed.ensures.run in
-    any_moment (replaying c.args.volume) c.args.input.now c.in_ok-script.script c.in_ok-script.ensures.script c.in_ok-script.ensures.good g.D.Disk c.args.disk.now c.run_script.new.disk run.there c.in_ok-replayed.replayed run.told run.cause
+    any_moment (replaying c.args.volume) c.args.input.now c.in_ok-script.script c.in_ok-script.ensures.script c.in_ok-script.ensures.good g.D.Disk c.args.disk.now c.run_script.new.disk c.run_script.new.opened c.in_ok-replayed.replayed run
 
 pub returns-in-Some-clause-since : goal.returns-in-Some-clause-since
 returns-in-Some-clause-since g c = λ tells behind.
     let run = c.in_ok-replayed.ensures.run in
     let r = c.in_ok-replayed.replayed in
-    since_stopped (replaying c.args.volume) c.args.input.now c.in_ok-script.script c.in_ok-script.ensures.script c.in_ok-script.ensures.good g.D.Disk c.args.disk.now c.run_script.new.disk run.there r run.told run.cause r.ending refl c.in-Some.refusal
+    since_stopped (replaying c.args.volume) c.args.input.now c.in_ok-script.script c.in_ok-script.ensures.script c.in_ok-script.ensures.good g.D.Disk c.args.disk.now c.run_script.new.disk c.run_script.new.opened r run r.ending refl c.in-Some.refusal
     (sym c.of_ending.ensures ∙ c.in-Some.is) behind tells
 
 pub returns-in-Some-clause-ran : goal.returns-in-Some-clause-ran

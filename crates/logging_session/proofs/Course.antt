@@ -1,0 +1,304 @@
+-- How a disk goes on with a session: of one event more, and of each call.
+use Rattle.std.proofs.Common.{◌≡◌, ◌≢◌, ◌⊎◌, ⊎_elim, inl, inr, ℕ, ◌+◌, ◌≤◌, List, [], ◌∷◌, ◌++◌, length, Result, Ok, Err, refl, sym, ap, ◌∙◌, subst, arith, append-nil}
+use Rattle.std.specs.Prelude.{IfErr, MatchResult, OnOk}
+use Rattle.pcp_base.specs.Time.{Moment}
+use Rattle.pcp_base.specs.declared.result.Item.{Item}
+use Rattle.pcp_base.specs.declared.result.Item.TheVariants.{Sample}
+use Rattle.pcp_model.specs.Disk.{CrashImage, Files, Holdings}
+use Rattle.pcp_model.specs.LabelFields.{LabelFields}
+use Rattle.pcp_outside.specs.declared.disk.Disk.{Ghosts as DiskGhosts}
+use Rattle.pcp_outside.specs.Devices.{LeavesOnly}
+use Rattle.pcp_outside.proofs.Crash.{joined, weaker}
+use Rattle.logger_core.specs.declared.fault.LogFault.{LogFault}
+use Rattle.logger_core.specs.declared.fault.LogFault.TheVariants.{Closed, Large, NotLater, Changed, Full, NoMemory, DiskFault}
+use Rattle.logger_core.proofs.Calls.{no_call}
+use Rattle.logging_session.specs.declared.place.Place.{Place}
+use Rattle.logging_session.specs.declared.place.Place.TheVariants.{Found, Open, Lost, Failed}
+use Rattle.logging_session.specs.Answers.{ComesBackBy, ComesBackWith, FlushMayAnswer, OpenMayAnswer, TakeFails, TakeMayAnswer}
+use Rattle.logging_session.specs.ComingBack.{ComesBackTo}
+use Rattle.logging_session.specs.Course.{HasKept, HasNotClosed, HasNotFlushed, HasNotLogged, HasPassed, HasTurnedAway, WentBy}
+use Rattle.logging_session.specs.Events.{Event, acknowledged_by, behind, items_by, opening, sure_after}
+use Rattle.logging_session.specs.Keeping.{Carried, HasFailed, HasLost, IsClosed, IsFailed, IsOpen, IsPlace, Keeps}
+use Rattle.logging_session.specs.Written.{Refuses, Report, Stand, Written}
+use Rattle.logging_session.proofs.Events.{items_more}
+use Rattle.logging_session.proofs.Going.{comes_fewer, comes_more}
+use Rattle.logging_session.proofs.Logging.{opened_leads, would_log}
+use Rattle.logging_session.proofs.Placed.{neither}
+use Rattle.logging_session.proofs.Sessions.{kept_comes, kept_files, same_kept}
+
+-- ---- the first ones of some events
+
+none_front : (front rest : List Event) → [] ≡ front ++ rest → front ≡ []
+none_front [] rest is = refl
+none_front (x ∷ front) rest is = cc
+
+head_same : (x y : Event) (xs ys : List Event) → x ∷ xs ≡ y ∷ ys → x ≡ y
+head_same x y xs ys is = cc
+
+tail_same : (x y : Event) (xs ys : List Event) → x ∷ xs ≡ y ∷ ys → xs ≡ ys
+tail_same x y xs ys is = cc
+
+-- they are the first ones of these events
+abbrev IsFront : List Event → List Event → Type 0
+IsFront front events = (rest : List Event) × (events ≡ front ++ rest)
+
+-- where one more comes behind, the first ones are those of before, or all
+front_more : (events : List Event) (e : Event) (front rest : List Event) → events ++ e ∷ [] ≡ front ++ rest → IsFront front events ⊎ (front ≡ events ++ e ∷ [])
+front_more [] e [] rest is = inl ([], refl)
+front_more [] e (x ∷ front) rest is =
+    inr (ap (λ (y : Event). y ∷ front) (sym (head_same e x [] (front ++ rest) is)) ∙ ap (λ (ys : List Event). e ∷ ys) (none_front front rest (tail_same e x [] (front ++ rest) is)))
+front_more (y ∷ events) e [] rest is = inl (y ∷ events, refl)
+front_more (y ∷ events) e (x ∷ front) rest is =
+    let same : y ≡ x = head_same y x (events ++ e ∷ []) (front ++ rest) is in
+    ⊎_elim (λ (h : IsFront front events). inl (h.0, ap (λ (ys : List Event). y ∷ ys) h.1 ∙ ap (λ (z : Event). z ∷ (front ++ h.0)) same))
+    (λ (all : front ≡ events ++ e ∷ []). inr (ap (λ (z : Event). z ∷ front) (sym same) ∙ ap (λ (ys : List Event). y ∷ ys) all))
+    (front_more events e front rest (tail_same y x (events ++ e ∷ []) (front ++ rest) is))
+
+-- what is acknowledged stays so
+sure_grows : (events : List Event) (all sure : ℕ) → sure ≤ all → sure ≤ sure_after all sure events
+sure_grows [] all sure le = omega arith
+sure_grows (Event.opened t ∷ events) all sure le = sure_grows events all sure le
+sure_grows (Event.logged r ∷ events) all sure le = sure_grows events (all + 1) sure (omega (arith, le))
+sure_grows (Event.flushed ∷ events) all sure le = omega (arith, le, sure_grows events all all (omega arith))
+sure_grows (Event.synced ∷ events) all sure le = omega (arith, le, sure_grows events all all (omega arith))
+
+sure_front : (front rest : List Event) (all sure : ℕ) → sure ≤ all → sure_after all sure front ≤ sure_after all sure (front ++ rest)
+sure_front [] rest all sure le = sure_grows rest all sure le
+sure_front (Event.opened t ∷ front) rest all sure le = sure_front front rest all sure le
+sure_front (Event.logged r ∷ front) rest all sure le = sure_front front rest (all + 1) sure (omega (arith, le))
+sure_front (Event.flushed ∷ front) rest all sure le = sure_front front rest all all (omega arith)
+sure_front (Event.synced ∷ front) rest all sure le = sure_front front rest all all (omega arith)
+
+pub front_sure : (events front rest : List Event) → events ≡ front ++ rest → acknowledged_by front ≤ acknowledged_by events
+front_sure events front rest is = subst (λ (es : List Event). acknowledged_by front ≤ acknowledged_by es) (sym is) (sure_front front rest 0 0 (omega arith))
+
+-- ---- a closed session that is kept
+
+module _ (left : Files) (limit : ℕ) (events : List Event) (held : Holdings) where
+  place_failed : {A : Type 0} (stand : Stand) → IsPlace left limit events stand Failed held → A
+  place_failed (Stand.found files) is = absurd is
+  place_failed (Stand.opened w) is = absurd is
+
+  place_lost : (stand : Stand) → IsPlace left limit events stand Lost held → events ≡ []
+  place_lost (Stand.found files) is = is.none
+  place_lost (Stand.opened w) is = absurd is
+
+  place_closed : (stand : Stand) (place : Place) → IsPlace left limit events stand place held → HasLost place ⊎ HasFailed place → events ≡ []
+  place_closed stand (Found archive) is closed = neither closed
+  place_closed stand (Open kept) is closed = neither closed
+  place_closed stand Lost is closed = place_lost stand is
+  place_closed stand Failed is closed = place_failed stand is
+
+  place_not_failed : {A : Type 0} (stand : Stand) (place : Place) → IsPlace left limit events stand place held → HasFailed place → A
+  place_not_failed stand (Found archive) is failed = absurd failed
+  place_not_failed stand (Open kept) is failed = absurd failed
+  place_not_failed stand Lost is failed = absurd failed
+  place_not_failed stand Failed is failed = place_failed stand is
+
+module _ (left : Files) (events : List Event) (s : Carried) (held : Holdings) (k : Keeps left events s held) where
+  -- nothing was done in it
+  closed_none : IsClosed s → events ≡ []
+  closed_none closed = place_closed left s.limit events held k.stand s.place k.place closed
+
+  -- and the disk didn't fail
+  pub kept_not_failed : {A : Type 0} → IsFailed s → A
+  kept_not_failed failed = place_not_failed left s.limit events held k.stand s.place k.place failed
+
+-- ---- over any disk
+
+module _ {D : Type 0} (d : DiskGhosts D) (left : Files) where
+  abbrev Leaves : D → D → (Files → Type 0) → Type 0
+  Leaves old new P = LeavesOnly d.moment d.left_since old new P
+
+  -- what was passed was so while more items come on their way, and all acknowledged ones stay
+  passed_on : (l : LabelFields) (limit : ℕ) (events front rest : List Event) (items more : List Item) (start old new : D) → events ≡ front ++ rest → HasPassed d l limit left front items start old
+      → Leaves old new (ComesBackTo (items ++ more) (acknowledged_by events) left) → HasPassed d l limit left front (items ++ more) start new
+  passed_on l limit events front rest items more start old new is p run = record {
+    at = p.at;
+    before = weaker d.moment d.left_since d.held start p.at (ComesBackTo items 0 left) (ComesBackTo (items ++ more) 0 left) p.before (λ image comes. comes_more items more 0 left image comes);
+    files = p.files;
+    since = joined d.moment d.left_since d.held p.at old new (ComesBackTo (items ++ more) (acknowledged_by front) left)
+        (weaker d.moment d.left_since d.held p.at old (ComesBackTo items (acknowledged_by front) left) (ComesBackTo (items ++ more) (acknowledged_by front) left) p.since
+        (λ image comes. comes_more items more (acknowledged_by front) left image comes))
+        (weaker d.moment d.left_since d.held old new (ComesBackTo (items ++ more) (acknowledged_by events) left) (ComesBackTo (items ++ more) (acknowledged_by front) left) run
+        (λ image comes. comes_fewer (items ++ more) (acknowledged_by events) (acknowledged_by front) left image (front_sure events front rest is) comes));
+  }
+
+  module _ (l : LabelFields) (limit : ℕ) (events : List Event) (start old new : D) (w : WentBy d l limit left events [] start old) where
+    -- no item was on its way
+    went_at : (front rest : List Event) → events ≡ front ++ rest → HasPassed d l limit left front (items_by events) start old
+    went_at front rest is = subst (λ (items : List Item). HasPassed d l limit left front items start old) (append-nil (items_by events)) (w front rest is)
+
+    went_before : Leaves start old (ComesBackTo (items_by events) 0 left)
+    went_before =
+        let p : HasPassed d l limit left [] (items_by events) start old = went_at [] events refl in joined d.moment d.left_since d.held start p.at old (ComesBackTo (items_by events) 0 left) p.before p.since
+
+    -- no event more, and perhaps an item on its way
+    pub went_on : (more : List Item) → Leaves old new (ComesBackTo (items_by events ++ more) (acknowledged_by events) left) → WentBy d l limit left events more start new
+    went_on more run = λ front rest is. passed_on l limit events front rest (items_by events) more start old new is (went_at front rest is) run
+
+    pub went_still : Leaves old new (ComesBackBy events left) → WentBy d l limit left events [] start new
+    went_still run = went_on [] (subst (λ (items : List Item). Leaves old new (ComesBackTo items (acknowledged_by events) left)) (sym (append-nil (items_by events))) run)
+
+    -- one event more
+    pub goes_on : (e : Event) → Leaves old new (ComesBackTo (items_by events ++ items_by (e ∷ [])) (acknowledged_by events) left) → HasPassed d l limit left (events ++ e ∷ []) (items_by (events ++ e ∷ []) ++ []) start new
+        → WentBy d l limit left (events ++ e ∷ []) [] start new
+    goes_on e run now = λ front rest is. ⊎_elim
+        (λ (h : IsFront front events). subst (λ (items : List Item). HasPassed d l limit left front items start new) (sym (items_more events e) ∙ sym (append-nil (items_by (events ++ e ∷ []))))
+        (passed_on l limit events front h.0 (items_by events) (items_by (e ∷ [])) start old new h.1 (went_at front h.0 h.1) run))
+        (λ (all : front ≡ events ++ e ∷ []). subst (λ (es : List Event). HasPassed d l limit left es (items_by (events ++ e ∷ []) ++ []) start new) (sym all) now)
+        (front_more events e front rest is)
+
+  -- before the archive was opened it was so too
+  pub went_unopened : (l : LabelFields) (limit : ℕ) (stamp : Moment) (events : List Event) (more : List Item) (start disk : D) → WentBy d l limit left (opening stamp events) more start disk → WentBy d l limit left events more start disk
+  went_unopened l limit stamp [] more start disk w = λ front rest is.
+      subst (λ (es : List Event). HasPassed d l limit left es ([] ++ more) start disk) (sym (none_front front rest is)) (w [] (Event.opened stamp ∷ []) refl)
+  went_unopened l limit stamp (e ∷ events) more start disk w = w
+
+  went_as : (s t : Carried) (events : List Event) (start disk : D) → t.label ≡ s.label → t.limit ≡ s.limit → WentBy d s.label s.limit left events [] start disk → WentBy d t.label t.limit left events [] start disk
+  went_as s t events start disk label limit w =
+      subst (λ (l : LabelFields). WentBy d l t.limit left events [] start disk) (sym label) (subst (λ (n : ℕ). WentBy d s.label n left events [] start disk) (sym limit) w)
+
+  module _ (only_now : (disk : D) (c : Files) → d.left_since disk (d.moment disk) c → CrashImage (d.held disk) c) where
+    -- what is kept stands so now
+    pub stands_now : (events : List Event) (s : Carried) (start disk : D) → Keeps left events s (d.held disk) → Leaves start disk (ComesBackTo (items_by events ++ []) 0 left) → HasPassed d s.label s.limit left events (items_by events ++ []) start disk
+    stands_now events s start disk k before = record {
+      at = disk;
+      before = before;
+      files = record { stand = k.stand; lead = k.lead; are = kept_files left events s (d.held disk) k };
+      since = subst (λ (items : List Item). Leaves disk disk (ComesBackTo items (acknowledged_by events) left)) (sym (append-nil (items_by events)))
+          (no_call d only_now disk (ComesBackBy events left) (kept_comes left events s (d.held disk) k));
+    }
+
+    pub begins : (s : Carried) (disk : D) → Keeps left [] s (d.held disk) → HasKept d left [] disk s disk
+    begins s disk k = record {
+      keeps = k;
+      went = λ front rest is. subst (λ (es : List Event). HasPassed d s.label s.limit left es ([] ++ []) disk disk) (sym (none_front front rest is)) (stands_now [] s disk disk k (no_call d only_now disk (ComesBackTo [] 0 left) (kept_comes left [] s (d.held disk) k)));
+    }
+
+    -- ---- a call that keeps the session
+
+    module _ (start old new : D) (s t : Carried) (label : t.label ≡ s.label) (limit : t.limit ≡ s.limit) where
+      pub kept_still : (events : List Event) → HasKept d left events start s old → Leaves old new (ComesBackBy events left) → Keeps left events t (d.held new) → HasKept d left events start t new
+      kept_still events h run k = record { keeps = k; went = went_as s t events start new label limit (went_still s.label s.limit events start old new h.went run) }
+
+      pub kept_more : (events : List Event) (e : Event) → HasKept d left events start s old → Leaves old new (ComesBackTo (items_by events ++ items_by (e ∷ [])) (acknowledged_by events) left)
+          → Keeps left (events ++ e ∷ []) t (d.held new) → HasKept d left (events ++ e ∷ []) start t new
+      kept_more events e h run k =
+          let w : WentBy d t.label t.limit left events [] start old = went_as s t events start old label limit h.went in
+          let all : List Item = items_by events ++ items_by (e ∷ []) in
+          let before : Leaves start new (ComesBackTo all 0 left) = joined d.moment d.left_since d.held start old new (ComesBackTo all 0 left)
+          (weaker d.moment d.left_since d.held start old (ComesBackTo (items_by events) 0 left) (ComesBackTo all 0 left) (went_before t.label t.limit events start old new w)
+          (λ image comes. comes_more (items_by events) (items_by (e ∷ [])) 0 left image comes))
+          (weaker d.moment d.left_since d.held old new (ComesBackTo all (acknowledged_by events) left) (ComesBackTo all 0 left) run (λ image comes. comes_fewer all (acknowledged_by events) 0 left image (omega arith) comes)) in
+          record {
+            keeps = k;
+            went = goes_on t.label t.limit events start old new w e run
+                (stands_now (events ++ e ∷ []) t start new k (subst (λ (items : List Item). Leaves start new (ComesBackTo items 0 left)) (sym (items_more events e) ∙ sym (append-nil (items_by (events ++ e ∷ [])))) before));
+          }
+
+      pub kept_opened : (stamp : Moment) (events : List Event) → HasKept d left events start s old → Leaves old new (ComesBackBy events left) → Keeps left (opening stamp events) t (d.held new) → HasKept d left (opening stamp events) start t new
+      kept_opened stamp [] h run k = kept_more [] (Event.opened stamp) h run k
+      kept_opened stamp (e ∷ events) h run k = kept_still (e ∷ events) h run k
+
+      pub kept_behind : (e : Event) → items_by (e ∷ []) ≡ [] → (events : List Event) → HasKept d left events start s old → Leaves old new (ComesBackBy events left) → Keeps left (behind events e) t (d.held new) → HasKept d left (behind events e) start t new
+      kept_behind e none [] h run k = kept_still [] h run k
+      kept_behind e none (x ∷ events) h run k =
+          let same : items_by (x ∷ events) ≡ items_by (x ∷ events) ++ items_by (e ∷ []) = sym (ap (λ (items : List Item). items_by (x ∷ events) ++ items) none ∙ append-nil (items_by (x ∷ events))) in
+          kept_more (x ∷ events) e h (subst (λ (items : List Item). Leaves old new (ComesBackTo items (acknowledged_by (x ∷ events)) left)) same run) k
+
+    -- ---- a flush, a sync and the close
+
+    module _ (start old new : D) (s t : Carried) (label : t.label ≡ s.label) (limit : t.limit ≡ s.limit) (events : List Event) (h : HasKept d left events start s old) (run : Leaves old new (ComesBackBy events left)) where
+      not_flushed : (before after : ℕ) (e : LogFault) → FlushMayAnswer s t before after e → (IsClosed s → new ≡ old) → HasNotFlushed d left events start s t new e
+      not_flushed before after Closed may still = (may.0, kept_still start old new s t label limit events h run (same_kept left events s (d.held old) h.keeps t (d.held new) may.1 (ap d.held (still may.0))))
+      not_flushed before after (Large bytes) may still = absurd may
+      not_flushed before after (NotLater last) may still = absurd may
+      not_flushed before after (Changed pmid) may still = absurd may
+      not_flushed before after (Full file bytes) may still = absurd may
+      not_flushed before after NoMemory may still = absurd may
+      not_flushed before after DiskFault may still = went_still s.label s.limit events start old new h.went run
+
+      pub flush_went : {T : Type 0} (e : Event) → items_by (e ∷ []) ≡ [] → (result : Result T LogFault) (before after : ℕ) → OnOk result (Keeps left (behind events e) t (d.held new)) → IfErr result (FlushMayAnswer s t before after)
+          → (IsClosed s → (result ≡ Err Closed) × (t ≡ s) × (new ≡ old)) → MatchResult result (λ _. HasKept d left (behind events e) start t new) (HasNotFlushed d left events start s t new)
+      flush_went e none (Ok v) before after done may closed = kept_behind start old new s t label limit e none events h run done
+      flush_went e none (Err fault) before after done may closed = not_flushed before after fault may (λ was. (closed was).2)
+
+    -- where something was logged the session isn't closed
+    pub not_closed_by : (events : List Event) (start old new : D) (s t : Carried) → HasKept d left events start s old → (length (items_by events) ≡ 0 → ⊥) → (e : LogFault) → HasNotFlushed d left events start s t new e → HasNotClosed d left events start s new e
+    not_closed_by events start old new s t h some Closed fails = absurd (some (ap (λ (es : List Event). length (items_by es)) (closed_none left events s (d.held old) h.keeps fails.0)))
+    not_closed_by events start old new s t h some (Large bytes) fails = absurd fails
+    not_closed_by events start old new s t h some (NotLater last) fails = absurd fails
+    not_closed_by events start old new s t h some (Changed pmid) fails = absurd fails
+    not_closed_by events start old new s t h some (Full file bytes) fails = absurd fails
+    not_closed_by events start old new s t h some NoMemory fails = absurd fails
+    not_closed_by events start old new s t h some DiskFault fails = (refl, fails)
+
+    -- ---- `log`: the archive isn't opened
+
+    pub not_opened : (start old new : D) (s t : Carried) → t.label ≡ s.label → t.limit ≡ s.limit → (events : List Event) (r : Report) → HasKept d left events start s old → Leaves old new (ComesBackBy events left)
+        → (before after : ℕ) (e : LogFault) → OpenMayAnswer s t before after e → (e ≢ DiskFault → Keeps left events t (d.held new)) → HasNotLogged d left events r start s t new e
+    not_opened start old new s t label limit events r h run before after Closed may keeps = (may.0, kept_still start old new s t label limit events h run (keeps (λ e. cc)))
+    not_opened start old new s t label limit events r h run before after (Large bytes) may keeps = absurd may
+    not_opened start old new s t label limit events r h run before after (NotLater last) may keeps = absurd may
+    not_opened start old new s t label limit events r h run before after (Changed pmid) may keeps = absurd may
+    not_opened start old new s t label limit events r h run before after (Full file bytes) may keeps = absurd may
+    not_opened start old new s t label limit events r h run before after NoMemory may keeps = inl (kept_still start old new s t label limit events h run (keeps (λ e. cc)))
+    not_opened start old new s t label limit events r h run before after DiskFault may keeps = inl (went_still s.label s.limit events start old new h.went run)
+
+    -- ---- `log`: and then it is handed the result
+
+    module _ (events : List Event) (r : Report) (start mid last : D) (old middle new : Carried) (k : Keeps left (opening r.result.stamp events) middle (d.held mid)) (open_ : IsOpen middle) (label : middle.label ≡ old.label) (limit : middle.limit ≡ old.limit)
+        (went : WentBy d middle.label middle.limit left (opening r.result.stamp events) [] start mid) where
+      abbrev opened : List Event
+      opened = opening r.result.stamp events
+
+      abbrev kept : HasKept d left opened start middle mid
+      kept = record { keeps = k; went = went }
+
+      -- nothing changed
+      still_kept : new ≡ middle → last ≡ mid → HasKept d left opened start new last
+      still_kept same still = subst (λ (c : Carried). HasKept d left opened start c last) (sym same) (subst (λ (q : D). HasKept d left opened start middle q) (sym still) kept)
+
+      turned_away : (e : LogFault) → new ≡ middle → last ≡ mid → (w : Written) × (k.stand ≡ Stand.opened w) × Refuses middle.limit r w e → HasTurnedAway d left events r start old new last e
+      turned_away e same still t = record {
+        kept = still_kept same still;
+        w = t.0;
+        lead = opened_leads left events r middle new (d.held mid) (d.held last) k open_ old label limit t.0 t.1;
+        refuses = subst (λ (n : ℕ). Refuses n r t.0 e) limit t.2;
+      }
+
+      on_its_way : Leaves mid last (ComesBackWith opened (Sample r.result ∷ []) left) → WentBy d old.label old.limit left opened (Sample r.result ∷ []) start last
+      on_its_way run =
+          subst (λ (l : LabelFields). WentBy d l old.limit left opened (Sample r.result ∷ []) start last) label
+          (subst (λ (n : ℕ). WentBy d middle.label n left opened (Sample r.result ∷ []) start last) limit (went_on middle.label middle.limit opened start mid last went (Sample r.result ∷ []) run))
+
+      not_taken : Leaves mid last (ComesBackWith opened (Sample r.result ∷ []) left) → (before after : ℕ) (e : LogFault) → TakeMayAnswer r middle new before after e → (e ≢ DiskFault → last ≡ mid) → TakeFails k.stand middle.limit r e
+          → HasNotLogged d left events r start old new last e
+      not_taken run before after Closed may still fails = absurd may
+      not_taken run before after (Large bytes) may still fails = turned_away (Large bytes) may.0 (still (λ e. cc)) fails
+      not_taken run before after (NotLater t) may still fails = turned_away (NotLater t) may.0 (still (λ e. cc)) fails
+      not_taken run before after (Changed pmid) may still fails = turned_away (Changed pmid) may.0 (still (λ e. cc)) fails
+      not_taken run before after (Full file bytes) may still fails = turned_away (Full file bytes) may.0 (still (λ e. cc)) fails
+      not_taken run before after NoMemory may still fails = inr (still_kept may (still (λ e. cc)))
+      not_taken run before after DiskFault may still fails = inr (on_its_way run, would_log left events r middle new (d.held mid) (d.held last) k open_ old label limit fails)
+
+      pub take_went : {T : Type 0} (result : Result T LogFault) (before after : ℕ) → new.label ≡ middle.label → new.limit ≡ middle.limit → Leaves mid last (ComesBackWith opened (Sample r.result ∷ []) left)
+          → OnOk result (Keeps left (opened ++ Event.logged r ∷ []) new (d.held last)) → IfErr result (TakeMayAnswer r middle new before after) → IfErr result (λ (e : LogFault). e ≢ DiskFault → last ≡ mid) → IfErr result (TakeFails k.stand middle.limit r)
+          → MatchResult result (λ _. HasKept d left (opened ++ Event.logged r ∷ []) start new last) (HasNotLogged d left events r start old new last)
+      take_went (Ok v) before after name most run done may still fails = kept_more start mid last middle new name most opened (Event.logged r) kept run done
+      take_went (Err e) before after name most run done may still fails = not_taken run before after e may still fails
+
+  -- ---- what a crash leaves
+
+  -- at any moment since then
+  pub survives_since : (l : LabelFields) (limit : ℕ) (events : List Event) (more : List Item) (old new : D) → WentBy d l limit left events more old new → Leaves old new (ComesBackTo (items_by events ++ more) 0 left)
+  survives_since l limit events more old new w =
+      let p : HasPassed d l limit left [] (items_by events ++ more) old new = w [] events refl in joined d.moment d.left_since d.held old p.at new (ComesBackTo (items_by events ++ more) 0 left) p.before p.since
+
+  -- Whatever a crash leaves of what the disk holds comes back, also where it failed.
+  pub survives_now : (counts_now : (disk : D) (t : ℕ) (c : Files) → t ≤ d.moment disk → CrashImage (d.held disk) c → d.left_since disk t c) → (l : LabelFields) (limit : ℕ) (events : List Event) (more : List Item) (old new : D)
+      → WentBy d l limit left events more old new → (image : Files) → CrashImage (d.held new) image → ComesBackTo (items_by events ++ more) (acknowledged_by events) left image
+  survives_now counts_now l limit events more old new w image crash =
+      let p : HasPassed d l limit left events (items_by events ++ more) old new = w events [] (sym (append-nil events)) in
+      p.since.each image (counts_now new (d.moment p.at) image p.since.later crash)

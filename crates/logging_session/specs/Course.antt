@@ -1,0 +1,72 @@
+-- How a disk goes on with a session, event by event: what it holds behind each of them, and what a crash leaves from then on.
+use Rattle.std.specs.Prelude.{◌≡◌, ◌⊎◌, ℕ, List, [], ◌∷◌, ◌++◌}
+use Rattle.pcp_base.specs.declared.file.FileId.{FileId}
+use Rattle.pcp_base.specs.declared.result.Item.{Item}
+use Rattle.pcp_base.specs.declared.result.Item.TheVariants.{Sample}
+use Rattle.pcp_model.specs.Disk.{Files, contents_of}
+use Rattle.pcp_model.specs.LabelFields.{LabelFields}
+use Rattle.pcp_outside.specs.Devices.{LeavesOnly}
+use Rattle.pcp_outside.specs.declared.disk.Disk.{Ghosts as DiskGhosts}
+use Rattle.logger_core.specs.declared.fault.LogFault.{LogFault}
+use Rattle.logger_core.specs.declared.fault.LogFault.TheVariants.{Closed, Large, NotLater, Changed, Full, NoMemory, DiskFault}
+use Rattle.logging_session.specs.Answers.{WouldLog}
+use Rattle.logging_session.specs.ComingBack.{ComesBackTo}
+use Rattle.logging_session.specs.Events.{Event, LeadFrom, acknowledged_by, items_by, opening}
+use Rattle.logging_session.specs.Keeping.{Carried, IsClosed, Keeps}
+use Rattle.logging_session.specs.Written.{Refuses, Report, Stand, Written, files_of}
+
+-- over what recovery left these events lead to these files
+pub record LeadsTo (l : LabelFields) (limit : ℕ) (left : Files) (events : List Event) (files : Files) : Type 0 where
+  pub stand : Stand
+  pub lead : LeadFrom l limit left events stand
+  pub are : (file : FileId) → files file ≡ files_of stand file
+
+module _ {D : Type 0} (d : DiskGhosts D) (l : LabelFields) (limit : ℕ) (left : Files) where
+  -- At some moment since then the disk held what these events led to. A crash before that moment leaves the first ones of the items, and one
+  -- from that moment on all that the events acknowledge among them.
+  pub record HasPassed (events : List Event) (items : List Item) (old new : D) : Type 0 where
+    pub at : D
+    pub before : LeavesOnly d.moment d.left_since old at (ComesBackTo items 0 left)
+    pub files : LeadsTo l limit left events (contents_of (d.held at))
+    pub since : LeavesOnly d.moment d.left_since at new (ComesBackTo items (acknowledged_by events) left)
+
+  -- So it was behind the first ones of these events, however many. The items are theirs, and perhaps one that was on its way.
+  abbrev pub WentBy : List Event → List Item → D → D → Type 0
+  WentBy events more old new = (front rest : List Event) → events ≡ front ++ rest → HasPassed front (items_by events ++ more) old new
+
+-- what a session keeps, and how the disk came to it from that moment on
+pub record HasKept {D : Type 0} (d : DiskGhosts D) (left : Files) (events : List Event) (start : D) (s : Carried) (disk : D) : Type 0 where
+  pub keeps : Keeps left events s (d.held disk)
+  pub went : WentBy d s.label s.limit left events [] start disk
+
+module _ {D : Type 0} (d : DiskGhosts D) (left : Files) (events : List Event) (r : Report) (start : D) (old new : Carried) (disk : D) where
+  -- the archive was opened for the result, and turns it away
+  pub record HasTurnedAway (fault : LogFault) : Type 0 where
+    pub kept : HasKept d left (opening r.result.stamp events) start new disk
+    pub w : Written
+    pub lead : LeadFrom old.label old.limit left (opening r.result.stamp events) (Stand.opened w)
+    pub refuses : Refuses old.limit r w fault
+
+  -- What a result leaves that isn't logged. Where the disk failed it may have been on its way, if the archive takes it.
+  abbrev pub HasNotLogged : LogFault → Type 0
+  HasNotLogged Closed = IsClosed old × HasKept d left events start new disk
+  HasNotLogged (Large bytes) = HasTurnedAway (Large bytes)
+  HasNotLogged (NotLater last) = HasTurnedAway (NotLater last)
+  HasNotLogged (Changed pmid) = HasTurnedAway (Changed pmid)
+  HasNotLogged (Full file bytes) = HasTurnedAway (Full file bytes)
+  HasNotLogged NoMemory = HasKept d left events start new disk ⊎ HasKept d left (opening r.result.stamp events) start new disk
+  HasNotLogged DiskFault =
+      WentBy d old.label old.limit left events [] start disk
+      ⊎ (WentBy d old.label old.limit left (opening r.result.stamp events) (Sample r.result ∷ []) start disk × WouldLog old left (opening r.result.stamp events) r)
+
+-- What a flush or a sync leaves that is refused: a closed session as it was, and where the disk failed all that there was.
+module _ {D : Type 0} (d : DiskGhosts D) (left : Files) (events : List Event) (start : D) (old new : Carried) (disk : D) where
+  abbrev pub HasNotFlushed : LogFault → Type 0
+  HasNotFlushed Closed = IsClosed old × HasKept d left events start new disk
+  HasNotFlushed DiskFault = WentBy d old.label old.limit left events [] start disk
+  HasNotFlushed fault = ⊥
+
+-- The close of a session that is kept is refused by the disk alone.
+module _ {D : Type 0} (d : DiskGhosts D) (left : Files) (events : List Event) (start : D) (old : Carried) (disk : D) where
+  abbrev pub HasNotClosed : LogFault → Type 0
+  HasNotClosed fault = (fault ≡ DiskFault) × WentBy d old.label old.limit left events [] start disk

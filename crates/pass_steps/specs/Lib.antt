@@ -1,3 +1,0 @@
-pub mod Workers
-pub mod Works
-pub mod Storing

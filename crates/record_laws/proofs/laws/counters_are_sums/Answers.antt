@@ -1,5 +1,0 @@
-use Rattle.record_laws.proofs.Counted.{counters_are_sums}
-use Rattle.record_laws.proofs.laws.counters_are_sums.Goals as goal
-
-pub returns : goal.returns
-returns c = counters_are_sums

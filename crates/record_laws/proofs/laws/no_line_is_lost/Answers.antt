@@ -1,5 +1,0 @@
-use Rattle.record_laws.proofs.Unlost.{no_line_lost}
-use Rattle.record_laws.proofs.laws.no_line_is_lost.Goals as goal
-
-pub returns : goal.returns
-returns c = no_line_lost

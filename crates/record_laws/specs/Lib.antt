@@ -1,4 +1,0 @@
-pub mod Closing
-pub mod Counters
-pub mod Sums
-pub mod Whole

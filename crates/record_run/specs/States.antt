@@ -1,0 +1,53 @@
+-- Where a run stands between its lines, against the run as a fold: over any disk its passes, its groups and what is written; and over a
+-- disk that tells, its archive.
+use Rattle.std.specs.Prelude.{◌≡◌, ℕ, List, [], length}
+use Rattle.pcp_model.specs.Disk.{Files}
+use Rattle.pcp_outside.specs.declared.disk.Disk.{Ghosts as DiskGhosts}
+use Rattle.region_rule.specs.Seats.{Token}
+use Rattle.fetch_engine.specs.declared.server.Mounted.{Mounted}
+use Rattle.logging_session.specs.Events.{items_by}
+use Rattle.run_script.specs.declared.script.Line.{Line}
+use Rattle.run_script.specs.declared.script.Script.{Script}
+use Rattle.run_passes.specs.Crews.{Follows}
+use Rattle.script_runs.specs.declared.ending.Ending.{Ending}
+use Rattle.script_runs.specs.Runs.{Does, EndsLine, Halts, LineDoes, RanFirst}
+use Rattle.script_runs.specs.Steps.{GoesOn, RunState}
+use Rattle.run_archive.specs.Kept.{HasDone, KeepsRun}
+use Rattle.record_run.specs.declared.run.Run.{Run}
+
+-- the passes stand where the fold does, and so much is written and logged
+pub record Follow (script : Script) (server : List Mounted) (run : Run) (seat : List Token) (s : RunState) : Type 0 where
+  pub follows : Follows script server run.running seat s.regions
+  pub output : run.out.items ≡ s.output
+  pub counted : run.sampler.session.logged ≡ length (items_by s.events)
+
+-- and the groups too
+pub record Stands (script : Script) (server : List Mounted) (run : Run) (seat : List Token) (s : RunState) : Type 0 where
+  pub follow : Follow script server run seat s
+  pub plans : run.sampler.plans ≡ s.plans
+
+module _ {D : Type 0} (d : DiskGhosts D) (script : Script) (server : List Mounted) (s : RunState) (was is : Run) (seat : List Token) (old new : D) where
+  -- A line was run, to this state.
+  pub record GoesTo (line : Line) : Type 0 where
+    pub next : RunState
+    pub goes : GoesOn script s line next
+    pub stands : Stands script server is seat next
+    pub kept : d.tells → (left : Files) (start : D) → KeepsRun d left s.events start was.sampler.session old → KeepsRun d left next.events start is.sampler.session new
+
+  -- It ended the run: on the regions nothing was done, and nothing is written of it.
+  pub record HaltsAt (number : ℕ) (line : Line) (ending : Ending) : Type 0 where
+    pub stands : Follow script server is seat s
+    pub why : EndsLine script s number line ending
+    pub told : d.tells → (left : Files) (start : D) → KeepsRun d left s.events start was.sampler.session old
+        → HasDone d left start is.sampler.session new ending (LineDoes script was.sampler.session.limit left s line ending)
+
+-- Lines were run one after another from the first on, up to an end.
+module _ {D : Type 0} (d : DiskGhosts D) (script : Script) (server : List Mounted) (was is : Run) (seat : List Token) (old new : D) where
+  pub record CameTo (ending : Ending) : Type 0 where
+    pub count : ℕ
+    pub last : RunState
+    pub ran : RanFirst script count last
+    pub halts : Halts script count last ending
+    pub stands : Follow script server is seat last
+    pub told : d.tells → (left : Files) (start : D) → KeepsRun d left [] start was.sampler.session old
+        → HasDone d left start is.sampler.session new ending (Does script was.sampler.session.limit left count last ending)

@@ -1,0 +1,75 @@
+-- What flushes do and write.
+use Rattle.std.proofs.Common.{◌≡◌, ◌≢◌, ◌⊎◌, ⊎_elim, ℕ, zero, suc, List, [], ◌++◌, codes, refl, sym, ◌∙◌, subst}
+use Rattle.pcp_model.specs.Disk.{Files}
+use Rattle.pcp_model.specs.LabelFields.{LabelFields}
+use Rattle.pcp_outside.specs.declared.disk.Disk.{Ghosts as DiskGhosts}
+use Rattle.logger_core.specs.declared.fault.LogFault.{LogFault}
+use Rattle.logger_core.specs.declared.fault.LogFault.TheVariants.{Closed, Large, NotLater, Changed, Full, NoMemory, DiskFault}
+use Rattle.logging_session.specs.Course.{HasKept, HasNotClosed, HasNotFlushed, WentBy}
+use Rattle.logging_session.specs.Events.{Event, behind, closing, flushed_behind, items_by}
+use Rattle.logging_session.specs.Keeping.{Carried}
+use Rattle.logging_session.proofs.Events.{closing_none, closing_some}
+use Rattle.logging_session.proofs.Sessions.{kept_none, kept_some}
+use Rattle.script_runs.specs.declared.ending.Ending.{Ending}
+use Rattle.script_runs.specs.declared.ending.Ending.TheVariants as ends
+use Rattle.script_runs.specs.Archives.{run_label}
+use Rattle.text_lines.specs.Spelling.{one_number}
+use Rattle.run_archive.specs.Endings.{flushed_line}
+use Rattle.run_archive.specs.Kept.{KeepsRun}
+
+module _ {D : Type 0} (d : DiskGhosts D) (left : Files) (events : List Event) (start : D) (was : Carried) (old : D) (keeps : KeepsRun d left events start was old) where
+  -- where it was refused the disk went on under the run's label
+  went_named : (disk : D) → WentBy d was.label was.limit left events [] start disk → WentBy d run_label was.limit left events [] start disk
+  went_named disk went = subst (λ (l : LabelFields). WentBy d l was.limit left events [] start disk) keeps.label went
+
+  -- before the first result nothing is done
+  pub none_flushed : was.logged ≡ 0 → KeepsRun d left (flushed_behind (items_by events) events) start was old
+  none_flushed none = subst (λ (es : List Event). KeepsRun d left es start was old) (sym (closing_none events (kept_none left events was (d.held old) keeps.kept.keeps none))) keeps
+
+  -- and then it is flushed
+  pub some_flushed : (is : Carried) (new : D) → (was.logged ≡ 0 → ⊥) → is.label ≡ was.label → HasKept d left (behind events Event.flushed) start is new → KeepsRun d left (flushed_behind (items_by events) events) start is new
+  some_flushed is new some label kept = record {
+    label = label ∙ keeps.label;
+    kept = subst (λ (es : List Event). HasKept d left es start is new) (sym (closing_some events (kept_some left events was (d.held old) keeps.kept.keeps some))) kept;
+  }
+
+  -- what was refused for another reason than that it is closed was refused by the disk
+  pub flush_failed : (is : Carried) (new : D) (fault : LogFault) → (fault ≡ Closed → ⊥) → HasNotFlushed d left events start was is new fault → WentBy d run_label was.limit left events [] start new
+  flush_failed is new Closed open_ h = absurd (open_ refl)
+  flush_failed is new (Large bytes) open_ h = absurd h
+  flush_failed is new (NotLater last) open_ h = absurd h
+  flush_failed is new (Changed pmid) open_ h = absurd h
+  flush_failed is new (Full file bytes) open_ h = absurd h
+  flush_failed is new NoMemory open_ h = absurd h
+  flush_failed is new DiskFault open_ h = went_named new h
+
+  -- the end of a session
+  pub is_closed : (is : Carried) (new : D) → is.label ≡ was.label → HasKept d left (closing events) start is new → KeepsRun d left (closing events) start is new
+  is_closed is new label kept = record { label = label ∙ keeps.label; kept = kept }
+
+  pub close_failed : (new : D) (fault : LogFault) → HasNotClosed d left events start was new fault → WentBy d run_label was.limit left events [] start new
+  close_failed new fault h = went_named new h.1
+
+pub some_line : (output : List ℕ) (n : ℕ) → (n ≡ 0 → ⊥) → flushed_line output n ≡ output ++ one_number (codes "flushed") n
+some_line output zero some = absurd (some refl)
+some_line output (suc n) some = refl
+
+pub no_line : (output : List ℕ) (n : ℕ) → n ≡ 0 → flushed_line output n ≡ output
+no_line output n none = subst (λ (m : ℕ). flushed_line output m ≡ output) (sym none) refl
+
+-- where the disk failed before it is told how many were logged, that stays so; and it doesn't fail then
+pub told_failing : {A B : Type 0} (ending last : Ending) → (ending ≢ ends.Done → last ≡ ending) → (ending ≡ ends.Done → ((last ≡ ends.Done) × A) ⊎ ((last ≡ ends.NoMemory) × B)) → last ≡ ends.DiskFault → ending ≡ ends.DiskFault
+told_failing {A} {B} ends.Done last others told is = ⊎_elim (λ (h : (last ≡ ends.Done) × A). let e : last ≡ ends.Done = h.0 in cc) (λ (h : (last ≡ ends.NoMemory) × B). let e : last ≡ ends.NoMemory = h.0 in cc) (told refl)
+told_failing (ends.Condition line) last others told is = sym (others (λ e. cc)) ∙ is
+told_failing ends.DiskFault last others told is = refl
+told_failing (ends.NotArchive file at) last others told is = sym (others (λ e. cc)) ∙ is
+told_failing (ends.Compressed file) last others told is = sym (others (λ e. cc)) ∙ is
+told_failing (ends.Limit what number) last others told is = sym (others (λ e. cc)) ∙ is
+told_failing (ends.ClockEnd samples) last others told is = sym (others (λ e. cc)) ∙ is
+told_failing (ends.ClockFault samples) last others told is = sym (others (λ e. cc)) ∙ is
+told_failing ends.NoMemory last others told is = sym (others (λ e. cc)) ∙ is
+told_failing (ends.NotLater stamp) last others told is = sym (others (λ e. cc)) ∙ is
+told_failing (ends.Changed pmid) last others told is = sym (others (λ e. cc)) ∙ is
+
+pub failing_told : (ending last : Ending) → (ending ≢ ends.Done → last ≡ ending) → ending ≡ ends.DiskFault → last ≡ ends.DiskFault
+failing_told ending last others is = others (λ done. let e : ends.DiskFault ≡ ends.Done = sym is ∙ done in cc) ∙ is

@@ -1,0 +1,16 @@
+pub mod AtMoment
+pub mod Beginning
+pub mod Beside
+pub mod Causes
+pub mod Chain
+pub mod Enough
+pub mod Fetching
+pub mod Flushes
+pub mod Joined
+pub mod Keys
+pub mod Loading
+pub mod Logged
+pub mod Outcomes
+pub mod Results
+pub mod Taking
+pub mod Values

@@ -1,0 +1,87 @@
+//! The end of a run, whatever ends it: what was logged is flushed unless the disk failed, and told.
+ghost use Rattle.std.specs.Prelude.{◌≡◌, ◌≢◌, ◌⊎◌, ◌≤◌, ◌++◌, [], ℕ, codes};
+ghost use Rattle.pcp_model.specs.Disk.{IsSettled, contents_of};
+ghost use Rattle.pcp_outside.specs.Causes.{Rose};
+ghost use Rattle.logging_session.specs.Course.{WentBy};
+ghost use Rattle.logging_session.specs.Events.{closing};
+ghost use Rattle.logging_session.specs.Keeping.{AreWhole, Carried, IsFailed};
+ghost use Rattle.script_runs.specs.Archives.{run_label};
+ghost use Rattle.script_runs.specs.declared.ending.Ending.TheVariants.{Done as AtEnd, DiskFault as Failing, NoMemory as Refused};
+ghost use Rattle.text_lines.specs.Spelling.{one_number};
+ghost use Rattle.run_archive.specs.Endings.{EndsAs, MayEnd, told_behind};
+ghost use Rattle.run_archive.specs.Kept.{KeepsRun, OverAny};
+
+use crate::replayed::Replayed;
+use logger_core::LogFault;
+use logging_session::Session;
+use pcp_base::List;
+use pcp_outside::Disk;
+use script_runs::{Ending, make_room, put_one};
+
+/// Flushes what was logged, unless the run ends by a disk that failed: then nothing is done. Where the disk fails now the run ends by that,
+/// whatever ended it before; else its ending stays.
+fn flush_last<D: Disk>(disk: &mut D, session: &mut Session, ending: Ending) -> Ending
+    requires unfailed { ending ≢ Failing → IsFailed session.old → ⊥ }
+    ensures flushed { result ≢ Failing → OverAny D.Disk session.old disk.old (λ left events start. KeepsRun D.Disk left (closing events) start session.new disk.new × IsSettled (D.held disk.new) × (AreWhole left → AreWhole (contents_of (D.held disk.new)))) }
+    ensures fails { ending ≢ Failing → result ≡ Failing → OverAny D.Disk session.old disk.old (λ left events start. WentBy D.Disk run_label session.old.limit left events [] start disk.new) }
+    ensures failed { ending ≡ Failing → (result ≡ ending) × (disk.new ≡ disk.old) }
+    ensures ends { (result ≡ ending) ⊎ (result ≡ Failing) }
+    ensures same { (session.new.limit ≡ session.old.limit) × (session.new.logged ≡ session.old.logged) }
+    ensures cause { result ≡ Failing → (ending ≡ Failing) ⊎ Rose (D.faults disk.old) (D.faults disk.new) }
+    ensures later { D.faults disk.old ≤ D.faults disk.new }
+{
+    if let Ending::DiskFault = ending {
+        return ending;
+    }
+    match session.close(disk) {
+        Ok(()) => ending,
+        Err(fault) => match fault {
+            // Memory was refused when the archive was to be opened: nothing was logged.
+            LogFault::Closed => ending,
+            _ => Ending::DiskFault,
+        },
+    }
+}
+
+/// A run that came to its end tells how many results it logged: the line `logged N` is put behind what was written. Where memory
+/// for it is refused nothing is put there, and the run ends by that. Any other ending stays, and nothing is told of it.
+fn tell(out: &mut Vec<u8>, ending: Ending, logged: u64) -> Ending
+    ensures others { ending ≢ AtEnd → (result ≡ ending) × (out.new.items ≡ out.old.items) }
+    ensures told { ending ≡ AtEnd → ((result ≡ AtEnd) × (out.new.items ≡ out.old.items ++ one_number (codes "logged") logged)) ⊎ ((result ≡ Refused) × (out.new.items ≡ out.old.items)) }
+{
+    let Ending::Done = ending else {
+        return ending;
+    };
+    match make_room(out) {
+        Ok(()) => {
+            put_one(out, b"logged", logged);
+            ending
+        }
+        Err(_) => Ending::NoMemory,
+    }
+}
+
+/// Ends a run: what was logged is flushed unless the disk failed, and where the run came to its end it tells how many results it logged.
+pub fn finish<D: Disk>(disk: &mut D, session: Session, out: Vec<u8>, ending: Ending) -> Replayed
+    requires unfailed { ending ≢ Failing → IsFailed session → ⊥ }
+    ensures flushed { result.ending ≢ Failing → OverAny D.Disk session disk.old (λ left events start. (now : Carried) × KeepsRun D.Disk left (closing events) start now disk.new × (now.limit ≡ session.limit) × IsSettled (D.held disk.new) × (AreWhole left → AreWhole (contents_of (D.held disk.new)))) }
+    // Where the disk fails now what was acknowledged before stays so.
+    ensures fails { ending ≢ Failing → result.ending ≡ Failing → OverAny D.Disk session disk.old (λ left events start. WentBy D.Disk run_label session.limit left events [] start disk.new) }
+    ensures failed { ending ≡ Failing → (result.ending ≡ Failing) × (disk.new ≡ disk.old) }
+    ensures ends { EndsAs ending result.ending }
+    ensures count { result.logged ≡ session.logged }
+    ensures output { result.output ≡ told_behind result.ending out.items session.logged }
+    ensures cause { (before : ℕ) → before ≤ D.faults disk.old → MayEnd before (D.faults disk.old) ending → MayEnd before (D.faults disk.new) result.ending }
+    ensures rose { result.ending ≡ Failing → (ending ≡ Failing) ⊎ Rose (D.faults disk.old) (D.faults disk.new) }
+    ensures later { D.faults disk.old ≤ D.faults disk.new }
+{
+    let (mut session, mut out) = (session, out);
+    let logged = session.logged();
+    let ending = flush_last(disk, &mut session, ending);
+    let ending = tell(&mut out, ending, logged);
+    Replayed {
+        output: List::from_vec(out),
+        ending,
+        logged,
+    }
+}

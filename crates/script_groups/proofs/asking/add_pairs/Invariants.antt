@@ -1,7 +1,0 @@
--- With those that are left all are added.
-use Rattle.std.proofs.Common.{◌≡◌, map, drop}
-use Rattle.script_runs.specs.Groups.{with_metrics}
-use Rattle.script_groups.proofs.asking.add_pairs.Given as goal
-
-abbrev pub invariant-loop-pmid : goal.invariant-loop-pmid
-invariant-loop-pmid l = with_metrics l.metrics (map (λ pair. pair.1) (drop l.pmid-index l.pairs)) ≡ with_metrics l.fn.metrics (map (λ pair. pair.1) l.fn.pairs)

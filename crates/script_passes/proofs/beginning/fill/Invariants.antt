@@ -1,6 +1,0 @@
-use Rattle.std.proofs.Common.{◌≡◌, ◌≤◌, length, vec_capacity}
-use Rattle.script_passes.specs.Openings.{idle_crew}
-use Rattle.script_passes.proofs.beginning.fill.Given as goal
-
-abbrev pub invariant-loop-pass : goal.invariant-loop-pass
-invariant-loop-pass l = (l.crew.items ≡ idle_crew l.yielded) × (length l.fn.passes.items ≤ vec_capacity l.crew)

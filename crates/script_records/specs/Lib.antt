@@ -1,6 +1,0 @@
-pub mod Gathered
-pub mod Beside
-pub mod Stopping
-pub mod Recordings
-pub mod Halting
-pub mod Pictured

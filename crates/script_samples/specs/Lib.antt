@@ -1,4 +1,0 @@
-pub mod Samples
-pub mod Shown
-pub mod Sampling
-pub mod Logging
