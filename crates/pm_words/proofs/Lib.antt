@@ -1,3 +1,4 @@
+pub mod Coherent
 mod Components
 pub mod Recovering
 pub mod Sending

@@ -1,15 +1,11 @@
 -- Texts that go to a sink in pieces, and how a call ends that wrote so.
-use Rattle.std.proofs.Common.{◌≡◌, inl, inr, ℕ, ◌+◌, ◌≤◌, Bool, true, false, List, [], ◌++◌, length, take, drop, refl, sym, ap, ◌∙◌, subst, arith, append_assoc, append-nil, Result, Ok, Err, IfOk, IfErr}
+use Rattle.std.proofs.Common.{◌≡◌, inl, inr, ℕ, ◌+◌, ◌≤◌, Bool, true, false, List, [], ◌++◌, length, take, drop, refl, sym, ap, ◌∙◌, subst, arith, append_assoc, append-nil}
 use Rattle.std.proofs.lemmas.List.{take-append-drop}
 use Rattle.std.proofs.Math.Seq.{take-append_seam, take-append-add}
 use Rattle.pcp_outside.specs.Causes.{Rose}
 use Rattle.pcp_outside.specs.declared.streams.Sink.{Ghosts as SinkGhosts}
-use Rattle.pm_words.specs.declared.refusal.Refusal.{Refusal}
-use Rattle.pm_words.specs.Serving.{StopCause, HasServed, Serves}
-use Rattle.pm_words.specs.Meaning.{Meaning}
 use Rattle.pm_words.specs.Refusals.{Wrote}
 use Rattle.pcp_outside.specs.Sides.{SinkSide, sink_side}
-use Rattle.pm_words.specs.Sides.{DiskSide}
 use Rattle.pm_words.specs.Streams.{IsFront, IsSent, Sends}
 
 -- a count that rose, counted from before, or up to a later moment
@@ -84,14 +80,3 @@ pub told_no_more : (k : SinkSide) (text line : List ℕ) → IsSent k text true 
 told_no_more k text line sent tells =
     let m = sent.given.1 tells in
     inr (sent.given.0, length m.0, m.2 ∙ ap (λ t. k.written ++ t) (front_taken m.0 (text ++ line) (longer_text m.0 text line m.1)))
-
--- a command that writes nothing before it is done
-pub serves_whole : (m : Meaning) (input : List ℕ) (k : SinkSide) (failed : Bool) (d : DiskSide) (result : Result (List ℕ) Refusal) → IsSent k [] failed
-    → IfOk result (HasServed m input d) → IfErr result (λ e. StopCause m input d e × m.begins input d e []) → Serves m input k failed d result
-serves_whole m input k failed d (Ok text) sent served cause = record { front = []; sent = sent; done = served; stops = tt }
-serves_whole m input k failed d (Err e) sent served cause = record { front = []; sent = sent; done = tt; stops = cause }
-
--- the cause of a command of which nothing else is said
-pub with_nothing : (m : Meaning) (input : List ℕ) (d : DiskSide) (result : Result (List ℕ) Refusal) → ((e : Refusal) → m.begins input d e []) → IfErr result (StopCause m input d) → IfErr result (λ e. StopCause m input d e × m.begins input d e [])
-with_nothing m input d (Ok text) nothing cause = tt
-with_nothing m input d (Err e) nothing cause = (cause, nothing e)

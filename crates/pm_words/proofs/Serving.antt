@@ -1,5 +1,5 @@
 -- A command that stops before its first write.
-use Rattle.std.proofs.Common.{inl, ℕ, Bool, List, [], Err, sym, subst}
+use Rattle.std.proofs.Common.{inl, ℕ, List, sym, subst}
 use Rattle.pcp_model.specs.Disk.{IsSettled}
 use Rattle.pm_words.specs.declared.refusal.Refusal.TheVariants.{Input}
 use Rattle.pm_words.specs.declared.stage.InputRefusal.{InputRefusal}
@@ -8,10 +8,8 @@ use Rattle.pm_words.specs.declared.stage.StageFault.TheVariants.{OutOfMemory, Re
 use Rattle.pm_words.specs.Inputs.{Refuses}
 use Rattle.pm_words.specs.Meaning.{Meaning}
 use Rattle.pm_words.specs.Refusals.{refusal_of_stage}
-use Rattle.pm_words.specs.Serving.{Left, Serves, StopCause}
-use Rattle.pcp_outside.specs.Sides.{SinkSide}
+use Rattle.pm_words.specs.Serving.{Left, StopCause}
 use Rattle.pm_words.specs.Sides.{DiskSide, Untouched}
-use Rattle.pm_words.specs.Streams.{IsSent}
 
 -- a disk that holds what it held is settled if it was
 pub still_settled : (d : DiskSide) → Untouched d → d.tells → IsSettled d.held → IsSettled d.after
@@ -25,7 +23,3 @@ left_alone m status input d still = record { files = inl still; settled = λ oth
 pub no_good : (m : Meaning) (input : List ℕ) (d : DiskSide) (stop : StageFault InputRefusal) → Refuses m.reads input stop → Untouched d → StopCause m input d (refusal_of_stage Input stop)
 no_good m input d OutOfMemory refuses still = left_alone m 9 input d still
 no_good m input d (Refused e) refuses still = (refuses, still)
-
--- a command that is refused its input
-pub unconverted : (m : Meaning) (input : List ℕ) (k : SinkSide) (failed : Bool) (d : DiskSide) (stop : StageFault InputRefusal) → IsSent k [] failed → m.begins input d (refusal_of_stage Input stop) [] → Untouched d → Refuses m.reads input stop → Serves m input k failed d (Err (refusal_of_stage Input stop))
-unconverted m input k failed d stop sent nothing still refuses = record { front = []; sent = sent; done = tt; stops = (no_good m input d stop refuses still, nothing) }

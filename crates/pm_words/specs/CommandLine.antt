@@ -1,11 +1,13 @@
 -- What the words of a command line ask for.
-use Rattle.std.specs.Prelude.{◌≡◌, ℕ, ◌+◌, ◌≤◌, Bool, false, ◌==◌, ◌&&◌, nat_le, nat_lt, if◌then◌else◌, List, [], ◌∷◌, length, Option, Some, None, Result, Ok, Err, codes, bytes_eq}
+use Rattle.std.specs.Prelude.{◌≡◌, ℕ, ◌+◌, ◌≤◌, Bool, false, true, ◌==◌, ◌&&◌, nat_le, nat_lt, if◌then◌else◌, List, [], ◌∷◌, length, Option, Some, None, Result, Ok, Err, codes, bytes_eq}
 use Rattle.std.specs.List.{list_all}
 use Rattle.pcp_base.specs.Names.{IsComponent, is_letter, is_name_byte}
 use Rattle.pcp_base.specs.Time.{Moment}
 use Rattle.text_lines.specs.Numbers.{number_of}
 use Rattle.pm_words.specs.declared.words.Command.{Command}
-use Rattle.pm_words.specs.declared.words.Command.TheVariants.{Once, Replay, Make, MmvMake, MmvDump, Dump, Info, Recover, At, Range, Value}
+use Rattle.pm_words.specs.declared.words.Call.{Call}
+use Rattle.pm_words.specs.declared.words.Call.TheVariants as calls
+use Rattle.pm_words.specs.declared.words.Command.TheVariants.{Once, Replay, Make, MmvMake, MmvDump, Dump, Info, Recover, At, Range, Value, Record, Serve}
 use Rattle.pm_words.specs.declared.stage.StageFault.{StageFault}
 use Rattle.pm_words.specs.declared.stage.StageFault.TheVariants.{OutOfMemory, Refused}
 use Rattle.pm_words.specs.declared.stage.Usage.{Usage}
@@ -146,10 +148,42 @@ run_command_of word words =
     if bytes_eq word (codes "replay") then replay_of words else
     if bytes_eq word (codes "make") then make_of words else timed_command_of word words
 
--- The command, or the index of the first word that is bad or missing. A command that isn't known is bad at 0.
-abbrev pub command_of : List (List ℕ) → Result Command ℕ
-command_of [] = Err 0
-command_of (word ∷ words) = run_command_of word words
+-- SAMPLES VOLUME; as many samples may be taken as ticks are made
+unfoldable pub record_of : List (List ℕ) → Result Command ℕ
+record_of words = do
+  samples ← word_then ticks_of 1 words
+  volume ← word_then volume_of 2 samples.1
+  end_then (Record record { samples = samples.0; volume = volume.0 }) 3 volume.1
+
+-- COUNT
+unfoldable pub serve_of : List (List ℕ) → Result Command ℕ
+serve_of words = do
+  count ← word_then (number_in 1 100000) 1 words
+  end_then (Serve count.0) 2 count.1
+
+-- The command that the words ask a call for, or the index of the first word that is bad or missing. A command that isn't known, or is
+-- another call's, is bad at 0.
+abbrev pub asked_by : Call → List (List ℕ) → Result Command ℕ
+asked_by call [] = Err 0
+asked_by calls.Offline (word ∷ words) = run_command_of word words
+asked_by calls.Record (word ∷ words) = if bytes_eq word (codes "record") then record_of words else Err 0
+asked_by calls.Serve (word ∷ words) = if bytes_eq word (codes "serve") then serve_of words else Err 0
+
+-- whether a command takes an input
+abbrev pub takes_input : Command → Bool
+takes_input (Once asked) = true
+takes_input (Replay volume) = true
+takes_input (Make asked) = false
+takes_input MmvMake = true
+takes_input MmvDump = true
+takes_input Dump = false
+takes_input Info = false
+takes_input Recover = false
+takes_input (At t) = false
+takes_input (Range from to) = false
+takes_input (Value asked) = false
+takes_input (Record asked) = true
+takes_input (Serve count) = true
 
 -- what a function over words answered, seen by view, is what the definition says
 abbrev pub Gives : {X Y : Type 0} → (X → Y) → Result X ℕ → Result Y ℕ → Type 0
@@ -167,4 +201,6 @@ abbrev pub FitsCommand : Command → Type 0
 FitsCommand (Once asked) = (length asked.file ≤ 63) × IsComponent asked.file
 FitsCommand (Replay volume) = (1024 ≤ volume) × (volume ≤ 1073741824)
 FitsCommand (Make asked) = (1 ≤ asked.ticks) × (asked.ticks ≤ 100000) × (1024 ≤ asked.volume) × (asked.volume ≤ 1073741824)
+FitsCommand (Record asked) = (1 ≤ asked.samples) × (asked.samples ≤ 100000) × (1024 ≤ asked.volume) × (asked.volume ≤ 1073741824)
+FitsCommand (Serve count) = (1 ≤ count) × (count ≤ 100000)
 FitsCommand _ = Unit {0}

@@ -1,3 +1,4 @@
+pub mod Asking
 pub mod CommandLine
 pub mod Inputs
 pub mod Meaning
@@ -5,4 +6,6 @@ pub mod Reading
 pub mod Refusals
 pub mod Serving
 pub mod Sides
+pub mod Sound
 pub mod Streams
+pub mod Telling

@@ -31,7 +31,7 @@ use Rattle.pm_words.specs.declared.stage.FilesRefusal.TheVariants.{Run, Compress
 use Rattle.pm_words.specs.declared.stage.DiskRefusal.{DiskRefusal}
 use Rattle.pm_words.specs.declared.stage.DiskRefusal.TheVariants.{Files, DiskFault}
 use Rattle.pm_words.specs.declared.refusal.Refusal.{Refusal}
-use Rattle.pm_words.specs.declared.refusal.Refusal.TheVariants.{Words, Reading, Input, Disk, NoMemory}
+use Rattle.pm_words.specs.declared.refusal.Refusal.TheVariants.{Words, Reading, Input, Disk, ClockEnd, ClockFault, Accept, NoMemory}
 
 -- the words
 abbrev pub usage_line : Usage → List ℕ
@@ -123,12 +123,22 @@ abbrev pub plain_disk_line : DiskRefusal → List ℕ
 plain_disk_line (Files e) = plain_files_line e
 plain_disk_line DiskFault = codes "disk fault\n"
 
+-- so many samples were to come
+abbrev pub clock_end_line : ℕ → List ℕ
+clock_end_line left = codes "clock end " ++ (decimal left ++ 10 ∷ [])
+
+abbrev pub clock_fault_line : ℕ → List ℕ
+clock_fault_line left = codes "clock fault " ++ (decimal left ++ 10 ∷ [])
+
 -- all stages
 abbrev pub status_of : Refusal → ℕ
 status_of (Words usage) = 1
 status_of (Reading e) = reading_status e
 status_of (Input e) = input_status e
 status_of (Disk e) = disk_status e
+status_of (ClockEnd left) = 8
+status_of (ClockFault left) = 20
+status_of Accept = 21
 status_of NoMemory = 9
 
 abbrev pub numbered_line_of : Refusal → Option (List ℕ)
@@ -136,6 +146,9 @@ numbered_line_of (Words usage) = Some (usage_line usage)
 numbered_line_of (Reading e) = None
 numbered_line_of (Input e) = Some (input_line e)
 numbered_line_of (Disk e) = numbered_disk_line e
+numbered_line_of (ClockEnd left) = Some (clock_end_line left)
+numbered_line_of (ClockFault left) = Some (clock_fault_line left)
+numbered_line_of Accept = None
 numbered_line_of NoMemory = None
 
 -- want of memory has no line
@@ -144,6 +157,9 @@ plain_line_of (Words usage) = []
 plain_line_of (Reading e) = reading_line e
 plain_line_of (Input e) = []
 plain_line_of (Disk e) = plain_disk_line e
+plain_line_of (ClockEnd left) = []
+plain_line_of (ClockFault left) = []
+plain_line_of Accept = codes "accept fault\n"
 plain_line_of NoMemory = []
 
 -- the last line of a refusal
@@ -169,7 +185,7 @@ recover_refusal (recovering.NotArchive file at) = Disk (Files (NotArchive file a
 recover_refusal recovering.DiskFault = Disk DiskFault
 recover_refusal recovering.NoMemory = NoMemory
 
--- and the end of a script's run, if it is none; a run without a clock doesn't end by it
+-- and the end of a run, if it is none
 abbrev pub ending_refusal : Ending → Option Refusal
 ending_refusal ends.Done = None
 ending_refusal (ends.Condition line) = Some (Disk (Files (Run (Condition line))))
@@ -177,16 +193,11 @@ ending_refusal ends.DiskFault = Some (Disk DiskFault)
 ending_refusal (ends.NotArchive file at) = Some (Disk (Files (NotArchive file at)))
 ending_refusal (ends.Compressed file) = Some (Disk (Files (Compressed file)))
 ending_refusal (ends.Limit what number) = Some (Disk (Files (Run (Limit what number))))
-ending_refusal (ends.ClockEnd samples) = None
-ending_refusal (ends.ClockFault samples) = None
+ending_refusal (ends.ClockEnd samples) = Some (ClockEnd samples)
+ending_refusal (ends.ClockFault samples) = Some (ClockFault samples)
 ending_refusal ends.NoMemory = Some NoMemory
 ending_refusal (ends.NotLater last) = Some (Disk (Files (Run (NotLater last))))
 ending_refusal (ends.Changed pmid) = Some (Disk (Files (Run (Changed pmid))))
-
-abbrev pub NoClock : Ending → Type 0
-NoClock (ends.ClockEnd samples) = ⊥
-NoClock (ends.ClockFault samples) = ⊥
-NoClock _ = Unit {0}
 
 -- the line is written, or a front of it where the sink failed
 abbrev pub Wrote : ℕ → ℕ → List ℕ → List ℕ → List ℕ → Type 0

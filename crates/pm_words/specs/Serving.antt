@@ -1,18 +1,20 @@
 -- What a command that got its input makes of it and of the disk: it is done, or stopped for a reason; and what it writes then.
-use Rattle.std.specs.Prelude.{◌≡◌, ◌⊎◌, ℕ, Bool, true, List, ◌++◌, Some, None, Result, Ok, Err, IfOk, IfErr}
-use Rattle.pcp_model.specs.Disk.{Files, Holdings, CrashImage, IsSettled}
+use Rattle.std.specs.Prelude.{◌≡◌, ◌⊎◌, ℕ, Bool, true, false, List, ◌++◌, Option, Some, None, Result, Ok, Err, IfOk, IfErr, IsSome}
+use Rattle.pcp_model.specs.Disk.{Files, Holdings, CrashImage, IsSettled, contents_of}
+use Rattle.pcp_outside.specs.declared.disk.Disk.{Ghosts as DiskGhosts}
+use Rattle.run_passes.specs.declared.opening.Opened.{Opened}
 use Rattle.pcp_outside.specs.Causes.{Rose}
 use Rattle.pm_words.specs.declared.stage.FilesRefusal.{FilesRefusal}
 use Rattle.pm_words.specs.declared.stage.FilesRefusal.TheVariants.{Run, Compressed, NotArchive, Nothing}
 use Rattle.pm_words.specs.declared.stage.DiskRefusal.{DiskRefusal}
 use Rattle.pm_words.specs.declared.stage.DiskRefusal.TheVariants.{Files as FilesAway, DiskFault}
 use Rattle.pm_words.specs.declared.refusal.Refusal.{Refusal}
-use Rattle.pm_words.specs.declared.refusal.Refusal.TheVariants.{Words, Reading, Input, Disk, NoMemory}
+use Rattle.pm_words.specs.declared.refusal.Refusal.TheVariants.{Words, Reading, Input, Disk, ClockEnd, ClockFault, Accept, NoMemory}
 use Rattle.pm_words.specs.Inputs.{refusal_of}
 use Rattle.pm_words.specs.Meaning.{Meaning}
 use Rattle.pm_words.specs.Refusals.{files_status}
 use Rattle.pcp_outside.specs.Sides.{SinkSide}
-use Rattle.pm_words.specs.Sides.{DiskSide, files_found, Untouched}
+use Rattle.pm_words.specs.Sides.{DiskSide, disk_side, files_found, IsUnread, Leaves, Untouched}
 use Rattle.pm_words.specs.Streams.{IsSent}
 
 -- What is left of the disk where a command is stopped with a status: what it held, or what the command says of a stop
@@ -50,13 +52,6 @@ pub record HasServed (m : Meaning) (input : List ℕ) (d : DiskSide) (text : Lis
   pub kept : d.tells → (crash : Files) → CrashImage d.after crash → m.keeps input d.held crash
   pub settled : d.tells → IsSettled d.held → IsSettled d.after
 
--- what a command answers, and what it wrote before: its output goes on behind that, or it is stopped
-pub record Serves (m : Meaning) (input : List ℕ) (k : SinkSide) (failed : Bool) (d : DiskSide) (result : Result (List ℕ) Refusal) : Type 0 where
-  pub front : List ℕ
-  pub sent : IsSent k front failed
-  pub done : IfOk result (λ text. HasServed m input d (front ++ text))
-  pub stops : IfErr result (λ e. StopCause m input d e × m.begins input d e front)
-
 -- a crash at any moment of a command that got its input may leave what was there, or what the command allows
 abbrev pub MayLeave : Meaning → List ℕ → Holdings → Files → Type 0
 MayLeave m input held crash = CrashImage held crash ⊎ m.may_leave input held crash
@@ -72,8 +67,37 @@ HasRecovered (Err (Disk DiskFault)) = ⊥
 HasRecovered (Err (Words usage)) = ⊥
 HasRecovered (Err (Reading e)) = ⊥
 HasRecovered (Err (Input e)) = ⊥
+HasRecovered (Err (ClockEnd left)) = Unit {0}
+HasRecovered (Err (ClockFault left)) = Unit {0}
+HasRecovered (Err Accept) = ⊥
 HasRecovered (Err NoMemory) = ⊥
 
 -- the same by the status
 abbrev pub HadRecovered : ℕ → Type 0
-HadRecovered status = (status ≡ 0) ⊎ ((status ≡ 4) ⊎ ((status ≡ 12) ⊎ (status ≡ 13)))
+HadRecovered status = (status ≡ 0) ⊎ ((status ≡ 4) ⊎ ((status ≡ 8) ⊎ ((status ≡ 12) ⊎ ((status ≡ 13) ⊎ (status ≡ 20)))))
+
+-- a command leaves the regions on which it ran wherever the run began and memory didn't run out
+abbrev pub HasRegions : Result (List ℕ) Refusal → Option Opened → Type 0
+HasRegions (Ok text) opened = IsSome opened
+HasRegions (Err (Disk e)) opened = IsSome opened
+HasRegions (Err (ClockEnd left)) opened = IsSome opened
+HasRegions (Err (ClockFault left)) opened = IsSome opened
+HasRegions (Err _) opened = Unit {0}
+
+-- What a command does, whole: with its input, a disk and regions, where it answers so and a front of its output went to the sink before.
+-- It is done, or stopped for a reason; a crash at any moment leaves only what it may; and so on, part by part of its meaning.
+pub record Meets {D : Type 0} (m : Meaning) (input : List ℕ) (g : DiskGhosts D) (old new : D) (opened : Option Opened) (front : List ℕ) (result : Result (List ℕ) Refusal) : Type 0 where
+  pub done : IfOk result (λ text. HasServed m input (disk_side g old new) (front ++ text))
+  pub stops : IfErr result (λ e. StopCause m input (disk_side g old new) e × m.begins input (disk_side g old new) e front)
+  -- a disk that it has nothing to do with is left alone, and files that are no archive stay as they were
+  pub aside : m.uses_disk ≡ false → new ≡ old
+  pub unread : IsUnread g old → Leaves g old new CrashImage
+  pub any_moment : Leaves g old new (MayLeave m input)
+  pub taken : g.tells → m.takes (contents_of (g.held old)) (g.taken old) (g.taken new)
+  pub since : g.tells → HasRecovered result → m.since g input old new
+  pub ran : m.ran g input old new opened result
+  pub regions : m.runs_script ≡ true → HasRegions result opened
+
+-- the same where what went to the sink before isn't named
+abbrev pub MeetsSending : {D : Type 0} → SinkSide → Bool → Meaning → List ℕ → DiskGhosts D → D → D → Option Opened → Result (List ℕ) Refusal → Type 0
+MeetsSending k failed m input g old new opened result = (front : List ℕ) × IsSent k front failed × Meets m input g old new opened front result

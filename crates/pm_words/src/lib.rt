@@ -2,16 +2,18 @@
 //! refusal with its status and last line.
 #![tactic(auto)]
 
+mod asking;
 mod inputs;
 mod output;
 mod refusal;
 mod stage;
 mod words;
 
+pub use asking::ask;
 pub use inputs::read_input;
-pub use output::{finish, send};
+pub use output::{send, tell_end};
 pub use refusal::{Refusal, of_ending};
 pub use stage::{
     DiskRefusal, FilesRefusal, InputRefusal, ReadRefusal, RunRefusal, StageFault, Usage,
 };
-pub use words::{Command, MakeWords, OnceWords, ValueWords, read_words};
+pub use words::{Call, Command, MakeWords, OnceWords, RecordWords, ValueWords, read_words};

@@ -4,14 +4,14 @@ ghost use Rattle.pm_words.specs.declared.refusal.Refusal.TheVariants.{Disk};
 ghost use Rattle.pm_words.specs.declared.stage.DiskRefusal.TheVariants.{Files};
 ghost use Rattle.pm_words.specs.declared.stage.FilesRefusal.TheVariants.{Run};
 ghost use Rattle.pm_words.specs.declared.stage.RunRefusal.TheVariants.{Limit};
-ghost use Rattle.pm_words.specs.Refusals.{ending_refusal, NoClock, status_of, numbered_line_of, plain_line_of, line_of, Wrote};
+ghost use Rattle.pm_words.specs.Refusals.{clock_end_line, clock_fault_line, ending_refusal, status_of, numbered_line_of, plain_line_of, line_of, Wrote};
 
 use crate::stage::{
     DiskRefusal, FilesRefusal, InputRefusal, ReadRefusal, RunRefusal, StageFault, Usage,
 };
 use archive_reader::ReaderFault;
 use archive_recovery::RecoverFault;
-use pcp_base::{Bytes, NoMemory};
+use pcp_base::{Bytes, List, NoMemory};
 use pcp_outside::{Sink, write_all};
 use script_runs::{Ending, LimitKind};
 use std::alloc::Global;
@@ -27,6 +27,12 @@ pub enum Refusal {
     Input(InputRefusal),
     /// The files are turned away, or the disk failed.
     Disk(DiskRefusal),
+    /// The clock's moments had ended, and so many samples were to come.
+    ClockEnd { left: u32 },
+    /// The clock failed, and so many samples were to come.
+    ClockFault { left: u32 },
+    /// A door failed.
+    Accept,
     NoMemory,
 }
 
@@ -132,9 +138,8 @@ fn run(reason: RunRefusal) -> Refusal
     Refusal::Disk(DiskRefusal::Files(FilesRefusal::Run(reason)))
 }
 
-/// The refusal of a run of a script that ended so, if it is one. The run has no clock.
+/// The refusal of a run that ended so, if it is one.
 pub fn of_ending(ending: Ending) -> Option<Refusal>
-    requires { NoClock ending }
     ensures { result ≡ ending_refusal ending }
 {
     match ending {
@@ -151,8 +156,23 @@ pub fn of_ending(ending: Ending) -> Option<Refusal>
         Ending::NoMemory => Some(Refusal::NoMemory),
         Ending::NotLater { last } => Some(run(RunRefusal::NotLater { last })),
         Ending::Changed { pmid } => Some(run(RunRefusal::Changed { pmid })),
-        Ending::ClockEnd { .. } | Ending::ClockFault { .. } => unreachable!(),
+        Ending::ClockEnd { left } => Some(Refusal::ClockEnd { left }),
+        Ending::ClockFault { left } => Some(Refusal::ClockFault { left }),
     }
+}
+
+fn clock_end_line(alloc: Global, left: u32) -> Result<Bytes, NoMemory>
+    ensures { IfOk result (λ line. line ≡ clock_end_line left) }
+{
+    let line = format!(in alloc; "clock end {left}\n")?;
+    Ok(List::from_vec(line.into_bytes()))
+}
+
+fn clock_fault_line(alloc: Global, left: u32) -> Result<Bytes, NoMemory>
+    ensures { IfOk result (λ line. line ≡ clock_fault_line left) }
+{
+    let line = format!(in alloc; "clock fault {left}\n")?;
+    Ok(List::from_vec(line.into_bytes()))
 }
 
 impl From<NoMemory> for Refusal {
@@ -166,7 +186,7 @@ impl From<NoMemory> for Refusal {
 }
 
 impl Refusal {
-    /// The exit status: 1 to 3, 5 to 7, 9, or 11 to 13. Of a sink that fails (4) nothing can be told.
+    /// The exit status: 1 to 3, 5 to 9, 11 to 13, 20 or 21. Of a sink that fails (4) nothing can be told.
     pub fn status(&self) -> u8
         ensures { result ≡ status_of self.now }
     {
@@ -175,7 +195,10 @@ impl Refusal {
             Refusal::Reading(refusal) => refusal.status(),
             Refusal::Input(refusal) => refusal.status(),
             Refusal::Disk(refusal) => refusal.status(),
+            Refusal::ClockEnd { .. } => 8,
             Refusal::NoMemory => 9,
+            Refusal::ClockFault { .. } => 20,
+            Refusal::Accept => 21,
         }
     }
 
@@ -194,7 +217,15 @@ impl Refusal {
                 Ok(Some(line))
             }
             Refusal::Disk(refusal) => refusal.numbered_line(alloc),
-            Refusal::Reading(_) | Refusal::NoMemory => Ok(None),
+            Refusal::ClockEnd { left } => {
+                let line = clock_end_line(alloc, *left)?;
+                Ok(Some(line))
+            }
+            Refusal::ClockFault { left } => {
+                let line = clock_fault_line(alloc, *left)?;
+                Ok(Some(line))
+            }
+            Refusal::Reading(_) | Refusal::Accept | Refusal::NoMemory => Ok(None),
         }
     }
 
@@ -205,7 +236,12 @@ impl Refusal {
         match self {
             Refusal::Reading(refusal) => refusal.line(),
             Refusal::Disk(refusal) => refusal.plain_line(),
-            Refusal::Words(_) | Refusal::Input(_) | Refusal::NoMemory => b"",
+            Refusal::Accept => b"accept fault\n",
+            Refusal::Words(_)
+            | Refusal::Input(_)
+            | Refusal::ClockEnd { .. }
+            | Refusal::ClockFault { .. }
+            | Refusal::NoMemory => b"",
         }
     }
 

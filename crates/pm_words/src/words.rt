@@ -1,9 +1,9 @@
 //! The words of a command line, read as the command that they ask for.
-ghost use Rattle.std.specs.Prelude.{◌≡◌, ◌<◌, ◌≤◌, length, map, string_bytes, Ok, IfOk};
+ghost use Rattle.std.specs.Prelude.{◌≡◌, ◌<◌, ◌≤◌, if◌then◌else◌, bytes_eq, codes, length, map, string_bytes, Ok, Err, IfOk};
 ghost use Rattle.pcp_base.specs.Names.{IsComponent};
 ghost use Rattle.pcp_base.specs.Texts.{IsText};
 ghost use Rattle.pcp_base.specs.Time.{IsMoment};
-ghost use Rattle.pm_words.specs.CommandLine.{Reads, Gives, FitsCommand, command_of, run_command_of, end_then, number_in, volume_of, once_of, replay_of, make_of, image_command_of, archive_command_of, timed_command_of, stamp_then, at_of, range_of, value_of, second_of, microsecond_of, file_of, begins_with_dash, name_of, word_then};
+ghost use Rattle.pm_words.specs.CommandLine.{Reads, Gives, FitsCommand, asked_by, run_command_of, end_then, number_in, volume_of, once_of, replay_of, make_of, image_command_of, archive_command_of, timed_command_of, stamp_then, at_of, range_of, value_of, second_of, microsecond_of, file_of, begins_with_dash, name_of, record_of, serve_of, takes_input, word_then};
 
 use crate::stage::{StageFault, Usage};
 use pcp_base::{Bytes, List, NoMemory, Stamp, Text, TextError, is_component};
@@ -35,6 +35,21 @@ pub enum Command {
     Range(Stamp, Stamp),
     /// `value SEC USEC NAME`: write the values that a metric last had at a moment.
     Value(ValueWords),
+    /// `record SAMPLES VOLUME`: run a script's writers, and log a sample at each moment of a clock.
+    Record(RecordWords),
+    /// `serve COUNT`: serve a script's regions to so many clients.
+    Serve(u32),
+}
+
+/// The call of the library that does a command.
+#[derive(Clone, Copy, Debug, PartialEq, Eq)]
+pub enum Call {
+    /// `offline`: each command but `record` and `serve`.
+    Offline,
+    /// `run_record`.
+    Record,
+    /// `run_serve`.
+    Serve,
 }
 
 /// When the result is logged, and the region's name: one component of a name, of at most 63 bytes.
@@ -57,6 +72,36 @@ pub struct MakeWords {
 pub struct ValueWords {
     pub stamp: Stamp,
     pub name: Bytes,
+}
+
+/// How many samples are to be taken, and the volume limit in bytes.
+#[derive(Clone, Copy, Debug, PartialEq, Eq)]
+pub struct RecordWords {
+    pub samples: u32,
+    pub volume: u64,
+}
+
+impl Command {
+    /// Whether it takes an input.
+    pub fn takes_input(&self) -> bool
+        ensures { result ≡ takes_input self.now }
+    {
+        match self {
+            Command::Once(_)
+            | Command::Replay(_)
+            | Command::MmvMake
+            | Command::MmvDump
+            | Command::Record(_)
+            | Command::Serve(_) => true,
+            Command::Make(_)
+            | Command::Dump
+            | Command::Info
+            | Command::Recover
+            | Command::At(_)
+            | Command::Range(..)
+            | Command::Value(_) => false,
+        }
+    }
 }
 
 impl From<usize> for StageFault<Usage> {
@@ -358,14 +403,74 @@ fn run_words(alloc: Global, name: &[u8], words: &[String]) -> Result<Command, St
     timed_words(alloc, name, words)
 }
 
-/// The command that the words are, or the index of the first word that is bad or missing. A command that
-/// isn't known is bad at 0.
-pub fn read_words(alloc: Global, words: &[String]) -> Result<Command, StageFault<Usage>>
-    ensures command { Reads result (command_of (map string_bytes words.now)) }
+// SAMPLES VOLUME
+#[tactic(auto, unfolding(crate::specs::CommandLine::record_of))]
+fn record_words(words: &[String]) -> Result<Command, usize>
+    ensures command { Gives (λ command. command) result (record_of (map string_bytes words.now)) }
+    ensures fits { IfOk result FitsCommand }
+{
+    let (samples, rest) = number_at(words, 1, 1, 100_000)?;
+    let (volume, rest) = volume_at(rest, 2)?;
+    end_at(rest, 3)?;
+    Ok(Command::Record(RecordWords {
+        samples: samples as u32,
+        volume,
+    }))
+}
+
+// COUNT
+#[tactic(auto, unfolding(crate::specs::CommandLine::serve_of))]
+fn serve_words(words: &[String]) -> Result<Command, usize>
+    ensures command { Gives (λ command. command) result (serve_of (map string_bytes words.now)) }
+    ensures fits { IfOk result FitsCommand }
+{
+    let (count, rest) = number_at(words, 1, 1, 100_000)?;
+    end_at(rest, 2)?;
+    Ok(Command::Serve(count as u32))
+}
+
+fn record_asked(name: &[u8], words: &[String]) -> Result<Command, usize>
+    ensures command { Gives (λ command. command) result (if bytes_eq name.now (codes "record") then record_of (map string_bytes words.now) else Err 0) }
+    ensures fits { IfOk result FitsCommand }
+{
+    if name == b"record".as_slice() {
+        return record_words(words);
+    }
+    Err(0)
+}
+
+fn serve_asked(name: &[u8], words: &[String]) -> Result<Command, usize>
+    ensures command { Gives (λ command. command) result (if bytes_eq name.now (codes "serve") then serve_of (map string_bytes words.now) else Err 0) }
+    ensures fits { IfOk result FitsCommand }
+{
+    if name == b"serve".as_slice() {
+        return serve_words(words);
+    }
+    Err(0)
+}
+
+/// The command that the words ask a call for, or the index of the first word that is bad or missing. A command that isn't known, or is
+/// another call's, is bad at 0.
+pub fn read_words(
+    alloc: Global,
+    call: Call,
+    words: &[String],
+) -> Result<Command, StageFault<Usage>>
+    ensures command { Reads result (asked_by call (map string_bytes words.now)) }
     ensures fits { IfOk result FitsCommand }
 {
     let [name, rest @ ..] = words else {
         return Err(StageFault::Refused(Usage { at: 0 }));
     };
-    run_words(alloc, name.as_bytes(), rest)
+    match call {
+        Call::Offline => run_words(alloc, name.as_bytes(), rest),
+        Call::Record => {
+            let command = record_asked(name.as_bytes(), rest)?;
+            Ok(command)
+        }
+        Call::Serve => {
+            let command = serve_asked(name.as_bytes(), rest)?;
+            Ok(command)
+        }
+    }
 }
