@@ -1,4 +1,4 @@
-pub mod Asking
+pub mod Asked
 pub mod Coherent
 mod Components
 pub mod Recovering

@@ -1,5 +1,5 @@
 -- How the end of a call is told: the rest of its output, or the last line of a refusal, and the status.
-use Rattle.std.specs.Prelude.{◌≡◌, ◌⊎◌, ℕ, Bool, true, false, List, ◌++◌, take, Result, Ok, Err, IsSome}
+use Rattle.std.specs.Prelude.{◌≡◌, ◌⊎◌, ℕ, ◌≤◌, Bool, true, false, List, ◌++◌, take, Result, Ok, Err, IsSome}
 use Rattle.pcp_outside.specs.Causes.{Rose}
 use Rattle.pcp_outside.specs.Sides.{SinkSide}
 use Rattle.pm_words.specs.declared.refusal.Refusal.{Refusal}
@@ -12,7 +12,7 @@ IsSilent k = k.tells → k.after ≡ k.written
 
 -- The line of a refusal, unless the sink had failed before. Where memory for the line is refused nothing is written, and the status is 9.
 abbrev pub TellsRefusal : SinkSide → Bool → Refusal → ℕ → Type 0
-TellsRefusal k true e status = (status ≡ status_of e) × IsSilent k
+TellsRefusal k true e status = (status ≡ status_of e) × (k.faults ≤ k.faults_after) × IsSilent k
 TellsRefusal k false e status =
     ((status ≡ status_of e) × (k.tells → Wrote k.faults k.faults_after k.written k.after (line_of e)))
     ⊎ ((status ≡ 9) × IsSome (numbered_line_of e) × IsSilent k)
