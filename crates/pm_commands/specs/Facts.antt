@@ -242,3 +242,5 @@ module _ {I O D : Type 0} (c : Sides I O D) where
     -- The regions are there wherever the run began, but for want of memory.
     pub ran : LeavesRegions status
     pub regions : OpensRegions c.words source_of c.opened status
+    -- Where a command that runs a script leaves none, its run hadn't begun, and the disk wasn't touched.
+    pub unrun : (command : Command) → IsCommand c.words command → (meaning command).runs_script ≡ true → c.opened ≡ None → c.disk_is ≡ c.disk_was
