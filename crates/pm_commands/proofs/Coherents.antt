@@ -3,8 +3,8 @@ use Rattle.std.proofs.Common.{None, []}
 use Rattle.pm_words.specs.declared.words.Command.{Command}
 use Rattle.pm_words.specs.declared.words.Command.TheVariants.{Once, Replay, Make, MmvMake, MmvDump, Dump, Info, Recover, At, Range, Value, Record, Serve}
 use Rattle.pm_words.proofs.Coherent.{IsCoherent, converts_coherent}
-use Rattle.pm_tasks.proofs.Lookings.{at_coherent, dump_coherent, info_coherent, mmv_dump_coherent, mmv_make_coherent, range_coherent, value_coherent}
-use Rattle.pm_runs.proofs.Coherents.{recover_coherent, runs_coherent}
+use Rattle.pm_tasks.proofs.Coherent.{at_coherent, dump_coherent, info_coherent, mmv_dump_coherent, mmv_make_coherent, range_coherent, value_coherent}
+use Rattle.pm_runs.proofs.Coherent.{recover_coherent, runs_coherent}
 use Rattle.pm_runs.specs.commands.make.{making}
 use Rattle.pm_runs.specs.commands.once.{logging}
 use Rattle.pm_runs.specs.commands.replay.{replaying}

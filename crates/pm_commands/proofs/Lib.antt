@@ -1,5 +1,6 @@
 pub mod Coherents
 pub mod Ending
 pub mod Facts
+pub mod Served
 pub mod Welcome
 pub mod Whole
