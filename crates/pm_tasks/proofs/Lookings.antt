@@ -46,7 +46,7 @@ info_fits = record {
   unwrapped = λ f text s. s.1.unwrapped;
 }
 
-neither : {A B : Type 0} → (A → ⊥) → (B → ⊥) → A ⊎ B → ⊥
+pub neither : {A B : Type 0} → (A → ⊥) → (B → ⊥) → A ⊎ B → ⊥
 neither f g t = ⊎_elim f g t
 
 -- a command that turns files away for what it finds in an archive that was loaded
@@ -130,6 +130,10 @@ module _ (turned : Found → FilesRefusal → Type 0) (said : Found → List ℕ
     begins_untold = λ input d e front some begins. begins;
     sound = λ input d writes tells done. not_so writes;
   }
+
+  -- and where such a refusal never comes
+  pub quiet_coherent : ((f : Found) (stamp : Moment) → turned f (Nothing stamp) → ⊥) → IsCoherent (looks turned said first taken)
+  quiet_coherent quiet = look_coherent (λ f stamp e nothing t. absurd (quiet f stamp nothing)) (λ f stamp text nothing s. quiet f stamp nothing)
 
   module _ {D : Type 0} (g : DiskGhosts D) (input : List ℕ) (a b : D) (looked : Looks g a b) (took : g.tells → taken (contents_of (g.held a)) (g.taken a) (g.taken b)) where
     -- done, where a front of the text went to the sink before
