@@ -1,6 +1,6 @@
 -- Laws of a command's meaning: which refusals of files go together, and what stands where memory for a refusal's line is wanting. Each
 -- command proves them of its own; what a call says of each status follows from them.
-use Rattle.std.proofs.Common.{◌≡◌, ◌⊎◌, inl, inr, ⊎_elim, ℕ, Bool, true, false, List, arith, IsSome}
+use Rattle.std.proofs.Common.{◌≡◌, inl, inr, ⊎_elim, ℕ, true, false, List, arith, IsSome}
 use Rattle.pcp_base.specs.Time.{Moment}
 use Rattle.pcp_base.specs.declared.file.FileId.{FileId}
 use Rattle.pcp_model.specs.Disk.{contents_of}
@@ -11,7 +11,6 @@ use Rattle.pm_words.specs.declared.stage.RunRefusal.TheVariants.{Condition, Limi
 use Rattle.pm_words.specs.declared.refusal.Refusal.{Refusal}
 use Rattle.pm_words.specs.declared.refusal.Refusal.TheVariants.{NoMemory}
 use Rattle.pm_words.specs.Meaning.{Meaning, converts}
-use Rattle.pm_words.specs.Inputs.{refusal_of}
 use Rattle.pm_words.specs.Refusals.{files_status, numbered_line_of, run_status}
 use Rattle.pm_words.specs.Serving.{HasServed, Left}
 use Rattle.pm_words.specs.Sides.{DiskSide, Found, files_found, Untouched}
