@@ -1,5 +1,5 @@
 //! The command `dump`: the label of an archive and all its items.
-ghost use Rattle.std.specs.Prelude.{◌≡◌, ◌++◌, ℕ, List, false, Some, None, IfOk, IfErr, OnOk, OnErr};
+ghost use Rattle.std.specs.Prelude.{◌≡◌, ◌++◌, ℕ, List as Sequence, false, Some, None, IfOk, IfErr, OnOk, OnErr};
 ghost use Rattle.pcp_model.specs.Disk.{contents_of};
 ghost use Rattle.archive_loading.specs.Looks.{Looks};
 ghost use Rattle.archive_loading.specs.Loaded.{IsOver};
@@ -140,7 +140,7 @@ pub fn dump<O: Sink, D: Disk>(
     disk: &mut D,
 ) -> Result<Bytes, Refusal>
     requires { failed.old ≡ false }
-    ensures meets { (input : List ℕ) → MeetsSending (sink_side O.Sink out.old out.new) failed.new meaning_of_dump input D.Disk disk.old disk.new None result }
+    ensures meets { (input : Sequence ℕ) → MeetsSending (sink_side O.Sink out.old out.new) failed.new meaning_of_dump input D.Disk disk.old disk.new None result }
 {
     put_archive(alloc, out, failed, disk)
 }

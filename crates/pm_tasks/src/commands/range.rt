@@ -1,5 +1,5 @@
 //! The command `range SEC USEC SEC USEC`: the items between two moments.
-ghost use Rattle.std.specs.Prelude.{◌≡◌, ◌++◌, ℕ, List, [], None, IfOk, IfErr, OnOk};
+ghost use Rattle.std.specs.Prelude.{◌≡◌, ◌++◌, ℕ, List as Sequence, [], None, IfOk, IfErr, OnOk};
 ghost use Rattle.pcp_model.specs.Disk.{contents_of};
 ghost use Rattle.archive_loading.specs.Looks.{Looks};
 ghost use Rattle.pm_print.specs.Items.{items_text};
@@ -59,7 +59,7 @@ fn find_items<D: Disk>(
 
 /// The items, as text.
 pub fn range<D: Disk>(alloc: Global, from: Stamp, to: Stamp, disk: &mut D) -> Result<Bytes, Refusal>
-    ensures meets { (input : List ℕ) → Meets (meaning_of_range from to) input D.Disk disk.old disk.new None [] result }
+    ensures meets { (input : Sequence ℕ) → Meets (meaning_of_range from to) input D.Disk disk.old disk.new None [] result }
 {
     find_items(alloc, from, to, disk)
 }

@@ -7,6 +7,8 @@ use Rattle.pm_tasks.proofs.Lookings.{at_fits, look_meets}
 use Rattle.pm_tasks.proofs.commands.at.at.Goals as goal
 
 pub returns : goal.returns
-returns g c = λ input.
-    look_meets (IsTurnedAway c.args.t) (IsOutput c.args.t) nothing_before (TookAt c.args.t) (at_fits c.args.t) g.D.Disk input c.args.disk.now c.find_item.new.disk c.find_item.ensures.looks c.find_item.ensures.taken c.find_item.result refl c.find_item.ensures.said
-    c.find_item.ensures.turned
+returns g c = record {
+  meets = λ input.
+      look_meets (IsTurnedAway c.args.t) (IsOutput c.args.t) nothing_before (TookAt c.args.t) (at_fits c.args.t) g.D.Disk input c.args.disk.now c.find_item.new.disk c.find_item.ensures.looks c.find_item.ensures.taken c.find_item.result refl c.find_item.ensures.said
+      c.find_item.ensures.turned;
+}

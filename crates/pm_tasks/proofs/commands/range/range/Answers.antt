@@ -7,6 +7,8 @@ use Rattle.pm_tasks.proofs.Lookings.{range_fits, look_meets}
 use Rattle.pm_tasks.proofs.commands.range.range.Goals as goal
 
 pub returns : goal.returns
-returns g c = λ input.
-    look_meets (IsTurnedAway c.args.from c.args.to) (IsOutput c.args.from c.args.to) nothing_before (TookRange c.args.from c.args.to) (range_fits c.args.from c.args.to) g.D.Disk input c.args.disk.now c.find_items.new.disk c.find_items.ensures.looks c.find_items.ensures.taken
-    c.find_items.result refl c.find_items.ensures.said c.find_items.ensures.turned
+returns g c = record {
+  meets = λ input.
+      look_meets (IsTurnedAway c.args.from c.args.to) (IsOutput c.args.from c.args.to) nothing_before (TookRange c.args.from c.args.to) (range_fits c.args.from c.args.to) g.D.Disk input c.args.disk.now c.find_items.new.disk c.find_items.ensures.looks c.find_items.ensures.taken
+      c.find_items.result refl c.find_items.ensures.said c.find_items.ensures.turned;
+}
