@@ -1,5 +1,5 @@
 -- Commands that make their output of their input meet their meaning, and leave any disk alone.
-use Rattle.std.proofs.Common.{◌≡◌, inl, ℕ, true, false, List, [], refl, Option, None, Result, Ok, Err}
+use Rattle.std.proofs.Common.{ℕ, List, [], refl, Option, None, Result, Ok, Err}
 use Rattle.pcp_outside.specs.declared.disk.Disk.{Ghosts as DiskGhosts}
 use Rattle.archive_loading.proofs.Looking.{OnlyNow, looks_none}
 use Rattle.pm_words.specs.declared.stage.InputRefusal.{InputRefusal}

@@ -1,5 +1,5 @@
 -- Commands that only read an archive: that they meet their meaning, and which of their refusals go together.
-use Rattle.std.proofs.Common.{◌≡◌, ◌⊎◌, inl, inr, ⊎_elim, ℕ, Bool, true, false, List, [], ◌++◌, refl, sym, ◌∙◌, Option, Some, None, Result, Ok, Err, IfOk, IfErr, OnErr}
+use Rattle.std.proofs.Common.{◌≡◌, ◌⊎◌, inl, ⊎_elim, ℕ, Bool, true, false, List, [], ◌++◌, refl, sym, ◌∙◌, Option, Some, None, Result, Ok, Err, IfOk, IfErr, OnErr}
 use Rattle.pcp_base.specs.Time.{Moment}
 use Rattle.pcp_base.specs.declared.file.FileId.{FileId}
 use Rattle.pcp_model.specs.Disk.{Files, CrashImage, contents_of}

@@ -48,11 +48,7 @@ fn values_text<D: Disk>(
 }
 
 // The values and their stamp, as text.
-fn find_values<D: Disk>(
-    alloc: Global,
-    asked: &ValueWords,
-    disk: &mut D,
-) -> Result<Bytes, Refusal>
+fn find_values<D: Disk>(alloc: Global, asked: &ValueWords, disk: &mut D) -> Result<Bytes, Refusal>
     ensures said { D.tells → IfOk result (IsOutput asked.now (files_found (disk_side D.Disk disk.old disk.new))) }
     ensures turned { IfErr result (TurnedAway (IsTurnedAway asked.now) (disk_side D.Disk disk.old disk.new)) }
     ensures looks { Looks D.Disk disk.old disk.new }
