@@ -45,6 +45,7 @@ module _ (refuses : List ℕ → Option InputRefusal) (make : List ℕ → List 
     since = λ tells recovered. tt;
     ran = refl;
     regions = not_so;
+    unrun = λ runs none. not_so runs;
   }
   converted g d (Err e) now made = record {
     done = tt;
@@ -56,4 +57,5 @@ module _ (refuses : List ℕ → Option InputRefusal) (make : List ℕ → List 
     since = λ tells recovered. tt;
     ran = refl;
     regions = not_so;
+    unrun = λ runs none. not_so runs;
   }

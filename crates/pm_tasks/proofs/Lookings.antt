@@ -119,21 +119,22 @@ module _ (turned : Found → FilesRefusal → Type 0) (said : Found → List ℕ
   look_stops input d Accept still c = absurd c
 
   -- Its meaning is coherent where nothing that was asked for is there and nothing else is wrong then.
-  pub look_coherent : ((f : Found) (stamp : Moment) (e : FilesRefusal) → turned f (Nothing stamp) → turned f e → files_status e ≡ 11) → ((f : Found) (stamp : Moment) (text : List ℕ) → turned f (Nothing stamp) → said f text → ⊥)
+  pub look_coherent : ((files : Files) (n : ℕ) → taken files n n) → ((f : Found) (stamp : Moment) (e : FilesRefusal) → turned f (Nothing stamp) → turned f e → files_status e ≡ 11) → ((f : Found) (stamp : Moment) (text : List ℕ) → turned f (Nothing stamp) → said f text → ⊥)
       → IsCoherent (looks turned said first taken)
-  look_coherent alone silent = record {
+  look_coherent idle alone silent = record {
     one_reason = λ input f reason e unlogged t. absurd (fits.never_unlogged f reason unlogged);
     wrapped_first = λ input f file e w t. look_wrapped f file e w t;
     nothing_first = λ input f stamp e nothing t. alone f stamp e nothing t;
     never_done = λ input d text served tells stamp nothing. silent (files_found d) stamp text nothing (served.says tells);
     untold = λ input d e begun. begun;
     begins_untold = λ input d e front some begins. begins;
+    takes_none = idle;
     sound = λ input d writes tells done. not_so writes;
   }
 
   -- and where such a refusal never comes
-  pub quiet_coherent : ((f : Found) (stamp : Moment) → turned f (Nothing stamp) → ⊥) → IsCoherent (looks turned said first taken)
-  quiet_coherent quiet = look_coherent (λ f stamp e nothing t. absurd (quiet f stamp nothing)) (λ f stamp text nothing s. quiet f stamp nothing)
+  pub quiet_coherent : ((files : Files) (n : ℕ) → taken files n n) → ((f : Found) (stamp : Moment) → turned f (Nothing stamp) → ⊥) → IsCoherent (looks turned said first taken)
+  quiet_coherent idle quiet = look_coherent idle (λ f stamp e nothing t. absurd (quiet f stamp nothing)) (λ f stamp text nothing s. quiet f stamp nothing)
 
   module _ {D : Type 0} (g : DiskGhosts D) (input : List ℕ) (a b : D) (looked : Looks g a b) (took : g.tells → taken (contents_of (g.held a)) (g.taken a) (g.taken b)) where
     -- done, where a front of the text went to the sink before
@@ -148,6 +149,7 @@ module _ (turned : Found → FilesRefusal → Type 0) (said : Found → List ℕ
       since = λ tells recovered. tt;
       ran = refl;
       regions = not_so;
+      unrun = λ runs none. not_so runs;
     }
 
     -- or stopped
@@ -162,6 +164,7 @@ module _ (turned : Found → FilesRefusal → Type 0) (said : Found → List ℕ
       since = λ tells recovered. tt;
       ran = refl;
       regions = not_so;
+      unrun = λ runs none. not_so runs;
     }
 
     -- one that writes nothing before it is done

@@ -1,7 +1,7 @@
 -- How many volume bytes a command takes, from what its parts take.
 use Rattle.std.proofs.Common.{inl, inr, ℕ, subst, arith}
 use Rattle.pcp_base.specs.Time.{Moment}
-use Rattle.pcp_model.specs.Disk.{Holdings, contents_of}
+use Rattle.pcp_model.specs.Disk.{Files, Holdings, contents_of}
 use Rattle.pcp_outside.specs.declared.disk.Disk.{Ghosts as DiskGhosts}
 use Rattle.archive_loading.specs.Looks.{Looks}
 use Rattle.archive_loading.specs.Loaded.{Loaded, IsOver}
@@ -9,6 +9,10 @@ use Rattle.archive_loading.specs.Takes.{TookLabels}
 use Rattle.archive_reader.specs.Asked.{at_begin, range_begin}
 use Rattle.archive_reader.specs.Takes.{TakesAt, TakesRange}
 use Rattle.pm_tasks.specs.Takes.{TookAsked, TookAt, TookRange}
+
+-- whoever takes nothing
+pub took_none : {Search : Loaded → ℕ → ℕ → Type 0} (files : Files) (n : ℕ) → TookAsked files Search n n
+took_none files n = record { mid = n; labels = record { volumes = 0; most = omega arith }; search = inl (omega arith) }
 
 module _ {D : Type 0} (g : DiskGhosts D) (a b c : D) where
   -- an archive that isn't loaded

@@ -71,5 +71,5 @@ looks turned said first taken = record {
   may_leave = λ input held crash. ⊥;
   takes = taken;
   since = λ g input old new. Unit {0};
-  ran = λ g input old new opened answer. opened ≡ None;
+  ran = λ g input old new opened front answer. opened ≡ None;
 }
