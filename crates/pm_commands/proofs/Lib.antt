@@ -1,7 +1,6 @@
+pub mod Coherents
+pub mod Ending
 pub mod Facts
-pub mod Lookings
-pub mod Memory
-pub mod Nothing
-pub mod Opening
-pub mod Sounds
+pub mod Served
 pub mod Welcome
+pub mod Whole

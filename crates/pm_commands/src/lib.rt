@@ -7,7 +7,7 @@ mod top;
 
 pub use laws::{done_is_welcome, one_end, readable_is_welcome, sound_is_welcome};
 pub use pm_words::{
-    Command, DiskRefusal, FilesRefusal, InputRefusal, MakeWords, OnceWords, ReadRefusal, Refusal,
+    Call, Command, DiskRefusal, FilesRefusal, InputRefusal, MakeWords, OnceWords, ReadRefusal, Refusal,
     RunRefusal, StageFault, Usage, ValueWords, read_words,
 };
 pub use top::offline;

@@ -1,9 +1,9 @@
 -- Laws of a command's meaning: which refusals of files go together, and what stands where memory for a refusal's line is wanting. Each
 -- command proves them of its own; what a call says of each status follows from them.
-use Rattle.std.proofs.Common.{◌≡◌, ◌⊎◌, inl, inr, ⊎_elim, ℕ, Bool, true, false, List, arith, IsSome}
+use Rattle.std.proofs.Common.{◌≡◌, inl, inr, ⊎_elim, ℕ, true, false, List, arith, IsSome}
 use Rattle.pcp_base.specs.Time.{Moment}
 use Rattle.pcp_base.specs.declared.file.FileId.{FileId}
-use Rattle.pcp_model.specs.Disk.{contents_of}
+use Rattle.pcp_model.specs.Disk.{Files, contents_of}
 use Rattle.pm_words.specs.declared.stage.FilesRefusal.{FilesRefusal}
 use Rattle.pm_words.specs.declared.stage.FilesRefusal.TheVariants.{Run, Compressed, NotArchive, Nothing}
 use Rattle.pm_words.specs.declared.stage.RunRefusal.{RunRefusal}
@@ -11,7 +11,6 @@ use Rattle.pm_words.specs.declared.stage.RunRefusal.TheVariants.{Condition, Limi
 use Rattle.pm_words.specs.declared.refusal.Refusal.{Refusal}
 use Rattle.pm_words.specs.declared.refusal.Refusal.TheVariants.{NoMemory}
 use Rattle.pm_words.specs.Meaning.{Meaning, converts}
-use Rattle.pm_words.specs.Inputs.{refusal_of}
 use Rattle.pm_words.specs.Refusals.{files_status, numbered_line_of, run_status}
 use Rattle.pm_words.specs.Serving.{HasServed, Left}
 use Rattle.pm_words.specs.Sides.{DiskSide, Found, files_found, Untouched}
@@ -28,6 +27,8 @@ pub record IsCoherent (m : Meaning) : Type 1 where
   -- what stands where memory for the line of a refusal is wanting, and what was written before
   pub untold : (input : List ℕ) (d : DiskSide) (e : FilesRefusal) → m.begun (files_status e) input d → m.begun 9 input d
   pub begins_untold : (input : List ℕ) (d : DiskSide) (e : Refusal) (front : List ℕ) → IsSome (numbered_line_of e) → m.begins input d e front → m.begins input d NoMemory front
+  -- whoever takes nothing takes little
+  pub takes_none : (files : Files) (n : ℕ) → m.takes files n n
   -- a command that writes an archive leaves it whole
   pub sound : (input : List ℕ) (d : DiskSide) → m.writes_archive ≡ true → d.tells → m.done input d → LeavesSound (contents_of d.held) (contents_of d.after)
 
@@ -40,6 +41,7 @@ converts_coherent refuses make = record {
   never_done = λ input d text served tells stamp a. a;
   untold = λ input d e begun. begun;
   begins_untold = λ input d e front some begins. begins;
+  takes_none = λ files n. tt;
   sound = λ input d writes tells done. let e : false ≡ true = writes in cc;
 }
 

@@ -1,6 +1,8 @@
+pub mod Asked
 pub mod Coherent
 mod Components
 pub mod Recovering
 pub mod Sending
 pub mod Serving
+pub mod Telling
 pub mod Unreadable

@@ -4,7 +4,6 @@ use Rattle.pcp_outside.specs.Sides.{SourceSide}
 use Rattle.pm_words.specs.declared.stage.StageFault.{StageFault}
 use Rattle.pm_words.specs.declared.stage.StageFault.TheVariants.{OutOfMemory, Refused}
 use Rattle.pm_words.specs.declared.words.Call.{Call}
-use Rattle.pm_words.specs.declared.stage.ReadRefusal.{ReadRefusal}
 use Rattle.pm_words.specs.declared.stage.ReadRefusal.TheVariants.{ReadFault, InputLimit}
 use Rattle.pm_words.specs.declared.stage.InputRefusal.{InputRefusal}
 use Rattle.pm_words.specs.declared.stage.InputRefusal.TheVariants.{Image, Line, Script}

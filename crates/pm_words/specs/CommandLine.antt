@@ -169,6 +169,22 @@ asked_by calls.Offline (word ∷ words) = run_command_of word words
 asked_by calls.Record (word ∷ words) = if bytes_eq word (codes "record") then record_of words else Err 0
 asked_by calls.Serve (word ∷ words) = if bytes_eq word (codes "serve") then serve_of words else Err 0
 
+-- the call that does a command
+abbrev pub call_of : Command → Call
+call_of (Record asked) = calls.Record
+call_of (Serve count) = calls.Serve
+call_of (Once asked) = calls.Offline
+call_of (Replay volume) = calls.Offline
+call_of (Make asked) = calls.Offline
+call_of MmvMake = calls.Offline
+call_of MmvDump = calls.Offline
+call_of Dump = calls.Offline
+call_of Info = calls.Offline
+call_of Recover = calls.Offline
+call_of (At t) = calls.Offline
+call_of (Range from to) = calls.Offline
+call_of (Value asked) = calls.Offline
+
 -- whether a command takes an input
 abbrev pub takes_input : Command → Bool
 takes_input (Once asked) = true

@@ -97,6 +97,8 @@ pub record Meets {D : Type 0} (m : Meaning) (input : List ℕ) (g : DiskGhosts D
   pub since : g.tells → HasRecovered result → m.since g input old new
   pub ran : m.ran g input old new opened result
   pub regions : m.runs_script ≡ true → HasRegions result opened
+  -- where it leaves no regions its run hadn't begun, and nothing was touched
+  pub unrun : m.runs_script ≡ true → opened ≡ None → new ≡ old
 
 -- the same where what went to the sink before isn't named
 abbrev pub MeetsSending : {D : Type 0} → SinkSide → Bool → Meaning → List ℕ → DiskGhosts D → D → D → Option Opened → Result (List ℕ) Refusal → Type 0

@@ -3,7 +3,7 @@
 ghost use Rattle.std.specs.Prelude.{◌≡◌, ◌≤◌, IfErr, IfOk, false, true, length, map, string_bytes};
 ghost use Rattle.pcp_outside.specs.Sides.{source_side};
 ghost use Rattle.pm_words.specs.Asking.{AsksFor, Before, Got, IsInputless};
-ghost use Rattle.pm_words.specs.CommandLine.{FitsCommand, takes_input};
+ghost use Rattle.pm_words.specs.CommandLine.{FitsCommand, call_of, takes_input};
 ghost use Rattle.pm_words.specs.Inputs.{input_limit};
 ghost use Rattle.pm_words.specs.Reading.{UnreadCause};
 
@@ -43,6 +43,7 @@ pub fn ask<I: Source>(
 ) -> Result<(Command, Bytes), Refusal>
     ensures asks { IfOk result (λ x. AsksFor call (map string_bytes words.now) (source_side I.Source input.old input.new) x.0 x.1) }
     ensures fits { IfOk result (λ x. FitsCommand x.0) }
+    ensures call { IfOk result (λ x. call_of x.0 ≡ call) }
     ensures within { IfOk result (λ x. length x.1 ≤ input_limit) }
     ensures refused { IfErr result (Before call (map string_bytes words.now) (source_side I.Source input.old input.new)) }
     // A command without input leaves the source alone.

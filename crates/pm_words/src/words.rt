@@ -3,7 +3,8 @@ ghost use Rattle.std.specs.Prelude.{◌≡◌, ◌<◌, ◌≤◌, if◌then◌e
 ghost use Rattle.pcp_base.specs.Names.{IsComponent};
 ghost use Rattle.pcp_base.specs.Texts.{IsText};
 ghost use Rattle.pcp_base.specs.Time.{IsMoment};
-ghost use Rattle.pm_words.specs.CommandLine.{Reads, Gives, FitsCommand, asked_by, run_command_of, end_then, number_in, volume_of, once_of, replay_of, make_of, image_command_of, archive_command_of, timed_command_of, stamp_then, at_of, range_of, value_of, second_of, microsecond_of, file_of, begins_with_dash, name_of, record_of, serve_of, takes_input, word_then};
+ghost use Rattle.pm_words.specs.CommandLine.{Reads, Gives, FitsCommand, asked_by, call_of, run_command_of, end_then, number_in, volume_of, once_of, replay_of, make_of, image_command_of, archive_command_of, timed_command_of, stamp_then, at_of, range_of, value_of, second_of, microsecond_of, file_of, begins_with_dash, name_of, record_of, serve_of, takes_input, word_then};
+ghost use Rattle.pm_words.specs.declared.words.Call.TheVariants as calls;
 
 use crate::stage::{StageFault, Usage};
 use pcp_base::{Bytes, List, NoMemory, Stamp, Text, TextError, is_component};
@@ -197,6 +198,7 @@ fn volume_at(words: &[String], at: usize) -> Result<(u64, &[String]), usize>
 fn replay_words(words: &[String]) -> Result<Command, usize>
     ensures command { Gives (λ command. command) result (replay_of (map string_bytes words.now)) }
     ensures fits { IfOk result FitsCommand }
+    ensures call { IfOk result (λ command. call_of command ≡ calls.Offline) }
 {
     let (volume, rest) = volume_at(words, 1)?;
     end_at(rest, 2)?;
@@ -207,6 +209,7 @@ fn replay_words(words: &[String]) -> Result<Command, usize>
 fn make_words(words: &[String]) -> Result<Command, usize>
     ensures command { Gives (λ command. command) result (make_of (map string_bytes words.now)) }
     ensures fits { IfOk result FitsCommand }
+    ensures call { IfOk result (λ command. call_of command ≡ calls.Offline) }
 {
     let (number, rest) = number_at(words, 1, 0, 18_446_744_073_709_551_615)?;
     let (ticks, rest) = number_at(rest, 2, 1, 100_000)?;
@@ -223,6 +226,7 @@ fn make_words(words: &[String]) -> Result<Command, usize>
 fn once_words(alloc: Global, words: &[String]) -> Result<Command, StageFault<Usage>>
     ensures command { Reads result (once_of (map string_bytes words.now)) }
     ensures fits { IfOk result FitsCommand }
+    ensures call { IfOk result (λ command. call_of command ≡ calls.Offline) }
 {
     let (sec, rest) = seconds_at(words, 1)?;
     let (usec, rest) = microseconds_at(rest, 2)?;
@@ -288,6 +292,7 @@ fn name_at(words: &[String], at: usize) -> Result<(&[u8], &[String]), usize>
 fn at_words(words: &[String]) -> Result<Command, usize>
     ensures command { Gives (λ command. command) result (at_of (map string_bytes words.now)) }
     ensures fits { IfOk result FitsCommand }
+    ensures call { IfOk result (λ command. call_of command ≡ calls.Offline) }
 {
     let (sec, usec, rest) = moment_at(words, 1)?;
     end_at(rest, 3)?;
@@ -299,6 +304,7 @@ fn at_words(words: &[String]) -> Result<Command, usize>
 fn range_words(words: &[String]) -> Result<Command, usize>
     ensures command { Gives (λ command. command) result (range_of (map string_bytes words.now)) }
     ensures fits { IfOk result FitsCommand }
+    ensures call { IfOk result (λ command. call_of command ≡ calls.Offline) }
 {
     let (from_sec, from_usec, rest) = moment_at(words, 1)?;
     let (to_sec, to_usec, rest) = moment_at(rest, 3)?;
@@ -319,6 +325,7 @@ fn bytes_of(alloc: Global, bytes: &[u8]) -> Result<Bytes, NoMemory>
 fn value_words(alloc: Global, words: &[String]) -> Result<Command, StageFault<Usage>>
     ensures command { Reads result (value_of (map string_bytes words.now)) }
     ensures fits { IfOk result FitsCommand }
+    ensures call { IfOk result (λ command. call_of command ≡ calls.Offline) }
 {
     let (sec, usec, rest) = moment_at(words, 1)?;
     let (name, rest) = name_at(rest, 3)?;
@@ -332,6 +339,7 @@ fn value_words(alloc: Global, words: &[String]) -> Result<Command, StageFault<Us
 fn image_words(name: &[u8], words: &[String]) -> Result<Command, usize>
     ensures command { Gives (λ command. command) result (image_command_of name.now (map string_bytes words.now)) }
     ensures fits { IfOk result FitsCommand }
+    ensures call { IfOk result (λ command. call_of command ≡ calls.Offline) }
 {
     if name == b"mmv-make".as_slice() {
         end_at(words, 1)?;
@@ -348,6 +356,7 @@ fn image_words(name: &[u8], words: &[String]) -> Result<Command, usize>
 fn archive_words(name: &[u8], words: &[String]) -> Result<Command, usize>
     ensures command { Gives (λ command. command) result (archive_command_of name.now (map string_bytes words.now)) }
     ensures fits { IfOk result FitsCommand }
+    ensures call { IfOk result (λ command. call_of command ≡ calls.Offline) }
 {
     if name == b"dump".as_slice() {
         end_at(words, 1)?;
@@ -368,6 +377,7 @@ fn archive_words(name: &[u8], words: &[String]) -> Result<Command, usize>
 fn timed_words(alloc: Global, name: &[u8], words: &[String]) -> Result<Command, StageFault<Usage>>
     ensures command { Reads result (timed_command_of name.now (map string_bytes words.now)) }
     ensures fits { IfOk result FitsCommand }
+    ensures call { IfOk result (λ command. call_of command ≡ calls.Offline) }
 {
     if name == b"at".as_slice() {
         let command = at_words(words)?;
@@ -388,6 +398,7 @@ fn timed_words(alloc: Global, name: &[u8], words: &[String]) -> Result<Command, 
 fn run_words(alloc: Global, name: &[u8], words: &[String]) -> Result<Command, StageFault<Usage>>
     ensures command { Reads result (run_command_of name.now (map string_bytes words.now)) }
     ensures fits { IfOk result FitsCommand }
+    ensures call { IfOk result (λ command. call_of command ≡ calls.Offline) }
 {
     if name == b"once".as_slice() {
         return once_words(alloc, words);
@@ -408,6 +419,7 @@ fn run_words(alloc: Global, name: &[u8], words: &[String]) -> Result<Command, St
 fn record_words(words: &[String]) -> Result<Command, usize>
     ensures command { Gives (λ command. command) result (record_of (map string_bytes words.now)) }
     ensures fits { IfOk result FitsCommand }
+    ensures call { IfOk result (λ command. call_of command ≡ calls.Record) }
 {
     let (samples, rest) = number_at(words, 1, 1, 100_000)?;
     let (volume, rest) = volume_at(rest, 2)?;
@@ -423,6 +435,7 @@ fn record_words(words: &[String]) -> Result<Command, usize>
 fn serve_words(words: &[String]) -> Result<Command, usize>
     ensures command { Gives (λ command. command) result (serve_of (map string_bytes words.now)) }
     ensures fits { IfOk result FitsCommand }
+    ensures call { IfOk result (λ command. call_of command ≡ calls.Serve) }
 {
     let (count, rest) = number_at(words, 1, 1, 100_000)?;
     end_at(rest, 2)?;
@@ -432,6 +445,7 @@ fn serve_words(words: &[String]) -> Result<Command, usize>
 fn record_asked(name: &[u8], words: &[String]) -> Result<Command, usize>
     ensures command { Gives (λ command. command) result (if bytes_eq name.now (codes "record") then record_of (map string_bytes words.now) else Err 0) }
     ensures fits { IfOk result FitsCommand }
+    ensures call { IfOk result (λ command. call_of command ≡ calls.Record) }
 {
     if name == b"record".as_slice() {
         return record_words(words);
@@ -442,6 +456,7 @@ fn record_asked(name: &[u8], words: &[String]) -> Result<Command, usize>
 fn serve_asked(name: &[u8], words: &[String]) -> Result<Command, usize>
     ensures command { Gives (λ command. command) result (if bytes_eq name.now (codes "serve") then serve_of (map string_bytes words.now) else Err 0) }
     ensures fits { IfOk result FitsCommand }
+    ensures call { IfOk result (λ command. call_of command ≡ calls.Serve) }
 {
     if name == b"serve".as_slice() {
         return serve_words(words);
@@ -451,13 +466,10 @@ fn serve_asked(name: &[u8], words: &[String]) -> Result<Command, usize>
 
 /// The command that the words ask a call for, or the index of the first word that is bad or missing. A command that isn't known, or is
 /// another call's, is bad at 0.
-pub fn read_words(
-    alloc: Global,
-    call: Call,
-    words: &[String],
-) -> Result<Command, StageFault<Usage>>
+pub fn read_words(alloc: Global, call: Call, words: &[String]) -> Result<Command, StageFault<Usage>>
     ensures command { Reads result (asked_by call (map string_bytes words.now)) }
     ensures fits { IfOk result FitsCommand }
+    ensures call { IfOk result (λ command. call_of command ≡ call) }
 {
     let [name, rest @ ..] = words else {
         return Err(StageFault::Refused(Usage { at: 0 }));

@@ -1,4 +1,4 @@
-use Rattle.pm_runs.proofs.Scripted.{done_welcome}
+use Rattle.pm_runs.proofs.Coherent.{done_welcome}
 use Rattle.pm_commands.proofs.laws.done_is_welcome.Goals as goal
 
 pub returns : goal.returns

@@ -1,0 +1,35 @@
+-- The meaning of each command. Where a new one goes: its variant and its words in pm_words, its meaning here, its body in `serve`.
+use Rattle.std.specs.Prelude.{ℕ, List, [], Option, None}
+use Rattle.pm_words.specs.declared.words.Command.{Command}
+use Rattle.pm_words.specs.declared.words.Command.TheVariants.{Once, Replay, Make, MmvMake, MmvDump, Dump, Info, Recover, At, Range, Value, Record, Serve}
+use Rattle.pm_words.specs.Meaning.{Meaning, converts}
+use Rattle.pm_tasks.specs.commands.at.{at}
+use Rattle.pm_tasks.specs.commands.dump.{dump}
+use Rattle.pm_tasks.specs.commands.info.{info}
+use Rattle.pm_runs.specs.commands.make.{make}
+use Rattle.pm_tasks.specs.commands.mmv_dump.{mmv_dump}
+use Rattle.pm_tasks.specs.commands.mmv_make.{mmv_make}
+use Rattle.pm_runs.specs.commands.once.{once}
+use Rattle.pm_runs.specs.commands.recover.{recover}
+use Rattle.pm_tasks.specs.commands.range.{range}
+use Rattle.pm_runs.specs.commands.replay.{replay}
+use Rattle.pm_tasks.specs.commands.value.{value}
+
+-- a command of another call, for which this one is never asked
+abbrev pub other : Meaning
+other = converts (λ input. None) (λ input. [])
+
+abbrev pub meaning : Command → Meaning
+meaning (Once asked) = once asked
+meaning (Replay volume) = replay volume
+meaning (Make asked) = make asked
+meaning MmvMake = mmv_make
+meaning MmvDump = mmv_dump
+meaning Dump = dump
+meaning Info = info
+meaning Recover = recover
+meaning (At t) = at t
+meaning (Range from to) = range from to
+meaning (Value asked) = value asked
+meaning (Record asked) = other
+meaning (Serve count) = other
