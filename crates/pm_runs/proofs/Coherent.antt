@@ -108,7 +108,7 @@ written_on c input d (Disk (FilesAway (Run reason))) front some (output, is, f) 
 written_on c input d (Disk (FilesAway (Compressed file))) front some (output, is, f) = inr (output, is, λ t. inl (f t).2)
 written_on c input d (Disk (FilesAway (NotArchive file at))) front some (output, is, f) = inr (output, is, λ t. inl (f t).2)
 written_on c input d (Disk (FilesAway (Nothing stamp))) front some (output, is, f) = inr (output, is, λ t. absurd (f t).2)
-written_on c input d (Disk DiskFault) front some b = absurd some
+written_on c input d (Disk DiskFault) front some b = cc
 written_on c input d (ClockEnd left) front some b = inl b
 written_on c input d (ClockFault left) front some b = inl b
 written_on c input d Accept front some b = inl b
@@ -126,6 +126,7 @@ runs_coherent c = record {
   never_done = λ input d text served tells stamp x. x.2;
   untold = λ input d e b. (b.0, b.1, begun_on c.limit (files_status e) b.0 d (never_five e) b.2);
   begins_untold = λ input d e front some b. written_on c input d e front some b;
+  takes_none = λ files n. tt;
   sound = λ input d writes tells done. (done tells).sound;
 }
 
@@ -144,5 +145,6 @@ recover_coherent = record {
   never_done = λ input d text served tells stamp x. x;
   untold = λ input d e begun. ⊎_elim (λ (five : files_status e ≡ 5). absurd (never_five e five)) (λ (mended : (files_status e ≡ 9) × (d.tells → IsMendedSide d)). inr (refl, mended.1)) begun;
   begins_untold = λ input d e front some begins. begins;
+  takes_none = λ files n. tt;
   sound = λ input d writes tells done. mended_is_sound d (done tells);
 }

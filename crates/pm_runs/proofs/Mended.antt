@@ -54,6 +54,7 @@ module _ {D : Type 0} (g : DiskGhosts D) (a b : D) (input : List ℕ) (moments :
     since = λ t h. tt;
     ran = refl;
     regions = λ runs. let both : false ≡ true = runs in cc;
+    unrun = λ runs. let both : false ≡ true = runs in cc;
   }
 
   -- what was told of the files that are left

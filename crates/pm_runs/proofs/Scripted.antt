@@ -72,6 +72,7 @@ runner_refused c input {D} g now old new opened stop same none refuses =
       since = λ t h. absurd (no_input_yet stop h);
       ran = subst (λ (x : Option Opened). RanRegions g c input old new x (Err (refusal_of_stage Input stop))) (sym none) tt;
       regions = λ runs. no_regions stop opened;
+      unrun = λ runs not. same;
     }
 
 -- ---- the run of one script
@@ -109,13 +110,13 @@ state_none script count s none goes = ap (λ (t : RunState). t.output) (subst (�
 
 -- regions that are there are there, whatever is answered
 has_regions : (answer : Result (List ℕ) Refusal) (there : Opened) → HasRegions answer (Some there)
-has_regions (Ok text) there = tt
+has_regions (Ok text) there = refl
 has_regions (Err (Words usage)) there = tt
 has_regions (Err (Reading e)) there = tt
 has_regions (Err (Input e)) there = tt
-has_regions (Err (Disk e)) there = tt
-has_regions (Err (ClockEnd left)) there = tt
-has_regions (Err (ClockFault left)) there = tt
+has_regions (Err (Disk e)) there = refl
+has_regions (Err (ClockEnd left)) there = refl
+has_regions (Err (ClockFault left)) there = refl
 has_regions (Err Accept) there = tt
 has_regions (Err NoMemory) there = tt
 
@@ -385,6 +386,7 @@ module _ (c : Runner) (input : List ℕ) (script : Script) (is : c.script input 
       since = λ t h. since (own h) t;
       ran = ran_regions answer answers;
       regions = λ runs. subst (λ (x : Option Opened). HasRegions answer x) (sym run.there_is) (has_regions answer run.there);
+      unrun = λ runs none. absurd (none-some run.there (sym none ∙ run.there_is));
     }
 
     pub runner_done : (text : List ℕ) → r.ending ≡ ends.Done → (g.tells → c.says script r.logged r.output (contents_of (g.held new)) text) → Meets m input g old new opened [] (Ok text)

@@ -44,40 +44,50 @@ adds_of-adds-requires-clause-small g c =
 pub run_script-requires-clause-rules : goal.run_script-requires-clause-rules
 run_script-requires-clause-rules g c = subst KeepsRules (sym c.in_ok-script.ensures) (generated_is_ruled c.args.asked.now.number c.args.asked.now.ticks c.requires.few)
 
-pub returns-in_err-script-clause-meets : goal.returns-in_err-script-clause-meets
-returns-in_err-script-clause-meets g c = λ input.
-    let meets = runner_refused (making c.args.asked.now) input g.D.Disk g.met.D.Disk.only_now c.args.disk.now c.args.disk.now c.args.opened.now OutOfMemory refl c.requires.closed tt in
-    search (rules, meets)
+pub returns-in_err-script : goal.returns-in_err-script
+returns-in_err-script g c = record {
+  meets = λ input.
+      let meets = runner_refused (making c.args.asked.now) input g.D.Disk g.met.D.Disk.only_now c.args.disk.now c.args.disk.now c.args.opened.now OutOfMemory refl c.requires.closed tt in
+      search (rules, meets);
+}
 
-pub returns-in_err-replayed-clause-meets : goal.returns-in_err-replayed-clause-meets
-returns-in_err-replayed-clause-meets g c = λ input.
-    let meets = runner_refused (making c.args.asked.now) input g.D.Disk g.met.D.Disk.only_now c.args.disk.now c.run_script.new.disk c.run_script.new.opened OutOfMemory c.in_err-replayed.ensures.untouched (c.in_err-replayed.ensures.unopened ∙ c.requires.closed) tt in
-    search (rules, meets)
+pub returns-in_err-replayed : goal.returns-in_err-replayed
+returns-in_err-replayed g c = record {
+  meets = λ input.
+      let meets = runner_refused (making c.args.asked.now) input g.D.Disk g.met.D.Disk.only_now c.args.disk.now c.run_script.new.disk c.run_script.new.opened OutOfMemory c.in_err-replayed.ensures.untouched (c.in_err-replayed.ensures.unopened ∙ c.requires.closed) tt in
+      search (rules, meets);
+}
 
-pub returns-in_err-text-in-None-clause-meets : goal.returns-in_err-text-in-None-clause-meets
-returns-in_err-text-in-None-clause-meets g c = λ input.
-    let run = c.in_ok-replayed.ensures.run in
-    let r = c.in_ok-replayed.replayed in
-    let e = c.in_err-text-in-None.field-0.0 in
-    let done = is_done r.ending (sym c.of_ending.ensures ∙ c.in-None.is) in
-    let was = looked_was g.D.Disk c.in_ok-script.script c.args.asked.now.volume c.args.disk.now c.run_script.new.disk c.summary.new.disk c.run_script.new.opened r done c.summary.ensures.looks run in
-    let wants : WantsCounts (g.D.Disk.faults c.args.disk.now) (g.D.Disk.faults c.summary.new.disk) e =
-    wants_later (g.D.Disk.faults c.args.disk.now) (g.D.Disk.faults c.run_script.new.disk) (g.D.Disk.faults c.summary.new.disk) run.later e c.in_err-text-in-None.ensures.cause in
-    let meets = runner_untold (making c.args.asked.now) input c.in_ok-script.script (ap (λ (s : Script). Some s) (sym c.in_ok-script.ensures)) refl g.D.Disk c.args.disk.now c.summary.new.disk c.run_script.new.opened r was e refl done
-    (⊎_elim (λ (memory : e ≡ NoMemory). inl memory) (λ (disk : (e ≡ Disk DiskFault) × Rose (g.D.Disk.faults c.args.disk.now) (g.D.Disk.faults c.summary.new.disk)). inr disk.0) wants) wants in
-    search (rules, meets)
+pub returns-in_err-text-in-None : goal.returns-in_err-text-in-None
+returns-in_err-text-in-None g c = record {
+  meets = λ input.
+      let run = c.in_ok-replayed.ensures.run in
+      let r = c.in_ok-replayed.replayed in
+      let e = c.in_err-text-in-None.field-0.0 in
+      let done = is_done r.ending (sym c.of_ending.ensures ∙ c.in-None.is) in
+      let was = looked_was g.D.Disk c.in_ok-script.script c.args.asked.now.volume c.args.disk.now c.run_script.new.disk c.summary.new.disk c.run_script.new.opened r done c.summary.ensures.looks run in
+      let wants : WantsCounts (g.D.Disk.faults c.args.disk.now) (g.D.Disk.faults c.summary.new.disk) e =
+      wants_later (g.D.Disk.faults c.args.disk.now) (g.D.Disk.faults c.run_script.new.disk) (g.D.Disk.faults c.summary.new.disk) run.later e c.in_err-text-in-None.ensures.cause in
+      let meets = runner_untold (making c.args.asked.now) input c.in_ok-script.script (ap (λ (s : Script). Some s) (sym c.in_ok-script.ensures)) refl g.D.Disk c.args.disk.now c.summary.new.disk c.run_script.new.opened r was e refl done
+      (⊎_elim (λ (memory : e ≡ NoMemory). inl memory) (λ (disk : (e ≡ Disk DiskFault) × Rose (g.D.Disk.faults c.args.disk.now) (g.D.Disk.faults c.summary.new.disk)). inr disk.0) wants) wants in
+      search (rules, meets);
+}
 
-pub returns-in-None-clause-meets : goal.returns-in-None-clause-meets
-returns-in-None-clause-meets g c = λ input.
-    let run = c.in_ok-replayed.ensures.run in
-    let r = c.in_ok-replayed.replayed in
-    let done = is_done r.ending (sym c.of_ending.ensures ∙ c.in-None.is) in
-    let was = looked_was g.D.Disk c.in_ok-script.script c.args.asked.now.volume c.args.disk.now c.run_script.new.disk c.summary.new.disk c.run_script.new.opened r done c.summary.ensures.looks run in
-    runner_done (making c.args.asked.now) input c.in_ok-script.script (ap (λ (s : Script). Some s) (sym c.in_ok-script.ensures)) refl g.D.Disk c.args.disk.now c.summary.new.disk c.run_script.new.opened r was c.in_ok-text-in-None.text done (λ t.
-    summarized c.in_ok-script.script r.logged c.adds_of-adds.result.0 c.adds_of-adds.result.1 (c.adds_of-adds.ensures.adds ∙ ap adds_in c.as_slice.ensures) (c.adds_of-adds.ensures.total ∙ ap total_in c.as_slice.ensures) (g.D.Disk.held c.run_script.new.disk)
-    (g.D.Disk.held c.summary.new.disk) (c.summary.ensures.looks.held t) c.in_ok-text-in-None.text (c.in_ok-text-in-None.ensures.counted t))
+pub returns-in-None : goal.returns-in-None
+returns-in-None g c = record {
+  meets = λ input.
+      let run = c.in_ok-replayed.ensures.run in
+      let r = c.in_ok-replayed.replayed in
+      let done = is_done r.ending (sym c.of_ending.ensures ∙ c.in-None.is) in
+      let was = looked_was g.D.Disk c.in_ok-script.script c.args.asked.now.volume c.args.disk.now c.run_script.new.disk c.summary.new.disk c.run_script.new.opened r done c.summary.ensures.looks run in
+      runner_done (making c.args.asked.now) input c.in_ok-script.script (ap (λ (s : Script). Some s) (sym c.in_ok-script.ensures)) refl g.D.Disk c.args.disk.now c.summary.new.disk c.run_script.new.opened r was c.in_ok-text-in-None.text done (λ t.
+      summarized c.in_ok-script.script r.logged c.adds_of-adds.result.0 c.adds_of-adds.result.1 (c.adds_of-adds.ensures.adds ∙ ap adds_in c.as_slice.ensures) (c.adds_of-adds.ensures.total ∙ ap total_in c.as_slice.ensures) (g.D.Disk.held c.run_script.new.disk)
+      (g.D.Disk.held c.summary.new.disk) (c.summary.ensures.looks.held t) c.in_ok-text-in-None.text (c.in_ok-text-in-None.ensures.counted t));
+}
 
-pub returns-clause-meets : goal.returns-clause-meets
-returns-clause-meets g c = λ input.
-    runner_stopped (making c.args.asked.now) input c.in_ok-script.script (ap (λ (s : Script). Some s) (sym c.in_ok-script.ensures)) refl g.D.Disk c.args.disk.now c.run_script.new.disk c.run_script.new.opened c.in_ok-replayed.replayed c.in_ok-replayed.ensures.run c.in-Some.refusal
-    (sym c.of_ending.ensures ∙ c.in-Some.is)
+pub returns : goal.returns
+returns g c = record {
+  meets = λ input.
+      runner_stopped (making c.args.asked.now) input c.in_ok-script.script (ap (λ (s : Script). Some s) (sym c.in_ok-script.ensures)) refl g.D.Disk c.args.disk.now c.run_script.new.disk c.run_script.new.opened c.in_ok-replayed.replayed c.in_ok-replayed.ensures.run c.in-Some.refusal
+      (sym c.of_ending.ensures ∙ c.in-Some.is);
+}
