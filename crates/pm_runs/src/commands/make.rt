@@ -111,10 +111,7 @@ pub fn make<D: Disk>(
     let (adds, total) = adds_of(script.steps.as_slice());
     let replayed = run_script(alloc, script, asked.volume, disk, opened)?;
     match of_ending(replayed.ending) {
-        None => {
-            let text = summary(alloc, disk, replayed.logged, adds, total)?;
-            Ok(text)
-        }
+        None => summary(alloc, disk, replayed.logged, adds, total),
         Some(refusal) => Err(refusal),
     }
 }

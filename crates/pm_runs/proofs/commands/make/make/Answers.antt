@@ -1,7 +1,7 @@
 -- What the run of a generated script tells, and its summary; or why there was none.
-use Rattle.std.proofs.Common.{◌≡◌, ◌⊎◌, inl, inr, ⊎_elim, ℕ, ◌≤◌, List, [], Some, Ok, Err, rules, refl, sym, ap, ◌∙◌, subst}
+use Rattle.std.proofs.Common.{◌≡◌, ◌⊎◌, inl, inr, ℕ, ◌≤◌, List, [], Some, Err, rules, refl, sym, ap, ◌∙◌, subst}
+use Rattle.std.proofs.lemmas.Result.{IfErr-weaker, IfOk-weaker}
 use Rattle.pcp_model.specs.Disk.{Holdings, contents_of}
-use Rattle.pcp_outside.specs.Causes.{Rose}
 use Rattle.run_script.specs.declared.script.Line.{Line}
 use Rattle.run_script.specs.declared.script.Script.{Script}
 use Rattle.run_script.proofs.MadeSteps.{generated_is_ruled}
@@ -15,7 +15,7 @@ use Rattle.pm_words.proofs.Sending.{rose_later}
 use Rattle.pm_runs.specs.commands.make.{Summarizes, HasCounted, WantsCounts, making}
 use Rattle.pm_runs.proofs.Counting.{few_adds, small_total}
 use Rattle.pm_runs.proofs.Looked.{looked_was}
-use Rattle.pm_runs.proofs.Scripted.{is_done, runner_done, runner_refused, runner_stopped, runner_untold}
+use Rattle.pm_runs.proofs.Scripted.{is_done, runner_refused, runner_stopped, runner_told}
 use Rattle.pm_runs.proofs.commands.make.make.Goals as goal
 
 -- what was counted of a run before a look at the disk is its summary
@@ -28,8 +28,9 @@ summarized script logged adds total adds_are total_is before after still text co
     record { volumes = all.0; counted = all.1; is = all.2 }
 
 -- a look at the disk that fails, counted from before the run
-wants_later : (a b c : ℕ) → a ≤ b → (e : Refusal) → WantsCounts b c e → WantsCounts a c e
-wants_later a b c low e wants = ⊎_elim (λ (memory : e ≡ NoMemory). inl memory) (λ (disk : (e ≡ Disk DiskFault) × Rose b c). inr (disk.0, rose_later a b c low disk.1)) wants
+wants_later : (a b c : ℕ) → a ≤ b → (e : Refusal) → WantsCounts b c e → ((e ≡ NoMemory) ⊎ (e ≡ Disk DiskFault)) × WantsCounts a c e
+wants_later a b c low e (inl memory) = (inl memory, inl memory)
+wants_later a b c low e (inr (fault, rose)) = (inr fault, inr (fault, rose_later a b c low rose))
 
 pub adds_of-adds-requires-clause-few : goal.adds_of-adds-requires-clause-few
 adds_of-adds-requires-clause-few g c =
@@ -58,31 +59,22 @@ returns-in_err-replayed g c = record {
       search (rules, meets);
 }
 
-pub returns-in_err-text-in-None : goal.returns-in_err-text-in-None
-returns-in_err-text-in-None g c = record {
-  meets = λ input.
-      let run = c.in_ok-replayed.ensures.run in
-      let r = c.in_ok-replayed.replayed in
-      let e = c.in_err-text-in-None.field-0.0 in
-      let done = is_done r.ending (sym c.of_ending.ensures ∙ c.in-None.is) in
-      let was = looked_was g.D.Disk c.in_ok-script.script c.args.asked.now.volume c.args.disk.now c.run_script.new.disk c.summary.new.disk c.run_script.new.opened r done c.summary.ensures.looks run in
-      let wants : WantsCounts (g.D.Disk.faults c.args.disk.now) (g.D.Disk.faults c.summary.new.disk) e =
-      wants_later (g.D.Disk.faults c.args.disk.now) (g.D.Disk.faults c.run_script.new.disk) (g.D.Disk.faults c.summary.new.disk) run.later e c.in_err-text-in-None.ensures.cause in
-      let meets = runner_untold (making c.args.asked.now) input c.in_ok-script.script (ap (λ (s : Script). Some s) (sym c.in_ok-script.ensures)) refl g.D.Disk c.args.disk.now c.summary.new.disk c.run_script.new.opened r was e refl done
-      (⊎_elim (λ (memory : e ≡ NoMemory). inl memory) (λ (disk : (e ≡ Disk DiskFault) × Rose (g.D.Disk.faults c.args.disk.now) (g.D.Disk.faults c.summary.new.disk)). inr disk.0) wants) wants in
-      search (rules, meets);
-}
-
 pub returns-in-None : goal.returns-in-None
 returns-in-None g c = record {
   meets = λ input.
+      let d = g.D.Disk in
       let run = c.in_ok-replayed.ensures.run in
       let r = c.in_ok-replayed.replayed in
+      let script = c.in_ok-script.script in
       let done = is_done r.ending (sym c.of_ending.ensures ∙ c.in-None.is) in
-      let was = looked_was g.D.Disk c.in_ok-script.script c.args.asked.now.volume c.args.disk.now c.run_script.new.disk c.summary.new.disk c.run_script.new.opened r done c.summary.ensures.looks run in
-      runner_done (making c.args.asked.now) input c.in_ok-script.script (ap (λ (s : Script). Some s) (sym c.in_ok-script.ensures)) refl g.D.Disk c.args.disk.now c.summary.new.disk c.run_script.new.opened r was c.in_ok-text-in-None.text done (λ t.
-      summarized c.in_ok-script.script r.logged c.adds_of-adds.result.0 c.adds_of-adds.result.1 (c.adds_of-adds.ensures.adds ∙ ap adds_in c.as_slice.ensures) (c.adds_of-adds.ensures.total ∙ ap total_in c.as_slice.ensures) (g.D.Disk.held c.run_script.new.disk)
-      (g.D.Disk.held c.summary.new.disk) (c.summary.ensures.looks.held t) c.in_ok-text-in-None.text (c.in_ok-text-in-None.ensures.counted t));
+      let was = looked_was d script c.args.asked.now.volume c.args.disk.now c.run_script.new.disk c.summary.new.disk c.run_script.new.opened r done c.summary.ensures.looks run in
+      let counts = HasCounted (contents_of (d.held c.run_script.new.disk)) r.logged c.adds_of-adds.result.0 c.adds_of-adds.result.1 in
+      let says = (making c.args.asked.now).says script r.logged r.output (contents_of (d.held c.summary.new.disk)) in
+      runner_told (making c.args.asked.now) input script (ap (λ (s : Script). Some s) (sym c.in_ok-script.ensures)) refl d c.args.disk.now c.summary.new.disk c.run_script.new.opened r was c.summary.result refl done
+      (λ t. IfOk-weaker c.summary.result counts says (summarized script r.logged c.adds_of-adds.result.0 c.adds_of-adds.result.1 (c.adds_of-adds.ensures.adds ∙ ap adds_in c.as_slice.ensures) (c.adds_of-adds.ensures.total ∙ ap total_in c.as_slice.ensures)
+      (d.held c.run_script.new.disk) (d.held c.summary.new.disk) (c.summary.ensures.looks.held t)) (c.summary.ensures.counted t))
+      (IfErr-weaker c.summary.result (WantsCounts (d.faults c.run_script.new.disk) (d.faults c.summary.new.disk)) (λ e. ((e ≡ NoMemory) ⊎ (e ≡ Disk DiskFault)) × WantsCounts (d.faults c.args.disk.now) (d.faults c.summary.new.disk) e)
+      (wants_later (d.faults c.args.disk.now) (d.faults c.run_script.new.disk) (d.faults c.summary.new.disk) run.later) c.summary.ensures.cause);
 }
 
 pub returns : goal.returns
