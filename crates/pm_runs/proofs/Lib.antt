@@ -1,3 +1,4 @@
+pub mod Coherent
 pub mod Counting
 pub mod Looked
 pub mod Mended

@@ -13,7 +13,7 @@ use Rattle.logging_session.specs.Events.{Event, items_by}
 use Rattle.run_archive.specs.Crashes.{IsAllAfter}
 use Rattle.run_archive.specs.Outcomes.{IsFlushed}
 use Rattle.pm_words.specs.Sides.{DiskSide}
-use Rattle.pm_runs.specs.Sound.{LeavesSound, RecoversSound}
+use Rattle.pm_words.specs.Sound.{LeavesSound, RecoversSound}
 use Rattle.pm_runs.specs.commands.recover.{IsMendedSide}
 
 module _ (start after left : Files) (was reading : ArchiveReading) (read_at_start : Reads start was) (recovers : Recovers start was left) (reads : Reads after reading) (whole : Recovers after reading after) where

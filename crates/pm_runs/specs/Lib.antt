@@ -1,4 +1,5 @@
 pub mod Regions
+pub mod Runners
 pub mod Running
 pub mod Scripts
 pub mod commands

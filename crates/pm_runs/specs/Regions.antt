@@ -1,5 +1,5 @@
 -- The regions that a command leaves on which it ran a script.
-use Rattle.std.specs.Prelude.{◌≡◌, ◌⊎◌, ℕ, List, length, slice_get, Option, Some, None, Result, Ok, Err, IsSome}
+use Rattle.std.specs.Prelude.{◌≡◌, ◌⊎◌, ℕ, List, length, slice_get, Option, Some, None, Result, Ok, Err}
 use Rattle.pcp_model.specs.Disk.{contents_of}
 use Rattle.pcp_outside.specs.declared.disk.Disk.{Ghosts as DiskGhosts}
 use Rattle.fetch_engine.specs.Servers.{IsSeated, Seated}
@@ -10,10 +10,9 @@ use Rattle.run_passes.specs.declared.opening.Opened.{Opened}
 use Rattle.run_archive.specs.declared.replayed.Replayed.{Replayed}
 use Rattle.record_run.specs.Replays.{IsReplay}
 use Rattle.pm_words.specs.declared.refusal.Refusal.{Refusal}
-use Rattle.pm_words.specs.declared.refusal.Refusal.TheVariants.{Words, Reading, Input, Disk, NoMemory}
 use Rattle.pm_words.specs.Refusals.{ending_refusal}
 use Rattle.pm_words.specs.Sides.{DiskSide, disk_side}
-use Rattle.pm_runs.specs.Scripts.{Runner, OfScript}
+use Rattle.pm_runs.specs.Runners.{Runner, OfScript}
 
 -- What a command answers whose run was this. Done: the run came to its end, and its results and lines are what is told. Refused: so
 -- the run ended; or it came to its end, and what is to be written of it isn't told.
@@ -40,12 +39,3 @@ IfThere (Some o) P = P o
 -- the regions that are there were those of the input's script, in the run that was so answered
 abbrev pub RanRegions : {D : Type 0} → DiskGhosts D → Runner → List ℕ → D → D → Option Opened → Result (List ℕ) Refusal → Type 0
 RanRegions g c input old new opened answer = IfThere opened (λ o. OfScript c input (λ script. RanOn g c script old new o answer))
-
--- it leaves regions wherever the run began and memory didn't run out
-abbrev pub HasRegions : Result (List ℕ) Refusal → Option Opened → Type 0
-HasRegions (Ok text) opened = IsSome opened
-HasRegions (Err (Disk e)) opened = IsSome opened
-HasRegions (Err (Words usage)) opened = Unit {0}
-HasRegions (Err (Reading e)) opened = Unit {0}
-HasRegions (Err (Input e)) opened = Unit {0}
-HasRegions (Err NoMemory) opened = Unit {0}

@@ -1,6 +1,6 @@
--- Commands that run a script over any files: which script an input is, what its run makes of the files, what is written of it, and
--- what stands where it ends before its end.
-use Rattle.std.specs.Prelude.{◌≡◌, ◌⊎◌, ℕ, true, List, [], ◌++◌, length, Option, Some, None}
+-- What commands mean that run a script over any files: what its run makes of the files, what is written of it, and what stands where
+-- it ends before its end.
+use Rattle.std.specs.Prelude.{◌≡◌, ◌⊎◌, ℕ, true, List, [], ◌++◌, length, Some, None}
 use Rattle.pcp_base.specs.declared.result.Item.{Item}
 use Rattle.pcp_model.specs.Disk.{Files, IsSettled, contents_of}
 use Rattle.pcp_outside.specs.declared.disk.Disk.{Ghosts as DiskGhosts}
@@ -15,7 +15,6 @@ use Rattle.script_runs.specs.Regions.{ScriptRegion}
 use Rattle.script_runs.specs.Runs.{Does, RanTo, RunsTo}
 use Rattle.run_archive.specs.Crashes.{IsAllAfter}
 use Rattle.run_archive.specs.Outcomes.{WentOn, left_of}
-use Rattle.pm_words.specs.declared.stage.InputRefusal.{InputRefusal}
 use Rattle.pm_words.specs.declared.stage.FilesRefusal.{FilesRefusal}
 use Rattle.pm_words.specs.declared.stage.FilesRefusal.TheVariants.{Run, Compressed, NotArchive, Nothing}
 use Rattle.pm_words.specs.declared.stage.DiskRefusal.{DiskRefusal}
@@ -23,30 +22,13 @@ use Rattle.pm_words.specs.declared.stage.DiskRefusal.TheVariants.{Files as Files
 use Rattle.pm_words.specs.declared.stage.RunRefusal.{RunRefusal}
 use Rattle.pm_words.specs.declared.stage.RunRefusal.TheVariants.{Condition, Limit, NotLater, Changed}
 use Rattle.pm_words.specs.declared.refusal.Refusal.{Refusal}
-use Rattle.pm_words.specs.declared.refusal.Refusal.TheVariants.{Words, Reading, Input, Disk, NoMemory}
+use Rattle.pm_words.specs.declared.refusal.Refusal.TheVariants.{Disk, NoMemory}
 use Rattle.pm_words.specs.Meaning.{Meaning}
 use Rattle.pm_words.specs.Refusals.{run_status}
 use Rattle.pm_words.specs.Sides.{DiskSide, Found}
-use Rattle.pm_runs.specs.Sound.{LeavesSound}
-
--- what is its own of such a command
-pub record Runner : Type 1 where
-  -- what it reads, and why it doesn't read an input
-  pub reads : Option (List ℕ → Option InputRefusal)
-  -- the script of an input that it reads
-  pub script : List ℕ → Option Script
-  -- the volume limit
-  pub limit : ℕ
-  -- what it writes where so many results were logged, the run wrote these lines, and these are the files
-  pub says : Script → ℕ → List ℕ → Files → List ℕ → Type 0
-  -- what it writes of the run's lines where the run ended before
-  pub front : List ℕ → List ℕ
-  -- why what is to be written isn't told of a run that came to its end
-  pub untold : Refusal → Type 0
-
--- what is so of the script of an input
-abbrev pub OfScript : Runner → List ℕ → (Script → Type 0) → Type 0
-OfScript c input P = (script : Script) × (c.script input ≡ Some script) × P script
+use Rattle.pm_words.specs.Sound.{LeavesSound}
+use Rattle.pm_runs.specs.Regions.{RanRegions}
+use Rattle.pm_runs.specs.Runners.{Runner, OfScript}
 
 -- how a run ends that is refused so
 abbrev pub ending_of : RunRefusal → Ending
@@ -118,11 +100,9 @@ StoppedAt script limit d DiskFault output =
 
 -- what such a command has written before the line of a refusal
 abbrev pub HasWritten : Runner → List ℕ → DiskSide → Refusal → List ℕ → Type 0
-HasWritten c input d (Words usage) front = front ≡ []
-HasWritten c input d (Reading e) front = front ≡ []
-HasWritten c input d (Input e) front = front ≡ []
 HasWritten c input d (Disk e) front = (output : List ℕ) × (front ≡ c.front output) × (d.tells → OfScript c input (λ script. StoppedAt script c.limit d e output))
 HasWritten c input d NoMemory front = (front ≡ []) ⊎ ((output : List ℕ) × (front ≡ c.front output) × (d.tells → (output ≡ []) ⊎ OfScript c input (λ script. WantsWith script c.limit d output)))
+HasWritten c input d _ front = front ≡ []
 
 -- What stands where it is stopped after the first write. After a disk fault the run is on its way.
 abbrev pub IsRunUnderWay : ℕ → ℕ → Script → DiskSide → Type 0
@@ -148,10 +128,19 @@ pub record StandsDone (d : DiskSide) : Type 0 where
   pub settled : IsSettled d.after
   pub sound : LeavesSound (contents_of d.held) (contents_of d.after)
 
+-- From recovery's answer on the disk went by the events of the script's run, one behind another, each acknowledged from its flush on.
+abbrev pub ScriptSince : {D : Type 0} → DiskGhosts D → Runner → List ℕ → D → D → Type 0
+ScriptSince g c input old new =
+    OfScript c input (λ script.
+    (ending : Ending) × (output : List ℕ) × (regions : List ScriptRegion) × (ran : RanTo script ending output regions) × (events : List Event) × (more : List Item) × (w : WentOn g c.limit events more old new ending)
+    × Does script c.limit (left_of g c.limit events more old new w) ran.count ran.last ending events more)
+
 abbrev pub runs_script : Runner → Meaning
 runs_script c = record {
   reads = c.reads;
   uses_disk = true;
+  writes_archive = true;
+  runs_script = true;
   turns_away = λ input found e. OfScript c input (λ script. IsTurnedAway c.limit found script e);
   done = λ input d. d.tells → StandsDone d;
   says = λ input d text. d.tells → OfScript c input (λ script. HasRunTo c script d text);
@@ -159,11 +148,7 @@ runs_script c = record {
   keeps = λ input held crash. OfScript c input (λ script. KeepsAll script c.limit (contents_of held) crash);
   begun = λ status input d. OfScript c input (λ script. IsRunUnderWay c.limit status script d);
   may_leave = λ input held crash. OfScript c input (λ script. (items : List Item) × LogsFirst script c.limit (contents_of held) items × MayBeAfter items 0 held crash);
+  takes = λ files before after. Unit {0};
+  since = λ g input old new. ScriptSince g c input old new;
+  ran = λ g input old new opened answer. RanRegions g c input old new opened answer;
 }
-
--- From recovery's answer on the disk went by the events of the script's run, one behind another, each acknowledged from its flush on.
-abbrev pub ScriptSince : {D : Type 0} → DiskGhosts D → Runner → List ℕ → D → D → Type 0
-ScriptSince g c input old new =
-    OfScript c input (λ script.
-    (ending : Ending) × (output : List ℕ) × (regions : List ScriptRegion) × (ran : RanTo script ending output regions) × (events : List Event) × (more : List Item) × (w : WentOn g c.limit events more old new ending)
-    × Does script c.limit (left_of g c.limit events more old new w) ran.count ran.last ending events more)

@@ -14,7 +14,8 @@ use Rattle.pm_words.specs.declared.stage.DiskRefusal.TheVariants.{DiskFault}
 use Rattle.pm_words.specs.declared.refusal.Refusal.{Refusal}
 use Rattle.pm_words.specs.declared.refusal.Refusal.TheVariants.{Disk, NoMemory}
 use Rattle.pm_words.specs.Meaning.{Meaning}
-use Rattle.pm_runs.specs.Scripts.{Runner, runs_script}
+use Rattle.pm_runs.specs.Runners.{Runner}
+use Rattle.pm_runs.specs.Scripts.{runs_script}
 
 -- of one step: whether it is an add, and what it adds
 abbrev pub add_in : Line → ℕ
@@ -36,9 +37,7 @@ HasCounted files items adds total text = (volumes : ℕ) × HasVolumes files vol
 
 -- why it isn't told
 abbrev pub WantsCounts : ℕ → ℕ → Refusal → Type 0
-WantsCounts before after (Disk DiskFault) = Rose before after
-WantsCounts before after NoMemory = Unit {0}
-WantsCounts before after _ = ⊥
+WantsCounts before after e = (e ≡ NoMemory) ⊎ ((e ≡ Disk DiskFault) × Rose before after)
 
 -- what is written after a run that logged so many results; a length of 2^64 - 1 stands for a greater one
 pub record Summarizes (script : Script) (count : ℕ) (files : Files) (text : List ℕ) : Type 0 where

@@ -10,7 +10,8 @@ use Rattle.pm_words.specs.declared.words.OnceWords.{OnceWords}
 use Rattle.pm_words.specs.declared.refusal.Refusal.TheVariants.{NoMemory}
 use Rattle.pm_words.specs.Inputs.{image_refusal}
 use Rattle.pm_words.specs.Meaning.{Meaning}
-use Rattle.pm_runs.specs.Scripts.{Runner, runs_script}
+use Rattle.pm_runs.specs.Runners.{Runner}
+use Rattle.pm_runs.specs.Scripts.{runs_script}
 
 abbrev pub script_of_image : OnceWords → Result (List ℕ) ImageFault → Option Script
 script_of_image asked (Ok words) = Some (once_script asked.stamp asked.file words)

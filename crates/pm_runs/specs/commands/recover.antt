@@ -1,5 +1,5 @@
 -- `recover` mends an archive that was stopped anywhere, and writes how many items it has.
-use Rattle.std.specs.Prelude.{◌≡◌, ◌⊎◌, ℕ, true, List, [], length, codes, Some, None}
+use Rattle.std.specs.Prelude.{◌≡◌, ◌⊎◌, ℕ, true, false, List, [], length, codes, Some, None}
 use Rattle.text_lines.specs.Spelling.{one_number}
 use Rattle.pcp_base.specs.declared.file.FileId.{FileId}
 use Rattle.pcp_model.specs.Archive.{ArchiveReading, Reads, scan}
@@ -41,6 +41,8 @@ abbrev pub recover : Meaning
 recover = record {
   reads = None;
   uses_disk = true;
+  writes_archive = true;
+  runs_script = false;
   turns_away = λ input files e. IsTurnedAway files e;
   done = λ input d. d.tells → IsMendedSide d;
   says = λ input d text. d.tells → IsOutput (contents_of d.held) text;
@@ -48,4 +50,7 @@ recover = record {
   keeps = λ input held crash. Unit {0};
   begun = λ status input d. IsUnderWay status d;
   may_leave = λ input held crash. MayBeHalfway held crash;
+  takes = λ files before after. Unit {0};
+  since = λ g input old new. Unit {0};
+  ran = λ g input old new opened answer. opened ≡ None;
 }

@@ -6,7 +6,8 @@ use Rattle.run_script.specs.declared.script.Script.{Script}
 use Rattle.run_script.specs.Reading.{script_of}
 use Rattle.pm_words.specs.Inputs.{script_refusal}
 use Rattle.pm_words.specs.Meaning.{Meaning}
-use Rattle.pm_runs.specs.Scripts.{Runner, runs_script}
+use Rattle.pm_runs.specs.Runners.{Runner}
+use Rattle.pm_runs.specs.Scripts.{runs_script}
 
 abbrev pub if_script : Result Script ScriptFault → Option Script
 if_script (Ok script) = Some script

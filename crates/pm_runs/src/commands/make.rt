@@ -1,14 +1,11 @@
 //! The command `make NUMBER TICKS VOLUME`: the script that a number makes is run, over any files.
 ghost use Rattle.std.specs.Prelude.{◌≡◌, ◌≤◌, ℕ, List as Sequence, [], IfErr, IfOk, None};
 ghost use Rattle.pcp_base.specs.declared.file.FileId.TheVariants.{Meta};
-ghost use Rattle.pcp_model.specs.Disk.{CrashImage, contents_of};
+ghost use Rattle.pcp_model.specs.Disk.{contents_of};
 ghost use Rattle.archive_loading.specs.Looks.{Looks};
 ghost use Rattle.script_runs.specs.Summaries.{adds_in, total_in};
-ghost use Rattle.pm_words.specs.Serving.{StopCause, HasServed, MayLeave, HasRecovered};
-ghost use Rattle.pm_runs.specs.Regions.{HasRegions, RanRegions};
-ghost use Rattle.pm_runs.specs.Scripts.{HasWritten, ScriptSince};
-ghost use Rattle.pm_runs.specs.commands.make.{make as meaning_of_make, making, add_in, amount_in, counted_text, HasCounted, WantsCounts};
-ghost use Rattle.pm_words.specs.Sides.{disk_side, IsUnread, Leaves};
+ghost use Rattle.pm_words.specs.Serving.{Meets};
+ghost use Rattle.pm_runs.specs.commands.make.{make as meaning_of_make, add_in, amount_in, counted_text, HasCounted, WantsCounts};
 
 use crate::running::run_script;
 use pcp_base::{Bytes, FileId, List, NoMemory};
@@ -108,22 +105,13 @@ pub fn make<D: Disk>(
     requires low { 1024 ≤ asked.now.volume }
     requires high { asked.now.volume ≤ 1073741824 }
     requires closed { opened.old ≡ None }
-    ensures served { (input : Sequence ℕ) → IfOk result (HasServed (meaning_of_make asked.now) input (disk_side D.Disk disk.old disk.new)) }
-    ensures cause { (input : Sequence ℕ) → IfErr result (λ e. StopCause (meaning_of_make asked.now) input (disk_side D.Disk disk.old disk.new) e × HasWritten (making asked.now) input (disk_side D.Disk disk.old disk.new) e []) }
-    ensures any_moment { (input : Sequence ℕ) → Leaves D.Disk disk.old disk.new (MayLeave (meaning_of_make asked.now) input) }
-    ensures unread { IsUnread D.Disk disk.old → Leaves D.Disk disk.old disk.new CrashImage }
-    ensures since { (input : Sequence ℕ) → D.tells → HasRecovered result → ScriptSince D.Disk (making asked.now) input disk.old disk.new }
-    ensures ran { (input : Sequence ℕ) → RanRegions D.Disk (making asked.now) input disk.old disk.new opened.new result }
-    ensures regions { HasRegions result opened.new }
+    ensures meets { (input : Sequence ℕ) → Meets (meaning_of_make asked.now) input D.Disk disk.old disk.new opened.new [] result }
 {
     let script = generate(alloc, asked.number, asked.ticks)?;
     let (adds, total) = adds_of(script.steps.as_slice());
     let replayed = run_script(alloc, script, asked.volume, disk, opened)?;
     match of_ending(replayed.ending) {
-        None => {
-            let text = summary(alloc, disk, replayed.logged, adds, total)?;
-            Ok(text)
-        }
+        None => summary(alloc, disk, replayed.logged, adds, total),
         Some(refusal) => Err(refusal),
     }
 }

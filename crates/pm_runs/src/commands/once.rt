@@ -1,15 +1,11 @@
 //! The command `once SEC USEC FILE`: an image is run as a script that logs all its metrics at one tick, over any files.
 ghost use Rattle.std.specs.Prelude.{◌≡◌, ◌≤◌, [], ◌∷◌, length, IfErr, IfOk, OnOk, None, Some};
 ghost use Rattle.pcp_base.specs.Names.{IsComponent};
-ghost use Rattle.pcp_model.specs.Disk.{CrashImage};
 ghost use Rattle.mmv_layout.specs.Images.{IsImage};
 ghost use Rattle.run_script.specs.Rules.{KeepsRules};
 ghost use Rattle.script_runs.specs.Once.{once_group, once_region, once_script};
 ghost use Rattle.pm_words.specs.Inputs.{input_limit, refusal_of, Refuses};
-ghost use Rattle.pm_words.specs.Serving.{HasRecovered, HasServed, MayLeave, StopCause};
-ghost use Rattle.pm_words.specs.Sides.{disk_side, IsUnread, Leaves};
-ghost use Rattle.pm_runs.specs.Regions.{RanRegions, HasRegions};
-ghost use Rattle.pm_runs.specs.Scripts.{HasWritten, ScriptSince};
+ghost use Rattle.pm_words.specs.Serving.{Meets};
 ghost use Rattle.pm_runs.specs.commands.once.{once as meaning_of_once, logging, logged_line};
 
 use crate::running::run_script;
@@ -127,13 +123,7 @@ pub fn once<D: Disk>(
     requires within { length input.now ≤ input_limit }
     requires named { IsComponent asked.now.file }
     requires closed { opened.old ≡ None }
-    ensures served { IfOk result (HasServed (meaning_of_once asked.now) input.now (disk_side D.Disk disk.old disk.new)) }
-    ensures cause { IfErr result (λ e. StopCause (meaning_of_once asked.now) input.now (disk_side D.Disk disk.old disk.new) e × HasWritten (logging asked.now) input.now (disk_side D.Disk disk.old disk.new) e []) }
-    ensures any_moment { Leaves D.Disk disk.old disk.new (MayLeave (meaning_of_once asked.now) input.now) }
-    ensures unread { IsUnread D.Disk disk.old → Leaves D.Disk disk.old disk.new CrashImage }
-    ensures since { D.tells → HasRecovered result → ScriptSince D.Disk (logging asked.now) input.now disk.old disk.new }
-    ensures ran { RanRegions D.Disk (logging asked.now) input.now disk.old disk.new opened.new result }
-    ensures regions { HasRegions result opened.new }
+    ensures meets { Meets (meaning_of_once asked.now) input.now D.Disk disk.old disk.new opened.new [] result }
 {
     let script = prepare(alloc, asked, input)?;
     let replayed = run_script(alloc, script, LIMIT, disk, opened)?;

@@ -1,8 +1,6 @@
 //! The command `recover`: an archive that was stopped anywhere is mended.
-ghost use Rattle.std.specs.Prelude.{◌≡◌, ℕ, List, IfOk, IfErr};
-ghost use Rattle.pcp_model.specs.Disk.{CrashImage};
-ghost use Rattle.pm_words.specs.Serving.{StopCause, HasServed, MayLeave};
-ghost use Rattle.pm_words.specs.Sides.{disk_side, IsUnread, Leaves};
+ghost use Rattle.std.specs.Prelude.{◌≡◌, ℕ, List, [], IfOk, None};
+ghost use Rattle.pm_words.specs.Serving.{Meets};
 ghost use Rattle.pm_runs.specs.commands.recover.{recover as meaning_of_recover, items_line};
 
 use archive_recovery::recover as mend_archive;
@@ -21,10 +19,7 @@ fn items_line(alloc: Global, items: u64) -> Result<Bytes, NoMemory>
 
 /// Mends the archive, whatever the input, and tells how many items it has.
 pub fn recover<D: Disk>(alloc: Global, disk: &mut D) -> Result<Bytes, Refusal>
-    ensures served { (input : List ℕ) → IfOk result (HasServed meaning_of_recover input (disk_side D.Disk disk.old disk.new)) }
-    ensures cause { (input : List ℕ) → IfErr result (StopCause meaning_of_recover input (disk_side D.Disk disk.old disk.new)) }
-    ensures any_moment { (input : List ℕ) → Leaves D.Disk disk.old disk.new (MayLeave meaning_of_recover input) }
-    ensures unread { IsUnread D.Disk disk.old → Leaves D.Disk disk.old disk.new CrashImage }
+    ensures meets { (input : List ℕ) → Meets meaning_of_recover input D.Disk disk.old disk.new None [] result }
 {
     let archive = mend_archive(alloc, disk)?;
     let line = items_line(alloc, archive.items)?;

@@ -1,14 +1,10 @@
 //! The command `replay VOLUME`: a script is read and run, over any files.
 ghost use Rattle.std.specs.Prelude.{◌≡◌, ◌≤◌, length, IfErr, IfOk, OnOk, None, Some, false};
-ghost use Rattle.pcp_model.specs.Disk.{CrashImage};
 ghost use Rattle.run_script.specs.Rules.{KeepsRules};
-ghost use Rattle.pm_words.specs.Serving.{MayLeave, Serves, HasRecovered};
-ghost use Rattle.pm_runs.specs.Regions.{HasRegions, RanRegions};
-ghost use Rattle.pm_runs.specs.Scripts.{ScriptSince};
+ghost use Rattle.pm_words.specs.Serving.{MeetsSending};
 ghost use Rattle.pm_runs.specs.commands.replay.{replay as meaning_of_replay, replaying};
 ghost use Rattle.pm_words.specs.Inputs.{input_limit, refusal_of, Refuses};
 ghost use Rattle.pcp_outside.specs.Sides.{sink_side};
-ghost use Rattle.pm_words.specs.Sides.{disk_side, IsUnread, Leaves};
 
 use crate::running::run_script;
 use pcp_base::Bytes;
@@ -48,12 +44,7 @@ pub fn replay<O: Sink, D: Disk>(
     requires within { length input.now ≤ input_limit }
     requires fresh { failed.old ≡ false }
     requires closed { opened.old ≡ None }
-    ensures serves { Serves (meaning_of_replay volume) input.now (sink_side O.Sink out.old out.new) failed.new (disk_side D.Disk disk.old disk.new) result }
-    ensures any_moment { Leaves D.Disk disk.old disk.new (MayLeave (meaning_of_replay volume) input.now) }
-    ensures unread { IsUnread D.Disk disk.old → Leaves D.Disk disk.old disk.new CrashImage }
-    ensures since { D.tells → HasRecovered result → ScriptSince D.Disk (replaying volume) input.now disk.old disk.new }
-    ensures ran { RanRegions D.Disk (replaying volume) input.now disk.old disk.new opened.new result }
-    ensures regions { HasRegions result opened.new }
+    ensures meets { MeetsSending (sink_side O.Sink out.old out.new) failed.new (meaning_of_replay volume) input.now D.Disk disk.old disk.new opened.new result }
 {
     let script = read_script(alloc, volume, input)?;
     let replayed = run_script(alloc, script, volume, disk, opened)?;

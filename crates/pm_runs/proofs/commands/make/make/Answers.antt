@@ -1,37 +1,36 @@
 -- What the run of a generated script tells, and its summary; or why there was none.
-use Rattle.std.proofs.Common.{rules, inl, inr, ◌⊎◌, Ok, Err, refl, sym, ap, ◌∙◌, subst, List, ℕ, Some, ◌≡◌, ◌≤◌}
+use Rattle.std.proofs.Common.{◌≡◌, ◌⊎◌, inl, inr, ℕ, ◌≤◌, List, [], Some, Err, rules, refl, sym, ap, ◌∙◌, subst}
+use Rattle.std.proofs.lemmas.Result.{IfErr-weaker, IfOk-weaker}
 use Rattle.pcp_model.specs.Disk.{Holdings, contents_of}
 use Rattle.run_script.specs.declared.script.Line.{Line}
 use Rattle.run_script.specs.declared.script.Script.{Script}
 use Rattle.run_script.proofs.MadeSteps.{generated_is_ruled}
 use Rattle.run_script.specs.Rules.{KeepsRules}
 use Rattle.script_runs.specs.Summaries.{adds_in, total_in}
-use Rattle.pm_words.specs.declared.stage.DiskRefusal.TheVariants.{Files as FilesAway, DiskFault}
+use Rattle.pm_words.specs.declared.stage.DiskRefusal.TheVariants.{DiskFault}
+use Rattle.pm_words.specs.declared.stage.StageFault.TheVariants.{OutOfMemory}
 use Rattle.pm_words.specs.declared.refusal.Refusal.{Refusal}
-use Rattle.pm_words.specs.declared.refusal.Refusal.TheVariants.{Words, Reading, Input, Disk, NoMemory}
+use Rattle.pm_words.specs.declared.refusal.Refusal.TheVariants.{Disk, NoMemory}
+use Rattle.pm_words.proofs.Sending.{rose_later}
 use Rattle.pm_runs.specs.commands.make.{Summarizes, HasCounted, WantsCounts, making}
 use Rattle.pm_runs.proofs.Counting.{few_adds, small_total}
 use Rattle.pm_runs.proofs.Looked.{looked_was}
-use Rattle.pm_runs.proofs.Scripted.{any_moment, has_served, is_done, no_clock, ran_regions, since_done, since_stopped, stops, uncounted}
+use Rattle.pm_runs.proofs.Scripted.{is_done, runner_refused, runner_stopped, runner_told}
 use Rattle.pm_runs.proofs.commands.make.make.Goals as goal
 
 -- what was counted of a run before a look at the disk is its summary
-summarized : (script : Script) (logged adds total count : ℕ) → logged ≡ count → adds ≡ adds_in script.steps → total ≡ total_in script.steps → (before after : Holdings) → after ≡ before → (text : List ℕ) → HasCounted (contents_of before) logged adds total text
-    → Summarizes script count (contents_of after) text
-summarized script logged adds total count same adds_are total_is before after still text counted =
-    let all : HasCounted (contents_of after) count (adds_in script.steps) (total_in script.steps) text =
-    subst (λ (h : Holdings). HasCounted (contents_of h) count (adds_in script.steps) (total_in script.steps) text) (sym still)
-    (subst (λ (n : ℕ). HasCounted (contents_of before) n (adds_in script.steps) (total_in script.steps) text) same
-    (subst (λ (n : ℕ). HasCounted (contents_of before) logged (adds_in script.steps) n text) total_is (subst (λ (n : ℕ). HasCounted (contents_of before) logged n total text) adds_are counted))) in
+summarized : (script : Script) (logged adds total : ℕ) → adds ≡ adds_in script.steps → total ≡ total_in script.steps → (before after : Holdings) → after ≡ before → (text : List ℕ) → HasCounted (contents_of before) logged adds total text
+    → Summarizes script logged (contents_of after) text
+summarized script logged adds total adds_are total_is before after still text counted =
+    let all : HasCounted (contents_of after) logged (adds_in script.steps) (total_in script.steps) text =
+    subst (λ (h : Holdings). HasCounted (contents_of h) logged (adds_in script.steps) (total_in script.steps) text) (sym still)
+    (subst (λ (n : ℕ). HasCounted (contents_of before) logged (adds_in script.steps) n text) total_is (subst (λ (n : ℕ). HasCounted (contents_of before) logged n total text) adds_are counted)) in
     record { volumes = all.0; counted = all.1; is = all.2 }
 
-untold_counts : (before after : ℕ) (e : Refusal) → WantsCounts before after e → (e ≡ NoMemory) ⊎ (e ≡ Disk DiskFault)
-untold_counts before after (Disk DiskFault) wants = inr refl
-untold_counts before after NoMemory wants = inl refl
-untold_counts before after (Disk (FilesAway e)) wants = absurd wants
-untold_counts before after (Words usage) wants = absurd wants
-untold_counts before after (Reading e) wants = absurd wants
-untold_counts before after (Input e) wants = absurd wants
+-- a look at the disk that fails, counted from before the run
+wants_later : (a b c : ℕ) → a ≤ b → (e : Refusal) → WantsCounts b c e → ((e ≡ NoMemory) ⊎ (e ≡ Disk DiskFault)) × WantsCounts a c e
+wants_later a b c low e (inl memory) = (inl memory, inl memory)
+wants_later a b c low e (inr (fault, rose)) = (inr fault, inr (fault, rose_later a b c low rose))
 
 pub adds_of-adds-requires-clause-few : goal.adds_of-adds-requires-clause-few
 adds_of-adds-requires-clause-few g c =
@@ -46,111 +45,41 @@ adds_of-adds-requires-clause-small g c =
 pub run_script-requires-clause-rules : goal.run_script-requires-clause-rules
 run_script-requires-clause-rules g c = subst KeepsRules (sym c.in_ok-script.ensures) (generated_is_ruled c.args.asked.now.number c.args.asked.now.ticks c.requires.few)
 
-pub returns-in_err-text-in-None-clause-cause : goal.returns-in_err-text-in-None-clause-cause
-returns-in_err-text-in-None-clause-cause g c = λ input.
-    let run = c.in_ok-replayed.ensures.run in
-    let r = c.in_ok-replayed.replayed in
-    let same = is_done r.ending (no_clock (g.D.Disk.faults c.args.disk.now) (g.D.Disk.faults c.run_script.new.disk) r.ending run.cause) (sym c.of_ending.ensures ∙ c.in-None.is) in
-    let was = looked_was g.D.Disk c.in_ok-script.script c.args.asked.now.volume c.args.disk.now c.run_script.new.disk c.summary.new.disk c.run_script.new.opened r same c.summary.ensures.looks run in
-    let stopped = uncounted (making c.args.asked.now) input c.in_ok-script.script (ap (λ (s : Script). Some s) (sym c.in_ok-script.ensures)) refl g.D.Disk c.args.disk.now c.summary.new.disk c.run_script.new.opened r was refl same (g.D.Disk.faults c.run_script.new.disk) run.later
-    c.in_err-text-in-None.field-0.0 c.in_err-text-in-None.ensures.cause in
-    search (rules, stopped)
+pub returns-in_err-script : goal.returns-in_err-script
+returns-in_err-script g c = record {
+  meets = λ input.
+      let meets = runner_refused (making c.args.asked.now) input g.D.Disk g.met.D.Disk.only_now c.args.disk.now c.args.disk.now c.args.opened.now OutOfMemory refl c.requires.closed tt in
+      search (rules, meets);
+}
 
-pub returns-in_err-text-in-None-clause-any_moment :
-    goal.returns-in_err-text-in-None-clause-any_moment
-returns-in_err-text-in-None-clause-any_moment g c = λ input.
-    let run = c.in_ok-replayed.ensures.run in
-    let r = c.in_ok-replayed.replayed in
-    let same = is_done r.ending (no_clock (g.D.Disk.faults c.args.disk.now) (g.D.Disk.faults c.run_script.new.disk) r.ending run.cause) (sym c.of_ending.ensures ∙ c.in-None.is) in
-    let was = looked_was g.D.Disk c.in_ok-script.script c.args.asked.now.volume c.args.disk.now c.run_script.new.disk c.summary.new.disk c.run_script.new.opened r same c.summary.ensures.looks run in
-    any_moment (making c.args.asked.now) input c.in_ok-script.script (ap (λ (s : Script). Some s) (sym c.in_ok-script.ensures)) refl g.D.Disk c.args.disk.now c.summary.new.disk c.run_script.new.opened r was
+pub returns-in_err-replayed : goal.returns-in_err-replayed
+returns-in_err-replayed g c = record {
+  meets = λ input.
+      let meets = runner_refused (making c.args.asked.now) input g.D.Disk g.met.D.Disk.only_now c.args.disk.now c.run_script.new.disk c.run_script.new.opened OutOfMemory c.in_err-replayed.ensures.untouched (c.in_err-replayed.ensures.unopened ∙ c.requires.closed) tt in
+      search (rules, meets);
+}
 
-pub returns-in_err-text-in-None-clause-unread : goal.returns-in_err-text-in-None-clause-unread
-returns-in_err-text-in-None-clause-unread g c =
-    let run = c.in_ok-replayed.ensures.run in
-    let r = c.in_ok-replayed.replayed in
-    let same = is_done r.ending (no_clock (g.D.Disk.faults c.args.disk.now) (g.D.Disk.faults c.run_script.new.disk) r.ending run.cause) (sym c.of_ending.ensures ∙ c.in-None.is) in
-    let was = looked_was g.D.Disk c.in_ok-script.script c.args.asked.now.volume c.args.disk.now c.run_script.new.disk c.summary.new.disk c.run_script.new.opened r same c.summary.ensures.looks run in
-    was.unread
+pub returns-in-None : goal.returns-in-None
+returns-in-None g c = record {
+  meets = λ input.
+      let d = g.D.Disk in
+      let run = c.in_ok-replayed.ensures.run in
+      let r = c.in_ok-replayed.replayed in
+      let script = c.in_ok-script.script in
+      let done = is_done r.ending (sym c.of_ending.ensures ∙ c.in-None.is) in
+      let was = looked_was d script c.args.asked.now.volume c.args.disk.now c.run_script.new.disk c.summary.new.disk c.run_script.new.opened r done c.summary.ensures.looks run in
+      let counts = HasCounted (contents_of (d.held c.run_script.new.disk)) r.logged c.adds_of-adds.result.0 c.adds_of-adds.result.1 in
+      let says = (making c.args.asked.now).says script r.logged r.output (contents_of (d.held c.summary.new.disk)) in
+      runner_told (making c.args.asked.now) input script (ap (λ (s : Script). Some s) (sym c.in_ok-script.ensures)) refl d c.args.disk.now c.summary.new.disk c.run_script.new.opened r was c.summary.result refl done
+      (λ t. IfOk-weaker c.summary.result counts says (summarized script r.logged c.adds_of-adds.result.0 c.adds_of-adds.result.1 (c.adds_of-adds.ensures.adds ∙ ap adds_in c.as_slice.ensures) (c.adds_of-adds.ensures.total ∙ ap total_in c.as_slice.ensures)
+      (d.held c.run_script.new.disk) (d.held c.summary.new.disk) (c.summary.ensures.looks.held t)) (c.summary.ensures.counted t))
+      (IfErr-weaker c.summary.result (WantsCounts (d.faults c.run_script.new.disk) (d.faults c.summary.new.disk)) (λ e. ((e ≡ NoMemory) ⊎ (e ≡ Disk DiskFault)) × WantsCounts (d.faults c.args.disk.now) (d.faults c.summary.new.disk) e)
+      (wants_later (d.faults c.args.disk.now) (d.faults c.run_script.new.disk) (d.faults c.summary.new.disk) run.later) c.summary.ensures.cause);
+}
 
-pub returns-in_err-text-in-None-clause-ran : goal.returns-in_err-text-in-None-clause-ran
-returns-in_err-text-in-None-clause-ran g c = λ input.
-    let run = c.in_ok-replayed.ensures.run in
-    let r = c.in_ok-replayed.replayed in
-    let same = is_done r.ending (no_clock (g.D.Disk.faults c.args.disk.now) (g.D.Disk.faults c.run_script.new.disk) r.ending run.cause) (sym c.of_ending.ensures ∙ c.in-None.is) in
-    let was = looked_was g.D.Disk c.in_ok-script.script c.args.asked.now.volume c.args.disk.now c.run_script.new.disk c.summary.new.disk c.run_script.new.opened r same c.summary.ensures.looks run in
-    let ran = ran_regions (making c.args.asked.now) input c.in_ok-script.script (ap (λ (s : Script). Some s) (sym c.in_ok-script.ensures)) refl g.D.Disk c.args.disk.now c.summary.new.disk c.run_script.new.opened r was
-    (Err c.in_err-text-in-None.field-0.0) (inr (same, untold_counts (g.D.Disk.faults c.run_script.new.disk) (g.D.Disk.faults c.summary.new.disk) c.in_err-text-in-None.field-0.0 c.in_err-text-in-None.ensures.cause)) in
-    search (rules, ran)
-
-pub returns-in-None-clause-served : goal.returns-in-None-clause-served
-returns-in-None-clause-served g c = λ input.
-    let run = c.in_ok-replayed.ensures.run in
-    let r = c.in_ok-replayed.replayed in
-    let same = is_done r.ending (no_clock (g.D.Disk.faults c.args.disk.now) (g.D.Disk.faults c.run_script.new.disk) r.ending run.cause) (sym c.of_ending.ensures ∙ c.in-None.is) in
-    let was = looked_was g.D.Disk c.in_ok-script.script c.args.asked.now.volume c.args.disk.now c.run_script.new.disk c.summary.new.disk c.run_script.new.opened r same c.summary.ensures.looks run in
-    has_served (making c.args.asked.now) input c.in_ok-script.script (ap (λ (s : Script). Some s) (sym c.in_ok-script.ensures)) refl g.D.Disk c.args.disk.now c.summary.new.disk c.run_script.new.opened r was c.in_ok-text-in-None.text same (λ t count is.
-    summarized c.in_ok-script.script r.logged c.adds_of-adds.result.0 c.adds_of-adds.result.1 count is (c.adds_of-adds.ensures.adds ∙ ap adds_in c.as_slice.ensures) (c.adds_of-adds.ensures.total ∙ ap total_in c.as_slice.ensures) (g.D.Disk.held c.run_script.new.disk)
-    (g.D.Disk.held c.summary.new.disk) (c.summary.ensures.looks.held t) c.in_ok-text-in-None.text (c.in_ok-text-in-None.ensures.counted t))
-
-pub returns-in-None-clause-any_moment : goal.returns-in-None-clause-any_moment
-returns-in-None-clause-any_moment g c = λ input.
-    let run = c.in_ok-replayed.ensures.run in
-    let r = c.in_ok-replayed.replayed in
-    let same = is_done r.ending (no_clock (g.D.Disk.faults c.args.disk.now) (g.D.Disk.faults c.run_script.new.disk) r.ending run.cause) (sym c.of_ending.ensures ∙ c.in-None.is) in
-    let was = looked_was g.D.Disk c.in_ok-script.script c.args.asked.now.volume c.args.disk.now c.run_script.new.disk c.summary.new.disk c.run_script.new.opened r same c.summary.ensures.looks run in
-    any_moment (making c.args.asked.now) input c.in_ok-script.script (ap (λ (s : Script). Some s) (sym c.in_ok-script.ensures)) refl g.D.Disk c.args.disk.now c.summary.new.disk c.run_script.new.opened r was
-
-pub returns-in-None-clause-unread : goal.returns-in-None-clause-unread
-returns-in-None-clause-unread g c =
-    let run = c.in_ok-replayed.ensures.run in
-    let r = c.in_ok-replayed.replayed in
-    let same = is_done r.ending (no_clock (g.D.Disk.faults c.args.disk.now) (g.D.Disk.faults c.run_script.new.disk) r.ending run.cause) (sym c.of_ending.ensures ∙ c.in-None.is) in
-    let was = looked_was g.D.Disk c.in_ok-script.script c.args.asked.now.volume c.args.disk.now c.run_script.new.disk c.summary.new.disk c.run_script.new.opened r same c.summary.ensures.looks run in
-    was.unread
-
-pub returns-in-None-clause-since : goal.returns-in-None-clause-since
-returns-in-None-clause-since g c = λ input tells behind.
-    let run = c.in_ok-replayed.ensures.run in
-    let r = c.in_ok-replayed.replayed in
-    let same = is_done r.ending (no_clock (g.D.Disk.faults c.args.disk.now) (g.D.Disk.faults c.run_script.new.disk) r.ending run.cause) (sym c.of_ending.ensures ∙ c.in-None.is) in
-    let was = looked_was g.D.Disk c.in_ok-script.script c.args.asked.now.volume c.args.disk.now c.run_script.new.disk c.summary.new.disk c.run_script.new.opened r same c.summary.ensures.looks run in
-    since_done (making c.args.asked.now) input c.in_ok-script.script (ap (λ (s : Script). Some s) (sym c.in_ok-script.ensures)) refl g.D.Disk c.args.disk.now c.summary.new.disk c.run_script.new.opened r was same tells
-
-pub returns-in-None-clause-ran : goal.returns-in-None-clause-ran
-returns-in-None-clause-ran g c = λ input.
-    let run = c.in_ok-replayed.ensures.run in
-    let r = c.in_ok-replayed.replayed in
-    let same = is_done r.ending (no_clock (g.D.Disk.faults c.args.disk.now) (g.D.Disk.faults c.run_script.new.disk) r.ending run.cause) (sym c.of_ending.ensures ∙ c.in-None.is) in
-    let was = looked_was g.D.Disk c.in_ok-script.script c.args.asked.now.volume c.args.disk.now c.run_script.new.disk c.summary.new.disk c.run_script.new.opened r same c.summary.ensures.looks run in
-    ran_regions (making c.args.asked.now) input c.in_ok-script.script (ap (λ (s : Script). Some s) (sym c.in_ok-script.ensures)) refl g.D.Disk c.args.disk.now c.summary.new.disk c.run_script.new.opened r was (Ok c.in_ok-text-in-None.text) (
-      same,
-      λ t.
-          summarized c.in_ok-script.script r.logged c.adds_of-adds.result.0 c.adds_of-adds.result.1 r.logged refl (c.adds_of-adds.ensures.adds ∙ ap adds_in c.as_slice.ensures) (c.adds_of-adds.ensures.total ∙ ap total_in c.as_slice.ensures) (g.D.Disk.held c.run_script.new.disk)
-          (g.D.Disk.held c.summary.new.disk) (c.summary.ensures.looks.held t) c.in_ok-text-in-None.text (c.in_ok-text-in-None.ensures.counted t),
-    )
-
-pub returns-clause-cause : goal.returns-clause-cause
-returns-clause-cause g c = λ input.
-    let run = c.in_ok-replayed.ensures.run in
-    let r = c.in_ok-replayed.replayed in
-    stops (making c.args.asked.now) input c.in_ok-script.script (ap (λ (s : Script). Some s) (sym c.in_ok-script.ensures)) refl g.D.Disk c.args.disk.now c.run_script.new.disk c.run_script.new.opened r run r.ending refl c.in-Some.refusal (sym c.of_ending.ensures ∙ c.in-Some.is)
-
-pub returns-clause-any_moment : goal.returns-clause-any_moment
-returns-clause-any_moment g c = λ input.
-    let run = c.in_ok-replayed.ensures.run in
-    let r = c.in_ok-replayed.replayed in
-    any_moment (making c.args.asked.now) input c.in_ok-script.script (ap (λ (s : Script). Some s) (sym c.in_ok-script.ensures)) refl g.D.Disk c.args.disk.now c.run_script.new.disk c.run_script.new.opened r run
-
-pub returns-clause-since : goal.returns-clause-since
-returns-clause-since g c = λ input tells behind.
-    let run = c.in_ok-replayed.ensures.run in
-    let r = c.in_ok-replayed.replayed in
-    since_stopped (making c.args.asked.now) input c.in_ok-script.script (ap (λ (s : Script). Some s) (sym c.in_ok-script.ensures)) refl g.D.Disk c.args.disk.now c.run_script.new.disk c.run_script.new.opened r run r.ending refl c.in-Some.refusal (sym c.of_ending.ensures ∙ c.in-Some.is) behind tells
-
-pub returns-clause-ran : goal.returns-clause-ran
-returns-clause-ran g c = λ input.
-    let run = c.in_ok-replayed.ensures.run in
-    let r = c.in_ok-replayed.replayed in
-    ran_regions (making c.args.asked.now) input c.in_ok-script.script (ap (λ (s : Script). Some s) (sym c.in_ok-script.ensures)) refl g.D.Disk c.args.disk.now c.run_script.new.disk c.run_script.new.opened r run (Err c.in-Some.refusal)
-    (inl (sym c.of_ending.ensures ∙ c.in-Some.is))
+pub returns : goal.returns
+returns g c = record {
+  meets = λ input.
+      runner_stopped (making c.args.asked.now) input c.in_ok-script.script (ap (λ (s : Script). Some s) (sym c.in_ok-script.ensures)) refl g.D.Disk c.args.disk.now c.run_script.new.disk c.run_script.new.opened c.in_ok-replayed.replayed c.in_ok-replayed.ensures.run c.in-Some.refusal
+      (sym c.of_ending.ensures ∙ c.in-Some.is);
+}
