@@ -1,7 +1,7 @@
 -- How many metrics a tick asks for at most, where all names lead to some few numbers.
-use Rattle.std.proofs.Common.{◌≡◌, ℕ, zero, suc, ◌+◌, ◌*◌, ◌<◌, ◌≤◌, Bool, true, false, ◌||◌, cond, ◌==◌, List, [], ◌∷◌, ◌++◌, length, map, fold, Result, Ok, Err, Option, Some, None, refl, sym, ap, ◌∙◌, subst, arith, length-append}
+use Rattle.std.proofs.Common.{◌≡◌, ℕ, ◌+◌, ◌≤◌, Bool, true, false, ◌||◌, cond, ◌==◌, List, [], ◌∷◌, ◌++◌, length, map, fold, Result, Ok, Err, Option, Some, None, refl, sym, ap, ◌∙◌, subst, arith, length-append}
 use Rattle.std.specs.Prelude.{filter, flat_map, if◌then◌else◌}
-use Rattle.std.specs.List.{list_any}
+use Rattle.std.specs.List.{AllByRecursion as Each, list_any}
 use Rattle.std.proofs.lemmas.Bool.{eqb-true, eq-eqb}
 use Rattle.pcp_base.specs.Time.{Moment}
 use Rattle.pmns_core.specs.Adding.{misfit, unless_fault, after_adding}
@@ -13,11 +13,7 @@ use Rattle.fetch_answers.specs.Names.{served_word}
 use Rattle.log_schedule.specs.declared.config.Group.{Group}
 use Rattle.script_runs.specs.Groups.{Plan, metrics_below, metrics_of, with_metric, with_metrics, plans_at_start, asks_more, is_due, asking, if_due, asked_for}
 
--- of each item of a list
-abbrev pub Each : {A : Type 0} → (A → Type 0) → List A → Type 0
-Each P [] = Unit {0}
-Each P (x ∷ xs) = P x × Each P xs
-
+-- what holds of each item of lists holds of those behind each other, of what is made of them, and of those that a test keeps
 pub each_append : {A : Type 0} (P : A → Type 0) (xs ys : List A) → Each P xs → Each P ys → Each P (xs ++ ys)
 each_append P [] ys h g = g
 each_append P (x ∷ xs) ys h g = (h.0, each_append P xs ys h.1 g)
@@ -43,20 +39,24 @@ each_flat P f (x ∷ xs) h = each_append P (f x) (flat_map f xs) (h x) (each_fla
 abbrev pub items : List ℕ
 items = 1 ∷ 2 ∷ 3 ∷ 4 ∷ 5 ∷ 6 ∷ 7 ∷ 8 ∷ 9 ∷ 10 ∷ 11 ∷ 12 ∷ 13 ∷ 14 ∷ []
 
+-- they are 42
 abbrev pub known : List ℕ
 known = map (served_word 1) items ++ (map (served_word 2) items ++ map (served_word 3) items)
 
 abbrev pub is_among : List ℕ → ℕ → Bool
 is_among numbers n = list_any (λ other. other == n) numbers
 
+-- a number is one of them
 abbrev pub IsKnown : ℕ → Type 0
 IsKnown n = is_among known n ≡ true
 
 -- Names
 
+-- each name leads to one
 abbrev pub AreKnown : List Pair → Type 0
 AreKnown pairs = Each (λ pair. IsKnown pair.1) pairs
 
+-- so it stays where a pair comes
 known_with : (pairs : List Pair) (name : List ℕ) (pmid : ℕ) → IsKnown pmid → AreKnown pairs → AreKnown (with_pair pairs name pmid)
 known_with [] name pmid is h = (is, tt)
 known_with (p ∷ pairs) name pmid is h = by_test (is_before name p.0) (known_with pairs name pmid is h.1)
@@ -70,6 +70,7 @@ abbrev pub KnownOk : Result (List Pair) NamesFault → Type 0
 KnownOk (Ok pairs) = AreKnown pairs
 KnownOk (Err fault) = Unit {0}
 
+-- or several
 pub known_added : (more pairs : List Pair) → AreKnown more → AreKnown pairs → KnownOk (after_adding more pairs)
 known_added [] pairs m h = h
 known_added (p ∷ more) pairs m h = by_fault (misfit pairs p.0) (after_adding more (with_pair pairs p.0 p.1)) (known_added more (with_pair pairs p.0 p.1) m.1 (known_with pairs p.0 p.1 m.0 h))
@@ -80,12 +81,15 @@ known_added (p ∷ more) pairs m h = by_fault (misfit pairs p.0) (after_adding m
 
 -- What is asked for
 
+-- metrics that are all of them
 abbrev pub Numbers : List ℕ → Type 0
 Numbers pmids = Each IsKnown pmids
 
+-- to such metrics a group's names lead
 named : (names : List Pair) → AreKnown names → (group : Group) → Numbers (metrics_of names group)
 named names h group = each_flat IsKnown (metrics_below names) group.names (λ name. each_mapped IsKnown (λ (pair : Pair). pair.1) (below names name) (each_filtered (λ (pair : Pair). IsKnown pair.1) (λ p. is_same name p.0 || continues p.0 name) names h))
 
+-- such metrics with others are such
 with_one : (pmids : List ℕ) (pmid : ℕ) → Numbers pmids → IsKnown pmid → Numbers (with_metric pmids pmid)
 with_one pmids pmid h is = by_test (list_any (λ other. other == pmid) pmids)
   where
@@ -101,10 +105,12 @@ with_more pmids (n ∷ more) h m = with_more (with_metric pmids n) more (with_on
 abbrev pub HaveAsked : List Plan → Type 0
 HaveAsked plans = Each Numbers (map (λ plan. plan.asked) plans)
 
+-- at the start no group has asked for any
 pub none_asked : (groups : List Group) (now : Moment) → HaveAsked (plans_at_start groups now)
 none_asked [] now = tt
 none_asked (group ∷ groups) now = (tt, none_asked groups now)
 
+-- and at a tick where names lead to such metrics each asks for such alone
 pub all_asking : (names : List Pair) (now : Moment) (plans : List Plan) → AreKnown names → HaveAsked plans → HaveAsked (asking names now plans)
 all_asking names now [] n h = tt
 all_asking names now (plan ∷ plans) n h = (by_test (is_due now plan), all_asking names now plans n h.1)
@@ -115,6 +121,7 @@ all_asking names now (plan ∷ plans) n h = (by_test (is_due now plan), all_aski
 
 -- Counting
 
+-- 1 for one that is not there
 abbrev pub lack : Bool → ℕ
 lack true = 0
 lack false = 1
@@ -128,6 +135,7 @@ missing (n ∷ numbers) pmids = lack (is_among pmids n) + missing numbers pmids
 abbrev pub IsFew : List ℕ → Type 0
 IsFew pmids = length pmids + missing known pmids ≤ 42
 
+-- with another number more of them are there
 less_with : (a b : Bool) → lack (a || b) ≤ lack a
 less_with true b = omega arith
 less_with false true = omega arith
@@ -172,6 +180,7 @@ one_fewer (n ∷ numbers) pmids p is new = by_test (n == p) refl (one_fewer numb
         let rest = later there new in
         omega arith
 
+-- another metric of them is counted once
 few_with : (pmids : List ℕ) (p : ℕ) → IsFew pmids → IsKnown p → IsFew (with_metric pmids p)
 few_with pmids p few is = by_test (is_among pmids p) refl
   where
@@ -197,5 +206,6 @@ few_due now pmids (plan ∷ plans) few h = few_due now (if_due now pmids plan) p
 few_none : IsFew []
 few_none = omega arith
 
+-- so a tick asks for 42 metrics at most
 pub few_asked : (now : Moment) (plans : List Plan) → HaveAsked plans → length (asked_for now plans) ≤ 42
 few_asked now plans h = let few : IsFew (asked_for now plans) = few_due now [] plans few_none h in omega arith

@@ -1,7 +1,6 @@
 -- Words of a region that hold an image, up to contents and its generation, and what stores leave of that.
-use Rattle.std.proofs.Common.{◌≡◌, ◌≢◌, ◌⊎◌, inl, inr, ⊎_elim, ℕ, zero, suc, ℤ, pos, negsuc, ◌+◌, ◌-◌, ◌%◌, ◌^◌, ◌<◌, ◌≤◌, Bool, true, false, cond, List, [], ◌∷◌, ◌++◌, length, drop, replicate, set, slice_index, slice_set, Option, Some, None, All, Contains, MatchOption, refl, sym, ap, ◌∙◌, subst, arith, length-append, length-drop}
+use Rattle.std.proofs.Common.{◌≡◌, ◌≢◌, ℕ, zero, suc, negsuc, ◌+◌, ◌-◌, ◌<◌, ◌≤◌, true, List, [], ◌∷◌, length, drop, replicate, set, slice_index, slice_set, Option, Some, None, All, Contains, MatchOption, refl, sym, ap, ◌∙◌, subst, arith, length-append, length-drop}
 use Rattle.std.specs.Prelude.{find}
-use Rattle.std.proofs.lemmas.Bool.{cases_lt}
 use Rattle.std.proofs.lemmas.List.{length-replicate, get_or_append_left, get_or-drop, length-set, get_or-set_same, get_or-set_other}
 use Rattle.std.proofs.lemmas.List.Elements.{All-append, All-drop, All-replicate, All-set}
 use Rattle.pcp_base.specs.declared.kind.Kind.{Kind}
@@ -27,9 +26,14 @@ pub record Contents (image : List ℕ) (most : ℕ) (words : List ℕ) : Type 0 
   pub fit : All IsWord words
   pub generation : slice_index words 1 ≤ most
 
-pub later : (image : List ℕ) (n : ℕ) (words : List ℕ) → Contents image n words → Contents image (suc n) words
-later image n words h = let low : slice_index words 1 ≤ n = h.generation in record { is = h.is; form = h.form; size = h.size; fit = h.fit; generation = omega arith }
+-- so it is below any greater one
+pub weaker : (image : List ℕ) (n m : ℕ) (words : List ℕ) → n ≤ m → Contents image n words → Contents image m words
+weaker image n m words less h = let low : slice_index words 1 ≤ n = h.generation in record { is = h.is; form = h.form; size = h.size; fit = h.fit; generation = omega arith }
 
+pub later : (image : List ℕ) (n : ℕ) (words : List ℕ) → Contents image n words → Contents image (suc n) words
+later image n words h = weaker image n (suc n) words (omega arith) h
+
+-- words of one form have the same slots and metrics
 slots_same : (words image : List ℕ) → form_of words ≡ form_of image → slots_of words ≡ slots_of image
 unfolding form_of
 slots_same words image e = ap (λ (f : Form). f.slots) e
@@ -40,6 +44,7 @@ metrics_same words image e = ap (λ (f : Form). f.metrics) e
 
 -- Adds
 
+-- the slot of a number takes each value
 takes_any : (kind : Kind) (offsets : List ℕ) (value : ℕ) → holds_number kind ≡ true → TakesAs kind offsets value
 takes_any kinds.I32 offsets value h = tt
 takes_any kinds.U32 offsets value h = tt
@@ -57,6 +62,7 @@ in_form words slot value among number = record { slot = slot; among = among; sta
 plus_fits : (n d : ℕ) → IsWord (plus n d)
 plus_fits n d = omega arith
 
+-- so an add leaves such words
 stored : (image : List ℕ) (most : ℕ) (words : List ℕ) (slot : Slot) (d : ℕ) → Contents image most words → Contains (slots_of words) slot → holds_number slot.kind ≡ true
     → Contents image most (slice_set words slot.word (plus (slice_index words slot.word) d))
 stored image most words slot d h among number =
@@ -78,6 +84,7 @@ pub record HasCounter (image : List ℕ) (most : ℕ) (words : List ℕ) (item :
   pub number : holds_number slot.kind ≡ true
   pub kept : (d : ℕ) → Contents image most (slice_set words slot.word (plus (slice_index words slot.word) d))
 
+-- each counter has its slot
 pub has_counter : (cluster : ℕ) (image : List ℕ) (most : ℕ) (words : List ℕ) (item : ℕ) → IsMade cluster image → Contents image most words → 1 ≤ item → item ≤ 12 → HasCounter image most words item
 has_counter cluster image most words item made h low high =
     by_slot (slot_with words item None) refl (sym same ∙ made.numbers item low high) (slot_found words item (negsuc 0) (slot_with words item None) refl)
@@ -96,6 +103,7 @@ unfoldable pub put_words : List ℕ → ℕ → List ℕ → List ℕ
 put_words words w [] = words
 put_words words w (x ∷ xs) = put_words (slice_set words w x) (suc w) xs
 
+-- they are as many words as before, all of 64 bits, the same before the first one stored, and then those
 put_length : (words : List ℕ) (w : ℕ) (xs : List ℕ) → length (put_words words w xs) ≡ length words
 unfolding put_words
 put_length words w [] = refl
@@ -127,12 +135,10 @@ abbrev pub rewritten : List ℕ → List ℕ → ℕ → List ℕ
 rewritten image words n = put_words (slice_set (slice_set words 1 n) 0 (slice_index image 0)) 3 (drop 3 image)
 
 module _ (image words : List ℕ) (n : ℕ) (wide : 2 < length image) (room : length image ≤ length words) where
-  front : List ℕ
-  front = slice_set (slice_set words 1 n) 0 (slice_index image 0)
-
   front_long : length (slice_set (slice_set words 1 n) 0 (slice_index image 0)) ≡ length words
   front_long = length-set (slice_set words 1 n) 0 (slice_index image 0) ∙ length-set words 1 n
 
+  -- so all words but the second generation are the image's, under the new first generation
   pub rewritten_long : length (rewritten image words n) ≡ length words
   rewritten_long = put_length (slice_set (slice_set words 1 n) 0 (slice_index image 0)) 3 (drop 3 image) ∙ front_long
 
@@ -157,6 +163,7 @@ module _ (image words : List ℕ) (n : ℕ) (wide : 2 < length image) (room : le
       ap (slice_index (rewritten image words n)) there ∙ put_there (slice_set (slice_set words 1 n) 0 (slice_index image 0)) 3 (drop 3 image) j (omega arith) (omega arith)
       ∙ (get_or-drop 3 image j 0 ∙ ap (slice_index image) (sym there))
 
+-- zeros up to 2,048 words
 abbrev pub zeros_behind : List ℕ → List ℕ
 zeros_behind image = replicate (2048 - length image) 0
 
@@ -200,6 +207,3 @@ changed cluster image words n made size fit small =
       fit = All-set IsWord (rewritten image words n) 2 n small full;
       generation = subst (λ (g : ℕ). g ≤ n) (sym (get_or-set_other (rewritten image words n) 2 1 n 0 (λ (e : ◌≡◌ {A = ℕ} 1 2). omega arith) ∙ rewritten_first image words n wide.0 (omega arith))) (omega arith);
     }
-
-pub weaker : (image : List ℕ) (n m : ℕ) (words : List ℕ) → n ≤ m → Contents image n words → Contents image m words
-weaker image n m words less h = let low : slice_index words 1 ≤ n = h.generation in record { is = h.is; form = h.form; size = h.size; fit = h.fit; generation = omega arith }

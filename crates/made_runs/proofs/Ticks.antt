@@ -1,8 +1,6 @@
 -- The ticks of a script that a number makes, and the whole script.
-use Rattle.std.proofs.Common.{◌≡◌, ℕ, zero, suc, ℤ, pos, ◌+◌, ◌*◌, ◌<◌, ◌≤◌, ◌==◌, Bool, true, false, List, [], ◌∷◌, ◌++◌, None, refl, sym, ap, ◌∙◌, subst, arith}
+use Rattle.std.proofs.Common.{◌≡◌, ℕ, zero, suc, pos, ◌+◌, ◌*◌, ◌<◌, ◌≤◌, ◌==◌, Bool, true, false, List, [], ◌∷◌, ◌++◌, refl, arith}
 use Rattle.std.specs.Prelude.{◌/◌, ◌%◌, if◌then◌else◌}
-use Rattle.mmv_layout.specs.Contents.{cluster_in}
-use Rattle.region_core.specs.State.{with_zeros}
 use Rattle.run_script.specs.declared.script.Line.{Line}
 use Rattle.run_script.specs.declared.script.Line.TheVariants as lines
 use Rattle.run_script.specs.declared.script.Script.{Script}
@@ -12,13 +10,17 @@ use Rattle.script_runs.specs.Runs.{run_start}
 use Rattle.made_runs.specs.Laws.{GeneratedRuns}
 use Rattle.made_runs.proofs.Images.{IsMade, first_is, image_of, second_is, third_is}
 use Rattle.made_runs.proofs.Holding.{later, opened}
-use Rattle.made_runs.proofs.Blocks.{AllStand, add_safe, all_attach, all_detach, all_served, at_rest, at_work, change_safe}
+use Rattle.made_runs.proofs.Standing.{AllStand, all_attach, all_detach, at_rest, at_work}
+use Rattle.made_runs.proofs.Adds.{add_safe}
+use Rattle.made_runs.proofs.Changes.{change_safe}
+use Rattle.made_runs.proofs.Names.{all_served}
 use Rattle.made_runs.proofs.Safe.{AreIdle, Safe, ends_well, safe_append, safe_weaken}
 
 -- all passes are attached, and no generation is above this one
 abbrev AtWork : ℕ → List ScriptRegion → Type 0
 AtWork most = AllStand 4 at_work most
 
+-- so it is below any later one
 at_work_later : (most : ℕ) (rs : List ScriptRegion) → AtWork most rs → AtWork (suc most) rs
 at_work_later most (a ∷ b ∷ c ∷ []) h = (
   (h.0.0, record { gate_is = h.0.1.gate_is; doing_is = h.0.1.doing_is; cluster_is = h.0.1.cluster_is; contents = later (image_of 1 h.0.0) most a.state.words h.0.1.contents }),
@@ -39,6 +41,7 @@ module _ (script : Script) (first : words_at script.images 0 ≡ image_of 1 fals
       by_test true false = change_safe script 0 false first most small rs h
       by_test false odd = at_work_later most rs h
 
+  -- each line of a tick goes on
   flush_safe : (k most : ℕ) (rs : List ScriptRegion) → AtWork most rs → Safe script (flush_lines k) (AtWork most) rs
   flush_safe k most rs h = by_test (k % 10 == 0)
     where
@@ -59,12 +62,14 @@ module _ (script : Script) (first : words_at script.images 0 ≡ image_of 1 fals
       (drawn_safe most (add_of (draw (next (next (next x)))) ∷ tick_at k ∷ flush_lines k) (draw (next (next x)))
       (drawn_safe most (tick_at k ∷ flush_lines k) (draw (next (next (next x)))) (last_lines k most)))
 
+  -- a tick, with the change before it
   tick_safe : (x k most : ℕ) → most < 18446744073709551614 → (rs : List ScriptRegion) → AtWork most rs → Safe script (tick_steps x k) (AtWork (suc most)) rs
   unfolding tick_steps
   tick_safe x k most small rs h =
       safe_append script (change_at k) (three_adds x ++ (tick_at k ∷ flush_lines k)) (AtWork (suc most)) rs
       (safe_weaken script (change_at k) (AtWork (suc most)) (Safe script (three_adds x ++ (tick_at k ∷ flush_lines k)) (AtWork (suc most))) (adds_safe x k (suc most)) rs (change_at_safe k most small rs h))
 
+  -- all ticks
   ticks_safe : (number n : ℕ) → n ≤ 100000 → (rs : List ScriptRegion) → AtWork 1 rs → Safe script (all_ticks number n) (AtWork (suc n)) rs
   unfolding all_ticks
   ticks_safe number zero few rs h = h
@@ -73,6 +78,7 @@ module _ (script : Script) (first : words_at script.images 0 ≡ image_of 1 fals
       (safe_weaken script (all_ticks number n) (AtWork (suc n)) (Safe script (tick_steps (number_behind number (3 * n)) (suc n)) (AtWork (suc (suc n))))
       (tick_safe (number_behind number (3 * n)) (suc n) (suc n) (omega arith)) rs (ticks_safe number n (omega arith) rs h))
 
+  -- the last lines, and the first
   detach_safe : (most : ℕ) (rs : List ScriptRegion) → AtWork most rs → Safe script (detach_lines 0 ++ (detach_lines 1 ++ detach_lines 2)) AreIdle rs
   detach_safe most (a ∷ b ∷ c ∷ []) h = all_detach script most a b c h
   detach_safe most [] h = absurd h
@@ -87,6 +93,7 @@ module _ (script : Script) (first : words_at script.images 0 ≡ image_of 1 fals
   attach_safe (a ∷ b ∷ []) h = absurd h
   attach_safe (a ∷ b ∷ c ∷ d ∷ rs) h = absurd h
 
+  -- all lines
   all_safe : (number ticks : ℕ) → ticks ≤ 100000 → (rs : List ScriptRegion) → AllStand 0 at_rest 1 rs → Safe script (all_steps number ticks) AreIdle rs
   unfolding all_steps
   all_safe number ticks few rs h =
@@ -108,6 +115,7 @@ opens number ticks =
       record { gate_is = refl; doing_is = refl; cluster_is = three.served; contents = opened 3 (image_of 3 false) three },
     )
 
+-- the images to which changes lead
 first_words : (number ticks : ℕ) → words_at (generated_script number ticks).images 0 ≡ image_of 1 false
 unfolding generated_script images
 first_words number ticks = refl
@@ -116,10 +124,12 @@ last_words : (number ticks : ℕ) → words_at (generated_script number ticks).i
 unfolding generated_script images
 last_words number ticks = refl
 
+-- its lines
 steps_are : (number ticks : ℕ) → (generated_script number ticks).steps ≡ with_line_numbers 252 (all_steps number ticks)
 unfolding generated_script
 steps_are number ticks = refl
 
+-- so it runs to its end
 pub generated_runs : GeneratedRuns
 generated_runs number ticks count s few ran =
     ends_well (generated_script number ticks) (all_steps number ticks) 252 (steps_are number ticks)
