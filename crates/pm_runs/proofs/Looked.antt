@@ -166,6 +166,7 @@ module _ {D : Type 0} (g : DiskGhosts D) (script : Script) (limit : ℕ) (old mi
     there = run.there;
     there_is = run.there_is;
     serves = run.serves;
+    passes = run.passes;
     seats = run.seats;
     seat = run.seat;
     seat_is = run.seat_is;
