@@ -57,9 +57,9 @@ no_regions OutOfMemory opened = tt
 no_regions (Refused e) opened = tt
 
 -- the input is refused, or memory
-pub runner_refused : (c : Runner) (input : List ℕ) {D : Type 0} (g : DiskGhosts D) → OnlyNow g → (old new : D) (opened : Option Opened) (stop : StageFault InputRefusal) → new ≡ old → opened ≡ None → Refuses c.reads input stop
+pub runner_refused : (c : Runner) (input : List ℕ) {D : Type 0} (g : DiskGhosts D) → OnlyNow g → {old new : D} {opened : Option Opened} (stop : StageFault InputRefusal) → new ≡ old → opened ≡ None → Refuses c.reads input stop
     → Meets (runs_script c) input g old new opened [] (Err (refusal_of_stage Input stop))
-runner_refused c input {D} g now old new opened stop same none refuses =
+runner_refused c input {D} g now {old} {new} {opened} stop same none refuses =
     let d : DiskSide = disk_side g old new in
     let moments : Leaves g old new CrashImage = λ t. subst (λ (x : D). LeavesOnly g.moment g.left_since old x (CrashImage (g.held old))) (sym same) ((looks_none g now old).moments t) in
     record {
@@ -120,14 +120,14 @@ has_regions (Err (ClockFault left)) there = refl
 has_regions (Err Accept) there = tt
 has_regions (Err NoMemory) there = tt
 
-module _ (c : Runner) (input : List ℕ) (script : Script) (is : c.script input ≡ Some script) (good : refusal_of c.reads input ≡ None) where
+module _ (c : Runner) (input : List ℕ) {script : Script} (is : c.script input ≡ Some script) (good : refusal_of c.reads input ≡ None) where
   abbrev m : Meaning
   m = runs_script c
 
   of_script : (P : Script → Type 0) → P script → OfScript c input P
   of_script P p = (script, is, p)
 
-  module _ {D : Type 0} (g : DiskGhosts D) (old new : D) (opened : Option Opened) (r : Replayed) (run : WasRun g script c.limit old new opened r) where
+  module _ {D : Type 0} {g : DiskGhosts D} {old new : D} {opened : Option Opened} {r : Replayed} (run : WasRun g script c.limit old new opened r) where
     abbrev d : DiskSide
     d = disk_side g old new
 
