@@ -43,7 +43,7 @@ use Rattle.pm_runs.specs.Regions.{AnswersRun, RanRegions}
 use Rattle.pm_runs.specs.Runners.{OfScript, Runner}
 use Rattle.pm_runs.specs.Running.{WasRun}
 use Rattle.pm_runs.specs.Scripts.{HasWritten, IsOwn, IsTurnedAway, Leads, LogsFirst, RunsSo, ScriptSince, StoppedAt, WantsWith, ending_of, runs_script}
-use Rattle.pm_runs.proofs.Coherent.{done_taken, of_one, own_reason}
+use Rattle.pm_runs.proofs.Coherent.{done_welcome, of_one, own_reason}
 use Rattle.pm_runs.proofs.Sound.{run_leaves_sound}
 
 -- ---- before the run
@@ -124,9 +124,6 @@ module _ (c : Runner) (input : List ℕ) {script : Script} (is : c.script input 
   abbrev m : Meaning
   m = runs_script c
 
-  of_script : (P : Script → Type 0) → P script → OfScript c input P
-  of_script P p = (script, is, p)
-
   module _ {D : Type 0} {g : DiskGhosts D} {old new : D} {opened : Option Opened} {r : Replayed} (run : WasRun g script c.limit old new opened r) where
     abbrev d : DiskSide
     d = disk_side g old new
@@ -197,9 +194,8 @@ module _ (c : Runner) (input : List ℕ) {script : Script} (is : c.script input 
         let own : IsOwn r.ending = own_as ends.Done same tt in record {
           good = good;
           welcome = λ t e never away.
-              let both = of_one c input (λ s. IsTurnedAway c.limit (files_found d) s e) (λ s. (output : List ℕ) × (events : List Event) × Leads s c.limit (contents_of d.held) ends.Done output events (contents_of d.after)) away
-              (of_script (λ s. (output : List ℕ) × (events : List Event) × Leads s c.limit (contents_of d.held) ends.Done output events (contents_of d.after)) (r.output, (files t).events, own_leads ends.Done same tt t)) in
-              done_taken c.limit (files_found d) both.0 both.2.1.0 both.2.1.1 (contents_of d.after) (went own t).0.unwrapped both.2.1.2 e both.2.0;
+              let both = of_one c input (λ s. IsTurnedAway c.limit (files_found d) s e) (λ s. Leads s c.limit (contents_of d.held) ends.Done r.output (files t).events (contents_of d.after)) away (script, is, own_leads ends.Done same tt t) in
+              done_welcome (files_found d) both.0 c.limit r.output (files t).events (contents_of d.after) both.2.1 (went own t).0.unwrapped e both.2.0;
           done = λ t. record {
             unwrapped = (went own t).0.unwrapped;
             settled = (flushed_by own t).settled;
