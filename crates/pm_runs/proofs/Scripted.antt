@@ -385,16 +385,16 @@ module _ (c : Runner) (input : List ℕ) {script : Script} (is : c.script input 
       unrun = λ runs none. absurd (none-some run.there (sym none ∙ run.there_is));
     }
 
-    pub runner_done : (text : List ℕ) → r.ending ≡ ends.Done → (g.tells → c.says script r.logged r.output (contents_of (g.held new)) text) → Meets m input g old new opened [] (Ok text)
-    runner_done text same says = runner_meets [] (Ok text) (has_served text same says) tt (λ h. own_as ends.Done same tt) (same, says)
+    pub runner_done : (text : List ℕ) → ending_refusal r.ending ≡ None → (g.tells → c.says script r.logged r.output (contents_of (g.held new)) text) → Meets m input g old new opened [] (Ok text)
+    runner_done text why says = let same = is_done r.ending why in runner_meets [] (Ok text) (has_served text same says) tt (λ h. own_as ends.Done same tt) (same, says)
 
-    pub runner_untold : (e : Refusal) → c.front [] ≡ [] → r.ending ≡ ends.Done → c.untold e → Untold e → Meets m input g old new opened [] (Err e)
-    runner_untold e empty same left_out untold = runner_meets [] (Err e) tt (untold_stops e empty same untold) (λ h. own_as ends.Done same tt) (inr (same, left_out))
+    pub runner_untold : (e : Refusal) → c.front [] ≡ [] → ending_refusal r.ending ≡ None → c.untold e → Untold e → Meets m input g old new opened [] (Err e)
+    runner_untold e empty why left_out untold = let same = is_done r.ending why in runner_meets [] (Err e) tt (untold_stops e empty same untold) (λ h. own_as ends.Done same tt) (inr (same, left_out))
 
     -- it is told, or why it isn't
-    pub runner_told : (answer : Result (List ℕ) Refusal) → c.front [] ≡ [] → r.ending ≡ ends.Done → (g.tells → IfOk answer (λ text. c.says script r.logged r.output (contents_of (g.held new)) text)) → IfErr answer (λ e. c.untold e × Untold e) → Meets m input g old new opened [] answer
-    runner_told (Ok text) empty same says untold = runner_done text same says
-    runner_told (Err e) empty same says untold = runner_untold e empty same untold.0 untold.1
+    pub runner_told : (answer : Result (List ℕ) Refusal) → c.front [] ≡ [] → ending_refusal r.ending ≡ None → (g.tells → IfOk answer (λ text. c.says script r.logged r.output (contents_of (g.held new)) text)) → IfErr answer (λ e. c.untold e × Untold e) → Meets m input g old new opened [] answer
+    runner_told (Ok text) empty why says untold = runner_done text why says
+    runner_told (Err e) empty why says untold = runner_untold e empty why untold.0 untold.1
 
     pub runner_stopped : (e : Refusal) → ending_refusal r.ending ≡ Some e → Meets m input g old new opened (c.front r.output) (Err e)
     runner_stopped e why = let s = stops r.ending refl e why in runner_meets (c.front r.output) (Err e) tt s.why s.own (inl why)

@@ -66,10 +66,10 @@ returns-in-None g c = record {
       let run = c.in_ok-replayed.ensures.run in
       let r = c.in_ok-replayed.replayed in
       let script = c.in_ok-script.script in
-      let done = is_done r.ending (sym c.of_ending.ensures ∙ c.in-None.is) in
+      let why = sym c.of_ending.ensures ∙ c.in-None.is in
       let counts = HasCounted (contents_of (d.held c.run_script.new.disk)) r.logged c.adds_of-adds.result.0 c.adds_of-adds.result.1 in
       let says = (making c.args.asked.now).says script r.logged r.output (contents_of (d.held c.summary.new.disk)) in
-      runner_told (making c.args.asked.now) input (ap (λ (s : Script). Some s) (sym c.in_ok-script.ensures)) refl (looked_was done c.summary.ensures.looks run) c.summary.result refl done
+      runner_told (making c.args.asked.now) input (ap (λ (s : Script). Some s) (sym c.in_ok-script.ensures)) refl (looked_was (is_done r.ending why) c.summary.ensures.looks run) c.summary.result refl why
       (λ t. IfOk-weaker c.summary.result counts says (summarized script r.logged c.adds_of-adds.result.0 c.adds_of-adds.result.1 (c.adds_of-adds.ensures.adds ∙ ap adds_in c.as_slice.ensures) (c.adds_of-adds.ensures.total ∙ ap total_in c.as_slice.ensures)
       (d.held c.run_script.new.disk) (d.held c.summary.new.disk) (c.summary.ensures.looks.held t)) (c.summary.ensures.counted t))
       (IfErr-weaker c.summary.result (WantsCounts (d.faults c.run_script.new.disk) (d.faults c.summary.new.disk)) (λ e. ((e ≡ NoMemory) ⊎ (e ≡ Disk DiskFault)) × WantsCounts (d.faults c.args.disk.now) (d.faults c.summary.new.disk) e)

@@ -4,7 +4,7 @@ use Rattle.pm_words.specs.Serving.{Meets}
 use Rattle.pm_words.specs.declared.refusal.Refusal.TheVariants.{NoMemory}
 use Rattle.pm_words.specs.declared.stage.StageFault.TheVariants.{OutOfMemory}
 use Rattle.pm_runs.specs.commands.once.{logging}
-use Rattle.pm_runs.proofs.Scripted.{is_done, runner_done, runner_refused, runner_stopped, runner_untold}
+use Rattle.pm_runs.proofs.Scripted.{runner_done, runner_refused, runner_stopped, runner_untold}
 use Rattle.pm_runs.proofs.commands.once.once.Goals as goal
 
 pub returns-in_err-script : goal.returns-in_err-script
@@ -19,15 +19,13 @@ returns-in_err-replayed g c =
 
 pub returns-in_err-line-in-None : goal.returns-in_err-line-in-None
 returns-in_err-line-in-None g c =
-    let done = is_done c.in_ok-replayed.replayed.ending (sym c.of_ending.ensures ∙ c.in-None.is) in
-    let meets = runner_untold (logging c.args.asked.now) c.args.input.now c.in_ok-script.ensures.script c.in_ok-script.ensures.good c.in_ok-replayed.ensures.run NoMemory refl done refl (inl refl) in
+    let meets = runner_untold (logging c.args.asked.now) c.args.input.now c.in_ok-script.ensures.script c.in_ok-script.ensures.good c.in_ok-replayed.ensures.run NoMemory refl (sym c.of_ending.ensures ∙ c.in-None.is) refl (inl refl) in
     search (rules, meets)
 
 pub returns-in-None : goal.returns-in-None
 returns-in-None g c = record {
   meets =
-      let done = is_done c.in_ok-replayed.replayed.ending (sym c.of_ending.ensures ∙ c.in-None.is) in
-      runner_done (logging c.args.asked.now) c.args.input.now c.in_ok-script.ensures.script c.in_ok-script.ensures.good c.in_ok-replayed.ensures.run c.in_ok-line-in-None.line done (λ t. c.in_ok-line-in-None.ensures);
+      runner_done (logging c.args.asked.now) c.args.input.now c.in_ok-script.ensures.script c.in_ok-script.ensures.good c.in_ok-replayed.ensures.run c.in_ok-line-in-None.line (sym c.of_ending.ensures ∙ c.in-None.is) (λ t. c.in_ok-line-in-None.ensures);
 }
 
 pub returns : goal.returns

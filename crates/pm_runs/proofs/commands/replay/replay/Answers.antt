@@ -5,7 +5,7 @@ use Rattle.pm_words.specs.Streams.{IsSent, Sends}
 use Rattle.pm_words.specs.declared.stage.StageFault.TheVariants.{OutOfMemory}
 use Rattle.pm_words.proofs.Sending.{unsent}
 use Rattle.pm_runs.specs.commands.replay.{replaying}
-use Rattle.pm_runs.proofs.Scripted.{is_done, runner_done, runner_refused, runner_stopped}
+use Rattle.pm_runs.proofs.Scripted.{runner_done, runner_refused, runner_stopped}
 use Rattle.pm_runs.proofs.commands.replay.replay.Goals as goal
 
 pub returns-in_err-script : goal.returns-in_err-script
@@ -22,13 +22,11 @@ returns-in_err-replayed g c =
 
 pub returns-in-None : goal.returns-in-None
 returns-in-None g c = record {
-  meets =
-      let r = c.in_ok-replayed.replayed in
-      let done = is_done r.ending (sym c.of_ending.ensures ∙ c.in-None.is) in (
-        [],
-        unsent g.O.Sink c.args.out.now c.args.failed.now c.requires.fresh,
-        runner_done (replaying c.args.volume) c.args.input.now c.in_ok-script.ensures.script c.in_ok-script.ensures.good c.in_ok-replayed.ensures.run r.output done (λ t. refl),
-      );
+  meets = (
+    [],
+    unsent g.O.Sink c.args.out.now c.args.failed.now c.requires.fresh,
+    runner_done (replaying c.args.volume) c.args.input.now c.in_ok-script.ensures.script c.in_ok-script.ensures.good c.in_ok-replayed.ensures.run c.in_ok-replayed.replayed.output (sym c.of_ending.ensures ∙ c.in-None.is) (λ t. refl),
+  );
 }
 
 pub returns-in-Some : goal.returns-in-Some
