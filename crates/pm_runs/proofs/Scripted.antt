@@ -1,6 +1,6 @@
 -- What a command does that runs a script, path by path: its input is refused, or memory before the run; the run is done, and told or not; or
 -- it is refused.
-use Rattle.std.proofs.Common.{◌≡◌, ◌≢◌, ◌⊎◌, inl, inr, ⊎_elim, ℕ, Bool, true, false, List, [], ◌++◌, length, take, Option, Some, None, Result, Ok, Err, IfOk, IfErr, refl, sym, ap, ◌∙◌, subst}
+use Rattle.std.proofs.Common.{◌≡◌, ◌≢◌, ◌⊎◌, inl, inr, ⊎_elim, ℕ, true, false, List, [], ◌++◌, length, take, Option, Some, None, Result, Ok, Err, IfOk, IfErr, refl, sym, ap, ◌∙◌, subst}
 use Rattle.std.proofs.lemmas.Option.{none-some, same_Some}
 use Rattle.pcp_base.specs.declared.file.FileId.{FileId}
 use Rattle.pcp_base.specs.declared.result.Item.{Item}
@@ -40,7 +40,7 @@ use Rattle.pm_words.specs.Sides.{DiskSide, Leaves, disk_side, files_found}
 use Rattle.pm_words.proofs.Recovering.{no_input_yet}
 use Rattle.pm_words.proofs.Serving.{left_alone, no_good}
 use Rattle.pm_runs.specs.Regions.{AnswersRun, RanRegions}
-use Rattle.pm_runs.specs.Runners.{OfScript, Runner}
+use Rattle.pm_runs.specs.Runners.{Runner}
 use Rattle.pm_runs.specs.Running.{WasRun}
 use Rattle.pm_runs.specs.Scripts.{HasWritten, IsOwn, IsTurnedAway, Leads, LogsFirst, RunsSo, ScriptSince, StoppedAt, WantsWith, ending_of, runs_script}
 use Rattle.pm_runs.proofs.Coherent.{done_welcome, of_one, own_reason}

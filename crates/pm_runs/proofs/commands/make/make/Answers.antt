@@ -1,5 +1,5 @@
 -- What the run of a generated script tells, and its summary; or why there was none.
-use Rattle.std.proofs.Common.{◌≡◌, ◌⊎◌, inl, inr, ℕ, ◌≤◌, List, [], Some, Err, rules, refl, sym, ap, ◌∙◌, subst}
+use Rattle.std.proofs.Common.{◌≡◌, ◌⊎◌, inl, inr, ℕ, ◌≤◌, List, Some, rules, refl, sym, ap, ◌∙◌, subst}
 use Rattle.std.proofs.lemmas.Result.{IfErr-weaker, IfOk-weaker}
 use Rattle.pcp_model.specs.Disk.{Holdings, contents_of}
 use Rattle.run_script.specs.declared.script.Line.{Line}

@@ -1,6 +1,5 @@
 -- What the run of an image tells, or why there was none.
-use Rattle.std.proofs.Common.{rules, [], inl, Ok, refl, sym, ◌∙◌}
-use Rattle.pm_words.specs.Serving.{Meets}
+use Rattle.std.proofs.Common.{rules, inl, refl, sym, ◌∙◌}
 use Rattle.pm_words.specs.declared.refusal.Refusal.TheVariants.{NoMemory}
 use Rattle.pm_words.specs.declared.stage.StageFault.TheVariants.{OutOfMemory}
 use Rattle.pm_runs.specs.commands.once.{logging}
