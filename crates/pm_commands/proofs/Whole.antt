@@ -93,8 +93,8 @@ module _ {I O D : Type 0} (c : Sides I O D) (front : List ℕ) (result : Result 
   goes_on (inr stopped) tells had = absurd (not_yet calls.Offline c.words (source_of c) stopped.refusal stopped.before (subst HasRecovered stopped.is (recovered_by result status is_told had)))
 
   leaves_regions : DidIt ⊎ StoppedIt → LeavesRegions c status
-  leaves_regions (inl did) = record { answer = result; told = is_told; ran = inr (did.asks, did.meets.ran) }
-  leaves_regions (inr stopped) = record { answer = result; told = is_told; ran = inl stopped.none }
+  leaves_regions (inl did) = record { front = front; answer = result; told = told; ran = inr (did.asks, did.meets.ran) }
+  leaves_regions (inr stopped) = record { front = front; answer = result; told = told; ran = inl stopped.none }
 
   has_regions : DidIt ⊎ StoppedIt → facts_of.AsksRun c.words (source_of c) (sink_of c) (disk_of c) → HasRegions result c.opened
   has_regions (inl did) (command, is, runs) = did.meets.regions (ap (λ (x : Command). (meaning x).runs_script) (same did command is) ∙ runs)

@@ -26,7 +26,7 @@ use Rattle.pm_words.specs.Refusals.{input_status, files_status, run_status}
 use Rattle.pm_words.specs.Serving.{HadRecovered}
 use Rattle.pm_words.specs.Sides.{DiskSide, disk_side, files_found, IsUnread, Leaves, Untouched}
 use Rattle.pm_words.specs.Sound.{LeavesSound}
-use Rattle.pm_words.specs.Telling.{IsToldBy}
+use Rattle.pm_words.specs.Telling.{TellsAll}
 use Rattle.pm_commands.specs.Causes.{Asks, fault_of, Finds, IsReader}
 use Rattle.pm_commands.specs.Ends.{Ends, EndsDone, MayBeLeft}
 use Rattle.pm_commands.specs.Meanings.{meaning}
@@ -184,12 +184,13 @@ module _ {I O D : Type 0} (c : Sides I O D) where
     pub asks : Asks c.words source_of
     pub since : (meaning asks.command).since c.disks asks.input c.disk_was c.disk_is
 
-  -- The regions that are left, and what was run on them, are those of the command's meaning, where it answered what the status tells. A call
-  -- that was refused before its command left none.
+  -- The regions that are left, and what was run on them, are those of the command's meaning, where it answered what the status and the
+  -- output tell. A call that was refused before its command left none.
   pub record LeavesRegions (status : ℕ) : Type 0 where
+    pub front : List ℕ
     pub answer : Result (List ℕ) Refusal
-    pub told : IsToldBy answer status
-    pub ran : (c.opened ≡ None) ⊎ ((a : Asks c.words source_of) × (meaning a.command).ran c.disks a.input c.disk_was c.disk_is c.opened answer)
+    pub told : TellsAll sink_of front answer status
+    pub ran : (c.opened ≡ None) ⊎ ((a : Asks c.words source_of) × (meaning a.command).ran c.disks a.input c.disk_was c.disk_is c.opened front answer)
 
   -- All that a call of `offline` says.
   pub record Facts (status : ℕ) : Type 0 where
@@ -238,7 +239,7 @@ module _ {I O D : Type 0} (c : Sides I O D) where
 
     -- The regions that are left are those on which the script's lines were run, and nothing else, as the seat has seen, which has gathered
     -- every pass: no entry can stand behind that. They are the lines of the run that the status tells of: after 0 it came to its end, and
-    -- its lines and results are what is told. Where the disk tells, its files are those of the same run, event by event, after each status.
+    -- its lines and results are what is told; where it ended before, what is written is exactly its lines so far and then why. Where the disk tells, its files are those of the same run, event by event, after each status.
     -- The regions are there wherever the run began, but for want of memory.
     pub ran : LeavesRegions status
     pub regions : OpensRegions c.words source_of c.opened status

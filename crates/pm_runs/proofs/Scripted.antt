@@ -70,7 +70,7 @@ runner_refused c input {D} g now {old} {new} {opened} stop same none refuses =
       any_moment = λ t. weaker g.moment g.left_since g.held old new (CrashImage (g.held old)) (MayLeave (runs_script c) input (g.held old)) (moments t) (λ crash was. inl was);
       taken = λ t. tt;
       since = λ t h. absurd (no_input_yet stop h);
-      ran = subst (λ (x : Option Opened). RanRegions g c input old new x (Err (refusal_of_stage Input stop))) (sym none) tt;
+      ran = subst (λ (x : Option Opened). RanRegions g c input old new x [] (Err (refusal_of_stage Input stop))) (sym none) tt;
       regions = λ runs. no_regions stop opened;
       unrun = λ runs not. same;
     }
@@ -361,16 +361,16 @@ module _ (c : Runner) (input : List ℕ) {script : Script} (is : c.script input 
     since own t = let w = went own t in (script, is, (r.ending, r.output, run.is.run.regions, ran, (files t).events, (files t).more, w.0, w.1))
 
     -- the regions that it leaves
-    ran_regions : (answer : Result (List ℕ) Refusal) → AnswersRun c script d r answer → RanRegions g c input old new opened answer
-    ran_regions answer answers = subst (λ (x : Option Opened). RanRegions g c input old new x answer) (sym run.there_is) (
+    ran_regions : (front : List ℕ) (answer : Result (List ℕ) Refusal) → AnswersRun c script d r front answer → RanRegions g c input old new opened front answer
+    ran_regions front answer answers = subst (λ (x : Option Opened). RanRegions g c input old new x front answer) (sym run.there_is) (
       script,
       is,
-      record { run = r; answers = answers; serves = run.serves; seats = run.seats; seat = run.seat; seat_is = run.seat_is; seated = run.seated; is = run.is },
+      record { run = r; answers = answers; serves = run.serves; passes = run.passes; seats = run.seats; seat = run.seat; seat_is = run.seat_is; seated = run.seated; is = run.is },
     )
 
     -- ---- each path
 
-    runner_meets : (front : List ℕ) (answer : Result (List ℕ) Refusal) → IfOk answer (λ text. HasServed m input d (front ++ text)) → IfErr answer (λ e. StopsWith e front) → (HasRecovered answer → IsOwn r.ending) → AnswersRun c script d r answer
+    runner_meets : (front : List ℕ) (answer : Result (List ℕ) Refusal) → IfOk answer (λ text. HasServed m input d (front ++ text)) → IfErr answer (λ e. StopsWith e front) → (HasRecovered answer → IsOwn r.ending) → AnswersRun c script d r front answer
         → Meets m input g old new opened front answer
     runner_meets front answer done stops own answers = record {
       done = done;
@@ -380,7 +380,7 @@ module _ (c : Runner) (input : List ℕ) {script : Script} (is : c.script input 
       any_moment = any_moment;
       taken = λ t. tt;
       since = λ t h. since (own h) t;
-      ran = ran_regions answer answers;
+      ran = ran_regions front answer answers;
       regions = λ runs. subst (λ (x : Option Opened). HasRegions answer x) (sym run.there_is) (has_regions answer run.there);
       unrun = λ runs none. absurd (none-some run.there (sym none ∙ run.there_is));
     }
@@ -389,7 +389,7 @@ module _ (c : Runner) (input : List ℕ) {script : Script} (is : c.script input 
     runner_done text why says = let same = is_done r.ending why in runner_meets [] (Ok text) (has_served text same says) tt (λ h. own_as ends.Done same tt) (same, says)
 
     pub runner_untold : (e : Refusal) → c.front [] ≡ [] → ending_refusal r.ending ≡ None → c.untold e → Untold e → Meets m input g old new opened [] (Err e)
-    runner_untold e empty why left_out untold = let same = is_done r.ending why in runner_meets [] (Err e) tt (untold_stops e empty same untold) (λ h. own_as ends.Done same tt) (inr (same, left_out))
+    runner_untold e empty why left_out untold = let same = is_done r.ending why in runner_meets [] (Err e) tt (untold_stops e empty same untold) (λ h. own_as ends.Done same tt) (inr (same, left_out, refl))
 
     -- it is told, or why it isn't
     pub runner_told : (answer : Result (List ℕ) Refusal) → c.front [] ≡ [] → ending_refusal r.ending ≡ None → (g.tells → IfOk answer (λ text. c.says script r.logged r.output (contents_of (g.held new)) text)) → IfErr answer (λ e. c.untold e × Untold e) → Meets m input g old new opened [] answer
@@ -397,4 +397,4 @@ module _ (c : Runner) (input : List ℕ) {script : Script} (is : c.script input 
     runner_told (Err e) empty why says untold = runner_untold e empty why untold.0 untold.1
 
     pub runner_stopped : (e : Refusal) → ending_refusal r.ending ≡ Some e → Meets m input g old new opened (c.front r.output) (Err e)
-    runner_stopped e why = let s = stops r.ending refl e why in runner_meets (c.front r.output) (Err e) tt s.why s.own (inl why)
+    runner_stopped e why = let s = stops r.ending refl e why in runner_meets (c.front r.output) (Err e) tt s.why s.own (inl (why, refl))

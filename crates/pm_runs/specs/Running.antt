@@ -1,5 +1,5 @@
 -- What the run of a script on regions tells.
-use Rattle.std.specs.Prelude.{◌≡◌, ℕ, ◌≤◌, length, slice_get, Option, Some}
+use Rattle.std.specs.Prelude.{◌≡◌, ℕ, ◌≤◌, [], length, slice_get, Option, Some}
 use Rattle.pcp_model.specs.Disk.{CrashImage}
 use Rattle.pcp_outside.specs.declared.disk.Disk.{Ghosts as DiskGhosts}
 use Rattle.fetch_engine.specs.Servers.{IsSeated, Seated}
@@ -16,6 +16,7 @@ pub record WasRun {D : Type 0} (g : DiskGhosts D) (script : Script) (limit : ℕ
   pub there : Opened
   pub there_is : opened ≡ Some there
   pub serves : ServesScript script 1 there.server
+  pub passes : there.passes.items ≡ []
   pub seats : length there.seats.items ≡ 1
   pub seat : Seated
   pub seat_is : slice_get there.seats.items 0 ≡ Some seat

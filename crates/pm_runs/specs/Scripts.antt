@@ -150,5 +150,5 @@ runs_script c = record {
   may_leave = λ input held crash. OfScript c input (λ script. (items : List Item) × LogsFirst script c.limit (contents_of held) items × MayBeAfter items 0 held crash);
   takes = λ files before after. Unit {0};
   since = λ g input old new. ScriptSince g c input old new;
-  ran = λ g input old new opened answer. RanRegions g c input old new opened answer;
+  ran = λ g input old new opened front answer. RanRegions g c input old new opened front answer;
 }

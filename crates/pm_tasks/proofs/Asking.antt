@@ -13,7 +13,7 @@ use Rattle.pm_words.specs.declared.stage.FilesRefusal.{FilesRefusal}
 use Rattle.pm_words.specs.declared.stage.FilesRefusal.TheVariants.{Compressed, NotArchive}
 use Rattle.pm_words.specs.declared.stage.DiskRefusal.TheVariants.{Files as FilesAway, DiskFault}
 use Rattle.pm_words.specs.declared.refusal.Refusal.{Refusal}
-use Rattle.pm_words.specs.declared.refusal.Refusal.TheVariants.{Words, Reading, Input, Disk, NoMemory}
+use Rattle.pm_words.specs.declared.refusal.Refusal.TheVariants.{Words, Reading, Input, Disk, ClockEnd, ClockFault, Accept, NoMemory}
 use Rattle.pm_tasks.specs.Archives.{IsLoaded, IsNotLoaded, TurnedAfter, TurnedAway}
 use Rattle.pm_words.specs.Refusals.{reader_refusal}
 use Rattle.pm_words.specs.Sides.{Found, disk_side, files_found}
@@ -46,6 +46,9 @@ module _ {D : Type 0} (g : DiskGhosts D) where
   turned_on P Q a b c first so (Words usage) away = absurd away
   turned_on P Q a b c first so (Reading e) away = absurd away
   turned_on P Q a b c first so (Input e) away = absurd away
+  turned_on P Q a b c first so (ClockEnd left) away = absurd away
+  turned_on P Q a b c first so (ClockFault left) away = absurd away
+  turned_on P Q a b c first so Accept away = absurd away
 
   -- what an archive was turned away for after it was loaded
   pub asked_turned : (P : Loaded → Found → FilesRefusal → Type 0) (r : Loaded) (a b c : D) → Looks g a b → (g.tells → IsLoaded (files_found (disk_side g a c)) r) → (e : Refusal) → TurnedAway (P r) (disk_side g b c) e

@@ -1,5 +1,8 @@
 pub mod Asking
+pub mod Coherent
+pub mod Converted
 pub mod Dumped
-pub mod Served
+pub mod Lookings
+pub mod Nothing
 pub mod Taken
 pub mod Timed

@@ -1,8 +1,9 @@
 -- Commands that only read an archive: what they find of the files, why they turn files away, and that they leave the disk as
 -- it was.
-use Rattle.std.specs.Prelude.{◌≡◌, ◌⊎◌, ℕ, true, List, [], Some, None}
+use Rattle.std.specs.Prelude.{◌≡◌, ◌⊎◌, ℕ, true, false, List, [], Some, None}
 use Rattle.pcp_base.specs.declared.result.Item.{Item}
 use Rattle.pcp_model.specs.Archive.{ArchiveReading, Reads, scan}
+use Rattle.pcp_model.specs.Disk.{Files}
 use Rattle.pcp_model.specs.Sound.{IsSound}
 use Rattle.pcp_outside.specs.Causes.{Rose}
 use Rattle.archive_loading.specs.Loaded.{Loaded, IsOver}
@@ -49,11 +50,18 @@ TurnedAway turned d _ = ⊥
 abbrev pub nothing_before : DiskSide → List ℕ → Type 0
 nothing_before d front = front ≡ []
 
--- a command that reads an archive and writes a text of it, of which it may have written a front where it is stopped
-abbrev pub looks : (Found → FilesRefusal → Type 0) → (Found → List ℕ → Type 0) → (DiskSide → List ℕ → Type 0) → Meaning
-looks turned said first = record {
+-- one that may take all bytes of the volumes
+abbrev pub takes_any : Files → ℕ → ℕ → Type 0
+takes_any files before after = Unit {0}
+
+-- A command that reads an archive and writes a text of it, of which it may have written a front where it is stopped; `taken` says how
+-- many volume bytes it takes.
+abbrev pub looks : (Found → FilesRefusal → Type 0) → (Found → List ℕ → Type 0) → (DiskSide → List ℕ → Type 0) → (Files → ℕ → ℕ → Type 0) → Meaning
+looks turned said first taken = record {
   reads = None;
   uses_disk = true;
+  writes_archive = false;
+  runs_script = false;
   turns_away = λ input files e. turned files e;
   done = λ input d. Untouched d;
   says = λ input d text. d.tells → said (files_found d) text;
@@ -61,4 +69,7 @@ looks turned said first = record {
   keeps = λ input held crash. Unit {0};
   begun = λ status input d. ⊥;
   may_leave = λ input held crash. ⊥;
+  takes = taken;
+  since = λ g input old new. Unit {0};
+  ran = λ g input old new opened front answer. opened ≡ None;
 }

@@ -1,9 +1,8 @@
-//! The commands of the program `pcp` that read an archive or convert an image, what each command of the program means, and what
-//! it gets of its input.
+//! The commands of the program `pcp` that read an archive or convert an image. Each meets its meaning, and a disk that it reads
+//! stays as it was.
 #![tactic(auto)]
 
 mod commands;
-mod inputs;
 
 pub use commands::at::at;
 pub use commands::dump::dump;
@@ -12,4 +11,3 @@ pub use commands::mmv_dump::mmv_dump;
 pub use commands::mmv_make::mmv_make;
 pub use commands::range::range;
 pub use commands::value::value;
-pub use inputs::get_input;

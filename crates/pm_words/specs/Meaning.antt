@@ -34,8 +34,8 @@ pub record Meaning : Type 1 where
   pub takes : Files → ℕ → ℕ → Type 0
   -- how the disk went on from the moment on at which recovery answered
   pub since : {D : Type 0} → DiskGhosts D → List ℕ → D → D → Type 0
-  -- which regions it leaves, and what was run on them, where it answers so
-  pub ran : {D : Type 0} → DiskGhosts D → List ℕ → D → D → Option Opened → Result (List ℕ) Refusal → Type 0
+  -- which regions it leaves, and what was run on them, where it wrote this before and answers so
+  pub ran : {D : Type 0} → DiskGhosts D → List ℕ → D → D → Option Opened → List ℕ → Result (List ℕ) Refusal → Type 0
 
 -- a command that makes its output of its input, and has nothing to do with the disk
 abbrev pub converts : (List ℕ → Option InputRefusal) → (List ℕ → List ℕ) → Meaning
@@ -53,5 +53,5 @@ converts refuses make = record {
   may_leave = λ input held crash. ⊥;
   takes = λ files before after. Unit {0};
   since = λ g input old new. Unit {0};
-  ran = λ g input old new opened answer. opened ≡ None;
+  ran = λ g input old new opened front answer. opened ≡ None;
 }

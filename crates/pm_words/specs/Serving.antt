@@ -95,7 +95,7 @@ pub record Meets {D : Type 0} (m : Meaning) (input : List ℕ) (g : DiskGhosts D
   pub any_moment : Leaves g old new (MayLeave m input)
   pub taken : g.tells → m.takes (contents_of (g.held old)) (g.taken old) (g.taken new)
   pub since : g.tells → HasRecovered result → m.since g input old new
-  pub ran : m.ran g input old new opened result
+  pub ran : m.ran g input old new opened front result
   pub regions : m.runs_script ≡ true → HasRegions result opened
   -- where it leaves no regions its run hadn't begun, and nothing was touched
   pub unrun : m.runs_script ≡ true → opened ≡ None → new ≡ old

@@ -26,7 +26,7 @@ use Rattle.record_run.specs.Beside.{StopsLogging}
 use Rattle.record_run.specs.Halting.{Halts, IsRecorded, Took}
 use Rattle.record_run.specs.Recordings.{Counts}
 use Rattle.record_run.specs.Stopping.{LoggingDid, LogsResults, OpensForLast}
-use Rattle.record_run.proofs.Turning.{did_else, fault_did, last_else, stops_else}
+use Rattle.record_run.proofs.Turning.{did_else, fault_did, last_else, stops_else, took_most}
 use Rattle.record_run.proofs.Undone.{is_failing}
 
 -- how many there are, and what is told of them
@@ -34,14 +34,14 @@ counts_as : (samples : ℕ) (moments : List Moment) (results : List Fetched) (r 
 counts_as samples moments results r ends.Done logged took told counted = (took, told ∙ ap (λ (n : ℕ). one_number (codes "logged") n) counted)
 counts_as samples moments results r (ends.ClockEnd left) logged took told counted = (took.0, took.1, told)
 counts_as samples moments results r (ends.ClockFault left) logged took told counted = (took.0, took.1, told)
-counts_as samples moments results r ends.DiskFault logged took told counted = told
-counts_as samples moments results r (ends.Condition line) logged took told counted = told
-counts_as samples moments results r (ends.NotArchive file at) logged took told counted = told
-counts_as samples moments results r (ends.Compressed file) logged took told counted = told
-counts_as samples moments results r (ends.Limit what number) logged took told counted = told
-counts_as samples moments results r ends.NoMemory logged took told counted = told
-counts_as samples moments results r (ends.NotLater last) logged took told counted = told
-counts_as samples moments results r (ends.Changed pmid) logged took told counted = told
+counts_as samples moments results r ends.DiskFault logged took told counted = (took, told)
+counts_as samples moments results r (ends.Condition line) logged took told counted = (took, told)
+counts_as samples moments results r (ends.NotArchive file at) logged took told counted = (took, told)
+counts_as samples moments results r (ends.Compressed file) logged took told counted = (took, told)
+counts_as samples moments results r (ends.Limit what number) logged took told counted = (took, told)
+counts_as samples moments results r ends.NoMemory logged took told counted = (took, told)
+counts_as samples moments results r (ends.NotLater last) logged took told counted = (took, told)
+counts_as samples moments results r (ends.Changed pmid) logged took told counted = (took, told)
 
 module _ {C D : Type 0} (c : ClockGhosts C) (d : DiskGhosts D) (clock_was clock_is : C) (was is : Carried) (old mid new : D) (script : Script) (limit samples : ℕ) (server : List Mounted) (first final : List Token) (archive : Archive) (e : Ending) (r : Replayed)
     (h : Halts c d clock_was clock_is was is old mid script samples server first final e) (limit_is : was.limit ≡ limit) (limit_same : is.limit ≡ was.limit)
@@ -99,7 +99,7 @@ module _ {C D : Type 0} (c : ClockGhosts C) (d : DiskGhosts D) (clock_was clock_
       results = h.results;
       beside = record { legal = h.beside.legal; writers = tt; loads = h.beside.loads; sampled = stops_else h.beside.sampled ends.DiskFault tt };
       counted = logged ∙ h.counted;
-      counts = output_as ends.DiskFault failing;
+      counts = (took_most samples (length h.moments) e h.took, output_as ends.DiskFault failing);
       at_last = λ all. last_else h.beside.sampled ends.DiskFault tt samples (h.at_last all);
       clock = h.clock;
       why = tt;
@@ -120,7 +120,7 @@ module _ {C D : Type 0} (c : ClockGhosts C) (d : DiskGhosts D) (clock_was clock_
       results = h.results;
       beside = record { legal = h.beside.legal; writers = tt; loads = h.beside.loads; sampled = stops_else h.beside.sampled ends.NoMemory tt };
       counted = logged ∙ h.counted;
-      counts = output_as ends.NoMemory wants;
+      counts = (took_most samples (length h.moments) e h.took, output_as ends.NoMemory wants);
       at_last = λ all. last_else h.beside.sampled ends.NoMemory tt samples (h.at_last all);
       clock = h.clock;
       why = tt;

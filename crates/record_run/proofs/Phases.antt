@@ -166,9 +166,9 @@ module _ {C D : Type 0} (c : ClockGhosts C) (d : DiskGhosts D) (groups : List Gr
   before_end e left (inl is_end) some samples before all sum = subst (λ (x : Ending). EndsSamples x × EndsLogged x × Took all (before + (length samples + 0)) x) (sym is_end) (tt, tt, (omega (arith, sum), some))
   before_end e left (inr is_end) some samples before all sum = subst (λ (x : Ending). EndsSamples x × EndsLogged x × Took all (before + (length samples + 0)) x) (sym is_end) (tt, tt, (omega (arith, sum), some))
 
-  asked : {A B : Type 0} (e : Ending) {many : ℕ} → (e ≡ ends.NoMemory) ⊎ (A × B × (e ≡ ends.Limit kinds.Sets many)) → StopsLogging e × EndsSamples e × ((samples count : ℕ) → Took samples count e)
-  asked {A} {B} e {many} (inl is_end) = subst (λ (x : Ending). StopsLogging x × EndsSamples x × ((samples count : ℕ) → Took samples count x)) (sym is_end) (tt, tt, λ samples count. tt)
-  asked {A} {B} e {many} (inr (a, b, is_end)) = subst (λ (x : Ending). StopsLogging x × EndsSamples x × ((samples count : ℕ) → Took samples count x)) (sym is_end) (tt, tt, λ samples count. tt)
+  asked : {A B : Type 0} (e : Ending) {many : ℕ} → (e ≡ ends.NoMemory) ⊎ (A × B × (e ≡ ends.Limit kinds.Sets many)) → StopsLogging e × EndsSamples e × ((samples count : ℕ) → count ≤ samples → Took samples count e)
+  asked {A} {B} e {many} (inl is_end) = subst (λ (x : Ending). StopsLogging x × EndsSamples x × ((samples count : ℕ) → count ≤ samples → Took samples count x)) (sym is_end) (tt, tt, λ samples count most. most)
+  asked {A} {B} e {many} (inr (a, b, is_end)) = subst (λ (x : Ending). StopsLogging x × EndsSamples x × ((samples count : ℕ) → count ≤ samples → Took samples count x)) (sym is_end) (tt, tt, λ samples count most. most)
 
   pub stops_phase : (e : Ending) (samples : List SampleTaken) (left : ℕ) → 0 < left → StopsSampling c d groups server was is seat_was seat_is clock_was clock_is disk_was disk_is samples left e → Phase e (length samples) left (length samples + 1)
   stops_phase e samples left some (inl b) =
@@ -182,7 +182,7 @@ module _ {C D : Type 0} (c : ClockGhosts C) (d : DiskGhosts D) (groups : List Gr
     lacking = a.stamp ∷ [];
     few = omega arith;
     so_ends = (asked e a.why).1;
-    took = λ before all sum. (asked e a.why).2 all (before + (length samples + 1));
+    took = λ before all sum. (asked e a.why).2 all (before + (length samples + 1)) (omega (arith, some, sum));
     yields = record {
       logged = samples;
       unlogged = [];
@@ -197,7 +197,7 @@ module _ {C D : Type 0} (c : ClockGhosts C) (d : DiskGhosts D) (groups : List Gr
     };
   }
   stops_phase e samples left some (inr (inr s)) =
-      let t : StopsLogging e × EndsSamples e × ((samples count : ℕ) → Took samples count e) = unlogged_ends e s.why in
+      let t : StopsLogging e × EndsSamples e × ((samples count : ℕ) → count ≤ samples → Took samples count e) = unlogged_ends e s.why in
       record {
         samples = samples ++ s.last ∷ [];
         middle = seat_is;
@@ -206,7 +206,7 @@ module _ {C D : Type 0} (c : ClockGhosts C) (d : DiskGhosts D) (groups : List Gr
         lacking = [];
         few = omega (arith, length-append samples (s.last ∷ []));
         so_ends = t.1;
-        took = λ before all sum. t.2 all (before + (length (samples ++ s.last ∷ []) + 0));
+        took = λ before all sum. t.2 all (before + (length (samples ++ s.last ∷ []) + 0)) (omega (arith, some, sum, length-append samples (s.last ∷ [])));
         yields = record {
           logged = samples;
           unlogged = s.last ∷ [];

@@ -1,5 +1,5 @@
 -- A recording over any files, which are recovered first.
-use Rattle.std.proofs.Common.{◌≡◌, ◌≢◌, ◌⊎◌, inl, inr, ℕ, ◌≤◌, List, [], None, refl, sym, ap, ◌∙◌, subst, arith}
+use Rattle.std.proofs.Common.{◌≡◌, ◌≢◌, ◌⊎◌, inl, inr, ℕ, ◌≤◌, List, [], length, None, refl, sym, ap, ◌∙◌, subst, arith}
 use Rattle.pcp_base.specs.Time.{Moment}
 use Rattle.pcp_base.specs.declared.file.FileId.{FileId}
 use Rattle.pcp_model.specs.Disk.{CrashImage, Files, contents_of}
@@ -91,9 +91,12 @@ module _ {C D : Type 0} (c : ClockGhosts C) (d : DiskGhosts D) (only_now : (disk
       told = files;
     }
 
+    abbrev none_taken : (length {A = Moment} [] ≤ samples) × (r.output ≡ [])
+    none_taken = (omega (arith, some_samples), nothing)
+
     -- memory was refused before the files were looked at
     pub record_unbegun : new ≡ old → r.ending ≡ ends.NoMemory → Records clock_was new
-    record_unbegun still wants = refused_as ends.NoMemory wants nothing tt (λ tells. record {
+    record_unbegun still wants = refused_as ends.NoMemory wants none_taken tt (λ tells. record {
       events = [];
       more = [];
       on = subst (λ (x : D). RunsOnFiles d limit [] [] old x r.ending RanNothing Did) (sym still)
@@ -110,16 +113,16 @@ module _ {C D : Type 0} (c : ClockGhosts C) (d : DiskGhosts D) (only_now : (disk
       }
 
       by_want : fault ≢ recovery.DiskFault → r.ending ≡ ends.NoMemory → Records clock_was new
-      by_want other wants = refused_as ends.NoMemory wants nothing tt (λ tells. record { events = []; more = []; on = unrecovered_wants d only_now counts_now limit RanNothing Did old new r.ending wants (same tells other) (half tells) (refl, refl) })
+      by_want other wants = refused_as ends.NoMemory wants none_taken tt (λ tells. record { events = []; more = []; on = unrecovered_wants d only_now counts_now limit RanNothing Did old new r.ending wants (same tells other) (half tells) (refl, refl) })
 
       fault_as : (e : Ending) → ended_by fault ≡ e → Counts samples [] [] r e → WhyStopped beside.sampled e → r.ending ≡ ended_by fault → Records clock_was new
       fault_as e same_end counts why is = refused_as e (is ∙ same_end) counts why (by_fault is)
 
       by_cases : (f : RecoverFault) → fault ≡ f → r.ending ≡ ended_by fault → Records clock_was new
-      by_cases (recovery.Compressed file) is_fault is = fault_as (ends.Compressed file) (ap (λ (f : RecoverFault). ended_by f) is_fault) nothing tt is
-      by_cases (recovery.NotArchive file at) is_fault is = fault_as (ends.NotArchive file at) (ap (λ (f : RecoverFault). ended_by f) is_fault) nothing tt is
-      by_cases recovery.DiskFault is_fault is = fault_as ends.DiskFault (ap (λ (f : RecoverFault). ended_by f) is_fault) nothing tt is
-      by_cases recovery.NoMemory is_fault is = fault_as ends.NoMemory (ap (λ (f : RecoverFault). ended_by f) is_fault) nothing tt is
+      by_cases (recovery.Compressed file) is_fault is = fault_as (ends.Compressed file) (ap (λ (f : RecoverFault). ended_by f) is_fault) none_taken tt is
+      by_cases (recovery.NotArchive file at) is_fault is = fault_as (ends.NotArchive file at) (ap (λ (f : RecoverFault). ended_by f) is_fault) none_taken tt is
+      by_cases recovery.DiskFault is_fault is = fault_as ends.DiskFault (ap (λ (f : RecoverFault). ended_by f) is_fault) none_taken tt is
+      by_cases recovery.NoMemory is_fault is = fault_as ends.NoMemory (ap (λ (f : RecoverFault). ended_by f) is_fault) none_taken tt is
 
       pub record_refused : (r.ending ≡ ended_by fault) ⊎ ((ended_by fault ≢ ends.DiskFault) × (r.ending ≡ ends.NoMemory)) → Records clock_was new
       record_refused (inl is) = by_cases fault refl is

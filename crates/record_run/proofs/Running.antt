@@ -1,5 +1,5 @@
 -- The writers of a recording and its samples, by how both end.
-use Rattle.std.proofs.Common.{◌≢◌, inl, inr, ℕ, List, [], ◌∷◌, None, refl, sym, ◌∙◌, subst, arith}
+use Rattle.std.proofs.Common.{◌≢◌, inl, inr, ℕ, List, [], ◌∷◌, length, None, refl, sym, ◌∙◌, subst, arith}
 use Rattle.std.specs.Global.{Vec}
 use Rattle.pcp_base.specs.declared.result.Item.{Item}
 use Rattle.pcp_model.specs.Disk.{Files}
@@ -28,7 +28,7 @@ use Rattle.record_run.specs.Stopping.{LoggingDid}
 use Rattle.record_run.proofs.Journals.{all_last, journals, unwritten}
 use Rattle.record_run.proofs.Settling.{Settled, finished_all, unfinished}
 use Rattle.record_run.proofs.Stretches.{sees_same, stands_same}
-use Rattle.record_run.proofs.Turning.{did_else, last_else, stops_else}
+use Rattle.record_run.proofs.Turning.{did_else, last_else, stops_else, took_most}
 use Rattle.record_run.proofs.Undone.{want_undone}
 
 -- a recording that want of memory ended is still told so behind its flush
@@ -80,7 +80,7 @@ module _ {C D : Type 0} (c : ClockGhosts C) (d : DiskGhosts D) (clock_was clock_
     moments = s.moments;
     results = s.results;
     sampled = stops_else s.sampled ends.NoMemory tt;
-    took = tt;
+    took = took_most samples (length s.moments) e s.took;
     at_last = λ all. last_else s.sampled ends.NoMemory tt samples (s.at_last all);
     so_ends = tt;
     clock = s.clock;

@@ -1,5 +1,5 @@
 -- Why a recording ends as it does, and what it did to its archive, from what stopped its samples.
-use Rattle.std.proofs.Common.{◌≡◌, ◌⊎◌, inl, inr, ℕ, ◌<◌, List, [], ◌∷◌, length, Option, refl, sym, subst}
+use Rattle.std.proofs.Common.{◌≡◌, ◌⊎◌, inl, inr, ℕ, ◌<◌, ◌≤◌, List, [], ◌∷◌, length, Option, refl, sym, subst}
 use Rattle.pcp_base.specs.Time.{Moment}
 use Rattle.pcp_base.specs.declared.result.Item.TheVariants.{Sample}
 use Rattle.pcp_model.specs.Disk.{Files}
@@ -55,18 +55,18 @@ module _ (groups : List Group) (server : List Mounted) (before after : List Toke
 
 -- Endings of samples
 
-pub unlogged_ends : (e : Ending) → EndsUnlogged e → StopsLogging e × EndsSamples e × ((samples count : ℕ) → Took samples count e)
+pub unlogged_ends : (e : Ending) → EndsUnlogged e → StopsLogging e × EndsSamples e × ((samples count : ℕ) → count ≤ samples → Took samples count e)
 unlogged_ends ends.Done why = absurd why
-unlogged_ends ends.DiskFault why = (tt, tt, λ samples count. tt)
+unlogged_ends ends.DiskFault why = (tt, tt, λ samples count most. most)
 unlogged_ends (ends.Condition line) why = absurd why
 unlogged_ends (ends.NotArchive file at) why = absurd why
 unlogged_ends (ends.Compressed file) why = absurd why
-unlogged_ends (ends.Limit what number) why = (tt, tt, λ samples count. tt)
+unlogged_ends (ends.Limit what number) why = (tt, tt, λ samples count most. most)
 unlogged_ends (ends.ClockEnd samples) why = absurd why
 unlogged_ends (ends.ClockFault samples) why = absurd why
-unlogged_ends ends.NoMemory why = (tt, tt, λ samples count. tt)
-unlogged_ends (ends.NotLater last) why = (tt, tt, λ samples count. tt)
-unlogged_ends (ends.Changed pmid) why = (tt, tt, λ samples count. tt)
+unlogged_ends ends.NoMemory why = (tt, tt, λ samples count most. most)
+unlogged_ends (ends.NotLater last) why = (tt, tt, λ samples count most. most)
+unlogged_ends (ends.Changed pmid) why = (tt, tt, λ samples count most. most)
 
 module _ {script : Script} {server : List Mounted} {first final : List Token} {ending : Ending} {moments : List Moment} {results : List Fetched} (sampled : IsSampled script server first final ending moments results) where
   -- ---- over any disk

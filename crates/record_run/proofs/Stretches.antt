@@ -83,7 +83,7 @@ module _ {C D : Type 0} (c : ClockGhosts C) (d : DiskGhosts D) (groups : List Gr
   pub wanted_whole : (taken : List SampleTaken) (samples : ℕ) → length taken + 1 ≡ samples → GoesOn c d groups server was is first waiting clock_was clock_is disk_was disk_is taken
       → Whole c d groups server first waiting gathered gathered was is clock_was clock_is disk_was disk_is ends.NoMemory samples
   wanted_whole taken samples sum goes =
-      whole_of ends.NoMemory (length taken) 1 (length taken) samples sum (omega (arith, sum)) (goes_phase c d groups server was is first waiting clock_was clock_is disk_was disk_is ends.NoMemory taken (length taken) 1 refl tt tt (λ before all many. tt) goes) (λ done. cc)
+      whole_of ends.NoMemory (length taken) 1 (length taken) samples sum (omega (arith, sum)) (goes_phase c d groups server was is first waiting clock_was clock_is disk_was disk_is ends.NoMemory taken (length taken) 1 refl tt tt (λ before all many. omega (arith, many)) goes) (λ done. cc)
 
 module _ {C D : Type 0} (c : ClockGhosts C) (d : DiskGhosts D) (groups : List Group) (server : List Mounted) (first waiting gathered final : List Token) (was mid is : Sampler) (clock_was clock_mid clock_is : C) (disk_was disk_mid disk_is : D)
     (taken : List SampleTaken) (samples : ℕ) (sum : length taken + 1 ≡ samples) (goes : GoesOn c d groups server was mid first waiting clock_was clock_mid disk_was disk_mid taken) where

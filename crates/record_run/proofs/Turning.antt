@@ -1,5 +1,5 @@
 -- The same samples, where a recording ends by want of memory or by a disk that failed.
-use Rattle.std.proofs.Common.{◌≢◌, ◌⊎◌, inl, inr, ℕ, List, refl}
+use Rattle.std.proofs.Common.{◌≢◌, ◌⊎◌, inl, inr, ℕ, ◌≤◌, List, refl, arith}
 use Rattle.pcp_base.specs.Time.{Moment}
 use Rattle.pcp_base.specs.declared.result.Item.{Item}
 use Rattle.pcp_model.specs.Disk.{Files}
@@ -12,9 +12,24 @@ use Rattle.script_runs.specs.declared.ending.Ending.{Ending}
 use Rattle.script_runs.specs.declared.ending.Ending.TheVariants as ends
 use Rattle.script_runs.specs.declared.ending.LimitKind.TheVariants as kinds
 use Rattle.record_run.specs.Beside.{IsSampled, StopsLogging}
+use Rattle.record_run.specs.Halting.{Took}
 use Rattle.record_run.specs.Recordings.{LastIsBehind}
 use Rattle.record_run.specs.Stopping.{LoggingDid, LogsResults, OpensForLast, ShowsLast}
 use Rattle.record_run.proofs.Undone.{logging_undone}
+
+-- no more moments were taken than were asked for
+pub took_most : (samples count : ℕ) (e : Ending) → Took samples count e → count ≤ samples
+took_most samples count ends.Done took = omega (arith, took)
+took_most samples count (ends.ClockEnd left) took = omega (arith, took.0)
+took_most samples count (ends.ClockFault left) took = omega (arith, took.0)
+took_most samples count ends.DiskFault took = took
+took_most samples count (ends.Condition line) took = took
+took_most samples count (ends.NotArchive file at) took = took
+took_most samples count (ends.Compressed file) took = took
+took_most samples count (ends.Limit what number) took = took
+took_most samples count ends.NoMemory took = took
+took_most samples count (ends.NotLater last) took = took
+took_most samples count (ends.Changed pmid) took = took
 
 module _ {script : Script} {server : List Mounted} {first final : List Token} {ending : Ending} {moments : List Moment} {results : List Fetched} (s : IsSampled script server first final ending moments results) (last : Ending) (stops : StopsLogging last) where
   abbrev pub stops_else : IsSampled script server first final last moments results

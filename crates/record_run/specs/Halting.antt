@@ -1,5 +1,5 @@
 -- How the samples of a recording end, before what was logged is flushed; and how it stands once that is done.
-use Rattle.std.specs.Prelude.{◌≡◌, ◌≢◌, ◌⊎◌, ℕ, ◌+◌, ◌<◌, List, [], ◌++◌, length}
+use Rattle.std.specs.Prelude.{◌≡◌, ◌≢◌, ◌⊎◌, ℕ, ◌+◌, ◌<◌, ◌≤◌, List, [], ◌++◌, length}
 use Rattle.pcp_base.specs.Time.{Moment}
 use Rattle.pcp_base.specs.declared.result.Item.{Item}
 use Rattle.pcp_model.specs.Disk.{Files, contents_of}
@@ -22,12 +22,12 @@ use Rattle.record_run.specs.Beside.{Beside}
 use Rattle.record_run.specs.Recordings.{Counts, LastIsBehind}
 use Rattle.record_run.specs.Stopping.{LoggingDid, WhyStopped}
 
--- how many moments were taken
+-- how many moments were taken: never more than were asked for
 abbrev pub Took : ℕ → ℕ → Ending → Type 0
 Took samples count ends.Done = count ≡ samples
 Took samples count (ends.ClockEnd left) = (count + left ≡ samples) × (0 < left)
 Took samples count (ends.ClockFault left) = (count + left ≡ samples) × (0 < left)
-Took samples count ending = Unit {0}
+Took samples count ending = count ≤ samples
 
 -- what samples may end by
 abbrev pub EndsSamples : Ending → Type 0

@@ -1,5 +1,5 @@
 -- The recording of a script over any files: what it makes of a disk, of a clock and of regions, and why it ends.
-use Rattle.std.specs.Prelude.{◌≡◌, ℕ, ◌+◌, ◌<◌, List, [], ◌++◌, codes, length}
+use Rattle.std.specs.Prelude.{◌≡◌, ℕ, ◌+◌, ◌<◌, ◌≤◌, List, [], ◌++◌, codes, length}
 use Rattle.pcp_base.specs.Time.{Moment}
 use Rattle.pcp_base.specs.declared.result.Item.{Item}
 use Rattle.pcp_outside.specs.Causes.{Rose}
@@ -19,12 +19,13 @@ use Rattle.run_archive.specs.Sampling.{HasEnded}
 use Rattle.record_run.specs.Beside.{Beside, IsSampled}
 use Rattle.record_run.specs.Stopping.{LoggingDid, WhyStopped}
 
--- where the clock gave no further moment, the others were taken; at the end all were, and it is told how many results were logged
+-- Where the clock gave no further moment, the others were taken; at the end all were, and it is told how many results were logged. However it
+-- ends, no more moments are taken than were asked for.
 abbrev pub Counts : ℕ → List Moment → List Fetched → Replayed → Ending → Type 0
 Counts samples moments results r ends.Done = (length moments ≡ samples) × (r.output ≡ one_number (codes "logged") (length results))
 Counts samples moments results r (ends.ClockEnd left) = (length moments + left ≡ samples) × (0 < left) × (r.output ≡ [])
 Counts samples moments results r (ends.ClockFault left) = (length moments + left ≡ samples) × (0 < left) × (r.output ≡ [])
-Counts samples moments results r ending = r.output ≡ []
+Counts samples moments results r ending = (length moments ≤ samples) × (r.output ≡ [])
 
 -- The last of so many moments was taken behind the writers: all others were sampled beside them.
 pub record LastIsBehind {script : Script} {server : List Mounted} {first final : List Token} {ending : Ending} {moments : List Moment} {results : List Fetched} (samples : ℕ) (sampled : IsSampled script server first final ending moments results) : Type 0 where

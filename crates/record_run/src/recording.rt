@@ -247,8 +247,8 @@ fn record_with<R: Threads + Wait + Sync, D: Disk, C: Clock, T: Turn + Sync>(
 /// Records a script over any files, with its writers running beside each other on the regions that were opened for it: the files are
 /// recovered; the writers run their lines by calls that wait, and beside them a sample is taken at each moment of the clock but the last;
 /// then the seat gathers the writers' passes, and takes the last sample. What was logged is flushed unless the disk failed. `samples` is
-/// at least 1, and `volume` the volume limit, 1,024 to 1,073,741,824 bytes. Where the files are refused the writers run all the same, and
-/// nothing is sampled.
+/// at least 1: however the recording ends, no more moments are taken. `volume` is the volume limit, 1,024 to 1,073,741,824 bytes. Where the
+/// files are refused the writers run all the same, and nothing is sampled.
 pub fn record_script<R: Threads + Wait + Sync, D: Disk, C: Clock, T: Turn + Sync>(
     rt: &R,
     alloc: Global,

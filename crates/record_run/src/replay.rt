@@ -153,6 +153,8 @@ pub fn replay_script<D: Disk>(
     ensures runs { (seat : Seated) → slice_get opened.new.seats.items 0 ≡ Some seat → IsReplay D.Disk script volume opened.new.server seat.tokens disk.old disk.new result }
     ensures seated { (seat : Seated) → slice_get opened.new.seats.items 0 ≡ Some seat → IsSeated opened.new.server seat.tokens }
     ensures seats { length opened.new.seats.items ≡ 1 }
+    // No list of passes is left.
+    ensures passes { opened.new.passes.items ≡ [] }
     ensures server { opened.new.server ≡ opened.old.server }
     // Where the files can't be read nothing is written.
     ensures unread { D.tells → (Readable (contents_of (D.held disk.old)) → ⊥) → LeavesOnly D.moment D.left_since disk.old disk.new (CrashImage (D.held disk.old)) }

@@ -52,5 +52,5 @@ recover = record {
   may_leave = λ input held crash. MayBeHalfway held crash;
   takes = λ files before after. Unit {0};
   since = λ g input old new. Unit {0};
-  ran = λ g input old new opened answer. opened ≡ None;
+  ran = λ g input old new opened front answer. opened ≡ None;
 }

@@ -11,6 +11,7 @@ use Rattle.pm_print.specs.Items.{item_text}
 use Rattle.pm_words.specs.declared.stage.FilesRefusal.{FilesRefusal}
 use Rattle.pm_words.specs.declared.stage.FilesRefusal.TheVariants.{Run, Compressed, NotArchive, Nothing}
 use Rattle.pm_tasks.specs.Archives.{IsLoaded, TurnedAfter, OverSound, looks, nothing_before}
+use Rattle.pm_tasks.specs.Takes.{TookAt}
 use Rattle.pm_words.specs.Meaning.{Meaning}
 use Rattle.pm_words.specs.Sides.{Found}
 
@@ -29,4 +30,4 @@ IsOutput t found text = (r : Loaded) × IsLoaded found r × (x : Item) × IsAtFr
     × OverSound found (λ items. last_at t items ≡ Some x) × (text ≡ item_text r.records x)
 
 abbrev pub at : Moment → Meaning
-at t = looks (IsTurnedAway t) (IsOutput t) nothing_before
+at t = looks (IsTurnedAway t) (IsOutput t) nothing_before (TookAt t)

@@ -11,7 +11,7 @@ use Rattle.archive_reader.specs.declared.places.Place.{Place}
 use Rattle.pm_print.specs.Items.{item_text, items_text}
 use Rattle.pm_words.specs.declared.stage.FilesRefusal.{FilesRefusal}
 use Rattle.pm_words.specs.declared.stage.FilesRefusal.TheVariants.{Run, Compressed, NotArchive, Nothing}
-use Rattle.pm_tasks.specs.Archives.{IsLoaded, TurnedAfter, looks}
+use Rattle.pm_tasks.specs.Archives.{IsLoaded, TurnedAfter, looks, takes_any}
 use Rattle.pm_words.specs.Meaning.{Meaning}
 use Rattle.pcp_outside.specs.Sides.{SinkSide}
 use Rattle.pm_words.specs.Sides.{DiskSide, Found, files_found}
@@ -57,7 +57,7 @@ abbrev pub IsFrontOutput : DiskSide → List ℕ → Type 0
 IsFrontOutput d front = d.tells → HasBegun (files_found d) front
 
 abbrev pub dump : Meaning
-dump = looks IsTurnedAway IsOutput IsFrontOutput
+dump = looks IsTurnedAway IsOutput IsFrontOutput takes_any
 
 -- Of one step: an item's record follows and its text was put, or none follows
 abbrev pub HasNext : Files → Loaded → Place → Place → List ℕ → List ℕ → Bool → Type 0

@@ -11,6 +11,7 @@ use Rattle.pm_print.specs.Items.{items_text}
 use Rattle.pm_words.specs.declared.stage.FilesRefusal.{FilesRefusal}
 use Rattle.pm_words.specs.declared.stage.FilesRefusal.TheVariants.{Run, Compressed, NotArchive, Nothing}
 use Rattle.pm_tasks.specs.Archives.{IsLoaded, TurnedAfter, OverSound, looks, nothing_before}
+use Rattle.pm_tasks.specs.Takes.{TookRange}
 use Rattle.pm_words.specs.Meaning.{Meaning}
 use Rattle.pm_words.specs.Sides.{Found}
 
@@ -29,4 +30,4 @@ IsOutput from to found text = (r : Loaded) × IsLoaded found r × (items : List 
     × OverSound found (λ all. between from to all ≡ items) × (text ≡ items_text r.records items)
 
 abbrev pub range : Moment → Moment → Meaning
-range from to = looks (IsTurnedAway from to) (IsOutput from to) nothing_before
+range from to = looks (IsTurnedAway from to) (IsOutput from to) nothing_before (TookRange from to)

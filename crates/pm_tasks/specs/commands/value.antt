@@ -10,7 +10,7 @@ use Rattle.pm_print.specs.Items.{set_text}
 use Rattle.pm_words.specs.declared.stage.FilesRefusal.{FilesRefusal}
 use Rattle.pm_words.specs.declared.stage.FilesRefusal.TheVariants.{Run, Compressed, NotArchive, Nothing}
 use Rattle.pm_words.specs.declared.words.ValueWords.{ValueWords}
-use Rattle.pm_tasks.specs.Archives.{IsLoaded, TurnedAfter, OverReadable, looks, nothing_before}
+use Rattle.pm_tasks.specs.Archives.{IsLoaded, TurnedAfter, OverReadable, looks, nothing_before, takes_any}
 use Rattle.pm_words.specs.Meaning.{Meaning}
 use Rattle.pm_words.specs.Sides.{Found}
 
@@ -45,4 +45,4 @@ abbrev pub IsOutput : ValueWords → Found → List ℕ → Type 0
 IsOutput asked found text = (r : Loaded) × IsLoaded found r × (pmid : ℕ) × (metric_of_name r.records asked.name ≡ Some pmid) × HasValue found r pmid asked.stamp text
 
 abbrev pub value : ValueWords → Meaning
-value asked = looks (IsTurnedAway asked) (IsOutput asked) nothing_before
+value asked = looks (IsTurnedAway asked) (IsOutput asked) nothing_before takes_any

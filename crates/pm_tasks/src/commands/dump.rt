@@ -1,13 +1,14 @@
 //! The command `dump`: the label of an archive and all its items.
-ghost use Rattle.std.specs.Prelude.{◌≡◌, ◌++◌, false, Some, IfOk, IfErr, OnOk, OnErr};
+ghost use Rattle.std.specs.Prelude.{◌≡◌, ◌++◌, ℕ, List as Sequence, false, Some, None, IfOk, IfErr, OnOk, OnErr};
 ghost use Rattle.pcp_model.specs.Disk.{contents_of};
 ghost use Rattle.archive_loading.specs.Looks.{Looks};
 ghost use Rattle.archive_loading.specs.Loaded.{IsOver};
 ghost use Rattle.pm_tasks.specs.Archives.{TurnedAway};
 ghost use Rattle.pcp_outside.specs.Sides.{sink_side};
+ghost use Rattle.pm_words.specs.Serving.{MeetsSending};
 ghost use Rattle.pm_words.specs.Sides.{disk_side};
 ghost use Rattle.pm_words.specs.Streams.{Turns};
-ghost use Rattle.pm_tasks.specs.commands.dump.{label_line, IsTurnedAway, HasNext, BadNext, HasPut, HasPutSome, HasSaid, HasStopped, BadRecord};
+ghost use Rattle.pm_tasks.specs.commands.dump.{label_line, IsTurnedAway, HasNext, BadNext, HasPut, HasPutSome, HasSaid, HasStopped, BadRecord, dump as meaning_of_dump};
 
 use archive_reader::{ArchiveReader, Place};
 use pcp_base::{Bytes, List, NoMemory};
@@ -110,9 +111,8 @@ fn put_items<O: Sink, D: Disk>(
     Err(Refusal::NoMemory)
 }
 
-/// The label of an archive and all its items, as text. It is written as it is read, some 64 KiB at a time, and the rest is
-/// answered.
-pub fn dump<O: Sink, D: Disk>(
+// The label of an archive and all its items, as text; what fills pages is written, and the rest is answered.
+fn put_archive<O: Sink, D: Disk>(
     alloc: Global,
     out: &mut O,
     failed: &mut bool,
@@ -129,4 +129,18 @@ pub fn dump<O: Sink, D: Disk>(
     put_head(alloc, &mut page, &reader)?;
     put_items(alloc, disk, &mut reader, out, failed, &mut page)?;
     Ok(List::from_vec(page))
+}
+
+/// The label of an archive and all its items, as text. It is written as it is read, some 64 KiB at a time, and the rest is
+/// answered.
+pub fn dump<O: Sink, D: Disk>(
+    alloc: Global,
+    out: &mut O,
+    failed: &mut bool,
+    disk: &mut D,
+) -> Result<Bytes, Refusal>
+    requires { failed.old ≡ false }
+    ensures meets { (input : Sequence ℕ) → MeetsSending (sink_side O.Sink out.old out.new) failed.new meaning_of_dump input D.Disk disk.old disk.new None result }
+{
+    put_archive(alloc, out, failed, disk)
 }

@@ -1,28 +1,23 @@
 //! The command `mmv-dump`: an image becomes its layout text.
-ghost use Rattle.std.specs.Prelude.{◌≡◌, IfOk, IfErr, OnOk, None};
-ghost use Rattle.mmv_layout.specs.Faults.{image_of};
-ghost use Rattle.pm_print.specs.Dumps.{dump_of};
-ghost use Rattle.pm_words.specs.Inputs.{refusal_of, made_of, Refuses};
-ghost use Rattle.pm_tasks.specs.commands.mmv_dump.{mmv_dump as meaning_of_dump};
+ghost use Rattle.pm_tasks.specs.Conversions.{Converts};
+ghost use Rattle.pm_tasks.specs.commands.mmv_dump.{refuses, makes};
 
 use mmv_layout::{Image, ImageFault};
 use pcp_base::Bytes;
 use pm_print::image_text;
-use pm_words::{InputRefusal, StageFault};
+use pm_words::{InputRefusal, Refusal};
 use std::alloc::Global;
 
 /// The layout text of an image.
-pub fn mmv_dump(alloc: Global, input: &[u8]) -> Result<Bytes, StageFault<InputRefusal>>
-    ensures output { IfOk result (λ output. output ≡ made_of dump_of (image_of input.now)) }
-    ensures good { OnOk result (refusal_of meaning_of_dump.reads input.now ≡ None) }
-    ensures cause { IfErr result (Refuses meaning_of_dump.reads input.now) }
+pub fn mmv_dump(alloc: Global, input: &[u8]) -> Result<Bytes, Refusal>
+    ensures converts { Converts refuses makes input.now result }
 {
     match Image::from_bytes(alloc, input) {
         Ok(image) => {
             let text = image_text(alloc, &image)?;
             Ok(text)
         }
-        Err(ImageFault::NoMemory) => Err(StageFault::OutOfMemory),
-        Err(fault) => Err(StageFault::Refused(InputRefusal::Image(fault))),
+        Err(ImageFault::NoMemory) => Err(Refusal::NoMemory),
+        Err(fault) => Err(Refusal::Input(InputRefusal::Image(fault))),
     }
 }

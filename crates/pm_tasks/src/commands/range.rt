@@ -1,12 +1,13 @@
 //! The command `range SEC USEC SEC USEC`: the items between two moments.
-ghost use Rattle.std.specs.Prelude.{◌≡◌, ◌++◌, IfOk, IfErr, OnOk};
+ghost use Rattle.std.specs.Prelude.{◌≡◌, ◌++◌, ℕ, List as Sequence, [], None, IfOk, IfErr, OnOk};
 ghost use Rattle.pcp_model.specs.Disk.{contents_of};
 ghost use Rattle.archive_loading.specs.Looks.{Looks};
 ghost use Rattle.pm_print.specs.Items.{items_text};
 ghost use Rattle.pm_tasks.specs.Archives.{TurnedAway};
+ghost use Rattle.pm_words.specs.Serving.{Meets};
 ghost use Rattle.pm_words.specs.Sides.{disk_side, files_found};
 ghost use Rattle.pm_tasks.specs.Takes.{TookRange};
-ghost use Rattle.pm_tasks.specs.commands.range.{IsTurnedAway, IsOutput};
+ghost use Rattle.pm_tasks.specs.commands.range.{IsTurnedAway, IsOutput, range as meaning_of_range};
 
 use archive_meta::MetaState;
 use archive_reader::ArchiveReader;
@@ -38,8 +39,13 @@ fn text_of(alloc: Global, items: &[Item], meta: &MetaState) -> Result<Bytes, NoM
     Ok(List::from_vec(out))
 }
 
-/// The items, as text.
-pub fn range<D: Disk>(alloc: Global, from: Stamp, to: Stamp, disk: &mut D) -> Result<Bytes, Refusal>
+// The items, as text.
+fn find_items<D: Disk>(
+    alloc: Global,
+    from: Stamp,
+    to: Stamp,
+    disk: &mut D,
+) -> Result<Bytes, Refusal>
     ensures said { D.tells → IfOk result (IsOutput from to (files_found (disk_side D.Disk disk.old disk.new))) }
     ensures turned { IfErr result (TurnedAway (IsTurnedAway from to) (disk_side D.Disk disk.old disk.new)) }
     ensures taken { D.tells → TookRange from to (contents_of (D.held disk.old)) (D.taken disk.old) (D.taken disk.new) }
@@ -49,4 +55,11 @@ pub fn range<D: Disk>(alloc: Global, from: Stamp, to: Stamp, disk: &mut D) -> Re
     let items = reader.range(alloc, disk, from, to)?;
     let text = text_of(alloc, items.as_slice(), reader.meta())?;
     Ok(text)
+}
+
+/// The items, as text.
+pub fn range<D: Disk>(alloc: Global, from: Stamp, to: Stamp, disk: &mut D) -> Result<Bytes, Refusal>
+    ensures meets { (input : Sequence ℕ) → Meets (meaning_of_range from to) input D.Disk disk.old disk.new None [] result }
+{
+    find_items(alloc, from, to, disk)
 }

@@ -1,14 +1,15 @@
 //! The command `value SEC USEC NAME`: the values that a metric last had at a moment.
-ghost use Rattle.std.specs.Prelude.{◌≡◌, IfOk, IfErr};
+ghost use Rattle.std.specs.Prelude.{◌≡◌, ℕ, List, [], None, IfOk, IfErr};
 ghost use Rattle.pcp_model.specs.Disk.{contents_of};
 ghost use Rattle.archive_loading.specs.Looks.{Looks};
 ghost use Rattle.archive_loading.specs.Loaded.{IsOver};
 ghost use Rattle.pm_tasks.specs.Archives.{TurnedAway};
+ghost use Rattle.pm_words.specs.Serving.{Meets};
 ghost use Rattle.pm_words.specs.Sides.{disk_side, files_found};
 ghost use Rattle.pm_words.specs.declared.refusal.Refusal.TheVariants.{Disk};
 ghost use Rattle.pm_words.specs.declared.stage.DiskRefusal.TheVariants.{Files};
 ghost use Rattle.pm_words.specs.declared.stage.FilesRefusal.TheVariants.{Nothing};
-ghost use Rattle.pm_tasks.specs.commands.value.{HasValue, HasNoValue, IsTurnedAway, IsOutput};
+ghost use Rattle.pm_tasks.specs.commands.value.{HasValue, HasNoValue, IsTurnedAway, IsOutput, value as meaning_of_value};
 
 use archive_reader::ArchiveReader;
 use pcp_base::{Bytes, Pmid, Stamp};
@@ -46,8 +47,8 @@ fn values_text<D: Disk>(
     }
 }
 
-/// The values and their stamp, as text.
-pub fn value<D: Disk>(alloc: Global, asked: &ValueWords, disk: &mut D) -> Result<Bytes, Refusal>
+// The values and their stamp, as text.
+fn find_values<D: Disk>(alloc: Global, asked: &ValueWords, disk: &mut D) -> Result<Bytes, Refusal>
     ensures said { D.tells → IfOk result (IsOutput asked.now (files_found (disk_side D.Disk disk.old disk.new))) }
     ensures turned { IfErr result (TurnedAway (IsTurnedAway asked.now) (disk_side D.Disk disk.old disk.new)) }
     ensures looks { Looks D.Disk disk.old disk.new }
@@ -58,4 +59,11 @@ pub fn value<D: Disk>(alloc: Global, asked: &ValueWords, disk: &mut D) -> Result
         Some(pmid) => values_text(alloc, disk, &mut reader, pmid, asked.stamp),
         None => Err(nothing_at(asked.stamp)),
     }
+}
+
+/// The values and their stamp, as text.
+pub fn value<D: Disk>(alloc: Global, asked: &ValueWords, disk: &mut D) -> Result<Bytes, Refusal>
+    ensures meets { (input : List ℕ) → Meets (meaning_of_value asked.now) input D.Disk disk.old disk.new None [] result }
+{
+    find_values(alloc, asked, disk)
 }

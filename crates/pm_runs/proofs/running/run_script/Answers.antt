@@ -16,6 +16,7 @@ returns-clause-run g c =
       there = c.replay_script-replayed.new.opened;
       there_is = refl;
       serves = subst (λ (server : List Mounted). ServesScript c.args.script 1 server) (sym e.server) (subst (λ (n : ℕ). ServesScript c.args.script n c.in_ok-regions.regions.server) made.seats_are made.made.serves);
+      passes = e.passes;
       seats = e.seats;
       seat = seat.0;
       seat_is = seat.1;

@@ -1,14 +1,12 @@
-use Rattle.std.proofs.Common.{rules, ap, ◌∙◌}
-use Rattle.pm_print.specs.Infos.{info_text}
-use Rattle.pm_tasks.specs.commands.info.{IsTurnedAway}
-use Rattle.pm_tasks.proofs.Asking.{not_loaded, is_loaded}
+-- The command meets its meaning, whatever is called its input.
+use Rattle.std.proofs.Common.{refl}
+use Rattle.pm_tasks.specs.Archives.{nothing_before, takes_any}
+use Rattle.pm_tasks.specs.commands.info.{IsTurnedAway, IsOutput}
+use Rattle.pm_tasks.proofs.Lookings.{info_fits, look_meets}
 use Rattle.pm_tasks.proofs.commands.info.info.Goals as goal
 
-pub returns-in_err-reader-clause-turned : goal.returns-in_err-reader-clause-turned
-returns-in_err-reader-clause-turned g c =
-    let away = not_loaded g.D.Disk IsTurnedAway (λ f e n. n) c.args.disk.now c.load.new.disk c.in_err-reader.field-0.0 c.in_err-reader.ensures.fault c.in_err-reader.ensures.cause in
-    search (rules, away)
-
-pub returns-clause-said : goal.returns-clause-said
-returns-clause-said g c = λ tells.
-    (c.in_ok-reader.reader, is_loaded g.D.Disk c.args.disk.now c.load.new.disk c.load.new.disk c.in_ok-reader.reader tells c.in_ok-reader.ensures.loaded c.in_ok-reader.ensures.unwrapped, c.in_ok-text.ensures ∙ ap info_text c.meta.ensures)
+pub returns : goal.returns
+returns g c = record {
+  meets = λ input.
+      look_meets IsTurnedAway IsOutput nothing_before takes_any info_fits g.D.Disk input c.args.disk.now c.find_descriptions.new.disk c.find_descriptions.ensures.looks (λ tells. tt) c.find_descriptions.result refl c.find_descriptions.ensures.said c.find_descriptions.ensures.turned;
+}

@@ -1,0 +1,9 @@
+pub mod Adds
+pub mod Asked
+pub mod Changes
+pub mod Holding
+pub mod Images
+pub mod Names
+pub mod Safe
+pub mod Standing
+pub mod Ticks

@@ -1,0 +1,181 @@
+-- Commands that only read an archive: that they meet their meaning, and which of their refusals go together.
+use Rattle.std.proofs.Common.{◌≡◌, ◌⊎◌, inl, ⊎_elim, ℕ, Bool, true, false, List, [], ◌++◌, refl, sym, ◌∙◌, Option, Some, None, Result, Ok, Err, IfOk, IfErr, OnErr}
+use Rattle.pcp_base.specs.Time.{Moment}
+use Rattle.pcp_base.specs.declared.file.FileId.{FileId}
+use Rattle.pcp_model.specs.Disk.{Files, CrashImage, contents_of}
+use Rattle.pcp_outside.specs.declared.disk.Disk.{Ghosts as DiskGhosts}
+use Rattle.pcp_outside.specs.Sides.{SinkSide}
+use Rattle.pcp_outside.proofs.Crash.{weaker}
+use Rattle.archive_loading.specs.Looks.{Looks}
+use Rattle.archive_loading.specs.Loaded.{Loaded}
+use Rattle.pm_words.specs.declared.stage.FilesRefusal.{FilesRefusal}
+use Rattle.pm_words.specs.declared.stage.FilesRefusal.TheVariants.{Run, Compressed, NotArchive, Nothing}
+use Rattle.pm_words.specs.declared.stage.RunRefusal.{RunRefusal}
+use Rattle.pm_words.specs.declared.stage.DiskRefusal.TheVariants.{Files as FilesAway, DiskFault}
+use Rattle.pm_words.specs.declared.refusal.Refusal.{Refusal}
+use Rattle.pm_words.specs.declared.refusal.Refusal.TheVariants.{Words, Reading, Input, Disk, ClockEnd, ClockFault, Accept, NoMemory}
+use Rattle.pm_words.specs.declared.words.ValueWords.{ValueWords}
+use Rattle.pm_words.specs.Meaning.{Meaning}
+use Rattle.pm_words.specs.Refusals.{files_status}
+use Rattle.pm_words.specs.Serving.{StopCause, HasServed, IsNever, MayLeave, Meets, MeetsSending}
+use Rattle.pm_words.specs.Sides.{DiskSide, Found, disk_side, files_found, Untouched, Leaves}
+use Rattle.pm_words.proofs.Coherent.{IsCoherent}
+use Rattle.pm_words.proofs.Serving.{still_settled, left_alone}
+use Rattle.pm_tasks.specs.Archives.{TurnedAfter, TurnedAway, looks, takes_any}
+use Rattle.pm_tasks.specs.commands.at as at
+use Rattle.pm_tasks.specs.commands.dump as dump
+use Rattle.pm_tasks.specs.commands.info as info
+use Rattle.pm_tasks.specs.commands.range as range
+use Rattle.pm_tasks.specs.commands.value as value
+
+-- over which files such a command refuses, and over which it writes a text
+pub record FitsLook (turned : Found → FilesRefusal → Type 0) (said : Found → List ℕ → Type 0) : Type 0 where
+  -- none speaks of a result that isn't logged
+  pub never_unlogged : (f : Found) (reason : RunRefusal) → turned f (Run reason) → ⊥
+  -- a file stands wrapped where one says so, and none does where a text was written
+  pub wrapped : (f : Found) (file : FileId) → turned f (Compressed file) → f.wrapped ≡ Some file
+  pub unwrapped : (f : Found) (text : List ℕ) → said f text → f.wrapped ≡ None
+  -- nor where nothing was found
+  pub nothing : (f : Found) (stamp : Moment) → turned f (Nothing stamp) → f.wrapped ≡ None
+
+pub info_fits : FitsLook info.IsTurnedAway info.IsOutput
+info_fits = record {
+  never_unlogged = λ f reason t. t;
+  wrapped = λ f file t. t;
+  nothing = λ f stamp t. absurd t;
+  unwrapped = λ f text s. s.1.unwrapped;
+}
+
+pub neither : {A B : Type 0} → (A → ⊥) → (B → ⊥) → A ⊎ B → ⊥
+neither f g t = ⊎_elim f g t
+
+-- a command that turns files away for what it finds in an archive that was loaded
+asked_fits : (why : Loaded → Found → FilesRefusal → Type 0) (said : Found → List ℕ → Type 0) → ((r : Loaded) (f : Found) (reason : RunRefusal) → why r f (Run reason) → ⊥) → ((r : Loaded) (f : Found) (file : FileId) → why r f (Compressed file) → ⊥)
+    → ((f : Found) (text : List ℕ) → said f text → f.wrapped ≡ None) → FitsLook (TurnedAfter why) said
+asked_fits why said unlogged wrapped unwrapped = record {
+  never_unlogged = λ f reason t. neither (λ n. n) (λ b. unlogged b.0 f reason b.2) t;
+  wrapped = λ f file t. ⊎_elim (λ (w : f.wrapped ≡ Some file). w) (λ b. absurd (wrapped b.0 f file b.2)) t;
+  nothing = λ f stamp t. ⊎_elim (λ (n : ⊥). absurd n) (λ b. b.1.unwrapped) t;
+  unwrapped = unwrapped;
+}
+
+pub dump_fits : FitsLook dump.IsTurnedAway dump.IsOutput
+dump_fits = asked_fits dump.BadRecord dump.IsOutput (λ r f reason b. b) (λ r f file b. b) (λ f text s. s.1.unwrapped)
+
+pub at_fits : (t : Moment) → FitsLook (at.IsTurnedAway t) (at.IsOutput t)
+at_fits t = asked_fits (at.IsStopped t) (at.IsOutput t) (λ r f reason b. b) (λ r f file b. b) (λ f text s. s.1.unwrapped)
+
+pub range_fits : (from to : Moment) → FitsLook (range.IsTurnedAway from to) (range.IsOutput from to)
+range_fits from to = asked_fits (range.IsStopped from to) (range.IsOutput from to) (λ r f reason b. b) (λ r f file b. b) (λ f text s. s.1.unwrapped)
+
+pub value_fits : (asked : ValueWords) → FitsLook (value.IsTurnedAway asked) (value.IsOutput asked)
+value_fits asked = asked_fits (value.IsStopped asked) (value.IsOutput asked) (λ r f reason b. b) (λ r f file b. b) (λ f text s. s.1.unwrapped)
+
+not_both : (w : Option FileId) (file : FileId) → w ≡ None → w ≡ Some file → ⊥
+not_both w file none some = let e : None ≡ Some file = sym none ∙ some in cc
+
+pub not_so : {A : Type 0} → false ≡ true → A
+not_so h = let e : false ≡ true = h in cc
+
+-- at any moment it leaves what was there
+pub look_leaves : {D : Type 0} (g : DiskGhosts D) (m : Meaning) (input : List ℕ) (a b : D) → Looks g a b → Leaves g a b (MayLeave m input)
+look_leaves g m input a b looks = λ tells. weaker g.moment g.left_since g.held a b (CrashImage (g.held a)) (MayLeave m input (g.held a)) (looks.moments tells) (λ crash was. inl was)
+
+module _ (turned : Found → FilesRefusal → Type 0) (said : Found → List ℕ → Type 0) (first : DiskSide → List ℕ → Type 0) (taken : Files → ℕ → ℕ → Type 0) (fits : FitsLook turned said) where
+  never_turned : (f : Found) (text : List ℕ) → said f text → (e : FilesRefusal) → IsNever e → turned f e → ⊥
+  never_turned f text s (Run reason) never t = fits.never_unlogged f reason t
+  never_turned f text s (Compressed file) never t = not_both f.wrapped file (fits.unwrapped f text s) (fits.wrapped f file t)
+  never_turned f text s (NotArchive file offset) never t = never
+  never_turned f text s (Nothing stamp) never t = never
+
+  -- where a file stands wrapped, the archive is turned away
+  look_wrapped : (f : Found) (file : FileId) (e : FilesRefusal) → turned f (Compressed file) → turned f e → files_status e ≡ 6
+  look_wrapped f file (Run reason) w t = absurd (fits.never_unlogged f reason t)
+  look_wrapped f file (Compressed other) w t = refl
+  look_wrapped f file (NotArchive other offset) w t = refl
+  look_wrapped f file (Nothing stamp) w t = absurd (not_both f.wrapped file (fits.nothing f stamp t) (fits.wrapped f file w))
+
+  -- what such a command is served
+  look_served : (input : List ℕ) (d : DiskSide) (text : List ℕ) → Untouched d → (d.tells → said (files_found d) text) → HasServed (looks turned said first taken) input d text
+  look_served input d text still told = record {
+    good = refl;
+    welcome = λ tells e never away. never_turned (files_found d) text (told tells) e never away;
+    done = still;
+    says = told;
+    kept = λ tells crash left. tt;
+    settled = still_settled d still;
+  }
+
+  -- and why it is stopped
+  look_stops : (input : List ℕ) (d : DiskSide) (e : Refusal) → Untouched d → TurnedAway turned d e → StopCause (looks turned said first taken) input d e
+  look_stops input d (Disk (FilesAway e)) still c = ((refl, refl), (left_alone (looks turned said first taken) (files_status e) input d still, c))
+  look_stops input d (Disk DiskFault) still c = ((refl, refl), (left_alone (looks turned said first taken) 5 input d still, c))
+  look_stops input d NoMemory still c = left_alone (looks turned said first taken) 9 input d still
+  look_stops input d (Words usage) still c = absurd c
+  look_stops input d (Reading e) still c = absurd c
+  look_stops input d (Input e) still c = absurd c
+  look_stops input d (ClockEnd left) still c = absurd c
+  look_stops input d (ClockFault left) still c = absurd c
+  look_stops input d Accept still c = absurd c
+
+  -- Its meaning is coherent where nothing that was asked for is there and nothing else is wrong then.
+  pub look_coherent : ((files : Files) (n : ℕ) → taken files n n) → ((f : Found) (stamp : Moment) (e : FilesRefusal) → turned f (Nothing stamp) → turned f e → files_status e ≡ 11) → ((f : Found) (stamp : Moment) (text : List ℕ) → turned f (Nothing stamp) → said f text → ⊥)
+      → IsCoherent (looks turned said first taken)
+  look_coherent idle alone silent = record {
+    one_reason = λ input f reason e unlogged t. absurd (fits.never_unlogged f reason unlogged);
+    wrapped_first = λ input f file e w t. look_wrapped f file e w t;
+    nothing_first = λ input f stamp e nothing t. alone f stamp e nothing t;
+    never_done = λ input d text served tells stamp nothing. silent (files_found d) stamp text nothing (served.says tells);
+    untold = λ input d e begun. begun;
+    begins_untold = λ input d e front some begins. begins;
+    takes_none = idle;
+    sound = λ input d writes tells done. not_so writes;
+  }
+
+  -- and where such a refusal never comes
+  pub quiet_coherent : ((files : Files) (n : ℕ) → taken files n n) → ((f : Found) (stamp : Moment) → turned f (Nothing stamp) → ⊥) → IsCoherent (looks turned said first taken)
+  quiet_coherent idle quiet = look_coherent idle (λ f stamp e nothing t. absurd (quiet f stamp nothing)) (λ f stamp text nothing s. quiet f stamp nothing)
+
+  module _ {D : Type 0} (g : DiskGhosts D) (input : List ℕ) (a b : D) (looked : Looks g a b) (took : g.tells → taken (contents_of (g.held a)) (g.taken a) (g.taken b)) where
+    -- done, where a front of the text went to the sink before
+    look_done : (front text : List ℕ) → (g.tells → said (files_found (disk_side g a b)) (front ++ text)) → Meets (looks turned said first taken) input g a b None front (Ok text)
+    look_done front text told = record {
+      done = look_served input (disk_side g a b) (front ++ text) looked.held told;
+      stops = tt;
+      aside = λ h. not_so (sym h);
+      unread = λ other. looked.moments;
+      any_moment = look_leaves g (looks turned said first taken) input a b looked;
+      taken = took;
+      since = λ tells recovered. tt;
+      ran = refl;
+      regions = not_so;
+      unrun = λ runs none. not_so runs;
+    }
+
+    -- or stopped
+    look_stopped : (front : List ℕ) (e : Refusal) → TurnedAway turned (disk_side g a b) e → first (disk_side g a b) front → Meets (looks turned said first taken) input g a b None front (Err e)
+    look_stopped front e away begun = record {
+      done = tt;
+      stops = (look_stops input (disk_side g a b) e looked.held away, begun);
+      aside = λ h. not_so (sym h);
+      unread = λ other. looked.moments;
+      any_moment = look_leaves g (looks turned said first taken) input a b looked;
+      taken = took;
+      since = λ tells recovered. tt;
+      ran = refl;
+      regions = not_so;
+      unrun = λ runs none. not_so runs;
+    }
+
+    -- one that writes nothing before it is done
+    pub look_meets : (result : Result (List ℕ) Refusal) → first (disk_side g a b) [] → (g.tells → IfOk result (said (files_found (disk_side g a b)))) → IfErr result (TurnedAway turned (disk_side g a b))
+        → Meets (looks turned said first taken) input g a b None [] result
+    look_meets (Ok text) begun told away = look_done [] text told
+    look_meets (Err e) begun told away = look_stopped [] e away begun
+
+-- `dump`, whose text goes on behind what was sent
+pub dump_meets : {D : Type 0} (g : DiskGhosts D) (input : List ℕ) (k : SinkSide) (failed : Bool) (a b : D) (result : Result (List ℕ) Refusal) → Looks g a b → IfOk result (dump.HasSaid k failed (disk_side g a b)) → OnErr result (dump.HasStopped k failed (disk_side g a b))
+    → IfErr result (TurnedAway dump.IsTurnedAway (disk_side g a b)) → MeetsSending k failed dump.dump input g a b None result
+dump_meets g input k failed a b (Ok text) looked has stopped away = (has.front, has.sent, look_done dump.IsTurnedAway dump.IsOutput dump.IsFrontOutput takes_any dump_fits g input a b looked (λ tells. tt) has.front text has.whole)
+dump_meets g input k failed a b (Err e) looked has stopped away =
+    (stopped.front, stopped.sent, look_stopped dump.IsTurnedAway dump.IsOutput dump.IsFrontOutput takes_any dump_fits g input a b looked (λ tells. tt) stopped.front e away stopped.so_far)
