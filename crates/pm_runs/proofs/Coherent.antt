@@ -1,6 +1,6 @@
 -- Why files are turned away by the commands here, and laws of their meanings: there is one reason, and where memory for a refusal's line is
 -- wanting, what was done and written stands.
-use Rattle.std.proofs.Common.{◌≡◌, inl, inr, ⊎_elim, ℕ, List, [], Option, Some, None, IsSome, refl, sym, ap, ◌∙◌, subst}
+use Rattle.std.proofs.Common.{◌≡◌, inl, inr, ⊎_elim, ℕ, List, Option, Some, None, IsSome, refl, sym, ap, ◌∙◌, subst}
 use Rattle.std.proofs.lemmas.Option.{none-some, same_Some}
 use Rattle.pcp_base.specs.declared.file.FileId.{FileId}
 use Rattle.pcp_model.specs.Archive.{Readable}
@@ -82,16 +82,13 @@ module _ (limit : ℕ) (f : Found) (script : Script) where
   one_wrapped file (NotArchive other offset) w t = refl
   one_wrapped file (Nothing stamp) w t = absurd t
 
-  -- a run that comes to its end isn't refused
-  pub done_taken : (output : List ℕ) (events : List Event) (final : Files) → f.wrapped ≡ None → Leads script limit f.files ends.Done output events final → (e : FilesRefusal) → IsTurnedAway limit f script e → ⊥
-  done_taken output events final unwrapped leads (Run reason) (none, p, j, h, y) =
-      not_done reason (one_ending script limit f.files ends.Done (ending_of reason) tt (own_reason reason) output p events j leads.regions y.regions final h leads.runs y.runs)
-  done_taken output events final unwrapped leads (Compressed file) t = not_both f.wrapped file unwrapped t
-  done_taken output events final unwrapped leads (NotArchive file offset) t = refused_is_none f.files file offset (can_be_read script limit f.files ends.Done output events final leads) t.1
-  done_taken output events final unwrapped leads (Nothing stamp) t = t
-
+-- a run that comes to its end isn't refused
 pub done_welcome : (f : Found) (script : Script) (limit : ℕ) (output : List ℕ) (events : List Event) (final : Files) → Leads script limit f.files ends.Done output events final → f.wrapped ≡ None → (e : FilesRefusal) → IsTurnedAway limit f script e → ⊥
-done_welcome f script limit output events final leads unwrapped e t = done_taken limit f script output events final unwrapped leads e t
+done_welcome f script limit output events final leads unwrapped (Run reason) (none, p, j, h, y) =
+    not_done reason (one_ending script limit f.files ends.Done (ending_of reason) tt (own_reason reason) output p events j leads.regions y.regions final h leads.runs y.runs)
+done_welcome f script limit output events final leads unwrapped (Compressed file) t = not_both f.wrapped file unwrapped t
+done_welcome f script limit output events final leads unwrapped (NotArchive file offset) t = refused_is_none f.files file offset (can_be_read script limit f.files ends.Done output events final leads) t.1
+done_welcome f script limit output events final leads unwrapped (Nothing stamp) t = t
 
 -- ---- a refusal whose line wants memory
 

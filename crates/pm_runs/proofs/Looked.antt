@@ -82,7 +82,7 @@ done_began g old new e same n = subst (λ (x : Ending). IsUnrecovered g old new 
 done_not_disk : (e : Ending) → e ≡ ends.Done → e ≢ ends.DiskFault
 done_not_disk e same failed = let both : ends.Done ≡ ends.DiskFault = sym same ∙ failed in cc
 
-module _ {D : Type 0} (g : DiskGhosts D) (script : Script) (limit : ℕ) (old mid new : D) (opened : Option Opened) (r : Replayed) (done : r.ending ≡ ends.Done) (looks : Looks g mid new) (run : WasRun g script limit old mid opened r) where
+module _ {D : Type 0} {g : DiskGhosts D} {script : Script} {limit : ℕ} {old mid new : D} {opened : Option Opened} {r : Replayed} (done : r.ending ≡ ends.Done) (looks : Looks g mid new) (run : WasRun g script limit old mid opened r) where
   abbrev files : g.tells → ReplaysFiles g script limit old mid run.is.run.ran.count run.is.run.ran.last r.ending
   files t = run.is.told t
 

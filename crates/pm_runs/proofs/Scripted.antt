@@ -1,6 +1,6 @@
 -- What a command does that runs a script, path by path: its input is refused, or memory before the run; the run is done, and told or not; or
 -- it is refused.
-use Rattle.std.proofs.Common.{◌≡◌, ◌≢◌, ◌⊎◌, inl, inr, ⊎_elim, ℕ, Bool, true, false, List, [], ◌++◌, length, take, Option, Some, None, Result, Ok, Err, IfOk, IfErr, refl, sym, ap, ◌∙◌, subst}
+use Rattle.std.proofs.Common.{◌≡◌, ◌≢◌, ◌⊎◌, inl, inr, ⊎_elim, ℕ, true, false, List, [], ◌++◌, length, take, Option, Some, None, Result, Ok, Err, IfOk, IfErr, refl, sym, ap, ◌∙◌, subst}
 use Rattle.std.proofs.lemmas.Option.{none-some, same_Some}
 use Rattle.pcp_base.specs.declared.file.FileId.{FileId}
 use Rattle.pcp_base.specs.declared.result.Item.{Item}
@@ -40,10 +40,10 @@ use Rattle.pm_words.specs.Sides.{DiskSide, Leaves, disk_side, files_found}
 use Rattle.pm_words.proofs.Recovering.{no_input_yet}
 use Rattle.pm_words.proofs.Serving.{left_alone, no_good}
 use Rattle.pm_runs.specs.Regions.{AnswersRun, RanRegions}
-use Rattle.pm_runs.specs.Runners.{OfScript, Runner}
+use Rattle.pm_runs.specs.Runners.{Runner}
 use Rattle.pm_runs.specs.Running.{WasRun}
 use Rattle.pm_runs.specs.Scripts.{HasWritten, IsOwn, IsTurnedAway, Leads, LogsFirst, RunsSo, ScriptSince, StoppedAt, WantsWith, ending_of, runs_script}
-use Rattle.pm_runs.proofs.Coherent.{done_taken, of_one, own_reason}
+use Rattle.pm_runs.proofs.Coherent.{done_welcome, of_one, own_reason}
 use Rattle.pm_runs.proofs.Sound.{run_leaves_sound}
 
 -- ---- before the run
@@ -57,9 +57,9 @@ no_regions OutOfMemory opened = tt
 no_regions (Refused e) opened = tt
 
 -- the input is refused, or memory
-pub runner_refused : (c : Runner) (input : List ℕ) {D : Type 0} (g : DiskGhosts D) → OnlyNow g → (old new : D) (opened : Option Opened) (stop : StageFault InputRefusal) → new ≡ old → opened ≡ None → Refuses c.reads input stop
+pub runner_refused : (c : Runner) (input : List ℕ) {D : Type 0} (g : DiskGhosts D) → OnlyNow g → {old new : D} {opened : Option Opened} (stop : StageFault InputRefusal) → new ≡ old → opened ≡ None → Refuses c.reads input stop
     → Meets (runs_script c) input g old new opened [] (Err (refusal_of_stage Input stop))
-runner_refused c input {D} g now old new opened stop same none refuses =
+runner_refused c input {D} g now {old} {new} {opened} stop same none refuses =
     let d : DiskSide = disk_side g old new in
     let moments : Leaves g old new CrashImage = λ t. subst (λ (x : D). LeavesOnly g.moment g.left_since old x (CrashImage (g.held old))) (sym same) ((looks_none g now old).moments t) in
     record {
@@ -120,14 +120,11 @@ has_regions (Err (ClockFault left)) there = refl
 has_regions (Err Accept) there = tt
 has_regions (Err NoMemory) there = tt
 
-module _ (c : Runner) (input : List ℕ) (script : Script) (is : c.script input ≡ Some script) (good : refusal_of c.reads input ≡ None) where
+module _ (c : Runner) (input : List ℕ) {script : Script} (is : c.script input ≡ Some script) (good : refusal_of c.reads input ≡ None) where
   abbrev m : Meaning
   m = runs_script c
 
-  of_script : (P : Script → Type 0) → P script → OfScript c input P
-  of_script P p = (script, is, p)
-
-  module _ {D : Type 0} (g : DiskGhosts D) (old new : D) (opened : Option Opened) (r : Replayed) (run : WasRun g script c.limit old new opened r) where
+  module _ {D : Type 0} {g : DiskGhosts D} {old new : D} {opened : Option Opened} {r : Replayed} (run : WasRun g script c.limit old new opened r) where
     abbrev d : DiskSide
     d = disk_side g old new
 
@@ -197,9 +194,8 @@ module _ (c : Runner) (input : List ℕ) (script : Script) (is : c.script input 
         let own : IsOwn r.ending = own_as ends.Done same tt in record {
           good = good;
           welcome = λ t e never away.
-              let both = of_one c input (λ s. IsTurnedAway c.limit (files_found d) s e) (λ s. (output : List ℕ) × (events : List Event) × Leads s c.limit (contents_of d.held) ends.Done output events (contents_of d.after)) away
-              (of_script (λ s. (output : List ℕ) × (events : List Event) × Leads s c.limit (contents_of d.held) ends.Done output events (contents_of d.after)) (r.output, (files t).events, own_leads ends.Done same tt t)) in
-              done_taken c.limit (files_found d) both.0 both.2.1.0 both.2.1.1 (contents_of d.after) (went own t).0.unwrapped both.2.1.2 e both.2.0;
+              let both = of_one c input (λ s. IsTurnedAway c.limit (files_found d) s e) (λ s. Leads s c.limit (contents_of d.held) ends.Done r.output (files t).events (contents_of d.after)) away (script, is, own_leads ends.Done same tt t) in
+              done_welcome (files_found d) both.0 c.limit r.output (files t).events (contents_of d.after) both.2.1 (went own t).0.unwrapped e both.2.0;
           done = λ t. record {
             unwrapped = (went own t).0.unwrapped;
             settled = (flushed_by own t).settled;
@@ -389,16 +385,16 @@ module _ (c : Runner) (input : List ℕ) (script : Script) (is : c.script input 
       unrun = λ runs none. absurd (none-some run.there (sym none ∙ run.there_is));
     }
 
-    pub runner_done : (text : List ℕ) → r.ending ≡ ends.Done → (g.tells → c.says script r.logged r.output (contents_of (g.held new)) text) → Meets m input g old new opened [] (Ok text)
-    runner_done text same says = runner_meets [] (Ok text) (has_served text same says) tt (λ h. own_as ends.Done same tt) (same, says)
+    pub runner_done : (text : List ℕ) → ending_refusal r.ending ≡ None → (g.tells → c.says script r.logged r.output (contents_of (g.held new)) text) → Meets m input g old new opened [] (Ok text)
+    runner_done text why says = let same = is_done r.ending why in runner_meets [] (Ok text) (has_served text same says) tt (λ h. own_as ends.Done same tt) (same, says)
 
-    pub runner_untold : (e : Refusal) → c.front [] ≡ [] → r.ending ≡ ends.Done → c.untold e → Untold e → Meets m input g old new opened [] (Err e)
-    runner_untold e empty same left_out untold = runner_meets [] (Err e) tt (untold_stops e empty same untold) (λ h. own_as ends.Done same tt) (inr (same, left_out, refl))
+    pub runner_untold : (e : Refusal) → c.front [] ≡ [] → ending_refusal r.ending ≡ None → c.untold e → Untold e → Meets m input g old new opened [] (Err e)
+    runner_untold e empty why left_out untold = let same = is_done r.ending why in runner_meets [] (Err e) tt (untold_stops e empty same untold) (λ h. own_as ends.Done same tt) (inr (same, left_out, refl))
 
     -- it is told, or why it isn't
-    pub runner_told : (answer : Result (List ℕ) Refusal) → c.front [] ≡ [] → r.ending ≡ ends.Done → (g.tells → IfOk answer (λ text. c.says script r.logged r.output (contents_of (g.held new)) text)) → IfErr answer (λ e. c.untold e × Untold e) → Meets m input g old new opened [] answer
-    runner_told (Ok text) empty same says untold = runner_done text same says
-    runner_told (Err e) empty same says untold = runner_untold e empty same untold.0 untold.1
+    pub runner_told : (answer : Result (List ℕ) Refusal) → c.front [] ≡ [] → ending_refusal r.ending ≡ None → (g.tells → IfOk answer (λ text. c.says script r.logged r.output (contents_of (g.held new)) text)) → IfErr answer (λ e. c.untold e × Untold e) → Meets m input g old new opened [] answer
+    runner_told (Ok text) empty why says untold = runner_done text why says
+    runner_told (Err e) empty why says untold = runner_untold e empty why untold.0 untold.1
 
     pub runner_stopped : (e : Refusal) → ending_refusal r.ending ≡ Some e → Meets m input g old new opened (c.front r.output) (Err e)
     runner_stopped e why = let s = stops r.ending refl e why in runner_meets (c.front r.output) (Err e) tt s.why s.own (inl (why, refl))

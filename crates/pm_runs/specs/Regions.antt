@@ -20,8 +20,9 @@ abbrev pub AnswersRun : Runner → Script → DiskSide → Replayed → List ℕ
 AnswersRun c script d run front (Ok text) = (run.ending ≡ ends.Done) × (d.tells → c.says script run.logged run.output (contents_of d.after) (front ++ text))
 AnswersRun c script d run front (Err e) = ((ending_refusal run.ending ≡ Some e) × (front ≡ c.front run.output)) ⊎ ((run.ending ≡ ends.Done) × c.untold e × (front ≡ []))
 
--- The regions are those of the script, read by one seat, and no list of passes is left. Its lines were run on them and nothing else, as the fold says, until all was closed,
--- and the seat has gathered every pass. Over a disk that tells, its files are those of the same run, of which this is the answer.
+-- The regions are those of the script, read by one seat, and no list of passes is left. Its lines were run on them and nothing else, as
+-- the fold says, until all was closed, and the seat has gathered every pass. Over a disk that tells, its files are those of the same run,
+-- of which this is the answer.
 pub record RanOn {D : Type 0} (g : DiskGhosts D) (c : Runner) (script : Script) (old new : D) (o : Opened) (front : List ℕ) (answer : Result (List ℕ) Refusal) : Type 0 where
   pub run : Replayed
   pub answers : AnswersRun c script (disk_side g old new) run front answer

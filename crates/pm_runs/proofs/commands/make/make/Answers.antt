@@ -1,5 +1,5 @@
 -- What the run of a generated script tells, and its summary; or why there was none.
-use Rattle.std.proofs.Common.{◌≡◌, ◌⊎◌, inl, inr, ℕ, ◌≤◌, List, [], Some, Err, rules, refl, sym, ap, ◌∙◌, subst}
+use Rattle.std.proofs.Common.{◌≡◌, ◌⊎◌, inl, inr, ℕ, ◌≤◌, List, Some, rules, refl, sym, ap, ◌∙◌, subst}
 use Rattle.std.proofs.lemmas.Result.{IfErr-weaker, IfOk-weaker}
 use Rattle.pcp_model.specs.Disk.{Holdings, contents_of}
 use Rattle.run_script.specs.declared.script.Line.{Line}
@@ -48,14 +48,14 @@ run_script-requires-clause-rules g c = subst KeepsRules (sym c.in_ok-script.ensu
 pub returns-in_err-script : goal.returns-in_err-script
 returns-in_err-script g c = record {
   meets = λ input.
-      let meets = runner_refused (making c.args.asked.now) input g.D.Disk g.met.D.Disk.only_now c.args.disk.now c.args.disk.now c.args.opened.now OutOfMemory refl c.requires.closed tt in
+      let meets = runner_refused (making c.args.asked.now) input g.D.Disk g.met.D.Disk.only_now OutOfMemory (refl {a = c.args.disk.now}) c.requires.closed tt in
       search (rules, meets);
 }
 
 pub returns-in_err-replayed : goal.returns-in_err-replayed
 returns-in_err-replayed g c = record {
   meets = λ input.
-      let meets = runner_refused (making c.args.asked.now) input g.D.Disk g.met.D.Disk.only_now c.args.disk.now c.run_script.new.disk c.run_script.new.opened OutOfMemory c.in_err-replayed.ensures.untouched (c.in_err-replayed.ensures.unopened ∙ c.requires.closed) tt in
+      let meets = runner_refused (making c.args.asked.now) input g.D.Disk g.met.D.Disk.only_now OutOfMemory c.in_err-replayed.ensures.untouched (c.in_err-replayed.ensures.unopened ∙ c.requires.closed) tt in
       search (rules, meets);
 }
 
@@ -66,11 +66,10 @@ returns-in-None g c = record {
       let run = c.in_ok-replayed.ensures.run in
       let r = c.in_ok-replayed.replayed in
       let script = c.in_ok-script.script in
-      let done = is_done r.ending (sym c.of_ending.ensures ∙ c.in-None.is) in
-      let was = looked_was d script c.args.asked.now.volume c.args.disk.now c.run_script.new.disk c.summary.new.disk c.run_script.new.opened r done c.summary.ensures.looks run in
+      let why = sym c.of_ending.ensures ∙ c.in-None.is in
       let counts = HasCounted (contents_of (d.held c.run_script.new.disk)) r.logged c.adds_of-adds.result.0 c.adds_of-adds.result.1 in
       let says = (making c.args.asked.now).says script r.logged r.output (contents_of (d.held c.summary.new.disk)) in
-      runner_told (making c.args.asked.now) input script (ap (λ (s : Script). Some s) (sym c.in_ok-script.ensures)) refl d c.args.disk.now c.summary.new.disk c.run_script.new.opened r was c.summary.result refl done
+      runner_told (making c.args.asked.now) input (ap (λ (s : Script). Some s) (sym c.in_ok-script.ensures)) refl (looked_was (is_done r.ending why) c.summary.ensures.looks run) c.summary.result refl why
       (λ t. IfOk-weaker c.summary.result counts says (summarized script r.logged c.adds_of-adds.result.0 c.adds_of-adds.result.1 (c.adds_of-adds.ensures.adds ∙ ap adds_in c.as_slice.ensures) (c.adds_of-adds.ensures.total ∙ ap total_in c.as_slice.ensures)
       (d.held c.run_script.new.disk) (d.held c.summary.new.disk) (c.summary.ensures.looks.held t)) (c.summary.ensures.counted t))
       (IfErr-weaker c.summary.result (WantsCounts (d.faults c.run_script.new.disk) (d.faults c.summary.new.disk)) (λ e. ((e ≡ NoMemory) ⊎ (e ≡ Disk DiskFault)) × WantsCounts (d.faults c.args.disk.now) (d.faults c.summary.new.disk) e)
@@ -80,6 +79,5 @@ returns-in-None g c = record {
 pub returns : goal.returns
 returns g c = record {
   meets = λ input.
-      runner_stopped (making c.args.asked.now) input c.in_ok-script.script (ap (λ (s : Script). Some s) (sym c.in_ok-script.ensures)) refl g.D.Disk c.args.disk.now c.run_script.new.disk c.run_script.new.opened c.in_ok-replayed.replayed c.in_ok-replayed.ensures.run c.in-Some.refusal
-      (sym c.of_ending.ensures ∙ c.in-Some.is);
+      runner_stopped (making c.args.asked.now) input (ap (λ (s : Script). Some s) (sym c.in_ok-script.ensures)) refl c.in_ok-replayed.ensures.run c.in-Some.refusal (sym c.of_ending.ensures ∙ c.in-Some.is);
 }

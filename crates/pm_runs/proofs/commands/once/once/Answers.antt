@@ -1,41 +1,33 @@
 -- What the run of an image tells, or why there was none.
-use Rattle.std.proofs.Common.{rules, [], inl, Ok, refl, sym, ◌∙◌}
-use Rattle.pm_words.specs.Serving.{Meets}
+use Rattle.std.proofs.Common.{rules, inl, refl, sym, ◌∙◌}
 use Rattle.pm_words.specs.declared.refusal.Refusal.TheVariants.{NoMemory}
 use Rattle.pm_words.specs.declared.stage.StageFault.TheVariants.{OutOfMemory}
 use Rattle.pm_runs.specs.commands.once.{logging}
-use Rattle.pm_runs.proofs.Scripted.{is_done, runner_done, runner_refused, runner_stopped, runner_untold}
+use Rattle.pm_runs.proofs.Scripted.{runner_done, runner_refused, runner_stopped, runner_untold}
 use Rattle.pm_runs.proofs.commands.once.once.Goals as goal
 
 pub returns-in_err-script : goal.returns-in_err-script
 returns-in_err-script g c =
-    let meets = runner_refused (logging c.args.asked.now) c.args.input.now g.D.Disk g.met.D.Disk.only_now c.args.disk.now c.args.disk.now c.args.opened.now c.in_err-script.field-0.0 refl c.requires.closed c.in_err-script.ensures.cause in
+    let meets = runner_refused (logging c.args.asked.now) c.args.input.now g.D.Disk g.met.D.Disk.only_now c.in_err-script.field-0.0 (refl {a = c.args.disk.now}) c.requires.closed c.in_err-script.ensures.cause in
     search (rules, meets)
 
 pub returns-in_err-replayed : goal.returns-in_err-replayed
 returns-in_err-replayed g c =
-    let meets = runner_refused (logging c.args.asked.now) c.args.input.now g.D.Disk g.met.D.Disk.only_now c.args.disk.now c.run_script.new.disk c.run_script.new.opened OutOfMemory c.in_err-replayed.ensures.untouched
-    (c.in_err-replayed.ensures.unopened ∙ c.requires.closed) tt in
+    let meets = runner_refused (logging c.args.asked.now) c.args.input.now g.D.Disk g.met.D.Disk.only_now OutOfMemory c.in_err-replayed.ensures.untouched (c.in_err-replayed.ensures.unopened ∙ c.requires.closed) tt in
     search (rules, meets)
 
 pub returns-in_err-line-in-None : goal.returns-in_err-line-in-None
 returns-in_err-line-in-None g c =
-    let r = c.in_ok-replayed.replayed in
-    let meets = runner_untold (logging c.args.asked.now) c.args.input.now c.in_ok-script.script c.in_ok-script.ensures.script c.in_ok-script.ensures.good g.D.Disk c.args.disk.now c.run_script.new.disk c.run_script.new.opened r c.in_ok-replayed.ensures.run NoMemory refl
-    (is_done r.ending (sym c.of_ending.ensures ∙ c.in-None.is)) refl (inl refl) in
+    let meets = runner_untold (logging c.args.asked.now) c.args.input.now c.in_ok-script.ensures.script c.in_ok-script.ensures.good c.in_ok-replayed.ensures.run NoMemory refl (sym c.of_ending.ensures ∙ c.in-None.is) refl (inl refl) in
     search (rules, meets)
 
 pub returns-in-None : goal.returns-in-None
 returns-in-None g c = record {
   meets =
-      let r = c.in_ok-replayed.replayed in
-      runner_done (logging c.args.asked.now) c.args.input.now c.in_ok-script.script c.in_ok-script.ensures.script c.in_ok-script.ensures.good g.D.Disk c.args.disk.now c.run_script.new.disk c.run_script.new.opened r c.in_ok-replayed.ensures.run c.in_ok-line-in-None.line
-      (is_done r.ending (sym c.of_ending.ensures ∙ c.in-None.is)) (λ t. c.in_ok-line-in-None.ensures);
+      runner_done (logging c.args.asked.now) c.args.input.now c.in_ok-script.ensures.script c.in_ok-script.ensures.good c.in_ok-replayed.ensures.run c.in_ok-line-in-None.line (sym c.of_ending.ensures ∙ c.in-None.is) (λ t. c.in_ok-line-in-None.ensures);
 }
 
 pub returns : goal.returns
 returns g c = record {
-  meets =
-      runner_stopped (logging c.args.asked.now) c.args.input.now c.in_ok-script.script c.in_ok-script.ensures.script c.in_ok-script.ensures.good g.D.Disk c.args.disk.now c.run_script.new.disk c.run_script.new.opened c.in_ok-replayed.replayed c.in_ok-replayed.ensures.run c.in-Some.refusal
-      (sym c.of_ending.ensures ∙ c.in-Some.is);
+  meets = runner_stopped (logging c.args.asked.now) c.args.input.now c.in_ok-script.ensures.script c.in_ok-script.ensures.good c.in_ok-replayed.ensures.run c.in-Some.refusal (sym c.of_ending.ensures ∙ c.in-Some.is);
 }
