@@ -1,5 +1,5 @@
 -- How a call ends, of what its command's body did, or of why it was refused before, and of what was told.
-use Rattle.std.proofs.Common.{◌≡◌, ◌⊎◌, inl, inr, ℕ, Bool, true, false, List, [], ◌++◌, append-nil, length, refl, sym, ap, ◌∙◌, subst, arith, Option, Some, None, Result, Ok, Err, IsSome}
+use Rattle.std.proofs.Common.{◌≡◌, ◌⊎◌, inl, inr, ℕ, ◌≤◌, Bool, true, false, List, [], ◌++◌, append-nil, length, refl, sym, ap, ◌∙◌, subst, arith, Option, Some, None, Result, Ok, Err, IsSome}
 use Rattle.std.proofs.lemmas.List.{drop_all}
 use Rattle.pcp_outside.specs.Sides.{SourceSide, SinkSide}
 use Rattle.pcp_outside.specs.declared.disk.Disk.{Ghosts as DiskGhosts}
@@ -78,13 +78,13 @@ module _ (words : List (List ℕ)) (s : SourceSide) (k : SinkSide) (d : DiskSide
   out_of_memory : (e : Refusal) → Cause words s d e → IsSome (numbered_line_of e) → Cause words s d NoMemory
   out_of_memory (Words usage) c some = (λ tells. (0, omega arith, c.0.1 tells), inl c.1)
   out_of_memory (Input e) c some = (took_some s (takes_input c.0.0.command) c.0.0.input c.0.0.got, inl c.1)
-  out_of_memory (Reading e) c some = absurd some
+  out_of_memory (Reading e) c some = cc
   out_of_memory (Disk (Files e)) c some = (took_some s (takes_input c.0.command) c.0.input c.0.got, inr (c.0, untold_left (meaning c.0.command) (coherent c.0.command) c.0.input d e c.2.0))
-  out_of_memory (Disk DiskFault) c some = absurd some
+  out_of_memory (Disk DiskFault) c some = cc
   out_of_memory (ClockEnd left) c some = absurd c
   out_of_memory (ClockFault left) c some = absurd c
   out_of_memory Accept c some = absurd c
-  out_of_memory NoMemory c some = absurd some
+  out_of_memory NoMemory c some = cc
 
   begun_untold : (e : Refusal) (front : List ℕ) → IsSome (numbered_line_of e) → HasBegun words s d e front → HasBegun words s d NoMemory front
   begun_untold (Words usage) front some b = inl b

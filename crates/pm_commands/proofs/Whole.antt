@@ -37,7 +37,10 @@ of_body m input d (ClockFault left) c = tt
 of_body m input d Accept c = tt
 of_body m input d NoMemory c = tt
 
--- nor owes one of these regions
+same_refusal : (a b : Refusal) (r : Result (List ℕ) Refusal) → r ≡ Err a → r ≡ Err b → a ≡ b
+same_refusal a b r is also = let e : Err a ≡ Err b = sym is ∙ also in cc
+
+-- a refusal before the command owes no regions
 no_regions : (words : List (List ℕ)) (s : SourceSide) (opened : Option Opened) (e : Refusal) → Before calls.Offline words s e → HasRegions (Err e) opened
 no_regions words s opened (Words usage) b = tt
 no_regions words s opened (Reading e) b = tt
@@ -105,11 +108,8 @@ module _ {I O D : Type 0} (c : Sides I O D) (front : List ℕ) (result : Result 
       stop_cause c.words (source_of c) (sink_of c) (disk_of c) did.asks e
       (subst (λ (r : Result (List ℕ) Refusal). IfErr r (λ x. StopCause (meaning did.asks.command) did.asks.input (disk_of c) x × (meaning did.asks.command).begins did.asks.input (disk_of c) x front)) is did.meets.stops).0
   has_cause (inr stopped) e is =
-      let one : stopped.refusal ≡ e = same_refusal (sym stopped.is ∙ is) in
+      let one : stopped.refusal ≡ e = same_refusal stopped.refusal e result stopped.is is in
       subst (Cause c.words (source_of c) (disk_of c)) one (before_cause c.words (source_of c) (sink_of c) (disk_of c) stopped.refusal stopped.before (λ tells. ap c.disks.held stopped.same))
-    where
-      same_refusal : {a b : Refusal} → Err {A = List ℕ} a ≡ Err b → a ≡ b
-      same_refusal h = cc
 
   opens : (r : Result (List ℕ) Refusal) → result ≡ r → IsToldBy r status → DidIt ⊎ StoppedIt → OpensRegions c.words (source_of c) c.opened status
   opens (Ok text) is told_so so = facts_of.done_opens c.words (source_of c) (sink_of c) (disk_of c) c.opened text (λ asks. subst (λ (r : Result (List ℕ) Refusal). HasRegions r c.opened) is (has_regions so asks)) status
