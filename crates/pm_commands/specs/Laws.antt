@@ -13,6 +13,13 @@ use Rattle.script_runs.specs.declared.ending.Ending.TheVariants as ends
 use Rattle.script_runs.specs.Regions.{ScriptRegion}
 use Rattle.script_runs.specs.Runs.{RunsTo}
 use Rattle.pm_words.specs.declared.stage.FilesRefusal.{FilesRefusal}
+use Rattle.pm_words.specs.declared.stage.FilesRefusal.TheVariants.{Run}
+use Rattle.pm_words.specs.declared.stage.RunRefusal.TheVariants.{Condition, Limit}
+use Rattle.pm_words.specs.declared.words.Command.TheVariants.{Make}
+use Rattle.pm_words.specs.declared.words.MakeWords.{MakeWords}
+use Rattle.pm_words.specs.CommandLine.{FitsCommand}
+use Rattle.run_script.specs.Generated.{generated_script}
+use Rattle.script_runs.specs.declared.ending.LimitKind.TheVariants as kinds
 use Rattle.pm_words.specs.declared.words.ValueWords.{ValueWords}
 use Rattle.pm_words.specs.Refusals.{files_status}
 use Rattle.pm_words.specs.Sides.{Found}
@@ -53,3 +60,9 @@ DoneIsWelcome = (f : Found) (script : Script) (limit : ℕ) (output : List ℕ) 
 -- a script runs over files to one end of its own, with one output, the same events, regions and files
 abbrev pub OneEnd : Type 0
 OneEnd = (script : Script) (limit : ℕ) (start : Files) (a b : Ending) → IsOwn a → IsOwn b → (o p : List ℕ) (d e : List Event) (r s : List ScriptRegion) (f g : Files) → RunsTo script limit start a o d r f → RunsTo script limit start b p e s g → IsOne a b o p d e r s f g
+
+-- The script that `make` runs is turned away by no files for its lines: no condition fails in it, and no tick asks for too many metrics. So its
+-- run comes to its end wherever the archive takes each result.
+abbrev pub MadeRunsOn : Type 0
+MadeRunsOn = (asked : MakeWords) → FitsCommand (Make asked) → (f : Found) → ((line : ℕ) → scripts.IsTurnedAway asked.volume f (generated_script asked.number asked.ticks) (Run (Condition line)) → ⊥)
+    × ((number : ℕ) → scripts.IsTurnedAway asked.volume f (generated_script asked.number asked.ticks) (Run (Limit kinds.Sets number)) → ⊥)

@@ -1,5 +1,5 @@
 //! Laws of the commands' meanings. Each is the contract of a function without parameters, which does nothing.
-ghost use Rattle.pm_commands.specs.Laws.{DoneIsWelcome, OneEnd, ReadableIsWelcome, SoundIsWelcome};
+ghost use Rattle.pm_commands.specs.Laws.{DoneIsWelcome, MadeRunsOn, OneEnd, ReadableIsWelcome, SoundIsWelcome};
 
 /// A readable archive of which no file stands wrapped is turned away by no command that reads it whole, nor by
 /// recovery.
@@ -21,4 +21,10 @@ pub fn done_is_welcome()
 /// A script runs over files to one end of its own, with one output, and the same events, regions and files.
 pub fn one_end()
     ensures { OneEnd }
+{}
+
+/// The run of a script that `make` makes isn't ended by its lines, over any files: no condition fails in it, and no tick asks for too many
+/// metrics.
+pub fn made_runs_on()
+    ensures { MadeRunsOn }
 {}
