@@ -94,10 +94,10 @@ told_as F e status (inl is) here nine = subst F (sym is) here
 told_as F e status (inr (is, some)) here nine = subst F (sym is) nine
 
 module _ {P In Out Time : Type 0} (c : Sides P In Out Time) where
-  abbrev Came : Result (List ℕ) Refusal → Type 0
-  Came result = CameTo c.words c.source c.doors c.served result
+  abbrev Comes : Result (List ℕ) Refusal → Type 0
+  Comes result = CameTo c.words c.source c.doors c.served result
 
-  good_run : (e : Refusal) → Came (Err e) → IsGoodRun c → (status_of e ≡ 0) ⊎ (status_of e ≡ 9)
+  good_run : (e : Refusal) → Comes (Err e) → IsGoodRun c → (status_of e ≡ 0) ⊎ (status_of e ≡ 9)
   good_run (Words usage) came run = absurd (apart calls.Serve c.words c.source usage.at came.0.0 run.meets.asked.0 run.meets.asked.1)
   good_run (Reading ReadFault) came run = absurd (run.source_kept came.0.1.0)
   good_run (Reading InputLimit) came run = let above = came.0.1 run.meets.tells in let within = run.meets.within in absurd (omega (arith, above.0, within))
@@ -109,41 +109,41 @@ module _ {P In Out Time : Type 0} (c : Sides P In Out Time) where
   good_run NoMemory came run = inr refl
   good_run e came run = absurd came.0
 
-  done_so : (result : Result (List ℕ) Refusal) (status : ℕ) → Came result → TellsAll c.sink [] result status → status ≡ 0 → IsDone c
+  done_so : (result : Result (List ℕ) Refusal) (status : ℕ) → Comes result → TellsAll c.sink [] result status → status ≡ 0 → IsDone c
   done_so (Ok line) status came (inl (is, wrote)) h = record { ran = came.0; wrote = λ tells. wrote tells ∙ ap (λ (text : List ℕ). c.sink.written ++ text) came.1 }
   done_so (Ok line) status came (inr (is, rose, wrote)) h = absurd (omega (arith, is, h))
   done_so (Err e) status came (inl (is, wrote)) h = absurd (never_zero c.words c.source c.doors c.served e came (sym is ∙ h))
   done_so (Err e) status came (inr (is, some, wrote)) h = absurd (omega (arith, is, h))
 
-  untold_so : (result : Result (List ℕ) Refusal) (status : ℕ) → Came result → IsToldBy result status → status ≡ 4 → Ran c.words c.source (AllServed c.doors c.served)
+  untold_so : (result : Result (List ℕ) Refusal) (status : ℕ) → Comes result → IsToldBy result status → status ≡ 4 → Ran c.words c.source (AllServed c.doors c.served)
   untold_so (Ok line) status came told h = came.0
   untold_so (Err e) status came (inl is) h = absurd (never_four e (sym is ∙ h))
   untold_so (Err e) status came (inr (is, some)) h = absurd (omega (arith, is, h))
 
-  unserved_so : (result : Result (List ℕ) Refusal) (status : ℕ) → Came result → IsToldBy result status → (status ≡ 0 → ⊥) → (status ≡ 4 → ⊥) → (status ≡ 21 → ⊥)
+  unserved_so : (result : Result (List ℕ) Refusal) (status : ℕ) → Comes result → IsToldBy result status → (status ≡ 0 → ⊥) → (status ≡ 4 → ⊥) → (status ≡ 21 → ⊥)
       → IsUnserved c.doors c.served ⊎ ((status ≡ 9) × Ran c.words c.source (WereCut c.doors c.served))
   unserved_so (Ok line) status came (inl is) zero four other = absurd (zero is)
   unserved_so (Ok line) status came (inr is) zero four other = absurd (four is)
   unserved_so (Err e) status came (inl is) zero four other = unserved c.words c.source c.doors c.served e status came is other
   unserved_so (Err e) status came (inr (is, some)) zero four other = inl (numbered c.words c.source c.doors c.served e some came)
 
-  bad_so : (result : Result (List ℕ) Refusal) (status : ℕ) → Came result → IsToldBy result status → Meets c.words c.source → (fault : ScriptFault) → script_served c.source.left ≡ Err fault
+  bad_so : (result : Result (List ℕ) Refusal) (status : ℕ) → Comes result → IsToldBy result status → Meets c.words c.source → (fault : ScriptFault) → script_served c.source.left ≡ Err fault
       → (status ≡ script_status fault.fault) ⊎ ((status ≡ 9) ⊎ (status ≡ 3))
   bad_so (Ok line) status came told m fault bad = absurd (not_both c.words c.source c.doors c.served came.0.count came.0.script came.0.orders m.tells fault bad)
   bad_so (Err e) status came told m fault bad =
       told_as (λ n. (n ≡ script_status fault.fault) ⊎ ((n ≡ 9) ⊎ (n ≡ 3))) e status told (bad_script c.words c.source c.doors c.served e came m fault bad) (inr (inl refl))
 
-  good_so : (result : Result (List ℕ) Refusal) (status : ℕ) → Came result → TellsAll c.sink [] result status → IsGoodRun c → (status ≡ 0) ⊎ (status ≡ 9)
+  good_so : (result : Result (List ℕ) Refusal) (status : ℕ) → Comes result → TellsAll c.sink [] result status → IsGoodRun c → (status ≡ 0) ⊎ (status ≡ 9)
   good_so (Ok line) status came (inl (is, wrote)) run = inl is
   good_so (Ok line) status came (inr (is, rose, wrote)) run = absurd (run.sink_kept rose)
   good_so (Err e) status came tells run = told_as (λ n. (n ≡ 0) ⊎ (n ≡ 9)) e status (told_by c.sink [] (Err e) status tells) (good_run e came run) (inr refl)
 
   -- a status that only a refusal has
-  by_refusal : (F : Type 0) (n : ℕ) → ((e : Refusal) → Came (Err e) → status_of e ≡ n → F) → (n ≡ 0 → ⊥) → (n ≡ 4 → ⊥) → (n ≡ 9 → ⊥)
-      → (result : Result (List ℕ) Refusal) (status : ℕ) → Came result → IsToldBy result status → status ≡ n → F
+  by_refusal : (F : Type 0) (n : ℕ) → ((e : Refusal) → Comes (Err e) → status_of e ≡ n → F) → (n ≡ 0 → ⊥) → (n ≡ 4 → ⊥) → (n ≡ 9 → ⊥)
+      → (result : Result (List ℕ) Refusal) (status : ℕ) → Comes result → IsToldBy result status → status ≡ n → F
   by_refusal F n so zero four nine result status came told h =
       let found = refused_by calls.Serve c.words c.source result status n told h zero four nine in
-      so found.0 (subst (λ (r : Result (List ℕ) Refusal). Came r) found.1 came) found.2
+      so found.0 (subst (λ (r : Result (List ℕ) Refusal). Comes r) found.1 came) found.2
 
   pub facts_of : (status : ℕ) → Ends c status → Facts c status
   facts_of status (result, came, tells) =
