@@ -1,9 +1,6 @@
 -- What the end of a call says of each status.
-use Rattle.std.proofs.Common.{◌≡◌, ◌⊎◌, inl, inr, ℕ, ◌<◌, ◌≤◌, false, true, List, [], ◌++◌, length, refl, sym, ap, ◌∙◌, subst, arith, Option, Result, Ok, Err, IsSome}
-use Rattle.pcp_outside.specs.Causes.{Rose}
-use Rattle.pcp_outside.specs.Sides.{SourceSide}
+use Rattle.std.proofs.Common.{◌≡◌, ◌⊎◌, inl, inr, ℕ, List, [], ◌++◌, refl, sym, ap, ◌∙◌, subst, arith, Result, Ok, Err, IsSome}
 use Rattle.run_script.specs.declared.fault.ScriptFault.{ScriptFault}
-use Rattle.run_script.specs.declared.script.Script.{Script}
 use Rattle.pm_words.specs.declared.words.Call.TheVariants as calls
 use Rattle.pm_words.specs.declared.stage.InputRefusal.TheVariants.{Script as Scripted}
 use Rattle.pm_words.specs.declared.stage.ReadRefusal.TheVariants.{ReadFault, InputLimit}
@@ -13,80 +10,14 @@ use Rattle.pm_words.specs.Refusals.{numbered_line_of, script_status, status_of}
 use Rattle.pm_words.specs.Telling.{IsToldBy, TellsAll}
 use Rattle.pm_words.proofs.Asked.{Came, IsOfBody, apart, input_apart, never_four, reading_is_exact, refused_by, usage_is_exact, write_fault}
 use Rattle.pm_words.proofs.Telling.{told_by}
-use Rattle.pm_serving.specs.declared.served.Served.{Served}
-use Rattle.pm_serving.specs.Ends.{AllServed, CameTo, DoorFailed, Ends, Finds, Orders, Ran, Sides, served_line}
-use Rattle.pm_serving.specs.Facts.{Facts, IsDone, IsGoodRun, LimitCause, Meets, ServedIsExact}
+use Rattle.pm_serving.specs.Ends.{AllServed, CameTo, DoorFailed, Ends, Finds, Ran, Sides}
+use Rattle.pm_serving.specs.Facts.{Facts, IsDone, IsGoodRun, LimitCause, Meets}
 use Rattle.pm_serving.specs.Scripts.{script_served}
-use Rattle.pm_serving.specs.Serving.{DoorsSide, IsUnserved, WereCut}
-use Rattle.pm_serving.proofs.Ordered.{asks_of, says_left}
+use Rattle.pm_serving.specs.Serving.{IsUnserved, WereCut}
+use Rattle.pm_serving.proofs.Ordered.{asks_of, says_one}
 
-module _ {P In Out Time : Type 0} (words : List (List ℕ)) (s : SourceSide) (d : DoorsSide P In Out Time) (served : Option Served) where
-  of_body : (e f : Refusal) → ◌≡◌ {A = Result (List ℕ) Refusal} (Err e) (Err f) → IsOfBody e → IsOfBody f
-  of_body e f is body = let same : e ≡ f = cc in subst IsOfBody same body
-
-  -- as what is the same of all calls has it
-  pub came_so : (result : Result (List ℕ) Refusal) → CameTo words s d served result → Came calls.Serve words s result
-  came_so (Ok line) came = inl (asks_of words s came.0.count (Ok came.0.script) came.0.orders, λ e is. absurd (cc))
-  came_so (Err (Input (Scripted fault))) came = inl (asks_of words s came.0.0 (Err fault) came.0.1, λ f is. of_body (Input (Scripted fault)) f is tt)
-  came_so (Err Accept) came = inl (asks_of words s came.count (Ok came.script) came.orders, λ f is. of_body Accept f is tt)
-  came_so (Err NoMemory) came = inr (NoMemory, refl, came.0)
-  came_so (Err e) came = inr (e, refl, came.0)
-
-  -- an input is served, or it has one fault
-  not_both : (count : ℕ) (script : Script) → Orders words s count (Ok script) → s.tells → (fault : ScriptFault) → script_served s.left ≡ Err fault → ⊥
-  not_both count script orders tells fault bad = let e : Ok script ≡ Err fault = sym (says_left words s count (Ok script) orders tells) ∙ bad in cc
-
-  one_fault : (count : ℕ) (fault other : ScriptFault) → Orders words s count (Err fault) → s.tells → script_served s.left ≡ Err other → fault ≡ other
-  one_fault count fault other orders tells bad = let e : Err fault ≡ Err other = sym (says_left words s count (Err fault) orders tells) ∙ bad in cc
-
-  -- What a refusal is by its status.
-
-  pub fault_of : (e : Refusal) → CameTo words s d served (Err e) → status_of e ≡ 2 → (fault : ScriptFault) × (script_status fault.fault ≡ 2) × Finds words s fault
-  fault_of (Input (Scripted fault)) came h = (fault, h, came.0)
-  fault_of (Reading ReadFault) came h = absurd (omega (arith, h))
-  fault_of (Reading InputLimit) came h = absurd (omega (arith, h))
-  fault_of e came h = absurd (first_of (omega (arith, h), assumption came))
-
-  pub limit_of : (e : Refusal) → CameTo words s d served (Err e) → status_of e ≡ 7 → LimitCause words s
-  limit_of (Input (Scripted fault)) came h = inr (fault, h, came.0)
-  limit_of (Reading ReadFault) came h = absurd (omega (arith, h))
-  limit_of (Reading InputLimit) came h = inl came.0
-  limit_of e came h = absurd (first_of (omega (arith, h), assumption came))
-
-  pub failed_of : (e : Refusal) → CameTo words s d served (Err e) → status_of e ≡ 21 → Ran words s (DoorFailed d served)
-  failed_of Accept came h = came
-  failed_of (Input e) came h = absurd (input_apart 21 (λ k. omega (arith, k)) (λ k. omega (arith, k)) e h)
-  failed_of (Reading ReadFault) came h = absurd (omega (arith, h))
-  failed_of (Reading InputLimit) came h = absurd (omega (arith, h))
-  failed_of e came h = absurd (first_of (omega (arith, h), assumption came))
-
-  pub never_zero : (e : Refusal) → CameTo words s d served (Err e) → status_of e ≡ 0 → ⊥
-  never_zero (Input e) came h = input_apart 0 (λ k. omega (arith, k)) (λ k. omega (arith, k)) e h
-  never_zero (Reading ReadFault) came h = omega (arith, h)
-  never_zero (Reading InputLimit) came h = omega (arith, h)
-  never_zero e came h = first_of (omega (arith, h), assumption came)
-
-  pub unserved : (e : Refusal) (n : ℕ) → CameTo words s d served (Err e) → n ≡ status_of e → (n ≡ 21 → ⊥) → IsUnserved d served ⊎ ((n ≡ 9) × Ran words s (WereCut d served))
-  unserved Accept n came is other = absurd (other is)
-  unserved NoMemory n (why, inl none) is other = inl none
-  unserved NoMemory n (why, inr cut) is other = inr (is, cut)
-  unserved e n came is other = inl came.1
-
-  -- a refusal whose line takes memory comes before a session
-  pub numbered : (e : Refusal) → IsSome (numbered_line_of e) → CameTo words s d served (Err e) → IsUnserved d served
-  numbered Accept some came = absurd (cc)
-  numbered NoMemory some came = absurd (cc)
-  numbered e some came = came.1
-
-  pub bad_script : (e : Refusal) → CameTo words s d served (Err e) → Meets words s → (fault : ScriptFault) → script_served s.left ≡ Err fault
-      → (status_of e ≡ script_status fault.fault) ⊎ ((status_of e ≡ 9) ⊎ (status_of e ≡ 3))
-  bad_script (Words usage) came m fault bad = absurd (apart calls.Serve words s usage.at came.0.0 m.asked.0 m.asked.1)
-  bad_script (Reading ReadFault) came m fault bad = inr (inr refl)
-  bad_script (Reading InputLimit) came m fault bad = let above = came.0.1 m.tells in let within = m.within in absurd (omega (arith, above.0, within))
-  bad_script (Input (Scripted other)) came m fault bad = inl (ap (λ (x : ScriptFault). script_status x.fault) (one_fault came.0.0 other fault came.0.1 m.tells bad))
-  bad_script Accept came m fault bad = absurd (not_both came.count came.script came.orders m.tells fault bad)
-  bad_script NoMemory came m fault bad = inr (inl refl)
-  bad_script e came m fault bad = absurd came.0
+of_body : (e f : Refusal) → ◌≡◌ {A = Result (List ℕ) Refusal} (Err e) (Err f) → IsOfBody e → IsOfBody f
+of_body e f is body = let same : e ≡ f = cc in subst IsOfBody same body
 
 -- a status of a refusal, or of its line that memory was refused for
 told_as : (F : ℕ → Type 0) (e : Refusal) (status : ℕ) → IsToldBy (Err e) status → F (status_of e) → F 9 → F status
@@ -97,22 +28,80 @@ module _ {P In Out Time : Type 0} (c : Sides P In Out Time) where
   abbrev Comes : Result (List ℕ) Refusal → Type 0
   Comes result = CameTo c.words c.source c.doors c.served result
 
+  -- as what is the same of all calls has it
+  came_so : (result : Result (List ℕ) Refusal) → Comes result → Came calls.Serve c.words c.source result
+  came_so (Ok line) came = inl (asks_of c.words c.source came.0.count (Ok came.0.script) came.0.orders, λ e is. absurd (cc))
+  came_so (Err (Input (Scripted fault))) came = inl (asks_of c.words c.source came.0.0 (Err fault) came.0.1, λ f is. of_body (Input (Scripted fault)) f is tt)
+  came_so (Err Accept) came = inl (asks_of c.words c.source came.count (Ok came.script) came.orders, λ f is. of_body Accept f is tt)
+  came_so (Err NoMemory) came = inr (NoMemory, refl, came.0)
+  came_so (Err e) came = inr (e, refl, came.0)
+
+  -- What a refusal is by its status.
+
+  fault_of : (e : Refusal) → Comes (Err e) → status_of e ≡ 2 → (fault : ScriptFault) × (script_status fault.fault ≡ 2) × Finds c.words c.source fault
+  fault_of (Input (Scripted fault)) came h = (fault, h, came.0)
+  fault_of (Reading ReadFault) came h = absurd (omega (arith, h))
+  fault_of (Reading InputLimit) came h = absurd (omega (arith, h))
+  fault_of e came h = absurd (first_of (omega (arith, h), assumption came))
+
+  limit_of : (e : Refusal) → Comes (Err e) → status_of e ≡ 7 → LimitCause c.words c.source
+  limit_of (Input (Scripted fault)) came h = inr (fault, h, came.0)
+  limit_of (Reading ReadFault) came h = absurd (omega (arith, h))
+  limit_of (Reading InputLimit) came h = inl came.0
+  limit_of e came h = absurd (first_of (omega (arith, h), assumption came))
+
+  failed_of : (e : Refusal) → Comes (Err e) → status_of e ≡ 21 → Ran c.words c.source (DoorFailed c.doors c.served)
+  failed_of Accept came h = came
+  failed_of (Input e) came h = absurd (input_apart 21 (λ k. omega (arith, k)) (λ k. omega (arith, k)) e h)
+  failed_of (Reading ReadFault) came h = absurd (omega (arith, h))
+  failed_of (Reading InputLimit) came h = absurd (omega (arith, h))
+  failed_of e came h = absurd (first_of (omega (arith, h), assumption came))
+
+  never_zero : (e : Refusal) → Comes (Err e) → status_of e ≡ 0 → ⊥
+  never_zero (Input e) came h = input_apart 0 (λ k. omega (arith, k)) (λ k. omega (arith, k)) e h
+  never_zero (Reading ReadFault) came h = omega (arith, h)
+  never_zero (Reading InputLimit) came h = omega (arith, h)
+  never_zero e came h = first_of (omega (arith, h), assumption came)
+
+  unserved : (e : Refusal) (n : ℕ) → Comes (Err e) → n ≡ status_of e → (n ≡ 21 → ⊥) → IsUnserved c.doors c.served ⊎ ((n ≡ 9) × Ran c.words c.source (WereCut c.doors c.served))
+  unserved Accept n came is other = absurd (other is)
+  unserved NoMemory n (why, inl none) is other = inl none
+  unserved NoMemory n (why, inr cut) is other = inr (is, cut)
+  unserved e n came is other = inl came.1
+
+  -- a refusal whose line takes memory comes before a session
+  numbered : (e : Refusal) → IsSome (numbered_line_of e) → Comes (Err e) → IsUnserved c.doors c.served
+  numbered Accept some came = absurd (cc)
+  numbered NoMemory some came = absurd (cc)
+  numbered e some came = came.1
+
+  bad_script : (e : Refusal) → Comes (Err e) → Meets c.words c.source → (fault : ScriptFault) → script_served c.source.left ≡ Err fault
+      → (status_of e ≡ script_status fault.fault) ⊎ ((status_of e ≡ 9) ⊎ (status_of e ≡ 3))
+  bad_script (Words usage) came m fault bad = absurd (apart calls.Serve c.words c.source usage.at came.0.0 m.asked.0 m.asked.1)
+  bad_script (Reading ReadFault) came m fault bad = inr (inr refl)
+  bad_script (Reading InputLimit) came m fault bad = let above = came.0.1 m.tells in let within = m.within in absurd (omega (arith, above.0, within))
+  bad_script (Input (Scripted other)) came m fault bad =
+      let is = says_one c.words c.source came.0.0 (Err other) came.0.1 m.tells (Err fault) bad in
+      let same : other ≡ fault = cc in inl (ap (λ (x : ScriptFault). script_status x.fault) same)
+  bad_script Accept came m fault bad = let is = says_one c.words c.source came.count (Ok came.script) came.orders m.tells (Err fault) bad in absurd (cc)
+  bad_script NoMemory came m fault bad = inr (inl refl)
+  bad_script e came m fault bad = absurd came.0
+
   good_run : (e : Refusal) → Comes (Err e) → IsGoodRun c → (status_of e ≡ 0) ⊎ (status_of e ≡ 9)
   good_run (Words usage) came run = absurd (apart calls.Serve c.words c.source usage.at came.0.0 run.meets.asked.0 run.meets.asked.1)
   good_run (Reading ReadFault) came run = absurd (run.source_kept came.0.1.0)
   good_run (Reading InputLimit) came run = let above = came.0.1 run.meets.tells in let within = run.meets.within in absurd (omega (arith, above.0, within))
-  good_run (Input (Scripted fault)) came run = absurd (bad_input run.script fault (sym run.good ∙ says_left c.words c.source came.0.0 (Err fault) came.0.1 run.meets.tells))
-    where
-      bad_input : (script : Script) (fault : ScriptFault) → ◌≡◌ {A = Result Script ScriptFault} (Ok script) (Err fault) → ⊥
-      bad_input script fault is = cc
+  good_run (Input (Scripted fault)) came run = let is = says_one c.words c.source came.0.0 (Err fault) came.0.1 run.meets.tells (Ok run.script) run.good in absurd (cc)
   good_run Accept came run = absurd (run.doors_kept (came.leaves.serving.rose refl))
   good_run NoMemory came run = inr refl
   good_run e came run = absurd came.0
 
+  -- What a status is, done or refused.
+
   done_so : (result : Result (List ℕ) Refusal) (status : ℕ) → Comes result → TellsAll c.sink [] result status → status ≡ 0 → IsDone c
   done_so (Ok line) status came (inl (is, wrote)) h = record { ran = came.0; wrote = λ tells. wrote tells ∙ ap (λ (text : List ℕ). c.sink.written ++ text) came.1 }
   done_so (Ok line) status came (inr (is, rose, wrote)) h = absurd (omega (arith, is, h))
-  done_so (Err e) status came (inl (is, wrote)) h = absurd (never_zero c.words c.source c.doors c.served e came (sym is ∙ h))
+  done_so (Err e) status came (inl (is, wrote)) h = absurd (never_zero e came (sym is ∙ h))
   done_so (Err e) status came (inr (is, some, wrote)) h = absurd (omega (arith, is, h))
 
   untold_so : (result : Result (List ℕ) Refusal) (status : ℕ) → Comes result → IsToldBy result status → status ≡ 4 → Ran c.words c.source (AllServed c.doors c.served)
@@ -124,14 +113,13 @@ module _ {P In Out Time : Type 0} (c : Sides P In Out Time) where
       → IsUnserved c.doors c.served ⊎ ((status ≡ 9) × Ran c.words c.source (WereCut c.doors c.served))
   unserved_so (Ok line) status came (inl is) zero four other = absurd (zero is)
   unserved_so (Ok line) status came (inr is) zero four other = absurd (four is)
-  unserved_so (Err e) status came (inl is) zero four other = unserved c.words c.source c.doors c.served e status came is other
-  unserved_so (Err e) status came (inr (is, some)) zero four other = inl (numbered c.words c.source c.doors c.served e some came)
+  unserved_so (Err e) status came (inl is) zero four other = unserved e status came is other
+  unserved_so (Err e) status came (inr (is, some)) zero four other = inl (numbered e some came)
 
   bad_so : (result : Result (List ℕ) Refusal) (status : ℕ) → Comes result → IsToldBy result status → Meets c.words c.source → (fault : ScriptFault) → script_served c.source.left ≡ Err fault
       → (status ≡ script_status fault.fault) ⊎ ((status ≡ 9) ⊎ (status ≡ 3))
-  bad_so (Ok line) status came told m fault bad = absurd (not_both c.words c.source c.doors c.served came.0.count came.0.script came.0.orders m.tells fault bad)
-  bad_so (Err e) status came told m fault bad =
-      told_as (λ n. (n ≡ script_status fault.fault) ⊎ ((n ≡ 9) ⊎ (n ≡ 3))) e status told (bad_script c.words c.source c.doors c.served e came m fault bad) (inr (inl refl))
+  bad_so (Ok line) status came told m fault bad = let is = says_one c.words c.source came.0.count (Ok came.0.script) came.0.orders m.tells (Err fault) bad in absurd (cc)
+  bad_so (Err e) status came told m fault bad = told_as (λ n. (n ≡ script_status fault.fault) ⊎ ((n ≡ 9) ⊎ (n ≡ 3))) e status told (bad_script e came m fault bad) (inr (inl refl))
 
   good_so : (result : Result (List ℕ) Refusal) (status : ℕ) → Comes result → TellsAll c.sink [] result status → IsGoodRun c → (status ≡ 0) ⊎ (status ≡ 9)
   good_so (Ok line) status came (inl (is, wrote)) run = inl is
@@ -139,25 +127,25 @@ module _ {P In Out Time : Type 0} (c : Sides P In Out Time) where
   good_so (Err e) status came tells run = told_as (λ n. (n ≡ 0) ⊎ (n ≡ 9)) e status (told_by c.sink [] (Err e) status tells) (good_run e came run) (inr refl)
 
   -- a status that only a refusal has
-  by_refusal : (F : Type 0) (n : ℕ) → ((e : Refusal) → Comes (Err e) → status_of e ≡ n → F) → (n ≡ 0 → ⊥) → (n ≡ 4 → ⊥) → (n ≡ 9 → ⊥)
+  by_refusal : {F : Type 0} (n : ℕ) → ((e : Refusal) → Comes (Err e) → status_of e ≡ n → F) → (n ≡ 0 → ⊥) → (n ≡ 4 → ⊥) → (n ≡ 9 → ⊥)
       → (result : Result (List ℕ) Refusal) (status : ℕ) → Comes result → IsToldBy result status → status ≡ n → F
-  by_refusal F n so zero four nine result status came told h =
+  by_refusal n so zero four nine result status came told h =
       let found = refused_by calls.Serve c.words c.source result status n told h zero four nine in
       so found.0 (subst (λ (r : Result (List ℕ) Refusal). Comes r) found.1 came) found.2
 
   pub facts_of : (status : ℕ) → Ends c status → Facts c status
   facts_of status (result, came, tells) =
       let told = told_by c.sink [] result status tells in
-      let so = came_so c.words c.source c.doors c.served result came in
-      let failed : status ≡ 21 → Ran c.words c.source (DoorFailed c.doors c.served) = by_refusal _ 21 (failed_of c.words c.source c.doors c.served) (λ k. omega (arith, k)) (λ k. omega (arith, k)) (λ k. omega (arith, k)) result status came told in record {
+      let so = came_so result came in
+      let failed = by_refusal 21 failed_of (λ k. omega (arith, k)) (λ k. omega (arith, k)) (λ k. omega (arith, k)) result status came told in record {
         done = done_so result status came tells;
         usage = usage_is_exact calls.Serve c.words c.source result status told so;
         script_fault = record {
-          only = by_refusal _ 2 (fault_of c.words c.source c.doors c.served) (λ k. omega (arith, k)) (λ k. omega (arith, k)) (λ k. omega (arith, k)) result status came told;
+          only = by_refusal 2 fault_of (λ k. omega (arith, k)) (λ k. omega (arith, k)) (λ k. omega (arith, k)) result status came told;
           always = bad_so result status came told;
         };
         reading = reading_is_exact calls.Serve c.words c.source result status told so;
-        limit = by_refusal _ 7 (limit_of c.words c.source c.doors c.served) (λ k. omega (arith, k)) (λ k. omega (arith, k)) (λ k. omega (arith, k)) result status came told;
+        limit = by_refusal 7 limit_of (λ k. omega (arith, k)) (λ k. omega (arith, k)) (λ k. omega (arith, k)) result status came told;
         write_fault = write_fault c.sink [] result status tells;
         accept_fault = λ h. (failed h).leaves.serving.rose refl;
         served = record {

@@ -8,7 +8,7 @@ use Rattle.pm_words.specs.declared.words.Call.TheVariants as calls
 use Rattle.pm_words.specs.declared.words.Command.{Command}
 use Rattle.pm_words.specs.declared.words.Command.TheVariants.{Serve}
 use Rattle.pm_words.specs.declared.stage.InputRefusal.{InputRefusal}
-use Rattle.pm_words.specs.declared.stage.InputRefusal.TheVariants.{Image, Line, Script as Scripted}
+use Rattle.pm_words.specs.declared.stage.InputRefusal.TheVariants.{Script as Scripted}
 use Rattle.pm_words.specs.declared.stage.StageFault.{StageFault}
 use Rattle.pm_words.specs.declared.stage.StageFault.TheVariants.{OutOfMemory, Refused as Stopped}
 use Rattle.pm_words.specs.declared.refusal.Refusal.{Refusal}
@@ -38,22 +38,21 @@ module _ (words : List (List ℕ)) (s : SourceSide) where
     pub asks_of : Asks calls.Serve words s
     asks_of = record { command = Serve count; words_are = o.words_are; input = o.input; got = o.read }
 
-    -- all of the source was taken, and the script is that of all that it had
+    -- all of the source was taken, and the script says what all that it had says
     pub took : s.tells → TookSome s
     took tells =
         let told = o.read.told tells in
         let within : length s.left ≤ 16777216 = subst (λ (bytes : List ℕ). length bytes ≤ 16777216) told.0 o.read.within in
         (length s.left, omega arith, told.1 ∙ sym (drop_all (length s.left) s.left (omega arith)))
 
-    pub says_left : s.tells → script_served s.left ≡ found
-    says_left tells = ap script_served (sym (o.read.told tells).0) ∙ o.says
+    pub says_one : s.tells → (other : Result Script ScriptFault) → script_served s.left ≡ other → found ≡ other
+    says_one tells other is = sym o.says ∙ ap script_served (o.read.told tells).0 ∙ is
 
   pub by_script : (count : ℕ) (input : List ℕ) → ((found : Result Script ScriptFault) → script_served input ≡ found → Orders words s count found)
       → (stop : StageFault InputRefusal) → Answers (script_served input) (Err stop) → Refused words s (refusal_of_stage (λ (e : InputRefusal). Input e) stop)
   by_script count input orders OutOfMemory why = took count (script_served input) (orders (script_served input) refl)
   by_script count input orders (Stopped (Scripted fault)) why = (count, orders (Err fault) why)
-  by_script count input orders (Stopped (Image fault)) why = absurd why
-  by_script count input orders (Stopped (Line fault)) why = absurd why
+  by_script count input orders (Stopped e) why = absurd why
 
   pub refused_before : (e : Refusal) → Before calls.Serve words s e → Refused words s e
   refused_before (Input (Scripted fault)) before = absurd before

@@ -1,5 +1,5 @@
 -- What a run came to.
-use Rattle.std.proofs.Common.{inl, inr, ⊎_elim, rules, ℕ, map, string_bytes, Global, refl, subst, Ok, Err}
+use Rattle.std.proofs.Common.{inl, inr, ⊎_elim, rules, ℕ, map, string_bytes, Global, refl, subst, Ok}
 use Rattle.pcp_outside.specs.Sides.{SourceSide, source_side}
 use Rattle.pm_words.specs.declared.refusal.Refusal.TheVariants.{NoMemory}
 use Rattle.pm_serving.specs.Serving.{IsUnserved, Leaves, WereCut, doors_side}
@@ -17,7 +17,8 @@ pub returns-in_err-line : goal.returns-in_err-line
 returns-in_err-line g c =
     let words = map (string_bytes {Z = Global}) c.args.words.now in
     let s : SourceSide = source_side g.I.Source c.args.input.now c.prepare.new.input in
-    let why = came_unserved words s (doors_side g.P.Door c.args.doors.now c.args.doors.now) c.args.served.now NoMemory (took words s c.in_ok-count.count (Ok c.in_ok-count.script) c.in_ok-count.ensures.orders) (record { none = c.requires.fresh; doors = refl }) in
+    let took_all = took words s c.in_ok-count.count (Ok c.in_ok-count.script) c.in_ok-count.ensures.orders in
+    let why = came_unserved words s (doors_side g.P.Door c.args.doors.now c.args.doors.now) c.args.served.now NoMemory took_all (record { none = c.requires.fresh; doors = refl }) in
     search (rules, why)
 
 pub returns-in-Ok : goal.returns-in-Ok
@@ -39,12 +40,10 @@ returns-in-Err-Accept g c = record {
 
 pub returns : goal.returns
 returns g c =
-    let words = map (string_bytes {Z = Global}) c.args.words.now in
-    let s : SourceSide = source_side g.I.Source c.args.input.now c.prepare.new.input in
     let d = doors_side g.P.Door c.args.doors.now c.serve_script.new.doors in
     let orders = c.in_ok-count.ensures.orders in
     (
-      took words s c.in_ok-count.count (Ok c.in_ok-count.script) orders,
+      took _ _ c.in_ok-count.count (Ok c.in_ok-count.script) orders,
       ⊎_elim (λ (none : IsUnserved d c.serve_script.new.served). inl none) (λ (cut : WereCut d c.serve_script.new.served c.in_ok-count.count c.in_ok-count.script). inr (record {
         count = c.in_ok-count.count;
         script = c.in_ok-count.script;

@@ -1,15 +1,14 @@
 -- How the call ends, and what that says of the status.
-use Rattle.std.proofs.Common.{map, string_bytes, Global, [], false, refl}
-use Rattle.pcp_outside.specs.Sides.{source_side, sink_side}
+use Rattle.std.proofs.Common.{[], false, refl}
 use Rattle.pm_words.proofs.Sending.{unsent}
 use Rattle.pm_words.proofs.Telling.{tells_all}
-use Rattle.pm_serving.specs.Ends.{Ends, sides}
-use Rattle.pm_serving.specs.Serving.{doors_side}
 use Rattle.pm_serving.proofs.Facts.{facts_of}
 use Rattle.pm_serving.proofs.top.run_serve.Goals as goal
 
 pub returns-clause-ends : goal.returns-clause-ends
-returns-clause-ends g c = (c.run-ran.result, c.run-ran.ensures, tells_all g.O.Sink c.args.out.now c.args.out.now c.tell_end.new.out [] false c.run-ran.result c.tell_end.result (unsent g.O.Sink c.args.out.now false refl) c.tell_end.ensures)
+returns-clause-ends g c =
+    let out = c.args.out.now in
+    (c.run-ran.result, c.run-ran.ensures, tells_all g.O.Sink out out c.tell_end.new.out [] false c.run-ran.result c.tell_end.result (unsent g.O.Sink out false refl) c.tell_end.ensures)
 
 pub returns-clause-facts : goal.returns-clause-facts
-returns-clause-facts g c = facts_of _ c.tell_end.result (c.run-ran.result, c.run-ran.ensures, tells_all g.O.Sink c.args.out.now c.args.out.now c.tell_end.new.out [] false c.run-ran.result c.tell_end.result (unsent g.O.Sink c.args.out.now false refl) c.tell_end.ensures)
+returns-clause-facts g c = facts_of _ c.tell_end.result (returns-clause-ends g c)
