@@ -1,5 +1,5 @@
 -- What a call that serves got of its words and its source, or why it is refused before a session.
-use Rattle.std.proofs.Common.{◌≡◌, inl, ℕ, ◌≤◌, List, length, refl, sym, ap, ◌∙◌, subst, arith, Option, Result, Ok, Err}
+use Rattle.std.proofs.Common.{◌≡◌, ◌⊎◌, inl, inr, ℕ, ◌≤◌, List, length, refl, sym, ap, ◌∙◌, subst, arith, Option, Result, Ok, Err}
 use Rattle.std.proofs.lemmas.List.{drop_all}
 use Rattle.pcp_outside.specs.Sides.{SourceSide}
 use Rattle.run_script.specs.declared.fault.ScriptFault.{ScriptFault}
@@ -20,7 +20,7 @@ use Rattle.pm_words.specs.Refusals.{refusal_of_stage}
 use Rattle.pm_serving.specs.declared.served.Served.{Served}
 use Rattle.pm_serving.specs.Ends.{CameTo, Orders, Refused}
 use Rattle.pm_serving.specs.Scripts.{Answers, script_served}
-use Rattle.pm_serving.specs.Serving.{DoorsSide, IsUnserved}
+use Rattle.pm_serving.specs.Serving.{DoorsSide, IsUnserved, WereCut}
 
 module _ (words : List (List ℕ)) (s : SourceSide) where
   -- of what was asked
@@ -58,7 +58,13 @@ module _ (words : List (List ℕ)) (s : SourceSide) where
   refused_before (Input (Scripted fault)) before = absurd before
   refused_before e before = before
 
-  pub came_unserved : {P In Out Time : Type 0} (d : DoorsSide P In Out Time) (served : Option Served) (e : Refusal) → Refused words s e → IsUnserved d served → CameTo words s d served (Err e)
-  came_unserved d served NoMemory refused unserved = (refused, inl unserved)
-  came_unserved d served Accept refused unserved = absurd refused
-  came_unserved d served e refused unserved = (refused, unserved)
+  module _ {P In Out Time : Type 0} (d : DoorsSide P In Out Time) (served : Option Served) where
+    pub came_unserved : (e : Refusal) → Refused words s e → IsUnserved d served → CameTo words s d served (Err e)
+    came_unserved NoMemory refused unserved = (refused, inl unserved)
+    came_unserved Accept refused unserved = absurd refused
+    came_unserved e refused unserved = (refused, unserved)
+
+    -- memory was refused behind the reading
+    pub came_short : (count : ℕ) (script : Script) → Orders words s count (Ok script) → IsUnserved d served ⊎ WereCut d served count script → CameTo words s d served (Err NoMemory)
+    came_short count script orders (inl none) = (took count (Ok script) orders, inl none)
+    came_short count script orders (inr cut) = (took count (Ok script) orders, inr (record { count = count; script = script; orders = orders; leaves = cut }))

@@ -57,7 +57,6 @@ module _ {P In Out Time : Type 0} (c : Sides P In Out Time) where
   pub record Facts (status : ℕ) : Type 0 where
     -- Done: the input was read to its end, the sessions were served, and the line says how many.
     pub done : status ≡ 0 → IsDone
-
     -- Each other status comes for its cause alone. 1 comes exactly where the words don't ask for sessions; 7 exactly where the input is
     -- above the limit or the script has a region too many.
     pub usage : UsageIsExact calls.Serve c.words status
@@ -66,12 +65,10 @@ module _ {P In Out Time : Type 0} (c : Sides P In Out Time) where
     pub limit : status ≡ 7 → LimitCause c.words c.source
     pub write_fault : status ≡ 4 → Rose c.sink.faults c.sink.faults_after
     pub accept_fault : status ≡ 21 → SomeRose c.doors.door c.doors.before c.doors.after
-
     -- After 0, 4 and 21 the regions are those of the script, each report of a door is that of a session on the seat at its position,
     -- the seat's passes have seen what these sessions did, and each pass of the script has made the entries of its own lines. After 21
     -- all places were drawn, unless every door failed. After every other status nothing was served, but where a writer was refused
     -- memory.
     pub served : ServedIsExact status
-
     -- A script that may be served is served.
     pub completes : IsGoodRun → (status ≡ 0) ⊎ (status ≡ 9)

@@ -16,8 +16,8 @@ returns-in_err-script-clause-orders g c =
     let words = map (string_bytes {Z = Global}) c.args.words.now in
     let s : SourceSide = source_side g.I.Source c.args.input.now c.ask.new.input in
     let why = by_script words s c.in-Serve.count c.as_slice.result.now
-        (λ found says. orders_by words s c.in_ok-command.command c.in-Serve.count c.in_ok-command.bytes c.as_slice.result.now found c.in_ok-command.ensures.asks c.in-Serve.is c.as_slice.ensures says)
-        c.in_err-script.field-0.0 c.in_err-script.ensures.answers in
+    (λ found says. orders_by words s c.in_ok-command.command c.in-Serve.count c.in_ok-command.bytes c.as_slice.result.now found c.in_ok-command.ensures.asks c.in-Serve.is c.as_slice.ensures says)
+    c.in_err-script.field-0.0 c.in_err-script.ensures.answers in
     search (rules, why)
 
 pub returns-clause-orders : goal.returns-clause-orders

@@ -1,9 +1,8 @@
 -- What a run came to.
-use Rattle.std.proofs.Common.{inl, inr, ⊎_elim, rules, ℕ, map, string_bytes, Global, refl, subst, Ok}
+use Rattle.std.proofs.Common.{inl, rules, ℕ, map, string_bytes, Global, refl, subst, Ok}
 use Rattle.pcp_outside.specs.Sides.{SourceSide, source_side}
-use Rattle.pm_words.specs.declared.refusal.Refusal.TheVariants.{NoMemory}
-use Rattle.pm_serving.specs.Serving.{IsUnserved, Leaves, WereCut, doors_side}
-use Rattle.pm_serving.proofs.Ordered.{came_unserved, took}
+use Rattle.pm_serving.specs.Serving.{Leaves, doors_side}
+use Rattle.pm_serving.proofs.Ordered.{came_short, came_unserved}
 use Rattle.pm_serving.proofs.top.run.Goals as goal
 
 pub returns-in_err-count : goal.returns-in_err-count
@@ -17,18 +16,20 @@ pub returns-in_err-line : goal.returns-in_err-line
 returns-in_err-line g c =
     let words = map (string_bytes {Z = Global}) c.args.words.now in
     let s : SourceSide = source_side g.I.Source c.args.input.now c.prepare.new.input in
-    let took_all = took words s c.in_ok-count.count (Ok c.in_ok-count.script) c.in_ok-count.ensures.orders in
-    let why = came_unserved words s (doors_side g.P.Door c.args.doors.now c.args.doors.now) c.args.served.now NoMemory took_all (record { none = c.requires.fresh; doors = refl }) in
+    let why = came_short words s (doors_side g.P.Door c.args.doors.now c.args.doors.now) c.args.served.now c.in_ok-count.count c.in_ok-count.script c.in_ok-count.ensures.orders (inl (record { none = c.requires.fresh; doors = refl })) in
     search (rules, why)
 
 pub returns-in-Ok : goal.returns-in-Ok
 returns-in-Ok g c =
-    let left = c.in-Ok.ensures in (record {
-      count = c.in_ok-count.count;
-      script = c.in_ok-count.script;
-      orders = c.in_ok-count.ensures.orders;
-      leaves = subst (λ (n : ℕ). Leaves (doors_side g.P.Door c.args.doors.now c.serve_script.new.doors) c.in_ok-count.count c.in_ok-count.script (Ok n) c.serve_script.new.served) left.serving.serves.0 left;
-    }, c.in_ok-line.ensures)
+    let left = c.in-Ok.ensures in (
+      record {
+        count = c.in_ok-count.count;
+        script = c.in_ok-count.script;
+        orders = c.in_ok-count.ensures.orders;
+        leaves = subst (λ (n : ℕ). Leaves (doors_side g.P.Door c.args.doors.now c.serve_script.new.doors) c.in_ok-count.count c.in_ok-count.script (Ok n) c.serve_script.new.served) left.serving.serves.0 left;
+      },
+      c.in_ok-line.ensures,
+    )
 
 pub returns-in-Err-Accept : goal.returns-in-Err-Accept
 returns-in-Err-Accept g c = record {
@@ -39,15 +40,4 @@ returns-in-Err-Accept g c = record {
 }
 
 pub returns : goal.returns
-returns g c =
-    let d = doors_side g.P.Door c.args.doors.now c.serve_script.new.doors in
-    let orders = c.in_ok-count.ensures.orders in
-    (
-      took _ _ c.in_ok-count.count (Ok c.in_ok-count.script) orders,
-      ⊎_elim (λ (none : IsUnserved d c.serve_script.new.served). inl none) (λ (cut : WereCut d c.serve_script.new.served c.in_ok-count.count c.in_ok-count.script). inr (record {
-        count = c.in_ok-count.count;
-        script = c.in_ok-count.script;
-        orders = orders;
-        leaves = cut;
-      })) (rw c.in-Err-NoMemory.field-0-is at c.in-Err-NoMemory.ensures),
-    )
+returns g c = came_short _ _ _ _ c.in_ok-count.count c.in_ok-count.script c.in_ok-count.ensures.orders (rw c.in-Err-NoMemory.field-0-is at c.in-Err-NoMemory.ensures)
