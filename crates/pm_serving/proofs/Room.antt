@@ -1,5 +1,5 @@
 -- Where no line of a script is unserved, each region has room for the seats.
-use Rattle.std.proofs.Common.{◌≡◌, ℕ, ◌≤◌, false, nat_lt, List, slice_get, subst, arith, Option, Some, None, option_map, refl}
+use Rattle.std.proofs.Common.{◌≡◌, ℕ, ◌≤◌, false, nat_lt, List, subst, arith, Option, Some, None, option_map, refl}
 use Rattle.std.proofs.lemmas.Bool.{ltb-false}
 use Rattle.std.proofs.lemmas.Option.{get_or_from_slice_get, slice_get_within}
 use Rattle.mmv_layout.proofs.SlotLists.{found_none}

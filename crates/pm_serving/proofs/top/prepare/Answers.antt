@@ -1,5 +1,5 @@
 -- What was asked for, or why it isn't served.
-use Rattle.std.proofs.Common.{rules, map, string_bytes, Global, List, ℕ, Ok}
+use Rattle.std.proofs.Common.{rules, map, string_bytes, Global, Ok}
 use Rattle.pcp_outside.specs.Sides.{SourceSide, source_side}
 use Rattle.pm_serving.proofs.Ordered.{by_script, orders_by, refused_before}
 use Rattle.pm_serving.proofs.top.prepare.Goals as goal
