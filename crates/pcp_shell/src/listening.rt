@@ -5,8 +5,8 @@ ghost use Rattle.pcp_shell.specs.Ports.{port_of};
 
 use pcp_outside::{Free, Sink, Source, write_all};
 use pcp_system::{TcpDoor, listener_above};
-use pm_serving::{read_count, run_serve};
-use pm_words::{Refusal, Usage};
+use pm_serving::run_serve;
+use pm_words::{Call, Refusal, StageFault, Usage, read_words};
 use std::alloc::{Alloc, AllocError, Global};
 use std::io;
 use std::net::{Ipv4Addr, Net, TcpListener, TcpStream};
@@ -53,9 +53,10 @@ pub fn first_bad_of_serve(alloc: Global, words: &[String]) -> Result<usize, Allo
         return Ok(1);
     }
     let rest = without_port(alloc, words)?;
-    match read_count(&rest) {
+    match read_words(alloc, Call::Serve, &rest) {
         Ok(_) => Ok(rest.len()),
-        Err(at) => Ok(at),
+        Err(StageFault::Refused(usage)) => Ok(usage.at),
+        Err(StageFault::OutOfMemory) => Err(AllocError),
     }
 }
 

@@ -1,5 +1,3 @@
-pub mod Endings
 pub mod Facts
+pub mod Ordered
 pub mod Room
-pub mod Scripted
-pub mod Stopping

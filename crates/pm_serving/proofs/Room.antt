@@ -1,32 +1,29 @@
--- Where no region of a script is crowded, each has room for the seats; and what opening them says of seats, seat by seat.
-use Rattle.std.proofs.Common.{◌≡◌, ℕ, zero, suc, ◌≤◌, Bool, true, false, cond, nat_lt, List, [], ◌∷◌, slice_get, refl, sym, subst, arith, Some, None}
-use Rattle.std.specs.List.{AllByRecursion}
+-- Where no line of a script is unserved, each region has room for the seats.
+use Rattle.std.proofs.Common.{◌≡◌, ℕ, ◌≤◌, false, nat_lt, List, subst, arith, Option, Some, None, option_map, refl}
 use Rattle.std.proofs.lemmas.Bool.{ltb-false}
+use Rattle.std.proofs.lemmas.Option.{get_or_from_slice_get, slice_get_within}
+use Rattle.mmv_layout.proofs.SlotLists.{found_none}
 use Rattle.run_script.specs.declared.script.RegionRow.{RegionRow}
+use Rattle.run_script.specs.declared.script.Script.{Script}
+use Rattle.run_script.specs.Recording.{refused_line}
 use Rattle.run_passes.specs.Openings.{HaveRoom}
-use Rattle.pm_serving.specs.Scripts.{first_crowded}
+use Rattle.pm_serving.specs.Scripts.{crowded_line, earlier, first_crowded, unserved_line}
 
-none_some : {A : Type 0} (x : A) → None ≡ Some x → ⊥
-none_some x h = cc
+uncrowded : (rows : List RegionRow) → first_crowded rows ≡ None → HaveRoom rows 4
+uncrowded rows none i row at =
+    let found = found_none RegionRow (λ (r : RegionRow). nat_lt 252 r.passes) rows none i row (slice_get_within rows i row at) in
+    let low : row.passes ≤ 252 = ltb-false 252 row.passes (subst (λ (r : RegionRow). nat_lt 252 r.passes ≡ false) (get_or_from_slice_get rows i row row at) found) in
+    omega arith
 
-same_some : {A : Type 0} (x y : A) → Some x ≡ Some y → x ≡ y
-same_some x y h = cc
+none_crowded : (found : Option RegionRow) → option_map (λ (row : RegionRow). row.line) found ≡ None → found ≡ None
+none_crowded None h = refl
+none_crowded (Some row) h = absurd (cc)
 
--- no region behind a first one that is found
-uncrowded : (rows : List RegionRow) → first_crowded rows ≡ None → (i : ℕ) (row : RegionRow) → slice_get rows i ≡ Some row → nat_lt 252 row.passes ≡ false
-uncrowded [] h i row at = absurd (none_some row at)
-uncrowded (r ∷ rs) h i row at = here (nat_lt 252 r.passes) refl h (uncrowded rs) i at
-  where
-    here : (t : Bool) → nat_lt 252 r.passes ≡ t → cond t (Some r) (first_crowded rs) ≡ None → (first_crowded rs ≡ None → (i : ℕ) (row : RegionRow) → slice_get rs i ≡ Some row → nat_lt 252 row.passes ≡ false)
-        → (i : ℕ) → slice_get (r ∷ rs) i ≡ Some row → nat_lt 252 row.passes ≡ false
-    here true e h rest i at = absurd (none_some r (sym h))
-    here false e h rest zero at = subst (λ (x : RegionRow). nat_lt 252 x.passes ≡ false) (same_some r row at) e
-    here false e h rest (suc i) at = rest h i row at
+-- no line of two is the earlier one
+none_first : (line other : Option ℕ) → earlier line other ≡ None → line ≡ None
+none_first None other h = refl
+none_first (Some line) None h = absurd (cc)
+none_first (Some line) (Some other) h = absurd (cc)
 
-pub have_room : (rows : List RegionRow) → first_crowded rows ≡ None → HaveRoom rows 4
-have_room rows none i row at = let low : row.passes ≤ 252 = ltb-false 252 row.passes (uncrowded rows none i row at) in omega arith
-
--- what holds at each position holds of each
-pub all_at : {A : Type 0} (F : A → Type 0) (xs : List A) → ((i : ℕ) (x : A) → slice_get xs i ≡ Some x → F x) → AllByRecursion F xs
-all_at F [] each = tt
-all_at F (x ∷ xs) each = (each 0 x refl, all_at F xs (λ i y at. each (suc i) y at))
+pub roomy : (script : Script) → unserved_line script ≡ None → HaveRoom script.regions 4
+roomy script h = uncrowded script.regions (none_crowded (first_crowded script.regions) (none_first (crowded_line script) (refused_line script) h))

@@ -1,121 +1,76 @@
 -- How a call that serves ends. What is looked at first comes first: the words, the input, then the sessions; want of memory may come
 -- at any place, but behind the first session only where a writer was refused it.
-use Rattle.std.specs.Prelude.{◌≡◌, ◌⊎◌, ℕ, List, ◌++◌, take, Option, Result, Ok, Err}
-use Rattle.pcp_outside.specs.Causes.{Rose}
-use Rattle.pmcd_server.specs.declared.fault.ServeFault.{ServeFault}
+use Rattle.std.specs.Prelude.{◌≡◌, ◌⊎◌, ℕ, List, [], Option, Result, Ok, Err, codes}
+use Rattle.pcp_outside.specs.Sides.{SourceSide, SinkSide}
+use Rattle.text_lines.specs.Spelling.{one_number}
 use Rattle.pmcd_server.specs.declared.fault.ServeFault.TheVariants as faults
 use Rattle.run_script.specs.declared.fault.ScriptFault.{ScriptFault}
 use Rattle.run_script.specs.declared.script.Script.{Script}
-use Rattle.pm_words.specs.Refusals.{Wrote}
-use Rattle.pcp_outside.specs.Sides.{SourceSide, SinkSide}
-use Rattle.pm_words.specs.Sides.{NotAsked}
-use Rattle.pm_words.specs.declared.refusal.Refusal.{Refusal}
-use Rattle.pm_words.specs.declared.refusal.Refusal.TheVariants.{Words, Reading, Input, Disk, NoMemory}
+use Rattle.pm_words.specs.declared.words.Call.TheVariants as calls
+use Rattle.pm_words.specs.declared.words.Command.TheVariants.{Serve}
 use Rattle.pm_words.specs.declared.stage.InputRefusal.TheVariants.{Script as Scripted}
-use Rattle.pm_serving.specs.declared.refusal.ServeRefusal.{ServeRefusal}
-use Rattle.pm_serving.specs.declared.refusal.ServeRefusal.TheVariants.{Before, Accept}
+use Rattle.pm_words.specs.declared.refusal.Refusal.{Refusal}
+use Rattle.pm_words.specs.declared.refusal.Refusal.TheVariants.{Input, Accept, NoMemory}
+use Rattle.pm_words.specs.Asking.{Before}
+use Rattle.pm_words.specs.CommandLine.{asked_by}
+use Rattle.pm_words.specs.Reading.{WasRead}
+use Rattle.pm_words.specs.Telling.{TellsAll}
 use Rattle.pm_serving.specs.declared.served.Served.{Served}
-use Rattle.pm_serving.specs.CommandWords.{count_of}
-use Rattle.pm_words.specs.Reading.{WasRead, ReadCause, TookSome}
-use Rattle.pm_serving.specs.Refusals.{IsNumbered, serving_status, serving_line, served_line}
 use Rattle.pm_serving.specs.Scripts.{script_served}
 use Rattle.pm_serving.specs.Serving.{DoorsSide, IsUnserved, Leaves, WereCut}
 
--- the words ask for sessions
-abbrev pub IsAsked : List (List ℕ) → Type 0
-IsAsked words = (count : ℕ) × (count_of words ≡ Ok count)
+-- What a call found of each object outside, and left of it, with its words and the regions that it left.
+pub record Sides (P In Out Time : Type 0) : Type 1 where
+  pub words : List (List ℕ)
+  pub source : SourceSide
+  pub sink : SinkSide
+  pub doors : DoorsSide P In Out Time
+  pub served : Option Served
 
--- the words ask for sessions, and the input was read whole
-pub record Asks (words : List (List ℕ)) (s : SourceSide) : Type 0 where
-  pub count : ℕ
-  pub words_are : count_of words ≡ Ok count
+abbrev pub sides : {P In Out Time : Type 0} → List (List ℕ) → SourceSide → SinkSide → DoorsSide P In Out Time → Option Served → Sides P In Out Time
+sides words source sink doors served = record { words = words; source = source; sink = sink; doors = doors; served = served }
+
+-- The words ask for this many sessions, and the input, which was read whole, says this of the script to serve.
+pub record Orders (words : List (List ℕ)) (s : SourceSide) (count : ℕ) (found : Result Script ScriptFault) : Type 0 where
+  pub words_are : asked_by calls.Serve words ≡ Ok (Serve count)
   pub input : List ℕ
   pub read : WasRead s input
+  pub says : script_served input ≡ found
 
 -- the input isn't served, for this fault
 abbrev pub Finds : List (List ℕ) → SourceSide → ScriptFault → Type 0
-Finds words s fault = (a : Asks words s) × (script_served a.input ≡ Err fault)
+Finds words s fault = (count : ℕ) × Orders words s count (Err fault)
 
--- Why a call is refused before a session is served.
-abbrev pub Cause : List (List ℕ) → SourceSide → Refusal → Type 0
-Cause words s (Words usage) = (count_of words ≡ Err usage.at) × NotAsked s
-Cause words s (Reading e) = IsAsked words × ReadCause s e
-Cause words s (Input e) = (fault : ScriptFault) × (e ≡ Scripted fault) × Finds words s fault
-Cause words s (Disk e) = ⊥
-Cause words s NoMemory = s.tells → TookSome s
+-- why a call is refused before a session is served
+abbrev pub Refused : List (List ℕ) → SourceSide → Refusal → Type 0
+Refused words s (Input (Scripted fault)) = Finds words s fault
+Refused words s e = Before calls.Serve words s e
 
--- this many sessions are asked for, over this script
-pub record IsOrder (words : List (List ℕ)) (s : SourceSide) (count : ℕ) (script : Script) : Type 0 where
-  pub asks : Asks words s
-  pub counted : asks.count ≡ count
-  pub good : script_served asks.input ≡ Ok script
-
--- The script that the words and the input ask for was opened and served, and `served` has what is left.
-pub record Ran {P In Out Time : Type 0} (words : List (List ℕ)) (s : SourceSide) (d : DoorsSide P In Out Time) (served : Option Served) (outcome : ℕ → Result ℕ ServeFault) : Type 0 where
-  pub asks : Asks words s
+-- The script that the words and the input ask for was opened, and this is left of it.
+pub record Ran (words : List (List ℕ)) (s : SourceSide) (left : ℕ → Script → Type 0) : Type 0 where
+  pub count : ℕ
   pub script : Script
-  pub good : script_served asks.input ≡ Ok script
-  pub leaves : Leaves d asks.count script (outcome asks.count) served
+  pub orders : Orders words s count (Ok script)
+  pub leaves : left count script
 
--- the count was served; or a door failed
-abbrev pub all_served : ℕ → Result ℕ ServeFault
-all_served count = Ok count
+-- all sessions were served; a door failed
+abbrev pub AllServed : {P In Out Time : Type 0} → DoorsSide P In Out Time → Option Served → ℕ → Script → Type 0
+AllServed d served count script = Leaves d count script (Ok count) served
 
-abbrev pub accept_failure : ℕ → Result ℕ ServeFault
-accept_failure count = Err faults.Accept
+abbrev pub DoorFailed : {P In Out Time : Type 0} → DoorsSide P In Out Time → Option Served → ℕ → Script → Type 0
+DoorFailed d served count script = Leaves d count script (Err faults.Accept) served
 
--- why the serving of a script is refused
-abbrev pub StopsServing : {P In Out Time : Type 0} → DoorsSide P In Out Time → ℕ → Script → Option Served → ServeRefusal → Type 0
-StopsServing d count script served (Before NoMemory) = IsUnserved d served ⊎ WereCut d count script served
-StopsServing d count script served Accept = Leaves d count script (accept_failure count) served
-StopsServing d count script served _ = ⊥
+-- the line of a call that served so many sessions
+abbrev pub served_line : ℕ → List ℕ
+served_line count = one_number (codes "served") count
 
--- the line of a run that was done
-pub record Tells {P In Out Time : Type 0} (words : List (List ℕ)) (s : SourceSide) (d : DoorsSide P In Out Time) (served : Option Served) (line : List ℕ) : Type 0 where
-  pub ran : Ran words s d served all_served
-  pub is : line ≡ served_line ran.asks.count
+-- What a call came to: it was done, with this line, or refused.
+abbrev pub CameTo : {P In Out Time : Type 0} → List (List ℕ) → SourceSide → DoorsSide P In Out Time → Option Served → Result (List ℕ) Refusal → Type 0
+CameTo words s d served (Ok line) = (ran : Ran words s (AllServed d served)) × (line ≡ served_line ran.count)
+CameTo words s d served (Err Accept) = Ran words s (DoorFailed d served)
+CameTo words s d served (Err NoMemory) = Refused words s NoMemory × (IsUnserved d served ⊎ Ran words s (WereCut d served))
+CameTo words s d served (Err e) = Refused words s e × IsUnserved d served
 
--- a writer was refused memory, beside sessions over the script that the words and the input ask for
-pub record RanCut {P In Out Time : Type 0} (words : List (List ℕ)) (s : SourceSide) (d : DoorsSide P In Out Time) (served : Option Served) : Type 0 where
-  pub asks : Asks words s
-  pub script : Script
-  pub good : script_served asks.input ≡ Ok script
-  pub cut : WereCut d asks.count script served
-
--- what a refusal says
-abbrev pub Refuses : {P In Out Time : Type 0} → List (List ℕ) → SourceSide → DoorsSide P In Out Time → Option Served → ServeRefusal → Type 0
-Refuses words s d served (Before NoMemory) = Cause words s NoMemory × (IsUnserved d served ⊎ RanCut words s d served)
-Refuses words s d served (Before e) = Cause words s e × IsUnserved d served
-Refuses words s d served Accept = Ran words s d served accept_failure
-
--- it was done, and said so
-pub record EndsDone {P In Out Time : Type 0} (words : List (List ℕ)) (s : SourceSide) (k : SinkSide) (d : DoorsSide P In Out Time) (served : Option Served) : Type 0 where
-  pub ran : Ran words s d served all_served
-  pub wrote : k.tells → k.after ≡ k.written ++ served_line ran.asks.count
-
--- it was done, and the sink failed; a front of the line is written
-pub record EndsUntold {P In Out Time : Type 0} (words : List (List ℕ)) (s : SourceSide) (k : SinkSide) (d : DoorsSide P In Out Time) (served : Option Served) : Type 0 where
-  pub ran : Ran words s d served all_served
-  pub failed : Rose k.faults k.faults_after
-  pub wrote : k.tells → (n : ℕ) × (k.after ≡ k.written ++ take n (served_line ran.asks.count))
-
--- it was refused, and the refusal's line is written, or a front of it where the sink failed
-pub record EndsRefused {P In Out Time : Type 0} (words : List (List ℕ)) (s : SourceSide) (k : SinkSide) (d : DoorsSide P In Out Time) (served : Option Served) (e : ServeRefusal) : Type 0 where
-  pub refuses : Refuses words s d served e
-  pub wrote : k.tells → Wrote k.faults k.faults_after k.written k.after (serving_line e)
-
-abbrev pub Ends : {P In Out Time : Type 0} → List (List ℕ) → SourceSide → SinkSide → DoorsSide P In Out Time → Option Served → ℕ → Type 0
-Ends words s k d served status = ((status ≡ 0) × EndsDone words s k d served) ⊎ (((status ≡ 4) × EndsUntold words s k d served) ⊎ ((e : ServeRefusal) × (status ≡ serving_status e) × EndsRefused words s k d served e))
-
--- What is written and answered in the end, whatever ran: this line and 0, or a front of it and 4 where the sink failed; or the refusal's line and
--- its status, or nothing and 9 where memory was refused for it.
-
-abbrev pub EndsWithLine : SinkSide → ℕ → List ℕ → Type 0
-EndsWithLine k status line =
-    ((status ≡ 0) × (k.tells → k.after ≡ k.written ++ line))
-    ⊎ ((status ≡ 4) × Rose k.faults k.faults_after × (k.tells → (n : ℕ) × (k.after ≡ k.written ++ take n line)))
-
-abbrev pub EndsWithRefusal : SinkSide → ℕ → ServeRefusal → Type 0
-EndsWithRefusal k status e =
-    ((status ≡ serving_status e) × (k.tells → Wrote k.faults k.faults_after k.written k.after (serving_line e)))
-    ⊎ ((status ≡ 9) × IsNumbered e × (k.tells → k.after ≡ k.written))
+-- and that was told
+abbrev pub Ends : {P In Out Time : Type 0} → Sides P In Out Time → ℕ → Type 0
+Ends c status = (result : Result (List ℕ) Refusal) × CameTo c.words c.source c.doors c.served result × TellsAll c.sink [] result status

@@ -1,27 +1,22 @@
 -- What a status says, fact by fact. "Always" yields to want of memory (9) and to a read that failed before (3), which no clause can
 -- foresee.
-use Rattle.std.specs.Prelude.{◌≡◌, ◌⊎◌, ℕ, ◌<◌, ◌≤◌, List, length, drop, Option, Ok, Err}
+use Rattle.std.specs.Prelude.{◌≡◌, ◌⊎◌, ℕ, ◌≤◌, List, ◌++◌, length, Ok, Err}
 use Rattle.pcp_outside.specs.Causes.{Rose}
+use Rattle.pcp_outside.specs.Sides.{SourceSide}
 use Rattle.pmcd_server.specs.Crews.{SomeRose}
 use Rattle.run_script.specs.declared.fault.ScriptFault.{ScriptFault}
 use Rattle.run_script.specs.declared.script.Script.{Script}
+use Rattle.pm_words.specs.declared.words.Call.TheVariants as calls
+use Rattle.pm_words.specs.Asking.{IsAbove, IsReader, ReadingIsExact, UsageIsExact}
 use Rattle.pm_words.specs.Inputs.{input_limit}
 use Rattle.pm_words.specs.Refusals.{script_status}
-use Rattle.pcp_outside.specs.Sides.{SourceSide, SinkSide}
-use Rattle.pm_serving.specs.declared.served.Served.{Served}
-use Rattle.pm_serving.specs.CommandWords.{count_of}
-use Rattle.pm_serving.specs.Ends.{IsAsked, Finds, Ran, RanCut, all_served, accept_failure}
+use Rattle.pm_serving.specs.Ends.{AllServed, DoorFailed, Finds, Ran, Sides, served_line}
 use Rattle.pm_serving.specs.Scripts.{script_served}
-use Rattle.pm_serving.specs.Serving.{DoorsSide, IsUnserved}
-
--- 1 exactly where the words don't ask for sessions
-pub record UsageIsExact (words : List (List ℕ)) (status : ℕ) : Type 0 where
-  pub only : status ≡ 1 → (at : ℕ) × (count_of words ≡ Err at)
-  pub always : (at : ℕ) → count_of words ≡ Err at → (status ≡ 1) ⊎ (status ≡ 9)
+use Rattle.pm_serving.specs.Serving.{IsUnserved, WereCut}
 
 -- the words ask for sessions, and the source gives an input within the limit
 pub record Meets (words : List (List ℕ)) (s : SourceSide) : Type 0 where
-  pub asked : IsAsked words
+  pub asked : IsReader calls.Serve words
   pub tells : s.tells
   pub within : length s.left ≤ input_limit
 
@@ -31,26 +26,49 @@ pub record ScriptFaultIsExact (words : List (List ℕ)) (s : SourceSide) (status
   pub only : status ≡ 2 → (fault : ScriptFault) × (script_status fault.fault ≡ 2) × Finds words s fault
   pub always : Meets words s → (fault : ScriptFault) → script_served s.left ≡ Err fault → (status ≡ script_status fault.fault) ⊎ ((status ≡ 9) ⊎ (status ≡ 3))
 
--- 7 exactly where the input is above 16 MiB, of which one byte above the limit is taken and no further one, or the script has a
--- region too many
-pub record LimitIsExact (words : List (List ℕ)) (s : SourceSide) (status : ℕ) : Type 0 where
-  pub only : status ≡ 7 → (IsAsked words × (s.tells → (input_limit < length s.left) × (s.after ≡ drop 16777217 s.left))) ⊎ ((fault : ScriptFault) × (script_status fault.fault ≡ 7) × Finds words s fault)
-  pub always : IsAsked words → s.tells → input_limit < length s.left → (status ≡ 7) ⊎ ((status ≡ 9) ⊎ (status ≡ 3))
+-- the input is above 16 MiB, of which one byte above the limit is taken and no further one, or the script has a region too many
+abbrev pub LimitCause : List (List ℕ) → SourceSide → Type 0
+LimitCause words s = (IsReader calls.Serve words × IsAbove s) ⊎ ((fault : ScriptFault) × (script_status fault.fault ≡ 7) × Finds words s fault)
 
--- After 0 and 4 all sessions were served; after 21 some door failed, and the other workers served on: all places were drawn, unless
--- every door failed. After every other status nothing was served: the doors are as they were, and no regions are left; but after 9
--- sessions may have been served beside a writer that was refused memory.
-pub record ServedIsExact {P In Out Time : Type 0} (words : List (List ℕ)) (s : SourceSide) (d : DoorsSide P In Out Time) (served : Option Served) (status : ℕ) : Type 0 where
-  pub done : status ≡ 0 → Ran words s d served all_served
-  pub untold : status ≡ 4 → Ran words s d served all_served
-  pub accept : status ≡ 21 → Ran words s d served accept_failure
-  pub otherwise : (status ≡ 0 → ⊥) → (status ≡ 4 → ⊥) → (status ≡ 21 → ⊥) → IsUnserved d served ⊎ ((status ≡ 9) × RanCut words s d served)
+module _ {P In Out Time : Type 0} (c : Sides P In Out Time) where
+  -- it was done, and said so
+  pub record IsDone : Type 0 where
+    pub ran : Ran c.words c.source (AllServed c.doors c.served)
+    pub wrote : c.sink.tells → c.sink.after ≡ c.sink.written ++ served_line ran.count
 
--- A script that may be served, and no count that rose.
-pub record IsGoodRun {P In Out Time : Type 0} (words : List (List ℕ)) (s : SourceSide) (k : SinkSide) (d : DoorsSide P In Out Time) : Type 0 where
-  pub meets : Meets words s
-  pub script : Script
-  pub good : script_served s.left ≡ Ok script
-  pub source_kept : Rose s.faults s.faults_after → ⊥
-  pub sink_kept : Rose k.faults k.faults_after → ⊥
-  pub doors_kept : SomeRose d.door d.before d.after → ⊥
+  -- After 0 and 4 all sessions were served; after 21 some door failed, and the other workers served on: all places were drawn, unless
+  -- every door failed. After every other status nothing was served: the doors are as they were, and no regions are left; but after 9
+  -- sessions may have been served beside a writer that was refused memory.
+  pub record ServedIsExact (status : ℕ) : Type 0 where
+    pub done : status ≡ 0 → Ran c.words c.source (AllServed c.doors c.served)
+    pub untold : status ≡ 4 → Ran c.words c.source (AllServed c.doors c.served)
+    pub accept : status ≡ 21 → Ran c.words c.source (DoorFailed c.doors c.served)
+    pub otherwise : (status ≡ 0 → ⊥) → (status ≡ 4 → ⊥) → (status ≡ 21 → ⊥) → IsUnserved c.doors c.served ⊎ ((status ≡ 9) × Ran c.words c.source (WereCut c.doors c.served))
+
+  -- A script that may be served, and no count that rose.
+  pub record IsGoodRun : Type 0 where
+    pub meets : Meets c.words c.source
+    pub script : Script
+    pub good : script_served c.source.left ≡ Ok script
+    pub source_kept : Rose c.source.faults c.source.faults_after → ⊥
+    pub sink_kept : Rose c.sink.faults c.sink.faults_after → ⊥
+    pub doors_kept : SomeRose c.doors.door c.doors.before c.doors.after → ⊥
+
+  pub record Facts (status : ℕ) : Type 0 where
+    -- Done: the input was read to its end, the sessions were served, and the line says how many.
+    pub done : status ≡ 0 → IsDone
+    -- Each other status comes for its cause alone. 1 comes exactly where the words don't ask for sessions; 7 exactly where the input is
+    -- above the limit or the script has a region too many.
+    pub usage : UsageIsExact calls.Serve c.words status
+    pub script_fault : ScriptFaultIsExact c.words c.source status
+    pub reading : ReadingIsExact calls.Serve c.words c.source status
+    pub limit : status ≡ 7 → LimitCause c.words c.source
+    pub write_fault : status ≡ 4 → Rose c.sink.faults c.sink.faults_after
+    pub accept_fault : status ≡ 21 → SomeRose c.doors.door c.doors.before c.doors.after
+    -- After 0, 4 and 21 the regions are those of the script, each report of a door is that of a session on the seat at its position,
+    -- the seat's passes have seen what these sessions did, and each pass of the script has made the entries of its own lines. After 21
+    -- all places were drawn, unless every door failed. After every other status nothing was served, but where a writer was refused
+    -- memory.
+    pub served : ServedIsExact status
+    -- A script that may be served is served.
+    pub completes : IsGoodRun → (status ≡ 0) ⊎ (status ≡ 9)

@@ -51,4 +51,5 @@ script_served input = with_room (script_of input)
 abbrev pub Answers : Result Script ScriptFault → Result Script (StageFault InputRefusal) → Type 0
 Answers found (Ok script) = found ≡ Ok script
 Answers found (Err OutOfMemory) = Unit {0}
-Answers found (Err (Refused e)) = (fault : ScriptFault) × (found ≡ Err fault) × (e ≡ Scripted fault)
+Answers found (Err (Refused (Scripted fault))) = found ≡ Err fault
+Answers found (Err (Refused e)) = ⊥

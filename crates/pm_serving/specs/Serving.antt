@@ -1,8 +1,9 @@
 -- What is left of a script's regions on which sessions were served.
-use Rattle.std.specs.Prelude.{◌≡◌, ℕ, ◌+◌, List, length, sum_by, Option, Some, None, Result, Ok, Err}
+use Rattle.std.specs.Prelude.{◌≡◌, ◌⊎◌, ℕ, ◌+◌, List, length, sum_by, Option, Some, None, Result, Err, IsErrOf, OnOk}
 use Rattle.pcp_outside.specs.declared.doors.Door.{Ghosts}
-use Rattle.pmcd_server.specs.Crews.{HasServed}
+use Rattle.pmcd_server.specs.Crews.{HasServed, SomeRose}
 use Rattle.pmcd_server.specs.declared.fault.ServeFault.{ServeFault}
+use Rattle.pmcd_server.specs.declared.fault.ServeFault.TheVariants.{Accept, NoMemory}
 use Rattle.run_script.specs.declared.script.Script.{Script}
 use Rattle.run_passes.specs.Openings.{IsOpened}
 use Rattle.run_passes.specs.declared.opening.Opened.{Opened}
@@ -23,15 +24,6 @@ doors_side door old new = record { door = door; before = old; after = new }
 abbrev pub opened_as : Served → Opened
 opened_as served = record { server = served.server; passes = served.passes; seats = served.seats }
 
--- of doors that tell, as many connections were taken in all, and as many reports told
-pub record AreCounted {P In Out Time : Type 0} (d : DoorsSide P In Out Time) (count : ℕ) : Type 0 where
-  pub connections : sum_by (λ p. length (d.door.left p)) d.before ≡ sum_by (λ p. length (d.door.left p)) d.after + count
-  pub reports : sum_by (λ p. length (d.door.reports p)) d.after ≡ sum_by (λ p. length (d.door.reports p)) d.before + count
-
-abbrev pub Counts : {P In Out Time : Type 0} → DoorsSide P In Out Time → Result ℕ ServeFault → Type 0
-Counts d (Ok count) = d.door.tells → AreCounted d count
-Counts d (Err fault) = Unit {0}
-
 -- The script was opened with four seats, and sessions were served on them; beside them its writers ran: each pass of the script has
 -- made the entries of its own lines.
 pub record Serving {P In Out Time : Type 0} (d : DoorsSide P In Out Time) (count : ℕ) (script : Script) (result : Result ℕ ServeFault) (served : Served) : Type 0 where
@@ -40,7 +32,10 @@ pub record Serving {P In Out Time : Type 0} (d : DoorsSide P In Out Time) (count
   pub server : served.server ≡ opened.server
   pub written : HaveWritten script served.server opened.passes.items served.passes.items
   pub serves : HasServed served.server d.door count opened.seats.items d.before served.seats.items d.after result
-  pub counts : Counts d result
+  -- of doors that tell, as many connections were taken in all, and as many reports told
+  pub connections : d.door.tells → OnOk result (sum_by (λ p. length (d.door.left p)) d.before ≡ sum_by (λ p. length (d.door.left p)) d.after + count)
+  pub reports : d.door.tells → OnOk result (sum_by (λ p. length (d.door.reports p)) d.after ≡ sum_by (λ p. length (d.door.reports p)) d.before + count)
+  pub rose : IsErrOf result Accept → SomeRose d.door d.before d.after
 
 -- `served` has what is left
 pub record Leaves {P In Out Time : Type 0} (d : DoorsSide P In Out Time) (count : ℕ) (script : Script) (result : Result ℕ ServeFault) (served : Option Served) : Type 0 where
@@ -49,7 +44,7 @@ pub record Leaves {P In Out Time : Type 0} (d : DoorsSide P In Out Time) (count 
   pub serving : Serving d count script result regions
 
 -- A writer was refused memory: its passes are gone, and the sessions were served on regions that are gone too.
-pub record WereCut {P In Out Time : Type 0} (d : DoorsSide P In Out Time) (count : ℕ) (script : Script) (served : Option Served) : Type 0 where
+pub record WereCut {P In Out Time : Type 0} (d : DoorsSide P In Out Time) (served : Option Served) (count : ℕ) (script : Script) : Type 0 where
   pub none : served ≡ None
   pub opened : Served
   pub made : IsOpened script 4 (opened_as opened)
@@ -61,3 +56,8 @@ pub record WereCut {P In Out Time : Type 0} (d : DoorsSide P In Out Time) (count
 pub record IsUnserved {P In Out Time : Type 0} (d : DoorsSide P In Out Time) (served : Option Served) : Type 0 where
   pub none : served ≡ None
   pub doors : d.after ≡ d.before
+
+-- What the serving of a script answered, and what is left of it.
+abbrev pub HasAnswered : {P In Out Time : Type 0} → DoorsSide P In Out Time → ℕ → Script → Option Served → Result ℕ ServeFault → Type 0
+HasAnswered d count script served (Err NoMemory) = IsUnserved d served ⊎ WereCut d served count script
+HasAnswered d count script served answer = Leaves d count script answer served

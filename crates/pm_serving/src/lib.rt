@@ -2,14 +2,10 @@
 //! seats beside each other (pmcd(1)). It answers the exit status, each with its cause, and leaves the regions on which it served.
 #![tactic(auto)]
 
-mod refusal;
 mod scripts;
 mod served;
 mod together;
 mod top;
-mod words;
 
-pub use refusal::ServeRefusal;
 pub use served::Served;
 pub use top::run_serve;
-pub use words::read_count;

@@ -1,23 +1,21 @@
 //! Sessions on the regions of a script, and its writers beside them.
-ghost use Rattle.std.specs.Prelude.{◌≡◌, ◌+◌, ◌<◌, ◌≤◌, length, sum_by, IfOk, MatchResult, None, OnOk};
+ghost use Rattle.std.specs.Prelude.{◌≡◌, ◌+◌, ◌<◌, ◌≤◌, length, sum_by, IfOk, IsErrOf, None, OnOk};
 ghost use Rattle.std.specs.List.{AllByRecursion};
 ghost use Rattle.std.specs.Thread.{IsSend, IsSync};
 ghost use Rattle.fetch_engine.specs.Servers.{IsSeated};
-ghost use Rattle.pmcd_server.specs.Crews.{HasServed};
+ghost use Rattle.pmcd_server.specs.Crews.{HasServed, SomeRose};
+ghost use Rattle.pmcd_server.specs.declared.fault.ServeFault.TheVariants.{Accept as DoorFailed};
 ghost use Rattle.run_script.specs.Recording.{refused_line};
 ghost use Rattle.run_script.specs.Rules.{KeepsRules};
 ghost use Rattle.run_passes.specs.Crews.{ServesScript};
 ghost use Rattle.run_passes.specs.Openings.{HaveRoom};
 ghost use Rattle.run_passes.specs.Written.{AreReady, HaveWritten};
-ghost use Rattle.pm_serving.specs.Ends.{StopsServing, all_served};
-ghost use Rattle.pm_serving.specs.Serving.{Leaves, doors_side};
+ghost use Rattle.pm_serving.specs.Serving.{HasAnswered, doors_side};
 
-use crate::refusal::ServeRefusal;
 use crate::served::{Served, open};
 use fetch_engine::Server;
 use pcp_base::NoMemory;
 use pcp_outside::{Door, Turn};
-use pm_words::Refusal;
 use pmcd_server::{ServeFault, serve};
 use pmcd_session::SessionSeat;
 use region_words::Pass;
@@ -54,6 +52,7 @@ where
     ensures served { HasServed server.now P.Door count seats.old doors.old seats.new doors.new result.1 }
     ensures connections { P.tells → OnOk result.1 (sum_by (λ d. length (P.left d)) doors.old ≡ sum_by (λ d. length (P.left d)) doors.new + count) }
     ensures reports { P.tells → OnOk result.1 (sum_by (λ d. length (P.reports d)) doors.new ≡ sum_by (λ d. length (P.reports d)) doors.old + count) }
+    ensures rose { IsErrOf result.1 DoorFailed → SomeRose P.Door doors.old doors.new }
 {
     join_mut(
         rt,
@@ -78,6 +77,7 @@ where
             ensures served { HasServed server.entry.now P.Door count seats.entry.now doors.entry.now seats.exit.now doors.exit.now result }
             ensures connections { P.tells → OnOk result (sum_by (λ d. length (P.left d)) doors.entry.now ≡ sum_by (λ d. length (P.left d)) doors.exit.now + count) }
             ensures reports { P.tells → OnOk result (sum_by (λ d. length (P.reports d)) doors.exit.now ≡ sum_by (λ d. length (P.reports d)) doors.entry.now + count) }
+            ensures rose { IsErrOf result DoorFailed → SomeRose P.Door doors.entry.now doors.exit.now }
         { serve(rt, alloc, server, seats, doors, count) },
     )
 }
@@ -92,7 +92,7 @@ pub(crate) fn serve_script<P: Door + Send, R: Threads + Wait + Sync, T: Turn + S
     doors: &mut [P],
     turn: &T,
     served: &mut Option<Served>,
-) -> Result<(), ServeRefusal>
+) -> Result<u32, ServeFault>
 where
     P::In: Send,
     P::Out: Send,
@@ -102,7 +102,7 @@ where
     requires taken { refused_line script.now ≡ None }
     requires four { length doors.old ≡ 4 }
     requires fresh { served.old ≡ None }
-    ensures { MatchResult result (λ _. Leaves (doors_side P.Door doors.old doors.new) count script.now (all_served count) served.new) (StopsServing (doors_side P.Door doors.old doors.new) count script.now served.new) }
+    ensures { HasAnswered (doors_side P.Door doors.old doors.new) count script.now served.new result }
 {
     let Served {
         server,
@@ -122,23 +122,13 @@ where
     );
     let (written, answer) = answers;
     let passes = written?;
-    match answer {
-        Ok(_) => {
-            *served = Some(Served {
-                server,
-                passes,
-                seats,
-            });
-            Ok(())
-        }
-        Err(ServeFault::Accept) => {
-            *served = Some(Served {
-                server,
-                passes,
-                seats,
-            });
-            Err(ServeRefusal::Accept)
-        }
-        Err(ServeFault::NoMemory) => Err(ServeRefusal::Before(Refusal::NoMemory)),
+    if let Err(ServeFault::NoMemory) = answer {
+        return answer;
     }
+    *served = Some(Served {
+        server,
+        passes,
+        seats,
+    });
+    answer
 }

@@ -3,8 +3,7 @@ use Rattle.std.proofs.Common.{◌≡◌, ℕ, sym, ap, ◌∙◌, Option, None}
 use Rattle.run_script.specs.Recording.{refused_line}
 use Rattle.run_script.proofs.Ruled.{scripts_are_ruled}
 use Rattle.pm_serving.specs.Scripts.{earlier, unserved_line}
-use Rattle.pm_serving.proofs.Room.{have_room}
-use Rattle.pm_serving.proofs.Scripted.{roomy}
+use Rattle.pm_serving.proofs.Room.{roomy}
 use Rattle.pm_serving.proofs.scripts.read_script.Goals as goal
 
 pub refused_line-requires : goal.refused_line-requires
@@ -18,4 +17,4 @@ returns-clause-room c =
     let script = c.in-Ok.script in
     let none : unserved_line script ≡ None =
     ap (λ (line : Option ℕ). earlier line (refused_line script)) (sym c.crowded_line.ensures) ∙ ap (λ (line : Option ℕ). earlier c.crowded_line.result line) (sym c.refused_line.ensures) ∙ sym c.earlier.ensures ∙ c.in_default.is in
-    have_room script.regions (roomy script none)
+    roomy script none

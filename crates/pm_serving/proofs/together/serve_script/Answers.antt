@@ -1,21 +1,20 @@
 -- The regions are left as they were opened, but for what the sessions and the writers did.
-use Rattle.std.proofs.Common.{rules, ℕ, List, refl, sym, ◌∙◌, subst, inr, Result, Ok, Err}
+use Rattle.std.proofs.Common.{◌≡◌, ℕ, List, refl, sym, subst, inr, arith, rules, Option, Some, Result, Ok, Err, IfOk}
+use Rattle.std.proofs.lemmas.List.{places, with_items_is}
 use Rattle.std.specs.Global.{Vec}
 use Rattle.std.specs.List.{AllByRecursion}
-use Rattle.std.proofs.lemmas.List.{with_items_is}
+use Rattle.std.specs.Vec.{with_items}
+use Rattle.pcp_base.specs.declared.memory.NoMemory.{NoMemory as NoRoom}
 use Rattle.region_rule.specs.Seats.{Token}
 use Rattle.fetch_engine.specs.Servers.{IsSeated, Seated}
-use Rattle.run_passes.specs.Written.{HaveWritten}
-use Rattle.run_passes.proofs.Ready.{ready}
-use Rattle.pm_words.specs.declared.refusal.Refusal.TheVariants.{NoMemory}
-use Rattle.pmcd_server.specs.Crews.{HasServed}
 use Rattle.pmcd_server.specs.declared.fault.ServeFault.{ServeFault}
-use Rattle.pmcd_server.specs.declared.fault.ServeFault.TheVariants.{Accept}
-use Rattle.pm_serving.specs.declared.refusal.ServeRefusal.TheVariants.{Before}
-use Rattle.pm_serving.specs.Ends.{StopsServing}
-use Rattle.pm_serving.specs.Serving.{doors_side}
-use Rattle.pm_serving.proofs.Room.{all_at}
-use Rattle.pm_serving.proofs.Stopping.{cut_so, if_ok, leaves_so, on_ok, still_many}
+use Rattle.pmcd_server.specs.declared.fault.ServeFault.TheVariants.{Accept, NoMemory}
+use Rattle.run_script.specs.declared.script.Script.{Script}
+use Rattle.run_passes.specs.Written.{HaveWritten}
+use Rattle.run_passes.proofs.HandsDealt.{all_from}
+use Rattle.run_passes.proofs.Ready.{ready}
+use Rattle.pm_serving.specs.declared.served.Served.{Served}
+use Rattle.pm_serving.specs.Serving.{DoorsSide, HasAnswered, Leaves, doors_side}
 use Rattle.pm_serving.proofs.together.serve_script.Goals as goal
 
 pub beside-answers-requires-clause-ready : goal.beside-answers-requires-clause-ready
@@ -27,37 +26,43 @@ pub beside-answers-requires-clause-seated : goal.beside-answers-requires-clause-
 beside-answers-requires-clause-seated g c _ _ =
     let opened = c.in_ok-server.field-0 in
     subst (λ (seats : List Seated). AllByRecursion (λ (s : Seated). IsSeated opened.server s.tokens) seats) (sym c.deref_mut.ensures.value)
-    (all_at (λ (s : Seated). IsSeated opened.server s.tokens) opened.seats.items (λ i s at. c.in_ok-server.ensures.made.seated i s at))
+    (all_from (λ (s : Seated). IsSeated opened.server s.tokens) opened.seats.items c.in_ok-server.ensures.made.seated)
 
 pub returns-in_err-passes : goal.returns-in_err-passes
 returns-in_err-passes g c =
     let d = doors_side g.P.Door c.args.doors.now c.beside-answers.new.doors in
-    let why : StopsServing d c.args.count c.args.script.now c.args.served.now (Before NoMemory) =
-    inr (cut_so d c.args.count c.args.script.now c.in_ok-server.field-0 c.in_ok-server.ensures c.beside-answers.result.1 c.args.served.now c.requires.fresh c.deref_mut.result.now c.beside-answers.new.seats c.deref_mut.ensures.value c.beside-answers.ensures.served) in
+    let opened = c.in_ok-server.field-0 in
+    let why : HasAnswered d c.args.count c.args.script.now c.args.served.now (Err NoMemory) = inr (record {
+      none = c.requires.fresh;
+      opened = opened;
+      made = c.in_ok-server.ensures;
+      seats = c.beside-answers.new.seats;
+      result = c.beside-answers.result.1;
+      serves = rw (sym c.deref_mut.ensures.value) c.beside-answers.ensures.served;
+    }) in
     search (rules, why)
 
-pub returns-in-Ok : goal.returns-in-Ok
-returns-in-Ok g c =
-    let d = doors_side g.P.Door c.args.doors.now c.beside-answers.new.doors in
-    let opened = c.in_ok-server.field-0 in
-    let written = if_ok (λ (done : Vec (Vec Token)). HaveWritten c.args.script.now opened.server opened.passes.items done.items) c.beside-answers.result.0 c.in_ok-passes.passes c.in_ok-passes.was c.beside-answers.ensures.written in
-    let h = subst (λ (o : Result ℕ ServeFault). HasServed opened.server g.P.Door c.args.count c.deref_mut.result.now c.args.doors.now c.beside-answers.new.seats c.beside-answers.new.doors o) c.in-Ok.is c.beside-answers.ensures.served in
-    let serves : HasServed opened.server g.P.Door c.args.count c.deref_mut.result.now c.args.doors.now c.beside-answers.new.seats c.beside-answers.new.doors (Ok c.args.count) = (refl, h.1, h.2, h.3, h.4) in
-    let many = still_many opened.server g.P.Door c.args.count c.deref_mut.result.now c.args.doors.now c.beside-answers.new.seats c.beside-answers.new.doors (Ok c.args.count) serves ∙ c.deref_mut.ensures.len in
-    leaves_so d c.args.count c.args.script.now opened c.in_ok-server.ensures (Ok c.args.count) _ refl written c.deref_mut.result.now c.beside-answers.new.seats c.deref_mut.ensures.value (with_items_is opened.seats c.beside-answers.new.seats many) serves
-    (λ tells. record {
-      connections = on_ok c.beside-answers.result.1 c.in-Ok.field-0 c.in-Ok.is (c.beside-answers.ensures.connections tells);
-      reports = on_ok c.beside-answers.result.1 c.in-Ok.field-0 c.in-Ok.is (c.beside-answers.ensures.reports tells);
-    })
+-- a script was served, unless memory for the sessions was refused
+began_so : {P In Out Time : Type 0} (d : DoorsSide P In Out Time) (count : ℕ) (script : Script) (served : Option Served) (answer : Result ℕ ServeFault) → (answer ≡ Err NoMemory → ⊥) → Leaves d count script answer served → HasAnswered d count script served answer
+began_so d count script served (Ok n) begun left = left
+began_so d count script served (Err Accept) begun left = left
+began_so d count script served (Err NoMemory) begun left = absurd (begun refl)
 
-pub returns-in-Err-Accept : goal.returns-in-Err-Accept
-returns-in-Err-Accept g c =
-    let d = doors_side g.P.Door c.args.doors.now c.beside-answers.new.doors in
+pub returns : goal.returns
+returns g c =
     let opened = c.in_ok-server.field-0 in
-    let written = if_ok (λ (done : Vec (Vec Token)). HaveWritten c.args.script.now opened.server opened.passes.items done.items) c.beside-answers.result.0 c.in_ok-passes.passes c.in_ok-passes.was c.beside-answers.ensures.written in
-    let failed = subst (λ (o : Result ℕ ServeFault). HasServed opened.server g.P.Door c.args.count c.deref_mut.result.now c.args.doors.now c.beside-answers.new.seats c.beside-answers.new.doors o) c.in-Err-Accept.is c.beside-answers.ensures.served in
-    let accepts = rw c.in-Err-Accept.is at c.in-Err-Accept.field-0-is in
-    let serves : HasServed opened.server g.P.Door c.args.count c.deref_mut.result.now c.args.doors.now c.beside-answers.new.seats c.beside-answers.new.doors (Err Accept) =
-    subst (λ (e : ServeFault). HasServed opened.server g.P.Door c.args.count c.deref_mut.result.now c.args.doors.now c.beside-answers.new.seats c.beside-answers.new.doors (Err e)) accepts failed in
-    let many = still_many opened.server g.P.Door c.args.count c.deref_mut.result.now c.args.doors.now c.beside-answers.new.seats c.beside-answers.new.doors (Err Accept) serves ∙ c.deref_mut.ensures.len in
-    leaves_so d c.args.count c.args.script.now opened c.in_ok-server.ensures (Err Accept) _ refl written c.deref_mut.result.now c.beside-answers.new.seats c.deref_mut.ensures.value (with_items_is opened.seats c.beside-answers.new.seats many) serves tt
+    let regions : Served = record { server = opened.server; passes = c.in_ok-passes.passes; seats = with_items opened.seats c.beside-answers.new.seats } in
+    began_so (doors_side g.P.Door c.args.doors.now c.beside-answers.new.doors) c.args.count c.args.script.now (Some regions) c.beside-answers.result.1 (λ is. grind (arith, is)) (record {
+      regions = regions;
+      kept = refl;
+      serving = record {
+        opened = opened;
+        made = c.in_ok-server.ensures;
+        server = refl;
+        written = subst (λ (r : Result (Vec (Vec Token)) NoRoom). IfOk r (λ (done : Vec (Vec Token)). HaveWritten c.args.script.now opened.server opened.passes.items done.items)) c.in_ok-passes.was c.beside-answers.ensures.written;
+        serves = rw (with_items_is opened.seats c.beside-answers.new.seats (search (rules, places))) (rw (sym c.deref_mut.ensures.value) c.beside-answers.ensures.served);
+        connections = c.beside-answers.ensures.connections;
+        reports = c.beside-answers.ensures.reports;
+        rose = c.beside-answers.ensures.rose;
+      };
+    })
