@@ -14,16 +14,13 @@ use Rattle.run_script.specs.declared.script.Script.{Script}
 use Rattle.run_script.proofs.Ruled.{scripts_are_ruled}
 use Rattle.run_passes.specs.Crews.{ServesScript}
 use Rattle.run_passes.specs.Lasts.{AreLast}
-use Rattle.run_passes.specs.declared.opening.Opened.{Opened}
 use Rattle.record_run.specs.Beside.{Beside, TellWriters}
 use Rattle.script_runs.specs.declared.ending.Ending.{Ending}
 use Rattle.script_runs.specs.declared.ending.Ending.TheVariants as ends
-use Rattle.pcp_outside.specs.Sides.{SourceSide, SinkSide}
-use Rattle.pm_recording.specs.Ends.{Ends, Ran}
+use Rattle.pm_recording.specs.Ends.{Ran}
 use Rattle.pm_recording.specs.Exact.{AllIsCounted, LastIsShown}
-use Rattle.pm_recording.specs.Recording.{RunSide}
+use Rattle.pm_recording.specs.Recording.{CallSide}
 use Rattle.pm_recording.specs.Scripts.{recordable, script_recorded, unless}
-use Rattle.pm_recording.proofs.Facts.{is_done}
 use Rattle.pm_recording.proofs.Few.{steps_are_few}
 
 -- what is recorded was read
@@ -55,45 +52,41 @@ told_last script server final left (inl ended) = ended.last
 told_last script server final left (inr (none, inl never)) = absurd (cc)
 told_last script server final left (inr (none, inr never)) = absurd (cc)
 
-module _ {C D : Type 0} (words : List (List ℕ)) (s : SourceSide) (k : SinkSide) (o : RunSide C D) (opened : Option Opened) where
-  module _ (ran : Ran words s o opened ends.Done) where
-    abbrev server : List Mounted
-    server = ran.has.left.server
+module _ {C D : Type 0} (c : CallSide C D) (ran : Ran c ends.Done) where
+  abbrev server : List Mounted
+  server = ran.has.left.server
 
-    serves : ServesScript ran.script 1 server
-    serves =
-        let was = ran.has.was in
-        subst (λ (rows : List Mounted). ServesScript ran.script 1 rows) (sym was.server) (subst (λ (n : ℕ). ServesScript ran.script n was.opened.server) was.made.seats_are was.made.made.serves)
+  serves : ServesScript ran.script 1 server
+  serves =
+      let was = ran.has.was in
+      subst (λ (rows : List Mounted). ServesScript ran.script 1 rows) (sym was.server) (subst (λ (n : ℕ). ServesScript ran.script n was.opened.server) was.made.seats_are was.made.made.serves)
 
-    abbrev rules : KeepsRules ran.script
-    rules = keeps_rules ran.asks.input ran.script ran.good
+  abbrev rules : KeepsRules ran.script
+  rules = keeps_rules ran.asks.input ran.script ran.good
 
-    abbrev beside : Beside ran.script server ran.has.was.first.tokens ran.has.was.last.tokens ends.Done ran.has.was.recording.moments ran.has.was.recording.results
-    beside = subst (λ (x : Ending). Beside ran.script server ran.has.was.first.tokens ran.has.was.last.tokens x ran.has.was.recording.moments ran.has.was.recording.results) ran.ended ran.has.was.recording.beside
+  abbrev beside : Beside ran.script server ran.has.was.first.tokens ran.has.was.last.tokens ends.Done ran.has.was.recording.moments ran.has.was.recording.results
+  beside = subst (λ (x : Ending). Beside ran.script server ran.has.was.first.tokens ran.has.was.last.tokens x ran.has.was.recording.moments ran.has.was.recording.results) ran.ended ran.has.was.recording.beside
 
-    abbrev last_shown : LastIsShown words s o opened
-    last_shown = record {
-      ran = ran;
-      beside = beside;
-      exact = last_sample ran.script server ran.has.was.first.tokens ran.has.was.last.tokens ran.has.was.recording.moments ran.has.was.recording.results rules serves ran.has.was.seated beside;
-    }
+  abbrev last_shown : LastIsShown c
+  last_shown = record {
+    ran = ran;
+    beside = beside;
+    exact = last_sample ran.script server ran.has.was.first.tokens ran.has.was.last.tokens ran.has.was.recording.moments ran.has.was.recording.results rules serves ran.has.was.seated beside;
+  }
 
-    all_counted : AllIsCounted words s o opened
-    all_counted =
-        let was = ran.has.was in
-        let refused : refused_line ran.script ≡ None = none_refused (script_of ran.asks.input) ran.script ran.good in
-        let steps : length ran.script.steps ≤ length ran.asks.input = steps_are_few ran.asks.input ran.script (was_read (script_of ran.asks.input) ran.script ran.good) in
-        let bytes : length ran.asks.input ≤ 16777216 = ran.asks.read.within in
-        record {
-          shown = last_shown;
-          gathered = told_last ran.script server was.last.tokens ran.has.left.passes.items (subst (λ (x : Ending). TellWriters ran.script server was.last.tokens ran.has.left.passes.items x) ran.ended was.writers);
-          counted = counters_are_sums ran.script server was.first.tokens was.last.tokens was.recording.moments was.recording.results rules refused ran.has.images ran.has.of_words serves beside;
-          whole = no_line_lost ran.script server was.first.tokens was.last.tokens ends.Done was.recording.moments was.recording.results rules refused ran.has.images ran.has.of_words (omega (arith, steps, bytes)) serves beside
-              beside.writers;
-        }
+  pub shows_last : LastIsShown c
+  shows_last = last_shown
 
-  pub shows_last : (status : ℕ) → Ends words s k o opened status → status ≡ 0 → LastIsShown words s o opened
-  shows_last status ends_so zero = last_shown (is_done words s k o opened status ends_so zero).ran
-
-  pub counts_all : (status : ℕ) → Ends words s k o opened status → status ≡ 0 → AllIsCounted words s o opened
-  counts_all status ends_so zero = all_counted (is_done words s k o opened status ends_so zero).ran
+  pub all_counted : AllIsCounted c
+  all_counted =
+      let was = ran.has.was in
+      let refused : refused_line ran.script ≡ None = none_refused (script_of ran.asks.input) ran.script ran.good in
+      let steps : length ran.script.steps ≤ length ran.asks.input = steps_are_few ran.asks.input ran.script (was_read (script_of ran.asks.input) ran.script ran.good) in
+      let bytes : length ran.asks.input ≤ 16777216 = ran.asks.read.within in
+      record {
+        shown = last_shown;
+        gathered = told_last ran.script server was.last.tokens ran.has.left.passes.items (subst (λ (x : Ending). TellWriters ran.script server was.last.tokens ran.has.left.passes.items x) ran.ended was.writers);
+        counted = counters_are_sums ran.script server was.first.tokens was.last.tokens was.recording.moments was.recording.results rules refused ran.has.images ran.has.of_words serves beside;
+        whole = no_line_lost ran.script server was.first.tokens was.last.tokens ends.Done was.recording.moments was.recording.results rules refused ran.has.images ran.has.of_words (omega (arith, steps, bytes)) serves beside
+            beside.writers;
+      }

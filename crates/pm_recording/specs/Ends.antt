@@ -19,7 +19,7 @@ use Rattle.pm_words.specs.declared.stage.InputRefusal.TheVariants.{Script as Scr
 use Rattle.pm_words.specs.declared.words.Call.TheVariants as calls
 use Rattle.pm_words.specs.declared.words.Command.TheVariants.{Record}
 use Rattle.pm_words.specs.declared.words.RecordWords.{RecordWords}
-use Rattle.pm_words.specs.Asking.{Before}
+use Rattle.pm_words.specs.Asking.{Before, IsReader}
 use Rattle.pm_words.specs.CommandLine.{asked_by}
 use Rattle.pm_words.specs.Reading.{WasRead}
 use Rattle.pm_words.specs.Refusals.{ending_refusal}
@@ -27,12 +27,13 @@ use Rattle.pm_words.specs.Telling.{TellsAll}
 use Rattle.pm_recording.specs.Recording.{CallSide, HasRecorded, IsUnrun}
 use Rattle.pm_recording.specs.Scripts.{script_recorded}
 
--- the words ask for this recording, or for some
+-- the words ask for this recording
 abbrev pub Orders : List (List ℕ) → RecordWords → Type 0
 Orders words asked = asked_by calls.Record words ≡ Ok (Record asked)
 
+-- the words ask for a recording
 abbrev pub IsAsked : List (List ℕ) → Type 0
-IsAsked words = (asked : RecordWords) × Orders words asked
+IsAsked words = IsReader calls.Record words
 
 -- the words ask for a recording, and the input was read whole
 pub record Asks (words : List (List ℕ)) (s : SourceSide) : Type 0 where
