@@ -1,6 +1,5 @@
 -- All facts of a call that records follow from how it ends.
 use Rattle.std.proofs.Common.{◌≡◌, ℕ, [], refl, subst, arith}
-use Rattle.pcp_model.specs.Disk.{CrashImage, Files}
 use Rattle.pcp_outside.specs.Sides.{SinkSide}
 use Rattle.script_runs.specs.declared.ending.Ending.TheVariants as ends
 use Rattle.pm_words.specs.declared.words.Call.TheVariants as calls

@@ -1,5 +1,5 @@
 -- What may be recorded is.
-use Rattle.std.proofs.Common.{◌≡◌, ◌⊎◌, inl, inr, ℕ, ◌<◌, ◌≤◌, List, [], length, sym, ap, ◌∙◌, subst, arith, Some, None}
+use Rattle.std.proofs.Common.{◌≡◌, ◌⊎◌, inl, inr, ℕ, ◌<◌, ◌≤◌, [], length, sym, ap, ◌∙◌, subst, arith, Some, None}
 use Rattle.pcp_base.specs.Time.{Moment}
 use Rattle.pcp_model.specs.Disk.{Files, contents_of}
 use Rattle.pcp_outside.specs.Sides.{SinkSide}
@@ -23,9 +23,6 @@ use Rattle.pm_recording.proofs.Facts.{Wants, Went, compressed, gone_on, good_see
 use Rattle.pm_recording.proofs.Later.{not_late}
 
 module _ {C D : Type 0} (c : CallSide C D) (k : SinkSide) (good : IsGoodRun c k) where
-  why_of : (ending : Ending) (ran : Ran c ending) → WhyStopped ran.has.was.recording.beside.sampled ending
-  why_of ending ran = subst (λ (x : Ending). WhyStopped ran.has.was.recording.beside.sampled x) ran.ended ran.has.was.recording.why
-
   -- the files that recovery left
   module _ (reason : Ending) (ran : Ran c reason) (went : Went c ran good.disk.tells reason) where
     abbrev found : Files
@@ -50,7 +47,7 @@ module _ {C D : Type 0} (c : CallSide C D) (k : SinkSide) (good : IsGoodRun c k)
   too_large what number ran went did = (good.welcome (ends.Limit what number) ran).small what number (turned_away (ends.Limit what number) ran went did.0 did.1)
 
   unlimited : (what : LimitKind) (number : ℕ) → Ran c (ends.Limit what number) → ⊥
-  unlimited kinds.Sets number ran = (good.welcome (ends.Limit kinds.Sets number) ran).few number (why_of (ends.Limit kinds.Sets number) ran)
+  unlimited kinds.Sets number ran = (good.welcome (ends.Limit kinds.Sets number) ran).few number (subst (λ (x : Ending). WhyStopped ran.has.was.recording.beside.sampled x) ran.ended ran.has.was.recording.why)
   unlimited what number ran = let gone = gone_on c (ends.Limit what number) ran good.disk.tells (λ z. z) in too_large what number ran gone.0 gone.1
 
   unchanged : (pmid : ℕ) → Ran c (ends.Changed pmid) → ⊥

@@ -1,12 +1,9 @@
 -- From how a call ends to what its status tells: it was refused before the run, or it ran to an ending.
-use Rattle.std.proofs.Common.{◌≡◌, ◌⊎◌, inl, inr, ℕ, ◌<◌, ◌≤◌, List, [], ◌++◌, length, refl, sym, ap, ◌∙◌, subst, arith, Bool, true, false, ◌==◌, ◌||◌, Option, Some, None, IsSome, is_some, Result, Ok, Err}
-use Rattle.pcp_outside.specs.Causes.{Rose}
+use Rattle.std.proofs.Common.{◌≡◌, ◌⊎◌, inl, inr, ℕ, ◌≤◌, List, [], ◌++◌, refl, sym, ap, ◌∙◌, subst, arith, Bool, true, false, ◌==◌, ◌||◌, Option, Some, None, IsSome, is_some, Result, Ok, Err}
 use Rattle.pcp_outside.specs.Sides.{SourceSide, SinkSide}
 use Rattle.record_run.specs.Recordings.{Counts, MayEndRecording}
-use Rattle.run_script.specs.declared.fault.ScriptFault.{ScriptFault}
 use Rattle.run_script.specs.declared.fault.ScriptLineFault.{ScriptLineFault}
 use Rattle.run_script.specs.declared.fault.ScriptLineFault.TheVariants as script
-use Rattle.run_script.specs.declared.script.Script.{Script}
 use Rattle.script_runs.specs.declared.ending.Ending.{Ending}
 use Rattle.script_runs.specs.declared.ending.Ending.TheVariants as ends
 use Rattle.pm_words.specs.declared.refusal.Refusal.{Refusal}
@@ -16,15 +13,12 @@ use Rattle.pm_words.specs.declared.stage.ReadRefusal.TheVariants.{ReadFault, Inp
 use Rattle.pm_words.specs.declared.words.Call.TheVariants as calls
 use Rattle.pm_words.specs.declared.words.Command.TheVariants.{Record}
 use Rattle.pm_words.specs.Asking as asking
-use Rattle.pm_words.specs.Inputs.{input_limit}
 use Rattle.pm_words.specs.Refusals.{ending_refusal, input_status, script_status, status_of}
 use Rattle.pm_words.specs.Telling.{IsToldBy, TellsAll}
-use Rattle.pm_words.proofs.Asked.{Came, IsOfBody, apart}
+use Rattle.pm_words.proofs.Asked.{Came, IsOfBody}
 use Rattle.pm_words.proofs.Telling.{told_by}
 use Rattle.pm_recording.specs.Ends.{Asks, CameTo, Cause, Ends, EndsDone, Ran, count_of, logged_line, told_as}
-use Rattle.pm_recording.specs.Good.{Meets}
 use Rattle.pm_recording.specs.Recording.{CallSide, IsUnrun}
-use Rattle.pm_recording.specs.Scripts.{script_recorded}
 
 pub unlike : false ≡ true → ⊥
 unlike h = cc
@@ -86,29 +80,6 @@ module _ (words : List (List ℕ)) (s : SourceSide) where
   early_status NoMemory cause = refl
   early_status e cause = absurd cause
 
-  -- what was read is what the source had
-  pub of_left : (a : Asks words s) → s.tells → (found : Result Script ScriptFault) → script_recorded a.input ≡ found → script_recorded s.left ≡ found
-  of_left a tells found is = ap script_recorded (sym (a.read.told tells).0) ∙ is
-
-  -- the words and the source ask for a recording: but for want of memory and a read that failed, it is refused before the run for a fault
-  -- of the input alone
-  abbrev pub FaultOf : ℕ → Type 0
-  FaultOf n = (fault : ScriptFault) × (script_recorded s.left ≡ Err fault) × (n ≡ script_status fault.fault)
-
-  pub met : Meets words s → (e : Refusal) → Cause words s e → (status_of e ≡ 9) ⊎ (((status_of e ≡ 3) × Rose s.faults s.faults_after) ⊎ FaultOf (status_of e))
-  met m (Words usage) cause = absurd (apart calls.Record words s usage.at cause.0 m.asked.0 m.asked.1)
-  met m (Reading ReadFault) cause = inr (inl (refl, cause.1.0))
-  met m (Reading InputLimit) cause = let above : input_limit < length s.left = (cause.1 m.tells).0 in let within = m.within in absurd (omega (arith, above, within))
-  met m (Input e) cause = inr (inr (cause.0, of_left cause.2.0 m.tells (Err cause.0) cause.2.1, ap input_status cause.1))
-  met m NoMemory cause = inl refl
-  met m e cause = absurd cause
-
-  pub says_both : (x : Script) (fault : ScriptFault) → script_recorded s.left ≡ Ok x → script_recorded s.left ≡ Err fault → ⊥
-  says_both x fault good bad = let e : Ok x ≡ Err fault = sym good ∙ bad in cc
-
-  pub says_one : (f g : ScriptFault) → script_recorded s.left ≡ Err f → script_recorded s.left ≡ Err g → f ≡ g
-  says_one f g is other = let e : Err f ≡ Err g = sym is ∙ other in cc
-
   -- what a call asks, and what it came to, as of any call
   asked_so : Asks words s → asking.Asks calls.Record words s
   asked_so a = record { command = Record a.asked; words_are = a.words_are; input = a.input; got = a.read }
@@ -124,14 +95,11 @@ module _ {C D : Type 0} (c : CallSide C D) where
 
   -- ---- what is seen of the status
 
-  abbrev pub Early : ℕ → Type 0
-  Early n = (e : Refusal) × Cause c.words c.source e × IsUnrun c.run × IsToldBy (Err e) n
-
   abbrev pub Ended : ℕ → Type 0
   Ended n = (ending : Ending) × Ran c ending × Late ending n
 
   abbrev pub Seen : ℕ → Type 0
-  Seen n = Early n ⊎ Ended n
+  Seen n = ((e : Refusal) × Cause c.words c.source e × IsUnrun c.run × IsToldBy (Err e) n) ⊎ Ended n
 
   seen_by : (result : Result (List ℕ) Refusal) (n : ℕ) → IsToldBy result n → CameTo c result → Seen n
   seen_by result n told (inl r) = inl (r.refusal, r.cause, r.unrun, subst (λ (x : Result (List ℕ) Refusal). IsToldBy x n) r.is told)
@@ -155,10 +123,7 @@ module _ {C D : Type 0} (c : CallSide C D) where
   ran_to n late (inr (ending, ran, told)) = (ending, ran, told_one (ending_refusal ending) n (λ h. unlike (sym late ∙ ap is_early h)) told)
 
   pub by_late : (n : ℕ) {G : Type 0} → is_early n ≡ false → (n ≡ 4 → ⊥) → ((ending : Ending) → Ran c ending → ended_status ending ≡ n → G) → Seen n → G
-  by_late n {G} late four found saw = let (ending, ran, is) = ran_to n late saw in by_one ending ran is where
-    by_one : (ending : Ending) → Ran c ending → (ended_status ending ≡ n) ⊎ ((n ≡ 4) × (ended_status ending ≡ 0)) → G
-    by_one ending ran (inl h) = found ending ran h
-    by_one ending ran (inr (h, zero)) = absurd (four h)
+  by_late n late four = by_status n four (λ h. unlike (sym late ∙ ap is_early h)) (λ e cause h. absurd (unlike (sym late ∙ sym (ap is_early h) ∙ early_status c.words c.source e cause)))
 
   -- what any run tells of its ending, and counts at it
   pub cause_of : (ending : Ending) → Ran c ending → MayEndRecording c.run.clock c.run.disk c.run.clock_was c.run.clock_is c.run.disk_was c.run.disk_is ending
@@ -185,11 +150,8 @@ module _ {C D : Type 0} (c : CallSide C D) where
   pub is_left : (ending : Ending) → Ran c ending → IsSome c.run.opened
   is_left ending ran = ap is_some ran.has.kept
 
-  pub none_left : IsUnrun c.run → IsSome c.run.opened → ⊥
-  none_left unrun some = unlike (sym (ap is_some unrun.none) ∙ some)
-
   pub ran_if_left : (n : ℕ) → Seen n → IsSome c.run.opened → Ended n
-  ran_if_left n (inl (e, cause, unrun, told)) some = absurd (none_left unrun some)
+  ran_if_left n (inl (e, cause, unrun, told)) some = absurd (unlike (sym (ap is_some unrun.none) ∙ some))
   ran_if_left n (inr ended) some = ended
 
 module _ {C D : Type 0} (c : CallSide C D) (k : SinkSide) where
@@ -212,10 +174,9 @@ module _ {C D : Type 0} (c : CallSide C D) (k : SinkSide) where
 
   done_by : (result : Result (List ℕ) Refusal) → TellsAll k [] result 0 → CameTo c result → EndsDone c k
   done_by result told (inr r) = written r.ending r.ran (subst (λ (x : Result (List ℕ) Refusal). TellsAll k [] x 0) r.is told)
-  done_by result told (inl r) = refused (subst (λ (x : Result (List ℕ) Refusal). TellsAll k [] x 0) r.is told) where
-    refused : TellsAll k [] (Err r.refusal) 0 → EndsDone c k
-    refused (inl (h, wrote)) = absurd (unlike (ap is_early h ∙ early_status c.words c.source r.refusal r.cause))
-    refused (inr (h, some, wrote)) = absurd (omega (arith, h))
+  done_by result told (inl r) =
+      let zero : status_of r.refusal ≡ 0 = zero_told [] (Some r.refusal) (subst (λ (x : Result (List ℕ) Refusal). TellsAll k [] x 0) r.is told) in
+      absurd (unlike (sym (ap is_early zero) ∙ early_status c.words c.source r.refusal r.cause))
 
   pub is_done : (status : ℕ) → Ends c k status → status ≡ 0 → EndsDone c k
   is_done status e h = done_by e.result (subst (λ (n : ℕ). TellsAll k [] e.result n) h e.told) e.came

@@ -1,5 +1,5 @@
 -- The causes of each status, and the regions that are left.
-use Rattle.std.proofs.Common.{◌≡◌, ◌⊎◌, inl, inr, ⊎_elim, ℕ, ◌+◌, ◌<◌, List, [], length, length-append, refl, sym, ap, ◌∙◌, subst, arith, Bool, true, false, Option, Some, None, IsSome, Ok, Err}
+use Rattle.std.proofs.Common.{◌≡◌, ◌⊎◌, inl, inr, ⊎_elim, ℕ, ◌+◌, ◌<◌, [], length, length-append, refl, sym, ap, ◌∙◌, subst, arith, false, Some, None, IsSome, Result, Ok, Err}
 use Rattle.pcp_base.specs.Time.{Moment}
 use Rattle.pcp_base.specs.declared.file.FileId.{FileId}
 use Rattle.pcp_model.specs.Disk.{contents_of}
@@ -7,54 +7,66 @@ use Rattle.pcp_outside.specs.Causes.{Rose}
 use Rattle.archive_recovery.specs.RecoverFaults.{IsRefused}
 use Rattle.run_script.specs.declared.fault.ScriptFault.{ScriptFault}
 use Rattle.run_script.specs.declared.script.Script.{Script}
-use Rattle.record_run.specs.Beside.{EndsBy, TellWriters}
+use Rattle.record_run.specs.Beside.{TellWriters}
 use Rattle.record_run.specs.Stopping.{LoggingDid}
 use Rattle.script_runs.specs.declared.ending.Ending.{Ending}
 use Rattle.script_runs.specs.declared.ending.Ending.TheVariants as ends
 use Rattle.run_archive.specs.Outcomes.{IsUnrecovered, WentOn, left_of}
 use Rattle.run_archive.specs.Sampling.{HasEnded}
 use Rattle.pm_words.specs.declared.refusal.Refusal.{Refusal}
-use Rattle.pm_words.specs.declared.refusal.Refusal.TheVariants.{Reading, Input, Disk}
+use Rattle.pm_words.specs.declared.refusal.Refusal.TheVariants.{Words, Reading, Input, Disk, NoMemory}
 use Rattle.pm_words.specs.declared.stage.ReadRefusal.TheVariants.{ReadFault, InputLimit}
 use Rattle.pm_words.specs.declared.words.Call.TheVariants as calls
 use Rattle.pm_words.specs.declared.words.Command.{Command}
 use Rattle.pm_words.specs.declared.words.Command.TheVariants.{Record}
 use Rattle.pm_words.specs.declared.words.RecordWords.{RecordWords}
 use Rattle.pm_words.specs.Refusals.{input_status, script_status, status_of}
-use Rattle.pm_words.proofs.Asked.{one}
-use Rattle.pm_recording.specs.Ends.{Cause, Finds, Orders, Ran, course_of}
-use Rattle.pm_recording.specs.Facts.{ArchiveFaultIsExact, ClockIsExact, ComesOfRun, LimitCause, OpensRegions, RunIsExact, ScriptFaultIsExact, WritersAreTold}
+use Rattle.pm_words.specs.Inputs.{input_limit}
+use Rattle.pm_words.proofs.Asked.{apart, one}
+use Rattle.pm_recording.specs.Ends.{Asks, Cause, Finds, Orders, Ran, course_of}
+use Rattle.pm_recording.specs.Facts.{ArchiveFaultIsExact, ClockIsExact, ComesOfRun, FilesCause, LimitCause, OpensRegions, RunIsExact, ScriptFaultIsExact, WritersAreTold}
 use Rattle.pm_recording.specs.Good.{Meets}
 use Rattle.pm_recording.specs.Recording.{CallSide, IsUnrun}
 use Rattle.pm_recording.specs.Scripts.{script_recorded}
-use Rattle.pm_recording.proofs.Endings.{Ended, FaultOf, Late, Seen, by_late, by_status, cause_of, counts_of, ended_status, is_early, is_left, met, none_left, ran_if_left, ran_to, says_both, says_one, was_done}
+use Rattle.pm_recording.proofs.Endings.{Ended, Late, Seen, by_late, by_status, cause_of, counts_of, ended_status, is_early, is_left, ran_if_left, ran_to, was_done}
 
 module _ {C D : Type 0} (c : CallSide C D) where
   -- ---- an input that is given
 
+  -- what was read is what the source had
+  of_left : (a : Asks c.words c.source) → c.source.tells → (found : Result Script ScriptFault) → script_recorded a.input ≡ found → script_recorded c.source.left ≡ found
+  of_left a tells found is = ap script_recorded (sym (a.read.told tells).0) ∙ is
+
   abbrev pub Wants : ℕ → Type 0
   Wants n = (n ≡ 9) ⊎ ((n ≡ 3) × Rose c.source.faults c.source.faults_after)
 
-  met_as : (n m : ℕ) → n ≡ m → (m ≡ 9) ⊎ (((m ≡ 3) × Rose c.source.faults c.source.faults_after) ⊎ FaultOf c.words c.source m) → Wants n ⊎ FaultOf c.words c.source n
-  met_as n m is (inl h) = inl (inl (is ∙ h))
-  met_as n m is (inr (inl (h, rose))) = inl (inr (is ∙ h, rose))
-  met_as n m is (inr (inr (fault, bad, h))) = inr (fault, bad, is ∙ h)
+  abbrev FaultOf : ℕ → Type 0
+  FaultOf n = (fault : ScriptFault) × (script_recorded c.source.left ≡ Err fault) × (n ≡ script_status fault.fault)
 
-  met_seen : Meets c.words c.source → (n : ℕ) → Seen c n → (Wants n ⊎ FaultOf c.words c.source n) ⊎ Ended c n
-  met_seen m n (inl (e, cause, unrun, inl h)) = inl (met_as n (status_of e) h (met c.words c.source m e cause))
+  -- but for want of memory and a read that failed, it is refused before the run for a fault of the input alone
+  met : Meets c.words c.source → (e : Refusal) → Cause c.words c.source e → Wants (status_of e) ⊎ FaultOf (status_of e)
+  met m (Words usage) cause = absurd (apart calls.Record c.words c.source usage.at cause.0 m.asked.0 m.asked.1)
+  met m (Reading ReadFault) cause = inl (inr (refl, cause.1.0))
+  met m (Reading InputLimit) cause = let above : input_limit < length c.source.left = (cause.1 m.tells).0 in let within = m.within in absurd (omega (arith, above, within))
+  met m (Input e) cause = inr (cause.0, of_left cause.2.0 m.tells (Err cause.0) cause.2.1, ap input_status cause.1)
+  met m NoMemory cause = inl (inl refl)
+  met m e cause = absurd cause
+
+  met_seen : Meets c.words c.source → (n : ℕ) → Seen c n → (Wants n ⊎ FaultOf n) ⊎ Ended c n
+  met_seen m n (inl (e, cause, unrun, inl h)) = inl (subst (λ (x : ℕ). Wants x ⊎ FaultOf x) (sym h) (met m e cause))
   met_seen m n (inl (e, cause, unrun, inr (h, some))) = inl (inl (inl h))
   met_seen m n (inr ended) = inr ended
+
+  says_both : (x : Script) (fault : ScriptFault) → script_recorded c.source.left ≡ Ok x → script_recorded c.source.left ≡ Err fault → ⊥
+  says_both x fault good bad = let e : Ok x ≡ Err fault = sym good ∙ bad in cc
 
   -- one that may be recorded is, but for want of memory and a read that failed
   pub good_seen : Meets c.words c.source → (x : Script) → script_recorded c.source.left ≡ Ok x → (n : ℕ) → Seen c n → Wants n ⊎ Ended c n
   good_seen m x good n saw = by_cases (met_seen m n saw) where
-    by_cases : (Wants n ⊎ FaultOf c.words c.source n) ⊎ Ended c n → Wants n ⊎ Ended c n
+    by_cases : (Wants n ⊎ FaultOf n) ⊎ Ended c n → Wants n ⊎ Ended c n
     by_cases (inl (inl wants)) = inl wants
-    by_cases (inl (inr (fault, bad, h))) = absurd (says_both c.words c.source x fault good bad)
+    by_cases (inl (inr (fault, bad, h))) = absurd (says_both x fault good bad)
     by_cases (inr ended) = inr ended
-
-  was_good : (ending : Ending) → Ran c ending → c.source.tells → (fault : ScriptFault) → script_recorded c.source.left ≡ Err fault → ⊥
-  was_good ending ran tells fault bad = says_both c.words c.source ran.script fault (ap script_recorded (sym (ran.asks.read.told tells).0) ∙ ran.good) bad
 
   -- ---- 2 and 7
 
@@ -74,12 +86,11 @@ module _ {C D : Type 0} (c : CallSide C D) where
     only = λ h. by_status c 2 (λ z. omega (arith, z)) (λ z. omega (arith, z)) fault_found (λ ending ran two. absurd (no_condition ending ran two)) (subst (Seen c) h saw);
     always = λ m fault bad. told m fault bad (met_seen m status saw);
   } where
-    told : Meets c.words c.source → (fault : ScriptFault) → script_recorded c.source.left ≡ Err fault → (Wants status ⊎ FaultOf c.words c.source status) ⊎ Ended c status
-        → (status ≡ script_status fault.fault) ⊎ ((status ≡ 9) ⊎ (status ≡ 3))
+    told : Meets c.words c.source → (fault : ScriptFault) → script_recorded c.source.left ≡ Err fault → (Wants status ⊎ FaultOf status) ⊎ Ended c status → (status ≡ script_status fault.fault) ⊎ ((status ≡ 9) ⊎ (status ≡ 3))
     told m fault bad (inl (inl (inl h))) = inr (inl h)
     told m fault bad (inl (inl (inr (h, rose)))) = inr (inr h)
-    told m fault bad (inl (inr (found, is, h))) = inl (h ∙ ap (λ (x : ScriptFault). script_status x.fault) (says_one c.words c.source found fault is bad))
-    told m fault bad (inr (ending, ran, late)) = absurd (was_good ending ran m.tells fault bad)
+    told m fault bad (inl (inr (found, is, h))) = let e : Err found ≡ Err fault = sym is ∙ bad in let same : found ≡ fault = cc in inl (h ∙ ap (λ (x : ScriptFault). script_status x.fault) same)
+    told m fault bad (inr (ending, ran, late)) = absurd (says_both ran.script fault (of_left ran.asks m.tells (Ok ran.script) ran.good) bad)
 
   limit_early : (e : Refusal) → Cause c.words c.source e → status_of e ≡ 7 → LimitCause c
   limit_early (Input e) cause h = inr (inl (cause.0, sym (ap input_status cause.1) ∙ h, cause.2))
@@ -185,11 +196,7 @@ module _ {C D : Type 0} (c : CallSide C D) where
   no_archive file at ran told =
       ⊎_elim (λ (u : Unrecovered ran told (ends.NotArchive file at)). u.0.0.1) (λ (g : (went : Went ran told (ends.NotArchive file at)) × Did ran told (ends.NotArchive file at) went). absurd g.1) (began_of (ends.NotArchive file at) ran told)
 
-  abbrev FilesCause : Type 0
-  FilesCause = ((file : FileId) × Ran c (ends.Compressed file) × (c.run.disk.tells → c.run.disk.wrapped_file c.run.disk_was ≡ Some file))
-      ⊎ ((file : FileId) × (at : ℕ) × Ran c (ends.NotArchive file at) × (c.run.disk.tells → IsRefused (contents_of (c.run.disk.held c.run.disk_was)) file at))
-
-  archive_only : (ending : Ending) → Ran c ending → ended_status ending ≡ 6 → FilesCause
+  archive_only : (ending : Ending) → Ran c ending → ended_status ending ≡ 6 → FilesCause c
   archive_only (ends.Compressed file) ran h = inl (file, ran, compressed file ran)
   archive_only (ends.NotArchive file at) ran h = inr (file, at, ran, no_archive file at ran)
   archive_only ending ran h = absurd (omega (arith, h))
@@ -242,15 +249,13 @@ module _ {C D : Type 0} (c : CallSide C D) where
   unrun_by n (inl (e, cause, unrun, told)) none = unrun
   unrun_by n (inr (ending, ran, told)) none = absurd (none (is_left c ending ran))
 
-  refused_status : (n : ℕ) (ending : Ending) → EndsBy ends.NoMemory ending → Late ending n → (n ≡ 9) ⊎ (n ≡ 5)
-  refused_status n ending (inl want) told = wanting (subst (λ (x : Ending). Late x n) want told) where
-    wanting : Late ends.NoMemory n → (n ≡ 9) ⊎ (n ≡ 5)
-    wanting (inl h) = inl h
-    wanting (inr (h, some)) = inl h
-  refused_status n ending (inr fails) told = failing (subst (λ (x : Ending). Late x n) fails told) where
-    failing : Late ends.DiskFault n → (n ≡ 9) ⊎ (n ≡ 5)
-    failing (inl h) = inr h
-    failing (inr (h, some)) = inl h
+  wanting_status : (n : ℕ) → Late ends.NoMemory n → (n ≡ 9) ⊎ (n ≡ 5)
+  wanting_status n (inl h) = inl h
+  wanting_status n (inr (h, some)) = inl h
+
+  failing_status : (n : ℕ) → Late ends.DiskFault n → (n ≡ 9) ⊎ (n ≡ 5)
+  failing_status n (inl h) = inr h
+  failing_status n (inr (h, some)) = inl h
 
   writers_told : (n : ℕ) → Ended c n → WritersAreTold c n
   writers_told n (ending, ran, late) =
@@ -258,7 +263,8 @@ module _ {C D : Type 0} (c : CallSide C D) where
     where
       by_writers : TellWriters ran.script ran.has.left.server ran.has.was.last.tokens ran.has.left.passes.items ending → WritersAreTold c n
       by_writers (inl ended) = record { ending = ending; ran = ran; told = inl ended }
-      by_writers (inr (none, by)) = record { ending = ending; ran = ran; told = inr (none, refused_status n ending by late) }
+      by_writers (inr (none, inl want)) = record { ending = ending; ran = ran; told = inr (none, wanting_status n (subst (λ (x : Ending). Late x n) want late)) }
+      by_writers (inr (none, inr fails)) = record { ending = ending; ran = ran; told = inr (none, failing_status n (subst (λ (x : Ending). Late x n) fails late)) }
 
   pub opens_regions : (status : ℕ) → Seen c status → OpensRegions c status
   opens_regions status saw = record {

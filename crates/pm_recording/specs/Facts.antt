@@ -46,11 +46,14 @@ LimitCause c = (IsAsked c.words × IsAbove c.source)
 
 -- The run
 
--- 6 only where the files are turned away: a file stands wrapped, or an offset fits no archive; always in the first case, unless the
--- disk fails before
+-- the files are turned away: a file stands wrapped, or an offset fits no archive
+abbrev pub FilesCause : {C D : Type 0} → CallSide C D → Type 0
+FilesCause c = ((file : FileId) × Ran c (ends.Compressed file) × (c.run.disk.tells → c.run.disk.wrapped_file c.run.disk_was ≡ Some file))
+    ⊎ ((file : FileId) × (at : ℕ) × Ran c (ends.NotArchive file at) × (c.run.disk.tells → IsRefused (contents_of (c.run.disk.held c.run.disk_was)) file at))
+
+-- 6 only where they are; always where a file stands wrapped, unless the disk fails before
 pub record ArchiveFaultIsExact {C D : Type 0} (c : CallSide C D) (status : ℕ) : Type 0 where
-  pub only : status ≡ 6 → ((file : FileId) × Ran c (ends.Compressed file) × (c.run.disk.tells → c.run.disk.wrapped_file c.run.disk_was ≡ Some file))
-      ⊎ ((file : FileId) × (at : ℕ) × Ran c (ends.NotArchive file at) × (c.run.disk.tells → IsRefused (contents_of (c.run.disk.held c.run.disk_was)) file at))
+  pub only : status ≡ 6 → FilesCause c
   pub always : Meets c.words c.source → (script : Script) → script_recorded c.source.left ≡ Ok script → c.run.disk.tells → (file : FileId) → c.run.disk.wrapped_file c.run.disk_was ≡ Some file
       → (status ≡ 6) ⊎ ((status ≡ 9) ⊎ ((status ≡ 3) ⊎ (status ≡ 5)))
 

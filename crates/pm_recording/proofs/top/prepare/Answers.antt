@@ -1,5 +1,5 @@
 -- What was asked for, or why it isn't recorded.
-use Rattle.std.proofs.Common.{rules, List, ℕ, map, string_bytes, Global, refl}
+use Rattle.std.proofs.Common.{rules, map, string_bytes, Global, refl}
 use Rattle.pcp_outside.specs.Sides.{SourceSide, source_side}
 use Rattle.pm_recording.specs.Ends.{Asks}
 use Rattle.pm_recording.proofs.Stopping.{asks_by, by_script}

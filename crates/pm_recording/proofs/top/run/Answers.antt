@@ -1,5 +1,5 @@
 -- What a call came to.
-use Rattle.std.proofs.Common.{rules, List, ℕ, map, string_bytes, Global, Option, inl, inr, sym, ap, ◌∙◌}
+use Rattle.std.proofs.Common.{rules, map, string_bytes, Global, Option, inl, inr, sym, ap, ◌∙◌}
 use Rattle.pcp_outside.specs.Sides.{source_side}
 use Rattle.pm_words.specs.declared.refusal.Refusal.{Refusal}
 use Rattle.pm_words.specs.declared.refusal.Refusal.TheVariants.{NoMemory}

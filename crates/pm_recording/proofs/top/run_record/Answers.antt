@@ -1,5 +1,5 @@
 -- What the call came to is told, and all facts follow.
-use Rattle.std.proofs.Common.{map, string_bytes, Global, [], false, refl, sym, append-nil, arith}
+use Rattle.std.proofs.Common.{map, string_bytes, Global, [], false, sym, append-nil, arith}
 use Rattle.pcp_outside.specs.Sides.{sink_side, source_side}
 use Rattle.pm_words.proofs.Telling.{tells_all}
 use Rattle.pm_recording.specs.Ends.{Ends}
