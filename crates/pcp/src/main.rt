@@ -4,12 +4,11 @@
 
 use pcp_outside::{Sink, Source};
 use pcp_shell::{
-    asks_help, first_bad_of_record, first_bad_of_serve, is_serve, record_samples, serve_clients,
-    write_help,
+    asks_help, first_bad_of_record, first_bad_of_serve, is_record, is_serve, record_samples,
+    serve_clients, write_help,
 };
 use pcp_system::{FileDisk, ReaderSource, Screen, WriterSink, open_standard};
 use pm_commands::{Refusal, StageFault, Usage, offline, read_words};
-use pm_recording::is_record;
 use std::alloc::{Alloc, AllocError, Global};
 use std::env::Env;
 use std::fs::{File, Files};
@@ -46,7 +45,7 @@ fn first_bad_word(rt: &(impl Env + Alloc<A = Global>)) -> Result<usize, AllocErr
         return first_bad_of_serve(rt.alloc(), &words);
     }
     if is_record(&words) {
-        return Ok(first_bad_of_record(&words));
+        return first_bad_of_record(rt.alloc(), &words);
     }
     match read_words(rt.alloc(), &words) {
         Ok(_) => Ok(words.len()),

@@ -9,4 +9,4 @@ mod recording;
 
 pub use help::{asks_help, write_help};
 pub use listening::{first_bad_of_serve, is_serve, serve_clients};
-pub use recording::{first_bad_of_record, record_samples};
+pub use recording::{first_bad_of_record, is_record, record_samples};

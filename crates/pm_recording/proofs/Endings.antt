@@ -1,162 +1,182 @@
--- From how a call ends to a fact on its status: done, untold, refused before the run, ended in the run, or wanting memory.
-use Rattle.std.proofs.Common.{◌≡◌, ◌≢◌, ◌⊎◌, inl, inr, ⊎_elim, ℕ, ◌<◌, ◌≤◌, List, length, refl, sym, ap, ◌∙◌, subst, arith, Option, Some, None, IsSome, is_some, true, false, Result, Ok, Err}
-use Rattle.run_script.specs.declared.fault.ScriptFault.{ScriptFault}
+-- From how a call ends to what its status tells: it was refused before the run, or it ran to an ending.
+use Rattle.std.proofs.Common.{◌≡◌, ◌⊎◌, inl, inr, ℕ, ◌≤◌, List, [], ◌++◌, refl, sym, ap, ◌∙◌, subst, arith, Bool, true, false, ◌==◌, ◌||◌, Option, Some, None, IsSome, is_some, Result, Ok, Err}
+use Rattle.pcp_outside.specs.Sides.{SourceSide, SinkSide}
+use Rattle.record_run.specs.Recordings.{Counts, MayEndRecording}
 use Rattle.run_script.specs.declared.fault.ScriptLineFault.{ScriptLineFault}
 use Rattle.run_script.specs.declared.fault.ScriptLineFault.TheVariants as script
-use Rattle.run_script.specs.declared.script.Script.{Script}
-use Rattle.run_passes.specs.declared.opening.Opened.{Opened}
-use Rattle.record_run.specs.Recordings.{MayEndRecording}
 use Rattle.script_runs.specs.declared.ending.Ending.{Ending}
 use Rattle.script_runs.specs.declared.ending.Ending.TheVariants as ends
-use Rattle.pm_words.specs.Inputs.{input_limit}
-use Rattle.pm_words.specs.Refusals.{input_status, script_status, status_of}
-use Rattle.pcp_outside.specs.Sides.{SourceSide, SinkSide}
 use Rattle.pm_words.specs.declared.refusal.Refusal.{Refusal}
-use Rattle.pm_words.specs.declared.refusal.Refusal.TheVariants.{Words, Reading, Input, Disk, NoMemory}
-use Rattle.pm_words.specs.declared.stage.DiskRefusal.TheVariants.{Files, DiskFault}
-use Rattle.pm_words.specs.declared.stage.FilesRefusal.TheVariants.{Run, Compressed, NotArchive}
+use Rattle.pm_words.specs.declared.refusal.Refusal.TheVariants.{Words, Reading, Input, NoMemory}
 use Rattle.pm_words.specs.declared.stage.InputRefusal.{InputRefusal}
-use Rattle.pm_words.specs.declared.stage.InputRefusal.TheVariants.{Script as Scripted}
 use Rattle.pm_words.specs.declared.stage.ReadRefusal.TheVariants.{ReadFault, InputLimit}
-use Rattle.pm_words.specs.declared.stage.RunRefusal.TheVariants.{Condition, Limit, NotLater, Changed}
-use Rattle.pm_recording.specs.declared.refusal.RecordRefusal.{RecordRefusal}
-use Rattle.pm_recording.specs.declared.refusal.RecordRefusal.TheVariants.{Common, ClockEnd, ClockFault}
-use Rattle.pm_recording.specs.declared.words.RecordWords.{RecordWords}
-use Rattle.pm_recording.specs.CommandWords.{asked_of}
-use Rattle.pm_recording.specs.Ends.{Asks, Cause, Ends, EndsDone, EndsUntold, Ran, RanTo, RanWanting, Refuses}
-use Rattle.pm_recording.specs.Recording.{IsUnrun, RunSide}
-use Rattle.pm_recording.specs.Refusals.{recording_refusal, recording_status}
-use Rattle.pm_recording.specs.Scripts.{script_recorded}
+use Rattle.pm_words.specs.declared.words.Call.TheVariants as calls
+use Rattle.pm_words.specs.declared.words.Command.TheVariants.{Record}
+use Rattle.pm_words.specs.Asking as asking
+use Rattle.pm_words.specs.Refusals.{ending_refusal, input_status, script_status, status_of}
+use Rattle.pm_words.specs.Telling.{IsToldBy, TellsAll}
+use Rattle.pm_words.proofs.Asked.{Came, IsOfBody}
+use Rattle.pm_words.proofs.Telling.{told_by}
+use Rattle.pm_recording.specs.Ends.{Asks, CameTo, Cause, Ends, EndsDone, Ran, count_of, logged_line, told_as}
+use Rattle.pm_recording.specs.Recording.{CallSide, IsUnrun}
+
+pub unlike : false ≡ true → ⊥
+unlike h = cc
+
+-- ---- the statuses
+
+abbrev pub told_status : Option Refusal → ℕ
+told_status None = 0
+told_status (Some e) = status_of e
 
 -- the status of each end of a run
 abbrev pub ended_status : Ending → ℕ
-ended_status ends.Done = 0
-ended_status (ends.Condition line) = 2
-ended_status ends.DiskFault = 5
-ended_status (ends.NotArchive file at) = 6
-ended_status (ends.Compressed file) = 6
-ended_status (ends.Limit what number) = 7
-ended_status (ends.ClockEnd left) = 8
-ended_status (ends.ClockFault left) = 20
-ended_status ends.NoMemory = 9
-ended_status (ends.NotLater last) = 12
-ended_status (ends.Changed pmid) = 13
+ended_status ending = told_status (ending_refusal ending)
 
-told_so : (x e : RecordRefusal) (n : ℕ) → Some x ≡ Some e → recording_status x ≡ n → recording_status e ≡ n
-told_so x e n same is = let one : x ≡ e = cc in ap recording_status (sym one) ∙ is
+-- the status tells that a run ended so
+abbrev pub Late : Ending → ℕ → Type 0
+Late ending n = IsToldBy (told_as [] (ending_refusal ending)) n
 
-status_is : (ending : Ending) (e : RecordRefusal) → recording_refusal ending ≡ Some e → recording_status e ≡ ended_status ending
-status_is ends.Done e is = absurd (cc)
-status_is (ends.Condition line) e is = told_so (Common (Disk (Files (Run (Condition line))))) e 2 is refl
-status_is ends.DiskFault e is = told_so (Common (Disk DiskFault)) e 5 is refl
-status_is (ends.NotArchive file at) e is = told_so (Common (Disk (Files (NotArchive file at)))) e 6 is refl
-status_is (ends.Compressed file) e is = told_so (Common (Disk (Files (Compressed file)))) e 6 is refl
-status_is (ends.Limit what number) e is = told_so (Common (Disk (Files (Run (Limit what number))))) e 7 is refl
-status_is (ends.ClockEnd left) e is = told_so (ClockEnd left) e 8 is refl
-status_is (ends.ClockFault left) e is = told_so (ClockFault left) e 20 is refl
-status_is ends.NoMemory e is = told_so (Common NoMemory) e 9 is refl
-status_is (ends.NotLater last) e is = told_so (Common (Disk (Files (Run (NotLater last))))) e 12 is refl
-status_is (ends.Changed pmid) e is = told_so (Common (Disk (Files (Run (Changed pmid))))) e 13 is refl
+-- a status that a refusal before the run may have
+abbrev pub is_early : ℕ → Bool
+is_early n = (n == 1) || ((n == 2) || ((n == 3) || ((n == 7) || (n == 9))))
 
-script_low : (fault : ScriptLineFault) → (script_status fault ≡ 2) ⊎ (script_status fault ≡ 7)
-script_low (script.Line fault) = inl refl
-script_low script.Regions = inr refl
+script_early : (fault : ScriptLineFault) → is_early (script_status fault) ≡ true
+script_early (script.Line fault) = refl
+script_early script.Regions = refl
+
+without_line : (o : Option Refusal) (line : List ℕ) (n : ℕ) → IsToldBy (told_as line o) n → IsToldBy (told_as [] o) n
+without_line None line n told = told
+without_line (Some e) line n told = told
+
+-- but for want of memory and a sink that failed the status is that of the ending
+told_one : (o : Option Refusal) (n : ℕ) → (n ≡ 9 → ⊥) → IsToldBy (told_as [] o) n → (told_status o ≡ n) ⊎ ((n ≡ 4) × (told_status o ≡ 0))
+told_one None n nine (inl h) = inl (sym h)
+told_one None n nine (inr h) = inr (h, refl)
+told_one (Some e) n nine (inl h) = inl (sym h)
+told_one (Some e) n nine (inr (h, some)) = absurd (nine h)
+
+-- a refusal that a run ends by
+abbrev OfBody : Option Refusal → Type 0
+OfBody None = Unit {0}
+OfBody (Some e) = IsOfBody e
+
+of_body : (ending : Ending) → OfBody (ending_refusal ending)
+of_body ends.Done = tt
+of_body ending = tt
+
+body_of : (line : List ℕ) (o : Option Refusal) → OfBody o → (e : Refusal) → told_as line o ≡ Err e → IsOfBody e
+body_of line None body e is = absurd (cc)
+body_of line (Some f) body e is = let same : f ≡ e = cc in subst IsOfBody same body
+
+-- ---- the input
 
 module _ (words : List (List ℕ)) (s : SourceSide) where
-  -- words that ask for a recording aren't bad, and ask for one
-  pub apart : (at : ℕ) → asked_of words ≡ Err at → (asked : RecordWords) → asked_of words ≡ Ok asked → ⊥
-  apart at bad asked good = let e : Err at ≡ Ok asked = sym bad ∙ good in cc
+  early_status : (e : Refusal) → Cause words s e → is_early (status_of e) ≡ true
+  early_status (Words usage) cause = refl
+  early_status (Reading ReadFault) cause = refl
+  early_status (Reading InputLimit) cause = refl
+  early_status (Input e) cause = subst (λ (x : InputRefusal). is_early (input_status x) ≡ true) (sym cause.1) (script_early cause.0.fault)
+  early_status NoMemory cause = refl
+  early_status e cause = absurd cause
 
-  pub one_order : (asked other : RecordWords) → asked_of words ≡ Ok asked → asked_of words ≡ Ok other → asked ≡ other
-  one_order asked other is also = let e : Ok asked ≡ Ok other = sym is ∙ also in cc
+  -- what a call asks, and what it came to, as of any call
+  asked_so : Asks words s → asking.Asks calls.Record words s
+  asked_so a = record { command = Record a.asked; words_are = a.words_are; input = a.input; got = a.read }
 
-  -- what was read is what the source had
-  pub input_is : (a : Asks words s) → s.tells → a.input ≡ s.left
-  input_is a tells = (a.read.told tells).0
+  came_early : (result : Result (List ℕ) Refusal) (e : Refusal) → result ≡ Err e → Cause words s e → Came calls.Record words s result
+  came_early result (Input e) is cause = inl (asked_so cause.2.0, λ (f : Refusal) (same : result ≡ Err f). body_of [] (Some (Input e)) tt f (sym is ∙ same))
+  came_early result e is cause = inr (e, is, cause)
 
-  pub short : (a : Asks words s) → s.tells → length s.left ≤ input_limit
-  short a tells = subst (λ (bytes : List ℕ). length bytes ≤ input_limit) (input_is a tells) a.read.within
+module _ {C D : Type 0} (c : CallSide C D) where
+  pub came_as : (result : Result (List ℕ) Refusal) → CameTo c result → Came calls.Record c.words c.source result
+  came_as result (inl r) = came_early c.words c.source result r.refusal r.is r.cause
+  came_as result (inr r) = inl (asked_so c.words c.source r.ran.asks, λ (e : Refusal) (same : result ≡ Err e). body_of (logged_line (count_of r.ran)) (ending_refusal r.ending) (of_body r.ending) e (sym r.is ∙ same))
 
-  pub too_long : length s.left ≤ input_limit → input_limit < length s.left → ⊥
-  too_long within above = omega arith
+  -- ---- what is seen of the status
 
-  -- an input is recorded, or it has one fault
-  pub not_both : (found : Result Script ScriptFault) (x : Script) (fault : ScriptFault) → found ≡ Ok x → found ≡ Err fault → ⊥
-  not_both found x fault good bad = let e : Ok x ≡ Err fault = sym good ∙ bad in cc
+  abbrev pub Ended : ℕ → Type 0
+  Ended n = (ending : Ending) × Ran c ending × Late ending n
 
-  pub says_one : (found : Result Script ScriptFault) (f g : ScriptFault) → found ≡ Err f → found ≡ Err g → f ≡ g
-  says_one found f g is other = let e : Err f ≡ Err g = sym is ∙ other in cc
+  abbrev pub Seen : ℕ → Type 0
+  Seen n = ((e : Refusal) × Cause c.words c.source e × IsUnrun c.run × IsToldBy (Err e) n) ⊎ Ended n
 
-  pub of_left : (a : Asks words s) → s.tells → (found : Result Script ScriptFault) → script_recorded a.input ≡ found → script_recorded s.left ≡ found
-  of_left a tells found is = ap script_recorded (sym (input_is a tells)) ∙ is
+  seen_by : (result : Result (List ℕ) Refusal) (n : ℕ) → IsToldBy result n → CameTo c result → Seen n
+  seen_by result n told (inl r) = inl (r.refusal, r.cause, r.unrun, subst (λ (x : Result (List ℕ) Refusal). IsToldBy x n) r.is told)
+  seen_by result n told (inr r) =
+      inr (r.ending, r.ran, without_line (ending_refusal r.ending) (logged_line (count_of r.ran)) n (subst (λ (x : Result (List ℕ) Refusal). IsToldBy x n) r.is told))
 
-  -- the statuses of a call that is refused before the run
-  input_low : (e : InputRefusal) (fault : ScriptFault) → e ≡ Scripted fault → (input_status e ≡ 2) ⊎ (input_status e ≡ 7)
-  input_low e fault is = subst (λ (x : InputRefusal). (input_status x ≡ 2) ⊎ (input_status x ≡ 7)) (sym is) (script_low fault.fault)
+  -- a status of one refusal, or of one ending
+  pub by_status : (n : ℕ) {G : Type 0} → (n ≡ 4 → ⊥) → (n ≡ 9 → ⊥) → ((e : Refusal) → Cause c.words c.source e → status_of e ≡ n → G) → ((ending : Ending) → Ran c ending → ended_status ending ≡ n → G)
+      → Seen n → G
+  by_status n four nine early late (inl (e, cause, unrun, inl h)) = early e cause (sym h)
+  by_status n four nine early late (inl (e, cause, unrun, inr (h, some))) = absurd (nine h)
+  by_status n {G} four nine early late (inr (ending, ran, told)) = by_one (told_one (ending_refusal ending) n nine told) where
+    by_one : (ended_status ending ≡ n) ⊎ ((n ≡ 4) × (ended_status ending ≡ 0)) → G
+    by_one (inl h) = late ending ran h
+    by_one (inr (h, zero)) = absurd (four h)
 
-  pub never_input : {F : Type 0} (n : ℕ) → n ≢ 2 → n ≢ 7 → (e : InputRefusal) (fault : ScriptFault) → e ≡ Scripted fault → input_status e ≡ n → F
-  never_input {F = F} n two seven e fault is h = by_two (input_low e fault is) where
-    by_two : (input_status e ≡ 2) ⊎ (input_status e ≡ 7) → F
-    by_two (inl low) = absurd (two (sym h ∙ low))
-    by_two (inr low) = absurd (seven (sym h ∙ low))
+  -- a status that no refusal before the run has
+  pub ran_to : (n : ℕ) → is_early n ≡ false → Seen n → (ending : Ending) × Ran c ending × ((ended_status ending ≡ n) ⊎ ((n ≡ 4) × (ended_status ending ≡ 0)))
+  ran_to n late (inl (e, cause, unrun, inl h)) = absurd (unlike (sym late ∙ ap is_early h ∙ early_status c.words c.source e cause))
+  ran_to n late (inl (e, cause, unrun, inr (h, some))) = absurd (unlike (sym late ∙ ap is_early h))
+  ran_to n late (inr (ending, ran, told)) = (ending, ran, told_one (ending_refusal ending) n (λ h. unlike (sym late ∙ ap is_early h)) told)
 
-  pub never_early : {F : Type 0} (n : ℕ) → n ≢ 1 → n ≢ 2 → n ≢ 3 → n ≢ 7 → n ≢ 9 → (e : Refusal) → Cause words s e → status_of e ≡ n → F
-  never_early n one two three seven nine (Words usage) c h = absurd (one (sym h))
-  never_early n one two three seven nine (Reading ReadFault) c h = absurd (three (sym h))
-  never_early n one two three seven nine (Reading InputLimit) c h = absurd (seven (sym h))
-  never_early n one two three seven nine (Input e) c h = never_input n two seven e c.0 c.1 h
-  never_early n one two three seven nine (Disk e) c h = absurd c
-  never_early n one two three seven nine NoMemory c h = absurd (nine (sym h))
+  pub by_late : (n : ℕ) {G : Type 0} → is_early n ≡ false → (n ≡ 4 → ⊥) → ((ending : Ending) → Ran c ending → ended_status ending ≡ n → G) → Seen n → G
+  by_late n late four = by_status n four (λ h. unlike (sym late ∙ ap is_early h)) (λ e cause h. absurd (unlike (sym late ∙ sym (ap is_early h) ∙ early_status c.words c.source e cause)))
 
-  module _ {C D : Type 0} (k : SinkSide) (o : RunSide C D) (opened : Option Opened) where
-    not_done : (ending : Ending) (e : RecordRefusal) → recording_refusal ending ≡ Some e → ending ≢ ends.Done
-    not_done ending e is done = let h : None ≡ Some e = sym (ap recording_refusal done) ∙ is in cc
+  -- what any run tells of its ending, and counts at it
+  pub cause_of : (ending : Ending) → Ran c ending → MayEndRecording c.run.clock c.run.disk c.run.clock_was c.run.clock_is c.run.disk_was c.run.disk_is ending
+  cause_of ending ran = subst (λ (x : Ending). MayEndRecording c.run.clock c.run.disk c.run.clock_was c.run.clock_is c.run.disk_was c.run.disk_is x) ran.ended ran.has.was.cause
 
-    module _ (F : ℕ → Type 0)
-        (early : (e : Refusal) → Cause words s e → IsUnrun o opened → F (status_of e))
-        (late : (ending : Ending) → ending ≢ ends.Done → Ran words s o opened ending → F (ended_status ending))
-        (wanting : RanWanting words s o opened → F 9) where
-      by_run : (e : RecordRefusal) → RanTo words s o opened e → F (recording_status e)
-      by_run e c = subst F (sym (status_is c.ending e c.refused)) (late c.ending (not_done c.ending e c.refused) c.ran)
+  pub counts_of : (ending : Ending) (ran : Ran c ending) → Counts ran.asks.asked.samples ran.has.was.recording.moments ran.has.was.recording.results ran.told ending
+  counts_of ending ran = subst (λ (x : Ending). Counts ran.asks.asked.samples ran.has.was.recording.moments ran.has.was.recording.results ran.told x) ran.ended ran.has.was.recording.counts
 
-      by_refusal : (e : RecordRefusal) → Refuses words s o opened e → F (recording_status e)
-      by_refusal (Common (Words usage)) c = early (Words usage) c.0 c.1
-      by_refusal (Common (Reading e)) c = early (Reading e) c.0 c.1
-      by_refusal (Common (Input e)) c = early (Input e) c.0 c.1
-      by_refusal (Common (Disk e)) c = by_run (Common (Disk e)) c
-      by_refusal (Common NoMemory) c = ⊎_elim (λ (unrun : IsUnrun o opened). early NoMemory c.0 unrun) wanting c.1
-      by_refusal (ClockEnd left) c = by_run (ClockEnd left) c
-      by_refusal (ClockFault left) c = by_run (ClockFault left) c
+  -- ---- done
 
-      pub by_end : (status : ℕ) → Ends words s k o opened status → (EndsDone words s k o opened → F 0) → (EndsUntold words s k o opened → F 4) → F status
-      by_end status (inl done) f g = subst F (sym done.0) (f done.1)
-      by_end status (inr (inl untold)) f g = subst F (sym untold.0) (g untold.1)
-      by_end status (inr (inr refused)) f g = subst F (sym refused.1) (by_refusal refused.0 refused.2.refuses)
+  low_done : (ending : Ending) → Ran c ending → ended_status ending ≤ 4 → Ran c ends.Done
+  low_done ends.Done ran low = ran
+  low_done (ends.Condition line) ran low = absurd (cause_of (ends.Condition line) ran)
+  low_done ending ran low = absurd (omega (arith, low))
 
-    -- what any run tells of its ending
-    pub cause_of : (ending : Ending) → Ran words s o opened ending → MayEndRecording o.clock o.disk o.clock_was o.clock_is o.disk_was o.disk_is ending
-    cause_of ending ran = subst (λ (x : Ending). MayEndRecording o.clock o.disk o.clock_was o.clock_is o.disk_was o.disk_is x) ran.ended ran.has.was.cause
+  pub was_done : (n : ℕ) → is_early n ≡ false → n ≤ 4 → Seen n → Ran c ends.Done
+  was_done n late low saw = let (ending, ran, is) = ran_to n late saw in by_one ending ran is where
+    by_one : (ending : Ending) → Ran c ending → (ended_status ending ≡ n) ⊎ ((n ≡ 4) × (ended_status ending ≡ 0)) → Ran c ends.Done
+    by_one ending ran (inl h) = low_done ending ran (omega (arith, h, low))
+    by_one ending ran (inr (h, zero)) = low_done ending ran (omega (arith, zero))
 
-    -- no condition of a line fails in it
-    pub late_high : (ending : Ending) → ending ≢ ends.Done → Ran words s o opened ending → 5 ≤ ended_status ending
-    late_high ends.Done other ran = absurd (other refl)
-    late_high (ends.Condition line) other ran = absurd (cause_of (ends.Condition line) ran)
-    late_high ends.DiskFault other ran = omega arith
-    late_high (ends.NotArchive file at) other ran = omega arith
-    late_high (ends.Compressed file) other ran = omega arith
-    late_high (ends.Limit what number) other ran = omega arith
-    late_high (ends.ClockEnd left) other ran = omega arith
-    late_high (ends.ClockFault left) other ran = omega arith
-    late_high ends.NoMemory other ran = omega arith
-    late_high (ends.NotLater last) other ran = omega arith
-    late_high (ends.Changed pmid) other ran = omega arith
+  -- ---- what is left
 
-    pub never_late : {G : Type 0} (n : ℕ) → n < 5 → (ending : Ending) → ending ≢ ends.Done → Ran words s o opened ending → ended_status ending ≡ n → G
-    never_late n low ending other ran h = absurd (omega (arith, low, h, late_high ending other ran))
+  pub is_left : (ending : Ending) → Ran c ending → IsSome c.run.opened
+  is_left ending ran = ap is_some ran.has.kept
 
-    -- what ran is left
-    pub is_left : (ending : Ending) → Ran words s o opened ending → IsSome opened
-    is_left ending ran = ap is_some ran.has.kept
+  pub ran_if_left : (n : ℕ) → Seen n → IsSome c.run.opened → Ended n
+  ran_if_left n (inl (e, cause, unrun, told)) some = absurd (unlike (sym (ap is_some unrun.none) ∙ some))
+  ran_if_left n (inr ended) some = ended
 
-    pub none_left : IsUnrun o opened → IsSome opened → ⊥
-    none_left unrun some = let h : false ≡ true = sym (ap is_some unrun.none) ∙ some in cc
+module _ {C D : Type 0} (c : CallSide C D) (k : SinkSide) where
+  pub seen : (status : ℕ) → Ends c k status → Seen c status
+  seen status e = seen_by c e.result status (told_by k [] e.result status e.told) e.came
+
+  -- done, its line was written
+  zero_told : (line : List ℕ) (o : Option Refusal) → TellsAll k [] (told_as line o) 0 → told_status o ≡ 0
+  zero_told line None told = refl
+  zero_told line (Some e) (inl (h, wrote)) = sym h
+  zero_told line (Some e) (inr (h, some, silent)) = absurd (omega (arith, h))
+
+  wrote_all : (line : List ℕ) → TellsAll k [] (Ok line) 0 → k.tells → k.after ≡ k.written ++ line
+  wrote_all line (inl (h, wrote)) = wrote
+  wrote_all line (inr (h, rose, wrote)) = absurd (omega (arith, h))
+
+  written : (ending : Ending) (ran : Ran c ending) → TellsAll k [] (told_as (logged_line (count_of ran)) (ending_refusal ending)) 0 → EndsDone c k
+  written ends.Done ran told = record { ran = ran; wrote = wrote_all (logged_line (count_of ran)) told }
+  written ending ran told = let zero : ended_status ending ≡ 0 = zero_told (logged_line (count_of ran)) (ending_refusal ending) told in absurd (omega (arith, zero))
+
+  done_by : (result : Result (List ℕ) Refusal) → TellsAll k [] result 0 → CameTo c result → EndsDone c k
+  done_by result told (inr r) = written r.ending r.ran (subst (λ (x : Result (List ℕ) Refusal). TellsAll k [] x 0) r.is told)
+  done_by result told (inl r) =
+      let zero : status_of r.refusal ≡ 0 = zero_told [] (Some r.refusal) (subst (λ (x : Result (List ℕ) Refusal). TellsAll k [] x 0) r.is told) in
+      absurd (unlike (sym (ap is_early zero) ∙ early_status c.words c.source r.refusal r.cause))
+
+  pub is_done : (status : ℕ) → Ends c k status → status ≡ 0 → EndsDone c k
+  is_done status e h = done_by e.result (subst (λ (n : ℕ). TellsAll k [] e.result n) h e.told) e.came

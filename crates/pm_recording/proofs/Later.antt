@@ -181,18 +181,13 @@ rising_front (x ∷ y ∷ before) t behind rising = let rest = rising_front (y �
 -- no other fault ends so
 full_apart : (file : FileId) (bytes : ℕ) (last : Moment) → ending_of (faults.Full file bytes) ≡ Some (ends.NotLater last) → ⊥
 full_apart files.Meta bytes last is = cc
-full_apart files.Index bytes last is = cc
-full_apart (files.Volume n) bytes last is = cc
+full_apart file bytes last is = cc
 
 too_early : (limit : ℕ) (r : Report) (w : Written) (fault : LogFault) (last : Moment) → Refuses limit r w fault → ending_of fault ≡ Some (ends.NotLater last) → (t : Moment) × IsStampIn w.contents t × (microseconds r.result.stamp ≤ microseconds t)
 too_early limit r w (faults.NotLater t) last refuses is =
     let greatest : IsGreatest w.contents (Some t) = subst (λ (g : Option Moment). IsGreatest w.contents g) refuses.refused.2 refuses.ends_are.are.greatest in (t, greatest.0, refuses.refused.3)
-too_early limit r w (faults.Large bytes) last refuses is = absurd (cc)
-too_early limit r w (faults.Changed pmid) last refuses is = absurd (cc)
 too_early limit r w (faults.Full file bytes) last refuses is = absurd (full_apart file bytes last is)
-too_early limit r w faults.Closed last refuses is = absurd (cc)
-too_early limit r w faults.NoMemory last refuses is = absurd (cc)
-too_early limit r w faults.DiskFault last refuses is = absurd (cc)
+too_early limit r w fault last refuses is = absurd (cc)
 
 module _ {script : Script} {server : List Mounted} {first final : List Token} {ending : Ending} {moments : List Moment} {results : List Fetched} (sampled : IsSampled script server first final ending moments results)
     (limit : ℕ) (start : Files) (all rest : List Moment) (are : all ≡ moments ++ rest) where

@@ -1,3 +1,4 @@
+pub mod All
 pub mod Completes
 pub mod Endings
 pub mod Exact

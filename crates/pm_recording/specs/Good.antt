@@ -1,13 +1,12 @@
 -- What a recording needs to be done: a script that may be recorded, files that can be read, a clock whose moments come one after
 -- another and after every stamp there, samples that are taken, and no count that rose.
-use Rattle.std.specs.Prelude.{◌≡◌, ℕ, ◌<◌, ◌≤◌, List, [], ◌∷◌, length, Contains, Option, None, Ok}
+use Rattle.std.specs.Prelude.{◌≡◌, ℕ, ◌<◌, ◌≤◌, List, [], ◌∷◌, length, Contains, None, Ok}
 use Rattle.pcp_base.specs.Time.{Moment, microseconds}
 use Rattle.pcp_model.specs.Archive.{ArchiveContents, IsArchive, Readable}
 use Rattle.pcp_model.specs.Disk.{Files, contents_of}
 use Rattle.pcp_outside.specs.Causes.{Rose}
 use Rattle.logger_core.specs.Steps.{IsStampIn}
 use Rattle.run_script.specs.declared.script.Script.{Script}
-use Rattle.run_passes.specs.declared.opening.Opened.{Opened}
 use Rattle.script_runs.specs.Archives.{IsRecovered, IsTurnedAway}
 use Rattle.script_runs.specs.declared.ending.Ending.{Ending}
 use Rattle.script_runs.specs.declared.ending.Ending.TheVariants as ends
@@ -17,7 +16,7 @@ use Rattle.record_run.specs.Stopping.{AsksTooMany, ShowsLast, shown_last}
 use Rattle.pm_words.specs.Inputs.{input_limit}
 use Rattle.pcp_outside.specs.Sides.{SourceSide, SinkSide}
 use Rattle.pm_recording.specs.Ends.{IsAsked, Ran}
-use Rattle.pm_recording.specs.Recording.{RunSide}
+use Rattle.pm_recording.specs.Recording.{CallSide, RunSide}
 use Rattle.pm_recording.specs.Scripts.{script_recorded}
 
 -- the words ask for a recording, and the source gives an input within the limit
@@ -57,24 +56,24 @@ pub record IsGoodClock {C D : Type 0} (o : RunSide C D) : Type 0 where
 -- What is shown
 
 -- What the last sample shows is turned away by the archive of the results before it, logged one behind another over what recovery left.
-pub record IsLastTurnedAway {C D : Type 0} {words : List (List ℕ)} {s : SourceSide} {o : RunSide C D} {opened : Option Opened} {ending : Ending} (ran : Ran words s o opened ending) (reason : Ending) : Type 0 where
+pub record IsLastTurnedAway {C D : Type 0} {c : CallSide C D} {ending : Ending} (ran : Ran c ending) (reason : Ending) : Type 0 where
   pub left : Files
-  pub recovered : IsRecovered (contents_of (o.disk.held o.disk_was)) left
+  pub recovered : IsRecovered (contents_of (c.run.disk.held c.run.disk_was)) left
   pub last : ShowsLast ran.has.was.recording.beside.sampled
   pub away : IsTurnedAway ran.asks.asked.volume left (events_of ran.has.was.recording.results) (shown_last ran.has.was.recording.beside.sampled last) reason
 
 -- No sample asks for too many metrics, none shows one that the archive describes otherwise, and what each shows has its place there.
-pub record IsWelcome {C D : Type 0} {words : List (List ℕ)} {s : SourceSide} {o : RunSide C D} {opened : Option Opened} {ending : Ending} (ran : Ran words s o opened ending) : Type 0 where
+pub record IsWelcome {C D : Type 0} {c : CallSide C D} {ending : Ending} (ran : Ran c ending) : Type 0 where
   pub few : (number : ℕ) → AsksTooMany ran.has.was.recording.beside.sampled number → ⊥
   pub small : (what : LimitKind) (number : ℕ) → IsLastTurnedAway ran (ends.Limit what number) → ⊥
   pub same : (pmid : ℕ) → IsLastTurnedAway ran (ends.Changed pmid) → ⊥
 
-pub record IsGoodRun {C D : Type 0} (words : List (List ℕ)) (s : SourceSide) (k : SinkSide) (o : RunSide C D) (opened : Option Opened) : Type 0 where
-  pub meets : Meets words s
+pub record IsGoodRun {C D : Type 0} (c : CallSide C D) (k : SinkSide) : Type 0 where
+  pub meets : Meets c.words c.source
   pub script : Script
-  pub good : script_recorded s.left ≡ Ok script
-  pub disk : IsGoodDisk o
-  pub clock : IsGoodClock o
-  pub welcome : (ending : Ending) (ran : Ran words s o opened ending) → IsWelcome ran
-  pub source_kept : Rose s.faults s.faults_after → ⊥
+  pub good : script_recorded c.source.left ≡ Ok script
+  pub disk : IsGoodDisk c.run
+  pub clock : IsGoodClock c.run
+  pub welcome : (ending : Ending) (ran : Ran c ending) → IsWelcome ran
+  pub source_kept : Rose c.source.faults c.source.faults_after → ⊥
   pub sink_kept : Rose k.faults k.faults_after → ⊥

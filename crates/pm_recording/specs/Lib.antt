@@ -1,8 +1,6 @@
-pub mod CommandWords
 pub mod Scripts
-pub mod Refusals
 pub mod Recording
 pub mod Ends
 pub mod Good
-pub mod Facts
 pub mod Exact
+pub mod Facts

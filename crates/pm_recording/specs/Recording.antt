@@ -1,8 +1,9 @@
--- What is left of a script's regions on which it was recorded, and of the clock and the disk.
-use Rattle.std.specs.Prelude.{◌≡◌, length, slice_get, Option, Some, None}
+-- What a call that records has to do with, and what is left of a script's regions on which it was recorded, and of the clock and the disk.
+use Rattle.std.specs.Prelude.{◌≡◌, ℕ, List, length, slice_get, Option, Some, None}
 use Rattle.pcp_model.specs.Disk.{CrashImage}
 use Rattle.pcp_outside.specs.declared.clocks.Clock.{Ghosts as ClockGhosts}
 use Rattle.pcp_outside.specs.declared.disk.Disk.{Ghosts as DiskGhosts}
+use Rattle.pcp_outside.specs.Sides.{SourceSide}
 use Rattle.fetch_engine.specs.Servers.{IsSeated, Seated}
 use Rattle.run_script.specs.declared.script.Script.{Script}
 use Rattle.run_passes.specs.Openings.{IsOpened}
@@ -12,9 +13,9 @@ use Rattle.record_run.specs.Beside.{TellWriters}
 use Rattle.record_run.specs.Pictured.{AreImages, AreOfWords}
 use Rattle.record_run.specs.Recordings.{IsRecording, MayEndRecording}
 use Rattle.pm_words.specs.Sides.{IsUnread, Leaves}
-use Rattle.pm_recording.specs.declared.words.RecordWords.{RecordWords}
+use Rattle.pm_words.specs.declared.words.RecordWords.{RecordWords}
 
--- the clock and the disk of a call, before and after
+-- the clock and the disk of a call, before and after, and the regions that it leaves
 pub record RunSide (C D : Type 0) : Type 1 where
   pub clock : ClockGhosts C
   pub disk : DiskGhosts D
@@ -22,9 +23,20 @@ pub record RunSide (C D : Type 0) : Type 1 where
   pub clock_is : C
   pub disk_was : D
   pub disk_is : D
+  pub opened : Option Opened
 
-abbrev pub run_side : {C D : Type 0} → ClockGhosts C → DiskGhosts D → C → C → D → D → RunSide C D
-run_side clock disk clock_was clock_is disk_was disk_is = record { clock = clock; disk = disk; clock_was = clock_was; clock_is = clock_is; disk_was = disk_was; disk_is = disk_is }
+abbrev pub run_side : {C D : Type 0} → ClockGhosts C → DiskGhosts D → C → C → D → D → Option Opened → RunSide C D
+run_side clock disk clock_was clock_is disk_was disk_is opened =
+    record { clock = clock; disk = disk; clock_was = clock_was; clock_is = clock_is; disk_was = disk_was; disk_is = disk_is; opened = opened }
+
+-- all that a call has to do with, but for its sink
+pub record CallSide (C D : Type 0) : Type 1 where
+  pub words : List (List ℕ)
+  pub source : SourceSide
+  pub run : RunSide C D
+
+abbrev pub call_side : {C D : Type 0} → List (List ℕ) → SourceSide → RunSide C D → CallSide C D
+call_side words source run = record { words = words; source = source; run = run }
 
 -- The script was opened with one seat, and recorded on what was opened, which is left: its writers ran, the seat sampled beside and
 -- behind them, and what was logged is in the files.
@@ -43,16 +55,16 @@ pub record WasRecorded {C D : Type 0} (o : RunSide C D) (asked : RecordWords) (s
   pub cause : MayEndRecording o.clock o.disk o.clock_was o.clock_is o.disk_was o.disk_is r.ending
   pub unread : IsUnread o.disk o.disk_was → Leaves o.disk o.disk_was o.disk_is CrashImage
 
--- `opened` has what is left of a script on images of 64-bit words
-pub record HasRecorded {C D : Type 0} (o : RunSide C D) (asked : RecordWords) (script : Script) (opened : Option Opened) (r : Replayed) : Type 0 where
+-- the call leaves what is left of a script on images of 64-bit words
+pub record HasRecorded {C D : Type 0} (o : RunSide C D) (asked : RecordWords) (script : Script) (r : Replayed) : Type 0 where
   pub left : Opened
-  pub kept : opened ≡ Some left
+  pub kept : o.opened ≡ Some left
   pub was : WasRecorded o asked script left r
   pub images : AreImages script
   pub of_words : AreOfWords script
 
 -- nothing was opened, and neither the disk nor the clock was touched
-pub record IsUnrun {C D : Type 0} (o : RunSide C D) (opened : Option Opened) : Type 0 where
-  pub none : opened ≡ None
+pub record IsUnrun {C D : Type 0} (o : RunSide C D) : Type 0 where
+  pub none : o.opened ≡ None
   pub disk : o.disk_is ≡ o.disk_was
   pub clock : o.clock_is ≡ o.clock_was

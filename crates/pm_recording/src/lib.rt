@@ -3,12 +3,8 @@
 //! its cause, and leaves the regions on which it recorded.
 #![tactic(auto)]
 
-mod refusal;
 mod running;
 mod scripts;
 mod top;
-mod words;
 
-pub use refusal::RecordRefusal;
 pub use top::run_record;
-pub use words::{RecordWords, is_record, read_record_words};
