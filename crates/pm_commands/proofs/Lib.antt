@@ -4,4 +4,5 @@ pub mod Memory
 pub mod Nothing
 pub mod Opening
 pub mod Sounds
+pub mod Torn
 pub mod Welcome
