@@ -1,16 +1,11 @@
--- Readable archives are turned away by no command that reads them whole, sound ones by none that asks by time.
-use Rattle.std.proofs.Common.{◌≡◌, ⊎_elim, ℕ, refl, sym, ◌∙◌, arith, Option, Some, None}
+-- Readable archives are turned away by no command that reads them whole, and by none that asks by time where recovery would leave them
+-- sound.
+use Rattle.std.proofs.Common.{◌≡◌, ⊎_elim, ℕ, refl, sym, ◌∙◌, Option, Some, None}
 use Rattle.pcp_base.specs.Time.{Moment}
 use Rattle.pcp_base.specs.declared.file.FileId.{FileId}
 use Rattle.pcp_model.specs.Archive.{ArchiveReading, Reads, Readable}
-use Rattle.pcp_model.specs.Disk.{Files}
-use Rattle.pcp_model.specs.Sound.{IsSound, Sound}
 use Rattle.archive_loading.specs.Loaded.{Loaded}
-use Rattle.archive_reader.specs.Asked.{at_begin, range_begin}
-use Rattle.archive_reader.specs.Sounds.{BeginsInCutLabel}
-use Rattle.archive_reader.specs.declared.beginning.Begin.{Begin}
-use Rattle.archive_reader.specs.declared.beginning.Begin.TheVariants.{At, Outside}
-use Rattle.archive_reader.proofs.Finds.{readable_stands, sound_finds_last, sound_finds_range}
+use Rattle.archive_reader.proofs.Finds.{readable_stands}
 use Rattle.archive_reader.proofs.Loadable.{loads_readable}
 use Rattle.archive_reader.specs.declared.fault.ReaderFault.TheVariants as faults
 use Rattle.archive_reader.specs.Values.{IsWholeFault}
@@ -18,10 +13,12 @@ use Rattle.pm_words.specs.declared.stage.FilesRefusal.{FilesRefusal}
 use Rattle.pm_words.specs.declared.stage.FilesRefusal.TheVariants.{Run, Compressed, NotArchive, Nothing}
 use Rattle.pm_words.specs.declared.words.ValueWords.{ValueWords}
 use Rattle.pm_tasks.specs.Archives.{IsLoaded, IsNotLoaded}
-use Rattle.pm_commands.specs.Laws.{HasWholeLabels, IsWelcome, IsWelcomeByTime}
+use Rattle.pm_commands.specs.Laws.{IsWelcome, IsWelcomeByTime}
 use Rattle.pm_words.specs.Refusals.{files_status}
 use Rattle.pm_words.specs.Sides.{Found}
 use Rattle.pm_runs.proofs.Refused.{takes_readable}
+use Rattle.pm_words.specs.Sound.{RecoversSound}
+use Rattle.pm_commands.proofs.Torn.{last_never_refused, range_never_refused}
 use Rattle.pm_tasks.specs.commands.at as at
 use Rattle.pm_tasks.specs.commands.dump as dump
 use Rattle.pm_tasks.specs.commands.range as range
@@ -65,26 +62,20 @@ welcomes f readable unwrapped = record {
 
 -- ---- by time
 
-no_cut : (files : Files) → HasWholeLabels files → (b : Begin) → BeginsInCutLabel files b → ⊥
-no_cut files whole (At n offset) cut = cut
-no_cut files whole (Outside n offset) cut = omega (arith, whole n cut.0, cut.1)
+good_last : (f : Found) (reading : ArchiveReading) → Reads f.files reading → RecoversSound f.files → (r : Loaded) → IsLoaded f r → (t : Moment) (e : FilesRefusal) → at.IsStopped t r f e → files_status e ≡ 11
+good_last f reading reads sound r loaded t (Run reason) why = absurd why
+good_last f reading reads sound r loaded t (Compressed file) why = absurd why
+good_last f reading reads sound r loaded t (NotArchive file offset) why = absurd (last_never_refused f.files reading reads sound r loaded.over t file offset why)
+good_last f reading reads sound r loaded t (Nothing stamp) why = refl
 
-good_last : (f : Found) (reading : ArchiveReading) → Reads f.files reading → IsSound f.files reading → HasWholeLabels f.files → (r : Loaded) → IsLoaded f r → (t : Moment) (e : FilesRefusal) → at.IsStopped t r f e → files_status e ≡ 11
-good_last f reading reads sound whole r loaded t (Run reason) why = absurd why
-good_last f reading reads sound whole r loaded t (Compressed file) why = absurd why
-good_last f reading reads sound whole r loaded t (NotArchive file offset) why =
-    absurd (no_cut f.files whole (at_begin r t) ((sound_finds_last f.files reading r t reads sound loaded.over).refused file offset why))
-good_last f reading reads sound whole r loaded t (Nothing stamp) why = refl
+good_range : (f : Found) (reading : ArchiveReading) → Reads f.files reading → RecoversSound f.files → (r : Loaded) → IsLoaded f r → (from to : Moment) (e : FilesRefusal) → range.IsStopped from to r f e → ⊥
+good_range f reading reads sound r loaded from to (Run reason) why = why
+good_range f reading reads sound r loaded from to (Compressed file) why = why
+good_range f reading reads sound r loaded from to (NotArchive file offset) why = range_never_refused f.files reading reads sound r loaded.over from to file offset why
+good_range f reading reads sound r loaded from to (Nothing stamp) why = why
 
-good_range : (f : Found) (reading : ArchiveReading) → Reads f.files reading → IsSound f.files reading → HasWholeLabels f.files → (r : Loaded) → IsLoaded f r → (from to : Moment) (e : FilesRefusal) → range.IsStopped from to r f e → ⊥
-good_range f reading reads sound whole r loaded from to (Run reason) why = why
-good_range f reading reads sound whole r loaded from to (Compressed file) why = why
-good_range f reading reads sound whole r loaded from to (NotArchive file offset) why =
-    no_cut f.files whole (range_begin r from) ((sound_finds_range f.files reading r from to reads sound loaded.over).refused file offset why)
-good_range f reading reads sound whole r loaded from to (Nothing stamp) why = why
-
-pub welcomes_by_time : (f : Found) → Sound f.files → HasWholeLabels f.files → f.wrapped ≡ None → IsWelcomeByTime f
-welcomes_by_time f sound whole unwrapped = let readable : Readable f.files = (sound.0, sound.1) in record {
-  last = λ t e why. ⊎_elim (λ (n : IsNotLoaded f e). absurd (is_loaded f readable unwrapped e n)) (λ b. good_last f sound.0 sound.1 sound.2 whole b.0 b.1 t e b.2) why;
-  between = λ from to e why. ⊎_elim (λ (n : IsNotLoaded f e). is_loaded f readable unwrapped e n) (λ b. good_range f sound.0 sound.1 sound.2 whole b.0 b.1 from to e b.2) why;
+pub welcomes_by_time : (f : Found) → Readable f.files → RecoversSound f.files → f.wrapped ≡ None → IsWelcomeByTime f
+welcomes_by_time f readable sound unwrapped = record {
+  last = λ t e why. ⊎_elim (λ (n : IsNotLoaded f e). absurd (is_loaded f readable unwrapped e n)) (λ b. good_last f readable.0 readable.1 sound b.0 b.1 t e b.2) why;
+  between = λ from to e why. ⊎_elim (λ (n : IsNotLoaded f e). is_loaded f readable unwrapped e n) (λ b. good_range f readable.0 readable.1 sound b.0 b.1 from to e b.2) why;
 }

@@ -1,11 +1,10 @@
--- Over which files commands are done: no readable archive is turned away by one that reads it whole, no sound one by one that asks by
--- time, nor files over which the run of a script comes to its end, unless a file stands wrapped; and that a script runs to one end.
-use Rattle.std.specs.Prelude.{◌≡◌, ℕ, ◌<◌, ◌≤◌, List, length, None}
+-- Over which files commands are done: no readable archive is turned away by one that reads it whole, none that recovery would leave
+-- sound by one that asks by time, nor files over which the run of a script comes to its end, unless a file stands wrapped; and that a
+-- script runs to one end.
+use Rattle.std.specs.Prelude.{◌≡◌, ℕ, List, None}
 use Rattle.pcp_base.specs.Time.{Moment}
-use Rattle.pcp_base.specs.declared.file.FileId.TheVariants.{Volume}
 use Rattle.pcp_model.specs.Archive.{Readable}
 use Rattle.pcp_model.specs.Disk.{Files}
-use Rattle.pcp_model.specs.Sound.{Sound}
 use Rattle.logging_session.specs.Events.{Event}
 use Rattle.run_script.specs.declared.script.Script.{Script}
 use Rattle.script_runs.specs.declared.ending.Ending.{Ending}
@@ -25,6 +24,7 @@ use Rattle.pm_words.specs.Refusals.{files_status}
 use Rattle.pm_words.specs.Sides.{Found}
 use Rattle.pm_runs.specs.Scripts as scripts
 use Rattle.pm_runs.specs.Scripts.{IsOne, IsOwn, Leads}
+use Rattle.pm_words.specs.Sound.{RecoversSound}
 use Rattle.pm_tasks.specs.commands.at as at
 use Rattle.pm_tasks.specs.commands.dump as dump
 use Rattle.pm_tasks.specs.commands.info as info
@@ -41,17 +41,15 @@ pub record IsWelcome (f : Found) : Type 0 where
 abbrev pub ReadableIsWelcome : Type 0
 ReadableIsWelcome = (f : Found) → Readable f.files → f.wrapped ≡ None → IsWelcome f
 
--- each volume that isn't empty holds its whole label
-abbrev pub HasWholeLabels : Files → Type 0
-HasWholeLabels files = (n : ℕ) → 0 < length (files (Volume n)) → 132 ≤ length (files (Volume n))
-
 -- the last item not after a moment is found, or there is none; and the items of a range are found, though there may be none
 pub record IsWelcomeByTime (f : Found) : Type 0 where
   pub last : (t : Moment) (e : FilesRefusal) → at.IsTurnedAway t f e → files_status e ≡ 11
   pub between : (from to : Moment) (e : FilesRefusal) → range.IsTurnedAway from to f e → ⊥
 
+-- A readable archive, of which no file stands wrapped and what recovery would leave is sound, is turned away by no command that asks
+-- by time, but where `at` finds no item. Of a sound archive this logger, and each stop of it, leaves such files.
 abbrev pub SoundIsWelcome : Type 0
-SoundIsWelcome = (f : Found) → Sound f.files → HasWholeLabels f.files → f.wrapped ≡ None → IsWelcomeByTime f
+SoundIsWelcome = (f : Found) → Readable f.files → RecoversSound f.files → f.wrapped ≡ None → IsWelcomeByTime f
 
 -- a command that runs a script turns no files away over which the run comes to its end
 abbrev pub DoneIsWelcome : Type 0
