@@ -5,7 +5,9 @@
 mod laws;
 mod top;
 
-pub use laws::{done_is_welcome, one_end, readable_is_welcome, sound_is_welcome};
+pub use laws::{
+    done_is_welcome, one_end, readable_is_welcome, sound_before_recovery, sound_is_welcome,
+};
 pub use pm_words::{
     Command, DiskRefusal, FilesRefusal, InputRefusal, MakeWords, OnceWords, ReadRefusal, Refusal,
     RunRefusal, StageFault, Usage, ValueWords, read_words,
