@@ -302,7 +302,7 @@ abbrev entries_of : ArchiveReading → List Entry
 entries_of ArchiveReading.nothing = []
 entries_of (ArchiveReading.archive c) = c.entries
 
-torn_is_sound : (files : Files) (reading : ArchiveReading) → Reads files reading → RecoversSound files → IsSound files reading × AllByRecursion (HasLabel files) (entries_of reading)
+pub torn_is_sound : (files : Files) (reading : ArchiveReading) → Reads files reading → RecoversSound files → IsSound files reading × AllByRecursion (HasLabel files) (entries_of reading)
 torn_is_sound files ArchiveReading.nothing reads sound = (tt, tt)
 torn_is_sound files (ArchiveReading.archive c) reads sound =
     let r : (left : Files) × IsRecovered files c left = recovered files c reads in sound_before files r.0 c reads r.1 (sound (ArchiveReading.archive c) reads r.0 r.1)

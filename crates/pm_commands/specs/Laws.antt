@@ -5,6 +5,7 @@ use Rattle.std.specs.Prelude.{◌≡◌, ℕ, List, None}
 use Rattle.pcp_base.specs.Time.{Moment}
 use Rattle.pcp_model.specs.Archive.{Readable}
 use Rattle.pcp_model.specs.Disk.{Files}
+use Rattle.pcp_model.specs.Sound.{Sound}
 use Rattle.logging_session.specs.Events.{Event}
 use Rattle.run_script.specs.declared.script.Script.{Script}
 use Rattle.script_runs.specs.declared.ending.Ending.{Ending}
@@ -50,6 +51,10 @@ pub record IsWelcomeByTime (f : Found) : Type 0 where
 -- by time, but where `at` finds no item. Of a sound archive this logger, and each stop of it, leaves such files.
 abbrev pub SoundIsWelcome : Type 0
 SoundIsWelcome = (f : Found) → Readable f.files → RecoversSound f.files → f.wrapped ≡ None → IsWelcomeByTime f
+
+-- They are sound before recovery too: so what such a command writes of them is the scan's.
+abbrev pub SoundBeforeRecovery : Type 0
+SoundBeforeRecovery = (files : Files) → Readable files → RecoversSound files → Sound files
 
 -- a command that runs a script turns no files away over which the run comes to its end
 abbrev pub DoneIsWelcome : Type 0

@@ -1,5 +1,6 @@
 -- What may be recorded is.
-use Rattle.std.proofs.Common.{◌≡◌, ◌⊎◌, inl, inr, ℕ, ◌<◌, ◌≤◌, [], length, sym, ap, ◌∙◌, subst, arith, Some, None}
+use Rattle.std.proofs.Common.{◌≡◌, ◌⊎◌, inl, inr, ℕ, ◌+◌, ◌-◌, ◌<◌, ◌≤◌, List, [], ◌++◌, length, take, sym, ap, ◌∙◌, subst, arith, Some, None}
+use Rattle.std.proofs.Math.Seq.{take-append-add}
 use Rattle.pcp_base.specs.Time.{Moment}
 use Rattle.pcp_model.specs.Disk.{Files, contents_of}
 use Rattle.pcp_outside.specs.Sides.{SinkSide}
@@ -22,6 +23,12 @@ use Rattle.pm_recording.proofs.Endings.{Ended, Late, cause_of, counts_of, seen}
 use Rattle.pm_recording.proofs.Facts.{Wants, Went, compressed, gone_on, good_seen, had_moments, moments_left, no_archive, one_order}
 use Rattle.pm_recording.proofs.Later.{not_late}
 
+-- the moments that were taken stand in front of those that were asked for
+in_front : (n : ℕ) (all moments rest : List Moment) → all ≡ moments ++ rest → length moments ≤ n → take n all ≡ moments ++ take (n - length moments) rest
+in_front n all moments rest is few =
+    let split : n ≡ length moments + (n - length moments) = omega (arith, few) in
+    ap (take n) is ∙ ap (λ m. take m (moments ++ rest)) split ∙ take-append-add moments rest (n - length moments)
+
 module _ {C D : Type 0} (c : CallSide C D) (k : SinkSide) (good : IsGoodRun c k) where
   -- the files that recovery left
   module _ (reason : Ending) (ran : Ran c reason) (went : Went c ran good.disk.tells reason) where
@@ -38,8 +45,14 @@ module _ {C D : Type 0} (c : CallSide C D) (k : SinkSide) (good : IsGoodRun c k)
   timely : (last : Moment) → Ran c (ends.NotLater last) → ⊥
   timely last ran =
       let gone = gone_on c (ends.NotLater last) ran good.disk.tells (λ z. z) in
-      not_late ran.has.was.recording.beside.sampled ran.asks.asked.volume (contents_of (c.run.disk.held c.run.disk_was)) (c.run.clock.left c.run.clock_was) (c.run.clock.left c.run.clock_is) (ran.has.was.recording.clock good.clock.tells) good.clock.rising
-      good.clock.later (found (ends.NotLater last) ran gone.0) (recovered (ends.NotLater last) ran gone.0) gone.1.0 last gone.1.1
+      let recording = ran.has.was.recording in
+      let same = one_order c (ends.NotLater last) ran good.asked good.is_asked in
+      let most = (counts_of c (ends.NotLater last) ran).0 in
+      let few : length recording.moments ≤ good.asked.samples = omega (arith, same, most) in
+      let front = in_front good.asked.samples (c.run.clock.left c.run.clock_was) recording.moments (c.run.clock.left c.run.clock_is) (recording.clock good.clock.tells) few in
+      not_late recording.beside.sampled ran.asks.asked.volume (contents_of (c.run.disk.held c.run.disk_was)) (take good.asked.samples (c.run.clock.left c.run.clock_was))
+      (take (good.asked.samples - length recording.moments) (c.run.clock.left c.run.clock_is)) front good.clock.rising good.clock.later
+      (found (ends.NotLater last) ran gone.0) (recovered (ends.NotLater last) ran gone.0) gone.1.0 last gone.1.1
 
   -- none asks for too many metrics, and what each shows has its place
   too_large : (what : LimitKind) (number : ℕ) (ran : Ran c (ends.Limit what number)) (went : Went c ran good.disk.tells (ends.Limit what number))

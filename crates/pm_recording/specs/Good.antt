@@ -1,6 +1,6 @@
--- What a recording needs to be done: a script that may be recorded, files that can be read, a clock whose moments come one after
--- another and after every stamp there, samples that are taken, and no count that rose.
-use Rattle.std.specs.Prelude.{◌≡◌, ℕ, ◌<◌, ◌≤◌, List, [], ◌∷◌, length, Contains, None, Ok}
+-- What a recording needs to be done: a script that may be recorded, files that can be read, a clock whose moments, as far as samples are
+-- asked for, come one after another and after every stamp there, samples that are taken, and no count that rose.
+use Rattle.std.specs.Prelude.{◌≡◌, ℕ, ◌<◌, ◌≤◌, List, [], ◌∷◌, length, take, Contains, None, Ok}
 use Rattle.pcp_base.specs.Time.{Moment, microseconds}
 use Rattle.pcp_model.specs.Archive.{ArchiveContents, IsArchive, Readable}
 use Rattle.pcp_model.specs.Disk.{Files, contents_of}
@@ -15,7 +15,8 @@ use Rattle.run_archive.specs.Shown.{events_of}
 use Rattle.record_run.specs.Stopping.{AsksTooMany, ShowsLast, shown_last}
 use Rattle.pm_words.specs.Inputs.{input_limit}
 use Rattle.pcp_outside.specs.Sides.{SourceSide, SinkSide}
-use Rattle.pm_recording.specs.Ends.{IsAsked, Ran}
+use Rattle.pm_words.specs.declared.words.RecordWords.{RecordWords}
+use Rattle.pm_recording.specs.Ends.{IsAsked, Orders, Ran}
 use Rattle.pm_recording.specs.Recording.{CallSide, RunSide}
 use Rattle.pm_recording.specs.Scripts.{script_recorded}
 
@@ -46,11 +47,11 @@ AreRising (t ∷ u ∷ moments) = (microseconds t < microseconds u) × AreRising
 abbrev pub AreLater : Files → List Moment → Type 0
 AreLater start moments = (left : Files) (c : ArchiveContents) → IsRecovered start left → IsArchive left c → (t now : Moment) → IsStampIn c t → Contains moments now → microseconds t < microseconds now
 
--- the clock tells moments that come so, whether they are enough or not
-pub record IsGoodClock {C D : Type 0} (o : RunSide C D) : Type 0 where
+-- the clock tells moments that come so, of those that so many samples are taken at, whether they are enough or not
+pub record IsGoodClock {C D : Type 0} (o : RunSide C D) (samples : ℕ) : Type 0 where
   pub tells : o.clock.tells
-  pub rising : AreRising (o.clock.left o.clock_was)
-  pub later : AreLater (contents_of (o.disk.held o.disk_was)) (o.clock.left o.clock_was)
+  pub rising : AreRising (take samples (o.clock.left o.clock_was))
+  pub later : AreLater (contents_of (o.disk.held o.disk_was)) (take samples (o.clock.left o.clock_was))
   pub kept : Rose (o.clock.faults o.clock_was) (o.clock.faults o.clock_is) → ⊥
 
 -- What is shown
@@ -73,7 +74,9 @@ pub record IsGoodRun {C D : Type 0} (c : CallSide C D) (k : SinkSide) : Type 0 w
   pub script : Script
   pub good : script_recorded c.source.left ≡ Ok script
   pub disk : IsGoodDisk c.run
-  pub clock : IsGoodClock c.run
+  pub asked : RecordWords
+  pub is_asked : Orders c.words asked
+  pub clock : IsGoodClock c.run asked.samples
   pub welcome : (ending : Ending) (ran : Ran c ending) → IsWelcome ran
   pub source_kept : Rose c.source.faults c.source.faults_after → ⊥
   pub sink_kept : Rose k.faults k.faults_after → ⊥
