@@ -1,6 +1,6 @@
 #!/usr/bin/env python3
 """Looks at each link of docs/PROMISES.md: that the file is there, that it has the call or the definition that is named, and that the
-call's contract has the clauses. usage: links.py [--fix]
+call's contract has the clauses, or the record the fields. usage: links.py [--fix]
 
 With --fix a link whose file moved is led to the one other file of the crates that has all of it."""
 import glob, os, re, sys
@@ -38,9 +38,12 @@ def has_call(path, call, clauses):
 
 
 def has_all(path, name, clauses):
-    """Whether a file has what a link names."""
+    """Whether a file has what a link names: of a record also these fields."""
     if "/specs/" in path:
-        return any(re.search(r"(?<![\w.])%s(?![\w.])[^=]*:" % re.escape(name), line) for line in lines_of(path) if not line.startswith("use "))
+        lines = lines_of(path)
+        if not all(any(re.match(r"\s*pub %s :" % re.escape(field), line) for line in lines) for field in clauses):
+            return False
+        return any(re.search(r"(?<![\w.])%s(?![\w.])[^=]*:" % re.escape(name), line) for line in lines if not line.startswith("use "))
     return not path.endswith(".rt") or has_call(path, name, clauses)
 
 
