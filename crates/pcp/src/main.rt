@@ -8,7 +8,7 @@ use pcp_shell::{
     serve_clients, write_help,
 };
 use pcp_system::{FileDisk, ReaderSource, Screen, WriterSink, open_standard};
-use pm_commands::{Refusal, StageFault, Usage, offline, read_words};
+use pm_commands::{Call, Refusal, StageFault, Usage, offline, read_words};
 use std::alloc::{Alloc, AllocError, Global};
 use std::env::Env;
 use std::fs::{File, Files};
@@ -47,7 +47,7 @@ fn first_bad_word(rt: &(impl Env + Alloc<A = Global>)) -> Result<usize, AllocErr
     if is_record(&words) {
         return first_bad_of_record(rt.alloc(), &words);
     }
-    match read_words(rt.alloc(), &words) {
+    match read_words(rt.alloc(), Call::Offline, &words) {
         Ok(_) => Ok(words.len()),
         Err(StageFault::Refused(usage)) => Ok(usage.at),
         Err(StageFault::OutOfMemory) => Err(AllocError),

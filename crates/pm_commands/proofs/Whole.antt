@@ -2,7 +2,7 @@
 use Rattle.std.proofs.Common.{◌≡◌, ◌⊎◌, inl, inr, ⊎_elim, ℕ, Bool, true, List, refl, sym, ap, ◌∙◌, subst, Option, None, Result, Ok, Err, IfErr}
 use Rattle.pcp_model.specs.Disk.{CrashImage, contents_of}
 use Rattle.pcp_outside.proofs.Crash.{weaker}
-use Rattle.pcp_outside.specs.Sides.{SinkSide, SourceSide, sink_side}
+use Rattle.pcp_outside.specs.Sides.{SourceSide, sink_side}
 use Rattle.run_passes.specs.declared.opening.Opened.{Opened}
 use Rattle.pm_words.specs.declared.words.Call.TheVariants as calls
 use Rattle.pm_words.specs.declared.words.Command.{Command}
@@ -17,7 +17,7 @@ use Rattle.pm_words.proofs.Asked as asked
 use Rattle.pm_words.proofs.Asked.{IsOfBody}
 use Rattle.pm_words.proofs.Recovering.{by_status, never_nine, not_yet}
 use Rattle.pm_words.proofs.Telling.{tells_all, told_by}
-use Rattle.pm_commands.specs.Causes.{Asks, Cause}
+use Rattle.pm_commands.specs.Causes.{Cause}
 use Rattle.pm_commands.specs.Ends.{Ends, EndsDone, MayBeLeft}
 use Rattle.pm_commands.specs.Facts.{Facts, IsAside, IsCommand, LeavesRegions, OpensRegions, Sides, StaysSound, WentOn, disk_of, sink_of, source_of}
 use Rattle.pm_commands.specs.Meanings.{meaning}

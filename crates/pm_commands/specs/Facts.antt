@@ -1,6 +1,6 @@
 -- What a status says, fact by fact. "Always" yields to want of memory (9) and to a read that failed before (3), which no
 -- clause can foresee.
-use Rattle.std.specs.Prelude.{◌≡◌, ◌⊎◌, ℕ, ◌<◌, ◌≤◌, Bool, List, [], length, drop, true, false, Option, Some, None, IsSome, Result, Ok, Err}
+use Rattle.std.specs.Prelude.{◌≡◌, ◌⊎◌, ℕ, ◌<◌, ◌≤◌, Bool, List, [], length, drop, true, false, Option, Some, None, IsSome, Result, Ok}
 use Rattle.pcp_base.specs.Time.{Moment}
 use Rattle.pcp_base.specs.declared.file.FileId.{FileId}
 use Rattle.pcp_model.specs.Disk.{Files, Holdings, CrashImage, IsSettled, contents_of}
@@ -199,7 +199,6 @@ module _ {I O D : Type 0} (c : Sides I O D) where
     pub ends : Ends c.words source_of sink_of disk_of status
     -- Done: what the command reads was read to its end, the output is exactly what it says, and so are the files.
     pub done : status ≡ 0 → EndsDone c.words source_of sink_of disk_of
-
     -- Each other status comes for its cause alone.
     pub usage : UsageIsExact calls.Offline c.words status
     pub reading : ReadingIsExact calls.Offline c.words source_of status
@@ -210,7 +209,6 @@ module _ {I O D : Type 0} (c : Sides I O D) where
     pub run_refused : RunIsExact c.words source_of disk_of status
     pub nothing_there : NothingIsThere c.words source_of disk_of status
     pub archive_fault : ArchiveFaultIsExact c.words source_of disk_of status
-
     -- Refused: the files hold what they held, or what the command says of a stop after its first write.
     pub unwritten : IsRefused status → IsUnwritten c.words source_of disk_of status
     -- A command that has nothing to do with the disk leaves it alone, and one without input the source.
@@ -220,7 +218,6 @@ module _ {I O D : Type 0} (c : Sides I O D) where
     pub taken : c.disks.tells → (command : Command) → IsCommand c.words command → (meaning command).takes (contents_of (c.disks.held c.disk_was)) (c.disks.taken c.disk_was) (c.disks.taken c.disk_is)
     -- Good input succeeds, or nothing is there.
     pub completes : IsGoodRun c.words source_of sink_of disk_of → (status ≡ 0) ⊎ ((status ≡ 9) ⊎ (status ≡ 11))
-
     -- A settled disk is settled after every status but 5.
     pub settled : (status ≡ 5 → ⊥) → c.disks.tells → IsSettled (c.disks.held c.disk_was) → IsSettled (c.disks.held c.disk_is)
     -- Nothing that was there is lost: a crash at any moment leaves what one at the start might have left, or what the command allows over
@@ -236,7 +233,6 @@ module _ {I O D : Type 0} (c : Sides I O D) where
     -- A run over any disk, settled or not: from the moment on at which recovery answered, the disk went by the run's events, and a crash
     -- leaves all items of the start, and some first ones of the run, all that were acknowledged before among them.
     pub since : c.disks.tells → HadRecovered status → WentOn
-
     -- The regions that are left are those on which the script's lines were run, and nothing else, as the seat has seen, which has gathered
     -- every pass: no entry can stand behind that. They are the lines of the run that the status tells of: after 0 it came to its end, and
     -- its lines and results are what is told; where it ended before, what is written is exactly its lines so far and then why. Where the disk tells, its files are those of the same run, event by event, after each status.

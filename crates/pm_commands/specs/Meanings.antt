@@ -1,5 +1,5 @@
 -- The meaning of each command. Where a new one goes: its variant and its words in pm_words, its meaning here, its body in `serve`.
-use Rattle.std.specs.Prelude.{ℕ, List, [], Option, None}
+use Rattle.std.specs.Prelude.{[], None}
 use Rattle.pm_words.specs.declared.words.Command.{Command}
 use Rattle.pm_words.specs.declared.words.Command.TheVariants.{Once, Replay, Make, MmvMake, MmvDump, Dump, Info, Recover, At, Range, Value, Record, Serve}
 use Rattle.pm_words.specs.Meaning.{Meaning, converts}

@@ -10,7 +10,7 @@ pub use laws::{
     sound_is_welcome,
 };
 pub use pm_words::{
-    Call, Command, DiskRefusal, FilesRefusal, InputRefusal, MakeWords, OnceWords, ReadRefusal, Refusal,
-    RunRefusal, StageFault, Usage, ValueWords, read_words,
+    Call, Command, DiskRefusal, FilesRefusal, InputRefusal, MakeWords, OnceWords, ReadRefusal,
+    Refusal, RunRefusal, StageFault, Usage, ValueWords, read_words,
 };
 pub use top::offline;

@@ -129,7 +129,6 @@ pub record Completes {C D : Type 0} (c : CallSide C D) (k : SinkSide) (status : 
 pub record Facts {C D : Type 0} (c : CallSide C D) (k : SinkSide) (status : ℕ) : Type 0 where
   -- Done: the input was read to its end, all samples were taken, and the line says how many results were logged.
   pub done : status ≡ 0 → EndsDone c k
-
   -- Each other status comes for its cause alone.
   pub usage : UsageIsExact calls.Record c.words status
   pub script_fault : ScriptFaultIsExact c.words c.source status
@@ -140,36 +139,27 @@ pub record Facts {C D : Type 0} (c : CallSide C D) (k : SinkSide) (status : ℕ)
   pub limit : status ≡ 7 → LimitCause c
   pub run_refused : RunIsExact c status
   pub clock : ClockIsExact c status
-
   -- The regions that are left are those of the script, on which its writers ran and the seat sampled, as its passes have seen; where the
   -- writers ended it has gathered every pass, so that no entry can stand behind that. They are there wherever the run began, but for
   -- want of memory, and else neither the disk nor the clock was touched.
   pub regions : OpensRegions c status
-
   -- Done: the last sample, which stands behind every writer, shows what the words of each region say in the end, and what is logged last
   -- is what these words answer.
   pub exact : status ≡ 0 → LastIsShown c
-
   -- Done: each number that it shows so is what was stored last plus all adds since, modulo 2^64, no line of a writer is lost, and no
   -- pass is left that could act behind it.
   pub sums : status ≡ 0 → AllIsCounted c
-
   -- Unless a count rises or memory is refused, a good script over good files is recorded to its end.
   pub completes : Completes c k status
-
   -- A settled disk is settled after every status but 5.
   pub settled : (status ≡ 5 → ⊥) → c.run.disk.tells → IsSettled (c.run.disk.held c.run.disk_was) → IsSettled (c.run.disk.held c.run.disk_is)
-
   -- Nothing that was there is lost: a crash at any moment leaves what one at the start might have left, or over a settled disk all
   -- items of the start and the first ones of the run's.
   pub any_moment : Leaves c.run.disk c.run.disk_was c.run.disk_is (MayBeLeft c)
-
   -- Files that are no archive stay as they were.
   pub unread : IsUnread c.run.disk c.run.disk_was → Leaves c.run.disk c.run.disk_was c.run.disk_is CrashImage
-
   -- Once it has ended with 0, each crash leaves all results, until something else touches the disk.
   pub kept : status ≡ 0 → c.run.disk.tells → KeepsAll c
-
   -- Over any disk, settled or not: from the moment on at which recovery answered it went by what was logged, event by event, and a
   -- crash leaves all items of the start, the first ones of the run's results, and all of these that are acknowledged by then.
   pub since : HadRecovered status → RecordsSince c

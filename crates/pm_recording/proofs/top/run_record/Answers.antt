@@ -11,7 +11,7 @@ pub returns : goal.returns
 returns g c =
     let k = sink_side g.O.Sink c.args.out.now c.tell_end.new.out in
     let side = call_side (map (string_bytes {Z = Global}) c.args.words.now) (source_side g.I.Source c.args.input.now c.run-ran.new.input)
-      (run_side g.C.Clock g.D.Disk c.args.clock.now c.run-ran.new.clock c.args.disk.now c.run-ran.new.disk c.run-ran.new.opened) in
+    (run_side g.C.Clock g.D.Disk c.args.clock.now c.run-ran.new.clock c.args.disk.now c.run-ran.new.disk c.run-ran.new.opened) in
     let ended : Ends side k c.tell_end.result = record {
       result = c.run-ran.result;
       came = c.run-ran.ensures;
