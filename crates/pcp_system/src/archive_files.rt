@@ -134,16 +134,32 @@ impl<'a, R: Files<File = File>> ArchiveFiles<'a, R> {
         if self.is_listed {
             return Ok(());
         }
-        if self.writes && self.lock.is_none() {
-            self.measure(FileId::Meta)?;
-            self.lock = self.lock_existing()?;
-        }
         self.listing = if self.writes {
-            self.list()?
+            self.list_to_change()?
         } else {
             self.list_of_a_moment()?
         };
         self.is_listed = true;
+        Ok(())
+    }
+
+    // The files, with the lock where Meta is there. Files that are listed without it may be those that another program makes at this
+    // moment, which such a listing shows half: the lock is asked for again, and the folder is listed behind it.
+    fn list_to_change(&mut self) -> Result<Listing, Trouble> {
+        self.lock_where_there()?;
+        let listing = self.list()?;
+        if self.lock.is_some() || listing == Listing::new(self.alloc) {
+            return Ok(listing);
+        }
+        self.lock_where_there()?;
+        self.list()
+    }
+
+    fn lock_where_there(&mut self) -> Result<(), Trouble> {
+        if self.lock.is_none() {
+            self.measure(FileId::Meta)?;
+            self.lock = self.lock_existing()?;
+        }
         Ok(())
     }
 
