@@ -52,6 +52,7 @@ fn take_before<D: Disk>(
     ensures count { D.tells → D.taken disk.new ≤ D.taken disk.old + (size - 4) }
     ensures looks { Looks D.Disk disk.old disk.new }
     ensures cause { IfErr result (Blames D.Disk disk.old disk.new) }
+    ensures quiet { OnOk result (D.faults disk.new ≡ D.faults disk.old) }
 {
     let mut frame = Vec::new(alloc);
     take_bytes(
@@ -95,6 +96,7 @@ fn last_by<D: Disk>(
     ensures count { D.tells → TookBefore (contents_of (D.held disk.old) (Volume number)) at (D.taken disk.old) (D.taken disk.new) }
     ensures looks { Looks D.Disk disk.old disk.new }
     ensures cause { IfErr result (Blames D.Disk disk.old disk.new) }
+    ensures quiet { OnOk result (D.faults disk.new ≡ D.faults disk.old) }
 {
     match size_said(word_of(tail), at - 132) {
         Said::Torn => Ok(Last::Nothing),
@@ -115,6 +117,7 @@ pub fn last_record<D: Disk>(alloc: Global, disk: &mut D, number: u32, at: u64) -
     ensures count { D.tells → TookBack (contents_of (D.held disk.old) (Volume number)) at (D.taken disk.old) (D.taken disk.new) }
     ensures looks { Looks D.Disk disk.old disk.new }
     ensures cause { IfErr result (Blames D.Disk disk.old disk.new) }
+    ensures quiet { OnOk result (D.faults disk.new ≡ D.faults disk.old) }
 {
     if at < 144 {
         return Ok(Last::Nothing);

@@ -84,6 +84,7 @@ fn take_rest<D: Disk>(
     ensures most { D.tells → D.taken disk.new ≤ D.taken disk.old + volume_bytes file 16777212 }
     ensures looks { Looks D.Disk disk.old disk.new }
     ensures cause { IfErr result (Blames D.Disk disk.old disk.new) }
+    ensures quiet { OnOk result (D.faults disk.new ≡ D.faults disk.old) }
 {
     let mut frame = frame;
     match size_said(word_of(&frame), end - at) {
@@ -112,6 +113,7 @@ pub fn take_frame<D: Disk>(
     ensures most { D.tells → D.taken disk.new ≤ D.taken disk.old + volume_bytes file 16777216 }
     ensures looks { Looks D.Disk disk.old disk.new }
     ensures cause { IfErr result (Blames D.Disk disk.old disk.new) }
+    ensures quiet { OnOk result (D.faults disk.new ≡ D.faults disk.old) }
 {
     if at >= end || end - at < 4 {
         return Ok(Taken::Torn);
@@ -171,6 +173,7 @@ pub fn next_record<D: Disk>(
     ensures count { D.tells → Took (contents_of (D.held disk.old) (Volume number)) at (D.taken disk.old) (D.taken disk.new) }
     ensures looks { Looks D.Disk disk.old disk.new }
     ensures cause { IfErr result (Blames D.Disk disk.old disk.new) }
+    ensures quiet { OnOk result (D.faults disk.new ≡ D.faults disk.old) }
 {
     let frame = match take_frame(alloc, disk, FileId::Volume(number), end, at)? {
         Taken::Torn => return Ok(Next::End),

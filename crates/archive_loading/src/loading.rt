@@ -1,5 +1,5 @@
 //! Loading of the index, whole, and of each volume its label.
-ghost use Rattle.std.specs.Prelude.{◌≡◌, ◌+◌, ◌<◌, ◌≤◌, length, take, IfOk, IfErr, MatchBool};
+ghost use Rattle.std.specs.Prelude.{◌≡◌, ◌+◌, ◌<◌, ◌≤◌, length, take, IfOk, IfErr, MatchBool, OnOk};
 ghost use Rattle.pcp_base.specs.declared.file.FileId.TheVariants.{Index as IndexFile, Volume};
 ghost use Rattle.pcp_model.specs.Disk.{contents_of};
 ghost use Rattle.pcp_outside.specs.Devices.{IsVolumes};
@@ -42,6 +42,7 @@ pub fn load_index<D: Disk>(alloc: Global, disk: &mut D, label: &Label) -> Result
     ensures taken { D.tells → D.taken disk.new ≤ D.taken disk.old }
     ensures looks { Looks D.Disk disk.old disk.new }
     ensures cause { IfErr result (Blames D.Disk disk.old disk.new) }
+    ensures quiet { OnOk result (D.faults disk.new ≡ D.faults disk.old) }
 {
     let bytes = whole_of(alloc, disk, FileId::Index)?;
     let part = index_part(alloc, bytes.as_slice(), label)?;
@@ -72,6 +73,7 @@ pub fn load_volume<D: Disk>(
     ensures taken { D.tells → D.taken disk.new ≤ D.taken disk.old + length (take 132 (contents_of (D.held disk.old) (Volume number))) }
     ensures looks { Looks D.Disk disk.old disk.new }
     ensures cause { IfErr result (Blames D.Disk disk.old disk.new) }
+    ensures quiet { OnOk result (D.faults disk.new ≡ D.faults disk.old) }
 {
     let (bytes, end) = front_of(alloc, disk, FileId::Volume(number), 132)?;
     if end == 0 {
@@ -102,6 +104,7 @@ fn load_heads<D: Disk>(
     ensures taken { D.tells → D.taken disk.new ≤ D.taken disk.old + label_bytes (contents_of (D.held disk.old)) count }
     ensures looks { Looks D.Disk disk.old disk.new }
     ensures cause { IfErr result (Blames D.Disk disk.old disk.new) }
+    ensures quiet { OnOk result (D.faults disk.new ≡ D.faults disk.old) }
 {
     let mut volumes = List::empty(alloc);
     for number in 0..count {
@@ -125,6 +128,7 @@ pub fn load_volumes<D: Disk>(
     ensures taken { D.tells → TookLabels (contents_of (D.held disk.old)) (D.taken disk.old) (D.taken disk.new) }
     ensures looks { Looks D.Disk disk.old disk.new }
     ensures cause { IfErr result (Blames D.Disk disk.old disk.new) }
+    ensures quiet { OnOk result (D.faults disk.new ≡ D.faults disk.old) }
 {
     let count = count_volumes(disk)?;
     load_heads(alloc, disk, label, count)
@@ -136,6 +140,7 @@ pub fn is_alone<D: Disk>(disk: &mut D) -> Result<bool, Lack>
     ensures taken { D.tells → D.taken disk.new ≤ D.taken disk.old }
     ensures looks { Looks D.Disk disk.old disk.new }
     ensures cause { IfErr result (Blames D.Disk disk.old disk.new) }
+    ensures quiet { OnOk result (D.faults disk.new ≡ D.faults disk.old) }
 {
     if length_of(disk, FileId::Index)? != 0 {
         return Ok(false);

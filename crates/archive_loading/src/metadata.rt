@@ -1,5 +1,5 @@
 //! Meta, read record by record: of its bytes one record at a time is held.
-ghost use Rattle.std.specs.Prelude.{◌≡◌, ◌-◌, ◌≤◌, length, drop, IfOk, IfErr, MatchBool};
+ghost use Rattle.std.specs.Prelude.{◌≡◌, ◌-◌, ◌≤◌, length, drop, IfOk, IfErr, MatchBool, OnOk};
 ghost use Rattle.pcp_base.specs.declared.file.FileId.TheVariants.{Meta};
 ghost use Rattle.pcp_model.specs.Disk.{contents_of};
 ghost use Rattle.archive_loading.specs.Looks.{Looks, Blames};
@@ -92,6 +92,7 @@ fn add_next<D: Disk>(
     ensures taken { D.tells → D.taken disk.new ≤ D.taken disk.old }
     ensures looks { Looks D.Disk disk.old disk.new }
     ensures cause { IfErr result (Blames D.Disk disk.old disk.new) }
+    ensures quiet { OnOk result (D.faults disk.new ≡ D.faults disk.old) }
 {
     let frame = match take_frame(alloc, disk, FileId::Meta, end, at)? {
         Taken::Torn => return Ok(Added::End),
@@ -112,6 +113,7 @@ fn read_records<D: Disk>(alloc: Global, disk: &mut D, end: u64) -> Result<Record
     ensures taken { D.tells → D.taken disk.new ≤ D.taken disk.old }
     ensures looks { Looks D.Disk disk.old disk.new }
     ensures cause { IfErr result (Blames D.Disk disk.old disk.new) }
+    ensures quiet { OnOk result (D.faults disk.new ≡ D.faults disk.old) }
 {
     let mut meta = MetaState::empty(alloc);
     let mut last = None;
@@ -133,6 +135,7 @@ pub fn load_meta<D: Disk>(alloc: Global, disk: &mut D) -> Result<MetaPart, Lack>
     ensures taken { D.tells → D.taken disk.new ≤ D.taken disk.old }
     ensures looks { Looks D.Disk disk.old disk.new }
     ensures cause { IfErr result (Blames D.Disk disk.old disk.new) }
+    ensures quiet { OnOk result (D.faults disk.new ≡ D.faults disk.old) }
 {
     let (head, length) = front_of(alloc, disk, FileId::Meta, 132)?;
     let label = match meta_head(alloc, head.as_slice())? {

@@ -18,6 +18,7 @@ pub fn length_of<D: Disk>(disk: &mut D, file: FileId) -> Result<u64, Lack>
     ensures taken { D.tells → D.taken disk.new ≡ D.taken disk.old }
     ensures looks { Looks D.Disk disk.old disk.new }
     ensures cause { IfErr result (Blames D.Disk disk.old disk.new) }
+    ensures quiet { OnOk result (D.faults disk.new ≡ D.faults disk.old) }
 {
     let length = disk.len(file)?;
     if length == u64::MAX {
@@ -32,6 +33,7 @@ pub fn count_volumes<D: Disk>(disk: &mut D) -> Result<u32, Lack>
     ensures taken { D.tells → D.taken disk.new ≡ D.taken disk.old }
     ensures looks { Looks D.Disk disk.old disk.new }
     ensures cause { IfErr result (Blames D.Disk disk.old disk.new) }
+    ensures quiet { OnOk result (D.faults disk.new ≡ D.faults disk.old) }
 {
     let count = disk.volumes()?;
     Ok(count)
@@ -43,6 +45,7 @@ pub fn wrapped_file<D: Disk>(disk: &mut D) -> Result<Option<FileId>, Lack>
     ensures taken { D.tells → D.taken disk.new ≡ D.taken disk.old }
     ensures looks { Looks D.Disk disk.old disk.new }
     ensures cause { IfErr result (Blames D.Disk disk.old disk.new) }
+    ensures quiet { OnOk result (D.faults disk.new ≡ D.faults disk.old) }
 {
     let found = disk.wrapped()?;
     Ok(found)
@@ -75,6 +78,7 @@ pub fn take_bytes<D: Disk>(
     ensures most { D.tells → D.taken disk.new ≤ D.taken disk.old + count }
     ensures looks { Looks D.Disk disk.old disk.new }
     ensures cause { IfErr result (Blames D.Disk disk.old disk.new) }
+    ensures quiet { OnOk result (D.faults disk.new ≡ D.faults disk.old) }
 {
     let held = out.len();
     make_room(out, count)?;
@@ -95,6 +99,7 @@ pub fn front_of<D: Disk>(
     ensures taken { D.tells → D.taken disk.new ≤ D.taken disk.old + volume_bytes file (length (take most (contents_of (D.held disk.old) file))) }
     ensures looks { Looks D.Disk disk.old disk.new }
     ensures cause { IfErr result (Blames D.Disk disk.old disk.new) }
+    ensures quiet { OnOk result (D.faults disk.new ≡ D.faults disk.old) }
 {
     let end = length_of(disk, file)?;
     let count = if end < most { end } else { most };
@@ -110,6 +115,7 @@ pub fn whole_of<D: Disk>(alloc: Global, disk: &mut D, file: FileId) -> Result<By
     ensures taken { D.tells → D.taken disk.new ≤ D.taken disk.old + volume_bytes file (length (contents_of (D.held disk.old) file)) }
     ensures looks { Looks D.Disk disk.old disk.new }
     ensures cause { IfErr result (Blames D.Disk disk.old disk.new) }
+    ensures quiet { OnOk result (D.faults disk.new ≡ D.faults disk.old) }
 {
     let end = length_of(disk, file)?;
     let mut bytes = Vec::new(alloc);

@@ -1,5 +1,5 @@
 //! The last item not after a moment, from a place on, or the one before that place.
-ghost use Rattle.std.specs.Prelude.{◌≡◌, ◌⊎◌, ◌<◌, ◌≤◌, length, take, drop, IfOk, IfErr, IfSome};
+ghost use Rattle.std.specs.Prelude.{◌≡◌, ◌⊎◌, ◌<◌, ◌≤◌, length, take, drop, IfOk, IfErr, IfSome, OnOk};
 ghost use Rattle.std.specs.List.{AllByRecursion};
 ghost use Rattle.pcp_base.specs.declared.file.FileId.TheVariants.{Volume};
 ghost use Rattle.pcp_model.specs.Disk.{contents_of};
@@ -38,6 +38,7 @@ fn last_on<D: Disk>(
     ensures count { D.tells → TakesSegment (contents_of (D.held disk.old)) (drop index volumes.now) at t (D.taken disk.old) (D.taken disk.new) }
     ensures looks { Looks D.Disk disk.old disk.new }
     ensures cause { IfErr result (λ e. e ≡ DiskFault → Rose (D.faults disk.old) (D.faults disk.new)) }
+    ensures quiet { OnOk result (D.faults disk.new ≡ D.faults disk.old) }
 {
     let mut found = None;
     let mut index = index;
@@ -99,6 +100,7 @@ fn item_before<D: Disk>(
     ensures count { D.tells → TookLast (contents_of (D.held disk.old)) end (D.taken disk.old) (D.taken disk.new) }
     ensures looks { Looks D.Disk disk.old disk.new }
     ensures cause { IfErr result (λ e. e ≡ DiskFault → Rose (D.faults disk.old) (D.faults disk.new)) }
+    ensures quiet { OnOk result (D.faults disk.new ≡ D.faults disk.old) }
 {
     let Some((number, at)) = end else {
         return Ok(None);
@@ -138,6 +140,7 @@ fn at_on<D: Disk>(
     ensures count { D.tells → TakesAround (contents_of (D.held disk.old)) (volumes_from number volumes.now) offset (back_end volumes.now number offset) t (D.taken disk.old) (D.taken disk.new) }
     ensures looks { Looks D.Disk disk.old disk.new }
     ensures cause { IfErr result (λ e. e ≡ DiskFault → Rose (D.faults disk.old) (D.faults disk.new)) }
+    ensures quiet { OnOk result (D.faults disk.new ≡ D.faults disk.old) }
 {
     let index = first_from(volumes, number);
     match last_on(alloc, disk, volumes, index, offset, t)? {
@@ -162,6 +165,7 @@ pub fn at_from<D: Disk>(
     ensures count { D.tells → TakesAt (contents_of (D.held disk.old)) volumes.now t begin (D.taken disk.old) (D.taken disk.new) }
     ensures looks { Looks D.Disk disk.old disk.new }
     ensures cause { IfErr result (λ e. e ≡ DiskFault → Rose (D.faults disk.old) (D.faults disk.new)) }
+    ensures quiet { OnOk result (D.faults disk.new ≡ D.faults disk.old) }
 {
     match begin {
         Begin::At(number, offset) => at_on(alloc, disk, volumes, number, offset, t),

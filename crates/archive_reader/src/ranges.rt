@@ -1,5 +1,5 @@
 //! The items between two moments, from a place on.
-ghost use Rattle.std.specs.Prelude.{◌≡◌, ◌≤◌, length, drop, IfOk, IfErr};
+ghost use Rattle.std.specs.Prelude.{◌≡◌, ◌≤◌, length, drop, IfOk, IfErr, OnOk};
 ghost use Rattle.std.specs.List.{AllByRecursion};
 ghost use Rattle.pcp_model.specs.Disk.{contents_of};
 ghost use Rattle.pcp_outside.specs.Causes.{Rose};
@@ -46,6 +46,7 @@ fn range_on<D: Disk>(
     ensures count { D.tells → TakesSegment (contents_of (D.held disk.old)) (drop index volumes.now) at to (D.taken disk.old) (D.taken disk.new) }
     ensures looks { Looks D.Disk disk.old disk.new }
     ensures cause { IfErr result (λ e. e ≡ DiskFault → Rose (D.faults disk.old) (D.faults disk.new)) }
+    ensures quiet { OnOk result (D.faults disk.new ≡ D.faults disk.old) }
 {
     let mut found = List::empty(alloc);
     let mut index = index;
@@ -79,6 +80,7 @@ pub fn range_from<D: Disk>(
     ensures count { D.tells → TakesRange (contents_of (D.held disk.old)) volumes.now to begin (D.taken disk.old) (D.taken disk.new) }
     ensures looks { Looks D.Disk disk.old disk.new }
     ensures cause { IfErr result (λ e. e ≡ DiskFault → Rose (D.faults disk.old) (D.faults disk.new)) }
+    ensures quiet { OnOk result (D.faults disk.new ≡ D.faults disk.old) }
 {
     match begin {
         Begin::At(number, offset) => {

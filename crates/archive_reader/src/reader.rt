@@ -89,6 +89,7 @@ fn load_behind<D: Disk>(
     ensures taken { D.tells → TookLabels (contents_of (D.held disk.old)) (D.taken disk.old) (D.taken disk.new) }
     ensures looks { Looks D.Disk disk.old disk.new }
     ensures cause { IfErr result (λ e. e ≡ DiskFault → Rose (D.faults disk.old) (D.faults disk.new)) }
+    ensures quiet { OnOk result (D.faults disk.new ≡ D.faults disk.old) }
 {
     let volumes = match load_volumes(alloc, disk, &label)? {
         VolumesPart::Headed(volumes) => volumes,
@@ -126,6 +127,7 @@ fn load_with<D: Disk>(
     ensures taken { D.tells → TookLabels (contents_of (D.held disk.old)) (D.taken disk.old) (D.taken disk.new) }
     ensures looks { Looks D.Disk disk.old disk.new }
     ensures cause { IfErr result (λ e. e ≡ DiskFault → Rose (D.faults disk.old) (D.faults disk.new)) }
+    ensures quiet { OnOk result (D.faults disk.new ≡ D.faults disk.old) }
 {
     match load_index(alloc, disk, &label)? {
         IndexPart::Whole(index) => load_behind(alloc, disk, label, meta, index),
@@ -148,6 +150,7 @@ fn load_begun<D: Disk>(
     ensures taken { D.tells → TookLabels (contents_of (D.held disk.old)) (D.taken disk.old) (D.taken disk.new) }
     ensures looks { Looks D.Disk disk.old disk.new }
     ensures cause { IfErr result (λ e. e ≡ DiskFault → Rose (D.faults disk.old) (D.faults disk.new)) }
+    ensures quiet { OnOk result (D.faults disk.new ≡ D.faults disk.old) }
 {
     if !is_alone(disk)? {
         return Err(ReaderFault::NotArchive {
@@ -170,6 +173,7 @@ fn load_files<D: Disk>(alloc: Global, disk: &mut D) -> Result<ArchiveReader, Rea
     ensures taken { D.tells → TookLabels (contents_of (D.held disk.old)) (D.taken disk.old) (D.taken disk.new) }
     ensures looks { Looks D.Disk disk.old disk.new }
     ensures cause { IfErr result (λ e. e ≡ DiskFault → Rose (D.faults disk.old) (D.faults disk.new)) }
+    ensures quiet { OnOk result (D.faults disk.new ≡ D.faults disk.old) }
 {
     match load_meta(alloc, disk)? {
         MetaPart::Whole(label, meta, _) => load_with(alloc, disk, label, meta),
@@ -205,6 +209,7 @@ fn item_from<D: Disk>(
     ensures fault { D.tells → IfErr result (IsNextFault (contents_of (D.held disk.old)) volumes.now place) }
     ensures looks { Looks D.Disk disk.old disk.new }
     ensures cause { IfErr result (λ e. e ≡ DiskFault → Rose (D.faults disk.old) (D.faults disk.new)) }
+    ensures quiet { OnOk result (D.faults disk.new ≡ D.faults disk.old) }
 {
     let index = first_from(volumes, place.volume);
     match walk(alloc, disk, volumes, index, place.offset)? {
@@ -232,6 +237,7 @@ impl ArchiveReader {
         ensures taken { D.tells → TookLabels (contents_of (D.held disk.old)) (D.taken disk.old) (D.taken disk.new) }
         ensures looks { Looks D.Disk disk.old disk.new }
         ensures cause { IfErr result (λ e. e ≡ DiskFault → Rose (D.faults disk.old) (D.faults disk.new)) }
+        ensures quiet { OnOk result (D.faults disk.new ≡ D.faults disk.old) }
     {
         match wrapped_file(disk)? {
             Some(file) => Err(ReaderFault::Compressed { file }),
@@ -278,6 +284,7 @@ impl ArchiveReader {
         ensures fault { D.tells → IfErr result (IsNextFault (contents_of (D.held disk.old)) self.old.volumes place) }
         ensures looks { Looks D.Disk disk.old disk.new }
         ensures cause { IfErr result (λ e. e ≡ DiskFault → Rose (D.faults disk.old) (D.faults disk.new)) }
+        ensures quiet { OnOk result (D.faults disk.new ≡ D.faults disk.old) }
     {
         item_from(alloc, disk, self.volumes.as_slice(), place)
     }
@@ -299,6 +306,7 @@ impl ArchiveReader {
         ensures taken { D.tells → TakesRange (contents_of (D.held disk.old)) self.old.volumes to (range_begin self.old from) (D.taken disk.old) (D.taken disk.new) }
         ensures looks { Looks D.Disk disk.old disk.new }
         ensures cause { IfErr result (λ e. e ≡ DiskFault → Rose (D.faults disk.old) (D.faults disk.new)) }
+        ensures quiet { OnOk result (D.faults disk.new ≡ D.faults disk.old) }
     {
         let volumes = self.volumes.as_slice();
         let begin = begin_of(volumes, entry_before(&self.index, from));
@@ -323,6 +331,7 @@ impl ArchiveReader {
         ensures taken { D.tells → TakesAt (contents_of (D.held disk.old)) self.old.volumes t (at_begin self.old t) (D.taken disk.old) (D.taken disk.new) }
         ensures looks { Looks D.Disk disk.old disk.new }
         ensures cause { IfErr result (λ e. e ≡ DiskFault → Rose (D.faults disk.old) (D.faults disk.new)) }
+        ensures quiet { OnOk result (D.faults disk.new ≡ D.faults disk.old) }
     {
         let volumes = self.volumes.as_slice();
         let begin = begin_of(volumes, entry_by(&self.index, t));
@@ -344,6 +353,7 @@ impl ArchiveReader {
         ensures fault { D.tells → IfErr result (IsWholeFault (contents_of (D.held disk.old)) self.old.volumes) }
         ensures looks { Looks D.Disk disk.old disk.new }
         ensures cause { IfErr result (λ e. e ≡ DiskFault → Rose (D.faults disk.old) (D.faults disk.new)) }
+        ensures quiet { OnOk result (D.faults disk.new ≡ D.faults disk.old) }
     {
         value_from(alloc, disk, self.volumes.as_slice(), pmid, t)
     }

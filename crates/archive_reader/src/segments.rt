@@ -1,5 +1,5 @@
 //! The records of a segment, one after another: from a place on up to the first one stamped after a moment.
-ghost use Rattle.std.specs.Prelude.{◌≡◌, ◌≤◌, length, drop, IfOk, IfErr};
+ghost use Rattle.std.specs.Prelude.{◌≡◌, ◌≤◌, length, drop, IfOk, IfErr, OnOk};
 ghost use Rattle.std.specs.List.{AllByRecursion};
 ghost use Rattle.pcp_model.specs.Disk.{contents_of};
 ghost use Rattle.pcp_model.specs.Payload.{stamp_of};
@@ -67,6 +67,7 @@ pub fn next_ahead<D: Disk>(
     ensures count { D.tells → TookNext (contents_of (D.held disk.old)) (drop index volumes.now) at (D.taken disk.old) (D.taken disk.new) }
     ensures looks { Looks D.Disk disk.old disk.new }
     ensures cause { IfErr result (λ e. e ≡ DiskFault → Rose (D.faults disk.old) (D.faults disk.new)) }
+    ensures quiet { OnOk result (D.faults disk.new ≡ D.faults disk.old) }
 {
     match walk(alloc, disk, volumes, index, at)? {
         Step::End => Ok(Ahead::End),

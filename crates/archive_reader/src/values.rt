@@ -1,5 +1,5 @@
 //! The last item not after a moment in which a metric has values.
-ghost use Rattle.std.specs.Prelude.{◌≡◌, ◌≤◌, length, drop, IfOk, IfErr};
+ghost use Rattle.std.specs.Prelude.{◌≡◌, ◌≤◌, length, drop, IfOk, IfErr, OnOk};
 ghost use Rattle.std.specs.List.{AllByRecursion};
 ghost use Rattle.std.specs.Option.{option_copied};
 ghost use Rattle.pcp_model.specs.Disk.{contents_of};
@@ -80,6 +80,7 @@ fn last_valued<D: Disk>(
     ensures fault { D.tells → IfErr result (IsWholeFault (contents_of (D.held disk.old)) volumes.now) }
     ensures looks { Looks D.Disk disk.old disk.new }
     ensures cause { IfErr result (λ e. e ≡ DiskFault → Rose (D.faults disk.old) (D.faults disk.new)) }
+    ensures quiet { OnOk result (D.faults disk.new ≡ D.faults disk.old) }
 {
     let mut found = None;
     let mut index = 0;
@@ -130,6 +131,7 @@ pub fn value_from<D: Disk>(
     ensures fault { D.tells → IfErr result (IsWholeFault (contents_of (D.held disk.old)) volumes.now) }
     ensures looks { Looks D.Disk disk.old disk.new }
     ensures cause { IfErr result (λ e. e ≡ DiskFault → Rose (D.faults disk.old) (D.faults disk.new)) }
+    ensures quiet { OnOk result (D.faults disk.new ≡ D.faults disk.old) }
 {
     match last_valued(alloc, disk, volumes, pmid, t)? {
         Some(item) => {

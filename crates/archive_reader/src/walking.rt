@@ -1,5 +1,5 @@
 //! Steps over the records of volumes as they stand, over the ends of volumes.
-ghost use Rattle.std.specs.Prelude.{◌≡◌, ◌+◌, ◌<◌, ◌≤◌, length, drop, IfOk, IfErr};
+ghost use Rattle.std.specs.Prelude.{◌≡◌, ◌+◌, ◌<◌, ◌≤◌, length, drop, IfOk, IfErr, OnOk};
 ghost use Rattle.std.specs.List.{AllByRecursion};
 ghost use Rattle.pcp_model.specs.Disk.{contents_of};
 ghost use Rattle.archive_loading.specs.Looks.{Looks, Blames};
@@ -76,6 +76,7 @@ fn stand<D: Disk>(
     ensures count { D.tells → TookThere (contents_of (D.held disk.old)) (drop index volumes.now) at (D.taken disk.old) (D.taken disk.new) }
     ensures looks { Looks D.Disk disk.old disk.new }
     ensures cause { IfErr result (Blames D.Disk disk.old disk.new) }
+    ensures quiet { OnOk result (D.faults disk.new ≡ D.faults disk.old) }
 {
     if index >= volumes.len() {
         return Ok(Step::End);
@@ -109,6 +110,7 @@ pub fn walk<D: Disk>(
     ensures count { D.tells → TookNext (contents_of (D.held disk.old)) (drop index volumes.now) at (D.taken disk.old) (D.taken disk.new) }
     ensures looks { Looks D.Disk disk.old disk.new }
     ensures cause { IfErr result (Blames D.Disk disk.old disk.new) }
+    ensures quiet { OnOk result (D.faults disk.new ≡ D.faults disk.old) }
 {
     let (behind, offset) = settle(volumes, index, at);
     stand(alloc, disk, volumes, behind, offset)

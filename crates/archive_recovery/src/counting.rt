@@ -1,5 +1,5 @@
 //! One volume, read record by record.
-ghost use Rattle.std.specs.Prelude.{◌≡◌, ◌<◌, ◌≤◌, length, IfOk, IfErr};
+ghost use Rattle.std.specs.Prelude.{◌≡◌, ◌<◌, ◌≤◌, length, IfOk, IfErr, OnOk};
 ghost use Rattle.pcp_base.specs.declared.file.FileId.TheVariants.{Volume};
 ghost use Rattle.pcp_model.specs.Disk.{contents_of};
 ghost use Rattle.archive_loading.specs.Looks.{Looks, Blames};
@@ -44,6 +44,7 @@ fn read_items<D: Disk>(
     ensures read { D.tells → IfOk result (IsItemsRead (contents_of (D.held disk.old) (Volume number)) tally.old tally.new) }
     ensures looks { Looks D.Disk disk.old disk.new }
     ensures cause { IfErr result (Blames D.Disk disk.old disk.new) }
+    ensures quiet { OnOk result (D.faults disk.new ≡ D.faults disk.old) }
 {
     let mut at = 132;
     while at < end {
@@ -71,6 +72,7 @@ pub(crate) fn read_volume<D: Disk>(
     ensures read { D.tells → IfOk result (IsVolumeRead (contents_of (D.held disk.old) (Volume number)) label.now number tally.old tally.new) }
     ensures looks { Looks D.Disk disk.old disk.new }
     ensures cause { IfErr result (Blames D.Disk disk.old disk.new) }
+    ensures quiet { OnOk result (D.faults disk.new ≡ D.faults disk.old) }
 {
     let length = match load_volume(alloc, disk, label, number, true)? {
         VolumePart::Empty => return Ok(VolumeRead::Empty),

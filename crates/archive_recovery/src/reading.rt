@@ -1,5 +1,5 @@
 //! All volumes, by ascending number.
-ghost use Rattle.std.specs.Prelude.{◌≡◌, ◌<◌, ℕ, [], IfOk, IfErr};
+ghost use Rattle.std.specs.Prelude.{◌≡◌, ◌<◌, ℕ, [], IfOk, IfErr, OnOk};
 ghost use Rattle.archive_recovery.specs.declared.stamps.Tally.{Tally as Counts};
 ghost use Rattle.pcp_base.specs.declared.file.FileId.TheVariants.{Volume};
 ghost use Rattle.pcp_model.specs.Disk.{contents_of};
@@ -52,6 +52,7 @@ fn read_earlier<D: Disk>(
     ensures read { D.tells → IfOk result (IsEarlier (contents_of (D.held disk.old)) label.now count tally.old tally.new) }
     ensures looks { Looks D.Disk disk.old disk.new }
     ensures cause { IfErr result (Blames D.Disk disk.old disk.new) }
+    ensures quiet { OnOk result (D.faults disk.new ≡ D.faults disk.old) }
 {
     let mut top = Top {
         bare: true,
@@ -93,6 +94,7 @@ fn read_last<D: Disk>(
     ensures low { IfOk result LastIsLow }
     ensures looks { Looks D.Disk disk.old disk.new }
     ensures cause { IfErr result (Blames D.Disk disk.old disk.new) }
+    ensures quiet { OnOk result (D.faults disk.new ≡ D.faults disk.old) }
 {
     match read_volume(alloc, disk, label, number, tally)? {
         VolumeRead::Empty => Ok(VolumesRead::Whole(None, top)),
@@ -133,6 +135,7 @@ pub(crate) fn read_volumes<D: Disk>(
     ensures low { IfOk result LastIsLow }
     ensures looks { Looks D.Disk disk.old disk.new }
     ensures cause { IfErr result (Blames D.Disk disk.old disk.new) }
+    ensures quiet { OnOk result (D.faults disk.new ≡ D.faults disk.old) }
 {
     let count = count_volumes(disk)?;
     if count == 0 {

@@ -34,6 +34,7 @@ fn forget<D: Disk>(alloc: Global, disk: &mut D, bytes: u64) -> Result<Archive, R
     ensures wrapped { D.tells → D.wrapped_file disk.new ≡ D.wrapped_file disk.old }
     ensures later { D.faults disk.old ≤ D.faults disk.new }
     ensures cause { IfErr result (λ e. e ≡ DiskFault → Rose (D.faults disk.old) (D.faults disk.new)) }
+    ensures quiet { OnOk result (D.faults disk.new ≡ D.faults disk.old) }
 {
     let index = no_entries(alloc)?;
     let tail = Tail {
@@ -64,6 +65,7 @@ fn restore<D: Disk>(disk: &mut D, sighted: Sighted) -> Result<Archive, RecoverFa
     ensures wrapped { D.tells → D.wrapped_file disk.new ≡ D.wrapped_file disk.old }
     ensures later { D.faults disk.old ≤ D.faults disk.new }
     ensures cause { IfErr result (λ e. e ≡ DiskFault → Rose (D.faults disk.old) (D.faults disk.new)) }
+    ensures quiet { OnOk result (D.faults disk.new ≡ D.faults disk.old) }
 {
     let index_label = label_bytes(&sighted.label, -2);
     let volume_label = label_bytes(&sighted.label, 0);
@@ -91,6 +93,7 @@ fn recover_files<D: Disk>(alloc: Global, disk: &mut D) -> Result<Archive, Recove
     ensures wrapped { D.tells → D.wrapped_file disk.new ≡ D.wrapped_file disk.old }
     ensures later { D.faults disk.old ≤ D.faults disk.new }
     ensures cause { IfErr result (λ e. e ≡ DiskFault → Rose (D.faults disk.old) (D.faults disk.new)) }
+    ensures quiet { OnOk result (D.faults disk.new ≡ D.faults disk.old) }
 {
     match sight(alloc, disk)? {
         Survey::Begun(length) => forget(alloc, disk, length),
@@ -118,6 +121,7 @@ pub fn recover<D: Disk>(alloc: Global, disk: &mut D) -> Result<Archive, RecoverF
     ensures wrapped { D.tells → D.wrapped_file disk.new ≡ D.wrapped_file disk.old }
     ensures later { D.faults disk.old ≤ D.faults disk.new }
     ensures cause { IfErr result (λ e. e ≡ DiskFault → Rose (D.faults disk.old) (D.faults disk.new)) }
+    ensures quiet { OnOk result (D.faults disk.new ≡ D.faults disk.old) }
 {
     match wrapped_file(disk)? {
         Some(file) => Err(RecoverFault::Compressed { file }),

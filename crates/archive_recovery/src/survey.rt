@@ -1,5 +1,5 @@
 //! All of an archive is read before anything is changed.
-ghost use Rattle.std.specs.Prelude.{◌≡◌, ◌≢◌, ◌⊎◌, ◌<◌, ◌≤◌, ◌+◌, ◌-◌, true, false, [], IfOk, IfErr, MatchBool, MatchOption};
+ghost use Rattle.std.specs.Prelude.{◌≡◌, ◌≢◌, ◌⊎◌, ◌<◌, ◌≤◌, ◌+◌, ◌-◌, true, false, [], IfOk, IfErr, MatchBool, MatchOption, OnOk};
 ghost use Rattle.pcp_model.specs.Disk.{contents_of};
 ghost use Rattle.pcp_outside.specs.Causes.{Rose};
 ghost use Rattle.archive_loading.specs.Looks.{Looks};
@@ -76,6 +76,7 @@ fn survey_volumes<D: Disk>(
     ensures fault { D.tells → IfErr result (IsFilesRefusal (contents_of (D.held disk.old))) }
     ensures looks { Looks D.Disk disk.old disk.new }
     ensures cause { IfErr result (λ e. e ≡ DiskFault → Rose (D.faults disk.old) (D.faults disk.new)) }
+    ensures quiet { OnOk result (D.faults disk.new ≡ D.faults disk.old) }
 {
     let mut tally = tally;
     match read_volumes(alloc, disk, &label, &mut tally)? {
@@ -123,6 +124,7 @@ fn survey_index<D: Disk>(
     ensures fault { D.tells → IfErr result (IsFilesRefusal (contents_of (D.held disk.old))) }
     ensures looks { Looks D.Disk disk.old disk.new }
     ensures cause { IfErr result (λ e. e ≡ DiskFault → Rose (D.faults disk.old) (D.faults disk.new)) }
+    ensures quiet { OnOk result (D.faults disk.new ≡ D.faults disk.old) }
 {
     let length = length_of(disk, FileId::Index)?;
     match load_index(alloc, disk, &label)? {
@@ -144,6 +146,7 @@ fn survey_begun<D: Disk>(disk: &mut D, length: u64) -> Result<Survey, RecoverFau
     ensures fault { D.tells → IfErr result (IsFilesRefusal (contents_of (D.held disk.old))) }
     ensures looks { Looks D.Disk disk.old disk.new }
     ensures cause { IfErr result (λ e. e ≡ DiskFault → Rose (D.faults disk.old) (D.faults disk.new)) }
+    ensures quiet { OnOk result (D.faults disk.new ≡ D.faults disk.old) }
 {
     if !is_alone(disk)? {
         return Err(RecoverFault::NotArchive {
@@ -161,6 +164,7 @@ pub(crate) fn sight<D: Disk>(alloc: Global, disk: &mut D) -> Result<Survey, Reco
     ensures fault { D.tells → IfErr result (IsFilesRefusal (contents_of (D.held disk.old))) }
     ensures looks { Looks D.Disk disk.old disk.new }
     ensures cause { IfErr result (λ e. e ≡ DiskFault → Rose (D.faults disk.old) (D.faults disk.new)) }
+    ensures quiet { OnOk result (D.faults disk.new ≡ D.faults disk.old) }
 {
     match load_meta(alloc, disk)? {
         MetaPart::Whole(label, meta, end) => {

@@ -1,4 +1,4 @@
-use Rattle.std.proofs.Common.{◌-◌, ◌≤◌}
+use Rattle.std.proofs.Common.{◌≡◌, ◌-◌, ◌≤◌}
 use Rattle.pcp_base.specs.declared.file.FileId.TheVariants.{Meta}
 use Rattle.pcp_model.specs.Disk.{contents_of}
 use Rattle.archive_loading.specs.Looks.{Looks}
@@ -8,6 +8,7 @@ use Rattle.archive_loading.proofs.metadata.read_records.Given as goal
 abbrev pub invariant-loop-at : goal.invariant-loop-at
 invariant-loop-at g l = record {
   looks : Looks g.D.Disk l.initial.disk l.disk;
+  quiet : g.D.Disk.faults l.disk ≡ g.D.Disk.faults l.initial.disk;
   low : 132 ≤ l.at;
   within : g.D.Disk.tells → l.at ≤ l.end;
   took : g.D.Disk.tells → g.D.Disk.taken l.disk ≤ g.D.Disk.taken l.initial.disk;
