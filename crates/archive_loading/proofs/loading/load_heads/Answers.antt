@@ -1,4 +1,4 @@
-use Rattle.std.proofs.Common.{◌≡◌, ◌∙◌, ◌+◌, ◌<◌, ◌≤◌, ℕ, List, [], ◌∷◌, length, take, sym, subst, arith}
+use Rattle.std.proofs.Common.{refl, ◌≡◌, ◌∙◌, ◌+◌, ◌<◌, ◌≤◌, ℕ, List, [], ◌∷◌, length, take, sym, subst, arith}
 use Rattle.std.specs.Prelude.{nat_eq}
 use Rattle.pcp_model.proofs.Lists.{each-append}
 use Rattle.archive_loading.specs.Volumes.{IsVolumePart}
@@ -14,6 +14,7 @@ use Rattle.archive_loading.proofs.loading.load_heads.Goals as goal
 pub loop-number-init : goal.loop-number-init
 loop-number-init g c = record {
   looks = looks_none g.D.Disk g.met.D.Disk.only_now c.args.disk.now;
+  quiet = refl;
   so_far = λ tells. subst (λ vs. SoFar (contents_of (g.D.Disk.held c.args.disk.now)) c.args.label.now c.args.count 0 vs) (sym c.empty-volumes.ensures) (none_yet (contents_of (g.D.Disk.held c.args.disk.now)) c.args.label.now c.args.count);
   reach = subst IsReachable (sym c.empty-volumes.ensures) tt;
   took = λ tells. none_taken (g.D.Disk.taken c.args.disk.now) (contents_of (g.D.Disk.held c.args.disk.now));
@@ -41,6 +42,7 @@ loop-number-preserved g c =
     let is_last = nat_eq (n + 1) count in
     record {
       looks = looks_on g.D.Disk c.args.disk.now c.loop-number.disk c.load_volume.new.disk c.loop-number.invariant.looks c.load_volume.ensures.looks;
+      quiet = c.in_ok-load_volume.ensures.quiet ∙ c.loop-number.invariant.quiet;
       so_far = λ tells.
           let found = subst (λ h. IsVolumePart (contents_of h) l n is_last c.in_ok-load_volume.field-0) (c.loop-number.invariant.looks.held tells) (c.in_ok-load_volume.ensures.volume tells) in
           elim c.match-branch-2.branch [

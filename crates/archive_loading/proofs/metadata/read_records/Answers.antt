@@ -1,4 +1,4 @@
-use Rattle.std.proofs.Common.{◌-◌, ◌<◌, ◌≤◌, ℕ, List, drop, subst, arith}
+use Rattle.std.proofs.Common.{◌∙◌, ◌-◌, ◌<◌, ◌≤◌, ℕ, List, drop, subst, arith}
 use Rattle.pcp_base.specs.declared.file.FileId.TheVariants.{Meta}
 use Rattle.pcp_model.specs.Disk.{contents_of}
 use Rattle.archive_loading.proofs.Looking.{looks_on}
@@ -35,6 +35,7 @@ loop-at-preserved g c =
     let fits : (c.loop-at.at < c.in-Record.next) × (c.in-Record.next ≤ c.args.end) = subst (FitsAdded c.args.end c.loop-at.at) c.in-Record.is c.in_ok-add_next.ensures.within in
     record {
       looks = looks_on g.D.Disk c.args.disk.now c.loop-at.disk c.add_next.new.disk c.loop-at.invariant.looks c.add_next.ensures.looks;
+      quiet = c.in_ok-add_next.ensures.quiet ∙ c.loop-at.invariant.quiet;
       low = omega (arith, c.loop-at.invariant.low, fits.0);
       within = λ tells. fits.1;
       took = λ tells. omega (arith, c.loop-at.invariant.took tells, c.add_next.ensures.taken tells);
