@@ -1,4 +1,4 @@
-use Rattle.std.proofs.Common.{◌<◌, ◌≤◌, ℕ, List, subst, arith}
+use Rattle.std.proofs.Common.{◌∙◌, ◌<◌, ◌≤◌, ℕ, List, subst, arith}
 use Rattle.pcp_base.specs.declared.file.FileId.TheVariants.{Volume}
 use Rattle.pcp_model.specs.Disk.{contents_of}
 use Rattle.archive_loading.specs.Standing.{IsNextRecord, FitsNext}
@@ -27,6 +27,7 @@ loop-at-preserved-in_ok-count-in-Item g c =
     let fits : (c.loop-at.at < c.in-Item.next) × (c.in-Item.next ≤ c.args.end) = subst (FitsNext c.args.end c.loop-at.at) c.in-Item.is c.in_ok-next_record.ensures.within in
     record {
       looks = looks_on g.D.Disk c.args.disk.now c.loop-at.disk c.next_record.new.disk c.loop-at.invariant.looks c.next_record.ensures.looks;
+      quiet = c.in_ok-next_record.ensures.quiet ∙ c.loop-at.invariant.quiet;
       low = omega (arith, c.loop-at.invariant.low, fits.0);
       within = fits.1;
       so_far = λ tells.
@@ -40,6 +41,7 @@ loop-at-preserved g c =
     let fits : (c.loop-at.at < c.in-Item.next) × (c.in-Item.next ≤ c.args.end) = subst (FitsNext c.args.end c.loop-at.at) c.in-Item.is c.in_ok-next_record.ensures.within in
     record {
       looks = looks_on g.D.Disk c.args.disk.now c.loop-at.disk c.next_record.new.disk c.loop-at.invariant.looks c.next_record.ensures.looks;
+      quiet = c.in_ok-next_record.ensures.quiet ∙ c.loop-at.invariant.quiet;
       low = omega (arith, c.loop-at.invariant.low, fits.0);
       within = fits.1;
       so_far = λ tells.

@@ -1,4 +1,4 @@
-use Rattle.std.proofs.Common.{◌+◌, ℕ, sym, subst}
+use Rattle.std.proofs.Common.{◌∙◌, ◌+◌, ℕ, sym, subst}
 use Rattle.pcp_base.specs.declared.file.FileId.TheVariants.{Volume}
 use Rattle.pcp_model.specs.Disk.{contents_of}
 use Rattle.archive_loading.proofs.Looking.{looks_on}
@@ -46,6 +46,7 @@ loop-number-preserved g c =
     let n : ℕ = c.loop-number.number in
     record {
       looks = looks_on g.D.Disk c.args.disk.now c.loop-number.disk c.read_volume.new.disk c.loop-number.invariant.looks c.read_volume.ensures.looks;
+      quiet = c.in_ok-read_volume.ensures.quiet ∙ c.loop-number.invariant.quiet;
       so_far = λ tells.
           let read = subst (λ h. IsVolumeRead (contents_of h (Volume n)) l n c.loop-number.tally c.read_volume.new.tally c.in_ok-read_volume.field-0) (c.loop-number.invariant.looks.held tells) (c.in_ok-read_volume.ensures.read tells) in
           elim c.match-branch-2.branch [
