@@ -145,6 +145,7 @@ impl Logger {
         // The disk was not touched where memory ran out.
         ensures untouched { IfErr result (λ e. e ≡ Refused → disk.new ≡ disk.old) }
         ensures later { D.faults disk.old ≤ D.faults disk.new }
+        ensures quiet { OnOk result (D.faults disk.new ≡ D.faults disk.old) }
     {
         let copy = copy_of(alloc, label)?;
         let meta = MetaState::empty(alloc);
@@ -210,6 +211,9 @@ impl Logger {
         // Which refusal it is; a fault of the disk closes the logger.
         ensures fault { IfErr result (λ e. FlushMayAnswer self.old self.new (D.faults disk.old) (D.faults disk.new) e) }
         ensures later { D.faults disk.old ≤ D.faults disk.new }
+        // Every refusal but a fault of the disk leaves the disk untouched.
+        ensures untouched { IfErr result (λ e. e ≢ DiskFault → disk.new ≡ disk.old) }
+        ensures quiet { OnOk result (D.faults disk.new ≡ D.faults disk.old) }
     {
         if self.closed {
             return Err(LogFault::Closed);
@@ -243,6 +247,9 @@ impl Logger {
         // Which refusal it is; a fault of the disk closes the logger.
         ensures fault { IfErr result (λ e. FlushMayAnswer self.old self.new (D.faults disk.old) (D.faults disk.new) e) }
         ensures later { D.faults disk.old ≤ D.faults disk.new }
+        // Every refusal but a fault of the disk leaves the disk untouched.
+        ensures untouched { IfErr result (λ e. e ≢ DiskFault → disk.new ≡ disk.old) }
+        ensures quiet { OnOk result (D.faults disk.new ≡ D.faults disk.old) }
     {
         if self.closed {
             return Err(LogFault::Closed);
@@ -312,6 +319,7 @@ impl Logger {
         // Every refusal but a fault of the disk leaves the disk untouched.
         ensures untouched { IfErr result (λ e. e ≢ DiskFault → disk.new ≡ disk.old) }
         ensures later { D.faults disk.old ≤ D.faults disk.new }
+        ensures quiet { OnOk result (D.faults disk.new ≡ D.faults disk.old) }
     {
         let made = self.prepared(alloc, answer, facts)?;
         match write_item(disk, &self.label, &self.ends, &made, answer) {
