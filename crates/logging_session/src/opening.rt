@@ -1,5 +1,5 @@
 //! The archive that a session goes on with: what recovery left, or where it left no label a new one.
-ghost use Rattle.std.specs.Prelude.{◌≡◌, ◌≤◌, false, [], None as Nothing, IfOk, IfErr};
+ghost use Rattle.std.specs.Prelude.{◌≡◌, ◌≤◌, false, [], None as Nothing, IfOk, IfErr, OnOk};
 ghost use Rattle.pcp_model.specs.Disk.{IsEmpty, contents_of};
 ghost use Rattle.pcp_outside.specs.Devices.{LeavesOnly};
 ghost use Rattle.logger_core.specs.declared.fault.LogFault.TheVariants.{NoMemory as Refused};
@@ -33,6 +33,7 @@ fn create<D: Disk>(
     ensures fault { IfErr result (λ e. CreateMayAnswer (D.faults disk.old) (D.faults disk.new) e) }
     ensures untouched { IfErr result (λ e. e ≡ Refused → disk.new ≡ disk.old) }
     ensures later { D.faults disk.old ≤ D.faults disk.new }
+    ensures quiet { OnOk result (D.faults disk.new ≡ D.faults disk.old) }
 {
     let label = label_at(alloc, label, stamp)?;
     Logger::create(alloc, disk, &label, limit)
@@ -56,6 +57,7 @@ pub(crate) fn open<D: Disk>(
     ensures labelled { (archive.label ≡ Nothing → ⊥) → disk.new ≡ disk.old }
     ensures untouched { IfErr result (λ e. e ≡ Refused → disk.new ≡ disk.old) }
     ensures later { D.faults disk.old ≤ D.faults disk.new }
+    ensures quiet { OnOk result (D.faults disk.new ≡ D.faults disk.old) }
 {
     if archive.label.is_none() {
         return create(alloc, disk, label, stamp, limit);

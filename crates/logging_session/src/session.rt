@@ -92,6 +92,7 @@ impl Session {
         ensures cause { IfErr result (OpenMayAnswer self.old self.new (D.faults disk.old) (D.faults disk.new)) }
         ensures same { (self.new.label ≡ self.old.label) × (self.new.limit ≡ self.old.limit) × (self.new.logged ≡ self.old.logged) }
         ensures later { D.faults disk.old ≤ D.faults disk.new }
+        ensures quiet { OnOk result (D.faults disk.new ≡ D.faults disk.old) }
     {
         let Place::Found(archive) = mem::replace(&mut self.place, Place::Failed) else {
             // It is as recovery left it.
@@ -134,6 +135,7 @@ impl Session {
         ensures cause { IfErr result (OpenMayAnswer self.old self.new (D.faults disk.old) (D.faults disk.new)) }
         ensures same { (self.new.label ≡ self.old.label) × (self.new.limit ≡ self.old.limit) × (self.new.logged ≡ self.old.logged) }
         ensures later { D.faults disk.old ≤ D.faults disk.new }
+        ensures quiet { OnOk result (D.faults disk.new ≡ D.faults disk.old) }
     {
         match &self.place {
             Place::Found(_) => self.open_found(alloc, disk, stamp),
@@ -170,6 +172,7 @@ impl Session {
         ensures uncounted { OnErr result (self.new.logged ≡ self.old.logged) }
         ensures same { (self.new.label ≡ self.old.label) × (self.new.limit ≡ self.old.limit) }
         ensures later { D.faults disk.old ≤ D.faults disk.new }
+        ensures quiet { OnOk result (D.faults disk.new ≡ D.faults disk.old) }
     {
         let Place::Open(logger) = &mut self.place else {
             // It is open.
@@ -231,6 +234,8 @@ impl Session {
         ensures uncounted { OnErr result (self.new.logged ≡ self.old.logged) }
         ensures same { (self.new.label ≡ self.old.label) × (self.new.limit ≡ self.old.limit) }
         ensures later { D.faults disk.old ≤ D.faults disk.new }
+        ensures quiet { OnOk result (D.faults disk.new ≡ D.faults disk.old) }
+        ensures still { IfErr result (λ e. e ≢ DiskFault → D.faults disk.new ≡ D.faults disk.old) }
     {
         self.open_for(alloc, disk, answer.stamp)?;
         self.take(alloc, disk, answer, facts)
@@ -250,6 +255,8 @@ impl Session {
         ensures cause { IfErr result (FlushMayAnswer self.old self.new (D.faults disk.old) (D.faults disk.new)) }
         ensures same { (self.new.label ≡ self.old.label) × (self.new.limit ≡ self.old.limit) × (self.new.logged ≡ self.old.logged) }
         ensures later { D.faults disk.old ≤ D.faults disk.new }
+        ensures quiet { OnOk result (D.faults disk.new ≡ D.faults disk.old) }
+        ensures untouched { IfErr result (λ e. e ≢ DiskFault → disk.new ≡ disk.old) }
     {
         match &mut self.place {
             Place::Found(_) => Ok(()),
@@ -282,6 +289,8 @@ impl Session {
         ensures cause { IfErr result (FlushMayAnswer self.old self.new (D.faults disk.old) (D.faults disk.new)) }
         ensures same { (self.new.label ≡ self.old.label) × (self.new.limit ≡ self.old.limit) × (self.new.logged ≡ self.old.logged) }
         ensures later { D.faults disk.old ≤ D.faults disk.new }
+        ensures quiet { OnOk result (D.faults disk.new ≡ D.faults disk.old) }
+        ensures untouched { IfErr result (λ e. e ≢ DiskFault → disk.new ≡ disk.old) }
     {
         self.make_sure(disk, true)
     }
@@ -302,6 +311,8 @@ impl Session {
         ensures cause { IfErr result (FlushMayAnswer self.old self.new (D.faults disk.old) (D.faults disk.new)) }
         ensures same { (self.new.label ≡ self.old.label) × (self.new.limit ≡ self.old.limit) × (self.new.logged ≡ self.old.logged) }
         ensures later { D.faults disk.old ≤ D.faults disk.new }
+        ensures quiet { OnOk result (D.faults disk.new ≡ D.faults disk.old) }
+        ensures untouched { IfErr result (λ e. e ≢ DiskFault → disk.new ≡ disk.old) }
     {
         self.make_sure(disk, false)
     }
@@ -335,6 +346,8 @@ impl Session {
         ensures cause { IfErr result (FlushMayAnswer self.old self.new (D.faults disk.old) (D.faults disk.new)) }
         ensures same { (self.new.label ≡ self.old.label) × (self.new.limit ≡ self.old.limit) × (self.new.logged ≡ self.old.logged) }
         ensures later { D.faults disk.old ≤ D.faults disk.new }
+        ensures quiet { OnOk result (D.faults disk.new ≡ D.faults disk.old) }
+        ensures untouched { IfErr result (λ e. e ≢ DiskFault → disk.new ≡ disk.old) }
     {
         if self.has_failed() {
             return Err(LogFault::Closed);

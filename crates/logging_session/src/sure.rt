@@ -1,9 +1,10 @@
 //! How a logger makes sure what it logged.
-ghost use Rattle.std.specs.Prelude.{◌≡◌, ◌≤◌, false, IfErr, OnOk};
+ghost use Rattle.std.specs.Prelude.{◌≡◌, ◌≢◌, ◌≤◌, false, IfErr, OnOk};
 ghost use Rattle.pcp_outside.specs.Devices.{LeavesOnly};
 ghost use Rattle.logger_core.specs.Going.{IsVolumeSure};
 ghost use Rattle.logger_core.specs.Meant.{Meant, IsLogger, SurvivesOf};
 ghost use Rattle.logger_core.specs.Refusals.{FlushMayAnswer};
+ghost use Rattle.logger_core.specs.declared.fault.LogFault.TheVariants.{DiskFault};
 ghost use Rattle.logging_session.specs.Answers.{IsMadeSure};
 
 use logger_core::{LogFault, Logger};
@@ -21,6 +22,8 @@ pub(crate) fn make_logger_sure<D: Disk>(
     ensures sure { D.tells → OnOk result (IsVolumeSure logger.new.ends.volume (D.held disk.new)) }
     ensures fault { IfErr result (λ e. FlushMayAnswer logger.old logger.new (D.faults disk.old) (D.faults disk.new) e) }
     ensures later { D.faults disk.old ≤ D.faults disk.new }
+    ensures untouched { IfErr result (λ e. e ≢ DiskFault → disk.new ≡ disk.old) }
+    ensures quiet { OnOk result (D.faults disk.new ≡ D.faults disk.old) }
 {
     if puts_entry {
         return logger.flush(disk);

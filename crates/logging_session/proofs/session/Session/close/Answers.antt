@@ -35,6 +35,8 @@ returns-then-has_failed g c =
       cause = (inr failed, refl);
       same = (refl, refl, refl);
       later = same_count (d.faults c.args.disk.now);
+      quiet = tt;
+      untouched = λ other. refl;
     }
 
 pub returns-then-self-eq0 : goal.returns-then-self-eq0
@@ -57,6 +59,8 @@ returns-then-self-eq0 g c =
       cause = tt;
       same = (refl, refl, refl);
       later = same_count (d.faults c.args.disk.now);
+      quiet = refl;
+      untouched = tt;
     }
 
 pub returns : goal.returns
@@ -86,4 +90,6 @@ returns g c =
       cause = c.flush.ensures.cause;
       same = c.flush.ensures.same;
       later = c.flush.ensures.later;
+      quiet = c.flush.ensures.quiet;
+      untouched = c.flush.ensures.untouched;
     }

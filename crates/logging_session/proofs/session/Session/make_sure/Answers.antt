@@ -33,6 +33,8 @@ returns-in-Found g c =
       cause = tt;
       same = (ap (λ (t : Carried). t.label) c.self.view_is, ap (λ (t : Carried). t.limit) c.self.view_is, ap (λ (t : Carried). t.logged) c.self.view_is);
       later = same_count (d.faults c.args.disk.now);
+      quiet = refl;
+      untouched = tt;
     }
 
 pub returns-in-Lost : goal.returns-in-Lost
@@ -55,6 +57,8 @@ returns-in-Lost g c =
       cause = (lost_closed old was, same);
       same = (ap (λ (t : Carried). t.label) c.self.view_is, ap (λ (t : Carried). t.limit) c.self.view_is, ap (λ (t : Carried). t.logged) c.self.view_is);
       later = same_count (d.faults c.args.disk.now);
+      quiet = tt;
+      untouched = λ other. refl;
     }
 
 pub returns-in-Failed : goal.returns-in-Failed
@@ -77,6 +81,8 @@ returns-in-Failed g c =
       cause = (failed_closed old was, same);
       same = (ap (λ (t : Carried). t.label) c.self.view_is, ap (λ (t : Carried). t.limit) c.self.view_is, ap (λ (t : Carried). t.logged) c.self.view_is);
       later = same_count (d.faults c.args.disk.now);
+      quiet = tt;
+      untouched = λ other. refl;
     }
 
 pub returns-in-Ok : goal.returns-in-Ok
@@ -106,6 +112,8 @@ returns-in-Ok g c =
       cause = tt;
       same = (ap (λ (t : Carried). t.label) c.self.view_is, ap (λ (t : Carried). t.limit) c.self.view_is, ap (λ (t : Carried). t.logged) c.self.view_is);
       later = c.make_logger_sure.ensures.later;
+      quiet = c.in-Ok.ensures.quiet;
+      untouched = tt;
     }
 
 pub returns-in-Err : goal.returns-in-Err
@@ -132,4 +140,6 @@ returns-in-Err g c =
       cause = flush_answers old (with_place s Failed) logger now (d.faults c.args.disk.now) (d.faults c.make_logger_sure.new.disk) c.in-Err.fault (open_is old logger was) tt (open_may_log s logger is c.self.invariant.logger).0 c.in-Err.ensures.fault;
       same = (ap (λ (t : Carried). t.label) c.self.view_is, ap (λ (t : Carried). t.limit) c.self.view_is, ap (λ (t : Carried). t.logged) c.self.view_is);
       later = c.make_logger_sure.ensures.later;
+      quiet = tt;
+      untouched = c.in-Err.ensures.untouched;
     }

@@ -39,6 +39,7 @@ returns-in-Found g c =
       cause = c.open_found.ensures.cause;
       same = c.open_found.ensures.same;
       later = c.open_found.ensures.later;
+      quiet = c.open_found.ensures.quiet;
     }
 
 pub returns-in-Open : goal.returns-in-Open
@@ -63,6 +64,7 @@ returns-in-Open g c =
       cause = tt;
       same = (refl, refl, refl);
       later = same_count (d.faults c.args.disk.now);
+      quiet = refl;
     }
 
 pub returns-in-Lost : goal.returns-in-Lost
@@ -86,6 +88,7 @@ returns-in-Lost g c =
       cause = (lost_closed old was, refl);
       same = (refl, refl, refl);
       later = same_count (d.faults c.args.disk.now);
+      quiet = tt;
     }
 
 pub returns-in-Failed : goal.returns-in-Failed
@@ -109,4 +112,5 @@ returns-in-Failed g c =
       cause = (failed_closed old was, refl);
       same = (refl, refl, refl);
       later = same_count (d.faults c.args.disk.now);
+      quiet = tt;
     }

@@ -36,6 +36,7 @@ returns-in-Ok g c =
       cause = tt;
       same = (ap (λ (t : Carried). t.label) c.self.view_is, ap (λ (t : Carried). t.limit) c.self.view_is, ap (λ (t : Carried). t.logged) c.self.view_is);
       later = c.open.ensures.later;
+      quiet = c.in-Ok.ensures.quiet;
     }
 
 pub returns-in-NoMemory : goal.returns-in-NoMemory
@@ -59,6 +60,7 @@ returns-in-NoMemory g c =
       cause = lost_answers old (with_place s Lost) (d.faults c.args.disk.now) (d.faults c.open.new.disk) c.in-Err.fault c.in-NoMemory.is (found_is old a was) tt (subst WantsMemory (sym was) (c.in-Err.ensures.cause c.in-NoMemory.is));
       same = (ap (λ (t : Carried). t.label) c.self.view_is, ap (λ (t : Carried). t.limit) c.self.view_is, ap (λ (t : Carried). t.logged) c.self.view_is);
       later = c.open.ensures.later;
+      quiet = tt;
     }
 
 pub returns-in_default-fault : goal.returns-in_default-fault
@@ -82,4 +84,5 @@ returns-in_default-fault g c =
       cause = open_answers old (with_place s c.replace.new.dest) (d.faults c.args.disk.now) (d.faults c.open.new.disk) c.in-Err.fault (found_is old a was) (failed_is (with_place s c.replace.new.dest) c.replace.ensures.after) c.in-Err.ensures.fault c.in_default-fault.not-NoMemory;
       same = (ap (λ (t : Carried). t.label) c.self.view_is, ap (λ (t : Carried). t.limit) c.self.view_is, ap (λ (t : Carried). t.logged) c.self.view_is);
       later = c.open.ensures.later;
+      quiet = tt;
     }

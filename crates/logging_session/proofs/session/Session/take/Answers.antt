@@ -51,6 +51,7 @@ returns-in-Ok g c =
       uncounted = tt;
       same = (ap (λ (t : Carried). t.label) c.self.view_is, ap (λ (t : Carried). t.limit) c.self.view_is);
       later = c.log.ensures.later;
+      quiet = c.in-Ok.ensures.quiet;
     }
 
 pub returns-in-DiskFault : goal.returns-in-DiskFault
@@ -85,6 +86,7 @@ returns-in-DiskFault g c =
       uncounted = ap (λ (t : Carried). t.logged) c.self.view_is;
       same = (ap (λ (t : Carried). t.label) c.self.view_is, ap (λ (t : Carried). t.limit) c.self.view_is);
       later = c.log.ensures.later;
+      quiet = tt;
     }
 
 pub returns-in_default-fault : goal.returns-in_default-fault
@@ -123,6 +125,7 @@ returns-in_default-fault g c =
       uncounted = ap (λ (t : Carried). t.logged) c.self.view_is;
       same = (ap (λ (t : Carried). t.label) c.self.view_is, ap (λ (t : Carried). t.limit) c.self.view_is);
       later = c.log.ensures.later;
+      quiet = tt;
     }
 
 pub invariant_of-self-in_default-fault : goal.invariant_of-self-in_default-fault
