@@ -1,4 +1,4 @@
-use Rattle.std.proofs.Common.{◌<◌, ℕ, List, length, drop, sym, subst, arith}
+use Rattle.std.proofs.Common.{◌∙◌, refl, ◌<◌, ℕ, List, length, drop, sym, subst, arith}
 use Rattle.pcp_model.specs.Disk.{contents_of}
 use Rattle.archive_loading.proofs.Looking.{looks_none, looks_on}
 use Rattle.std.specs.List.{AllByRecursion}
@@ -13,6 +13,7 @@ pub loop-init : goal.loop-init
 loop-init g c = record {
   within = c.requires.within;
   looks = looks_none g.D.Disk g.met.D.Disk.only_now c.args.disk.now;
+  quiet = refl;
   so_far = λ tells. nothing_yet (contents_of (g.D.Disk.held c.args.disk.now)) c.args.volumes.now c.args.index c.args.at (g.D.Disk.taken c.args.disk.now) (RangeSoFar c.args.from c.args.to c.empty-found.result) (tt, c.empty-found.ensures);
 }
 
@@ -74,6 +75,7 @@ pub loop-preserved : goal.loop-preserved
 loop-preserved g c = record {
   within = let lt : c.in-Item.behind < length c.args.volumes.now = subst (IsAheadIn c.args.volumes.now) c.in-Item.is c.in_ok-next_ahead.ensures.within in omega (arith, lt);
   looks = looks_on g.D.Disk c.args.disk.now c.loop.disk c.next_ahead.new.disk c.loop.invariant.looks c.next_ahead.ensures.looks;
+  quiet = c.in_ok-next_ahead.ensures.quiet ∙ c.loop.invariant.quiet;
   so_far = λ tells.
       let files = contents_of (g.D.Disk.held c.args.disk.now) in
       let volumes : List (ℕ × ℕ) = c.args.volumes.now in

@@ -1,4 +1,4 @@
-use Rattle.std.proofs.Common.{◌<◌, ℕ, List, length, drop, subst, arith}
+use Rattle.std.proofs.Common.{◌∙◌, ◌<◌, ℕ, List, length, drop, subst, arith}
 use Rattle.pcp_base.specs.declared.file.FileId.TheVariants.{Volume}
 use Rattle.pcp_model.specs.Disk.{contents_of}
 use Rattle.archive_loading.proofs.Looking.{looks_on}
@@ -35,6 +35,7 @@ pub loop-preserved : goal.loop-preserved
 loop-preserved g c = record {
   within = let lt : c.in-Item.behind < length c.args.volumes.now = subst (IsIn c.args.volumes.now) c.in-Item.is c.in_ok-walk.ensures.within in omega (arith, lt);
   looks = looks_on g.D.Disk c.args.disk.now c.loop.disk c.walk.new.disk c.loop.invariant.looks c.walk.ensures.looks;
+  quiet = c.in_ok-walk.ensures.quiet ∙ c.loop.invariant.quiet;
   so_far = λ tells.
       let files = contents_of (g.D.Disk.held c.args.disk.now) in
       let volumes : List (ℕ × ℕ) = c.args.volumes.now in
