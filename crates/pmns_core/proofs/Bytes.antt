@@ -56,7 +56,7 @@ starts_join x p rest h = (starts_is unsigned_Decides x p (starts_with nat_eq x p
 pub front_le : (p x : List ℕ) → starts_with nat_eq x p ≡ true → is_le (byte_order p x) ≡ true
 front_le p x h = ap (λ y. is_le (byte_order p y)) (starts_split x p h) ∙ le_itself p (drop (length p) x)
 
-between : (p x rest : List ℕ) → is_le (byte_order p x) ≡ true → is_before x (p ++ rest) ≡ true → (more : List ℕ) × (x ≡ p ++ more)
+pub between : (p x rest : List ℕ) → is_le (byte_order p x) ≡ true → is_before x (p ++ rest) ≡ true → (more : List ℕ) × (x ≡ p ++ more)
 between [] x rest h g = (x, refl)
 between (c ∷ p) [] rest h g = cc h
 between (c ∷ p) (d ∷ x) rest h g = by (nat_cmp d c) refl (λ h' g'. between p x rest h' g')

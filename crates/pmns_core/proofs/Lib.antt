@@ -4,3 +4,6 @@ pub mod Tables
 pub mod Slots
 pub mod Ranges
 pub mod Parts
+pub mod Orders
+pub mod Components
+pub mod Seeks

@@ -30,6 +30,10 @@ component rest = take (unwrap_or (position is_point rest) (length rest)) rest
 abbrev pub is_leaf : List ℕ → Bool
 is_leaf rest = is_none (position is_point rest)
 
+-- the least bytes behind all names with this component after a front: `/` is the byte behind `.`, and behind a leaf stands a zero byte
+abbrev pub behind : List ℕ → List ℕ → List ℕ
+behind front rest = front ++ (component rest ++ (if is_leaf rest then 0 else 47) ∷ [])
+
 -- components with the one after a name's front, in byte order and each once
 abbrev pub with_child : List ℕ → List (List ℕ × Bool) → Pair → List (List ℕ × Bool)
 with_child front list p = insert_entry byte_order list (component (drop (length front) p.0)) (is_leaf (drop (length front) p.0))

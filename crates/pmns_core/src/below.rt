@@ -4,7 +4,7 @@
 ghost use Rattle.std.specs.Prelude.{◌≡◌, ◌<◌, ◌++◌, length, position, IfOk, IfSome, OnOk};
 ghost use Rattle.std.specs.BTreeMap.{insert_entry};
 ghost use Rattle.pcp_base.specs.Texts.{IsText};
-ghost use Rattle.pmns_core.specs.Below.{below, children, children_of, component, pairs_with_front, is_leaf, is_point, pair_of_name};
+ghost use Rattle.pmns_core.specs.Below.{behind, below, children, children_of, component, pairs_with_front, is_leaf, is_point, pair_of_name};
 ghost use Rattle.pmns_core.specs.Order.{byte_order};
 ghost use Rattle.pmns_core.specs.Pairs.{IsInOrder};
 ghost use Rattle.pmns_core.specs.Tables.{pairs_of, parts_of, AreTextParts};
@@ -81,21 +81,33 @@ pub fn children_below(
 // Next components, and whether the name ends with them.
 type Parts = BTreeMap<Vec<u8>, bool>;
 
-// The components after a front.
+// The components after a front: behind each one the next name is sought that hasn't it.
 fn parts_below(alloc: Global, table: &Table, front: &Vec<u8>) -> Result<Parts, NoMemory>
     requires { IsInOrder (pairs_of table.now) }
     ensures parts { IfOk result (λ parts. parts_of parts ≡ children (pairs_of table.now) front.now.items) }
     ensures texts { IfOk result (λ parts. AreTextParts (parts_of parts)) }
 {
     let mut parts = BTreeMap::new(alloc);
-    let mut rest = table.range(front..);
-    while let Some((key, _pmid)) = rest.next() {
-        if !key.as_slice().starts_with(front.as_slice()) {
+    let mut at = Vec::from_slice(alloc, front.as_slice())?;
+    while let Some((key, _pmid)) = table.range(&at..).next() {
+        let Some(rest) = key.as_slice().strip_prefix(front.as_slice()) else {
             return Ok(parts);
-        }
-        add_part(alloc, &mut parts, &key.as_slice()[front.len()..])?;
+        };
+        add_part(alloc, &mut parts, rest)?;
+        at = behind(alloc, front.as_slice(), rest)?;
     }
     Ok(parts)
+}
+
+// The least bytes behind all names with this component after a front.
+fn behind(alloc: Global, front: &[u8], rest: &[u8]) -> Result<Vec<u8>, NoMemory>
+    ensures { IfOk result (λ at. at.items ≡ behind front.now rest.now) }
+{
+    let (part, is_leaf) = part_of(rest);
+    let mut at = Vec::from_slice(alloc, front)?;
+    at.extend_from_slice(part)?;
+    at.push(if is_leaf { 0 } else { b'/' })?;
+    Ok(at)
 }
 
 // Adds the next component of a name, given the rest of that name behind the front.

@@ -38,6 +38,12 @@ IsNotBusy (TooLarge need room) = Unit {0}
 IsNotBusy (Busy gate) = ⊥
 IsNotBusy (Spent generation) = Unit {0}
 
+-- too many words are refused before any take
+abbrev pub IsAtOnce : ℕ → ChangeFault → Type 0
+IsAtOnce tries (TooLarge need room) = tries ≡ 0
+IsAtOnce tries (Busy gate) = Unit {0}
+IsAtOnce tries (Spent generation) = Unit {0}
+
 -- or the change was refused for another reason
 pub record FailsAtLast (S : Shaping) (v : View) (capacity : ℕ) (image : List ℕ) (w : View) (fault : ChangeFault) : Type 0 where
   pub tries : ℕ
@@ -45,3 +51,4 @@ pub record FailsAtLast (S : Shaping) (v : View) (capacity : ℕ) (image : List �
   pub busy : BusyTimes S tries v before
   pub fails : Fails S before capacity image w fault
   pub another : IsNotBusy fault
+  pub at_once : IsAtOnce tries fault

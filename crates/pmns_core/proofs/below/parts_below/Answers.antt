@@ -1,38 +1,50 @@
--- The range begins at the front, and the names are taken as far as they begin with it.
-use Rattle.std.proofs.Common.{◌≡◌, ℕ, Bool, map, List, [], ◌∷◌, false, if◌then◌else◌, fold, sym, ap, ◌∙◌, subst, refl}
-use Rattle.std.specs.Prelude.{nat_eq}
-use Rattle.std.specs.List.{starts_with}
+-- The first name that isn't before the place decides: one that doesn't begin with the front ends the search.
+use Rattle.std.proofs.Common.{◌≡◌, ℕ, Bool, map, List, [], ◌<◌, length, fold, sym, ap, ◌∙◌, subst}
 use Rattle.std.specs.Global.{Vec}
 use Rattle.pmns_core.proofs.Parts.{part}
-use Rattle.pmns_core.proofs.Tables.{pair, from_front}
-use Rattle.pmns_core.specs.Pairs.{IsInOrder}
-use Rattle.pmns_core.specs.Below.{with_child, children}
+use Rattle.pmns_core.proofs.Tables.{from_front}
+use Rattle.pmns_core.specs.Below.{behind, with_child}
 use Rattle.pmns_core.specs.Tables.{parts_of, AreTextParts}
-use Rattle.pmns_core.proofs.Ranges.{taken, taken_all, AreTexts, texts_from_front}
+use Rattle.pmns_core.proofs.Ranges.{taken, taken_all}
+use Rattle.pmns_core.proofs.Seeks.{sought_in, sought_place}
 use Rattle.pmns_core.proofs.below.parts_below.Goals as goal
 
--- all that the range gives, from no components on
-all : (front : List ℕ) (none : List (Vec ℕ × Bool)) (es range : List (Vec ℕ × ℕ)) → none ≡ [] → range ≡ from_front front es → IsInOrder (map pair es) → fold (with_child front) (map part none) (taken front range) ≡ children (map pair es) front
-all front none es range empty e order =
-    ap (λ (ps : List (Vec ℕ × Bool)). fold (with_child front) (map part ps) (taken front range)) empty
-    ∙ ap (fold (with_child front) []) (ap (taken front) e ∙ taken_all front es order)
-
 pub loop-key-init : goal.loop-key-init
-loop-key-init c = (tt, tt, subst AreTexts (sym (c.range-rest.ensures.between tt)) (texts_from_front c.args.front.now.items c.args.table.now.entries c.requires), subst (λ (es : List (Vec ℕ × Bool)). AreTextParts (map part es)) (sym c.new-parts.ensures.empty) tt, refl)
-
-pub returns-then-not-starts_with-clause-parts : goal.returns-then-not-starts_with-clause-parts
-returns-then-not-starts_with-clause-parts c =
+loop-key-init c =
     let front = c.args.front.now.items in
-    let begins : starts_with nat_eq c.in-Some.key.now.items front ≡ false =
-    ap (λ (bs : List ℕ). starts_with nat_eq c.in-Some.key.now.items bs) (sym c.as_slice-in-Some.ensures.value)
-    ∙ ap (λ (bs : List ℕ). starts_with nat_eq bs c.as_slice-in-Some.result.now) (sym c.as_slice.ensures.value)
-    ∙ sym c.if-not-starts_with.ensures.value in
-    let ends : taken front c.loop-key.rest ≡ [] =
-    ap (taken front) c.in-Some.ensures.steps ∙ ap (λ t. if t then (c.in-Some.key.now.items, c.in-Some._pmid.now) ∷ taken front c.next.new.self else []) begins in
-    ap (fold (with_child front) (parts_of c.loop-key.parts)) (sym ends) ∙ c.loop-key.invariant.4 ∙ all c.args.front.now.items c.new-parts.result.entries c.args.table.now.entries c.range-rest.result c.new-parts.ensures.empty (c.range-rest.ensures.between tt) c.requires
+    let at : c.in_ok-at.at.items ≡ front = c.in_ok-at.ensures.items ∙ c.as_slice.ensures.value in (
+      subst (λ (es : List (Vec ℕ × Bool)). AreTextParts (map part es)) (sym c.new-parts.ensures.empty) tt,
+      ap (λ (a : List ℕ). fold (with_child front) (parts_of c.new-parts.result) (taken front (from_front a c.args.table.now.entries))) at
+          ∙ ap (λ (es : List (Vec ℕ × Bool)). fold (with_child front) (map part es) (taken front (from_front front c.args.table.now.entries))) c.new-parts.ensures.empty
+          ∙ ap (fold (with_child front) []) (taken_all front c.args.table.now.entries c.requires),
+    )
 
-pub returns-clause-parts : goal.returns-clause-parts
-returns-clause-parts c =
+pub add_part-requires-clause-text : goal.add_part-requires-clause-text
+add_part-requires-clause-text c =
+    let s = sought_in c.args.front.now.items c.loop-key.at.items c.in-Some-strip_prefix.rest.now (parts_of c.loop-key.parts) c.args.table.now.entries c.range.result c.next.new.self (c.in-Some.key.now, c.in-Some._pmid.now)
+    c.as_slice-in-Some.result.now c.as_slice-in-Some-2.result.now c.requires (c.range.ensures.between tt) c.in-Some.ensures.steps c.as_slice-in-Some.ensures.value c.as_slice-in-Some-2.ensures.value
+    c.in-Some-strip_prefix.ensures.cases.0 c.in-Some-strip_prefix.ensures.cases.1 in
+    s.text
+
+pub loop-key-smaller : goal.loop-key-smaller
+loop-key-smaller c =
     let front = c.args.front.now.items in
-    let ends : taken front c.loop-key.rest ≡ [] = ap (taken front) c.in_default.ensures.steps.0 in
-    ap (fold (with_child front) (parts_of c.loop-key.parts)) (sym ends) ∙ c.loop-key.invariant.4 ∙ all c.args.front.now.items c.new-parts.result.entries c.args.table.now.entries c.range-rest.result c.new-parts.ensures.empty (c.range-rest.ensures.between tt) c.requires
+    let s = sought_in front c.loop-key.at.items c.in-Some-strip_prefix.rest.now (parts_of c.loop-key.parts) c.args.table.now.entries c.range.result c.next.new.self (c.in-Some.key.now, c.in-Some._pmid.now)
+    c.as_slice-in-Some.result.now c.as_slice-in-Some-2.result.now c.requires (c.range.ensures.between tt) c.in-Some.ensures.steps c.as_slice-in-Some.ensures.value c.as_slice-in-Some-2.ensures.value
+    c.in-Some-strip_prefix.ensures.cases.0 c.in-Some-strip_prefix.ensures.cases.1 in
+    let place = sought_place front c.as_slice-in-Some-3.result.now c.in-Some-strip_prefix.rest.now c.in_ok-at-2.at.items c.as_slice-in-Some-3.ensures.value c.in_ok-at-2.ensures in
+    subst (λ (a : List ℕ). length (from_front a c.args.table.now.entries) < length (from_front c.loop-key.at.items c.args.table.now.entries)) (sym place) s.fewer
+
+pub loop-key-preserved : goal.loop-key-preserved
+loop-key-preserved c =
+    let front = c.args.front.now.items in
+    let s = sought_in front c.loop-key.at.items c.in-Some-strip_prefix.rest.now (parts_of c.loop-key.parts) c.args.table.now.entries c.range.result c.next.new.self (c.in-Some.key.now, c.in-Some._pmid.now)
+    c.as_slice-in-Some.result.now c.as_slice-in-Some-2.result.now c.requires (c.range.ensures.between tt) c.in-Some.ensures.steps c.as_slice-in-Some.ensures.value c.as_slice-in-Some-2.ensures.value
+    c.in-Some-strip_prefix.ensures.cases.0 c.in-Some-strip_prefix.ensures.cases.1 in
+    let place = sought_place front c.as_slice-in-Some-3.result.now c.in-Some-strip_prefix.rest.now c.in_ok-at-2.at.items c.as_slice-in-Some-3.ensures.value c.in_ok-at-2.ensures in (
+      c.in_ok-add_part.ensures.texts,
+      ap (λ (a : List ℕ). fold (with_child front) (parts_of c.add_part.new.parts) (taken front (from_front a c.args.table.now.entries))) place
+          ∙ ap (λ (list : List (List ℕ × Bool)). fold (with_child front) list (taken front (from_front (behind front c.in-Some-strip_prefix.rest.now) c.args.table.now.entries))) c.in_ok-add_part.ensures.part
+          ∙ s.same
+          ∙ c.loop-key.invariant.1,
+    )
