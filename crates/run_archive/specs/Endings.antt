@@ -48,3 +48,11 @@ MayEnd before after ends.DiskFault = Rose before after
 MayEnd before after (ends.ClockEnd samples) = ⊥
 MayEnd before after (ends.ClockFault samples) = ⊥
 MayEnd before after _ = Unit {0}
+
+-- Of a run that ends so no call of the disk has failed: of any that comes to its lines, unless the disk's fault or want of memory ends it.
+abbrev pub LeavesCount : ℕ → ℕ → Ending → Type 0
+LeavesCount before after ends.DiskFault = Unit {0}
+LeavesCount before after ends.NoMemory = Unit {0}
+LeavesCount before after (ends.NotArchive file at) = Unit {0}
+LeavesCount before after (ends.Compressed file) = Unit {0}
+LeavesCount before after _ = after ≡ before

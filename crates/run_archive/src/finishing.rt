@@ -29,6 +29,7 @@ fn flush_last<D: Disk>(disk: &mut D, session: &mut Session, ending: Ending) -> E
     ensures same { (session.new.limit ≡ session.old.limit) × (session.new.logged ≡ session.old.logged) }
     ensures cause { result ≡ Failing → (ending ≡ Failing) ⊎ Rose (D.faults disk.old) (D.faults disk.new) }
     ensures later { D.faults disk.old ≤ D.faults disk.new }
+    ensures quiet { result ≢ Failing → D.faults disk.new ≡ D.faults disk.old }
 {
     if let Ending::DiskFault = ending {
         return ending;
@@ -74,6 +75,7 @@ pub fn finish<D: Disk>(disk: &mut D, session: Session, out: Vec<u8>, ending: End
     ensures cause { (before : ℕ) → before ≤ D.faults disk.old → MayEnd before (D.faults disk.old) ending → MayEnd before (D.faults disk.new) result.ending }
     ensures rose { result.ending ≡ Failing → (ending ≡ Failing) ⊎ Rose (D.faults disk.old) (D.faults disk.new) }
     ensures later { D.faults disk.old ≤ D.faults disk.new }
+    ensures quiet { result.ending ≢ Failing → D.faults disk.new ≡ D.faults disk.old }
 {
     let (mut session, mut out) = (session, out);
     let logged = session.logged();

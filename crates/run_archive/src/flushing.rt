@@ -31,6 +31,8 @@ pub fn flush_line<D: Disk>(
     ensures failed { IfErr result (λ e. e ≡ Failing → OverAny D.Disk session.old disk.old (λ left events start. WentBy D.Disk run_label session.old.limit left events [] start disk.new)) }
     ensures cause { IfErr result (MayEnd (D.faults disk.old) (D.faults disk.new)) }
     ensures later { D.faults disk.old ≤ D.faults disk.new }
+    ensures quiet { OnOk result (D.faults disk.new ≡ D.faults disk.old) }
+    ensures still { IfErr result (λ e. e ≢ Failing → D.faults disk.new ≡ D.faults disk.old) }
 {
     let logged = session.logged();
     if logged == 0 {

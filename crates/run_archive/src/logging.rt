@@ -63,6 +63,8 @@ pub(crate) fn log_shown<D: Disk>(
     ensures unfailed { IfErr result (λ e. e ≢ Failing → IsFailed session.new → ⊥) }
     ensures cause { IfErr result (MayRefuse (D.faults disk.old) (D.faults disk.new)) }
     ensures later { D.faults disk.old ≤ D.faults disk.new }
+    ensures quiet { OnOk result (D.faults disk.new ≡ D.faults disk.old) }
+    ensures still { IfErr result (λ e. e ≢ Failing → D.faults disk.new ≡ D.faults disk.old) }
 {
     let fetched = show(alloc, server, seat, pmids, now)?;
     if pmids.is_empty() {

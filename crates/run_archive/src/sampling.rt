@@ -26,6 +26,7 @@ fn next_moment<C: Clock>(clock: &mut C, left: u32) -> Result<Stamp, Ending>
     ensures none { C.tells → OnErr result (C.left clock.new ≡ C.left clock.old) }
     ensures why { IfErr result (λ e. ((e ≡ NoMoment left) × HasEnded C.Clock clock.new) ⊎ ((e ≡ NoClock left) × Rose (C.faults clock.old) (C.faults clock.new))) }
     ensures later { C.faults clock.old ≤ C.faults clock.new }
+    ensures quiet { OnOk result (C.faults clock.new ≡ C.faults clock.old) }
 {
     match clock.now() {
         Ok(Some(now)) => Ok(now),
@@ -58,6 +59,8 @@ pub fn sample_at<'a, D: Disk>(
     ensures unfailed { IfErr result (λ e. e ≢ Failing → IsFailed sampler.new.session → ⊥) }
     ensures cause { IfErr result (MayRefuse (D.faults disk.old) (D.faults disk.new)) }
     ensures later { D.faults disk.old ≤ D.faults disk.new }
+    ensures quiet { OnOk result (D.faults disk.new ≡ D.faults disk.old) }
+    ensures still { IfErr result (λ e. e ≢ Failing → D.faults disk.new ≡ D.faults disk.old) }
 {
     let plans = mem::replace(&mut sampler.plans, None);
     let Ok(mut plans) = Plans::at_tick(alloc, &script.config, plans, now) else {
@@ -108,6 +111,7 @@ pub fn sample<'a, D: Disk, C: Clock, T: Turn>(
     ensures cause { IfErr result (MayStop C.Clock D.Disk disk.old disk.new clock.old clock.new) }
     ensures later { D.faults disk.old ≤ D.faults disk.new }
     ensures clock_later { C.faults clock.old ≤ C.faults clock.new }
+    ensures quiet { OnOk result ((D.faults disk.new ≡ D.faults disk.old) × (C.faults clock.new ≡ C.faults clock.old)) }
 {
     turn.turn(LOGGER, number);
     let now = next_moment(clock, left)?;
@@ -144,6 +148,7 @@ pub fn sample_all<'a, D: Disk, C: Clock, T: Turn>(
     ensures cause { IfErr result (MayStop C.Clock D.Disk disk.old disk.new clock.old clock.new) }
     ensures later { D.faults disk.old ≤ D.faults disk.new }
     ensures clock_later { C.faults clock.old ≤ C.faults clock.new }
+    ensures quiet { OnOk result ((D.faults disk.new ≡ D.faults disk.old) × (C.faults clock.new ≡ C.faults clock.old)) }
 {
     for number in 0..count {
         let left = samples - number;

@@ -1,5 +1,6 @@
 -- What is shown is logged, where any metric is asked for.
-use Rattle.std.proofs.Common.{inr, ◌<◌, length, sym, ◌∙◌, arith}
+use Rattle.run_archive.specs.Endings.{ending_after}
+use Rattle.std.proofs.Common.{inr, ◌<◌, length, sym, ◌∙◌, arith, ap}
 use Rattle.std.proofs.lemmas.Bool.{eqb-false, eqb-true}
 use Rattle.logging_session.specs.Written.{Report}
 use Rattle.run_archive.specs.Shown.{IsResult}
@@ -49,3 +50,6 @@ returns-clause-stops g c =
     inr (result_refused d c.args.server.now c.args.seat.now.tokens pmids c.args.now c.show.new.seat.tokens f shows c.args.session.now c.args.disk.now c.log.new.self c.log.new.disk some
     c.log.ensures.same.0 c.log.ensures.same.1 is.enough c.in-Err.fault c.ending_after.result c.ending_after.ensures
     (working_unclosed r c.args.session.now c.log.new.self (d.faults c.args.disk.now) (d.faults c.log.new.disk) c.in-Err.fault c.requires.working c.in-Err.ensures.cause) c.in-Err.ensures.uncounted c.in-Err.ensures.went)
+
+pub returns-clause-still : goal.returns-clause-still
+returns-clause-still g c = λ other. c.in-Err.ensures.still (λ is. other (c.ending_after.ensures ∙ ap ending_after is))

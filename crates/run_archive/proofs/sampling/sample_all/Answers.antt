@@ -23,6 +23,8 @@ loop-number-init g c =
       few = omega (arith, c.requires.none);
       working = c.requires.working;
       goes = ([], refl, goes_nowhere g.C.Clock g.D.Disk c.args.script.now.config.groups c.args.server.now sampler sampler seat clock clock disk refl (λ tells. refl));
+      quiet = refl;
+      clock_quiet = refl;
       later = omega arith;
       clock_later = omega arith;
     }
@@ -76,6 +78,8 @@ loop-number-preserved g c =
         goes_joined g.C.Clock g.D.Disk c.args.script.now.config.groups c.args.server.now c.args.sampler.now c.loop-number.sampler c.sample.new.sampler c.args.seat.now.tokens c.loop-number.seat.tokens c.sample.new.seat.tokens c.args.clock.now
             c.loop-number.clock c.sample.new.clock c.args.disk.now c.loop-number.disk c.sample.new.disk so_far.0 so_far.2 (more.0 ∷ []) more.1,
       );
+      quiet = c.in_ok-sample.ensures.quiet.0 ∙ c.loop-number.invariant.quiet;
+      clock_quiet = c.in_ok-sample.ensures.quiet.1 ∙ c.loop-number.invariant.clock_quiet;
       later = omega (arith, c.sample.ensures.later, c.loop-number.invariant.later);
       clock_later = omega (arith, c.sample.ensures.clock_later, c.loop-number.invariant.clock_later);
     }

@@ -17,6 +17,8 @@ invariant-loop-number g l = record {
   working : IsWorking l.sampler.session;
   goes : (taken : List SampleTaken) × (length taken ≡ l.number)
       × GoesOn g.C.Clock g.D.Disk l.script.config.groups l.server l.fn.sampler l.sampler l.fn.seat.tokens l.seat.tokens l.fn.clock l.clock l.fn.disk l.disk taken;
+  quiet : g.D.Disk.faults l.disk ≡ g.D.Disk.faults l.fn.disk;
+  clock_quiet : g.C.Clock.faults l.clock ≡ g.C.Clock.faults l.fn.clock;
   later : g.D.Disk.faults l.fn.disk ≤ g.D.Disk.faults l.disk;
   clock_later : g.C.Clock.faults l.fn.clock ≤ g.C.Clock.faults l.clock;
 }
