@@ -1,24 +1,18 @@
 -- Tables of metrics by item, as they grow row by row.
-use Rattle.std.proofs.Common.{◌≡◌, ℕ, ℤ, Bool, true, false, List, [], ◌∷◌, ◌++◌, ◌+◌, ◌<◌, length, take, get_or, Option, Some, None, is_some, ap, sym, subst, ◌∙◌, refl, cond, nat_eq, All, fold, suc, arith}
+use Rattle.std.proofs.Common.{◌≡◌, ℕ, Bool, true, false, List, [], ◌∷◌, ◌++◌, ◌+◌, ◌<◌, length, take, get_or, Option, Some, None, is_some, ap, sym, subst, ◌∙◌, refl, cond, nat_eq, All, suc, arith}
 use Rattle.std.specs.Prelude.{IfSome}
 use Rattle.std.specs.List.{find}
-use Rattle.std.specs.Map.{values_of}
 use Rattle.std.specs.Option.{option_or}
 use Rattle.std.specs.Cmp.{unsigned_ties}
-use Rattle.std.specs.Ordering.{nat_cmp, int_cmp, is_eq}
-use Rattle.std.specs.BTreeMap.{BTreeMap, get, insert_entry}
+use Rattle.std.specs.Ordering.{nat_cmp, is_eq}
+use Rattle.std.specs.BTreeMap.{BTreeMap, get}
 use Rattle.std.proofs.lemmas.Bool.{eqb-true}
 use Rattle.std.proofs.lemmas.List.{take_more}
-use Rattle.std.proofs.lemmas.List.Sums.{fold_more}
 use Rattle.std.proofs.lemmas.List.Folds.{find-append}
-use Rattle.std.proofs.lemmas.Map.Views.{All-values-insert_entry}
-use Rattle.mmv_layout.specs.declared.rows.Content.{Content}
 use Rattle.mmv_layout.specs.declared.rows.MetricRow.{MetricRow}
-use Rattle.mmv_layout.specs.declared.rows.ValueRow.{ValueRow}
 use Rattle.fetch_answers.specs.Answers.{metric_with}
-use Rattle.fetch_answers.specs.Bounds.{FitsContent, FitsMetric}
+use Rattle.fetch_answers.specs.Bounds.{FitsMetric}
 use Rattle.fetch_answers.specs.Indexes.{HasMetrics}
-use Rattle.fetch_answers.specs.Values.{instance_in, with_value, values_with}
 
 none_is : {X : Type 0} (o : Option X) → option_or o None ≡ o
 none_is (Some x) = refl

@@ -1,5 +1,5 @@
 -- Rows of values by their numbers, and what an image says of them.
-use Rattle.std.proofs.Common.{◌≡◌, ℕ, ℤ, zero, suc, negsuc, ◌+◌, ◌<◌, Bool, true, false, List, [], ◌∷◌, length, take, get_or, map, fold, Option, Some, None, unwrap_or, ap, sym, subst, ◌∙◌, refl, cond, nat_eq, add-zero, arith}
+use Rattle.std.proofs.Common.{◌≡◌, ℕ, ℤ, zero, suc, ◌+◌, ◌<◌, Bool, true, false, List, [], ◌∷◌, length, take, get_or, map, fold, Option, Some, ap, sym, subst, ◌∙◌, refl, cond, nat_eq, add-zero, arith}
 use Rattle.std.specs.Cmp.{unsigned_ties}
 use Rattle.std.specs.declared.cmp.Ordering.{Ordering}
 use Rattle.std.specs.declared.cmp.Ordering.TheVariants.{Less, Equal, Greater}

@@ -1,6 +1,6 @@
 -- The values of a metric as a fetch shows them (pmFetch(3)): which of its instances, in which order, and how each is
 -- stored.
-use Rattle.std.specs.Prelude.{ℕ, ℤ, pos, negsuc, ◌%◌, ◌==◌, Bool, true, if◌then◌else◌, List, [], ◌∷◌, ◌++◌, fold, flat_map, Option, Some, None, unwrap_or}
+use Rattle.std.specs.Prelude.{ℕ, ℤ, pos, negsuc, ◌%◌, ◌==◌, if◌then◌else◌, List, [], ◌∷◌, ◌++◌, fold, flat_map, Option, unwrap_or}
 use Rattle.std.specs.Int.{w64, to_be_bytes}
 use Rattle.std.specs.Ordering.{int_cmp}
 use Rattle.std.specs.BTreeMap.{insert_entry}
@@ -12,7 +12,8 @@ use Rattle.pcp_base.specs.declared.result.Body.TheVariants.{InPlace, Blocks, Sta
 use Rattle.mmv_layout.specs.declared.rows.ValueRow.{ValueRow}
 use Rattle.mmv_layout.specs.declared.rows.Content.{Content}
 use Rattle.mmv_layout.specs.declared.rows.Content.TheVariants.{Number, Choice, Raw}
-use Rattle.profile_filter.specs.Kept.{Settings, is_kept}
+use Rattle.profile_filter.specs.Kept.{Settings}
+pub use Rattle.profile_filter.specs.Kept.{keeps}
 
 -- contents by instance, in ascending signed number
 abbrev pub ByInstance : Type 0
@@ -29,11 +30,6 @@ with_value item values row = if row.item == item then insert_entry int_cmp value
 -- the values of an item
 abbrev pub values_with : ℕ → List ValueRow → ByInstance
 values_with item rows = fold (with_value item) [] rows
-
--- a profile keeps an instance of a metric's domain; a metric without one ignores it
-abbrev pub keeps : Settings → Option ℕ → ℤ → Bool
-keeps profile None instance = true
-keeps profile (Some indom) instance = is_kept profile indom instance
 
 -- in place stand the low 32 bits
 abbrev pub word_of : Content → ℕ

@@ -106,7 +106,7 @@ fn row_domain(alloc: Global, rows: &[IndomRow], serial: u32) -> Result<Instances
         return Err(AskFault::Status(NO_DOMAIN));
     };
     let table = by_number(alloc, row.instances.as_slice())?;
-    Ok(listed(alloc, &table)?)
+    Ok(listed(alloc, table)?)
 }
 
 /// The instances of a domain of a region.

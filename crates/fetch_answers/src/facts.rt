@@ -160,12 +160,12 @@ pub fn by_number(alloc: Global, instances: &[(i32, Text)]) -> Result<BTreeMap<i3
 }
 
 /// The instances of a table.
-pub fn listed(alloc: Global, table: &BTreeMap<i32, Text>) -> Result<Instances, NoMemory>
-    ensures { IfOk result (λ list. list ≡ table.now.entries) }
+pub fn listed(alloc: Global, table: BTreeMap<i32, Text>) -> Result<Instances, NoMemory>
+    ensures { IfOk result (λ list. list ≡ table.entries) }
 {
     let mut list = List::empty(alloc);
     for (number, name) in table {
-        list.push((*number, name.copy(alloc)?))?;
+        list.push((number, name))?;
     }
     Ok(list)
 }
@@ -183,7 +183,7 @@ fn row_instances(alloc: Global, rows: &[IndomRow], serial: u32) -> Result<Instan
         return Ok(List::empty(alloc));
     };
     let table = by_number(alloc, row.instances.as_slice())?;
-    listed(alloc, &table)
+    listed(alloc, table)
 }
 
 /// The instances of a domain of a region, in ascending number.

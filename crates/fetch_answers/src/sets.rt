@@ -13,7 +13,7 @@ use crate::told::Told;
 use crate::values::body_of_values;
 use mmv_layout::MetricRow;
 use pcp_base::{Body, InDom, List, NoMemory, Pmid, ValueSet};
-use profile_filter::Profile;
+use profile_filter::{ByDomain, Profile};
 use std::alloc::Global;
 use std::collections::BTreeMap;
 
@@ -38,7 +38,7 @@ pub fn indom_in(cluster: u32, serial: Option<u32>) -> Option<InDom>
 /// What a metric shows.
 fn metric_body(
     alloc: Global,
-    profile: &Profile,
+    profile: &ByDomain<'_>,
     cluster: u32,
     told: &Told,
     item: u32,
@@ -49,12 +49,12 @@ fn metric_body(
     let Some(metric) = told.metric(item) else {
         return Ok(Body::Status(UNKNOWN));
     };
-    let indom = indom_in(cluster, metric.serial);
+    let choice = profile.choice(indom_in(cluster, metric.serial));
     match told.numbers(metric.item) {
-        Some(numbers) => body_of_values(alloc, metric.kind, profile, &indom, told.words(), numbers),
+        Some(numbers) => body_of_values(alloc, metric.kind, &choice, told.words(), numbers),
         None => {
             let none: RowNumbers = BTreeMap::new(alloc);
-            body_of_values(alloc, metric.kind, profile, &indom, told.words(), &none)
+            body_of_values(alloc, metric.kind, &choice, told.words(), &none)
         }
     }
 }
@@ -62,7 +62,7 @@ fn metric_body(
 /// What a metric of a region shows.
 fn region_body(
     alloc: Global,
-    profile: &Profile,
+    profile: &ByDomain<'_>,
     pmid: Pmid,
     region: &Known,
 ) -> Result<Body, NoMemory>
@@ -77,7 +77,7 @@ fn region_body(
 fn body_of(
     alloc: Global,
     regions: &[Known],
-    profile: &Profile,
+    profile: &ByDomain<'_>,
     pmid: Pmid,
 ) -> Result<Body, NoMemory>
     ensures { IfOk result (λ body. body ≡ body_of (map reading_of regions.now) profile.now pmid) }
@@ -86,6 +86,23 @@ fn body_of(
         Some(region) => region_body(alloc, profile, pmid, region),
         None => Ok(Body::Status(UNKNOWN)),
     }
+}
+
+/// The sets of metrics, by a profile whose parts are found by their domains.
+fn all_sets(
+    alloc: Global,
+    regions: &[Known],
+    profile: &ByDomain<'_>,
+    pmids: &[Pmid],
+) -> Result<List<ValueSet>, NoMemory>
+    ensures { IfOk result (λ sets. sets ≡ map (set_of (map reading_of regions.now) profile.now) pmids.now) }
+{
+    let mut sets = List::empty(alloc);
+    for pmid in pmids {
+        let body = body_of(alloc, regions, profile, *pmid)?;
+        sets.push(ValueSet { pmid: *pmid, body })?;
+    }
+    Ok(sets)
 }
 
 /// A set for each metric that was asked for, in the order asked.
@@ -97,10 +114,6 @@ pub fn sets_of(
 ) -> Result<List<ValueSet>, NoMemory>
     ensures { IfOk result (λ sets. sets ≡ map (set_of (map reading_of regions.now) profile.now) pmids.now) }
 {
-    let mut sets = List::empty(alloc);
-    for pmid in pmids {
-        let body = body_of(alloc, regions, profile, *pmid)?;
-        sets.push(ValueSet { pmid: *pmid, body })?;
-    }
-    Ok(sets)
+    let profile = ByDomain::of(alloc, profile)?;
+    all_sets(alloc, regions, &profile, pmids)
 }

@@ -2,7 +2,7 @@
 ghost use Rattle.std.specs.Prelude.{◌≡◌, ◌++◌, flat_map, IfOk, OnOk};
 ghost use Rattle.fetch_answers.specs.Bounds.{FitsContent};
 ghost use Rattle.fetch_answers.specs.Numbers.{content_at, contents_at};
-ghost use Rattle.fetch_answers.specs.Values.{block_of, bytes_of, blocks_of, keeps, shown_block, shown_word, body_of_values, word_of, words_of};
+ghost use Rattle.fetch_answers.specs.Values.{block_of, bytes_of, blocks_of, shown_block, shown_word, body_of_values, word_of, words_of};
 
 use crate::index::RowNumbers;
 use byteorder::{BigEndian, ByteOrder};
@@ -10,19 +10,9 @@ use mmv_layout::{
     Content, STRING_SIZE, extra_in_value, metric_of, text_at, type_in_metric, value_at,
     value_in_value,
 };
-use pcp_base::{Block, Body, Bytes, InDom, Kind, List, NoMemory};
-use profile_filter::Profile;
+use pcp_base::{Block, Body, Bytes, Kind, List, NoMemory};
+use profile_filter::Choice;
 use std::alloc::Global;
-
-/// Whether the profile keeps an instance of a metric's domain; a metric without one ignores it.
-fn keeps(profile: &Profile, indom: &Option<InDom>, instance: i32) -> bool
-    ensures { result ≡ keeps profile.now indom.now instance }
-{
-    match indom {
-        Some(indom) => profile.includes(*indom, instance),
-        None => true,
-    }
-}
 
 /// The content of the value in a row, by the type of its metric.
 #[tactic(auto, using(crate::proofs::Bounds::fits_at), unfolding(mmv_layout::specs::Rows::content_of))]
@@ -90,15 +80,14 @@ fn block_of(alloc: Global, code: u8, content: &Content) -> Result<Block, NoMemor
 fn push_word(
     alloc: Global,
     pairs: &mut List<(i32, u32)>,
-    profile: &Profile,
-    indom: &Option<InDom>,
+    choice: &Choice<'_>,
     instance: i32,
     words: &[u64],
     number: u32,
 ) -> Result<(), NoMemory>
-    ensures { OnOk result (pairs.new ≡ pairs.old ++ shown_word profile.now indom.now (instance, content_at words.now number)) }
+    ensures { OnOk result (pairs.new ≡ pairs.old ++ shown_word choice.now.settings choice.now.indom (instance, content_at words.now number)) }
 {
-    if !keeps(profile, indom, instance) {
+    if !choice.keeps(instance) {
         return Ok(());
     }
     let content = content_at(alloc, words, number)?;
@@ -109,16 +98,15 @@ fn push_word(
 fn push_block(
     alloc: Global,
     pairs: &mut List<(i32, Block)>,
-    profile: &Profile,
-    indom: &Option<InDom>,
+    choice: &Choice<'_>,
     code: u8,
     instance: i32,
     words: &[u64],
     number: u32,
 ) -> Result<(), NoMemory>
-    ensures { OnOk result (pairs.new ≡ pairs.old ++ shown_block profile.now indom.now code (instance, content_at words.now number)) }
+    ensures { OnOk result (pairs.new ≡ pairs.old ++ shown_block choice.now.settings choice.now.indom code (instance, content_at words.now number)) }
 {
-    if !keeps(profile, indom, instance) {
+    if !choice.keeps(instance) {
         return Ok(());
     }
     let content = content_at(alloc, words, number)?;
@@ -129,16 +117,15 @@ fn push_block(
 /// The words of the values that the profile keeps.
 fn shown_words(
     alloc: Global,
-    profile: &Profile,
-    indom: &Option<InDom>,
+    choice: &Choice<'_>,
     words: &[u64],
     numbers: &RowNumbers,
 ) -> Result<List<(i32, u32)>, NoMemory>
-    ensures { IfOk result (λ pairs. pairs ≡ flat_map (shown_word profile.now indom.now) (contents_at words.now numbers.now.entries)) }
+    ensures { IfOk result (λ pairs. pairs ≡ flat_map (shown_word choice.now.settings choice.now.indom) (contents_at words.now numbers.now.entries)) }
 {
     let mut pairs = List::empty(alloc);
     for (instance, number) in numbers {
-        push_word(alloc, &mut pairs, profile, indom, *instance, words, *number)?;
+        push_word(alloc, &mut pairs, choice, *instance, words, *number)?;
     }
     Ok(pairs)
 }
@@ -146,33 +133,29 @@ fn shown_words(
 /// The blocks of the values that the profile keeps.
 fn shown_blocks(
     alloc: Global,
-    profile: &Profile,
-    indom: &Option<InDom>,
+    choice: &Choice<'_>,
     code: u8,
     words: &[u64],
     numbers: &RowNumbers,
 ) -> Result<List<(i32, Block)>, NoMemory>
-    ensures { IfOk result (λ pairs. pairs ≡ flat_map (shown_block profile.now indom.now code) (contents_at words.now numbers.now.entries)) }
+    ensures { IfOk result (λ pairs. pairs ≡ flat_map (shown_block choice.now.settings choice.now.indom code) (contents_at words.now numbers.now.entries)) }
 {
     let mut pairs = List::empty(alloc);
     for (instance, number) in numbers {
-        push_block(
-            alloc, &mut pairs, profile, indom, code, *instance, words, *number,
-        )?;
+        push_block(alloc, &mut pairs, choice, code, *instance, words, *number)?;
     }
     Ok(pairs)
 }
 
 fn words_of(
     alloc: Global,
-    profile: &Profile,
-    indom: &Option<InDom>,
+    choice: &Choice<'_>,
     words: &[u64],
     numbers: &RowNumbers,
 ) -> Result<Body, NoMemory>
-    ensures { IfOk result (λ body. body ≡ words_of profile.now indom.now (contents_at words.now numbers.now.entries)) }
+    ensures { IfOk result (λ body. body ≡ words_of choice.now.settings choice.now.indom (contents_at words.now numbers.now.entries)) }
 {
-    let pairs = shown_words(alloc, profile, indom, words, numbers)?;
+    let pairs = shown_words(alloc, choice, words, numbers)?;
     if pairs.is_empty() {
         return Ok(Body::Status(0));
     }
@@ -181,15 +164,14 @@ fn words_of(
 
 fn blocks_of(
     alloc: Global,
-    profile: &Profile,
-    indom: &Option<InDom>,
+    choice: &Choice<'_>,
     code: u8,
     words: &[u64],
     numbers: &RowNumbers,
 ) -> Result<Body, NoMemory>
-    ensures { IfOk result (λ body. body ≡ blocks_of profile.now indom.now code (contents_at words.now numbers.now.entries)) }
+    ensures { IfOk result (λ body. body ≡ blocks_of choice.now.settings choice.now.indom code (contents_at words.now numbers.now.entries)) }
 {
-    let pairs = shown_blocks(alloc, profile, indom, code, words, numbers)?;
+    let pairs = shown_blocks(alloc, choice, code, words, numbers)?;
     if pairs.is_empty() {
         return Ok(Body::Status(0));
     }
@@ -200,18 +182,17 @@ fn blocks_of(
 pub fn body_of_values(
     alloc: Global,
     kind: Kind,
-    profile: &Profile,
-    indom: &Option<InDom>,
+    choice: &Choice<'_>,
     words: &[u64],
     numbers: &RowNumbers,
 ) -> Result<Body, NoMemory>
-    ensures { IfOk result (λ body. body ≡ body_of_values kind profile.now indom.now (contents_at words.now numbers.now.entries)) }
+    ensures { IfOk result (λ body. body ≡ body_of_values kind choice.now.settings choice.now.indom (contents_at words.now numbers.now.entries)) }
 {
     match kind {
-        Kind::I32 | Kind::U32 => words_of(alloc, profile, indom, words, numbers),
-        Kind::I64 => blocks_of(alloc, profile, indom, 2, words, numbers),
-        Kind::U64 => blocks_of(alloc, profile, indom, 3, words, numbers),
-        Kind::Text => blocks_of(alloc, profile, indom, 6, words, numbers),
+        Kind::I32 | Kind::U32 => words_of(alloc, choice, words, numbers),
+        Kind::I64 => blocks_of(alloc, choice, 2, words, numbers),
+        Kind::U64 => blocks_of(alloc, choice, 3, words, numbers),
+        Kind::Text => blocks_of(alloc, choice, 6, words, numbers),
         Kind::Float | Kind::Double | Kind::Elapsed => Ok(Body::Status(-12362)),
     }
 }

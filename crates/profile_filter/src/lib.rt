@@ -3,6 +3,8 @@
 //! the global state does where the domain has no part.
 #![tactic(auto)]
 
+mod choices;
 mod profile;
 
+pub use choices::{ByDomain, Choice};
 pub use profile::{DomainPart, Profile, TooMany};

@@ -71,6 +71,20 @@ impl Profile {
         Ok(())
     }
 
+    /// Whether instances of a domain without a part are kept.
+    pub(crate) fn global(&self) -> bool
+        ensures { result ≡ self.now.global }
+    {
+        self.global
+    }
+
+    /// What the profile says of domains.
+    pub(crate) fn parts(&self) -> &[DomainPart]
+        ensures { result.now ≡ self.now.parts }
+    {
+        self.parts.as_slice()
+    }
+
     /// Whether a fetch keeps this instance of this domain.
     pub fn includes(&self, indom: InDom, instance: i32) -> bool
         ensures { result ≡ is_kept self.now indom instance }

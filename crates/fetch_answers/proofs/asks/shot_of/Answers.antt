@@ -1,6 +1,5 @@
 use Rattle.std.proofs.Common.{◌≡◌, ◌==◌, ◌/◌, ◌+◌, ◌*◌, ◌<◌, ℕ, Bool, nat_lt, sym, subst, ap, ◌∙◌, Option}
 use Rattle.std.specs.Prelude.{◌&&◌, IfSome, option_map}
-use Rattle.std.specs.List.{find}
 use Rattle.std.proofs.lemmas.Bool.{lt-ltb}
 use Rattle.fetch_answers.specs.Answers.{is_of}
 use Rattle.fetch_answers.specs.Readings.{reading_of}

@@ -3,4 +3,4 @@ use Rattle.std.proofs.Common.{◌≡◌, ◌++◌}
 use Rattle.fetch_answers.proofs.facts.listed.Given as goal
 
 abbrev pub invariant-loop-number : goal.invariant-loop-number
-invariant-loop-number l = l.list ++ l.number-iterator ≡ l.table.entries
+invariant-loop-number l = l.list ++ l.number-iterator ≡ l.fn.table.entries

@@ -1,5 +1,5 @@
 -- One row more was kept.
-use Rattle.std.proofs.Common.{rules, ◌≡◌, ◌<◌, length, get_or, arith}
+use Rattle.std.proofs.Common.{rules, ◌≡◌, ◌<◌, length, get_or}
 use Rattle.fetch_answers.proofs.Numbers.{rows_step}
 use Rattle.fetch_answers.proofs.index.rows_by_item.Goals as goal
 

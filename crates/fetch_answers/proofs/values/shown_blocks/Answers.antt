@@ -9,6 +9,6 @@ use Rattle.fetch_answers.proofs.values.shown_blocks.Goals as goal
 pub loop-instance-preserved : goal.loop-instance-preserved
 loop-instance-preserved c =
     let same : to_z w32 (of_z w32 c.in-Some.instance.now) ≡ c.in-Some.instance.now = to_z-of_z w32 c.in-Some.instance.now (search rules) in
-    flat_step (shown_block c.args.profile.now c.args.indom.now c.args.code) c.loop-instance.pairs c.push_block.new.pairs (contents_at c.args.words.now c.loop-instance.instance-iterator) (contents_at c.args.words.now c.next.new.self)
+    flat_step (shown_block c.args.choice.now.settings c.args.choice.now.indom c.args.code) c.loop-instance.pairs c.push_block.new.pairs (contents_at c.args.words.now c.loop-instance.instance-iterator) (contents_at c.args.words.now c.next.new.self)
     (c.in-Some.instance.now, content_at c.args.words.now c.in-Some.number.now) _ c.loop-instance.invariant (ap (contents_at c.args.words.now) c.in-Some.ensures.steps)
-    (c.in_ok-push_block.ensures ∙ ap (λ (n : ℤ). c.loop-instance.pairs ++ shown_block c.args.profile.now c.args.indom.now c.args.code (n, content_at c.args.words.now c.in-Some.number.now)) same)
+    (c.in_ok-push_block.ensures ∙ ap (λ (n : ℤ). c.loop-instance.pairs ++ shown_block c.args.choice.now.settings c.args.choice.now.indom c.args.code (n, content_at c.args.words.now c.in-Some.number.now)) same)

@@ -6,4 +6,4 @@ use Rattle.fetch_answers.specs.Values.{shown_block}
 use Rattle.fetch_answers.proofs.values.shown_blocks.Given as goal
 
 abbrev pub invariant-loop-instance : goal.invariant-loop-instance
-invariant-loop-instance l = l.pairs ++ flat_map (shown_block l.profile l.indom l.code) (contents_at l.words l.instance-iterator) ≡ flat_map (shown_block l.profile l.indom l.code) (contents_at l.words l.numbers.entries)
+invariant-loop-instance l = l.pairs ++ flat_map (shown_block l.choice.settings l.choice.indom l.code) (contents_at l.words l.instance-iterator) ≡ flat_map (shown_block l.choice.settings l.choice.indom l.code) (contents_at l.words l.numbers.entries)

@@ -6,4 +6,4 @@ use Rattle.fetch_answers.specs.Values.{shown_word}
 use Rattle.fetch_answers.proofs.values.shown_words.Given as goal
 
 abbrev pub invariant-loop-instance : goal.invariant-loop-instance
-invariant-loop-instance l = l.pairs ++ flat_map (shown_word l.profile l.indom) (contents_at l.words l.instance-iterator) ≡ flat_map (shown_word l.profile l.indom) (contents_at l.words l.numbers.entries)
+invariant-loop-instance l = l.pairs ++ flat_map (shown_word l.choice.settings l.choice.indom) (contents_at l.words l.instance-iterator) ≡ flat_map (shown_word l.choice.settings l.choice.indom) (contents_at l.words l.numbers.entries)
