@@ -94,3 +94,22 @@ module _ {C D : Type 0} (c : ClockGhosts C) (d : DiskGhosts D) (clock_was clock_
   pub unrecovered_may : (old new : D) (fault : RecoverFault) (last : Ending) → (last ≡ ended_by fault) ⊎ ((ended_by fault ≢ ends.DiskFault) × (last ≡ ends.NoMemory)) → (fault ≡ recovery.DiskFault → Rose (d.faults old) (d.faults new)) → MayEndRecording c d clock_was clock_is old new last
   unrecovered_may old new fault last (inl is) rose = subst (λ (x : Ending). MayEndRecording c d clock_was clock_is old new x) (sym is) (recovery_may old new fault rose)
   unrecovered_may old new fault last (inr (other, is)) rose = subst (λ (x : Ending). MayEndRecording c d clock_was clock_is old new x) (sym is) tt
+
+-- ---- a recording that comes to its end
+
+pub undone : (e : Ending) → e ≡ ends.DiskFault → e ≡ ends.Done → ⊥
+undone e failing done = cc
+
+pub done_before : (e last : Ending) → EndsAs e last → last ≡ ends.Done → e ≡ ends.Done
+done_before e last (inl same) done = sym same ∙ done
+done_before e last (inr (inl failing)) done = absurd (undone last failing done)
+done_before e last (inr (inr (was, refused))) done = was
+
+-- sampling that stops doesn't come to its end
+pub stopped_undone : {C D : Type 0} (c : ClockGhosts C) (d : DiskGhosts D) (old new : D) (before after : C) (e : Ending) → MayStop c d old new before after e → e ≡ ends.Done → ⊥
+stopped_undone c d old new before after e may is = subst (λ (x : Ending). MayStop c d old new before after x) is may
+
+-- nor does one whose writers were refused memory
+pub refused_undone : (e last : Ending) → RefusedBy e last → last ≡ ends.Done → ⊥
+refused_undone e last (inl (failing, same)) done = undone last (same ∙ failing) done
+refused_undone e last (inr (other, refused)) done = cc

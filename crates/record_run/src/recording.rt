@@ -74,6 +74,7 @@ fn run<'a, R: Threads + Wait + Sync, D: Disk, C: Clock, T: Turn + Sync>(
     ensures unfailed { result ≢ Failing → IsFailed sampler.new.session → ⊥ }
     ensures later { D.faults disk.old ≤ D.faults disk.new }
     ensures clock_later { C.faults clock.old ≤ C.faults clock.new }
+    ensures quiet { result ≡ AtEnd → (D.faults disk.new ≡ D.faults disk.old) × (C.faults clock.new ≡ C.faults clock.old) }
 {
     let (written, early) = beside(
         rt, alloc, script, server, seat, passes, disk, clock, turn, sampler, samples,
@@ -136,6 +137,7 @@ fn record_over<R: Threads + Wait + Sync, D: Disk, C: Clock, T: Turn + Sync>(
     ensures cause { MayEndRecording C.Clock D.Disk clock.old clock.new disk.old disk.new result.ending }
     ensures later { D.faults disk.old ≤ D.faults disk.new }
     ensures clock_later { C.faults clock.old ≤ C.faults clock.new }
+    ensures quiet { result.ending ≡ AtEnd → (D.faults disk.new ≡ D.faults disk.old) × (C.faults clock.new ≡ C.faults clock.old) }
 {
     let session = Session::begin(archive, label, volume);
     let mut sampler = Sampler {
@@ -218,6 +220,7 @@ fn record_with<R: Threads + Wait + Sync, D: Disk, C: Clock, T: Turn + Sync>(
     ensures cause { MayEndRecording C.Clock D.Disk clock.old clock.new disk.old disk.new result.ending }
     ensures later { D.faults disk.old ≤ D.faults disk.new }
     ensures clock_later { C.faults clock.old ≤ C.faults clock.new }
+    ensures quiet { result.ending ≡ AtEnd → (D.faults disk.new ≡ D.faults disk.old) × (C.faults clock.new ≡ C.faults clock.old) }
 {
     // The label comes first: where memory for it is refused neither the disk nor the clock is touched.
     let Ok(label) = run_label(alloc) else {
@@ -279,6 +282,8 @@ pub fn record_script<R: Threads + Wait + Sync, D: Disk, C: Clock, T: Turn + Sync
     ensures cause { MayEndRecording C.Clock D.Disk clock.old clock.new disk.old disk.new result.ending }
     ensures later { D.faults disk.old ≤ D.faults disk.new }
     ensures clock_later { C.faults clock.old ≤ C.faults clock.new }
+    // Where it comes to its end no call of the disk or of the clock has failed.
+    ensures quiet { result.ending ≡ AtEnd → (D.faults disk.new ≡ D.faults disk.old) × (C.faults clock.new ≡ C.faults clock.old) }
 {
     images_are(&script);
     let seat = &mut opened.seats[0];

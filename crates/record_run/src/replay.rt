@@ -1,5 +1,5 @@
 //! The run of a script over any files, by the calls of the regions that were opened for it, on one thread.
-ghost use Rattle.std.specs.Prelude.{◌≡◌, ◌≤◌, [], ◌∷◌, length, slice_get, Some, IfErr, IfOk};
+ghost use Rattle.std.specs.Prelude.{◌≡◌, ◌≤◌, [], ◌∷◌, length, slice_get, Some, IfErr, IfOk, OnOk, ◌≢◌};
 ghost use Rattle.archive_recovery.specs.declared.outcome.RecoverFault.{RecoverFault as Unrecovered};
 ghost use Rattle.archive_recovery.specs.Halfway.{MayBeHalfway};
 ghost use Rattle.fetch_engine.specs.Servers.{IsSeated, Seated};
@@ -11,7 +11,8 @@ ghost use Rattle.run_script.specs.Rules.{KeepsRules};
 ghost use Rattle.run_passes.specs.Crews.{Follows, IsManned, ServesScript};
 ghost use Rattle.run_passes.specs.Openings.{AreMade, IsOpened};
 ghost use Rattle.script_runs.specs.Regions.{made_regions};
-ghost use Rattle.run_archive.specs.Endings.{MayEnd};
+ghost use Rattle.script_runs.specs.declared.ending.Ending.TheVariants.{DiskFault as Failing};
+ghost use Rattle.run_archive.specs.Endings.{LeavesCount, MayEnd};
 ghost use Rattle.run_archive.specs.Outcomes.{IsUnrecovered, ended_by};
 ghost use Rattle.record_run.specs.Replays.{IsBegun, IsReplay, ReplaysOver};
 
@@ -53,6 +54,7 @@ fn begin_session<D: Disk>(alloc: Global, disk: &mut D, volume: u64) -> Result<Se
     ensures unread { D.tells → (Readable (contents_of (D.held disk.old)) → ⊥) → LeavesOnly D.moment D.left_since disk.old disk.new (CrashImage (D.held disk.old)) }
     ensures cause { IfErr result (MayEnd (D.faults disk.old) (D.faults disk.new)) }
     ensures later { D.faults disk.old ≤ D.faults disk.new }
+    ensures quiet { OnOk result (D.faults disk.new ≡ D.faults disk.old) }
 {
     let Ok(label) = run_label(alloc) else {
         return Err(Ending::NoMemory);
@@ -82,6 +84,7 @@ fn replay_over<D: Disk>(
     ensures seated { IsSeated server.now seat.new.tokens }
     ensures cause { MayEnd (D.faults disk.old) (D.faults disk.new) result.ending }
     ensures later { D.faults disk.old ≤ D.faults disk.new }
+    ensures quiet { result.ending ≢ Failing → D.faults disk.new ≡ D.faults disk.old }
 {
     let sampler = Sampler {
         session,
@@ -120,6 +123,7 @@ fn replay_with<D: Disk>(
     ensures unread { D.tells → (Readable (contents_of (D.held disk.old)) → ⊥) → LeavesOnly D.moment D.left_since disk.old disk.new (CrashImage (D.held disk.old)) }
     ensures cause { MayEnd (D.faults disk.old) (D.faults disk.new) result.ending }
     ensures later { D.faults disk.old ≤ D.faults disk.new }
+    ensures quiet { LeavesCount (D.faults disk.old) (D.faults disk.new) result.ending }
 {
     let running = match Running::begin(alloc, script, server, seat, passes) {
         Ok(running) => running,
@@ -160,6 +164,8 @@ pub fn replay_script<D: Disk>(
     ensures unread { D.tells → (Readable (contents_of (D.held disk.old)) → ⊥) → LeavesOnly D.moment D.left_since disk.old disk.new (CrashImage (D.held disk.old)) }
     ensures cause { MayEnd (D.faults disk.old) (D.faults disk.new) result.ending }
     ensures later { D.faults disk.old ≤ D.faults disk.new }
+    // Unless it ends by a fault of the disk, or before its first line, no call of the disk has failed.
+    ensures quiet { LeavesCount (D.faults disk.old) (D.faults disk.new) result.ending }
 {
     let passes = mem::replace(&mut opened.passes, Vec::new(alloc));
     let seat = &mut opened.seats[0];

@@ -82,6 +82,7 @@ pub(crate) fn beside<'a, R: Threads + Wait + Sync, D: Disk, C: Clock, T: Turn + 
     ensures cause { IfErr result.1 (MayStop C.Clock D.Disk disk.old disk.new clock.old clock.new) }
     ensures later { D.faults disk.old ≤ D.faults disk.new }
     ensures clock_later { C.faults clock.old ≤ C.faults clock.new }
+    ensures quiet { OnOk result.1 ((D.faults disk.new ≡ D.faults disk.old) × (C.faults clock.new ≡ C.faults clock.old)) }
 {
     let count = samples - 1;
     join_mut(
@@ -115,6 +116,7 @@ pub(crate) fn beside<'a, R: Threads + Wait + Sync, D: Disk, C: Clock, T: Turn + 
             ensures cause { IfErr result (MayStop C.Clock D.Disk disk.entry.now disk.exit.now clock.entry.now clock.exit.now) }
             ensures later { D.faults disk.entry.now ≤ D.faults disk.exit.now }
             ensures clock_later { C.faults clock.entry.now ≤ C.faults clock.exit.now }
+            ensures quiet { OnOk result ((D.faults disk.exit.now ≡ D.faults disk.entry.now) × (C.faults clock.exit.now ≡ C.faults clock.entry.now)) }
         {
             sample_all(
                 alloc, disk, clock, turn, sampler, script, server, seat, count, samples,

@@ -39,6 +39,8 @@ fn flush<D: Disk>(disk: &mut D, run: &mut Run<'_>) -> Result<(), Ending>
         → IfErr result (HaltsAt D.Disk script server s run.old run.new seat disk.old disk.new number FlushLine) }
     ensures cause { IfErr result (MayEnd (D.faults disk.old) (D.faults disk.new)) }
     ensures later { D.faults disk.old ≤ D.faults disk.new }
+    ensures quiet { OnOk result (D.faults disk.new ≡ D.faults disk.old) }
+    ensures still { IfErr result (λ e. e ≢ Failing → D.faults disk.new ≡ D.faults disk.old) }
 {
     flush_line(disk, &mut run.sampler.session, &mut run.out)
 }
@@ -107,6 +109,8 @@ fn step<'a, D: Disk>(
         → IfErr result (HaltsAt D.Disk script.now server.now s run.old run.new seat.new.tokens disk.old disk.new number line.now) }
     ensures cause { IfErr result (MayEnd (D.faults disk.old) (D.faults disk.new)) }
     ensures later { D.faults disk.old ≤ D.faults disk.new }
+    ensures quiet { OnOk result (D.faults disk.new ≡ D.faults disk.old) }
+    ensures still { IfErr result (λ e. e ≢ Failing → D.faults disk.new ≡ D.faults disk.old) }
 {
     match line {
         Line::Tick { stamp } => tick(alloc, disk, run, script, server, seat, *stamp),
@@ -164,6 +168,7 @@ pub(crate) fn run_lines<'a, D: Disk>(
         → CameTo D.Disk script.now server.now run.old run.new seat.new.tokens disk.old disk.new result }
     ensures cause { MayEnd (D.faults disk.old) (D.faults disk.new) result }
     ensures later { D.faults disk.old ≤ D.faults disk.new }
+    ensures quiet { result ≢ Failing → D.faults disk.new ≡ D.faults disk.old }
 {
     for (number, line) in script.steps.as_slice() {
         match step(alloc, disk, run, script, server, seat, *number, line) {

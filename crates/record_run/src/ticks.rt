@@ -43,6 +43,8 @@ pub(crate) fn tick<'a, D: Disk>(
         → IfErr result (HaltsAt D.Disk script.now server.now s run.old run.new seat.new.tokens disk.old disk.new number (Tick now)) }
     ensures cause { IfErr result (MayEnd (D.faults disk.old) (D.faults disk.new)) }
     ensures later { D.faults disk.old ≤ D.faults disk.new }
+    ensures quiet { OnOk result (D.faults disk.new ≡ D.faults disk.old) }
+    ensures still { IfErr result (λ e. e ≢ Failing → D.faults disk.new ≡ D.faults disk.old) }
 {
     let Ok(()) = make_room(&mut run.out) else {
         return Err(Ending::NoMemory);

@@ -1,8 +1,9 @@
 -- A recording over what recovery left.
-use Rattle.std.proofs.Common.{ℕ, List, ap, ◌∙◌}
+use Rattle.std.proofs.Common.{ℕ, List, ap, ◌∙◌, ◌≡◌, subst, sym}
 use Rattle.run_archive.specs.Endings.{told_behind}
 use Rattle.run_archive.proofs.Beginning.{begins_over}
-use Rattle.record_run.proofs.RecordCauses.{finish_may}
+use Rattle.script_runs.specs.declared.ending.Ending.TheVariants as ends
+use Rattle.record_run.proofs.RecordCauses.{done_before, finish_may, undone}
 use Rattle.record_run.proofs.Finishing.{recorded}
 use Rattle.record_run.proofs.Running.{told_on}
 use Rattle.record_run.proofs.recording.record_over.Goals as goal
@@ -24,3 +25,13 @@ returns-clause-writers g c =
 pub returns-clause-cause : goal.returns-clause-cause
 returns-clause-cause g c =
     finish_may g.C.Clock g.D.Disk c.args.clock.now c.run-ending.new.clock c.args.disk.now c.run-ending.new.disk c.finish.new.disk c.run-ending.result c.finish.result.ending c.run-ending.ensures.later c.finish.ensures.later c.run-ending.ensures.cause c.finish.ensures.ends c.finish.ensures.rose
+
+pub returns-clause-quiet : goal.returns-clause-quiet
+returns-clause-quiet g c = λ is.
+    let e = c.run-ending.result in
+    let last = c.finish.result.ending in
+    let done : e ≡ ends.Done = done_before e last c.finish.ensures.ends is in
+    let run = c.run-ending.ensures.quiet done in (
+      c.finish.ensures.quiet (λ failing. undone last failing is) ∙ run.0,
+      run.1,
+    )

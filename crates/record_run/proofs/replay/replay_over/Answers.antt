@@ -1,5 +1,5 @@
 -- A script is run over what recovery left.
-use Rattle.std.proofs.Common.{None, refl}
+use Rattle.std.proofs.Common.{None, refl, ◌≡◌, inl, inr, sym, ◌∙◌}
 use Rattle.script_runs.specs.Runs.{run_start}
 use Rattle.record_run.specs.declared.run.Run.{Run}
 use Rattle.record_run.specs.States.{CameTo, Stands}
@@ -25,3 +25,7 @@ returns-clause-runs g c = λ follows.
 
 pub returns-clause-cause : goal.returns-clause-cause
 returns-clause-cause g c = c.finish.ensures.cause (g.D.Disk.faults c.args.disk.now) c.run_lines-ending.ensures.later c.run_lines-ending.ensures.cause
+
+pub returns-clause-quiet : goal.returns-clause-quiet
+returns-clause-quiet g c = λ other.
+    c.finish.ensures.quiet other ∙ c.run_lines-ending.ensures.quiet (λ is. other (c.finish.ensures.failed is).0)

@@ -5,10 +5,10 @@ use Rattle.archive_recovery.specs.declared.outcome.RecoverFault.TheVariants as r
 use Rattle.logger_core.proofs.Calls.{no_call}
 use Rattle.script_runs.specs.declared.ending.Ending.{Ending}
 use Rattle.script_runs.specs.Regions.{made_regions}
-use Rattle.run_archive.specs.Endings.{MayEnd}
+use Rattle.run_archive.specs.Endings.{MayEnd, LeavesCount}
 use Rattle.run_archive.specs.Outcomes.{IsUnrecovered}
 use Rattle.record_run.specs.Replays.{IsBegun}
-use Rattle.record_run.proofs.Causes.{may_end_earlier}
+use Rattle.record_run.proofs.Causes.{may_end_earlier, leaves_count, unrecovered_leaves}
 use Rattle.record_run.proofs.Replaying.{replay_ended, replay_nothing, unlooked}
 use Rattle.record_run.proofs.replay.replay_with.Goals as goal
 
@@ -44,3 +44,15 @@ returns-in-Err-begin_session-clause-runs g c =
 pub returns-in-Err-begin_session-clause-cause : goal.returns-in-Err-begin_session-clause-cause
 returns-in-Err-begin_session-clause-cause g c =
     subst (λ (e : Ending). MayEnd (g.D.Disk.faults c.args.disk.now) (g.D.Disk.faults c.begin_session.new.disk) e) (sym c.nothing-in-Err-begin_session.ensures.ending) c.in-Err-begin_session.ensures.cause
+
+pub returns-in-Err-clause-quiet : goal.returns-in-Err-clause-quiet
+returns-in-Err-clause-quiet g c = subst (LeavesCount (g.D.Disk.faults c.args.disk.now) (g.D.Disk.faults c.args.disk.now)) (sym c.nothing.ensures.ending) tt
+
+pub returns-in-Ok-begin_session-clause-quiet : goal.returns-in-Ok-begin_session-clause-quiet
+returns-in-Ok-begin_session-clause-quiet g c =
+    leaves_count (g.D.Disk.faults c.args.disk.now) (g.D.Disk.faults c.replay_over.new.disk) c.replay_over.result.ending (λ other. c.replay_over.ensures.quiet other ∙ c.in-Ok-begin_session.ensures.quiet)
+
+pub returns-in-Err-begin_session-clause-quiet : goal.returns-in-Err-begin_session-clause-quiet
+returns-in-Err-begin_session-clause-quiet g c =
+    let refused = c.in-Err-begin_session.ensures.refused in
+    subst (LeavesCount (g.D.Disk.faults c.args.disk.now) (g.D.Disk.faults c.begin_session.new.disk)) (sym (c.nothing-in-Err-begin_session.ensures.ending ∙ refused.1)) (unrecovered_leaves (g.D.Disk.faults c.args.disk.now) (g.D.Disk.faults c.begin_session.new.disk) refused.0)

@@ -20,6 +20,7 @@ loop-number-init g c = record {
   few = omega (arith, c.requires.fresh);
   working = c.requires.working;
   stood = λ alone stands. stood_none g.D.Disk c.args.script.now c.args.server.now c.args.run.now c.args.disk.now c.args.seat.now.tokens stands;
+  quiet = refl;
   later = omega arith;
 }
 
@@ -64,6 +65,7 @@ loop-number-preserved g c =
       stood = λ alone stands.
           let at : Stood g.D.Disk script server c.args.run.now c.args.disk.now run c.loop-number.seat.tokens c.loop-number.disk index = c.loop-number.invariant.stood (c.step.ensures.alone alone) stands in
           stood_more g.D.Disk script server c.args.run.now c.args.disk.now run next c.loop-number.seat.tokens c.step.new.seat.tokens c.loop-number.disk c.step.new.disk index item there at (c.in-Ok.ensures.goes alone at.s at.stands);
+      quiet = c.in-Ok.ensures.quiet ∙ c.loop-number.invariant.quiet;
       later = omega (arith, c.step.ensures.later, c.loop-number.invariant.later);
     }
 
@@ -82,3 +84,6 @@ returns-clause-came g c = λ alone stands.
 
 pub returns-clause-cause : goal.returns-clause-cause
 returns-clause-cause g c = c.ending_of.ensures.cause (g.D.Disk.faults c.args.disk.now) (g.D.Disk.faults c.loop-number.disk)
+
+pub returns-in-Err-clause-quiet : goal.returns-in-Err-clause-quiet
+returns-in-Err-clause-quiet g c = λ other. c.in-Err.ensures.still other ∙ c.loop-number.invariant.quiet

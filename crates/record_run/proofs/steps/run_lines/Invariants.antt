@@ -17,5 +17,6 @@ invariant-loop-number g l = record {
   working : IsWorking l.run.sampler.session;
   stood : Alone l.run.running l.seat.tokens → Stands l.script l.server l.fn.run l.fn.seat.tokens (run_start l.script)
       → Stood g.D.Disk l.script l.server l.fn.run l.fn.disk l.run l.seat.tokens l.disk l.number-index;
+  quiet : g.D.Disk.faults l.disk ≡ g.D.Disk.faults l.fn.disk;
   later : g.D.Disk.faults l.fn.disk ≤ g.D.Disk.faults l.disk;
 }

@@ -1,5 +1,5 @@
 -- A line is that of the run as a fold.
-use Rattle.std.proofs.Common.{◌≡◌, ◌≢◌, ◌⊎◌, true, false, List, sym, ap, subst, arith}
+use Rattle.std.proofs.Common.{◌≡◌, ◌≢◌, ◌⊎◌, true, false, List, sym, ap, subst, arith, refl}
 use Rattle.std.proofs.lemmas.Result.{IfErr-weaker}
 use Rattle.logging_session.specs.Keeping.{Carried, IsFailed, IsWorking}
 use Rattle.run_script.specs.declared.script.Line.{Line}
@@ -50,5 +50,7 @@ returns-in_default g c =
           err_of c.pass.result (λ x. runs s.regions) (λ e. stops s.regions e) (λ (e : Ending). HaltsAt d script server s was is after disk disk number line e) (c.pass.ensures.runs alone s.regions stands.follow.follows)
           (λ e stopped. pass_halts d script server s was is before after disk line stands same number e stopped);
       cause = IfErr-weaker c.pass.result (λ (e : Ending). (e ≡ ends.Condition number) ⊎ (e ≡ ends.NoMemory)) (λ (e : Ending). MayEnd (d.faults disk) (d.faults disk) e) (λ e which. pass_ends (d.faults disk) (d.faults disk) number e which) c.pass.ensures.kinds;
+      quiet = every_ok c.pass.result (d.faults disk ≡ d.faults disk) refl;
+      still = every_err c.pass.result (λ (e : Ending). e ≢ ends.DiskFault → d.faults disk ≡ d.faults disk) (λ e other. refl);
       later = omega arith;
     }
