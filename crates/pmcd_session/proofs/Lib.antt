@@ -3,6 +3,7 @@ pub mod Endings
 pub mod Many
 pub mod Moments
 pub mod Nothing
+pub mod Quiet
 pub mod Runs
 pub mod Same
 pub mod Completing

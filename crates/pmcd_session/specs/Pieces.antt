@@ -1,5 +1,5 @@
 -- What one step of a session does: a PDU, or the whole PDUs of a piece.
-use Rattle.std.specs.Prelude.{◌≡◌, ℕ, List, [], ◌∷◌, ◌++◌, Option, Result, Ok, Err}
+use Rattle.std.specs.Prelude.{◌≡◌, ◌≢◌, ℕ, List, [], ◌∷◌, ◌++◌, Option, Result, Ok, Err}
 use Rattle.pcp_base.specs.Time.{Moment}
 use Rattle.pcp_outside.specs.Causes.{Rose}
 use Rattle.pcp_outside.specs.declared.doors.SessionEnd.{SessionEnd}
@@ -40,6 +40,11 @@ HasReason tells left clock_before clock_after sink_before sink_after ends.ClockE
 HasReason tells left clock_before clock_after sink_before sink_after ends.ClockFault = Rose clock_before clock_after
 HasReason tells left clock_before clock_after sink_before sink_after ends.WriteFault = Rose sink_before sink_after
 HasReason tells left clock_before clock_after sink_before sink_after end = IsStreamEnd end
+
+-- no call of the clock or of the sink has failed but the one that ends the session
+abbrev pub IsQuiet : {T : Type 0} → Result T SessionEnd → ℕ → ℕ → ℕ → ℕ → Type 0
+IsQuiet (Ok done) clock_before clock_after sink_before sink_after = (clock_after ≡ clock_before) × (sink_after ≡ sink_before)
+IsQuiet (Err end) clock_before clock_after sink_before sink_after = (end ≢ ends.ClockFault → clock_after ≡ clock_before) × (end ≢ ends.WriteFault → sink_after ≡ sink_before)
 
 -- a PDU was served, and these are the bytes of its reply
 abbrev pub IsDone : {A : Type 0} → ReadsBy A → Standing A → List ℕ → List Moment → List ℕ → Standing A → Type 0

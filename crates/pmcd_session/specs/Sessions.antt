@@ -1,5 +1,5 @@
 -- Whole sessions: what was taken, what was written, and why a session ended.
-use Rattle.std.specs.Prelude.{◌≡◌, ◌⊎◌, ℕ, ◌<◌, ◌≤◌, false, Bool, List, [], ◌∷◌, ◌++◌, length, take, drop, filter, bytes_eq}
+use Rattle.std.specs.Prelude.{◌≡◌, ◌≢◌, ◌⊎◌, ℕ, ◌<◌, ◌≤◌, false, Bool, List, [], ◌∷◌, ◌++◌, length, take, drop, filter, bytes_eq}
 use Rattle.pcp_base.specs.Time.{Moment}
 use Rattle.pcp_outside.specs.Causes.{Rose}
 use Rattle.pcp_outside.specs.declared.doors.SessionEnd.{SessionEnd}
@@ -122,6 +122,18 @@ pub record CountsOn (source : SourceSide) (sink : SinkSide) (clock : ClockSide) 
   pub source_on : source.faults ≤ source.faults_after
   pub sink_on : sink.faults ≤ sink.faults_after
   pub clock_on : clock.faults ≤ clock.faults_after
+
+-- no call of an object has failed
+pub record AllStand (source : SourceSide) (sink : SinkSide) (clock : ClockSide) : Type 0 where
+  pub source_stands : source.faults_after ≡ source.faults
+  pub sink_stands : sink.faults_after ≡ sink.faults
+  pub clock_stands : clock.faults_after ≡ clock.faults
+
+-- nor one of another object than the end names
+pub record OthersStand (source : SourceSide) (sink : SinkSide) (clock : ClockSide) (end : SessionEnd) : Type 0 where
+  pub source_still : end ≢ ends.ReadFault → source.faults_after ≡ source.faults
+  pub sink_still : end ≢ ends.WriteFault → sink.faults_after ≡ sink.faults
+  pub clock_still : end ≢ ends.ClockFault → clock.faults_after ≡ clock.faults
 
 -- a PDU whose type is that of a fetch
 abbrev pub is_fetch : List ℕ → Bool

@@ -1,6 +1,7 @@
 //! What is replied to a whole PDU.
-ghost use Rattle.std.specs.Prelude.{◌≡◌, ◌≤◌, ◌++◌, List as Sequence, IfErr, MatchResult};
+ghost use Rattle.std.specs.Prelude.{◌≡◌, ◌≤◌, ◌++◌, List as Sequence, IfErr, MatchResult, ◌≢◌, OnOk};
 ghost use Rattle.pcp_base.specs.Time.{Moment};
+ghost use Rattle.pmcd_session.specs.declared.halt.Halt.TheVariants.{ClockFault as Failing};
 ghost use Rattle.pmcd_session.specs.Clocking.{taken_by, HasCauseIn, HasMomentFor};
 ghost use Rattle.pmcd_session.specs.Serving.{Does, GoesOn, Halts};
 
@@ -19,6 +20,8 @@ fn moment_for<C: Clock>(clock: &mut C, is_needed: bool) -> Result<Option<Stamp>,
     ensures moments { C.tells → C.left clock.old ≡ taken_by result ++ C.left clock.new }
     ensures answer { HasMomentFor C.tells (C.left clock.new) (C.faults clock.old) (C.faults clock.new) is_needed result }
     ensures later { C.faults clock.old ≤ C.faults clock.new }
+    ensures quiet { OnOk result (C.faults clock.new ≡ C.faults clock.old) }
+    ensures still { IfErr result (λ h. h ≢ Failing → C.faults clock.new ≡ C.faults clock.old) }
 {
     if !is_needed {
         return Ok(None);
@@ -46,6 +49,8 @@ pub fn reply_to<A: Agent, C: Clock>(
     ensures cause { IfErr result (HasCauseIn C.tells (C.left clock.new) (C.faults clock.old) (C.faults clock.new)) }
     ensures later { C.faults clock.old ≤ C.faults clock.new }
     ensures here { A.sits regions.now s.new.agent }
+    ensures quiet { OnOk result (C.faults clock.new ≡ C.faults clock.old) }
+    ensures still { IfErr result (λ h. h ≢ Failing → C.faults clock.new ≡ C.faults clock.old) }
 {
     let asked = request_in(alloc, pdu)?;
     let is_needed = needs_moment(s.is_met, &asked);

@@ -1,10 +1,10 @@
 //! A conversation with a client, from the greeting to its end.
-ghost use Rattle.std.specs.Prelude.{◌≡◌, ◌<◌, ◌≤◌, ◌++◌, ℕ, List as Sequence, [], length, IfOk, IfErr};
+ghost use Rattle.std.specs.Prelude.{◌≡◌, ◌<◌, ◌≤◌, ◌++◌, ℕ, List as Sequence, [], length, IfOk, IfErr, OnOk};
 ghost use Rattle.pcp_base.specs.Time.{Moment};
 ghost use Rattle.pdu_stream.specs.Reading.{HasRead};
 ghost use Rattle.pmcd_session.specs.Going.{Brings, GoesBehind, Moves, StaysOpen, end_of_input};
-ghost use Rattle.pmcd_session.specs.Pieces.{HasReason, IsStreamEnd, WritesIn};
-ghost use Rattle.pmcd_session.specs.Sessions.{CountsOn, History, IsCaused, Runs};
+ghost use Rattle.pmcd_session.specs.Pieces.{HasReason, IsQuiet, IsStreamEnd, WritesIn};
+ghost use Rattle.pmcd_session.specs.Sessions.{AllStand, CountsOn, History, IsCaused, OthersStand, Runs};
 ghost use Rattle.pcp_outside.specs.Sides.{source_side, sink_side, clock_side};
 
 use crate::agent::Agent;
@@ -67,6 +67,7 @@ fn serve_piece<A: Agent, O: Sink, C: Clock>(
     ensures reason { IfErr result (HasReason C.tells (C.left clock.new) (C.faults clock.old) (C.faults clock.new) (O.faults out.old) (O.faults out.new)) }
     ensures later { (C.faults clock.old ≤ C.faults clock.new) × (O.faults out.old ≤ O.faults out.new) }
     ensures here { A.sits regions.now s.new.agent }
+    ensures quiet { IsQuiet result (C.faults clock.old) (C.faults clock.new) (O.faults out.old) (O.faults out.new) }
 {
     let pdus = match whole_pdus(alloc, stream, piece) {
         Ok(pdus) => pdus,
@@ -109,6 +110,8 @@ fn serve_next<A: Agent, I: Source, O: Sink, C: Clock>(
     ensures cause { IfErr result (IsCaused (source_side I.Source input.old input.new) (sink_side O.Sink out.old out.new) (clock_side C.Clock clock.old clock.new)) }
     ensures later { CountsOn (source_side I.Source input.old input.new) (sink_side O.Sink out.old out.new) (clock_side C.Clock clock.old clock.new) }
     ensures here { A.sits regions.now s.new.agent }
+    ensures quiet { OnOk result (AllStand (source_side I.Source input.old input.new) (sink_side O.Sink out.old out.new) (clock_side C.Clock clock.old clock.new)) }
+    ensures still { IfErr result (OthersStand (source_side I.Source input.old input.new) (sink_side O.Sink out.old out.new) (clock_side C.Clock clock.old clock.new)) }
 {
     let count = match input.take(buffer) {
         Ok(count) => count,
@@ -137,6 +140,7 @@ pub fn converse<A: Agent, I: Source, O: Sink, C: Clock>(
     ensures cause { IsCaused (source_side I.Source input.old input.new) (sink_side O.Sink out.old out.new) (clock_side C.Clock clock.old clock.new) result }
     ensures later { CountsOn (source_side I.Source input.old input.new) (sink_side O.Sink out.old out.new) (clock_side C.Clock clock.old clock.new) }
     ensures here { A.sits regions.now s.new.agent }
+    ensures still { OthersStand (source_side I.Source input.old input.new) (sink_side O.Sink out.old out.new) (clock_side C.Clock clock.old clock.new) result }
 {
     s.is_met = false;
     s.contexts.renew(alloc);

@@ -2,7 +2,7 @@
 ghost use Rattle.std.specs.Prelude.{◌≡◌, MatchResult};
 ghost use Rattle.fetch_engine.specs.Servers.{IsSeated};
 ghost use Rattle.pmcd_session.specs.Agents.{LoadsRegions, ReadsRegions};
-ghost use Rattle.pmcd_session.specs.Sessions.{Completes, CountsOn, IsCaused, Runs};
+ghost use Rattle.pmcd_session.specs.Sessions.{Completes, CountsOn, IsCaused, OthersStand, Runs};
 ghost use Rattle.pcp_outside.specs.Sides.{source_side, sink_side, clock_side};
 
 use crate::contexts::Contexts;
@@ -64,6 +64,8 @@ pub fn session<I: Source, O: Sink, C: Clock>(
     ensures completes { Completes (source_side I.Source input.old input.new) (sink_side O.Sink out.old out.new) (clock_side C.Clock clock.old clock.new) result }
     ensures later { CountsOn (source_side I.Source input.old input.new) (sink_side O.Sink out.old out.new) (clock_side C.Clock clock.old clock.new) }
     ensures seated { IsSeated server.now seat.new.tokens }
+    // An object of which a call has failed is the one that the end names.
+    ensures still { OthersStand (source_side I.Source input.old input.new) (sink_side O.Sink out.old out.new) (clock_side C.Clock clock.old clock.new) result }
 {
     converse(alloc, server, &mut seat.standing, input, out, clock)
 }

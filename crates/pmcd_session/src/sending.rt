@@ -1,9 +1,10 @@
 //! A whole PDU is served, and its reply written.
-ghost use Rattle.std.specs.Prelude.{◌≡◌, ◌≤◌, ◌++◌, ℕ, List as Sequence, IfErr, IsErrOf};
+ghost use Rattle.std.specs.Prelude.{◌≡◌, ◌≤◌, ◌++◌, ℕ, List as Sequence, IfErr, IsErrOf, ◌≢◌, OnOk};
 ghost use Rattle.pcp_base.specs.Time.{Moment};
 ghost use Rattle.pcp_outside.specs.Causes.{Rose};
 ghost use Rattle.pdu_codec.specs.Spelling.{IsWritable};
-ghost use Rattle.pmcd_session.specs.Pieces.{end_of, HasReason, IsSendEnd, ServesAll, ServesOne, WritesIn};
+ghost use Rattle.pcp_outside.specs.declared.doors.SessionEnd.TheVariants.{WriteFault as Unwritten};
+ghost use Rattle.pmcd_session.specs.Pieces.{end_of, HasReason, IsQuiet, IsSendEnd, ServesAll, ServesOne, WritesIn};
 ghost use Rattle.pmcd_session.specs.Replies.{greeting, reply_bytes};
 
 use crate::agent::Agent;
@@ -34,6 +35,8 @@ fn send<O: Sink>(alloc: Global, out: &mut O, reply: &Pdu) -> Result<(), SessionE
     ensures ends { IfErr result IsSendEnd }
     ensures later { O.faults out.old ≤ O.faults out.new }
     ensures cause { IsErrOf result SessionEnd.WriteFault → Rose (O.faults out.old) (O.faults out.new) }
+    ensures quiet { OnOk result (O.faults out.new ≡ O.faults out.old) }
+    ensures still { IfErr result (λ e. e ≢ Unwritten → O.faults out.new ≡ O.faults out.old) }
 {
     let Ok(bytes) = reply_bytes(alloc, reply) else {
         return Err(SessionEnd::NoMemory);
@@ -50,6 +53,8 @@ pub fn greet<O: Sink>(alloc: Global, out: &mut O) -> Result<(), SessionEnd>
     ensures ends { IfErr result IsSendEnd }
     ensures later { O.faults out.old ≤ O.faults out.new }
     ensures cause { IsErrOf result SessionEnd.WriteFault → Rose (O.faults out.old) (O.faults out.new) }
+    ensures quiet { OnOk result (O.faults out.new ≡ O.faults out.old) }
+    ensures still { IfErr result (λ e. e ≢ Unwritten → O.faults out.new ≡ O.faults out.old) }
 {
     send(alloc, out, &greeting())
 }
@@ -70,6 +75,7 @@ fn serve_one<A: Agent, O: Sink, C: Clock>(
     ensures reason { IfErr result (HasReason C.tells (C.left clock.new) (C.faults clock.old) (C.faults clock.new) (O.faults out.old) (O.faults out.new)) }
     ensures later { (C.faults clock.old ≤ C.faults clock.new) × (O.faults out.old ≤ O.faults out.new) }
     ensures here { A.sits regions.now s.new.agent }
+    ensures quiet { IsQuiet result (C.faults clock.old) (C.faults clock.new) (O.faults out.old) (O.faults out.new) }
 {
     let reply = match reply_to(alloc, regions, s, clock, pdu) {
         Ok(Some(reply)) => reply,
@@ -95,6 +101,7 @@ pub fn serve_all<A: Agent, O: Sink, C: Clock>(
     ensures reason { IfErr result (HasReason C.tells (C.left clock.new) (C.faults clock.old) (C.faults clock.new) (O.faults out.old) (O.faults out.new)) }
     ensures later { (C.faults clock.old ≤ C.faults clock.new) × (O.faults out.old ≤ O.faults out.new) }
     ensures here { A.sits regions.now s.new.agent }
+    ensures quiet { IsQuiet result (C.faults clock.old) (C.faults clock.new) (O.faults out.old) (O.faults out.new) }
 {
     for pdu in pdus {
         match serve_one(alloc, regions, s, out, clock, pdu.as_slice()) {

@@ -55,3 +55,19 @@ returns-in-Err-serve_piece-clause-done g c =
       omega (arith, long, few),
       tt,
     )
+
+pub returns-in-Err-clause-still : goal.returns-in-Err-clause-still
+returns-in-Err-clause-still g c = record { source_still = λ other. absurd (other refl); sink_still = λ other. refl; clock_still = λ other. refl }
+
+pub returns-then-count-eq0-clause-still : goal.returns-then-count-eq0-clause-still
+returns-then-count-eq0-clause-still g c = record { source_still = λ other. c.in-Ok.ensures.quiet; sink_still = λ other. refl; clock_still = λ other. refl }
+
+pub returns-in-Ok-serve_piece-clause-quiet : goal.returns-in-Ok-serve_piece-clause-quiet
+returns-in-Ok-serve_piece-clause-quiet g c =
+    let q = c.in-Ok-serve_piece.ensures.quiet in
+    record { source_stands = c.in-Ok.ensures.quiet; sink_stands = q.1; clock_stands = q.0 }
+
+pub returns-in-Err-serve_piece-clause-still : goal.returns-in-Err-serve_piece-clause-still
+returns-in-Err-serve_piece-clause-still g c =
+    let q = c.in-Err-serve_piece.ensures.quiet in
+    record { source_still = λ other. c.in-Ok.ensures.quiet; sink_still = q.1; clock_still = q.0 }

@@ -1,6 +1,7 @@
 use Rattle.std.proofs.Common.{ℕ, List, refl, subst, []}
 use Rattle.pmcd_session.specs.Pieces.{StopsWithin}
 use Rattle.pmcd_session.specs.Serving.{DoesAll}
+use Rattle.pmcd_session.proofs.Quiet.{quiet_all}
 use Rattle.pmcd_session.proofs.Steps.{ends_unserved, goes_served}
 use Rattle.pmcd_session.proofs.Stops.{ends_within}
 use Rattle.pmcd_session.proofs.Writings.{all_in, none_written}
@@ -41,3 +42,8 @@ returns-clause-done g c =
       ends_within (Unit {0}) reads loads c.args.piece.now c.in-Ok.pdus d.0 d.1 c.args.stream.now c.whole_pdus.new.stream c.args.s.now c.serve_all.new.s c.in-Err-serve_all.end c.in-Ok.ensures.brings
           (subst (λ (x : List (List ℕ)). StopsWithin reads loads c.args.s.now x d.0 d.1 c.serve_all.new.s c.in-Err-serve_all.end) c.as_slice.ensures d.4),
     )
+
+pub returns-in-Ok-serve_all-clause-quiet : goal.returns-in-Ok-serve_all-clause-quiet
+returns-in-Ok-serve_all-clause-quiet g c =
+    let q = c.in-Ok-serve_all.ensures.quiet in
+    quiet_all c.go_on.result (g.C.Clock.faults c.args.clock.now) (g.C.Clock.faults c.serve_all.new.clock) (g.O.Sink.faults c.args.out.now) (g.O.Sink.faults c.serve_all.new.out) q.0 q.1

@@ -14,6 +14,8 @@ loop-pdu-init g c = record {
   does = none_done (g.A.Agent.reads c.args.regions.now) c.args.s.now;
   clock_later = omega arith;
   sink_later = omega arith;
+  clock_stands = refl;
+  sink_stands = refl;
   here = c.requires.here;
 }
 
@@ -35,6 +37,8 @@ loop-pdu-preserved g c =
           below c.pdu-item.is c.as_slice.ensures i.does d.4;
       clock_later = omega arith;
       sink_later = omega arith;
+      clock_stands = c.in-Ok.ensures.quiet.0 ∙ i.clock_stands;
+      sink_stands = c.in-Ok.ensures.quiet.1 ∙ i.sink_stands;
       here = c.serve_one.ensures.here;
     }
 
@@ -50,3 +54,9 @@ returns-in-Err-clause-done g c =
       stops_at (g.A.Agent.reads c.args.regions.now) (g.A.Agent.loads c.args.regions.now) c.args.s.now c.loop-pdu.s c.serve_one.new.s c.args.pdus.now c.loop-pdu.pdu-index c.as_slice.result.now c.pdu-item.result i.moments d.0 i.bytes d.1 c.in-Err.end
           below c.pdu-item.is c.as_slice.ensures i.does d.4,
     )
+
+pub returns-in-Err-clause-quiet : goal.returns-in-Err-clause-quiet
+returns-in-Err-clause-quiet g c =
+    let i = c.loop-pdu.invariant in
+    let q = c.in-Err.ensures.quiet in
+    (λ other. q.0 other ∙ i.clock_stands, λ other. q.1 other ∙ i.sink_stands)

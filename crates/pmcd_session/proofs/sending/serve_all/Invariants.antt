@@ -13,5 +13,7 @@ invariant-loop-pdu g l = record {
   does : DoesAll (g.A.Agent.reads l.regions) l.fn.s (take l.pdu-index l.pdus) (record { moments = moments; written = bytes; after = l.s });
   clock_later : g.C.Clock.faults l.fn.clock ≤ g.C.Clock.faults l.clock;
   sink_later : g.O.Sink.faults l.fn.out ≤ g.O.Sink.faults l.out;
+  clock_stands : g.C.Clock.faults l.clock ≡ g.C.Clock.faults l.fn.clock;
+  sink_stands : g.O.Sink.faults l.out ≡ g.O.Sink.faults l.fn.out;
   here : g.A.Agent.sits l.regions l.s.agent;
 }
