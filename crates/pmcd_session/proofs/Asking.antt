@@ -77,7 +77,7 @@ sent_serves {A = A} reads loads s after pdu moments o reply r is does on s_end =
 
     by_result : (e : Result (Unit {0}) SessionEnd) → IfErr e IsSendEnd → ServesOne reads loads s pdu moments (bytes_for e (reply_bytes reply)) after e
     by_result (Ok x) h = done
-    by_result (Err ends.WriteFault) h = done
+    by_result (Err ends.WriteFault) h = (reply, subst (λ (p : Option Pdu). Does reads s pdu (record { moments = moments; reply = p; after = after })) is does, refl)
     by_result (Err ends.NoMemory) h = (refl, takes reads s pdu (record { moments = moments; reply = o; after = after }) does, on)
     by_result (Err ends.Closed) h = absurd h
     by_result (Err (ends.Torn k)) h = absurd h

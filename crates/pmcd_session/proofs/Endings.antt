@@ -12,7 +12,7 @@ all_left : (xs ys : List (List ℕ)) → AllByRecursion IsPdu (xs ++ ys) → All
 all_left [] ys all = tt
 all_left (x ∷ xs) ys all = (all.0, all_left xs ys all.1)
 
-all_right : (xs ys : List (List ℕ)) → AllByRecursion IsPdu (xs ++ ys) → AllByRecursion IsPdu ys
+pub all_right : (xs ys : List (List ℕ)) → AllByRecursion IsPdu (xs ++ ys) → AllByRecursion IsPdu ys
 all_right [] ys all = all
 all_right (x ∷ xs) ys all = all_right xs ys all.1
 

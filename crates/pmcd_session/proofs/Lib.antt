@@ -1,5 +1,6 @@
 pub mod Asking
 pub mod Endings
+pub mod Lasts
 pub mod Many
 pub mod Moments
 pub mod Nothing

@@ -16,6 +16,7 @@ use Rattle.pmcd_session.specs.Going.{Brings, Going, GoesBehind, GoesOrEnds, Stay
 use Rattle.pmcd_session.specs.Replies.{greeting}
 use Rattle.pmcd_session.specs.Serving.{DoesAll, ReadsBy}
 use Rattle.pmcd_session.specs.Sessions.{Ends, History, Served, session_start}
+use Rattle.pmcd_session.proofs.Lasts.{few_behind_all, few_behind_bad}
 use Rattle.pmcd_session.proofs.Streams.{splits_at}
 use Rattle.pmcd_session.proofs.Together.{joined_deeds}
 
@@ -48,11 +49,11 @@ more_served reads first taken whole given more rest left moments later bytes sai
 pub ends_unserved : {A : Type 0} (T : Type 0) (reads : ReadsBy A) (loads : A → A → Type 0) (piece : List ℕ) (stream later : State) (s : Standing A) (end : SessionEnd)
     → ((taken : List ℕ) (given : List (List ℕ)) → HasRead taken given stream → Brings (taken ++ piece) given stream later (Err end))
     → GoesBehind {T = T} reads loads (record { taken = piece; moments = []; bytes = [] }) stream s later s (Err end)
-ends_unserved {A = A} T reads loads piece stream later s end brings first h few g = by_end end (brings h.taken g.pdus (read_of reads first h stream s g))
+ends_unserved {A = A} T reads loads piece stream later s end brings first h few small g = by_end end (brings h.taken g.pdus (read_of reads first h stream s g))
   where
     by_end : (e : SessionEnd) → Brings (h.taken ++ piece) g.pdus stream later (Err e) → Ends reads loads first (then_more h (record { taken = piece; moments = []; bytes = [] })) s.agent e
     by_end (ends.BadLength found) b =
-        (b.0, record { pdus = g.pdus; s = s; served = same_served reads first h.taken (h.taken ++ piece) g.pdus stream.rest b.0 h.moments h.bytes s g.served b.1; stays = refl }, b.2)
+        (b.0, record { pdus = g.pdus; s = s; served = same_served reads first h.taken (h.taken ++ piece) g.pdus stream.rest b.0 h.moments h.bytes s g.served b.1; stays = refl }, b.2, few_behind_bad h.taken piece g.pdus stream.rest b.0 found g.served.stream g.begins b.1 b.2 small)
     by_end ends.NoMemory b = record {
       pdus = g.pdus;
       rest = stream.rest ++ piece;
@@ -79,7 +80,7 @@ pub goes_served : {A T : Type 0} (reads : ReadsBy A) (loads : A → A → Type 0
     → DoesAll reads s pdus (record { moments = moments; written = bytes; after = after })
     → ((taken : List ℕ) (given : List (List ℕ)) → HasRead taken given between → StaysOpen taken given later r)
     → GoesBehind reads loads (record { taken = piece; moments = moments; bytes = bytes }) stream s later after r
-goes_served {A = A} {T = T} reads loads piece pdus moments bytes stream between later s after r brings does stays first h few g = by_result r (stays whole all b.1)
+goes_served {A = A} {T = T} reads loads piece pdus moments bytes stream between later s after r brings does stays first h few small g = by_result r (stays whole all b.1)
   where
     whole : List ℕ
     whole = h.taken ++ piece
@@ -95,7 +96,7 @@ goes_served {A = A} {T = T} reads loads piece pdus moments bytes stream between 
 
     by_result : (e : Result T SessionEnd) → StaysOpen whole all later e → GoesOrEnds reads loads first (then_more h (record { taken = piece; moments = moments; bytes = bytes })) later after e
     by_result (Ok done) o = record { pdus = all; open_ = o.0; begins = o.2; served = served later.rest o.1 }
-    by_result (Err (ends.BadLength found)) o = (o.0, record { pdus = all; s = after; served = served o.0 o.1; stays = refl }, o.2)
+    by_result (Err (ends.BadLength found)) o = (o.0, record { pdus = all; s = after; served = served o.0 o.1; stays = refl }, o.2, few_behind_all h.taken piece g.pdus pdus stream.rest o.0 found g.served.stream g.begins o.1 o.2 small)
     by_result (Err ends.NoMemory) o =
         let front = splits_at whole all between.phase between.rest b.1 in
         record {

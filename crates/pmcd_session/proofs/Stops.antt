@@ -1,5 +1,5 @@
 -- A session that ends at one of the PDUs of a piece.
-use Rattle.std.proofs.Common.{◌≡◌, ℕ, List, [], ◌∷◌, ◌++◌, refl, sym, ap, ◌∙◌, subst, append_assoc}
+use Rattle.std.proofs.Common.{◌≡◌, ℕ, List, [], ◌∷◌, ◌++◌, Some, inr, refl, sym, ap, ◌∙◌, subst, append_assoc}
 use Rattle.std.specs.Prelude.{Ok, Err}
 use Rattle.std.proofs.lemmas.List.{append-nil}
 use Rattle.pcp_base.specs.Time.{Moment}
@@ -10,11 +10,12 @@ use Rattle.pdu_stream.specs.Streams.{Splits, bytes_of_pdus}
 use Rattle.pdu_stream.specs.Reading.{HasRead}
 use Rattle.pmcd_session.specs.declared.standing.Standing.{Standing}
 use Rattle.pmcd_session.specs.Going.{Brings, GoesBehind}
-use Rattle.pmcd_session.specs.Pieces.{IsDone, ServesOne, StopsWithin}
-use Rattle.pmcd_session.specs.Serving.{AsksTheClock, DoesAll, Reaches, ReadsBy}
-use Rattle.pmcd_session.specs.Sessions.{Ends, ReachesNext, Served, ServedTo, StopsAtClock}
-use Rattle.pmcd_session.proofs.Deeds.{one_more}
+use Rattle.pmcd_session.specs.Pieces.{IsReplied, ServesOne, StopsWithin}
+use Rattle.pmcd_session.specs.Replies.{reply_bytes}
+use Rattle.pmcd_session.specs.Serving.{AsksTheClock, Reaches, ReadsBy}
+use Rattle.pmcd_session.specs.Sessions.{Ends, ReachesNext, Served, StopsAtClock, StopsAtReply}
 use Rattle.pmcd_session.proofs.Endings.{fewer, next_behind}
+use Rattle.pmcd_session.proofs.Lasts.{few_behind_last}
 use Rattle.pmcd_session.proofs.Steps.{more_served, read_of}
 use Rattle.pmcd_session.proofs.Streams.{splits_at}
 
@@ -28,7 +29,7 @@ pub ends_within : {A : Type 0} (T : Type 0) (reads : ReadsBy A) (loads : A → A
     → ((taken : List ℕ) (given : List (List ℕ)) → HasRead taken given stream → Brings (taken ++ piece) given stream between (Ok pdus))
     → StopsWithin reads loads s pdus moments bytes after end
     → GoesBehind {T = T} reads loads (record { taken = piece; moments = moments; bytes = bytes }) stream s between after (Err end)
-ends_within {A = A} T reads loads piece pdus moments bytes stream between s after end brings st first h few g =
+ends_within {A = A} T reads loads piece pdus moments bytes stream between s after end brings st first h few small g =
     subst (λ (m : List Moment). Ends reads loads first (record { taken = whole; moments = h.moments ++ m; bytes = h.bytes ++ bytes }) after.agent end) (sym st.all_moments)
     (subst (λ (t : List ℕ). Ends reads loads first (record { taken = whole; moments = h.moments ++ (st.earlier ++ st.last); bytes = h.bytes ++ t }) after.agent end) (sym st.all_bytes)
     (by_end end st.last st.reply st.stops))
@@ -85,23 +86,31 @@ ends_within {A = A} T reads loads piece pdus moments bytes stream between s afte
     one = subst (λ (x : List (List ℕ)). Splits whole x beyond) (append_assoc g.pdus st.served (st.pdu ∷ []))
         (fewer whole (before ++ st.pdu ∷ []) st.behind front.0 (subst (λ (x : List (List ℕ)). Splits whole x front.0) (sym (append_assoc before (st.pdu ∷ []) st.behind)) all))
 
-    with_last : (m : List Moment) (t : List ℕ) → IsDone reads st.between st.pdu m t after
-        → (left : List ℕ) × ServedTo reads first (record { taken = whole; moments = h.moments ++ (st.earlier ++ m); bytes = h.bytes ++ (st.replies ++ t) }) left after.agent
-    with_last m t done = (
-      beyond,
-      record {
-        pdus = g.pdus ++ (st.served ++ st.pdu ∷ []);
-        s = after;
-        served = more_served reads first h.taken whole g.pdus (st.served ++ st.pdu ∷ []) stream.rest beyond h.moments (st.earlier ++ m) h.bytes (st.replies ++ t) s after g.served one
-            (subst (λ (x : List ℕ). DoesAll reads s (st.served ++ st.pdu ∷ []) (record { moments = st.earlier ++ m; written = st.replies ++ x; after = after })) (sym done.2)
-            (one_more reads s st.served st.pdu (record { moments = st.earlier; written = st.replies; after = st.between }) (record { moments = m; reply = done.0; after = after }) st.does done.1));
-        stays = refl;
-      },
-    )
+    with_last : (m : List Moment) (t : List ℕ) → IsReplied reads st.between st.pdu m t after
+        → StopsAtReply reads first (record { taken = whole; moments = h.moments ++ (st.earlier ++ m); bytes = h.bytes ++ (st.replies ++ t) }) after.agent
+    with_last m t done = record {
+      pdus = before;
+      pdu = st.pdu;
+      rest = rest;
+      beyond = beyond;
+      moments = h.moments ++ st.earlier;
+      bytes = h.bytes ++ st.replies;
+      s = st.between;
+      served = served;
+      next = next;
+      few = few_behind_last h.taken piece g.pdus st.served st.pdu stream.rest beyond g.served.stream g.begins one small;
+      deed = record { moments = m; reply = Some done.0; after = after };
+      reply = done.0;
+      does = done.1;
+      replies = refl;
+      all_moments = sym (append_assoc h.moments st.earlier m);
+      all_bytes = ap (λ (x : List ℕ). h.bytes ++ (st.replies ++ x)) done.2 ∙ sym (append_assoc h.bytes st.replies (reply_bytes done.0));
+      stays = refl;
+    }
 
     by_end : (e : SessionEnd) (m : List Moment) (t : List ℕ) → ServesOne {T = Unit {0}} reads loads st.between st.pdu m t after (Err e)
         → Ends reads loads first (record { taken = whole; moments = h.moments ++ (st.earlier ++ m); bytes = h.bytes ++ (st.replies ++ t) }) after.agent e
-    by_end ends.WriteFault m t o = with_last m t o
+    by_end ends.WriteFault m t o = inr (with_last m t o)
     by_end ends.ClockEnd m t o = at_clock m t o.1 o.0 o.2 o.3
     by_end ends.ClockFault m t o = at_clock m t o.1 o.0 o.2 o.3
     by_end ends.NoMemory m t o = record {

@@ -24,7 +24,7 @@ use Rattle.pmcd_session.specs.Serving.{DoesAll, ReadsBy}
 use Rattle.pmcd_session.specs.Sessions.{CountsOn, Ends, History, IsCaused, Served, ServedTo, session_start, most_taken}
 use Rattle.pcp_outside.specs.Sides.{SourceSide, SinkSide, ClockSide, source_side, sink_side, clock_side}
 use Rattle.pmcd_session.proofs.Deeds.{none_done}
-use Rattle.pmcd_session.proofs.Writings.{in_behind}
+use Rattle.pmcd_session.proofs.Writings.{AreReplies, in_behind}
 
 -- ---- causes
 
@@ -72,13 +72,13 @@ on_since gi go gc i0 i1 i2 o0 o1 o2 c0 c1 c2 a b =
 -- ---- what was taken and written
 
 -- two steps are one
-pub moves_since : {I O C T U : Type 0} (gi : SourceGhosts I) (go : SinkGhosts O) (gc : ClockGhosts C) (i0 i1 i2 : I) (o0 o1 o2 : O) (c0 c1 c2 : C) (done : U) (r : Result T SessionEnd) (h more : History)
+pub moves_since : {I O C T U : Type 0} (gi : SourceGhosts I) (go : SinkGhosts O) (gc : ClockGhosts C) (i0 i1 i2 : I) (o0 o1 o2 : O) (c0 c1 c2 : C) (done : U) (r : Result T SessionEnd) (h more : History) → AreReplies h.bytes
     → Moves (source_side gi i0 i1) (sink_side go o0 o1) (clock_side gc c0 c1) (Ok done) h → Moves (source_side gi i1 i2) (sink_side go o1 o2) (clock_side gc c1 c2) r more
     → Moves (source_side gi i0 i2) (sink_side go o0 o2) (clock_side gc c0 c2) r (then_more h more)
-moves_since gi go gc i0 i1 i2 o0 o1 o2 c0 c1 c2 done r h more a b = record {
+moves_since gi go gc i0 i1 i2 o0 o1 o2 c0 c1 c2 done r h more replies a b = record {
   took = λ tells. a.took tells ∙ ap (λ (t : List ℕ). h.taken ++ t) (b.took tells) ∙ sym (append_assoc h.taken more.taken (gi.left i2));
   asked = λ tells. a.asked tells ∙ ap (λ (t : List Moment). h.moments ++ t) (b.asked tells) ∙ sym (append_assoc h.moments more.moments (gc.left c2));
-  wrote = λ tells. in_behind r (go.written o0) (go.written o1) (go.written o2) h.bytes more.bytes (a.wrote tells) (b.wrote tells);
+  wrote = λ tells. in_behind r (go.written o0) (go.written o1) (go.written o2) h.bytes more.bytes replies (a.wrote tells) (b.wrote tells);
 }
 
 -- ---- where the input ends, or the source fails
@@ -103,7 +103,7 @@ fewer_still : (taken : List ℕ) → length taken < most_taken → length (taken
 fewer_still taken few = subst (λ (t : List ℕ). length t < most_taken) (sym (append-nil taken)) few
 
 pub ends_at_fault : {A : Type 0} (T : Type 0) (reads : ReadsBy A) (loads : A → A → Type 0) (stream : State) (s : Standing A) → GoesBehind {T = T} reads loads nothing stream s stream s (Err ends.ReadFault)
-ends_at_fault T reads loads stream s first h few g = (stream.rest, unchanged reads first h stream s g, g.begins, fewer_still h.taken few)
+ends_at_fault T reads loads stream s first h few small g = (stream.rest, unchanged reads first h stream s g, g.begins, fewer_still h.taken few)
 
 pending_is : (stream : State) → stream.phase ≡ Open → pending_in stream ≡ length stream.rest
 pending_is stream is = ap (λ (p : Phase). pending_for p stream.rest) is
@@ -118,7 +118,7 @@ some_of (suc n) h = omega arith
 
 pub ends_at_end : {A : Type 0} (T : Type 0) (reads : ReadsBy A) (loads : A → A → Type 0) (stream : State) (s : Standing A) (pending : ℕ) (end : SessionEnd) → pending ≡ pending_in stream → end ≡ end_of_input pending
     → GoesBehind {T = T} reads loads nothing stream s stream s (Err end)
-ends_at_end {A = A} T reads loads stream s pending end there is first h few g =
+ends_at_end {A = A} T reads loads stream s pending end there is first h few small g =
     subst (λ (e : SessionEnd). Ends reads loads first (then_more h nothing) s.agent e) (sym is) (by_test (pending == 0) refl)
   where
     long : pending ≡ length stream.rest

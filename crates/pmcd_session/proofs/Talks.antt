@@ -17,9 +17,10 @@ use Rattle.pmcd_session.specs.Going.{Going, GoesBehind, Moves, then_more}
 use Rattle.pmcd_session.specs.Pieces.{IsSendEnd}
 use Rattle.pmcd_session.specs.Replies.{greeting, reply_bytes}
 use Rattle.pmcd_session.specs.Serving.{ReadsBy}
-use Rattle.pmcd_session.specs.Sessions.{CountsOn, Ends, History, Runs, WritesBy, session_start, most_taken}
+use Rattle.pmcd_session.specs.Sessions.{CountsOn, Ends, History, Runs, WritesBy, session_start, most_piece, most_taken}
 use Rattle.pcp_outside.specs.Sides.{source_side, sink_side, clock_side}
 use Rattle.pmcd_session.proofs.Talking.{greeted, moves_since, on_since}
+use Rattle.pmcd_session.proofs.Writings.{AreReplies, served_replies}
 
 -- the session goes on, and this was taken and written
 pub record Talks {A I O C : Type 0} (reads : ReadsBy A) (gi : SourceGhosts I) (go : SinkGhosts O) (gc : ClockGhosts C) (first : A) (i0 i1 : I) (o0 o1 : O) (c0 c1 : C) (taken : ℕ) (stream : State) (s : Standing A) : Type 0 where
@@ -56,20 +57,25 @@ talks_at_first {A = A} reads gi go gc first i0 o0 o1 c0 stream s s_is stream_is 
   on = record { source_on = omega arith; sink_on = later; clock_on = omega arith };
 }
 
+-- whole replies were written so far
+replies_so_far : {A I O C : Type 0} (reads : ReadsBy A) (gi : SourceGhosts I) (go : SinkGhosts O) (gc : ClockGhosts C) (first : A) (i0 i1 : I) (o0 o1 : O) (c0 c1 : C) (taken : ℕ) (stream : State) (s : Standing A)
+    → (t : Talks reads gi go gc first i0 i1 o0 o1 c0 c1 taken stream s) → AreReplies t.sofar.bytes
+replies_so_far reads gi go gc first i0 i1 o0 o1 c0 c1 taken stream s t = served_replies reads first t.sofar.taken t.going.pdus stream.rest t.sofar.moments t.sofar.bytes s t.going.served
+
 -- a step more
 pub talks_on : {A I O C : Type 0} (reads : ReadsBy A) (loads : A → A → Type 0) (gi : SourceGhosts I) (go : SinkGhosts O) (gc : ClockGhosts C) (first : A) (i0 i1 i2 : I) (o0 o1 o2 : O) (c0 c1 c2 : C) (taken n room : ℕ) (stream later : State) (s after : Standing A) (more : History)
-    → Talks reads gi go gc first i0 i1 o0 o1 c0 c1 taken stream s → taken < most_taken → room ≤ most_taken - taken
+    → Talks reads gi go gc first i0 i1 o0 o1 c0 c1 taken stream s → taken < most_taken → room ≤ most_taken - taken → room ≤ most_piece
     → Moves {T = ℕ} (source_side gi i1 i2) (sink_side go o1 o2) (clock_side gc c1 c2) (Ok n) more → GoesBehind {T = ℕ} reads loads more stream s later after (Ok n)
     → length more.taken ≤ room → n ≡ length more.taken → CountsOn (source_side gi i1 i2) (sink_side go o1 o2) (clock_side gc c1 c2)
     → Talks reads gi go gc first i0 i2 o0 o2 c0 c2 (taken + n) later after
-talks_on reads loads gi go gc first i0 i1 i2 o0 o1 o2 c0 c1 c2 taken n room stream later s after more t few fits moves goes small n_is on =
+talks_on reads loads gi go gc first i0 i1 i2 o0 o1 o2 c0 c1 c2 taken n room stream later s after more t few fits at_once moves goes small n_is on =
     let many : length t.sofar.taken ≡ taken = t.many in
     let at_most : taken ≤ most_taken = t.at_most in
-    let both : Moves {T = ℕ} (source_side gi i0 i2) (sink_side go o0 o2) (clock_side gc c0 c2) (Ok n) (then_more t.sofar more) = moves_since gi go gc i0 i1 i2 o0 o1 o2 c0 c1 c2 tt (Ok n) t.sofar more t.moves moves in
+    let both : Moves {T = ℕ} (source_side gi i0 i2) (sink_side go o0 o2) (clock_side gc c0 c2) (Ok n) (then_more t.sofar more) = moves_since gi go gc i0 i1 i2 o0 o1 o2 c0 c1 c2 tt (Ok n) t.sofar more (replies_so_far reads gi go gc first i0 i1 o0 o1 c0 c1 taken stream s t) t.moves moves in
     record {
       sofar = then_more t.sofar more;
       moves = record { took = both.took; asked = both.asked; wrote = both.wrote };
-      going = goes first t.sofar (omega (arith, many, few)) t.going;
+      going = goes first t.sofar (omega (arith, many, few)) (omega (arith, small, at_once)) t.going;
       many = length-append t.sofar.taken more.taken ∙ omega (arith, many, n_is);
       at_most = omega (arith, fits, small, n_is, at_most, few);
       on = on_since gi go gc i0 i1 i2 o0 o1 o2 c0 c1 c2 t.on on;
@@ -77,13 +83,13 @@ talks_on reads loads gi go gc first i0 i1 i2 o0 o1 o2 c0 c1 c2 taken n room stre
 
 -- the last step
 pub talks_end : {A I O C : Type 0} (reads : ReadsBy A) (loads : A → A → Type 0) (gi : SourceGhosts I) (go : SinkGhosts O) (gc : ClockGhosts C) (first : A) (i0 i1 i2 : I) (o0 o1 o2 : O) (c0 c1 c2 : C) (taken room : ℕ) (stream later : State) (s after : Standing A) (more : History) (end : SessionEnd)
-    → Talks reads gi go gc first i0 i1 o0 o1 c0 c1 taken stream s → taken < most_taken → room ≤ most_taken - taken
+    → Talks reads gi go gc first i0 i1 o0 o1 c0 c1 taken stream s → taken < most_taken → room ≤ most_taken - taken → room ≤ most_piece
     → Moves {T = ℕ} (source_side gi i1 i2) (sink_side go o1 o2) (clock_side gc c1 c2) (Err end) more → GoesBehind {T = ℕ} reads loads more stream s later after (Err end)
     → length more.taken ≤ room
     → Runs reads loads first after.agent (source_side gi i0 i2) (sink_side go o0 o2) (clock_side gc c0 c2) end
-talks_end reads loads gi go gc first i0 i1 i2 o0 o1 o2 c0 c1 c2 taken room stream later s after more end t few fits moves goes small =
+talks_end reads loads gi go gc first i0 i1 i2 o0 o1 o2 c0 c1 c2 taken room stream later s after more end t few fits at_once moves goes small =
     let many : length t.sofar.taken ≡ taken = t.many in
-    let both : Moves {T = ℕ} (source_side gi i0 i2) (sink_side go o0 o2) (clock_side gc c0 c2) (Err end) (then_more t.sofar more) = moves_since gi go gc i0 i1 i2 o0 o1 o2 c0 c1 c2 tt (Err end) t.sofar more t.moves moves in
+    let both : Moves {T = ℕ} (source_side gi i0 i2) (sink_side go o0 o2) (clock_side gc c0 c2) (Err end) (then_more t.sofar more) = moves_since gi go gc i0 i1 i2 o0 o1 o2 c0 c1 c2 tt (Err end) t.sofar more (replies_so_far reads gi go gc first i0 i1 o0 o1 c0 c1 taken stream s t) t.moves moves in
     let long : length (t.sofar.taken ++ more.taken) ≡ length t.sofar.taken + length more.taken = length-append t.sofar.taken more.taken in
     record {
       history = then_more t.sofar more;
@@ -91,7 +97,7 @@ talks_end reads loads gi go gc first i0 i1 i2 o0 o1 o2 c0 c1 c2 taken room strea
       few = omega (arith, long, many, fits, small, few);
       asked = both.asked;
       wrote = both.wrote;
-      ends = goes first t.sofar (omega (arith, many, few)) t.going;
+      ends = goes first t.sofar (omega (arith, many, few)) (omega (arith, small, at_once)) t.going;
     }
 
 -- all bytes that a session may take were taken
@@ -124,7 +130,7 @@ never_talks {A = A} {I = I} {O = O} {C = C} reads loads gi go gc first i0 o0 o1 
 }
   where
     by_end : (e : SessionEnd) → IsSendEnd e → Ends reads loads first greeting_alone first e
-    by_end ends.WriteFault h = ([], record { pdus = []; s = session_start first; served = greeted reads first; stays = refl })
+    by_end ends.WriteFault h = inl (refl, refl)
     by_end ends.NoMemory h = record { pdus = []; rest = []; moments = []; reached = []; s = session_start first; served = greeted reads first; all_moments = refl; next = tt; goes_on = inl refl }
     by_end ends.Closed h = absurd h
     by_end (ends.Torn n) h = absurd h
@@ -137,3 +143,7 @@ never_talks {A = A} {I = I} {O = O} {C = C} reads loads gi go gc first i0 o0 o1 
 -- no more is taken than may be
 pub room_fits : (taken room : ℕ) (buffer : List ℕ) → room ≡ min (1099511627776 - taken) 4096 → length (take room buffer) ≤ most_taken - taken
 room_fits taken room buffer is = omega (arith, is, length-take room buffer)
+
+-- nor at once
+pub room_small : (taken room : ℕ) (buffer : List ℕ) → room ≡ min (1099511627776 - taken) 4096 → length (take room buffer) ≤ most_piece
+room_small taken room buffer is = omega (arith, is, length-take room buffer)

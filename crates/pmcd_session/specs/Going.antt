@@ -1,5 +1,5 @@
 -- A session that goes on, step after step.
-use Rattle.std.specs.Prelude.{◌≡◌, ℕ, ◌<◌, ◌==◌, if◌then◌else◌, List, ◌++◌, length, Result, Ok, Err}
+use Rattle.std.specs.Prelude.{◌≡◌, ℕ, ◌<◌, ◌≤◌, ◌==◌, if◌then◌else◌, List, ◌++◌, length, Result, Ok, Err}
 use Rattle.pcp_outside.specs.declared.doors.SessionEnd.{SessionEnd}
 use Rattle.pcp_outside.specs.declared.doors.SessionEnd.TheVariants as ends
 use Rattle.pdu_stream.specs.State.{State}
@@ -9,7 +9,7 @@ use Rattle.pdu_stream.specs.declared.phase.Phase.TheVariants.{Open}
 use Rattle.pmcd_session.specs.declared.standing.Standing.{Standing}
 use Rattle.pmcd_session.specs.Pieces.{WritesIn}
 use Rattle.pmcd_session.specs.Serving.{ReadsBy}
-use Rattle.pmcd_session.specs.Sessions.{Ends, History, Served, most_taken}
+use Rattle.pmcd_session.specs.Sessions.{Ends, History, Served, most_piece, most_taken}
 use Rattle.pcp_outside.specs.Sides.{SourceSide, SinkSide, ClockSide}
 
 -- the PDUs that a piece of a stream brought, or a length word that no PDU has
@@ -42,9 +42,9 @@ GoesOrEnds reads loads first h stream s (Err end) = Ends reads loads first h s.a
 abbrev pub then_more : History → History → History
 then_more h more = record { taken = h.taken ++ more.taken; moments = h.moments ++ more.moments; bytes = h.bytes ++ more.bytes }
 
--- whatever was done before, while fewer bytes were taken than may be, the session goes on behind it, or has ended
+-- whatever was done before, while fewer bytes were taken than may be, in all and at once, the session goes on behind it, or has ended
 abbrev pub GoesBehind : {A T : Type 0} → ReadsBy A → (A → A → Type 0) → History → State → Standing A → State → Standing A → Result T SessionEnd → Type 0
-GoesBehind {A = A} reads loads more stream s later after result = (first : A) → (h : History) → length h.taken < most_taken → Going reads first h stream s → GoesOrEnds reads loads first (then_more h more) later after result
+GoesBehind {A = A} reads loads more stream s later after result = (first : A) → (h : History) → length h.taken < most_taken → length more.taken ≤ most_piece → Going reads first h stream s → GoesOrEnds reads loads first (then_more h more) later after result
 
 -- this was taken from the source and the clock, and written to the sink
 pub record Moves {T : Type 0} (source : SourceSide) (sink : SinkSide) (clock : ClockSide) (result : Result T SessionEnd) (h : History) : Type 0 where

@@ -1,5 +1,5 @@
 -- What one step of a session does: a PDU, or the whole PDUs of a piece.
-use Rattle.std.specs.Prelude.{◌≡◌, ◌≢◌, ℕ, List, [], ◌∷◌, ◌++◌, Option, Result, Ok, Err}
+use Rattle.std.specs.Prelude.{◌≡◌, ◌≢◌, ℕ, List, [], ◌∷◌, ◌++◌, Option, Some, Result, Ok, Err}
 use Rattle.pcp_base.specs.Time.{Moment}
 use Rattle.pcp_outside.specs.Causes.{Rose}
 use Rattle.pcp_outside.specs.declared.doors.SessionEnd.{SessionEnd}
@@ -8,6 +8,7 @@ use Rattle.pdu_codec.specs.declared.pdu.Pdu.{Pdu}
 use Rattle.pmcd_session.specs.declared.halt.Halt.{Halt}
 use Rattle.pmcd_session.specs.declared.halt.Halt.TheVariants as halts
 use Rattle.pmcd_session.specs.declared.standing.Standing.{Standing}
+use Rattle.pmcd_session.specs.Replies.{reply_bytes}
 use Rattle.pmcd_session.specs.Serving.{AsksTheClock, Does, DoesAll, GoesOn, Reaches, ReadsBy, written_of}
 use Rattle.pmcd_session.specs.Sessions.{WritesBy}
 
@@ -50,10 +51,14 @@ IsQuiet (Err end) clock_before clock_after sink_before sink_after = (end ≢ end
 abbrev pub IsDone : {A : Type 0} → ReadsBy A → Standing A → List ℕ → List Moment → List ℕ → Standing A → Type 0
 IsDone reads s pdu moments bytes after = (reply : Option Pdu) × Does reads s pdu (record { moments = moments; reply = reply; after = after }) × (bytes ≡ written_of reply)
 
+-- a PDU was served that has a reply, whose bytes these are
+abbrev pub IsReplied : {A : Type 0} → ReadsBy A → Standing A → List ℕ → List Moment → List ℕ → Standing A → Type 0
+IsReplied reads s pdu moments bytes after = (reply : Pdu) × Does reads s pdu (record { moments = moments; reply = Some reply; after = after }) × (bytes ≡ reply_bytes reply)
+
 -- what was done with a PDU, also where the session ends by it
 abbrev pub ServesOne : {A T : Type 0} → ReadsBy A → (A → A → Type 0) → Standing A → List ℕ → List Moment → List ℕ → Standing A → Result T SessionEnd → Type 0
 ServesOne reads loads s pdu moments bytes after (Ok done) = IsDone reads s pdu moments bytes after
-ServesOne reads loads s pdu moments bytes after (Err ends.WriteFault) = IsDone reads s pdu moments bytes after
+ServesOne reads loads s pdu moments bytes after (Err ends.WriteFault) = IsReplied reads s pdu moments bytes after
 ServesOne reads loads s pdu moments bytes after (Err ends.ClockEnd) = (bytes ≡ []) × (moments ≡ []) × AsksTheClock s pdu × (after ≡ s)
 ServesOne reads loads s pdu moments bytes after (Err ends.ClockFault) = (bytes ≡ []) × (moments ≡ []) × AsksTheClock s pdu × (after ≡ s)
 ServesOne reads loads s pdu moments bytes after (Err ends.NoMemory) = (bytes ≡ []) × Reaches s pdu moments × GoesOn loads s after

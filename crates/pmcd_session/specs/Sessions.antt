@@ -1,15 +1,16 @@
 -- Whole sessions: what was taken, what was written, and why a session ended.
-use Rattle.std.specs.Prelude.{◌≡◌, ◌≢◌, ◌⊎◌, ℕ, ◌<◌, ◌≤◌, false, Bool, List, [], ◌∷◌, ◌++◌, length, take, drop, filter, bytes_eq}
+use Rattle.std.specs.Prelude.{◌≡◌, ◌≢◌, ◌⊎◌, ℕ, ◌<◌, ◌≤◌, false, Bool, List, [], ◌∷◌, ◌++◌, length, take, drop, filter, bytes_eq, Some, ◌+◌}
 use Rattle.pcp_base.specs.Time.{Moment}
 use Rattle.pcp_outside.specs.Causes.{Rose}
 use Rattle.pcp_outside.specs.declared.doors.SessionEnd.{SessionEnd}
 use Rattle.pcp_outside.specs.declared.doors.SessionEnd.TheVariants as ends
+use Rattle.pdu_codec.specs.declared.pdu.Pdu.{Pdu}
 use Rattle.pdu_codec.specs.Spelling.{pdu_bytes}
 use Rattle.pdu_stream.specs.Streams.{Splits, IsBegun, IsBad}
 use Rattle.pmcd_session.specs.declared.standing.Standing.{Standing}
 use Rattle.pmcd_session.specs.Contexts.{new_contexts}
-use Rattle.pmcd_session.specs.Replies.{greeting}
-use Rattle.pmcd_session.specs.Serving.{ReadsBy, DoesAll, AsksTheClock}
+use Rattle.pmcd_session.specs.Replies.{greeting, reply_bytes}
+use Rattle.pmcd_session.specs.Serving.{ReadsBy, Deed, Does, DoesAll, AsksTheClock}
 use Rattle.pcp_outside.specs.Sides.{SourceSide, SinkSide, ClockSide}
 
 -- a session begins with a client that isn't known, and contexts that keep every instance
@@ -26,6 +27,10 @@ pub record History : Type 0 where
 -- no session takes more bytes
 abbrev pub most_taken : ℕ
 most_taken = 1099511627776
+
+-- nor takes one more bytes at once
+abbrev pub most_piece : ℕ
+most_piece = 4096
 
 -- These whole PDUs stand at the front of what was taken, and were served.
 pub record Served {A : Type 0} (reads : ReadsBy A) (first : A) (taken : List ℕ) (pdus : List (List ℕ)) (rest : List ℕ) (moments : List Moment) (bytes : List ℕ) (s : Standing A) : Type 0 where
@@ -53,6 +58,30 @@ pub record StopsAtClock {A : Type 0} (reads : ReadsBy A) (first : A) (h : Histor
   pub asks : AsksTheClock s fetch
   pub stays : s.agent ≡ last
 
+-- the greeting wasn't written whole, and nothing was taken
+abbrev pub IsUngreeted : {A : Type 0} → A → History → A → Type 0
+IsUngreeted first h last = (h ≡ record { taken = []; moments = []; bytes = pdu_bytes greeting }) × (last ≡ first)
+
+-- The reply to a PDU wasn't written whole: behind it nothing was served, and what was taken behind it came with it at once.
+pub record StopsAtReply {A : Type 0} (reads : ReadsBy A) (first : A) (h : History) (last : A) : Type 0 where
+  pub pdus : List (List ℕ)
+  pub pdu : List ℕ
+  pub rest : List ℕ
+  pub beyond : List ℕ
+  pub moments : List Moment
+  pub bytes : List ℕ
+  pub s : Standing A
+  pub served : Served reads first h.taken pdus rest moments bytes s
+  pub next : Splits rest (pdu ∷ []) beyond
+  pub few : length beyond < most_piece
+  pub deed : Deed A
+  pub reply : Pdu
+  pub does : Does reads s pdu deed
+  pub replies : deed.reply ≡ Some reply
+  pub all_moments : h.moments ≡ moments ++ deed.moments
+  pub all_bytes : h.bytes ≡ bytes ++ reply_bytes reply
+  pub stays : deed.after.agent ≡ last
+
 -- a fetch that came next had its moment, or no moment was taken
 abbrev pub ReachesNext : {A : Type 0} → Standing A → List ℕ → List Moment → Type 0
 ReachesNext s rest [] = Unit {0}
@@ -73,13 +102,14 @@ pub record RunsOut {A : Type 0} (reads : ReadsBy A) (loads : A → A → Type 0)
 
 -- Why a session ended. All whole PDUs that were taken were served, but where the clock gave no moment, the sink failed, or
 -- memory was refused. Behind them stands nothing where the input ended between PDUs, the beginning of one where it ended
--- inside, or a length word that no PDU has.
+-- inside, or a length word that no PDU has; nothing was taken behind the bytes that came at once with that word, or with the
+-- PDU whose reply wasn't written.
 abbrev pub Ends : {A : Type 0} → ReadsBy A → (A → A → Type 0) → A → History → A → SessionEnd → Type 0
 Ends reads loads first h last ends.Closed = ServedTo reads first h [] last × (length h.taken < most_taken)
 Ends reads loads first h last (ends.Torn n) = (rest : List ℕ) × ServedTo reads first h rest last × IsBegun rest × (n ≡ length rest) × (0 < n) × (length h.taken < most_taken)
-Ends reads loads first h last (ends.BadLength found) = (rest : List ℕ) × ServedTo reads first h rest last × IsBad rest found
+Ends reads loads first h last (ends.BadLength found) = (rest : List ℕ) × ServedTo reads first h rest last × IsBad rest found × (length rest < 4 + most_piece)
 Ends reads loads first h last ends.ReadFault = (rest : List ℕ) × ServedTo reads first h rest last × IsBegun rest × (length h.taken < most_taken)
-Ends reads loads first h last ends.WriteFault = (rest : List ℕ) × ServedTo reads first h rest last
+Ends reads loads first h last ends.WriteFault = IsUngreeted first h last ⊎ StopsAtReply reads first h last
 Ends reads loads first h last ends.ClockFault = StopsAtClock reads first h last
 Ends reads loads first h last ends.ClockEnd = StopsAtClock reads first h last
 Ends reads loads first h last ends.Spent = (rest : List ℕ) × ServedTo reads first h rest last × IsBegun rest × (length h.taken ≡ most_taken)
@@ -89,9 +119,24 @@ Ends reads loads first h last ends.NoMemory = RunsOut reads loads first h last
 abbrev pub WritesFront : List ℕ → List ℕ → List ℕ → Type 0
 WritesFront before after bytes = (front : List ℕ) × (unwritten : List ℕ) × (after ≡ before ++ front) × (bytes ≡ front ++ unwritten)
 
--- all bytes were written, or some front of them where the sink failed or memory was refused
+-- replies, one behind another
+abbrev pub bytes_of_replies : List Pdu → List ℕ
+bytes_of_replies [] = []
+bytes_of_replies (reply ∷ replies) = reply_bytes reply ++ bytes_of_replies replies
+
+-- the bytes are those of replies; all but the last were written, and some front of that one
+pub record BreaksOff (before after bytes : List ℕ) : Type 0 where
+  pub replies : List Pdu
+  pub last : Pdu
+  pub front : List ℕ
+  pub unwritten : List ℕ
+  pub are : bytes ≡ bytes_of_replies replies ++ reply_bytes last
+  pub wrote : after ≡ before ++ (bytes_of_replies replies ++ front)
+  pub of_last : reply_bytes last ≡ front ++ unwritten
+
+-- all bytes were written, or all but a part of the last reply where the sink failed, or some front where memory was refused
 abbrev pub WritesBy : SessionEnd → List ℕ → List ℕ → List ℕ → Type 0
-WritesBy ends.WriteFault before after bytes = WritesFront before after bytes
+WritesBy ends.WriteFault before after bytes = BreaksOff before after bytes
 WritesBy ends.NoMemory before after bytes = WritesFront before after bytes
 WritesBy end before after bytes = after ≡ before ++ bytes
 

@@ -1,5 +1,5 @@
 use Rattle.std.proofs.Common.{false, refl, ◌∙◌}
-use Rattle.pmcd_session.proofs.Talks.{never_talks, renewed, room_fits, talks_at_first, talks_end, talks_enough, talks_on}
+use Rattle.pmcd_session.proofs.Talks.{never_talks, renewed, room_fits, room_small, talks_at_first, talks_end, talks_enough, talks_on}
 use Rattle.pmcd_session.proofs.conversing.converse.Goals as goal
 
 pub returns-in-Err-clause-runs : goal.returns-in-Err-clause-runs
@@ -23,7 +23,7 @@ loop-taken-preserved g c =
       talks =
           talks_on (g.A.Agent.reads c.args.regions.now) (g.A.Agent.loads c.args.regions.now) g.I.Source g.O.Sink g.C.Clock c.args.s.now.agent c.args.input.now c.loop-taken.input c.serve_next.new.input
           c.args.out.now c.loop-taken.out c.serve_next.new.out c.args.clock.now c.loop-taken.clock c.serve_next.new.clock c.loop-taken.taken c.in-Ok.count _ c.loop-taken.stream c.serve_next.new.stream c.loop-taken.s c.serve_next.new.s d.0
-          i.talks c.loop-taken-test.true (room_fits c.loop-taken.taken c.min-room.result c.loop-taken.buffer c.min-room.ensures) d.1 d.2 d.3 d.4.0 c.serve_next.ensures.later;
+          i.talks c.loop-taken-test.true (room_fits c.loop-taken.taken c.min-room.result c.loop-taken.buffer c.min-room.ensures) (room_small c.loop-taken.taken c.min-room.result c.loop-taken.buffer c.min-room.ensures) d.1 d.2 d.3 d.4.0 c.serve_next.ensures.later;
       stand =
           let q = c.in-Ok.ensures.quiet in
           record { source_stands = q.source_stands ∙ i.stand.source_stands; sink_stands = q.sink_stands ∙ i.stand.sink_stands; clock_stands = q.clock_stands ∙ i.stand.clock_stands };
@@ -36,7 +36,7 @@ returns-in-Err-serve_next-clause-runs g c =
     let d = c.in-Err-serve_next.ensures.done in
     talks_end (g.A.Agent.reads c.args.regions.now) (g.A.Agent.loads c.args.regions.now) g.I.Source g.O.Sink g.C.Clock c.args.s.now.agent c.args.input.now c.loop-taken.input c.serve_next.new.input
     c.args.out.now c.loop-taken.out c.serve_next.new.out c.args.clock.now c.loop-taken.clock c.serve_next.new.clock c.loop-taken.taken _ c.loop-taken.stream c.serve_next.new.stream c.loop-taken.s c.serve_next.new.s d.0 c.in-Err-serve_next.end
-    i.talks c.loop-taken-test.true (room_fits c.loop-taken.taken c.min-room.result c.loop-taken.buffer c.min-room.ensures) d.1 d.2 d.3
+    i.talks c.loop-taken-test.true (room_fits c.loop-taken.taken c.min-room.result c.loop-taken.buffer c.min-room.ensures) (room_small c.loop-taken.taken c.min-room.result c.loop-taken.buffer c.min-room.ensures) d.1 d.2 d.3
 
 pub returns-clause-runs : goal.returns-clause-runs
 returns-clause-runs g c =

@@ -1,7 +1,7 @@
 use Rattle.std.proofs.Common.{rules, ◌≡◌, ℕ, ◌≤◌, take, length, refl, sym, arith}
 use Rattle.std.proofs.lemmas.List.{append-nil, length-take-le}
 use Rattle.pmcd_session.proofs.Talking.{nothing, ends_at_end, ends_at_fault, none_came}
-use Rattle.pmcd_session.proofs.Writings.{none_written}
+use Rattle.pmcd_session.proofs.Writings.{input_end_other, none_written}
 use Rattle.pmcd_session.proofs.conversing.serve_next.Goals as goal
 
 pub returns-in-Err-clause-done : goal.returns-in-Err-clause-done
@@ -23,7 +23,7 @@ returns-then-count-eq0-clause-done g c = (
   record {
     took = λ tells. none_came c.in-Ok.count c.take.new.buffer (g.I.Source.left c.args.input.now) (g.I.Source.left c.take.new.self) c.if-count-eq0.true (c.in-Ok.ensures.bytes tells).next;
     asked = λ tells. refl;
-    wrote = λ tells. none_written c.end_of_input.result (g.O.Sink.written c.args.out.now);
+    wrote = λ tells. none_written c.end_of_input.result (g.O.Sink.written c.args.out.now) (input_end_other c.pending.result c.end_of_input.result c.end_of_input.ensures);
   },
   ends_at_end ℕ (g.A.Agent.reads c.args.regions.now) (g.A.Agent.loads c.args.regions.now) c.args.stream.now c.args.s.now c.pending.result c.end_of_input.result c.pending.ensures c.end_of_input.ensures,
   omega arith,

@@ -4,7 +4,7 @@ use Rattle.pmcd_session.specs.Serving.{DoesAll}
 use Rattle.pmcd_session.proofs.Quiet.{quiet_all}
 use Rattle.pmcd_session.proofs.Steps.{ends_unserved, goes_served}
 use Rattle.pmcd_session.proofs.Stops.{ends_within}
-use Rattle.pmcd_session.proofs.Writings.{all_in, none_written}
+use Rattle.pmcd_session.proofs.Writings.{all_in, none_written, stream_end_other}
 use Rattle.pmcd_session.proofs.conversing.serve_piece.Goals as goal
 
 pub returns-in-Err-clause-done : goal.returns-in-Err-clause-done
@@ -12,7 +12,7 @@ returns-in-Err-clause-done g c = (
   [],
   [],
   (λ tells. refl),
-  (λ tells. none_written c.in-Err.end (g.O.Sink.written c.args.out.now)),
+  (λ tells. none_written c.in-Err.end (g.O.Sink.written c.args.out.now) (stream_end_other c.in-Err.end c.in-Err.ensures.ends)),
   ends_unserved (Unit {0}) (g.A.Agent.reads c.args.regions.now) (g.A.Agent.loads c.args.regions.now) c.args.piece.now c.args.stream.now c.whole_pdus.new.stream c.args.s.now c.in-Err.end c.in-Err.ensures.brings,
 )
 
@@ -23,7 +23,7 @@ returns-in-Ok-serve_all-clause-done g c =
       d.0,
       d.1,
       d.2,
-      (λ tells. all_in c.go_on.result (g.O.Sink.written c.args.out.now) (g.O.Sink.written c.serve_all.new.out) d.1 (d.3 tells)),
+      (λ tells. all_in c.go_on.result (g.O.Sink.written c.args.out.now) (g.O.Sink.written c.serve_all.new.out) d.1 c.go_on.ensures.ends (d.3 tells)),
       goes_served reads (g.A.Agent.loads c.args.regions.now) c.args.piece.now c.in-Ok.pdus d.0 d.1 c.args.stream.now c.whole_pdus.new.stream c.go_on.new.stream c.args.s.now c.serve_all.new.s c.go_on.result
           c.in-Ok.ensures.brings
           (subst (λ (x : List (List ℕ)). DoesAll reads c.args.s.now x (record { moments = d.0; written = d.1; after = c.serve_all.new.s })) c.as_slice.ensures d.4)

@@ -2,7 +2,7 @@ use Rattle.std.specs.Prelude.{[]}
 use Rattle.pmcd_session.specs.Replies.{reply_bytes}
 use Rattle.pmcd_session.proofs.Asking.{bytes_for, halt_ends, sent_serves, sent_written, writable}
 use Rattle.pmcd_session.proofs.Quiet.{halt_quiet, sent_quiet}
-use Rattle.pmcd_session.proofs.Writings.{none_written}
+use Rattle.pmcd_session.proofs.Writings.{halt_other, none_written}
 use Rattle.pmcd_session.proofs.sending.serve_one.Goals as goal
 
 pub returns-in-Err-clause-done : goal.returns-in-Err-clause-done
@@ -11,7 +11,7 @@ returns-in-Err-clause-done g c =
       d.0,
       [],
       d.1,
-      (λ tells. none_written c.end_of.result (g.O.Sink.written c.args.out.now)),
+      (λ tells. none_written c.end_of.result (g.O.Sink.written c.args.out.now) (halt_other c.in-Err.halt c.end_of.result c.end_of.ensures)),
       halt_ends (g.A.Agent.reads c.args.regions.now) (g.A.Agent.loads c.args.regions.now) c.args.s.now c.reply_to.new.s c.args.pdu.now d.0 c.in-Err.halt c.end_of.result c.end_of.ensures d.2,
     )
 
