@@ -12,7 +12,7 @@ use Rattle.pmcd_server.specs.Draws.{sum_below, AreBelow}
 use Rattle.pmcd_server.specs.Turns.{Turn}
 use Rattle.pmcd_server.specs.Works.{Failure, Nowhere, AtNext, AtEnded, HasStopped, HasDrawnAll, AreReported, Work, IsWork}
 use Rattle.pmcd_server.specs.Places.{Drawer}
-use Rattle.pmcd_server.specs.Crews.{AllFailed, DrewAll, HaveServedOn, places_of, NoneFailed, SomeFailed, SomeRose}
+use Rattle.pmcd_server.specs.Crews.{AllFailed, DrewAll, HaveServedOn, places_of, NoneFailed, SomeFailed, SomeRose, AllSame}
 
 -- numbers below the count alone weigh, or those beyond it alone
 abbrev near : ℕ → (ℕ → ℕ) → ℕ → ℕ
@@ -127,6 +127,14 @@ module _ {P In Out Time : Type 0} (rows : List Mounted) (d : Ghosts P In Out Tim
   some_rose (w ∷ works) a failed = ⊎_elim
       (λ (here : w.failure ≢ Nowhere). inl (rose_by w.failure (length w.places) (length w.turns) (d.faults w.door) (d.faults w.door_after) here a.0.1.stopped))
       (λ (there : SomeFailed works). inr (some_rose works a.1 there)) failed
+
+  same_by : (failure : Failure) (m n before after : ℕ) → failure ≡ Nowhere → HasStopped failure m n before after → after ≡ before
+  same_by failure m n before after well stopped = (subst (λ (f : Failure). HasStopped f m n before after) well stopped).1
+
+  -- where none failed, each count stands
+  pub all_same : (works : List (Work P)) → AllByRecursion (IsWork rows d count) works → NoneFailed works → AllSame d (map (λ w. w.door) works) (map (λ w. w.door_after) works)
+  all_same [] a well = refl
+  all_same (w ∷ works) a well = (same_by w.failure (length w.places) (length w.turns) (d.faults w.door) (d.faults w.door_after) well.0 a.0.1.stopped, all_same works a.1 well.1)
 
   sessions_of : (failure : Failure) (m n before after : ℕ) → failure ≡ Nowhere → HasStopped failure m n before after → m ≡ n
   sessions_of failure m n before after well stopped = (subst (λ (f : Failure). HasStopped f m n before after) well stopped).0

@@ -1,5 +1,5 @@
 -- What a session's clauses say of its objects, its report says.
-use Rattle.std.proofs.Common.{ℕ, List, subst, arith}
+use Rattle.std.proofs.Common.{ℕ, List, ◌∙◌, subst, arith}
 use Rattle.fetch_engine.specs.declared.server.Mounted.{Mounted}
 use Rattle.pcp_outside.specs.Causes.{Rose}
 use Rattle.pcp_outside.specs.Doors.{IsFresh}
@@ -7,7 +7,7 @@ use Rattle.pcp_outside.specs.declared.doors.SessionEnd.{SessionEnd}
 use Rattle.pcp_outside.specs.declared.doors.SessionEnd.TheVariants as ends
 use Rattle.fetch_engine.specs.Servers.{Seated}
 use Rattle.pmcd_session.specs.Agents.{LoadsRegions, ReadsRegions}
-use Rattle.pmcd_session.specs.Sessions.{Completes, IsCaused, Runs, NoneFailed, WritesBy}
+use Rattle.pmcd_session.specs.Sessions.{Completes, IsCaused, OthersStand, Runs, NoneFailed, WritesBy}
 use Rattle.pcp_outside.specs.Sides.{SourceSide, SinkSide, ClockSide}
 use Rattle.pmcd_server.specs.Turns.{Turn, source_of, sink_of, clock_of, IsSession}
 
@@ -44,8 +44,9 @@ module _ (tells S O C : Type 0) (told : tells → S × O × C) (i o c : ℕ) (w 
       → Runs (ReadsRegions rows) LoadsRegions first last (found_source S i t) (found_sink O w o t) (found_clock C c t) t.report.session_end
       → IsCaused (found_source S i t) (found_sink O w o t) (found_clock C c t) t.report.session_end
       → Completes (found_source S i t) (found_sink O w o t) (found_clock C c t) t.report.session_end
+      → OthersStand (found_source S i t) (found_sink O w o t) (found_clock C c t) t.report.session_end
       → IsSession rows tells t first last
-  is_reported rows first last runs cause completes = record {
+  is_reported rows first last runs cause completes others = record {
     runs = record {
       history = runs.history;
       took = λ h. runs.took (told h).0;
@@ -56,5 +57,10 @@ module _ (tells S O C : Type 0) (told : tells → S × O × C) (i o c : ℕ) (w 
     };
     cause = caused t.report.session_end cause;
     completes = λ a b answerable none. completes (told a).0 (told b).2 answerable (none_failed none);
+    others = record {
+      source_still = λ other. others.source_still other ∙ fresh.source;
+      sink_still = λ other. others.sink_still other ∙ fresh.sink;
+      clock_still = λ other. others.clock_still other ∙ fresh.clock;
+    };
     later = record { source_on = omega arith; sink_on = omega arith; clock_on = omega arith };
   }

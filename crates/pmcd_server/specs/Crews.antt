@@ -72,6 +72,12 @@ SomeRose d [] after = ⊥
 SomeRose d (p ∷ ps) [] = ⊥
 SomeRose d (p ∷ ps) (q ∷ qs) = Rose (d.faults p) (d.faults q) ⊎ SomeRose d ps qs
 
+-- no door's count of faults rose
+abbrev pub AllSame : {P In Out Time : Type 0} → Ghosts P In Out Time → List P → List P → Type 0
+AllSame d [] after = after ≡ []
+AllSame d (p ∷ ps) [] = ⊥
+AllSame d (p ∷ ps) (q ∷ qs) = (d.faults q ≡ d.faults p) × AllSame d ps qs
+
 -- All places were drawn, and for each of them a session was served; or a door failed, and the other workers served on; or nothing
 -- was begun for want of memory.
 -- The places drawn are the numbers from 0 upwards, each once.

@@ -4,7 +4,7 @@ use Rattle.fetch_engine.specs.declared.server.Mounted.{Mounted}
 use Rattle.pcp_outside.specs.Doors.{Connection, Report}
 use Rattle.fetch_engine.specs.Servers.{Seated}
 use Rattle.pmcd_session.specs.Agents.{LoadsRegions, ReadsRegions}
-use Rattle.pmcd_session.specs.Sessions.{Completes, CountsOn, IsCaused, Runs}
+use Rattle.pmcd_session.specs.Sessions.{Completes, CountsOn, IsCaused, OthersStand, Runs}
 use Rattle.pcp_outside.specs.Sides.{SourceSide, SinkSide, ClockSide}
 
 -- What came over a connection, and what is reported of it. Of a door that doesn't tell, the end and the counts of faults alone
@@ -28,6 +28,7 @@ pub record IsSession (rows : List Mounted) (tells : Type 0) (t : Turn) (first la
   pub runs : Runs (ReadsRegions rows) LoadsRegions first last (source_of tells t) (sink_of tells t) (clock_of tells t) t.report.session_end
   pub cause : IsCaused (source_of tells t) (sink_of tells t) (clock_of tells t) t.report.session_end
   pub completes : Completes (source_of tells t) (sink_of tells t) (clock_of tells t) t.report.session_end
+  pub others : OthersStand (source_of tells t) (sink_of tells t) (clock_of tells t) t.report.session_end
   pub later : CountsOn (source_of tells t) (sink_of tells t) (clock_of tells t)
 
 -- sessions one after another on one seat

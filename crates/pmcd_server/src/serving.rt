@@ -2,7 +2,7 @@
 ghost use Rattle.std.specs.Prelude.{◌≡◌, ◌<◌, ◌≤◌, ◌+◌, ◌*◌, length, sum_by, IsErrOf, OnOk};
 ghost use Rattle.std.specs.List.{AllByRecursion};
 ghost use Rattle.std.specs.Thread.{IsSend, IsSync};
-ghost use Rattle.pmcd_server.specs.Crews.{HasServed, HasWorked, HaveWorked, SomeRose};
+ghost use Rattle.pmcd_server.specs.Crews.{AllSame, HasServed, HasWorked, HaveWorked, SomeRose};
 ghost use Rattle.pmcd_server.specs.declared.fault.ServeFault.TheVariants.{Accept};
 ghost use Rattle.pmcd_server.specs.Draws.{share};
 ghost use Rattle.fetch_engine.specs.Servers.{IsSeated};
@@ -123,6 +123,8 @@ where
     ensures connections { P.tells → OnOk result (sum_by (λ d. length (P.left d)) doors.old ≡ sum_by (λ d. length (P.left d)) doors.new + count) }
     ensures reports { P.tells → OnOk result (sum_by (λ d. length (P.reports d)) doors.new ≡ sum_by (λ d. length (P.reports d)) doors.old + count) }
     ensures accept { IsErrOf result Accept → SomeRose P.Door doors.old doors.new }
+    // Where all were served no door failed.
+    ensures quiet { OnOk result (AllSame P.Door doors.old doors.new) }
     ensures seated { AllByRecursion (λ s. IsSeated server.now s.tokens) seats.new }
 {
     let (places, mut drawer) = Places::new(alloc)?;

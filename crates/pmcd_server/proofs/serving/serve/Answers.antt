@@ -3,8 +3,8 @@ use Rattle.std.specs.List.{sum_by}
 use Rattle.pmcd_server.specs.Places.{Drawer}
 use Rattle.fetch_engine.specs.Servers.{Seated}
 use Rattle.pmcd_server.specs.Works.{Work}
-use Rattle.pmcd_server.specs.Crews.{SomeRose, places_of}
-use Rattle.pmcd_server.proofs.Finishing.{how_many, some_rose, connections, reports, served_some, served_all}
+use Rattle.pmcd_server.specs.Crews.{AllSame, SomeRose, places_of}
+use Rattle.pmcd_server.proofs.Finishing.{all_same, how_many, some_rose, connections, reports, served_some, served_all}
 use Rattle.pmcd_server.proofs.serving.serve.Goals as goal
 use Rattle.pmcd_server.proofs.serving.serve.Goals.{Else-not-is_well}
 use Rattle.pmcd_server.specs.Draws.{AreBelow}
@@ -53,3 +53,10 @@ returns-clause-reports g c tells =
     let all = reports c.args.server.now g.P.Door c.args.count tells w.0 w.2.each w.4 in
     ap (λ (l : List g.row.P.Denot). sum_by told l) w.2.leave ∙ all ∙ ap (λ (n : ℕ). sum_by told (map (λ (x : Work g.row.P.Denot). x.door) w.0) + n) many
     ∙ ap (λ (l : List g.row.P.Denot). sum_by told l + c.args.count) (sym w.2.at)
+
+pub returns-clause-quiet : goal.returns-clause-quiet
+returns-clause-quiet g c =
+    let w = c.if-not-is_well.ensures.works in
+    let same = all_same c.args.server.now g.P.Door c.args.count w.0 w.2.each w.4 in
+    subst (λ (l : List g.row.P.Denot). AllSame g.P.Door l c.run-is_well.new.doors) (sym w.2.at)
+    (subst (λ (l : List g.row.P.Denot). AllSame g.P.Door (map (λ (x : Work g.row.P.Denot). x.door) w.0) l) (sym w.2.leave) same)

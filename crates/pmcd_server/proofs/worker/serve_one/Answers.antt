@@ -29,6 +29,6 @@ returns-clause-serves g c =
     } in
     let is : IsSession c.args.server.now d.tells t c.args.seat.now c.session-end.new.seat =
     is_reported d.tells g.P.In.Source.tells g.P.Out.Sink.tells g.P.Time.Clock.tells g.met.P.Door.told (g.P.In.Source.faults c.in_ok-input.input) (g.P.Out.Sink.faults c.in_ok-input.out) (g.P.Time.Clock.faults c.in_ok-input.time)
-    (g.P.Out.Sink.written c.in_ok-input.out) e.fresh t c.args.server.now c.args.seat.now c.session-end.new.seat s.runs s.cause s.completes in
+    (g.P.Out.Sink.written c.in_ok-input.out) e.fresh t c.args.server.now c.args.seat.now c.session-end.new.seat s.runs s.cause s.completes s.still in
     served_one c.args.server.now d c.ended.result t c.args.seat.now c.session-end.new.seat c.args.door.now c.next.new.self c.ended.new.self
     is e.connection e.reports e.quiet c.ended.ensures.reports c.ended.ensures.unreported c.ended.ensures.left c.ended.ensures.given c.ended.ensures.quiet c.ended.ensures.cause
