@@ -1,5 +1,5 @@
 -- How many bytes were taken behind the last PDU of a piece, or with a length word that no PDU has.
-use Rattle.std.proofs.Common.{◌≡◌, ℕ, ◌+◌, ◌<◌, ◌≤◌, List, [], ◌∷◌, ◌++◌, length, take, drop, Some, None, inl, inr, sym, ap, ◌∙◌, subst, arith}
+use Rattle.std.proofs.Common.{◌≡◌, ℕ, ◌+◌, ◌<◌, ◌≤◌, List, [], ◌∷◌, ◌++◌, length, drop, Some, None, inl, inr, sym, ap, ◌∙◌, subst, arith}
 use Rattle.std.specs.Int.{w32, from_be_bytes}
 use Rattle.std.proofs.lemmas.Bool.{cases_lt}
 use Rattle.std.proofs.lemmas.List.{append-nil, length-append, take-append-le}
@@ -28,9 +28,9 @@ few_behind_bad taken piece given kept rest found s begun t bad small =
     elim (cases_lt (length kept) 4) [
       | inl short ↦ omega arith
       | inr four ↦
-        let word : length_word kept ≡ found = sym (word_front kept piece four) ∙ ap length_word (sym whole) ∙ bad.1 in
-        let never = one_stop kept None (Some found) begun (four, word, bad.2) in
-        absurd (differ never)
+          let word : length_word kept ≡ found = sym (word_front kept piece four) ∙ ap length_word (sym whole) ∙ bad.1 in
+          let never = one_stop kept None (Some found) begun (four, word, bad.2) in
+          absurd (differ never)
     ]
   where
     differ : None ≡ Some found → ⊥
@@ -47,14 +47,14 @@ few_behind_some taken piece given pdu pdus kept rest s begun t p =
     elim (cases_lt (length kept) 4) [
       | inl short ↦ omega (arith, long, parts)
       | inr four ↦
-        let enough : 4 ≤ length pdu = omega arith in
-        let room : 4 ≤ length (pdu ++ bytes_of_pdus pdus) = omega (arith, parts) in
-        let word : length_word kept ≡ length pdu =
-        sym (word_front kept piece four) ∙ ap length_word both ∙ word_front (pdu ++ bytes_of_pdus pdus) rest room ∙ word_front pdu (bytes_of_pdus pdus) enough ∙ p.says in
-        elim begun [
-          | inl short ↦ omega arith
-          | inr more ↦ let below : length kept < length_word kept = more.2 in omega (arith, long, parts, word)
-        ]
+          let enough : 4 ≤ length pdu = omega arith in
+          let room : 4 ≤ length (pdu ++ bytes_of_pdus pdus) = omega (arith, parts) in
+          let word : length_word kept ≡ length pdu =
+          sym (word_front kept piece four) ∙ ap length_word both ∙ word_front (pdu ++ bytes_of_pdus pdus) rest room ∙ word_front pdu (bytes_of_pdus pdus) enough ∙ p.says in
+          elim begun [
+            | inl short ↦ omega arith
+            | inr more ↦ let below : length kept < length_word kept = more.2 in omega (arith, long, parts, word)
+          ]
     ]
 
 first_whole : (given : List (List ℕ)) (pdu : List ℕ) (pdus : List (List ℕ)) (stream rest : List ℕ) → Splits stream (given ++ pdu ∷ pdus) rest → IsPdu pdu

@@ -51,7 +51,7 @@ returns-in-Err-clause-done g c =
       i.bytes ++ d.1,
       (λ tells. i.clock_told tells ∙ ap (λ m. i.moments ++ m) (d.2 tells) ∙ sym (append_assoc i.moments d.0 (g.C.Clock.left c.serve_one.new.clock))),
       (λ tells. written_behind c.in-Err.end (g.O.Sink.written c.args.out.now) (g.O.Sink.written c.loop-pdu.out) (g.O.Sink.written c.serve_one.new.out) i.bytes d.1
-      (replies_of (g.A.Agent.reads c.args.regions.now) c.args.s.now (take c.loop-pdu.pdu-index c.args.pdus.now) (record { moments = i.moments; written = i.bytes; after = c.loop-pdu.s }) i.does) (i.sink_told tells) (d.3 tells)),
+          (replies_of (g.A.Agent.reads c.args.regions.now) c.args.s.now (take c.loop-pdu.pdu-index c.args.pdus.now) (record { moments = i.moments; written = i.bytes; after = c.loop-pdu.s }) i.does) (i.sink_told tells) (d.3 tells)),
       stops_at (g.A.Agent.reads c.args.regions.now) (g.A.Agent.loads c.args.regions.now) c.args.s.now c.loop-pdu.s c.serve_one.new.s c.args.pdus.now c.loop-pdu.pdu-index c.as_slice.result.now c.pdu-item.result i.moments d.0 i.bytes d.1 c.in-Err.end
           below c.pdu-item.is c.as_slice.ensures i.does d.4,
     )
