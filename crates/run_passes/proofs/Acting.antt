@@ -8,7 +8,6 @@ use Rattle.fetch_engine.specs.declared.server.Mounted.{Mounted}
 use Rattle.run_script.specs.declared.script.Line.{Line}
 use Rattle.run_script.specs.declared.script.Script.{Script}
 use Rattle.run_passes.specs.Workers.{IsPassOf}
-use Rattle.run_passes.proofs.Seated.{set_set}
 use Rattle.run_passes.specs.declared.writer.Writer.{Writer}
 use Rattle.run_passes.specs.declared.writer.Writer.TheVariants as writers
 use Rattle.run_passes.specs.LineEntries.{Writing}
@@ -39,23 +38,20 @@ ready_now script server at line list region writer within e ready there =
     let r = ready m.0 writer m.1 there in
     subst (λ (x : MadeRegion). IsReady script x line writer) (sym same) (record { here = r.0; may = r.1; room = r.2 })
 
-pub acts_done : (images : List (List ℕ × List ℕ)) (server : List Mounted) (at : ℕ) (line : Line) (list : List Writer) (region : MadeRegion) (away writer done back : Writer) (answer : Result (Unit {0}) NoMemory) → at < length server
-    → Some region ≡ option_map (λ (row : Mounted). row.region) (slice_get server at) → slice_get list at ≡ Some writer → back ≡ done
+pub acts_done : (images : List (List ℕ × List ℕ)) (server : List Mounted) (at : ℕ) (line : Line) (list : List Writer) (region : MadeRegion) (writer done : Writer) (answer : Result (Unit {0}) NoMemory) → at < length server
+    → Some region ≡ option_map (λ (row : Mounted). row.region) (slice_get server at) → slice_get list at ≡ Some writer
     → MatchResult answer (λ _. RunsLine region images line writer done) (λ _. StaysWriter region writer done)
-    → MatchResult answer (λ _. ActsAt server at list (slice_set (slice_set list at away) at back) (λ r was next. RunsLine r images line was next)) (λ _. ActsAt server at list (slice_set (slice_set list at away) at back) StaysWriter)
-acts_done images server at line list region away writer done back answer within e there same how = by_answer answer how
+    → MatchResult answer (λ _. ActsAt server at list (slice_set list at done) (λ r was next. RunsLine r images line was next)) (λ _. ActsAt server at list (slice_set list at done) StaysWriter)
+acts_done images server at line list region writer done answer within e there how = by_answer answer how
   where
     m : (mounted : Mounted) × (slice_get server at ≡ Some mounted)
     m = get_at server at within
 
-    is : slice_set (slice_set list at away) at back ≡ slice_set list at done
-    is = set_set list at away back ∙ ap (λ (w : Writer). slice_set list at w) same
-
-    acts : (How : MadeRegion → Writer → Writer → Type 0) → How region writer done → ActsAt server at list (slice_set (slice_set list at away) at back) How
-    acts How h = record { mounted = m.0; there = m.1; was = writer; before = there; done = done; is = is; how = subst (λ (r : MadeRegion). How r writer done) (region_same server at region m.0 e m.1) h }
+    acts : (How : MadeRegion → Writer → Writer → Type 0) → How region writer done → ActsAt server at list (slice_set list at done) How
+    acts How h = record { mounted = m.0; there = m.1; was = writer; before = there; done = done; is = refl; how = subst (λ (r : MadeRegion). How r writer done) (region_same server at region m.0 e m.1) h }
 
     by_answer : (a : Result (Unit {0}) NoMemory) → MatchResult a (λ _. RunsLine region images line writer done) (λ _. StaysWriter region writer done)
-        → MatchResult a (λ _. ActsAt server at list (slice_set (slice_set list at away) at back) (λ r was next. RunsLine r images line was next)) (λ _. ActsAt server at list (slice_set (slice_set list at away) at back) StaysWriter)
+        → MatchResult a (λ _. ActsAt server at list (slice_set list at done) (λ r was next. RunsLine r images line was next)) (λ _. ActsAt server at list (slice_set list at done) StaysWriter)
     by_answer (Ok x) h = acts (λ r was next. RunsLine r images line was next) h
     by_answer (Err x) h = acts StaysWriter h
 

@@ -1,6 +1,5 @@
 -- What a stint keeps of its region's layout stays so while the form of what it has seen stays.
-use Rattle.std.proofs.Common.{◌≡◌, ℕ, suc, ◌<◌, ◌⊎◌, Bool, true, false, if◌then◌else◌, find, Contains, List, [], ◌∷◌, All, IfOk, IfSome, Result, Ok, Err, length, Option, Some, None, map, ap, sym, refl, subst, ◌∙◌, ⊎_elim, arith}
-use Rattle.pcp_base.specs.declared.memory.NoMemory.{NoMemory}
+use Rattle.std.proofs.Common.{◌≡◌, ℕ, suc, ◌<◌, ◌⊎◌, Bool, true, false, if◌then◌else◌, find, Contains, List, [], ◌∷◌, All, IfSome, length, Option, Some, None, map, ap, sym, refl, subst, ◌∙◌, ⊎_elim, arith}
 use Rattle.std.specs.List.{zip}
 use Rattle.mmv_layout.specs.Form.{Form}
 use Rattle.mmv_layout.specs.declared.rows.Slot.{Slot}
@@ -49,6 +48,5 @@ found_below slots p (Some slot) n all e =
     subst (λ (s : Slot). s.word < n) c.2 (all c.0 slot c.1)
 
 -- the strings that were found are those of the form
-pub texts_told : (answer : Result (List (ℕ × List ℕ)) NoMemory) (v : View) → IfOk answer (λ texts. (map (λ (text : ℕ × List ℕ). text.0) texts ≡ (form_seen v).offsets) × (map (λ (text : ℕ × List ℕ). text.1) texts ≡ (form_seen v).strings)) → IfOk answer (λ texts. texts ≡ texts_seen v)
-texts_told (Ok texts) v told = zipped texts (form_seen v).offsets (form_seen v).strings told.0 told.1
-texts_told (Err fault) v told = tt
+pub texts_told : (texts : List (ℕ × List ℕ)) (v : View) → (map (λ (text : ℕ × List ℕ). text.0) texts ≡ (form_seen v).offsets) × (map (λ (text : ℕ × List ℕ). text.1) texts ≡ (form_seen v).strings) → texts ≡ texts_seen v
+texts_told texts v told = zipped texts (form_seen v).offsets (form_seen v).strings told.0 told.1

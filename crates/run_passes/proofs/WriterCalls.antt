@@ -21,10 +21,16 @@ use Rattle.region_rule.proofs.Relaying.{now_after, words_before}
 use Rattle.region_words.specs.Images.{mmv, mmv_laws}
 use Rattle.run_passes.specs.Workers.{IsPassOf}
 use Rattle.run_passes.proofs.Calling.{moved}
+use Rattle.run_passes.specs.declared.writer.Writer.{Writer}
 use Rattle.run_passes.specs.declared.writer.Writer.TheVariants as writers
 use Rattle.run_passes.specs.LineEntries.{Writing, Makes, AreBounced, IsBounced, takes, Attaches, BeginsChange, StepsOn, Finishes}
-use Rattle.run_passes.specs.Writers.{Did, Grew}
+use Rattle.run_passes.specs.Writers.{Did, Grew, writing_of}
 use Rattle.run_passes.proofs.Entries.{Acted, acted_none, acted_one, acted_both, acted_all, entries_of, grew_refl, grew_step, grew_trans, makes_by, now_grown}
+
+-- what a pass did that was taken up, and put back, it did in its place
+pub did_in_place : (region : MadeRegion) (P : Writing → ℕ → State → List Entry → Writing → Type 0) (was taken done new : Writer) → taken ≡ was → new ≡ done → Did region (P (writing_of taken)) taken done → Did region (P (writing_of was)) was new
+did_in_place region P was taken done new e f did =
+    subst (λ (w : Writer). Did region (P (writing_of was)) was w) (sym f) (subst (λ (w : Writer). Did region (P (writing_of w)) w done) e did)
 
 -- Attaching
 

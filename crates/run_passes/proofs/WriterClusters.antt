@@ -1,5 +1,5 @@
 -- The clusters of a script's regions, sorted, are those of its server.
-use Rattle.std.proofs.Common.{◌≡◌, ◌⊎◌, inl, inr, ⊎_elim, ℕ, zero, suc, ◌+◌, ◌<◌, ◌≤◌, Bool, true, false, ◌==◌, nat_eq, List, [], ◌∷◌, length, map, get_or, slice_get, Some, None, sym, refl, ap, ◌∙◌, subst, arith}
+use Rattle.std.proofs.Common.{◌≡◌, ◌⊎◌, inl, inr, ⊎_elim, ℕ, zero, suc, ◌+◌, ◌<◌, ◌≤◌, Bool, true, false, ◌==◌, nat_eq, List, [], ◌∷◌, ◌++◌, length, map, get_or, slice_get, Some, None, sym, refl, ap, ◌∙◌, subst, arith}
 use Rattle.std.specs.Prelude.{IsPermutation, Contains}
 use Rattle.std.specs.List.{sum_by, position_from}
 use Rattle.std.specs.List.Sorted.{IsNonDecreasingBy}
@@ -183,3 +183,10 @@ module _ (script : Script) (seats : ℕ) (server : List Mounted) (region cluster
       let here : slice_get (clusters_in server) at ≡ Some cluster = ap (λ (l : List ℕ). slice_get l at) (sym clusters_is) ∙ position_found clusters cluster at e in
       let m = from_map (λ (m : Mounted). m.cluster) server at cluster here in
       record { row = row; is = is; mounted = m.0; there = m.1; cluster = m.2 ∙ of_row }
+
+-- one more region whose place is known
+pub one_more : (P : ℕ → ℕ → Type 0) (places : List ℕ) (at : ℕ) → ((i j : ℕ) → slice_get places i ≡ Some j → P i j) → P (length places) at → (i j : ℕ) → slice_get (places ++ at ∷ []) i ≡ Some j → P i j
+one_more P [] at before here zero j e = let same : at ≡ j = cc in subst (λ (n : ℕ). P 0 n) same here
+one_more P [] at before here (suc i) j e = absurd (cc)
+one_more P (place ∷ places) at before here zero j e = before 0 j e
+one_more P (place ∷ places) at before here (suc i) j e = one_more (λ k n. P (suc k) n) places at (λ k n f. before (suc k) n f) here i j e

@@ -24,6 +24,11 @@ pub record IsServedAt (script : Script) (server : List Mounted) (i j : ℕ) : Ty
   pub there : slice_get server j ≡ Some mounted
   pub cluster : mounted.cluster ≡ cluster_of script row
 
+-- each region of a script is served at its place
+pub record AreServedAt (script : Script) (server : List Mounted) (places : List ℕ) : Type 0 where
+  pub as_many : length places ≡ length script.regions
+  pub each : (i j : ℕ) → slice_get places i ≡ Some j → IsServedAt script server i j
+
 -- Writers at the positions of a server
 
 -- passes of this number, in the regions that have one, and away in the others

@@ -3,12 +3,11 @@ ghost use Rattle.std.specs.Prelude.{◌≡◌, ◌⊎◌, ◌<◌, ◌≤◌, �
 ghost use Rattle.fetch_engine.specs.declared.server.Mounted.{Mounted};
 ghost use Rattle.run_script.specs.Recording.{place_of as place_in, refused_line, suits};
 ghost use Rattle.run_script.specs.Rules.{IsPlaced, KeepsRules};
-ghost use Rattle.run_passes.specs.Crews.{ServesScript, clusters_in};
+ghost use Rattle.run_passes.specs.Crews.{ServesScript};
 ghost use Rattle.run_passes.specs.declared.writer.Writer.TheVariants.{Away};
-ghost use Rattle.run_passes.specs.Hands.{ActsAt, AreIdle, AreLaidDown, ArePresent, AreWriters, Comes, HasWritten, HaveRun, IsHand, IsReadyAt, IsSameHand, LaidDown, StayAway, hand_of, writer_of as writer_in};
+ghost use Rattle.run_passes.specs.Hands.{ActsAt, AreIdle, AreLaidDown, ArePresent, AreServedAt, AreWriters, Comes, HasWritten, HaveRun, IsHand, IsReadyAt, IsSameHand, LaidDown, StayAway, hand_of, writer_of as writer_in};
 ghost use Rattle.run_passes.specs.Writers.{IsWriter, RunsLine, StaysWriter};
 
-use crate::positions::place_at;
 use crate::writer::Writer;
 use fetch_engine::Server;
 use pcp_base::NoMemory;
@@ -17,7 +16,6 @@ use region_words::Pass;
 use run_script::{Line, Script};
 use std::alloc::Global;
 use std::marker::Model;
-use std::mem;
 use std::sync::Wait;
 
 /// A writer: its number, and its pass in each region that has one, in ascending cluster.
@@ -54,6 +52,14 @@ fn place_of(line: &Line) -> Option<(u32, u32)>
     }
 }
 
+/// The position at which a region is served.
+fn position_in(places: &[usize], region: u32) -> usize
+    requires { region < length places.now }
+    ensures { slice_get places.now region ≡ Some result }
+{
+    places[region as usize]
+}
+
 /// Runs a line by the writer of its region.
 fn run_at<R: Wait>(
     rt: &R,
@@ -77,11 +83,7 @@ fn run_at<R: Wait>(
     let Some(region) = server.region(at as u32) else {
         unreachable!()
     };
-    let writer = mem::replace(&mut writers[at], Writer::Away);
-    let (writer, answer) = writer.run(rt, alloc, region, script, line);
-    let away = mem::replace(&mut writers[at], writer);
-    let Writer::Away = away else { unreachable!() };
-    answer
+    writers[at].run(rt, alloc, region, script, line)
 }
 
 /// Runs a step, where it is one of this writer. Before it the writer takes its turn.
@@ -90,7 +92,7 @@ fn run_step<R: Wait, T: Turn>(
     alloc: Global,
     server: &Server,
     script: &Script,
-    clusters: &[u32],
+    places: &[usize],
     number: u32,
     writers: &mut Vec<Writer>,
     turn: &T,
@@ -99,7 +101,7 @@ fn run_step<R: Wait, T: Turn>(
 ) -> Result<(), NoMemory>
     requires rules { KeepsRules script.now }
     requires serves { (seats : ℕ) × ServesScript script.now seats server.now }
-    requires clusters { clusters.now ≡ clusters_in server.now }
+    requires places { AreServedAt script.now server.now places.now }
     requires line { IsPlaced script.now.images script.now.regions line.now × (suits script.now line.now ≡ true) × IsSome (place_in line.now) }
     requires writers { AreWriters server.now number writers.old.items }
     requires present { ArePresent script.now server.now number writers.old.items }
@@ -119,7 +121,7 @@ fn run_step<R: Wait, T: Turn>(
     }
     turn.turn(number, *taken);
     *taken += 1;
-    let at = place_at(clusters, script, server, region);
+    let at = position_in(places, region);
     run_at(rt, alloc, server, script, writers, at, line)
 }
 
@@ -129,7 +131,7 @@ fn run_steps<R: Wait, T: Turn>(
     alloc: Global,
     server: &Server,
     script: &Script,
-    clusters: &[u32],
+    places: &[usize],
     number: u32,
     writers: &mut Vec<Writer>,
     turn: &T,
@@ -137,7 +139,7 @@ fn run_steps<R: Wait, T: Turn>(
     requires rules { KeepsRules script.now }
     requires taken { refused_line script.now ≡ None }
     requires serves { (seats : ℕ) × ServesScript script.now seats server.now }
-    requires clusters { clusters.now ≡ clusters_in server.now }
+    requires places { AreServedAt script.now server.now places.now }
     requires writers { AreWriters server.now number writers.old.items }
     requires present { ArePresent script.now server.now number writers.old.items }
     requires idle { AreIdle writers.old.items }
@@ -149,7 +151,7 @@ fn run_steps<R: Wait, T: Turn>(
     let mut taken = 0;
     for step in script.steps.as_slice() {
         run_step(
-            rt, alloc, server, script, clusters, number, writers, turn, &mut taken, &step.1,
+            rt, alloc, server, script, places, number, writers, turn, &mut taken, &step.1,
         )?;
     }
     Ok(())
@@ -217,7 +219,7 @@ fn write_lines<R: Wait, T: Turn>(
     alloc: Global,
     server: &Server,
     script: &Script,
-    clusters: &[u32],
+    places: &[usize],
     number: u32,
     passes: &mut Vec<Option<Pass>>,
     turn: &T,
@@ -225,7 +227,7 @@ fn write_lines<R: Wait, T: Turn>(
     requires rules { KeepsRules script.now }
     requires taken { refused_line script.now ≡ None }
     requires serves { (seats : ℕ) × ServesScript script.now seats server.now }
-    requires clusters { clusters.now ≡ clusters_in server.now }
+    requires places { AreServedAt script.now server.now places.now }
     requires hand { IsHand script.now server.now (hand_of number passes.old.items) }
     ensures hand { IsHand script.now server.now (hand_of number passes.new.items) }
     ensures same { IsSameHand (hand_of number passes.old.items) (hand_of number passes.new.items) }
@@ -240,7 +242,7 @@ fn write_lines<R: Wait, T: Turn>(
         alloc,
         server,
         script,
-        clusters,
+        places,
         number,
         &mut writers,
         turn,
@@ -257,13 +259,13 @@ impl Hand {
         alloc: Global,
         server: &Server,
         script: &Script,
-        clusters: &[u32],
+        places: &[usize],
         turn: &T,
     ) -> Result<(), NoMemory>
         requires rules { KeepsRules script.now }
         requires taken { refused_line script.now ≡ None }
         requires serves { (seats : ℕ) × ServesScript script.now seats server.now }
-        requires clusters { clusters.now ≡ clusters_in server.now }
+        requires places { AreServedAt script.now server.now places.now }
         requires hand { IsHand script.now server.now self.old }
         ensures hand { IsHand script.now server.now self.new }
         ensures same { IsSameHand self.old self.new }
@@ -275,7 +277,7 @@ impl Hand {
             alloc,
             server,
             script,
-            clusters,
+            places,
             number,
             &mut self.passes,
             turn,

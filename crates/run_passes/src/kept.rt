@@ -1,5 +1,5 @@
 //! A stint that keeps what it has found of its region's layout.
-ghost use Rattle.std.specs.Prelude.{◌≡◌, ◌<◌, ◌⊎◌, negsuc, IfOk, IfSome, length, find, unwrap_or};
+ghost use Rattle.std.specs.Prelude.{◌≡◌, ◌<◌, ◌⊎◌, negsuc, IfOk, IfSome, IsSome, OnOk, length, find, unwrap_or};
 ghost use Rattle.std.specs.Option.{option_copied};
 ghost use Rattle.mmv_layout.specs.Form.{is_slot_of};
 ghost use Rattle.region_core.specs.declared.act.Act.TheVariants.{Swap, Add};
@@ -39,40 +39,42 @@ impl Model for KeptStint {
     ghost invariant = { λ k. KeepsSlots k.stint k.slots × KeepsTexts k.stint k.texts };
 }
 
-/// The value words that are kept, or else those that the stint finds.
-fn kept_slots(
+/// Keeps the value words that the stint finds, if none are kept yet.
+fn look_for_slots(
     alloc: Global,
     region: &Region,
     stint: &mut Stint,
-    slots: Option<List<Slot>>,
-) -> Result<List<Slot>, NoMemory>
+    slots: &mut Option<List<Slot>>,
+) -> Result<(), NoMemory>
     requires here { stint.old.region ≡ region.now }
-    requires kept { KeepsSlots stint.old slots }
-    ensures kept { IfOk result (λ found. KeepsSlots stint.new (Some found)) }
+    requires kept { KeepsSlots stint.old slots.old }
+    ensures kept { KeepsSlots stint.new slots.new }
+    ensures there { OnOk result (IsSome slots.new) }
     ensures looks { Looks stint.old stint.new }
 {
-    match slots {
-        Some(slots) => Ok(slots),
-        None => region.slots(alloc, stint),
+    if slots.is_none() {
+        *slots = Some(region.slots(alloc, stint)?);
     }
+    Ok(())
 }
 
-/// The strings that are kept, or else those that the stint finds.
-fn kept_texts(
+/// Keeps the strings that the stint finds, if none are kept yet.
+fn look_for_texts(
     alloc: Global,
     region: &Region,
     stint: &mut Stint,
-    texts: Option<List<(u64, Text)>>,
-) -> Result<List<(u64, Text)>, NoMemory>
+    texts: &mut Option<List<(u64, Text)>>,
+) -> Result<(), NoMemory>
     requires here { stint.old.region ≡ region.now }
-    requires kept { KeepsTexts stint.old texts }
-    ensures kept { IfOk result (λ found. KeepsTexts stint.new (Some found)) }
+    requires kept { KeepsTexts stint.old texts.old }
+    ensures kept { KeepsTexts stint.new texts.new }
+    ensures there { OnOk result (IsSome texts.new) }
     ensures looks { Looks stint.old stint.new }
 {
-    match texts {
-        Some(texts) => Ok(texts),
-        None => region.texts(alloc, stint),
+    if texts.is_none() {
+        *texts = Some(region.texts(alloc, stint)?);
     }
+    Ok(())
 }
 
 /// The slot of an item and an instance; without an instance the metric has no domain.
@@ -120,10 +122,11 @@ impl KeptStint {
         ensures below { IfOk result (λ slot. IfSome slot (λ found. found.word < length region.now.words)) }
         ensures looks { Looks self.old self.new }
     {
-        let slots = kept_slots(alloc, region, &mut self.stint, self.slots.take())?;
-        let found = find_slot(slots.as_slice(), item, instance).copied();
-        self.slots = Some(slots);
-        Ok(found)
+        look_for_slots(alloc, region, &mut self.stint, &mut self.slots)?;
+        let Some(slots) = &self.slots else {
+            unreachable!()
+        };
+        Ok(find_slot(slots.as_slice(), item, instance).copied())
     }
 
     /// The offset of the first string with a text.
@@ -137,10 +140,11 @@ impl KeptStint {
         ensures offset { IfOk result (λ offset. offset ≡ text_among (texts_seen self.old.view) text.now) }
         ensures looks { Looks self.old self.new }
     {
-        let texts = kept_texts(alloc, region, &mut self.stint, self.texts.take())?;
-        let found = find_text(texts.as_slice(), text);
-        self.texts = Some(texts);
-        Ok(found)
+        look_for_texts(alloc, region, &mut self.stint, &mut self.texts)?;
+        let Some(texts) = &self.texts else {
+            unreachable!()
+        };
+        Ok(find_text(texts.as_slice(), text))
     }
 
     /// Swaps a value word, as the stint does.

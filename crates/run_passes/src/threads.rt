@@ -5,14 +5,14 @@ ghost use Rattle.std.specs.List.{AllByRecursion};
 ghost use Rattle.std.specs.Thread.{IsSync};
 ghost use Rattle.run_script.specs.Recording.{refused_line};
 ghost use Rattle.run_script.specs.Rules.{KeepsRules};
-ghost use Rattle.run_passes.specs.Crews.{ServesScript, clusters_in};
+ghost use Rattle.run_passes.specs.Crews.{ServesScript};
 ghost use Rattle.run_passes.specs.Dealing.{HavePlaces};
-ghost use Rattle.run_passes.specs.Hands.{HasWritten, IsHand, IsSameHand};
+ghost use Rattle.run_passes.specs.Hands.{AreServedAt, HasWritten, IsHand, IsSameHand};
 ghost use Rattle.run_passes.specs.Written.{AreReady, AreSame, AreWritten, HaveComeBack, HaveWritten};
 
 use crate::dealing::{deal, give_back, make_hands};
 use crate::hand::Hand;
-use crate::positions::clusters_of;
+use crate::positions::places_of;
 use fetch_engine::Server;
 use pcp_outside::Turn;
 use region_words::Pass;
@@ -28,7 +28,7 @@ fn beside<R: Threads + Wait + Sync, T: Turn + Sync>(
     alloc: Global,
     server: &Server,
     script: &Script,
-    clusters: &[u32],
+    places: &[usize],
     turn: &T,
     hand: &mut Hand,
     hands: &mut [Hand],
@@ -36,7 +36,7 @@ fn beside<R: Threads + Wait + Sync, T: Turn + Sync>(
     requires rules { KeepsRules script.now }
     requires taken { refused_line script.now ≡ None }
     requires serves { (seats : ℕ) × ServesScript script.now seats server.now }
-    requires clusters { clusters.now ≡ clusters_in server.now }
+    requires places { AreServedAt script.now server.now places.now }
     requires hand { IsHand script.now server.now hand.old }
     requires hands { AllByRecursion (IsHand script.now server.now) hands.old }
     ensures hand { IsHand script.now server.now hand.new }
@@ -52,44 +52,41 @@ fn beside<R: Threads + Wait + Sync, T: Turn + Sync>(
             requires rules { KeepsRules script.now }
             requires taken { refused_line script.now ≡ None }
             requires serves { (seats : ℕ) × ServesScript script.now seats server.now }
-            requires clusters { clusters.now ≡ clusters_in server.now }
+            requires places { AreServedAt script.now server.now places.now }
             requires hand { IsHand script.now server.now hand.now }
             ensures hand { IsHand script.entry.now server.entry.now hand.exit.now }
             ensures same { IsSameHand hand.entry.now hand.exit.now }
             ensures written { OnTrue result (HasWritten script.entry.now server.entry.now hand.entry.now hand.exit.now) }
-        {
-            hand.write(rt, alloc, server, script, clusters, turn)
-                .is_ok()
-        },
+        { hand.write(rt, alloc, server, script, places, turn).is_ok() },
         &mut || -> bool
             requires sync { IsSync R.row × IsSync T.row }
             requires rules { KeepsRules script.now }
             requires taken { refused_line script.now ≡ None }
             requires serves { (seats : ℕ) × ServesScript script.now seats server.now }
-            requires clusters { clusters.now ≡ clusters_in server.now }
+            requires places { AreServedAt script.now server.now places.now }
             requires hands { AllByRecursion (IsHand script.now server.now) hands.now }
             ensures hands { AllByRecursion (IsHand script.entry.now server.entry.now) hands.exit.now }
             ensures same_all { AreSame hands.entry.now hands.exit.now }
             ensures all_written { OnTrue result (AreWritten script.entry.now server.entry.now hands.entry.now hands.exit.now) }
-        { run(rt, alloc, server, script, clusters, turn, hands) },
+        { run(rt, alloc, server, script, places, turn, hands) },
     )
 }
 
-/// All writers, beside each other. Answers whether memory sufficed.
+/// All writers, beside each other; for the last one no thread is begun. Answers whether memory sufficed.
 #[cycle(crew)]
 fn run<R: Threads + Wait + Sync, T: Turn + Sync>(
     rt: &R,
     alloc: Global,
     server: &Server,
     script: &Script,
-    clusters: &[u32],
+    places: &[usize],
     turn: &T,
     hands: &mut [Hand],
 ) -> bool
     requires rules { KeepsRules script.now }
     requires taken { refused_line script.now ≡ None }
     requires serves { (seats : ℕ) × ServesScript script.now seats server.now }
-    requires clusters { clusters.now ≡ clusters_in server.now }
+    requires places { AreServedAt script.now server.now places.now }
     requires hands { AllByRecursion (IsHand script.now server.now) hands.old }
     ensures hands { AllByRecursion (IsHand script.now server.now) hands.new }
     ensures same_all { AreSame hands.old hands.new }
@@ -98,7 +95,10 @@ fn run<R: Threads + Wait + Sync, T: Turn + Sync>(
     let Some((hand, hands)) = hands.split_first_mut() else {
         return true;
     };
-    let answers = beside(rt, alloc, server, script, clusters, turn, hand, hands);
+    if hands.is_empty() {
+        return hand.write(rt, alloc, server, script, places, turn).is_ok();
+    }
+    let answers = beside(rt, alloc, server, script, places, turn, hand, hands);
     let (one, others) = answers;
     one & others
 }
@@ -109,7 +109,7 @@ fn write_all<R: Threads + Wait + Sync, T: Turn + Sync>(
     alloc: Global,
     server: &Server,
     script: &Script,
-    clusters: &[u32],
+    places: &[usize],
     turn: &T,
     hands: Vec<Hand>,
     passes: &mut Vec<Vec<Pass>>,
@@ -117,15 +117,15 @@ fn write_all<R: Threads + Wait + Sync, T: Turn + Sync>(
     requires rules { KeepsRules script.now }
     requires taken { refused_line script.now ≡ None }
     requires serves { (seats : ℕ) × ServesScript script.now seats server.now }
-    requires clusters { clusters.now ≡ clusters_in server.now }
+    requires places { AreServedAt script.now server.now places.now }
     requires ready { AreReady script.now server.now passes.old.items }
-    requires places { HavePlaces passes.old.items hands.items }
+    requires room { HavePlaces passes.old.items hands.items }
     ensures back { HaveComeBack script.now server.now passes.old.items passes.new.items }
     ensures written { OnTrue result (HaveWritten script.now server.now passes.old.items passes.new.items) }
 {
     let mut hands = hands;
     deal(&mut hands, passes);
-    let is_well = run(rt, alloc, server, script, clusters, turn, &mut hands);
+    let is_well = run(rt, alloc, server, script, places, turn, &mut hands);
     give_back(passes, hands);
     is_well
 }
@@ -151,23 +151,14 @@ pub fn run_writers<R: Threads + Wait + Sync, T: Turn + Sync>(
         (λ done. HaveWritten script.now server.now passes.items done.items)
         (λ back. HaveComeBack script.now server.now passes.items back.items) }
 {
-    let Ok(clusters) = clusters_of(alloc, script) else {
+    let Ok(places) = places_of(alloc, script, server) else {
         return Err(passes);
     };
     let Ok(hands) = make_hands(alloc, &passes) else {
         return Err(passes);
     };
     let mut passes = passes;
-    let is_well = write_all(
-        rt,
-        alloc,
-        server,
-        script,
-        &clusters,
-        turn,
-        hands,
-        &mut passes,
-    );
+    let is_well = write_all(rt, alloc, server, script, &places, turn, hands, &mut passes);
     if !is_well {
         return Err(passes);
     }

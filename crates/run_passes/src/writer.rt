@@ -16,6 +16,7 @@ use pcp_base::NoMemory;
 use region_words::{Change, Pass, Region};
 use run_script::{Given, Line, Script};
 use std::alloc::Global;
+use std::mem;
 use std::sync::Wait;
 
 /// A pass of a writer: it does nothing, or it is attached, or it changes the layout, or it goes on with the lines of a change that was
@@ -28,27 +29,47 @@ pub(crate) enum Writer {
     Away,
 }
 
-/// Enters, and tries again while a pass is changing the layout.
-fn attach<R: Wait>(rt: &R, writer: Writer, region: &Region) -> Writer
-    requires here { IsHere region.now writer }
-    requires may { is_idle (stage_of (writing_of writer)) ≡ true }
-    ensures { Did region.now (λ k s entries next. (writing_of writer ≡ Writing.idle) × Attaches k s entries × (next ≡ Writing.attached)) writer result }
+/// Takes the pass up, which leaves its place away.
+fn take(writer: &mut Writer) -> Writer
+    ensures taken { result ≡ writer.old }
+    ensures away { writer.new ≡ Writer.Away }
 {
-    let Writer::Idle(pass) = writer else {
-        unreachable!()
-    };
-    Writer::Inside(KeptStint::new(region.attach_wait(rt, pass)))
+    mem::replace(writer, Writer::Away)
 }
 
-fn detach(writer: Writer, region: &Region) -> Writer
-    requires here { IsHere region.now writer }
-    requires may { is_attached (stage_of (writing_of writer)) ≡ true }
-    ensures { Did region.now (λ k s entries next. (writing_of writer ≡ Writing.attached) × Makes k (Leave ∷ []) entries × (next ≡ Writing.idle)) writer result }
+/// Puts the pass back into its place.
+fn put(writer: &mut Writer, next: Writer)
+    requires away { writer.old ≡ Writer.Away }
+    ensures { writer.new ≡ next }
 {
-    let Writer::Inside(stint) = writer else {
+    let away = mem::replace(writer, next);
+    let Writer::Away = away else { unreachable!() };
+}
+
+/// Enters, and tries again while a pass is changing the layout.
+fn attach<R: Wait>(rt: &R, writer: &mut Writer, region: &Region)
+    requires here { IsHere region.now writer.old }
+    requires may { is_idle (stage_of (writing_of writer.old)) ≡ true }
+    ensures { Did region.now (λ k s entries next. (writing_of writer.old ≡ Writing.idle) × Attaches k s entries × (next ≡ Writing.attached)) writer.old writer.new }
+{
+    let taken = take(writer);
+    let Writer::Idle(pass) = taken else {
         unreachable!()
     };
-    Writer::Idle(stint.detach(region))
+    let stint = region.attach_wait(rt, pass);
+    put(writer, Writer::Inside(KeptStint::new(stint)));
+}
+
+fn detach(writer: &mut Writer, region: &Region)
+    requires here { IsHere region.now writer.old }
+    requires may { is_attached (stage_of (writing_of writer.old)) ≡ true }
+    ensures { Did region.now (λ k s entries next. (writing_of writer.old ≡ Writing.attached) × Makes k (Leave ∷ []) entries × (next ≡ Writing.idle)) writer.old writer.new }
+{
+    let taken = take(writer);
+    let Writer::Inside(stint) = taken else {
+        unreachable!()
+    };
+    put(writer, Writer::Idle(stint.detach(region)));
 }
 
 /// What a store answers: whether memory sufficed.
@@ -63,104 +84,106 @@ fn answer_of(stored: Result<bool, NoMemory>) -> Result<(), NoMemory>
 
 /// Swaps a value into the slot of an item and an instance, where the layout has it.
 fn swap(
-    writer: Writer,
+    writer: &mut Writer,
     alloc: Global,
     region: &Region,
     item: u32,
     instance: Option<i32>,
     value: &Given,
-) -> (Writer, Result<(), NoMemory>)
-    requires here { IsHere region.now writer }
-    requires may { is_attached (stage_of (writing_of writer)) ≡ true }
+) -> Result<(), NoMemory>
+    requires here { IsHere region.now writer.old }
+    requires may { is_attached (stage_of (writing_of writer.old)) ≡ true }
     ensures { MatchResult
-        result.1
-        (λ _. Did region.now (λ k s entries next. (writing_of writer ≡ Writing.attached) × Stores k s (λ words. swap_of words item instance value.now) entries × (next ≡ Writing.attached)) writer result.0)
-        (λ _. StaysWriter region.now writer result.0) }
+        result
+        (λ _. Did region.now (λ k s entries next. (writing_of writer.old ≡ Writing.attached) × Stores k s (λ words. swap_of words item instance value.now) entries × (next ≡ Writing.attached)) writer.old writer.new)
+        (λ _. StaysWriter region.now writer.old writer.new) }
 {
-    let Writer::Inside(mut stint) = writer else {
+    let Writer::Inside(stint) = writer else {
         unreachable!()
     };
-    let stored = swap_in(alloc, region, &mut stint, item, instance, value);
-    (Writer::Inside(stint), answer_of(stored))
+    let stored = swap_in(alloc, region, stint, item, instance, value);
+    answer_of(stored)
 }
 
 /// Adds a number to the slot of an item and an instance, where the layout has it.
 fn add(
-    writer: Writer,
+    writer: &mut Writer,
     alloc: Global,
     region: &Region,
     item: u32,
     instance: Option<i32>,
     number: i128,
-) -> (Writer, Result<(), NoMemory>)
-    requires here { IsHere region.now writer }
-    requires may { is_attached (stage_of (writing_of writer)) ≡ true }
+) -> Result<(), NoMemory>
+    requires here { IsHere region.now writer.old }
+    requires may { is_attached (stage_of (writing_of writer.old)) ≡ true }
     ensures { MatchResult
-        result.1
-        (λ _. Did region.now (λ k s entries next. (writing_of writer ≡ Writing.attached) × Stores k s (λ words. add_of words item instance number) entries × (next ≡ Writing.attached)) writer result.0)
-        (λ _. StaysWriter region.now writer result.0) }
+        result
+        (λ _. Did region.now (λ k s entries next. (writing_of writer.old ≡ Writing.attached) × Stores k s (λ words. add_of words item instance number) entries × (next ≡ Writing.attached)) writer.old writer.new)
+        (λ _. StaysWriter region.now writer.old writer.new) }
 {
-    let Writer::Inside(mut stint) = writer else {
+    let Writer::Inside(stint) = writer else {
         unreachable!()
     };
-    let stored = add_in(alloc, region, &mut stint, item, instance, number);
-    (Writer::Inside(stint), answer_of(stored))
+    let stored = add_in(alloc, region, stint, item, instance, number);
+    answer_of(stored)
 }
 
 /// Begins a change to an image, of which it makes a copy, and tries again while the gate isn't free.
 fn begin<R: Wait>(
     rt: &R,
-    writer: Writer,
+    writer: &mut Writer,
     alloc: Global,
     region: &Region,
     image: &Image,
     moment: u64,
-) -> (Writer, Result<(), NoMemory>)
-    requires here { IsHere region.now writer }
-    requires may { is_idle (stage_of (writing_of writer)) ≡ true }
+) -> Result<(), NoMemory>
+    requires here { IsHere region.now writer.old }
+    requires may { is_idle (stage_of (writing_of writer.old)) ≡ true }
     requires fits { length image.now ≤ length region.now.words }
     ensures { MatchResult
-        result.1
-        (λ _. Did region.now (λ k s entries next. (writing_of writer ≡ Writing.idle) × BeginsChange k s image.now moment entries next) writer result.0)
-        (λ _. StaysWriter region.now writer result.0) }
+        result
+        (λ _. Did region.now (λ k s entries next. (writing_of writer.old ≡ Writing.idle) × BeginsChange k s image.now moment entries next) writer.old writer.new)
+        (λ _. StaysWriter region.now writer.old writer.new) }
 {
-    let Writer::Idle(pass) = writer else {
+    let Ok(copy) = image.copy(alloc) else {
+        return Err(NoMemory);
+    };
+    let taken = take(writer);
+    let Writer::Idle(pass) = taken else {
         unreachable!()
     };
-    let Ok(copy) = image.copy(alloc) else {
-        return (Writer::Idle(pass), Err(NoMemory));
-    };
     match region.begin_change_wait(rt, pass, copy, moment) {
-        Ok(change) => (Writer::Changing(change), Ok(())),
-        Err((pass, _copy, _fault)) => (Writer::Refused(pass), Ok(())),
+        Ok(change) => put(writer, Writer::Changing(change)),
+        Err((pass, _copy, _fault)) => put(writer, Writer::Refused(pass)),
     }
+    Ok(())
 }
 
 /// Stores the next word of the image, if one is left.
-fn step(writer: Writer, region: &Region) -> Writer
-    requires here { IsHere region.now writer }
-    requires may { is_changing (stage_of (writing_of writer)) ≡ true }
-    ensures { Did region.now (λ k s entries next. StepsOn k (writing_of writer) entries next) writer result }
+fn step(writer: &mut Writer, region: &Region)
+    requires here { IsHere region.now writer.old }
+    requires may { is_changing (stage_of (writing_of writer.old)) ≡ true }
+    ensures { Did region.now (λ k s entries next. StepsOn k (writing_of writer.old) entries next) writer.old writer.new }
 {
     match writer {
-        Writer::Changing(mut change) => {
-            let _left = change.step(region);
-            Writer::Changing(change)
+        Writer::Changing(change) => {
+            change.step(region);
         }
-        Writer::Refused(pass) => Writer::Refused(pass),
+        Writer::Refused(_) => {}
         _ => unreachable!(),
     }
 }
 
 /// Stores the words that are left, the second generation and the gate.
-fn finish(writer: Writer, region: &Region) -> Writer
-    requires here { IsHere region.now writer }
-    requires may { is_changing (stage_of (writing_of writer)) ≡ true }
-    ensures { Did region.now (λ k s entries next. Finishes k (writing_of writer) entries next) writer result }
+fn finish(writer: &mut Writer, region: &Region)
+    requires here { IsHere region.now writer.old }
+    requires may { is_changing (stage_of (writing_of writer.old)) ≡ true }
+    ensures { Did region.now (λ k s entries next. Finishes k (writing_of writer.old) entries next) writer.old writer.new }
 {
-    match writer {
-        Writer::Changing(change) => Writer::Idle(change.finish(region)),
-        Writer::Refused(pass) => Writer::Idle(pass),
+    let taken = take(writer);
+    match taken {
+        Writer::Changing(change) => put(writer, Writer::Idle(change.finish(region))),
+        Writer::Refused(pass) => put(writer, Writer::Idle(pass)),
         _ => unreachable!(),
     }
 }
@@ -175,43 +198,45 @@ fn image_at(script: &Script, at: u32) -> &Image
 }
 
 impl Writer {
-    /// Runs a line of the pass's own. Where memory is refused it did nothing but look.
+    /// Runs a line of the pass's own, in its place. Where memory is refused it did nothing but look.
     pub(crate) fn run<R: Wait>(
-        self,
+        &mut self,
         rt: &R,
         alloc: Global,
         region: &Region,
         script: &Script,
         line: &Line,
-    ) -> (Writer, Result<(), NoMemory>)
-        requires here { IsHere region.now self }
+    ) -> Result<(), NoMemory>
+        requires here { IsHere region.now self.old }
         requires placed { IsPlaced script.now.images script.now.regions line.now }
-        requires may { may_come (stage_of (writing_of self)) line.now ≡ true }
+        requires may { may_come (stage_of (writing_of self.old)) line.now ≡ true }
         requires fits { HasRoom script.now.images line.now (length region.now.words) }
-        ensures { MatchResult result.1 (λ _. RunsLine region.now script.now.images line.now self result.0) (λ _. StaysWriter region.now self result.0) }
+        ensures { MatchResult result (λ _. RunsLine region.now script.now.images line.now self.old self.new) (λ _. StaysWriter region.now self.old self.new) }
     {
         match line {
-            Line::Attach { .. } => (attach(rt, self, region), Ok(())),
-            Line::Detach { .. } => (detach(self, region), Ok(())),
+            Line::Attach { .. } => attach(rt, self, region),
+            Line::Detach { .. } => detach(self, region),
             Line::Swap {
                 item,
                 instance,
                 value,
                 ..
-            } => swap(self, alloc, region, *item, *instance, value),
+            } => return swap(self, alloc, region, *item, *instance, value),
             Line::Add {
                 item,
                 instance,
                 number,
                 ..
-            } => add(self, alloc, region, *item, *instance, *number),
+            } => return add(self, alloc, region, *item, *instance, *number),
             Line::Begin { image, moment, .. } => {
-                begin(rt, self, alloc, region, image_at(script, *image), *moment)
+                let image = image_at(script, *image);
+                return begin(rt, self, alloc, region, image, *moment);
             }
-            Line::Step { .. } => (step(self, region), Ok(())),
-            Line::Finish { .. } => (finish(self, region), Ok(())),
+            Line::Step { .. } => step(self, region),
+            Line::Finish { .. } => finish(self, region),
             _ => unreachable!(),
         }
+        Ok(())
     }
 
     /// Ends what the pass is doing: an open change is finished, and a stint detached.

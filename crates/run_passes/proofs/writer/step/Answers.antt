@@ -8,5 +8,5 @@ use Rattle.run_passes.proofs.writer.step.Goals as goal
 
 pub returns-in-Changing : goal.returns-in-Changing
 returns-in-Changing c =
-    subst (λ (w : Writer). Did c.args.region.now (λ k s entries next. StepsOn k (writing_of w) entries next) w (writers.Changing c.step-left.new.self)) (sym c.in-Changing.is)
-    (stepped_did c.args.region.now c.in-Changing.change c.step-left.new.self c.step-left.ensures.stores c.step-left.ensures.stays)
+    subst (λ (w : Writer). Did c.args.region.now (λ k s entries next. StepsOn k (writing_of w) entries next) w (writers.Changing c.step.new.self)) (sym c.in-Changing.is)
+    (stepped_did c.args.region.now c.in-Changing.change c.step.new.self c.step.ensures.stores c.step.ensures.stays)
