@@ -1,5 +1,5 @@
 -- What a pass keeps of its region serves as long as the generation stands.
-use Rattle.std.proofs.Common.{◌≡◌, ◌≢◌, ◌⊎◌, inl, inr, ⊎_elim, ℕ, zero, suc, ◌+◌, ◌<◌, ◌≤◌, List, [], ◌∷◌, ◌++◌, length, map, set, take, drop, get_or, get_or-set_same, get_or-set_other, length-set, slice_index, Contains, All, length-append, sym, refl, ap, ◌∙◌, subst, arith}
+use Rattle.std.proofs.Common.{◌≡◌, ◌≢◌, ◌⊎◌, inl, inr, ⊎_elim, ℕ, zero, suc, ◌+◌, ◌<◌, ◌≤◌, List, [], ◌∷◌, ◌++◌, length, set, take, drop, get_or, get_or-set_same, get_or-set_other, length-set, slice_index, Contains, Some, length-append, sym, refl, ap, ◌∙◌, subst, arith}
 use Rattle.std.specs.List.{zip}
 use Rattle.std.proofs.lemmas.List.{get_or-map, length-map, take_all, take-append-le}
 use Rattle.std.proofs.lemmas.List.Sums.{fold_more}
@@ -12,23 +12,23 @@ use Rattle.mmv_layout.specs.Rows.{layout_of}
 use Rattle.region_core.specs.declared.act.Act.TheVariants.{Load}
 use Rattle.region_core.specs.declared.act.Entry.{Entry}
 use Rattle.region_core.specs.Shape.{IsLike}
-use Rattle.region_core.specs.State.{State, word, g1, g2, opening}
+use Rattle.region_core.specs.State.{State, word, g1, g2}
 use Rattle.region_core.specs.Journal.{state_at, IsJournal}
-use Rattle.region_core.specs.Readings.{Reading, HasLayout, IsFoundBetween, IsShownBetween}
+use Rattle.region_core.specs.Readings.{Reading, IsFoundBetween, IsShownBetween}
 use Rattle.region_core.proofs.Lasting.{state_longer, loads_below}
 use Rattle.region_core.proofs.Positions.{mixed_at, layout_at}
 use Rattle.region_rule.specs.declared.view.View.{View}
 use Rattle.region_rule.specs.Views.{opening_of}
 use Rattle.region_rule.specs.Steps.{Extends}
-use Rattle.region_rule.specs.Reads.{WholeReading, ReadsImage, ReadsAgain, ReadsChosen, ReadsChosenAgain, ShowsIn, RefusedIn, numbered_from}
-use Rattle.region_rule.proofs.Showing.{Follows, numbered_or, length-numbered, agrees, disagrees}
-use Rattle.region_words.specs.Calls.{Loads}
+use Rattle.region_rule.specs.Reads.{WholeReading, ReadsImage, ReadsAgain, ReadsChosen, ReadsChosenAgain, ShowsIn, numbered_from}
+use Rattle.region_rule.proofs.Showing.{Follows, numbered_or, length-numbered}
 use Rattle.region_words.specs.Images.{mmv, mmv_laws}
 use Rattle.region_words.proofs.Inside.{slots_inside, slots_below}
 use Rattle.fetch_answers.specs.Numbers.{value_words}
-use Rattle.fetch_engine.specs.Kept.{IsKept, IsKeptBy, with_values}
+use Rattle.fetch_engine.specs.Kept.{IsKept}
+use Rattle.fetch_engine.specs.Tries.{LoadsImage, RefusesBy, ShowsBy, with_values}
 use Rattle.fetch_engine.specs.Visits.{ShowsLayout, ShowsAtOnce, IsRefused}
-use Rattle.fetch_engine.proofs.Tries.{opening_same, shown_since, shows_image, whole_loads, loads_follow}
+use Rattle.fetch_engine.proofs.Tries.{again_since, one_load, opening_same, shown_since, shows_image, whole_loads, loads_follow}
 
 -- Words that were written
 
@@ -297,6 +297,8 @@ refreshes v w words values fresh k image long is r =
       generation = m.generation;
       kept = m.kept;
       shows = record {
+        begun = v;
+        lone = inl refl;
         generation = slice_index words 1;
         found = pairs;
         loads = r.loads;
@@ -314,22 +316,17 @@ refreshes v w words values fresh k image long is r =
 
 -- A load of another generation, and all words behind it
 
-after_load : (v u w : View) (n first last : ℕ) (found : List (ℕ × ℕ)) → Extends mmv v (Load 2) n u → WholeReading mmv u first found last w → WholeReading mmv v n ((2, first) ∷ found) last w
-after_load v u w n first last found e r = record { begun = u; opens = e; ended = r.ended; each = (r.begun, r.opens, r.each); closes = r.closes }
-
-pub one_load : (v u : View) (n : ℕ) → Extends mmv v (Load 2) n u → Loads v u
-one_load v u n e = ((2, n) ∷ [], (u, e, refl))
-
--- where the image has that generation, they show it
-pub newer_shows : (v u w : View) (n : ℕ) (words : List ℕ) → Extends mmv v (Load 2) n u → ReadsImage mmv u words w → slice_index words 1 ≡ n → ShowsAtOnce v (layout_of words) w
-newer_shows v u w n words e r is =
-    let same : n ≡ r.generation = sym is ∙ image_generation u w words r in
+-- they show the image
+anew_shows : (v u w : View) (n : ℕ) (words : List ℕ) → Extends mmv v (Load 2) n u → ReadsImage mmv u words w → ShowsAtOnce v (layout_of words) w
+anew_shows v u w n words e r =
     let there : ShowsLayout u (layout_of words) w = (shows_image u w words r).shows in
     let f : Follows v u = loads_follow v u (one_load v u n e) in
     record {
+      begun = u;
+      lone = inr (n, e);
       generation = r.generation;
-      found = (2, r.generation) ∷ numbered_from 0 words;
-      loads = subst (λ (m : ℕ). WholeReading mmv v m ((2, r.generation) ∷ numbered_from 0 words) r.generation w) same (after_load v u w n r.generation r.generation (numbered_from 0 words) e r.loads);
+      found = numbered_from 0 words;
+      loads = r.loads;
       shows = record {
         words = there.words;
         image = there.image;
@@ -341,45 +338,44 @@ newer_shows v u w n words e r is =
       };
     }
 
--- and where it has another one, the try was refused
-pub newer_differs : (v u w : View) (n : ℕ) (words : List ℕ) → Extends mmv v (Load 2) n u → ReadsImage mmv u words w → slice_index words 1 ≢ n → IsRefused v w
-newer_differs v u w n words e r other =
-    let whole = after_load v u w n r.generation r.generation (numbered_from 0 words) e r.loads in
-    let differ : n ≢ r.generation = λ same. other (image_generation u w words r ∙ sym same) in
-    record {
-      first = n;
-      last = r.generation;
-      found = (2, r.generation) ∷ numbered_from 0 words;
-      loads = whole;
-      differ = differ;
-      again = disagrees mmv v w n r.generation ((2, r.generation) ∷ numbered_from 0 words) whole differ;
-    }
+pub image_loads : (v w : View) (words : List ℕ) (r : ReadsImage mmv v words w) → LoadsImage v r.generation r.generation words w
+image_loads v w words r = record { whole = r.whole; loads = r.loads }
 
--- so it was where the words behind it were refused
-pub newer_again : (v u w : View) (n first last : ℕ) → Extends mmv v (Load 2) n u → ReadsAgain mmv u first last w → IsRefused v w
-newer_again v u w n first last e r =
-    let found : List (ℕ × ℕ) = (2, first) ∷ numbered_from 0 r.words in
-    let whole : WholeReading mmv v n found last w = after_load v u w n first last (numbered_from 0 r.words) e r.loads in
-    let differ : n ≢ last = λ same.
-    let shown = agrees mmv mmv_laws v w n last found whole same in
-    let s = shown.1.2 in
-    let load : IsFoundBetween mmv (opening_of v) w.seen v.number shown.1.0 shown.1.1 (2, first) = s.each 0 (2, first) (omega arith) in
-    let low = load.1 in
-    let high = load.2 in
-    let here = s.stretch load.0 (omega arith) (omega arith) in
-    r.differ (load.4 ∙ here.second ∙ same) in
-    record {
-      first = n;
-      last = last;
-      found = found;
-      loads = whole;
-      differ = differ;
-      again = disagrees mmv v w n last found whole differ;
-    }
+pub anew_told : (kept : List ℕ) (v u w : View) (n : ℕ) (words : List ℕ) → n ≢ slice_index kept 1 → Extends mmv v (Load 2) n u → ReadsImage mmv u words w
+    → ShowsAtOnce v (layout_of words) w × ShowsBy (Some kept) v words w
+anew_told kept v u w n words other e r = (
+  anew_shows v u w n words e r,
+  record { generation = r.generation; tried = inr (record { found = n; other = other; begun = u; lone = e; image = image_loads u w words r }) },
+)
+
+-- or were refused
+pub anew_refused : (kept : List ℕ) (v u w : View) (n first last : ℕ) → n ≢ slice_index kept 1 → Extends mmv v (Load 2) n u → ReadsAgain mmv u first last w → IsRefused v w × RefusesBy (Some kept) v w
+anew_refused kept v u w n first last other e r =
+    let f : Follows v u = loads_follow v u (one_load v u n e) in (
+      record {
+        begun = u;
+        lone = inr (n, e);
+        first = first;
+        last = last;
+        found = numbered_from 0 r.words;
+        loads = r.loads;
+        differ = r.differ;
+        again = again_since v u w first last f r.again;
+      },
+      record {
+        first = first;
+        last = last;
+        words = r.words;
+        differ = r.differ;
+        tried = inr (record { found = n; other = other; begun = u; lone = e; image = record { whole = r.whole; loads = r.loads } });
+      },
+    )
 
 -- value words that were read again, and refused
 pub chosen_again : (v w : View) (known first last : ℕ) (indexes : List ℕ) → ReadsChosenAgain mmv v known indexes first last w → IsRefused v w
 chosen_again v w known first last indexes r = record {
+  begun = v;
+  lone = inl refl;
   first = first;
   last = last;
   found = zip indexes r.values;
@@ -387,3 +383,29 @@ chosen_again v w known first last indexes r = record {
   differ = r.differ;
   again = r.again;
 }
+
+pub chosen_refused : (v w : View) (words : List ℕ) (known first last : ℕ) (indexes : List ℕ) → known ≡ slice_index words 1 → indexes ≡ value_words words → ReadsChosenAgain mmv v known indexes first last w
+    → IsRefused v w × RefusesBy (Some words) v w
+chosen_refused v w words known first last indexes one is r = (
+  chosen_again v w known first last indexes r,
+  record {
+    first = first;
+    last = last;
+    words = with_values words (zip (value_words words) r.values);
+    differ = r.differ;
+    tried = inl
+        (record {
+          values = r.values;
+          long = r.whole ∙ ap (λ (xs : List ℕ). length xs) is;
+          first_is = r.first_is ∙ one;
+          loads = subst (λ (xs : List ℕ). WholeReading mmv v first (zip xs r.values) last w) is r.loads;
+          words_are = refl;
+        });
+  },
+)
+
+-- value words that were read again, and shown
+pub chosen_shown : (v w : View) (words values fresh : List ℕ) → length values ≡ length (value_words words) → fresh ≡ with_values words (zip (value_words words) values)
+    → ReadsChosen mmv v (slice_index words 1) (value_words words) values w → ShowsBy (Some words) v fresh w
+chosen_shown v w words values fresh long is r =
+    record { generation = slice_index words 1; tried = inl (record { values = values; long = long; first_is = refl; loads = r.loads; words_are = is }) }

@@ -1,4 +1,5 @@
 pub mod Found
+pub mod Hits
 pub mod Holding
 pub mod Keeping
 pub mod SeatPasses

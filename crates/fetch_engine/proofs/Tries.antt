@@ -1,5 +1,6 @@
 -- What tries of reading a region tell of its journal.
 use Rattle.std.proofs.Common.{◌≡◌, ◌⊎◌, inl, inr, ℕ, zero, suc, ◌+◌, ◌<◌, ◌≤◌, List, [], ◌∷◌, ◌++◌, length, slice_index, Contains, Option, Some, None, append-nil, length-append, sym, refl, ap, ◌∙◌, subst, arith}
+use Rattle.mmv_layout.specs.declared.rows.Layout.{Layout}
 use Rattle.mmv_layout.specs.declared.rows.Slot.{Slot}
 use Rattle.mmv_layout.specs.Form.{slots_of}
 use Rattle.mmv_layout.specs.Rows.{layout_of}
@@ -12,19 +13,24 @@ use Rattle.region_rule.specs.declared.view.View.{View}
 use Rattle.region_rule.specs.Views.{opening_of}
 use Rattle.region_rule.specs.declared.fault.ReadFault.{ReadFault}
 use Rattle.region_rule.specs.declared.fault.ReadFault.TheVariants.{Again}
-use Rattle.region_rule.specs.Reads.{Reads, WholeReading, ReadsImage, ReadsAgain, ReadsNot, StaysIdle, ShowsIn, numbered_from}
+use Rattle.region_rule.specs.Reads.{Reads, WholeReading, ReadsImage, ReadsAgain, ShowsIn, RefusedIn, numbered_from}
 use Rattle.region_rule.specs.Seats.{Token, IsSame}
 use Rattle.region_rule.proofs.Showing.{Follows, follows_reads, reads_more, numbered_or, length-numbered}
 use Rattle.region_words.specs.Calls.{Loads}
 use Rattle.region_words.specs.Images.{mmv}
 use Rattle.region_words.proofs.Inside.{slots_below}
 use Rattle.std.specs.Prelude.{option_map}
+use Rattle.region_core.specs.declared.act.Act.TheVariants.{Load}
+use Rattle.region_rule.specs.Steps.{Extends}
+use Rattle.fetch_engine.specs.Hows.{shown_by}
+use Rattle.fetch_engine.specs.declared.visits.How.{How}
 use Rattle.fetch_engine.specs.Kept.{ShowsTold, TryFails, TryStays}
-use Rattle.fetch_engine.specs.Visits.{ShowsLayout, ShowsAtOnce, IsRefused, AreRefused, IsLoaded, IsReadBy, MissesAreMissed, ReadIsShown}
+use Rattle.fetch_engine.specs.Tries.{AreRefusedBy, ReadsKeeping, RefusesBy, ShowsBy}
+use Rattle.fetch_engine.specs.Visits.{ShowsLayout, ShowsAtOnce, IsLone, IsRefused, AreRefused, IsLoaded, IsReadBy, MissesAreMissed, ReadIsShown}
 
 -- Loads
 
-reads_join : (u v w : View) (xs ys : List (ℕ × ℕ)) → Reads mmv u xs v → Reads mmv v ys w → Reads mmv u (xs ++ ys) w
+pub reads_join : (u v w : View) (xs ys : List (ℕ × ℕ)) → Reads mmv u xs v → Reads mmv v ys w → Reads mmv u (xs ++ ys) w
 reads_join u v w [] ys r s = subst (λ (x : View). Reads mmv x ys w) r s
 reads_join u v w (x ∷ xs) ys r s = (r.0, r.1, reads_join r.0 v w xs ys r.2 s)
 
@@ -40,11 +46,28 @@ whole_loads v w first last found r = ((2, first) ∷ found ++ (1, last) ∷ [], 
 pub loads_follow : (v w : View) → Loads v w → Follows v w
 loads_follow v w l = follows_reads mmv v w l.0 l.1
 
+pub one_load : (v u : View) (n : ℕ) → Extends mmv v (Load 2) n u → Loads v u
+one_load v u n e = ((2, n) ∷ [], (u, e, refl))
+
+lone_loads : (v u : View) → IsLone v u → Loads v u
+lone_loads v u (inl same) = subst (λ (x : View). Loads v x) (sym same) (no_loads v)
+lone_loads v u (inr (n, e)) = one_load v u n e
+
+pub refused_once : (v w : View) → IsRefused v w → Loads v w
+refused_once v w r = loads_trans v r.begun w (lone_loads v r.begun r.lone) (whole_loads r.begun w r.first r.last r.found r.loads)
+
+pub shown_once : (v w : View) (layout : Layout) → ShowsAtOnce v layout w → Loads v w
+shown_once v w layout s = loads_trans v s.begun w (lone_loads v s.begun s.lone) (whole_loads s.begun w s.generation s.generation s.found s.loads)
+
 refused_loads : (n : ℕ) (v w : View) → AreRefused n v w → Loads v w
 refused_loads zero v w h = ([], h)
-refused_loads (suc n) v w h = loads_trans v h.0 w (whole_loads v h.0 h.1.first h.1.last h.1.found h.1.loads) (refused_loads n h.0 w h.2)
+refused_loads (suc n) v w h = loads_trans v h.0 w (refused_once v h.0 h.1) (refused_loads n h.0 w h.2)
 
 -- one more try
+pub refused_by_more : (kept : Option (List ℕ)) (n : ℕ) (v u w : View) → AreRefusedBy kept n v u → RefusesBy kept u w → AreRefusedBy kept (suc n) v w
+refused_by_more kept zero v u w h r = (w, subst (λ (x : View). RefusesBy kept x w) h r, refl)
+refused_by_more kept (suc n) v u w h r = (h.0, h.1, refused_by_more kept n h.0 u w h.2 r)
+
 pub refused_more : (n : ℕ) (v u w : View) → AreRefused n v u → IsRefused u w → AreRefused (suc n) v w
 refused_more zero v u w h r = (w, subst (λ (x : View). IsRefused x w) h r, refl)
 refused_more (suc n) v u w h r = (h.0, h.1, refused_more n h.0 u w h.2 r)
@@ -67,7 +90,7 @@ again_times (suc n) v w h =
     let again : IsAgain (opening_of v) u.seen (length v.seen) v.number h.1.first h.1.last = h.1.again in
     let p = again.0 in
     let q = again.1 in
-    let before : Follows v u = loads_follow v u (whole_loads v u h.1.first h.1.last h.1.found h.1.loads) in
+    let before : Follows v u = loads_follow v u (refused_once v u h.1) in
     let behind : Follows u w = loads_follow u w (refused_loads n u w h.2) in
     let more = behind.seen.0 in
     let here : IsAgainBetween (opening_of v) (u.seen ++ more) (length v.seen) v.number h.1.first h.1.last p q =
@@ -113,6 +136,16 @@ read_is_shown v w layout h =
       values = shows.values;
     }
 
+-- and what is refused since then is refused since an earlier one
+pub again_since : (v u w : View) (first last : ℕ) → Follows v u → RefusedIn u first last w → RefusedIn v first last w
+again_since v u w first last f r =
+    let moved : IsAgain (opening_of v) w.seen (length u.seen) v.number first last =
+    subst (λ (t : State). IsAgain t w.seen (length u.seen) v.number first last) (opening_same v u f)
+    (subst (λ (k : ℕ). IsAgain (opening_of u) w.seen (length u.seen) k first last) f.number r) in
+    let long : IsAgain (opening_of v) (w.seen ++ []) (length v.seen) v.number first last =
+    (moved.0, moved.1, again_longer (opening_of v) w.seen [] (length v.seen) (length u.seen) v.number first last moved.0 moved.1 (longer_seen v u f) moved.2) in
+    subst (λ (es : List Entry). IsAgain (opening_of v) es (length v.seen) v.number first last) (append-nil w.seen) long
+
 -- One try
 
 -- each word of an image that was read was found
@@ -128,6 +161,8 @@ slot_found words image slot there =
 
 pub shows_image : (v w : View) (words : List ℕ) → ReadsImage mmv v words w → ShowsAtOnce v (layout_of words) w
 shows_image v w words r = record {
+  begun = v;
+  lone = inl refl;
   generation = r.generation;
   found = numbered_from 0 words;
   loads = r.loads;
@@ -144,6 +179,8 @@ shows_image v w words r = record {
 
 pub refuses : (v w : View) (first last : ℕ) → ReadsAgain mmv v first last w → IsRefused v w
 refuses v w first last r = record {
+  begun = v;
+  lone = inl refl;
   first = first;
   last = last;
   found = numbered_from 0 r.words;
@@ -171,62 +208,60 @@ pub tried_more : (n : ℕ) (a b c : Token) → HasTried n a b → IsSame Idle Id
 tried_more n a b c (inl (none, same)) g = subst (λ (t : Token). IsSame Idle Idle t c) same g
 tried_more n a b c (inr f) g = same_trans a b c f g
 
--- what holds after so many tries, each refused
-pub record HasFailed (n : ℕ) (a b : Token) : Type 0 where
+-- what holds after so many tries by what is kept, each refused
+pub record HasFailed (kept : Option (List ℕ)) (n : ℕ) (a b : Token) : Type 0 where
   pub tried : HasTried n a b
   pub refused : AreRefused n a.view b.view
+  pub keeping : AreRefusedBy kept n a.view b.view
   pub loaded : IsLoaded a b
 
-pub none_failed : (a : Token) → HasFailed 0 a a
-none_failed a = record { tried = inl (refl, refl); refused = refl; loaded = unloaded a }
+pub none_failed : (kept : Option (List ℕ)) (a : Token) → HasFailed kept 0 a a
+none_failed kept a = record { tried = inl (refl, refl); refused = refl; keeping = refl; loaded = unloaded a }
 
--- one more try, of whichever kind
-pub fails_try : (n : ℕ) (a b c : Token) → HasFailed n a b → IsRefused b.view c.view → IsSame Idle Idle b c → HasFailed (n + 1) a c
-fails_try n a b c f refused s =
-    let loads : IsLoaded b c = record { region = s.region; loads = whole_loads b.view c.view refused.first refused.last refused.found refused.loads } in
+-- one more try
+fails_try : (kept : Option (List ℕ)) (n : ℕ) (a b c : Token) → HasFailed kept n a b → IsRefused b.view c.view → RefusesBy kept b.view c.view → IsSame Idle Idle b c → HasFailed kept (n + 1) a c
+fails_try kept n a b c f refused exact s =
+    let loads : IsLoaded b c = record { region = s.region; loads = refused_once b.view c.view refused } in
     let next : suc n ≡ n + 1 = omega arith in
     let more : AreRefused (suc n) a.view c.view = refused_more n a.view b.view c.view f.refused refused in
+    let by : AreRefusedBy kept (suc n) a.view c.view = refused_by_more kept n a.view b.view c.view f.keeping exact in
     record {
       tried = inr (tried_more n a b c f.tried s);
       refused = subst (λ (k : ℕ). AreRefused k a.view c.view) next more;
+      keeping = subst (λ (k : ℕ). AreRefusedBy kept k a.view c.view) next by;
       loaded = loaded_trans a b c f.loaded loads;
     }
 
-fails_again : (n : ℕ) (a b c : Token) (first last : ℕ) → HasFailed n a b → ReadsAgain mmv b.view first last c.view → IsSame Idle Idle b c → HasFailed (n + 1) a c
-fails_again n a b c first last f r s = fails_try n a b c f (refuses b.view c.view first last r) s
-
-pub fails_so : (n : ℕ) (a b c : Token) (fault : ReadFault) (first last : ℕ) → HasFailed n a b → ReadsNot mmv b.view c.view fault → StaysIdle b c fault → fault ≡ Again first last → HasFailed (n + 1) a c
-fails_so n a b c fault first last f r s is =
-    fails_again n a b c first last f (subst (λ (x : ReadFault). ReadsNot mmv b.view c.view x) is r) (subst (λ (x : ReadFault). StaysIdle b c x) is s)
+pub fails_by : (kept old still : Option (List ℕ)) (n : ℕ) (a b c : Token) (fault : ReadFault) (first last : ℕ) → HasFailed kept n a b → old ≡ kept → TryFails old b.view still c.view fault → TryStays b c fault → fault ≡ Again first last
+    → HasFailed kept (n + 1) a c × (still ≡ kept)
+fails_by kept old still n a b c fault first last f same r s is =
+    let fails : TryFails old b.view still c.view (Again first last) = subst (λ (x : ReadFault). TryFails old b.view still c.view x) is r in (
+      fails_try kept n a b c f fails.0 (subst (λ (o : Option (List ℕ)). RefusesBy o b.view c.view) same fails.1) (subst (λ (x : ReadFault). TryStays b c x) is s),
+      fails.2 ∙ same,
+    )
 
 -- a try that showed an image behind them
-pub shown_loaded : (n : ℕ) (a b c : Token) (words : List ℕ) → HasFailed n a b → ReadsImage mmv b.view words c.view → IsSame Idle Idle b c → IsLoaded a c
-shown_loaded n a b c words f r s =
-    let shows = shows_image b.view c.view words r in
-    loaded_trans a b c f.loaded (record { region = s.region; loads = whole_loads b.view c.view shows.generation shows.generation shows.found shows.loads })
-
-pub succeeds : (n : ℕ) (a b c : Token) (words : List ℕ) → n < 3 → HasFailed n a b → ReadsImage mmv b.view words c.view → IsSame Idle Idle b c → IsReadBy a (Some (layout_of words)) c
-succeeds n a b c words few f r s = record {
-  read = (n, few, b.view, f.refused, shows_image b.view c.view words r);
+pub shows_told : (kept old after : Option (List ℕ)) (n : ℕ) (a b c : Token) (how : How) → n < 3 → HasFailed kept n a b → ShowsTold old b.view after c.view → IsSame Idle Idle b c
+    → IsReadBy a (option_map layout_of (shown_by (Some how) after)) c
+shows_told kept old None n a b c how few f shows s = absurd shows
+shows_told kept old (Some words) n a b c how few f shows s = record {
+  read = (n, few, b.view, f.refused, shows.0);
   stays = tried_more n a b c f.tried s;
-  loaded = shown_loaded n a b c words f r s;
+  loaded = loaded_trans a b c f.loaded (record { region = s.region; loads = shown_once b.view c.view (layout_of words) shows.0 });
 }
 
-pub shows_told : (n : ℕ) (a b c : Token) (kept : Option (List ℕ)) → n < 3 → HasFailed n a b → ShowsTold b.view kept c.view → IsSame Idle Idle b c → IsReadBy a (option_map layout_of kept) c
-shows_told n a b c None few f shows s = absurd shows
-shows_told n a b c (Some words) few f shows s = record {
-  read = (n, few, b.view, f.refused, shows);
-  stays = tried_more n a b c f.tried s;
-  loaded = loaded_trans a b c f.loaded (record { region = s.region; loads = whole_loads b.view c.view shows.generation shows.generation shows.found shows.loads });
-}
+pub shows_kept : (kept old after : Option (List ℕ)) (n : ℕ) (a b c : Token) (how : How) → n < 3 → HasFailed kept n a b → old ≡ kept → ShowsTold old b.view after c.view
+    → ReadsKeeping kept a.view (option_map layout_of (shown_by (Some how) after)) after c.view
+shows_kept kept old None n a b c how few f same shows = absurd shows
+shows_kept kept old (Some words) n a b c how few f same shows =
+    (n, few, b.view, f.keeping, words, subst (λ (o : Option (List ℕ)). ShowsBy o b.view words c.view) same shows.1, refl, refl)
 
-pub fails_by : (n : ℕ) (a b c : Token) (fault : ReadFault) (first last : ℕ) → HasFailed n a b → TryFails b.view c.view fault → TryStays b c fault → fault ≡ Again first last → HasFailed (n + 1) a c
-fails_by n a b c fault first last f r s is =
-    fails_try n a b c f (subst (λ (x : ReadFault). TryFails b.view c.view x) is r) (subst (λ (x : ReadFault). TryStays b c x) is s)
-
-pub gives_up : (a b : Token) → HasFailed 3 a b → IsReadBy a None b
-gives_up a b f = record { read = f.refused; stays = tried_thrice f.tried; loaded = f.loaded }
+pub gives_up : (kept : Option (List ℕ)) (a b : Token) → HasFailed kept 3 a b → IsReadBy a None b
+gives_up kept a b f = record { read = f.refused; stays = tried_thrice f.tried; loaded = f.loaded }
   where
     tried_thrice : HasTried 3 a b → IsSame Idle Idle a b
     tried_thrice (inl (none, same)) = absurd (omega arith)
     tried_thrice (inr g) = g
+
+pub keeps_on : (kept still : Option (List ℕ)) (a b : Token) → HasFailed kept 3 a b → still ≡ kept → ReadsKeeping kept a.view None still b.view
+keeps_on kept still a b f same = (f.keeping, same)

@@ -1,6 +1,6 @@
 -- Regions that were read one after another, each by its own pass.
 use Rattle.std.proofs.Common.{◌≡◌, ℕ, zero, suc, ◌+◌, ◌<◌, ◌≤◌, List, [], ◌∷◌, ◌++◌, length, take, drop, get_or, set, map, All, add-zero, sym, refl, ap, ap₂, ◌∙◌, subst, arith}
-use Rattle.std.proofs.lemmas.List.{map-append, take_more, take_more_set, take_all, length-set, drop-set-lt, get_or-drop}
+use Rattle.std.proofs.lemmas.List.{map-append, take_more, take_more_set, take_all, length-set, drop-set-lt, get_or-drop, get_or-set_same}
 use Rattle.std.specs.Prelude.{Option, None, Some, option_map, position, slice_get}
 use Rattle.std.proofs.lemmas.Option.{slice_get_read, slice_get_within, get_or_from_slice_get}
 use Rattle.std.proofs.lemmas.List.Elements.{All-append, All-nil, All-cons}
@@ -15,10 +15,13 @@ use Rattle.region_rule.specs.Seats.{Token}
 use Rattle.fetch_answers.specs.Answers.{answer_of, facts_of}
 use Rattle.fetch_answers.specs.Names.{names_of, missed_of, with_region, with_missed}
 use Rattle.fetch_answers.specs.Readings.{RegionReading, reading_of, AreInOrder, AscendFrom}
-use Rattle.fetch_engine.specs.Servers.{IsServer, IsSeated, RowsAscendFrom, regions_of}
-use Rattle.fetch_engine.specs.Visits.{IsReadBy, Visit, IsVisit, AreRead, IsLoaded, AreLoaded, AreNamed, IsAnswered, IsFetched, IsReadAt, IsReadIf, IsReadFor, lies_in}
+use Rattle.fetch_engine.specs.Kept.{ReadAtKeeping, kept_in, kept_of}
+use Rattle.fetch_engine.specs.Servers.{IsServer, IsSeated, RowsAscendFrom, Seated, regions_of}
+use Rattle.fetch_engine.specs.Tries.{ReadsKeeping}
+use Rattle.fetch_engine.specs.Visits.{IsReadBy, Visit, IsVisit, AreRead, AreReadKeeping, IsLoaded, AreLoaded, AreNamed, IsAnswered, IsFetched, IsReadIf, IsReadFor, IsReadAtKeeping, IsReadForKeeping, IsReadIfKeeping, lies_in}
 use Rattle.fetch_engine.specs.declared.server.Mounted.{Mounted}
 use Rattle.fetch_answers.specs.declared.shot.Shot.{Shot}
+use Rattle.fetch_engine.proofs.Holding.{kept_set, kept_there, long_kept}
 use Rattle.fetch_engine.proofs.SeatPasses.{is_there, is_here}
 use Rattle.fetch_engine.proofs.Tries.{unloaded, loaded_trans}
 
@@ -47,110 +50,132 @@ still_seated rows olds news seated h = regions_same olds news h ∙ seated
 
 -- Visits
 
-pub none_read : AreRead [] [] [] []
-none_read = record { visits = []; each = All-nil IsVisit; rows_are = refl; old_are = refl; readings_are = refl; new_are = refl }
+abbrev pub seat : List Token → List (Option (List ℕ)) → Seated
+seat tokens kept = record { tokens = tokens; kept = kept }
 
-pub one_more : (rows : List Mounted) (olds : List Token) (readings : List RegionReading) (news : List Token) (visit : Visit) → AreRead rows olds readings news → IsVisit visit
-    → AreRead (rows ++ visit.row ∷ []) (olds ++ visit.before ∷ []) (readings ++ visit.reading ∷ []) (news ++ visit.after ∷ [])
-one_more rows olds readings news visit a v = record {
-  visits = a.visits ++ visit ∷ [];
-  each = All-append IsVisit a.visits (visit ∷ []) a.each (All-cons IsVisit visit [] v (All-nil IsVisit));
-  rows_are = map-append (λ (w : Visit). w.row) a.visits (visit ∷ []) ∙ ap (λ (xs : List Mounted). xs ++ visit.row ∷ []) a.rows_are;
-  old_are = map-append (λ (w : Visit). w.before) a.visits (visit ∷ []) ∙ ap (λ (xs : List Token). xs ++ visit.before ∷ []) a.old_are;
-  readings_are = map-append (λ (w : Visit). w.reading) a.visits (visit ∷ []) ∙ ap (λ (xs : List RegionReading). xs ++ visit.reading ∷ []) a.readings_are;
-  new_are = map-append (λ (w : Visit). w.after) a.visits (visit ∷ []) ∙ ap (λ (xs : List Token). xs ++ visit.after ∷ []) a.new_are;
+none_read : AreReadKeeping [] (seat [] []) [] (seat [] [])
+none_read = record { read = record { visits = []; each = All-nil IsVisit; rows_are = refl; old_are = refl; readings_are = refl; new_are = refl }; kept_are = refl; keeps_are = refl }
+
+pub one_more : (rows : List Mounted) (olds : List Token) (kolds : List (Option (List ℕ))) (readings : List RegionReading) (news : List Token) (knews : List (Option (List ℕ))) (visit : Visit)
+    → AreReadKeeping rows (seat olds kolds) readings (seat news knews) → IsVisit visit
+    → AreReadKeeping (rows ++ visit.row ∷ []) (seat (olds ++ visit.before ∷ []) (kolds ++ visit.kept ∷ [])) (readings ++ visit.reading ∷ []) (seat (news ++ visit.after ∷ []) (knews ++ visit.keeps ∷ []))
+one_more rows olds kolds readings news knews visit a v = record {
+  read = record {
+    visits = a.read.visits ++ visit ∷ [];
+    each = All-append IsVisit a.read.visits (visit ∷ []) a.read.each (All-cons IsVisit visit [] v (All-nil IsVisit));
+    rows_are = map-append (λ (w : Visit). w.row) a.read.visits (visit ∷ []) ∙ ap (λ (xs : List Mounted). xs ++ visit.row ∷ []) a.read.rows_are;
+    old_are = map-append (λ (w : Visit). w.before) a.read.visits (visit ∷ []) ∙ ap (λ (xs : List Token). xs ++ visit.before ∷ []) a.read.old_are;
+    readings_are = map-append (λ (w : Visit). w.reading) a.read.visits (visit ∷ []) ∙ ap (λ (xs : List RegionReading). xs ++ visit.reading ∷ []) a.read.readings_are;
+    new_are = map-append (λ (w : Visit). w.after) a.read.visits (visit ∷ []) ∙ ap (λ (xs : List Token). xs ++ visit.after ∷ []) a.read.new_are;
+  };
+  kept_are = map-append (λ (w : Visit). w.kept) a.read.visits (visit ∷ []) ∙ ap (λ (xs : List (Option (List ℕ))). xs ++ visit.kept ∷ []) a.kept_are;
+  keeps_are = map-append (λ (w : Visit). w.keeps) a.read.visits (visit ∷ []) ∙ ap (λ (xs : List (Option (List ℕ))). xs ++ visit.keeps ∷ []) a.keeps_are;
 }
 
--- the regions before a place were read, and the passes from there on are as they were
-pub record HasRead (i : ℕ) (rows : List Mounted) (olds news : List Token) (readings : List RegionReading) : Type 0 where
-  pub read : AreRead (take i rows) (take i olds) readings (take i news)
+-- the regions before a place were read, and the passes from there on are as they were, with what is kept
+pub record HasRead (i : ℕ) (rows : List Mounted) (olds news : List Token) (kolds knews : List (Option (List ℕ))) (readings : List RegionReading) : Type 0 where
+  pub read : AreReadKeeping (take i rows) (seat (take i olds) (take i kolds)) readings (seat (take i news) (take i knews))
   pub rest : drop i news ≡ drop i olds
+  pub kept_rest : drop i knews ≡ drop i kolds
   pub many : length news ≡ length olds
+  pub kept_many : length knews ≡ length kolds
   pub loaded : AreLoaded olds news
 
-nothing_yet : (rows : List Mounted) (tokens : List Token) → HasRead 0 rows tokens tokens []
-nothing_yet rows tokens = record { read = none_read; rest = refl; many = refl; loaded = none_loaded tokens }
-
-pub nothing_read : (rows : List Mounted) (tokens : List Token) (shots : List Shot) → shots ≡ [] → HasRead 0 rows tokens tokens (map reading_of shots)
-nothing_read rows tokens shots none = subst (λ (xs : List Shot). HasRead 0 rows tokens tokens (map reading_of xs)) (sym none) (nothing_yet rows tokens)
+pub nothing_yet : (rows : List Mounted) (tokens : List Token) (kept : List (Option (List ℕ))) → HasRead 0 rows tokens tokens kept kept []
+nothing_yet rows tokens kept = record { read = none_read; rest = refl; kept_rest = refl; many = refl; kept_many = refl; loaded = none_loaded tokens }
 
 -- the pass at the place is of the region there
-pub many_there : (i : ℕ) (rows : List Mounted) (olds news : List Token) (readings : List RegionReading) → IsSeated rows olds → HasRead i rows olds news readings → length news ≡ length rows
-many_there i rows olds news readings seated h = is_there rows news (still_seated rows olds news seated h.loaded)
+pub many_there : (i : ℕ) (rows : List Mounted) (olds news : List Token) (kolds knews : List (Option (List ℕ))) (readings : List RegionReading) → IsSeated rows olds → HasRead i rows olds news kolds knews readings → length news ≡ length rows
+many_there i rows olds news kolds knews readings seated h = is_there rows news (still_seated rows olds news seated h.loaded)
 
-pub one_there : (i : ℕ) (rows : List Mounted) (olds news : List Token) (readings : List RegionReading) (d : Token) (e : Mounted) → IsSeated rows olds → HasRead i rows olds news readings → i < length rows
-    → (get_or news i d).region ≡ (get_or rows i e).region
-one_there i rows olds news readings d e seated h below = is_here rows news i d e (still_seated rows olds news seated h.loaded) below
+pub one_there : (i : ℕ) (rows : List Mounted) (olds news : List Token) (kolds knews : List (Option (List ℕ))) (readings : List RegionReading) (d : Token) (e : Mounted) → IsSeated rows olds
+    → HasRead i rows olds news kolds knews readings → i < length rows → (get_or news i d).region ≡ (get_or rows i e).region
+one_there i rows olds news kolds knews readings d e seated h below = is_here rows news i d e (still_seated rows olds news seated h.loaded) below
 
-next_same : (i : ℕ) (olds news : List Token) (d : Token) → drop i news ≡ drop i olds → get_or news i d ≡ get_or olds i d
-next_same i olds news d h =
-    ap (λ (k : ℕ). get_or news k d) (sym (add-zero i)) ∙ sym (get_or-drop i news 0 d) ∙ ap (λ (xs : List Token). get_or xs 0 d) h ∙ get_or-drop i olds 0 d ∙ ap (λ (k : ℕ). get_or olds k d) (add-zero i)
+next_same : {X : Type 0} (i : ℕ) (olds news : List X) (d : X) → drop i news ≡ drop i olds → get_or news i d ≡ get_or olds i d
+next_same {X = X} i olds news d h =
+    ap (λ (k : ℕ). get_or news k d) (sym (add-zero i)) ∙ sym (get_or-drop i news 0 d) ∙ ap (λ (xs : List X). get_or xs 0 d) h ∙ get_or-drop i olds 0 d ∙ ap (λ (k : ℕ). get_or olds k d) (add-zero i)
 
-one_dropped : (i : ℕ) (xs : List Token) → drop (suc i) xs ≡ drop 1 (drop i xs)
+one_dropped : {X : Type 0} (i : ℕ) (xs : List X) → drop (suc i) xs ≡ drop 1 (drop i xs)
 one_dropped zero xs = refl
 one_dropped (suc i) [] = refl
 one_dropped (suc i) (x ∷ xs) = one_dropped i xs
 
-rest_same : (i : ℕ) (olds news : List Token) → drop i news ≡ drop i olds → drop (suc i) news ≡ drop (suc i) olds
-rest_same i olds news h = one_dropped i news ∙ ap (λ (xs : List Token). drop 1 xs) h ∙ sym (one_dropped i olds)
+rest_same : {X : Type 0} (i : ℕ) (olds news : List X) → drop i news ≡ drop i olds → drop (suc i) news ≡ drop (suc i) olds
+rest_same {X = X} i olds news h = one_dropped i news ∙ ap (λ (xs : List X). drop 1 xs) h ∙ sym (one_dropped i olds)
 
--- what the pass at the place has read
-one_more_read : (i : ℕ) (rows : List Mounted) (olds news : List Token) (shots : List Shot) (shot : Shot) (d : Token) (e : Mounted) (t : Token)
-    → HasRead i rows olds news (map reading_of shots) → i < length rows → i < length news
+-- what the pass at the place has read, and what is kept of its region then
+one_more_read : (i : ℕ) (rows : List Mounted) (olds news : List Token) (kolds knews : List (Option (List ℕ))) (shots : List Shot) (shot : Shot) (d : Token) (e : Mounted) (t : Token) (was is : Option (List ℕ))
+    → HasRead i rows olds news kolds knews (map reading_of shots) → i < length rows → i < length news → i < length knews
     → shot.file ≡ (get_or rows i e).file → shot.cluster ≡ (get_or rows i e).cluster
     → IsReadBy (get_or news i d) (option_map layout_of shot.image) t
-    → HasRead (i + 1) rows olds (set news i t) (map reading_of (shots ++ shot ∷ []))
-one_more_read i rows olds news shots shot d e t h row_there token_there file cluster read =
-    let visit : Visit = record { row = get_or rows i e; before = get_or news i d; reading = reading_of shot; after = t } in
-    let one : IsVisit visit = record { file = file; cluster = cluster; read = read } in
-    let more = one_more (take i rows) (take i olds) (map reading_of shots) (take i news) visit h.read one in
+    → ReadsKeeping (get_or knews i was) (get_or news i d).view (option_map layout_of shot.image) is t.view
+    → HasRead (i + 1) rows olds (set news i t) kolds (set knews i is) (map reading_of (shots ++ shot ∷ []))
+one_more_read i rows olds news kolds knews shots shot d e t was is h row_there token_there kept_here file cluster read keeping =
+    let visit : Visit = record { row = get_or rows i e; before = get_or news i d; kept = get_or knews i was; reading = reading_of shot; after = t; keeps = is } in
+    let one : IsVisit visit = record { file = file; cluster = cluster; read = read; keeping = keeping } in
+    let more = one_more (take i rows) (take i olds) (take i kolds) (map reading_of shots) (take i news) (take i knews) visit h.read one in
     let many = h.many in
+    let kept_many = h.kept_many in
     let rows_are : take (i + 1) rows ≡ take i rows ++ get_or rows i e ∷ [] = take_more rows i e row_there in
     let olds_are : take (i + 1) olds ≡ take i olds ++ get_or news i d ∷ [] = take_more olds i d (omega arith) ∙ ap (λ (x : Token). take i olds ++ x ∷ []) (sym (next_same i olds news d h.rest)) in
+    let kolds_are : take (i + 1) kolds ≡ take i kolds ++ get_or knews i was ∷ [] =
+    take_more kolds i was (omega arith) ∙ ap (λ (x : Option (List ℕ)). take i kolds ++ x ∷ []) (sym (next_same i kolds knews was h.kept_rest)) in
     let readings_are : map reading_of (shots ++ shot ∷ []) ≡ map reading_of shots ++ reading_of shot ∷ [] = map-append reading_of shots (shot ∷ []) in
     let news_are : take (i + 1) (set news i t) ≡ take i news ++ t ∷ [] = take_more_set news i t token_there in
+    let knews_are : take (i + 1) (set knews i is) ≡ take i knews ++ is ∷ [] = take_more_set knews i is kept_here in
     let next : suc i ≡ i + 1 = omega arith in
     record {
       read =
-          subst (λ (xs : List Mounted). AreRead xs (take (i + 1) olds) (map reading_of (shots ++ shot ∷ [])) (take (i + 1) (set news i t))) (sym rows_are)
-          (subst (λ (xs : List Token). AreRead (take i rows ++ get_or rows i e ∷ []) xs (map reading_of (shots ++ shot ∷ [])) (take (i + 1) (set news i t))) (sym olds_are)
-          (subst (λ (xs : List RegionReading). AreRead (take i rows ++ get_or rows i e ∷ []) (take i olds ++ get_or news i d ∷ []) xs (take (i + 1) (set news i t))) (sym readings_are)
-          (subst (λ (xs : List Token). AreRead (take i rows ++ get_or rows i e ∷ []) (take i olds ++ get_or news i d ∷ []) (map reading_of shots ++ reading_of shot ∷ []) xs) (sym news_are) more)));
+          subst (λ (xs : List Mounted). AreReadKeeping xs (seat (take (i + 1) olds) (take (i + 1) kolds)) (map reading_of (shots ++ shot ∷ [])) (seat (take (i + 1) (set news i t)) (take (i + 1) (set knews i is)))) (sym rows_are)
+          (subst (λ (xs : List Token). AreReadKeeping (take i rows ++ get_or rows i e ∷ []) (seat xs (take (i + 1) kolds)) (map reading_of (shots ++ shot ∷ [])) (seat (take (i + 1) (set news i t)) (take (i + 1) (set knews i is)))) (sym olds_are)
+          (subst (λ (ks : List (Option (List ℕ))). AreReadKeeping (take i rows ++ get_or rows i e ∷ []) (seat (take i olds ++ get_or news i d ∷ []) ks) (map reading_of (shots ++ shot ∷ [])) (seat (take (i + 1) (set news i t)) (take (i + 1) (set knews i is)))) (sym kolds_are)
+          (subst (λ (xs : List RegionReading). AreReadKeeping (take i rows ++ get_or rows i e ∷ []) (seat (take i olds ++ get_or news i d ∷ []) (take i kolds ++ get_or knews i was ∷ [])) xs (seat (take (i + 1) (set news i t)) (take (i + 1) (set knews i is)))) (sym readings_are)
+          (subst (λ (xs : List Token). AreReadKeeping (take i rows ++ get_or rows i e ∷ []) (seat (take i olds ++ get_or news i d ∷ []) (take i kolds ++ get_or knews i was ∷ [])) (map reading_of shots ++ reading_of shot ∷ []) (seat xs (take (i + 1) (set knews i is)))) (sym news_are)
+          (subst (λ (ks : List (Option (List ℕ))). AreReadKeeping (take i rows ++ get_or rows i e ∷ []) (seat (take i olds ++ get_or news i d ∷ []) (take i kolds ++ get_or knews i was ∷ [])) (map reading_of shots ++ reading_of shot ∷ []) (seat (take i news ++ t ∷ []) ks)) (sym knews_are) more)))));
       rest = subst (λ (k : ℕ). drop k (set news i t) ≡ drop k olds) next (drop-set-lt (suc i) news i t (omega arith) ∙ rest_same i olds news h.rest);
+      kept_rest = subst (λ (k : ℕ). drop k (set knews i is) ≡ drop k kolds) next (drop-set-lt (suc i) knews i is (omega arith) ∙ rest_same i kolds knews h.kept_rest);
       many = length-set news i t ∙ many;
+      kept_many = length-set knews i is ∙ kept_many;
       loaded = loaded_at olds news i d t h.loaded token_there read.loaded;
     }
 
-pub one_read : (i : ℕ) (rows : List Mounted) (olds news : List Token) (shots : List Shot) (shot : Shot) (before : Token) (row : Mounted) (after : Token) (more : List Shot)
-    → HasRead i rows olds news (map reading_of shots) → IsSeated rows olds → i < length rows → before ≡ get_or news i before → row ≡ get_or rows i row
-    → shot.file ≡ row.file → shot.cluster ≡ row.cluster → IsReadBy before (option_map layout_of shot.image) after
-    → more ≡ shots ++ shot ∷ [] → HasRead (i + 1) rows olds (set news i after) (map reading_of more)
-one_read i rows olds news shots shot before row after more h seated below before_is row_is file cluster read is =
-    let many = many_there i rows olds news (map reading_of shots) seated h in
-    subst (λ (xs : List Shot). HasRead (i + 1) rows olds (set news i after) (map reading_of xs)) (sym is)
-    (one_more_read i rows olds news shots shot before row after h below (omega arith) (file ∙ ap (λ (r : Mounted). r.file) row_is) (cluster ∙ ap (λ (r : Mounted). r.cluster) row_is)
-    (subst (λ (t : Token). IsReadBy t (option_map layout_of shot.image) after) before_is read))
-
 -- what was read of the next region is put in its place
-pub next_read : (i : ℕ) (rows : List Mounted) (olds news : List Token) (shots : List Shot) (shot : Shot) (before : Token) (row : Mounted) (after : Token)
-    → HasRead i rows olds news (map reading_of (take i shots)) → IsSeated rows olds → i < length rows → i < length shots → before ≡ get_or news i before → row ≡ get_or rows i row
+pub next_read : (i : ℕ) (rows : List Mounted) (olds news : List Token) (kolds : List (Option (List ℕ))) (shots : List Shot) (spares : List (Option (List ℕ))) (was shot : Shot) (spare_was spare : Option (List ℕ))
+    (before : Token) (row : Mounted) (after : Token)
+    → HasRead i rows olds news kolds (kept_in shots spares) (map reading_of (take i shots)) → IsSeated rows olds → i < length rows → i < length shots → length spares ≡ length shots
+    → before ≡ get_or news i before → row ≡ get_or rows i row → was ≡ get_or shots i was → spare_was ≡ get_or spares i spare_was
     → shot.file ≡ row.file → shot.cluster ≡ row.cluster → IsReadBy before (option_map layout_of shot.image) after
-    → HasRead (i + 1) rows olds (set news i after) (map reading_of (take (i + 1) (set shots i shot)))
-next_read i rows olds news shots shot before row after h seated below there before_is row_is file cluster read =
-    one_read i rows olds news (take i shots) shot before row after (take (i + 1) (set shots i shot)) h seated below before_is row_is file cluster read (take_more_set shots i shot there)
+    → ReadsKeeping (kept_of was.image spare_was) before.view (option_map layout_of shot.image) (kept_of shot.image spare) after.view
+    → HasRead (i + 1) rows olds (set news i after) kolds (kept_in (set shots i shot) (set spares i spare)) (map reading_of (take (i + 1) (set shots i shot)))
+next_read i rows olds news kolds shots spares was shot spare_was spare before row after h seated below there long before_is row_is was_is spare_is file cluster read keeping =
+    let many = many_there i rows olds news kolds (kept_in shots spares) (map reading_of (take i shots)) seated h in
+    let wide = long_kept shots spares long in
+    let kept_is : kept_of was.image spare_was ≡ get_or (kept_in shots spares) i None =
+    ap (λ (x : Shot). kept_of x.image spare_was) was_is ∙ ap (λ (p : Option (List ℕ)). kept_of (get_or shots i was).image p) spare_is ∙ sym (kept_there shots spares i was spare_was None long there) in
+    let read_here : IsReadBy (get_or news i before) (option_map layout_of shot.image) after = subst (λ (t : Token). IsReadBy t (option_map layout_of shot.image) after) before_is read in
+    let keeping_here : ReadsKeeping (get_or (kept_in shots spares) i None) (get_or news i before).view (option_map layout_of shot.image) (kept_of shot.image spare) after.view =
+    subst (λ (t : Token). ReadsKeeping (get_or (kept_in shots spares) i None) t.view (option_map layout_of shot.image) (kept_of shot.image spare) after.view) before_is
+    (subst (λ (k : Option (List ℕ)). ReadsKeeping k before.view (option_map layout_of shot.image) (kept_of shot.image spare) after.view) kept_is keeping) in
+    let next = one_more_read i rows olds news kolds (kept_in shots spares) (take i shots) shot before row after None (kept_of shot.image spare) h below (omega arith) (omega arith)
+    (file ∙ ap (λ (r : Mounted). r.file) row_is) (cluster ∙ ap (λ (r : Mounted). r.cluster) row_is) read_here keeping_here in
+    subst (λ (ks : List (Option (List ℕ))). HasRead (i + 1) rows olds (set news i after) kolds ks (map reading_of (take (i + 1) (set shots i shot)))) (sym (kept_set shots spares i shot spare long))
+    (subst (λ (xs : List Shot). HasRead (i + 1) rows olds (set news i after) kolds (set (kept_in shots spares) i (kept_of shot.image spare)) (map reading_of xs)) (sym (take_more_set shots i shot there)) next)
 
 -- all were read
-pub all_read : (rows : List Mounted) (olds news : List Token) (readings : List RegionReading) → length olds ≡ length rows → HasRead (length rows) rows olds news readings → AreRead rows olds readings news
-all_read rows olds news readings many h =
+pub all_shots_read : (rows : List Mounted) (olds news : List Token) (kolds : List (Option (List ℕ))) (shots : List Shot) (spares : List (Option (List ℕ))) → length olds ≡ length rows → length kolds ≡ length rows → length shots ≡ length rows
+    → HasRead (length rows) rows olds news kolds (kept_in shots spares) (map reading_of (take (length rows) shots)) → AreReadKeeping rows (seat olds kolds) (map reading_of shots) (seat news (kept_in shots spares))
+all_shots_read rows olds news kolds shots spares many kmany wide h =
+    let n : ℕ = length rows in
     let same = h.many in
-    subst (λ (xs : List Mounted). AreRead xs olds readings news) (take_all (length rows) rows (omega arith))
-    (subst (λ (xs : List Token). AreRead (take (length rows) rows) xs readings news) (take_all (length rows) olds (omega arith))
-    (subst (λ (xs : List Token). AreRead (take (length rows) rows) (take (length rows) olds) readings xs) (take_all (length rows) news (omega arith)) h.read))
-
-pub all_shots_read : (rows : List Mounted) (olds news : List Token) (shots : List Shot) → length olds ≡ length rows → length shots ≡ length rows → HasRead (length rows) rows olds news (map reading_of (take (length rows) shots))
-    → AreRead rows olds (map reading_of shots) news
-all_shots_read rows olds news shots many wide h =
-    all_read rows olds news (map reading_of shots) many (subst (λ (xs : List Shot). HasRead (length rows) rows olds news (map reading_of xs)) (take_all (length rows) shots (omega arith)) h)
+    let ksame = h.kept_many in
+    let knews : List (Option (List ℕ)) = kept_in shots spares in
+    subst (λ (xs : List Mounted). AreReadKeeping xs (seat olds kolds) (map reading_of shots) (seat news knews)) (take_all n rows (omega arith))
+    (subst (λ (xs : List Token). AreReadKeeping (take n rows) (seat xs kolds) (map reading_of shots) (seat news knews)) (take_all n olds (omega arith))
+    (subst (λ (ks : List (Option (List ℕ))). AreReadKeeping (take n rows) (seat (take n olds) ks) (map reading_of shots) (seat news knews)) (take_all n kolds (omega arith))
+    (subst (λ (xs : List Shot). AreReadKeeping (take n rows) (seat (take n olds) (take n kolds)) (map reading_of xs) (seat news knews)) (take_all n shots (omega arith))
+    (subst (λ (xs : List Token). AreReadKeeping (take n rows) (seat (take n olds) (take n kolds)) (map reading_of (take n shots)) (seat xs knews)) (take_all n news (omega arith))
+    (subst (λ (ks : List (Option (List ℕ))). AreReadKeeping (take n rows) (seat (take n olds) (take n kolds)) (map reading_of (take n shots)) (seat (take n news) ks)) (take_all n knews (omega arith)) h.read)))))
 
 -- Clusters
 
@@ -215,26 +240,58 @@ are_named rows olds names missing news shots read names_are missing_are = record
   missing_are = missing_are ∙ sym (fold-map (λ clusters (reading : RegionReading). with_missed clusters reading.cluster reading.layout) reading_of [] shots);
 }
 
+pub in_order_by : (rows : List Mounted) (old : Seated) (known : List Shot) (new : Seated) → IsServer rows → AreReadKeeping rows old (map reading_of known) new → AreInOrder known
+in_order_by rows old known new server a = in_order rows old.tokens known new.tokens server a.read
+
 -- One region alone
 
-pub none_for : (word : ℕ) (rows : List Mounted) (tokens : List Token) (shots : List Shot) → shots ≡ [] → position (lies_in word) rows ≡ None → IsReadFor word rows tokens (map reading_of shots) tokens
-none_for word rows tokens shots none nowhere =
-    subst (λ (p : Option ℕ). IsReadIf rows tokens p (map reading_of shots) tokens) (sym nowhere) (ap (λ (xs : List Shot). map reading_of xs) none, refl)
+pub none_for : (word : ℕ) (rows : List Mounted) (tokens : List Token) (kept : List (Option (List ℕ))) (shots : List Shot) → shots ≡ [] → position (lies_in word) rows ≡ None
+    → IsReadForKeeping word rows (seat tokens kept) (map reading_of shots) (seat tokens kept)
+none_for word rows tokens kept shots none nowhere =
+    subst (λ (p : Option ℕ). IsReadIfKeeping rows (seat tokens kept) p (map reading_of shots) (seat tokens kept)) (sym nowhere) (ap (λ (xs : List Shot). map reading_of xs) none, refl)
 
-pub one_for : (word : ℕ) (rows : List Mounted) (olds : List Token) (at : ℕ) (shots : List Shot) (shot : Shot) (before : Token) (row : Mounted) (after : Token)
-    → position (lies_in word) rows ≡ Some at → at < length rows → at < length olds → before ≡ get_or olds at before → row ≡ get_or rows at row
-    → shot.file ≡ row.file → shot.cluster ≡ row.cluster → IsReadBy before (option_map layout_of shot.image) after → shots ≡ shot ∷ []
-    → IsReadFor word rows olds (map reading_of shots) (set olds at after)
-one_for word rows olds at shots shot before row after here row_there token_there before_is row_is file cluster read is =
-    subst (λ (p : Option ℕ). IsReadIf rows olds p (map reading_of shots) (set olds at after)) (sym here)
-    (record {
-      visit = record { row = row; before = before; reading = reading_of shot; after = after };
-      is = record { file = file; cluster = cluster; read = read };
-      row_is = slice_get_read rows (length rows) at row refl row_there row_is;
-      old_is = slice_get_read olds (length olds) at before refl token_there before_is;
-      readings_are = ap (λ (xs : List Shot). map reading_of xs) is;
-      new_are = refl;
-    })
+pub read_there : (rows : List Mounted) (olds : List Token) (known : List Shot) (spares : List (Option (List ℕ))) (at : ℕ) (was shot : Shot) (spare_was spare : Option (List ℕ)) (before : Token) (row : Mounted) (after : Token)
+    → at < length rows → at < length olds → at < length known → length spares ≡ length known
+    → before ≡ get_or olds at before → row ≡ get_or rows at row → was ≡ get_or known at was → spare_was ≡ get_or spares at spare_was
+    → shot.file ≡ row.file → shot.cluster ≡ row.cluster → IsReadBy before (option_map layout_of shot.image) after
+    → ReadsKeeping (kept_of was.image spare_was) before.view (option_map layout_of shot.image) (kept_of shot.image spare) after.view
+    → ReadAtKeeping rows (seat olds (kept_in known spares)) at (set known at shot) (seat (set olds at after) (kept_in (set known at shot) (set spares at spare)))
+read_there rows olds known spares at was shot spare_was spare before row after row_there token_there known_there long before_is row_is was_is spare_is file cluster read keeping =
+    let wide = long_kept known spares long in
+    let long_known = length-set known at shot in
+    let kept_is : kept_of was.image spare_was ≡ get_or (kept_in known spares) at (kept_of was.image spare_was) =
+    ap (λ (x : Shot). kept_of x.image spare_was) was_is ∙ ap (λ (p : Option (List ℕ)). kept_of (get_or known at was).image p) spare_is
+    ∙ sym (kept_there known spares at was spare_was (kept_of was.image spare_was) long known_there) in (
+      shot,
+      slice_get_read (set known at shot) (length (set known at shot)) at shot refl (omega arith) (sym (get_or-set_same known at shot shot known_there)),
+      record {
+        read = record {
+          visit = record { row = row; before = before; kept = kept_of was.image spare_was; reading = reading_of shot; after = after; keeps = kept_of shot.image spare };
+          is = record { file = file; cluster = cluster; read = read; keeping = keeping };
+          row_is = slice_get_read rows (length rows) at row refl row_there row_is;
+          old_is = slice_get_read olds (length olds) at before refl token_there before_is;
+          readings_are = refl;
+          new_are = refl;
+        };
+        kept_is = slice_get_read (kept_in known spares) (length (kept_in known spares)) at (kept_of was.image spare_was) refl (omega arith) kept_is;
+        keeps_are = kept_set known spares at shot spare long;
+      },
+    )
+
+pub one_for : (word : ℕ) (rows : List Mounted) (old : Seated) (known : List Shot) (new : Seated) (at : ℕ) (shots : List Shot) (one : Shot) → position (lies_in word) rows ≡ Some at
+    → ReadAtKeeping rows old at known new → one ≡ get_or known at one → shots ≡ one ∷ [] → IsReadForKeeping word rows old (map reading_of shots) new
+one_for word rows old known new at shots one here (shot, there, read) one_is is =
+    let same : one ≡ shot = one_is ∙ get_or_from_slice_get known at shot one there in
+    subst (λ (p : Option ℕ). IsReadIfKeeping rows old p (map reading_of shots) new) (sym here)
+    (subst (λ (xs : List Shot). IsReadAtKeeping rows old at (map reading_of xs) new) (sym is) (subst (λ (x : Shot). IsReadAtKeeping rows old at (reading_of x ∷ []) new) (sym same) read))
+
+-- without what is kept
+pub read_for_alone : (word : ℕ) (rows : List Mounted) (old : Seated) (readings : List RegionReading) (new : Seated) → IsReadForKeeping word rows old readings new → IsReadFor word rows old.tokens readings new.tokens
+read_for_alone word rows old readings new h = if_alone (position (lies_in word) rows) h
+  where
+    if_alone : (o : Option ℕ) → IsReadIfKeeping rows old o readings new → IsReadIf rows old.tokens o readings new.tokens
+    if_alone None h = (h.0, ap (λ (s : Seated). s.tokens) h.1)
+    if_alone (Some at) h = h.read
 
 pub loaded_for : (olds : List Token) (at : ℕ) (before after : Token) → at < length olds → before ≡ get_or olds at before → IsLoaded before after → AreLoaded olds (set olds at after)
 loaded_for olds at before after below is loaded = loaded_at olds olds at before after (none_loaded olds) below (subst (λ (t : Token). IsLoaded t after) is loaded)

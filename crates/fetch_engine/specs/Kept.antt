@@ -1,6 +1,7 @@
 -- What a seat keeps of a region: the words of the image that it read last, each of which stood in the region while it had
 -- their generation.
-use Rattle.std.specs.Prelude.{◌≡◌, ℕ, ◌<◌, ◌≤◌, List, fold, length, slice_index, slice_set, get_or, All, Option, Some, None, IfSome}
+use Rattle.std.specs.Prelude.{◌≡◌, ◌≢◌, ℕ, ◌<◌, ◌≤◌, List, [], ◌∷◌, length, slice_get, slice_index, get_or, All, Option, Some, None, IfSome}
+use Rattle.mmv_layout.specs.Form.{form_of}
 use Rattle.mmv_layout.specs.Rows.{layout_of}
 use Rattle.region_core.specs.declared.act.Act.TheVariants.{Load}
 use Rattle.region_core.specs.declared.mode.Mode.TheVariants.{Idle}
@@ -16,8 +17,12 @@ use Rattle.region_rule.specs.Views.{opening_of}
 use Rattle.region_rule.specs.Seats.{Token, IsSame}
 use Rattle.region_rule.specs.Reads.{ReadsAgain}
 use Rattle.region_words.specs.Images.{mmv}
-use Rattle.fetch_engine.specs.Visits.{ShowsAtOnce, IsRefused}
+use Rattle.fetch_engine.specs.Servers.{Seated}
+use Rattle.fetch_engine.specs.Tries.{ShowsBy, RefusesBy}
+use Rattle.fetch_engine.specs.Visits.{IsReadAtKeeping, ShowsAtOnce, IsRefused}
+use Rattle.fetch_answers.specs.Readings.{reading_of}
 use Rattle.fetch_answers.specs.declared.shot.Shot.{Shot}
+use Rattle.fetch_engine.specs.declared.server.Mounted.{Mounted}
 
 -- from a position on, at which the region's second generation is that of the words, each of them was the region's
 pub record IsKept (v : View) (words : List ℕ) : Type 0 where
@@ -33,38 +38,64 @@ pub record IsKeptBy (token : Token) (words : List ℕ) : Type 0 where
   pub kept : IsKept token.view words
 
 -- what is kept of each region is kept by the pass at its place
-pub record AreKept (tokens : List Token) (shots : List Shot) : Type 0 where
-  pub many : length shots ≡ length tokens
-  pub each : (i : ℕ) (d : Token) (e : Shot) → i < length tokens → IfSome (get_or shots i e).image (IsKeptBy (get_or tokens i d))
+pub record AreKept (tokens : List Token) (kept : List (Option (List ℕ))) : Type 0 where
+  pub many : length kept ≡ length tokens
+  pub each : (i : ℕ) (d : Token) (e : Option (List ℕ)) → i < length tokens → IfSome (get_or kept i e) (IsKeptBy (get_or tokens i d))
 
--- words into which values were written, one after another
-abbrev pub with_values : List ℕ → List (ℕ × ℕ) → List ℕ
-with_values words pairs = fold (λ ws x. slice_set ws x.0 x.1) words pairs
+-- what is kept of a region: what it showed when it was read last, or what was kept when it was missed
+abbrev pub kept_of : Option (List ℕ) → Option (List ℕ) → Option (List ℕ)
+kept_of None spare = spare
+kept_of (Some words) spare = Some words
 
--- a try that was refused; nothing is said where there was no memory
-abbrev pub TryFails : View → View → ReadFault → Type 0
-TryFails v w (Crossed first last) = IsRefused v w
-TryFails v w NoMemory = Unit {0}
+-- and of each region
+abbrev pub kept_in : List Shot → List (Option (List ℕ)) → List (Option (List ℕ))
+kept_in [] spares = []
+kept_in (shot ∷ shots) [] = []
+kept_in (shot ∷ shots) (spare ∷ spares) = kept_of shot.image spare ∷ kept_in shots spares
+
+-- a seat with these passes, and with what is kept so
+abbrev pub seated_by : List Token → List Shot → List (Option (List ℕ)) → Seated
+seated_by tokens shots spares = record { tokens = tokens; kept = kept_in shots spares }
+
+-- the region at a position alone was read, and what it showed is known there
+abbrev pub ReadAtKeeping : List Mounted → Seated → ℕ → List Shot → Seated → Type 0
+ReadAtKeeping rows old at known new = (shot : Shot) × (slice_get known at ≡ Some shot) × IsReadAtKeeping rows old at (reading_of shot ∷ []) new
+
+-- the value words were read again, and the words with these values have the form of those that were kept
+pub record ReadsAgainBy (kept : List ℕ) (v : View) (words : List ℕ) (w : View) : Type 0 where
+  pub shows : ShowsAtOnce v (layout_of words) w
+  pub keeping : ShowsBy (Some kept) v words w
+  pub form : form_of words ≡ form_of kept
 
 -- why the value words weren't read again: another generation was found, and nothing else was loaded, or the try was refused
-abbrev pub ValuesFail : View → View → ValueFault → Type 0
-ValuesFail v w (Newer found) = Extends mmv v (Load 2) found w
-ValuesFail v w (Again first last) = IsRefused v w
+abbrev pub ValuesFail : List ℕ → View → View → ValueFault → Type 0
+ValuesFail kept v w (Newer found) = (found ≢ slice_index kept 1) × Extends mmv v (Load 2) found w
+ValuesFail kept v w (Again first last) = IsRefused v w × RefusesBy (Some kept) v w
 
 -- a reading of all words that found two numbers; nothing is said where there was no memory
 abbrev pub WholeFails : View → View → ReadFault → Type 0
 WholeFails v w (Crossed first last) = ReadsAgain mmv v first last w
 WholeFails v w NoMemory = Unit {0}
 
+-- a try that showed what these words say
+abbrev pub ShowsTold : Option (List ℕ) → View → Option (List ℕ) → View → Type 0
+ShowsTold kept v None w = ⊥
+ShowsTold kept v (Some words) w = ShowsAtOnce v (layout_of words) w × ShowsBy kept v words w
+
+-- a try that was refused, and what is kept stays; nothing is said where there was no memory
+abbrev pub TryFails : Option (List ℕ) → View → Option (List ℕ) → View → ReadFault → Type 0
+TryFails kept v still w (Crossed first last) = IsRefused v w × RefusesBy kept v w × (still ≡ kept)
+TryFails kept v still w NoMemory = Unit {0}
+
 -- what stays after a try that failed
 abbrev pub TryStays : Token → Token → ReadFault → Type 0
 TryStays old new (Crossed first last) = IsSame Idle Idle old new
 TryStays old new NoMemory = Unit {0}
 
--- a try that showed what these words say
-abbrev pub ShowsTold : View → Option (List ℕ) → View → Type 0
-ShowsTold v None w = ⊥
-ShowsTold v (Some words) w = ShowsAtOnce v (layout_of words) w
+-- words of one form are kept before and after
+abbrev pub HaveOneForm : Option (List ℕ) → Option (List ℕ) → Type 0
+HaveOneForm (Some old) (Some new) = form_of new ≡ form_of old
+HaveOneForm _ _ = ⊥
 
 -- so many regions of which nothing is known
 pub record AreUnknown (count : ℕ) (shots : List Shot) : Type 0 where

@@ -1,5 +1,5 @@
 -- Regions that are served under their clusters and FILEs, and the seat that has a pass of each.
-use Rattle.std.specs.Prelude.{◌≡◌, ℕ, ◌+◌, ◌<◌, ◌≤◌, Bool, ◌&&◌, ◌||◌, not, nat_lt, ◌==◌, if◌then◌else◌, List, [], ◌∷◌, ◌++◌, map, length, slice_get, slice_set, All, Option, Some, None, bytes_eq, IsPermutation}
+use Rattle.std.specs.Prelude.{◌≡◌, ℕ, ◌+◌, ◌<◌, ◌≤◌, Bool, ◌||◌, not, nat_lt, ◌==◌, if◌then◌else◌, List, [], ◌∷◌, ◌++◌, map, length, slice_get, slice_set, All, Option, Some, None, bytes_eq, IsPermutation}
 use Rattle.std.specs.List.{list_any}
 use Rattle.pcp_base.specs.Names.{spells_component}
 use Rattle.region_core.specs.declared.mode.Mode.TheVariants.{Idle}
@@ -62,9 +62,15 @@ pub record IsServerOf (given rows : List Mounted) : Type 0 where
   pub same : IsPermutation given rows
   pub server : IsServer rows
 
--- what contracts see of a seat: a pass of each region, in ascending cluster
+-- what contracts see of a seat: a pass of each region, in ascending cluster, and what is kept of each: nothing, or the words
+-- of the image that was read last
 pub record Seated : Type 0 where
   pub tokens : List Token
+  pub kept : List (Option (List ℕ))
+
+-- a seat of which nothing is kept yet
+abbrev pub none_kept : List Mounted → List (Option (List ℕ))
+none_kept rows = map (λ (row : Mounted). None) rows
 
 abbrev pub regions_of : List Token → List MadeRegion
 regions_of tokens = map (λ (token : Token). token.region) tokens

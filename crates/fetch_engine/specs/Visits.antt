@@ -1,5 +1,5 @@
 -- What reading regions tells: of each the layout that it showed, or that it was missed in three tries.
-use Rattle.std.specs.Prelude.{◌≡◌, ◌≢◌, ℕ, ◌+◌, ◌*◌, ◌/◌, ◌==◌, Bool, zero, suc, ◌<◌, ◌≤◌, List, [], ◌∷◌, fold, map, length, position, slice_get, slice_index, slice_set, Contains, All, Option, Some, None}
+use Rattle.std.specs.Prelude.{◌≡◌, ◌≢◌, ◌⊎◌, ℕ, ◌+◌, ◌*◌, ◌/◌, ◌==◌, Bool, zero, suc, ◌<◌, ◌≤◌, List, [], ◌∷◌, fold, map, length, position, slice_get, slice_index, slice_set, Contains, All, Option, Some, None}
 use Rattle.pcp_base.specs.Time.{Moment}
 use Rattle.pcp_base.specs.declared.result.PmResult.{PmResult}
 use Rattle.pmns_core.specs.Pairs.{Pair}
@@ -9,17 +9,21 @@ use Rattle.mmv_layout.specs.declared.rows.Layout.{Layout}
 use Rattle.mmv_layout.specs.declared.rows.Slot.{Slot}
 use Rattle.mmv_layout.specs.Form.{slots_of}
 use Rattle.mmv_layout.specs.Rows.{layout_of}
+use Rattle.region_core.specs.declared.act.Act.TheVariants.{Load}
 use Rattle.region_core.specs.declared.mode.Mode.TheVariants.{Idle}
 use Rattle.region_core.specs.Readings.{Missed}
 use Rattle.region_rule.specs.declared.view.View.{View}
 use Rattle.region_rule.specs.Views.{opening_of}
 use Rattle.region_rule.specs.Reads.{WholeReading, ShowsIn, RefusedIn}
 use Rattle.region_rule.specs.Seats.{Token, IsSame}
+use Rattle.region_rule.specs.Steps.{Extends}
 use Rattle.region_words.specs.Calls.{Loads}
 use Rattle.region_words.specs.Images.{mmv}
 use Rattle.fetch_answers.specs.Names.{with_region, with_missed}
 use Rattle.fetch_answers.specs.Answers.{answer_of, facts_of}
 use Rattle.fetch_answers.specs.Readings.{RegionReading}
+use Rattle.fetch_engine.specs.Servers.{Seated}
+use Rattle.fetch_engine.specs.Tries.{ReadsKeeping}
 use Rattle.fetch_engine.specs.declared.server.Mounted.{Mounted}
 
 -- From the end of what v had seen on, the pass read this layout while the region had its generation and its form: the value of
@@ -33,19 +37,28 @@ pub record ShowsLayout (v : View) (layout : Layout) (w : View) : Type 0 where
   pub shown : ShowsIn mmv v (record { generation = generation; form = mmv.form words; found = found }) w
   pub values : (slot : Slot) → Contains (slots_of words) slot → Contains found (slot.word, slice_index words slot.word)
 
--- a try that showed this layout: it loaded generation 2, some words and generation 1, and nothing else
+-- one load of generation 2, or nothing
+abbrev pub IsLone : View → View → Type 0
+IsLone v u = (u ≡ v) ⊎ ((found : ℕ) × Extends mmv v (Load 2) found u)
+
+-- a try that showed this layout: it loaded generation 2, some words and generation 1, with one load of generation 2 in front
+-- where that found another one than the kept one, and nothing else
 pub record ShowsAtOnce (v : View) (layout : Layout) (w : View) : Type 0 where
+  pub begun : View
+  pub lone : IsLone v begun
   pub generation : ℕ
   pub found : List (ℕ × ℕ)
-  pub loads : WholeReading mmv v generation found generation w
+  pub loads : WholeReading mmv begun generation found generation w
   pub shows : ShowsLayout v layout w
 
 -- a try that was refused: the two numbers that it loaded differ
 pub record IsRefused (v w : View) : Type 0 where
+  pub begun : View
+  pub lone : IsLone v begun
   pub first : ℕ
   pub last : ℕ
   pub found : List (ℕ × ℕ)
-  pub loads : WholeReading mmv v first found last w
+  pub loads : WholeReading mmv begun first found last w
   pub differ : first ≢ last
   pub again : RefusedIn v first last w
 
@@ -77,17 +90,20 @@ pub record IsReadBy (old : Token) (layout : Option Layout) (new : Token) : Type 
   pub stays : IsSame Idle Idle old new
   pub loaded : IsLoaded old new
 
--- the reading of a region by a pass
+-- the reading of a region by a pass, with what was kept of the region before and what is kept behind it
 pub record Visit : Type 0 where
   pub row : Mounted
   pub before : Token
+  pub kept : Option (List ℕ)
   pub reading : RegionReading
   pub after : Token
+  pub keeps : Option (List ℕ)
 
 pub record IsVisit (visit : Visit) : Type 0 where
   pub file : visit.reading.file ≡ visit.row.file
   pub cluster : visit.reading.cluster ≡ visit.row.cluster
   pub read : IsReadBy visit.before visit.reading.layout visit.after
+  pub keeping : ReadsKeeping visit.kept visit.before.view visit.reading.layout visit.keeps visit.after.view
 
 -- each region was read once, by its own pass
 pub record AreRead (rows : List Mounted) (old : List Token) (readings : List RegionReading) (new : List Token) : Type 0 where
@@ -97,6 +113,16 @@ pub record AreRead (rows : List Mounted) (old : List Token) (readings : List Reg
   pub old_are : map (λ (visit : Visit). visit.before) visits ≡ old
   pub readings_are : map (λ (visit : Visit). visit.reading) visits ≡ readings
   pub new_are : map (λ (visit : Visit). visit.after) visits ≡ new
+
+-- and by what the seat kept of it; the seat keeps then what it showed, or what was kept where it was missed
+pub record AreReadKeeping (rows : List Mounted) (old : Seated) (readings : List RegionReading) (new : Seated) : Type 0 where
+  pub read : AreRead rows old.tokens readings new.tokens
+  pub kept_are : map (λ (visit : Visit). visit.kept) read.visits ≡ old.kept
+  pub keeps_are : map (λ (visit : Visit). visit.keeps) read.visits ≡ new.kept
+
+-- there are such readings
+abbrev pub ReadKeeping : List Mounted → Seated → Seated → Type 0
+ReadKeeping rows old new = (readings : List RegionReading) × AreReadKeeping rows old readings new
 
 -- a number of a metric or of a domain lies in a region's cluster
 abbrev pub lies_in : ℕ → Mounted → Bool
@@ -119,6 +145,22 @@ IsReadIf rows old (Some at) readings new = IsReadAt rows old at readings new
 -- the region in whose cluster a number lies was read
 abbrev pub IsReadFor : ℕ → List Mounted → List Token → List RegionReading → List Token → Type 0
 IsReadFor word rows old readings new = IsReadIf rows old (position (lies_in word) rows) readings new
+
+-- and by what the seat kept of it, and what it keeps of the other regions stays
+pub record IsReadAtKeeping (rows : List Mounted) (old : Seated) (at : ℕ) (readings : List RegionReading) (new : Seated) : Type 0 where
+  pub read : IsReadAt rows old.tokens at readings new.tokens
+  pub kept_is : slice_get old.kept at ≡ Some read.visit.kept
+  pub keeps_are : new.kept ≡ slice_set old.kept at read.visit.keeps
+
+abbrev pub IsReadIfKeeping : List Mounted → Seated → Option ℕ → List RegionReading → Seated → Type 0
+IsReadIfKeeping rows old None readings new = (readings ≡ []) × (new ≡ old)
+IsReadIfKeeping rows old (Some at) readings new = IsReadAtKeeping rows old at readings new
+
+abbrev pub IsReadForKeeping : ℕ → List Mounted → Seated → List RegionReading → Seated → Type 0
+IsReadForKeeping word rows old readings new = IsReadIfKeeping rows old (position (lies_in word) rows) readings new
+
+abbrev pub ReadKeepingFor : ℕ → List Mounted → Seated → Seated → Type 0
+ReadKeepingFor word rows old new = (readings : List RegionReading) × IsReadForKeeping word rows old readings new
 
 -- each pass did nothing but loads
 abbrev pub AreLoaded : List Token → List Token → Type 0

@@ -1,11 +1,10 @@
 //! Reading the value words of a region again, as long as its generation stands.
 ghost use Rattle.std.specs.Prelude.{◌≡◌, ◌<◌, length, All, IfOk, IfErr};
 ghost use Rattle.std.specs.List.{zip};
-ghost use Rattle.mmv_layout.specs.Rows.{layout_of};
 ghost use Rattle.region_core.specs.declared.mode.Mode.TheVariants.{Idle};
 ghost use Rattle.region_rule.specs.Seats.{IsSame};
-ghost use Rattle.fetch_engine.specs.Kept.{IsKeptBy, ValuesFail, with_values};
-ghost use Rattle.fetch_engine.specs.Visits.{ShowsAtOnce};
+ghost use Rattle.fetch_engine.specs.Kept.{IsKeptBy, ReadsAgainBy, ValuesFail};
+ghost use Rattle.fetch_engine.specs.Tries.{with_values};
 
 use fetch_answers::Told;
 use region_words::{Known as Generation, Pass, Region, ValueFault};
@@ -25,8 +24,9 @@ fn write_all(words: &mut Vec<u64>, indexes: &[u32], values: &[u64])
 pub fn read_again(region: &Region, pass: &mut Pass, told: &mut Told) -> Result<(), ValueFault>
     requires here { pass.old.region ≡ region.now }
     requires kept { IsKeptBy pass.old told.old }
-    ensures shows { IfOk result (λ _. ShowsAtOnce pass.old.view (layout_of told.new) pass.new.view) }
-    ensures fails { IfErr result (ValuesFail pass.old.view pass.new.view) }
+    ensures reads { IfOk result (λ _. ReadsAgainBy told.old pass.old.view told.new pass.new.view) }
+    ensures fails { IfErr result (ValuesFail told.old pass.old.view pass.new.view) }
+    ensures same { IfErr result (λ _. told.new ≡ told.old) }
     ensures kept { IsKeptBy pass.new told.new }
     ensures stays { IsSame Idle Idle pass.old pass.new }
 {

@@ -13,6 +13,6 @@ mod visits;
 pub use fetch_answers::{
     AskFault, FetchFault, Fetched, Named, Shot, answer, description, instances, names_of,
 };
-pub use laws::{misses_are_missed, read_is_shown};
+pub use laws::{hits_load_values, misses_are_missed, read_is_shown};
 pub use seat::Seat;
 pub use server::{Mounted, Server, ServerFault};

@@ -8,27 +8,29 @@ ghost use Rattle.region_words.specs.Images.{mmv};
 ghost use Rattle.fetch_engine.specs.Servers.{ChangesAt, IsRegionAt, IsSeated};
 
 use crate::server::Server;
-use fetch_answers::Known;
+use fetch_answers::{Known, Told};
 use region_words::{Note, Pass};
 use std::marker::Model;
 
-/// A pass of each region of a server, in ascending cluster, and what a fetch read of each last, as long as it serves. It may go
-/// to another thread.
+/// A pass of each region of a server, in ascending cluster, and what was read of each last, as long as it serves: what is
+/// known of the regions by their last readings, and what is kept of those that were missed then. It may go to another thread.
 #[derive(Drop)]
 pub struct Seat {
     pub(crate) passes: Vec<Pass>,
     pub(crate) known: Vec<Known>,
+    pub(crate) spares: Vec<Option<Told>>,
 }
 
 impl Model for Seat {
-    ghost use Rattle.fetch_engine.specs.Kept.{AreKept};
+    ghost use Rattle.std.specs.Prelude.{◌≡◌, length};
+    ghost use Rattle.fetch_engine.specs.Kept.{AreKept, kept_in, seated_by};
     ghost use Rattle.fetch_engine.specs.Servers.{Seated};
 
     ghost Value = { Seated };
 
-    ghost view = { λ a. record { tokens = a.passes.items } };
+    ghost view = { λ a. seated_by a.passes.items a.known.items a.spares.items };
 
-    ghost invariant = { λ a. AreKept a.passes.items a.known.items };
+    ghost invariant = { λ a. AreKept a.passes.items (kept_in a.known.items a.spares.items) × (length a.spares.items ≡ length a.known.items) };
 }
 
 impl Seat {
@@ -51,6 +53,7 @@ impl Seat {
         requires there { index < length server.now }
         requires note { IsRegionAt server.now index note.region }
         ensures learns { ChangesAt index self.old.tokens self.new.tokens (λ before after. Learns mmv before.view note.view after.view) }
+        ensures kept { self.new.kept ≡ self.old.kept }
         ensures seated { IsSeated server.now self.new.tokens }
     {
         let at = index as usize;
@@ -65,6 +68,7 @@ impl Seat {
         requires there { index < length server.now }
         requires ended { IsRegionAt server.now index ended.region }
         ensures gathers { ChangesAt index self.old.tokens self.new.tokens (λ before after. Gathers mmv before.view ended.view after.view) }
+        ensures kept { self.new.kept ≡ self.old.kept }
         ensures seated { IsSeated server.now self.new.tokens }
     {
         let at = index as usize;

@@ -4,11 +4,11 @@ ghost use Rattle.std.specs.Option.{option_copied};
 ghost use Rattle.std.specs.List.{list_any};
 ghost use Rattle.fetch_engine.specs.Kept.{AreUnknown};
 ghost use Rattle.pcp_base.specs.Names.{spells_component};
-ghost use Rattle.fetch_engine.specs.Servers.{IsSeated, IsServerOf, has_cluster, has_file, has_wrong_cluster, has_wrong_file, server_fault, wrong_cluster, wrong_file};
+ghost use Rattle.fetch_engine.specs.Servers.{IsSeated, IsServerOf, has_cluster, has_file, has_wrong_cluster, has_wrong_file, none_kept, server_fault, wrong_cluster, wrong_file};
 ghost use Rattle.fetch_engine.specs.declared.server.Mounted.{Mounted as Row};
 
 use crate::seat::Seat;
-use fetch_answers::Known;
+use fetch_answers::{Known, Told};
 use pcp_base::{Duplicate, NoMemory, Text, spells_component};
 use region_words::{Pass, Region};
 use std::alloc::Global;
@@ -141,6 +141,17 @@ fn none_known(alloc: Global, rows: &[Mounted]) -> Result<Vec<Known>, NoMemory>
     Ok(known)
 }
 
+/// Places for what is kept of regions that are missed.
+fn no_spares(alloc: Global, rows: &[Mounted]) -> Result<Vec<Option<Told>>, NoMemory>
+    ensures { IfOk result (λ spares. spares.items ≡ none_kept rows.now) }
+{
+    let mut spares = Vec::new(alloc);
+    for _row in rows {
+        spares.push(None)?;
+    }
+    Ok(spares)
+}
+
 impl Server {
     /// The server of these regions, which may stand in any order.
     pub fn new(mounted: Vec<Mounted>) -> Result<Server, ServerFault>
@@ -162,14 +173,21 @@ impl Server {
         Some(&self.mounted.get(index as usize)?.region)
     }
 
-    /// A seat with these passes, one of each region in ascending cluster.
-    #[tactic(auto, using(crate::proofs::Holding::unknown_kept, crate::proofs::SeatPasses::is_there))]
+    /// A seat with these passes, one of each region in ascending cluster; nothing is kept of the regions yet.
+    #[tactic(auto, using(crate::proofs::Holding::unknown_kept, crate::proofs::Holding::unknown_none, crate::proofs::SeatPasses::is_there))]
     pub fn seat(&self, alloc: Global, passes: Vec<Pass>) -> Result<Seat, (Vec<Pass>, NoMemory)>
         requires { IsSeated self.now passes.items }
-        ensures { MatchResult result (λ seat. seat.tokens ≡ passes.items) (λ refused. refused.0.items ≡ passes.items) }
+        ensures { MatchResult result (λ seat. (seat.tokens ≡ passes.items) × (seat.kept ≡ none_kept self.now)) (λ refused. refused.0.items ≡ passes.items) }
     {
-        match none_known(alloc, &self.mounted) {
-            Ok(known) => Ok(Seat { passes, known }),
+        let Ok(known) = none_known(alloc, &self.mounted) else {
+            return Err((passes, NoMemory));
+        };
+        match no_spares(alloc, &self.mounted) {
+            Ok(spares) => Ok(Seat {
+                passes,
+                known,
+                spares,
+            }),
             Err(NoMemory) => Err((passes, NoMemory)),
         }
     }

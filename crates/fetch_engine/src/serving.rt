@@ -1,17 +1,16 @@
 //! Fetches and name spaces of a server's regions.
-ghost use Rattle.std.specs.Prelude.{◌≡◌, ◌<◌, length, IfOk, IfErr, List as Sequence};
+ghost use Rattle.std.specs.Prelude.{◌≡◌, ◌<◌, length, IfOk, IfErr, OnOk, List as Sequence};
 ghost use Rattle.fetch_answers.specs.Asks.{desc_asked, instances_asked, AnswerHas};
 ghost use Rattle.fetch_answers.specs.Fetches.{IsFetchFault};
 ghost use Rattle.fetch_answers.specs.Readings.{AreInOrder, RegionReading};
 ghost use Rattle.fetch_engine.specs.Servers.{IsSeated};
-ghost use Rattle.fetch_engine.specs.Visits.{AreLoaded, AreNamed, IsAnswered, IsFetched, IsReadFor};
+ghost use Rattle.fetch_engine.specs.Visits.{AreLoaded, AreNamed, IsAnswered, IsFetched, IsReadFor, ReadKeeping, ReadKeepingFor};
 
 use crate::seat::Seat;
 use crate::server::Server;
-use crate::visits::{read_all, read_for, read_rows};
+use crate::visits::{names_known, read_all, read_for};
 use fetch_answers::{
-    AskFault, FETCH_LIMIT, FetchFault, Fetched, Named, answer_of, description, instances, names_of,
-    sets_of,
+    AskFault, FETCH_LIMIT, FetchFault, Fetched, Named, answer_of, description, instances, sets_of,
 };
 use pcp_base::{Desc, InDom, List, NoMemory, PmResult, Pmid, Stamp, Text};
 use profile_filter::Profile;
@@ -32,6 +31,7 @@ impl Server {
     ) -> Result<Fetched, FetchFault>
         requires { IsSeated self.now seat.old.tokens }
         ensures answer { IfOk result (λ fetched. IsFetched self.now seat.old.tokens profile.now pmids.now stamp fetched.result fetched.facts seat.new.tokens) }
+        ensures keeping { OnOk result (ReadKeeping self.now seat.old seat.new) }
         ensures refused { IfErr result (IsFetchFault (length pmids.now)) }
         ensures untouched { 1024 < length pmids.now → seat.new ≡ seat.old }
         ensures loads { AreLoaded seat.old.tokens seat.new.tokens }
@@ -41,7 +41,13 @@ impl Server {
             let count = pmids.len() as u64;
             return Err(FetchFault::TooMany { count });
         }
-        read_all(alloc, &self.mounted, &mut seat.passes, &mut seat.known)?;
+        read_all(
+            alloc,
+            &self.mounted,
+            &mut seat.passes,
+            &mut seat.known,
+            &mut seat.spares,
+        )?;
         Ok(answer_of(alloc, &seat.known, profile, pmids, stamp)?)
     }
 
@@ -57,6 +63,7 @@ impl Server {
     ) -> Result<PmResult, FetchFault>
         requires { IsSeated self.now seat.old.tokens }
         ensures answer { IfOk result (λ told. IsAnswered self.now seat.old.tokens profile.now pmids.now stamp told seat.new.tokens) }
+        ensures keeping { OnOk result (ReadKeeping self.now seat.old seat.new) }
         ensures refused { IfErr result (IsFetchFault (length pmids.now)) }
         ensures untouched { 1024 < length pmids.now → seat.new ≡ seat.old }
         ensures loads { AreLoaded seat.old.tokens seat.new.tokens }
@@ -66,39 +73,61 @@ impl Server {
             let count = pmids.len() as u64;
             return Err(FetchFault::TooMany { count });
         }
-        read_all(alloc, &self.mounted, &mut seat.passes, &mut seat.known)?;
+        read_all(
+            alloc,
+            &self.mounted,
+            &mut seat.passes,
+            &mut seat.known,
+            &mut seat.spares,
+        )?;
         let sets = sets_of(alloc, &seat.known, profile, pmids)?;
         Ok(PmResult { stamp, sets })
     }
 
     /// The name space of one reading of each region (pmns(5)), and the clusters of the regions that were missed in three
     /// tries. After a refusal the passes have made nothing but loads.
-    #[tactic(auto, using(crate::proofs::Visited::are_named, crate::proofs::Visited::in_order, crate::proofs::Visited::still_seated, crate::proofs::Holding::still_kept))]
+    #[tactic(auto, using(crate::proofs::Visited::are_named, crate::proofs::Visited::in_order_by, crate::proofs::Visited::still_seated))]
     pub fn names(&self, alloc: Global, seat: &mut Seat) -> Result<Named, NoMemory>
         requires { IsSeated self.now seat.old.tokens }
         ensures names { IfOk result (λ named. AreNamed self.now seat.old.tokens named.names named.missing seat.new.tokens) }
+        ensures keeping { OnOk result (ReadKeeping self.now seat.old seat.new) }
         ensures loads { AreLoaded seat.old.tokens seat.new.tokens }
         ensures seated { IsSeated self.now seat.new.tokens }
     {
-        let shots = read_rows(alloc, &self.mounted, &mut seat.passes)?;
-        names_of(alloc, shots.as_slice())
+        read_all(
+            alloc,
+            &self.mounted,
+            &mut seat.passes,
+            &mut seat.known,
+            &mut seat.spares,
+        )?;
+        let named = names_known(alloc, &seat.known)?;
+        Ok(named)
     }
     /// The description of a metric over a reading of the region in whose cluster it lies (pmLookupDesc(3)), or a status: no
     /// other region is read. After a refusal the passes have made nothing but loads.
-    #[tactic(auto, using(crate::proofs::Visited::in_order_for, crate::proofs::Visited::still_seated, crate::proofs::Holding::still_kept))]
+    #[tactic(auto, using(crate::proofs::Visited::in_order_for, crate::proofs::Visited::read_for_alone, crate::proofs::Visited::still_seated))]
     pub fn description(&self, alloc: Global, seat: &mut Seat, pmid: Pmid) -> Result<Desc, AskFault>
         requires { IsSeated self.now seat.old.tokens }
         ensures told { AnswerHas result (λ told. (readings : Sequence RegionReading) × IsReadFor pmid self.now seat.old.tokens readings seat.new.tokens × (told ≡ desc_asked readings pmid)) }
+        ensures keeping { AnswerHas result (λ _. ReadKeepingFor pmid self.now seat.old seat.new) }
         ensures loads { AreLoaded seat.old.tokens seat.new.tokens }
         ensures seated { IsSeated self.now seat.new.tokens }
     {
-        let shots = read_for(alloc, &self.mounted, &mut seat.passes, pmid.word())?;
+        let shots = read_for(
+            alloc,
+            &self.mounted,
+            &mut seat.passes,
+            &mut seat.known,
+            &mut seat.spares,
+            pmid.word(),
+        )?;
         description(alloc, shots.as_slice(), pmid)
     }
 
     /// The instances of a domain in ascending number over a reading of the region in whose cluster it lies (pmGetInDom(3)),
     /// or a status: no other region is read. After a refusal the passes have made nothing but loads.
-    #[tactic(auto, using(crate::proofs::Visited::in_order_for, crate::proofs::Visited::still_seated, crate::proofs::Holding::still_kept))]
+    #[tactic(auto, using(crate::proofs::Visited::in_order_for, crate::proofs::Visited::read_for_alone, crate::proofs::Visited::still_seated))]
     pub fn instances(
         &self,
         alloc: Global,
@@ -107,10 +136,18 @@ impl Server {
     ) -> Result<List<(i32, Text)>, AskFault>
         requires { IsSeated self.now seat.old.tokens }
         ensures told { AnswerHas result (λ told. (readings : Sequence RegionReading) × IsReadFor indom self.now seat.old.tokens readings seat.new.tokens × (told ≡ instances_asked readings indom)) }
+        ensures keeping { AnswerHas result (λ _. ReadKeepingFor indom self.now seat.old seat.new) }
         ensures loads { AreLoaded seat.old.tokens seat.new.tokens }
         ensures seated { IsSeated self.now seat.new.tokens }
     {
-        let shots = read_for(alloc, &self.mounted, &mut seat.passes, indom.word())?;
+        let shots = read_for(
+            alloc,
+            &self.mounted,
+            &mut seat.passes,
+            &mut seat.known,
+            &mut seat.spares,
+            indom.word(),
+        )?;
         instances(alloc, shots.as_slice(), indom)
     }
 }

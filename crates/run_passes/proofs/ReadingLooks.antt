@@ -1,6 +1,6 @@
 -- The logger's pass reads a region. Where nobody else acts, it sees its own loads alone, which leave the region and are no entries of
 -- the fold's; and what it reads is what the region is.
-use Rattle.std.proofs.Common.{◌≡◌, ◌≢◌, ℕ, zero, suc, ◌+◌, ◌-◌, ◌<◌, ◌≤◌, Bool, true, false, ◌||◌, ◌==◌, eq-eqb, ne_eqb, List, [], ◌∷◌, ◌++◌, append_assoc, append-nil, length, take, map, slice_index, slice_get, Option, Some, None, option_map, if◌then◌else◌, sym, refl, ap, ◌∙◌, subst, arith}
+use Rattle.std.proofs.Common.{◌≡◌, ◌≢◌, inl, inr, ℕ, zero, suc, ◌+◌, ◌-◌, ◌<◌, ◌≤◌, Bool, true, false, ◌||◌, ◌==◌, eq-eqb, ne_eqb, List, [], ◌∷◌, ◌++◌, append_assoc, append-nil, length, take, map, slice_index, slice_get, Option, Some, None, option_map, if◌then◌else◌, sym, refl, ap, ◌∙◌, subst, arith}
 use Rattle.std.proofs.Math.Seq.{take-append-add}
 use Rattle.std.proofs.lemmas.List.{map-append}
 use Rattle.mmv_layout.specs.declared.rows.Layout.{Layout}
@@ -21,7 +21,7 @@ use Rattle.region_rule.specs.Seats.{MadeRegion, Token}
 use Rattle.region_rule.specs.Steps.{entry, Extends}
 use Rattle.region_words.specs.Calls.{Loads}
 use Rattle.region_words.specs.Images.{mmv, mmv_laws}
-use Rattle.fetch_engine.specs.Visits.{ShowsLayout, ShowsAtOnce, AreRefused, IsRead, IsLoaded}
+use Rattle.fetch_engine.specs.Visits.{ShowsLayout, ShowsAtOnce, AreRefused, IsLone, IsRead, IsLoaded}
 use Rattle.script_runs.specs.Groups.{shot_of}
 use Rattle.script_runs.specs.Journals.{is_attached, is_look, without_looks}
 use Rattle.script_runs.specs.Regions.{ScriptRegion}
@@ -173,26 +173,52 @@ whole_finds logger v w first last found number r q =
       last_is = three.1 ∙ ap (λ (s : State). g1 s) to_end.state;
     }
 
+-- A load of generation 2 alone, or nothing
+
+lone_grows : (v u : View) → IsLone v u → Grows v u
+lone_grows v u (inl same) = subst (λ (x : View). Grows v x) (sym same) (grows_refl v)
+lone_grows v u (inr (n, e)) = grows_step v u (Load 2) n e
+
+lone_look : (logger : ℕ) (v u : View) → v.number ≡ logger → IsLone v u → Quiet v u → Looked logger v u
+lone_look logger v u number (inl same) q = looked_none logger v u number same
+lone_look logger v u number (inr (n, e)) q = (looked_one logger v u 2 n number e q).0
+
+-- and a whole reading behind it
+tried_grows : (v u w : View) (first last : ℕ) (found : List (ℕ × ℕ)) → IsLone v u → WholeReading mmv u first found last w → Grows v w
+tried_grows v u w first last found lone r = grows_trans v u w (lone_grows v u lone) (whole_grows u w first last found r)
+
+tried_finds : (logger : ℕ) (v u w : View) (first last : ℕ) (found : List (ℕ × ℕ)) → v.number ≡ logger → IsLone v u → WholeReading mmv u first found last w → Quiet v w → Finds logger v w first last
+tried_finds logger v u w first last found number lone r q =
+    let a : Grows v u = lone_grows v u lone in
+    let b : Grows u w = whole_grows u w first last found r in
+    let before : Looked logger v u = lone_look logger v u number lone (quiet_first v u w a b q) in
+    let f : Finds logger u w first last = whole_finds logger u w first last found before.number r (quiet_last v u w a b q) in
+    record {
+      looked = looked_more logger v u w before f.looked;
+      first_is = f.first_is ∙ ap (λ (s : State). g2 s) before.state;
+      last_is = f.last_is ∙ ap (λ (s : State). g1 s) before.state;
+    }
+
 -- Tries that were refused
 
 refused_grow : (tries : ℕ) (v w : View) → AreRefused tries v w → Grows v w
 refused_grow zero v w h = subst (λ (x : View). Grows v x) (sym h) (grows_refl v)
-refused_grow (suc tries) v w h = grows_trans v h.0 w (whole_grows v h.0 h.1.first h.1.last h.1.found h.1.loads) (refused_grow tries h.0 w h.2)
+refused_grow (suc tries) v w h = grows_trans v h.0 w (tried_grows v h.1.begun h.0 h.1.first h.1.last h.1.found h.1.lone h.1.loads) (refused_grow tries h.0 w h.2)
 
 refused_look : (logger tries : ℕ) (v w : View) → v.number ≡ logger → AreRefused tries v w → Quiet v w → Looked logger v w
 refused_look logger zero v w number h q = looked_none logger v w number h
 refused_look logger (suc tries) v w number h q =
-    let first : Grows v h.0 = whole_grows v h.0 h.1.first h.1.last h.1.found h.1.loads in
+    let first : Grows v h.0 = tried_grows v h.1.begun h.0 h.1.first h.1.last h.1.found h.1.lone h.1.loads in
     let last : Grows h.0 w = refused_grow tries h.0 w h.2 in
-    let one : Finds logger v h.0 h.1.first h.1.last = whole_finds logger v h.0 h.1.first h.1.last h.1.found number h.1.loads (quiet_first v h.0 w first last q) in
+    let one : Finds logger v h.0 h.1.first h.1.last = tried_finds logger v h.1.begun h.0 h.1.first h.1.last h.1.found number h.1.lone h.1.loads (quiet_first v h.0 w first last q) in
     looked_more logger v h.0 w one.looked (refused_look logger tries h.0 w one.looked.number h.2 (quiet_last v h.0 w first last q))
 
 -- where a try was refused, the generations differ
 refused_differ : (logger tries : ℕ) (v w : View) → v.number ≡ logger → AreRefused (suc tries) v w → Quiet v w → g1 (now v) ≢ g2 (now v)
 refused_differ logger tries v w number h q same =
-    let first : Grows v h.0 = whole_grows v h.0 h.1.first h.1.last h.1.found h.1.loads in
+    let first : Grows v h.0 = tried_grows v h.1.begun h.0 h.1.first h.1.last h.1.found h.1.lone h.1.loads in
     let last : Grows h.0 w = refused_grow tries h.0 w h.2 in
-    let one : Finds logger v h.0 h.1.first h.1.last = whole_finds logger v h.0 h.1.first h.1.last h.1.found number h.1.loads (quiet_first v h.0 w first last q) in
+    let one : Finds logger v h.0 h.1.first h.1.last = tried_finds logger v h.1.begun h.0 h.1.first h.1.last h.1.found number h.1.lone h.1.loads (quiet_first v h.0 w first last q) in
     h.1.differ (one.first_is ∙ (sym same ∙ sym one.last_is))
 
 -- What was read
@@ -207,7 +233,7 @@ image_left v w n e same =
 
 shown_alike : (logger : ℕ) (u w : View) (layout : Layout) → u.number ≡ logger → ShowsAtOnce u layout w → Quiet u w → (g1 (now u) ≡ g2 (now u)) × SayAlike layout (layout_of (now u).words)
 shown_alike logger u w layout number s q =
-    let f : Finds logger u w s.generation s.generation = whole_finds logger u w s.generation s.generation s.found number s.loads q in
+    let f : Finds logger u w s.generation s.generation = tried_finds logger u s.begun w s.generation s.generation s.found number s.lone s.loads q in
     let same : g1 (now u) ≡ g2 (now u) = sym f.last_is ∙ f.first_is in
     let stands : now w ≡ now u = f.looked.state in
     let image : mmv.IsImage (now w).words = image_left s.loads.ended w s.generation s.loads.closes (subst (λ (x : State). g1 x ≡ g2 x) (sym stands) same) in
@@ -246,7 +272,7 @@ read_alike logger v w None r number stands h q =
 read_alike logger v w (Some layout) r number stands h q =
     let u : View = h.2 in
     let first : Grows v u = refused_grow h.0 v u h.3 in
-    let last : Grows u w = whole_grows u w h.4.generation h.4.generation h.4.found h.4.loads in
+    let last : Grows u w = tried_grows u h.4.begun w h.4.generation h.4.generation h.4.found h.4.lone h.4.loads in
     let before : Looked logger v u = refused_look logger h.0 v u number h.3 (quiet_first v u w first last q) in
     let shown = shown_alike logger u w layout before.number h.4 (quiet_last v u w first last q) in
     let here : r.state ≡ now u = stands ∙ sym before.state in

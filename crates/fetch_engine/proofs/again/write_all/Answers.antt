@@ -1,5 +1,5 @@
 -- One value more was written.
-use Rattle.std.proofs.Common.{◌≡◌, ◌<◌, length, slice_index_or, get_or, slice_set, ◌∙◌, sym, refl, arith, rules}
+use Rattle.std.proofs.Common.{◌≡◌, ◌<◌, length, slice_index_or, slice_set, ◌∙◌, sym, refl, arith, rules}
 use Rattle.std.proofs.lemmas.List.{length-set}
 use Rattle.std.proofs.lemmas.Grind.{get_or_default_zero}
 use Rattle.fetch_engine.proofs.Keeping.{written_step, written_all}

@@ -1,7 +1,7 @@
 -- The values so far were written.
 use Rattle.std.proofs.Common.{◌≡◌, take, length}
 use Rattle.std.specs.List.{zip}
-use Rattle.fetch_engine.specs.Kept.{with_values}
+use Rattle.fetch_engine.specs.Tries.{with_values}
 use Rattle.fetch_engine.proofs.again.write_all.Given as goal
 
 abbrev pub invariant-loop-at : goal.invariant-loop-at
