@@ -4,6 +4,7 @@ pub mod Contents
 pub mod Devices
 pub mod Doors
 pub mod Memory
+pub mod Plans
 pub mod Record
 pub mod Sides
 pub mod Streams

@@ -11,6 +11,7 @@ mod failed;
 mod memory_disk;
 mod memory_door;
 mod memory_streams;
+mod plans;
 mod streams;
 
 pub use clocks::{Clock, Free, LOGGER, ListClock, Turn};
@@ -21,4 +22,5 @@ pub use memory_disk::{Asked, DiskChange, MemDisk, is_before};
 pub use memory_door::MemDoor;
 pub use memory_streams::{MemSink, MemSource, SureSource};
 pub use pcp_base::FileId;
+pub use plans::{Call, Fault};
 pub use streams::{ReadFault, Sink, Source, read_to_limit, write_all};

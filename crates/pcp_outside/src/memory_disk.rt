@@ -1,17 +1,21 @@
 //! A disk in memory, which keeps a record of its changes and so tells the images of every moment.
-ghost use Rattle.std.specs.Prelude.{◌≡◌, ◌≤◌, ◌+◌, ◌++◌, [], ◌∷◌, ℕ, true, length, take, drop, count_by, None, IfOk, IsOk, IsOkAnd, OnOk, OnErr, IsErr};
+ghost use Rattle.std.specs.Prelude.{◌≡◌, ◌≤◌, ◌<◌, ◌+◌, ◌++◌, [], ◌∷◌, ℕ, true, length, take, drop, count_by, find, None, IfOk, OnOk, OnErr, IsErr, is_err, is_some};
 ghost use Rattle.std.specs.Prelude.{◌⊎◌};
 ghost use Rattle.pcp_outside.specs.Causes.{HasCause, shown_count};
 ghost use Rattle.pcp_outside.specs.Devices.{IsNumbered, taken_after};
 ghost use Rattle.pcp_model.specs.Written.{same_file};
 ghost use Rattle.pcp_outside.specs.Memory.{is_listed};
-ghost use Rattle.pcp_model.specs.Disk.{Held, bytes_of};
-ghost use Rattle.pcp_outside.specs.Record.{IsKept, IsHeld, held_after_change, held_after, first_wrapped, comes_before, is_append_of, is_sync_of};
+ghost use Rattle.std.specs.Option.{option_copied};
+ghost use Rattle.pcp_base.specs.declared.file.FileId.{FileId as File};
+ghost use Rattle.pcp_model.specs.Disk.{Held, CrashImage, bytes_of, contents_of, nothing_held};
+ghost use Rattle.pcp_outside.specs.Devices.{Becomes};
+ghost use Rattle.pcp_outside.specs.Record.{IsKept, IsHeld, held_after_change, held_after, first_wrapped, comes_before, is_append_of, is_sync_of, begun, fault_of, looked, done_after, DoesPart, is_possible, may_keep, kept_length, kept_of};
 
 use crate::contents::Contents;
 use crate::disk::Disk;
 use crate::failed::Failed;
 use crate::memory_streams::is_among;
+use crate::plans::{Call, Counts, Fault, ask};
 use pcp_base::{Bytes, FileId, List, NoMemory};
 use std::alloc::Global;
 use std::marker::Model;
@@ -40,6 +44,8 @@ pub struct MemDisk {
     calls: List<DiskChange>,
     asked: List<Asked>,
     fails: List<u64>,
+    plan: List<Fault>,
+    counts: Counts,
     faults: u64,
     taken: u64,
     wrapped: Option<FileId>,
@@ -50,7 +56,7 @@ impl Model for MemDisk {
 
     ghost Value = { DiskState };
 
-    ghost view = { λ d. record { calls = d.calls; asked = d.asked; fails = d.fails; faults = d.faults; taken = d.taken; wrapped = d.wrapped } };
+    ghost view = { λ d. record { calls = d.calls; asked = d.asked; fails = d.fails; plan = d.plan; counts = d.counts; faults = d.faults; taken = d.taken; wrapped = d.wrapped } };
 
     ghost invariant = { λ d. IsKept d.contents d.calls };
 }
@@ -59,7 +65,21 @@ impl MemDisk {
     /// An empty disk. Of its appends, syncs and cuts, counted together from 1, those with the listed numbers
     /// fail and do nothing. So does one that gets no memory, be it for the record that the disk keeps.
     pub fn new(alloc: Global, fails: List<u64>) -> Self
-        ensures { result ≡ record { calls = []; asked = []; fails = fails; faults = 0; taken = 0; wrapped = None } }
+        ensures { result ≡ begun [] fails [] None }
+    {
+        MemDisk::begin(alloc, fails, List::empty(alloc), None)
+    }
+
+    /// An empty disk of whose calls these fail; of two faults of one call the first counts. An append, a sync or a cut
+    /// that gets no memory fails too and does nothing, be it for the record that the disk keeps.
+    pub fn plan(alloc: Global, faults: List<Fault>) -> Self
+        ensures { result ≡ begun [] [] faults None }
+    {
+        MemDisk::begin(alloc, List::empty(alloc), faults, None)
+    }
+
+    fn begin(alloc: Global, fails: List<u64>, plan: List<Fault>, wrapped: Option<FileId>) -> Self
+        ensures { result ≡ begun [] fails plan wrapped }
     {
         MemDisk {
             alloc,
@@ -67,9 +87,24 @@ impl MemDisk {
             calls: List::empty(alloc),
             asked: List::empty(alloc),
             fails,
+            plan,
+            counts: Counts::none(),
             faults: 0,
             taken: 0,
-            wrapped: None,
+            wrapped,
+        }
+    }
+
+    // Counts a call that changes no file, and refuses it where it is planned to fail.
+    fn look(&mut self, call: Call) -> Result<(), Failed>
+        ensures after { self.new ≡ looked call self.old }
+        ensures planned { is_err result ≡ is_some (fault_of self.old call) }
+        ensures quiet { OnOk result (self.new.faults ≡ self.old.faults) }
+        ensures cause { HasCause self.old.faults self.new.faults result }
+    {
+        match ask(&self.plan, &mut self.counts, call) {
+            None => Ok(()),
+            Some(_) => Err(raise(&mut self.faults)),
         }
     }
 
@@ -137,6 +172,94 @@ impl MemDisk {
         }
         Ok((sure, List::from_vec(bytes)))
     }
+
+    // How many bytes of a file are sure, and all of them.
+    fn held_now(&self, alloc: Global, file: FileId) -> Result<(usize, Bytes), NoMemory>
+        ensures { IfOk result (λ found. IsHeld (held_after self.now.calls file) found.0 found.1) }
+    {
+        self.holdings_at(alloc, self.moments(), file)
+    }
+
+    // Whether a length lies between a file's sure bytes and its length.
+    fn is_possible(&self, alloc: Global, file: FileId, len: u64) -> Result<bool, NoMemory>
+        ensures { IfOk result (λ is. is ≡ is_possible (held_after self.now.calls) file len) }
+    {
+        let (sure, bytes) = self.held_now(alloc, file)?;
+        Ok(sure as u64 <= len && len <= bytes.len() as u64)
+    }
+
+    /// Whether a crash may leave these lengths: each lies between the file's sure bytes and its length.
+    pub fn may_keep(&self, alloc: Global, keep: &List<(FileId, u64)>) -> Result<bool, NoMemory>
+        ensures { IfOk result (λ may. may ≡ may_keep keep.now (held_after self.now.calls)) }
+    {
+        for entry in keep.as_slice() {
+            if !self.is_possible(alloc, entry.0, entry.1)? {
+                return Ok(false);
+            }
+        }
+        Ok(true)
+    }
+
+    /// The disk that a crash leaves, whose bytes are all sure: of each file that is listed as many bytes, and of the
+    /// others the sure ones. No call of it is to fail.
+    pub fn crash(&self, alloc: Global, keep: &List<(FileId, u64)>) -> Result<MemDisk, NoMemory>
+        requires { may_keep keep.now (held_after self.now.calls) ≡ true }
+        ensures kept { IfOk result (λ d. (file : File) → held_after d.calls file ≡ kept_of keep.now (held_after self.now.calls) file) }
+        ensures image { IfOk result (λ d. CrashImage (held_after self.now.calls) (contents_of (held_after d.calls))) }
+        ensures begins { IfOk result (λ d. d ≡ begun d.calls [] [] self.now.wrapped) }
+    {
+        let mut image = MemDisk::begin(alloc, List::empty(alloc), List::empty(alloc), self.wrapped);
+        self.leave(alloc, keep, FileId::Meta, &mut image)?;
+        self.leave(alloc, keep, FileId::Index, &mut image)?;
+        for number in 0..self.contents.volumes() {
+            self.leave(alloc, keep, FileId::Volume(number), &mut image)?;
+        }
+        Ok(image)
+    }
+
+    // Puts what a crash leaves of a file into an image that has nothing of it yet.
+    fn leave(
+        &self,
+        alloc: Global,
+        keep: &List<(FileId, u64)>,
+        file: FileId,
+        image: &mut MemDisk,
+    ) -> Result<(), NoMemory>
+        requires numbered { IsNumbered file }
+        requires may { may_keep keep.now (held_after self.now.calls) ≡ true }
+        requires fresh { held_after image.old.calls file ≡ nothing_held }
+        ensures rest { OnOk result (image.new ≡ record image.old { calls = image.new.calls }) }
+        ensures laid { OnOk result (Becomes file (kept_of keep.now (held_after self.now.calls) file) (held_after image.old.calls) (held_after image.new.calls)) }
+    {
+        let (sure, bytes) = self.held_now(alloc, file)?;
+        let count = count_kept(keep.as_slice(), file, sure as u64) as usize;
+        image.lay(file, &bytes.as_slice()[..count])
+    }
+
+    // Puts bytes behind a file's end, and makes all of it sure.
+    fn lay(&mut self, file: FileId, bytes: &[u8]) -> Result<(), NoMemory>
+        requires { IsNumbered file }
+        ensures { OnOk result (self.new ≡ record self.old { calls = (self.old.calls ++ DiskChange.Append file bytes.now ∷ []) ++ DiskChange.Sync file ∷ [] }) }
+    {
+        do_append(self.alloc, &mut self.contents, &mut self.calls, file, bytes)?;
+        do_sync(&self.contents, &mut self.calls, file)
+    }
+}
+
+fn find_kept(keep: &[(FileId, u64)], file: FileId) -> Option<&(FileId, u64)>
+    ensures { option_copied result ≡ find (λ entry. same_file entry.0 file) keep.now }
+{
+    keep.iter().find(|entry| same(entry.0, file))
+}
+
+// How many bytes of a file a crash keeps, of which this many are sure.
+fn count_kept(keep: &[(FileId, u64)], file: FileId, sure: u64) -> u64
+    ensures { result ≡ kept_length keep.now file sure }
+{
+    match find_kept(keep, file) {
+        Some(entry) => entry.1,
+        None => sure,
+    }
 }
 
 // Does a call again to what one file held.
@@ -194,37 +317,54 @@ impl Disk for MemDisk {
 
     fn len(&mut self, file: FileId) -> Result<u64, Failed>
         requires { IsNumbered file }
-        ensures value { result ≡ Ok (shown_count (length_of (held_after self.old.calls file))) }
-        ensures same { self.new ≡ self.old }
+        ensures value { IfOk result (λ n. n ≡ shown_count (length_of (held_after self.old.calls file))) }
+        ensures after { self.new ≡ looked Call.Len self.old }
+        ensures planned { is_err result ≡ is_some (fault_of self.old Call.Len) }
+        ensures quiet { OnOk result (self.new.faults ≡ self.old.faults) }
+        ensures cause { HasCause self.old.faults self.new.faults result }
         ensures time { Elapses (length self.old.calls) (length self.new.calls) (LeftSince self.old.calls) (LeftSince self.new.calls) (held_after self.new.calls) }
     {
+        self.look(Call::Len)?;
         Ok(self.contents.bytes(file).len() as u64)
     }
 
     fn volumes(&mut self) -> Result<u32, Failed>
-        ensures value { IsOkAnd result (IsVolumes (held_after self.old.calls)) }
-        ensures same { self.new ≡ self.old }
+        ensures value { IfOk result (IsVolumes (held_after self.old.calls)) }
+        ensures after { self.new ≡ looked Call.Volumes self.old }
+        ensures planned { is_err result ≡ is_some (fault_of self.old Call.Volumes) }
+        ensures quiet { OnOk result (self.new.faults ≡ self.old.faults) }
+        ensures cause { HasCause self.old.faults self.new.faults result }
         ensures time { Elapses (length self.old.calls) (length self.new.calls) (LeftSince self.old.calls) (LeftSince self.new.calls) (held_after self.new.calls) }
     {
+        self.look(Call::Volumes)?;
         Ok(self.contents.volumes())
     }
 
     fn wrapped(&mut self) -> Result<Option<FileId>, Failed>
-        ensures value { result ≡ Ok self.old.wrapped }
-        ensures same { self.new ≡ self.old }
+        ensures value { IfOk result (λ found. found ≡ self.old.wrapped) }
+        ensures after { self.new ≡ looked Call.Wrapped self.old }
+        ensures planned { is_err result ≡ is_some (fault_of self.old Call.Wrapped) }
+        ensures quiet { OnOk result (self.new.faults ≡ self.old.faults) }
+        ensures cause { HasCause self.old.faults self.new.faults result }
         ensures time { Elapses (length self.old.calls) (length self.new.calls) (LeftSince self.old.calls) (LeftSince self.new.calls) (held_after self.new.calls) }
     {
+        self.look(Call::Wrapped)?;
         Ok(self.wrapped)
     }
 
     fn read(&mut self, file: FileId, at: u64, buffer: &mut [u8]) -> Result<(), Failed>
         requires numbered { IsNumbered file }
         requires within { at + length buffer.old ≤ length_of (held_after self.old.calls file) }
-        ensures done { IsOk result }
-        ensures bytes { buffer.new ≡ take (length buffer.old) (drop at (bytes_of (held_after self.old.calls file))) }
-        ensures counted { self.new ≡ record self.old { taken = taken_after file (length buffer.old) self.old.taken } }
+        ensures bytes { OnOk result (buffer.new ≡ take (length buffer.old) (drop at (bytes_of (held_after self.old.calls file)))) }
+        ensures counted { OnOk result (self.new ≡ record (looked Call.Read self.old) { taken = taken_after file (length buffer.old) self.old.taken }) }
+        ensures refused { OnErr result (self.new ≡ looked Call.Read self.old) }
+        ensures same { OnErr result (buffer.new ≡ buffer.old) }
+        ensures planned { is_err result ≡ is_some (fault_of self.old Call.Read) }
+        ensures quiet { OnOk result (self.new.faults ≡ self.old.faults) }
+        ensures cause { HasCause self.old.faults self.new.faults result }
         ensures time { Elapses (length self.old.calls) (length self.new.calls) (LeftSince self.old.calls) (LeftSince self.new.calls) (held_after self.new.calls) }
     {
+        self.look(Call::Read)?;
         let start = at as usize;
         let bytes = &self.contents.bytes(file)[start..start + buffer.len()];
         buffer.copy_from_slice(bytes);
@@ -234,63 +374,70 @@ impl Disk for MemDisk {
 
     fn append(&mut self, file: FileId, bytes: &[u8]) -> Result<(), Failed>
         requires { IsNumbered file }
-        ensures done { OnOk result (self.new ≡ record self.old { calls = self.old.calls ++ DiskChange.Append file bytes.now ∷ []; asked = self.old.asked ++ Asked.Append file ∷ [] }) }
-        ensures refused { OnErr result (Refuses (Asked.Append file) self.old self.new) }
+        ensures done { OnOk result (self.new ≡ done_after (DiskChange.Append file bytes.now) self.old) }
+        ensures refused { OnErr result (Refuses (DiskChange.Append file bytes.now) self.old self.new) }
         ensures listed { is_listed self.old.fails (length self.old.asked + 1) ≡ true → IsErr result }
+        ensures planned { is_some (fault_of self.old Call.Append) ≡ true → IsErr result }
         ensures held { Appends file bytes.now (held_after self.old.calls) (held_after self.new.calls) result }
         ensures cause { HasCause self.old.faults self.new.faults result }
         ensures time { Elapses (length self.old.calls) (length self.new.calls) (LeftSince self.old.calls) (LeftSince self.new.calls) (held_after self.new.calls) }
     {
-        let admitted = admit(&mut self.asked, &self.fails, Asked::Append(file)).is_ok();
-        if admitted {
-            match do_append(self.alloc, &mut self.contents, &mut self.calls, file, bytes) {
-                Ok(()) => return Ok(()),
-                Err(NoMemory) => {}
-            }
+        let fault = ask(&self.plan, &mut self.counts, Call::Append);
+        if let Err(Failed) = admit(&mut self.asked, &self.fails, Asked::Append(file)) {
+            return Err(raise(&mut self.faults));
         }
-        self.faults = self.faults.saturating_add(1);
-        Err(Failed)
+        match append_part(
+            self.alloc,
+            &mut self.contents,
+            &mut self.calls,
+            file,
+            bytes,
+            fault,
+        ) {
+            Ok(()) => Ok(()),
+            Err(Failed) => Err(raise(&mut self.faults)),
+        }
     }
 
     fn sync(&mut self, file: FileId) -> Result<(), Failed>
         requires { IsNumbered file }
-        ensures done { OnOk result (self.new ≡ record self.old { calls = self.old.calls ++ DiskChange.Sync file ∷ []; asked = self.old.asked ++ Asked.Sync file ∷ [] }) }
-        ensures refused { OnErr result (Refuses (Asked.Sync file) self.old self.new) }
+        ensures done { OnOk result (self.new ≡ done_after (DiskChange.Sync file) self.old) }
+        ensures refused { OnErr result (Refuses (DiskChange.Sync file) self.old self.new) }
         ensures listed { is_listed self.old.fails (length self.old.asked + 1) ≡ true → IsErr result }
+        ensures planned { is_some (fault_of self.old Call.Sync) ≡ true → IsErr result }
         ensures held { Syncs file (held_after self.old.calls) (held_after self.new.calls) result }
         ensures cause { HasCause self.old.faults self.new.faults result }
         ensures time { Elapses (length self.old.calls) (length self.new.calls) (LeftSince self.old.calls) (LeftSince self.new.calls) (held_after self.new.calls) }
     {
-        let admitted = admit(&mut self.asked, &self.fails, Asked::Sync(file)).is_ok();
-        if admitted {
-            match do_sync(&self.contents, &mut self.calls, file) {
-                Ok(()) => return Ok(()),
-                Err(NoMemory) => {}
-            }
+        let fault = ask(&self.plan, &mut self.counts, Call::Sync);
+        if let Err(Failed) = admit(&mut self.asked, &self.fails, Asked::Sync(file)) {
+            return Err(raise(&mut self.faults));
         }
-        self.faults = self.faults.saturating_add(1);
-        Err(Failed)
+        match sync_part(&self.contents, &mut self.calls, file, fault) {
+            Ok(()) => Ok(()),
+            Err(Failed) => Err(raise(&mut self.faults)),
+        }
     }
 
     fn cut(&mut self, file: FileId, len: u64) -> Result<(), Failed>
         requires numbered { IsNumbered file }
         requires within { len ≤ length_of (held_after self.old.calls file) }
-        ensures done { OnOk result (self.new ≡ record self.old { calls = self.old.calls ++ DiskChange.Cut file len ∷ []; asked = self.old.asked ++ Asked.Cut file ∷ [] }) }
-        ensures refused { OnErr result (Refuses (Asked.Cut file) self.old self.new) }
+        ensures done { OnOk result (self.new ≡ done_after (DiskChange.Cut file len) self.old) }
+        ensures refused { OnErr result (Refuses (DiskChange.Cut file len) self.old self.new) }
         ensures listed { is_listed self.old.fails (length self.old.asked + 1) ≡ true → IsErr result }
+        ensures planned { is_some (fault_of self.old Call.Cut) ≡ true → IsErr result }
         ensures held { Cuts file len (held_after self.old.calls) (held_after self.new.calls) result }
         ensures cause { HasCause self.old.faults self.new.faults result }
         ensures time { Elapses (length self.old.calls) (length self.new.calls) (LeftSince self.old.calls) (LeftSince self.new.calls) (held_after self.new.calls) }
     {
-        let admitted = admit(&mut self.asked, &self.fails, Asked::Cut(file)).is_ok();
-        if admitted {
-            match do_cut(&mut self.contents, &mut self.calls, file, len) {
-                Ok(()) => return Ok(()),
-                Err(NoMemory) => {}
-            }
+        let fault = ask(&self.plan, &mut self.counts, Call::Cut);
+        if let Err(Failed) = admit(&mut self.asked, &self.fails, Asked::Cut(file)) {
+            return Err(raise(&mut self.faults));
         }
-        self.faults = self.faults.saturating_add(1);
-        Err(Failed)
+        match cut_part(&mut self.contents, &mut self.calls, file, len, fault) {
+            Ok(()) => Ok(()),
+            Err(Failed) => Err(raise(&mut self.faults)),
+        }
     }
 }
 
@@ -342,6 +489,14 @@ pub fn is_before(a: FileId, b: FileId) -> bool
         (FileId::Volume(first), FileId::Volume(second)) => first < second,
         _ => false,
     }
+}
+
+// Counts a fault.
+fn raise(faults: &mut u64) -> Failed
+    ensures { faults.new ≡ shown_count (faults.old + 1) }
+{
+    *faults = faults.saturating_add(1);
+    Failed
 }
 
 // Notes that a call was asked for, and refuses one whose number is listed.
@@ -408,4 +563,96 @@ fn do_cut(
     calls.push(DiskChange::Cut(file, len))?;
     contents.truncate(file, len as usize);
     Ok(())
+}
+
+// The first bytes, as many as a fault keeps.
+fn kept_front(bytes: &[u8], kept: u32) -> &[u8]
+    ensures { result.now ≡ take kept bytes.now }
+{
+    match bytes.get(..kept as usize) {
+        Some(front) => front,
+        None => bytes,
+    }
+}
+
+// Appends, or by a fault that is planned only the first bytes, or none.
+fn append_part(
+    alloc: Global,
+    contents: &mut Contents,
+    calls: &mut List<DiskChange>,
+    file: FileId,
+    bytes: &[u8],
+    fault: Option<u32>,
+) -> Result<(), Failed>
+    requires numbered { IsNumbered file }
+    requires kept { IsKept contents.old calls.old }
+    ensures kept { IsKept contents.new calls.new }
+    ensures ok { OnOk result (calls.new ≡ calls.old ++ DiskChange.Append file bytes.now ∷ []) }
+    ensures planned { OnOk result (fault ≡ None) }
+    ensures err { OnErr result (DoesPart fault (DiskChange.Append file bytes.now) calls.old calls.new) }
+{
+    match fault {
+        None => match do_append(alloc, contents, calls, file, bytes) {
+            Ok(()) => Ok(()),
+            Err(NoMemory) => Err(Failed),
+        },
+        Some(0) => Err(Failed),
+        Some(kept) => match do_append(alloc, contents, calls, file, kept_front(bytes, kept)) {
+            Ok(()) => Err(Failed),
+            Err(NoMemory) => Err(Failed),
+        },
+    }
+}
+
+// Syncs; by a fault that is planned the same, or nothing.
+fn sync_part(
+    contents: &Contents,
+    calls: &mut List<DiskChange>,
+    file: FileId,
+    fault: Option<u32>,
+) -> Result<(), Failed>
+    requires kept { IsKept contents.now calls.old }
+    ensures kept { IsKept contents.now calls.new }
+    ensures ok { OnOk result (calls.new ≡ calls.old ++ DiskChange.Sync file ∷ []) }
+    ensures planned { OnOk result (fault ≡ None) }
+    ensures err { OnErr result (DoesPart fault (DiskChange.Sync file) calls.old calls.new) }
+{
+    match fault {
+        None => match do_sync(contents, calls, file) {
+            Ok(()) => Ok(()),
+            Err(NoMemory) => Err(Failed),
+        },
+        Some(0) => Err(Failed),
+        Some(_) => match do_sync(contents, calls, file) {
+            Ok(()) => Err(Failed),
+            Err(NoMemory) => Err(Failed),
+        },
+    }
+}
+
+// Cuts; by a fault that is planned the same, or nothing.
+fn cut_part(
+    contents: &mut Contents,
+    calls: &mut List<DiskChange>,
+    file: FileId,
+    len: u64,
+    fault: Option<u32>,
+) -> Result<(), Failed>
+    requires kept { IsKept contents.old calls.old }
+    ensures kept { IsKept contents.new calls.new }
+    ensures ok { OnOk result (calls.new ≡ calls.old ++ DiskChange.Cut file len ∷ []) }
+    ensures planned { OnOk result (fault ≡ None) }
+    ensures err { OnErr result (DoesPart fault (DiskChange.Cut file len) calls.old calls.new) }
+{
+    match fault {
+        None => match do_cut(contents, calls, file, len) {
+            Ok(()) => Ok(()),
+            Err(NoMemory) => Err(Failed),
+        },
+        Some(0) => Err(Failed),
+        Some(_) => match do_cut(contents, calls, file, len) {
+            Ok(()) => Err(Failed),
+            Err(NoMemory) => Err(Failed),
+        },
+    }
 }
