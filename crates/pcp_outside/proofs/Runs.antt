@@ -14,7 +14,7 @@ pub record IsWritten (tells : Type 0) (done : ℕ) (piece before now : List ℕ)
 pub record IsTaken (tells : Type 0) (limit : ℕ) (bytes before now : List ℕ) (faults_before faults_now : ℕ) : Type 0 where
   pub within : length bytes ≤ limit + 1
   pub so_far : tells → before ≡ bytes ++ now
-  pub later : faults_before ≤ faults_now
+  pub quiet : faults_now ≡ faults_before
 
 -- one more front of what is left of the piece
 pub writes_on : (before mid now piece : List ℕ) (done n : ℕ) → mid ≡ before ++ take done piece → now ≡ mid ++ take n (take (length piece - done) (drop done piece)) → now ≡ before ++ take (done + n) piece

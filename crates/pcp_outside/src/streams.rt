@@ -104,6 +104,7 @@ pub fn read_to_limit<I: Source>(
     ensures within { IfOk result (λ bytes. length bytes ≤ limit) }
     ensures later { I.faults input.old ≤ I.faults input.new }
     ensures cause { IsErrOf result ReadFault.Failed → Rose (I.faults input.old) (I.faults input.new) }
+    ensures quiet { OnOk result (I.faults input.new ≡ I.faults input.old) }
 {
     let mut bytes = Vec::new(alloc);
     let mut buffer = [0u8; 4096];
