@@ -3,6 +3,7 @@ pub mod Ending
 pub mod Quiet
 pub mod Relays
 pub mod Staying
+pub mod Found
 pub mod Slotted
 pub mod AlikeAnswers
 pub mod AlikeRows

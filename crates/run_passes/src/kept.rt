@@ -13,6 +13,7 @@ ghost use Rattle.region_words.specs.Images.{mmv};
 ghost use Rattle.run_passes.specs.Storing.{Looks, slot_seen, text_among, texts_seen};
 ghost use Rattle.run_passes.specs.Keeping.{KeepsSlots, KeepsTexts};
 
+use crate::slots::Slots;
 use mmv_layout::Slot;
 use pcp_base::{List, NoMemory, Text};
 use region_words::{Note, Pass, Region, Stint};
@@ -24,7 +25,7 @@ use std::marker::Model;
 #[derive(Drop)]
 pub struct KeptStint {
     stint: Stint,
-    slots: Option<List<Slot>>,
+    slots: Option<Slots>,
     texts: Option<List<(u64, Text)>>,
 }
 
@@ -44,7 +45,7 @@ fn look_for_slots(
     alloc: Global,
     region: &Region,
     stint: &mut Stint,
-    slots: &mut Option<List<Slot>>,
+    slots: &mut Option<Slots>,
 ) -> Result<(), NoMemory>
     requires here { stint.old.region ≡ region.now }
     requires kept { KeepsSlots stint.old slots.old }
@@ -53,7 +54,7 @@ fn look_for_slots(
     ensures looks { Looks stint.old stint.new }
 {
     if slots.is_none() {
-        *slots = Some(region.slots(alloc, stint)?);
+        *slots = Some(Slots::new(region.slots(alloc, stint)?));
     }
     Ok(())
 }
@@ -75,16 +76,6 @@ fn look_for_texts(
         *texts = Some(region.texts(alloc, stint)?);
     }
     Ok(())
-}
-
-/// The slot of an item and an instance; without an instance the metric has no domain.
-fn find_slot(slots: &[Slot], item: u32, instance: Option<i32>) -> Option<&Slot>
-    ensures { option_copied result ≡ find (is_slot_of item (unwrap_or instance (negsuc 0))) slots.now }
-{
-    let number = instance.unwrap_or(-1);
-    slots
-        .iter()
-        .find(|slot| slot.item == item && slot.instance == number)
 }
 
 /// The offset of the first string with a text.
@@ -123,10 +114,10 @@ impl KeptStint {
         ensures looks { Looks self.old self.new }
     {
         look_for_slots(alloc, region, &mut self.stint, &mut self.slots)?;
-        let Some(slots) = &self.slots else {
+        let Some(slots) = &mut self.slots else {
             unreachable!()
         };
-        Ok(find_slot(slots.as_slice(), item, instance).copied())
+        Ok(slots.slot_of(item, instance))
     }
 
     /// The offset of the first string with a text.

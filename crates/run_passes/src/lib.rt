@@ -19,6 +19,7 @@ mod opening;
 mod positions;
 mod running;
 mod said;
+mod slots;
 mod stores;
 mod threads;
 mod worker;
