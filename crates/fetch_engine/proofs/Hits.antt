@@ -128,7 +128,7 @@ first_try kept v u z w first last words (inl t) rest e front =
     let all : w.own ≡ z.own ++ more = own_reads z w rest.0 rest.1 ∙ ap (λ (n : ℕ). z.own ++ loads_of n (words_in rest.0)) number in (
       more,
       all ∙ ap (λ (es : List Entry). es ++ more) one ∙ append_assoc v.own (entry k (Load 2) ∷ loads_of k (value_words kept) ++ entry k (Load 1) ∷ []) more
-      ∙ ap (λ (es : List Entry). v.own ++ entry k (Load 2) ∷ es) (append_assoc (loads_of k (value_words kept)) (entry k (Load 1) ∷ []) more),
+          ∙ ap (λ (es : List Entry). v.own ++ entry k (Load 2) ∷ es) (append_assoc (loads_of k (value_words kept)) (entry k (Load 1) ∷ []) more),
       begins_again k rest.0 rest.2,
     )
 first_try kept v u z w first last words (inr t) rest e front =
