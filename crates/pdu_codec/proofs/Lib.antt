@@ -6,6 +6,10 @@ pub mod Misfits
 pub mod Once
 pub mod Pdus
 pub mod Readers
+pub mod ResultHere
+pub mod ResultPast
+pub mod ResultStops
+pub mod ResultWords
 pub mod TextReaders
 pub mod Walks
 pub mod Whole

@@ -1,6 +1,5 @@
 -- Why bytes are no PDU: the first that holds is told.
-use Rattle.std.specs.Prelude.{◌≡◌, ◌≢◌, ◌⊎◌, ℕ, ◌+◌, ◌<◌, ◌≤◌, List, length, take, drop, Some, None}
-use Rattle.std.specs.Int.{w32, from_be_bytes}
+use Rattle.std.specs.Prelude.{◌≡◌, ◌≢◌, ◌⊎◌, ℕ, ◌+◌, ◌<◌, ◌≤◌, List, length, drop, Some, None}
 use Rattle.pcp_base.specs.Fields.{number_at}
 use Rattle.archive_frame.specs.Misfits.{IsFirstMisfit}
 use Rattle.pdu_codec.specs.declared.fault.PduFault.{PduFault}

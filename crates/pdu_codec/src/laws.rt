@@ -1,5 +1,5 @@
 //! What holds of PDUs and their faults.
-ghost use Rattle.pdu_codec.specs.Laws.{OneFault, NoPduBeginsAnother, WrittenIsRead};
+ghost use Rattle.pdu_codec.specs.Laws.{OneFault, NoPduBeginsAnother, WrittenIsRead, NoResultGoesOn};
 
 /// Bytes are a PDU, or they have one fault.
 pub fn faults_come_once()
@@ -14,4 +14,9 @@ pub fn no_pdu_begins_another()
 /// What `encode` writes of a PDU, `decode` reads as that PDU, unless memory runs out.
 pub fn written_is_read()
     ensures { WrittenIsRead }
+{}
+
+/// No result goes on behind the byte at which bytes stop being like one.
+pub fn no_result_goes_on()
+    ensures { NoResultGoesOn }
 {}
