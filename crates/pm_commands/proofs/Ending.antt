@@ -1,5 +1,5 @@
 -- How a call ends, of what its command's body did, or of why it was refused before, and of what was told.
-use Rattle.std.proofs.Common.{◌⊎◌, inl, inr, ℕ, ◌≤◌, Bool, true, false, List, [], ◌++◌, append-nil, length, refl, sym, ap, ◌∙◌, subst, arith, Option, Result, Ok, Err}
+use Rattle.std.proofs.Common.{◌≡◌, ◌⊎◌, inl, inr, ⊎_elim, ℕ, ◌≤◌, Bool, true, false, List, [], ◌++◌, append-nil, length, refl, sym, ap, ◌∙◌, subst, arith, Option, Result, Ok, Err}
 use Rattle.std.proofs.lemmas.List.{drop_all}
 use Rattle.pcp_outside.specs.Sides.{SourceSide, SinkSide}
 use Rattle.pcp_outside.specs.declared.disk.Disk.{Ghosts as DiskGhosts}
@@ -17,7 +17,7 @@ use Rattle.pm_words.specs.Sides.{DiskSide, disk_side, Untouched}
 use Rattle.pm_words.specs.Telling.{TellsAll}
 use Rattle.pm_words.proofs.Coherent.{untold_left}
 use Rattle.pm_commands.specs.Causes.{Asks, Cause, CauseAt}
-use Rattle.pm_commands.specs.Ends.{BegunAt, Ends, HasBegun}
+use Rattle.pm_commands.specs.Ends.{AskedBegins, BegunAt, Ends, HasBegun}
 use Rattle.pm_commands.specs.Meanings.{meaning}
 use Rattle.pm_commands.specs.Running.{Did, Stopped}
 use Rattle.pm_commands.proofs.Coherents.{coherent}
@@ -77,12 +77,14 @@ module _ (words : List (List ℕ)) (s : SourceSide) (k : SinkSide) (d : DiskSide
   out_of_memory NoMemory c some = c
   out_of_memory e c some = (took_some s (takes_input c.0.command) c.0.input c.0.got, inr (c.0, untold_left (meaning c.0.command) (coherent c.0.command) c.0.input d (status_of e) (λ five. omega (arith, five)) c.1.1))
 
+  asked_on : (e : Refusal) (front : List ℕ) → IsNumbered e → AskedBegins words s d e front → HasBegun words s d NoMemory front
+  asked_on e front some x = inr (x.0, (coherent x.0.command).begins_untold x.0.input d e front some x.1)
+
   begun_untold : (stage : Stage) (e : Refusal) (front : List ℕ) → IsNumbered e → BegunAt stage words s d e front → HasBegun words s d NoMemory front
   begun_untold AtWords e front some b = inl b
   begun_untold AtReading e front some b = inl b
-  begun_untold AtMemory e front some (inl none) = inl none
-  begun_untold AtMemory e front some (inr (a, b)) = inr (a, (coherent a.command).begins_untold a.input d e front some b)
-  begun_untold _ e front some (a, b) = inr (a, (coherent a.command).begins_untold a.input d e front some b)
+  begun_untold AtMemory e front some b = ⊎_elim (λ (none : front ≡ []). inl none) (λ (x : AskedBegins words s d e front). asked_on e front some x) b
+  begun_untold _ e front some b = asked_on e front some b
 
   refused : (e : Refusal) (front : List ℕ) (status : ℕ) → Cause words s d e → HasBegun words s d e front → TellsAll k front (Err e) status → Ends words s k d status
   refused e front status cause begun (inl (is, told)) = inr (inr (record { refusal = e; status_is = is; cause = cause; front = front; begun = begun; told = told }))

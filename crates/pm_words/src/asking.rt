@@ -15,11 +15,7 @@ use pcp_outside::Source;
 use std::alloc::Global;
 
 // What a command gets of the source: all of it, or nothing.
-fn get_input<I: Source>(
-    alloc: Global,
-    command: &Command,
-    input: &mut I,
-) -> Result<Bytes, Refusal>
+fn get_input<I: Source>(alloc: Global, command: &Command, input: &mut I) -> Result<Bytes, Refusal>
     ensures got { IfOk result (Got (takes_input command.now) (source_side I.Source input.old input.new)) }
     ensures within { IfOk result (λ bytes. length bytes ≤ input_limit) }
     ensures reads { IfErr result (λ stop. takes_input command.now ≡ true) }

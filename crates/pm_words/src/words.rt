@@ -184,7 +184,11 @@ fn file_at(words: &[String], at: usize) -> Result<(&[u8], &[String]), BadWord>
 fn end_at(words: &[String], at: usize) -> Result<(), BadWord>
     ensures { Gives (λ x. x) result (end_then tt at (map string_bytes words.now)) }
 {
-    if words.is_empty() { Ok(()) } else { Err(BadWord { at }) }
+    if words.is_empty() {
+        Ok(())
+    } else {
+        Err(BadWord { at })
+    }
 }
 
 // The first word as a number in a range, and the words behind it.

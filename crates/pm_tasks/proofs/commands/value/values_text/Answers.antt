@@ -25,5 +25,5 @@ returns-in-Some-clause-said g c = λ tells. (
 pub returns-clause-turned : goal.returns-clause-turned
 returns-clause-turned g c =
     λ tells.
-        let is = subst (IsValueAt (contents_of (g.D.Disk.held c.args.disk.now)) c.args.reader.now.volumes c.args.pmid c.args.stamp) c.in-None.is (c.in_ok-found.ensures.found tells) in
-        (refl, is, value_scan c.args.pmid c.args.stamp (files_found (disk_side g.D.Disk c.args.disk.now c.value_at.new.disk)) c.args.reader.now None (c.requires tells) is)
+    let is = subst (IsValueAt (contents_of (g.D.Disk.held c.args.disk.now)) c.args.reader.now.volumes c.args.pmid c.args.stamp) c.in-None.is (c.in_ok-found.ensures.found tells) in
+    (refl, is, value_scan c.args.pmid c.args.stamp (files_found (disk_side g.D.Disk c.args.disk.now c.value_at.new.disk)) c.args.reader.now None (c.requires tells) is)
