@@ -1,5 +1,5 @@
 -- Commands that make their output of their input meet their meaning, and leave any disk alone.
-use Rattle.std.proofs.Common.{ℕ, List, [], refl, Option, None, Result, Ok, Err}
+use Rattle.std.proofs.Common.{◌≡◌, ℕ, List, [], refl, Option, None, Result, Ok, Err}
 use Rattle.pcp_outside.specs.declared.disk.Disk.{Ghosts as DiskGhosts}
 use Rattle.archive_loading.proofs.Looking.{OnlyNow, looks_none}
 use Rattle.pm_words.specs.declared.refusal.Refusal.{Refusal}
@@ -11,20 +11,21 @@ use Rattle.pm_tasks.specs.Conversions.{Converts}
 use Rattle.pm_tasks.proofs.Lookings.{look_leaves, not_so}
 
 module _ (refuses : List ℕ → Option Refusal) (make : List ℕ → List ℕ) (input : List ℕ) where
-  served : (d : DiskSide) (text : List ℕ) → Untouched d → Converts refuses make input (Ok text) → HasServed (converts refuses make) input d text
-  served d text still made = record {
+  served : (d : DiskSide) (text : List ℕ) → Untouched d → d.faults_after ≡ d.faults → Converts refuses make input (Ok text) → HasServed (converts refuses make) input d text
+  served d text still quiet made = record {
     good = made.0;
     welcome = λ tells e never away. away;
     done = still;
     says = made.1;
     kept = λ tells crash left. tt;
     settled = still_settled d still;
+    quiet = quiet;
   }
 
   -- The law is the disk's own, `only_now`.
   pub converted : {D : Type 0} (g : DiskGhosts D) (d : D) (result : Result (List ℕ) Refusal) → OnlyNow g → Converts refuses make input result → Meets (converts refuses make) input g d d None [] result
   converted g d (Ok text) now made = record {
-    done = served (disk_side g d d) text (λ tells. refl) made;
+    done = served (disk_side g d d) text (λ tells. refl) refl made;
     stops = tt;
     aside = λ h. refl;
     unread = λ other. (looks_none g now d).moments;

@@ -1,5 +1,5 @@
 -- Commands that only read an archive: that they meet their meaning, and which of their refusals go together.
-use Rattle.std.proofs.Common.{◌≡◌, ◌⊎◌, inl, ⊎_elim, ℕ, Bool, true, false, List, [], ◌++◌, refl, sym, ◌∙◌, Option, Some, None, Result, Ok, Err, IfOk, IfErr, OnErr}
+use Rattle.std.proofs.Common.{◌≡◌, ◌⊎◌, inl, ⊎_elim, ℕ, Bool, true, false, List, [], ◌++◌, refl, sym, ◌∙◌, Option, Some, None, Result, Ok, Err, IfOk, IfErr, OnErr, OnOk}
 use Rattle.pcp_base.specs.Time.{Moment}
 use Rattle.pcp_base.specs.declared.file.FileId.{FileId}
 use Rattle.pcp_model.specs.Disk.{Files, CrashImage, contents_of}
@@ -128,14 +128,15 @@ module _ (turned : Found → Refusal → Type 0) (said : Found → List ℕ → 
   look_wrapped f file e w t = absurd (fits.only f e t)
 
   -- what such a command is served
-  look_served : (input : List ℕ) (d : DiskSide) (text : List ℕ) → Untouched d → (d.tells → said (files_found d) text) → HasServed (looks turned said first taken) input d text
-  look_served input d text still told = record {
+  look_served : (input : List ℕ) (d : DiskSide) (text : List ℕ) → Untouched d → d.faults_after ≡ d.faults → (d.tells → said (files_found d) text) → HasServed (looks turned said first taken) input d text
+  look_served input d text still quiet told = record {
     good = refl;
     welcome = λ tells e never away. never_turned (files_found d) text (told tells) e never away;
     done = still;
     says = told;
     kept = λ tells crash left. tt;
     settled = still_settled d still;
+    quiet = quiet;
   }
 
   -- and why it is stopped
@@ -168,9 +169,9 @@ module _ (turned : Found → Refusal → Type 0) (said : Found → List ℕ → 
 
   module _ {D : Type 0} (g : DiskGhosts D) (input : List ℕ) (a b : D) (looked : Looks g a b) (took : g.tells → taken (contents_of (g.held a)) (g.taken a) (g.taken b)) where
     -- done, where a front of the text went to the sink before
-    look_done : (front text : List ℕ) → (g.tells → said (files_found (disk_side g a b)) (front ++ text)) → Meets (looks turned said first taken) input g a b None front (Ok text)
-    look_done front text told = record {
-      done = look_served input (disk_side g a b) (front ++ text) looked.held told;
+    look_done : (front text : List ℕ) → g.faults b ≡ g.faults a → (g.tells → said (files_found (disk_side g a b)) (front ++ text)) → Meets (looks turned said first taken) input g a b None front (Ok text)
+    look_done front text quiet told = record {
+      done = look_served input (disk_side g a b) (front ++ text) looked.held quiet told;
       stops = tt;
       aside = λ h. not_so (sym h);
       unread = λ other. looked.moments;
@@ -198,14 +199,14 @@ module _ (turned : Found → Refusal → Type 0) (said : Found → List ℕ → 
     }
 
     -- one that writes nothing before it is done
-    pub look_meets : (result : Result (List ℕ) Refusal) → first (disk_side g a b) [] → (g.tells → IfOk result (said (files_found (disk_side g a b)))) → IfErr result (TurnedAway turned (disk_side g a b))
+    pub look_meets : (result : Result (List ℕ) Refusal) → OnOk result (g.faults b ≡ g.faults a) → first (disk_side g a b) [] → (g.tells → IfOk result (said (files_found (disk_side g a b)))) → IfErr result (TurnedAway turned (disk_side g a b))
         → Meets (looks turned said first taken) input g a b None [] result
-    look_meets (Ok text) begun told away = look_done [] text told
-    look_meets (Err e) begun told away = look_stopped [] e away begun
+    look_meets (Ok text) quiet begun told away = look_done [] text quiet told
+    look_meets (Err e) quiet begun told away = look_stopped [] e away begun
 
 -- `dump`, whose text goes on behind what was sent
-pub dump_meets : {D : Type 0} (g : DiskGhosts D) (input : List ℕ) (k : SinkSide) (failed : Bool) (a b : D) (result : Result (List ℕ) Refusal) → Looks g a b → IfOk result (dump.HasSaid k failed (disk_side g a b)) → OnErr result (dump.HasStopped k failed (disk_side g a b))
+pub dump_meets : {D : Type 0} (g : DiskGhosts D) (input : List ℕ) (k : SinkSide) (failed : Bool) (a b : D) (result : Result (List ℕ) Refusal) → Looks g a b → OnOk result (g.faults b ≡ g.faults a) → IfOk result (dump.HasSaid k failed (disk_side g a b)) → OnErr result (dump.HasStopped k failed (disk_side g a b))
     → IfErr result (TurnedAway dump.IsTurnedAway (disk_side g a b)) → MeetsSending k failed dump.dump input g a b None result
-dump_meets g input k failed a b (Ok text) looked has stopped away = (has.front, has.sent, look_done dump.IsTurnedAway dump.IsOutput dump.IsFrontOutput takes_any dump_fits g input a b looked (λ tells. tt) has.front text has.whole)
-dump_meets g input k failed a b (Err e) looked has stopped away =
+dump_meets g input k failed a b (Ok text) looked quiet has stopped away = (has.front, has.sent, look_done dump.IsTurnedAway dump.IsOutput dump.IsFrontOutput takes_any dump_fits g input a b looked (λ tells. tt) has.front text quiet has.whole)
+dump_meets g input k failed a b (Err e) looked quiet has stopped away =
     (stopped.front, stopped.sent, look_stopped dump.IsTurnedAway dump.IsOutput dump.IsFrontOutput takes_any dump_fits g input a b looked (λ tells. tt) stopped.front e away stopped.so_far)

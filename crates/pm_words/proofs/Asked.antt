@@ -137,7 +137,7 @@ never_four _ h = omega (arith, h)
 -- 4 only where the sink's count rose
 module _ (k : SinkSide) (front : List ℕ) where
   pub write_fault : (result : Result (List ℕ) Refusal) (status : ℕ) → TellsAll k front result status → status ≡ 4 → Rose k.faults k.faults_after
-  write_fault (Ok text) status (inl (is, told)) h = absurd (omega (arith, is, h))
+  write_fault (Ok text) status (inl (is, quiet, told)) h = absurd (omega (arith, is, h))
   write_fault (Ok text) status (inr (is, rose, told)) h = rose
   write_fault (Err e) status (inl (is, told)) h = absurd (never_four e (sym is ∙ h))
   write_fault (Err e) status (inr (is, some, told)) h = absurd (omega (arith, is, h))

@@ -17,6 +17,10 @@ rose_kept : (a b c : ℕ) → Rose a b → b ≤ c → Rose a c
 rose_kept a b c (inl more) low = inl (omega (arith, low, more))
 rose_kept a b c (inr full) low = inr (omega (arith, low, full))
 
+-- a sink that failed isn't well
+pub not_well : {A : Type 0} → true ≡ false → A
+not_well well = let e : true ≡ false = well in cc
+
 -- what begins a text begins a longer one
 pub longer_text : (some text more : List ℕ) → IsFront some text → IsFront some (text ++ more)
 longer_text some text more (rest, is) = (rest ++ more, ap (λ t. t ++ more) is ∙ append_assoc some rest more)
@@ -33,20 +37,22 @@ front_taken some text (rest, is) = sym (take-append_seam some rest) ∙ ap (take
 module _ {O : Type 0} (g : SinkGhosts O) where
   -- nothing was sent
   pub unsent : (a : O) (failed : Bool) → failed ≡ false → IsSent (sink_side g a a) [] failed
-  unsent a failed fresh = subst (IsSent (sink_side g a a) []) (sym fresh) (record { later = omega arith; given = λ tells. sym (append-nil (g.written a)) })
+  unsent a failed fresh = subst (IsSent (sink_side g a a) []) (sym fresh) (record { later = omega arith; quiet = λ well. refl; given = λ tells. sym (append-nil (g.written a)) })
 
   pub unmoved : (a : O) (failed : Bool) → Sends (sink_side g a a) failed [] failed
-  unmoved a false = record { later = omega arith; given = λ tells. sym (append-nil (g.written a)) }
+  unmoved a false = record { later = omega arith; quiet = λ well. refl; given = λ tells. sym (append-nil (g.written a)) }
   unmoved a true = (refl, omega arith, λ tells. refl)
 
   -- one piece behind another
   pub sent_on : (a b c : O) (text piece : List ℕ) (failed now : Bool) → IsSent (sink_side g a b) text failed → Sends (sink_side g b c) failed piece now → IsSent (sink_side g a c) (text ++ piece) now
   sent_on a b c text piece false false first more = record {
     later = omega (arith, first.later, more.later);
+    quiet = λ well. more.quiet refl ∙ first.quiet refl;
     given = λ tells. more.given tells ∙ ap (λ t. t ++ piece) (first.given tells) ∙ append_assoc (g.written a) text piece;
   }
   sent_on a b c text piece false true first more = record {
     later = omega (arith, first.later, more.later);
+    quiet = λ well. not_well well;
     given = (
       rose_later (g.faults a) (g.faults b) (g.faults c) first.later more.given.0,
       λ tells.
@@ -57,6 +63,7 @@ module _ {O : Type 0} (g : SinkGhosts O) where
   sent_on a b c text piece true false first more = let e : false ≡ true = more.0 in cc
   sent_on a b c text piece true true first more = record {
     later = omega (arith, first.later, more.1);
+    quiet = λ well. not_well well;
     given = (
       rose_kept (g.faults a) (g.faults b) (g.faults c) first.given.0 more.1,
       λ tells.

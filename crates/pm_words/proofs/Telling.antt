@@ -10,7 +10,7 @@ use Rattle.pm_words.proofs.Sending.{front_taken, sent_on, told_behind, told_no_m
 
 module _ {O : Type 0} (g : SinkGhosts O) (a b c : O) (front : List ℕ) where
   finished : (text : List ℕ) (failed now : Bool) (status : ℕ) → IsSent (sink_side g a c) (front ++ text) now → status ≡ (if now then 4 else 0) → TellsAll (sink_side g a c) front (Ok text) status
-  finished text failed false status sent is = inl (is, sent.given)
+  finished text failed false status sent is = inl (is, sent.quiet refl, sent.given)
   finished text failed true status sent is = inr (is, sent.given.0, λ tells. let m = sent.given.1 tells in (length m.0, m.2 ∙ ap (λ t. g.written a ++ t) (front_taken m.0 (front ++ text) m.1)))
 
   pub tells_all : (failed : Bool) (result : Result (List ℕ) Refusal) (status : ℕ) → IsSent (sink_side g a b) front failed → TellsEnd (sink_side g b c) failed result status → TellsAll (sink_side g a c) front result status
@@ -26,7 +26,7 @@ module _ {O : Type 0} (g : SinkGhosts O) (a b c : O) (front : List ℕ) where
 
 -- the status tells it
 pub told_by : (k : SinkSide) (front : List ℕ) (result : Result (List ℕ) Refusal) (status : ℕ) → TellsAll k front result status → IsToldBy result status
-told_by k front (Ok text) status (inl (is, told)) = inl is
+told_by k front (Ok text) status (inl (is, quiet, told)) = inl is
 told_by k front (Ok text) status (inr (is, rose, told)) = inr is
 told_by k front (Err e) status (inl (is, told)) = inl is
 told_by k front (Err e) status (inr (is, some, told)) = inr (is, some)

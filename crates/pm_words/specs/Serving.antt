@@ -40,7 +40,7 @@ abbrev pub IsNever : Refusal → Type 0
 IsNever (Compressed file) = Unit {0}
 IsNever e = IsOfRun e
 
--- A command is done with an input that it reads, over files that it doesn't turn away, and this is to be written.
+-- A command is done with an input that it reads, over files that it doesn't turn away, and this is to be written. No call of the disk failed.
 pub record HasServed (m : Meaning) (input : List ℕ) (d : DiskSide) (text : List ℕ) : Type 0 where
   pub good : refusal_of m.reads input ≡ None
   pub welcome : d.tells → (e : Refusal) → IsNever e → m.turns_away input (files_found d) e → ⊥
@@ -48,6 +48,7 @@ pub record HasServed (m : Meaning) (input : List ℕ) (d : DiskSide) (text : Lis
   pub says : m.says input d text
   pub kept : d.tells → (crash : Files) → CrashImage d.after crash → m.keeps input d.held crash
   pub settled : d.tells → IsSettled d.held → IsSettled d.after
+  pub quiet : d.faults_after ≡ d.faults
 
 -- a crash at any moment of a command that got its input may leave what was there, or what the command allows
 abbrev pub MayLeave : Meaning → List ℕ → Holdings → Files → Type 0

@@ -14,6 +14,7 @@ IsGiven k text true = Rose k.faults k.faults_after × (k.tells → (some : List 
 
 pub record IsSent (k : SinkSide) (text : List ℕ) (failed : Bool) : Type 0 where
   pub later : k.faults ≤ k.faults_after
+  pub quiet : failed ≡ false → k.faults_after ≡ k.faults
   pub given : IsGiven k text failed
 
 -- a further piece goes to a sink, unless that failed before

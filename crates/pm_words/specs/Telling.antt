@@ -21,12 +21,12 @@ abbrev pub TellsEnd : SinkSide → Bool → Result (List ℕ) Refusal → ℕ �
 TellsEnd k failed (Ok text) status = Finishes k failed text status
 TellsEnd k failed (Err e) status = TellsRefusal k failed e status
 
--- All that a call has written in the end, and its status. Done: all of its output, or a front of it where the sink failed. Refused: what it
+-- All that a call has written in the end, and its status. Done: all of its output, by a sink of which no call failed, or a front of it where the sink failed. Refused: what it
 -- had written before and the refusal's line, or a front of these where the sink failed; where memory for the line is refused, what it had
 -- written before.
 abbrev pub TellsAll : SinkSide → List ℕ → Result (List ℕ) Refusal → ℕ → Type 0
 TellsAll k front (Ok text) status =
-    ((status ≡ 0) × (k.tells → k.after ≡ k.written ++ (front ++ text)))
+    ((status ≡ 0) × (k.faults_after ≡ k.faults) × (k.tells → k.after ≡ k.written ++ (front ++ text)))
     ⊎ ((status ≡ 4) × Rose k.faults k.faults_after × (k.tells → (n : ℕ) × (k.after ≡ k.written ++ take n (front ++ text))))
 TellsAll k front (Err e) status =
     ((status ≡ status_of e) × (k.tells → Wrote k.faults k.faults_after k.written k.after (front ++ line_of e)))

@@ -1,5 +1,5 @@
 //! The command `at SEC USEC`: the last item that isn't stamped after a moment.
-ghost use Rattle.std.specs.Prelude.{ℕ, List, [], None, IfOk, IfErr};
+ghost use Rattle.std.specs.Prelude.{◌≡◌, ℕ, List, [], None, IfOk, IfErr, OnOk};
 ghost use Rattle.pcp_model.specs.Disk.{contents_of};
 ghost use Rattle.archive_loading.specs.Looks.{Looks};
 ghost use Rattle.pm_tasks.specs.Archives.{TurnedAway};
@@ -21,6 +21,7 @@ fn find_item<D: Disk>(alloc: Global, t: Stamp, disk: &mut D) -> Result<Bytes, Re
     ensures turned { IfErr result (TurnedAway (IsTurnedAway t) (disk_side D.Disk disk.old disk.new)) }
     ensures taken { D.tells → TookAt t (contents_of (D.held disk.old)) (D.taken disk.old) (D.taken disk.new) }
     ensures looks { Looks D.Disk disk.old disk.new }
+    ensures quiet { OnOk result (D.faults disk.new ≡ D.faults disk.old) }
 {
     let mut reader = ArchiveReader::load(alloc, disk)?;
     let found = reader.at(alloc, disk, t)?;

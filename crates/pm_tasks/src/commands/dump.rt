@@ -61,6 +61,7 @@ fn put_next<D: Disk>(
     ensures put { D.tells → IfOk result (HasNext (contents_of (D.held disk.old)) reader.old place.old place.new out.old.items out.new.items) }
     ensures turned { IfErr result (TurnedAway (BadNext reader.old place.old) (disk_side D.Disk disk.old disk.new)) }
     ensures looks { Looks D.Disk disk.old disk.new }
+    ensures quiet { OnOk result (D.faults disk.new ≡ D.faults disk.old) }
 {
     match reader.item_at(alloc, disk, *place)? {
         Some((item, next)) => {
@@ -99,6 +100,7 @@ fn put_items<O: Sink, D: Disk>(
     ensures stops { OnErr result (HasPutSome D.tells (contents_of (D.held disk.old)) reader.old page.old.items (sink_side O.Sink out.old out.new) failed.new) }
     ensures turned { IfErr result (TurnedAway (BadRecord reader.old) (disk_side D.Disk disk.old disk.new)) }
     ensures looks { Looks D.Disk disk.old disk.new }
+    ensures quiet { OnOk result (D.faults disk.new ≡ D.faults disk.old) }
 {
     let mut place = reader.start();
     for _ in 0..u64::MAX {
@@ -123,6 +125,7 @@ fn put_archive<O: Sink, D: Disk>(
     ensures stops { OnErr result (HasStopped (sink_side O.Sink out.old out.new) failed.new (disk_side D.Disk disk.old disk.new)) }
     ensures turned { IfErr result (TurnedAway IsTurnedAway (disk_side D.Disk disk.old disk.new)) }
     ensures looks { Looks D.Disk disk.old disk.new }
+    ensures quiet { OnOk result (D.faults disk.new ≡ D.faults disk.old) }
 {
     let mut reader = ArchiveReader::load(alloc, disk)?;
     let mut page = Vec::new(alloc);

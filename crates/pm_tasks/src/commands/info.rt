@@ -1,5 +1,5 @@
 //! The command `info`: the descriptions of an archive.
-ghost use Rattle.std.specs.Prelude.{ℕ, List, [], None, IfOk, IfErr};
+ghost use Rattle.std.specs.Prelude.{◌≡◌, ℕ, List, [], None, IfOk, IfErr, OnOk};
 ghost use Rattle.archive_loading.specs.Looks.{Looks};
 ghost use Rattle.pm_tasks.specs.Archives.{TurnedAway};
 ghost use Rattle.pm_words.specs.Serving.{Meets};
@@ -18,6 +18,7 @@ fn find_descriptions<D: Disk>(alloc: Global, disk: &mut D) -> Result<Bytes, Refu
     ensures said { D.tells → IfOk result (IsOutput (files_found (disk_side D.Disk disk.old disk.new))) }
     ensures turned { IfErr result (TurnedAway IsTurnedAway (disk_side D.Disk disk.old disk.new)) }
     ensures looks { Looks D.Disk disk.old disk.new }
+    ensures quiet { OnOk result (D.faults disk.new ≡ D.faults disk.old) }
 {
     let reader = ArchiveReader::load(alloc, disk)?;
     let text = info_text(alloc, reader.meta())?;

@@ -50,6 +50,7 @@ fn find_items<D: Disk>(
     ensures turned { IfErr result (TurnedAway (IsTurnedAway from to) (disk_side D.Disk disk.old disk.new)) }
     ensures taken { D.tells → TookRange from to (contents_of (D.held disk.old)) (D.taken disk.old) (D.taken disk.new) }
     ensures looks { Looks D.Disk disk.old disk.new }
+    ensures quiet { OnOk result (D.faults disk.new ≡ D.faults disk.old) }
 {
     let mut reader = ArchiveReader::load(alloc, disk)?;
     let items = reader.range(alloc, disk, from, to)?;

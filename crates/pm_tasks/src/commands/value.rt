@@ -1,5 +1,5 @@
 //! The command `value SEC USEC NAME`: the values that a metric last had at a moment.
-ghost use Rattle.std.specs.Prelude.{◌≡◌, ℕ, List, [], None, IfOk, IfErr};
+ghost use Rattle.std.specs.Prelude.{◌≡◌, ℕ, List, [], None, IfOk, IfErr, OnOk};
 ghost use Rattle.pcp_model.specs.Disk.{contents_of};
 ghost use Rattle.archive_loading.specs.Looks.{Looks};
 ghost use Rattle.archive_loading.specs.Loaded.{IsOver};
@@ -27,6 +27,7 @@ fn values_text<D: Disk>(
     ensures said { D.tells → IfOk result (HasValue (files_found (disk_side D.Disk disk.old disk.new)) reader.old pmid stamp) }
     ensures turned { IfErr result (TurnedAway (HasNoValue pmid stamp reader.old) (disk_side D.Disk disk.old disk.new)) }
     ensures looks { Looks D.Disk disk.old disk.new }
+    ensures quiet { OnOk result (D.faults disk.new ≡ D.faults disk.old) }
 {
     let found = reader.value_at(alloc, disk, pmid, stamp)?;
     match &found {
@@ -43,6 +44,7 @@ fn find_values<D: Disk>(alloc: Global, asked: &ValueWords, disk: &mut D) -> Resu
     ensures said { D.tells → IfOk result (IsOutput asked.now (files_found (disk_side D.Disk disk.old disk.new))) }
     ensures turned { IfErr result (TurnedAway (IsTurnedAway asked.now) (disk_side D.Disk disk.old disk.new)) }
     ensures looks { Looks D.Disk disk.old disk.new }
+    ensures quiet { OnOk result (D.faults disk.new ≡ D.faults disk.old) }
 {
     let mut reader = ArchiveReader::load(alloc, disk)?;
     let pmid = reader.meta().metric_of_name(alloc, asked.name.as_slice())?;

@@ -9,6 +9,6 @@ use Rattle.pm_tasks.proofs.commands.at.at.Goals as goal
 pub returns : goal.returns
 returns g c = record {
   meets = λ input.
-      look_meets (IsTurnedAway c.args.t) (IsOutput c.args.t) nothing_before (TookAt c.args.t) (at_fits c.args.t) g.D.Disk input c.args.disk.now c.find_item.new.disk c.find_item.ensures.looks c.find_item.ensures.taken c.find_item.result refl c.find_item.ensures.said
+      look_meets (IsTurnedAway c.args.t) (IsOutput c.args.t) nothing_before (TookAt c.args.t) (at_fits c.args.t) g.D.Disk input c.args.disk.now c.find_item.new.disk c.find_item.ensures.looks c.find_item.ensures.taken c.find_item.result c.find_item.ensures.quiet refl c.find_item.ensures.said
       c.find_item.ensures.turned;
 }

@@ -14,6 +14,7 @@ use Rattle.pm_tasks.proofs.commands.dump.put_items.Goals as goal
 pub loop-init : goal.loop-init
 loop-init g c = record {
   looks = looks_none g.D.Disk g.met.D.Disk.only_now c.args.disk.now;
+  quiet = refl;
   same = refl;
   going = starts g.O.Sink g.D.Disk.tells (contents_of (g.D.Disk.held c.args.disk.now)) c.args.reader.now c.args.page.now.items c.start-place.result c.args.out.now c.args.failed.now c.requires.fresh c.start-place.ensures.volume c.start-place.ensures.offset;
 }
@@ -26,6 +27,7 @@ put_next-requires g c = λ tells.
 pub loop-preserved : goal.loop-preserved
 loop-preserved g c = record {
   looks = looks_on g.D.Disk c.args.disk.now c.loop.disk c.put_next.new.disk c.loop.invariant.looks c.put_next.ensures.looks;
+  quiet = c.in_ok-more.ensures.quiet ∙ c.loop.invariant.quiet;
   same = c.put_next.ensures.same ∙ c.loop.invariant.same;
   going = goes_further g.O.Sink g.D.Disk.tells (contents_of (g.D.Disk.held c.args.disk.now)) c.args.reader.now c.args.page.now.items c.loop.place c.put_next.new.place c.args.out.now c.loop.out c.turn_page.new.out
       c.loop.failed c.turn_page.new.failed c.loop.page.items c.put_next.new.out.items c.turn_page.new.page.items c.loop.invariant.going

@@ -9,6 +9,7 @@ use Rattle.pm_tasks.proofs.commands.dump.put_items.Given as goal
 abbrev pub invariant-loop : goal.invariant-loop
 invariant-loop g l = record {
   looks : Looks g.D.Disk l.initial.disk l.disk;
+  quiet : g.D.Disk.faults l.disk ≡ g.D.Disk.faults l.initial.disk;
   same : l.reader ≡ l.initial.reader;
   going : Going g.D.Disk.tells (contents_of (g.D.Disk.held l.initial.disk)) l.initial.reader l.place l.initial.page.items (sink_side g.O.Sink l.initial.out l.out) l.failed l.page.items;
 }

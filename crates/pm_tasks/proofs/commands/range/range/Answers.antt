@@ -10,5 +10,5 @@ pub returns : goal.returns
 returns g c = record {
   meets = λ input.
       look_meets (IsTurnedAway c.args.from c.args.to) (IsOutput c.args.from c.args.to) nothing_before (TookRange c.args.from c.args.to) (range_fits c.args.from c.args.to) g.D.Disk input c.args.disk.now c.find_items.new.disk c.find_items.ensures.looks c.find_items.ensures.taken
-      c.find_items.result refl c.find_items.ensures.said c.find_items.ensures.turned;
+      c.find_items.result c.find_items.ensures.quiet refl c.find_items.ensures.said c.find_items.ensures.turned;
 }
