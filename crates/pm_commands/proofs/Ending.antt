@@ -99,7 +99,7 @@ module _ (words : List (List ℕ)) (s : SourceSide) (k : SinkSide) (d : DiskSide
 
 module _ {D : Type 0} (words : List (List ℕ)) (s : SourceSide) (k : SinkSide) (g : DiskGhosts D) (old new : D) (opened : Option Opened) where
   done_ends : (front : List ℕ) (result : Result (List ℕ) Refusal) (status : ℕ) → Did words s g old new opened front result → TellsAll k front result status → Ends words s k (disk_side g old new) status
-  done_ends front (Ok text) status did (inl (is, told)) = inl (is, record { text = front ++ text; run = record { asks = did.asks; served = did.meets.done }; told = told })
+  done_ends front (Ok text) status did (inl (is, quiet, told)) = inl (is, record { text = front ++ text; run = record { asks = did.asks; served = did.meets.done }; told = told; quiet = quiet })
   done_ends front (Ok text) status did (inr (is, rose, told)) = inr (inl (is, record { text = front ++ text; run = record { asks = did.asks; served = did.meets.done }; rose = rose; told = told }))
   done_ends front (Err e) status did told =
       refused words s k (disk_side g old new) e front status (stop_cause words s k (disk_side g old new) did.asks e did.meets.stops.0)

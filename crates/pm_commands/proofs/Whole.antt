@@ -130,6 +130,7 @@ module _ {I O D : Type 0} (c : Sides I O D) (front : List ℕ) (result : Result 
       record {
         ends = end;
         done = to;
+        quiet = λ zero. ((to zero).quiet, (to zero).run.served.quiet);
         usage = asked.usage_is_exact calls.Offline c.words (source_of c) result status is_told (came so);
         reading = asked.reading_is_exact calls.Offline c.words (source_of c) result status is_told (came so);
         input_fault = facts_of.input_fault_is_exact c.words (source_of c) (sink_of c) (disk_of c) status end;

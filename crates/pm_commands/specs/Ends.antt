@@ -15,11 +15,12 @@ pub record HasRun (words : List (List ℕ)) (s : SourceSide) (d : DiskSide) (tex
   pub asks : Asks words s
   pub served : HasServed (meaning asks.command) asks.input d text
 
--- done, and all of the output written
+-- done, and all of the output written; no call of the sink failed
 pub record EndsDone (words : List (List ℕ)) (s : SourceSide) (k : SinkSide) (d : DiskSide) : Type 0 where
   pub text : List ℕ
   pub run : HasRun words s d text
   pub told : k.tells → k.after ≡ k.written ++ text
+  pub quiet : k.faults_after ≡ k.faults
 
 -- done, but the sink failed
 pub record EndsUntold (words : List (List ℕ)) (s : SourceSide) (k : SinkSide) (d : DiskSide) : Type 0 where

@@ -5,7 +5,7 @@ use Rattle.script_runs.specs.declared.ending.Ending.TheVariants as ends
 use Rattle.pm_words.specs.declared.words.Call.TheVariants as calls
 use Rattle.pm_words.proofs.Asked.{reading_is_exact, usage_is_exact, write_fault}
 use Rattle.pm_words.proofs.Telling.{told_by}
-use Rattle.pm_recording.specs.Ends.{Ends, Ran}
+use Rattle.pm_recording.specs.Ends.{Ends, EndsDone, Ran}
 use Rattle.pm_recording.specs.Facts.{Facts}
 use Rattle.pm_recording.specs.Recording.{CallSide}
 use Rattle.pm_recording.proofs.Completes.{completes}
@@ -21,10 +21,14 @@ module _ {C D : Type 0} (c : CallSide C D) (k : SinkSide) (only_now : OnlyNow c)
   done : status ≡ 0 → Ran c ends.Done
   done h = was_done c 0 refl (omega arith) (subst (Seen c) h saw)
 
+  done_quietly : EndsDone c k → (k.faults_after ≡ k.faults) × (c.run.disk.faults c.run.disk_is ≡ c.run.disk.faults c.run.disk_was) × (c.run.clock.faults c.run.clock_is ≡ c.run.clock.faults c.run.clock_was)
+  done_quietly ended = let run = ended.ran.has.was.quiet ended.ran.ended in (ended.quiet, run.0, run.1)
+
   pub facts : Facts c k status
   facts = record {
     ends = e;
     done = is_done c k status e;
+    quiet = λ h. done_quietly (is_done c k status e h);
     usage = usage_is_exact calls.Record c.words c.source e.result status (told_by k [] e.result status e.told) (came_as c e.result e.came);
     script_fault = script_fault_is_exact c status saw;
     reading = reading_is_exact calls.Record c.words c.source e.result status (told_by k [] e.result status e.told) (came_as c e.result e.came);

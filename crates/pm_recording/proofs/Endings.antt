@@ -163,11 +163,15 @@ module _ {C D : Type 0} (c : CallSide C D) (k : SinkSide) where
   zero_told line (Some e) (inr (h, some, silent)) = absurd (omega (arith, h))
 
   wrote_all : (line : List ℕ) → TellsAll k [] (Ok line) 0 → k.tells → k.after ≡ k.written ++ line
-  wrote_all line (inl (h, wrote)) = wrote
+  wrote_all line (inl (h, quiet, wrote)) = wrote
   wrote_all line (inr (h, rose, wrote)) = absurd (omega (arith, h))
 
+  wrote_well : (line : List ℕ) → TellsAll k [] (Ok line) 0 → k.faults_after ≡ k.faults
+  wrote_well line (inl (h, quiet, wrote)) = quiet
+  wrote_well line (inr (h, rose, wrote)) = absurd (omega (arith, h))
+
   written : (ending : Ending) (ran : Ran c ending) → TellsAll k [] (told_as (logged_line (count_of ran)) (ending_refusal ending)) 0 → EndsDone c k
-  written ends.Done ran told = record { ran = ran; wrote = wrote_all (logged_line (count_of ran)) told }
+  written ends.Done ran told = record { ran = ran; wrote = wrote_all (logged_line (count_of ran)) told; quiet = wrote_well (logged_line (count_of ran)) told }
   written ending ran told = let zero : ended_status ending ≡ 0 = zero_told (logged_line (count_of ran)) (ending_refusal ending) told in absurd (omega (arith, zero))
 
   done_by : (result : Result (List ℕ) Refusal) → TellsAll k [] result 0 → CameTo c result → EndsDone c k

@@ -109,10 +109,11 @@ pub record Ends {C D : Type 0} (c : CallSide C D) (k : SinkSide) (status : ℕ) 
   pub came : CameTo c result
   pub told : TellsAll k [] result status
 
--- it was done, and said so
+-- it was done, and said so; no call of the sink failed
 pub record EndsDone {C D : Type 0} (c : CallSide C D) (k : SinkSide) : Type 0 where
   pub ran : Ran c ends.Done
   pub wrote : k.tells → k.after ≡ k.written ++ logged_line (count_of ran)
+  pub quiet : k.faults_after ≡ k.faults
 
 -- what a crash at any moment may leave: what was there, or what there was with the first ones of the run's items behind it
 abbrev pub MayBeLeft : {C D : Type 0} → CallSide C D → Holdings → Files → Type 0

@@ -6,6 +6,7 @@ use Rattle.pcp_outside.specs.declared.disk.Disk.{Ghosts as DiskGhosts}
 use Rattle.pcp_outside.specs.Sides.{SourceSide}
 use Rattle.fetch_engine.specs.Servers.{IsSeated, Seated}
 use Rattle.run_script.specs.declared.script.Script.{Script}
+use Rattle.script_runs.specs.declared.ending.Ending.TheVariants as ends
 use Rattle.run_passes.specs.Openings.{IsOpened}
 use Rattle.run_passes.specs.declared.opening.Opened.{Opened}
 use Rattle.run_archive.specs.declared.replayed.Replayed.{Replayed}
@@ -53,6 +54,8 @@ pub record WasRecorded {C D : Type 0} (o : RunSide C D) (asked : RecordWords) (s
   pub recording : IsRecording o.clock o.disk o.clock_was o.clock_is o.disk_was o.disk_is script asked.volume asked.samples left.server first.tokens last.tokens r
   pub writers : TellWriters script left.server last.tokens left.passes.items r.ending
   pub cause : MayEndRecording o.clock o.disk o.clock_was o.clock_is o.disk_was o.disk_is r.ending
+  -- where it came to its end no call of the disk or of the clock failed
+  pub quiet : r.ending ≡ ends.Done → (o.disk.faults o.disk_is ≡ o.disk.faults o.disk_was) × (o.clock.faults o.clock_is ≡ o.clock.faults o.clock_was)
   pub unread : IsUnread o.disk o.disk_was → Leaves o.disk o.disk_was o.disk_is CrashImage
 
 -- the call leaves what is left of a script on images of 64-bit words

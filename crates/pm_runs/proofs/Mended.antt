@@ -59,8 +59,8 @@ module _ {D : Type 0} (g : DiskGhosts D) (a b : D) (input : List ℕ) (moments :
     is_mended : g.tells → IsMendedSide side
     is_mended tells = record { reading = (was tells).reading; was = (was tells).was; recovered = (was tells).recovered; sure = sure tells }
 
-    served : (text : List ℕ) → (g.tells → g.wrapped_file a ≡ None) → text ≡ items_line archive.items → HasServed recover input side text
-    served text unwrapped is = record {
+    served : (text : List ℕ) → g.faults b ≡ g.faults a → (g.tells → g.wrapped_file a ≡ None) → text ≡ items_line archive.items → HasServed recover input side text
+    served text quiet unwrapped is = record {
       good = refl;
       welcome = λ tells e never away. never_turned (files_found side) e (unwrapped tells) never away;
       done = is_mended;
@@ -73,10 +73,11 @@ module _ {D : Type 0} (g : DiskGhosts D) (a b : D) (input : List ℕ) (moments :
           );
       kept = λ tells crash left. tt;
       settled = λ tells before. all_settled (g.held b) (sure tells);
+      quiet = quiet;
     }
 
-    pub mended_meets : (text : List ℕ) → (g.tells → g.wrapped_file a ≡ None) → text ≡ items_line archive.items → Meets recover input g a b None [] (Ok text)
-    mended_meets text unwrapped is = recover_meets (Ok text) (served text unwrapped is) tt
+    pub mended_meets : (text : List ℕ) → g.faults b ≡ g.faults a → (g.tells → g.wrapped_file a ≡ None) → text ≡ items_line archive.items → Meets recover input g a b None [] (Ok text)
+    mended_meets text quiet unwrapped is = recover_meets (Ok text) (served text quiet unwrapped is) tt
 
     -- the line wants memory
     pub unsaid_meets : Meets recover input g a b None [] (Err NoMemory)

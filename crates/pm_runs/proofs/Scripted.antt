@@ -1,6 +1,6 @@
 -- What a command does that runs a script, path by path: its input is refused, or memory before the run; the run is done, and told or not; or
 -- it is refused.
-use Rattle.std.proofs.Common.{◌≡◌, ◌≢◌, ◌⊎◌, inl, inr, ⊎_elim, ℕ, true, false, List, [], ◌++◌, length, take, Option, Some, None, Result, Ok, Err, IfOk, IfErr, refl, sym, ap, ◌∙◌, subst}
+use Rattle.std.proofs.Common.{◌≡◌, ◌≢◌, ◌⊎◌, inl, inr, ⊎_elim, ℕ, true, false, List, [], ◌++◌, length, take, Option, Some, None, Result, Ok, Err, IfOk, IfErr, OnOk, refl, sym, ap, ◌∙◌, subst}
 use Rattle.std.proofs.lemmas.Option.{none-some}
 use Rattle.pcp_base.specs.declared.file.FileId.{FileId}
 use Rattle.pcp_base.specs.declared.result.Item.{Item}
@@ -19,7 +19,7 @@ use Rattle.script_runs.specs.Runs.{Does, Goes, RanTo, RunsTo, run_start, with_en
 use Rattle.script_runs.specs.Steps.{RunState}
 use Rattle.run_passes.specs.declared.opening.Opened.{Opened}
 use Rattle.run_archive.specs.declared.replayed.Replayed.{Replayed}
-use Rattle.run_archive.specs.Endings.{MayEnd}
+use Rattle.run_archive.specs.Endings.{LeavesCount, MayEnd}
 use Rattle.run_archive.specs.Outcomes.{IsFlushed, IsUnrecovered, WentOn, left_of}
 use Rattle.record_run.specs.Replays.{ReplaysFiles}
 use Rattle.pm_words.specs.declared.refusal.Refusal.{Refusal}
@@ -75,6 +75,11 @@ runner_refused c input {D} g now {old} {new} {opened} e same none refuses =
 pub is_done : (e : Ending) → ending_refusal e ≡ None → e ≡ ends.Done
 is_done ends.Done why = refl
 is_done _ why = cc
+
+-- and then no call of the disk failed
+pub quiet_done : (before after : ℕ) (e : Ending) → ending_refusal e ≡ None → LeavesCount before after e → after ≡ before
+quiet_done before after ends.Done why quiet = quiet
+quiet_done before after _ why quiet = cc
 
 -- a run of its own ending began
 own_recovered : {D : Type 0} (g : DiskGhosts D) (old new : D) (e : Ending) → IsOwn e → IsUnrecovered g old new e → ⊥
@@ -168,8 +173,8 @@ module _ (c : Runner) (input : List ℕ) {script : Script} (is : c.script input 
         let nothing = subst (λ (e : Ending). Does script c.limit (left_of g c.limit (files t).events (files t).more old new w.0) ran.count ran.last e (files t).events (files t).more) same w.1 in
         run.is.run.counted ∙ ap (λ (events : List Event). length (items_by events)) (sym nothing.0)
 
-    has_served : (text : List ℕ) → r.ending ≡ ends.Done → (g.tells → c.says script r.logged r.output (contents_of d.after) text) → HasServed m input d text
-    has_served text same says =
+    has_served : (text : List ℕ) → r.ending ≡ ends.Done → g.faults new ≡ g.faults old → (g.tells → c.says script r.logged r.output (contents_of d.after) text) → HasServed m input d text
+    has_served text same quiet says =
         let own : IsOwn r.ending = own_as ends.Done same tt in record {
           good = good;
           welcome = λ t e never away.
@@ -187,6 +192,7 @@ module _ (c : Runner) (input : List ℕ) {script : Script} (is : c.script input 
           );
           kept = λ t crash left. (script, is, (r.output, (files t).events, contents_of d.after, own_leads ends.Done same tt t, (flushed_by own t).survive crash left));
           settled = λ t was. (flushed_by own t).settled;
+          quiet = quiet;
         }
 
     -- ---- why it stops
@@ -368,16 +374,16 @@ module _ (c : Runner) (input : List ℕ) {script : Script} (is : c.script input 
       unrun = λ runs none. absurd (none-some run.there (sym none ∙ run.there_is));
     }
 
-    pub runner_done : (text : List ℕ) → ending_refusal r.ending ≡ None → (g.tells → c.says script r.logged r.output (contents_of (g.held new)) text) → Meets m input g old new opened [] (Ok text)
-    runner_done text why says = let same = is_done r.ending why in runner_meets [] (Ok text) (has_served text same says) tt (λ h. own_as ends.Done same tt) (same, says)
+    pub runner_done : (text : List ℕ) → ending_refusal r.ending ≡ None → g.faults new ≡ g.faults old → (g.tells → c.says script r.logged r.output (contents_of (g.held new)) text) → Meets m input g old new opened [] (Ok text)
+    runner_done text why quiet says = let same = is_done r.ending why in runner_meets [] (Ok text) (has_served text same quiet says) tt (λ h. own_as ends.Done same tt) (same, says)
 
     pub runner_untold : (e : Refusal) → c.front [] ≡ [] → ending_refusal r.ending ≡ None → c.untold e → Untold e → Meets m input g old new opened [] (Err e)
     runner_untold e empty why left_out untold = let same = is_done r.ending why in runner_meets [] (Err e) tt (untold_stops e empty same untold) (λ h. own_as ends.Done same tt) (inr (same, left_out, refl))
 
     -- it is told, or why it isn't
-    pub runner_told : (answer : Result (List ℕ) Refusal) → c.front [] ≡ [] → ending_refusal r.ending ≡ None → (g.tells → IfOk answer (λ text. c.says script r.logged r.output (contents_of (g.held new)) text)) → IfErr answer (λ e. c.untold e × Untold e) → Meets m input g old new opened [] answer
-    runner_told (Ok text) empty why says untold = runner_done text why says
-    runner_told (Err e) empty why says untold = runner_untold e empty why untold.0 untold.1
+    pub runner_told : (answer : Result (List ℕ) Refusal) → c.front [] ≡ [] → ending_refusal r.ending ≡ None → OnOk answer (g.faults new ≡ g.faults old) → (g.tells → IfOk answer (λ text. c.says script r.logged r.output (contents_of (g.held new)) text)) → IfErr answer (λ e. c.untold e × Untold e) → Meets m input g old new opened [] answer
+    runner_told (Ok text) empty why quiet says untold = runner_done text why quiet says
+    runner_told (Err e) empty why quiet says untold = runner_untold e empty why untold.0 untold.1
 
     pub runner_stopped : (e : Refusal) → ending_refusal r.ending ≡ Some e → Meets m input g old new opened (c.front r.output) (Err e)
     runner_stopped e why = let s = subst StopsSo why (stops r.ending refl) in runner_meets (c.front r.output) (Err e) tt s.why s.own (inl (why, refl))

@@ -1,5 +1,6 @@
 //! The run of a script by regions that are opened for it.
 ghost use Rattle.std.specs.Prelude.{◌≡◌, ◌≤◌, IfOk, OnErr};
+ghost use Rattle.run_archive.specs.Endings.{LeavesCount};
 ghost use Rattle.run_script.specs.Rules.{KeepsRules};
 ghost use Rattle.pm_runs.specs.Running.{WasRun};
 
@@ -23,6 +24,7 @@ pub fn run_script<D: Disk>(
     requires low { 1024 ≤ volume }
     requires high { volume ≤ 1073741824 }
     ensures run { IfOk result (WasRun D.Disk script volume disk.old disk.new opened.new) }
+    ensures quiet { IfOk result (λ r. LeavesCount (D.faults disk.old) (D.faults disk.new) r.ending) }
     ensures untouched { OnErr result (disk.new ≡ disk.old) }
     ensures unopened { OnErr result (opened.new ≡ opened.old) }
 {

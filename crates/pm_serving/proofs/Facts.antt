@@ -90,7 +90,7 @@ module _ {P In Out Time : Type 0} (c : Sides P In Out Time) where
   -- What a status is, done or refused.
 
   done_so : (result : Result (List ℕ) Refusal) (status : ℕ) → Comes result → TellsAll c.sink [] result status → status ≡ 0 → IsDone c
-  done_so (Ok line) status came (inl (is, wrote)) h = record { ran = came.0; wrote = λ tells. wrote tells ∙ ap (λ (text : List ℕ). c.sink.written ++ text) came.1 }
+  done_so (Ok line) status came (inl (is, quiet, wrote)) h = record { ran = came.0; wrote = λ tells. wrote tells ∙ ap (λ (text : List ℕ). c.sink.written ++ text) came.1; quiet = quiet }
   done_so (Ok line) status came (inr (is, rose, wrote)) h = absurd (omega (arith, is, h))
   done_so (Err e) status came (inl (is, wrote)) h = absurd (never_zero e came (sym is ∙ h))
   done_so (Err e) status came (inr (is, some, wrote)) h = absurd (omega (arith, is, h))
@@ -113,7 +113,7 @@ module _ {P In Out Time : Type 0} (c : Sides P In Out Time) where
   bad_so (Err e) status came told m fault bad = told_as (λ n. (n ≡ script_status fault.fault) ⊎ ((n ≡ 9) ⊎ (n ≡ 3))) e status told (bad_script e came m fault bad) (inr (inl refl))
 
   good_so : (result : Result (List ℕ) Refusal) (status : ℕ) → Comes result → TellsAll c.sink [] result status → IsGoodRun c → (status ≡ 0) ⊎ (status ≡ 9)
-  good_so (Ok line) status came (inl (is, wrote)) run = inl is
+  good_so (Ok line) status came (inl (is, quiet, wrote)) run = inl is
   good_so (Ok line) status came (inr (is, rose, wrote)) run = absurd (run.sink_kept rose)
   good_so (Err e) status came tells run = told_as (λ n. (n ≡ 0) ⊎ (n ≡ 9)) e status (told_by c.sink [] (Err e) status tells) (good_run e came run) (inr refl)
 
@@ -131,6 +131,7 @@ module _ {P In Out Time : Type 0} (c : Sides P In Out Time) where
       let failed = by_refusal 21 failed_of (λ k. omega (arith, k)) (λ k. omega (arith, k)) (λ k. omega (arith, k)) result status came told in record {
         ends = (result, came, tells);
         done = done_so result status came tells;
+        quiet = λ h. let done = done_so result status came tells h in (done.quiet, done.ran.leaves.serving.quiet);
         usage = usage_is_exact calls.Serve c.words c.source result status told so;
         script_fault = record {
           only = by_refusal 2 fault_of (λ k. omega (arith, k)) (λ k. omega (arith, k)) (λ k. omega (arith, k)) result status came told;

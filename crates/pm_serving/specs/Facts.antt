@@ -3,7 +3,7 @@
 use Rattle.std.specs.Prelude.{◌≡◌, ◌⊎◌, ℕ, ◌≤◌, List, ◌++◌, length, Ok, Err}
 use Rattle.pcp_outside.specs.Causes.{Rose}
 use Rattle.pcp_outside.specs.Sides.{SourceSide}
-use Rattle.pmcd_server.specs.Crews.{SomeRose}
+use Rattle.pmcd_server.specs.Crews.{AllSame, SomeRose}
 use Rattle.run_script.specs.declared.fault.ScriptFault.{ScriptFault}
 use Rattle.run_script.specs.declared.script.Script.{Script}
 use Rattle.pm_words.specs.declared.words.Call.TheVariants as calls
@@ -32,10 +32,11 @@ abbrev pub LimitCause : List (List ℕ) → SourceSide → Type 0
 LimitCause words s = (IsReader calls.Serve words × IsAbove s) ⊎ ((fault : ScriptFault) × (script_status fault.fault ≡ 7) × Finds words s fault)
 
 module _ {P In Out Time : Type 0} (c : Sides P In Out Time) where
-  -- it was done, and said so
+  -- it was done, and said so; no call of the sink failed
   pub record IsDone : Type 0 where
     pub ran : Ran c.words c.source (AllServed c.doors c.served)
     pub wrote : c.sink.tells → c.sink.after ≡ c.sink.written ++ served_line ran.count
+    pub quiet : c.sink.faults_after ≡ c.sink.faults
 
   -- After 0 and 4 all sessions were served; after 21 some door failed, and the other workers served on: all places were drawn, unless
   -- every door failed. After every other status nothing was served: the doors are as they were, and no regions are left; but after 9
@@ -62,6 +63,8 @@ module _ {P In Out Time : Type 0} (c : Sides P In Out Time) where
     pub ends : Ends c status
     -- Done: the input was read to its end, the sessions were served, and the line says how many.
     pub done : status ≡ 0 → IsDone
+    -- Done: no call of the sink or of a door failed.
+    pub quiet : status ≡ 0 → (c.sink.faults_after ≡ c.sink.faults) × AllSame c.doors.door c.doors.before c.doors.after
     -- Each other status comes for its cause alone. 1 comes exactly where the words don't ask for sessions; 7 exactly where the input is
     -- above the limit or the script has a region too many.
     pub usage : UsageIsExact calls.Serve c.words status

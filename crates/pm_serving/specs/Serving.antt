@@ -1,7 +1,7 @@
 -- What is left of a script's regions on which sessions were served.
 use Rattle.std.specs.Prelude.{◌≡◌, ◌⊎◌, ℕ, ◌+◌, List, length, sum_by, Option, Some, None, Result, Err, IsErrOf, OnOk}
 use Rattle.pcp_outside.specs.declared.doors.Door.{Ghosts}
-use Rattle.pmcd_server.specs.Crews.{HasServed, SomeRose}
+use Rattle.pmcd_server.specs.Crews.{AllSame, HasServed, SomeRose}
 use Rattle.pmcd_server.specs.declared.fault.ServeFault.{ServeFault}
 use Rattle.pmcd_server.specs.declared.fault.ServeFault.TheVariants.{Accept, NoMemory}
 use Rattle.run_script.specs.declared.script.Script.{Script}
@@ -36,6 +36,8 @@ pub record Serving {P In Out Time : Type 0} (d : DoorsSide P In Out Time) (count
   pub connections : d.door.tells → OnOk result (sum_by (λ p. length (d.door.left p)) d.before ≡ sum_by (λ p. length (d.door.left p)) d.after + count)
   pub reports : d.door.tells → OnOk result (sum_by (λ p. length (d.door.reports p)) d.after ≡ sum_by (λ p. length (d.door.reports p)) d.before + count)
   pub rose : IsErrOf result Accept → SomeRose d.door d.before d.after
+  -- where all sessions were served no call of a door failed
+  pub quiet : OnOk result (AllSame d.door d.before d.after)
 
 -- `served` has what is left
 pub record Leaves {P In Out Time : Type 0} (d : DoorsSide P In Out Time) (count : ℕ) (script : Script) (result : Result ℕ ServeFault) (served : Option Served) : Type 0 where

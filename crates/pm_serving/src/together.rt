@@ -3,7 +3,7 @@ ghost use Rattle.std.specs.Prelude.{◌≡◌, ◌+◌, ◌<◌, ◌≤◌, leng
 ghost use Rattle.std.specs.List.{AllByRecursion};
 ghost use Rattle.std.specs.Thread.{IsSend, IsSync};
 ghost use Rattle.fetch_engine.specs.Servers.{IsSeated};
-ghost use Rattle.pmcd_server.specs.Crews.{HasServed, SomeRose};
+ghost use Rattle.pmcd_server.specs.Crews.{AllSame, HasServed, SomeRose};
 ghost use Rattle.pmcd_server.specs.declared.fault.ServeFault.TheVariants.{Accept as DoorFailed};
 ghost use Rattle.run_script.specs.Recording.{refused_line};
 ghost use Rattle.run_script.specs.Rules.{KeepsRules};
@@ -53,6 +53,7 @@ where
     ensures connections { P.tells → OnOk result.1 (sum_by (λ d. length (P.left d)) doors.old ≡ sum_by (λ d. length (P.left d)) doors.new + count) }
     ensures reports { P.tells → OnOk result.1 (sum_by (λ d. length (P.reports d)) doors.new ≡ sum_by (λ d. length (P.reports d)) doors.old + count) }
     ensures rose { IsErrOf result.1 DoorFailed → SomeRose P.Door doors.old doors.new }
+    ensures quiet { OnOk result.1 (AllSame P.Door doors.old doors.new) }
 {
     join_mut(
         rt,
@@ -78,6 +79,7 @@ where
             ensures connections { P.tells → OnOk result (sum_by (λ d. length (P.left d)) doors.entry.now ≡ sum_by (λ d. length (P.left d)) doors.exit.now + count) }
             ensures reports { P.tells → OnOk result (sum_by (λ d. length (P.reports d)) doors.exit.now ≡ sum_by (λ d. length (P.reports d)) doors.entry.now + count) }
             ensures rose { IsErrOf result DoorFailed → SomeRose P.Door doors.entry.now doors.exit.now }
+            ensures quiet { OnOk result (AllSame P.Door doors.entry.now doors.exit.now) }
         { serve(rt, alloc, server, seats, doors, count) },
     )
 }

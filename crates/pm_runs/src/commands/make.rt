@@ -1,5 +1,5 @@
 //! The command `make NUMBER TICKS VOLUME`: the script that a number makes is run, over any files.
-ghost use Rattle.std.specs.Prelude.{◌≡◌, ◌≤◌, ℕ, List as Sequence, [], IfErr, IfOk, None};
+ghost use Rattle.std.specs.Prelude.{◌≡◌, ◌≤◌, ℕ, List as Sequence, [], IfErr, IfOk, OnOk, None};
 ghost use Rattle.pcp_base.specs.declared.file.FileId.TheVariants.{Meta};
 ghost use Rattle.pcp_model.specs.Disk.{contents_of};
 ghost use Rattle.archive_loading.specs.Looks.{Looks};
@@ -80,6 +80,7 @@ fn summary<D: Disk>(
 ) -> Result<Bytes, Refusal>
     ensures counted { D.tells → IfOk result (HasCounted (contents_of (D.held disk.old)) items adds total) }
     ensures looks { Looks D.Disk disk.old disk.new }
+    ensures quiet { OnOk result (D.faults disk.new ≡ D.faults disk.old) }
     ensures cause { IfErr result (WantsCounts (D.faults disk.old) (D.faults disk.new)) }
     ensures later { D.faults disk.old ≤ D.faults disk.new }
 {

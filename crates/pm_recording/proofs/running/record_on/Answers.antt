@@ -29,6 +29,7 @@ returns-clause-recorded g c =
         recording = e.records before.0 after.0 before.1 after.1;
         writers = e.writers after.0 after.1;
         cause = e.cause;
+        quiet = e.quiet;
         unread = λ none tells. e.unread tells none;
       };
       images = c.images_are.ensures.images;

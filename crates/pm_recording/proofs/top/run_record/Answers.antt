@@ -1,6 +1,7 @@
 -- What the call came to is told, and all facts follow.
-use Rattle.std.proofs.Common.{map, string_bytes, Global, [], false, sym, append-nil, arith}
+use Rattle.std.proofs.Common.{map, string_bytes, Global, [], false, refl}
 use Rattle.pcp_outside.specs.Sides.{sink_side, source_side}
+use Rattle.pm_words.proofs.Sending.{unsent}
 use Rattle.pm_words.proofs.Telling.{tells_all}
 use Rattle.pm_recording.specs.Ends.{Ends}
 use Rattle.pm_recording.specs.Recording.{call_side, run_side}
@@ -15,6 +16,6 @@ returns g c =
     let ended : Ends side k c.tell_end.result = record {
       result = c.run-ran.result;
       came = c.run-ran.ensures;
-      told = tells_all g.O.Sink c.args.out.now c.args.out.now c.tell_end.new.out [] false c.run-ran.result c.tell_end.result (record { later = omega arith; given = λ tells. sym (append-nil (g.O.Sink.written c.args.out.now)) }) c.tell_end.ensures;
+      told = tells_all g.O.Sink c.args.out.now c.args.out.now c.tell_end.new.out [] false c.run-ran.result c.tell_end.result (unsent g.O.Sink c.args.out.now false refl) c.tell_end.ensures;
     } in
     record { facts = facts side k g.met.D.Disk.only_now c.tell_end.result ended }

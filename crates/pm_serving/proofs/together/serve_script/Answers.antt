@@ -64,5 +64,6 @@ returns g c =
         connections = c.beside-answers.ensures.connections;
         reports = c.beside-answers.ensures.reports;
         rose = c.beside-answers.ensures.rose;
+        quiet = c.beside-answers.ensures.quiet;
       };
     })

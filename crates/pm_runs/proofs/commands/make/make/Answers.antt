@@ -1,5 +1,5 @@
 -- What the run of a generated script tells, and its summary; or why there was none.
-use Rattle.std.proofs.Common.{◌≡◌, ◌⊎◌, inl, inr, ℕ, ◌≤◌, List, Some, rules, refl, sym, ap, ◌∙◌, subst}
+use Rattle.std.proofs.Common.{◌≡◌, ◌⊎◌, inl, inr, ℕ, ◌≤◌, List, Some, Result, Ok, Err, OnOk, rules, refl, sym, ap, ◌∙◌, subst}
 use Rattle.std.proofs.lemmas.Result.{IfErr-weaker, IfOk-weaker}
 use Rattle.pcp_model.specs.Disk.{Holdings, contents_of}
 use Rattle.run_script.specs.declared.script.Line.{Line}
@@ -13,7 +13,7 @@ use Rattle.pm_words.proofs.Sending.{rose_later}
 use Rattle.pm_runs.specs.commands.make.{Summarizes, HasCounted, WantsCounts, making}
 use Rattle.pm_runs.proofs.Counting.{few_adds, small_total}
 use Rattle.pm_runs.proofs.Looked.{looked_was}
-use Rattle.pm_runs.proofs.Scripted.{is_done, runner_refused, runner_stopped, runner_told}
+use Rattle.pm_runs.proofs.Scripted.{is_done, quiet_done, runner_refused, runner_stopped, runner_told}
 use Rattle.pm_runs.proofs.commands.make.make.Goals as goal
 
 -- what was counted of a run before a look at the disk is its summary
@@ -24,6 +24,11 @@ summarized script logged adds total adds_are total_is before after still text co
     subst (λ (h : Holdings). HasCounted (contents_of h) logged (adds_in script.steps) (total_in script.steps) text) (sym still)
     (subst (λ (n : ℕ). HasCounted (contents_of before) logged (adds_in script.steps) n text) total_is (subst (λ (n : ℕ). HasCounted (contents_of before) logged n total text) adds_are counted)) in
     record { volumes = all.0; counted = all.1; is = all.2 }
+
+-- a count that a look leaves as the run left it
+still_quiet : (r : Result (List ℕ) Refusal) (a b c : ℕ) → b ≡ a → OnOk r (c ≡ b) → OnOk r (c ≡ a)
+still_quiet (Ok text) a b c first more = more ∙ first
+still_quiet (Err e) a b c first more = tt
 
 -- a look at the disk that fails, counted from before the run
 wants_later : (a b c : ℕ) → a ≤ b → (e : Refusal) → WantsCounts b c e → ((e ≡ NoMemory) ⊎ (e ≡ DiskFault)) × WantsCounts a c e
@@ -68,6 +73,7 @@ returns-in-None g c = record {
       let counts = HasCounted (contents_of (d.held c.run_script.new.disk)) r.logged c.adds_of-adds.result.0 c.adds_of-adds.result.1 in
       let says = (making c.args.asked.now).says script r.logged r.output (contents_of (d.held c.summary.new.disk)) in
       runner_told (making c.args.asked.now) input (ap (λ (s : Script). Some s) (sym c.in_ok-script.ensures)) refl (looked_was (is_done r.ending why) c.summary.ensures.looks run) c.summary.result refl why
+      (still_quiet c.summary.result (d.faults c.args.disk.now) (d.faults c.run_script.new.disk) (d.faults c.summary.new.disk) (quiet_done (d.faults c.args.disk.now) (d.faults c.run_script.new.disk) r.ending why c.in_ok-replayed.ensures.quiet) c.summary.ensures.quiet)
       (λ t. IfOk-weaker c.summary.result counts says (summarized script r.logged c.adds_of-adds.result.0 c.adds_of-adds.result.1 (c.adds_of-adds.ensures.adds ∙ ap adds_in c.as_slice.ensures) (c.adds_of-adds.ensures.total ∙ ap total_in c.as_slice.ensures)
       (d.held c.run_script.new.disk) (d.held c.summary.new.disk) (c.summary.ensures.looks.held t)) (c.summary.ensures.counted t))
       (IfErr-weaker c.summary.result (WantsCounts (d.faults c.run_script.new.disk) (d.faults c.summary.new.disk)) (λ e. ((e ≡ NoMemory) ⊎ (e ≡ DiskFault)) × WantsCounts (d.faults c.args.disk.now) (d.faults c.summary.new.disk) e)

@@ -2,7 +2,7 @@
 use Rattle.std.proofs.Common.{rules, inl, refl, sym, ◌∙◌}
 use Rattle.pm_words.specs.declared.refusal.Refusal.TheVariants.{NoMemory}
 use Rattle.pm_runs.specs.commands.once.{logging}
-use Rattle.pm_runs.proofs.Scripted.{runner_done, runner_refused, runner_stopped, runner_untold}
+use Rattle.pm_runs.proofs.Scripted.{quiet_done, runner_done, runner_refused, runner_stopped, runner_untold}
 use Rattle.pm_runs.proofs.commands.once.once.Goals as goal
 
 pub returns-in_err-script : goal.returns-in_err-script
@@ -23,7 +23,8 @@ returns-in_err-line-in-None g c =
 pub returns-in-None : goal.returns-in-None
 returns-in-None g c = record {
   meets =
-      runner_done (logging c.args.asked.now) c.args.input.now c.in_ok-script.ensures.script c.in_ok-script.ensures.good c.in_ok-replayed.ensures.run c.in_ok-line-in-None.line (sym c.of_ending.ensures ∙ c.in-None.is) (λ t. c.in_ok-line-in-None.ensures);
+      runner_done (logging c.args.asked.now) c.args.input.now c.in_ok-script.ensures.script c.in_ok-script.ensures.good c.in_ok-replayed.ensures.run c.in_ok-line-in-None.line (sym c.of_ending.ensures ∙ c.in-None.is)
+          (quiet_done (g.D.Disk.faults c.args.disk.now) (g.D.Disk.faults c.run_script.new.disk) c.in_ok-replayed.replayed.ending (sym c.of_ending.ensures ∙ c.in-None.is) c.in_ok-replayed.ensures.quiet) (λ t. c.in_ok-line-in-None.ensures);
 }
 
 pub returns : goal.returns

@@ -20,5 +20,5 @@ returns-in_err-line g c = record {
 pub returns : goal.returns
 returns g c = record {
   meets = λ input.
-      mended_meets g.D.Disk c.args.disk.now c.recover.new.disk input c.recover.ensures.any_moment c.recover.ensures.unread c.in_ok-archive.archive c.in_ok-archive.ensures.recovered c.in_ok-archive.ensures.sure c.in_ok-line.line c.in_ok-archive.ensures.unwrapped c.in_ok-line.ensures;
+      mended_meets g.D.Disk c.args.disk.now c.recover.new.disk input c.recover.ensures.any_moment c.recover.ensures.unread c.in_ok-archive.archive c.in_ok-archive.ensures.recovered c.in_ok-archive.ensures.sure c.in_ok-line.line c.in_ok-archive.ensures.quiet c.in_ok-archive.ensures.unwrapped c.in_ok-line.ensures;
 }

@@ -5,7 +5,7 @@ use Rattle.pm_words.specs.Streams.{IsSent, Sends}
 use Rattle.pm_words.specs.declared.refusal.Refusal.TheVariants.{NoMemory}
 use Rattle.pm_words.proofs.Sending.{unsent}
 use Rattle.pm_runs.specs.commands.replay.{replaying}
-use Rattle.pm_runs.proofs.Scripted.{runner_done, runner_refused, runner_stopped}
+use Rattle.pm_runs.proofs.Scripted.{quiet_done, runner_done, runner_refused, runner_stopped}
 use Rattle.pm_runs.proofs.commands.replay.replay.Goals as goal
 
 pub returns-in_err-script : goal.returns-in_err-script
@@ -25,7 +25,8 @@ returns-in-None g c = record {
   meets = (
     [],
     unsent g.O.Sink c.args.out.now c.args.failed.now c.requires.fresh,
-    runner_done (replaying c.args.volume) c.args.input.now c.in_ok-script.ensures.script c.in_ok-script.ensures.good c.in_ok-replayed.ensures.run c.in_ok-replayed.replayed.output (sym c.of_ending.ensures ∙ c.in-None.is) (λ t. refl),
+    runner_done (replaying c.args.volume) c.args.input.now c.in_ok-script.ensures.script c.in_ok-script.ensures.good c.in_ok-replayed.ensures.run c.in_ok-replayed.replayed.output (sym c.of_ending.ensures ∙ c.in-None.is)
+          (quiet_done (g.D.Disk.faults c.args.disk.now) (g.D.Disk.faults c.run_script.new.disk) c.in_ok-replayed.replayed.ending (sym c.of_ending.ensures ∙ c.in-None.is) c.in_ok-replayed.ensures.quiet) (λ t. refl),
   );
 }
 
