@@ -24,7 +24,7 @@ pub returns-in-None : goal.returns-in-None
 returns-in-None g c = record {
   meets =
       runner_done (logging c.args.asked.now) c.args.input.now c.in_ok-script.ensures.script c.in_ok-script.ensures.good c.in_ok-replayed.ensures.run c.in_ok-line-in-None.line (sym c.of_ending.ensures ∙ c.in-None.is)
-          (quiet_done (g.D.Disk.faults c.args.disk.now) (g.D.Disk.faults c.run_script.new.disk) c.in_ok-replayed.replayed.ending (sym c.of_ending.ensures ∙ c.in-None.is) c.in_ok-replayed.ensures.quiet) (λ t. c.in_ok-line-in-None.ensures);
+      (quiet_done (g.D.Disk.faults c.args.disk.now) (g.D.Disk.faults c.run_script.new.disk) c.in_ok-replayed.replayed.ending (sym c.of_ending.ensures ∙ c.in-None.is) c.in_ok-replayed.ensures.quiet) (λ t. c.in_ok-line-in-None.ensures);
 }
 
 pub returns : goal.returns

@@ -26,7 +26,7 @@ returns-in-None g c = record {
     [],
     unsent g.O.Sink c.args.out.now c.args.failed.now c.requires.fresh,
     runner_done (replaying c.args.volume) c.args.input.now c.in_ok-script.ensures.script c.in_ok-script.ensures.good c.in_ok-replayed.ensures.run c.in_ok-replayed.replayed.output (sym c.of_ending.ensures ∙ c.in-None.is)
-          (quiet_done (g.D.Disk.faults c.args.disk.now) (g.D.Disk.faults c.run_script.new.disk) c.in_ok-replayed.replayed.ending (sym c.of_ending.ensures ∙ c.in-None.is) c.in_ok-replayed.ensures.quiet) (λ t. refl),
+        (quiet_done (g.D.Disk.faults c.args.disk.now) (g.D.Disk.faults c.run_script.new.disk) c.in_ok-replayed.replayed.ending (sym c.of_ending.ensures ∙ c.in-None.is) c.in_ok-replayed.ensures.quiet) (λ t. refl),
   );
 }
 
