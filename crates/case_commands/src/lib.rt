@@ -3,14 +3,14 @@
 //! whose answers are what the definitions say, or recovered.
 #![tactic(auto)]
 
-mod faults;
 mod images;
 mod parts;
 mod recoveries;
 mod runs;
+mod tables;
 mod tally;
 
-pub use faults::faults;
 pub use images::crash;
 pub use recoveries::recovered;
 pub use runs::run;
+pub use tables::faults;
