@@ -160,7 +160,7 @@ pub fn crash(
     if !answer.renew()? {
         return Ok(false);
     }
-    let files = snapshot(alloc, &mut drive.disk)?;
+    let files = snapshot(alloc, &drive.disk)?;
     match count(alloc, drive, &files, (line.word, form), wanted)? {
         Some((tally, holds)) => {
             put_tally(alloc, answer, tally, name)?;

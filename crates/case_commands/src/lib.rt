@@ -7,8 +7,10 @@ mod images;
 mod parts;
 mod recoveries;
 mod runs;
+mod tables;
 mod tally;
 
 pub use images::crash;
 pub use recoveries::recovered;
 pub use runs::run;
+pub use tables::faults;

@@ -100,7 +100,7 @@ fn recover_image(
     let files = fronts_of(alloc, parts)?;
     let mut disk = disk_of(alloc, &files, List::empty(alloc))?;
     let output = recover(alloc, &mut disk)?;
-    let left = snapshot(alloc, &mut disk)?;
+    let left = snapshot(alloc, &disk)?;
     outcomes.add(
         output.as_slice() == wanted.output,
         are_same(&left, wanted.now),
@@ -198,7 +198,7 @@ pub fn recovered(
         return Ok(false);
     }
     drive.make(alloc)?;
-    let now = snapshot(alloc, &mut drive.disk)?;
+    let now = snapshot(alloc, &drive.disk)?;
     let wanted = Wanted { output, now: &now };
     match count(alloc, drive, form, wanted)? {
         Some((outcomes, holds)) => {

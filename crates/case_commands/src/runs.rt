@@ -7,7 +7,7 @@ use pm_commands::offline;
 use std::alloc::Global;
 
 // The words of a line, which are separated by single spaces; an empty line has none.
-fn words_of(alloc: Global, line: &str) -> Result<Vec<String>, NoMemory> {
+pub fn words_of(alloc: Global, line: &str) -> Result<Vec<String>, NoMemory> {
     let mut words = Vec::new(alloc);
     if line.is_empty() {
         return Ok(words);
@@ -88,10 +88,10 @@ pub fn run(
         return Ok(false);
     }
     outside.drive.make(alloc)?;
-    let old = snapshot(alloc, &mut outside.drive.disk)?;
+    let old = snapshot(alloc, &outside.drive.disk)?;
     let words = words_of(alloc, rest)?;
     run_words(alloc, outside, answer, &words)?;
-    let new = snapshot(alloc, &mut outside.drive.disk)?;
+    let new = snapshot(alloc, &outside.drive.disk)?;
     put_changed(alloc, answer, &old, &new)?;
     outside.drive.files = old;
     Ok(true)

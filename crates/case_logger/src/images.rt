@@ -108,7 +108,7 @@ fn read_image(alloc: Global, files: Vec<Held>, all: &[String]) -> Result<Option<
     let Ok(archive) = recover(alloc, &mut drive.disk) else {
         return Ok(None);
     };
-    let left = snapshot(alloc, &mut drive.disk)?;
+    let left = snapshot(alloc, &drive.disk)?;
     let texts = texts_of(alloc, &left)?;
     let described = are_described(&archive.meta, &items_in(alloc, &left)?);
     if described && are_first(&texts, all) && archive.items == texts.len() as u64 {
@@ -157,7 +157,7 @@ fn read_moments(
 /// How many items the images of each moment have once they are recovered, at least and at most: the first of those that
 /// stand now, each described. Else that one hasn't.
 pub fn tell_images(alloc: Global, drive: &mut Drive) -> Result<String, NoMemory> {
-    let files = snapshot(alloc, &mut drive.disk)?;
+    let files = snapshot(alloc, &drive.disk)?;
     let all = texts_of(alloc, &files)?;
     match read_moments(alloc, drive, &files, &all)? {
         Some(span) => {

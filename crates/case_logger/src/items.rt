@@ -61,7 +61,7 @@ pub fn are_described(meta: &MetaState, items: &[Item]) -> bool {
 
 /// The items of the disk as it stands behind so many, one a line.
 pub fn tell_items(alloc: Global, drive: &mut Drive, skipped: usize) -> Result<String, NoMemory> {
-    let files = snapshot(alloc, &mut drive.disk)?;
+    let files = snapshot(alloc, &drive.disk)?;
     let items = items_in(alloc, &files)?;
     let mut out = String::new(alloc);
     for item in items.get(skipped..).unwrap_or(&[]) {

@@ -12,7 +12,7 @@ mod numbers;
 mod outside;
 mod streams;
 
-pub use drive::{Drive, disk_of};
+pub use drive::{Drive, disk_of, planned_disk};
 pub use files::{Held, bytes_in, put_changed, snapshot};
 pub use input::prepare_input;
 pub use numbers::file_of;

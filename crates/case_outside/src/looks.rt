@@ -108,7 +108,7 @@ impl Drive {
         answer: &mut Answer,
         form: &str,
     ) -> Result<bool, NoMemory> {
-        let now = snapshot(alloc, &mut self.disk)?;
+        let now = snapshot(alloc, &self.disk)?;
         look_at_all(answer, &self.files, &now, form)
     }
 

@@ -41,7 +41,7 @@ fn add_failure(
     match object {
         "source" => given.source_fails.push(number)?,
         "sink" => given.sink_fails.push(number)?,
-        "disk" if !drive.is_made => drive.fails.push(number)?,
+        "disk" if !drive.is_made && drive.plan.is_empty() => drive.fails.push(number)?,
         _ => return Ok(false),
     }
     Ok(true)

@@ -51,12 +51,16 @@ impl Subject for Scene {
                 prepare_input(alloc, kept, &mut outside.input, line)
             }
             "fail" | "slow" => outside.prepare_failure(line),
-            "before" | "wrap" | "restart" => outside.drive.prepare(alloc, kept, line),
+            "before" | "wrap" | "restart" | "plan" => outside.drive.prepare(alloc, kept, line),
+            "crash" if rest == "sure" || rest == "full" => {
+                outside.drive.prepare(alloc, kept, line)
+            }
             "run" => case_commands::run(alloc, outside, answer, rest),
             "file" | "files" | "calls" | "taken" => outside.drive.look(alloc, kept, answer, line),
             "stream" => outside.call_stream(alloc, answer, rest),
             "disk" => outside.drive.call(alloc, kept, answer, rest),
             "crash" | "cuts" => case_commands::crash(alloc, &mut outside.drive, kept, answer, line),
+            "faults" | "pairs" => case_commands::faults(alloc, outside, answer, line),
             "recovered" => {
                 case_commands::recovered(alloc, &mut outside.drive, kept, answer, line)
             }
