@@ -4,11 +4,10 @@
 
 use pcp_outside::{Sink, Source};
 use pcp_shell::{
-    asks_help, first_bad_of_record, first_bad_of_serve, is_record, is_serve, record_samples,
-    serve_clients, write_help,
+    asks_help, first_bad_of, first_bad_of_serve, record_samples, serve_clients, write_help,
 };
 use pcp_system::{FileDisk, ReaderSource, Screen, WriterSink, open_standard};
-use pm_commands::{Call, Refusal, StageFault, Usage, offline, read_words};
+use pm_commands::{Call, Refusal, offline, read_words, writes_archive};
 use std::alloc::{Alloc, AllocError, Global};
 use std::env::Env;
 use std::fs::{File, Files};
@@ -41,22 +40,15 @@ fn words_before_bad(rt: &(impl Env + Alloc<A = Global>)) -> Result<Vec<String>, 
 // Which word is the first bad one, where some word isn't UTF-8.
 fn first_bad_word(rt: &(impl Env + Alloc<A = Global>)) -> Result<usize, AllocError> {
     let words = words_before_bad(rt)?;
-    if is_serve(&words) {
-        return first_bad_of_serve(rt.alloc(), &words);
-    }
-    if is_record(&words) {
-        return first_bad_of_record(rt.alloc(), &words);
-    }
-    match read_words(rt.alloc(), Call::Offline, &words) {
-        Ok(_) => Ok(words.len()),
-        Err(StageFault::Refused(usage)) => Ok(usage.at),
-        Err(StageFault::OutOfMemory) => Err(AllocError),
+    match Call::named(&words) {
+        Call::Serve => first_bad_of_serve(rt.alloc(), &words),
+        call => first_bad_of(rt.alloc(), call, &words),
     }
 }
 
 // The end of a faulty command line.
 fn usage(rt: &impl Alloc<A = Global>, out: &mut impl Sink, at: usize) -> ExitCode {
-    let refusal = Refusal::Words(Usage { at });
+    let refusal = Refusal::Usage { at };
     match refusal.tell(rt.alloc(), out) {
         Ok(()) => ExitCode::from(refusal.status()),
         Err(_) => ExitCode::from(9),
@@ -84,12 +76,18 @@ where
     R: Files<File = File> + Threads + Wait + Clock + Alloc<A = Global> + Sync,
 {
     let alloc = rt.alloc();
-    let mut disk = if changes_archive(command) {
+    let call = Call::named(command);
+    let writes = match read_words(alloc, call, command) {
+        Ok(asked) => writes_archive(&asked),
+        Err(Refusal::NoMemory) => return 9,
+        Err(_) => false,
+    };
+    let mut disk = if writes {
         FileDisk::new(alloc, rt, base)
     } else {
         FileDisk::for_reading(alloc, rt, base)
     };
-    if is_record(command) {
+    if let Call::Record = call {
         let (status, disk) = record_samples(rt, command, input, out, disk, screen);
         tell_of(disk, screen);
         return status;
@@ -105,17 +103,6 @@ fn tell_of<R: Files<File = File>>(disk: FileDisk<'_, R>, screen: &Screen) {
     let why = disk.why();
     drop(disk);
     tell(screen, why);
-}
-
-// Whether the command changes an archive.
-fn changes_archive(command: &[String]) -> bool {
-    match command {
-        [name, ..] => matches!(
-            name.as_str(),
-            "once" | "replay" | "make" | "record" | "recover"
-        ),
-        [] => false,
-    }
 }
 
 // Tells on the terminal why a call of the system failed.
@@ -150,10 +137,11 @@ fn main(rt: HostRuntime) -> ExitCode {
     };
     let mut input = ReaderSource::new(rt.reader());
     let screen = Screen::new(alloc, &rt, &rt.stderr());
-    let status = if is_serve(command) {
-        serve_clients(&rt, command, &mut input, &mut out)
-    } else {
-        archive(&rt, base, command, &mut input, &mut out, &screen)
+    let status = match Call::named(command) {
+        Call::Serve => serve_clients(&rt, command, &mut input, &mut out),
+        Call::Offline | Call::Record => {
+            archive(&rt, base, command, &mut input, &mut out, &screen)
+        }
     };
     tell(&screen, input.why(alloc, "standard input"));
     tell(&screen, out.why(alloc, "standard output"));

@@ -3,10 +3,11 @@
 ghost use Rattle.std.specs.Prelude.{◌≡◌, ◌⊎◌, None, map, string_bytes};
 ghost use Rattle.pcp_shell.specs.Ports.{port_of};
 
+use crate::bad_words::first_bad_of;
 use pcp_outside::{Free, Sink, Source, write_all};
 use pcp_system::{TcpDoor, listener_above};
 use pm_serving::run_serve;
-use pm_words::{Call, Refusal, StageFault, Usage, read_words};
+use pm_words::{Call, Refusal};
 use std::alloc::{Alloc, AllocError, Global};
 use std::io;
 use std::net::{Ipv4Addr, Net, TcpListener, TcpStream};
@@ -14,14 +15,6 @@ use std::sync::Wait;
 use std::thread::Threads;
 use std::time::Clock;
 use text_lines::read_number;
-
-/// Whether the words of a command are those of `serve`.
-pub fn is_serve(words: &[String]) -> bool {
-    match words {
-        [name, ..] => name.as_bytes() == b"serve".as_slice(),
-        [] => false,
-    }
-}
 
 // PORT, from 1 to 65,535.
 fn port_of(words: &[String]) -> Option<u16>
@@ -53,11 +46,7 @@ pub fn first_bad_of_serve(alloc: Global, words: &[String]) -> Result<usize, Allo
         return Ok(1);
     }
     let rest = without_port(alloc, words)?;
-    match read_words(alloc, Call::Serve, &rest) {
-        Ok(_) => Ok(rest.len()),
-        Err(StageFault::Refused(usage)) => Ok(usage.at),
-        Err(StageFault::OutOfMemory) => Err(AllocError),
-    }
+    first_bad_of(alloc, Call::Serve, &rest)
 }
 
 // Listens at a port of 127.0.0.1.
@@ -102,7 +91,8 @@ fn serve_at<R: Threads + Wait + Clock + Alloc<A = Global> + Send + Sync>(
 fn no_port(alloc: Global, out: &mut impl Sink) -> u8
     ensures { (result ≡ 1) ⊎ (result ≡ 9) }
 {
-    match Refusal::Words(Usage { at: 1 }).tell(alloc, out) {
+    let refusal = Refusal::Usage { at: 1 };
+    match refusal.tell(alloc, out) {
         Ok(()) => 1,
         Err(_) => 9,
     }

@@ -1,44 +1,22 @@
 //! The command `record SAMPLES VOLUME` of the program `pcp`: samples are taken by the system's clock, a second apart, and where
 //! somebody looks on, a line is told before each. Only pcp and tests use it.
-ghost use Rattle.std.specs.Prelude.{◌≡◌, ℕ, IfOk, Ok as Fits, Err as Bad, length, map, string_bytes};
+ghost use Rattle.std.specs.Prelude.{◌≡◌, map, string_bytes};
 ghost use Rattle.pcp_outside.specs.Causes.{Rose};
 ghost use Rattle.pcp_outside.specs.Sides.{source_side};
 ghost use Rattle.pm_recording.specs.Facts.{ScriptFaultIsExact};
 ghost use Rattle.pm_words.specs.Asking.{UsageIsExact};
-ghost use Rattle.pm_words.specs.CommandLine.{asked_by};
 ghost use Rattle.pm_words.specs.declared.words.Call.TheVariants as calls;
-ghost use Rattle.pm_words.specs.declared.words.Command.{Command as Asked};
 
 use crate::progress::{CountedDisk, Progress, ToldTurn};
 use pcp_outside::{Disk, Sink, Source};
 use pcp_system::{Pace, SystemClock};
 use pm_recording::run_record;
-use pm_words::{Call, Command, StageFault, read_words};
-use std::alloc::{Alloc, AllocError, Global};
+use pm_words::{Call, Command, read_words};
+use std::alloc::{Alloc, Global};
 use std::io::{IsTerminal, Print};
 use std::sync::Wait;
 use std::thread::Threads;
 use std::time::Clock;
-
-/// Whether the words of a command are those of `record`.
-pub fn is_record(words: &[String]) -> bool {
-    match words {
-        [name, ..] => name.as_bytes() == b"record".as_slice(),
-        [] => false,
-    }
-}
-
-/// Which word is the first bad one, where the word behind these isn't UTF-8.
-pub fn first_bad_of_record(alloc: Global, words: &[String]) -> Result<usize, AllocError>
-    ensures bad { (at : ℕ) → asked_by calls.Record (map string_bytes words.now) ≡ Bad at → IfOk result (λ index. index ≡ at) }
-    ensures behind { (asked : Asked) → asked_by calls.Record (map string_bytes words.now) ≡ Fits asked → IfOk result (λ index. index ≡ length words.now) }
-{
-    match read_words(alloc, Call::Record, words) {
-        Ok(_) => Ok(words.len()),
-        Err(StageFault::Refused(usage)) => Ok(usage.at),
-        Err(StageFault::OutOfMemory) => Err(AllocError),
-    }
-}
 
 // How many samples are told on a screen: none where it is no terminal, or where there is only one.
 fn samples_to_tell<P: IsTerminal>(alloc: Global, words: &[String], screen: &P) -> Option<u32> {

@@ -1,24 +1,23 @@
 -- How a call ends, of what its command's body did, or of why it was refused before, and of what was told.
-use Rattle.std.proofs.Common.{◌⊎◌, inl, inr, ℕ, ◌≤◌, Bool, true, false, List, [], ◌++◌, append-nil, length, refl, sym, ap, ◌∙◌, subst, arith, Option, Result, Ok, Err, IsSome}
+use Rattle.std.proofs.Common.{◌≡◌, ◌⊎◌, inl, inr, ⊎_elim, ℕ, ◌≤◌, Bool, true, false, List, [], ◌++◌, append-nil, length, refl, sym, ap, ◌∙◌, subst, arith, Option, Result, Ok, Err}
 use Rattle.std.proofs.lemmas.List.{drop_all}
 use Rattle.pcp_outside.specs.Sides.{SourceSide, SinkSide}
 use Rattle.pcp_outside.specs.declared.disk.Disk.{Ghosts as DiskGhosts}
 use Rattle.run_passes.specs.declared.opening.Opened.{Opened}
 use Rattle.pm_words.specs.declared.words.Call.TheVariants as calls
-use Rattle.pm_words.specs.declared.stage.DiskRefusal.TheVariants.{Files, DiskFault}
 use Rattle.pm_words.specs.declared.refusal.Refusal.{Refusal}
-use Rattle.pm_words.specs.declared.refusal.Refusal.TheVariants.{Words, Reading, Input, Disk, ClockEnd, ClockFault, Accept, NoMemory}
+use Rattle.pm_words.specs.declared.refusal.Refusal.TheVariants.{Usage, ReadFault, InputLimit, Image, Line, Script, DiskFault, ClockEnd, ClockFault, Accept, NoMemory}
 use Rattle.pm_words.specs.Asking.{Before, Got}
 use Rattle.pm_words.specs.CommandLine.{takes_input}
 use Rattle.pm_words.specs.Inputs.{input_limit}
 use Rattle.pm_words.specs.Reading.{TookSome}
-use Rattle.pm_words.specs.Refusals.{numbered_line_of}
-use Rattle.pm_words.specs.Serving.{StopCause}
+use Rattle.pm_words.specs.Refusals.{Stage, AtWords, AtReading, AtMemory, IsNumbered, stage_of, status_of}
+use Rattle.pm_words.specs.Serving.{StopCause, StopsAt}
 use Rattle.pm_words.specs.Sides.{DiskSide, disk_side, Untouched}
 use Rattle.pm_words.specs.Telling.{TellsAll}
 use Rattle.pm_words.proofs.Coherent.{untold_left}
-use Rattle.pm_commands.specs.Causes.{Asks, Cause}
-use Rattle.pm_commands.specs.Ends.{Ends, HasBegun}
+use Rattle.pm_commands.specs.Causes.{Asks, Cause, CauseAt}
+use Rattle.pm_commands.specs.Ends.{AskedBegins, BegunAt, Ends, HasBegun}
 use Rattle.pm_commands.specs.Meanings.{meaning}
 use Rattle.pm_commands.specs.Running.{Did, Stopped}
 use Rattle.pm_commands.proofs.Coherents.{coherent}
@@ -33,68 +32,59 @@ took_some s true input got tells =
 
 module _ (words : List (List ℕ)) (s : SourceSide) (k : SinkSide) (d : DiskSide) where
   -- the cause of a refusal by the body, and what was written before it
-  pub stop_cause : (a : Asks words s) (e : Refusal) → StopCause (meaning a.command) a.input d e → Cause words s d e
-  stop_cause a (Words usage) c = absurd c
-  stop_cause a (Reading e) c = absurd c
-  stop_cause a (Input e) c = ((a, c.0), c.1)
-  stop_cause a (Disk e) c = (a, c.0, c.1)
-  stop_cause a (ClockEnd left) c = absurd c
-  stop_cause a (ClockFault left) c = absurd c
-  stop_cause a Accept c = absurd c
-  stop_cause a NoMemory c = (took_some s (takes_input a.command) a.input a.got, inr (a, c))
+  cause_at : (stage : Stage) (a : Asks words s) (e : Refusal) → StopsAt stage (meaning a.command) a.input d e → CauseAt stage words s d e
+  cause_at AtWords a e c = absurd c
+  cause_at AtReading a e c = absurd c
+  cause_at AtMemory a e c = (took_some s (takes_input a.command) a.input a.got, inr (a, c))
+  cause_at _ a e c = (a, c)
 
-  stop_begun : (a : Asks words s) (e : Refusal) (front : List ℕ) → StopCause (meaning a.command) a.input d e → (meaning a.command).begins a.input d e front → HasBegun words s d e front
-  stop_begun a (Words usage) front c begins = absurd c
-  stop_begun a (Reading e) front c begins = absurd c
-  stop_begun a (Input e) front c begins = (a, begins)
-  stop_begun a (Disk e) front c begins = (a, begins)
-  stop_begun a (ClockEnd left) front c begins = absurd c
-  stop_begun a (ClockFault left) front c begins = absurd c
-  stop_begun a Accept front c begins = absurd c
-  stop_begun a NoMemory front c begins = inr (a, begins)
+  pub stop_cause : (a : Asks words s) (e : Refusal) → StopCause (meaning a.command) a.input d e → Cause words s d e
+  stop_cause a e c = cause_at (stage_of e) a e c
+
+  stop_begun : (stage : Stage) (a : Asks words s) (e : Refusal) (front : List ℕ) → StopsAt stage (meaning a.command) a.input d e → (meaning a.command).begins a.input d e front → BegunAt stage words s d e front
+  stop_begun AtWords a e front c begins = absurd c
+  stop_begun AtReading a e front c begins = absurd c
+  stop_begun AtMemory a e front c begins = inr (a, begins)
+  stop_begun _ a e front c begins = (a, begins)
 
   -- and of one before it
   pub before_cause : (e : Refusal) → Before calls.Offline words s e → Untouched d → Cause words s d e
-  before_cause (Words usage) b still = (b, still)
-  before_cause (Reading e) b still = (b, still)
-  before_cause (Input e) b still = absurd b
-  before_cause (Disk e) b still = absurd b
-  before_cause (ClockEnd left) b still = absurd b
-  before_cause (ClockFault left) b still = absurd b
-  before_cause Accept b still = absurd b
+  before_cause (Usage at) b still = (b, still)
+  before_cause ReadFault b still = (b, still)
+  before_cause InputLimit b still = (b, still)
   before_cause NoMemory b still = (b, inl still)
+  before_cause _ b still = absurd b
 
   before_begun : (e : Refusal) → Before calls.Offline words s e → HasBegun words s d e []
-  before_begun (Words usage) b = refl
-  before_begun (Reading e) b = refl
-  before_begun (Input e) b = absurd b
-  before_begun (Disk e) b = absurd b
-  before_begun (ClockEnd left) b = absurd b
-  before_begun (ClockFault left) b = absurd b
-  before_begun Accept b = absurd b
+  before_begun (Usage at) b = refl
+  before_begun ReadFault b = refl
+  before_begun InputLimit b = refl
   before_begun NoMemory b = inl refl
+  before_begun _ b = absurd b
 
   -- A refusal whose line could not be made ends as want of memory.
-  out_of_memory : (e : Refusal) → Cause words s d e → IsSome (numbered_line_of e) → Cause words s d NoMemory
-  out_of_memory (Words usage) c some = (λ tells. (0, omega arith, c.0.1 tells), inl c.1)
-  out_of_memory (Input e) c some = (took_some s (takes_input c.0.0.command) c.0.0.input c.0.0.got, inl c.1)
-  out_of_memory (Reading e) c some = cc
-  out_of_memory (Disk (Files e)) c some = (took_some s (takes_input c.0.command) c.0.input c.0.got, inr (c.0, untold_left (meaning c.0.command) (coherent c.0.command) c.0.input d e c.2.0))
-  out_of_memory (Disk DiskFault) c some = cc
-  out_of_memory (ClockEnd left) c some = absurd c
-  out_of_memory (ClockFault left) c some = absurd c
-  out_of_memory Accept c some = absurd c
-  out_of_memory NoMemory c some = cc
+  out_of_memory : (e : Refusal) → Cause words s d e → IsNumbered e → Cause words s d NoMemory
+  out_of_memory (Usage at) c some = (λ tells. (0, omega arith, c.0.1 tells), inl c.1)
+  out_of_memory ReadFault c some = absurd some
+  out_of_memory InputLimit c some = absurd some
+  out_of_memory (Image fault) c some = (took_some s (takes_input c.0.command) c.0.input c.0.got, inl c.1.1)
+  out_of_memory (Line fault) c some = (took_some s (takes_input c.0.command) c.0.input c.0.got, inl c.1.1)
+  out_of_memory (Script fault) c some = (took_some s (takes_input c.0.command) c.0.input c.0.got, inl c.1.1)
+  out_of_memory DiskFault c some = absurd some
+  out_of_memory (ClockEnd left) c some = absurd c.1
+  out_of_memory (ClockFault left) c some = absurd c.1
+  out_of_memory Accept c some = absurd some
+  out_of_memory NoMemory c some = c
+  out_of_memory e c some = (took_some s (takes_input c.0.command) c.0.input c.0.got, inr (c.0, untold_left (meaning c.0.command) (coherent c.0.command) c.0.input d (status_of e) (λ five. omega (arith, five)) c.1.1))
 
-  begun_untold : (e : Refusal) (front : List ℕ) → IsSome (numbered_line_of e) → HasBegun words s d e front → HasBegun words s d NoMemory front
-  begun_untold (Words usage) front some b = inl b
-  begun_untold (Reading e) front some b = inl b
-  begun_untold (Input e) front some (a, b) = inr (a, (coherent a.command).begins_untold a.input d (Input e) front some b)
-  begun_untold (Disk e) front some (a, b) = inr (a, (coherent a.command).begins_untold a.input d (Disk e) front some b)
-  begun_untold (ClockEnd left) front some b = absurd b
-  begun_untold (ClockFault left) front some b = absurd b
-  begun_untold Accept front some b = absurd b
-  begun_untold NoMemory front some b = b
+  asked_on : (e : Refusal) (front : List ℕ) → IsNumbered e → AskedBegins words s d e front → HasBegun words s d NoMemory front
+  asked_on e front some x = inr (x.0, (coherent x.0.command).begins_untold x.0.input d e front some x.1)
+
+  begun_untold : (stage : Stage) (e : Refusal) (front : List ℕ) → IsNumbered e → BegunAt stage words s d e front → HasBegun words s d NoMemory front
+  begun_untold AtWords e front some b = inl b
+  begun_untold AtReading e front some b = inl b
+  begun_untold AtMemory e front some b = ⊎_elim (λ (none : front ≡ []). inl none) (λ (x : AskedBegins words s d e front). asked_on e front some x) b
+  begun_untold _ e front some b = asked_on e front some b
 
   refused : (e : Refusal) (front : List ℕ) (status : ℕ) → Cause words s d e → HasBegun words s d e front → TellsAll k front (Err e) status → Ends words s k d status
   refused e front status cause begun (inl (is, told)) = inr (inr (record { refusal = e; status_is = is; cause = cause; front = front; begun = begun; told = told }))
@@ -103,7 +93,7 @@ module _ (words : List (List ℕ)) (s : SourceSide) (k : SinkSide) (d : DiskSide
     status_is = is;
     cause = out_of_memory e cause some;
     front = front;
-    begun = begun_untold e front some begun;
+    begun = begun_untold (stage_of e) e front some begun;
     told = λ tells. inl (silent tells ∙ ap (λ t. k.written ++ t) (sym (append-nil front)));
   }))
 
@@ -113,7 +103,7 @@ module _ {D : Type 0} (words : List (List ℕ)) (s : SourceSide) (k : SinkSide) 
   done_ends front (Ok text) status did (inr (is, rose, told)) = inr (inl (is, record { text = front ++ text; run = record { asks = did.asks; served = did.meets.done }; rose = rose; told = told }))
   done_ends front (Err e) status did told =
       refused words s k (disk_side g old new) e front status (stop_cause words s k (disk_side g old new) did.asks e did.meets.stops.0)
-      (stop_begun words s k (disk_side g old new) did.asks e front did.meets.stops.0 did.meets.stops.1) told
+      (stop_begun words s k (disk_side g old new) (stage_of e) did.asks e front did.meets.stops.0 did.meets.stops.1) told
 
   stopped_ends : (front : List ℕ) (result : Result (List ℕ) Refusal) (status : ℕ) → Stopped words s g old new opened front result → TellsAll k front result status → Ends words s k (disk_side g old new) status
   stopped_ends front result status stopped told =

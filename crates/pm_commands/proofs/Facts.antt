@@ -1,5 +1,5 @@
 -- Each fact on a status follows from how the call ends, by cases on the refusal.
-use Rattle.std.proofs.Common.{◌≡◌, ◌⊎◌, inl, inr, ⊎_elim, ℕ, ◌<◌, ◌≤◌, Bool, true, false, List, length, drop, refl, sym, ap, ap₂, ◌∙◌, subst, arith, Option, Some, None, IsSome, Ok, Err}
+use Rattle.std.proofs.Common.{◌≡◌, ◌⊎◌, inl, inr, ⊎_elim, ℕ, ◌<◌, ◌≤◌, Bool, true, false, ◌==◌, if◌then◌else◌, List, length, drop, refl, sym, ap, ap₂, ◌∙◌, subst, arith, Option, Some, None, IsSome, Ok, Err}
 use Rattle.pcp_base.specs.declared.file.FileId.{FileId}
 use Rattle.pcp_base.specs.Time.{Moment}
 use Rattle.pcp_model.specs.Disk.{IsSettled}
@@ -8,86 +8,48 @@ use Rattle.pcp_outside.specs.Sides.{SourceSide, SinkSide}
 use Rattle.run_passes.specs.declared.opening.Opened.{Opened}
 use Rattle.pm_words.specs.declared.words.Call.TheVariants as calls
 use Rattle.pm_words.specs.declared.words.Command.{Command}
-use Rattle.pm_words.specs.declared.stage.ReadRefusal.{ReadRefusal}
-use Rattle.pm_words.specs.declared.stage.ReadRefusal.TheVariants.{ReadFault, InputLimit}
-use Rattle.pm_words.specs.declared.stage.InputRefusal.{InputRefusal}
-use Rattle.pm_words.specs.declared.stage.FilesRefusal.{FilesRefusal}
-use Rattle.pm_words.specs.declared.stage.FilesRefusal.TheVariants.{Run, Compressed, NotArchive, Nothing}
-use Rattle.pm_words.specs.declared.stage.RunRefusal.{RunRefusal}
-use Rattle.pm_words.specs.declared.stage.RunRefusal.TheVariants.{Condition, Limit, NotLater, Changed}
-use Rattle.pm_words.specs.declared.stage.DiskRefusal.TheVariants.{Files as FilesAway, DiskFault}
 use Rattle.pm_words.specs.declared.refusal.Refusal.{Refusal}
-use Rattle.pm_words.specs.declared.refusal.Refusal.TheVariants.{Words, Reading, Input, Disk, ClockEnd, ClockFault, Accept, NoMemory}
+use Rattle.pm_words.specs.declared.refusal.Refusal.TheVariants.{Usage, ReadFault, InputLimit, Image, Line, Script, Condition, Limit, NotLater, Changed, Compressed, NotArchive, Nothing, DiskFault, ClockEnd, ClockFault, Accept, NoMemory}
 use Rattle.pm_words.specs.Asking.{Got}
 use Rattle.pm_words.specs.CommandLine.{asked_by, takes_input}
 use Rattle.pm_words.specs.Inputs.{input_limit, refusal_of}
-use Rattle.pm_words.specs.Refusals.{status_of, reading_status, input_status, files_status, run_status}
+use Rattle.pm_words.specs.Reading.{IsAbove}
+use Rattle.pm_words.specs.Refusals.{Stage, AtWords, AtReading, AtInput, AtFiles, AtDisk, AtMemory, IsOfRun, script_status, stage_of, status_of}
 use Rattle.pm_words.specs.Serving.{HasRegions, Left, IsNever}
 use Rattle.pm_words.specs.Sides.{DiskSide, files_found, Untouched}
 use Rattle.pm_words.proofs.Asked as asked
-use Rattle.pm_words.proofs.Asked.{input_apart}
-use Rattle.pm_commands.specs.Causes.{Asks, fault_of, IsReader, Finds, Cause}
+use Rattle.pm_words.proofs.Asked.{script_apart}
+use Rattle.run_script.specs.declared.fault.ScriptLineFault.{ScriptLineFault}
+use Rattle.run_script.specs.declared.fault.ScriptLineFault.TheVariants as script
+use Rattle.pm_commands.specs.Causes.{Asks, fault_of, IsReader, Finds, Cause, CauseAt}
 use Rattle.pm_commands.specs.Ends.{Ends, EndsDone, EndsUntold, HasRun}
 use Rattle.pm_commands.specs.Facts.{LimitCause, InputFaultIsExact, RunIsExact, ArchiveFaultIsExact, NothingIsThere, GivesInput, IsCommand, IsGiven, refused_of, TurnsAway, IsRefused, IsUnwritten, IsGoodDisk, IsGoodRun, Keeps, ComesOfRun, OpensRegions}
 use Rattle.pm_commands.specs.Meanings.{meaning}
 use Rattle.pm_commands.proofs.Coherents.{coherent}
 
--- ---- which refusal of files has a status
+-- over files over which a run is refused no command is done
+run_never : (e : Refusal) → IsOfRun e → IsNever e
+run_never (Compressed file) run = tt
+run_never _ run = run
 
--- no status of run or files is another
-run_not : (n : ℕ) → (n ≡ 2 → ⊥) → (n ≡ 7 → ⊥) → (n ≡ 12 → ⊥) → (n ≡ 13 → ⊥) → (reason : RunRefusal) → run_status reason ≡ n → ⊥
-run_not n two seven twelve thirteen (Condition line) h = two (sym h)
-run_not n two seven twelve thirteen (Limit what number) h = seven (sym h)
-run_not n two seven twelve thirteen (NotLater last) h = twelve (sym h)
-run_not n two seven twelve thirteen (Changed pmid) h = thirteen (sym h)
+-- statuses of a run
+abbrev is_run : ℕ → Bool
+is_run n = if n == 0 then true else if n == 4 then true else if n == 5 then true else if n == 6 then true else if n == 12 then true else if n == 13 then true else false
 
-files_not : (n : ℕ) → (n ≡ 2 → ⊥) → (n ≡ 6 → ⊥) → (n ≡ 7 → ⊥) → (n ≡ 11 → ⊥) → (n ≡ 12 → ⊥) → (n ≡ 13 → ⊥) → (x : FilesRefusal) → files_status x ≡ n → ⊥
-files_not n two six seven eleven twelve thirteen (Run reason) h = run_not n two seven twelve thirteen reason h
-files_not n two six seven eleven twelve thirteen (Compressed file) h = six (sym h)
-files_not n two six seven eleven twelve thirteen (NotArchive file at) h = six (sym h)
-files_not n two six seven eleven twelve thirteen (Nothing stamp) h = eleven (sym h)
+run_status : (n : ℕ) → ComesOfRun n → is_run n ≡ true
+run_status n (inl h) = ap is_run h
+run_status n (inr (inl h)) = ap is_run h
+run_status n (inr (inr (inl h))) = ap is_run h
+run_status n (inr (inr (inr (inl h)))) = ap is_run h
+run_status n (inr (inr (inr (inr (inl h))))) = ap is_run h
+run_status n (inr (inr (inr (inr (inr h))))) = ap is_run h
 
-condition_reason : (r : RunRefusal) → run_status r ≡ 2 → (line : ℕ) × (r ≡ Condition line)
-condition_reason (Condition line) h = (line, refl)
-condition_reason (Limit what number) h = absurd (omega (arith, h))
-condition_reason (NotLater last) h = absurd (omega (arith, h))
-condition_reason (Changed pmid) h = absurd (omega (arith, h))
+not_run : (n : ℕ) → is_run n ≡ false → ComesOfRun n → ⊥
+not_run n other h = let e : true ≡ false = sym (run_status n h) ∙ other in cc
 
-not_later_reason : (r : RunRefusal) → run_status r ≡ 12 → (last : Moment) × (r ≡ NotLater last)
-not_later_reason (Condition line) h = absurd (omega (arith, h))
-not_later_reason (Limit what number) h = absurd (omega (arith, h))
-not_later_reason (NotLater last) h = (last, refl)
-not_later_reason (Changed pmid) h = absurd (omega (arith, h))
-
-changed_reason : (r : RunRefusal) → run_status r ≡ 13 → (pmid : ℕ) × (r ≡ Changed pmid)
-changed_reason (Condition line) h = absurd (omega (arith, h))
-changed_reason (Limit what number) h = absurd (omega (arith, h))
-changed_reason (NotLater last) h = absurd (omega (arith, h))
-changed_reason (Changed pmid) h = (pmid, refl)
-
-is_condition : (x : FilesRefusal) → files_status x ≡ 2 → (line : ℕ) × (x ≡ Run (Condition line))
-is_condition (Run reason) h = let r = condition_reason reason h in (r.0, ap (λ (why : RunRefusal). Run why) r.1)
-is_condition (Compressed file) h = absurd (omega (arith, h))
-is_condition (NotArchive file at) h = absurd (omega (arith, h))
-is_condition (Nothing stamp) h = absurd (omega (arith, h))
-
-is_not_later : (x : FilesRefusal) → files_status x ≡ 12 → (last : Moment) × (x ≡ Run (NotLater last))
-is_not_later (Run reason) h = let r = not_later_reason reason h in (r.0, ap (λ (why : RunRefusal). Run why) r.1)
-is_not_later (Compressed file) h = absurd (omega (arith, h))
-is_not_later (NotArchive file at) h = absurd (omega (arith, h))
-is_not_later (Nothing stamp) h = absurd (omega (arith, h))
-
-is_changed : (x : FilesRefusal) → files_status x ≡ 13 → (pmid : ℕ) × (x ≡ Run (Changed pmid))
-is_changed (Run reason) h = let r = changed_reason reason h in (r.0, ap (λ (why : RunRefusal). Run why) r.1)
-is_changed (Compressed file) h = absurd (omega (arith, h))
-is_changed (NotArchive file at) h = absurd (omega (arith, h))
-is_changed (Nothing stamp) h = absurd (omega (arith, h))
-
-is_nothing : (x : FilesRefusal) → files_status x ≡ 11 → (stamp : Moment) × (x ≡ Nothing stamp)
-is_nothing (Run reason) h = absurd (run_not 11 (λ k. omega (arith, k)) (λ k. omega (arith, k)) (λ k. omega (arith, k)) (λ k. omega (arith, k)) reason h)
-is_nothing (Compressed file) h = absurd (omega (arith, h))
-is_nothing (NotArchive file at) h = absurd (omega (arith, h))
-is_nothing (Nothing stamp) h = (stamp, refl)
+script_not_run : (fault : ScriptLineFault) → ComesOfRun (script_status fault) → ⊥
+script_not_run (script.Line found) h = not_run 2 refl h
+script_not_run script.Regions h = not_run 7 refl h
 
 module _ (words : List (List ℕ)) (s : SourceSide) (k : SinkSide) (d : DiskSide) where
   -- a refusal that has this cause
@@ -115,20 +77,20 @@ module _ (words : List (List ℕ)) (s : SourceSide) (k : SinkSide) (d : DiskSide
   same_fault : (a : Asks words s) (b : IsGiven words s) → fault_of a ≡ refused_of b
   same_fault a b = ap₂ (λ (c : Command) (i : List ℕ). refusal_of (meaning c).reads i) (same_command a b) (same_input a b)
 
-  not_both : (found : Option InputRefusal) (e : InputRefusal) → found ≡ None → found ≡ Some e → ⊥
+  not_both : (found : Option Refusal) (e : Refusal) → found ≡ None → found ≡ Some e → ⊥
   not_both found e good bad = let f : None ≡ Some e = sym good ∙ bad in cc
 
-  says_one : (found : Option InputRefusal) (a b : InputRefusal) → found ≡ Some a → found ≡ Some b → a ≡ b
+  says_one : (found : Option Refusal) (a b : Refusal) → found ≡ Some a → found ≡ Some b → a ≡ b
   says_one found a b is other = let f : Some a ≡ Some b = sym is ∙ other in cc
 
   -- an input that was found good is not refused, and one that is refused was not found good
-  found_good : (a : Asks words s) (b : IsGiven words s) (e : InputRefusal) → fault_of a ≡ None → refused_of b ≡ Some e → ⊥
+  found_good : (a : Asks words s) (b : IsGiven words s) (e : Refusal) → fault_of a ≡ None → refused_of b ≡ Some e → ⊥
   found_good a b e good bad = not_both (refused_of b) e (sym (same_fault a b) ∙ good) bad
 
-  found_bad : (a : Asks words s) (b : IsGiven words s) (e : InputRefusal) → fault_of a ≡ Some e → refused_of b ≡ None → ⊥
+  found_bad : (a : Asks words s) (b : IsGiven words s) (e : Refusal) → fault_of a ≡ Some e → refused_of b ≡ None → ⊥
   found_bad a b e bad good = not_both (fault_of a) e (same_fault a b ∙ good) bad
 
-  found_same : (a : Asks words s) (b : IsGiven words s) (e f : InputRefusal) → fault_of a ≡ Some e → refused_of b ≡ Some f → e ≡ f
+  found_same : (a : Asks words s) (b : IsGiven words s) (e f : Refusal) → fault_of a ≡ Some e → refused_of b ≡ Some f → e ≡ f
   found_same a b e f is other = says_one (refused_of b) e f (sym (same_fault a b) ∙ is) other
 
   -- what is given to a command that reads is within the limit
@@ -150,150 +112,108 @@ module _ (words : List (List ℕ)) (s : SourceSide) (k : SinkSide) (d : DiskSide
   by_end status P (inr (inr refused)) f g h = subst P (sym refused.status_is) (h refused.refusal refused.cause)
 
   disk_rose : (e : Refusal) → Caused e → status_of e ≡ 5 → Rose d.faults d.faults_after
-  disk_rose (Words usage) c h = absurd (omega (arith, h))
-  disk_rose (Reading ReadFault) c h = absurd (omega (arith, h))
-  disk_rose (Reading InputLimit) c h = absurd (omega (arith, h))
-  disk_rose (Input e) c h = absurd (input_apart 5 (λ k. omega (arith, k)) (λ k. omega (arith, k)) e h)
-  disk_rose (Disk (FilesAway x)) c h = absurd (files_not 5 (λ k. omega (arith, k)) (λ k. omega (arith, k)) (λ k. omega (arith, k)) (λ k. omega (arith, k)) (λ k. omega (arith, k)) (λ k. omega (arith, k)) x h)
-  disk_rose (Disk DiskFault) c h = c.2.1
-  disk_rose (ClockEnd left) c h = absurd c
-  disk_rose (ClockFault left) c h = absurd c
-  disk_rose Accept c h = absurd c
-  disk_rose NoMemory c h = absurd (omega (arith, h))
+  disk_rose DiskFault c h = c.1.2
+  disk_rose (Script fault) c h = absurd (script_apart 5 (λ k. omega (arith, k)) (λ k. omega (arith, k)) fault.fault h)
+  disk_rose _ c h = absurd (omega (arith, h))
 
   pub disk_fault_rose : (status : ℕ) → Ends words s k d status → status ≡ 5 → Rose d.faults d.faults_after
   disk_fault_rose status ends = by_end status (λ n. n ≡ 5 → Rose d.faults d.faults_after) ends (λ done h. cc) (λ untold h. cc) disk_rose
 
-  turned_away : (e : FilesRefusal) → Caused (Disk (FilesAway e)) → TurnsAway words s d e
-  turned_away e c = record { asks = c.0; good = c.1.0; uses = c.1.1; turned = c.2.1 }
-
-  limit_files : (e : FilesRefusal) → TurnsAway words s d e → files_status e ≡ 7 → LimitCause words s d
-  limit_files (Run reason) away h = inr (inr (reason, h, away))
-  limit_files (Compressed file) away h = absurd (omega (arith, h))
-  limit_files (NotArchive file at) away h = absurd (omega (arith, h))
-  limit_files (Nothing stamp) away h = absurd (omega (arith, h))
+  turned_away : (e : Refusal) → CauseAt AtFiles words s d e → TurnsAway words s d e
+  turned_away e c = record { asks = c.0; good = c.1.0.0; uses = c.1.0.1; turned = c.1.2 }
 
   limit_only : (e : Refusal) → Caused e → status_of e ≡ 7 → LimitCause words s d
-  limit_only (Words usage) c h = absurd (omega (arith, h))
-  limit_only (Reading ReadFault) c h = absurd (omega (arith, h))
-  limit_only (Reading InputLimit) c h = inl (c.0.0, c.0.1)
-  limit_only (Input e) c h = inr (inl (e, h, c.0))
-  limit_only (Disk (FilesAway e)) c h = limit_files e (turned_away e c) h
-  limit_only (Disk DiskFault) c h = absurd (omega (arith, h))
-  limit_only (ClockEnd left) c h = absurd c
-  limit_only (ClockFault left) c h = absurd c
-  limit_only Accept c h = absurd c
-  limit_only NoMemory c h = absurd (omega (arith, h))
+  limit_only InputLimit c h = inl (c.0.0, c.0.1)
+  limit_only (Script fault) c h = inr (inl (fault, h, (c.0, c.1.0)))
+  limit_only (Limit what number) c h = inr (inr (what, number, turned_away (Limit what number) c))
+  limit_only _ c h = absurd (omega (arith, h))
 
   pub limit_cause : (status : ℕ) → Ends words s k d status → status ≡ 7 → LimitCause words s d
   limit_cause status ends = by_end status (λ n. n ≡ 7 → LimitCause words s d) ends (λ done h. absurd (omega (arith, h))) (λ untold h. absurd (omega (arith, h))) limit_only
 
   abbrev InputCause : Type 0
-  InputCause = ((e : InputRefusal) × (input_status e ≡ 2) × Finds words s e) ⊎ ((line : ℕ) × TurnsAway words s d (Run (Condition line)))
-
-  condition_only : (x : FilesRefusal) → TurnsAway words s d x → files_status x ≡ 2 → InputCause
-  condition_only x away h = let is = is_condition x h in inr (is.0, subst (λ (y : FilesRefusal). TurnsAway words s d y) is.1 away)
+  InputCause = ((e : Refusal) × (status_of e ≡ 2) × Finds words s e) ⊎ ((line : ℕ) × TurnsAway words s d (Condition line))
 
   input_only : (e : Refusal) → Caused e → status_of e ≡ 2 → InputCause
-  input_only (Words usage) c h = absurd (omega (arith, h))
-  input_only (Reading ReadFault) c h = absurd (omega (arith, h))
-  input_only (Reading InputLimit) c h = absurd (omega (arith, h))
-  input_only (Input e) c h = inl (e, h, c.0)
-  input_only (Disk (FilesAway e)) c h = condition_only e (turned_away e c) h
-  input_only (Disk DiskFault) c h = absurd (omega (arith, h))
-  input_only (ClockEnd left) c h = absurd c
-  input_only (ClockFault left) c h = absurd c
-  input_only Accept c h = absurd c
-  input_only NoMemory c h = absurd (omega (arith, h))
+  input_only (Image fault) c h = inl (Image fault, h, (c.0, c.1.0))
+  input_only (Line fault) c h = inl (Line fault, h, (c.0, c.1.0))
+  input_only (Script fault) c h = inl (Script fault, h, (c.0, c.1.0))
+  input_only (Condition line) c h = inr (line, turned_away (Condition line) c)
+  input_only _ c h = absurd (omega (arith, h))
 
-  input_found : (e : Refusal) → Caused e → (b : IsGiven words s) → (f : InputRefusal) → refused_of b ≡ Some f → (status_of e ≡ input_status f) ⊎ ((status_of e ≡ 9) ⊎ (status_of e ≡ 3))
-  input_found (Words usage) c b f bad = absurd (apart usage.at c.0.0 b.command b.words_are)
-  input_found (Reading ReadFault) c b f bad = inr (inr refl)
-  input_found (Reading InputLimit) c b f bad = absurd (not_met c.0.0 (λ tells. (c.0.1 tells).0) b)
-  input_found (Input e) c b f bad = inl (ap input_status (found_same c.0.0 b e f c.0.1 bad))
-  input_found (Disk e) c b f bad = absurd (found_good c.0 b f c.1.0 bad)
-  input_found (ClockEnd left) c b f bad = absurd c
-  input_found (ClockFault left) c b f bad = absurd c
-  input_found Accept c b f bad = absurd c
+  input_found : (e : Refusal) → Caused e → (b : IsGiven words s) → (f : Refusal) → refused_of b ≡ Some f → (status_of e ≡ status_of f) ⊎ ((status_of e ≡ 9) ⊎ (status_of e ≡ 3))
+  input_found (Usage at) c b f bad = absurd (apart at c.0.0 b.command b.words_are)
+  input_found ReadFault c b f bad = inr (inr refl)
+  input_found InputLimit c b f bad = absurd (not_met c.0.0 (λ tells. (c.0.1 tells).0) b)
+  input_found (Image fault) c b f bad = inl (ap status_of (found_same c.0 b (Image fault) f c.1.0 bad))
+  input_found (Line fault) c b f bad = inl (ap status_of (found_same c.0 b (Line fault) f c.1.0 bad))
+  input_found (Script fault) c b f bad = inl (ap status_of (found_same c.0 b (Script fault) f c.1.0 bad))
+  input_found (ClockEnd left) c b f bad = absurd c.1
+  input_found (ClockFault left) c b f bad = absurd c.1
+  input_found Accept c b f bad = absurd c.1
   input_found NoMemory c b f bad = inr (inl refl)
+  input_found _ c b f bad = absurd (found_good c.0 b f c.1.0.0 bad)
 
   pub input_fault_is_exact : (status : ℕ) → Ends words s k d status → InputFaultIsExact words s d status
   input_fault_is_exact status ends = record {
     only = by_end status (λ n. n ≡ 2 → InputCause) ends (λ done h. absurd (omega (arith, h))) (λ untold h. absurd (omega (arith, h))) input_only;
-    always = by_end status (λ n. (b : IsGiven words s) → (f : InputRefusal) → refused_of b ≡ Some f → (n ≡ input_status f) ⊎ ((n ≡ 9) ⊎ (n ≡ 3))) ends
+    always = by_end status (λ n. (b : IsGiven words s) → (f : Refusal) → refused_of b ≡ Some f → (n ≡ status_of f) ⊎ ((n ≡ 9) ⊎ (n ≡ 3))) ends
         (λ done b f bad. absurd (found_good done.run.asks b f done.run.served.good bad)) (λ untold b f bad. absurd (found_good untold.run.asks b f untold.run.served.good bad)) input_found;
   }
 
   -- a file refusal that a command of the words has, told of the command that got its input
-  turned_here : (a : Asks words s) (b : IsGiven words s) (e : FilesRefusal) → (meaning b.command).turns_away b.input (files_found d) e → (meaning a.command).turns_away a.input (files_found d) e
+  turned_here : (a : Asks words s) (b : IsGiven words s) (e : Refusal) → (meaning b.command).turns_away b.input (files_found d) e → (meaning a.command).turns_away a.input (files_found d) e
   turned_here a b e turned =
       subst (λ (i : List ℕ). (meaning a.command).turns_away i (files_found d) e) (sym (same_input a b))
       (subst (λ (c : Command). (meaning c).turns_away b.input (files_found d) e) (sym (same_command a b)) turned)
 
   -- which refusal of a good input comes of files that are turned away: one of this status, unless memory ran out, the source or the disk failed
-  turned_found : (status : ℕ) (b : IsGiven words s) → refused_of b ≡ None → ((a : Asks words s) (e : FilesRefusal) → (d.tells → (meaning a.command).turns_away a.input (files_found d) e) → files_status e ≡ status)
+  turned_found : (status : ℕ) (b : IsGiven words s) → refused_of b ≡ None → ((a : Asks words s) (e : Refusal) → (d.tells → (meaning a.command).turns_away a.input (files_found d) e) → status_of e ≡ status)
       → (e : Refusal) → Caused e → (status_of e ≡ status) ⊎ ((status_of e ≡ 9) ⊎ ((status_of e ≡ 3) ⊎ (status_of e ≡ 5)))
-  turned_found status b good so (Words usage) c = absurd (apart usage.at c.0.0 b.command b.words_are)
-  turned_found status b good so (Reading ReadFault) c = inr (inr (inl refl))
-  turned_found status b good so (Reading InputLimit) c = absurd (not_met c.0.0 (λ tells. (c.0.1 tells).0) b)
-  turned_found status b good so (Input e) c = absurd (found_bad c.0.0 b e c.0.1 good)
-  turned_found status b good so (Disk (FilesAway e)) c = inl (so c.0 e c.2.1)
-  turned_found status b good so (Disk DiskFault) c = inr (inr (inr refl))
-  turned_found status b good so (ClockEnd left) c = absurd c
-  turned_found status b good so (ClockFault left) c = absurd c
-  turned_found status b good so Accept c = absurd c
+  turned_found status b good so (Usage at) c = absurd (apart at c.0.0 b.command b.words_are)
+  turned_found status b good so ReadFault c = inr (inr (inl refl))
+  turned_found status b good so InputLimit c = absurd (not_met c.0.0 (λ tells. (c.0.1 tells).0) b)
+  turned_found status b good so (Image fault) c = absurd (found_bad c.0 b (Image fault) c.1.0 good)
+  turned_found status b good so (Line fault) c = absurd (found_bad c.0 b (Line fault) c.1.0 good)
+  turned_found status b good so (Script fault) c = absurd (found_bad c.0 b (Script fault) c.1.0 good)
+  turned_found status b good so DiskFault c = inr (inr (inr refl))
+  turned_found status b good so (ClockEnd left) c = absurd c.1
+  turned_found status b good so (ClockFault left) c = absurd c.1
+  turned_found status b good so Accept c = absurd c.1
   turned_found status b good so NoMemory c = inr (inl refl)
+  turned_found status b good so e c = inl (so c.0 e c.1.2)
 
   -- what was done was over files that the command doesn't turn away
-  not_welcome : (text : List ℕ) → HasRun words s d text → (b : IsGiven words s) (e : FilesRefusal) → IsNever e → d.tells → (meaning b.command).turns_away b.input (files_found d) e → ⊥
+  not_welcome : (text : List ℕ) → HasRun words s d text → (b : IsGiven words s) (e : Refusal) → IsNever e → d.tells → (meaning b.command).turns_away b.input (files_found d) e → ⊥
   not_welcome text run b e never tells turned =
       run.served.welcome tells e never (turned_here run.asks b e turned)
 
   not_nothing : (text : List ℕ) → HasRun words s d text → (b : IsGiven words s) (stamp : Moment) → d.tells → (meaning b.command).turns_away b.input (files_found d) (Nothing stamp) → ⊥
   not_nothing text run b stamp tells turned = (coherent run.asks.command).never_done run.asks.input d text run.served tells stamp (turned_here run.asks b (Nothing stamp) turned)
 
-  read_low : (e : ReadRefusal) → reading_status e ≤ 7
-  read_low ReadFault = omega arith
-  read_low InputLimit = omega arith
+  not_later_only : (e : Refusal) → Caused e → status_of e ≡ 12 → (last : Moment) × TurnsAway words s d (NotLater last)
+  not_later_only (NotLater last) c h = (last, turned_away (NotLater last) c)
+  not_later_only (Script fault) c h = absurd (script_apart 12 (λ k. omega (arith, k)) (λ k. omega (arith, k)) fault.fault h)
+  not_later_only _ c h = absurd (omega (arith, h))
 
-  -- a status above 9 comes of the files
-  of_files : (e : Refusal) (n : ℕ) → 9 < n → Caused e → status_of e ≡ n → (x : FilesRefusal) × (files_status x ≡ n) × TurnsAway words s d x
-  of_files (Words usage) n high c h = absurd (omega (arith, high, h))
-  of_files (Reading e) n high c h = absurd (omega (arith, high, h, read_low e))
-  of_files (Input e) n high c h = absurd (input_apart n (λ k. omega (arith, high, k)) (λ k. omega (arith, high, k)) e h)
-  of_files (Disk (FilesAway e)) n high c h = (e, h, turned_away e c)
-  of_files (Disk DiskFault) n high c h = absurd (omega (arith, high, h))
-  of_files (ClockEnd left) n high c h = absurd c
-  of_files (ClockFault left) n high c h = absurd c
-  of_files Accept n high c h = absurd c
-  of_files NoMemory n high c h = absurd (omega (arith, high, h))
-
-  not_later_only : (e : Refusal) → Caused e → status_of e ≡ 12 → (last : Moment) × TurnsAway words s d (Run (NotLater last))
-  not_later_only e c h =
-      let x = of_files e 12 (omega arith) c h in
-      let is = is_not_later x.0 x.1 in
-      (is.0, subst (λ (y : FilesRefusal). TurnsAway words s d y) is.1 x.2)
-
-  changed_only : (e : Refusal) → Caused e → status_of e ≡ 13 → (pmid : ℕ) × TurnsAway words s d (Run (Changed pmid))
-  changed_only e c h =
-      let x = of_files e 13 (omega arith) c h in
-      let is = is_changed x.0 x.1 in
-      (is.0, subst (λ (y : FilesRefusal). TurnsAway words s d y) is.1 x.2)
+  changed_only : (e : Refusal) → Caused e → status_of e ≡ 13 → (pmid : ℕ) × TurnsAway words s d (Changed pmid)
+  changed_only (Changed pmid) c h = (pmid, turned_away (Changed pmid) c)
+  changed_only (Script fault) c h = absurd (script_apart 13 (λ k. omega (arith, k)) (λ k. omega (arith, k)) fault.fault h)
+  changed_only _ c h = absurd (omega (arith, h))
 
   pub run_is_exact : (status : ℕ) → Ends words s k d status → RunIsExact words s d status
   run_is_exact status ends = record {
-    not_later = by_end status (λ n. n ≡ 12 → (last : Moment) × TurnsAway words s d (Run (NotLater last))) ends (λ done h. cc) (λ untold h. cc) not_later_only;
-    changed = by_end status (λ n. n ≡ 13 → (pmid : ℕ) × TurnsAway words s d (Run (Changed pmid))) ends (λ done h. cc) (λ untold h. cc) changed_only;
-    always = by_end status (λ n. (b : IsGiven words s) → refused_of b ≡ None → d.tells → (reason : RunRefusal) → (meaning b.command).turns_away b.input (files_found d) (Run reason) → (n ≡ run_status reason) ⊎ ((n ≡ 9) ⊎ ((n ≡ 3) ⊎ (n ≡ 5)))) ends
-        (λ done b good tells reason turned. absurd (not_welcome done.text done.run b (Run reason) tt tells turned)) (λ untold b good tells reason turned. absurd (not_welcome untold.text untold.run b (Run reason) tt tells turned))
-        (λ e c b good tells reason turned. turned_found (run_status reason) b good (λ a x also. (coherent a.command).one_reason a.input (files_found d) reason x (turned_here a b (Run reason) turned) (also tells)) e c);
+    not_later = by_end status (λ n. n ≡ 12 → (last : Moment) × TurnsAway words s d (NotLater last)) ends (λ done h. cc) (λ untold h. cc) not_later_only;
+    changed = by_end status (λ n. n ≡ 13 → (pmid : ℕ) × TurnsAway words s d (Changed pmid)) ends (λ done h. cc) (λ untold h. cc) changed_only;
+    always = by_end status (λ n. (b : IsGiven words s) → refused_of b ≡ None → d.tells → (reason : Refusal) → IsOfRun reason → (meaning b.command).turns_away b.input (files_found d) reason → (n ≡ status_of reason) ⊎ ((n ≡ 9) ⊎ ((n ≡ 3) ⊎ (n ≡ 5)))) ends
+        (λ done b good tells reason run turned. absurd (not_welcome done.text done.run b reason (run_never reason run) tells turned)) (λ untold b good tells reason run turned. absurd (not_welcome untold.text untold.run b reason (run_never reason run) tells turned))
+        (λ e c b good tells reason run turned. turned_found (status_of reason) b good (λ a x also. (coherent a.command).one_reason a.input (files_found d) reason x run (turned_here a b reason turned) (also tells)) e c);
   }
 
   nothing_only : (e : Refusal) → Caused e → status_of e ≡ 11 → (stamp : Moment) × TurnsAway words s d (Nothing stamp)
-  nothing_only e c h =
-      let x = of_files e 11 (omega arith) c h in
-      let is = is_nothing x.0 x.1 in
-      (is.0, subst (λ (y : FilesRefusal). TurnsAway words s d y) is.1 x.2)
+  nothing_only (Nothing stamp) c h = (stamp, turned_away (Nothing stamp) c)
+  nothing_only (Script fault) c h = absurd (script_apart 11 (λ k. omega (arith, k)) (λ k. omega (arith, k)) fault.fault h)
+  nothing_only _ c h = absurd (omega (arith, h))
 
   pub nothing_is_there : (status : ℕ) → Ends words s k d status → NothingIsThere words s d status
   nothing_is_there status ends = record {
@@ -303,21 +223,15 @@ module _ (words : List (List ℕ)) (s : SourceSide) (k : SinkSide) (d : DiskSide
         (λ e c b good tells stamp turned. turned_found 11 b good (λ a x also. (coherent a.command).nothing_first a.input (files_found d) stamp x (turned_here a b (Nothing stamp) turned) (also tells)) e c);
   }
 
-  archive_only : (e : Refusal) → Caused e → status_of e ≡ 6 → (x : FilesRefusal) × (files_status x ≡ 6) × TurnsAway words s d x
-  archive_only (Disk (FilesAway e)) c h = (e, h, turned_away e c)
-  archive_only (Disk DiskFault) c h = absurd (omega (arith, h))
-  archive_only (Words usage) c h = absurd (omega (arith, h))
-  archive_only (Reading ReadFault) c h = absurd (omega (arith, h))
-  archive_only (Reading InputLimit) c h = absurd (omega (arith, h))
-  archive_only (Input e) c h = absurd (input_apart 6 (λ k. omega (arith, k)) (λ k. omega (arith, k)) e h)
-  archive_only (ClockEnd left) c h = absurd c
-  archive_only (ClockFault left) c h = absurd c
-  archive_only Accept c h = absurd c
-  archive_only NoMemory c h = absurd (omega (arith, h))
+  archive_only : (e : Refusal) → Caused e → status_of e ≡ 6 → (x : Refusal) × (status_of x ≡ 6) × TurnsAway words s d x
+  archive_only (Compressed file) c h = (Compressed file, h, turned_away (Compressed file) c)
+  archive_only (NotArchive file at) c h = (NotArchive file at, h, turned_away (NotArchive file at) c)
+  archive_only (Script fault) c h = absurd (script_apart 6 (λ k. omega (arith, k)) (λ k. omega (arith, k)) fault.fault h)
+  archive_only _ c h = absurd (omega (arith, h))
 
   pub archive_fault_is_exact : (status : ℕ) → Ends words s k d status → ArchiveFaultIsExact words s d status
   archive_fault_is_exact status ends = record {
-    only = by_end status (λ n. n ≡ 6 → (x : FilesRefusal) × (files_status x ≡ 6) × TurnsAway words s d x) ends (λ done h. cc) (λ untold h. cc) archive_only;
+    only = by_end status (λ n. n ≡ 6 → (x : Refusal) × (status_of x ≡ 6) × TurnsAway words s d x) ends (λ done h. cc) (λ untold h. cc) archive_only;
     always = by_end status (λ n. (b : IsGiven words s) → refused_of b ≡ None → d.tells → (file : FileId) → (meaning b.command).turns_away b.input (files_found d) (Compressed file) → (n ≡ 6) ⊎ ((n ≡ 9) ⊎ ((n ≡ 3) ⊎ (n ≡ 5)))) ends
         (λ done b good tells file turned. absurd (not_welcome done.text done.run b (Compressed file) tt tells turned)) (λ untold b good tells file turned. absurd (not_welcome untold.text untold.run b (Compressed file) tt tells turned))
         (λ e c b good tells file turned. turned_found 6 b good (λ a x also. (coherent a.command).wrapped_first a.input (files_found d) file x (turned_here a b (Compressed file) turned) (also tells)) e c);
@@ -326,20 +240,18 @@ module _ (words : List (List ℕ)) (s : SourceSide) (k : SinkSide) (d : DiskSide
   left_unwritten : (status : ℕ) (a : Asks words s) → Left (meaning a.command) status a.input d → IsUnwritten words s d status
   left_unwritten status a left = ⊎_elim (λ still. inl still) (λ begun. inr (a, begun)) left.files
 
-  refused_unwritten : (e : Refusal) → Caused e → IsUnwritten words s d (status_of e)
-  refused_unwritten (Words usage) c = inl c.1
-  refused_unwritten (Reading e) c = inl c.1
-  refused_unwritten (Input e) c = inl c.1
-  refused_unwritten (Disk (FilesAway e)) c = left_unwritten (files_status e) c.0 c.2.0
-  refused_unwritten (Disk DiskFault) c = left_unwritten 5 c.0 c.2.0
-  refused_unwritten (ClockEnd left) c = absurd c
-  refused_unwritten (ClockFault left) c = absurd c
-  refused_unwritten Accept c = absurd c
-  refused_unwritten NoMemory c = ⊎_elim (λ still. inl still) (λ left. left_unwritten 9 left.0 left.1) c.1
+  unwritten_at : (stage : Stage) (e : Refusal) → CauseAt stage words s d e → IsUnwritten words s d (status_of e)
+  unwritten_at AtWords e c = inl c.1
+  unwritten_at AtReading e c = inl c.1
+  unwritten_at AtInput e c = inl c.1.1
+  unwritten_at AtFiles e c = left_unwritten (status_of e) c.0 c.1.1
+  unwritten_at AtDisk e c = left_unwritten (status_of e) c.0 c.1.1
+  unwritten_at AtMemory e c = ⊎_elim (λ still. inl still) (λ left. left_unwritten (status_of e) left.0 left.1) c.1
+  unwritten_at _ e c = absurd c.1
 
   -- what a refusal leaves
   pub unwritten : (status : ℕ) → Ends words s k d status → IsRefused status → IsUnwritten words s d status
-  unwritten status ends = by_end status (λ n. IsRefused n → IsUnwritten words s d n) ends (λ done h. absurd (h.0 refl)) (λ untold h. absurd (h.1 refl)) (λ e c h. refused_unwritten e c)
+  unwritten status ends = by_end status (λ n. IsRefused n → IsUnwritten words s d n) ends (λ done h. absurd (h.0 refl)) (λ untold h. absurd (h.1 refl)) (λ e c h. unwritten_at (stage_of e) e c)
 
   -- in a good run no stage has a cause
   good_apart : IsGoodRun words s k d → (at : ℕ) → asked_by calls.Offline words ≡ Err at → ⊥
@@ -348,7 +260,7 @@ module _ (words : List (List ℕ)) (s : SourceSide) (k : SinkSide) (d : DiskSide
   good_within : IsGoodRun words s k d → IsReader words → (s.tells → (input_limit < length s.left) × (s.after ≡ drop 16777217 s.left)) → ⊥
   good_within good reader above = not_met reader (λ tells. (above tells).0) good.meets
 
-  good_input : IsGoodRun words s k d → (a : Asks words s) (e : InputRefusal) → fault_of a ≡ Some e → ⊥
+  good_input : IsGoodRun words s k d → (a : Asks words s) (e : Refusal) → fault_of a ≡ Some e → ⊥
   good_input good a e bad = found_bad a good.meets e bad good.good
 
   good_disk : IsGoodRun words s k d → (a : Asks words s) → (meaning a.command).uses_disk ≡ true → IsGoodDisk (meaning a.command) a.input d
@@ -357,7 +269,7 @@ module _ (words : List (List ℕ)) (s : SourceSide) (k : SinkSide) (d : DiskSide
       (subst (λ (i : List ℕ). IsGoodDisk (meaning good.meets.command) i d) (sym (same_input a good.meets))
       (good.disk (ap (λ (c : Command). (meaning c).uses_disk) (sym (same_command a good.meets)) ∙ uses)))
 
-  good_files : IsGoodRun words s k d → (a : Asks words s) → (meaning a.command).uses_disk ≡ true → (e : FilesRefusal) → (d.tells → (meaning a.command).turns_away a.input (files_found d) e) → files_status e ≡ 11
+  good_files : IsGoodRun words s k d → (a : Asks words s) → (meaning a.command).uses_disk ≡ true → (e : Refusal) → (d.tells → (meaning a.command).turns_away a.input (files_found d) e) → status_of e ≡ 11
   good_files good a uses e turned = let disk : IsGoodDisk (meaning a.command) a.input d = good_disk good a uses in disk.welcome e (turned disk.tells)
 
   good_faults : IsGoodRun words s k d → (a : Asks words s) → (meaning a.command).uses_disk ≡ true → Rose d.faults d.faults_after → ⊥
@@ -367,32 +279,26 @@ module _ (words : List (List ℕ)) (s : SourceSide) (k : SinkSide) (d : DiskSide
   good_source good rose = good.source_kept rose
 
   completed : (e : Refusal) → Caused e → IsGoodRun words s k d → (status_of e ≡ 0) ⊎ ((status_of e ≡ 9) ⊎ (status_of e ≡ 11))
-  completed (Words usage) c good = absurd (good_apart good usage.at c.0.0)
-  completed (Reading ReadFault) c good = absurd (good_source good c.0.1.0)
-  completed (Reading InputLimit) c good = absurd (good_within good c.0.0 c.0.1)
-  completed (Input e) c good = absurd (good_input good c.0.0 e c.0.1)
-  completed (Disk (FilesAway e)) c good = inr (inr (good_files good c.0 c.1.1 e c.2.1))
-  completed (Disk DiskFault) c good = absurd (good_faults good c.0 c.1.1 c.2.1)
-  completed (ClockEnd left) c good = absurd c
-  completed (ClockFault left) c good = absurd c
-  completed Accept c good = absurd c
+  completed (Usage at) c good = absurd (good_apart good at c.0.0)
+  completed ReadFault c good = absurd (good_source good c.0.1.0)
+  completed InputLimit c good = absurd (good_within good c.0.0 c.0.1)
+  completed (Image fault) c good = absurd (good_input good c.0 (Image fault) c.1.0)
+  completed (Line fault) c good = absurd (good_input good c.0 (Line fault) c.1.0)
+  completed (Script fault) c good = absurd (good_input good c.0 (Script fault) c.1.0)
+  completed DiskFault c good = absurd (good_faults good c.0 c.1.0.1 c.1.2)
+  completed (ClockEnd left) c good = absurd c.1
+  completed (ClockFault left) c good = absurd c.1
+  completed Accept c good = absurd c.1
   completed NoMemory c good = inr (inl refl)
+  completed e c good = inr (inr (good_files good c.0 c.1.0.1 e c.1.2))
 
   -- good input succeeds
   pub completes : (status : ℕ) → Ends words s k d status → IsGoodRun words s k d → (status ≡ 0) ⊎ ((status ≡ 9) ⊎ (status ≡ 11))
   completes status ends = by_end status (λ n. IsGoodRun words s k d → (n ≡ 0) ⊎ ((n ≡ 9) ⊎ (n ≡ 11))) ends (λ done good. inl refl) (λ untold good. absurd (good.sink_kept untold.rose)) completed
 
   not_done : (e : Refusal) → Caused e → status_of e ≡ 0 → ⊥
-  not_done (Words usage) c h = omega (arith, h)
-  not_done (Reading ReadFault) c h = omega (arith, h)
-  not_done (Reading InputLimit) c h = omega (arith, h)
-  not_done (Input e) c h = input_apart 0 (λ k. omega (arith, k)) (λ k. omega (arith, k)) e h
-  not_done (Disk (FilesAway x)) c h = files_not 0 (λ k. omega (arith, k)) (λ k. omega (arith, k)) (λ k. omega (arith, k)) (λ k. omega (arith, k)) (λ k. omega (arith, k)) (λ k. omega (arith, k)) x h
-  not_done (Disk DiskFault) c h = omega (arith, h)
-  not_done (ClockEnd left) c h = absurd c
-  not_done (ClockFault left) c h = absurd c
-  not_done Accept c h = absurd c
-  not_done NoMemory c h = omega (arith, h)
+  not_done (Script fault) c h = script_apart 0 (λ k. omega (arith, k)) (λ k. omega (arith, k)) fault.fault h
+  not_done _ c h = omega (arith, h)
 
   -- where the status is 0
   pub is_done : (status : ℕ) → Ends words s k d status → status ≡ 0 → EndsDone words s k d
@@ -401,21 +307,19 @@ module _ (words : List (List ℕ)) (s : SourceSide) (k : SinkSide) (d : DiskSide
   still_settled : Untouched d → d.tells → IsSettled d.held → IsSettled d.after
   still_settled still tells settled = subst IsSettled (sym (still tells)) settled
 
-  stays_settled : (e : Refusal) → Caused e → (status_of e ≡ 5 → ⊥) → d.tells → IsSettled d.held → IsSettled d.after
-  stays_settled (Words usage) c h = still_settled c.1
-  stays_settled (Reading e) c h = still_settled c.1
-  stays_settled (Input e) c h = still_settled c.1
-  stays_settled (Disk (FilesAway e)) c h = c.2.0.settled h
-  stays_settled (Disk DiskFault) c h = c.2.0.settled h
-  stays_settled (ClockEnd left) c h = absurd c
-  stays_settled (ClockFault left) c h = absurd c
-  stays_settled Accept c h = absurd c
-  stays_settled NoMemory c h = ⊎_elim still_settled (λ left. left.1.settled h) c.1
+  settled_at : (stage : Stage) (e : Refusal) → CauseAt stage words s d e → (status_of e ≡ 5 → ⊥) → d.tells → IsSettled d.held → IsSettled d.after
+  settled_at AtWords e c h = still_settled c.1
+  settled_at AtReading e c h = still_settled c.1
+  settled_at AtInput e c h = still_settled c.1.1
+  settled_at AtFiles e c h = c.1.1.settled h
+  settled_at AtDisk e c h = c.1.1.settled h
+  settled_at AtMemory e c h = ⊎_elim still_settled (λ left. left.1.settled h) c.1
+  settled_at _ e c h = absurd c.1
 
   -- a settled disk is settled after every status but 5
   pub settles : (status : ℕ) → Ends words s k d status → (status ≡ 5 → ⊥) → d.tells → IsSettled d.held → IsSettled d.after
   settles status ends = by_end status (λ n. (n ≡ 5 → ⊥) → d.tells → IsSettled d.held → IsSettled d.after) ends
-      (λ done h tells settled. done.run.served.settled tells settled) (λ untold h tells settled. untold.run.served.settled tells settled) stays_settled
+      (λ done h tells settled. done.run.served.settled tells settled) (λ untold h tells settled. untold.run.served.settled tells settled) (λ e c. settled_at (stage_of e) e c)
 
   -- each crash from then on leaves what the command keeps
   pub keeps : (status : ℕ) → Ends words s k d status → status ≡ 0 → d.tells → Keeps words s d.held d.after
@@ -431,45 +335,26 @@ module _ (words : List (List ℕ)) (s : SourceSide) (k : SinkSide) (d : DiskSide
 
   module _ (opened : Option Opened) where
     good_regions : (e : Refusal) → Caused e → (AsksRun → HasRegions (Err e) opened) → (b : IsGiven words s) → refused_of b ≡ None → (meaning b.command).runs_script ≡ true → IsSome opened ⊎ ((status_of e ≡ 9) ⊎ (status_of e ≡ 3))
-    good_regions (Words usage) c has b good runs = absurd (apart usage.at c.0.0 b.command b.words_are)
-    good_regions (Reading ReadFault) c has b good runs = inr (inr refl)
-    good_regions (Reading InputLimit) c has b good runs = absurd (not_met c.0.0 (λ tells. (c.0.1 tells).0) b)
-    good_regions (Input e) c has b good runs = absurd (found_bad c.0.0 b e c.0.1 good)
-    good_regions (Disk e) c has b good runs = inl (has (b.command, b.words_are, runs))
-    good_regions (ClockEnd left) c has b good runs = absurd c
-    good_regions (ClockFault left) c has b good runs = absurd c
-    good_regions Accept c has b good runs = absurd c
+    good_regions (Usage at) c has b good runs = absurd (apart at c.0.0 b.command b.words_are)
+    good_regions ReadFault c has b good runs = inr (inr refl)
+    good_regions InputLimit c has b good runs = absurd (not_met c.0.0 (λ tells. (c.0.1 tells).0) b)
+    good_regions (Image fault) c has b good runs = absurd (found_bad c.0 b (Image fault) c.1.0 good)
+    good_regions (Line fault) c has b good runs = absurd (found_bad c.0 b (Line fault) c.1.0 good)
+    good_regions (Script fault) c has b good runs = absurd (found_bad c.0 b (Script fault) c.1.0 good)
+    good_regions Accept c has b good runs = absurd c.1
     good_regions NoMemory c has b good runs = inr (inl refl)
-
-    not_of_run : (n : ℕ) → (n ≡ 0 → ⊥) → (n ≡ 4 → ⊥) → (n ≡ 5 → ⊥) → (n ≡ 6 → ⊥) → (n ≡ 12 → ⊥) → (n ≡ 13 → ⊥) → ComesOfRun n → ⊥
-    not_of_run n zero four five six twelve thirteen (inl h) = zero h
-    not_of_run n zero four five six twelve thirteen (inr (inl h)) = four h
-    not_of_run n zero four five six twelve thirteen (inr (inr (inl h))) = five h
-    not_of_run n zero four five six twelve thirteen (inr (inr (inr (inl h)))) = six h
-    not_of_run n zero four five six twelve thirteen (inr (inr (inr (inr (inl h))))) = twelve h
-    not_of_run n zero four five six twelve thirteen (inr (inr (inr (inr (inr h))))) = thirteen h
-
-    input_not_run : (e : InputRefusal) → ComesOfRun (input_status e) → ⊥
-    input_not_run e h = not_of_run (input_status e) (λ k. input_apart 0 (λ j. omega (arith, j)) (λ j. omega (arith, j)) e k) (λ k. input_apart 4 (λ j. omega (arith, j)) (λ j. omega (arith, j)) e k)
-        (λ k. input_apart 5 (λ j. omega (arith, j)) (λ j. omega (arith, j)) e k) (λ k. input_apart 6 (λ j. omega (arith, j)) (λ j. omega (arith, j)) e k)
-        (λ k. input_apart 12 (λ j. omega (arith, j)) (λ j. omega (arith, j)) e k) (λ k. input_apart 13 (λ j. omega (arith, j)) (λ j. omega (arith, j)) e k) h
-
-    never_of_run : (n : ℕ) → (n ≡ 1) ⊎ ((n ≡ 3) ⊎ ((n ≡ 7) ⊎ (n ≡ 9))) → ComesOfRun n → ⊥
-    never_of_run n (inl is) h = not_of_run n (λ k. omega (arith, is, k)) (λ k. omega (arith, is, k)) (λ k. omega (arith, is, k)) (λ k. omega (arith, is, k)) (λ k. omega (arith, is, k)) (λ k. omega (arith, is, k)) h
-    never_of_run n (inr (inl is)) h = not_of_run n (λ k. omega (arith, is, k)) (λ k. omega (arith, is, k)) (λ k. omega (arith, is, k)) (λ k. omega (arith, is, k)) (λ k. omega (arith, is, k)) (λ k. omega (arith, is, k)) h
-    never_of_run n (inr (inr (inl is))) h = not_of_run n (λ k. omega (arith, is, k)) (λ k. omega (arith, is, k)) (λ k. omega (arith, is, k)) (λ k. omega (arith, is, k)) (λ k. omega (arith, is, k)) (λ k. omega (arith, is, k)) h
-    never_of_run n (inr (inr (inr is))) h = not_of_run n (λ k. omega (arith, is, k)) (λ k. omega (arith, is, k)) (λ k. omega (arith, is, k)) (λ k. omega (arith, is, k)) (λ k. omega (arith, is, k)) (λ k. omega (arith, is, k)) h
+    good_regions _ c has b good runs = inl (has (b.command, b.words_are, runs))
 
     ran_regions : (e : Refusal) → (AsksRun → HasRegions (Err e) opened) → AsksRun → ComesOfRun (status_of e) → IsSome opened
-    ran_regions (Words usage) has asks h = absurd (never_of_run 1 (inl refl) h)
-    ran_regions (Reading ReadFault) has asks h = absurd (never_of_run 3 (inr (inl refl)) h)
-    ran_regions (Reading InputLimit) has asks h = absurd (never_of_run 7 (inr (inr (inl refl))) h)
-    ran_regions (Input e) has asks h = absurd (input_not_run e h)
-    ran_regions (Disk e) has asks h = has asks
-    ran_regions (ClockEnd left) has asks h = has asks
-    ran_regions (ClockFault left) has asks h = has asks
-    ran_regions Accept has asks h = absurd (not_of_run 21 (λ k. omega (arith, k)) (λ k. omega (arith, k)) (λ k. omega (arith, k)) (λ k. omega (arith, k)) (λ k. omega (arith, k)) (λ k. omega (arith, k)) h)
-    ran_regions NoMemory has asks h = absurd (never_of_run 9 (inr (inr (inr refl))) h)
+    ran_regions (Usage at) has asks h = absurd (not_run 1 refl h)
+    ran_regions ReadFault has asks h = absurd (not_run 3 refl h)
+    ran_regions InputLimit has asks h = absurd (not_run 7 refl h)
+    ran_regions (Image fault) has asks h = absurd (not_run 2 refl h)
+    ran_regions (Line fault) has asks h = absurd (not_run 2 refl h)
+    ran_regions (Script fault) has asks h = absurd (script_not_run fault.fault h)
+    ran_regions Accept has asks h = absurd (not_run 21 refl h)
+    ran_regions NoMemory has asks h = absurd (not_run 9 refl h)
+    ran_regions _ has asks h = has asks
 
     pub refused_opens : (e : Refusal) → Caused e → (AsksRun → HasRegions (Err e) opened) → (status : ℕ) → status ≡ status_of e → OpensRegions words s opened status
     refused_opens e c has status is = subst (OpensRegions words s opened) (sym is) (record { good = good_regions e c has; ran = λ command is runs h. ran_regions e has (command, is, runs) h })
@@ -478,4 +363,4 @@ module _ (words : List (List ℕ)) (s : SourceSide) (k : SinkSide) (d : DiskSide
     done_opens output has status = record { good = λ b good runs. inl (has (b.command, b.words_are, runs)); ran = λ command is runs h. has (command, is, runs) }
 
     pub untold_opens : OpensRegions words s opened 9
-    untold_opens = record { good = λ b good runs. inr (inl refl); ran = λ command is runs h. absurd (never_of_run 9 (inr (inr (inr refl))) h) }
+    untold_opens = record { good = λ b good runs. inr (inl refl); ran = λ command is runs h. absurd (not_run 9 refl h) }

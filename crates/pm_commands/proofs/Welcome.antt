@@ -9,12 +9,12 @@ use Rattle.archive_reader.proofs.Finds.{readable_stands}
 use Rattle.archive_reader.proofs.Loadable.{loads_readable}
 use Rattle.archive_reader.specs.declared.fault.ReaderFault.TheVariants as faults
 use Rattle.archive_reader.specs.Values.{IsWholeFault}
-use Rattle.pm_words.specs.declared.stage.FilesRefusal.{FilesRefusal}
-use Rattle.pm_words.specs.declared.stage.FilesRefusal.TheVariants.{Run, Compressed, NotArchive, Nothing}
+use Rattle.pm_words.specs.declared.refusal.Refusal.{Refusal}
+use Rattle.pm_words.specs.declared.refusal.Refusal.TheVariants.{Compressed, NotArchive, Nothing}
 use Rattle.pm_words.specs.declared.words.ValueWords.{ValueWords}
 use Rattle.pm_tasks.specs.Archives.{IsLoaded, IsNotLoaded}
 use Rattle.pm_commands.specs.Laws.{IsWelcome, IsWelcomeByTime}
-use Rattle.pm_words.specs.Refusals.{files_status}
+use Rattle.pm_words.specs.Refusals.{status_of}
 use Rattle.pm_words.specs.Sides.{Found}
 use Rattle.pm_runs.proofs.Refused.{takes_readable}
 use Rattle.pm_words.specs.Sound.{RecoversSound}
@@ -27,30 +27,26 @@ use Rattle.pm_tasks.specs.commands.value as value
 not_both : (w : Option FileId) (file : FileId) → w ≡ None → w ≡ Some file → ⊥
 not_both w file none some = let e : None ≡ Some file = sym none ∙ some in cc
 
-is_loaded : (f : Found) → Readable f.files → f.wrapped ≡ None → (e : FilesRefusal) → IsNotLoaded f e → ⊥
-is_loaded f readable unwrapped (Run reason) why = why
+is_loaded : (f : Found) → Readable f.files → f.wrapped ≡ None → (e : Refusal) → IsNotLoaded f e → ⊥
 is_loaded f readable unwrapped (Compressed file) why = not_both f.wrapped file unwrapped why
 is_loaded f readable unwrapped (NotArchive file offset) why = loads_readable f.files file offset readable why.1
-is_loaded f readable unwrapped (Nothing stamp) why = why
+is_loaded f readable unwrapped _ why = why
 
-good_records : (f : Found) (reading : ArchiveReading) → Reads f.files reading → (r : Loaded) → IsLoaded f r → (e : FilesRefusal) → dump.BadRecord r f e → ⊥
-good_records f reading reads r loaded (Run reason) why = why
-good_records f reading reads r loaded (Compressed file) why = why
+good_records : (f : Found) (reading : ArchiveReading) → Reads f.files reading → (r : Loaded) → IsLoaded f r → (e : Refusal) → dump.BadRecord r f e → ⊥
 good_records f reading reads r loaded (NotArchive file offset) why =
     let bad = why.1 in
     (readable_stands f.files reading r reads loaded.over).good why.0 bad.last bad.to file offset bad.leads bad.bad
-good_records f reading reads r loaded (Nothing stamp) why = why
+good_records f reading reads r loaded _ why = why
 
 no_fault : (f : Found) (reading : ArchiveReading) → Reads f.files reading → (r : Loaded) → IsLoaded f r → (file : FileId) (offset : ℕ) → IsWholeFault f.files r.volumes (faults.NotArchive file offset) → ⊥
 no_fault f reading reads r loaded file offset why =
     let bad = why.1 in
     (readable_stands f.files reading r reads loaded.over).good why.0 bad.last bad.to file offset bad.leads bad.bad
 
-good_values : (f : Found) (reading : ArchiveReading) → Reads f.files reading → (r : Loaded) → IsLoaded f r → (asked : ValueWords) (e : FilesRefusal) → value.IsStopped asked r f e → files_status e ≡ 11
-good_values f reading reads r loaded asked (Run reason) why = absurd why
-good_values f reading reads r loaded asked (Compressed file) why = absurd why
+good_values : (f : Found) (reading : ArchiveReading) → Reads f.files reading → (r : Loaded) → IsLoaded f r → (asked : ValueWords) (e : Refusal) → value.IsStopped asked r f e → status_of e ≡ 11
 good_values f reading reads r loaded asked (NotArchive file offset) why = absurd (no_fault f reading reads r loaded file offset why.2)
 good_values f reading reads r loaded asked (Nothing stamp) why = refl
+good_values f reading reads r loaded asked _ why = absurd why
 
 pub welcomes : (f : Found) → Readable f.files → f.wrapped ≡ None → IsWelcome f
 welcomes f readable unwrapped = record {
@@ -62,17 +58,14 @@ welcomes f readable unwrapped = record {
 
 -- ---- by time
 
-good_last : (f : Found) (reading : ArchiveReading) → Reads f.files reading → RecoversSound f.files → (r : Loaded) → IsLoaded f r → (t : Moment) (e : FilesRefusal) → at.IsStopped t r f e → files_status e ≡ 11
-good_last f reading reads sound r loaded t (Run reason) why = absurd why
-good_last f reading reads sound r loaded t (Compressed file) why = absurd why
+good_last : (f : Found) (reading : ArchiveReading) → Reads f.files reading → RecoversSound f.files → (r : Loaded) → IsLoaded f r → (t : Moment) (e : Refusal) → at.IsStopped t r f e → status_of e ≡ 11
 good_last f reading reads sound r loaded t (NotArchive file offset) why = absurd (last_never_refused f.files reading reads sound r loaded.over t file offset why)
 good_last f reading reads sound r loaded t (Nothing stamp) why = refl
+good_last f reading reads sound r loaded t _ why = absurd why
 
-good_range : (f : Found) (reading : ArchiveReading) → Reads f.files reading → RecoversSound f.files → (r : Loaded) → IsLoaded f r → (from to : Moment) (e : FilesRefusal) → range.IsStopped from to r f e → ⊥
-good_range f reading reads sound r loaded from to (Run reason) why = why
-good_range f reading reads sound r loaded from to (Compressed file) why = why
+good_range : (f : Found) (reading : ArchiveReading) → Reads f.files reading → RecoversSound f.files → (r : Loaded) → IsLoaded f r → (from to : Moment) (e : Refusal) → range.IsStopped from to r f e → ⊥
 good_range f reading reads sound r loaded from to (NotArchive file offset) why = range_never_refused f.files reading reads sound r loaded.over from to file offset why
-good_range f reading reads sound r loaded from to (Nothing stamp) why = why
+good_range f reading reads sound r loaded from to _ why = why
 
 pub welcomes_by_time : (f : Found) → Readable f.files → RecoversSound f.files → f.wrapped ≡ None → IsWelcomeByTime f
 welcomes_by_time f readable sound unwrapped = record {

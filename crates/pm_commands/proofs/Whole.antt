@@ -7,7 +7,7 @@ use Rattle.run_passes.specs.declared.opening.Opened.{Opened}
 use Rattle.pm_words.specs.declared.words.Call.TheVariants as calls
 use Rattle.pm_words.specs.declared.words.Command.{Command}
 use Rattle.pm_words.specs.declared.refusal.Refusal.{Refusal}
-use Rattle.pm_words.specs.declared.refusal.Refusal.TheVariants.{Words, Reading, Input, Disk, ClockEnd, ClockFault, Accept, NoMemory}
+use Rattle.pm_words.specs.declared.refusal.Refusal.TheVariants.{Usage, ReadFault, InputLimit, NoMemory}
 use Rattle.pm_words.specs.Asking.{Before, IsInputless}
 use Rattle.pm_words.specs.Meaning.{Meaning}
 use Rattle.pm_words.specs.Serving.{HadRecovered, HasRecovered, HasRegions, MayLeave, StopCause}
@@ -28,28 +28,21 @@ use Rattle.pm_commands.proofs.Facts as facts_of
 
 -- a body's refusal is none of the words or of the reading
 of_body : (m : Meaning) (input : List ℕ) (d : DiskSide) (e : Refusal) → StopCause m input d e → IsOfBody e
-of_body m input d (Words usage) c = c
-of_body m input d (Reading e) c = c
-of_body m input d (Input e) c = tt
-of_body m input d (Disk e) c = tt
-of_body m input d (ClockEnd left) c = tt
-of_body m input d (ClockFault left) c = tt
-of_body m input d Accept c = tt
-of_body m input d NoMemory c = tt
+of_body m input d (Usage at) c = c
+of_body m input d ReadFault c = c
+of_body m input d InputLimit c = c
+of_body m input d _ c = tt
 
 same_refusal : (a b : Refusal) (r : Result (List ℕ) Refusal) → r ≡ Err a → r ≡ Err b → a ≡ b
 same_refusal a b r is also = let e : Err a ≡ Err b = sym is ∙ also in cc
 
 -- a refusal before the command owes no regions
 no_regions : (words : List (List ℕ)) (s : SourceSide) (opened : Option Opened) (e : Refusal) → Before calls.Offline words s e → HasRegions (Err e) opened
-no_regions words s opened (Words usage) b = tt
-no_regions words s opened (Reading e) b = tt
-no_regions words s opened (Input e) b = absurd b
-no_regions words s opened (Disk e) b = absurd b
-no_regions words s opened (ClockEnd left) b = absurd b
-no_regions words s opened (ClockFault left) b = absurd b
-no_regions words s opened Accept b = absurd b
+no_regions words s opened (Usage at) b = tt
+no_regions words s opened ReadFault b = tt
+no_regions words s opened InputLimit b = tt
 no_regions words s opened NoMemory b = tt
+no_regions words s opened _ b = absurd b
 
 recovered_by : (result : Result (List ℕ) Refusal) (status : ℕ) → IsToldBy result status → HadRecovered status → HasRecovered result
 recovered_by (Ok text) status told had = tt

@@ -3,10 +3,9 @@ use Rattle.std.specs.Prelude.{◌≡◌, ◌⊎◌, ℕ, List, [], ◌++◌, tak
 use Rattle.pcp_model.specs.Disk.{Files, Holdings, CrashImage}
 use Rattle.pcp_outside.specs.Causes.{Rose}
 use Rattle.pm_words.specs.declared.refusal.Refusal.{Refusal}
-use Rattle.pm_words.specs.declared.refusal.Refusal.TheVariants.{Words, Reading, Input, Disk, ClockEnd, ClockFault, Accept, NoMemory}
 use Rattle.pm_commands.specs.Causes.{Asks, Cause}
 use Rattle.pm_commands.specs.Meanings.{meaning}
-use Rattle.pm_words.specs.Refusals.{status_of, line_of, Wrote}
+use Rattle.pm_words.specs.Refusals.{Stage, AtWords, AtReading, AtMemory, stage_of, status_of, line_of, Wrote}
 use Rattle.pcp_outside.specs.Sides.{SourceSide, SinkSide}
 use Rattle.pm_words.specs.Sides.{DiskSide}
 use Rattle.pm_words.specs.Serving.{HasServed}
@@ -33,15 +32,14 @@ pub record EndsUntold (words : List (List ℕ)) (s : SourceSide) (k : SinkSide) 
 abbrev pub AskedBegins : List (List ℕ) → SourceSide → DiskSide → Refusal → List ℕ → Type 0
 AskedBegins words s d e front = (a : Asks words s) × (meaning a.command).begins a.input d e front
 
+abbrev pub BegunAt : Stage → List (List ℕ) → SourceSide → DiskSide → Refusal → List ℕ → Type 0
+BegunAt AtWords words s d e front = front ≡ []
+BegunAt AtReading words s d e front = front ≡ []
+BegunAt AtMemory words s d e front = (front ≡ []) ⊎ AskedBegins words s d e front
+BegunAt _ words s d e front = AskedBegins words s d e front
+
 abbrev pub HasBegun : List (List ℕ) → SourceSide → DiskSide → Refusal → List ℕ → Type 0
-HasBegun words s d (Words usage) front = front ≡ []
-HasBegun words s d (Reading e) front = front ≡ []
-HasBegun words s d (Input e) front = AskedBegins words s d (Input e) front
-HasBegun words s d (Disk e) front = AskedBegins words s d (Disk e) front
-HasBegun words s d (ClockEnd left) front = ⊥
-HasBegun words s d (ClockFault left) front = ⊥
-HasBegun words s d Accept front = ⊥
-HasBegun words s d NoMemory front = (front ≡ []) ⊎ AskedBegins words s d NoMemory front
+HasBegun words s d e front = BegunAt (stage_of e) words s d e front
 
 -- the output of a refusal: what was begun and a line, or a front of both where the sink failed
 abbrev pub TellsOutput : SinkSide → List ℕ → Type 0

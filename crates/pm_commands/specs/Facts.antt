@@ -1,6 +1,6 @@
 -- What a status says, fact by fact. "Always" yields to want of memory (9) and to a read that failed before (3), which no
 -- clause can foresee.
-use Rattle.std.specs.Prelude.{◌≡◌, ◌⊎◌, ℕ, ◌<◌, ◌≤◌, Bool, List, [], length, drop, true, false, Option, Some, None, IsSome, Result, Ok}
+use Rattle.std.specs.Prelude.{◌≡◌, ◌⊎◌, ℕ, ◌≤◌, Bool, List, [], length, true, false, Option, Some, None, IsSome, Result, Ok}
 use Rattle.pcp_base.specs.Time.{Moment}
 use Rattle.pcp_base.specs.declared.file.FileId.{FileId}
 use Rattle.pcp_model.specs.Disk.{Files, Holdings, CrashImage, IsSettled, contents_of}
@@ -12,17 +12,16 @@ use Rattle.pcp_outside.specs.declared.streams.Source.{Ghosts as SourceGhosts}
 use Rattle.run_passes.specs.declared.opening.Opened.{Opened}
 use Rattle.pm_words.specs.declared.words.Call.TheVariants as calls
 use Rattle.pm_words.specs.declared.words.Command.{Command}
-use Rattle.pm_words.specs.declared.stage.InputRefusal.{InputRefusal}
-use Rattle.pm_words.specs.declared.stage.FilesRefusal.{FilesRefusal}
-use Rattle.pm_words.specs.declared.stage.FilesRefusal.TheVariants.{Run, Compressed, Nothing}
-use Rattle.pm_words.specs.declared.stage.RunRefusal.{RunRefusal}
-use Rattle.pm_words.specs.declared.stage.RunRefusal.TheVariants.{Condition, NotLater, Changed}
+use Rattle.run_script.specs.declared.fault.ScriptFault.{ScriptFault}
+use Rattle.script_runs.specs.declared.ending.LimitKind.{LimitKind}
 use Rattle.pm_words.specs.declared.refusal.Refusal.{Refusal}
+use Rattle.pm_words.specs.declared.refusal.Refusal.TheVariants.{Script, Condition, Limit, NotLater, Changed, Compressed, Nothing}
 use Rattle.pm_words.specs.Asking.{IsInputless, ReadingIsExact, UsageIsExact}
+use Rattle.pm_words.specs.Reading.{IsAbove}
 use Rattle.pm_words.specs.CommandLine.{asked_by, takes_input}
 use Rattle.pm_words.specs.Inputs.{input_limit, refusal_of}
 use Rattle.pm_words.specs.Meaning.{Meaning}
-use Rattle.pm_words.specs.Refusals.{input_status, files_status, run_status}
+use Rattle.pm_words.specs.Refusals.{IsOfRun, script_status, status_of}
 use Rattle.pm_words.specs.Serving.{HadRecovered}
 use Rattle.pm_words.specs.Sides.{DiskSide, disk_side, files_found, IsUnread, Leaves, Untouched}
 use Rattle.pm_words.specs.Sound.{LeavesSound}
@@ -40,7 +39,7 @@ abbrev pub IsAside : List (List ℕ) → Type 0
 IsAside words = (command : Command) × IsCommand words command × ((meaning command).uses_disk ≡ false)
 
 -- the command of the words is given a good input, and turns away the files that it finds
-pub record TurnsAway (words : List (List ℕ)) (s : SourceSide) (d : DiskSide) (e : FilesRefusal) : Type 0 where
+pub record TurnsAway (words : List (List ℕ)) (s : SourceSide) (d : DiskSide) (e : Refusal) : Type 0 where
   pub asks : Asks words s
   pub good : fault_of asks ≡ None
   pub uses : (meaning asks.command).uses_disk ≡ true
@@ -51,8 +50,8 @@ pub record TurnsAway (words : List (List ℕ)) (s : SourceSide) (d : DiskSide) (
 -- full.
 abbrev pub LimitCause : List (List ℕ) → SourceSide → DiskSide → Type 0
 LimitCause words s d =
-    (IsReader words × (s.tells → (input_limit < length s.left) × (s.after ≡ drop 16777217 s.left)))
-    ⊎ (((e : InputRefusal) × (input_status e ≡ 7) × Finds words s e) ⊎ ((reason : RunRefusal) × (run_status reason ≡ 7) × TurnsAway words s d (Run reason)))
+    (IsReader words × IsAbove s)
+    ⊎ (((fault : ScriptFault) × (script_status fault.fault ≡ 7) × Finds words s (Script fault)) ⊎ ((what : LimitKind) × (number : ℕ) × TurnsAway words s d (Limit what number)))
 
 -- what the source gives: all that it has left, within the limit, or nothing to a command that takes no input
 abbrev pub GivesInput : Bool → SourceSide → List ℕ → Type 0
@@ -67,28 +66,28 @@ pub record IsGiven (words : List (List ℕ)) (s : SourceSide) : Type 0 where
   pub given : GivesInput (takes_input command) s input
 
 -- why the command refuses what it is given, if so
-abbrev pub refused_of : {words : List (List ℕ)} {s : SourceSide} → IsGiven words s → Option InputRefusal
+abbrev pub refused_of : {words : List (List ℕ)} {s : SourceSide} → IsGiven words s → Option Refusal
 refused_of a = refusal_of (meaning a.command).reads a.input
 
 -- 2 only where the input isn't what the command reads: no image, no layout text, or no script; or where the condition of a script's
 -- line fails in the run. An input that is refused always has its refusal's status: 2, or 7 where a script has too many regions.
 pub record InputFaultIsExact (words : List (List ℕ)) (s : SourceSide) (d : DiskSide) (status : ℕ) : Type 0 where
-  pub only : status ≡ 2 → ((e : InputRefusal) × (input_status e ≡ 2) × Finds words s e) ⊎ ((line : ℕ) × TurnsAway words s d (Run (Condition line)))
-  pub always : (a : IsGiven words s) → (e : InputRefusal) → refused_of a ≡ Some e → (status ≡ input_status e) ⊎ ((status ≡ 9) ⊎ (status ≡ 3))
+  pub only : status ≡ 2 → ((e : Refusal) × (status_of e ≡ 2) × Finds words s e) ⊎ ((line : ℕ) × TurnsAway words s d (Condition line))
+  pub always : (a : IsGiven words s) → (e : Refusal) → refused_of a ≡ Some e → (status ≡ status_of e) ⊎ ((status ≡ 9) ⊎ (status ≡ 3))
 
 -- 12 only where a result isn't later than all that the archive has, 13 only where that describes a metric otherwise. Where the run
 -- ends before its end, the status is always that of the one reason: 2 where a line's condition fails, 12, 13, or 7 where there is too
 -- much of something; a disk that fails comes before.
 pub record RunIsExact (words : List (List ℕ)) (s : SourceSide) (d : DiskSide) (status : ℕ) : Type 0 where
-  pub not_later : status ≡ 12 → (last : Moment) × TurnsAway words s d (Run (NotLater last))
-  pub changed : status ≡ 13 → (pmid : ℕ) × TurnsAway words s d (Run (Changed pmid))
-  pub always : (a : IsGiven words s) → refused_of a ≡ None → d.tells → (reason : RunRefusal) → (meaning a.command).turns_away a.input (files_found d) (Run reason)
-      → (status ≡ run_status reason) ⊎ ((status ≡ 9) ⊎ ((status ≡ 3) ⊎ (status ≡ 5)))
+  pub not_later : status ≡ 12 → (last : Moment) × TurnsAway words s d (NotLater last)
+  pub changed : status ≡ 13 → (pmid : ℕ) × TurnsAway words s d (Changed pmid)
+  pub always : (a : IsGiven words s) → refused_of a ≡ None → d.tells → (reason : Refusal) → IsOfRun reason → (meaning a.command).turns_away a.input (files_found d) reason
+      → (status ≡ status_of reason) ⊎ ((status ≡ 9) ⊎ ((status ≡ 3) ⊎ (status ≡ 5)))
 
 -- 6 only where the archive is turned away: a file stands wrapped, or an offset fits no archive; always in the first case, unless the
 -- disk fails before
 pub record ArchiveFaultIsExact (words : List (List ℕ)) (s : SourceSide) (d : DiskSide) (status : ℕ) : Type 0 where
-  pub only : status ≡ 6 → (e : FilesRefusal) × (files_status e ≡ 6) × TurnsAway words s d e
+  pub only : status ≡ 6 → (e : Refusal) × (status_of e ≡ 6) × TurnsAway words s d e
   pub always : (a : IsGiven words s) → refused_of a ≡ None → d.tells → (file : FileId) → (meaning a.command).turns_away a.input (files_found d) (Compressed file)
       → (status ≡ 6) ⊎ ((status ≡ 9) ⊎ ((status ≡ 3) ⊎ (status ≡ 5)))
 
@@ -110,7 +109,7 @@ IsUnwritten words s d status = Untouched d ⊎ ((a : Asks words s) × (meaning a
 -- count that doesn't rise
 pub record IsGoodDisk (m : Meaning) (input : List ℕ) (d : DiskSide) : Type 0 where
   pub tells : d.tells
-  pub welcome : (e : FilesRefusal) → m.turns_away input (files_found d) e → files_status e ≡ 11
+  pub welcome : (e : Refusal) → m.turns_away input (files_found d) e → status_of e ≡ 11
   pub kept : Rose d.faults d.faults_after → ⊥
 
 -- Good input succeeds: a command, an input that it reads, a good disk where it uses one, and no count that rose.

@@ -12,16 +12,15 @@ use Rattle.script_runs.specs.declared.ending.Ending.{Ending}
 use Rattle.script_runs.specs.declared.ending.Ending.TheVariants as ends
 use Rattle.script_runs.specs.Regions.{ScriptRegion}
 use Rattle.script_runs.specs.Runs.{RunsTo}
-use Rattle.pm_words.specs.declared.stage.FilesRefusal.{FilesRefusal}
-use Rattle.pm_words.specs.declared.stage.FilesRefusal.TheVariants.{Run}
-use Rattle.pm_words.specs.declared.stage.RunRefusal.TheVariants.{Condition, Limit}
+use Rattle.pm_words.specs.declared.refusal.Refusal.{Refusal}
+use Rattle.pm_words.specs.declared.refusal.Refusal.TheVariants.{Condition, Limit}
 use Rattle.pm_words.specs.declared.words.Command.TheVariants.{Make}
 use Rattle.pm_words.specs.declared.words.MakeWords.{MakeWords}
 use Rattle.pm_words.specs.CommandLine.{FitsCommand}
 use Rattle.run_script.specs.Generated.{generated_script}
 use Rattle.script_runs.specs.declared.ending.LimitKind.TheVariants as kinds
 use Rattle.pm_words.specs.declared.words.ValueWords.{ValueWords}
-use Rattle.pm_words.specs.Refusals.{files_status}
+use Rattle.pm_words.specs.Refusals.{status_of}
 use Rattle.pm_words.specs.Sides.{Found}
 use Rattle.pm_runs.specs.Scripts as scripts
 use Rattle.pm_runs.specs.Scripts.{IsOne, IsOwn, Leads}
@@ -34,18 +33,18 @@ use Rattle.pm_runs.specs.commands.recover as recover
 use Rattle.pm_tasks.specs.commands.value as value
 
 pub record IsWelcome (f : Found) : Type 0 where
-  pub descriptions : (e : FilesRefusal) → info.IsTurnedAway f e → ⊥
-  pub items : (e : FilesRefusal) → dump.IsTurnedAway f e → ⊥
-  pub recovery : (e : FilesRefusal) → recover.IsTurnedAway f e → ⊥
-  pub values : (asked : ValueWords) (e : FilesRefusal) → value.IsTurnedAway asked f e → files_status e ≡ 11
+  pub descriptions : (e : Refusal) → info.IsTurnedAway f e → ⊥
+  pub items : (e : Refusal) → dump.IsTurnedAway f e → ⊥
+  pub recovery : (e : Refusal) → recover.IsTurnedAway f e → ⊥
+  pub values : (asked : ValueWords) (e : Refusal) → value.IsTurnedAway asked f e → status_of e ≡ 11
 
 abbrev pub ReadableIsWelcome : Type 0
 ReadableIsWelcome = (f : Found) → Readable f.files → f.wrapped ≡ None → IsWelcome f
 
 -- the last item not after a moment is found, or there is none; and the items of a range are found, though there may be none
 pub record IsWelcomeByTime (f : Found) : Type 0 where
-  pub last : (t : Moment) (e : FilesRefusal) → at.IsTurnedAway t f e → files_status e ≡ 11
-  pub between : (from to : Moment) (e : FilesRefusal) → range.IsTurnedAway from to f e → ⊥
+  pub last : (t : Moment) (e : Refusal) → at.IsTurnedAway t f e → status_of e ≡ 11
+  pub between : (from to : Moment) (e : Refusal) → range.IsTurnedAway from to f e → ⊥
 
 -- A readable archive, of which no file stands wrapped and what recovery would leave is sound, is turned away by no command that asks
 -- by time, but where `at` finds no item. Of a sound archive this logger, and each stop of it, leaves such files.
@@ -58,7 +57,7 @@ SoundBeforeRecovery = (files : Files) → Readable files → RecoversSound files
 
 -- a command that runs a script turns no files away over which the run comes to its end
 abbrev pub DoneIsWelcome : Type 0
-DoneIsWelcome = (f : Found) (script : Script) (limit : ℕ) (output : List ℕ) (events : List Event) (final : Files) → Leads script limit f.files ends.Done output events final → f.wrapped ≡ None → (e : FilesRefusal) → scripts.IsTurnedAway limit f script e → ⊥
+DoneIsWelcome = (f : Found) (script : Script) (limit : ℕ) (output : List ℕ) (events : List Event) (final : Files) → Leads script limit f.files ends.Done output events final → f.wrapped ≡ None → (e : Refusal) → scripts.IsTurnedAway limit f script e → ⊥
 
 -- a script runs over files to one end of its own, with one output, the same events, regions and files
 abbrev pub OneEnd : Type 0
@@ -67,5 +66,5 @@ OneEnd = (script : Script) (limit : ℕ) (start : Files) (a b : Ending) → IsOw
 -- The script that `make` runs is turned away by no files for its lines: no condition fails in it, and no tick asks for too many metrics. So its
 -- run comes to its end wherever the archive takes each result.
 abbrev pub MadeRunsOn : Type 0
-MadeRunsOn = (asked : MakeWords) → FitsCommand (Make asked) → (f : Found) → ((line : ℕ) → scripts.IsTurnedAway asked.volume f (generated_script asked.number asked.ticks) (Run (Condition line)) → ⊥)
-    × ((number : ℕ) → scripts.IsTurnedAway asked.volume f (generated_script asked.number asked.ticks) (Run (Limit kinds.Sets number)) → ⊥)
+MadeRunsOn = (asked : MakeWords) → FitsCommand (Make asked) → (f : Found) → ((line : ℕ) → scripts.IsTurnedAway asked.volume f (generated_script asked.number asked.ticks) (Condition line) → ⊥)
+    × ((number : ℕ) → scripts.IsTurnedAway asked.volume f (generated_script asked.number asked.ticks) (Limit kinds.Sets number) → ⊥)

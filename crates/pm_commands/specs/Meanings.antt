@@ -1,5 +1,5 @@
 -- The meaning of each command. Where a new one goes: its variant and its words in pm_words, its meaning here, its body in `serve`.
-use Rattle.std.specs.Prelude.{[], None}
+use Rattle.std.specs.Prelude.{Bool, true, [], None}
 use Rattle.pm_words.specs.declared.words.Command.{Command}
 use Rattle.pm_words.specs.declared.words.Command.TheVariants.{Once, Replay, Make, MmvMake, MmvDump, Dump, Info, Recover, At, Range, Value, Record, Serve}
 use Rattle.pm_words.specs.Meaning.{Meaning, converts}
@@ -33,3 +33,8 @@ meaning (Range from to) = range from to
 meaning (Value asked) = value asked
 meaning (Record asked) = other
 meaning (Serve count) = other
+
+-- whether a command writes an archive; `record` does, whose meaning is its call's
+abbrev pub writes_archive : Command → Bool
+writes_archive (Record asked) = true
+writes_archive command = (meaning command).writes_archive

@@ -7,7 +7,7 @@ ghost use Rattle.pm_words.specs.CommandLine.{FitsCommand, call_of};
 ghost use Rattle.pm_words.specs.Inputs.{input_limit};
 ghost use Rattle.pm_words.specs.Serving.{MeetsSending};
 ghost use Rattle.pm_commands.specs.Facts.{Facts, sides};
-ghost use Rattle.pm_commands.specs.Meanings.{meaning};
+ghost use Rattle.pm_commands.specs.Meanings.{meaning, writes_archive};
 ghost use Rattle.pm_commands.specs.Running.{Runs};
 
 use pcp_base::Bytes;
@@ -17,6 +17,20 @@ use pm_tasks::{at, dump, info, mmv_dump, mmv_make, range, value};
 use pm_words::{Call, Command, Refusal, ask, tell_end};
 use run_passes::Opened;
 use std::alloc::Global;
+
+/// Whether a command writes an archive, as its meaning says.
+pub fn writes_archive(command: &Command) -> bool
+    ensures { result ≡ writes_archive command.now }
+{
+    matches!(
+        command,
+        Command::Once(_)
+            | Command::Replay(_)
+            | Command::Make(_)
+            | Command::Recover
+            | Command::Record(_)
+    )
+}
 
 // Does what a command asks for with its input. What it writes before it is done goes to the sink unless that has failed.
 fn serve<O: Sink, D: Disk>(

@@ -23,6 +23,7 @@ module _ {C D : Type 0} (c : CallSide C D) (k : SinkSide) (only_now : OnlyNow c)
 
   pub facts : Facts c k status
   facts = record {
+    ends = e;
     done = is_done c k status e;
     usage = usage_is_exact calls.Record c.words c.source e.result status (told_by k [] e.result status e.told) (came_as c e.result e.came);
     script_fault = script_fault_is_exact c status saw;

@@ -7,13 +7,11 @@ use Rattle.run_script.specs.declared.fault.ScriptLineFault.TheVariants as script
 use Rattle.script_runs.specs.declared.ending.Ending.{Ending}
 use Rattle.script_runs.specs.declared.ending.Ending.TheVariants as ends
 use Rattle.pm_words.specs.declared.refusal.Refusal.{Refusal}
-use Rattle.pm_words.specs.declared.refusal.Refusal.TheVariants.{Words, Reading, Input, NoMemory}
-use Rattle.pm_words.specs.declared.stage.InputRefusal.{InputRefusal}
-use Rattle.pm_words.specs.declared.stage.ReadRefusal.TheVariants.{ReadFault, InputLimit}
+use Rattle.pm_words.specs.declared.refusal.Refusal.TheVariants.{Usage, ReadFault, InputLimit, Script as Scripted, NoMemory}
 use Rattle.pm_words.specs.declared.words.Call.TheVariants as calls
 use Rattle.pm_words.specs.declared.words.Command.TheVariants.{Record}
 use Rattle.pm_words.specs.Asking as asking
-use Rattle.pm_words.specs.Refusals.{ending_refusal, input_status, script_status, status_of}
+use Rattle.pm_words.specs.Refusals.{ending_refusal, script_status, status_of}
 use Rattle.pm_words.specs.Telling.{IsToldBy, TellsAll}
 use Rattle.pm_words.proofs.Asked.{Came, IsOfBody}
 use Rattle.pm_words.proofs.Telling.{told_by}
@@ -73,10 +71,10 @@ body_of line (Some f) body e is = let same : f ≡ e = cc in subst IsOfBody same
 
 module _ (words : List (List ℕ)) (s : SourceSide) where
   early_status : (e : Refusal) → Cause words s e → is_early (status_of e) ≡ true
-  early_status (Words usage) cause = refl
-  early_status (Reading ReadFault) cause = refl
-  early_status (Reading InputLimit) cause = refl
-  early_status (Input e) cause = subst (λ (x : InputRefusal). is_early (input_status x) ≡ true) (sym cause.1) (script_early cause.0.fault)
+  early_status (Usage at) cause = refl
+  early_status ReadFault cause = refl
+  early_status InputLimit cause = refl
+  early_status (Scripted fault) cause = script_early fault.fault
   early_status NoMemory cause = refl
   early_status e cause = absurd cause
 
@@ -85,7 +83,7 @@ module _ (words : List (List ℕ)) (s : SourceSide) where
   asked_so a = record { command = Record a.asked; words_are = a.words_are; input = a.input; got = a.read }
 
   came_early : (result : Result (List ℕ) Refusal) (e : Refusal) → result ≡ Err e → Cause words s e → Came calls.Record words s result
-  came_early result (Input e) is cause = inl (asked_so cause.2.0, λ (f : Refusal) (same : result ≡ Err f). body_of [] (Some (Input e)) tt f (sym is ∙ same))
+  came_early result (Scripted fault) is cause = inl (asked_so cause.0, λ (f : Refusal) (same : result ≡ Err f). body_of [] (Some (Scripted fault)) tt f (sym is ∙ same))
   came_early result e is cause = inr (e, is, cause)
 
 module _ {C D : Type 0} (c : CallSide C D) where

@@ -14,13 +14,12 @@ use Rattle.script_runs.specs.declared.ending.Ending.TheVariants as ends
 use Rattle.run_archive.specs.Outcomes.{IsUnrecovered, WentOn, left_of}
 use Rattle.run_archive.specs.Sampling.{HasEnded}
 use Rattle.pm_words.specs.declared.refusal.Refusal.{Refusal}
-use Rattle.pm_words.specs.declared.refusal.Refusal.TheVariants.{Words, Reading, Input, Disk, NoMemory}
-use Rattle.pm_words.specs.declared.stage.ReadRefusal.TheVariants.{ReadFault, InputLimit}
+use Rattle.pm_words.specs.declared.refusal.Refusal.TheVariants.{Usage, ReadFault, InputLimit, Image, Line, Script as Scripted, Condition, Limit, NoMemory}
 use Rattle.pm_words.specs.declared.words.Call.TheVariants as calls
 use Rattle.pm_words.specs.declared.words.Command.{Command}
 use Rattle.pm_words.specs.declared.words.Command.TheVariants.{Record}
 use Rattle.pm_words.specs.declared.words.RecordWords.{RecordWords}
-use Rattle.pm_words.specs.Refusals.{input_status, script_status, status_of}
+use Rattle.pm_words.specs.Refusals.{script_status, status_of}
 use Rattle.pm_words.specs.Inputs.{input_limit}
 use Rattle.pm_words.proofs.Asked.{apart, one}
 use Rattle.pm_recording.specs.Ends.{Asks, Cause, Finds, Orders, Ran, course_of}
@@ -45,10 +44,10 @@ module _ {C D : Type 0} (c : CallSide C D) where
 
   -- but for want of memory and a read that failed, it is refused before the run for a fault of the input alone
   met : Meets c.words c.source → (e : Refusal) → Cause c.words c.source e → Wants (status_of e) ⊎ FaultOf (status_of e)
-  met m (Words usage) cause = absurd (apart calls.Record c.words c.source usage.at cause.0 m.asked.0 m.asked.1)
-  met m (Reading ReadFault) cause = inl (inr (refl, cause.1.0))
-  met m (Reading InputLimit) cause = let above : input_limit < length c.source.left = (cause.1 m.tells).0 in let within = m.within in absurd (omega (arith, above, within))
-  met m (Input e) cause = inr (cause.0, of_left cause.2.0 m.tells (Err cause.0) cause.2.1, ap input_status cause.1)
+  met m (Usage at) cause = absurd (apart calls.Record c.words c.source at cause.0 m.asked.0 m.asked.1)
+  met m ReadFault cause = inl (inr (refl, cause.1.0))
+  met m InputLimit cause = let above : input_limit < length c.source.left = (cause.1 m.tells).0 in let within = m.within in absurd (omega (arith, above, within))
+  met m (Scripted fault) cause = inr (fault, of_left cause.0 m.tells (Err fault) cause.1, refl)
   met m NoMemory cause = inl (inl refl)
   met m e cause = absurd cause
 
@@ -75,10 +74,10 @@ module _ {C D : Type 0} (c : CallSide C D) where
   no_condition ending ran h = omega (arith, h)
 
   fault_found : (e : Refusal) → Cause c.words c.source e → status_of e ≡ 2 → (fault : ScriptFault) × (script_status fault.fault ≡ 2) × Finds c.words c.source fault
-  fault_found (Input e) cause h = (cause.0, sym (ap input_status cause.1) ∙ h, cause.2)
-  fault_found (Disk e) cause h = absurd cause
-  fault_found (Reading ReadFault) cause h = absurd (omega (arith, h))
-  fault_found (Reading InputLimit) cause h = absurd (omega (arith, h))
+  fault_found (Scripted fault) cause h = (fault, h, cause)
+  fault_found (Image fault) cause h = absurd cause
+  fault_found (Line fault) cause h = absurd cause
+  fault_found (Condition line) cause h = absurd cause
   fault_found e cause h = absurd (omega (arith, h))
 
   pub script_fault_is_exact : (status : ℕ) → Seen c status → ScriptFaultIsExact c.words c.source status
@@ -93,10 +92,9 @@ module _ {C D : Type 0} (c : CallSide C D) where
     told m fault bad (inr (ending, ran, late)) = absurd (says_both ran.script fault (of_left ran.asks m.tells (Ok ran.script) ran.good) bad)
 
   limit_early : (e : Refusal) → Cause c.words c.source e → status_of e ≡ 7 → LimitCause c
-  limit_early (Input e) cause h = inr (inl (cause.0, sym (ap input_status cause.1) ∙ h, cause.2))
-  limit_early (Reading InputLimit) cause h = inl cause
-  limit_early (Reading ReadFault) cause h = absurd (omega (arith, h))
-  limit_early (Disk e) cause h = absurd cause
+  limit_early (Scripted fault) cause h = inr (inl (fault, h, cause))
+  limit_early InputLimit cause h = inl cause
+  limit_early (Limit what number) cause h = absurd cause
   limit_early e cause h = absurd (omega (arith, h))
 
   limit_late : (ending : Ending) → Ran c ending → ended_status ending ≡ 7 → LimitCause c

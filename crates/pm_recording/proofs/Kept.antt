@@ -60,7 +60,7 @@ module _ {C D : Type 0} (c : CallSide C D) where
   -- the line of a disk that failed takes no memory
   failed_so : (n : ℕ) → Late ends.DiskFault n → n ≡ 5
   failed_so n (inl h) = h
-  failed_so n (inr (h, some)) = absurd (unlike some)
+  failed_so n (inr (h, some)) = absurd some
 
   pub settles : (status : ℕ) → Seen c status → (status ≡ 5 → ⊥) → Settles
   settles status (inl (e, cause, unrun, told)) five tells settled = subst (λ (d : D). IsSettled (c.run.disk.held d)) (sym unrun.disk) settled

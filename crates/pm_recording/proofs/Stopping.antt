@@ -6,10 +6,8 @@ use Rattle.run_archive.specs.declared.replayed.Replayed.{Replayed}
 use Rattle.run_script.specs.declared.script.Script.{Script}
 use Rattle.script_runs.specs.declared.ending.Ending.{Ending}
 use Rattle.script_runs.specs.declared.ending.Ending.TheVariants as ends
-use Rattle.pm_words.specs.declared.refusal.Refusal.TheVariants.{Input}
-use Rattle.pm_words.specs.declared.stage.InputRefusal.{InputRefusal}
-use Rattle.pm_words.specs.declared.stage.StageFault.{StageFault}
-use Rattle.pm_words.specs.declared.stage.StageFault.TheVariants.{OutOfMemory, Refused}
+use Rattle.pm_words.specs.declared.refusal.Refusal.{Refusal}
+use Rattle.pm_words.specs.declared.refusal.Refusal.TheVariants.{Script as Scripted, NoMemory}
 use Rattle.pm_words.specs.declared.words.Call.TheVariants as calls
 use Rattle.pm_words.specs.declared.words.Command.{Command}
 use Rattle.pm_words.specs.declared.words.Command.TheVariants.{Record}
@@ -17,7 +15,7 @@ use Rattle.pm_words.specs.declared.words.RecordWords.{RecordWords}
 use Rattle.pm_words.specs.Asking.{AsksFor, Got}
 use Rattle.pm_words.specs.CommandLine.{takes_input}
 use Rattle.pm_words.specs.Reading.{TookSome, WasRead}
-use Rattle.pm_words.specs.Refusals.{ending_refusal, refusal_of_stage}
+use Rattle.pm_words.specs.Refusals.{ending_refusal}
 use Rattle.pm_recording.specs.Ends.{Asks, Cause, IsOrder, Ran, count_of, logged_line, told_as}
 use Rattle.pm_recording.specs.Recording.{CallSide, HasRecorded}
 use Rattle.pm_recording.specs.Scripts.{Answers, script_recorded}
@@ -40,9 +38,10 @@ module _ (words : List (List ℕ)) (s : SourceSide) where
       let within : length s.left ≤ 16777216 = subst (λ (bytes : List ℕ). length bytes ≤ 16777216) told.0 a.read.within in
       (length s.left, omega arith, told.1 ∙ sym (drop_all (length s.left) s.left (omega arith)))
 
-  pub by_script : (a : Asks words s) (stop : StageFault InputRefusal) → Answers (script_recorded a.input) (Err stop) → Cause words s (refusal_of_stage (λ (e : InputRefusal). Input e) stop)
-  by_script a OutOfMemory why = took a
-  by_script a (Refused e) why = (why.0, why.2, (a, why.1))
+  pub by_script : (a : Asks words s) (e : Refusal) → Answers (script_recorded a.input) (Err e) → Cause words s e
+  by_script a (Scripted fault) why = (a, why)
+  by_script a NoMemory why = took a
+  by_script a e why = absurd why
 
 module _ {C D : Type 0} (c : CallSide C D) where
   abbrev pub ran_by : (asked : RecordWords) (script : Script) → IsOrder c.words c.source asked script → (told : Replayed) → HasRecorded c.run asked script told → Ran c told.ending

@@ -14,8 +14,7 @@ use Rattle.script_runs.specs.declared.ending.Ending.{Ending}
 use Rattle.script_runs.specs.declared.ending.Ending.TheVariants as ends
 use Rattle.record_run.specs.Recordings.{RecordsFiles}
 use Rattle.pm_words.specs.declared.refusal.Refusal.{Refusal}
-use Rattle.pm_words.specs.declared.refusal.Refusal.TheVariants.{Input}
-use Rattle.pm_words.specs.declared.stage.InputRefusal.TheVariants.{Script as Scripted}
+use Rattle.pm_words.specs.declared.refusal.Refusal.TheVariants.{Script as Scripted}
 use Rattle.pm_words.specs.declared.words.Call.TheVariants as calls
 use Rattle.pm_words.specs.declared.words.Command.TheVariants.{Record}
 use Rattle.pm_words.specs.declared.words.RecordWords.{RecordWords}
@@ -48,7 +47,7 @@ Finds words s fault = (a : Asks words s) × (script_recorded a.input ≡ Err fau
 
 -- Why a call is refused before the run: for its input, or as any call is before its command begins.
 abbrev pub Cause : List (List ℕ) → SourceSide → Refusal → Type 0
-Cause words s (Input e) = (fault : ScriptFault) × (e ≡ Scripted fault) × Finds words s fault
+Cause words s (Scripted fault) = Finds words s fault
 Cause words s e = Before calls.Record words s e
 
 -- this is asked for, over this script

@@ -20,11 +20,12 @@ use Rattle.run_archive.specs.Sampling.{HasEnded}
 use Rattle.run_archive.specs.Shown.{items_of_results}
 use Rattle.pm_words.specs.declared.words.Call.TheVariants as calls
 use Rattle.pm_words.specs.declared.words.RecordWords.{RecordWords}
-use Rattle.pm_words.specs.Asking.{IsAbove, ReadingIsExact, UsageIsExact}
+use Rattle.pm_words.specs.Asking.{ReadingIsExact, UsageIsExact}
+use Rattle.pm_words.specs.Reading.{IsAbove}
 use Rattle.pm_words.specs.Refusals.{script_status}
 use Rattle.pm_words.specs.Serving.{HadRecovered}
 use Rattle.pm_words.specs.Sides.{IsUnread, Leaves}
-use Rattle.pm_recording.specs.Ends.{EndsDone, Finds, IsAsked, MayBeLeft, Orders, Ran, course_of, items_of}
+use Rattle.pm_recording.specs.Ends.{Ends, EndsDone, Finds, IsAsked, MayBeLeft, Orders, Ran, course_of, items_of}
 use Rattle.pm_recording.specs.Exact.{AllIsCounted, LastIsShown}
 use Rattle.pm_recording.specs.Good.{Meets, IsGoodRun}
 use Rattle.pm_recording.specs.Recording.{CallSide, IsUnrun}
@@ -127,6 +128,9 @@ pub record Completes {C D : Type 0} (c : CallSide C D) (k : SinkSide) (status : 
 
 -- All facts of a call that has ended with a status.
 pub record Facts {C D : Type 0} (c : CallSide C D) (k : SinkSide) (status : ℕ) : Type 0 where
+  -- How it ends, whole: done, done but not told, or refused, with each refusal's cause, what was taken of the input, what was recorded on the
+  -- regions that are left and in the files, and which line was written.
+  pub ends : Ends c k status
   -- Done: the input was read to its end, all samples were taken, and the line says how many results were logged.
   pub done : status ≡ 0 → EndsDone c k
   -- Each other status comes for its cause alone.

@@ -6,10 +6,8 @@ use Rattle.run_script.specs.declared.fault.ScriptLineFault.TheVariants.{Line}
 use Rattle.run_script.specs.declared.script.Script.{Script}
 use Rattle.run_script.specs.Reading.{script_of}
 use Rattle.run_script.specs.Recording.{refused_line}
-use Rattle.pm_words.specs.declared.stage.InputRefusal.{InputRefusal}
-use Rattle.pm_words.specs.declared.stage.InputRefusal.TheVariants.{Script as Scripted}
-use Rattle.pm_words.specs.declared.stage.StageFault.{StageFault}
-use Rattle.pm_words.specs.declared.stage.StageFault.TheVariants.{OutOfMemory, Refused}
+use Rattle.pm_words.specs.declared.refusal.Refusal.{Refusal}
+use Rattle.pm_words.specs.declared.refusal.Refusal.TheVariants.{Script as Scripted, NoMemory}
 
 -- a line that a recording refuses breaks a rule
 abbrev pub broken_at : ℕ → ScriptFault
@@ -29,7 +27,8 @@ abbrev pub script_recorded : List ℕ → Result Script ScriptFault
 script_recorded input = recordable (script_of input)
 
 -- what was answered is what the input says, unless memory ran out
-abbrev pub Answers : Result Script ScriptFault → Result Script (StageFault InputRefusal) → Type 0
+abbrev pub Answers : Result Script ScriptFault → Result Script Refusal → Type 0
 Answers found (Ok script) = found ≡ Ok script
-Answers found (Err OutOfMemory) = Unit {0}
-Answers found (Err (Refused e)) = (fault : ScriptFault) × (found ≡ Err fault) × (e ≡ Scripted fault)
+Answers found (Err (Scripted fault)) = found ≡ Err fault
+Answers found (Err NoMemory) = Unit {0}
+Answers found (Err e) = ⊥

@@ -5,12 +5,12 @@ ghost use Rattle.pm_words.specs.Inputs.{input_limit};
 ghost use Rattle.run_script.specs.Recording.{refused_line};
 ghost use Rattle.run_script.specs.Rules.{KeepsRules};
 
-use pm_words::{InputRefusal, StageFault};
+use pm_words::Refusal;
 use run_script::{ReadScriptError, Script, for_record};
 use std::alloc::Global;
 
 /// The script of an input, or why it isn't recorded.
-pub(crate) fn read_script(alloc: Global, input: &[u8]) -> Result<Script, StageFault<InputRefusal>>
+pub(crate) fn read_script(alloc: Global, input: &[u8]) -> Result<Script, Refusal>
     requires within { length input.now ≤ input_limit }
     ensures answers { Answers (script_recorded input.now) result }
     ensures rules { IfOk result KeepsRules }
@@ -18,13 +18,11 @@ pub(crate) fn read_script(alloc: Global, input: &[u8]) -> Result<Script, StageFa
 {
     let script = match Script::read(alloc, input) {
         Ok(script) => script,
-        Err(ReadScriptError::NoMemory) => return Err(StageFault::OutOfMemory),
-        Err(ReadScriptError::Fault(fault)) => return Err(StageFault::Refused(InputRefusal::Script(
-            fault,
-        ))),
+        Err(ReadScriptError::NoMemory) => return Err(Refusal::NoMemory),
+        Err(ReadScriptError::Fault(fault)) => return Err(Refusal::Script(fault)),
     };
     match for_record(&script) {
         Ok(()) => Ok(script),
-        Err(fault) => Err(StageFault::Refused(InputRefusal::Script(fault))),
+        Err(fault) => Err(Refusal::Script(fault)),
     }
 }

@@ -1,7 +1,7 @@
 //! `run_record`, the call that main makes for `record SAMPLES VOLUME` (pmlogger(1)).
 ghost use Rattle.std.specs.Prelude.{◌≡◌, map, string_bytes, IfOk, MatchResult, None};
 ghost use Rattle.pcp_outside.specs.Sides.{sink_side, source_side};
-ghost use Rattle.pm_recording.specs.Ends.{CameTo, Cause, Ends, IsOrder};
+ghost use Rattle.pm_recording.specs.Ends.{CameTo, Cause, IsOrder};
 ghost use Rattle.pm_recording.specs.Facts.{Facts};
 ghost use Rattle.pm_recording.specs.Recording.{call_side, run_side};
 ghost use Rattle.pm_words.specs.CommandLine.{FitsCommand};
@@ -83,12 +83,6 @@ pub fn run_record<I: Source, O: Sink, D: Disk, C: Clock, T: Turn + Sync, R: Thre
     opened: &mut Option<Opened>,
 ) -> u8
     requires fresh { opened.old ≡ None }
-
-    // How it ends, whole: done, done but not told, or refused, with each refusal's cause, what was taken of the input, what was
-    // recorded on the regions that are left and in the files, and which line was written.
-    ensures ends { Ends (call_side (map string_bytes words.now) (source_side I.Source input.old input.new) (run_side C.Clock D.Disk clock.old clock.new disk.old disk.new opened.new)) (sink_side O.Sink out.old out.new) result }
-
-    // What its status tells, fact by fact.
     ensures facts { Facts (call_side (map string_bytes words.now) (source_side I.Source input.old input.new) (run_side C.Clock D.Disk clock.old clock.new disk.old disk.new opened.new)) (sink_side O.Sink out.old out.new) result }
 {
     let ran = run(rt, alloc, words, input, disk, clock, turn, opened);

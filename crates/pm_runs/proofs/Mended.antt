@@ -15,10 +15,8 @@ use Rattle.archive_recovery.specs.declared.outcome.RecoverFault.{RecoverFault}
 use Rattle.archive_recovery.specs.declared.outcome.RecoverFault.TheVariants as faults
 use Rattle.archive_recovery.specs.RecoverFaults.{IsRecoverFault}
 use Rattle.archive_recovery.specs.Told.{IsToldOf, WasRecovered}
-use Rattle.pm_words.specs.declared.stage.FilesRefusal.{FilesRefusal}
-use Rattle.pm_words.specs.declared.stage.FilesRefusal.TheVariants.{Run, Compressed, NotArchive, Nothing}
 use Rattle.pm_words.specs.declared.refusal.Refusal.{Refusal}
-use Rattle.pm_words.specs.declared.refusal.Refusal.TheVariants.{NoMemory}
+use Rattle.pm_words.specs.declared.refusal.Refusal.TheVariants.{Compressed, NotArchive, NoMemory}
 use Rattle.pm_words.specs.Serving.{StopCause, HasServed, IsNever, MayLeave, Meets}
 use Rattle.pm_words.specs.Refusals.{recover_refusal}
 use Rattle.pm_words.specs.Sides.{DiskSide, Found, IsUnread, Leaves, files_found, disk_side}
@@ -33,11 +31,10 @@ counted left (ArchiveReading.archive c) a told = told.counted
 all_settled : (held : Holdings) → ((file : FileId) → (held file).rest ≡ []) → IsSettled held
 all_settled held sure = record { meta = sure _; index = inr (sure _); volumes = λ k. sure _ }
 
-never_turned : (f : Found) (e : FilesRefusal) → f.wrapped ≡ None → IsNever e → IsTurnedAway f e → ⊥
-never_turned f (Run reason) none never t = t
+never_turned : (f : Found) (e : Refusal) → f.wrapped ≡ None → IsNever e → IsTurnedAway f e → ⊥
 never_turned f (Compressed file) none never t = not_both f.wrapped file none t
 never_turned f (NotArchive file at) none never t = never
-never_turned f (Nothing stamp) none never t = never
+never_turned f _ none never t = t
 
 module _ {D : Type 0} (g : DiskGhosts D) (a b : D) (input : List ℕ) (moments : Leaves g a b MayBeHalfway) (unread : g.tells → IsUnread g a → LeavesOnly g.moment g.left_since a b (CrashImage (g.held a))) where
   abbrev side : DiskSide
@@ -88,9 +85,9 @@ module _ {D : Type 0} (g : DiskGhosts D) (a b : D) (input : List ℕ) (moments :
   -- why it is refused
   stops : (fault : RecoverFault) → (g.tells → IsRecoverFault (g.wrapped_file a) (contents_of (g.held a)) fault) → (g.tells → fault ≢ faults.DiskFault → g.held b ≡ g.held a) → (fault ≡ faults.DiskFault → Rose (g.faults a) (g.faults b))
       → StopCause recover input side (recover_refusal fault)
-  stops (faults.Compressed file) why kept rose = ((refl, refl), (left_alone recover 6 input side (λ tells. kept tells (λ e. cc)), λ tells. why tells))
-  stops (faults.NotArchive file at) why kept rose = ((refl, refl), (left_alone recover 6 input side (λ tells. kept tells (λ e. cc)), λ tells. why tells))
-  stops faults.DiskFault why kept rose = ((refl, refl), (record { files = inr (inl refl); settled = λ other. absurd (other refl) }, rose refl))
+  stops (faults.Compressed file) why kept rose = ((refl, refl), left_alone recover 6 input side (λ tells. kept tells (λ e. cc)), λ tells. why tells)
+  stops (faults.NotArchive file at) why kept rose = ((refl, refl), left_alone recover 6 input side (λ tells. kept tells (λ e. cc)), λ tells. why tells)
+  stops faults.DiskFault why kept rose = ((refl, refl), record { files = inr (inl refl); settled = λ other. absurd (other refl) }, rose refl)
   stops faults.NoMemory why kept rose = left_alone recover 9 input side (λ tells. kept tells (λ e. cc))
 
   pub refused_meets : (fault : RecoverFault) → (g.tells → IsRecoverFault (g.wrapped_file a) (contents_of (g.held a)) fault) → (g.tells → fault ≢ faults.DiskFault → g.held b ≡ g.held a) → (fault ≡ faults.DiskFault → Rose (g.faults a) (g.faults b))

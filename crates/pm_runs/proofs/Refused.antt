@@ -21,8 +21,8 @@ use Rattle.archive_loading.specs.Loaded.{IsLabelled}
 use Rattle.archive_loading.specs.LoadFaults.{AreLabelledBelow}
 use Rattle.archive_reader.proofs.Loadable.{loads_readable}
 use Rattle.archive_recovery.specs.RecoverFaults.{IsRefused, AreWholeBelow, StopsInRecords}
-use Rattle.pm_words.specs.declared.stage.FilesRefusal.{FilesRefusal}
-use Rattle.pm_words.specs.declared.stage.FilesRefusal.TheVariants.{Run, Compressed, NotArchive, Nothing}
+use Rattle.pm_words.specs.declared.refusal.Refusal.{Refusal}
+use Rattle.pm_words.specs.declared.refusal.Refusal.TheVariants.{Compressed, NotArchive}
 use Rattle.pm_words.specs.Sides.{Found}
 use Rattle.pm_runs.specs.commands.recover.{IsTurnedAway}
 
@@ -127,8 +127,7 @@ refused_is_none files Index offset readable (inr (same, l, records, entries, b))
 refused_is_none files (Volume n) offset readable (l, records, entries, head, whole, inl stops) = loads_readable files (Volume n) offset readable (l, records, entries, head, labelled_below files l n whole, stops)
 refused_is_none files (Volume n) offset readable (l, records, entries, head, whole, inr s) = stops_in_none files l n offset s readable
 
-pub takes_readable : (f : Found) → f.wrapped ≡ None → Readable f.files → (e : FilesRefusal) → IsTurnedAway f e → ⊥
-takes_readable f unwrapped readable (Run reason) t = t
+pub takes_readable : (f : Found) → f.wrapped ≡ None → Readable f.files → (e : Refusal) → IsTurnedAway f e → ⊥
 takes_readable f unwrapped readable (Compressed file) t = let other : None ≡ Some file = sym unwrapped ∙ t in cc
 takes_readable f unwrapped readable (NotArchive file offset) t = refused_is_none f.files file offset readable t.1
-takes_readable f unwrapped readable (Nothing stamp) t = t
+takes_readable f unwrapped readable _ t = t

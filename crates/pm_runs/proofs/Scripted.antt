@@ -1,7 +1,7 @@
 -- What a command does that runs a script, path by path: its input is refused, or memory before the run; the run is done, and told or not; or
 -- it is refused.
 use Rattle.std.proofs.Common.{◌≡◌, ◌≢◌, ◌⊎◌, inl, inr, ⊎_elim, ℕ, true, false, List, [], ◌++◌, length, take, Option, Some, None, Result, Ok, Err, IfOk, IfErr, refl, sym, ap, ◌∙◌, subst}
-use Rattle.std.proofs.lemmas.Option.{none-some, same_Some}
+use Rattle.std.proofs.lemmas.Option.{none-some}
 use Rattle.pcp_base.specs.declared.file.FileId.{FileId}
 use Rattle.pcp_base.specs.declared.result.Item.{Item}
 use Rattle.pcp_model.specs.Disk.{CrashImage, IsSettled, contents_of}
@@ -22,56 +22,50 @@ use Rattle.run_archive.specs.declared.replayed.Replayed.{Replayed}
 use Rattle.run_archive.specs.Endings.{MayEnd}
 use Rattle.run_archive.specs.Outcomes.{IsFlushed, IsUnrecovered, WentOn, left_of}
 use Rattle.record_run.specs.Replays.{ReplaysFiles}
-use Rattle.pm_words.specs.declared.stage.InputRefusal.{InputRefusal}
-use Rattle.pm_words.specs.declared.stage.StageFault.{StageFault}
-use Rattle.pm_words.specs.declared.stage.StageFault.TheVariants.{OutOfMemory, Refused}
-use Rattle.pm_words.specs.declared.stage.FilesRefusal.{FilesRefusal}
-use Rattle.pm_words.specs.declared.stage.FilesRefusal.TheVariants.{Run, Compressed, NotArchive}
-use Rattle.pm_words.specs.declared.stage.DiskRefusal.TheVariants.{Files as FilesAway, DiskFault}
-use Rattle.pm_words.specs.declared.stage.RunRefusal.{RunRefusal}
-use Rattle.pm_words.specs.declared.stage.RunRefusal.TheVariants.{Condition, Limit, NotLater, Changed}
 use Rattle.pm_words.specs.declared.refusal.Refusal.{Refusal}
-use Rattle.pm_words.specs.declared.refusal.Refusal.TheVariants.{Words, Reading, Input, Disk, ClockEnd, ClockFault, Accept, NoMemory}
-use Rattle.pm_words.specs.Inputs.{Refuses, refusal_of}
+use Rattle.pm_words.specs.declared.refusal.Refusal.TheVariants.{Condition, Limit, NotLater, Changed, Compressed, NotArchive, DiskFault, NoMemory}
+use Rattle.pm_words.specs.Inputs.{Refuses, RefusesAt, refusal_of}
 use Rattle.pm_words.specs.Meaning.{Meaning}
-use Rattle.pm_words.specs.Refusals.{ending_refusal, files_status, refusal_of_stage}
-use Rattle.pm_words.specs.Serving.{HasRecovered, HasRegions, HasServed, MayLeave, Meets, StopCause}
+use Rattle.pm_words.specs.Refusals.{Stage, AtInput, AtFiles, AtDisk, AtClock, AtMemory, IsOfRun, ending_refusal, stage_of, status_of}
+use Rattle.pm_words.specs.Serving.{HasRecovered, HasRegions, HasServed, LeavesAt, Left, MayLeave, Meets, StopCause, StopsAt}
 use Rattle.pm_words.specs.Sides.{DiskSide, Leaves, disk_side, files_found}
 use Rattle.pm_words.proofs.Recovering.{no_input_yet}
 use Rattle.pm_words.proofs.Serving.{left_alone, no_good}
 use Rattle.pm_runs.specs.Regions.{AnswersRun, RanRegions}
-use Rattle.pm_runs.specs.Runners.{Runner}
+use Rattle.pm_runs.specs.Runners.{OfScript, Runner}
 use Rattle.pm_runs.specs.Running.{WasRun}
-use Rattle.pm_runs.specs.Scripts.{HasWritten, IsOwn, IsTurnedAway, Leads, LogsFirst, RunsSo, ScriptSince, StoppedAt, WantsWith, ending_of, runs_script}
-use Rattle.pm_runs.proofs.Coherent.{done_welcome, of_one, own_reason}
+use Rattle.pm_runs.specs.Scripts.{HasWritten, IsOwn, IsRunRefused, IsTurnedAway, Leads, LogsFirst, RefusedWith, RunsSo, ScriptSince, StoppedAt, WantsWith, WrittenAt, runs_script}
+use Rattle.pm_runs.proofs.Coherent.{done_welcome, of_one}
 use Rattle.pm_runs.proofs.Sound.{run_leaves_sound}
 
 -- ---- before the run
 
-stop_begins : (c : Runner) (input : List ℕ) (d : DiskSide) (stop : StageFault InputRefusal) → HasWritten c input d (refusal_of_stage Input stop) []
-stop_begins c input d OutOfMemory = inl refl
-stop_begins c input d (Refused e) = refl
+stop_begins : (stage : Stage) (c : Runner) (input : List ℕ) (d : DiskSide) (e : Refusal) → RefusesAt stage c.reads input e → WrittenAt stage c input d e []
+stop_begins AtInput c input d e refuses = refl
+stop_begins AtMemory c input d e refuses = inl refl
+stop_begins _ c input d e refuses = absurd refuses
 
-no_regions : (stop : StageFault InputRefusal) (opened : Option Opened) → HasRegions (Err (refusal_of_stage Input stop)) opened
-no_regions OutOfMemory opened = tt
-no_regions (Refused e) opened = tt
+no_regions : (stage : Stage) (c : Runner) (input : List ℕ) (e : Refusal) (opened : Option Opened) → RefusesAt stage c.reads input e → LeavesAt stage opened
+no_regions AtInput c input e opened refuses = tt
+no_regions AtMemory c input e opened refuses = tt
+no_regions _ c input e opened refuses = absurd refuses
 
 -- the input is refused, or memory
-pub runner_refused : (c : Runner) (input : List ℕ) {D : Type 0} (g : DiskGhosts D) → OnlyNow g → {old new : D} {opened : Option Opened} (stop : StageFault InputRefusal) → new ≡ old → opened ≡ None → Refuses c.reads input stop
-    → Meets (runs_script c) input g old new opened [] (Err (refusal_of_stage Input stop))
-runner_refused c input {D} g now {old} {new} {opened} stop same none refuses =
+pub runner_refused : (c : Runner) (input : List ℕ) {D : Type 0} (g : DiskGhosts D) → OnlyNow g → {old new : D} {opened : Option Opened} (e : Refusal) → new ≡ old → opened ≡ None → Refuses c.reads input e
+    → Meets (runs_script c) input g old new opened [] (Err e)
+runner_refused c input {D} g now {old} {new} {opened} e same none refuses =
     let d : DiskSide = disk_side g old new in
     let moments : Leaves g old new CrashImage = λ t. subst (λ (x : D). LeavesOnly g.moment g.left_since old x (CrashImage (g.held old))) (sym same) ((looks_none g now old).moments t) in
     record {
       done = tt;
-      stops = (no_good (runs_script c) input d stop refuses (λ t. ap g.held same), stop_begins c input d stop);
+      stops = (no_good (runs_script c) input d e refuses (λ t. ap g.held same), stop_begins (stage_of e) c input d e refuses);
       aside = λ no. same;
       unread = λ not. moments;
       any_moment = λ t. weaker g.moment g.left_since g.held old new (CrashImage (g.held old)) (MayLeave (runs_script c) input (g.held old)) (moments t) (λ crash was. inl was);
       taken = λ t. tt;
-      since = λ t h. absurd (no_input_yet stop h);
-      ran = subst (λ (x : Option Opened). RanRegions g c input old new x [] (Err (refusal_of_stage Input stop))) (sym none) tt;
-      regions = λ runs. no_regions stop opened;
+      since = λ t h. absurd (no_input_yet c.reads input e refuses h);
+      ran = subst (λ (x : Option Opened). RanRegions g c input old new x [] (Err e)) (sym none) tt;
+      regions = λ runs. no_regions (stage_of e) c input e opened refuses;
       unrun = λ runs not. same;
     }
 
@@ -80,16 +74,7 @@ runner_refused c input {D} g now {old} {new} {opened} stop same none refuses =
 -- what ends without a refusal is done
 pub is_done : (e : Ending) → ending_refusal e ≡ None → e ≡ ends.Done
 is_done ends.Done why = refl
-is_done (ends.Condition line) why = absurd (none-some (Disk (FilesAway (Run (Condition line)))) (sym why))
-is_done ends.DiskFault why = absurd (none-some (Disk DiskFault) (sym why))
-is_done (ends.NotArchive file at) why = absurd (none-some (Disk (FilesAway (NotArchive file at))) (sym why))
-is_done (ends.Compressed file) why = absurd (none-some (Disk (FilesAway (Compressed file))) (sym why))
-is_done (ends.Limit what number) why = absurd (none-some (Disk (FilesAway (Run (Limit what number)))) (sym why))
-is_done (ends.ClockEnd samples) why = absurd (none-some (ClockEnd samples) (sym why))
-is_done (ends.ClockFault samples) why = absurd (none-some (ClockFault samples) (sym why))
-is_done ends.NoMemory why = absurd (none-some NoMemory (sym why))
-is_done (ends.NotLater last) why = absurd (none-some (Disk (FilesAway (Run (NotLater last)))) (sym why))
-is_done (ends.Changed pmid) why = absurd (none-some (Disk (FilesAway (Run (Changed pmid)))) (sym why))
+is_done _ why = cc
 
 -- a run of its own ending began
 own_recovered : {D : Type 0} (g : DiskGhosts D) (old new : D) (e : Ending) → IsOwn e → IsUnrecovered g old new e → ⊥
@@ -98,27 +83,21 @@ own_recovered g old new (ends.Condition line) own not_so = not_so
 own_recovered g old new (ends.Limit what number) own not_so = not_so
 own_recovered g old new (ends.NotLater last) own not_so = not_so
 own_recovered g old new (ends.Changed pmid) own not_so = not_so
-own_recovered g old new ends.DiskFault own not_so = own
-own_recovered g old new ends.NoMemory own not_so = own
-own_recovered g old new (ends.NotArchive file at) own not_so = own
-own_recovered g old new (ends.Compressed file) own not_so = own
-own_recovered g old new (ends.ClockEnd samples) own not_so = own
-own_recovered g old new (ends.ClockFault samples) own not_so = own
+own_recovered g old new _ own not_so = own
 
 state_none : (script : Script) (count : ℕ) (s : RunState) → count ≡ 0 → Goes script (take count script.steps) (run_start script) s → s.output ≡ []
 state_none script count s none goes = ap (λ (t : RunState). t.output) (subst (λ (n : ℕ). Goes script (take n script.steps) (run_start script) s) none goes)
 
 -- regions that are there are there, whatever is answered
+leaves_at : (stage : Stage) (there : Opened) → LeavesAt stage (Some there)
+leaves_at AtFiles there = refl
+leaves_at AtDisk there = refl
+leaves_at AtClock there = refl
+leaves_at _ there = tt
+
 has_regions : (answer : Result (List ℕ) Refusal) (there : Opened) → HasRegions answer (Some there)
 has_regions (Ok text) there = refl
-has_regions (Err (Words usage)) there = tt
-has_regions (Err (Reading e)) there = tt
-has_regions (Err (Input e)) there = tt
-has_regions (Err (Disk e)) there = refl
-has_regions (Err (ClockEnd left)) there = refl
-has_regions (Err (ClockFault left)) there = refl
-has_regions (Err Accept) there = tt
-has_regions (Err NoMemory) there = tt
+has_regions (Err e) there = leaves_at (stage_of e) there
 
 module _ (c : Runner) (input : List ℕ) {script : Script} (is : c.script input ≡ Some script) (good : refusal_of c.reads input ≡ None) where
   abbrev m : Meaning
@@ -220,24 +199,24 @@ module _ (c : Runner) (input : List ℕ) {script : Script} (is : c.script input 
       why : StopsWith e (c.front r.output)
       own : HasRecovered (Err e) → IsOwn r.ending
 
-    run_stops : (reason : RunRefusal) → r.ending ≡ ending_of reason → Stops (Disk (FilesAway (Run reason)))
-    run_stops reason same =
-        let own : IsOwn r.ending = own_as (ending_of reason) same (own_reason reason) in
-        let led : (t : g.tells) → Leads script c.limit (contents_of d.held) (ending_of reason) r.output (files t).events (contents_of d.after) = λ t. own_leads (ending_of reason) same (own_reason reason) t in record {
-          why = (
-            (
-              (good, refl),
-              (
-                record {
-                  files = inr (script, is, inr (inr (reason, refl, λ t. (r.output, ((files t).events, led t)))));
-                  settled = λ other t was. (flushed_by own t).settled;
-                },
-                λ t. (script, is, ((went own t).0.unwrapped, r.output, (files t).events, contents_of d.after, led t)),
-              ),
-            ),
-            (r.output, refl, λ t. (script, is, ((files t).events, led t))),
-          );
-          own = λ h. own;
+    -- a run that is refused so: what is left, why, and with which lines
+    record RanOut (e : Refusal) : Type 0 where
+      left : Left m (status_of e) input d
+      away : g.tells → OfScript c input (λ s. IsRunRefused c.limit (files_found d) s e)
+      lines : g.tells → OfScript c input (λ s. RefusedWith s c.limit d e r.output)
+      own : IsOwn r.ending
+
+    ran_out : (ending : Ending) → r.ending ≡ ending → IsOwn ending → (e : Refusal) → IsOfRun e → ending_refusal ending ≡ Some e → RanOut e
+    ran_out ending same own e run by =
+        let mine : IsOwn r.ending = own_as ending same own in
+        let led : (t : g.tells) → Leads script c.limit (contents_of d.held) ending r.output (files t).events (contents_of d.after) = λ t. own_leads ending same own t in record {
+          left = record {
+            files = inr (script, is, inr (inr (e, run, refl, λ t. (r.output, (ending, (own, by), ((files t).events, led t))))));
+            settled = λ other t was. (flushed_by mine t).settled;
+          };
+          away = λ t. (script, is, ((went mine t).0.unwrapped, ending, (own, by), r.output, (files t).events, contents_of d.after, led t));
+          lines = λ t. (script, is, (ending, (own, by), ((files t).events, led t)));
+          own = mine;
         }
 
     -- how it began, where it ended so
@@ -259,10 +238,10 @@ module _ (c : Runner) (input : List ℕ) {script : Script} (is : c.script input 
     refused_before : (file : FileId) (at : ℕ) → r.ending ≡ ends.NotArchive file at → g.tells → Before (ends.NotArchive file at)
     refused_before file at same t = ⊎_elim (λ n. (n.0, n.3)) (λ w. absurd w.1) (begun_so (ends.NotArchive file at) same t)
 
-    alone : (e : FilesRefusal) → (g.tells → g.held new ≡ g.held old) → (g.tells → m.turns_away input (files_found d) e) → StopCause m input d (Disk (FilesAway e))
-    alone e still away = ((good, refl), (left_alone m (files_status e) input d still, away))
+    alone : (e : Refusal) → (g.tells → g.held new ≡ g.held old) → (g.tells → m.turns_away input (files_found d) e) → StopsAt AtFiles m input d e
+    alone e still away = ((good, refl), left_alone m (status_of e) input d still, away)
 
-    wrapped_stops : (file : FileId) → r.ending ≡ ends.Compressed file → Stops (Disk (FilesAway (Compressed file)))
+    wrapped_stops : (file : FileId) → r.ending ≡ ends.Compressed file → Stops (Compressed file)
     wrapped_stops file same = record {
       why = (
         alone (Compressed file) (λ t. (wrapped_before file same t).0.1) (λ t. (script, is, (wrapped_before file same t).0.0)),
@@ -271,7 +250,7 @@ module _ (c : Runner) (input : List ℕ) {script : Script} (is : c.script input 
       own = λ h. absurd h;
     }
 
-    refused_stops : (file : FileId) (at : ℕ) → r.ending ≡ ends.NotArchive file at → Stops (Disk (FilesAway (NotArchive file at)))
+    refused_stops : (file : FileId) (at : ℕ) → r.ending ≡ ends.NotArchive file at → Stops (NotArchive file at)
     refused_stops file at same = record {
       why = (
         alone (NotArchive file at) (λ t. (refused_before file at same t).0.1) (λ t. (script, is, (refused_before file at same t).0.0)),
@@ -296,11 +275,11 @@ module _ (c : Runner) (input : List ℕ) {script : Script} (is : c.script input 
           own = λ h. absurd h;
         }
 
-    fault_cause : Rose (g.faults old) (g.faults new) → StopCause m input d (Disk DiskFault)
-    fault_cause rose = ((good, refl), (record { files = inr (script, is, inl refl); settled = λ other. absurd (other refl) }, rose))
+    fault_cause : Rose (g.faults old) (g.faults new) → StopCause m input d DiskFault
+    fault_cause rose = ((good, refl), record { files = inr (script, is, inl refl); settled = λ other. absurd (other refl) }, rose)
 
     -- where the disk failed
-    fault_stops : r.ending ≡ ends.DiskFault → Stops (Disk DiskFault)
+    fault_stops : r.ending ≡ ends.DiskFault → Stops DiskFault
     fault_stops same =
         let ended : (t : g.tells) → Went t → StoppedAt script c.limit d DiskFault r.output = λ t w.
         inr ((files t).events, (files t).more, run.is.run.regions, subst (λ (e : Ending). RunsSo script c.limit (contents_of d.held) e r.output (files t).events (files t).more run.is.run.regions) same (so t w)) in record {
@@ -315,22 +294,26 @@ module _ (c : Runner) (input : List ℕ) {script : Script} (is : c.script input 
     clockless : (e : Ending) → r.ending ≡ e → MayEnd (g.faults old) (g.faults new) e
     clockless e same = subst (λ (x : Ending). MayEnd (g.faults old) (g.faults new) x) same run.cause
 
-    stops : (e : Ending) → r.ending ≡ e → (refusal : Refusal) → ending_refusal e ≡ Some refusal → Stops refusal
-    stops ends.Done same refusal why = absurd (none-some refusal why)
-    stops (ends.Condition line) same refusal why = subst Stops (same_Some (Disk (FilesAway (Run (Condition line)))) refusal why) (run_stops (Condition line) same)
-    stops (ends.Limit what number) same refusal why = subst Stops (same_Some (Disk (FilesAway (Run (Limit what number)))) refusal why) (run_stops (Limit what number) same)
-    stops (ends.NotLater last) same refusal why = subst Stops (same_Some (Disk (FilesAway (Run (NotLater last)))) refusal why) (run_stops (NotLater last) same)
-    stops (ends.Changed pmid) same refusal why = subst Stops (same_Some (Disk (FilesAway (Run (Changed pmid)))) refusal why) (run_stops (Changed pmid) same)
-    stops (ends.ClockEnd samples) same refusal why = absurd (clockless (ends.ClockEnd samples) same)
-    stops (ends.ClockFault samples) same refusal why = absurd (clockless (ends.ClockFault samples) same)
-    stops (ends.Compressed file) same refusal why = subst Stops (same_Some (Disk (FilesAway (Compressed file))) refusal why) (wrapped_stops file same)
-    stops (ends.NotArchive file at) same refusal why = subst Stops (same_Some (Disk (FilesAway (NotArchive file at))) refusal why) (refused_stops file at same)
-    stops ends.DiskFault same refusal why = subst Stops (same_Some (Disk DiskFault) refusal why) (fault_stops same)
-    stops ends.NoMemory same refusal why = subst Stops (same_Some NoMemory refusal why) (want_stops same)
+    abbrev StopsSo : Option Refusal → Type 0
+    StopsSo None = Unit {0}
+    StopsSo (Some e) = Stops e
+
+    stops : (e : Ending) → r.ending ≡ e → StopsSo (ending_refusal e)
+    stops ends.Done same = tt
+    stops (ends.Condition line) same = let x = ran_out (ends.Condition line) same tt (Condition line) tt refl in record { why = (((good, refl), x.left, x.away), (r.output, refl, x.lines)); own = λ h. x.own }
+    stops (ends.Limit what number) same = let x = ran_out (ends.Limit what number) same tt (Limit what number) tt refl in record { why = (((good, refl), x.left, x.away), (r.output, refl, x.lines)); own = λ h. x.own }
+    stops (ends.NotLater last) same = let x = ran_out (ends.NotLater last) same tt (NotLater last) tt refl in record { why = (((good, refl), x.left, x.away), (r.output, refl, x.lines)); own = λ h. x.own }
+    stops (ends.Changed pmid) same = let x = ran_out (ends.Changed pmid) same tt (Changed pmid) tt refl in record { why = (((good, refl), x.left, x.away), (r.output, refl, x.lines)); own = λ h. x.own }
+    stops (ends.ClockEnd samples) same = absurd (clockless (ends.ClockEnd samples) same)
+    stops (ends.ClockFault samples) same = absurd (clockless (ends.ClockFault samples) same)
+    stops (ends.Compressed file) same = wrapped_stops file same
+    stops (ends.NotArchive file at) same = refused_stops file at same
+    stops ends.DiskFault same = fault_stops same
+    stops ends.NoMemory same = want_stops same
 
     -- why what is to be written of a run that is done isn't told
     abbrev Untold : Refusal → Type 0
-    Untold e = (e ≡ NoMemory) ⊎ ((e ≡ Disk DiskFault) × Rose (g.faults old) (g.faults new))
+    Untold e = (e ≡ NoMemory) ⊎ ((e ≡ DiskFault) × Rose (g.faults old) (g.faults new))
 
     untold_stops : (e : Refusal) → c.front [] ≡ [] → r.ending ≡ ends.Done → Untold e → StopsWith e []
     untold_stops e empty same untold =
@@ -341,8 +324,8 @@ module _ (c : Runner) (input : List ℕ) {script : Script} (is : c.script input 
           },
           inl refl,
         ) in
-        let failed : Rose (g.faults old) (g.faults new) → StopsWith (Disk DiskFault) [] = λ rose. (fault_cause rose, ([], sym empty, λ t. (script, is, inl refl))) in
-        ⊎_elim (λ (memory : e ≡ NoMemory). subst (λ (x : Refusal). StopsWith x []) (sym memory) wants) (λ (disk : (e ≡ Disk DiskFault) × Rose (g.faults old) (g.faults new)). subst (λ (x : Refusal). StopsWith x []) (sym disk.0) (failed disk.1)) untold
+        let failed : Rose (g.faults old) (g.faults new) → StopsWith DiskFault [] = λ rose. (fault_cause rose, ([], sym empty, λ t. (script, is, inl refl))) in
+        ⊎_elim (λ (memory : e ≡ NoMemory). subst (λ (x : Refusal). StopsWith x []) (sym memory) wants) (λ (disk : (e ≡ DiskFault) × Rose (g.faults old) (g.faults new)). subst (λ (x : Refusal). StopsWith x []) (sym disk.0) (failed disk.1)) untold
 
     -- ---- each moment
 
@@ -397,4 +380,4 @@ module _ (c : Runner) (input : List ℕ) {script : Script} (is : c.script input 
     runner_told (Err e) empty why says untold = runner_untold e empty why untold.0 untold.1
 
     pub runner_stopped : (e : Refusal) → ending_refusal r.ending ≡ Some e → Meets m input g old new opened (c.front r.output) (Err e)
-    runner_stopped e why = let s = stops r.ending refl e why in runner_meets (c.front r.output) (Err e) tt s.why s.own (inl (why, refl))
+    runner_stopped e why = let s = subst StopsSo why (stops r.ending refl) in runner_meets (c.front r.output) (Err e) tt s.why s.own (inl (why, refl))

@@ -2,13 +2,12 @@
 use Rattle.std.specs.Prelude.{◌≡◌, ℕ, List, Option, Some}
 use Rattle.pcp_model.specs.Disk.{Files}
 use Rattle.run_script.specs.declared.script.Script.{Script}
-use Rattle.pm_words.specs.declared.stage.InputRefusal.{InputRefusal}
 use Rattle.pm_words.specs.declared.refusal.Refusal.{Refusal}
 
 -- what is its own of such a command
 pub record Runner : Type 1 where
   -- what it reads, and why it doesn't read an input
-  pub reads : Option (List ℕ → Option InputRefusal)
+  pub reads : Option (List ℕ → Option Refusal)
   -- the script of an input that it reads
   pub script : List ℕ → Option Script
   -- the volume limit

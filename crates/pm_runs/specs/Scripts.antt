@@ -15,27 +15,14 @@ use Rattle.script_runs.specs.Regions.{ScriptRegion}
 use Rattle.script_runs.specs.Runs.{Does, RanTo, RunsTo}
 use Rattle.run_archive.specs.Crashes.{IsAllAfter}
 use Rattle.run_archive.specs.Outcomes.{WentOn, left_of}
-use Rattle.pm_words.specs.declared.stage.FilesRefusal.{FilesRefusal}
-use Rattle.pm_words.specs.declared.stage.FilesRefusal.TheVariants.{Run, Compressed, NotArchive, Nothing}
-use Rattle.pm_words.specs.declared.stage.DiskRefusal.{DiskRefusal}
-use Rattle.pm_words.specs.declared.stage.DiskRefusal.TheVariants.{Files as FilesAway, DiskFault}
-use Rattle.pm_words.specs.declared.stage.RunRefusal.{RunRefusal}
-use Rattle.pm_words.specs.declared.stage.RunRefusal.TheVariants.{Condition, Limit, NotLater, Changed}
 use Rattle.pm_words.specs.declared.refusal.Refusal.{Refusal}
-use Rattle.pm_words.specs.declared.refusal.Refusal.TheVariants.{Disk, NoMemory}
+use Rattle.pm_words.specs.declared.refusal.Refusal.TheVariants.{Compressed, NotArchive, DiskFault}
 use Rattle.pm_words.specs.Meaning.{Meaning}
-use Rattle.pm_words.specs.Refusals.{run_status}
+use Rattle.pm_words.specs.Refusals.{Stage, AtFiles, AtDisk, AtMemory, IsOfRun, ending_refusal, stage_of, status_of}
 use Rattle.pm_words.specs.Sides.{DiskSide, Found}
 use Rattle.pm_words.specs.Sound.{LeavesSound}
 use Rattle.pm_runs.specs.Regions.{RanRegions}
 use Rattle.pm_runs.specs.Runners.{Runner, OfScript}
-
--- how a run ends that is refused so
-abbrev pub ending_of : RunRefusal → Ending
-ending_of (Condition line) = ends.Condition line
-ending_of (Limit what number) = ends.Limit what number
-ending_of (NotLater last) = ends.NotLater last
-ending_of (Changed pmid) = ends.Changed pmid
 
 -- the endings that a run comes to by itself: of its lines, or of the archive that turns a result away
 abbrev pub IsOwn : Ending → Type 0
@@ -45,6 +32,10 @@ IsOwn (ends.Limit what number) = Unit {0}
 IsOwn (ends.NotLater last) = Unit {0}
 IsOwn (ends.Changed pmid) = Unit {0}
 IsOwn ending = ⊥
+
+-- a run that comes to this ending by itself is refused so
+abbrev pub EndsBy : Ending → Refusal → Type 0
+EndsBy ending e = IsOwn ending × (ending_refusal ending ≡ Some e)
 
 -- A run over files, which are recovered first: it went to this ending, with these lines written, this done to the archive, these items on
 -- their way when the disk failed, and the regions closed so.
@@ -67,12 +58,16 @@ pub record IsOne (a b : Ending) (o p : List ℕ) (d e : List Event) (r s : List 
   pub regions : r ≡ s
   pub files : f ≡ g
 
--- a file stands wrapped, this is the first offset that fits no archive, or the run over these files ends so
-abbrev pub IsTurnedAway : ℕ → Found → Script → FilesRefusal → Type 0
+-- the run over these files is refused so
+abbrev pub IsRunRefused : ℕ → Found → Script → Refusal → Type 0
+IsRunRefused limit found script e =
+    (found.wrapped ≡ None) × (ending : Ending) × EndsBy ending e × (output : List ℕ) × (events : List Event) × (final : Files) × Leads script limit found.files ending output events final
+
+-- a file stands wrapped, this is the first offset that fits no archive, or the run over these files is refused so
+abbrev pub IsTurnedAway : ℕ → Found → Script → Refusal → Type 0
 IsTurnedAway limit found script (Compressed file) = found.wrapped ≡ Some file
 IsTurnedAway limit found script (NotArchive file at) = (found.wrapped ≡ None) × IsRefused found.files file at
-IsTurnedAway limit found script (Run reason) = (found.wrapped ≡ None) × (output : List ℕ) × (events : List Event) × (final : Files) × Leads script limit found.files (ending_of reason) output events final
-IsTurnedAway limit found script (Nothing stamp) = ⊥
+IsTurnedAway limit found script e = IsRunRefused limit found script e
 
 -- the run came to its end: the files are its files, all is settled, and this is to be written
 pub record HasRunTo (c : Runner) (script : Script) (d : DiskSide) (text : List ℕ) : Type 0 where
@@ -89,26 +84,35 @@ EndsWith script limit d ending output = (events : List Event) × Leads script li
 abbrev pub WantsWith : Script → ℕ → DiskSide → List ℕ → Type 0
 WantsWith script limit d output = (ending : Ending) × EndsWith script limit d ending output
 
+abbrev pub RefusedWith : Script → ℕ → DiskSide → Refusal → List ℕ → Type 0
+RefusedWith script limit d e output = (ending : Ending) × EndsBy ending e × EndsWith script limit d ending output
+
 -- Where the disk failed, nothing was written, or exactly the lines of the run so far.
-abbrev pub StoppedAt : Script → ℕ → DiskSide → DiskRefusal → List ℕ → Type 0
-StoppedAt script limit d (FilesAway (Run reason)) output = EndsWith script limit d (ending_of reason) output
-StoppedAt script limit d (FilesAway (Compressed file)) output = output ≡ []
-StoppedAt script limit d (FilesAway (NotArchive file at)) output = output ≡ []
-StoppedAt script limit d (FilesAway (Nothing stamp)) output = ⊥
+abbrev pub StoppedAt : Script → ℕ → DiskSide → Refusal → List ℕ → Type 0
+StoppedAt script limit d (Compressed file) output = output ≡ []
+StoppedAt script limit d (NotArchive file at) output = output ≡ []
 StoppedAt script limit d DiskFault output =
     (output ≡ []) ⊎ ((events : List Event) × (more : List Item) × (regions : List ScriptRegion) × RunsSo script limit (contents_of d.held) ends.DiskFault output events more regions)
+StoppedAt script limit d e output = RefusedWith script limit d e output
 
 -- what such a command has written before the line of a refusal
+abbrev pub HasLines : Runner → List ℕ → DiskSide → Refusal → List ℕ → Type 0
+HasLines c input d e front = (output : List ℕ) × (front ≡ c.front output) × (d.tells → OfScript c input (λ script. StoppedAt script c.limit d e output))
+
+abbrev pub WrittenAt : Stage → Runner → List ℕ → DiskSide → Refusal → List ℕ → Type 0
+WrittenAt AtFiles c input d e front = HasLines c input d e front
+WrittenAt AtDisk c input d e front = HasLines c input d e front
+WrittenAt AtMemory c input d e front = (front ≡ []) ⊎ ((output : List ℕ) × (front ≡ c.front output) × (d.tells → (output ≡ []) ⊎ OfScript c input (λ script. WantsWith script c.limit d output)))
+WrittenAt _ c input d e front = front ≡ []
+
 abbrev pub HasWritten : Runner → List ℕ → DiskSide → Refusal → List ℕ → Type 0
-HasWritten c input d (Disk e) front = (output : List ℕ) × (front ≡ c.front output) × (d.tells → OfScript c input (λ script. StoppedAt script c.limit d e output))
-HasWritten c input d NoMemory front = (front ≡ []) ⊎ ((output : List ℕ) × (front ≡ c.front output) × (d.tells → (output ≡ []) ⊎ OfScript c input (λ script. WantsWith script c.limit d output)))
-HasWritten c input d _ front = front ≡ []
+HasWritten c input d e front = WrittenAt (stage_of e) c input d e front
 
 -- What stands where it is stopped after the first write. After a disk fault the run is on its way.
 abbrev pub IsRunUnderWay : ℕ → ℕ → Script → DiskSide → Type 0
 IsRunUnderWay limit status script d =
     (status ≡ 5) ⊎ (((status ≡ 9) × (d.tells → (d.after ≡ d.held) ⊎ ((output : List ℕ) × WantsWith script limit d output)))
-    ⊎ ((reason : RunRefusal) × (status ≡ run_status reason) × (d.tells → (output : List ℕ) × EndsWith script limit d (ending_of reason) output)))
+    ⊎ ((e : Refusal) × IsOfRun e × (status ≡ status_of e) × (d.tells → (output : List ℕ) × RefusedWith script limit d e output)))
 
 -- the items that a run logged, and those on their way when the disk failed; or none
 abbrev pub LogsFirst : Script → ℕ → Files → List Item → Type 0

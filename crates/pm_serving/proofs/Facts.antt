@@ -1,14 +1,12 @@
 -- What the end of a call says of each status.
-use Rattle.std.proofs.Common.{◌≡◌, ◌⊎◌, inl, inr, ℕ, List, [], ◌++◌, refl, sym, ap, ◌∙◌, subst, arith, Result, Ok, Err, IsSome}
+use Rattle.std.proofs.Common.{◌≡◌, ◌⊎◌, inl, inr, ℕ, List, [], ◌++◌, refl, sym, ap, ◌∙◌, subst, arith, Result, Ok, Err}
 use Rattle.run_script.specs.declared.fault.ScriptFault.{ScriptFault}
 use Rattle.pm_words.specs.declared.words.Call.TheVariants as calls
-use Rattle.pm_words.specs.declared.stage.InputRefusal.TheVariants.{Script as Scripted}
-use Rattle.pm_words.specs.declared.stage.ReadRefusal.TheVariants.{ReadFault, InputLimit}
 use Rattle.pm_words.specs.declared.refusal.Refusal.{Refusal}
-use Rattle.pm_words.specs.declared.refusal.Refusal.TheVariants.{Words, Reading, Input, Accept, NoMemory}
-use Rattle.pm_words.specs.Refusals.{numbered_line_of, script_status, status_of}
+use Rattle.pm_words.specs.declared.refusal.Refusal.TheVariants.{Usage, ReadFault, InputLimit, Script as Scripted, Accept, NoMemory}
+use Rattle.pm_words.specs.Refusals.{IsNumbered, script_status, status_of}
 use Rattle.pm_words.specs.Telling.{IsToldBy, TellsAll}
-use Rattle.pm_words.proofs.Asked.{Came, IsOfBody, apart, input_apart, never_four, reading_is_exact, refused_by, usage_is_exact, write_fault}
+use Rattle.pm_words.proofs.Asked.{Came, IsOfBody, apart, never_four, reading_is_exact, refused_by, script_apart, usage_is_exact, write_fault}
 use Rattle.pm_words.proofs.Telling.{told_by}
 use Rattle.pm_serving.specs.Ends.{AllServed, CameTo, DoorFailed, Ends, Finds, Ran, Sides}
 use Rattle.pm_serving.specs.Facts.{Facts, IsDone, IsGoodRun, LimitCause, Meets}
@@ -31,7 +29,7 @@ module _ {P In Out Time : Type 0} (c : Sides P In Out Time) where
   -- as what is the same of all calls has it
   came_so : (result : Result (List ℕ) Refusal) → Comes result → Came calls.Serve c.words c.source result
   came_so (Ok line) came = inl (asks_of c.words c.source came.0.count (Ok came.0.script) came.0.orders, λ e is. absurd (cc))
-  came_so (Err (Input (Scripted fault))) came = inl (asks_of c.words c.source came.0.0 (Err fault) came.0.1, λ f is. of_body (Input (Scripted fault)) f is tt)
+  came_so (Err (Scripted fault)) came = inl (asks_of c.words c.source came.0.0 (Err fault) came.0.1, λ f is. of_body (Scripted fault) f is tt)
   came_so (Err Accept) came = inl (asks_of c.words c.source came.count (Ok came.script) came.orders, λ f is. of_body Accept f is tt)
   came_so (Err NoMemory) came = inr (NoMemory, refl, came.0)
   came_so (Err e) came = inr (e, refl, came.0)
@@ -39,28 +37,21 @@ module _ {P In Out Time : Type 0} (c : Sides P In Out Time) where
   -- What a refusal is by its status.
 
   fault_of : (e : Refusal) → Comes (Err e) → status_of e ≡ 2 → (fault : ScriptFault) × (script_status fault.fault ≡ 2) × Finds c.words c.source fault
-  fault_of (Input (Scripted fault)) came h = (fault, h, came.0)
-  fault_of (Reading ReadFault) came h = absurd (omega (arith, h))
-  fault_of (Reading InputLimit) came h = absurd (omega (arith, h))
+  fault_of (Scripted fault) came h = (fault, h, came.0)
   fault_of e came h = absurd (first_of (omega (arith, h), assumption came))
 
   limit_of : (e : Refusal) → Comes (Err e) → status_of e ≡ 7 → LimitCause c.words c.source
-  limit_of (Input (Scripted fault)) came h = inr (fault, h, came.0)
-  limit_of (Reading ReadFault) came h = absurd (omega (arith, h))
-  limit_of (Reading InputLimit) came h = inl came.0
+  limit_of (Scripted fault) came h = inr (fault, h, came.0)
+  limit_of InputLimit came h = inl came.0
   limit_of e came h = absurd (first_of (omega (arith, h), assumption came))
 
   failed_of : (e : Refusal) → Comes (Err e) → status_of e ≡ 21 → Ran c.words c.source (DoorFailed c.doors c.served)
   failed_of Accept came h = came
-  failed_of (Input e) came h = absurd (input_apart 21 (λ k. omega (arith, k)) (λ k. omega (arith, k)) e h)
-  failed_of (Reading ReadFault) came h = absurd (omega (arith, h))
-  failed_of (Reading InputLimit) came h = absurd (omega (arith, h))
+  failed_of (Scripted fault) came h = absurd (script_apart 21 (λ k. omega (arith, k)) (λ k. omega (arith, k)) fault.fault h)
   failed_of e came h = absurd (first_of (omega (arith, h), assumption came))
 
   never_zero : (e : Refusal) → Comes (Err e) → status_of e ≡ 0 → ⊥
-  never_zero (Input e) came h = input_apart 0 (λ k. omega (arith, k)) (λ k. omega (arith, k)) e h
-  never_zero (Reading ReadFault) came h = omega (arith, h)
-  never_zero (Reading InputLimit) came h = omega (arith, h)
+  never_zero (Scripted fault) came h = script_apart 0 (λ k. omega (arith, k)) (λ k. omega (arith, k)) fault.fault h
   never_zero e came h = first_of (omega (arith, h), assumption came)
 
   unserved : (e : Refusal) (n : ℕ) → Comes (Err e) → n ≡ status_of e → (n ≡ 21 → ⊥) → IsUnserved c.doors c.served ⊎ ((n ≡ 9) × Ran c.words c.source (WereCut c.doors c.served))
@@ -70,17 +61,17 @@ module _ {P In Out Time : Type 0} (c : Sides P In Out Time) where
   unserved e n came is other = inl came.1
 
   -- a refusal whose line takes memory comes before a session
-  numbered : (e : Refusal) → IsSome (numbered_line_of e) → Comes (Err e) → IsUnserved c.doors c.served
-  numbered Accept some came = absurd (cc)
-  numbered NoMemory some came = absurd (cc)
+  numbered : (e : Refusal) → IsNumbered e → Comes (Err e) → IsUnserved c.doors c.served
+  numbered Accept some came = absurd some
+  numbered NoMemory some came = absurd some
   numbered e some came = came.1
 
   bad_script : (e : Refusal) → Comes (Err e) → Meets c.words c.source → (fault : ScriptFault) → script_served c.source.left ≡ Err fault
       → (status_of e ≡ script_status fault.fault) ⊎ ((status_of e ≡ 9) ⊎ (status_of e ≡ 3))
-  bad_script (Words usage) came m fault bad = absurd (apart calls.Serve c.words c.source usage.at came.0.0 m.asked.0 m.asked.1)
-  bad_script (Reading ReadFault) came m fault bad = inr (inr refl)
-  bad_script (Reading InputLimit) came m fault bad = let above = came.0.1 m.tells in let within = m.within in absurd (omega (arith, above.0, within))
-  bad_script (Input (Scripted other)) came m fault bad =
+  bad_script (Usage at) came m fault bad = absurd (apart calls.Serve c.words c.source at came.0.0 m.asked.0 m.asked.1)
+  bad_script ReadFault came m fault bad = inr (inr refl)
+  bad_script InputLimit came m fault bad = let above = came.0.1 m.tells in let within = m.within in absurd (omega (arith, above.0, within))
+  bad_script (Scripted other) came m fault bad =
       let is = says_one c.words c.source came.0.0 (Err other) came.0.1 m.tells (Err fault) bad in
       let same : other ≡ fault = cc in inl (ap (λ (x : ScriptFault). script_status x.fault) same)
   bad_script Accept came m fault bad = let is = says_one c.words c.source came.count (Ok came.script) came.orders m.tells (Err fault) bad in absurd (cc)
@@ -88,10 +79,10 @@ module _ {P In Out Time : Type 0} (c : Sides P In Out Time) where
   bad_script e came m fault bad = absurd came.0
 
   good_run : (e : Refusal) → Comes (Err e) → IsGoodRun c → (status_of e ≡ 0) ⊎ (status_of e ≡ 9)
-  good_run (Words usage) came run = absurd (apart calls.Serve c.words c.source usage.at came.0.0 run.meets.asked.0 run.meets.asked.1)
-  good_run (Reading ReadFault) came run = absurd (run.source_kept came.0.1.0)
-  good_run (Reading InputLimit) came run = let above = came.0.1 run.meets.tells in let within = run.meets.within in absurd (omega (arith, above.0, within))
-  good_run (Input (Scripted fault)) came run = let is = says_one c.words c.source came.0.0 (Err fault) came.0.1 run.meets.tells (Ok run.script) run.good in absurd (cc)
+  good_run (Usage at) came run = absurd (apart calls.Serve c.words c.source at came.0.0 run.meets.asked.0 run.meets.asked.1)
+  good_run ReadFault came run = absurd (run.source_kept came.0.1.0)
+  good_run InputLimit came run = let above = came.0.1 run.meets.tells in let within = run.meets.within in absurd (omega (arith, above.0, within))
+  good_run (Scripted fault) came run = let is = says_one c.words c.source came.0.0 (Err fault) came.0.1 run.meets.tells (Ok run.script) run.good in absurd (cc)
   good_run Accept came run = absurd (run.doors_kept (came.leaves.serving.rose refl))
   good_run NoMemory came run = inr refl
   good_run e came run = absurd came.0
@@ -138,6 +129,7 @@ module _ {P In Out Time : Type 0} (c : Sides P In Out Time) where
       let told = told_by c.sink [] result status tells in
       let so = came_so result came in
       let failed = by_refusal 21 failed_of (λ k. omega (arith, k)) (λ k. omega (arith, k)) (λ k. omega (arith, k)) result status came told in record {
+        ends = (result, came, tells);
         done = done_so result status came tells;
         usage = usage_is_exact calls.Serve c.words c.source result status told so;
         script_fault = record {

@@ -7,16 +7,11 @@ use Rattle.run_script.specs.declared.script.Script.{Script}
 use Rattle.pm_words.specs.declared.words.Call.TheVariants as calls
 use Rattle.pm_words.specs.declared.words.Command.{Command}
 use Rattle.pm_words.specs.declared.words.Command.TheVariants.{Serve}
-use Rattle.pm_words.specs.declared.stage.InputRefusal.{InputRefusal}
-use Rattle.pm_words.specs.declared.stage.InputRefusal.TheVariants.{Script as Scripted}
-use Rattle.pm_words.specs.declared.stage.StageFault.{StageFault}
-use Rattle.pm_words.specs.declared.stage.StageFault.TheVariants.{OutOfMemory, Refused as Stopped}
 use Rattle.pm_words.specs.declared.refusal.Refusal.{Refusal}
-use Rattle.pm_words.specs.declared.refusal.Refusal.TheVariants.{Input, Accept, NoMemory}
+use Rattle.pm_words.specs.declared.refusal.Refusal.TheVariants.{Script as Scripted, Accept, NoMemory}
 use Rattle.pm_words.specs.Asking.{Asks, AsksFor, Before, Got}
 use Rattle.pm_words.specs.CommandLine.{takes_input}
 use Rattle.pm_words.specs.Reading.{TookSome, WasRead}
-use Rattle.pm_words.specs.Refusals.{refusal_of_stage}
 use Rattle.pm_serving.specs.declared.served.Served.{Served}
 use Rattle.pm_serving.specs.Ends.{CameTo, Orders, Refused}
 use Rattle.pm_serving.specs.Scripts.{Answers, script_served}
@@ -49,13 +44,13 @@ module _ (words : List (List ℕ)) (s : SourceSide) where
     says_one tells other is = sym o.says ∙ ap script_served (o.read.told tells).0 ∙ is
 
   pub by_script : (count : ℕ) (input : List ℕ) → ((found : Result Script ScriptFault) → script_served input ≡ found → Orders words s count found)
-      → (stop : StageFault InputRefusal) → Answers (script_served input) (Err stop) → Refused words s (refusal_of_stage (λ (e : InputRefusal). Input e) stop)
-  by_script count input orders OutOfMemory why = took count (script_served input) (orders (script_served input) refl)
-  by_script count input orders (Stopped (Scripted fault)) why = (count, orders (Err fault) why)
-  by_script count input orders (Stopped e) why = absurd why
+      → (e : Refusal) → Answers (script_served input) (Err e) → Refused words s e
+  by_script count input orders NoMemory why = took count (script_served input) (orders (script_served input) refl)
+  by_script count input orders (Scripted fault) why = (count, orders (Err fault) why)
+  by_script count input orders e why = absurd why
 
   pub refused_before : (e : Refusal) → Before calls.Serve words s e → Refused words s e
-  refused_before (Input (Scripted fault)) before = absurd before
+  refused_before (Scripted fault) before = absurd before
   refused_before e before = before
 
   module _ {P In Out Time : Type 0} (d : DoorsSide P In Out Time) (served : Option Served) where

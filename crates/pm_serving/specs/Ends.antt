@@ -8,9 +8,8 @@ use Rattle.run_script.specs.declared.fault.ScriptFault.{ScriptFault}
 use Rattle.run_script.specs.declared.script.Script.{Script}
 use Rattle.pm_words.specs.declared.words.Call.TheVariants as calls
 use Rattle.pm_words.specs.declared.words.Command.TheVariants.{Serve}
-use Rattle.pm_words.specs.declared.stage.InputRefusal.TheVariants.{Script as Scripted}
 use Rattle.pm_words.specs.declared.refusal.Refusal.{Refusal}
-use Rattle.pm_words.specs.declared.refusal.Refusal.TheVariants.{Input, Accept, NoMemory}
+use Rattle.pm_words.specs.declared.refusal.Refusal.TheVariants.{Script as Scripted, Accept, NoMemory}
 use Rattle.pm_words.specs.Asking.{Before}
 use Rattle.pm_words.specs.CommandLine.{asked_by}
 use Rattle.pm_words.specs.Reading.{WasRead}
@@ -43,7 +42,7 @@ Finds words s fault = (count : ℕ) × Orders words s count (Err fault)
 
 -- why a call is refused before a session is served
 abbrev pub Refused : List (List ℕ) → SourceSide → Refusal → Type 0
-Refused words s (Input (Scripted fault)) = Finds words s fault
+Refused words s (Scripted fault) = Finds words s fault
 Refused words s e = Before calls.Serve words s e
 
 -- The script that the words and the input ask for was opened, and this is left of it.

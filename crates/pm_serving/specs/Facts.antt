@@ -7,10 +7,11 @@ use Rattle.pmcd_server.specs.Crews.{SomeRose}
 use Rattle.run_script.specs.declared.fault.ScriptFault.{ScriptFault}
 use Rattle.run_script.specs.declared.script.Script.{Script}
 use Rattle.pm_words.specs.declared.words.Call.TheVariants as calls
-use Rattle.pm_words.specs.Asking.{IsAbove, IsReader, ReadingIsExact, UsageIsExact}
+use Rattle.pm_words.specs.Asking.{IsReader, ReadingIsExact, UsageIsExact}
 use Rattle.pm_words.specs.Inputs.{input_limit}
+use Rattle.pm_words.specs.Reading.{IsAbove}
 use Rattle.pm_words.specs.Refusals.{script_status}
-use Rattle.pm_serving.specs.Ends.{AllServed, DoorFailed, Finds, Ran, Sides, served_line}
+use Rattle.pm_serving.specs.Ends.{AllServed, DoorFailed, Ends, Finds, Ran, Sides, served_line}
 use Rattle.pm_serving.specs.Scripts.{script_served}
 use Rattle.pm_serving.specs.Serving.{IsUnserved, WereCut}
 
@@ -54,7 +55,11 @@ module _ {P In Out Time : Type 0} (c : Sides P In Out Time) where
     pub sink_kept : Rose c.sink.faults c.sink.faults_after → ⊥
     pub doors_kept : SomeRose c.doors.door c.doors.before c.doors.after → ⊥
 
+  -- All that a call says.
   pub record Facts (status : ℕ) : Type 0 where
+    -- How it ends, whole: done, done but not told, or refused, with each refusal's cause, what was taken of the input, what was served and
+    -- which line was written.
+    pub ends : Ends c status
     -- Done: the input was read to its end, the sessions were served, and the line says how many.
     pub done : status ≡ 0 → IsDone
     -- Each other status comes for its cause alone. 1 comes exactly where the words don't ask for sessions; 7 exactly where the input is

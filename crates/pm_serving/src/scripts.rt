@@ -8,7 +8,7 @@ ghost use Rattle.run_script.specs.Rules.{KeepsRules};
 ghost use Rattle.run_passes.specs.Openings.{HaveRoom};
 
 use mmv_writer::LineFault;
-use pm_words::{InputRefusal, StageFault};
+use pm_words::Refusal;
 use run_script::{ReadScriptError, Script, ScriptFault, ScriptLineFault, for_record};
 use std::alloc::Global;
 
@@ -53,7 +53,7 @@ fn broken_at(line: u64) -> ScriptFault
 }
 
 /// The script of an input, or why it isn't served.
-pub fn read_script(alloc: Global, input: &[u8]) -> Result<Script, StageFault<InputRefusal>>
+pub fn read_script(alloc: Global, input: &[u8]) -> Result<Script, Refusal>
     requires within { length input.now ≤ input_limit }
     ensures answers { Answers (script_served input.now) result }
     ensures rules { IfOk result KeepsRules }
@@ -62,13 +62,11 @@ pub fn read_script(alloc: Global, input: &[u8]) -> Result<Script, StageFault<Inp
 {
     let script = match Script::read(alloc, input) {
         Ok(script) => script,
-        Err(ReadScriptError::NoMemory) => return Err(StageFault::OutOfMemory),
-        Err(ReadScriptError::Fault(fault)) => return Err(StageFault::Refused(InputRefusal::Script(
-            fault,
-        ))),
+        Err(ReadScriptError::NoMemory) => return Err(Refusal::NoMemory),
+        Err(ReadScriptError::Fault(fault)) => return Err(Refusal::Script(fault)),
     };
     if let Some(line) = earlier(crowded_line(&script), refused_line(&script)) {
-        return Err(StageFault::Refused(InputRefusal::Script(broken_at(line))));
+        return Err(Refusal::Script(broken_at(line)));
     }
     Ok(script)
 }

@@ -1,7 +1,7 @@
 //! `run_serve`, the call that main makes for `serve PORT COUNT`, with the doors at PORT (pmcd(1)).
 ghost use Rattle.std.specs.Prelude.{◌≡◌, length, map, string_bytes, IfOk, MatchResult, None, Ok};
 ghost use Rattle.pcp_outside.specs.Sides.{source_side, sink_side};
-ghost use Rattle.pm_serving.specs.Ends.{CameTo, Ends, Orders, Refused, served_line, sides};
+ghost use Rattle.pm_serving.specs.Ends.{CameTo, Orders, Refused, served_line, sides};
 ghost use Rattle.pm_serving.specs.Facts.{Facts};
 ghost use Rattle.pm_serving.specs.Serving.{doors_side};
 ghost use Rattle.run_script.specs.Recording.{refused_line};
@@ -99,12 +99,6 @@ where
     P::Time: Send,
     requires four { length doors.old ≡ 4 }
     requires fresh { served.old ≡ None }
-
-    // How it ends, whole: done, done but not told, or refused, with each refusal's cause, what was taken of the input, what was
-    // served and which line was written.
-    ensures ends { Ends (sides (map string_bytes words.now) (source_side I.Source input.old input.new) (sink_side O.Sink out.old out.new) (doors_side P.Door doors.old doors.new) served.new) result }
-
-    // What that says of each status.
     ensures facts { Facts (sides (map string_bytes words.now) (source_side I.Source input.old input.new) (sink_side O.Sink out.old out.new) (doors_side P.Door doors.old doors.new) served.new) result }
 {
     let ran = run(rt, alloc, words, input, doors, turn, served);

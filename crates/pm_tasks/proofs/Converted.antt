@@ -2,17 +2,15 @@
 use Rattle.std.proofs.Common.{ℕ, List, [], refl, Option, None, Result, Ok, Err}
 use Rattle.pcp_outside.specs.declared.disk.Disk.{Ghosts as DiskGhosts}
 use Rattle.archive_loading.proofs.Looking.{OnlyNow, looks_none}
-use Rattle.pm_words.specs.declared.stage.InputRefusal.{InputRefusal}
 use Rattle.pm_words.specs.declared.refusal.Refusal.{Refusal}
-use Rattle.pm_words.specs.declared.refusal.Refusal.TheVariants.{Words, Reading, Input, Disk, ClockEnd, ClockFault, Accept, NoMemory}
 use Rattle.pm_words.specs.Meaning.{converts}
-use Rattle.pm_words.specs.Serving.{HasServed, StopCause, Meets}
+use Rattle.pm_words.specs.Serving.{HasServed, Meets}
 use Rattle.pm_words.specs.Sides.{DiskSide, disk_side, Untouched}
-use Rattle.pm_words.proofs.Serving.{still_settled, left_alone}
+use Rattle.pm_words.proofs.Serving.{no_good, still_settled}
 use Rattle.pm_tasks.specs.Conversions.{Converts}
 use Rattle.pm_tasks.proofs.Lookings.{look_leaves, not_so}
 
-module _ (refuses : List ℕ → Option InputRefusal) (make : List ℕ → List ℕ) (input : List ℕ) where
+module _ (refuses : List ℕ → Option Refusal) (make : List ℕ → List ℕ) (input : List ℕ) where
   served : (d : DiskSide) (text : List ℕ) → Untouched d → Converts refuses make input (Ok text) → HasServed (converts refuses make) input d text
   served d text still made = record {
     good = made.0;
@@ -22,16 +20,6 @@ module _ (refuses : List ℕ → Option InputRefusal) (make : List ℕ → List 
     kept = λ tells crash left. tt;
     settled = still_settled d still;
   }
-
-  stopped : (d : DiskSide) (e : Refusal) → Untouched d → Converts refuses make input (Err e) → StopCause (converts refuses make) input d e
-  stopped d (Input e) still refused = (refused, still)
-  stopped d NoMemory still refused = left_alone (converts refuses make) 9 input d still
-  stopped d (Words usage) still refused = absurd refused
-  stopped d (Reading e) still refused = absurd refused
-  stopped d (Disk e) still refused = absurd refused
-  stopped d (ClockEnd left) still refused = absurd refused
-  stopped d (ClockFault left) still refused = absurd refused
-  stopped d Accept still refused = absurd refused
 
   -- The law is the disk's own, `only_now`.
   pub converted : {D : Type 0} (g : DiskGhosts D) (d : D) (result : Result (List ℕ) Refusal) → OnlyNow g → Converts refuses make input result → Meets (converts refuses make) input g d d None [] result
@@ -49,7 +37,7 @@ module _ (refuses : List ℕ → Option InputRefusal) (make : List ℕ → List 
   }
   converted g d (Err e) now made = record {
     done = tt;
-    stops = (stopped (disk_side g d d) e (λ tells. refl) made, refl);
+    stops = (no_good (converts refuses make) input (disk_side g d d) e made (λ tells. refl), refl);
     aside = λ h. refl;
     unread = λ other. (looks_none g now d).moments;
     any_moment = look_leaves g (converts refuses make) input d d (looks_none g now d);

@@ -14,9 +14,8 @@ use Rattle.archive_reader.proofs.Readable.{standing_is_read}
 use Rattle.archive_reader.specs.Walks.{volumes_from, Leads, StepsOver}
 use Rattle.archive_reader.specs.declared.places.Place.{Place}
 use Rattle.pm_print.specs.Items.{item_text, items_text}
-use Rattle.pm_words.specs.declared.stage.FilesRefusal.{FilesRefusal}
-use Rattle.pm_words.specs.declared.stage.FilesRefusal.TheVariants.{Run, Compressed, NotArchive, Nothing}
 use Rattle.pm_words.specs.declared.refusal.Refusal.{Refusal}
+use Rattle.pm_words.specs.declared.refusal.Refusal.TheVariants.{NotArchive}
 use Rattle.pm_tasks.specs.Archives.{IsLoaded, TurnedAway}
 use Rattle.pm_words.specs.Refusals.{reader_refusal}
 use Rattle.pcp_outside.specs.declared.streams.Sink.{Ghosts as SinkGhosts}
@@ -99,11 +98,9 @@ module _ {O : Type 0} (g : SinkGhosts O) (tells : Type 0) (files : Files) (r : L
     some = λ yes. let s : IsSoFar files r p before (was.front ++ waits) = was.so yes in (s.items, (volumes_from p.volume r.volumes, p.offset, s.leads), (waits, sym s.is));
   }
 
-bad_record : (r : Loaded) (p : Place) (f : Found) (before text : List ℕ) → IsSoFar f.files r p before text → (e : FilesRefusal) → BadNext r p f e → BadRecord r f e
-bad_record r p f before text so (Run reason) bad = absurd bad
-bad_record r p f before text so (Compressed file) bad = absurd bad
-bad_record r p f before text so (Nothing stamp) bad = absurd bad
+bad_record : (r : Loaded) (p : Place) (f : Found) (before text : List ℕ) → IsSoFar f.files r p before text → (e : Refusal) → BadNext r p f e → BadRecord r f e
 bad_record r p f before text so (NotArchive file at) bad = (so.items, record { last = volumes_from p.volume r.volumes; to = p.offset; leads = so.leads; bad = bad })
+bad_record r p f before text so _ bad = absurd bad
 
 -- nothing was sent yet
 pub stopped_at_once : {O : Type 0} (g : SinkGhosts O) (a : O) (failed : Bool) (d : DiskSide) → failed ≡ false → HasStopped (sink_side g a a) failed d

@@ -8,39 +8,47 @@ use Rattle.pcp_outside.specs.Sides.{SinkSide}
 use Rattle.pcp_outside.proofs.Crash.{weaker}
 use Rattle.archive_loading.specs.Looks.{Looks}
 use Rattle.archive_loading.specs.Loaded.{Loaded}
-use Rattle.pm_words.specs.declared.stage.FilesRefusal.{FilesRefusal}
-use Rattle.pm_words.specs.declared.stage.FilesRefusal.TheVariants.{Run, Compressed, NotArchive, Nothing}
-use Rattle.pm_words.specs.declared.stage.RunRefusal.{RunRefusal}
-use Rattle.pm_words.specs.declared.stage.DiskRefusal.TheVariants.{Files as FilesAway, DiskFault}
 use Rattle.pm_words.specs.declared.refusal.Refusal.{Refusal}
-use Rattle.pm_words.specs.declared.refusal.Refusal.TheVariants.{Words, Reading, Input, Disk, ClockEnd, ClockFault, Accept, NoMemory}
+use Rattle.pm_words.specs.declared.refusal.Refusal.TheVariants.{Condition, Limit, NotLater, Changed, Compressed, NotArchive, Nothing}
 use Rattle.pm_words.specs.declared.words.ValueWords.{ValueWords}
 use Rattle.pm_words.specs.Meaning.{Meaning}
-use Rattle.pm_words.specs.Refusals.{files_status}
-use Rattle.pm_words.specs.Serving.{StopCause, HasServed, IsNever, MayLeave, Meets, MeetsSending}
+use Rattle.pm_words.specs.Refusals.{Stage, AtFiles, AtDisk, AtMemory, IsOfRun, stage_of, status_of}
+use Rattle.pm_words.specs.Serving.{StopCause, StopsAt, HasServed, IsNever, MayLeave, Meets, MeetsSending}
 use Rattle.pm_words.specs.Sides.{DiskSide, Found, disk_side, files_found, Untouched, Leaves}
 use Rattle.pm_words.proofs.Coherent.{IsCoherent}
 use Rattle.pm_words.proofs.Serving.{still_settled, left_alone}
-use Rattle.pm_tasks.specs.Archives.{TurnedAfter, TurnedAway, looks, takes_any}
+use Rattle.pm_tasks.specs.Archives.{IsNotLoaded, TurnedAfter, TurnedAt, TurnedAway, looks, takes_any}
 use Rattle.pm_tasks.specs.commands.at as at
 use Rattle.pm_tasks.specs.commands.dump as dump
 use Rattle.pm_tasks.specs.commands.info as info
 use Rattle.pm_tasks.specs.commands.range as range
 use Rattle.pm_tasks.specs.commands.value as value
 
+-- the refusals of such a command
+abbrev pub IsOfLook : Refusal → Type 0
+IsOfLook (Compressed file) = Unit {0}
+IsOfLook (NotArchive file at) = Unit {0}
+IsOfLook (Nothing stamp) = Unit {0}
+IsOfLook _ = ⊥
+
 -- over which files such a command refuses, and over which it writes a text
-pub record FitsLook (turned : Found → FilesRefusal → Type 0) (said : Found → List ℕ → Type 0) : Type 0 where
-  -- none speaks of a result that isn't logged
-  pub never_unlogged : (f : Found) (reason : RunRefusal) → turned f (Run reason) → ⊥
+pub record FitsLook (turned : Found → Refusal → Type 0) (said : Found → List ℕ → Type 0) : Type 0 where
+  -- none speaks of a run
+  pub only : (f : Found) (e : Refusal) → turned f e → IsOfLook e
   -- a file stands wrapped where one says so, and none does where a text was written
   pub wrapped : (f : Found) (file : FileId) → turned f (Compressed file) → f.wrapped ≡ Some file
   pub unwrapped : (f : Found) (text : List ℕ) → said f text → f.wrapped ≡ None
   -- nor where nothing was found
   pub nothing : (f : Found) (stamp : Moment) → turned f (Nothing stamp) → f.wrapped ≡ None
 
+unloaded_only : (f : Found) (e : Refusal) → IsNotLoaded f e → IsOfLook e
+unloaded_only f (Compressed file) n = tt
+unloaded_only f (NotArchive file at) n = tt
+unloaded_only f _ n = absurd n
+
 pub info_fits : FitsLook info.IsTurnedAway info.IsOutput
 info_fits = record {
-  never_unlogged = λ f reason t. t;
+  only = unloaded_only;
   wrapped = λ f file t. t;
   nothing = λ f stamp t. absurd t;
   unwrapped = λ f text s. s.1.unwrapped;
@@ -50,26 +58,44 @@ pub neither : {A B : Type 0} → (A → ⊥) → (B → ⊥) → A ⊎ B → ⊥
 neither f g t = ⊎_elim f g t
 
 -- a command that turns files away for what it finds in an archive that was loaded
-asked_fits : (why : Loaded → Found → FilesRefusal → Type 0) (said : Found → List ℕ → Type 0) → ((r : Loaded) (f : Found) (reason : RunRefusal) → why r f (Run reason) → ⊥) → ((r : Loaded) (f : Found) (file : FileId) → why r f (Compressed file) → ⊥)
+asked_fits : (why : Loaded → Found → Refusal → Type 0) (said : Found → List ℕ → Type 0) → ((r : Loaded) (f : Found) (e : Refusal) → why r f e → IsOfLook e) → ((r : Loaded) (f : Found) (file : FileId) → why r f (Compressed file) → ⊥)
     → ((f : Found) (text : List ℕ) → said f text → f.wrapped ≡ None) → FitsLook (TurnedAfter why) said
-asked_fits why said unlogged wrapped unwrapped = record {
-  never_unlogged = λ f reason t. neither (λ n. n) (λ b. unlogged b.0 f reason b.2) t;
+asked_fits why said only wrapped unwrapped = record {
+  only = λ f e t. ⊎_elim (λ (n : IsNotLoaded f e). unloaded_only f e n) (λ b. only b.0 f e b.2) t;
   wrapped = λ f file t. ⊎_elim (λ (w : f.wrapped ≡ Some file). w) (λ b. absurd (wrapped b.0 f file b.2)) t;
   nothing = λ f stamp t. ⊎_elim (λ (n : ⊥). absurd n) (λ b. b.1.unwrapped) t;
   unwrapped = unwrapped;
 }
 
+bad_only : (r : Loaded) (f : Found) (e : Refusal) → dump.BadRecord r f e → IsOfLook e
+bad_only r f (NotArchive file at) b = tt
+bad_only r f _ b = absurd b
+
 pub dump_fits : FitsLook dump.IsTurnedAway dump.IsOutput
-dump_fits = asked_fits dump.BadRecord dump.IsOutput (λ r f reason b. b) (λ r f file b. b) (λ f text s. s.1.unwrapped)
+dump_fits = asked_fits dump.BadRecord dump.IsOutput bad_only (λ r f file b. b) (λ f text s. s.1.unwrapped)
+
+at_only : (t : Moment) (r : Loaded) (f : Found) (e : Refusal) → at.IsStopped t r f e → IsOfLook e
+at_only t r f (NotArchive file at) b = tt
+at_only t r f (Nothing stamp) b = tt
+at_only t r f _ b = absurd b
 
 pub at_fits : (t : Moment) → FitsLook (at.IsTurnedAway t) (at.IsOutput t)
-at_fits t = asked_fits (at.IsStopped t) (at.IsOutput t) (λ r f reason b. b) (λ r f file b. b) (λ f text s. s.1.unwrapped)
+at_fits t = asked_fits (at.IsStopped t) (at.IsOutput t) (at_only t) (λ r f file b. b) (λ f text s. s.1.unwrapped)
+
+range_only : (from to : Moment) (r : Loaded) (f : Found) (e : Refusal) → range.IsStopped from to r f e → IsOfLook e
+range_only from to r f (NotArchive file at) b = tt
+range_only from to r f _ b = absurd b
 
 pub range_fits : (from to : Moment) → FitsLook (range.IsTurnedAway from to) (range.IsOutput from to)
-range_fits from to = asked_fits (range.IsStopped from to) (range.IsOutput from to) (λ r f reason b. b) (λ r f file b. b) (λ f text s. s.1.unwrapped)
+range_fits from to = asked_fits (range.IsStopped from to) (range.IsOutput from to) (range_only from to) (λ r f file b. b) (λ f text s. s.1.unwrapped)
+
+value_only : (asked : ValueWords) (r : Loaded) (f : Found) (e : Refusal) → value.IsStopped asked r f e → IsOfLook e
+value_only asked r f (NotArchive file at) b = tt
+value_only asked r f (Nothing stamp) b = tt
+value_only asked r f _ b = absurd b
 
 pub value_fits : (asked : ValueWords) → FitsLook (value.IsTurnedAway asked) (value.IsOutput asked)
-value_fits asked = asked_fits (value.IsStopped asked) (value.IsOutput asked) (λ r f reason b. b) (λ r f file b. b) (λ f text s. s.1.unwrapped)
+value_fits asked = asked_fits (value.IsStopped asked) (value.IsOutput asked) (value_only asked) (λ r f file b. b) (λ f text s. s.1.unwrapped)
 
 not_both : (w : Option FileId) (file : FileId) → w ≡ None → w ≡ Some file → ⊥
 not_both w file none some = let e : None ≡ Some file = sym none ∙ some in cc
@@ -81,19 +107,25 @@ not_so h = let e : false ≡ true = h in cc
 pub look_leaves : {D : Type 0} (g : DiskGhosts D) (m : Meaning) (input : List ℕ) (a b : D) → Looks g a b → Leaves g a b (MayLeave m input)
 look_leaves g m input a b looks = λ tells. weaker g.moment g.left_since g.held a b (CrashImage (g.held a)) (MayLeave m input (g.held a)) (looks.moments tells) (λ crash was. inl was)
 
-module _ (turned : Found → FilesRefusal → Type 0) (said : Found → List ℕ → Type 0) (first : DiskSide → List ℕ → Type 0) (taken : Files → ℕ → ℕ → Type 0) (fits : FitsLook turned said) where
-  never_turned : (f : Found) (text : List ℕ) → said f text → (e : FilesRefusal) → IsNever e → turned f e → ⊥
-  never_turned f text s (Run reason) never t = fits.never_unlogged f reason t
+module _ (turned : Found → Refusal → Type 0) (said : Found → List ℕ → Type 0) (first : DiskSide → List ℕ → Type 0) (taken : Files → ℕ → ℕ → Type 0) (fits : FitsLook turned said) where
+  -- no run is refused
+  look_runs : (f : Found) (e : Refusal) → IsOfRun e → turned f e → ⊥
+  look_runs f (Condition line) run t = fits.only f (Condition line) t
+  look_runs f (Limit what number) run t = fits.only f (Limit what number) t
+  look_runs f (NotLater last) run t = fits.only f (NotLater last) t
+  look_runs f (Changed pmid) run t = fits.only f (Changed pmid) t
+  look_runs f _ run t = run
+
+  never_turned : (f : Found) (text : List ℕ) → said f text → (e : Refusal) → IsNever e → turned f e → ⊥
   never_turned f text s (Compressed file) never t = not_both f.wrapped file (fits.unwrapped f text s) (fits.wrapped f file t)
-  never_turned f text s (NotArchive file offset) never t = never
-  never_turned f text s (Nothing stamp) never t = never
+  never_turned f text s e never t = look_runs f e never t
 
   -- where a file stands wrapped, the archive is turned away
-  look_wrapped : (f : Found) (file : FileId) (e : FilesRefusal) → turned f (Compressed file) → turned f e → files_status e ≡ 6
-  look_wrapped f file (Run reason) w t = absurd (fits.never_unlogged f reason t)
+  look_wrapped : (f : Found) (file : FileId) (e : Refusal) → turned f (Compressed file) → turned f e → status_of e ≡ 6
   look_wrapped f file (Compressed other) w t = refl
   look_wrapped f file (NotArchive other offset) w t = refl
   look_wrapped f file (Nothing stamp) w t = absurd (not_both f.wrapped file (fits.nothing f stamp t) (fits.wrapped f file w))
+  look_wrapped f file e w t = absurd (fits.only f e t)
 
   -- what such a command is served
   look_served : (input : List ℕ) (d : DiskSide) (text : List ℕ) → Untouched d → (d.tells → said (files_found d) text) → HasServed (looks turned said first taken) input d text
@@ -107,26 +139,24 @@ module _ (turned : Found → FilesRefusal → Type 0) (said : Found → List ℕ
   }
 
   -- and why it is stopped
+  stops_at : (stage : Stage) (input : List ℕ) (d : DiskSide) (e : Refusal) → Untouched d → TurnedAt stage turned d e → StopsAt stage (looks turned said first taken) input d e
+  stops_at AtFiles input d e still c = ((refl, refl), left_alone (looks turned said first taken) (status_of e) input d still, c)
+  stops_at AtDisk input d e still c = ((refl, refl), left_alone (looks turned said first taken) (status_of e) input d still, c)
+  stops_at AtMemory input d e still c = left_alone (looks turned said first taken) (status_of e) input d still
+  stops_at _ input d e still c = absurd c
+
   look_stops : (input : List ℕ) (d : DiskSide) (e : Refusal) → Untouched d → TurnedAway turned d e → StopCause (looks turned said first taken) input d e
-  look_stops input d (Disk (FilesAway e)) still c = ((refl, refl), (left_alone (looks turned said first taken) (files_status e) input d still, c))
-  look_stops input d (Disk DiskFault) still c = ((refl, refl), (left_alone (looks turned said first taken) 5 input d still, c))
-  look_stops input d NoMemory still c = left_alone (looks turned said first taken) 9 input d still
-  look_stops input d (Words usage) still c = absurd c
-  look_stops input d (Reading e) still c = absurd c
-  look_stops input d (Input e) still c = absurd c
-  look_stops input d (ClockEnd left) still c = absurd c
-  look_stops input d (ClockFault left) still c = absurd c
-  look_stops input d Accept still c = absurd c
+  look_stops input d e still c = stops_at (stage_of e) input d e still c
 
   -- Its meaning is coherent where nothing that was asked for is there and nothing else is wrong then.
-  pub look_coherent : ((files : Files) (n : ℕ) → taken files n n) → ((f : Found) (stamp : Moment) (e : FilesRefusal) → turned f (Nothing stamp) → turned f e → files_status e ≡ 11) → ((f : Found) (stamp : Moment) (text : List ℕ) → turned f (Nothing stamp) → said f text → ⊥)
+  pub look_coherent : ((files : Files) (n : ℕ) → taken files n n) → ((f : Found) (stamp : Moment) (e : Refusal) → turned f (Nothing stamp) → turned f e → status_of e ≡ 11) → ((f : Found) (stamp : Moment) (text : List ℕ) → turned f (Nothing stamp) → said f text → ⊥)
       → IsCoherent (looks turned said first taken)
   look_coherent idle alone silent = record {
-    one_reason = λ input f reason e unlogged t. absurd (fits.never_unlogged f reason unlogged);
+    one_reason = λ input f reason e run refused t. absurd (look_runs f reason run refused);
     wrapped_first = λ input f file e w t. look_wrapped f file e w t;
     nothing_first = λ input f stamp e nothing t. alone f stamp e nothing t;
     never_done = λ input d text served tells stamp nothing. silent (files_found d) stamp text nothing (served.says tells);
-    untold = λ input d e begun. begun;
+    untold = λ input d status other begun. begun;
     begins_untold = λ input d e front some begins. begins;
     takes_none = idle;
     sound = λ input d writes tells done. not_so writes;

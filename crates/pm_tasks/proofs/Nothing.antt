@@ -9,10 +9,10 @@ use Rattle.archive_reader.specs.Asked.{at_begin, IsAtFrom}
 use Rattle.archive_reader.specs.Values.{IsValueAt}
 use Rattle.archive_reader.proofs.Once.{at_answers_once, value_answers_once}
 use Rattle.archive_reader.proofs.OnceLoaded.{load_answers_once}
-use Rattle.pm_words.specs.declared.stage.FilesRefusal.{FilesRefusal}
-use Rattle.pm_words.specs.declared.stage.FilesRefusal.TheVariants.{Run, Compressed, NotArchive, Nothing}
+use Rattle.pm_words.specs.declared.refusal.Refusal.{Refusal}
+use Rattle.pm_words.specs.declared.refusal.Refusal.TheVariants.{Compressed, NotArchive, Nothing}
 use Rattle.pm_words.specs.declared.words.ValueWords.{ValueWords}
-use Rattle.pm_words.specs.Refusals.{files_status}
+use Rattle.pm_words.specs.Refusals.{status_of}
 use Rattle.pm_words.specs.Sides.{Found}
 use Rattle.pm_tasks.specs.Archives.{IsLoaded, IsNotLoaded}
 use Rattle.pm_tasks.specs.commands.at as at
@@ -25,11 +25,10 @@ none_or_some : (A : Type 0) (x : A) (o : Option A) → o ≡ None → o ≡ Some
 none_or_some A x o none some = let e : None ≡ Some x = sym none ∙ some in cc
 
 -- files that are loaded aren't refused, and are loaded in one way
-not_refused : (f : Found) (r : Loaded) → IsLoaded f r → (e : FilesRefusal) → IsNotLoaded f e → ⊥
-not_refused f r loaded (Run reason) n = n
+not_refused : (f : Found) (r : Loaded) → IsLoaded f r → (e : Refusal) → IsNotLoaded f e → ⊥
 not_refused f r loaded (Compressed file) n = wrapped_not f.wrapped file loaded.unwrapped n
 not_refused f r loaded (NotArchive file offset) n = (load_answers_once f.files).apart r file offset loaded.over n.1
-not_refused f r loaded (Nothing stamp) n = n
+not_refused f r loaded _ n = n
 
 one_load : (f : Found) (r s : Loaded) → IsLoaded f r → IsLoaded f s → s ≡ r
 one_load f r s a b = (load_answers_once f.files).kept s r b.over a.over
@@ -39,13 +38,12 @@ one_load f r s a b = (load_answers_once f.files).kept s r b.over a.over
 abbrev no_item : Found → Moment → Loaded → Type 0
 no_item f t r = IsAtFrom f.files r.volumes t (at_begin r t) None
 
-at_else : (t : Moment) (f : Found) (r : Loaded) → no_item f t r → (e : FilesRefusal) → at.IsStopped t r f e → files_status e ≡ 11
-at_else t f r none (Run reason) why = absurd why
-at_else t f r none (Compressed file) why = absurd why
+at_else : (t : Moment) (f : Found) (r : Loaded) → no_item f t r → (e : Refusal) → at.IsStopped t r f e → status_of e ≡ 11
 at_else t f r none (NotArchive file offset) why = absurd ((at_answers_once f.files r t).apart None file offset none why)
 at_else t f r none (Nothing stamp) why = refl
+at_else t f r none _ why = absurd why
 
-pub at_nothing : (t : Moment) (f : Found) (stamp : Moment) (e : FilesRefusal) → at.IsTurnedAway t f (Nothing stamp) → at.IsTurnedAway t f e → files_status e ≡ 11
+pub at_nothing : (t : Moment) (f : Found) (stamp : Moment) (e : Refusal) → at.IsTurnedAway t f (Nothing stamp) → at.IsTurnedAway t f e → status_of e ≡ 11
 at_nothing t f stamp e (inl n) other = absurd n
 at_nothing t f stamp e (inr b) (inl n) = absurd (not_refused f b.0 b.1 e n)
 at_nothing t f stamp e (inr b) (inr c) = at_else t f b.0 b.2.1 e (subst (λ (r : Loaded). at.IsStopped t r f e) (one_load f b.0 c.0 b.1 c.1) c.2)
@@ -58,14 +56,13 @@ at_said t f stamp text (inr b) said =
 
 -- ---- the values that a metric last had
 
-value_else : (asked : ValueWords) (f : Found) (r : Loaded) (o : Option ℕ) → metric_of_name r.records asked.name ≡ o → value.HasNothing f r asked.stamp o → (e : FilesRefusal) → value.IsStopped asked r f e → files_status e ≡ 11
-value_else asked f r o is none (Run reason) why = absurd why
-value_else asked f r o is none (Compressed file) why = absurd why
+value_else : (asked : ValueWords) (f : Found) (r : Loaded) (o : Option ℕ) → metric_of_name r.records asked.name ≡ o → value.HasNothing f r asked.stamp o → (e : Refusal) → value.IsStopped asked r f e → status_of e ≡ 11
 value_else asked f r None is none (NotArchive file offset) why = absurd (none_or_some ℕ why.0 (metric_of_name r.records asked.name) is why.1)
 value_else asked f r (Some pmid) is none (NotArchive file offset) why = absurd ((value_answers_once f.files r pmid asked.stamp).apart None file offset none.0 why.2)
 value_else asked f r o is none (Nothing stamp) why = refl
+value_else asked f r o is none _ why = absurd why
 
-pub value_nothing : (asked : ValueWords) (f : Found) (stamp : Moment) (e : FilesRefusal) → value.IsTurnedAway asked f (Nothing stamp) → value.IsTurnedAway asked f e → files_status e ≡ 11
+pub value_nothing : (asked : ValueWords) (f : Found) (stamp : Moment) (e : Refusal) → value.IsTurnedAway asked f (Nothing stamp) → value.IsTurnedAway asked f e → status_of e ≡ 11
 value_nothing asked f stamp e (inl n) other = absurd n
 value_nothing asked f stamp e (inr b) (inl n) = absurd (not_refused f b.0 b.1 e n)
 value_nothing asked f stamp e (inr b) (inr c) =

@@ -18,8 +18,7 @@ use Rattle.archive_reader.specs.declared.beginning.Begin.{Begin}
 use Rattle.archive_reader.specs.declared.beginning.Begin.TheVariants.{At, Outside}
 use Rattle.archive_reader.specs.declared.fault.ReaderFault.{ReaderFault}
 use Rattle.archive_reader.specs.declared.fault.ReaderFault.TheVariants as faults
-use Rattle.pm_words.specs.declared.stage.FilesRefusal.{FilesRefusal}
-use Rattle.pm_words.specs.declared.stage.FilesRefusal.TheVariants.{Run, Compressed, NotArchive, Nothing}
+use Rattle.pm_words.specs.declared.refusal.Refusal.TheVariants.{NotArchive, Nothing}
 use Rattle.pm_words.specs.declared.words.ValueWords.{ValueWords}
 use Rattle.pm_words.specs.declared.refusal.Refusal.{Refusal}
 use Rattle.pm_tasks.specs.Archives.{IsLoaded, TurnedAway, OverReadable, OverSound}
@@ -40,11 +39,10 @@ range_unwrapped files volumes to (At n offset) file why = why
 range_unwrapped files volumes to (Outside n offset) file why = why
 
 -- of the metric that a name leads to
-pub of_named : (asked : ValueWords) (pmid : ℕ) (r : Loaded) → metric_of_name r.records asked.name ≡ Some pmid → (f : Found) (e : FilesRefusal) → value.HasNoValue pmid asked.stamp r f e → value.IsStopped asked r f e
-of_named asked pmid r is f (Run reason) why = why
-of_named asked pmid r is f (Compressed file) why = why
+pub of_named : (asked : ValueWords) (pmid : ℕ) (r : Loaded) → metric_of_name r.records asked.name ≡ Some pmid → (f : Found) (e : Refusal) → value.HasNoValue pmid asked.stamp r f e → value.IsStopped asked r f e
 of_named asked pmid r is f (NotArchive file offset) why = (pmid, is, why)
 of_named asked pmid r is f (Nothing stamp) why = (why.0, subst (value.HasNothing f r asked.stamp) (sym is) (why.1, why.2))
+of_named asked pmid r is f _ why = why
 
 -- its text
 pub said_of : (asked : ValueWords) (f g : Found) (r : Loaded) (pmid : ℕ) (result : Result (List ℕ) Refusal) → IsLoaded f r → metric_of_name r.records asked.name ≡ Some pmid → g.files ≡ f.files

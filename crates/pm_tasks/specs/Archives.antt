@@ -8,12 +8,10 @@ use Rattle.pcp_model.specs.Sound.{IsSound}
 use Rattle.pcp_outside.specs.Causes.{Rose}
 use Rattle.archive_loading.specs.Loaded.{Loaded, IsOver}
 use Rattle.archive_loading.specs.LoadFaults.{NotLoaded}
-use Rattle.pm_words.specs.declared.stage.FilesRefusal.{FilesRefusal}
-use Rattle.pm_words.specs.declared.stage.FilesRefusal.TheVariants.{Run, Compressed, NotArchive, Nothing}
-use Rattle.pm_words.specs.declared.stage.DiskRefusal.TheVariants.{Files as FilesAway, DiskFault}
 use Rattle.pm_words.specs.declared.refusal.Refusal.{Refusal}
-use Rattle.pm_words.specs.declared.refusal.Refusal.TheVariants.{Disk, NoMemory}
+use Rattle.pm_words.specs.declared.refusal.Refusal.TheVariants.{Compressed, NotArchive}
 use Rattle.pm_words.specs.Meaning.{Meaning}
+use Rattle.pm_words.specs.Refusals.{Stage, AtFiles, AtDisk, AtMemory, stage_of}
 use Rattle.pm_words.specs.Sides.{DiskSide, Found, files_found, Untouched}
 
 -- no file stands wrapped, and apart from the records of its volumes this is the archive
@@ -22,14 +20,13 @@ pub record IsLoaded (found : Found) (r : Loaded) : Type 0 where
   pub over : IsOver found.files r
 
 -- a file stands wrapped, or apart from the records of volumes this offset fits no archive
-abbrev pub IsNotLoaded : Found → FilesRefusal → Type 0
+abbrev pub IsNotLoaded : Found → Refusal → Type 0
 IsNotLoaded found (Compressed file) = found.wrapped ≡ Some file
 IsNotLoaded found (NotArchive file at) = (found.wrapped ≡ None) × NotLoaded found.files file at
-IsNotLoaded found (Run reason) = ⊥
-IsNotLoaded found (Nothing stamp) = ⊥
+IsNotLoaded found _ = ⊥
 
 -- files are turned away where they aren't loaded, or for what is found in an archive that was
-abbrev pub TurnedAfter : (Loaded → Found → FilesRefusal → Type 0) → Found → FilesRefusal → Type 0
+abbrev pub TurnedAfter : (Loaded → Found → Refusal → Type 0) → Found → Refusal → Type 0
 TurnedAfter why found e = IsNotLoaded found e ⊎ ((r : Loaded) × IsLoaded found r × why r found e)
 
 -- what is so of the scan where the files are a readable archive, or a sound one
@@ -40,11 +37,14 @@ abbrev pub OverSound : Found → (List Item → Type 0) → Type 0
 OverSound found P = (reading : ArchiveReading) → Reads found.files reading → IsSound found.files reading → P (scan reading)
 
 -- why such a command ends without a text: it turned the files away, the disk failed, or memory ran out
-abbrev pub TurnedAway : (Found → FilesRefusal → Type 0) → DiskSide → Refusal → Type 0
-TurnedAway turned d (Disk (FilesAway e)) = d.tells → turned (files_found d) e
-TurnedAway turned d (Disk DiskFault) = Rose d.faults d.faults_after
-TurnedAway turned d NoMemory = Unit {0}
-TurnedAway turned d _ = ⊥
+abbrev pub TurnedAt : Stage → (Found → Refusal → Type 0) → DiskSide → Refusal → Type 0
+TurnedAt AtFiles turned d e = d.tells → turned (files_found d) e
+TurnedAt AtDisk turned d e = Rose d.faults d.faults_after
+TurnedAt AtMemory turned d e = Unit {0}
+TurnedAt _ turned d e = ⊥
+
+abbrev pub TurnedAway : (Found → Refusal → Type 0) → DiskSide → Refusal → Type 0
+TurnedAway turned d e = TurnedAt (stage_of e) turned d e
 
 -- one that writes nothing before it is done
 abbrev pub nothing_before : DiskSide → List ℕ → Type 0
@@ -56,7 +56,7 @@ takes_any files before after = Unit {0}
 
 -- A command that reads an archive and writes a text of it, of which it may have written a front where it is stopped; `taken` says how
 -- many volume bytes it takes.
-abbrev pub looks : (Found → FilesRefusal → Type 0) → (Found → List ℕ → Type 0) → (DiskSide → List ℕ → Type 0) → (Files → ℕ → ℕ → Type 0) → Meaning
+abbrev pub looks : (Found → Refusal → Type 0) → (Found → List ℕ → Type 0) → (DiskSide → List ℕ → Type 0) → (Files → ℕ → ℕ → Type 0) → Meaning
 looks turned said first taken = record {
   reads = None;
   uses_disk = true;

@@ -4,63 +4,37 @@ use Rattle.pcp_outside.specs.Causes.{Rose}
 use Rattle.pcp_outside.specs.Sides.{SourceSide, SinkSide}
 use Rattle.pm_words.specs.declared.words.Call.{Call}
 use Rattle.pm_words.specs.declared.words.Command.{Command}
-use Rattle.pm_words.specs.declared.stage.InputRefusal.{InputRefusal}
-use Rattle.pm_words.specs.declared.stage.InputRefusal.TheVariants.{Image, Line, Script}
-use Rattle.pm_words.specs.declared.stage.ReadRefusal.TheVariants.{ReadFault, InputLimit}
-use Rattle.pm_words.specs.declared.stage.FilesRefusal.{FilesRefusal}
-use Rattle.pm_words.specs.declared.stage.FilesRefusal.TheVariants.{Run, Compressed, NotArchive, Nothing}
-use Rattle.pm_words.specs.declared.stage.RunRefusal.{RunRefusal}
-use Rattle.pm_words.specs.declared.stage.RunRefusal.TheVariants.{Condition, Limit, NotLater, Changed}
-use Rattle.pm_words.specs.declared.stage.DiskRefusal.TheVariants.{Files, DiskFault}
 use Rattle.pm_words.specs.declared.refusal.Refusal.{Refusal}
-use Rattle.pm_words.specs.declared.refusal.Refusal.TheVariants.{Words, Reading, Input, Disk, ClockEnd, ClockFault, Accept, NoMemory}
+use Rattle.pm_words.specs.declared.refusal.Refusal.TheVariants.{Usage, ReadFault, InputLimit, Image, Line, Script, Condition, NoMemory}
 use Rattle.run_script.specs.declared.fault.ScriptLineFault.{ScriptLineFault}
 use Rattle.run_script.specs.declared.fault.ScriptLineFault.TheVariants as script
 use Rattle.pm_words.specs.Asking.{Asks, Before, Got, IsReader, ReadingIsExact, UsageIsExact}
 use Rattle.pm_words.specs.CommandLine.{asked_by, takes_input}
 use Rattle.pm_words.specs.Inputs.{input_limit}
-use Rattle.pm_words.specs.Refusals.{files_status, input_status, run_status, script_status, status_of}
+use Rattle.pm_words.specs.Refusals.{script_status, status_of}
 use Rattle.pm_words.specs.Telling.{IsToldBy, TellsAll}
 
 -- Statuses of 1, 3 and 4 are those of the words, of the reading and of the sink alone.
 
-script_apart : (n : ℕ) → (n ≡ 2 → ⊥) → (n ≡ 7 → ⊥) → (fault : ScriptLineFault) → script_status fault ≡ n → ⊥
+pub script_apart : (n : ℕ) → (n ≡ 2 → ⊥) → (n ≡ 7 → ⊥) → (fault : ScriptLineFault) → script_status fault ≡ n → ⊥
 script_apart n two seven (script.Line found) h = two (sym h)
 script_apart n two seven script.Regions h = seven (sym h)
 
-pub input_apart : (n : ℕ) → (n ≡ 2 → ⊥) → (n ≡ 7 → ⊥) → (e : InputRefusal) → input_status e ≡ n → ⊥
-input_apart n two seven (Image fault) h = two (sym h)
-input_apart n two seven (Line fault) h = two (sym h)
-input_apart n two seven (Script fault) h = script_apart n two seven fault.fault h
-
-run_apart : (n : ℕ) → (n ≡ 2 → ⊥) → (n ≡ 7 → ⊥) → (n ≡ 12 → ⊥) → (n ≡ 13 → ⊥) → (reason : RunRefusal) → run_status reason ≡ n → ⊥
-run_apart n two seven twelve thirteen (Condition line) h = two (sym h)
-run_apart n two seven twelve thirteen (Limit what number) h = seven (sym h)
-run_apart n two seven twelve thirteen (NotLater last) h = twelve (sym h)
-run_apart n two seven twelve thirteen (Changed pmid) h = thirteen (sym h)
-
-low_files : (n : ℕ) → n ≤ 4 → (n ≡ 2 → ⊥) → (e : FilesRefusal) → files_status e ≡ n → ⊥
-low_files n low two (Run reason) h = run_apart n two (λ k. omega (arith, k)) (λ k. omega (arith, k)) (λ k. omega (arith, k)) reason h
-low_files n low two (Compressed file) h = omega (arith, h)
-low_files n low two (NotArchive file at) h = omega (arith, h)
-low_files n low two (Nothing stamp) h = omega (arith, h)
-
 -- a refusal that a command's body may answer
 abbrev pub IsOfBody : Refusal → Type 0
-IsOfBody (Words usage) = ⊥
-IsOfBody (Reading e) = ⊥
+IsOfBody (Usage at) = ⊥
+IsOfBody ReadFault = ⊥
+IsOfBody InputLimit = ⊥
 IsOfBody _ = Unit {0}
 
 low_body : (n : ℕ) → n ≤ 4 → (n ≡ 2 → ⊥) → (e : Refusal) → IsOfBody e → status_of e ≡ n → ⊥
-low_body n low two (Words usage) body h = body
-low_body n low two (Reading e) body h = body
-low_body n low two (Input e) body h = input_apart n two (λ k. omega (arith, k)) e h
-low_body n low two (Disk (Files e)) body h = low_files n low two e h
-low_body n low two (Disk DiskFault) body h = omega (arith, h)
-low_body n low two (ClockEnd left) body h = omega (arith, h)
-low_body n low two (ClockFault left) body h = omega (arith, h)
-low_body n low two Accept body h = omega (arith, h)
-low_body n low two NoMemory body h = omega (arith, h)
+low_body n low two (Usage at) body h = body
+low_body n low two ReadFault body h = body
+low_body n low two (Image fault) body h = two (sym h)
+low_body n low two (Line fault) body h = two (sym h)
+low_body n low two (Script fault) body h = script_apart n two (λ k. omega (arith, k, low)) fault.fault h
+low_body n low two (Condition line) body h = two (sym h)
+low_body n low two _ body h = omega (arith, low, h)
 
 module _ (call : Call) (words : List (List ℕ)) (s : SourceSide) where
   -- What a call came to: its command's body answered, or it was refused before its command began.
@@ -94,49 +68,30 @@ module _ (call : Call) (words : List (List ℕ)) (s : SourceSide) where
   refused_by (Err e) status n (inr (is, some)) h zero four nine = absurd (nine (sym h ∙ is))
 
   usage_of : (e : Refusal) → Before call words s e → status_of e ≡ 1 → (at : ℕ) × (asked_by call words ≡ Err at)
-  usage_of (Words usage) before h = (usage.at, before.0)
-  usage_of (Reading ReadFault) before h = absurd (omega (arith, h))
-  usage_of (Reading InputLimit) before h = absurd (omega (arith, h))
-  usage_of (Input e) before h = absurd before
-  usage_of (Disk e) before h = absurd before
-  usage_of (ClockEnd left) before h = absurd before
-  usage_of (ClockFault left) before h = absurd before
-  usage_of Accept before h = absurd before
-  usage_of NoMemory before h = absurd (omega (arith, h))
+  usage_of (Usage at) before h = (at, before.0)
+  usage_of (Script fault) before h = absurd before
+  usage_of _ before h = absurd (omega (arith, h))
 
   fault_of : (e : Refusal) → Before call words s e → status_of e ≡ 3 → Rose s.faults s.faults_after
-  fault_of (Words usage) before h = absurd (omega (arith, h))
-  fault_of (Reading ReadFault) before h = before.1.0
-  fault_of (Reading InputLimit) before h = absurd (omega (arith, h))
-  fault_of (Input e) before h = absurd before
-  fault_of (Disk e) before h = absurd before
-  fault_of (ClockEnd left) before h = absurd before
-  fault_of (ClockFault left) before h = absurd before
-  fault_of Accept before h = absurd before
-  fault_of NoMemory before h = absurd (omega (arith, h))
+  fault_of ReadFault before h = before.1.0
+  fault_of (Script fault) before h = absurd before
+  fault_of _ before h = absurd (omega (arith, h))
 
   -- bad words have no other end
   bad_words : (e : Refusal) → Before call words s e → (at : ℕ) → asked_by call words ≡ Err at → (status_of e ≡ 1) ⊎ (status_of e ≡ 9)
-  bad_words (Words usage) before at bad = inl refl
-  bad_words (Reading e) before at bad = absurd (apart at bad before.0.0 before.0.1)
-  bad_words (Input e) before at bad = absurd before
-  bad_words (Disk e) before at bad = absurd before
-  bad_words (ClockEnd left) before at bad = absurd before
-  bad_words (ClockFault left) before at bad = absurd before
-  bad_words Accept before at bad = absurd before
+  bad_words (Usage at) before other bad = inl refl
+  bad_words ReadFault before at bad = absurd (apart at bad before.0.0 before.0.1)
+  bad_words InputLimit before at bad = absurd (apart at bad before.0.0 before.0.1)
   bad_words NoMemory before at bad = inr refl
+  bad_words _ before at bad = absurd before
 
   -- nor has an input above the limit
   above_of : (e : Refusal) → Before call words s e → IsReader call words → (status_of e ≡ 7) ⊎ ((status_of e ≡ 9) ⊎ (status_of e ≡ 3))
-  above_of (Words usage) before reader = absurd (apart usage.at before.0 reader.0 reader.1)
-  above_of (Reading ReadFault) before reader = inr (inr refl)
-  above_of (Reading InputLimit) before reader = inl refl
-  above_of (Input e) before reader = absurd before
-  above_of (Disk e) before reader = absurd before
-  above_of (ClockEnd left) before reader = absurd before
-  above_of (ClockFault left) before reader = absurd before
-  above_of Accept before reader = absurd before
+  above_of (Usage at) before reader = absurd (apart at before.0 reader.0 reader.1)
+  above_of ReadFault before reader = inr (inr refl)
+  above_of InputLimit before reader = inl refl
   above_of NoMemory before reader = inr (inl refl)
+  above_of _ before reader = absurd before
 
   module _ (result : Result (List ℕ) Refusal) (status : ℕ) (told : IsToldBy result status) (came : Came result) where
     -- a low status is that of a refusal before the command
@@ -176,15 +131,8 @@ module _ (call : Call) (words : List (List ℕ)) (s : SourceSide) where
 
 -- no refusal has the status 4
 pub never_four : (e : Refusal) → status_of e ≡ 4 → ⊥
-never_four (Words usage) h = omega (arith, h)
-never_four (Reading ReadFault) h = omega (arith, h)
-never_four (Reading InputLimit) h = omega (arith, h)
-never_four (Input e) h = low_body 4 (omega arith) (λ k. omega (arith, k)) (Input e) tt h
-never_four (Disk e) h = low_body 4 (omega arith) (λ k. omega (arith, k)) (Disk e) tt h
-never_four (ClockEnd left) h = omega (arith, h)
-never_four (ClockFault left) h = omega (arith, h)
-never_four Accept h = omega (arith, h)
-never_four NoMemory h = omega (arith, h)
+never_four (Script fault) h = script_apart 4 (λ k. omega (arith, k)) (λ k. omega (arith, k)) fault.fault h
+never_four _ h = omega (arith, h)
 
 -- 4 only where the sink's count rose
 module _ (k : SinkSide) (front : List ℕ) where

@@ -1,36 +1,30 @@
 -- Which refusals come after recovery has answered.
-use Rattle.std.proofs.Common.{◌≡◌, inl, inr, ℕ, Bool, true, false, ◌==◌, if◌then◌else◌, List, Err, refl, sym, subst, ◌∙◌}
+use Rattle.std.proofs.Common.{◌≡◌, inl, inr, ℕ, Bool, true, false, ◌==◌, if◌then◌else◌, List, Option, Err, refl, sym, subst, ◌∙◌}
 use Rattle.pcp_outside.specs.Sides.{SourceSide}
-use Rattle.pm_words.specs.declared.stage.StageFault.{StageFault}
-use Rattle.pm_words.specs.declared.stage.StageFault.TheVariants.{OutOfMemory, Refused}
 use Rattle.pm_words.specs.declared.words.Call.{Call}
-use Rattle.pm_words.specs.declared.stage.ReadRefusal.TheVariants.{ReadFault, InputLimit}
-use Rattle.pm_words.specs.declared.stage.InputRefusal.{InputRefusal}
-use Rattle.pm_words.specs.declared.stage.InputRefusal.TheVariants.{Image, Line, Script}
-use Rattle.pm_words.specs.declared.stage.FilesRefusal.TheVariants.{Run, Compressed, NotArchive, Nothing}
-use Rattle.pm_words.specs.declared.stage.DiskRefusal.TheVariants.{Files, DiskFault}
 use Rattle.pm_words.specs.declared.refusal.Refusal.{Refusal}
-use Rattle.pm_words.specs.declared.refusal.Refusal.TheVariants.{Words, Reading, Input, Disk, ClockEnd, ClockFault, Accept, NoMemory}
+use Rattle.pm_words.specs.declared.refusal.Refusal.TheVariants.{Usage, ReadFault, InputLimit, Image, Line, Script, Condition, Limit, NotLater, Changed, Compressed, NotArchive, Nothing, DiskFault, ClockEnd, ClockFault, Accept, NoMemory}
 use Rattle.run_script.specs.declared.fault.ScriptLineFault.{ScriptLineFault}
 use Rattle.run_script.specs.declared.fault.ScriptLineFault.TheVariants as script
 use Rattle.pm_words.specs.Asking.{Before}
-use Rattle.pm_words.specs.Refusals.{script_status, refusal_of_stage, status_of}
+use Rattle.pm_words.specs.Inputs.{Refuses}
+use Rattle.pm_words.specs.Refusals.{script_status, status_of}
 use Rattle.pm_words.specs.Serving.{HasRecovered, HadRecovered}
 
 -- the words and the reading are looked at before, and so is the input
 pub not_yet : (call : Call) (words : List (List ℕ)) (s : SourceSide) (e : Refusal) → Before call words s e → HasRecovered (Err e) → ⊥
-not_yet call words s (Words usage) before h = h
-not_yet call words s (Reading e) before h = h
-not_yet call words s (Input e) before h = before
-not_yet call words s (Disk e) before h = before
-not_yet call words s (ClockEnd left) before h = before
-not_yet call words s (ClockFault left) before h = before
-not_yet call words s Accept before h = before
+not_yet call words s (Usage at) before h = h
+not_yet call words s ReadFault before h = h
+not_yet call words s InputLimit before h = h
 not_yet call words s NoMemory before h = h
+not_yet call words s _ before h = before
 
-pub no_input_yet : (stop : StageFault InputRefusal) → HasRecovered (Err (refusal_of_stage Input stop)) → ⊥
-no_input_yet OutOfMemory h = h
-no_input_yet (Refused e) h = h
+pub no_input_yet : (reads : Option (List ℕ → Option Refusal)) (input : List ℕ) (e : Refusal) → Refuses reads input e → HasRecovered (Err e) → ⊥
+no_input_yet reads input (Image fault) refuses h = h
+no_input_yet reads input (Line fault) refuses h = h
+no_input_yet reads input (Script fault) refuses h = h
+no_input_yet reads input NoMemory refuses h = h
+no_input_yet reads input _ refuses h = refuses
 
 -- the statuses of those that come behind
 abbrev is_behind : ℕ → Bool
@@ -51,25 +45,20 @@ by_script : (fault : ScriptLineFault) → HadRecovered (script_status fault) →
 by_script (script.Line fault) h = early 2 refl h
 by_script script.Regions h = early 7 refl h
 
-by_input : (e : InputRefusal) → HadRecovered (status_of (Input e)) → ⊥
-by_input (Image fault) h = early 2 refl h
-by_input (Line fault) h = early 2 refl h
-by_input (Script fault) h = by_script fault.fault h
-
 pub by_status : (e : Refusal) → HadRecovered (status_of e) → HasRecovered (Err e)
-by_status (Words usage) h = absurd (early 1 refl h)
-by_status (Reading ReadFault) h = absurd (early 3 refl h)
-by_status (Reading InputLimit) h = absurd (early 7 refl h)
-by_status (Input e) h = by_input e h
-by_status (Disk (Files (Run reason))) h = tt
-by_status (Disk (Files (Compressed file))) h = absurd (early 6 refl h)
-by_status (Disk (Files (NotArchive file at))) h = absurd (early 6 refl h)
-by_status (Disk (Files (Nothing stamp))) h = absurd (early 11 refl h)
-by_status (Disk DiskFault) h = absurd (early 5 refl h)
-by_status (ClockEnd left) h = tt
-by_status (ClockFault left) h = tt
+by_status (Usage at) h = absurd (early 1 refl h)
+by_status ReadFault h = absurd (early 3 refl h)
+by_status InputLimit h = absurd (early 7 refl h)
+by_status (Image fault) h = absurd (early 2 refl h)
+by_status (Line fault) h = absurd (early 2 refl h)
+by_status (Script fault) h = absurd (by_script fault.fault h)
+by_status (Compressed file) h = absurd (early 6 refl h)
+by_status (NotArchive file at) h = absurd (early 6 refl h)
+by_status (Nothing stamp) h = absurd (early 11 refl h)
+by_status DiskFault h = absurd (early 5 refl h)
 by_status Accept h = absurd (early 21 refl h)
 by_status NoMemory h = absurd (early 9 refl h)
+by_status _ h = tt
 
 pub never_nine : HadRecovered 9 → ⊥
 never_nine h = early 9 refl h

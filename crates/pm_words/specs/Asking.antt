@@ -1,15 +1,15 @@
 -- What a call gets of its words and of its source, or why it is refused before its command begins. The words are looked at first, then
 -- the reading of an input; want of memory may come at either place.
-use Rattle.std.specs.Prelude.{◌≡◌, ◌⊎◌, ℕ, ◌<◌, Bool, true, false, List, [], length, drop, Ok, Err}
+use Rattle.std.specs.Prelude.{◌≡◌, ◌⊎◌, ℕ, ◌<◌, Bool, true, false, List, [], length, Ok, Err}
 use Rattle.pcp_outside.specs.Causes.{Rose}
 use Rattle.pcp_outside.specs.Sides.{SourceSide}
 use Rattle.pm_words.specs.declared.words.Call.{Call}
 use Rattle.pm_words.specs.declared.words.Command.{Command}
 use Rattle.pm_words.specs.declared.refusal.Refusal.{Refusal}
-use Rattle.pm_words.specs.declared.refusal.Refusal.TheVariants.{Words, Reading, NoMemory}
+use Rattle.pm_words.specs.declared.refusal.Refusal.TheVariants.{Usage, ReadFault, InputLimit, NoMemory}
 use Rattle.pm_words.specs.CommandLine.{asked_by, takes_input}
 use Rattle.pm_words.specs.Inputs.{input_limit}
-use Rattle.pm_words.specs.Reading.{ReadCause, TookSome, WasRead}
+use Rattle.pm_words.specs.Reading.{TookSome, UnreadCause, WasRead}
 use Rattle.pm_words.specs.Sides.{NotAsked}
 
 -- a whole input, or nothing where the command takes none
@@ -39,8 +39,9 @@ IsInputless call words = (command : Command) × (asked_by call words ≡ Ok comm
 
 -- why a call is refused before its command begins
 abbrev pub Before : Call → List (List ℕ) → SourceSide → Refusal → Type 0
-Before call words s (Words usage) = (asked_by call words ≡ Err usage.at) × NotAsked s
-Before call words s (Reading e) = IsReader call words × ReadCause s e
+Before call words s (Usage at) = (asked_by call words ≡ Err at) × NotAsked s
+Before call words s ReadFault = IsReader call words × UnreadCause s ReadFault
+Before call words s InputLimit = IsReader call words × UnreadCause s InputLimit
 Before call words s NoMemory = s.tells → TookSome s
 Before call words s _ = ⊥
 
@@ -48,10 +49,6 @@ Before call words s _ = ⊥
 pub record UsageIsExact (call : Call) (words : List (List ℕ)) (status : ℕ) : Type 0 where
   pub only : status ≡ 1 → (at : ℕ) × (asked_by call words ≡ Err at)
   pub always : (at : ℕ) → asked_by call words ≡ Err at → (status ≡ 1) ⊎ (status ≡ 9)
-
--- an input is above 16 MiB, and one byte above the limit is taken, and no further one
-abbrev pub IsAbove : SourceSide → Type 0
-IsAbove s = s.tells → (input_limit < length s.left) × (s.after ≡ drop 16777217 s.left)
 
 -- 3 only where the source's count rose; an input above the limit is never run: its status is 7, unless memory ran out or the source failed
 -- before

@@ -8,9 +8,9 @@ use Rattle.pm_words.specs.declared.words.Command.{Command}
 use Rattle.pm_words.specs.declared.words.Call.{Call}
 use Rattle.pm_words.specs.declared.words.Call.TheVariants as calls
 use Rattle.pm_words.specs.declared.words.Command.TheVariants.{Once, Replay, Make, MmvMake, MmvDump, Dump, Info, Recover, At, Range, Value, Record, Serve}
-use Rattle.pm_words.specs.declared.stage.StageFault.{StageFault}
-use Rattle.pm_words.specs.declared.stage.StageFault.TheVariants.{OutOfMemory, Refused}
-use Rattle.pm_words.specs.declared.stage.Usage.{Usage}
+use Rattle.pm_words.specs.declared.refusal.Refusal.{Refusal}
+use Rattle.pm_words.specs.declared.refusal.Refusal.TheVariants.{Usage, NoMemory}
+use Rattle.pm_words.specs.declared.words.BadWord.{BadWord}
 
 infixl 10 ◌>>=◌
 abbrev pub ◌>>=◌ : {A B : Type 0} → Result A ℕ → (A → Result B ℕ) → Result B ℕ
@@ -161,6 +161,11 @@ serve_of words = do
   count ← word_then (number_in 1 100000) 1 words
   end_then (Serve count.0) 2 count.1
 
+-- the call that the first word names: `record` and `serve` have calls of their own
+abbrev pub call_named : List (List ℕ) → Call
+call_named [] = calls.Offline
+call_named (word ∷ words) = if bytes_eq word (codes "record") then calls.Record else if bytes_eq word (codes "serve") then calls.Serve else calls.Offline
+
 -- The command that the words ask a call for, or the index of the first word that is bad or missing. A command that isn't known, or is
 -- another call's, is bad at 0.
 abbrev pub asked_by : Call → List (List ℕ) → Result Command ℕ
@@ -173,44 +178,29 @@ asked_by calls.Serve (word ∷ words) = if bytes_eq word (codes "serve") then se
 abbrev pub call_of : Command → Call
 call_of (Record asked) = calls.Record
 call_of (Serve count) = calls.Serve
-call_of (Once asked) = calls.Offline
-call_of (Replay volume) = calls.Offline
-call_of (Make asked) = calls.Offline
-call_of MmvMake = calls.Offline
-call_of MmvDump = calls.Offline
-call_of Dump = calls.Offline
-call_of Info = calls.Offline
-call_of Recover = calls.Offline
-call_of (At t) = calls.Offline
-call_of (Range from to) = calls.Offline
-call_of (Value asked) = calls.Offline
+call_of _ = calls.Offline
 
 -- whether a command takes an input
 abbrev pub takes_input : Command → Bool
 takes_input (Once asked) = true
 takes_input (Replay volume) = true
-takes_input (Make asked) = false
 takes_input MmvMake = true
 takes_input MmvDump = true
-takes_input Dump = false
-takes_input Info = false
-takes_input Recover = false
-takes_input (At t) = false
-takes_input (Range from to) = false
-takes_input (Value asked) = false
 takes_input (Record asked) = true
 takes_input (Serve count) = true
+takes_input _ = false
 
 -- what a function over words answered, seen by view, is what the definition says
-abbrev pub Gives : {X Y : Type 0} → (X → Y) → Result X ℕ → Result Y ℕ → Type 0
+abbrev pub Gives : {X Y : Type 0} → (X → Y) → Result X BadWord → Result Y ℕ → Type 0
 Gives view (Ok x) read = read ≡ Ok (view x)
-Gives view (Err at) read = read ≡ Err at
+Gives view (Err bad) read = read ≡ Err bad.at
 
 -- what a parse of the words answered is what they say, unless memory ran out
-abbrev pub Reads : {A : Type 0} → Result A (StageFault Usage) → Result A ℕ → Type 0
+abbrev pub Reads : {A : Type 0} → Result A Refusal → Result A ℕ → Type 0
 Reads (Ok c) read = read ≡ Ok c
-Reads (Err (Refused usage)) read = read ≡ Err usage.at
-Reads (Err OutOfMemory) read = Unit {0}
+Reads (Err (Usage at)) read = read ≡ Err at
+Reads (Err NoMemory) read = Unit {0}
+Reads (Err _) read = ⊥
 
 -- what the words of a command promise of it
 abbrev pub FitsCommand : Command → Type 0

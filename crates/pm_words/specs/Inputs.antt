@@ -4,27 +4,26 @@ use Rattle.mmv_layout.specs.declared.fault.ImageFault.{ImageFault}
 use Rattle.mmv_writer.specs.declared.line_fault.TextFault.{TextFault}
 use Rattle.run_script.specs.declared.fault.ScriptFault.{ScriptFault}
 use Rattle.run_script.specs.declared.script.Script.{Script}
-use Rattle.pm_words.specs.declared.stage.StageFault.{StageFault}
-use Rattle.pm_words.specs.declared.stage.StageFault.TheVariants.{OutOfMemory, Refused}
-use Rattle.pm_words.specs.declared.stage.InputRefusal.{InputRefusal}
-use Rattle.pm_words.specs.declared.stage.InputRefusal.TheVariants.{Image, Line, Script as Scripted}
+use Rattle.pm_words.specs.declared.refusal.Refusal.{Refusal}
+use Rattle.pm_words.specs.declared.refusal.Refusal.TheVariants.{Image, Line, Script as Scripted}
+use Rattle.pm_words.specs.Refusals.{Stage, AtInput, AtMemory, stage_of}
 
 -- An input is limited to 16 MiB.
 abbrev pub input_limit : ℕ
 input_limit = 16777216
 
 -- a command that reads images
-abbrev pub image_refusal : Result (List ℕ) ImageFault → Option InputRefusal
+abbrev pub image_refusal : Result (List ℕ) ImageFault → Option Refusal
 image_refusal (Ok words) = None
 image_refusal (Err fault) = Some (Image fault)
 
 -- a command that reads layout texts
-abbrev pub text_refusal : Result (List ℕ) TextFault → Option InputRefusal
+abbrev pub text_refusal : Result (List ℕ) TextFault → Option Refusal
 text_refusal (Ok words) = None
 text_refusal (Err fault) = Some (Line fault)
 
 -- a command that reads scripts
-abbrev pub script_refusal : Result Script ScriptFault → Option InputRefusal
+abbrev pub script_refusal : Result Script ScriptFault → Option Refusal
 script_refusal (Ok script) = None
 script_refusal (Err fault) = Some (Scripted fault)
 
@@ -34,11 +33,15 @@ made_of make (Ok words) = make words
 made_of make (Err fault) = []
 
 -- why a command doesn't read its input; one that takes none refuses none
-abbrev pub refusal_of : Option (List ℕ → Option InputRefusal) → List ℕ → Option InputRefusal
+abbrev pub refusal_of : Option (List ℕ → Option Refusal) → List ℕ → Option Refusal
 refusal_of None input = None
 refusal_of (Some refuses) input = refuses input
 
 -- what may be answered of an input that isn't run: its refusal, or that memory ran out
-abbrev pub Refuses : Option (List ℕ → Option InputRefusal) → List ℕ → StageFault InputRefusal → Type 0
-Refuses reads input OutOfMemory = Unit {0}
-Refuses reads input (Refused e) = refusal_of reads input ≡ Some e
+abbrev pub RefusesAt : Stage → Option (List ℕ → Option Refusal) → List ℕ → Refusal → Type 0
+RefusesAt AtInput reads input e = refusal_of reads input ≡ Some e
+RefusesAt AtMemory reads input e = Unit {0}
+RefusesAt _ reads input e = ⊥
+
+abbrev pub Refuses : Option (List ℕ → Option Refusal) → List ℕ → Refusal → Type 0
+Refuses reads input e = RefusesAt (stage_of e) reads input e

@@ -3,21 +3,19 @@ use Rattle.std.specs.Prelude.{◌≡◌, ℕ, Bool, false, List, [], Option, Som
 use Rattle.pcp_model.specs.Disk.{Files, Holdings}
 use Rattle.pcp_outside.specs.declared.disk.Disk.{Ghosts as DiskGhosts}
 use Rattle.run_passes.specs.declared.opening.Opened.{Opened}
-use Rattle.pm_words.specs.declared.stage.InputRefusal.{InputRefusal}
-use Rattle.pm_words.specs.declared.stage.FilesRefusal.{FilesRefusal}
 use Rattle.pm_words.specs.declared.refusal.Refusal.{Refusal}
 use Rattle.pm_words.specs.Sides.{DiskSide, Found, Untouched}
 
 -- The first list of bytes of a part is the input, which is empty for a command that takes none.
 pub record Meaning : Type 1 where
   -- what it reads: nothing, or an input, and why it doesn't read one
-  pub reads : Option (List ℕ → Option InputRefusal)
+  pub reads : Option (List ℕ → Option Refusal)
   -- whether it has to do with the disk; whether it writes an archive; whether it runs a script on regions, which it leaves
   pub uses_disk : Bool
   pub writes_archive : Bool
   pub runs_script : Bool
   -- which files it turns away, and why; over all others it succeeds
-  pub turns_away : List ℕ → Found → FilesRefusal → Type 0
+  pub turns_away : List ℕ → Found → Refusal → Type 0
   -- what it has done to the files where it is done
   pub done : List ℕ → DiskSide → Type 0
   -- what it then writes to its output
@@ -38,7 +36,7 @@ pub record Meaning : Type 1 where
   pub ran : {D : Type 0} → DiskGhosts D → List ℕ → D → D → Option Opened → List ℕ → Result (List ℕ) Refusal → Type 0
 
 -- a command that makes its output of its input, and has nothing to do with the disk
-abbrev pub converts : (List ℕ → Option InputRefusal) → (List ℕ → List ℕ) → Meaning
+abbrev pub converts : (List ℕ → Option Refusal) → (List ℕ → List ℕ) → Meaning
 converts refuses make = record {
   reads = Some refuses;
   uses_disk = false;

@@ -4,15 +4,11 @@ use Rattle.pcp_model.specs.Disk.{Files, Holdings, CrashImage, IsSettled, content
 use Rattle.pcp_outside.specs.declared.disk.Disk.{Ghosts as DiskGhosts}
 use Rattle.run_passes.specs.declared.opening.Opened.{Opened}
 use Rattle.pcp_outside.specs.Causes.{Rose}
-use Rattle.pm_words.specs.declared.stage.FilesRefusal.{FilesRefusal}
-use Rattle.pm_words.specs.declared.stage.FilesRefusal.TheVariants.{Run, Compressed, NotArchive, Nothing}
-use Rattle.pm_words.specs.declared.stage.DiskRefusal.{DiskRefusal}
-use Rattle.pm_words.specs.declared.stage.DiskRefusal.TheVariants.{Files as FilesAway, DiskFault}
 use Rattle.pm_words.specs.declared.refusal.Refusal.{Refusal}
-use Rattle.pm_words.specs.declared.refusal.Refusal.TheVariants.{Words, Reading, Input, Disk, ClockEnd, ClockFault, Accept, NoMemory}
+use Rattle.pm_words.specs.declared.refusal.Refusal.TheVariants.{ClockEnd, ClockFault, Compressed}
 use Rattle.pm_words.specs.Inputs.{refusal_of}
 use Rattle.pm_words.specs.Meaning.{Meaning}
-use Rattle.pm_words.specs.Refusals.{files_status}
+use Rattle.pm_words.specs.Refusals.{Stage, AtInput, AtFiles, AtDisk, AtClock, AtMemory, IsOfRun, stage_of, status_of}
 use Rattle.pcp_outside.specs.Sides.{SinkSide}
 use Rattle.pm_words.specs.Sides.{DiskSide, disk_side, files_found, IsUnread, Leaves, Untouched}
 use Rattle.pm_words.specs.Streams.{IsSent}
@@ -23,30 +19,31 @@ pub record Left (m : Meaning) (status : ℕ) (input : List ℕ) (d : DiskSide) :
   pub files : Untouched d ⊎ m.begun status input d
   pub settled : (status ≡ 5 → ⊥) → d.tells → IsSettled d.held → IsSettled d.after
 
--- why a command that uses the disk stops at it; files that are turned away stay as they were, or as the command says of a stop
--- after its first write
-abbrev pub DiskCause : Meaning → List ℕ → DiskSide → DiskRefusal → Type 0
-DiskCause m input d (FilesAway e) = Left m (files_status e) input d × (d.tells → m.turns_away input (files_found d) e)
-DiskCause m input d DiskFault = Left m 5 input d × Rose d.faults d.faults_after
+-- it reads its input, and uses the disk
+abbrev pub GetsToDisk : Meaning → List ℕ → Type 0
+GetsToDisk m input = (refusal_of m.reads input ≡ None) × (m.uses_disk ≡ true)
 
--- why a command that got its input stops
+-- Why a command that got its input stops, by what it looks at. Files that are turned away stay as they were, or as the command says of a
+-- stop after its first write.
+abbrev pub StopsAt : Stage → Meaning → List ℕ → DiskSide → Refusal → Type 0
+StopsAt AtInput m input d e = (refusal_of m.reads input ≡ Some e) × Untouched d
+StopsAt AtFiles m input d e = GetsToDisk m input × Left m (status_of e) input d × (d.tells → m.turns_away input (files_found d) e)
+StopsAt AtDisk m input d e = GetsToDisk m input × Left m (status_of e) input d × Rose d.faults d.faults_after
+StopsAt AtMemory m input d e = Left m (status_of e) input d
+StopsAt _ m input d e = ⊥
+
 abbrev pub StopCause : Meaning → List ℕ → DiskSide → Refusal → Type 0
-StopCause m input d (Input e) = (refusal_of m.reads input ≡ Some e) × Untouched d
-StopCause m input d (Disk e) = ((refusal_of m.reads input ≡ None) × (m.uses_disk ≡ true)) × DiskCause m input d e
-StopCause m input d NoMemory = Left m 9 input d
-StopCause m input d _ = ⊥
+StopCause m input d e = StopsAt (stage_of e) m input d e
 
 -- over files that are turned away so, no command is done
-abbrev pub IsNever : FilesRefusal → Type 0
-IsNever (Run reason) = Unit {0}
+abbrev pub IsNever : Refusal → Type 0
 IsNever (Compressed file) = Unit {0}
-IsNever (NotArchive file at) = ⊥
-IsNever (Nothing stamp) = ⊥
+IsNever e = IsOfRun e
 
 -- A command is done with an input that it reads, over files that it doesn't turn away, and this is to be written.
 pub record HasServed (m : Meaning) (input : List ℕ) (d : DiskSide) (text : List ℕ) : Type 0 where
   pub good : refusal_of m.reads input ≡ None
-  pub welcome : d.tells → (e : FilesRefusal) → IsNever e → m.turns_away input (files_found d) e → ⊥
+  pub welcome : d.tells → (e : Refusal) → IsNever e → m.turns_away input (files_found d) e → ⊥
   pub done : m.done input d
   pub says : m.says input d text
   pub kept : d.tells → (crash : Files) → CrashImage d.after crash → m.keeps input d.held crash
@@ -59,30 +56,24 @@ MayLeave m input held crash = CrashImage held crash ⊎ m.may_leave input held c
 -- recovery had answered: the run was done, or ended before its end
 abbrev pub HasRecovered : Result (List ℕ) Refusal → Type 0
 HasRecovered (Ok text) = Unit {0}
-HasRecovered (Err (Disk (FilesAway (Run reason)))) = Unit {0}
-HasRecovered (Err (Disk (FilesAway (Compressed file)))) = ⊥
-HasRecovered (Err (Disk (FilesAway (NotArchive file at)))) = ⊥
-HasRecovered (Err (Disk (FilesAway (Nothing stamp)))) = ⊥
-HasRecovered (Err (Disk DiskFault)) = ⊥
-HasRecovered (Err (Words usage)) = ⊥
-HasRecovered (Err (Reading e)) = ⊥
-HasRecovered (Err (Input e)) = ⊥
 HasRecovered (Err (ClockEnd left)) = Unit {0}
 HasRecovered (Err (ClockFault left)) = Unit {0}
-HasRecovered (Err Accept) = ⊥
-HasRecovered (Err NoMemory) = ⊥
+HasRecovered (Err e) = IsOfRun e
 
 -- the same by the status
 abbrev pub HadRecovered : ℕ → Type 0
 HadRecovered status = (status ≡ 0) ⊎ ((status ≡ 4) ⊎ ((status ≡ 8) ⊎ ((status ≡ 12) ⊎ ((status ≡ 13) ⊎ (status ≡ 20)))))
 
 -- a command leaves the regions on which it ran wherever the run began and memory didn't run out
+abbrev pub LeavesAt : Stage → Option Opened → Type 0
+LeavesAt AtFiles opened = IsSome opened
+LeavesAt AtDisk opened = IsSome opened
+LeavesAt AtClock opened = IsSome opened
+LeavesAt _ opened = Unit {0}
+
 abbrev pub HasRegions : Result (List ℕ) Refusal → Option Opened → Type 0
 HasRegions (Ok text) opened = IsSome opened
-HasRegions (Err (Disk e)) opened = IsSome opened
-HasRegions (Err (ClockEnd left)) opened = IsSome opened
-HasRegions (Err (ClockFault left)) opened = IsSome opened
-HasRegions (Err _) opened = Unit {0}
+HasRegions (Err e) opened = LeavesAt (stage_of e) opened
 
 -- What a command does, whole: with its input, a disk and regions, where it answers so and a front of its output went to the sink before.
 -- It is done, or stopped for a reason; a crash at any moment leaves only what it may; and so on, part by part of its meaning.

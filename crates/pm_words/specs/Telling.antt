@@ -1,9 +1,9 @@
 -- How the end of a call is told: the rest of its output, or the last line of a refusal, and the status.
-use Rattle.std.specs.Prelude.{◌≡◌, ◌⊎◌, ℕ, ◌≤◌, Bool, true, false, List, ◌++◌, take, Result, Ok, Err, IsSome}
+use Rattle.std.specs.Prelude.{◌≡◌, ◌⊎◌, ℕ, ◌≤◌, Bool, true, false, List, ◌++◌, take, Result, Ok, Err}
 use Rattle.pcp_outside.specs.Causes.{Rose}
 use Rattle.pcp_outside.specs.Sides.{SinkSide}
 use Rattle.pm_words.specs.declared.refusal.Refusal.{Refusal}
-use Rattle.pm_words.specs.Refusals.{Wrote, line_of, numbered_line_of, status_of}
+use Rattle.pm_words.specs.Refusals.{IsNumbered, Wrote, line_of, status_of}
 use Rattle.pm_words.specs.Streams.{Finishes}
 
 -- nothing more is written
@@ -15,7 +15,7 @@ abbrev pub TellsRefusal : SinkSide → Bool → Refusal → ℕ → Type 0
 TellsRefusal k true e status = (status ≡ status_of e) × (k.faults ≤ k.faults_after) × IsSilent k
 TellsRefusal k false e status =
     ((status ≡ status_of e) × (k.tells → Wrote k.faults k.faults_after k.written k.after (line_of e)))
-    ⊎ ((status ≡ 9) × IsSome (numbered_line_of e) × IsSilent k)
+    ⊎ ((status ≡ 9) × IsNumbered e × IsSilent k)
 
 abbrev pub TellsEnd : SinkSide → Bool → Result (List ℕ) Refusal → ℕ → Type 0
 TellsEnd k failed (Ok text) status = Finishes k failed text status
@@ -30,9 +30,9 @@ TellsAll k front (Ok text) status =
     ⊎ ((status ≡ 4) × Rose k.faults k.faults_after × (k.tells → (n : ℕ) × (k.after ≡ k.written ++ take n (front ++ text))))
 TellsAll k front (Err e) status =
     ((status ≡ status_of e) × (k.tells → Wrote k.faults k.faults_after k.written k.after (front ++ line_of e)))
-    ⊎ ((status ≡ 9) × IsSome (numbered_line_of e) × (k.tells → k.after ≡ k.written ++ front))
+    ⊎ ((status ≡ 9) × IsNumbered e × (k.tells → k.after ≡ k.written ++ front))
 
 -- the status tells what a call came to
 abbrev pub IsToldBy : Result (List ℕ) Refusal → ℕ → Type 0
 IsToldBy (Ok text) status = (status ≡ 0) ⊎ (status ≡ 4)
-IsToldBy (Err e) status = (status ≡ status_of e) ⊎ ((status ≡ 9) × IsSome (numbered_line_of e))
+IsToldBy (Err e) status = (status ≡ status_of e) ⊎ ((status ≡ 9) × IsNumbered e)

@@ -9,18 +9,13 @@ ghost use Rattle.pm_words.specs.Reading.{UnreadCause};
 
 use crate::inputs::read_input;
 use crate::refusal::Refusal;
-use crate::stage::{ReadRefusal, StageFault};
 use crate::words::{Call, Command, read_words};
 use pcp_base::{Bytes, List};
 use pcp_outside::Source;
 use std::alloc::Global;
 
 // What a command gets of the source: all of it, or nothing.
-fn get_input<I: Source>(
-    alloc: Global,
-    command: &Command,
-    input: &mut I,
-) -> Result<Bytes, StageFault<ReadRefusal>>
+fn get_input<I: Source>(alloc: Global, command: &Command, input: &mut I) -> Result<Bytes, Refusal>
     ensures got { IfOk result (Got (takes_input command.now) (source_side I.Source input.old input.new)) }
     ensures within { IfOk result (λ bytes. length bytes ≤ input_limit) }
     ensures reads { IfErr result (λ stop. takes_input command.now ≡ true) }

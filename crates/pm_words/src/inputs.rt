@@ -3,7 +3,7 @@ ghost use Rattle.std.specs.Prelude.{IfOk, IfErr};
 ghost use Rattle.pm_words.specs.Reading.{WasRead, UnreadCause};
 ghost use Rattle.pcp_outside.specs.Sides.{source_side};
 
-use crate::stage::{ReadRefusal, StageFault};
+use crate::refusal::Refusal;
 use pcp_base::Bytes;
 use pcp_outside::{ReadFault, Source, read_to_limit};
 use std::alloc::Global;
@@ -11,14 +11,14 @@ use std::alloc::Global;
 const INPUT_LIMIT: usize = 16_777_216;
 
 /// All of the input, of 16 MiB at most. Above that one byte behind the limit is taken, and no further one.
-pub fn read_input<I: Source>(alloc: Global, input: &mut I) -> Result<Bytes, StageFault<ReadRefusal>>
+pub fn read_input<I: Source>(alloc: Global, input: &mut I) -> Result<Bytes, Refusal>
     ensures read { IfOk result (WasRead (source_side I.Source input.old input.new)) }
     ensures cause { IfErr result (UnreadCause (source_side I.Source input.old input.new)) }
 {
     match read_to_limit(alloc, input, INPUT_LIMIT) {
         Ok(bytes) => Ok(bytes),
-        Err(ReadFault::NoMemory) => Err(StageFault::OutOfMemory),
-        Err(ReadFault::Failed) => Err(StageFault::Refused(ReadRefusal::ReadFault)),
-        Err(ReadFault::TooMuch) => Err(StageFault::Refused(ReadRefusal::InputLimit)),
+        Err(ReadFault::NoMemory) => Err(Refusal::NoMemory),
+        Err(ReadFault::Failed) => Err(Refusal::ReadFault),
+        Err(ReadFault::TooMuch) => Err(Refusal::InputLimit),
     }
 }

@@ -4,16 +4,13 @@
 
 mod asking;
 mod inputs;
+mod lines;
 mod output;
 mod refusal;
-mod stage;
 mod words;
 
 pub use asking::ask;
 pub use inputs::read_input;
 pub use output::{send, tell_end};
 pub use refusal::{Refusal, of_ending};
-pub use stage::{
-    DiskRefusal, FilesRefusal, InputRefusal, ReadRefusal, RunRefusal, StageFault, Usage,
-};
 pub use words::{Call, Command, MakeWords, OnceWords, RecordWords, ValueWords, read_words};

@@ -1,32 +1,53 @@
-//! The refusals of all stages as one, and how its last line is told.
-ghost use Rattle.std.specs.Prelude.{◌≡◌, IfOk, OnOk, OnErr, IsSome};
-ghost use Rattle.pm_words.specs.declared.refusal.Refusal.TheVariants.{Disk};
-ghost use Rattle.pm_words.specs.declared.stage.DiskRefusal.TheVariants.{Files};
-ghost use Rattle.pm_words.specs.declared.stage.FilesRefusal.TheVariants.{Run};
-ghost use Rattle.pm_words.specs.declared.stage.RunRefusal.TheVariants.{Limit};
-ghost use Rattle.pm_words.specs.Refusals.{clock_end_line, clock_fault_line, ending_refusal, status_of, numbered_line_of, plain_line_of, line_of, Wrote};
+//! The refusals of all calls as one flat list, each with its exit status and its last line.
+ghost use Rattle.std.specs.Prelude.{◌≡◌, IfNone, IfOk, IfSome, OnErr, OnOk};
+ghost use Rattle.pm_words.specs.Refusals.{IsNumbered, Wrote, ending_refusal, line_of, status_of};
 
-use crate::stage::{
-    DiskRefusal, FilesRefusal, InputRefusal, ReadRefusal, RunRefusal, StageFault, Usage,
+use crate::lines::{
+    changed_line, clock_end_line, clock_fault_line, compressed_line, limit_line, misfit_line,
+    not_later_line, nothing_line, script_line, script_status, usage_line,
 };
 use archive_reader::ReaderFault;
 use archive_recovery::RecoverFault;
-use pcp_base::{Bytes, List, NoMemory};
+use mmv_layout::ImageFault;
+use mmv_writer::{LineFault, TextFault};
+use pcp_base::{Bytes, FileId, NoMemory, Pmid, Stamp};
 use pcp_outside::{Sink, write_all};
+use pm_print::{image_fault_text, line_fault_text};
+use run_script::ScriptFault;
 use script_runs::{Ending, LimitKind};
 use std::alloc::Global;
 
 /// Why a command ended before it was done.
 #[derive(Clone, Copy)]
 pub enum Refusal {
-    /// The words are no command.
-    Words(Usage),
-    /// The input isn't read to its end.
-    Reading(ReadRefusal),
-    /// The input isn't what the command reads.
-    Input(InputRefusal),
-    /// The files are turned away, or the disk failed.
-    Disk(DiskRefusal),
+    /// The word at this index is bad, or is missing.
+    Usage { at: usize },
+    /// The source failed.
+    ReadFault,
+    /// The source holds more than 16 MiB.
+    InputLimit,
+    /// The input is no image.
+    Image(ImageFault),
+    /// The input is no layout text.
+    Line(TextFault),
+    /// The input is no script.
+    Script(ScriptFault),
+    /// The condition of this line of the script fails in its run.
+    Condition { line: u32 },
+    /// `number` is above the limit: so many metrics, bytes or volumes would be needed.
+    Limit { what: LimitKind, number: u64 },
+    /// A result isn't stamped after all that the archive has; this is the greatest stamp.
+    NotLater { last: Stamp },
+    /// The archive describes the metric otherwise.
+    Changed { pmid: Pmid },
+    /// The file stands under its name with `.xz` or `.gz` added.
+    Compressed { file: FileId },
+    /// The file fits no archive from this byte on.
+    NotArchive { file: FileId, at: u64 },
+    /// Nothing that was asked for is there at this moment.
+    Nothing { stamp: Stamp },
+    /// The disk failed.
+    DiskFault,
     /// The clock's moments had ended, and so many samples were to come.
     ClockEnd { left: u32 },
     /// The clock failed, and so many samples were to come.
@@ -34,145 +55,6 @@ pub enum Refusal {
     /// A door failed.
     Accept,
     NoMemory,
-}
-
-impl From<StageFault<Usage>> for Refusal {
-    ghost use Rattle.pm_words.specs.Refusals.{refusal_of_stage};
-    ghost use Rattle.pm_words.specs.declared.refusal.Refusal.TheVariants.{Words as AtWords};
-
-    ghost from_gives = { λ stop e. e ≡ refusal_of_stage AtWords stop };
-
-    fn from(stop: StageFault<Usage>) -> Refusal {
-        match stop {
-            StageFault::OutOfMemory => Refusal::NoMemory,
-            StageFault::Refused(usage) => Refusal::Words(usage),
-        }
-    }
-}
-
-impl From<StageFault<ReadRefusal>> for Refusal {
-    ghost use Rattle.pm_words.specs.Refusals.{refusal_of_stage};
-    ghost use Rattle.pm_words.specs.declared.refusal.Refusal.TheVariants.{Reading as AtReading};
-
-    ghost from_gives = { λ stop e. e ≡ refusal_of_stage AtReading stop };
-
-    fn from(stop: StageFault<ReadRefusal>) -> Refusal {
-        match stop {
-            StageFault::OutOfMemory => Refusal::NoMemory,
-            StageFault::Refused(refusal) => Refusal::Reading(refusal),
-        }
-    }
-}
-
-impl From<StageFault<InputRefusal>> for Refusal {
-    ghost use Rattle.pm_words.specs.Refusals.{refusal_of_stage};
-    ghost use Rattle.pm_words.specs.declared.refusal.Refusal.TheVariants.{Input as AtInput};
-
-    ghost from_gives = { λ stop e. e ≡ refusal_of_stage AtInput stop };
-
-    fn from(stop: StageFault<InputRefusal>) -> Refusal {
-        match stop {
-            StageFault::OutOfMemory => Refusal::NoMemory,
-            StageFault::Refused(refusal) => Refusal::Input(refusal),
-        }
-    }
-}
-
-impl From<DiskRefusal> for Refusal {
-    ghost use Rattle.pm_words.specs.declared.refusal.Refusal.TheVariants.{Disk as AtDisk};
-
-    ghost from_gives = { λ refusal e. e ≡ AtDisk refusal };
-
-    fn from(refusal: DiskRefusal) -> Refusal {
-        Refusal::Disk(refusal)
-    }
-}
-
-impl From<ReaderFault> for Refusal {
-    ghost use Rattle.pm_words.specs.Refusals.{reader_refusal};
-
-    ghost from_gives = { λ fault e. e ≡ reader_refusal fault };
-
-    fn from(fault: ReaderFault) -> Refusal {
-        match fault {
-            ReaderFault::Compressed { file } => {
-                Refusal::Disk(DiskRefusal::Files(FilesRefusal::Compressed { file }))
-            }
-            ReaderFault::NotArchive { file, at } => {
-                Refusal::Disk(DiskRefusal::Files(FilesRefusal::NotArchive { file, at }))
-            }
-            ReaderFault::DiskFault => Refusal::Disk(DiskRefusal::DiskFault),
-            ReaderFault::NoMemory => Refusal::NoMemory,
-        }
-    }
-}
-
-impl From<RecoverFault> for Refusal {
-    ghost use Rattle.pm_words.specs.Refusals.{recover_refusal};
-
-    ghost from_gives = { λ fault e. e ≡ recover_refusal fault };
-
-    fn from(fault: RecoverFault) -> Refusal {
-        match fault {
-            RecoverFault::Compressed { file } => {
-                Refusal::Disk(DiskRefusal::Files(FilesRefusal::Compressed { file }))
-            }
-            RecoverFault::NotArchive { file, at } => {
-                Refusal::Disk(DiskRefusal::Files(FilesRefusal::NotArchive { file, at }))
-            }
-            RecoverFault::DiskFault => Refusal::Disk(DiskRefusal::DiskFault),
-            RecoverFault::NoMemory => Refusal::NoMemory,
-        }
-    }
-}
-
-fn too_much(what: LimitKind, number: u64) -> Refusal
-    ensures { result ≡ Disk (Files (Run (Limit what number))) }
-{
-    run(RunRefusal::Limit { what, number })
-}
-
-fn run(reason: RunRefusal) -> Refusal
-    ensures { result ≡ Disk (Files (Run reason)) }
-{
-    Refusal::Disk(DiskRefusal::Files(FilesRefusal::Run(reason)))
-}
-
-/// The refusal of a run that ended so, if it is one.
-pub fn of_ending(ending: Ending) -> Option<Refusal>
-    ensures { result ≡ ending_refusal ending }
-{
-    match ending {
-        Ending::Done => None,
-        Ending::Condition { line } => Some(run(RunRefusal::Condition { line })),
-        Ending::DiskFault => Some(Refusal::Disk(DiskRefusal::DiskFault)),
-        Ending::NotArchive { file, at } => Some(Refusal::Disk(DiskRefusal::Files(
-            FilesRefusal::NotArchive { file, at },
-        ))),
-        Ending::Compressed { file } => Some(Refusal::Disk(DiskRefusal::Files(
-            FilesRefusal::Compressed { file },
-        ))),
-        Ending::Limit { what, number } => Some(too_much(what, number)),
-        Ending::NoMemory => Some(Refusal::NoMemory),
-        Ending::NotLater { last } => Some(run(RunRefusal::NotLater { last })),
-        Ending::Changed { pmid } => Some(run(RunRefusal::Changed { pmid })),
-        Ending::ClockEnd { left } => Some(Refusal::ClockEnd { left }),
-        Ending::ClockFault { left } => Some(Refusal::ClockFault { left }),
-    }
-}
-
-fn clock_end_line(alloc: Global, left: u32) -> Result<Bytes, NoMemory>
-    ensures { IfOk result (λ line. line ≡ clock_end_line left) }
-{
-    let line = format!(in alloc; "clock end {left}\n")?;
-    Ok(List::from_vec(line.into_bytes()))
-}
-
-fn clock_fault_line(alloc: Global, left: u32) -> Result<Bytes, NoMemory>
-    ensures { IfOk result (λ line. line ≡ clock_fault_line left) }
-{
-    let line = format!(in alloc; "clock fault {left}\n")?;
-    Ok(List::from_vec(line.into_bytes()))
 }
 
 impl From<NoMemory> for Refusal {
@@ -185,63 +67,120 @@ impl From<NoMemory> for Refusal {
     }
 }
 
+impl From<ReaderFault> for Refusal {
+    ghost use Rattle.pm_words.specs.Refusals.{reader_refusal};
+
+    ghost from_gives = { λ fault e. e ≡ reader_refusal fault };
+
+    fn from(fault: ReaderFault) -> Refusal {
+        match fault {
+            ReaderFault::Compressed { file } => Refusal::Compressed { file },
+            ReaderFault::NotArchive { file, at } => Refusal::NotArchive { file, at },
+            ReaderFault::DiskFault => Refusal::DiskFault,
+            ReaderFault::NoMemory => Refusal::NoMemory,
+        }
+    }
+}
+
+impl From<RecoverFault> for Refusal {
+    ghost use Rattle.pm_words.specs.Refusals.{recover_refusal};
+
+    ghost from_gives = { λ fault e. e ≡ recover_refusal fault };
+
+    fn from(fault: RecoverFault) -> Refusal {
+        match fault {
+            RecoverFault::Compressed { file } => Refusal::Compressed { file },
+            RecoverFault::NotArchive { file, at } => Refusal::NotArchive { file, at },
+            RecoverFault::DiskFault => Refusal::DiskFault,
+            RecoverFault::NoMemory => Refusal::NoMemory,
+        }
+    }
+}
+
+/// The refusal of a run that ended so, if it is one.
+pub fn of_ending(ending: Ending) -> Option<Refusal>
+    ensures { result ≡ ending_refusal ending }
+{
+    match ending {
+        Ending::Done => None,
+        Ending::Condition { line } => Some(Refusal::Condition { line }),
+        Ending::DiskFault => Some(Refusal::DiskFault),
+        Ending::NotArchive { file, at } => Some(Refusal::NotArchive { file, at }),
+        Ending::Compressed { file } => Some(Refusal::Compressed { file }),
+        Ending::Limit { what, number } => Some(Refusal::Limit { what, number }),
+        Ending::NoMemory => Some(Refusal::NoMemory),
+        Ending::NotLater { last } => Some(Refusal::NotLater { last }),
+        Ending::Changed { pmid } => Some(Refusal::Changed { pmid }),
+        Ending::ClockEnd { left } => Some(Refusal::ClockEnd { left }),
+        Ending::ClockFault { left } => Some(Refusal::ClockFault { left }),
+    }
+}
+
 impl Refusal {
     /// The exit status: 1 to 3, 5 to 9, 11 to 13, 20 or 21. Of a sink that fails (4) nothing can be told.
     pub fn status(&self) -> u8
         ensures { result ≡ status_of self.now }
     {
         match self {
-            Refusal::Words(_) => 1,
-            Refusal::Reading(refusal) => refusal.status(),
-            Refusal::Input(refusal) => refusal.status(),
-            Refusal::Disk(refusal) => refusal.status(),
+            Refusal::Usage { .. } => 1,
+            Refusal::Image(_) | Refusal::Line(_) | Refusal::Condition { .. } => 2,
+            Refusal::Script(fault) => script_status(&fault.fault),
+            Refusal::ReadFault => 3,
+            Refusal::DiskFault => 5,
+            Refusal::Compressed { .. } | Refusal::NotArchive { .. } => 6,
+            Refusal::InputLimit | Refusal::Limit { .. } => 7,
             Refusal::ClockEnd { .. } => 8,
             Refusal::NoMemory => 9,
+            Refusal::Nothing { .. } => 11,
+            Refusal::NotLater { .. } => 12,
+            Refusal::Changed { .. } => 13,
             Refusal::ClockFault { .. } => 20,
             Refusal::Accept => 21,
         }
     }
 
-    // The last line, where making it takes memory.
-    fn numbered_line(&self, alloc: Global) -> Result<Option<Bytes>, NoMemory>
-        ensures line { IfOk result (λ line. line ≡ numbered_line_of self.now) }
-        ensures numbered { OnErr result (IsSome (numbered_line_of self.now)) }
+    // The last line, where it is always the same.
+    fn plain_line(&self) -> Option<&'static [u8]>
+        ensures line { IfSome result (λ line. line.now ≡ line_of self.now) }
+        ensures numbered { IfNone result (IsNumbered self.now) }
     {
         match self {
-            Refusal::Words(usage) => {
-                let line = usage.line(alloc)?;
-                Ok(Some(line))
-            }
-            Refusal::Input(refusal) => {
-                let line = refusal.line(alloc)?;
-                Ok(Some(line))
-            }
-            Refusal::Disk(refusal) => refusal.numbered_line(alloc),
-            Refusal::ClockEnd { left } => {
-                let line = clock_end_line(alloc, *left)?;
-                Ok(Some(line))
-            }
-            Refusal::ClockFault { left } => {
-                let line = clock_fault_line(alloc, *left)?;
-                Ok(Some(line))
-            }
-            Refusal::Reading(_) | Refusal::Accept | Refusal::NoMemory => Ok(None),
+            Refusal::ReadFault => Some(b"read fault\n"),
+            Refusal::InputLimit => Some(b"limit input 16777217\n"),
+            Refusal::DiskFault => Some(b"disk fault\n"),
+            Refusal::Accept => Some(b"accept fault\n"),
+            Refusal::NoMemory => Some(b""),
+            _ => None,
         }
     }
 
-    // The last line, where it is always the same.
-    fn plain_line(&self) -> &'static [u8]
-        ensures { result.now ≡ plain_line_of self.now }
+    // The last line, where making it takes memory.
+    fn numbered_line(&self, alloc: Global) -> Result<Bytes, NoMemory>
+        requires { IsNumbered self.now }
+        ensures { IfOk result (λ line. line ≡ line_of self.now) }
     {
         match self {
-            Refusal::Reading(refusal) => refusal.line(),
-            Refusal::Disk(refusal) => refusal.plain_line(),
-            Refusal::Accept => b"accept fault\n",
-            Refusal::Words(_)
-            | Refusal::Input(_)
-            | Refusal::ClockEnd { .. }
-            | Refusal::ClockFault { .. }
-            | Refusal::NoMemory => b"",
+            Refusal::Usage { at } => usage_line(alloc, *at),
+            Refusal::Image(fault) => image_fault_text(alloc, fault),
+            Refusal::Line(fault) => line_fault_text(alloc, fault.line, &fault.fault),
+            Refusal::Script(fault) => script_line(alloc, fault),
+            Refusal::Condition { line } => {
+                line_fault_text(alloc, *line as u64, &LineFault::Condition)
+            }
+            Refusal::Limit { what, number } => limit_line(alloc, *what, *number),
+            Refusal::NotLater { last } => not_later_line(alloc, *last),
+            Refusal::Changed { pmid } => changed_line(alloc, *pmid),
+            Refusal::Compressed { file } => compressed_line(alloc, *file),
+            Refusal::NotArchive { file, at } => misfit_line(alloc, *file, *at),
+            Refusal::Nothing { stamp } => nothing_line(alloc, *stamp),
+            Refusal::ClockEnd { left } => clock_end_line(alloc, *left),
+            Refusal::ClockFault { left } => clock_fault_line(alloc, *left),
+            // Their lines have no number.
+            Refusal::ReadFault
+            | Refusal::InputLimit
+            | Refusal::DiskFault
+            | Refusal::Accept
+            | Refusal::NoMemory => unreachable!(),
         }
     }
 
@@ -250,14 +189,14 @@ impl Refusal {
     pub fn tell<O: Sink>(&self, alloc: Global, out: &mut O) -> Result<(), NoMemory>
         ensures wrote { O.tells → OnOk result (Wrote (O.faults out.old) (O.faults out.new) (O.written out.old) (O.written out.new) (line_of self.now)) }
         ensures nothing { O.tells → OnErr result (O.written out.new ≡ O.written out.old) }
-        ensures numbered { OnErr result (IsSome (numbered_line_of self.now)) }
+        ensures numbered { OnErr result (IsNumbered self.now) }
     {
+        if let Some(line) = self.plain_line() {
+            let _ = write_all(out, line);
+            return Ok(());
+        }
         let line = self.numbered_line(alloc)?;
-        let bytes = match &line {
-            Some(text) => text.as_slice(),
-            None => self.plain_line(),
-        };
-        let _ = write_all(out, bytes);
+        let _ = write_all(out, line.as_slice());
         Ok(())
     }
 }

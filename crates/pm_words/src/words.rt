@@ -3,10 +3,10 @@ ghost use Rattle.std.specs.Prelude.{◌≡◌, ◌<◌, ◌≤◌, if◌then◌e
 ghost use Rattle.pcp_base.specs.Names.{IsComponent};
 ghost use Rattle.pcp_base.specs.Texts.{IsText};
 ghost use Rattle.pcp_base.specs.Time.{IsMoment};
-ghost use Rattle.pm_words.specs.CommandLine.{Reads, Gives, FitsCommand, asked_by, call_of, run_command_of, end_then, number_in, volume_of, once_of, replay_of, make_of, image_command_of, archive_command_of, timed_command_of, stamp_then, at_of, range_of, value_of, second_of, microsecond_of, file_of, begins_with_dash, name_of, record_of, serve_of, takes_input, word_then};
+ghost use Rattle.pm_words.specs.CommandLine.{Reads, Gives, FitsCommand, asked_by, call_named, call_of, run_command_of, end_then, number_in, volume_of, once_of, replay_of, make_of, image_command_of, archive_command_of, timed_command_of, stamp_then, at_of, range_of, value_of, second_of, microsecond_of, file_of, begins_with_dash, name_of, record_of, serve_of, takes_input, word_then};
 ghost use Rattle.pm_words.specs.declared.words.Call.TheVariants as calls;
 
-use crate::stage::{StageFault, Usage};
+use crate::refusal::Refusal;
 use pcp_base::{Bytes, List, NoMemory, Stamp, Text, TextError, is_component};
 use std::alloc::Global;
 use text_lines::read_number;
@@ -82,6 +82,25 @@ pub struct RecordWords {
     pub volume: u64,
 }
 
+impl Call {
+    /// The call that the first word names.
+    pub fn named(words: &[String]) -> Call
+        ensures { result ≡ call_named (map string_bytes words.now) }
+    {
+        let [name, ..] = words else {
+            return Call::Offline;
+        };
+        let name = name.as_bytes();
+        if name == b"record".as_slice() {
+            return Call::Record;
+        }
+        if name == b"serve".as_slice() {
+            return Call::Serve;
+        }
+        Call::Offline
+    }
+}
+
 impl Command {
     /// Whether it takes an input.
     pub fn takes_input(&self) -> bool
@@ -94,99 +113,103 @@ impl Command {
             | Command::MmvDump
             | Command::Record(_)
             | Command::Serve(_) => true,
-            Command::Make(_)
-            | Command::Dump
-            | Command::Info
-            | Command::Recover
-            | Command::At(_)
-            | Command::Range(..)
-            | Command::Value(_) => false,
+            _ => false,
         }
     }
 }
 
-impl From<usize> for StageFault<Usage> {
-    ghost use Rattle.pm_words.specs.declared.stage.StageFault.TheVariants.{Refused};
+/// The word at this index is bad, or is missing.
+#[derive(Clone, Copy)]
+pub(crate) struct BadWord {
+    at: usize,
+}
 
-    ghost from_gives = { λ at stop. stop ≡ Refused record { at = at } };
+impl From<BadWord> for Refusal {
+    ghost use Rattle.pm_words.specs.declared.refusal.Refusal.TheVariants.{Usage as AtWord};
 
-    fn from(at: usize) -> StageFault<Usage> {
-        StageFault::Refused(Usage { at })
+    ghost from_gives = { λ bad e. e ≡ AtWord bad.at };
+
+    fn from(bad: BadWord) -> Refusal {
+        Refusal::Usage { at: bad.at }
     }
 }
 
 // The first word's seconds, below 2^31, and the words behind it.
-fn seconds_at(words: &[String], at: usize) -> Result<(u32, &[String]), usize>
+fn seconds_at(words: &[String], at: usize) -> Result<(u32, &[String]), BadWord>
     ensures word { Gives (λ x. (x.0, map string_bytes x.1.now)) result (word_then second_of at (map string_bytes words.now)) }
     ensures range { IfOk result (λ x. x.0 < 2147483648) }
 {
     let [word, rest @ ..] = words else {
-        return Err(at);
+        return Err(BadWord { at });
     };
     match read_number(word.as_bytes()) {
         Some(sec) if sec < 2_147_483_648 => Ok((sec as u32, rest)),
-        _ => Err(at),
+        _ => Err(BadWord { at }),
     }
 }
 
 // The first word's microseconds, below 1,000,000, and the words behind it.
-fn microseconds_at(words: &[String], at: usize) -> Result<(u32, &[String]), usize>
+fn microseconds_at(words: &[String], at: usize) -> Result<(u32, &[String]), BadWord>
     ensures word { Gives (λ x. (x.0, map string_bytes x.1.now)) result (word_then microsecond_of at (map string_bytes words.now)) }
     ensures range { IfOk result (λ x. x.0 < 1000000) }
 {
     let [word, rest @ ..] = words else {
-        return Err(at);
+        return Err(BadWord { at });
     };
     match read_number(word.as_bytes()) {
         Some(usec) if usec < 1_000_000 => Ok((usec as u32, rest)),
-        _ => Err(at),
+        _ => Err(BadWord { at }),
     }
 }
 
 // The first word as a region's name, and the words behind it.
 #[tactic(auto, using(crate::proofs::Components::component_clean))]
-fn file_at(words: &[String], at: usize) -> Result<(&[u8], &[String]), usize>
+fn file_at(words: &[String], at: usize) -> Result<(&[u8], &[String]), BadWord>
     ensures word { Gives (λ x. (x.0.now, map string_bytes x.1.now)) result (word_then file_of at (map string_bytes words.now)) }
     ensures text { IfOk result (λ x. IsText x.0.now) }
     ensures short { IfOk result (λ x. length x.0.now ≤ 63) }
     ensures component { IfOk result (λ x. IsComponent x.0.now) }
 {
     let [word, rest @ ..] = words else {
-        return Err(at);
+        return Err(BadWord { at });
     };
     let bytes = word.as_bytes();
     if bytes.len() > 63 || !is_component(bytes) {
-        return Err(at);
+        return Err(BadWord { at });
     }
     Ok((bytes, rest))
 }
 
 // That there is no further word.
-fn end_at(words: &[String], at: usize) -> Result<(), usize>
+fn end_at(words: &[String], at: usize) -> Result<(), BadWord>
     ensures { Gives (λ x. x) result (end_then tt at (map string_bytes words.now)) }
 {
-    if words.is_empty() { Ok(()) } else { Err(at) }
+    if words.is_empty() {
+        Ok(())
+    } else {
+        Err(BadWord { at })
+    }
 }
 
 // The first word as a number in a range, and the words behind it.
-fn number_at(words: &[String], at: usize, low: u64, high: u64) -> Result<(u64, &[String]), usize>
+fn number_at(words: &[String], at: usize, low: u64, high: u64) -> Result<(u64, &[String]), BadWord>
     ensures word { Gives (λ x. (x.0, map string_bytes x.1.now)) result (word_then (number_in low high) at (map string_bytes words.now)) }
     ensures low { IfOk result (λ x. low ≤ x.0) }
     ensures high { IfOk result (λ x. x.0 ≤ high) }
 {
     let [word, rest @ ..] = words else {
-        return Err(at);
+        return Err(BadWord { at });
     };
     match read_number(word.as_bytes()) {
         Some(number) if low as u128 <= number && number <= high as u128 => {
             Ok((number as u64, rest))
         }
-        _ => Err(at),
+        _ => Err(BadWord { at }),
     }
 }
 
 // The first word as a volume limit, and the words behind it.
-fn volume_at(words: &[String], at: usize) -> Result<(u64, &[String]), usize>
+fn volume_at(words: &[String], at: usize) -> Result<(u64, &[String]), BadWord>
     ensures word { Gives (λ x. (x.0, map string_bytes x.1.now)) result (word_then volume_of at (map string_bytes words.now)) }
     ensures low { IfOk result (λ x. 1024 ≤ x.0) }
     ensures high { IfOk result (λ x. x.0 ≤ 1073741824) }
@@ -195,7 +218,7 @@ fn volume_at(words: &[String], at: usize) -> Result<(u64, &[String]), usize>
 }
 
 #[tactic(auto, unfolding(crate::specs::CommandLine::replay_of))]
-fn replay_words(words: &[String]) -> Result<Command, usize>
+fn replay_words(words: &[String]) -> Result<Command, BadWord>
     ensures command { Gives (λ command. command) result (replay_of (map string_bytes words.now)) }
     ensures fits { IfOk result FitsCommand }
     ensures call { IfOk result (λ command. call_of command ≡ calls.Offline) }
@@ -206,7 +229,7 @@ fn replay_words(words: &[String]) -> Result<Command, usize>
 }
 
 #[tactic(auto, unfolding(crate::specs::CommandLine::make_of))]
-fn make_words(words: &[String]) -> Result<Command, usize>
+fn make_words(words: &[String]) -> Result<Command, BadWord>
     ensures command { Gives (λ command. command) result (make_of (map string_bytes words.now)) }
     ensures fits { IfOk result FitsCommand }
     ensures call { IfOk result (λ command. call_of command ≡ calls.Offline) }
@@ -223,7 +246,7 @@ fn make_words(words: &[String]) -> Result<Command, usize>
 }
 
 #[tactic(auto, unfolding(crate::specs::CommandLine::once_of))]
-fn once_words(alloc: Global, words: &[String]) -> Result<Command, StageFault<Usage>>
+fn once_words(alloc: Global, words: &[String]) -> Result<Command, Refusal>
     ensures command { Reads result (once_of (map string_bytes words.now)) }
     ensures fits { IfOk result FitsCommand }
     ensures call { IfOk result (λ command. call_of command ≡ calls.Offline) }
@@ -233,18 +256,18 @@ fn once_words(alloc: Global, words: &[String]) -> Result<Command, StageFault<Usa
     let (name, rest) = file_at(rest, 3)?;
     end_at(rest, 4)?;
     let Some(stamp) = Stamp::build(sec, usec) else {
-        return Err(StageFault::Refused(Usage { at: 2 }));
+        return Err(Refusal::Usage { at: 2 });
     };
     match Text::build(alloc, name) {
         Ok(file) => Ok(Command::Once(OnceWords { stamp, file })),
-        Err(TextError::NoMemory) => Err(StageFault::OutOfMemory),
-        Err(TextError::Zero(_)) => Err(StageFault::Refused(Usage { at: 3 })),
+        Err(TextError::NoMemory) => Err(Refusal::NoMemory),
+        Err(TextError::Zero(_)) => Err(Refusal::Usage { at: 3 }),
     }
 }
 
 // The first two words as a stamp's seconds and microseconds, and the words behind them.
 #[tactic(auto, unfolding(crate::specs::CommandLine::stamp_then))]
-fn moment_at(words: &[String], at: usize) -> Result<(u32, u32, &[String]), usize>
+fn moment_at(words: &[String], at: usize) -> Result<(u32, u32, &[String]), BadWord>
     requires { at ≤ 3 }
     ensures word { Gives (λ x. (record { sec = x.0; usec = x.1 }, map string_bytes x.2.now)) result (stamp_then at (map string_bytes words.now)) }
     ensures range { IfOk result (λ x. IsMoment record { sec = x.0; usec = x.1 }) }
@@ -255,13 +278,13 @@ fn moment_at(words: &[String], at: usize) -> Result<(u32, u32, &[String]), usize
 }
 
 // The stamp of seconds and microseconds in their ranges.
-fn stamp_of(sec: u32, usec: u32) -> Result<Stamp, usize>
+fn stamp_of(sec: u32, usec: u32) -> Result<Stamp, BadWord>
     requires { IsMoment record { sec = sec; usec = usec } }
     ensures { result ≡ Ok record { sec = sec; usec = usec } }
 {
     match Stamp::build(sec, usec) {
         Some(stamp) => Ok(stamp),
-        None => Err(0),
+        None => Err(BadWord { at: 0 }),
     }
 }
 
@@ -275,21 +298,21 @@ fn begins_with_dash(bytes: &[u8]) -> bool
 }
 
 // The first word as a metric's name, and the words behind it. One that begins with `-` is bad.
-fn name_at(words: &[String], at: usize) -> Result<(&[u8], &[String]), usize>
+fn name_at(words: &[String], at: usize) -> Result<(&[u8], &[String]), BadWord>
     ensures { Gives (λ x. (x.0.now, map string_bytes x.1.now)) result (word_then name_of at (map string_bytes words.now)) }
 {
     let [word, rest @ ..] = words else {
-        return Err(at);
+        return Err(BadWord { at });
     };
     let bytes = word.as_bytes();
     if begins_with_dash(bytes) {
-        return Err(at);
+        return Err(BadWord { at });
     }
     Ok((bytes, rest))
 }
 
 #[tactic(auto, unfolding(crate::specs::CommandLine::at_of))]
-fn at_words(words: &[String]) -> Result<Command, usize>
+fn at_words(words: &[String]) -> Result<Command, BadWord>
     ensures command { Gives (λ command. command) result (at_of (map string_bytes words.now)) }
     ensures fits { IfOk result FitsCommand }
     ensures call { IfOk result (λ command. call_of command ≡ calls.Offline) }
@@ -301,7 +324,7 @@ fn at_words(words: &[String]) -> Result<Command, usize>
 }
 
 #[tactic(auto, unfolding(crate::specs::CommandLine::range_of))]
-fn range_words(words: &[String]) -> Result<Command, usize>
+fn range_words(words: &[String]) -> Result<Command, BadWord>
     ensures command { Gives (λ command. command) result (range_of (map string_bytes words.now)) }
     ensures fits { IfOk result FitsCommand }
     ensures call { IfOk result (λ command. call_of command ≡ calls.Offline) }
@@ -322,7 +345,7 @@ fn bytes_of(alloc: Global, bytes: &[u8]) -> Result<Bytes, NoMemory>
 }
 
 #[tactic(auto, unfolding(crate::specs::CommandLine::value_of))]
-fn value_words(alloc: Global, words: &[String]) -> Result<Command, StageFault<Usage>>
+fn value_words(alloc: Global, words: &[String]) -> Result<Command, Refusal>
     ensures command { Reads result (value_of (map string_bytes words.now)) }
     ensures fits { IfOk result FitsCommand }
     ensures call { IfOk result (λ command. call_of command ≡ calls.Offline) }
@@ -336,7 +359,7 @@ fn value_words(alloc: Global, words: &[String]) -> Result<Command, StageFault<Us
 }
 
 // A command over images and their texts, which has no further word.
-fn image_words(name: &[u8], words: &[String]) -> Result<Command, usize>
+fn image_words(name: &[u8], words: &[String]) -> Result<Command, BadWord>
     ensures command { Gives (λ command. command) result (image_command_of name.now (map string_bytes words.now)) }
     ensures fits { IfOk result FitsCommand }
     ensures call { IfOk result (λ command. call_of command ≡ calls.Offline) }
@@ -349,11 +372,11 @@ fn image_words(name: &[u8], words: &[String]) -> Result<Command, usize>
         end_at(words, 1)?;
         return Ok(Command::MmvDump);
     }
-    Err(0)
+    Err(BadWord { at: 0 })
 }
 
 // A command over an archive.
-fn archive_words(name: &[u8], words: &[String]) -> Result<Command, usize>
+fn archive_words(name: &[u8], words: &[String]) -> Result<Command, BadWord>
     ensures command { Gives (λ command. command) result (archive_command_of name.now (map string_bytes words.now)) }
     ensures fits { IfOk result FitsCommand }
     ensures call { IfOk result (λ command. call_of command ≡ calls.Offline) }
@@ -374,7 +397,7 @@ fn archive_words(name: &[u8], words: &[String]) -> Result<Command, usize>
 }
 
 // A command that asks an archive by time, or another.
-fn timed_words(alloc: Global, name: &[u8], words: &[String]) -> Result<Command, StageFault<Usage>>
+fn timed_words(alloc: Global, name: &[u8], words: &[String]) -> Result<Command, Refusal>
     ensures command { Reads result (timed_command_of name.now (map string_bytes words.now)) }
     ensures fits { IfOk result FitsCommand }
     ensures call { IfOk result (λ command. call_of command ≡ calls.Offline) }
@@ -395,7 +418,7 @@ fn timed_words(alloc: Global, name: &[u8], words: &[String]) -> Result<Command, 
 }
 
 // A command that runs something over an archive, or another.
-fn run_words(alloc: Global, name: &[u8], words: &[String]) -> Result<Command, StageFault<Usage>>
+fn run_words(alloc: Global, name: &[u8], words: &[String]) -> Result<Command, Refusal>
     ensures command { Reads result (run_command_of name.now (map string_bytes words.now)) }
     ensures fits { IfOk result FitsCommand }
     ensures call { IfOk result (λ command. call_of command ≡ calls.Offline) }
@@ -416,7 +439,7 @@ fn run_words(alloc: Global, name: &[u8], words: &[String]) -> Result<Command, St
 
 // SAMPLES VOLUME
 #[tactic(auto, unfolding(crate::specs::CommandLine::record_of))]
-fn record_words(words: &[String]) -> Result<Command, usize>
+fn record_words(words: &[String]) -> Result<Command, BadWord>
     ensures command { Gives (λ command. command) result (record_of (map string_bytes words.now)) }
     ensures fits { IfOk result FitsCommand }
     ensures call { IfOk result (λ command. call_of command ≡ calls.Record) }
@@ -432,7 +455,7 @@ fn record_words(words: &[String]) -> Result<Command, usize>
 
 // COUNT
 #[tactic(auto, unfolding(crate::specs::CommandLine::serve_of))]
-fn serve_words(words: &[String]) -> Result<Command, usize>
+fn serve_words(words: &[String]) -> Result<Command, BadWord>
     ensures command { Gives (λ command. command) result (serve_of (map string_bytes words.now)) }
     ensures fits { IfOk result FitsCommand }
     ensures call { IfOk result (λ command. call_of command ≡ calls.Serve) }
@@ -442,7 +465,7 @@ fn serve_words(words: &[String]) -> Result<Command, usize>
     Ok(Command::Serve(count as u32))
 }
 
-fn record_asked(name: &[u8], words: &[String]) -> Result<Command, usize>
+fn record_asked(name: &[u8], words: &[String]) -> Result<Command, BadWord>
     ensures command { Gives (λ command. command) result (if bytes_eq name.now (codes "record") then record_of (map string_bytes words.now) else Err 0) }
     ensures fits { IfOk result FitsCommand }
     ensures call { IfOk result (λ command. call_of command ≡ calls.Record) }
@@ -450,10 +473,10 @@ fn record_asked(name: &[u8], words: &[String]) -> Result<Command, usize>
     if name == b"record".as_slice() {
         return record_words(words);
     }
-    Err(0)
+    Err(BadWord { at: 0 })
 }
 
-fn serve_asked(name: &[u8], words: &[String]) -> Result<Command, usize>
+fn serve_asked(name: &[u8], words: &[String]) -> Result<Command, BadWord>
     ensures command { Gives (λ command. command) result (if bytes_eq name.now (codes "serve") then serve_of (map string_bytes words.now) else Err 0) }
     ensures fits { IfOk result FitsCommand }
     ensures call { IfOk result (λ command. call_of command ≡ calls.Serve) }
@@ -461,18 +484,18 @@ fn serve_asked(name: &[u8], words: &[String]) -> Result<Command, usize>
     if name == b"serve".as_slice() {
         return serve_words(words);
     }
-    Err(0)
+    Err(BadWord { at: 0 })
 }
 
 /// The command that the words ask a call for, or the index of the first word that is bad or missing. A command that isn't known, or is
 /// another call's, is bad at 0.
-pub fn read_words(alloc: Global, call: Call, words: &[String]) -> Result<Command, StageFault<Usage>>
+pub fn read_words(alloc: Global, call: Call, words: &[String]) -> Result<Command, Refusal>
     ensures command { Reads result (asked_by call (map string_bytes words.now)) }
     ensures fits { IfOk result FitsCommand }
     ensures call { IfOk result (λ command. call_of command ≡ call) }
 {
     let [name, rest @ ..] = words else {
-        return Err(StageFault::Refused(Usage { at: 0 }));
+        return Err(Refusal::Usage { at: 0 });
     };
     match call {
         Call::Offline => run_words(alloc, name.as_bytes(), rest),

@@ -10,9 +10,8 @@ use Rattle.run_script.specs.Generated.{generated_script}
 use Rattle.text_lines.specs.Spelling.{one_number}
 use Rattle.script_runs.specs.Summaries.{HasVolumes, amount, summary}
 use Rattle.pm_words.specs.declared.words.MakeWords.{MakeWords}
-use Rattle.pm_words.specs.declared.stage.DiskRefusal.TheVariants.{DiskFault}
 use Rattle.pm_words.specs.declared.refusal.Refusal.{Refusal}
-use Rattle.pm_words.specs.declared.refusal.Refusal.TheVariants.{Disk, NoMemory}
+use Rattle.pm_words.specs.declared.refusal.Refusal.TheVariants.{DiskFault, NoMemory}
 use Rattle.pm_words.specs.Meaning.{Meaning}
 use Rattle.pm_runs.specs.Runners.{Runner}
 use Rattle.pm_runs.specs.Scripts.{runs_script}
@@ -37,7 +36,7 @@ HasCounted files items adds total text = (volumes : ℕ) × HasVolumes files vol
 
 -- why it isn't told
 abbrev pub WantsCounts : ℕ → ℕ → Refusal → Type 0
-WantsCounts before after e = (e ≡ NoMemory) ⊎ ((e ≡ Disk DiskFault) × Rose before after)
+WantsCounts before after e = (e ≡ NoMemory) ⊎ ((e ≡ DiskFault) × Rose before after)
 
 -- what is written after a run that logged so many results; a length of 2^64 - 1 stands for a greater one
 pub record Summarizes (script : Script) (count : ℕ) (files : Files) (text : List ℕ) : Type 0 where
@@ -52,7 +51,7 @@ making asked = record {
   limit = asked.volume;
   says = λ script count output files text. Summarizes script count files text;
   front = λ output. [];
-  untold = λ e. (e ≡ NoMemory) ⊎ (e ≡ Disk DiskFault);
+  untold = λ e. (e ≡ NoMemory) ⊎ (e ≡ DiskFault);
 }
 
 abbrev pub make : MakeWords → Meaning

@@ -7,17 +7,16 @@ use Rattle.pcp_model.specs.Disk.{Files, contents_of}
 use Rattle.pcp_model.specs.Recovered.{Recovers}
 use Rattle.archive_recovery.specs.Halfway.{MayBeHalfway}
 use Rattle.archive_recovery.specs.RecoverFaults.{IsRefused}
-use Rattle.pm_words.specs.declared.stage.FilesRefusal.{FilesRefusal}
-use Rattle.pm_words.specs.declared.stage.FilesRefusal.TheVariants.{Run, Compressed, NotArchive, Nothing}
+use Rattle.pm_words.specs.declared.refusal.Refusal.{Refusal}
+use Rattle.pm_words.specs.declared.refusal.Refusal.TheVariants.{Compressed, NotArchive}
 use Rattle.pm_words.specs.Meaning.{Meaning}
 use Rattle.pm_words.specs.Sides.{DiskSide, Found}
 
 -- a file stands wrapped, or this is the first offset that fits no archive
-abbrev pub IsTurnedAway : Found → FilesRefusal → Type 0
+abbrev pub IsTurnedAway : Found → Refusal → Type 0
 IsTurnedAway found (Compressed file) = found.wrapped ≡ Some file
 IsTurnedAway found (NotArchive file at) = (found.wrapped ≡ None) × IsRefused found.files file at
-IsTurnedAway found (Run reason) = ⊥
-IsTurnedAway found (Nothing stamp) = ⊥
+IsTurnedAway found _ = ⊥
 
 -- the files were read, and what is left is what recovery leaves, all of it sure
 pub record IsMendedSide (d : DiskSide) : Type 0 where

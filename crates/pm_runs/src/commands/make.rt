@@ -10,7 +10,7 @@ ghost use Rattle.pm_runs.specs.commands.make.{make as meaning_of_make, add_in, a
 use crate::running::run_script;
 use pcp_base::{Bytes, FileId, List, NoMemory};
 use pcp_outside::Disk;
-use pm_words::{DiskRefusal, MakeWords, Refusal, of_ending};
+use pm_words::{MakeWords, Refusal, of_ending};
 use run_passes::Opened;
 use run_script::{Line, generate};
 use std::alloc::Global;
@@ -84,10 +84,10 @@ fn summary<D: Disk>(
     ensures later { D.faults disk.old ≤ D.faults disk.new }
 {
     let Ok(volumes) = disk.volumes() else {
-        return Err(Refusal::Disk(DiskRefusal::DiskFault));
+        return Err(Refusal::DiskFault);
     };
     let Ok(meta) = disk.len(FileId::Meta) else {
-        return Err(Refusal::Disk(DiskRefusal::DiskFault));
+        return Err(Refusal::DiskFault);
     };
     let text = counted_text(alloc, items, volumes, meta, adds, total)?;
     Ok(text)

@@ -13,7 +13,7 @@ use log_schedule::{Config, Group};
 use mmv_layout::{Image, ImageFault};
 use pcp_base::{Bytes, Duplicate, List, NoMemory, Text};
 use pcp_outside::Disk;
-use pm_words::{InputRefusal, OnceWords, Refusal, StageFault, of_ending};
+use pm_words::{OnceWords, Refusal, of_ending};
 use run_passes::Opened;
 use run_script::{Line, RegionRow, Script};
 use std::alloc::Global;
@@ -84,11 +84,7 @@ fn script_of(alloc: Global, asked: &OnceWords, image: Image) -> Result<Script, N
 }
 
 // The script of an input's image.
-fn prepare(
-    alloc: Global,
-    asked: &OnceWords,
-    input: &[u8],
-) -> Result<Script, StageFault<InputRefusal>>
+fn prepare(alloc: Global, asked: &OnceWords, input: &[u8]) -> Result<Script, Refusal>
     requires within { length input.now ≤ input_limit }
     requires named { IsComponent asked.now.file }
     ensures script { IfOk result (λ script. (logging asked.now).script input.now ≡ Some script) }
@@ -98,8 +94,8 @@ fn prepare(
 {
     let image = match Image::from_bytes(alloc, input) {
         Ok(image) => image,
-        Err(ImageFault::NoMemory) => return Err(StageFault::OutOfMemory),
-        Err(fault) => return Err(StageFault::Refused(InputRefusal::Image(fault))),
+        Err(ImageFault::NoMemory) => return Err(Refusal::NoMemory),
+        Err(fault) => return Err(Refusal::Image(fault)),
     };
     let script = script_of(alloc, asked, image)?;
     Ok(script)

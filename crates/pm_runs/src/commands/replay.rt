@@ -9,13 +9,13 @@ ghost use Rattle.pcp_outside.specs.Sides.{sink_side};
 use crate::running::run_script;
 use pcp_base::Bytes;
 use pcp_outside::{Disk, Sink};
-use pm_words::{InputRefusal, Refusal, StageFault, of_ending, send};
+use pm_words::{Refusal, of_ending, send};
 use run_passes::Opened;
 use run_script::{ReadScriptError, Script};
 use std::alloc::Global;
 
 // The script of an input.
-fn read_script(alloc: Global, volume: u64, input: &[u8]) -> Result<Script, StageFault<InputRefusal>>
+fn read_script(alloc: Global, volume: u64, input: &[u8]) -> Result<Script, Refusal>
     requires within { length input.now ≤ input_limit }
     ensures script { IfOk result (λ script. (replaying volume).script input.now ≡ Some script) }
     ensures rules { IfOk result KeepsRules }
@@ -24,8 +24,8 @@ fn read_script(alloc: Global, volume: u64, input: &[u8]) -> Result<Script, Stage
 {
     match Script::read(alloc, input) {
         Ok(script) => Ok(script),
-        Err(ReadScriptError::NoMemory) => Err(StageFault::OutOfMemory),
-        Err(ReadScriptError::Fault(fault)) => Err(StageFault::Refused(InputRefusal::Script(fault))),
+        Err(ReadScriptError::NoMemory) => Err(Refusal::NoMemory),
+        Err(ReadScriptError::Fault(fault)) => Err(Refusal::Script(fault)),
     }
 }
 

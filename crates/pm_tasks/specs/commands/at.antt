@@ -8,21 +8,20 @@ use Rattle.archive_loading.specs.Loaded.{Loaded}
 use Rattle.archive_reader.specs.Searches.{at as last_at}
 use Rattle.archive_reader.specs.declared.fault.ReaderFault.TheVariants as faults
 use Rattle.pm_print.specs.Items.{item_text}
-use Rattle.pm_words.specs.declared.stage.FilesRefusal.{FilesRefusal}
-use Rattle.pm_words.specs.declared.stage.FilesRefusal.TheVariants.{Run, Compressed, NotArchive, Nothing}
+use Rattle.pm_words.specs.declared.refusal.Refusal.{Refusal}
+use Rattle.pm_words.specs.declared.refusal.Refusal.TheVariants.{NotArchive, Nothing}
 use Rattle.pm_tasks.specs.Archives.{IsLoaded, TurnedAfter, OverSound, looks, nothing_before}
 use Rattle.pm_tasks.specs.Takes.{TookAt}
 use Rattle.pm_words.specs.Meaning.{Meaning}
 use Rattle.pm_words.specs.Sides.{Found}
 
 -- where the search for it doesn't end: a record on the way is no item's, or it begins outside the records
-abbrev pub IsStopped : Moment → Loaded → Found → FilesRefusal → Type 0
+abbrev pub IsStopped : Moment → Loaded → Found → Refusal → Type 0
 IsStopped t r found (NotArchive file offset) = IsAtFault found.files r.volumes t (at_begin r t) (faults.NotArchive file offset)
 IsStopped t r found (Nothing stamp) = (stamp ≡ t) × IsAtFrom found.files r.volumes t (at_begin r t) None × OverSound found (λ items. last_at t items ≡ None)
-IsStopped t r found (Compressed file) = ⊥
-IsStopped t r found (Run reason) = ⊥
+IsStopped t r found _ = ⊥
 
-abbrev pub IsTurnedAway : Moment → Found → FilesRefusal → Type 0
+abbrev pub IsTurnedAway : Moment → Found → Refusal → Type 0
 IsTurnedAway t found e = TurnedAfter (IsStopped t) found e
 
 abbrev pub IsOutput : Moment → Found → List ℕ → Type 0

@@ -9,8 +9,8 @@ use Rattle.archive_loading.specs.Loaded.{Loaded}
 use Rattle.archive_reader.specs.Walks.{volumes_from, StepsOver, IsEnd, IsBad, Leads, AllFrom, StopsAt}
 use Rattle.archive_reader.specs.declared.places.Place.{Place}
 use Rattle.pm_print.specs.Items.{item_text, items_text}
-use Rattle.pm_words.specs.declared.stage.FilesRefusal.{FilesRefusal}
-use Rattle.pm_words.specs.declared.stage.FilesRefusal.TheVariants.{Run, Compressed, NotArchive, Nothing}
+use Rattle.pm_words.specs.declared.refusal.Refusal.{Refusal}
+use Rattle.pm_words.specs.declared.refusal.Refusal.TheVariants.{NotArchive}
 use Rattle.pm_tasks.specs.Archives.{IsLoaded, TurnedAfter, looks, takes_any}
 use Rattle.pm_words.specs.Meaning.{Meaning}
 use Rattle.pcp_outside.specs.Sides.{SinkSide}
@@ -30,14 +30,12 @@ abbrev pub HasItems : Files → Loaded → List Item → Type 0
 HasItems files r items = AllFrom files r.volumes 132 items
 
 -- a record of a volume, the first such, is no item's
-abbrev pub BadRecord : Loaded → Found → FilesRefusal → Type 0
+abbrev pub BadRecord : Loaded → Found → Refusal → Type 0
 BadRecord r found (NotArchive file at) = (items : List Item) × StopsAt found.files r.volumes 132 items file at
-BadRecord r found (Compressed file) = ⊥
-BadRecord r found (Run reason) = ⊥
-BadRecord r found (Nothing stamp) = ⊥
+BadRecord r found _ = ⊥
 
 -- files are turned away where they aren't loaded, or where a record is no item's
-abbrev pub IsTurnedAway : Found → FilesRefusal → Type 0
+abbrev pub IsTurnedAway : Found → Refusal → Type 0
 IsTurnedAway found e = TurnedAfter BadRecord found e
 
 -- the files are readable, and their items are written
@@ -66,11 +64,9 @@ HasNext files r p q before after true =
 HasNext files r p q before after false = IsEnd files (volumes_from p.volume r.volumes) p.offset × (after ≡ before)
 
 -- the next record is no item's
-abbrev pub BadNext : Loaded → Place → Found → FilesRefusal → Type 0
+abbrev pub BadNext : Loaded → Place → Found → Refusal → Type 0
 BadNext r p found (NotArchive file at) = IsBad found.files (volumes_from p.volume r.volumes) p.offset file at
-BadNext r p found (Compressed file) = ⊥
-BadNext r p found (Run reason) = ⊥
-BadNext r p found (Nothing stamp) = ⊥
+BadNext r p found _ = ⊥
 
 -- Of all steps: the texts of all items stand behind what was there; the front of that went to the sink, and the rest waits.
 pub record HasPut (tells : Type 0) (files : Files) (r : Loaded) (before : List ℕ) (k : SinkSide) (failed : Bool) (waits : List ℕ) : Type 0 where

@@ -2,13 +2,13 @@
 use Rattle.std.specs.Prelude.{◌≡◌, ℕ, List}
 use Rattle.archive_loading.specs.Loaded.{Loaded}
 use Rattle.pm_print.specs.Infos.{info_text}
-use Rattle.pm_words.specs.declared.stage.FilesRefusal.{FilesRefusal}
+use Rattle.pm_words.specs.declared.refusal.Refusal.{Refusal}
 use Rattle.pm_tasks.specs.Archives.{IsLoaded, IsNotLoaded, looks, nothing_before, takes_any}
 use Rattle.pm_words.specs.Meaning.{Meaning}
 use Rattle.pm_words.specs.Sides.{Found}
 
 -- it turns files away only where they aren't loaded
-abbrev pub IsTurnedAway : Found → FilesRefusal → Type 0
+abbrev pub IsTurnedAway : Found → Refusal → Type 0
 IsTurnedAway found e = IsNotLoaded found e
 
 abbrev pub IsOutput : Found → List ℕ → Type 0

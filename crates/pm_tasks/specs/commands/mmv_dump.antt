@@ -2,11 +2,11 @@
 use Rattle.std.specs.Prelude.{ℕ, List, Option}
 use Rattle.mmv_layout.specs.Faults.{image_of}
 use Rattle.pm_print.specs.Dumps.{dump_of}
-use Rattle.pm_words.specs.declared.stage.InputRefusal.{InputRefusal}
+use Rattle.pm_words.specs.declared.refusal.Refusal.{Refusal}
 use Rattle.pm_words.specs.Inputs.{image_refusal, made_of}
 use Rattle.pm_words.specs.Meaning.{Meaning, converts}
 
-abbrev pub refuses : List ℕ → Option InputRefusal
+abbrev pub refuses : List ℕ → Option Refusal
 refuses input = image_refusal (image_of input)
 
 abbrev pub makes : List ℕ → List ℕ

@@ -8,21 +8,19 @@ use Rattle.archive_loading.specs.Loaded.{Loaded}
 use Rattle.archive_reader.specs.Searches.{between}
 use Rattle.archive_reader.specs.declared.fault.ReaderFault.TheVariants as faults
 use Rattle.pm_print.specs.Items.{items_text}
-use Rattle.pm_words.specs.declared.stage.FilesRefusal.{FilesRefusal}
-use Rattle.pm_words.specs.declared.stage.FilesRefusal.TheVariants.{Run, Compressed, NotArchive, Nothing}
+use Rattle.pm_words.specs.declared.refusal.Refusal.{Refusal}
+use Rattle.pm_words.specs.declared.refusal.Refusal.TheVariants.{NotArchive}
 use Rattle.pm_tasks.specs.Archives.{IsLoaded, TurnedAfter, OverSound, looks, nothing_before}
 use Rattle.pm_tasks.specs.Takes.{TookRange}
 use Rattle.pm_words.specs.Meaning.{Meaning}
 use Rattle.pm_words.specs.Sides.{Found}
 
 -- where they aren't read to the end: a record on the way is no item's, or the search begins outside the records
-abbrev pub IsStopped : Moment → Moment → Loaded → Found → FilesRefusal → Type 0
+abbrev pub IsStopped : Moment → Moment → Loaded → Found → Refusal → Type 0
 IsStopped from to r found (NotArchive file offset) = IsRangeFault found.files r.volumes to (range_begin r from) (faults.NotArchive file offset)
-IsStopped from to r found (Nothing stamp) = ⊥
-IsStopped from to r found (Compressed file) = ⊥
-IsStopped from to r found (Run reason) = ⊥
+IsStopped from to r found _ = ⊥
 
-abbrev pub IsTurnedAway : Moment → Moment → Found → FilesRefusal → Type 0
+abbrev pub IsTurnedAway : Moment → Moment → Found → Refusal → Type 0
 IsTurnedAway from to found e = TurnedAfter (IsStopped from to) found e
 
 abbrev pub IsOutput : Moment → Moment → Found → List ℕ → Type 0

@@ -12,7 +12,7 @@ use archive_reader::ArchiveReader;
 use pcp_base::{Bytes, Stamp};
 use pcp_outside::Disk;
 use pm_print::item_text;
-use pm_words::{DiskRefusal, FilesRefusal, Refusal};
+use pm_words::Refusal;
 use std::alloc::Global;
 
 // The item, as text.
@@ -29,7 +29,7 @@ fn find_item<D: Disk>(alloc: Global, t: Stamp, disk: &mut D) -> Result<Bytes, Re
             let text = item_text(alloc, item, reader.meta())?;
             Ok(text)
         }
-        None => Err(Refusal::Disk(DiskRefusal::Files(FilesRefusal::Nothing { stamp: t }))),
+        None => Err(Refusal::Nothing { stamp: t }),
     }
 }
 

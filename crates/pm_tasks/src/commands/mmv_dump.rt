@@ -5,7 +5,7 @@ ghost use Rattle.pm_tasks.specs.commands.mmv_dump.{refuses, makes};
 use mmv_layout::{Image, ImageFault};
 use pcp_base::Bytes;
 use pm_print::image_text;
-use pm_words::{InputRefusal, Refusal};
+use pm_words::Refusal;
 use std::alloc::Global;
 
 /// The layout text of an image.
@@ -18,6 +18,6 @@ pub fn mmv_dump(alloc: Global, input: &[u8]) -> Result<Bytes, Refusal>
             Ok(text)
         }
         Err(ImageFault::NoMemory) => Err(Refusal::NoMemory),
-        Err(fault) => Err(Refusal::Input(InputRefusal::Image(fault))),
+        Err(fault) => Err(Refusal::Image(fault)),
     }
 }

@@ -5,7 +5,7 @@ ghost use Rattle.pm_tasks.specs.commands.mmv_make.{refuses, makes};
 use mmv_writer::{ReadTextError, read_text};
 use pcp_base::Bytes;
 use pm_print::image_bytes;
-use pm_words::{InputRefusal, Refusal};
+use pm_words::Refusal;
 use std::alloc::Global;
 
 /// The image of a layout text, as bytes.
@@ -17,7 +17,7 @@ pub fn mmv_make(alloc: Global, input: &[u8]) -> Result<Bytes, Refusal>
             let bytes = image_bytes(alloc, &image)?;
             Ok(bytes)
         }
-        Err(ReadTextError::Fault(fault)) => Err(Refusal::Input(InputRefusal::Line(fault))),
+        Err(ReadTextError::Fault(fault)) => Err(Refusal::Line(fault)),
         Err(ReadTextError::NoMemory) => Err(Refusal::NoMemory),
     }
 }

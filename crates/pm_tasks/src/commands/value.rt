@@ -6,23 +6,14 @@ ghost use Rattle.archive_loading.specs.Loaded.{IsOver};
 ghost use Rattle.pm_tasks.specs.Archives.{TurnedAway};
 ghost use Rattle.pm_words.specs.Serving.{Meets};
 ghost use Rattle.pm_words.specs.Sides.{disk_side, files_found};
-ghost use Rattle.pm_words.specs.declared.refusal.Refusal.TheVariants.{Disk};
-ghost use Rattle.pm_words.specs.declared.stage.DiskRefusal.TheVariants.{Files};
-ghost use Rattle.pm_words.specs.declared.stage.FilesRefusal.TheVariants.{Nothing};
 ghost use Rattle.pm_tasks.specs.commands.value.{HasValue, HasNoValue, IsTurnedAway, IsOutput, value as meaning_of_value};
 
 use archive_reader::ArchiveReader;
 use pcp_base::{Bytes, Pmid, Stamp};
 use pcp_outside::Disk;
 use pm_print::set_text;
-use pm_words::{DiskRefusal, FilesRefusal, Refusal, ValueWords};
+use pm_words::{Refusal, ValueWords};
 use std::alloc::Global;
-
-fn nothing_at(stamp: Stamp) -> Refusal
-    ensures { result ≡ Disk (Files (Nothing stamp)) }
-{
-    Refusal::Disk(DiskRefusal::Files(FilesRefusal::Nothing { stamp }))
-}
 
 // The values of a metric and their stamp, as text.
 fn values_text<D: Disk>(
@@ -43,7 +34,7 @@ fn values_text<D: Disk>(
             let text = set_text(alloc, *at, set, reader.meta())?;
             Ok(text)
         }
-        None => Err(nothing_at(stamp)),
+        None => Err(Refusal::Nothing { stamp }),
     }
 }
 
@@ -57,7 +48,7 @@ fn find_values<D: Disk>(alloc: Global, asked: &ValueWords, disk: &mut D) -> Resu
     let pmid = reader.meta().metric_of_name(alloc, asked.name.as_slice())?;
     match pmid {
         Some(pmid) => values_text(alloc, disk, &mut reader, pmid, asked.stamp),
-        None => Err(nothing_at(asked.stamp)),
+        None => Err(Refusal::Nothing { stamp: asked.stamp }),
     }
 }
 

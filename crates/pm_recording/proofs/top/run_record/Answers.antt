@@ -17,4 +17,4 @@ returns g c =
       came = c.run-ran.ensures;
       told = tells_all g.O.Sink c.args.out.now c.args.out.now c.tell_end.new.out [] false c.run-ran.result c.tell_end.result (record { later = omega arith; given = λ tells. sym (append-nil (g.O.Sink.written c.args.out.now)) }) c.tell_end.ensures;
     } in
-    record { ends = ended; facts = facts side k g.met.D.Disk.only_now c.tell_end.result ended }
+    record { facts = facts side k g.met.D.Disk.only_now c.tell_end.result ended }

@@ -5,10 +5,9 @@ use Rattle.pm_words.proofs.Telling.{tells_all}
 use Rattle.pm_serving.proofs.Facts.{facts_of}
 use Rattle.pm_serving.proofs.top.run_serve.Goals as goal
 
-pub returns-clause-ends : goal.returns-clause-ends
-returns-clause-ends g c =
-    let out = c.args.out.now in
-    (c.run-ran.result, c.run-ran.ensures, tells_all g.O.Sink out out c.tell_end.new.out [] false c.run-ran.result c.tell_end.result (unsent g.O.Sink out false refl) c.tell_end.ensures)
-
-pub returns-clause-facts : goal.returns-clause-facts
-returns-clause-facts g c = facts_of _ c.tell_end.result (returns-clause-ends g c)
+pub returns : goal.returns
+returns g c = record {
+  facts =
+      let out = c.args.out.now in
+      facts_of _ c.tell_end.result (c.run-ran.result, c.run-ran.ensures, tells_all g.O.Sink out out c.tell_end.new.out [] false c.run-ran.result c.tell_end.result (unsent g.O.Sink out false refl) c.tell_end.ensures);
+}

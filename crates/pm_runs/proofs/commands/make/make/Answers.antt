@@ -7,10 +7,8 @@ use Rattle.run_script.specs.declared.script.Script.{Script}
 use Rattle.run_script.proofs.MadeSteps.{generated_is_ruled}
 use Rattle.run_script.specs.Rules.{KeepsRules}
 use Rattle.script_runs.specs.Summaries.{adds_in, total_in}
-use Rattle.pm_words.specs.declared.stage.DiskRefusal.TheVariants.{DiskFault}
-use Rattle.pm_words.specs.declared.stage.StageFault.TheVariants.{OutOfMemory}
 use Rattle.pm_words.specs.declared.refusal.Refusal.{Refusal}
-use Rattle.pm_words.specs.declared.refusal.Refusal.TheVariants.{Disk, NoMemory}
+use Rattle.pm_words.specs.declared.refusal.Refusal.TheVariants.{DiskFault, NoMemory}
 use Rattle.pm_words.proofs.Sending.{rose_later}
 use Rattle.pm_runs.specs.commands.make.{Summarizes, HasCounted, WantsCounts, making}
 use Rattle.pm_runs.proofs.Counting.{few_adds, small_total}
@@ -28,7 +26,7 @@ summarized script logged adds total adds_are total_is before after still text co
     record { volumes = all.0; counted = all.1; is = all.2 }
 
 -- a look at the disk that fails, counted from before the run
-wants_later : (a b c : ℕ) → a ≤ b → (e : Refusal) → WantsCounts b c e → ((e ≡ NoMemory) ⊎ (e ≡ Disk DiskFault)) × WantsCounts a c e
+wants_later : (a b c : ℕ) → a ≤ b → (e : Refusal) → WantsCounts b c e → ((e ≡ NoMemory) ⊎ (e ≡ DiskFault)) × WantsCounts a c e
 wants_later a b c low e (inl memory) = (inl memory, inl memory)
 wants_later a b c low e (inr (fault, rose)) = (inr fault, inr (fault, rose_later a b c low rose))
 
@@ -48,14 +46,14 @@ run_script-requires-clause-rules g c = subst KeepsRules (sym c.in_ok-script.ensu
 pub returns-in_err-script : goal.returns-in_err-script
 returns-in_err-script g c = record {
   meets = λ input.
-      let meets = runner_refused (making c.args.asked.now) input g.D.Disk g.met.D.Disk.only_now OutOfMemory (refl {a = c.args.disk.now}) c.requires.closed tt in
+      let meets = runner_refused (making c.args.asked.now) input g.D.Disk g.met.D.Disk.only_now NoMemory (refl {a = c.args.disk.now}) c.requires.closed tt in
       search (rules, meets);
 }
 
 pub returns-in_err-replayed : goal.returns-in_err-replayed
 returns-in_err-replayed g c = record {
   meets = λ input.
-      let meets = runner_refused (making c.args.asked.now) input g.D.Disk g.met.D.Disk.only_now OutOfMemory c.in_err-replayed.ensures.untouched (c.in_err-replayed.ensures.unopened ∙ c.requires.closed) tt in
+      let meets = runner_refused (making c.args.asked.now) input g.D.Disk g.met.D.Disk.only_now NoMemory c.in_err-replayed.ensures.untouched (c.in_err-replayed.ensures.unopened ∙ c.requires.closed) tt in
       search (rules, meets);
 }
 
@@ -72,7 +70,7 @@ returns-in-None g c = record {
       runner_told (making c.args.asked.now) input (ap (λ (s : Script). Some s) (sym c.in_ok-script.ensures)) refl (looked_was (is_done r.ending why) c.summary.ensures.looks run) c.summary.result refl why
       (λ t. IfOk-weaker c.summary.result counts says (summarized script r.logged c.adds_of-adds.result.0 c.adds_of-adds.result.1 (c.adds_of-adds.ensures.adds ∙ ap adds_in c.as_slice.ensures) (c.adds_of-adds.ensures.total ∙ ap total_in c.as_slice.ensures)
       (d.held c.run_script.new.disk) (d.held c.summary.new.disk) (c.summary.ensures.looks.held t)) (c.summary.ensures.counted t))
-      (IfErr-weaker c.summary.result (WantsCounts (d.faults c.run_script.new.disk) (d.faults c.summary.new.disk)) (λ e. ((e ≡ NoMemory) ⊎ (e ≡ Disk DiskFault)) × WantsCounts (d.faults c.args.disk.now) (d.faults c.summary.new.disk) e)
+      (IfErr-weaker c.summary.result (WantsCounts (d.faults c.run_script.new.disk) (d.faults c.summary.new.disk)) (λ e. ((e ≡ NoMemory) ⊎ (e ≡ DiskFault)) × WantsCounts (d.faults c.args.disk.now) (d.faults c.summary.new.disk) e)
       (wants_later (d.faults c.args.disk.now) (d.faults c.run_script.new.disk) (d.faults c.summary.new.disk) run.later) c.summary.ensures.cause);
 }
 

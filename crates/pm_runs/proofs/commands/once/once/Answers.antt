@@ -1,7 +1,6 @@
 -- What the run of an image tells, or why there was none.
 use Rattle.std.proofs.Common.{rules, inl, refl, sym, ◌∙◌}
 use Rattle.pm_words.specs.declared.refusal.Refusal.TheVariants.{NoMemory}
-use Rattle.pm_words.specs.declared.stage.StageFault.TheVariants.{OutOfMemory}
 use Rattle.pm_runs.specs.commands.once.{logging}
 use Rattle.pm_runs.proofs.Scripted.{runner_done, runner_refused, runner_stopped, runner_untold}
 use Rattle.pm_runs.proofs.commands.once.once.Goals as goal
@@ -13,7 +12,7 @@ returns-in_err-script g c =
 
 pub returns-in_err-replayed : goal.returns-in_err-replayed
 returns-in_err-replayed g c =
-    let meets = runner_refused (logging c.args.asked.now) c.args.input.now g.D.Disk g.met.D.Disk.only_now OutOfMemory c.in_err-replayed.ensures.untouched (c.in_err-replayed.ensures.unopened ∙ c.requires.closed) tt in
+    let meets = runner_refused (logging c.args.asked.now) c.args.input.now g.D.Disk g.met.D.Disk.only_now NoMemory c.in_err-replayed.ensures.untouched (c.in_err-replayed.ensures.unopened ∙ c.requires.closed) tt in
     search (rules, meets)
 
 pub returns-in_err-line-in-None : goal.returns-in_err-line-in-None

@@ -2,7 +2,7 @@
 use Rattle.std.proofs.Common.{rules, [], Bool, List, ℕ, refl, sym, ◌∙◌, subst}
 use Rattle.pcp_outside.specs.Sides.{SinkSide, sink_side}
 use Rattle.pm_words.specs.Streams.{IsSent, Sends}
-use Rattle.pm_words.specs.declared.stage.StageFault.TheVariants.{OutOfMemory}
+use Rattle.pm_words.specs.declared.refusal.Refusal.TheVariants.{NoMemory}
 use Rattle.pm_words.proofs.Sending.{unsent}
 use Rattle.pm_runs.specs.commands.replay.{replaying}
 use Rattle.pm_runs.proofs.Scripted.{runner_done, runner_refused, runner_stopped}
@@ -17,7 +17,7 @@ returns-in_err-script g c =
 pub returns-in_err-replayed : goal.returns-in_err-replayed
 returns-in_err-replayed g c =
     let sent = unsent g.O.Sink c.args.out.now c.args.failed.now c.requires.fresh in
-    let meets = runner_refused (replaying c.args.volume) c.args.input.now g.D.Disk g.met.D.Disk.only_now OutOfMemory c.in_err-replayed.ensures.untouched (c.in_err-replayed.ensures.unopened ∙ c.requires.closed) tt in
+    let meets = runner_refused (replaying c.args.volume) c.args.input.now g.D.Disk g.met.D.Disk.only_now NoMemory c.in_err-replayed.ensures.untouched (c.in_err-replayed.ensures.unopened ∙ c.requires.closed) tt in
     search (rules, sent, meets)
 
 pub returns-in-None : goal.returns-in-None

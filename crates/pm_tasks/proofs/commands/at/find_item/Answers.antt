@@ -7,6 +7,8 @@ use Rattle.archive_loading.specs.Loaded.{Loaded, IsOver}
 use Rattle.archive_reader.specs.Asked.{at_begin, IsAtFrom}
 use Rattle.pm_print.specs.Items.{item_text}
 use Rattle.pm_words.specs.Refusals.{reader_refusal}
+use Rattle.pm_words.specs.Sides.{disk_side}
+use Rattle.pm_tasks.specs.Archives.{TurnedAway}
 use Rattle.pm_tasks.specs.commands.at.{IsTurnedAway, IsStopped}
 use Rattle.pm_tasks.proofs.Asking.{not_loaded, is_loaded, asked_turned, still_over}
 use Rattle.archive_reader.specs.Takes.{TakesAt}
@@ -25,7 +27,8 @@ at-requires g c = λ tells. still_over g.D.Disk (λ files. IsOver files c.in_ok-
 pub returns-in_err-found-clause-turned : goal.returns-in_err-found-clause-turned
 returns-in_err-found-clause-turned g c =
     let r : Loaded = c.in_ok-reader.reader in
-    let away = asked_turned g.D.Disk (IsStopped c.args.t) r c.args.disk.now c.load.new.disk c.at.new.disk c.load.ensures.looks (λ tells. is_loaded g.D.Disk c.args.disk.now c.load.new.disk c.at.new.disk r tells c.in_ok-reader.ensures.loaded c.in_ok-reader.ensures.unwrapped)
+    let away : TurnedAway (IsTurnedAway c.args.t) (disk_side g.D.Disk c.args.disk.now c.at.new.disk) (reader_refusal c.in_err-found.field-0.0) =
+    asked_turned g.D.Disk (IsStopped c.args.t) r c.args.disk.now c.load.new.disk c.at.new.disk c.load.ensures.looks (λ tells. is_loaded g.D.Disk c.args.disk.now c.load.new.disk c.at.new.disk r tells c.in_ok-reader.ensures.loaded c.in_ok-reader.ensures.unwrapped)
     (reader_refusal c.in_err-found.field-0.0) (at_stops g.D.Disk r c.load.new.disk c.at.new.disk c.args.t c.in_err-found.field-0.0 c.in_err-found.ensures.fault c.in_err-found.ensures.cause) in
     search (rules, away)
 

@@ -6,6 +6,8 @@ use Rattle.archive_loading.specs.Loaded.{Loaded, IsOver}
 use Rattle.archive_reader.specs.Asked.{range_begin, IsRangeFrom}
 use Rattle.pm_print.specs.Items.{items_text}
 use Rattle.pm_words.specs.Refusals.{reader_refusal}
+use Rattle.pm_words.specs.Sides.{disk_side}
+use Rattle.pm_tasks.specs.Archives.{TurnedAway}
 use Rattle.pm_tasks.specs.commands.range.{IsTurnedAway, IsStopped}
 use Rattle.pm_tasks.proofs.Asking.{not_loaded, is_loaded, asked_turned, still_over}
 use Rattle.archive_reader.specs.Takes.{TakesRange}
@@ -24,7 +26,8 @@ range-requires g c = λ tells. still_over g.D.Disk (λ files. IsOver files c.in_
 pub returns-in_err-items-clause-turned : goal.returns-in_err-items-clause-turned
 returns-in_err-items-clause-turned g c =
     let r : Loaded = c.in_ok-reader.reader in
-    let away = asked_turned g.D.Disk (IsStopped c.args.from c.args.to) r c.args.disk.now c.load.new.disk c.range.new.disk c.load.ensures.looks (λ tells. is_loaded g.D.Disk c.args.disk.now c.load.new.disk c.range.new.disk r tells c.in_ok-reader.ensures.loaded c.in_ok-reader.ensures.unwrapped)
+    let away : TurnedAway (IsTurnedAway c.args.from c.args.to) (disk_side g.D.Disk c.args.disk.now c.range.new.disk) (reader_refusal c.in_err-items.field-0.0) =
+    asked_turned g.D.Disk (IsStopped c.args.from c.args.to) r c.args.disk.now c.load.new.disk c.range.new.disk c.load.ensures.looks (λ tells. is_loaded g.D.Disk c.args.disk.now c.load.new.disk c.range.new.disk r tells c.in_ok-reader.ensures.loaded c.in_ok-reader.ensures.unwrapped)
     (reader_refusal c.in_err-items.field-0.0) (range_stops g.D.Disk r c.load.new.disk c.range.new.disk c.args.from c.args.to c.in_err-items.field-0.0 c.in_err-items.ensures.fault c.in_err-items.ensures.cause) in
     search (rules, away)
 

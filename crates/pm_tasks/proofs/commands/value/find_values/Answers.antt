@@ -5,7 +5,6 @@ use Rattle.archive_meta.specs.Said.{metric_of_name}
 use Rattle.archive_loading.proofs.Looking.{looks_on}
 use Rattle.archive_loading.specs.Loaded.{Loaded, IsOver}
 use Rattle.pm_tasks.specs.commands.value.{IsTurnedAway, HasNothing}
-use Rattle.pm_tasks.specs.Archives.{TurnedAway}
 use Rattle.pm_words.specs.Sides.{disk_side, files_found}
 use Rattle.pm_tasks.proofs.Asking.{not_loaded, is_loaded, still_over}
 use Rattle.pm_tasks.proofs.Timed.{said_of, turned_of}
@@ -40,9 +39,8 @@ pub returns-clause-turned : goal.returns-clause-turned
 returns-clause-turned g c =
     let r : Loaded = c.in_ok-reader.reader in
     let is = ap (λ records. metric_of_name records c.args.asked.now.name) (sym c.meta.ensures) ∙ sym (ap (metric_of_name c.meta.result.now) c.as_slice.ensures) ∙ sym c.in_ok-pmid.ensures ∙ c.in-None.is in
-    subst (TurnedAway (IsTurnedAway c.args.asked.now) (disk_side g.D.Disk c.args.disk.now c.load.new.disk)) (sym c.nothing_at.ensures)
-    (λ tells. inr (
+    λ tells. inr (
       r,
       is_loaded g.D.Disk c.args.disk.now c.load.new.disk c.load.new.disk r tells c.in_ok-reader.ensures.loaded c.in_ok-reader.ensures.unwrapped,
       (refl, subst (HasNothing (files_found (disk_side g.D.Disk c.args.disk.now c.load.new.disk)) r c.args.asked.now.stamp) (sym is) tt),
-    ))
+    )

@@ -1,12 +1,10 @@
 -- The values that a search answers, or that there are none.
-use Rattle.std.proofs.Common.{rules, refl, sym, ap, subst, ◌∙◌, Some, None}
+use Rattle.std.proofs.Common.{rules, refl, ap, subst, ◌∙◌, Some, None}
 use Rattle.pcp_model.specs.Disk.{contents_of}
 use Rattle.archive_loading.specs.Loaded.{Loaded}
 use Rattle.archive_reader.specs.Values.{IsValueAt}
 use Rattle.pm_print.specs.Items.{set_text}
-use Rattle.pm_tasks.specs.Archives.{TurnedAway}
 use Rattle.pm_words.specs.Sides.{disk_side, files_found}
-use Rattle.pm_tasks.specs.commands.value.{HasNoValue}
 use Rattle.pm_tasks.proofs.Timed.{value_stops, value_scan}
 use Rattle.pm_tasks.proofs.commands.value.values_text.Goals as goal
 
@@ -26,7 +24,6 @@ returns-in-Some-clause-said g c = λ tells. (
 
 pub returns-clause-turned : goal.returns-clause-turned
 returns-clause-turned g c =
-    subst (TurnedAway (HasNoValue c.args.pmid c.args.stamp c.args.reader.now) (disk_side g.D.Disk c.args.disk.now c.value_at.new.disk)) (sym c.nothing_at.ensures)
-    (λ tells.
+    λ tells.
     let is = subst (IsValueAt (contents_of (g.D.Disk.held c.args.disk.now)) c.args.reader.now.volumes c.args.pmid c.args.stamp) c.in-None.is (c.in_ok-found.ensures.found tells) in
-    (refl, is, value_scan c.args.pmid c.args.stamp (files_found (disk_side g.D.Disk c.args.disk.now c.value_at.new.disk)) c.args.reader.now None (c.requires tells) is))
+    (refl, is, value_scan c.args.pmid c.args.stamp (files_found (disk_side g.D.Disk c.args.disk.now c.value_at.new.disk)) c.args.reader.now None (c.requires tells) is)

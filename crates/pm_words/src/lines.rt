@@ -1,0 +1,131 @@
+//! The last lines of refusals that have a number or a name.
+ghost use Rattle.std.specs.Prelude.{◌≡◌, IfOk, string_bytes};
+ghost use Rattle.pm_words.specs.Refusals.{file_name, limit_name, line_of, script_line, script_status};
+ghost use Rattle.pm_words.specs.declared.refusal.Refusal.TheVariants.{Changed, ClockEnd, ClockFault, Compressed, Limit, NotArchive, NotLater, Nothing, Usage};
+
+use pcp_base::{Bytes, FileId, List, NoMemory, Pmid, Stamp};
+use pm_print::line_fault_text;
+use run_script::{ScriptFault, ScriptLineFault};
+use script_runs::LimitKind;
+use std::alloc::{AllocError, Global};
+
+pub(crate) fn usage_line(alloc: Global, at: usize) -> Result<Bytes, NoMemory>
+    ensures { IfOk result (λ line. line ≡ line_of (Usage at)) }
+{
+    let line = format!(in alloc; "usage {at}\n")?;
+    Ok(List::from_vec(line.into_bytes()))
+}
+
+pub(crate) fn script_status(fault: &ScriptLineFault) -> u8
+    ensures { result ≡ script_status fault.now }
+{
+    match fault {
+        ScriptLineFault::Line(_) => 2,
+        ScriptLineFault::Regions => 7,
+    }
+}
+
+// The line of a script's first fault.
+pub(crate) fn script_line(alloc: Global, fault: &ScriptFault) -> Result<Bytes, NoMemory>
+    ensures { IfOk result (λ line. line ≡ script_line fault.now.line fault.now.fault) }
+{
+    match &fault.fault {
+        ScriptLineFault::Line(found) => line_fault_text(alloc, fault.line, found),
+        ScriptLineFault::Regions => {
+            let line = format!(in alloc; "limit regions 65\n")?;
+            Ok(List::from_vec(line.into_bytes()))
+        }
+    }
+}
+
+fn limit_name(what: LimitKind) -> &'static str
+    ensures { result.now ≡ limit_name what }
+{
+    match what {
+        LimitKind::Sets => "sets",
+        LimitKind::Record => "record",
+        LimitKind::Meta => "meta",
+        LimitKind::Index => "index",
+        LimitKind::Volume => "volume",
+    }
+}
+
+pub(crate) fn limit_line(alloc: Global, what: LimitKind, number: u64) -> Result<Bytes, NoMemory>
+    ensures { IfOk result (λ line. line ≡ line_of (Limit what number)) }
+{
+    let name = limit_name(what);
+    let line = format!(in alloc; "limit {name} {number}\n")?;
+    Ok(List::from_vec(line.into_bytes()))
+}
+
+pub(crate) fn not_later_line(alloc: Global, last: Stamp) -> Result<Bytes, NoMemory>
+    ensures { IfOk result (λ line. line ≡ line_of (NotLater last)) }
+{
+    let sec = last.sec();
+    let usec = last.usec();
+    let line = format!(in alloc; "not later {sec} {usec}\n")?;
+    Ok(List::from_vec(line.into_bytes()))
+}
+
+#[tactic(auto, unfolding(pm_print::specs::Sets::pmid_text))]
+pub(crate) fn changed_line(alloc: Global, pmid: Pmid) -> Result<Bytes, NoMemory>
+    ensures { IfOk result (λ line. line ≡ line_of (Changed pmid)) }
+{
+    let domain = pmid.domain();
+    let cluster = pmid.cluster();
+    let item = pmid.item();
+    let line = format!(in alloc; "changed {domain}.{cluster}.{item}\n")?;
+    Ok(List::from_vec(line.into_bytes()))
+}
+
+// A file's name in a line: `meta`, `index`, or the volume's number.
+fn file_name(alloc: Global, file: FileId) -> Result<String, AllocError>
+    ensures { IfOk result (λ name. string_bytes name ≡ file_name file) }
+{
+    match file {
+        FileId::Meta => format!(in alloc; "meta"),
+        FileId::Index => format!(in alloc; "index"),
+        FileId::Volume(number) => format!(in alloc; "{number}"),
+    }
+}
+
+pub(crate) fn compressed_line(alloc: Global, file: FileId) -> Result<Bytes, NoMemory>
+    ensures { IfOk result (λ line. line ≡ line_of (Compressed file)) }
+{
+    let name = file_name(alloc, file)?;
+    let name = name.as_str();
+    let line = format!(in alloc; "compressed {name}\n")?;
+    Ok(List::from_vec(line.into_bytes()))
+}
+
+pub(crate) fn misfit_line(alloc: Global, file: FileId, at: u64) -> Result<Bytes, NoMemory>
+    ensures { IfOk result (λ line. line ≡ line_of (NotArchive file at)) }
+{
+    let name = file_name(alloc, file)?;
+    let name = name.as_str();
+    let line = format!(in alloc; "not archive {name} {at}\n")?;
+    Ok(List::from_vec(line.into_bytes()))
+}
+
+pub(crate) fn nothing_line(alloc: Global, stamp: Stamp) -> Result<Bytes, NoMemory>
+    ensures { IfOk result (λ line. line ≡ line_of (Nothing stamp)) }
+{
+    let sec = stamp.sec();
+    let usec = stamp.usec();
+    let line = format!(in alloc; "nothing at {sec} {usec}\n")?;
+    Ok(List::from_vec(line.into_bytes()))
+}
+
+pub(crate) fn clock_end_line(alloc: Global, left: u32) -> Result<Bytes, NoMemory>
+    ensures { IfOk result (λ line. line ≡ line_of (ClockEnd left)) }
+{
+    let line = format!(in alloc; "clock end {left}\n")?;
+    Ok(List::from_vec(line.into_bytes()))
+}
+
+pub(crate) fn clock_fault_line(alloc: Global, left: u32) -> Result<Bytes, NoMemory>
+    ensures { IfOk result (λ line. line ≡ line_of (ClockFault left)) }
+{
+    let line = format!(in alloc; "clock fault {left}\n")?;
+    Ok(List::from_vec(line.into_bytes()))
+}
