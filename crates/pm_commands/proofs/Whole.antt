@@ -1,5 +1,5 @@
 -- A call whose body met its command's meaning, and whose end was told, says all that it says.
-use Rattle.std.proofs.Common.{◌≡◌, ◌⊎◌, inl, inr, ⊎_elim, ℕ, Bool, true, List, refl, sym, ap, ◌∙◌, subst, Option, None, Result, Ok, Err, IfErr}
+use Rattle.std.proofs.Common.{◌≡◌, ◌⊎◌, inl, inr, ⊎_elim, ℕ, Bool, true, false, List, refl, sym, ap, ◌∙◌, subst, Option, None, Result, Ok, Err, IfErr}
 use Rattle.pcp_model.specs.Disk.{CrashImage, contents_of}
 use Rattle.pcp_outside.proofs.Crash.{weaker}
 use Rattle.pcp_outside.specs.Sides.{SourceSide, sink_side}
@@ -8,7 +8,8 @@ use Rattle.pm_words.specs.declared.words.Call.TheVariants as calls
 use Rattle.pm_words.specs.declared.words.Command.{Command}
 use Rattle.pm_words.specs.declared.refusal.Refusal.{Refusal}
 use Rattle.pm_words.specs.declared.refusal.Refusal.TheVariants.{Usage, ReadFault, InputLimit, NoMemory}
-use Rattle.pm_words.specs.Asking.{Before, IsInputless}
+use Rattle.pm_words.specs.Asking.{Before, Got, IsInputless}
+use Rattle.pm_words.specs.CommandLine.{takes_input}
 use Rattle.pm_words.specs.Meaning.{Meaning}
 use Rattle.pm_words.specs.Serving.{HadRecovered, HasRecovered, HasRegions, MayLeave, StopCause}
 use Rattle.pm_words.specs.Sides.{DiskSide, IsUnread, Leaves}
@@ -123,6 +124,14 @@ module _ {I O D : Type 0} (c : Sides I O D) (front : List ℕ) (result : Result 
       let one : done.run.asks.command ≡ command = asked.one calls.Offline c.words (source_of c) done.run.asks.command command done.run.asks.words_are is in
       (coherent done.run.asks.command).sound done.run.asks.input (disk_of c) (ap (λ (x : Command). (meaning x).writes_archive) one ∙ writes) tells done.run.served.done
 
+  -- what was got left the source's count
+  got_quietly : (takes : Bool) (input : List ℕ) → Got takes (source_of c) input → (takes ≡ false → c.input_is ≡ c.input_was) → c.sources.faults c.input_is ≡ c.sources.faults c.input_was
+  got_quietly false input got left = ap c.sources.faults (left refl)
+  got_quietly true input got left = got.quiet
+
+  read_quietly : (IsInputless calls.Offline c.words → c.input_is ≡ c.input_was) → EndsDone c.words (source_of c) (sink_of c) (disk_of c) → c.sources.faults c.input_is ≡ c.sources.faults c.input_was
+  read_quietly unasked done = let a = done.run.asks in got_quietly (takes_input a.command) a.input a.got (λ none. unasked (a.command, a.words_are, none))
+
   whole : DidIt ⊎ StoppedIt → (IsInputless calls.Offline c.words → c.input_is ≡ c.input_was) → Facts c status
   whole so unasked =
       let end : Ends c.words (source_of c) (sink_of c) (disk_of c) status = ends c.words (source_of c) (sink_of c) c.disks c.disk_was c.disk_is c.opened front result status so told in
@@ -130,7 +139,7 @@ module _ {I O D : Type 0} (c : Sides I O D) (front : List ℕ) (result : Result 
       record {
         ends = end;
         done = to;
-        quiet = λ zero. ((to zero).quiet, (to zero).run.served.quiet);
+        quiet = λ zero. (read_quietly unasked (to zero), (to zero).quiet, (to zero).run.served.quiet);
         usage = asked.usage_is_exact calls.Offline c.words (source_of c) result status is_told (came so);
         reading = asked.reading_is_exact calls.Offline c.words (source_of c) result status is_told (came so);
         input_fault = facts_of.input_fault_is_exact c.words (source_of c) (sink_of c) (disk_of c) status end;

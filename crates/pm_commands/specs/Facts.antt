@@ -198,8 +198,8 @@ module _ {I O D : Type 0} (c : Sides I O D) where
     pub ends : Ends c.words source_of sink_of disk_of status
     -- Done: what the command reads was read to its end, the output is exactly what it says, and so are the files.
     pub done : status ≡ 0 → EndsDone c.words source_of sink_of disk_of
-    -- Done: no call of the sink or of the disk failed, not even one that was tried again.
-    pub quiet : status ≡ 0 → (c.sinks.faults c.out_is ≡ c.sinks.faults c.out_was) × (c.disks.faults c.disk_is ≡ c.disks.faults c.disk_was)
+    -- Done: no call of the source, of the sink or of the disk failed, not even one that was tried again.
+    pub quiet : status ≡ 0 → (c.sources.faults c.input_is ≡ c.sources.faults c.input_was) × (c.sinks.faults c.out_is ≡ c.sinks.faults c.out_was) × (c.disks.faults c.disk_is ≡ c.disks.faults c.disk_was)
     -- Each other status comes for its cause alone.
     pub usage : UsageIsExact calls.Offline c.words status
     pub reading : ReadingIsExact calls.Offline c.words source_of status

@@ -21,8 +21,8 @@ module _ {C D : Type 0} (c : CallSide C D) (k : SinkSide) (only_now : OnlyNow c)
   done : status ≡ 0 → Ran c ends.Done
   done h = was_done c 0 refl (omega arith) (subst (Seen c) h saw)
 
-  done_quietly : EndsDone c k → (k.faults_after ≡ k.faults) × (c.run.disk.faults c.run.disk_is ≡ c.run.disk.faults c.run.disk_was) × (c.run.clock.faults c.run.clock_is ≡ c.run.clock.faults c.run.clock_was)
-  done_quietly ended = let run = ended.ran.has.was.quiet ended.ran.ended in (ended.quiet, run.0, run.1)
+  done_quietly : EndsDone c k → (c.source.faults_after ≡ c.source.faults) × (k.faults_after ≡ k.faults) × (c.run.disk.faults c.run.disk_is ≡ c.run.disk.faults c.run.disk_was) × (c.run.clock.faults c.run.clock_is ≡ c.run.clock.faults c.run.clock_was)
+  done_quietly ended = let run = ended.ran.has.was.quiet ended.ran.ended in (ended.ran.asks.read.quiet, ended.quiet, run.0, run.1)
 
   pub facts : Facts c k status
   facts = record {

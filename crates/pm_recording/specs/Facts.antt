@@ -133,8 +133,8 @@ pub record Facts {C D : Type 0} (c : CallSide C D) (k : SinkSide) (status : ℕ)
   pub ends : Ends c k status
   -- Done: the input was read to its end, all samples were taken, and the line says how many results were logged.
   pub done : status ≡ 0 → EndsDone c k
-  -- Done: no call of the sink, of the disk or of the clock failed, not even one that was tried again.
-  pub quiet : status ≡ 0 → (k.faults_after ≡ k.faults) × (c.run.disk.faults c.run.disk_is ≡ c.run.disk.faults c.run.disk_was) × (c.run.clock.faults c.run.clock_is ≡ c.run.clock.faults c.run.clock_was)
+  -- Done: no call of the source, of the sink, of the disk or of the clock failed, not even one that was tried again.
+  pub quiet : status ≡ 0 → (c.source.faults_after ≡ c.source.faults) × (k.faults_after ≡ k.faults) × (c.run.disk.faults c.run.disk_is ≡ c.run.disk.faults c.run.disk_was) × (c.run.clock.faults c.run.clock_is ≡ c.run.clock.faults c.run.clock_was)
   -- Each other status comes for its cause alone.
   pub usage : UsageIsExact calls.Record c.words status
   pub script_fault : ScriptFaultIsExact c.words c.source status

@@ -131,7 +131,7 @@ module _ {P In Out Time : Type 0} (c : Sides P In Out Time) where
       let failed = by_refusal 21 failed_of (λ k. omega (arith, k)) (λ k. omega (arith, k)) (λ k. omega (arith, k)) result status came told in record {
         ends = (result, came, tells);
         done = done_so result status came tells;
-        quiet = λ h. let done = done_so result status came tells h in (done.quiet, done.ran.leaves.serving.quiet);
+        quiet = λ h. let done = done_so result status came tells h in (done.ran.orders.read.quiet, done.quiet, done.ran.leaves.serving.quiet);
         usage = usage_is_exact calls.Serve c.words c.source result status told so;
         script_fault = record {
           only = by_refusal 2 fault_of (λ k. omega (arith, k)) (λ k. omega (arith, k)) (λ k. omega (arith, k)) result status came told;

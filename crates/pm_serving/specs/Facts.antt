@@ -63,8 +63,8 @@ module _ {P In Out Time : Type 0} (c : Sides P In Out Time) where
     pub ends : Ends c status
     -- Done: the input was read to its end, the sessions were served, and the line says how many.
     pub done : status ≡ 0 → IsDone
-    -- Done: no call of the sink or of a door failed.
-    pub quiet : status ≡ 0 → (c.sink.faults_after ≡ c.sink.faults) × AllSame c.doors.door c.doors.before c.doors.after
+    -- Done: no call of the source, of the sink or of a door failed.
+    pub quiet : status ≡ 0 → (c.source.faults_after ≡ c.source.faults) × (c.sink.faults_after ≡ c.sink.faults) × AllSame c.doors.door c.doors.before c.doors.after
     -- Each other status comes for its cause alone. 1 comes exactly where the words don't ask for sessions; 7 exactly where the input is
     -- above the limit or the script has a region too many.
     pub usage : UsageIsExact calls.Serve c.words status

@@ -6,10 +6,12 @@ use Rattle.pcp_outside.specs.Sides.{SourceSide}
 use Rattle.pm_words.specs.declared.refusal.Refusal.{Refusal}
 use Rattle.pm_words.specs.declared.refusal.Refusal.TheVariants.{ReadFault, InputLimit, NoMemory}
 
--- an input of at most 16 MiB was read to its end, and where the source tells, it's all that the source had left
+-- An input of at most 16 MiB was read to its end, and where the source tells, it's all that the source had left. No call of the source
+-- failed.
 pub record WasRead (s : SourceSide) (input : List ℕ) : Type 0 where
   pub within : length input ≤ input_limit
   pub told : s.tells → (input ≡ s.left) × (s.after ≡ [])
+  pub quiet : s.faults_after ≡ s.faults
 
 -- a front of the input was taken, no byte behind the first above the limit
 abbrev pub TookSome : SourceSide → Type 0
