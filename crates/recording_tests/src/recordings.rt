@@ -3,7 +3,7 @@ ghost use Rattle.fetch_engine.specs.Servers.{IsSeated};
 
 use fetch_engine::{Seat, Server};
 use pcp_base::{Body, FileId, List, Pmid, Stamp, ValueSet};
-use pcp_outside::{Disk, LOGGER, ListClock, MemDisk, MemSink, SureSource, Turn};
+use pcp_outside::{Disk, LOGGER, ListClock, MemDisk, MemSink, MemSource, Turn};
 use pm_recording::run_record;
 use profile_filter::Profile;
 use std::alloc::{AllocError, Global};
@@ -102,13 +102,15 @@ impl<'a, R: Clock> Turn for Held<'a, R> {
     }
 }
 
-// A recording: its words, the steps of its script, the seconds of its clock, which calls of the clock and of the disk fail, and whether
-// the archive is a label that was begun, which recovery cuts off.
+// A recording: its words, the steps of its script, the seconds of its clock, which calls of each object fail, and whether the archive is a
+// label that was begun, which recovery cuts off.
 #[derive(Clone, Copy)]
 struct Case {
     line: &'static str,
     steps: &'static [u8],
     seconds: &'static [u32],
+    source_fails: &'static [u64],
+    sink_fails: &'static [u64],
     clock_fails: &'static [u64],
     disk_fails: &'static [u64],
     is_begun: bool,
@@ -120,6 +122,8 @@ const ONE: Case = Case {
     line: "record 1 1048576",
     steps: STEPS,
     seconds: &[100],
+    source_fails: &[],
+    sink_fails: &[],
     clock_fails: &[],
     disk_fails: &[],
     is_begun: false,
@@ -147,11 +151,12 @@ fn words_of(alloc: Global, line: &str) -> Result<Vec<String>, AllocError> {
     Ok(words)
 }
 
-// An input of the head and these steps.
-fn input_of(alloc: Global, steps: &[u8]) -> Result<SureSource, AllocError> {
+// An input of the head and the steps.
+fn input_of(alloc: Global, case: &Case) -> Result<MemSource, AllocError> {
     let mut script = HEAD.to_vec(alloc)?;
-    script.extend_from_slice(steps)?;
-    Ok(SureSource::new(List::from_vec(script)))
+    script.extend_from_slice(case.steps)?;
+    let fails = List::from_vec(case.source_fails.to_vec(alloc)?);
+    Ok(MemSource::new(List::from_vec(script), fails))
 }
 
 // A clock of whole seconds.
@@ -205,7 +210,7 @@ fn run<R: Threads + Wait + Clock + Sync>(
     rt: &R,
     alloc: Global,
     words: &[String],
-    input: &mut SureSource,
+    input: &mut MemSource,
     out: &mut MemSink,
     disk: &mut MemDisk,
     clock: &mut ListClock,
@@ -244,10 +249,10 @@ fn record<R: Threads + Wait + Clock + Sync>(
     told: &[u8],
 ) -> Result<Ran, AllocError> {
     let words = words_of(alloc, case.line)?;
-    let mut input = input_of(alloc, case.steps)?;
+    let mut input = input_of(alloc, case)?;
     let mut clock = clock_of(alloc, case)?;
     let mut disk = disk_of(alloc, case)?;
-    let mut out = MemSink::new(alloc, List::empty(alloc));
+    let mut out = MemSink::new(alloc, List::from_vec(case.sink_fails.to_vec(alloc)?));
     let held = Held::new(rt, case.holds);
     let (status, left) = run(
         rt, alloc, &words, &mut input, &mut out, &mut disk, &mut clock, &held,
@@ -279,9 +284,28 @@ fn beside(rt: HostRuntime) -> Result<(), Fail> {
     Ok(())
 }
 
-// How recordings end: where the clock ends or fails, and where the disk fails at its first call, in the recovery or for the first
-// sample, the writers run all the same. A reading is no step of a writer.
-const ENDINGS: [(Case, u8, &[u8], Option<[u32; 2]>); 5] = [
+// How recordings end. Where the clock ends or fails, and where the disk fails at its first call, in the recovery or for the first sample,
+// the writers run all the same. A reading is no step of a writer. The script comes by the first call of the source, and its end by the
+// second one.
+const ENDINGS: [(Case, u8, &[u8], Option<[u32; 2]>); 7] = [
+    (
+        Case {
+            source_fails: &[1],
+            ..ONE
+        },
+        3,
+        b"read fault\n",
+        None,
+    ),
+    (
+        Case {
+            source_fails: &[2],
+            ..ONE
+        },
+        3,
+        b"read fault\n",
+        None,
+    ),
     (
         Case {
             seconds: &[],
@@ -342,5 +366,21 @@ fn endings(rt: HostRuntime) -> Result<(), Fail> {
         );
         assert_eq!(rt; (ran.status, ran.left), (*status, *left));
     }
+    Ok(())
+}
+
+// Where the sink fails all is done but told: the one sample stands in the archive.
+#[test]
+fn untold(rt: HostRuntime) -> Result<(), Fail> {
+    let case = Case {
+        sink_fails: &[1],
+        ..ONE
+    };
+    let ran = record(&rt, rt.alloc(), &case, b"")?;
+    assert_eq!(rt;
+        (ran.status, ran.is_told, ran.left),
+        (4, true, Some([17, 17]))
+    );
+    assert_eq!(rt; ran.items[0], [17, 17]);
     Ok(())
 }

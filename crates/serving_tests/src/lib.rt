@@ -3,3 +3,5 @@
 
 #[cfg(test)]
 mod clients;
+#[cfg(test)]
+mod doors;
