@@ -21,13 +21,15 @@ abbrev pub IsHead : LabelFields → ℤ → List ℕ → Head → Type 0
 IsHead l number bytes Whole = IsLabel bytes l number
 IsHead l number bytes Part = BeginsLabel bytes l number
 
--- The byte at which a misfit is told: in the process, the stamp, the host and the zone the field's first byte, elsewhere its own.
+-- The byte at which a misfit is told: in the process, the seconds and the microseconds of the stamp, the host and the zone the field's
+-- first byte, elsewhere its own.
 abbrev pub told_at : ℕ → ℕ
 told_at k =
     if nat_le 8 k && nat_lt k 12 then 8
-    else (if nat_le 12 k && nat_lt k 20 then 12
+    else (if nat_le 12 k && nat_lt k 16 then 12
+    else (if nat_le 16 k && nat_lt k 20 then 16
     else (if nat_le 24 k && nat_lt k 88 then 24
-    else (if nat_le 88 k && nat_lt k 128 then 88 else k)))
+    else (if nat_le 88 k && nat_lt k 128 then 88 else k))))
 
 -- the refusal of bytes that don't go on like the label of this file
 abbrev pub IsHeadFault : LabelFields → ℤ → List ℕ → FrameFault → Type 0

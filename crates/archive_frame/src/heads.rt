@@ -67,8 +67,11 @@ fn told_at(stop: usize) -> usize
     if 8 <= stop && stop < 12 {
         return 8;
     }
-    if 12 <= stop && stop < 20 {
+    if 12 <= stop && stop < 16 {
         return 12;
+    }
+    if 16 <= stop && stop < 20 {
+        return 16;
     }
     if 24 <= stop && stop < 88 {
         return 24;
@@ -96,7 +99,8 @@ fn compared(bytes: &[u8], number: i32, label: &Label) -> Result<Head, FrameFault
 
 /// What stands where a file's label should, of the file with this number (-2 the index, else the volume's) beside Meta's
 /// label: `bytes` are the file's first 132 bytes, or all of a shorter file. A refusal tells the first byte that fits no
-/// label of this number, and where the process, the stamp, the host or the zone differs from Meta's, that field's first byte.
+/// label of this number, and where the process, the seconds, the microseconds, the host or the zone differ from Meta's, that field's
+/// first byte.
 pub fn read_label_of(bytes: &[u8], number: i32, label: &Label) -> Result<Head, FrameFault>
     requires few { length bytes.now ≤ 132 }
     requires numbered { negsuc 1 ≤ℤ number }

@@ -14,11 +14,11 @@ mod reading;
 mod stamps;
 
 pub use backward::{Last, last_record};
-pub use forward::{Next, next_record};
+pub use forward::{Next, Taken, next_record, take_frame};
 pub use labels::{Head, MetaHead, head_of, meta_head};
 pub use lack::Lack;
 pub use loading::{VolumePart, VolumesPart, is_alone, load_index, load_volume, load_volumes};
 pub use metadata::{MetaEnd, MetaPart, load_meta};
 pub use parts::{IndexPart, index_part, no_entries};
 pub use reading::{count_volumes, length_of, wrapped_file};
-pub use stamps::later;
+pub use stamps::{later, later_by, stamp_in};

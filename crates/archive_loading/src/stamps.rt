@@ -26,7 +26,7 @@ pub fn later(last: Option<Stamp>, stamp: Stamp) -> Stamp
 }
 
 /// The latest stamp where one more record of Meta comes, which has a stamp where it is a domain's.
-pub(crate) fn later_by(last: Option<Stamp>, stamp: Option<Stamp>) -> Option<Stamp>
+pub fn later_by(last: Option<Stamp>, stamp: Option<Stamp>) -> Option<Stamp>
     ensures { IsLatestOn last (option_to_list stamp) result }
 {
     match stamp {
@@ -35,8 +35,8 @@ pub(crate) fn later_by(last: Option<Stamp>, stamp: Option<Stamp>) -> Option<Stam
     }
 }
 
-/// The stamp of the domain's record that a framed record of Meta is.
-pub(crate) fn stamp_in(frame: &[u8]) -> Option<Stamp>
+/// The stamp of a framed record of Meta, where it is a domain's.
+pub fn stamp_in(frame: &[u8]) -> Option<Stamp>
     requires { IsSized frame.now }
     ensures { (records : Sequence Record) → AreRecords frame.now records → domain_stamps records ≡ option_to_list result }
 {

@@ -259,6 +259,20 @@ impl ArchiveReader {
         &self.meta
     }
 
+    /// The entries of the index.
+    pub fn index(&self) -> &Index
+        ensures { result.now ≡ self.now.entries }
+    {
+        &self.index
+    }
+
+    /// The volumes that aren't empty, by ascending number: of each its number and how many bytes it holds.
+    pub fn volumes(&self) -> &[(u32, u64)]
+        ensures { result.now ≡ self.now.volumes }
+    {
+        self.volumes.as_slice()
+    }
+
     /// The place of the first record.
     pub fn start(&self) -> Place
         ensures volume { volumes_from result.volume self.now.volumes ≡ self.now.volumes }

@@ -1,0 +1,34 @@
+//! Why an archive isn't passed as sound.
+use archive_reader::ReaderFault;
+use pcp_base::{FileId, Stamp};
+use thiserror::Error;
+
+/// Why an archive isn't passed as sound: the first breach, in this order, or that it can't be read.
+#[derive(Clone, Copy, Debug, PartialEq, Eq, Error)]
+pub enum CheckFault {
+    /// An item is stamped before the one before it.
+    #[error("an item is stamped before the one before it")]
+    Items {
+        first: Stamp,
+        second: Stamp,
+    },
+    /// The entry at this position, counted from 0, says an offset of a file that is no record boundary. `below` is the greatest boundary
+    /// below it, or 0 within the label; `above` the least one above it, or the offset itself. Both are 0 of an entry whose volume is above
+    /// each that isn't empty.
+    #[error("entry {entry} of the index points to no record boundary")]
+    Boundary {
+        entry: u64,
+        file: FileId,
+        below: u64,
+        above: u64,
+    },
+    /// The entry at this position is stamped before a record that stands before its offsets: this is the first such record's stamp.
+    #[error("entry {entry} of the index is stamped before a record in front of it")]
+    Late {
+        entry: u64,
+        stamp: Stamp,
+    },
+    /// The archive can't be read.
+    #[error("the archive can't be read")]
+    Reader(ReaderFault),
+}

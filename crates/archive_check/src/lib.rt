@@ -1,0 +1,9 @@
+//! Whether what is read of an archive by time can be believed (pmlogcheck(1)): whether it is sound, or else the first place that isn't. The
+//! whole archive is read for it, and left as it is.
+#![tactic(auto)]
+
+mod check;
+mod fault;
+
+pub use check::check;
+pub use fault::CheckFault;
