@@ -1,0 +1,112 @@
+#!/usr/bin/env python3
+"""Measures the program on a large archive, beside the tools of Debian's package pcp where they are installed.
+
+usage: measure.py PROGRAM [TICKS]                         TICKS: 100,000 unless given
+
+It makes the generated archive of TICKS results (174 MB at 100,000) in memory-backed storage, and prints how long each command takes, the
+best of three runs, and the most memory that it had; behind it the tool of the package that does the like, on the same files with the
+entry in front that its readers want. It also replays a script of as many ticks, one with a flush behind each, and checks an index of
+1,000,000 entries. Nothing here is a promise: another machine gives other figures.
+"""
+import os
+import shutil
+import struct
+import subprocess
+import sys
+import tempfile
+import time
+
+RUNS = 3
+
+
+def run(words, folder, given=None):
+    """Returns a command's status, seconds, peak of memory in MiB, and the last line that it wrote."""
+    with open(f"{folder}/out", "wb") as out, open(given or os.devnull, "rb") as source:
+        begun = time.perf_counter()
+        child = subprocess.Popen(words, stdin=source, stdout=out, stderr=subprocess.DEVNULL, cwd=folder)
+        _, status, usage = os.wait4(child.pid, 0)
+        took = time.perf_counter() - begun
+    with open(f"{folder}/out", "rb") as out:
+        out.seek(max(0, os.path.getsize(f"{folder}/out") - 200))
+        last = (out.read().split(b"\n")[-2:] or [b""])[0].decode(errors="replace")
+    return os.waitstatus_to_exitcode(status), took, usage.ru_maxrss / 1024, last
+
+
+def told(what, words, folder, given=None, runs=RUNS, before=None):
+    """Prints the best of some runs of a command."""
+    found = []
+    for _ in range(runs):
+        if before:
+            before()
+        found.append(run(words, folder, given))
+    status, took, memory, last = min(found, key=lambda it: it[1])
+    print(f"{what:46} {took:9.3f} s {memory:8.1f} MiB  status {status}  {last[:40]}", flush=True)
+    return took
+
+
+def stock(what, words, folder):
+    if shutil.which(words[0]):
+        told(f"  {words[0]}", words, folder)
+
+
+def with_first_entry(folder, name, to):
+    """Copies an archive, and puts the entry in front that readers of the package begin at: the label's stamp, volume 0, both offsets 132."""
+    for file in os.listdir(folder):
+        if file.startswith(f"{name}."):
+            shutil.copy(f"{folder}/{file}", f"{folder}/{to}.{file.split('.', 1)[1]}")
+    with open(f"{folder}/{to}.index", "rb") as it:
+        held = it.read()
+    first = held[12:20] + struct.pack(">III", 0, 132, 132)
+    with open(f"{folder}/{to}.index", "wb") as it:
+        it.write(held[:132] + first + held[132:])
+
+
+def ticking(ticks, flushes):
+    """Returns a script of one counter and so many ticks, each with a flush behind it or none."""
+    lines = ["image A", "mmv 1 5 0 0 1", "metric hits 2 i32 counter 00100000 - - -", "value 2 - 7", "end", "region app A 32 1",
+             "log mandatory on every 1 sec { mmv }", "start"]
+    for at in range(1, ticks + 1):
+        lines.append(f"tick {at} 0")
+        lines += ["flush"] * flushes
+    return "\n".join(lines) + "\n"
+
+
+def gone(folder, name):
+    for file in os.listdir(folder):
+        if file.startswith(f"{name}."):
+            os.remove(f"{folder}/{file}")
+
+
+def main(program, ticks=100000):
+    program, ticks = os.path.realpath(program), int(ticks)
+    with tempfile.TemporaryDirectory(dir="/dev/shm" if os.path.isdir("/dev/shm") else None) as folder:
+        told(f"make 1 {ticks} 1073741824", [program, "big", "make", "1", str(ticks), "1073741824"], folder, before=lambda: gone(folder, "big"))
+        print(f"  bytes: {sum(os.path.getsize(f'{folder}/{it}') for it in os.listdir(folder) if it.startswith('big.')):,}")
+        with_first_entry(folder, "big", "stock")
+        middle = ticks // 2
+        told("recover", [program, "big", "recover"], folder)
+        told("check", [program, "big", "check"], folder)
+        stock("check", ["pmlogcheck", "stock"], folder)
+        told("dump", [program, "big", "dump"], folder)
+        stock("dump", ["pmdumplog", "-a", "stock"], folder)
+        told(f"at {middle} 0", [program, "big", "at", str(middle), "0"], folder)
+        told(f"range {middle} 0 {middle + 100} 0", [program, "big", "range", str(middle), "0", str(middle + 100), "0"], folder)
+        told(f"value {middle} 0 mmv.r1.c3", [program, "big", "value", str(middle), "0", "mmv.r1.c3"], folder)
+        told("info", [program, "big", "info"], folder)
+        os.remove(f"{folder}/out")
+        for flushes, what in ((0, "replay of ticks"), (1, "replay of ticks, a flush behind each")):
+            with open(f"{folder}/script", "w") as out:
+                out.write(ticking(ticks, flushes))
+            took = told(f"{what}: {ticks}", [program, "run", "replay", "1073741824"], folder, f"{folder}/script", before=lambda: gone(folder, "run"))
+            print(f"{'  results a second':46} {ticks / took:9.0f}")
+        with open(f"{folder}/run.index", "rb") as it:
+            held = it.read()
+        with open(f"{folder}/run.index", "wb") as it:
+            it.write(held[:132] + held[132:152] * 1000000)
+        told("check of an index of 1,000,000 entries", [program, "run", "check"], folder)
+
+
+if __name__ == "__main__":
+    if len(sys.argv) < 2:
+        sys.exit(__doc__)
+    main(*sys.argv[1:])
