@@ -12,6 +12,7 @@ pub mod ResultFills
 pub mod ResultHere
 pub mod ResultPast
 pub mod ResultRead
+pub mod ResultSets
 pub mod ResultStops
 pub mod ResultWords
 pub mod TextReaders

@@ -11,7 +11,7 @@ use Rattle.pdu_codec.specs.declared.misfit.Blocks.{Blocks}
 use Rattle.pdu_codec.specs.ResultMisfit.{word_between, any_word, led_to, after_lead, led_by, offset_at, offsets_from}
 use Rattle.pdu_codec.proofs.ResultHere.{four}
 use Rattle.pdu_codec.proofs.ResultPast.{led_made, led_past}
-use Rattle.pdu_codec.proofs.ResultFills.{Ends, ends_on, ends_or, word_of, filled, kept, put, WordIs, WordStops, word_ends}
+use Rattle.pdu_codec.proofs.ResultFills.{Ends, ends_on, ends_or, word_of, filled, kept, put, word_put, WordIs, WordStops, word_ends}
 use Rattle.pdu_codec.proofs.ResultRead.{Spells, BlocksRead, block_stop, pair_read}
 
 -- Bytes with no end go on from these up to a byte: the heads behind the sets' end that are not whole before it are of blocks.
@@ -97,20 +97,11 @@ record PairStops (bytes : List ℕ) (least at k : ℕ) : Type 0 where
   within : k ≤ length bytes
   low : 3 + least / 4 ≤ word_of (filled bytes k 255) (at + 4)
 
--- all bytes behind are the highest
-full_word : (bytes : List ℕ) (k p : ℕ) → k ≤ p → word_of (filled bytes k 255) p ≡ 4294967295
-full_word bytes k p h =
-    let a : filled bytes k 255 p ≡ 255 = put bytes k 255 p (omega arith) in
-    let b : filled bytes k 255 (p + 1) ≡ 255 = put bytes k 255 (p + 1) (omega arith) in
-    let c : filled bytes k 255 (p + 2) ≡ 255 = put bytes k 255 (p + 2) (omega arith) in
-    let d : filled bytes k 255 (p + 3) ≡ 255 = put bytes k 255 (p + 3) (omega arith) in
-    omega arith
-
 pair_ends : (bytes : List ℕ) (least at : ℕ) → IsBytes bytes → at ≤ length bytes → least ≤ 17179869168 → Ends (PairIs bytes least at) (PairStops bytes least at) (offset_at bytes least at)
 unfolding offset_at
 pair_ends bytes least at fits within low =
     ends_on (WordIs bytes at 0 4294967295) (PairIs bytes least at) (WordStops bytes at 0 4294967295) (PairStops bytes least at) (any_word bytes at) _ (word_ends bytes at 0 4294967295 fits within (omega arith) (omega arith))
-    (λ k s. let before : k < at + 4 = s.before in let word : word_of (filled bytes k 255) (at + 4) ≡ 4294967295 = full_word bytes k (at + 4) (omega arith) in
+    (λ k s. let before : k < at + 4 = s.before in let word : word_of (filled bytes k 255) (at + 4) ≡ 4294967295 = word_put bytes k 255 (at + 4) (omega arith) in
     record { from = s.from; before = omega arith; within = s.within; low = omega arith })
     (λ x p. ends_or (WordIs bytes (at + 4) (3 + least / 4) 4294967295) (PairIs bytes least at) (WordStops bytes (at + 4) (3 + least / 4) 4294967295) (PairStops bytes least at) (word_between bytes (at + 4) (3 + least / 4) 4294967295)
     (word_ends bytes (at + 4) (3 + least / 4) 4294967295 fits p.room (omega arith) (omega arith))
@@ -127,7 +118,7 @@ AreBehind g end (suc n) at = (3 + end / 4 ≤ word_of g (at + 4)) × AreBehind g
 all_behind : (bytes : List ℕ) (k end : ℕ) (g : ℕ → ℕ) (n at : ℕ) → end ≤ 17179869168 → ((i : ℕ) → i < k → g i ≡ get_or bytes i 0) → ((i : ℕ) → k ≤ i → i < at + 8 * n → g i ≡ 255) → k ≤ at → AreBehind g end n at
 all_behind bytes k end g zero at low same full h = tt
 all_behind bytes k end g (suc n) at low same full h =
-    let word : word_of g (at + 4) ≡ 4294967295 = sym (as_filled bytes k 255 g (at + 4) same (λ i le lt. full i le (omega arith))) ∙ full_word bytes k (at + 4) (omega arith) in
+    let word : word_of g (at + 4) ≡ 4294967295 = sym (as_filled bytes k 255 g (at + 4) same (λ i le lt. full i le (omega arith))) ∙ word_put bytes k 255 (at + 4) (omega arith) in
     (omega arith, all_behind bytes k end g n (at + 8) low same (λ i le lt. full i le (omega arith)) (omega arith))
 
 -- so their blocks are read

@@ -1,5 +1,5 @@
 -- Words of bytes that stop, filled up from there: with zeros a word stays low enough, and with the highest bytes high enough.
-use Rattle.std.proofs.Common.{◌≡◌, ℕ, ◌+◌, ◌*◌, ◌/◌, ◌<◌, ◌≤◌, Bool, true, false, cond, ltb, leb, List, length, get_or, Result, Ok, Err, refl, ap, arith, inl, inr}
+use Rattle.std.proofs.Common.{◌≡◌, ℕ, ◌+◌, ◌*◌, ◌/◌, ◌<◌, ◌≤◌, Bool, true, false, cond, ltb, leb, List, length, get_or, Result, Ok, Err, refl, sym, ap, subst, arith, inl, inr}
 use Rattle.std.specs.Prelude.{◌⊎◌, ◌&&◌}
 use Rattle.std.proofs.lemmas.Bool.{lt-ltb, le-ltb, ltb-true, ltb-false, leb-true}
 use Rattle.pcp_base.specs.Fields.{number_at}
@@ -75,56 +75,32 @@ byte_ends bytes at before least most P Q fits within stop go =
     (λ b d. let more : most < x = ltb-true most x d in stop at refl (λ z m. absurd (omega arith)))
     (λ b c d. go x refl (ltb-true at (length bytes) b) (ltb-false x least c) (ltb-false most x d))
 
-module _ (bytes : List ℕ) (at least most : ℕ) (ordered : least ≤ most) (fits : most < 4294967296) where
-  stops_0 : (k : ℕ) → k ≡ at → k ≤ length bytes → (least ≡ 0 → most ≡ 4294967295 → k ≡ length bytes) → WordStops bytes at least most k
-  stops_0 k e within last =
-      let a : filled bytes k 0 at ≡ 0 = put bytes k 0 at (omega arith) in
-      let b : filled bytes k 0 (at + 1) ≡ 0 = put bytes k 0 (at + 1) (omega arith) in
-      let c : filled bytes k 0 (at + 2) ≡ 0 = put bytes k 0 (at + 2) (omega arith) in
-      let d : filled bytes k 0 (at + 3) ≡ 0 = put bytes k 0 (at + 3) (omega arith) in
-      let x : filled bytes k 255 at ≡ 255 = put bytes k 255 at (omega arith) in
-      let y : filled bytes k 255 (at + 1) ≡ 255 = put bytes k 255 (at + 1) (omega arith) in
-      let z : filled bytes k 255 (at + 2) ≡ 255 = put bytes k 255 (at + 2) (omega arith) in
-      let w : filled bytes k 255 (at + 3) ≡ 255 = put bytes k 255 (at + 3) (omega arith) in
-      record { from = omega arith; before = omega arith; within = within; first = λ h. absurd (omega arith); high = omega arith; low = λ m. omega arith; last = last }
+-- words of which so many bytes are kept
+module _ (bytes : List ℕ) (k c p : ℕ) where
+  pub word_put : k ≤ p → word_of (filled bytes k c) p ≡ c * 16777216 + c * 65536 + c * 256 + c
+  word_put h = omega (arith, put bytes k c p h, put bytes k c (p + 1) (omega arith), put bytes k c (p + 2) (omega arith), put bytes k c (p + 3) (omega arith))
 
-  stops_1 : (k first : ℕ) → k ≡ at + 1 → k ≤ length bytes → first ≡ get_or bytes at 0 → least / 16777216 ≤ first → first ≤ most / 16777216 → (least ≡ 0 → most ≡ 4294967295 → k ≡ length bytes) → WordStops bytes at least most k
-  stops_1 k first e within f low high last =
-      let a : filled bytes k 0 at ≡ get_or bytes at 0 = kept bytes k 0 at (omega arith) in
-      let b : filled bytes k 0 (at + 1) ≡ 0 = put bytes k 0 (at + 1) (omega arith) in
-      let c : filled bytes k 0 (at + 2) ≡ 0 = put bytes k 0 (at + 2) (omega arith) in
-      let d : filled bytes k 0 (at + 3) ≡ 0 = put bytes k 0 (at + 3) (omega arith) in
-      let x : filled bytes k 255 at ≡ get_or bytes at 0 = kept bytes k 255 at (omega arith) in
-      let y : filled bytes k 255 (at + 1) ≡ 255 = put bytes k 255 (at + 1) (omega arith) in
-      let z : filled bytes k 255 (at + 2) ≡ 255 = put bytes k 255 (at + 2) (omega arith) in
-      let w : filled bytes k 255 (at + 3) ≡ 255 = put bytes k 255 (at + 3) (omega arith) in
-      record { from = omega arith; before = omega arith; within = within; first = λ h. omega arith; high = omega arith; low = λ m. omega arith; last = last }
+  word_kept_1 : k ≡ p + 1 → word_of (filled bytes k c) p ≡ get_or bytes p 0 * 16777216 + c * 65536 + c * 256 + c
+  word_kept_1 h = omega (arith, kept bytes k c p (omega arith), put bytes k c (p + 1) (omega arith), put bytes k c (p + 2) (omega arith), put bytes k c (p + 3) (omega arith))
 
-  stops_2 : (k first second : ℕ) → k ≡ at + 2 → k ≤ length bytes → first ≡ get_or bytes at 0 → second ≡ first * 256 + get_or bytes (at + 1) 0 → least / 65536 ≤ second → second ≤ most / 65536
-      → (least ≡ 0 → most ≡ 4294967295 → k ≡ length bytes) → WordStops bytes at least most k
-  stops_2 k first second e within f g low high last =
-      let a : filled bytes k 0 at ≡ get_or bytes at 0 = kept bytes k 0 at (omega arith) in
-      let b : filled bytes k 0 (at + 1) ≡ get_or bytes (at + 1) 0 = kept bytes k 0 (at + 1) (omega arith) in
-      let c : filled bytes k 0 (at + 2) ≡ 0 = put bytes k 0 (at + 2) (omega arith) in
-      let d : filled bytes k 0 (at + 3) ≡ 0 = put bytes k 0 (at + 3) (omega arith) in
-      let x : filled bytes k 255 at ≡ get_or bytes at 0 = kept bytes k 255 at (omega arith) in
-      let y : filled bytes k 255 (at + 1) ≡ get_or bytes (at + 1) 0 = kept bytes k 255 (at + 1) (omega arith) in
-      let z : filled bytes k 255 (at + 2) ≡ 255 = put bytes k 255 (at + 2) (omega arith) in
-      let w : filled bytes k 255 (at + 3) ≡ 255 = put bytes k 255 (at + 3) (omega arith) in
-      record { from = omega arith; before = omega arith; within = within; first = λ h. omega arith; high = omega arith; low = λ m. omega arith; last = last }
+  word_kept_2 : k ≡ p + 2 → word_of (filled bytes k c) p ≡ get_or bytes p 0 * 16777216 + get_or bytes (p + 1) 0 * 65536 + c * 256 + c
+  word_kept_2 h = omega (arith, kept bytes k c p (omega arith), kept bytes k c (p + 1) (omega arith), put bytes k c (p + 2) (omega arith), put bytes k c (p + 3) (omega arith))
 
-  stops_3 : (k first second third : ℕ) → k ≡ at + 3 → k ≤ length bytes → first ≡ get_or bytes at 0 → second ≡ first * 256 + get_or bytes (at + 1) 0 → third ≡ second * 256 + get_or bytes (at + 2) 0 → least / 256 ≤ third → third ≤ most / 256
-      → (least ≡ 0 → most ≡ 4294967295 → k ≡ length bytes) → WordStops bytes at least most k
-  stops_3 k first second third e within f g h low high last =
-      let a : filled bytes k 0 at ≡ get_or bytes at 0 = kept bytes k 0 at (omega arith) in
-      let b : filled bytes k 0 (at + 1) ≡ get_or bytes (at + 1) 0 = kept bytes k 0 (at + 1) (omega arith) in
-      let c : filled bytes k 0 (at + 2) ≡ get_or bytes (at + 2) 0 = kept bytes k 0 (at + 2) (omega arith) in
-      let d : filled bytes k 0 (at + 3) ≡ 0 = put bytes k 0 (at + 3) (omega arith) in
-      let x : filled bytes k 255 at ≡ get_or bytes at 0 = kept bytes k 255 at (omega arith) in
-      let y : filled bytes k 255 (at + 1) ≡ get_or bytes (at + 1) 0 = kept bytes k 255 (at + 1) (omega arith) in
-      let z : filled bytes k 255 (at + 2) ≡ get_or bytes (at + 2) 0 = kept bytes k 255 (at + 2) (omega arith) in
-      let w : filled bytes k 255 (at + 3) ≡ 255 = put bytes k 255 (at + 3) (omega arith) in
-      record { from = omega arith; before = omega arith; within = within; first = λ h. omega arith; high = omega arith; low = λ m. omega arith; last = last }
+  word_kept_3 : k ≡ p + 3 → word_of (filled bytes k c) p ≡ get_or bytes p 0 * 16777216 + get_or bytes (p + 1) 0 * 65536 + get_or bytes (p + 2) 0 * 256 + c
+  word_kept_3 h = omega (arith, kept bytes k c p (omega arith), kept bytes k c (p + 1) (omega arith), kept bytes k c (p + 2) (omega arith), put bytes k c (p + 3) (omega arith))
+
+-- A word that stops behind so many bytes: these are its number with zeros, and with the highest bytes.
+stops : (bytes : List ℕ) (at least most k low high : ℕ) → at ≤ k → k < at + 4 → k ≤ length bytes → word_of (filled bytes k 0) at ≡ low → word_of (filled bytes k 255) at ≡ high → (at < k → get_or bytes at 0 * 16777216 ≤ low) → low ≤ most
+    → (most ≡ 4294967295 → least ≤ high) → (least ≡ 0 → most ≡ 4294967295 → k ≡ length bytes) → WordStops bytes at least most k
+stops bytes at least most k low high from before within zeros full first fits enough last = record {
+  from = from;
+  before = before;
+  within = within;
+  first = λ h. subst (λ w. get_or bytes at 0 * 16777216 ≤ w) (sym zeros) (first h);
+  high = subst (λ w. w ≤ most) (sym zeros) fits;
+  low = λ h. subst (λ w. least ≤ w) (sym full) (enough h);
+  last = last;
+}
 
 -- a byte more, with what the number so far is
 record More (before least most byte long at x : ℕ) : Type 0 where
@@ -141,21 +117,21 @@ word_ends bytes at least most fits within ordered top =
     let Is : ℕ → Type 0 = WordIs bytes at least most in
     ends_on (More 0 (least / 16777216) (most / 16777216) (get_or bytes at 0) long at) Is Stop Stop (byte_between bytes at 0 (least / 16777216) (most / 16777216)) _
     (byte_ends bytes at 0 (least / 16777216) (most / 16777216) (More 0 (least / 16777216) (most / 16777216) (get_or bytes at 0) long at) Stop fits within
-    (λ k e last. stops_0 bytes at least most ordered top k e (omega arith) (λ z m. last (omega arith) (omega arith)))
+    (λ k e last. stops bytes at least most k _ _ (omega arith) (omega arith) (omega arith) (word_put bytes k 0 at (omega arith)) (word_put bytes k 255 at (omega arith)) (λ h. absurd (omega arith)) (omega arith) (λ m. omega arith) (λ z m. last (omega arith) (omega arith)))
     (λ x is room low high. record { is = is; room = room; low = low; high = high }))
     (λ k s. s) (λ first p.
     ends_on (More first (least / 65536) (most / 65536) (get_or bytes (at + 1) 0) long (at + 1)) Is Stop Stop (byte_between bytes (at + 1) first (least / 65536) (most / 65536)) _
     (byte_ends bytes (at + 1) first (least / 65536) (most / 65536) (More first (least / 65536) (most / 65536) (get_or bytes (at + 1) 0) long (at + 1)) Stop fits (omega (arith, p.room))
-    (λ k e last. stops_1 bytes at least most ordered top k first e (omega (arith, p.room)) (omega (arith, p.is)) p.low p.high (λ z m. last (omega arith) (omega (arith, p.high))))
+    (λ k e last. stops bytes at least most k _ _ (omega arith) (omega arith) (omega (arith, p.room)) (word_kept_1 bytes k 0 at e) (word_kept_1 bytes k 255 at e) (λ h. omega arith) (omega (arith, p.is, p.high)) (λ m. omega (arith, p.is, p.low)) (λ z m. last (omega arith) (omega (arith, p.high))))
     (λ x is room low high. record { is = is; room = room; low = low; high = high }))
     (λ k s. s) (λ second q.
     ends_on (More second (least / 256) (most / 256) (get_or bytes (at + 2) 0) long (at + 2)) Is Stop Stop (byte_between bytes (at + 2) second (least / 256) (most / 256)) _
     (byte_ends bytes (at + 2) second (least / 256) (most / 256) (More second (least / 256) (most / 256) (get_or bytes (at + 2) 0) long (at + 2)) Stop fits (omega (arith, q.room))
-    (λ k e last. stops_2 bytes at least most ordered top k first second e (omega (arith, q.room)) (omega (arith, p.is)) q.is q.low q.high (λ z m. last (omega arith) (omega (arith, q.high))))
+    (λ k e last. stops bytes at least most k _ _ (omega arith) (omega arith) (omega (arith, q.room)) (word_kept_2 bytes k 0 at (omega arith)) (word_kept_2 bytes k 255 at (omega arith)) (λ h. omega arith) (omega (arith, p.is, q.is, q.high)) (λ m. omega (arith, p.is, q.is, q.low)) (λ z m. last (omega arith) (omega (arith, q.high))))
     (λ x is room low high. record { is = is; room = room; low = low; high = high }))
     (λ k s. s) (λ third r.
     byte_ends bytes (at + 3) third least most Is Stop fits (omega (arith, r.room))
-    (λ k e last. stops_3 bytes at least most ordered top k first second third e (omega (arith, r.room)) (omega (arith, p.is)) q.is r.is r.low r.high (λ z m. last (omega arith) (omega (arith, r.high))))
+    (λ k e last. stops bytes at least most k _ _ (omega arith) (omega arith) (omega (arith, r.room)) (word_kept_3 bytes k 0 at (omega arith)) (word_kept_3 bytes k 255 at (omega arith)) (λ h. omega arith) (omega (arith, p.is, q.is, r.is, r.high)) (λ m. omega (arith, p.is, q.is, r.is, r.low)) (λ z m. last (omega arith) (omega (arith, r.high))))
     (λ x is room low high. record { is = omega (arith, is, p.is, q.is, r.is, four bytes at); low = low; high = high; room = omega arith }))))
 
 -- ---- the number of values, or the status

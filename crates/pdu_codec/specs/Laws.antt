@@ -30,6 +30,6 @@ WrittenIsRead = (p : Pdu) → InRange p → pdu_length p ≤ 65536 → IsPdu (pd
 abbrev pub NoResultGoesOn : Type 0
 NoResultGoesOn = (bytes : List ℕ) (n : ℕ) → length bytes < 4294967296 → n ≤ length bytes → BeginsOne (SomeBody types.Result) (take n bytes) → n ≤ result_misfit bytes
 
--- and the bytes before it begin the body of some result
+-- the body of some result begins with what stands before that byte
 abbrev pub SomeResultGoesSoFar : Type 0
 SomeResultGoesSoFar = (bytes : List ℕ) → ((i : ℕ) → get_or bytes i 0 < 256) → BeginsOne (SomeBody types.Result) (take (result_misfit bytes) bytes)

@@ -21,7 +21,7 @@ pub fn no_result_goes_on()
     ensures { NoResultGoesOn }
 {}
 
-/// What stands before that byte begins some result.
+/// Some result begins with what stands before that byte.
 pub fn some_result_goes_so_far()
     ensures { SomeResultGoesSoFar }
 {}
