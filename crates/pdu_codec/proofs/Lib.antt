@@ -6,8 +6,13 @@ pub mod Misfits
 pub mod Once
 pub mod Pdus
 pub mod Readers
+pub mod ResultBlocks
+pub mod ResultEnds
+pub mod ResultFills
 pub mod ResultHere
 pub mod ResultPast
+pub mod ResultRead
+pub mod ResultSets
 pub mod ResultStops
 pub mod ResultWords
 pub mod TextReaders

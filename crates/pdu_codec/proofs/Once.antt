@@ -10,11 +10,10 @@ use Rattle.pdu_codec.specs.declared.fault.PduFault.{PduFault}
 use Rattle.pdu_codec.specs.declared.fault.PduFault.TheVariants.{Length, Unknown, Body, NoMemory}
 use Rattle.pdu_codec.specs.declared.pdu.Pdu.{Pdu}
 use Rattle.pdu_codec.specs.declared.types.PduType.{PduType}
-use Rattle.pdu_codec.specs.declared.types.PduType.TheVariants as types
 use Rattle.pdu_codec.specs.Types.{code_of_type, type_of_code, type_of}
 use Rattle.pdu_codec.specs.Bodies.{IsPdu}
 use Rattle.pdu_codec.specs.Decoding.{pdu_in}
-use Rattle.pdu_codec.specs.Faults.{HasLength, IsLengthFault, SomeBody, IsBodyMisfit, IsFault}
+use Rattle.pdu_codec.specs.Faults.{HasLength, IsLengthFault, SomeBody, IsFault}
 use Rattle.pdu_codec.specs.Laws.{FaultsComeOnce}
 use Rattle.pdu_codec.proofs.Readers.{ok_is}
 use Rattle.pdu_codec.proofs.FieldReaders.{word_field}
@@ -31,37 +30,6 @@ same_misfit kind t i j m n =
     let a : i ≤ j = n.longest i m.within m.begins in
     let b : j ≤ i = m.longest j n.within n.begins in
     omega arith
-
-same_stop : (kind : PduType) (t : List ℕ) (i j : ℕ) → IsBodyMisfit kind t i → IsBodyMisfit kind t j → i ≡ j
-same_stop types.Result t i j m n = m.1 ∙ sym n.1
-same_stop types.Error t i j m n = same_misfit types.Error t i j m n
-same_stop types.Profile t i j m n = same_misfit types.Profile t i j m n
-same_stop types.Fetch t i j m n = same_misfit types.Fetch t i j m n
-same_stop types.DescReq t i j m n = same_misfit types.DescReq t i j m n
-same_stop types.Desc t i j m n = same_misfit types.Desc t i j m n
-same_stop types.InstanceReq t i j m n = same_misfit types.InstanceReq t i j m n
-same_stop types.Instance t i j m n = same_misfit types.Instance t i j m n
-same_stop types.Creds t i j m n = same_misfit types.Creds t i j m n
-same_stop types.PmnsIds t i j m n = same_misfit types.PmnsIds t i j m n
-same_stop types.PmnsNames t i j m n = same_misfit types.PmnsNames t i j m n
-same_stop types.PmnsChild t i j m n = same_misfit types.PmnsChild t i j m n
-same_stop types.PmnsTraverse t i j m n = same_misfit types.PmnsTraverse t i j m n
-
--- a body that stops is none
-no_stop : (kind : PduType) (t : List ℕ) (i : ℕ) → IsBodyMisfit kind t i → SomeBody kind t → ⊥
-no_stop types.Result t i m b = m.0 b
-no_stop types.Error t i m b = m.none b
-no_stop types.Profile t i m b = m.none b
-no_stop types.Fetch t i m b = m.none b
-no_stop types.DescReq t i m b = m.none b
-no_stop types.Desc t i m b = m.none b
-no_stop types.InstanceReq t i m b = m.none b
-no_stop types.Instance t i m b = m.none b
-no_stop types.Creds t i m b = m.none b
-no_stop types.PmnsIds t i m b = m.none b
-no_stop types.PmnsNames t i m b = m.none b
-no_stop types.PmnsChild t i m b = m.none b
-no_stop types.PmnsTraverse t i m b = m.none b
 
 long_is_good : (bytes : List ℕ) (found : ℕ) → HasLength bytes → IsLengthFault bytes found → ⊥
 long_is_good bytes found long (inl short) = let a : 12 ≤ length bytes = long.0 in let b : length bytes < 4 = short.0 in omega arith
@@ -91,7 +59,7 @@ one_fault bytes (Body m) (Length n) a b = absurd (long_is_good bytes n a.0 b)
 one_fault bytes (Body m) (Unknown n) a b = absurd (no_type a.1 (sym b.2 ∙ ap type_of_code b.1 ∙ a.2))
 one_fault bytes (Body m) (Body n) a b =
     let same : b.1 ≡ a.1 = kind_is b.1 a.1 (sym b.2 ∙ a.2) in
-    let k : a.3 ≡ b.3 = same_stop a.1 (drop 12 bytes) a.3 b.3 a.5 (subst (λ x. IsBodyMisfit x (drop 12 bytes) b.3) same b.5) in
+    let k : a.3 ≡ b.3 = same_misfit a.1 (drop 12 bytes) a.3 b.3 a.5 (subst (λ x. IsFirstMisfit (SomeBody x) (drop 12 bytes) b.3) same b.5) in
     ap Body (a.4 ∙ ap (λ i. 12 + i) k ∙ sym b.4)
 one_fault bytes NoMemory f a b = elim a [ ]
 one_fault bytes e NoMemory a b = elim b [ ]
@@ -102,7 +70,7 @@ no_fault bytes p (Unknown n) fits s f = let h = head_of_pdu bytes p s in no_type
 no_fault bytes p (Body n) fits s f =
     let h = head_of_pdu bytes p s in
     let same : type_of p ≡ f.1 = kind_is (type_of p) f.1 (sym h.kind ∙ f.2) in
-    no_stop f.1 (drop 12 bytes) f.3 f.5 (subst (λ k. SomeBody k (drop 12 bytes)) same (p, h.has))
+    f.5.none (subst (λ k. SomeBody k (drop 12 bytes)) same (p, h.has))
 no_fault bytes p NoMemory fits s f = f
 
 pub once : (bytes : List ℕ) → IsBytes bytes → FaultsComeOnce bytes

@@ -152,6 +152,13 @@ head_read bytes =
 
 -- ---- the whole
 
+-- a length that a word has
+length_fits : (bytes : List ℕ) → IsBytes bytes → HasLength bytes → length bytes < 4294967296
+length_fits bytes fits long =
+    let size : 12 ≤ length bytes = long.0 in
+    let first = word_reads.takes bytes 0 4 (number_at bytes 0) fits (omega arith) (ap (or_end bytes 0) (word_found bytes 0 (omega arith))) in
+    subst (λ n. n < 4294967296) long.1 first.fits.1
+
 -- the words of the head stand in front of the body
 spelled : (bytes : List ℕ) (p : Pdu) → IsBytes bytes → HasLength bytes → number_at bytes 4 ≡ code_of_type (type_of p) → body_of (type_of p) (drop 12 bytes) p → IsPdu bytes p
 spelled bytes p fits long code has =
@@ -181,7 +188,7 @@ pdu_takes bytes p fits e =
       | wrong h bad f ↦ absurd (not_both a.0 (Length (number_at bytes 0)) (sym a.1 ∙ f))
       | unknown long none f ↦ absurd (not_both a.0 (Unknown (number_at bytes 4)) (sym a.1 ∙ f))
       | stands long kind code f ↦ let same : a.0 ≡ kind = ok_is a.0 kind (sym a.1 ∙ f) in
-          let has = (answers kind bytes 12 fits long.0).ok p (subst (λ k. (body_at k bytes 12 >>= whole_body bytes) ≡ Ok p) same a.2) in
+          let has = (answers kind bytes 12 fits long.0 (length_fits bytes fits long)).ok p (subst (λ k. (body_at k bytes 12 >>= whole_body bytes) ≡ Ok p) same a.2) in
           let is : type_of p ≡ kind = kind_of_body kind (drop 12 bytes) p has in
           spelled bytes p fits long (code_found (number_at bytes 4) kind code ∙ ap code_of_type (sym is)) (subst (λ k. body_of k (drop 12 bytes) p) (sym is) has)
     ]
@@ -223,7 +230,7 @@ unfolding pdu_in
 pdu_again bytes p fits s =
     let h = head_of_pdu bytes p s in
     let head : head_of bytes ≡ Ok (type_of p) = head_stands bytes h.long ∙ ap (type_or_unknown (number_at bytes 4)) h.kind in
-    ap (λ r. r >>= λ k. body_at k bytes 12 >>= whole_body bytes) head ∙ (answers (type_of p) bytes 12 fits h.long.0).again p h.has
+    ap (λ r. r >>= λ k. body_at k bytes 12 >>= whole_body bytes) head ∙ (answers (type_of p) bytes 12 fits h.long.0 (length_fits bytes fits h.long)).again p h.has
 
 -- a head that fails is the fault of the whole
 head_fault : (r : Result PduType PduFault) (next : PduType → Result Pdu PduFault) (f e : PduFault) → r ≡ Err f → (r >>= next) ≡ Err e → f ≡ e
@@ -237,7 +244,7 @@ pdu_fails bytes e fits h =
       | few lt f ↦ subst (IsFault bytes) (head_fault (head_of bytes) (λ k. body_at k bytes 12 >>= whole_body bytes) (Length 0) e f h) (inl (lt, refl))
       | wrong long bad f ↦ subst (IsFault bytes) (head_fault (head_of bytes) (λ k. body_at k bytes 12 >>= whole_body bytes) (Length (number_at bytes 0)) e f h) (inr (long, refl, bad))
       | unknown long none f ↦ subst (IsFault bytes) (head_fault (head_of bytes) (λ k. body_at k bytes 12 >>= whole_body bytes) (Unknown (number_at bytes 4)) e f h) (long, refl, none)
-      | stands long kind code f ↦ let s = (answers kind bytes 12 fits long.0).err e (sym (ap (λ r. r >>= λ k. body_at k bytes 12 >>= whole_body bytes) f) ∙ h) in
+      | stands long kind code f ↦ let s = (answers kind bytes 12 fits long.0 (length_fits bytes fits long)).err e (sym (ap (λ r. r >>= λ k. body_at k bytes 12 >>= whole_body bytes) f) ∙ h) in
           subst (IsFault bytes) (sym s.1) (long, kind, code, s.0, refl, s.2)
     ]
 

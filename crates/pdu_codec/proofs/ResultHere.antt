@@ -28,7 +28,7 @@ limited end limit begin (inl h) behind low = inl (omega arith)
 limited end limit begin (inr h) behind low = inl (omega arith)
 
 -- a word of the bytes, byte by byte
-four : (xs : List ℕ) (p : ℕ) → number_at xs p ≡ get_or xs p 0 * 16777216 + get_or xs (p + 1) 0 * 65536 + get_or xs (p + 2) 0 * 256 + get_or xs (p + 3) 0
+pub four : (xs : List ℕ) (p : ℕ) → number_at xs p ≡ get_or xs p 0 * 16777216 + get_or xs (p + 1) 0 * 65536 + get_or xs (p + 2) 0 * 256 + get_or xs (p + 3) 0
 four xs p =
     let a : get_or (take 4 (drop p xs)) 0 0 ≡ get_or xs (p + 0) 0 = get_or-take 4 (drop p xs) 0 0 (omega arith) ∙ get_or-drop p xs 0 0 in
     let b : get_or (take 4 (drop p xs)) 1 0 ≡ get_or xs (p + 1) 0 = get_or-take 4 (drop p xs) 1 0 (omega arith) ∙ get_or-drop p xs 1 0 in

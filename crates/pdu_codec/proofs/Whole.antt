@@ -20,10 +20,12 @@ use Rattle.pdu_codec.specs.declared.types.PduType.{PduType}
 use Rattle.pdu_codec.specs.declared.types.PduType.TheVariants as types
 use Rattle.pdu_codec.specs.Bodies.{body_of}
 use Rattle.pdu_codec.specs.Decoding.{fault_of, result_read, result_at, body_at, whole_body}
-use Rattle.pdu_codec.specs.Faults.{IsBodyMisfit}
+use Rattle.pdu_codec.specs.Faults.{SomeBody}
 use Rattle.pdu_codec.specs.Reading.{◌>>=◌}
 use Rattle.pdu_codec.specs.ResultMisfit.{result_misfit}
 use Rattle.pdu_codec.proofs.Misfits.{Some, stopped, exceeded}
+use Rattle.pdu_codec.proofs.ResultEnds.{results_begin}
+use Rattle.pdu_codec.proofs.ResultStops.{results_stop}
 use Rattle.pdu_codec.proofs.Readers.{Reads, free_of, bind_ok, bind_err, at_once, later, done, failed, ok_is, err_is, not_both}
 use Rattle.pdu_codec.proofs.BodyReaders.{error_reads, profile_reads, fetch_reads, desc_req_reads, desc_reads, instance_req_reads, instance_reads, creds_reads, ids_reads, names_reads, child_reads, traverse_reads}
 
@@ -136,8 +138,8 @@ result_cases bytes at fits =
           fails none (result_err bytes at fits none)
     ]
 
-pub result_answers : (bytes : List ℕ) (at : ℕ) → IsBytes bytes → Answers (body_of types.Result) (IsBodyMisfit types.Result) result_at bytes at
-result_answers bytes at fits = record {
+pub result_answers : (bytes : List ℕ) (at : ℕ) → IsBytes bytes → length bytes < 4294967296 → Answers (body_of types.Result) (IsFirstMisfit (SomeBody types.Result)) result_at bytes at
+result_answers bytes at fits few = record {
   ok = λ p e.
       elim (result_cases bytes at fits) [
         | stands r is f ↦ let same : pdus.Result r ≡ p = ok_is (pdus.Result r) p (sym (ap (λ x. x >>= whole_body bytes) f ∙ ends_here bytes (length bytes) (pdus.Result r) (omega arith)) ∙ e) in
@@ -151,24 +153,29 @@ result_answers bytes at fits = record {
         | fails none f ↦ (
           result_misfit (drop at bytes),
           err_is Pdu e (Body (at + result_misfit (drop at bytes))) (sym h ∙ ap (λ x. x >>= whole_body bytes) f),
-          (λ b. none b.1.answer b.1.payload, refl),
+          record {
+            none = λ b. none b.1.answer b.1.payload;
+            within = omega arith;
+            begins = results_begin (drop at bytes) (IsBytes-drop at bytes fits);
+            longest = λ n h b. results_stop (drop at bytes) n (omega (arith, length-drop at bytes)) h b;
+          },
         )
       ];
 }
 
 -- ---- all types
 
-pub answers : (kind : PduType) (bytes : List ℕ) (at : ℕ) → IsBytes bytes → at ≤ length bytes → Answers (body_of kind) (IsBodyMisfit kind) (body_at kind) bytes at
-answers types.Error bytes at fits h = whole (body_of types.Error) (body_at types.Error) error_reads bytes at fits h
-answers types.Result bytes at fits h = result_answers bytes at fits
-answers types.Profile bytes at fits h = whole (body_of types.Profile) (body_at types.Profile) profile_reads bytes at fits h
-answers types.Fetch bytes at fits h = whole (body_of types.Fetch) (body_at types.Fetch) fetch_reads bytes at fits h
-answers types.DescReq bytes at fits h = whole (body_of types.DescReq) (body_at types.DescReq) desc_req_reads bytes at fits h
-answers types.Desc bytes at fits h = whole (body_of types.Desc) (body_at types.Desc) desc_reads bytes at fits h
-answers types.InstanceReq bytes at fits h = whole (body_of types.InstanceReq) (body_at types.InstanceReq) instance_req_reads bytes at fits h
-answers types.Instance bytes at fits h = whole (body_of types.Instance) (body_at types.Instance) instance_reads bytes at fits h
-answers types.Creds bytes at fits h = whole (body_of types.Creds) (body_at types.Creds) creds_reads bytes at fits h
-answers types.PmnsIds bytes at fits h = whole (body_of types.PmnsIds) (body_at types.PmnsIds) ids_reads bytes at fits h
-answers types.PmnsNames bytes at fits h = whole (body_of types.PmnsNames) (body_at types.PmnsNames) names_reads bytes at fits h
-answers types.PmnsChild bytes at fits h = whole (body_of types.PmnsChild) (body_at types.PmnsChild) child_reads bytes at fits h
-answers types.PmnsTraverse bytes at fits h = whole (body_of types.PmnsTraverse) (body_at types.PmnsTraverse) traverse_reads bytes at fits h
+pub answers : (kind : PduType) (bytes : List ℕ) (at : ℕ) → IsBytes bytes → at ≤ length bytes → length bytes < 4294967296 → Answers (body_of kind) (IsFirstMisfit (SomeBody kind)) (body_at kind) bytes at
+answers types.Error bytes at fits h few = whole (body_of types.Error) (body_at types.Error) error_reads bytes at fits h
+answers types.Result bytes at fits h few = result_answers bytes at fits few
+answers types.Profile bytes at fits h few = whole (body_of types.Profile) (body_at types.Profile) profile_reads bytes at fits h
+answers types.Fetch bytes at fits h few = whole (body_of types.Fetch) (body_at types.Fetch) fetch_reads bytes at fits h
+answers types.DescReq bytes at fits h few = whole (body_of types.DescReq) (body_at types.DescReq) desc_req_reads bytes at fits h
+answers types.Desc bytes at fits h few = whole (body_of types.Desc) (body_at types.Desc) desc_reads bytes at fits h
+answers types.InstanceReq bytes at fits h few = whole (body_of types.InstanceReq) (body_at types.InstanceReq) instance_req_reads bytes at fits h
+answers types.Instance bytes at fits h few = whole (body_of types.Instance) (body_at types.Instance) instance_reads bytes at fits h
+answers types.Creds bytes at fits h few = whole (body_of types.Creds) (body_at types.Creds) creds_reads bytes at fits h
+answers types.PmnsIds bytes at fits h few = whole (body_of types.PmnsIds) (body_at types.PmnsIds) ids_reads bytes at fits h
+answers types.PmnsNames bytes at fits h few = whole (body_of types.PmnsNames) (body_at types.PmnsNames) names_reads bytes at fits h
+answers types.PmnsChild bytes at fits h few = whole (body_of types.PmnsChild) (body_at types.PmnsChild) child_reads bytes at fits h
+answers types.PmnsTraverse bytes at fits h few = whole (body_of types.PmnsTraverse) (body_at types.PmnsTraverse) traverse_reads bytes at fits h

@@ -6,8 +6,6 @@ use Rattle.pdu_codec.specs.declared.fault.PduFault.{PduFault}
 use Rattle.pdu_codec.specs.declared.fault.PduFault.TheVariants.{Length, Unknown, Body, NoMemory}
 use Rattle.pdu_codec.specs.declared.pdu.Pdu.{Pdu}
 use Rattle.pdu_codec.specs.declared.types.PduType.{PduType}
-use Rattle.pdu_codec.specs.declared.types.PduType.TheVariants as types
-use Rattle.pdu_codec.specs.ResultMisfit.{result_misfit}
 use Rattle.pdu_codec.specs.Types.{type_of_code}
 use Rattle.pdu_codec.specs.Bodies.{body_of}
 
@@ -24,17 +22,12 @@ IsLengthFault bytes found =
 abbrev pub SomeBody : PduType → List ℕ → Type 0
 SomeBody kind text = (p : Pdu) × body_of kind text p
 
--- The bytes are no body of this type, and here they stop being like one: at the first byte that fits none, or at their end.
-abbrev pub IsBodyMisfit : PduType → List ℕ → ℕ → Type 0
-IsBodyMisfit types.Result text k = (SomeBody types.Result text → ⊥) × (k ≡ result_misfit text)
-IsBodyMisfit kind text k = IsFirstMisfit (SomeBody kind) text k
-
 -- Body tells the first byte behind the header that no body of this type has, or the end of bytes that are too few.
 abbrev pub IsFault : List ℕ → PduFault → Type 0
 IsFault bytes (Length found) = IsLengthFault bytes found
 IsFault bytes (Unknown found) = HasLength bytes × (found ≡ number_at bytes 4) × (type_of_code found ≡ None)
 IsFault bytes (Body at) = HasLength bytes × (kind : PduType) × (type_of_code (number_at bytes 4) ≡ Some kind)
-    × (k : ℕ) × (at ≡ 12 + k) × IsBodyMisfit kind (drop 12 bytes) k
+    × (k : ℕ) × (at ≡ 12 + k) × IsFirstMisfit (SomeBody kind) (drop 12 bytes) k
 IsFault bytes NoMemory = ⊥
 
 -- want of memory says nothing of the bytes

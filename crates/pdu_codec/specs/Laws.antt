@@ -29,3 +29,7 @@ WrittenIsRead = (p : Pdu) → InRange p → pdu_length p ≤ 65536 → IsPdu (pd
 -- no body of a result begins with more of these bytes than those before the byte at which they stop being like one
 abbrev pub NoResultGoesOn : Type 0
 NoResultGoesOn = (bytes : List ℕ) (n : ℕ) → length bytes < 4294967296 → n ≤ length bytes → BeginsOne (SomeBody types.Result) (take n bytes) → n ≤ result_misfit bytes
+
+-- the body of some result begins with what stands before that byte
+abbrev pub SomeResultGoesSoFar : Type 0
+SomeResultGoesSoFar = (bytes : List ℕ) → ((i : ℕ) → get_or bytes i 0 < 256) → BeginsOne (SomeBody types.Result) (take (result_misfit bytes) bytes)

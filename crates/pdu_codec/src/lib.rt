@@ -17,7 +17,10 @@ mod spelling;
 mod types;
 
 pub use fault::PduFault;
-pub use laws::{faults_come_once, no_pdu_begins_another, no_result_goes_on, written_is_read};
+pub use laws::{
+    faults_come_once, no_pdu_begins_another, no_result_goes_on, some_result_goes_so_far,
+    written_is_read,
+};
 pub use pdu::Pdu;
 pub use reading::decode;
 pub use sizes::pdu_length;
