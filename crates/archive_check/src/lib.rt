@@ -2,8 +2,16 @@
 //! whole archive is read for it, and left as it is.
 #![tactic(auto)]
 
-mod check;
+mod afters;
+mod between;
+mod entries;
 mod fault;
+mod marks;
+mod steps;
+mod tally;
+mod verdict;
+mod walks;
+mod whole;
 
-pub use check::check;
 pub use fault::CheckFault;
+pub use whole::check;

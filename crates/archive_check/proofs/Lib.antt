@@ -1,0 +1,10 @@
+pub mod Deciding
+pub mod Firsts
+pub mod Handing
+pub mod Judging
+pub mod Placed
+pub mod Places
+pub mod Seeking
+pub mod Surveyed
+pub mod Tallied
+pub mod Walking
