@@ -4,6 +4,8 @@
 
 mod check;
 mod fault;
+mod laws;
 
 pub use check::check;
 pub use fault::CheckFault;
+pub use laws::readable_is_judged;

@@ -1,0 +1,5 @@
+pub mod Bounds
+pub mod Entries
+pub mod Falling
+pub mod FirstBad
+pub mod Judged
