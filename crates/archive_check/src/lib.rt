@@ -2,10 +2,10 @@
 //! whole archive is read for it, and left as it is.
 #![tactic(auto)]
 
-mod check;
 mod fault;
 mod laws;
+mod whole;
 
-pub use check::check;
 pub use fault::CheckFault;
 pub use laws::readable_is_judged;
+pub use whole::check;
