@@ -20,8 +20,8 @@ use Rattle.archive_loading.specs.Stamps.{domain_stamps}
 use Rattle.archive_loading.proofs.Framed.{domain_stamps-append}
 use Rattle.archive_reader.specs.Searches.{items_before, items_from}
 use Rattle.archive_reader.proofs.Searching.{places_part}
-use Rattle.archive_check.specs.declared.entries.Look.{Look}
-use Rattle.archive_check.specs.declared.entries.Look.TheVariants.{Above, Skipped, Misses, Points}
+use Rattle.archive_check.specs.declared.pointing.Look.{Look}
+use Rattle.archive_check.specs.declared.pointing.Look.TheVariants.{Above, Skipped, Misses, Points}
 use Rattle.archive_check.specs.Breaches.{AtBoundary, IsFilled, StandsAbove, PointsToBoundaries, MissesBoundary, first_after, stamps_before, IsTooEarly, IsFirstBad}
 use Rattle.archive_check.specs.Looked.{time_in, is_above, look_at, look_of, misses, is_late, is_bad, IsFirst, MetaSays, VolumeSays, EntryKnown, domains_of}
 use Rattle.archive_check.specs.Marks.{Known}

@@ -24,8 +24,8 @@ use Rattle.archive_reader.specs.declared.fault.ReaderFault.TheVariants.{Compress
 use Rattle.archive_reader.specs.LoadFaults.{IsLoadFault}
 use Rattle.archive_reader.specs.Values.{IsWholeFault}
 use Rattle.archive_reader.proofs.Founds.{IsOf}
-use Rattle.archive_check.specs.declared.entries.Look.{Look}
-use Rattle.archive_check.specs.declared.entries.Look.TheVariants.{Above, Skipped, Misses, Points}
+use Rattle.archive_check.specs.declared.pointing.Look.{Look}
+use Rattle.archive_check.specs.declared.pointing.Look.TheVariants.{Above, Skipped, Misses, Points}
 use Rattle.archive_check.specs.declared.fault.CheckFault.{CheckFault}
 use Rattle.archive_check.specs.declared.fault.CheckFault.TheVariants.{Items, Boundary, Late, Reader}
 use Rattle.archive_check.specs.declared.tally.Tally.{Tally}

@@ -14,8 +14,8 @@ use Rattle.pcp_model.specs.Sound.{IsBoundary, IsSoundEntry}
 use Rattle.archive_loading.specs.Loaded.{Rises, numbers}
 use Rattle.archive_loading.specs.Stamps.{domain_stamps}
 use Rattle.archive_reader.specs.Searches.{items_before}
-use Rattle.archive_check.specs.declared.entries.Look.{Look}
-use Rattle.archive_check.specs.declared.entries.Look.TheVariants.{Above, Skipped, Misses, Points}
+use Rattle.archive_check.specs.declared.pointing.Look.{Look}
+use Rattle.archive_check.specs.declared.pointing.Look.TheVariants.{Above, Skipped, Misses, Points}
 use Rattle.archive_check.specs.declared.marks.Mark.{Mark}
 use Rattle.archive_check.specs.declared.marks.Mark.TheVariants.{Ahead, Passed}
 use Rattle.archive_check.specs.Breaches.{AtBoundary, IsFilled, StandsAbove}

@@ -8,7 +8,7 @@ use Rattle.pcp_model.specs.Archive.{ArchiveContents, items_of}
 use Rattle.pcp_model.specs.Disk.{Files}
 use Rattle.pcp_model.specs.Sound.{NeverFalls, IsSoundEntry}
 use Rattle.pcp_outside.specs.Causes.{shown_count}
-use Rattle.archive_check.specs.declared.entries.Look.{Look}
+use Rattle.archive_check.specs.declared.pointing.Look.{Look}
 use Rattle.archive_check.specs.declared.fault.CheckFault.{CheckFault}
 use Rattle.archive_check.specs.declared.fault.CheckFault.TheVariants.{Items, Boundary, Late, Reader}
 use Rattle.archive_check.specs.declared.verdict.Verdict.{Verdict}

@@ -4,9 +4,10 @@
 
 mod afters;
 mod between;
-mod entries;
 mod fault;
+mod laws;
 mod marks;
+mod pointing;
 mod steps;
 mod tally;
 mod verdict;
@@ -14,4 +15,5 @@ mod walks;
 mod whole;
 
 pub use fault::CheckFault;
+pub use laws::readable_is_judged;
 pub use whole::check;

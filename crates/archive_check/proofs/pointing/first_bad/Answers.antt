@@ -3,7 +3,7 @@ use Rattle.pcp_model.specs.declared.records.Entry.{Entry}
 use Rattle.archive_check.specs.Looked.{look_of, is_bad}
 use Rattle.archive_check.specs.Marks.{mark_at}
 use Rattle.archive_check.proofs.Firsts.{first_here, not_here}
-use Rattle.archive_check.proofs.entries.first_bad.Goals as goal
+use Rattle.archive_check.proofs.pointing.first_bad.Goals as goal
 
 pub returns-then-is_bad_entry : goal.returns-then-is_bad_entry
 returns-then-is_bad_entry c =
