@@ -1,3 +1,10 @@
 pub mod Breaches
 pub mod Checks
 pub mod Laws
+pub mod Looked
+pub mod Marks
+pub mod Sought
+pub mod Stamped
+pub mod Tallies
+pub mod Verdicts
+pub mod Walked

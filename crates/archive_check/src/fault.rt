@@ -1,4 +1,9 @@
 //! Why an archive isn't passed as sound.
+ghost use Rattle.std.specs.Prelude.{◌≡◌};
+ghost use Rattle.archive_reader.specs.Lacks.{of_lack};
+ghost use Rattle.archive_check.specs.declared.fault.CheckFault.TheVariants.{Reader as Unread};
+
+use archive_loading::Lack;
 use archive_reader::ReaderFault;
 use pcp_base::{FileId, Stamp};
 use thiserror::Error;
@@ -31,4 +36,23 @@ pub enum CheckFault {
     /// The archive can't be read.
     #[error("the archive can't be read")]
     Reader(ReaderFault),
+}
+
+impl From<ReaderFault> for CheckFault {
+    ghost from_gives = { λ fault e. e ≡ Unread fault };
+
+    fn from(error: ReaderFault) -> CheckFault {
+        CheckFault::Reader(error)
+    }
+}
+
+impl From<Lack> for CheckFault {
+    ghost from_gives = { λ lack e. e ≡ Unread (of_lack lack) };
+
+    fn from(error: Lack) -> CheckFault {
+        match error {
+            Lack::Disk => CheckFault::Reader(ReaderFault::DiskFault),
+            Lack::Memory => CheckFault::Reader(ReaderFault::NoMemory),
+        }
+    }
 }

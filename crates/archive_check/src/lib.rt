@@ -2,8 +2,18 @@
 //! whole archive is read for it, and left as it is.
 #![tactic(auto)]
 
-mod check;
+mod afters;
+mod between;
 mod fault;
+mod laws;
+mod marks;
+mod pointing;
+mod steps;
+mod tally;
+mod verdict;
+mod walks;
+mod whole;
 
-pub use check::check;
 pub use fault::CheckFault;
+pub use laws::readable_is_judged;
+pub use whole::check;

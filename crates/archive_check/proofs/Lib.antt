@@ -1,0 +1,15 @@
+pub mod Bounds
+pub mod Deciding
+pub mod Entries
+pub mod Falling
+pub mod FirstBad
+pub mod Firsts
+pub mod Handing
+pub mod Judged
+pub mod Judging
+pub mod Placed
+pub mod Places
+pub mod Seeking
+pub mod Surveyed
+pub mod Tallied
+pub mod Walking

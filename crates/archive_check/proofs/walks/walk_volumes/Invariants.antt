@@ -1,0 +1,17 @@
+use Rattle.std.proofs.Common.{◌≡◌, ◌-◌, ◌≤◌, length, drop}
+use Rattle.pcp_model.specs.Disk.{contents_of}
+use Rattle.archive_loading.specs.Looks.{Looks}
+use Rattle.archive_check.specs.Marks.{mark_at}
+use Rattle.archive_check.proofs.Walking.{VolumesSoFar}
+use Rattle.archive_check.proofs.walks.walk_volumes.Given as goal
+
+abbrev pub invariant-loop-index : goal.invariant-loop-index
+invariant-loop-index g l = record {
+  within : l.index ≤ length l.volumes;
+  looks : Looks g.D.Disk l.initial.disk l.disk;
+  quiet : g.D.Disk.faults l.disk ≡ g.D.Disk.faults l.initial.disk;
+  so_far : g.D.Disk.tells → VolumesSoFar (contents_of (g.D.Disk.held l.initial.disk)) l.volumes (drop l.index l.volumes) (mark_at l.initial.marks) (mark_at l.marks) l.tally;
+}
+
+abbrev pub decreases-loop-index : goal.decreases-loop-index
+decreases-loop-index g l = length l.volumes - l.index

@@ -1,0 +1,99 @@
+//! Steps over a file's records: Meta's, or a volume's.
+ghost use Rattle.std.specs.Prelude.{◌≡◌, ◌<◌, length, IfOk, IfErr, OnOk};
+ghost use Rattle.pcp_base.specs.declared.file.FileId.TheVariants.{Meta, Volume};
+ghost use Rattle.pcp_model.specs.Disk.{contents_of};
+ghost use Rattle.pcp_model.specs.Payload.{stamp_of};
+ghost use Rattle.pcp_outside.specs.Devices.{IsNumbered};
+ghost use Rattle.archive_loading.specs.Looks.{Looks, Blames};
+ghost use Rattle.archive_check.specs.Stamped.{Steps};
+
+use archive_loading::{Lack, Next, Taken, next_record, stamp_in, take_frame};
+use pcp_base::{Item, NoMemory, Stamp};
+use pcp_outside::{Disk, FileId};
+use std::alloc::Global;
+
+/// A volume's number is below 2^32 - 1.
+pub fn numbered(number: u32) -> Result<(), NoMemory>
+    ensures { OnOk result (number < 4294967295) }
+{
+    if number == u32::MAX {
+        return Err(NoMemory);
+    }
+    Ok(())
+}
+
+fn stamp_of(item: &Item) -> Stamp
+    ensures { result ≡ stamp_of item.now }
+{
+    match item {
+        Item::Sample(answer) => answer.stamp,
+        Item::Mark(stamp) => *stamp,
+    }
+}
+
+/// The stamp of a domain's record of Meta.
+fn meta_step<D: Disk>(
+    alloc: Global,
+    disk: &mut D,
+    end: u64,
+    at: u64,
+) -> Result<Option<(Option<Stamp>, u64)>, Lack>
+    requires { D.tells → end ≡ length (contents_of (D.held disk.old) Meta) }
+    ensures found { D.tells → IfOk result (Steps Meta (contents_of (D.held disk.old) Meta) at) }
+    ensures looks { Looks D.Disk disk.old disk.new }
+    ensures cause { IfErr result (Blames D.Disk disk.old disk.new) }
+    ensures quiet { OnOk result (D.faults disk.new ≡ D.faults disk.old) }
+{
+    match take_frame(alloc, disk, FileId::Meta, end, at)? {
+        Taken::Torn => Ok(None),
+        Taken::Wrong => Ok(None),
+        Taken::Frame(frame) => {
+            let next = at + frame.len() as u64;
+            Ok(Some((stamp_in(frame.as_slice()), next)))
+        }
+    }
+}
+
+/// The stamp of an item's record of a volume.
+fn volume_step<D: Disk>(
+    alloc: Global,
+    disk: &mut D,
+    number: u32,
+    end: u64,
+    at: u64,
+) -> Result<Option<(Option<Stamp>, u64)>, Lack>
+    requires numbered { number < 4294967295 }
+    requires end { D.tells → end ≡ length (contents_of (D.held disk.old) (Volume number)) }
+    ensures found { D.tells → IfOk result (Steps (Volume number) (contents_of (D.held disk.old) (Volume number)) at) }
+    ensures looks { Looks D.Disk disk.old disk.new }
+    ensures cause { IfErr result (Blames D.Disk disk.old disk.new) }
+    ensures quiet { OnOk result (D.faults disk.new ≡ D.faults disk.old) }
+{
+    match next_record(alloc, disk, number, end, at)? {
+        Next::End => Ok(None),
+        Next::Bad => Ok(None),
+        Next::Item(item, next) => Ok(Some((Some(stamp_of(&item)), next))),
+    }
+}
+
+/// The next record's stamp, if it has one, and the offset behind it; of a readable file of this length, at a place between its records.
+pub fn step<D: Disk>(
+    alloc: Global,
+    disk: &mut D,
+    file: FileId,
+    end: u64,
+    at: u64,
+) -> Result<Option<(Option<Stamp>, u64)>, Lack>
+    requires numbered { IsNumbered file }
+    requires end { D.tells → end ≡ length (contents_of (D.held disk.old) file) }
+    ensures found { D.tells → IfOk result (Steps file (contents_of (D.held disk.old) file) at) }
+    ensures looks { Looks D.Disk disk.old disk.new }
+    ensures cause { IfErr result (Blames D.Disk disk.old disk.new) }
+    ensures quiet { OnOk result (D.faults disk.new ≡ D.faults disk.old) }
+{
+    match file {
+        FileId::Meta => meta_step(alloc, disk, end, at),
+        FileId::Index => Ok(None),
+        FileId::Volume(number) => volume_step(alloc, disk, number, end, at),
+    }
+}
