@@ -1,10 +1,9 @@
 -- What a logger keeps of a group that was judged and written.
-use Rattle.std.proofs.Common.{zero, suc, ◌≡◌, ◌⊎◌, ℕ, ◌+◌, ◌<◌, ◌≤◌, true, false, List, [], ◌∷◌, ◌++◌, length, take, drop, Option, None, Some, refl, sym, ap, ◌∙◌, subst, append_assoc, arith, length-append}
+use Rattle.std.proofs.Common.{zero, suc, ◌≡◌, ℕ, ◌<◌, ◌≤◌, true, false, List, [], ◌∷◌, ◌++◌, length, take, drop, Option, None, Some, refl, sym, ap, ◌∙◌, subst, append_assoc, arith}
 use Rattle.std.specs.Prelude.{◌≢◌, slice_get, Result, Ok, Err, IfErr, OnOk}
 use Rattle.std.specs.Result.{IsErrAnd}
 use Rattle.std.proofs.lemmas.List.{length-take, take-append-drop}
 use Rattle.std.proofs.lemmas.Result.{err_from_is_err_and}
-use Rattle.pcp_base.specs.declared.result.Item.{Item}
 use Rattle.pcp_base.specs.declared.result.PmResult.{PmResult}
 use Rattle.pcp_model.specs.declared.records.MetaRecord.{MetaRecord}
 use Rattle.pcp_model.specs.Disk.{Files, Holdings}
@@ -18,7 +17,7 @@ use Rattle.logger_core.specs.declared.groups.Judged.{Judged}
 use Rattle.logger_core.specs.declared.groups.Run.{Run}
 use Rattle.logger_core.specs.Grouping.{Told, LogsAll, LogsOne, AreLogged, AreLoggable, AreWritten, AreAllEnough, BeginsRun, GroupMayAnswer, IsRefusedAt, LeavesFirst, samples_of}
 use Rattle.logger_core.specs.Held.{AreHeldBefore, AreRuns, AreRunsBounded, AreSettled, IsJudgedBy, IsRefusedAfter, IsSettledSo, JudgeMayAnswer, RunWritten, counts_of, held_of}
-use Rattle.logger_core.specs.Logging.{IsLogged, closed_with}
+use Rattle.logger_core.specs.Logging.{IsLogged}
 use Rattle.logger_core.specs.Meant.{Meant, Kept, IsAt, IsLogger, items_in}
 use Rattle.logger_core.specs.Runs.{SurvivesWith}
 use Rattle.logger_core.proofs.Grouped.{samples_then}

@@ -1,40 +1,33 @@
 -- Results that are held: each one more is a run of its own, or joins the last.
-use Rattle.std.proofs.Common.{zero, suc, ◌≡◌, ◌⊎◌, inl, inr, ⊎_elim, ℕ, ◌+◌, ◌<◌, ◌≤◌, Bool, true, false, List, [], ◌∷◌, ◌++◌, length, refl, sym, ap, ◌∙◌, subst, append_assoc, arith, length-append}
-use Rattle.std.specs.Prelude.{if◌then◌else◌, slice_get, Some}
-use Rattle.std.specs.List.{AllByRecursion}
+use Rattle.std.proofs.Common.{suc, ◌≡◌, ℕ, ◌+◌, ◌<◌, ◌≤◌, Bool, List, [], ◌∷◌, ◌++◌, length, refl, sym, ap, ◌∙◌, subst, arith}
 use Rattle.std.proofs.lemmas.List.{append-nil}
-use Rattle.pcp_base.specs.Time.{Moment}
 use Rattle.pcp_base.specs.declared.file.FileId.{FileId}
-use Rattle.pcp_base.specs.declared.file.FileId.TheVariants.{Meta, Index, Volume}
-use Rattle.pcp_base.specs.declared.result.Item.{Item}
+use Rattle.pcp_base.specs.declared.file.FileId.TheVariants.{Meta, Volume}
 use Rattle.pcp_base.specs.declared.result.Item.TheVariants.{Sample}
 use Rattle.pcp_base.specs.declared.result.PmResult.{PmResult}
 use Rattle.pcp_model.specs.declared.records.MetaRecord.{MetaRecord}
 use Rattle.pcp_model.specs.Disk.{Files}
 use Rattle.pcp_model.specs.Frame.{frame}
 use Rattle.pcp_model.specs.Payload.{payload, payload_length}
-use Rattle.pcp_model.specs.Written.{same_file, with_added}
+use Rattle.pcp_model.specs.Written.{with_added}
 use Rattle.archive_meta.specs.declared.facts.Facts.{Facts}
 use Rattle.archive_meta.specs.Missing.{framed_records}
 use Rattle.archive_meta.specs.Records.{Adds}
 use Rattle.archive_meta.proofs.Frames.{added_only}
 use Rattle.logger_core.specs.declared.ends.Ends.{Ends}
-use Rattle.logger_core.specs.declared.groups.Run.{Run}
 use Rattle.logger_core.specs.declared.preparing.Made.{Made}
 use Rattle.logger_core.specs.Going.{AreSmall}
 use Rattle.logger_core.specs.Grouping.{Told, LogsOne, LogsAll, AreAllEnough, AreLoggable, samples_of}
-use Rattle.logger_core.specs.Held.{IsBase, Grown, MayRun, IsRunOf, IsRunBounded, AreRuns, AreRunsBounded, AllCross, run_of, joined_run, with_made, after_run, counts_of}
-use Rattle.logger_core.specs.Logging.{IsMadeOf, IsLoggable}
+use Rattle.logger_core.specs.Held.{IsBase, Grown, MayRun, IsRunOf, IsRunBounded, run_of, after_run}
+use Rattle.logger_core.specs.Logging.{IsMadeOf}
 use Rattle.logger_core.specs.LogSteps.{base_files, base_number, crosses, with_run}
-use Rattle.logger_core.specs.Meant.{Meant, AreEnds, items_in}
-use Rattle.logger_core.specs.Planning.{planned_ends, ran_ends, ready_ends}
-use Rattle.logger_core.specs.Runs.{IsRunToCome, IsLastStamp}
+use Rattle.logger_core.specs.Meant.{Meant, AreEnds}
+use Rattle.logger_core.specs.Planning.{planned_ends, ready_ends}
 use Rattle.logger_core.specs.Writing.{IsBounded, MayBeWritten}
 use Rattle.logger_core.proofs.Loggable.{run_of as made_run, last_of as made_last, after_is, run_moved, last_moved}
-use Rattle.logger_core.proofs.Planned.{ready_meta, ready_volume, run_small, run_bounded, ran_twice, grown_ends, behind, behind_grown, base_already}
-use Rattle.logger_core.proofs.Pointwise.{added_same, added_twice, twice}
+use Rattle.logger_core.proofs.Planned.{ready_volume, run_small, run_bounded}
+use Rattle.logger_core.proofs.Pointwise.{added_same}
 use Rattle.logger_core.proofs.Refused.{bounded, loggable}
-use Rattle.logger_core.proofs.RunJoined.{run_joined, last_joined}
 
 -- ---- lists of results
 

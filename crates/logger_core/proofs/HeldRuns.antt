@@ -1,5 +1,5 @@
 -- Runs of results, one behind another, with one result more.
-use Rattle.std.proofs.Common.{zero, suc, ◌≡◌, ◌⊎◌, inl, inr, ⊎_elim, ℕ, ◌+◌, ◌<◌, ◌≤◌, Bool, true, false, List, [], ◌∷◌, ◌++◌, length, refl, sym, ap, ◌∙◌, subst, append_assoc, arith, length-append, cond}
+use Rattle.std.proofs.Common.{suc, ◌≡◌, ℕ, ◌+◌, ◌<◌, ◌≤◌, Bool, true, false, List, [], ◌∷◌, ◌++◌, length, refl, sym, ap, ◌∙◌, subst, append_assoc, arith, length-append}
 use Rattle.std.specs.Prelude.{◌≢◌, if◌then◌else◌, slice_get, take, Some, Result, Ok, Err, OnOk}
 use Rattle.std.proofs.Math.Seq.{take-append_seam}
 use Rattle.std.specs.List.{AllByRecursion}
@@ -7,12 +7,11 @@ use Rattle.std.proofs.lemmas.List.{append-nil}
 use Rattle.pcp_base.specs.Time.{Moment}
 use Rattle.pcp_base.specs.declared.file.FileId.{FileId}
 use Rattle.pcp_base.specs.declared.file.FileId.TheVariants.{Meta, Index, Volume}
-use Rattle.pcp_base.specs.declared.result.Item.{Item}
 use Rattle.pcp_base.specs.declared.result.Item.TheVariants.{Sample}
 use Rattle.pcp_model.specs.declared.records.MetaRecord.{MetaRecord}
 use Rattle.pcp_model.specs.Disk.{Files}
 use Rattle.pcp_model.specs.Payload.{payload_length}
-use Rattle.pcp_model.specs.Written.{same_file, with_added}
+use Rattle.pcp_model.specs.Written.{same_file}
 use Rattle.pcp_model.proofs.Lists.{each-split}
 use Rattle.archive_meta.specs.Missing.{framed_records}
 use Rattle.archive_meta.specs.Records.{Adds}
@@ -34,7 +33,7 @@ use Rattle.logger_core.specs.Runs.{IsRunToCome, IsLastStamp}
 use Rattle.logger_core.specs.Writing.{IsBounded, MayBeWritten}
 use Rattle.logger_core.proofs.Grouped.{samples_then, samples_many, loggable_then, logs_then, logs_one, one_loggable, may_write, one_small, one_run}
 use Rattle.logger_core.proofs.Loggable.{run_of as made_run, last_of as made_last, after_is}
-use Rattle.logger_core.proofs.Planned.{ready_meta, run_small, ran_twice, grown_ends, behind, behind_grown, base_already}
+use Rattle.logger_core.proofs.Planned.{ready_meta, ran_twice, grown_ends, behind, behind_grown, base_already}
 use Rattle.logger_core.proofs.Pointwise.{twice}
 use Rattle.logger_core.proofs.Refused.{bounded}
 use Rattle.logger_core.proofs.RunJoined.{run_joined, last_joined}

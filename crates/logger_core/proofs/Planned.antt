@@ -3,7 +3,6 @@ use Rattle.std.proofs.Common.{◌≡◌, inl, ℕ, ◌+◌, ◌<◌, ◌≤◌, 
 use Rattle.std.specs.Prelude.{Contains}
 use Rattle.std.proofs.lemmas.List.{append-nil}
 use Rattle.pcp_base.specs.Time.{Moment}
-use Rattle.pcp_base.specs.declared.file.FileId.{FileId}
 use Rattle.pcp_base.specs.declared.file.FileId.TheVariants.{Meta, Index, Volume}
 use Rattle.pcp_base.specs.declared.result.Item.{Item}
 use Rattle.pcp_model.specs.declared.records.Entry.{Entry}
@@ -16,10 +15,10 @@ use Rattle.pcp_outside.specs.Causes.{shown_count}
 use Rattle.logger_core.specs.declared.ends.Ends.{Ends}
 use Rattle.logger_core.specs.declared.preparing.Made.{Made}
 use Rattle.logger_core.specs.Going.{AreSmall, GrowsBy, all_counted}
-use Rattle.logger_core.specs.Held.{Grown, IsBase, IsRunBounded, run_of, after_run}
+use Rattle.logger_core.specs.Held.{Grown, IsBase, IsRunBounded, run_of}
 use Rattle.logger_core.specs.LogSteps.{base_number, with_run}
 use Rattle.logger_core.specs.Meant.{Meant, AreEnds, items_in}
-use Rattle.logger_core.specs.Planning.{due_at, switch_at, with_put, flushed_ends, opened_ends, switched_ends, ready_ends, ran_ends}
+use Rattle.logger_core.specs.Planning.{due_at, switch_at, with_put, flushed_ends, opened_ends, ready_ends, ran_ends}
 use Rattle.logger_core.specs.Runs.{IsLastStamp, IsReady}
 use Rattle.logger_core.specs.Steps.{last_entry}
 use Rattle.logger_core.specs.Writing.{IsBounded}

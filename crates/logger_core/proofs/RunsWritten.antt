@@ -1,21 +1,19 @@
 -- A run is written, and then the runs behind it.
-use Rattle.std.proofs.Common.{zero, suc, ◌≡◌, ◌⊎◌, inl, inr, ⊎_elim, ℕ, ◌+◌, ◌<◌, ◌≤◌, true, false, List, [], ◌∷◌, ◌++◌, length, take, refl, sym, ap, ◌∙◌, subst, append_assoc, arith, length-append}
-use Rattle.std.specs.Prelude.{slice_get, Some, Result, Ok, Err, IfOk, IfErr}
-use Rattle.std.specs.List.{AllByRecursion}
+use Rattle.std.proofs.Common.{suc, ◌≡◌, inl, inr, ⊎_elim, ℕ, ◌+◌, true, List, [], ◌∷◌, ◌++◌, length, take, refl, sym, ap, ◌∙◌, subst, append_assoc, arith}
+use Rattle.std.specs.Prelude.{slice_get, Some, Result, Ok, Err, IfOk}
 use Rattle.std.proofs.Math.Seq.{take-append-add}
 use Rattle.std.proofs.lemmas.Option.{same_Some}
 use Rattle.pcp_base.specs.declared.result.Item.{Item}
 use Rattle.pcp_model.specs.declared.records.MetaRecord.{MetaRecord}
-use Rattle.pcp_model.specs.Disk.{Files, Holdings, bytes_of}
-use Rattle.pcp_model.specs.LabelFields.{LabelFields}
+use Rattle.pcp_model.specs.Disk.{Files, Holdings}
 use Rattle.pcp_model.specs.Payload.{payload_length}
 use Rattle.pcp_model.proofs.Lists.{each-split}
 use Rattle.archive_meta.specs.Enough.{AreEnough}
 use Rattle.logger_core.specs.declared.ends.Ends.{Ends}
 use Rattle.logger_core.specs.declared.groups.Run.{Run}
 use Rattle.logger_core.specs.Going.{GrownTo, OnlyGrows}
-use Rattle.logger_core.specs.Grouping.{Told, LogsAll, AreAllEnough, AreLoggable, AreWritten, BeginsRun, HoldsAll, samples_of}
-use Rattle.logger_core.specs.Held.{IsBase, MayRun, IsRunOf, AreRuns, AllCross, RunWritten, after_run}
+use Rattle.logger_core.specs.Grouping.{Told, LogsAll, AreAllEnough, AreLoggable, AreWritten, BeginsRun, samples_of}
+use Rattle.logger_core.specs.Held.{MayRun, IsRunOf, AreRuns, AllCross, RunWritten, after_run}
 use Rattle.logger_core.specs.Keeps.{Start}
 use Rattle.logger_core.specs.Laws.{Survives}
 use Rattle.logger_core.specs.Logging.{IsLoggable}

@@ -20,7 +20,7 @@ use Rattle.logger_core.specs.declared.fault.LogFault.TheVariants.{Closed, Large,
 use Rattle.logger_core.specs.Going.{acknowledged_before}
 use Rattle.logger_core.specs.Logging.{IsLogged, IsLoggable, IsRefused, closed_with}
 use Rattle.logger_core.specs.LogSteps.{LogStep, base_number, crosses, entries_put}
-use Rattle.logger_core.specs.Meant.{Meant, Kept, IsLogger, items_in}
+use Rattle.logger_core.specs.Meant.{Meant, Kept, IsLogger}
 use Rattle.logger_core.specs.Planning.{planned_ends}
 
 -- a result, and the facts that describe it

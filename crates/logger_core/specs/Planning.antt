@@ -1,5 +1,5 @@
 -- Where the files will end: what the writes of a run leave, in numbers, before any of them is made.
-use Rattle.std.specs.Prelude.{◌≡◌, ℕ, ◌+◌, Bool, if◌then◌else◌, Option, None, Some}
+use Rattle.std.specs.Prelude.{ℕ, ◌+◌, Bool, if◌then◌else◌, Option, None, Some}
 use Rattle.pcp_base.specs.Time.{Moment}
 use Rattle.pcp_model.specs.declared.records.Entry.{Entry}
 use Rattle.pcp_outside.specs.Causes.{shown_count}

@@ -1,8 +1,7 @@
 -- The first run, and then those behind it.
-use Rattle.std.proofs.Common.{[], ◌∷◌, ◌≡◌, ◌+◌, ◌<◌, List, length, rules, refl, sym, ap, ◌∙◌, subst, arith}
+use Rattle.std.proofs.Common.{◌+◌, ◌<◌, length, rules, refl, sym, ap, ◌∙◌, subst, arith}
 use Rattle.std.proofs.lemmas.List.{nil_from_length}
 use Rattle.logger_core.specs.declared.ends.Ends.{Ends}
-use Rattle.logger_core.specs.declared.groups.Run.{Run}
 use Rattle.logger_core.specs.Going.{AreSmall}
 use Rattle.logger_core.specs.Grouping.{BeginsRun, samples_of}
 use Rattle.logger_core.specs.Held.{AreRuns, AreRunsBounded, after_run, counts_of}

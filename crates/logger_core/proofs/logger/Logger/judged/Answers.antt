@@ -1,5 +1,5 @@
 -- The results are judged one after another, from no runs on.
-use Rattle.std.proofs.Common.{[], ◌+◌, length, ap, arith}
+use Rattle.std.proofs.Common.{[], ap, arith}
 use Rattle.logger_core.specs.Held.{counts_of}
 use Rattle.logger_core.specs.Meant.{Kept}
 use Rattle.logger_core.proofs.GroupLogged.{judged_all, judged_none, judged_some, none_held}

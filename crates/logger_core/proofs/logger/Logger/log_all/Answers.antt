@@ -1,13 +1,12 @@
 -- What was judged is written.
 use Rattle.std.proofs.Common.{refl, subst}
-use Rattle.std.specs.Prelude.{◌≡◌, take}
+use Rattle.std.specs.Prelude.{◌≡◌}
 use Rattle.logger_core.specs.Grouping.{GroupMayAnswer, LeavesFirst, samples_of}
 use Rattle.logger_core.specs.Held.{IsJudgedBy, held_of}
 use Rattle.logger_core.specs.Meant.{Kept}
 use Rattle.logger_core.specs.Runs.{SurvivesWith}
 use Rattle.logger_core.proofs.Calls.{no_call, run_as}
 use Rattle.logger_core.proofs.GroupLogged.{always_open, answer_on, answers_done, answers_fault, answers_first, answers_loggable, answers_open, answers_touched, disk_answer, front_written, given_runs, held_enough, held_survives, inside_at, inside_bounded, inside_few, inside_label, judge_answer, judge_leaves, meant_runs, ok_always}
-use Rattle.logger_core.proofs.Keeping.{handed_on}
 use Rattle.logger_core.proofs.Loggable.{survives_more}
 use Rattle.logger_core.proofs.Rests.{image_survives}
 use Rattle.logger_core.proofs.logger.Logger.log_all.Goals as goal
