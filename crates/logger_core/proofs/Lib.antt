@@ -3,6 +3,10 @@ pub mod AsFound
 pub mod Calls
 pub mod Dues
 pub mod EntryPut
+pub mod Grouped
+pub mod GroupLogged
+pub mod Growing
+pub mod HeldRuns
 pub mod Items
 pub mod ItemsPut
 pub mod Keeping
@@ -11,13 +15,16 @@ pub mod Nearer
 pub mod NewArchive
 pub mod NoItems
 pub mod Opened
+pub mod Planned
 pub mod Pointwise
 pub mod RecordsPut
 pub mod Recovered
 pub mod Refused
 pub mod Reopened
 pub mod Rests
+pub mod RunJoined
 pub mod RunPut
+pub mod RunsWritten
 pub mod StillDescribed
 pub mod Survival
 pub mod Switched

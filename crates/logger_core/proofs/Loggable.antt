@@ -33,7 +33,7 @@ use Rattle.logger_core.specs.Keeps.{Start}
 use Rattle.logger_core.specs.Laws.{AreRecordsToCome, IsRecordAfter, Survives}
 use Rattle.logger_core.specs.Logging.{IsLater}
 use Rattle.logger_core.specs.LogSteps.{base_files, base_number, with_run, crosses}
-use Rattle.logger_core.specs.Meant.{Meant, IsAt, SurvivesOf, items_in}
+use Rattle.logger_core.specs.Meant.{Meant, AreEnds, IsAt, SurvivesOf, items_in}
 use Rattle.logger_core.specs.Going.{GrownTo}
 use Rattle.logger_core.specs.Runs.{Rise, IsRunToCome, IsLastStamp, IsReady, SurvivesWith}
 use Rattle.logger_core.specs.Steps.{IsGreatest}
@@ -86,12 +86,12 @@ module _ (P : MetaRecord → Type 0) (descriptions : (d : Desc) (names : List (L
 
 -- ---- the run of one result
 
-module _ (m : Meant) (e : Ends) (held : Holdings) (limit : ℕ) (answer : PmResult) (facts : Facts) (after : List MetaRecord) (made : Made) (at : IsAt m e held) (w : MayBeWritten m e limit answer facts after made) where
+module _ (m : Meant) (e : Ends) (limit : ℕ) (answer : PmResult) (facts : Facts) (after : List MetaRecord) (made : Made) (ends : AreEnds m e) (w : MayBeWritten m e limit answer facts after made) where
   abbrev missing : List MetaRecord
   missing = w.is.metadata.missing
 
   before : AllByRecursion (IsBefore answer.stamp) (items_in m)
-  before = items_before m.contents e.greatest answer.stamp at.ends.greatest w.is.later
+  before = items_before m.contents e.greatest answer.stamp ends.greatest w.is.later
 
   no_item_after : NoItemAfter answer.stamp (items_in m)
   no_item_after = each-map (IsBefore answer.stamp) (IsItemBy answer.stamp) (λ x lt. omega (arith, lt)) (items_in m) before
@@ -134,7 +134,7 @@ module _ (m : Meant) (e : Ends) (held : Holdings) (limit : ℕ) (answer : PmResu
     are = refl;
     stamped = refl;
     before = each-append (IsItemBy answer.stamp) (items_in m) (Sample answer ∷ []) no_item_after (omega arith, tt);
-    domains = each-append (IsRecordBy answer.stamp) m.contents.records missing (domains_before m.contents e.greatest answer.stamp at.ends.greatest w.is.later)
+    domains = each-append (IsRecordBy answer.stamp) m.contents.records missing (domains_before m.contents e.greatest answer.stamp ends.greatest w.is.later)
         (each_missing (IsRecordBy answer.stamp) (λ d names. tt) answer.stamp (λ i pairs. omega arith) m.contents.records facts answer missing refl w.is.metadata.needed);
   }
 
@@ -213,7 +213,7 @@ module _ (m : Meant) (e start now : Ends) (held mid new : Holdings) (limit : ℕ
     still = omega (arith, ready.still, g.0.acknowledged_is);
     acknowledged_is = g.0.acknowledged_is ∙ ready.acknowledged_is;
     label_same = g.0.longer.label ∙ ready.label_same;
-    records_are = g.0.longer.records ∙ ap (λ rs. rs ++ w.is.metadata.missing) ready.records_same ∙ sym (after_is m e held limit answer facts after made at w);
+    records_are = g.0.longer.records ∙ ap (λ rs. rs ++ w.is.metadata.missing) ready.records_same ∙ sym (after_is m e limit answer facts after made at.ends w);
     at = record { stands = g.0.stands; ends = g.1 };
   }
 
@@ -229,14 +229,14 @@ item_ok m e start held mid new limit answer facts after made at w ready (Err x) 
 
 module _ (m : Meant) (e start : Ends) (held mid : Holdings) (limit : ℕ) (answer : PmResult) (facts : Facts) (after : List MetaRecord) (made : Made) (at : IsAt m e held) (w : MayBeWritten m e limit answer facts after made) (ready : IsReady m e start made.crossing mid) where
   moved_run : IsRunToCome ready.new w.is.metadata.missing (Sample answer ∷ []) made.records made.item
-  moved_run = run_moved m ready.new ready.started ready.records_same ready.items_same w.is.metadata.missing (Sample answer ∷ []) made.records made.item (run_of m e held limit answer facts after made at w)
+  moved_run = run_moved m ready.new ready.started ready.records_same ready.items_same w.is.metadata.missing (Sample answer ∷ []) made.records made.item (run_of m e limit answer facts after made at.ends w)
 
   pub ready_run : (records item : List ℕ) → records ≡ made.records → item ≡ made.item → IsRunToCome ready.new w.is.metadata.missing (Sample answer ∷ []) records item
   ready_run records item first second =
       subst (λ t. IsRunToCome ready.new w.is.metadata.missing (Sample answer ∷ []) t item) (sym first) (subst (λ t. IsRunToCome ready.new w.is.metadata.missing (Sample answer ∷ []) made.records t) (sym second) moved_run)
 
   pub ready_last : IsLastStamp ready.new w.is.metadata.missing (Sample answer ∷ []) answer.stamp
-  ready_last = last_moved m ready.new ready.started ready.records_same ready.items_same w.is.metadata.missing (Sample answer ∷ []) answer.stamp (last_of m e held limit answer facts after made at w)
+  ready_last = last_moved m ready.new ready.started ready.records_same ready.items_same w.is.metadata.missing (Sample answer ∷ []) answer.stamp (last_of m e limit answer facts after made at.ends w)
 
   pub ready_survives : (image : Files) → SurvivesWith ready.new (Sample answer ∷ []) image → SurvivesWith m (Sample answer ∷ []) image
   ready_survives image s = survives_moved m ready.new ready.started ready.records_same ready.items_same w.is.metadata.missing (Sample answer ∷ []) image ready.still s

@@ -14,7 +14,7 @@ added_same file bytes f h same g = ap (λ t. cond (same_file file g) (t ++ bytes
 pub other_added : (file : FileId) (bytes : List ℕ) (f : Files) (g : FileId) → same_file file g ≡ false → with_added file bytes f g ≡ f g
 other_added file bytes f g other = ap (λ b. cond b (f g ++ bytes) (f g)) other
 
-twice : (b : Bool) (t x y : List ℕ) → cond b (cond b (t ++ x) t ++ y) (cond b (t ++ x) t) ≡ cond b (t ++ (x ++ y)) t
+pub twice : (b : Bool) (t x y : List ℕ) → cond b (cond b (t ++ x) t ++ y) (cond b (t ++ x) t) ≡ cond b (t ++ (x ++ y)) t
 twice true t x y = append_assoc t x y
 twice false t x y = refl
 

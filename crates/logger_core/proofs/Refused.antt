@@ -87,7 +87,7 @@ module _ (records : List MetaRecord) (ends : Ends) (limit : ℕ) (answer : PmRes
         (by_and (nat_lt 132 ends.length) (nat_lt limit (ends.length + (payload_length answer + 8))) (sym is.crossing_is ∙ stays));
   }
 
-  pub loggable : (made : Made) → IsMadeOf records ends limit answer facts made → IsLoggable records ends limit answer facts
+  abbrev pub loggable : (made : Made) → IsMadeOf records ends limit answer facts made → IsLoggable records ends limit answer facts
   loggable made is = record {
     framed = is.framed;
     later = is.later;

@@ -25,7 +25,7 @@ use Rattle.logger_core.specs.Steps.{last_entry}
 use Rattle.logger_core.proofs.Pointwise.{added_same}
 use Rattle.logger_core.proofs.Whole.{next_contains}
 
-contains_last : {X : Type 0} (xs : List X) (x : X) → Contains (xs ++ x ∷ []) x
+pub contains_last : {X : Type 0} (xs : List X) (x : X) → Contains (xs ++ x ∷ []) x
 contains_last [] x = (0, omega arith, refl)
 contains_last (y ∷ ys) x = next_contains y (ys ++ x ∷ []) x (contains_last ys x)
 

@@ -1,5 +1,5 @@
 -- A flush and a switch, as wholes.
-use Rattle.std.proofs.Common.{◌≡◌, ℕ, ◌+◌, ◌<◌, ◌≤◌, true, false, [], length, Option, None, Some, refl, sym, ap, ◌∙◌, subst, arith}
+use Rattle.std.proofs.Common.{◌≡◌, ℕ, ◌+◌, ◌<◌, ◌≤◌, true, false, [], ◌++◌, length, Option, None, Some, refl, sym, ap, ◌∙◌, subst, append_assoc, arith}
 use Rattle.std.specs.Prelude.{option_to_list, pos, Result, Ok, Err, IfOk}
 use Rattle.pcp_model.specs.Labels.{label}
 use Rattle.std.proofs.lemmas.List.{append-nil}
@@ -10,9 +10,10 @@ use Rattle.pcp_model.specs.declared.records.Entry.{Entry}
 use Rattle.pcp_model.specs.Disk.{Files, Holdings}
 use Rattle.pcp_model.specs.LabelFields.{LabelFields}
 use Rattle.logger_core.specs.declared.ends.Ends.{Ends}
-use Rattle.logger_core.specs.LogSteps.{switch_entry, with_new_volume}
+use Rattle.logger_core.specs.LogSteps.{entries_put, switch_entry, with_new_volume}
 use Rattle.logger_core.specs.Meant.{Meant, AreEnds, IsAt, SurvivesOf, items_in}
 use Rattle.logger_core.specs.Going.{HasRoomIfAny, LeadsToEnds, LeadIfAny, IsVolumeSure, GrowsBy, GrownTo, FlushIsDone, all_acknowledged}
+use Rattle.logger_core.specs.Planning.{due_at, switch_at}
 use Rattle.logger_core.specs.Runs.{IsReady}
 use Rattle.logger_core.specs.Steps.{IsGreatest, due, due_in, up_to, last_entry, with_entry}
 use Rattle.logger_core.proofs.Dues.{Due, due_is, due_capped, fitting_is, room_if_any, lead_if_any}
@@ -61,6 +62,7 @@ module _ (m : Meant) (e synced now : Ends) (held new : Holdings) (at : IsAt m e 
     files_are = λ file. g.0.files_are file ∙ ap (λ o. with_entry o m.files file) due_is_same;
     label_same = g.0.longer.label;
     records_same = g.0.longer.records ∙ append-nil m.contents.records;
+    entries_are = g.0.longer.entries ∙ ap (λ (o : Option Entry). m.contents.entries ++ option_to_list o) due_is_same;
     items_same = g.0.longer.items ∙ append-nil (items_in m);
     all = g.0.acknowledged_is;
     at = record { stands = g.0.stands; ends = g.1 };
@@ -116,12 +118,19 @@ module _ (m : Meant) (l : LabelFields) (e flush open_ now : Ends) (new mid : Hol
       ∙ ap (λ (n : ℕ). switch_entry e.greatest (length (flushed_files Index)) n open_.meta) number_is
       ∙ ap (λ (n : ℕ). switch_entry e.greatest (length (flushed_files Index)) (e.volume + 1) n) meta_is
 
+  switched_entries : g.0.new.contents.entries ≡ m.contents.entries ++ entries_put true m.files m.contents e.volume e.greatest
+  switched_entries =
+      g.0.longer.entries ∙ ap (λ x. o.0.new.contents.entries ++ option_to_list x) entry_is
+      ∙ ap (λ es. es ++ option_to_list (switch_entry e.greatest (length (flushed_files Index)) (e.volume + 1) (length (flushed_files Meta)))) (o.0.longer.entries ∙ append-nil f.new.contents.entries ∙ f.entries_are)
+      ∙ append_assoc m.contents.entries (option_to_list (due_in m.files m.contents e.volume e.greatest)) (option_to_list (switch_entry e.greatest (length (flushed_files Index)) (e.volume + 1) (length (flushed_files Meta))))
+
   pub switched_ready : IsReady m e now true new
   switched_ready = record {
     new = g.0.new;
     started = g.0.started ∙ o.0.started ∙ f.started;
     label_same = g.0.longer.label ∙ o.0.longer.label ∙ f.label_same;
     records_same = g.0.longer.records ∙ append-nil o.0.new.contents.records ∙ o.0.longer.records ∙ append-nil f.new.contents.records ∙ f.records_same;
+    entries_are = switched_entries;
     items_same = g.0.longer.items ∙ append-nil (items_in o.0.new) ∙ o.0.longer.items ∙ append-nil (items_in f.new) ∙ f.items_same;
     still = omega (arith, few, g.0.acknowledged_is, o.0.acknowledged_is, f.all);
     acknowledged_is = g.0.acknowledged_is ∙ o.0.acknowledged_is ∙ f.all;
@@ -132,16 +141,13 @@ module _ (m : Meant) (l : LabelFields) (e flush open_ now : Ends) (new mid : Hol
   }
 
 pub ready_already : (m : Meant) (e : Ends) (held : Holdings) → IsAt m e held → IsReady m e e false held
-ready_already m e held at = record { new = m; started = refl; label_same = refl; records_same = refl; items_same = refl; still = omega arith; acknowledged_is = refl; files_are = λ file. refl; number = refl; at = at }
+ready_already m e held at = record { new = m; started = refl; label_same = refl; records_same = refl; entries_are = sym (append-nil m.contents.entries); items_same = refl; still = omega arith; acknowledged_is = refl; files_are = λ file. refl; number = refl; at = at }
 
 -- ---- the same with what was found due
 
 pub ok_map : {T E : Type 0} (r : Result T E) (P Q : T → Type 0) → IfOk r P → ((x : T) → P x → Q x) → IfOk r Q
 ok_map (Ok x) P Q was f = f x was
 ok_map (Err e) P Q was f = tt
-
-abbrev pub due_at : Ends → Option Entry
-due_at e = due e.greatest e.logged e.entry e.index e.volume e.meta e.length
 
 pub found_room : (e : Ends) (o : Option Entry) → o ≡ due_at e → HasRoomIfAny e o
 found_room e o is = subst (HasRoomIfAny e) (sym is) (due_room e)
@@ -179,9 +185,6 @@ flushed_survives m e after held new at f image w = later_survives m f.new f.star
 
 pub grown_survives : (m : Meant) (files : Files) (number : ℕ) (held : Holdings) (g : GrowsBy m [] [] [] files number held) → (image : Files) → SurvivesOf g.new image → SurvivesOf m image
 grown_survives m files number held g image w = later_survives m g.new g.started (g.longer.items ∙ append-nil (items_in m)) (omega (arith, g.acknowledged_is)) image w
-
-abbrev pub switch_at : Ends → Option Entry
-switch_at e = switch_entry e.greatest e.index e.volume e.meta
 
 pub switch_found_room : (e : Ends) (o : Option Entry) → o ≡ switch_at e → HasRoomIfAny e o
 switch_found_room e o is = subst (HasRoomIfAny e) (sym is) (switch_room e)

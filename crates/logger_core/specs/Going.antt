@@ -1,11 +1,11 @@
 -- How a call goes on: what it makes of what a logger means, and what the disk then holds.
-use Rattle.std.specs.Prelude.{◌≡◌, ℕ, ◌+◌, ◌<◌, ◌≤◌, Bool, if◌then◌else◌, List, [], length, Option, None, Some}
+use Rattle.std.specs.Prelude.{◌≡◌, ℕ, ◌+◌, ◌<◌, ◌≤◌, Bool, if◌then◌else◌, List, [], ◌++◌, length, Option, None, Some, option_to_list}
 use Rattle.pcp_base.specs.declared.file.FileId.{FileId}
 use Rattle.pcp_base.specs.declared.file.FileId.TheVariants.{Volume}
 use Rattle.pcp_base.specs.declared.result.Item.{Item}
 use Rattle.pcp_model.specs.declared.records.Entry.{Entry}
 use Rattle.pcp_model.specs.declared.records.MetaRecord.{MetaRecord}
-use Rattle.pcp_model.specs.Disk.{Files, Holdings}
+use Rattle.pcp_model.specs.Disk.{Files, Holdings, bytes_of}
 use Rattle.pcp_model.specs.Laws.{IsLonger}
 use Rattle.pcp_model.specs.Sound.{NoItemAfter, NoDomainAfter}
 use Rattle.logger_core.specs.declared.ends.Ends.{Ends}
@@ -92,6 +92,7 @@ pub record FlushIsDone (m : Meant) (e after : Ends) (held : Holdings) : Type 0 w
   pub files_are : (file : FileId) → new.files file ≡ with_entry (due_in m.files m.contents e.volume e.greatest) m.files file
   pub label_same : new.contents.label ≡ m.contents.label
   pub records_same : new.contents.records ≡ m.contents.records
+  pub entries_are : new.contents.entries ≡ m.contents.entries ++ option_to_list (due_in m.files m.contents e.volume e.greatest)
   pub items_same : items_in new ≡ items_in m
   pub all : new.acknowledged ≡ length (items_in m)
   pub at : IsAt new after held
@@ -104,3 +105,7 @@ pub record IsFlushed (m : Meant) (old now : Kept) (held : Holdings) : Type 0 whe
   pub items_same : items_in new ≡ items_in m
   pub all : new.acknowledged ≡ length (items_in m)
   pub is : IsLogger new now held
+
+-- no file lost a byte: each holds what it held, and perhaps more behind it
+abbrev pub OnlyGrows : Holdings → Holdings → Type 0
+OnlyGrows old new = (file : FileId) → (more : List ℕ) × (bytes_of (new file) ≡ bytes_of (old file) ++ more)

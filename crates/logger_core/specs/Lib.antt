@@ -1,10 +1,13 @@
 pub mod Created
 pub mod Going
+pub mod Held
 pub mod Keeps
+pub mod Grouping
 pub mod LogSteps
 pub mod Laws
 pub mod Logging
 pub mod Meant
+pub mod Planning
 pub mod Preparing
 pub mod Recovering
 pub mod Refusals

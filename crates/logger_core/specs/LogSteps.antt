@@ -1,6 +1,6 @@
 -- The files after one logged item, as whole lists (pmlogger(1), LOGARCHIVE(5)): where the item's record would pass the volume
 -- limit the archive goes on in the next volume; then come the metadata that are missing, and then the item.
-use Rattle.std.specs.Prelude.{◌≡◌, ℕ, pos, ◌+◌, Bool, ◌&&◌, nat_lt, if◌then◌else◌, List, length, Option, None, Some}
+use Rattle.std.specs.Prelude.{◌≡◌, ℕ, pos, ◌+◌, Bool, ◌&&◌, nat_lt, if◌then◌else◌, List, [], ◌++◌, length, Option, None, Some, option_to_list}
 use Rattle.pcp_base.specs.Time.{Moment}
 use Rattle.pcp_base.specs.declared.file.FileId.{FileId}
 use Rattle.pcp_base.specs.declared.file.FileId.TheVariants.{Meta, Index, Volume}
@@ -40,6 +40,14 @@ files_after_switch files c number greatest = with_next c.label (number + 1) grea
 
 abbrev pub base_files : Bool → Files → ArchiveContents → ℕ → Option Moment → Files
 base_files b files c number greatest = if b then files_after_switch files c number greatest else files
+
+-- the entries that a switch puts behind the index
+abbrev pub switch_entries : Option Entry → Option Moment → ℕ → ℕ → ℕ → List Entry
+switch_entries flushed greatest size next meta = option_to_list flushed ++ option_to_list (switch_entry greatest size next meta)
+
+abbrev pub entries_put : Bool → Files → ArchiveContents → ℕ → Option Moment → List Entry
+entries_put b files c number greatest =
+    if b then switch_entries (due_in files c number greatest) greatest (length (with_entry (due_in files c number greatest) files Index)) (number + 1) (length (with_entry (due_in files c number greatest) files Meta)) else []
 
 abbrev pub base_number : Bool → ℕ → ℕ
 base_number b number = if b then number + 1 else number

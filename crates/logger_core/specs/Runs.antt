@@ -14,7 +14,7 @@ use Rattle.pcp_model.specs.Sound.{NoItemAfter, NoDomainAfter}
 use Rattle.logger_core.specs.declared.ends.Ends.{Ends}
 use Rattle.logger_core.specs.Going.{acknowledged_before}
 use Rattle.logger_core.specs.Laws.{AreRecordsToCome, Survives}
-use Rattle.logger_core.specs.LogSteps.{base_files, base_number}
+use Rattle.logger_core.specs.LogSteps.{base_files, base_number, entries_put}
 use Rattle.logger_core.specs.Meant.{Meant, items_in, IsAt}
 
 -- each is stamped not before any that stands before it
@@ -55,6 +55,7 @@ pub record IsReady (m : Meant) (e after : Ends) (crossing : Bool) (held : Holdin
   pub started : new.start ≡ m.start
   pub label_same : new.contents.label ≡ m.contents.label
   pub records_same : new.contents.records ≡ m.contents.records
+  pub entries_are : new.contents.entries ≡ m.contents.entries ++ entries_put crossing m.files m.contents e.volume e.greatest
   pub items_same : items_in new ≡ items_in m
   pub still : m.acknowledged ≤ new.acknowledged
   pub acknowledged_is : new.acknowledged ≡ acknowledged_before crossing m

@@ -1,5 +1,6 @@
 //! Which entry the index gets.
 ghost use Rattle.std.specs.Prelude.{◌≡◌, ◌<◌, IfSome};
+ghost use Rattle.logger_core.specs.LogSteps.{switch_entry as switch_entry_lem};
 ghost use Rattle.logger_core.specs.Steps.{up_to, fits_index, fitting, is_behind, where_behind, due as due_lem};
 
 use crate::ends::Ends;
@@ -47,4 +48,15 @@ pub(crate) fn due(ends: &Ends) -> Option<Entry>
     } else {
         None
     }
+}
+
+/// The number of bytes in a label.
+pub(crate) const LABEL: u64 = 132;
+
+/// The entry that leads to the label of the volume that was opened.
+pub(crate) fn switch_entry(ends: &Ends) -> Option<Entry>
+    ensures { result ≡ switch_entry_lem ends.now.greatest ends.now.index ends.now.volume ends.now.meta }
+{
+    let stamp = ends.greatest?;
+    fitting(ends.index, stamp, ends.volume, ends.meta, LABEL)
 }

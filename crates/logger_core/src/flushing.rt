@@ -3,12 +3,14 @@ ghost use Rattle.std.specs.Prelude.{◌≡◌, IfOk};
 ghost use Rattle.pcp_outside.specs.Causes.{HasCause};
 ghost use Rattle.pcp_outside.specs.Devices.{LeavesOnly};
 ghost use Rattle.std.specs.Prelude.{[], ◌∷◌, option_to_list, Some};
-ghost use Rattle.logger_core.specs.Going.{AreSmall, all_acknowledged, all_counted, IsVolumeSure, GrownTo, LeadsToEnds, LeadIfAny, HasRoom, HasRoomIfAny, FlushIsDone};
+ghost use Rattle.logger_core.specs.Going.{AreSmall, all_acknowledged, all_counted, IsVolumeSure, GrownTo, LeadsToEnds, LeadIfAny, HasRoom, HasRoomIfAny, FlushIsDone, OnlyGrows};
 ghost use Rattle.logger_core.specs.Meant.{Meant, IsAt, SurvivesOf};
+ghost use Rattle.logger_core.specs.Planning.{with_put, flushed_ends};
 ghost use Rattle.logger_core.specs.Steps.{with_entry};
 
 use crate::ends::Ends;
 use crate::entries::due;
+use crate::planning::{all_counted, with_put};
 use pcp_model::Entry;
 use pcp_outside::{Disk, Failed, FileId};
 use temporal_index::entry_bytes;
@@ -20,14 +22,13 @@ pub(crate) fn sync_volume<D: Disk>(disk: &mut D, ends: &Ends) -> Result<Ends, Fa
     ensures sure { D.tells → IfOk result (λ e. IsVolumeSure e.volume (D.held disk.new)) }
     ensures any_moment { D.tells → (m : Meant) → IsAt m ends.now (D.held disk.old) → LeavesOnly D.moment D.left_since disk.old disk.new (SurvivesOf m) }
     ensures counted { IfOk result (λ e. e ≡ all_counted ends.now) }
+    ensures grows { D.tells → OnlyGrows (D.held disk.old) (D.held disk.new) }
     ensures small { IfOk result AreSmall }
     ensures same { IfOk result (λ e. (e.volume ≡ ends.now.volume) × (e.greatest ≡ ends.now.greatest) × (e.meta ≡ ends.now.meta) × (e.length ≡ ends.now.length)) }
     ensures cause { HasCause (D.faults disk.old) (D.faults disk.new) result }
 {
     disk.sync(FileId::Volume(ends.volume))?;
-    let mut next = *ends;
-    next.acknowledged = next.logged;
-    Ok(next)
+    Ok(all_counted(ends))
 }
 
 /// Puts an entry behind the index that leads up to the ends of Meta and of the volume, which are sure.
@@ -37,16 +38,15 @@ fn put_entry<D: Disk>(disk: &mut D, ends: &Ends, entry: Entry) -> Result<Ends, F
     ensures ok { D.tells → (m : Meant) → IsAt m ends.now (D.held disk.old) → LeadsToEnds m ends.now (D.held disk.old) entry → IfOk result (λ e. GrownTo m [] (entry ∷ []) [] (with_entry (Some entry) m.files) e (D.held disk.new)) }
     ensures sure { D.tells → IsVolumeSure ends.now.volume (D.held disk.old) → IfOk result (λ e. IsVolumeSure e.volume (D.held disk.new)) }
     ensures any_moment { D.tells → (m : Meant) → IsAt m ends.now (D.held disk.old) → LeadsToEnds m ends.now (D.held disk.old) entry → LeavesOnly D.moment D.left_since disk.old disk.new (SurvivesOf m) }
+    ensures exact { IfOk result (λ e. e ≡ with_put (Some entry) ends.now) }
+    ensures grows { D.tells → OnlyGrows (D.held disk.old) (D.held disk.new) }
     ensures small { IfOk result AreSmall }
     ensures same { IfOk result (λ e. (e.volume ≡ ends.now.volume) × (e.greatest ≡ ends.now.greatest) × (e.meta ≡ ends.now.meta) × (e.length ≡ ends.now.length)) }
     ensures cause { HasCause (D.faults disk.old) (D.faults disk.new) result }
 {
     let bytes = entry_bytes(&entry);
     disk.append(FileId::Index, &bytes)?;
-    let mut next = *ends;
-    next.index += 20;
-    next.entry = Some(entry);
-    Ok(next)
+    Ok(with_put(ends, Some(entry)))
 }
 
 /// Puts an entry behind the index, if there is one.
@@ -60,6 +60,8 @@ pub(crate) fn add_entry<D: Disk>(
     ensures ok { D.tells → (m : Meant) → IsAt m ends.now (D.held disk.old) → LeadIfAny m ends.now (D.held disk.old) entry → IfOk result (λ e. GrownTo m [] (option_to_list entry) [] (with_entry entry m.files) e (D.held disk.new)) }
     ensures sure { D.tells → IsVolumeSure ends.now.volume (D.held disk.old) → IfOk result (λ e. IsVolumeSure e.volume (D.held disk.new)) }
     ensures any_moment { D.tells → (m : Meant) → IsAt m ends.now (D.held disk.old) → LeadIfAny m ends.now (D.held disk.old) entry → LeavesOnly D.moment D.left_since disk.old disk.new (SurvivesOf m) }
+    ensures exact { IfOk result (λ e. e ≡ with_put entry ends.now) }
+    ensures grows { D.tells → OnlyGrows (D.held disk.old) (D.held disk.new) }
     ensures small { IfOk result AreSmall }
     ensures same { IfOk result (λ e. (e.volume ≡ ends.now.volume) × (e.greatest ≡ ends.now.greatest) × (e.meta ≡ ends.now.meta) × (e.length ≡ ends.now.length)) }
     ensures cause { HasCause (D.faults disk.old) (D.faults disk.new) result }
@@ -76,6 +78,8 @@ pub(crate) fn flush_files<D: Disk>(disk: &mut D, ends: &Ends) -> Result<Ends, Fa
     ensures ok { D.tells → (m : Meant) → IsAt m ends.now (D.held disk.old) → IfOk result (λ e. FlushIsDone m ends.now e (D.held disk.new)) }
     ensures any_moment { D.tells → (m : Meant) → IsAt m ends.now (D.held disk.old) → LeavesOnly D.moment D.left_since disk.old disk.new (SurvivesOf m) }
     ensures sure { D.tells → IfOk result (λ e. IsVolumeSure e.volume (D.held disk.new)) }
+    ensures exact { IfOk result (λ e. e ≡ flushed_ends ends.now) }
+    ensures grows { D.tells → OnlyGrows (D.held disk.old) (D.held disk.new) }
     ensures small { IfOk result AreSmall }
     ensures same { IfOk result (λ e. (e.volume ≡ ends.now.volume) × (e.greatest ≡ ends.now.greatest) × (e.meta ≡ ends.now.meta) × (e.length ≡ ends.now.length)) }
     ensures cause { HasCause (D.faults disk.old) (D.faults disk.new) result }

@@ -1,5 +1,6 @@
 //! What holds of what a logger keeps. Each is the contract of a function without parameters, which does nothing.
 ghost use Rattle.logger_core.specs.Recovering.{SurvivorsAreRecovered};
+ghost use Rattle.logger_core.specs.Grouping.{GroupOfOneIsLogged};
 ghost use Rattle.logger_core.specs.Laws.{KeptFilesSurvive, NearerIsKept, SureIsAcknowledged, SureIsKnown, ItemIsAnnounced, RecordsAreAnnounced, LaterRecordsDescribe, EntryIsAnnounced, VolumeIsAnnounced, WholeIsKept, RecoveredIsWhole};
 
 /// Whatever a crash leaves of what a logger keeps is an archive of the first of its items, with all acknowledged ones,
@@ -63,4 +64,9 @@ pub fn recovered_is_whole()
 /// metadata that is left, and sound.
 pub fn survivors_are_recovered()
     ensures { SurvivorsAreRecovered }
+{}
+
+/// A group of one is logged as one result is.
+pub fn group_of_one_is_logged()
+    ensures { GroupOfOneIsLogged }
 {}

@@ -6,20 +6,25 @@
 mod creating;
 mod ends;
 mod entries;
+mod extending;
 mod fault;
 mod flushing;
+mod groups;
 mod laws;
 mod logger;
 mod logging;
 mod opening;
+mod planning;
 mod preparing;
 mod running;
 mod switching;
+mod writing;
 
 pub use fault::LogFault;
 pub use laws::{
-    entry_is_announced, item_is_announced, kept_files_survive, later_records_describe,
-    nearer_is_kept, records_are_announced, recovered_is_whole, sure_is_acknowledged, sure_is_known,
-    survivors_are_recovered, volume_is_announced, whole_is_kept,
+    entry_is_announced, group_of_one_is_logged, item_is_announced, kept_files_survive,
+    later_records_describe, nearer_is_kept, records_are_announced, recovered_is_whole,
+    sure_is_acknowledged, sure_is_known, survivors_are_recovered, volume_is_announced,
+    whole_is_kept,
 };
 pub use logger::Logger;

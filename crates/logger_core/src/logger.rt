@@ -1,5 +1,5 @@
 //! What a logger keeps, and its calls.
-ghost use Rattle.std.specs.Prelude.{◌≡◌, ◌≢◌, ◌<◌, ◌≤◌, [], ◌∷◌, true, false, length, None, Some, Err, IfOk, IfErr, MatchOption, OnOk, OnErr};
+ghost use Rattle.std.specs.Prelude.{◌≡◌, ◌≢◌, ◌<◌, ◌≤◌, [], ◌∷◌, true, false, length, None, Some, Err, IfOk, IfErr, MatchOption, OnOk};
 ghost use Rattle.pcp_model.specs.Disk.{IsEmpty, contents_of};
 ghost use Rattle.pcp_outside.specs.Devices.{LeavesOnly};
 ghost use Rattle.logger_core.specs.declared.fault.LogFault.TheVariants.{Closed, NoMemory as Refused, DiskFault};
@@ -7,7 +7,8 @@ ghost use Rattle.std.specs.List.{AllByRecursion};
 ghost use Rattle.pcp_base.specs.Results.{Fits};
 ghost use Rattle.pcp_base.specs.declared.result.Item.TheVariants.{Sample};
 ghost use Rattle.archive_meta.specs.Enough.{AreEnough};
-ghost use Rattle.archive_meta.specs.Records.{Adds};
+ghost use Rattle.logger_core.specs.Grouping.{MayBeAsked, AreAllEnough, AreLogged, AreLoggable, GroupMayAnswer, LeavesFirst, samples_of};
+ghost use Rattle.logger_core.specs.Held.{IsJudgedBy, JudgeMayAnswer};
 ghost use Rattle.logger_core.specs.Logging.{IsLogged, IsLoggable, IsPrepared, PrepareMayAnswer, LogMayAnswer};
 ghost use Rattle.logger_core.specs.Runs.{SurvivesWith};
 ghost use Rattle.logger_core.specs.Writing.{IsBounded};
@@ -19,14 +20,17 @@ ghost use Rattle.logger_core.specs.Reopening.{IsLeft, IsReopened, SameFiles, end
 
 use crate::creating::write_labels;
 use crate::ends::Ends;
+use crate::extending::extend;
 use crate::fault::LogFault;
 use crate::flushing::{flush_files, sync_volume};
+use crate::groups::{Group, Judged, hold_all, is_memory};
 use crate::logging::write_item;
 use crate::opening::ends_of;
 use crate::preparing::{Made, prepare};
+use crate::writing::write_runs;
 use archive_meta::{Facts, MetaState};
 use archive_recovery::Archive;
-use pcp_base::{Duplicate, NoMemory, PmResult};
+use pcp_base::{Duplicate, List, NoMemory, PmResult};
 use pcp_model::Label;
 use pcp_outside::Disk;
 use std::alloc::Global;
@@ -113,14 +117,14 @@ fn logger_of(archive: Archive, ends: Ends, limit: u64) -> Option<Logger>
     })
 }
 
-/// Adds framed records that contradict none.
-fn extend(meta: &mut MetaState, alloc: Global, bytes: &[u8]) -> Result<(), NoMemory>
-    ensures ok { OnOk result (Adds meta.old bytes.now meta.new) }
-    ensures err { OnErr result (meta.new ≡ meta.old) }
+/// The refusal, if there is one.
+fn answer_of(refused: Option<(u32, LogFault)>) -> Result<(), (u32, LogFault)>
+    ensures none { OnOk result (refused ≡ None) }
+    ensures some { IfErr result (λ e. refused ≡ Some e) }
 {
-    match meta.extend(alloc, bytes) {
-        Ok(()) => Ok(()),
-        Err(_) => Err(NoMemory),
+    match refused {
+        None => Ok(()),
+        Some(refusal) => Err(refusal),
     }
 }
 
@@ -330,6 +334,93 @@ impl Logger {
             Err(_) => {
                 self.closed = true;
                 Err(LogFault::DiskFault)
+            }
+        }
+    }
+
+    /// Judges the results of a group, each where the ones before it leave the files; the metadata know of those that are held then.
+    fn judged(
+        &mut self,
+        alloc: Global,
+        all: &[(PmResult, Facts)],
+    ) -> Result<Judged, (u32, LogFault)>
+        requires few { length all.now ≤ 64 }
+        requires each { AllByRecursion MayBeAsked all.now }
+        ensures judged { IfOk result (IsJudgedBy self.old self.new all.now) }
+        ensures small { AreSmall self.old.ends }
+        ensures closed { self.old.closed ≡ true → (result ≡ Err (0, Closed)) × (self.new ≡ self.old) }
+        ensures fault { IfErr result (λ e. JudgeMayAnswer self.old self.new e.0 e.1) }
+    {
+        let was_closed = self.closed;
+        if was_closed {
+            return Err((0, LogFault::Closed));
+        }
+        let count = self.meta.count();
+        let mut group = Group {
+            runs: List::empty(alloc),
+            planned: self.ends,
+        };
+        match hold_all(&mut self.meta, alloc, &mut group, self.limit, all) {
+            Ok(()) => Ok(Judged {
+                group,
+                refused: None,
+            }),
+            Err(refusal) => {
+                if is_memory(&refusal.1) {
+                    self.meta.cut(count);
+                    return Err((0, LogFault::NoMemory));
+                }
+                Ok(Judged {
+                    group,
+                    refused: Some(refusal),
+                })
+            }
+        }
+    }
+
+    /// Logs several results, at most 64, one behind another. They are cut into runs: a run ends before the result whose record
+    /// would open the next volume. For each run all metadata that are missing are appended and synced, and then all records are
+    /// appended. A refusal tells the position of its result in the group, from 0: the results before it are logged, and no other.
+    /// `NoMemory` comes before the first write and changes nothing, with 0. After `DiskFault` the number counts the results of the
+    /// runs that were written whole. Each result and its facts are as for `log`.
+    pub fn log_all<D: Disk>(
+        &mut self,
+        alloc: Global,
+        disk: &mut D,
+        group: &List<(PmResult, Facts)>,
+    ) -> Result<(), (u32, LogFault)>
+        requires few { length group.now ≤ 64 }
+        requires each { AllByRecursion MayBeAsked group.now }
+        // The files and the items are those after all results, logged one behind another.
+        ensures done { D.tells → AreAllEnough group.now → (m : Meant) → IsLogger m self.old (D.held disk.old) → OnOk result (AreLogged m self.old self.new group.now (D.held disk.new)) }
+        // Ok comes only for results that may be logged, each where it comes.
+        ensures loggable { OnOk result ((self.old.closed ≡ false) × AreLoggable self.old.records self.old.ends self.old.limit group.now self.new.records self.new.ends) }
+        // After Ok it may be called again, with the same volume limit.
+        ensures open_ { OnOk result ((self.new.limit ≡ self.old.limit) × (self.new.closed ≡ false)) }
+        // A crash at any moment leaves the first items, perhaps some of the new ones too, all acknowledged ones among them, each described.
+        ensures any_moment { D.tells → AreAllEnough group.now → (m : Meant) → IsLogger m self.old (D.held disk.old) → LeavesOnly D.moment D.left_since disk.old disk.new (SurvivesWith m (samples_of group.now)) }
+        // Closed comes exactly after a fault of the disk, and then nothing is touched.
+        ensures closed { self.old.closed ≡ true → (result ≡ Err (0, Closed)) × (self.new ≡ self.old) × (disk.new ≡ disk.old) }
+        // Each refusal has its cause, and its result may not be logged where it comes; a fault of the disk comes where a run began,
+        // and closes the logger.
+        ensures fault { IfErr result (λ e. GroupMayAnswer self.old self.new group.now (D.faults disk.old) (D.faults disk.new) e.0 e.1) }
+        // The results before the refused one are logged; where the disk failed, those before that run are written.
+        ensures first { D.tells → AreAllEnough group.now → (m : Meant) → IsLogger m self.old (D.held disk.old) → IfErr result (λ e. LeavesFirst m self.old self.new group.now (D.held disk.new) e.0 e.1) }
+        // A refusal of the first result that isn't a fault of the disk leaves the disk untouched.
+        ensures untouched { IfErr result (λ e. e.0 ≡ 0 → e.1 ≢ DiskFault → disk.new ≡ disk.old) }
+        ensures later { D.faults disk.old ≤ D.faults disk.new }
+        ensures quiet { OnOk result (D.faults disk.new ≡ D.faults disk.old) }
+    {
+        let judged = self.judged(alloc, group.as_slice())?;
+        let runs = judged.group.runs.as_slice();
+        match write_runs(disk, &self.label, &self.ends, runs) {
+            Ok(ends) => {
+                self.ends = ends;
+                answer_of(judged.refused)
+            }
+            Err(k) => {
+                self.closed = true;
+                Err((k, LogFault::DiskFault))
             }
         }
     }

@@ -7,13 +7,15 @@ ghost use Rattle.pcp_model.specs.Frame.{frames};
 ghost use Rattle.pcp_model.specs.Written.{with_added};
 ghost use Rattle.pcp_outside.specs.Causes.{HasCause};
 ghost use Rattle.pcp_outside.specs.Devices.{LeavesOnly};
-ghost use Rattle.logger_core.specs.Going.{AreSmall, GrowsBy, GrownTo};
+ghost use Rattle.logger_core.specs.Going.{AreSmall, GrowsBy, GrownTo, OnlyGrows};
 ghost use Rattle.logger_core.specs.Laws.{AreRecordsToCome};
 ghost use Rattle.logger_core.specs.LogSteps.{with_run};
 ghost use Rattle.logger_core.specs.Meant.{Meant, Stands, IsAt, SurvivesOf};
+ghost use Rattle.logger_core.specs.Planning.{ran_ends};
 ghost use Rattle.logger_core.specs.Runs.{AreItemsToCome, IsRunToCome, IsLastStamp, SurvivesWith};
 
 use crate::ends::Ends;
+use crate::planning::ran_ends;
 use pcp_base::Stamp;
 use pcp_outside::{Disk, Failed, FileId, append_synced};
 
@@ -23,6 +25,7 @@ fn add_records<D: Disk>(disk: &mut D, number: u32, bytes: &[u8]) -> Result<(), F
         → OnOk result (GrowsBy m records [] [] (with_added Meta bytes.now m.files) number (D.held disk.new)) }
     ensures any_moment { D.tells → (m : Meant) → Stands m number (D.held disk.old) → (payloads : Sequence (Sequence ℕ)) (records : Sequence Record) → bytes.now ≡ frames payloads → AreRecordsToCome m.start m.contents payloads records
         → LeavesOnly D.moment D.left_since disk.old disk.new (SurvivesOf m) }
+    ensures grows { D.tells → OnlyGrows (D.held disk.old) (D.held disk.new) }
     ensures cause { HasCause (D.faults disk.old) (D.faults disk.new) result }
 {
     if bytes.is_empty() {
@@ -38,6 +41,7 @@ fn add_items<D: Disk>(disk: &mut D, number: u32, bytes: &[u8]) -> Result<(), Fai
         → OnOk result (GrowsBy m [] [] items (with_added (Volume number) bytes.now m.files) number (D.held disk.new)) }
     ensures any_moment { D.tells → (m : Meant) → Stands m number (D.held disk.old) → (payloads : Sequence (Sequence ℕ)) (items : Sequence Logged) → bytes.now ≡ frames payloads → AreItemsToCome m payloads items
         → LeavesOnly D.moment D.left_since disk.old disk.new (SurvivesWith m items) }
+    ensures grows { D.tells → OnlyGrows (D.held disk.old) (D.held disk.new) }
     ensures cause { HasCause (D.faults disk.old) (D.faults disk.new) result }
 {
     disk.append(FileId::Volume(number), bytes)
@@ -61,14 +65,11 @@ pub(crate) fn write_run<D: Disk>(
     ensures any_moment { D.tells → (m : Meant) → IsAt m ends.now (D.held disk.old) → (rs : Sequence Record) (xs : Sequence Logged) → IsRunToCome m rs xs records.now items.now
         → LeavesOnly D.moment D.left_since disk.old disk.new (SurvivesWith m xs) }
     ensures small { IfOk result AreSmall }
+    ensures exact { IfOk result (λ e. e ≡ ran_ends (length records.now) (length items.now) count stamp ends.now) }
+    ensures grows { D.tells → OnlyGrows (D.held disk.old) (D.held disk.new) }
     ensures cause { HasCause (D.faults disk.old) (D.faults disk.new) result }
 {
     add_records(disk, ends.volume, records)?;
     add_items(disk, ends.volume, items)?;
-    let mut next = *ends;
-    next.meta += records.len() as u64;
-    next.length += items.len() as u64;
-    next.greatest = Some(stamp);
-    next.logged = next.logged.saturating_add(count);
-    Ok(next)
+    Ok(ran_ends(ends, records.len(), items.len(), count, stamp))
 }

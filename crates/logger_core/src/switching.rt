@@ -2,20 +2,19 @@
 ghost use Rattle.std.specs.Prelude.{◌≡◌, ◌<◌, ◌+◌, [], true, false, IfOk};
 ghost use Rattle.pcp_outside.specs.Causes.{HasCause};
 ghost use Rattle.pcp_outside.specs.Devices.{LeavesOnly};
-ghost use Rattle.logger_core.specs.Going.{AreSmall, IsVolumeSure, GrownTo};
-ghost use Rattle.logger_core.specs.LogSteps.{crosses, switch_entry as switch_entry_lem, with_new_volume};
+ghost use Rattle.logger_core.specs.Going.{AreSmall, IsVolumeSure, GrownTo, OnlyGrows};
+ghost use Rattle.logger_core.specs.LogSteps.{crosses, with_new_volume};
 ghost use Rattle.logger_core.specs.Meant.{Meant, IsAt, SurvivesOf};
+ghost use Rattle.logger_core.specs.Planning.{opened_ends, switched_ends, ready_ends};
 ghost use Rattle.logger_core.specs.Runs.{IsReady};
 
 use crate::ends::Ends;
-use crate::entries::fitting;
+use crate::entries::{LABEL, switch_entry};
 use crate::flushing::{add_entry, flush_files};
+use crate::planning::opened_ends;
 use archive_frame::label_bytes;
-use pcp_model::{Entry, Label};
+use pcp_model::Label;
 use pcp_outside::{Disk, Failed, FileId, append_synced};
-
-/// The number of bytes in a label.
-const LABEL: u64 = 132;
 
 /// Whether the volume holds a record, and would pass the limit with one of so many bytes more.
 pub(crate) fn crosses(ends: &Ends, limit: u64, item: u64) -> bool
@@ -26,14 +25,6 @@ pub(crate) fn crosses(ends: &Ends, limit: u64, item: u64) -> bool
     ends.length > LABEL && ends.length + item > limit
 }
 
-/// The entry that leads to the label of the volume that was opened.
-fn switch_entry(ends: &Ends) -> Option<Entry>
-    ensures { result ≡ switch_entry_lem ends.now.greatest ends.now.index ends.now.volume ends.now.meta }
-{
-    let stamp = ends.greatest?;
-    fitting(ends.index, stamp, ends.volume, ends.meta, LABEL)
-}
-
 /// Gives the next volume its label, and makes it sure.
 fn open_next<D: Disk>(disk: &mut D, label: &Label, ends: &Ends) -> Result<Ends, Failed>
     requires small { AreSmall ends.now }
@@ -42,16 +33,15 @@ fn open_next<D: Disk>(disk: &mut D, label: &Label, ends: &Ends) -> Result<Ends, 
     ensures sure { D.tells → (m : Meant) → IsAt m ends.now (D.held disk.old) → IfOk result (λ e. IsVolumeSure e.volume (D.held disk.new)) }
     ensures any_moment { D.tells → (m : Meant) → IsAt m ends.now (D.held disk.old) → IsVolumeSure ends.now.volume (D.held disk.old) → m.contents.label ≡ label.now → LeavesOnly D.moment D.left_since disk.old disk.new (SurvivesOf m) }
     ensures small { IfOk result AreSmall }
+    ensures exact { IfOk result (λ e. e ≡ opened_ends ends.now) }
+    ensures grows { D.tells → OnlyGrows (D.held disk.old) (D.held disk.new) }
     ensures same { IfOk result (λ e. (e.volume ≡ ends.now.volume + 1) × (e.greatest ≡ ends.now.greatest) × (e.meta ≡ ends.now.meta) × (e.index ≡ ends.now.index) × (e.length ≡ 132)) }
     ensures cause { HasCause (D.faults disk.old) (D.faults disk.new) result }
 {
     let next = ends.volume + 1;
     let bytes = label_bytes(label, next as i32);
     append_synced(disk, FileId::Volume(next), &bytes)?;
-    let mut opened = *ends;
-    opened.volume = next;
-    opened.length = LABEL;
-    Ok(opened)
+    Ok(opened_ends(ends))
 }
 
 /// Goes on in the next volume.
@@ -61,6 +51,8 @@ fn switch<D: Disk>(disk: &mut D, label: &Label, ends: &Ends) -> Result<Ends, Fai
     ensures ok { D.tells → (m : Meant) → IsAt m ends.now (D.held disk.old) → m.contents.label ≡ label.now → IfOk result (λ e. IsReady m ends.now e true (D.held disk.new)) }
     ensures any_moment { D.tells → (m : Meant) → IsAt m ends.now (D.held disk.old) → m.contents.label ≡ label.now → LeavesOnly D.moment D.left_since disk.old disk.new (SurvivesOf m) }
     ensures small { IfOk result AreSmall }
+    ensures exact { IfOk result (λ e. e ≡ switched_ends ends.now) }
+    ensures grows { D.tells → OnlyGrows (D.held disk.old) (D.held disk.new) }
     ensures bounded { IfOk result (λ e. (e.length ≡ 132) × (e.meta ≡ ends.now.meta)) }
     ensures cause { HasCause (D.faults disk.old) (D.faults disk.new) result }
 {
@@ -82,6 +74,8 @@ pub(crate) fn make_room<D: Disk>(
     ensures ok { D.tells → (m : Meant) → IsAt m ends.now (D.held disk.old) → m.contents.label ≡ label.now → IfOk result (λ e. IsReady m ends.now e crossing (D.held disk.new)) }
     ensures any_moment { D.tells → (m : Meant) → IsAt m ends.now (D.held disk.old) → m.contents.label ≡ label.now → LeavesOnly D.moment D.left_since disk.old disk.new (SurvivesOf m) }
     ensures small { IfOk result AreSmall }
+    ensures exact { IfOk result (λ e. e ≡ ready_ends crossing ends.now) }
+    ensures grows { D.tells → OnlyGrows (D.held disk.old) (D.held disk.new) }
     ensures bounded { IfOk result (λ e. (crossing ≡ true → e.length ≡ 132) × (crossing ≡ false → e.length ≡ ends.now.length) × (e.meta ≡ ends.now.meta)) }
     ensures cause { HasCause (D.faults disk.old) (D.faults disk.new) result }
 {

@@ -6,6 +6,7 @@ use Rattle.logger_core.specs.Going.{GrownTo, LeadIfAny}
 use Rattle.logger_core.specs.Meant.{SurvivesOf}
 use Rattle.logger_core.specs.Steps.{with_entry}
 use Rattle.logger_core.proofs.Calls.{no_call}
+use Rattle.logger_core.proofs.Growing.{grows_not}
 use Rattle.logger_core.proofs.Rests.{image_survives}
 use Rattle.logger_core.proofs.Turned.{none_put}
 use Rattle.logger_core.proofs.flushing.add_entry.Goals as goal
@@ -24,3 +25,6 @@ returns-in-Some-clause-ok g c = λ tells m at lead.
     let d = g.D.Disk in
     subst (λ (o : Option Entry). IfOk c.put_entry.result (λ e. GrownTo m [] (option_to_list o) [] (with_entry o m.files) e (d.held c.put_entry.new.disk))) (sym c.in-Some.is)
     (c.put_entry.ensures.ok tells m at (subst (LeadIfAny m c.args.ends.now (d.held c.args.disk.now)) c.in-Some.is lead))
+
+pub returns-in-None-clause-grows : goal.returns-in-None-clause-grows
+returns-in-None-clause-grows g c = λ tells. grows_not (g.D.Disk.held c.args.disk.now)

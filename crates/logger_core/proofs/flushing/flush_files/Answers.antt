@@ -2,6 +2,7 @@
 use Rattle.logger_core.specs.Meant.{SurvivesOf}
 use Rattle.logger_core.specs.Going.{all_acknowledged}
 use Rattle.logger_core.proofs.Calls.{run_then}
+use Rattle.logger_core.proofs.Growing.{grows_then}
 use Rattle.logger_core.proofs.Rests.{fewer_acknowledged}
 use Rattle.logger_core.proofs.Turned.{found_room, found_leads, flush_ok}
 use Rattle.logger_core.proofs.flushing.flush_files.Goals as goal
@@ -28,3 +29,8 @@ returns-clause-ok g c = λ tells m at.
     let lead = found_leads (all_acknowledged m) s mid c.due-entry.result c.due-entry.ensures now (c.in_ok-synced.ensures.sure tells) in
     flush_ok m c.args.ends.now s (d.held c.args.disk.now) (d.held c.add_entry.new.disk) c.due-entry.result c.add_entry.result c.due-entry.ensures at c.in_ok-synced.ensures.same.0 c.in_ok-synced.ensures.same.1 now.ends
     (c.add_entry.ensures.ok tells (all_acknowledged m) now lead)
+
+pub returns-clause-grows : goal.returns-clause-grows
+returns-clause-grows g c = λ tells.
+    let d = g.D.Disk in
+    grows_then (d.held c.args.disk.now) (d.held c.sync_volume.new.disk) (d.held c.add_entry.new.disk) (c.sync_volume.ensures.grows tells) (c.add_entry.ensures.grows tells)

@@ -1,8 +1,13 @@
 -- The entry is appended.
 use Rattle.pcp_base.specs.declared.file.FileId.TheVariants.{Index}
+use Rattle.std.proofs.Common.{Some, [], ◌∷◌, sym, subst}
+use Rattle.logger_core.specs.declared.ends.Ends.{Ends}
+use Rattle.logger_core.specs.Going.{GrownTo}
 use Rattle.logger_core.specs.Meant.{SurvivesOf}
+use Rattle.logger_core.specs.Steps.{with_entry}
 use Rattle.logger_core.proofs.Calls.{one_append}
 use Rattle.logger_core.proofs.EntryPut.{entry_survives, entry_fits, entry_appended}
+use Rattle.logger_core.proofs.Growing.{grows_append}
 use Rattle.logger_core.proofs.Rests.{image_survives}
 use Rattle.logger_core.proofs.flushing.put_entry.Goals as goal
 
@@ -30,4 +35,15 @@ returns-clause-ok g c = λ tells m at leads.
     let e = c.args.ends.now in
     let old = d.held c.args.disk.now in
     let fits = entry_fits m e old c.args.entry leads c.requires.small c.requires.room c.entry_bytes-bytes.ensures.range in
-    entry_appended m e old c.args.entry at fits leads c.entry_bytes-bytes.result (d.held c.append.new.self) c.entry_bytes-bytes.ensures.bytes (c.in_ok-append.ensures.held tells)
+    subst (λ (x : Ends). GrownTo m [] (c.args.entry ∷ []) [] (with_entry (Some c.args.entry) m.files) x (d.held c.append.new.self)) (sym c.with_put.ensures)
+    (entry_appended m e old c.args.entry at fits leads c.entry_bytes-bytes.result (d.held c.append.new.self) c.entry_bytes-bytes.ensures.bytes (c.in_ok-append.ensures.held tells))
+
+pub returns-in_err-append-clause-grows : goal.returns-in_err-append-clause-grows
+returns-in_err-append-clause-grows g c = λ tells.
+    let d = g.D.Disk in
+    grows_append Index c.entry_bytes-bytes.result (d.held c.args.disk.now) (d.held c.append.new.self) c.append.result (c.append.ensures.held tells)
+
+pub returns-clause-grows : goal.returns-clause-grows
+returns-clause-grows g c = λ tells.
+    let d = g.D.Disk in
+    grows_append Index c.entry_bytes-bytes.result (d.held c.args.disk.now) (d.held c.append.new.self) c.append.result (c.append.ensures.held tells)

@@ -1,7 +1,11 @@
 -- The volume is synced.
 use Rattle.pcp_base.specs.declared.file.FileId.TheVariants.{Volume}
-use Rattle.logger_core.specs.Meant.{SurvivesOf}
+use Rattle.std.proofs.Common.{sym, subst}
+use Rattle.logger_core.specs.declared.ends.Ends.{Ends}
+use Rattle.logger_core.specs.Going.{all_acknowledged}
+use Rattle.logger_core.specs.Meant.{IsAt, SurvivesOf}
 use Rattle.logger_core.proofs.Calls.{one_sync}
+use Rattle.logger_core.proofs.Growing.{grows_sync}
 use Rattle.logger_core.proofs.Rests.{image_survives, synced_at}
 use Rattle.logger_core.proofs.flushing.sync_volume.Goals as goal
 
@@ -20,4 +24,14 @@ returns-clause-any_moment g c = λ tells m at.
 pub returns-clause-ok : goal.returns-clause-ok
 returns-clause-ok g c = λ tells m at.
     let d = g.D.Disk in
-    synced_at m c.args.ends.now (d.held c.args.disk.now) (d.held c.sync.new.self) at (c.in_ok-sync.ensures.held tells)
+    subst (λ (e : Ends). IsAt (all_acknowledged m) e (d.held c.sync.new.self)) (sym c.all_counted.ensures) (synced_at m c.args.ends.now (d.held c.args.disk.now) (d.held c.sync.new.self) at (c.in_ok-sync.ensures.held tells))
+
+pub returns-in_err-sync-clause-grows : goal.returns-in_err-sync-clause-grows
+returns-in_err-sync-clause-grows g c = λ tells.
+    let d = g.D.Disk in
+    grows_sync (Volume c.args.ends.now.volume) (d.held c.args.disk.now) (d.held c.sync.new.self) c.sync.result (c.sync.ensures.held tells)
+
+pub returns-clause-grows : goal.returns-clause-grows
+returns-clause-grows g c = λ tells.
+    let d = g.D.Disk in
+    grows_sync (Volume c.args.ends.now.volume) (d.held c.args.disk.now) (d.held c.sync.new.self) c.sync.result (c.sync.ensures.held tells)

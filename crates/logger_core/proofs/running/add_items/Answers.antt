@@ -2,6 +2,7 @@
 use Rattle.pcp_base.specs.declared.file.FileId.TheVariants.{Volume}
 use Rattle.logger_core.specs.Runs.{SurvivesWith}
 use Rattle.logger_core.proofs.Calls.{one_append}
+use Rattle.logger_core.proofs.Growing.{grows_append}
 use Rattle.logger_core.proofs.ItemsPut.{items_survive, items_after}
 use Rattle.logger_core.proofs.Loggable.{survives_more}
 use Rattle.logger_core.proofs.Rests.{image_survives}
@@ -19,3 +20,8 @@ pub returns-clause-ok : goal.returns-clause-ok
 returns-clause-ok g c = λ tells m at payloads items is come.
     let d = g.D.Disk in
     items_after m c.args.number (d.held c.args.disk.now) payloads items c.args.bytes.now at is come (d.held c.append.new.self) c.append.result (c.append.ensures.held tells)
+
+pub returns-clause-grows : goal.returns-clause-grows
+returns-clause-grows g c = λ tells.
+    let d = g.D.Disk in
+    grows_append (Volume c.args.number) c.args.bytes.now (d.held c.args.disk.now) (d.held c.append.new.self) c.append.result (c.append.ensures.held tells)

@@ -1,7 +1,13 @@
 -- The metadata, and then the records.
+use Rattle.std.proofs.Common.{[], ◌+◌, refl, sym, subst}
+use Rattle.pcp_outside.specs.Causes.{shown_count}
+use Rattle.logger_core.specs.declared.ends.Ends.{Ends}
+use Rattle.logger_core.specs.Going.{GrownTo}
+use Rattle.logger_core.specs.LogSteps.{with_run}
 use Rattle.logger_core.specs.Meant.{SurvivesOf}
 use Rattle.logger_core.specs.Runs.{SurvivesWith}
 use Rattle.logger_core.proofs.Calls.{run_as, run_then}
+use Rattle.logger_core.proofs.Growing.{grows_then}
 use Rattle.logger_core.proofs.Loggable.{survives_more}
 use Rattle.logger_core.proofs.RunPut.{items_come, run_grown, run_ends, grown_survives_with}
 use Rattle.logger_core.proofs.running.write_run.Goals as goal
@@ -45,7 +51,18 @@ returns-clause-ok g c = λ tells m at rs xs run last many.
     let new = d.held c.add_items.new.disk in
     let first = c.in_ok-add_records.ensures.ok tells m at.stands run.meta_payloads rs run.meta_is run.come in
     let come = items_come m e old mid rs xs c.args.records.now c.args.items.now at run first in
-    let second = c.in_ok-add_items.ensures.ok tells first.new first.stands run.payloads xs run.items_are come in (
+    let second = c.in_ok-add_items.ensures.ok tells first.new first.stands run.payloads xs run.items_are come in
+    subst (λ (x : Ends). GrownTo m rs [] xs (with_run e.volume c.args.records.now c.args.items.now m.files) x new) (sym c.ran_ends.ensures) (
       run_grown m e old mid rs xs c.args.records.now c.args.items.now at run first new second,
-      run_ends m e old mid rs xs c.args.records.now c.args.items.now at run first new second c.args.stamp c.args.count c.saturating_add.result last many c.saturating_add.ensures,
+      run_ends m e old mid rs xs c.args.records.now c.args.items.now at run first new second c.args.stamp c.args.count (shown_count (e.logged + c.args.count)) last many refl,
     )
+
+pub returns-in_err-add_items-clause-grows : goal.returns-in_err-add_items-clause-grows
+returns-in_err-add_items-clause-grows g c = λ tells.
+    let d = g.D.Disk in
+    grows_then (d.held c.args.disk.now) (d.held c.add_records.new.disk) (d.held c.add_items.new.disk) (c.add_records.ensures.grows tells) (c.add_items.ensures.grows tells)
+
+pub returns-clause-grows : goal.returns-clause-grows
+returns-clause-grows g c = λ tells.
+    let d = g.D.Disk in
+    grows_then (d.held c.args.disk.now) (d.held c.add_records.new.disk) (d.held c.add_items.new.disk) (c.add_records.ensures.grows tells) (c.add_items.ensures.grows tells)

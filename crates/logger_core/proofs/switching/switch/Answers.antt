@@ -2,6 +2,7 @@
 use Rattle.std.proofs.Common.{◌∙◌}
 use Rattle.logger_core.specs.Meant.{IsAt, SurvivesOf}
 use Rattle.logger_core.proofs.Calls.{run_then}
+use Rattle.logger_core.proofs.Growing.{grows_then}
 use Rattle.logger_core.proofs.Turned.{flushed_survives, grown_survives, switch_found_room, switch_found_leads, switch_ok}
 use Rattle.logger_core.proofs.switching.switch.Goals as goal
 
@@ -56,3 +57,14 @@ returns-clause-ok g c = λ tells m at same.
     let lead = switch_found_leads o.0.new open_ mid2 c.switch_entry-entry.result c.switch_entry-entry.ensures o_at (c.in_ok-opened.ensures.sure tells f.new f.at) c.in_ok-opened.ensures.same.4 in
     switch_ok m c.args.label.now e flushed open_ old mid mid2 (d.held c.add_entry.new.disk) c.switch_entry-entry.result c.add_entry.result at same f o
     c.in_ok-flushed.ensures.same.0 c.in_ok-opened.ensures.same.0 c.in_ok-opened.ensures.same.1 c.in_ok-flushed.ensures.same.1 c.switch_entry-entry.ensures (c.add_entry.ensures.ok tells o.0.new o_at lead) c.add_entry.ensures.same
+
+pub returns-in_err-opened-clause-grows : goal.returns-in_err-opened-clause-grows
+returns-in_err-opened-clause-grows g c = λ tells.
+    let d = g.D.Disk in
+    grows_then (d.held c.args.disk.now) (d.held c.flush_files.new.disk) (d.held c.open_next.new.disk) (c.flush_files.ensures.grows tells) (c.open_next.ensures.grows tells)
+
+pub returns-clause-grows : goal.returns-clause-grows
+returns-clause-grows g c = λ tells.
+    let d = g.D.Disk in
+    grows_then (d.held c.args.disk.now) (d.held c.open_next.new.disk) (d.held c.add_entry.new.disk)
+    (grows_then (d.held c.args.disk.now) (d.held c.flush_files.new.disk) (d.held c.open_next.new.disk) (c.flush_files.ensures.grows tells) (c.open_next.ensures.grows tells)) (c.add_entry.ensures.grows tells)

@@ -1,0 +1,193 @@
+//! What is held to be written: runs of results, each made before any write.
+ghost use Rattle.std.specs.Prelude.{◌≡◌, ◌≢◌, ◌<◌, ◌≤◌, ◌++◌, ◌+◌, length, true, false, List as Sequence, IfOk, IfErr, OnOk, OnErr};
+ghost use Rattle.std.specs.List.{AllByRecursion};
+ghost use Rattle.pcp_base.specs.Results.{Fits};
+ghost use Rattle.logger_core.specs.Going.{AreSmall};
+ghost use Rattle.logger_core.specs.Grouping.{MayBeAsked, Told};
+ghost use Rattle.logger_core.specs.Held.{AreRuns, IsHeldMore, IsRefusedAfter, run_of, joined_run, with_made, counts_of};
+ghost use Rattle.pcp_model.specs.declared.records.MetaRecord.{MetaRecord as Record};
+ghost use Rattle.logger_core.specs.declared.ends.Ends.{Ends as Numbers};
+ghost use Rattle.logger_core.specs.declared.fault.LogFault.TheVariants.{NoMemory as Refused};
+ghost use Rattle.logger_core.specs.Logging.{IsRefused};
+ghost use Rattle.logger_core.specs.Planning.{planned_ends};
+ghost use Rattle.logger_core.specs.Writing.{IsBounded};
+
+use crate::ends::Ends;
+use crate::extending::extend;
+use crate::fault::LogFault;
+use crate::planning::planned_ends;
+use crate::preparing::{Made, prepare};
+use archive_meta::{Facts, MetaState};
+use pcp_base::{Bytes, List, NoMemory, PmResult, Stamp};
+use std::alloc::Global;
+
+/// A run of results: whether the next volume is opened before it, the framed records of Meta that they need, their own framed
+/// records, how many they are, and the stamp of the last.
+#[derive(Drop)]
+pub struct Run {
+    pub crossing: bool,
+    pub records: Bytes,
+    pub items: Bytes,
+    pub count: u32,
+    pub stamp: Stamp,
+}
+
+/// The runs that are held, in their order, and where the files will end once all are written.
+#[derive(Drop)]
+pub struct Group {
+    pub runs: List<Run>,
+    pub planned: Ends,
+}
+
+/// The run of one result.
+fn run_of(made: Made, stamp: Stamp) -> Run
+    ensures { result ≡ run_of made stamp }
+{
+    Run {
+        crossing: made.crossing,
+        records: made.records,
+        items: made.item,
+        count: 1,
+        stamp,
+    }
+}
+
+/// Bytes with more behind them.
+fn with_more(bytes: Bytes, more: &[u8]) -> Result<Bytes, NoMemory>
+    ensures { IfOk result (λ all. all ≡ bytes ++ more.now) }
+{
+    let mut all = bytes.into_vec();
+    all.extend_from_slice(more)?;
+    Ok(List::from_vec(all))
+}
+
+/// A run with one result more.
+fn joined_run(run: Run, made: &Made, stamp: Stamp) -> Result<Run, NoMemory>
+    requires { run.count < 4294967295 }
+    ensures { IfOk result (λ r. r ≡ joined_run run made.now stamp) }
+{
+    let records = with_more(run.records, made.records.as_slice())?;
+    let items = with_more(run.items, made.item.as_slice())?;
+    Ok(Run {
+        crossing: run.crossing,
+        records,
+        items,
+        count: run.count + 1,
+        stamp,
+    })
+}
+
+/// Puts what was made of a result behind the runs: into the last one, or into a new one, where there is none or the result goes
+/// into the next volume.
+fn keep(runs: &mut List<Run>, made: Made, stamp: Stamp) -> Result<(), NoMemory>
+    requires { counts_of runs.old < 4294967295 }
+    ensures { OnOk result (runs.new ≡ with_made runs.old made stamp) }
+{
+    let Some(last) = runs.pop() else {
+        return runs.push(run_of(made, stamp));
+    };
+    if made.crossing {
+        runs.push(last)?;
+        return runs.push(run_of(made, stamp));
+    }
+    let joined = joined_run(last, &made, stamp)?;
+    runs.push(joined)
+}
+
+/// Where the files end once one more result is written, of which this was made.
+fn planned(ends: &Ends, made: &Made, stamp: Stamp) -> Ends
+    requires { IsBounded ends.now made.now }
+    ensures { result ≡ planned_ends made.now.crossing (length made.now.records) (length made.now.item) stamp ends.now }
+{
+    let (records, item) = (made.records.len(), made.item.len());
+    planned_ends(ends, made.crossing, records, item, stamp)
+}
+
+/// Judges a result where the files will end, adds its metadata to those that are known, and holds what is written of it. No
+/// refusal but `NoMemory` changes anything; that one leaves the metadata as they were.
+pub(crate) fn hold(
+    meta: &mut MetaState,
+    alloc: Global,
+    group: &mut Group,
+    limit: u64,
+    answer: &PmResult,
+    facts: &Facts,
+) -> Result<(), LogFault>
+    requires some { 0 < length answer.now.sets }
+    requires fits { AllByRecursion Fits answer.now.sets }
+    requires small { AreSmall group.old.planned }
+    requires limited { limit ≤ 1073741824 }
+    requires few { counts_of group.old.runs < 4294967295 }
+    ensures held { OnOk result (IsHeldMore meta.old group.old limit answer.now facts.now meta.new group.new) }
+    ensures fault { IfErr result (IsRefused meta.old group.old.planned limit answer.now facts.now) }
+    ensures known { OnErr result (meta.new ≡ meta.old) }
+    ensures same { IfErr result (λ e. e ≢ Refused → group.new ≡ group.old) }
+{
+    let made = prepare(alloc, meta, &group.planned, limit, answer, facts)?;
+    let planned = planned(&group.planned, &made, answer.stamp);
+    let count = meta.count();
+    extend(meta, alloc, made.records.as_slice())?;
+    match keep(&mut group.runs, made, answer.stamp) {
+        Ok(()) => {
+            group.planned = planned;
+            Ok(())
+        }
+        Err(fault) => {
+            meta.cut(count);
+            Err(fault.into())
+        }
+    }
+}
+
+/// Judges results one after another, each where the ones before it leave the files, and holds them, up to the first that is refused:
+/// the error is its position, from 0, and why.
+pub(crate) fn hold_all(
+    meta: &mut MetaState,
+    alloc: Global,
+    group: &mut Group,
+    limit: u64,
+    all: &[(PmResult, Facts)],
+) -> Result<(), (u32, LogFault)>
+    requires small { AreSmall group.old.planned }
+    requires limited { limit ≤ 1073741824 }
+    requires few { counts_of group.old.runs + length all.now ≤ 64 }
+    requires each { AllByRecursion MayBeAsked all.now }
+    ensures held { (records : Sequence Record) (e : Numbers) (done : Sequence Told) → AreSmall e → AreRuns records e limit group.old.runs done meta.old group.old.planned
+        → OnOk result (AreRuns records e limit group.new.runs (done ++ all.now) meta.new group.new.planned) }
+    ensures refused { (records : Sequence Record) (e : Numbers) (done : Sequence Told) → AreSmall e → AreRuns records e limit group.old.runs done meta.old group.old.planned
+        → IfErr result (λ r. IsRefusedAfter records e limit done all.now meta.new group.new r.0 r.1) }
+    ensures few { IfErr result (λ r. r.0 ≤ length all.now) }
+{
+    let Some((one, rest)) = all.split_first() else {
+        return Ok(());
+    };
+    match hold(meta, alloc, group, limit, &one.0, &one.1) {
+        Err(fault) => Err((0, fault)),
+        Ok(()) => match hold_all(meta, alloc, group, limit, rest) {
+            Ok(()) => Ok(()),
+            Err((k, fault)) => Err((k + 1, fault)),
+        },
+    }
+}
+
+/// Results that were judged: the runs of those that may be logged, up to the first that is refused, and which one that is and why.
+#[derive(Drop)]
+pub struct Judged {
+    pub group: Group,
+    pub refused: Option<(u32, LogFault)>,
+}
+
+/// Whether a call was refused for want of memory.
+pub(crate) fn is_memory(fault: &LogFault) -> bool
+    ensures { (result ≡ true → fault.now ≡ Refused) × (result ≡ false → fault.now ≢ Refused) }
+{
+    match fault {
+        LogFault::NoMemory => true,
+        LogFault::Closed
+        | LogFault::Large { .. }
+        | LogFault::NotLater { .. }
+        | LogFault::Changed { .. }
+        | LogFault::Full { .. }
+        | LogFault::DiskFault => false,
+    }
+}
