@@ -1,12 +1,13 @@
 #!/usr/bin/env python3
 """Measures a server of many metrics as a client sees it: names, descriptions and fetches.
 
-usage: names.py PROGRAM [REGIONS [METRICS [PORT]]]        64 regions, 10,000 metrics in all, port 44399
+usage: names.py PROGRAM [REGIONS [METRICS [MOST [PORT]]]]     64 regions, 10,000 metrics in all, no bound, port 44399
 
 It writes a script whose regions have METRICS metrics in all, some of them with instances, starts `PROGRAM x serve PORT 1` on it, and asks
 as one client would: the children of the root, a walk over all names (PMNS_CHILD of each node), all names at once by region
 (PMNS_TRAVERSE), the identifier of each name, the description of each metric, and fetches of 1,024 metrics, without a profile and with one
-of 1,024 instances, again and again. It prints how long each took; nothing here is a promise.
+of 1,024 instances, again and again. A walk, and the descriptions, end after MOST requests. It prints how long each took; nothing here is
+a promise.
 """
 import socket
 import struct
@@ -96,14 +97,18 @@ def timed(what, call, times=1):
     return answer
 
 
-def walk(client, name):
-    """Returns how many requests a walk below a name takes."""
-    found = client.names(PMNS_CHILD, name) or []
-    return 1 + sum(walk(client, name + b"." + part) for part in found)
+def walk(client, name, most):
+    """Returns how many requests a walk below a name takes, at most so many."""
+    asked = 1
+    for part in client.names(PMNS_CHILD, name) or []:
+        if asked >= most:
+            break
+        asked += walk(client, name + b"." + part, most - asked)
+    return asked
 
 
-def main(program, regions=64, metrics=10000, port=44399):
-    regions, metrics, port = int(regions), int(metrics), int(port)
+def main(program, regions=64, metrics=10000, most=1000000, port=44399):
+    regions, metrics, most, port = int(regions), int(metrics), int(most), int(port)
     with tempfile.TemporaryDirectory() as folder:
         with open(f"{folder}/script", "w") as out:
             out.write(script(regions, metrics))
@@ -114,13 +119,13 @@ def main(program, regions=64, metrics=10000, port=44399):
         print(f"{regions} regions, {metrics} metrics; the server was up in {time.perf_counter() - begun:.2f} s")
         timed("PMNS_CHILD of mmv, first", lambda: client.names(PMNS_CHILD, b"mmv"))
         timed("PMNS_CHILD of mmv, best of 20", lambda: client.names(PMNS_CHILD, b"mmv"), 20)
-        requests = timed("walk over all names", lambda: walk(client, b"mmv"))
+        requests = timed("walk over all names", lambda: walk(client, b"mmv", most))
         print(f"{'  requests of the walk':58} {requests:10}")
         regional = lambda: [client.names(PMNS_TRAVERSE, f"mmv.r{at}".encode()) for at in range(regions)]
         names = [name for part in timed("PMNS_TRAVERSE of each region", regional) for name in part or []]
         print(f"{'  names':58} {len(names):10}")
         pmids = [(70 << 22) | ((at % regions + 1) << 10) | (at // regions) for at in range(metrics)]
-        timed("DESC_REQ of each metric", lambda: [client.ask(DESC_REQ, struct.pack(">I", pmid)) for pmid in pmids])
+        timed("DESC_REQ of each metric", lambda: [client.ask(DESC_REQ, struct.pack(">I", pmid)) for pmid in pmids[:most]])
         for count in (1, 256, 1024):
             body = struct.pack(">IIII", 0, 0, 0, count) + struct.pack(f">{count}I", *pmids[regions : regions + count])
             timed(f"FETCH of {count} metrics of one value, best of 20", lambda: client.ask(FETCH, body), 20)
