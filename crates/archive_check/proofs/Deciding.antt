@@ -1,9 +1,9 @@
 -- What is known of an entry decides whether it is good.
-use Rattle.std.proofs.Common.{zero, suc, ◌≡◌, ◌≢◌, ◌⊎◌, inl, inr, ⊎_elim, ℕ, ◌+◌, ◌-◌, ◌<◌, ◌≤◌, Bool, true, false, ◌||◌, List, [], ◌∷◌, ◌++◌, length, take, drop, map, refl, sym, ap, ◌∙◌, subst, append_assoc, arith, length-append, Option, Some, None, ltb-true}
-use Rattle.std.specs.Prelude.{nat_lt, nat_eq, if◌then◌else◌, max}
+use Rattle.std.proofs.Common.{◌≡◌, ◌⊎◌, inl, inr, ⊎_elim, ℕ, ◌+◌, ◌<◌, ◌≤◌, Bool, true, false, ◌||◌, List, [], ◌∷◌, ◌++◌, take, drop, map, refl, sym, ap, ◌∙◌, subst, arith, Option, Some, None}
+use Rattle.std.specs.Prelude.{nat_lt, nat_eq, if◌then◌else◌}
 use Rattle.std.specs.List.{AllByRecursion}
-use Rattle.std.proofs.lemmas.Bool.{cases_lt, lt-ltb, le-ltb, ltb-false, eq-eqb, eqb-true}
-use Rattle.std.proofs.lemmas.List.{append-nil, take-append-drop, map-append}
+use Rattle.std.proofs.lemmas.Bool.{cases_lt, lt-ltb, le-ltb, ltb-false, eq-eqb}
+use Rattle.std.proofs.lemmas.List.{take-append-drop, map-append}
 use Rattle.pcp_base.specs.Time.{Moment, microseconds}
 use Rattle.pcp_base.specs.declared.file.FileId.{FileId}
 use Rattle.pcp_base.specs.declared.file.FileId.TheVariants.{Meta, Volume}
@@ -14,16 +14,16 @@ use Rattle.pcp_model.specs.declared.records.MetaRecord.TheVariants.{Description,
 use Rattle.pcp_model.specs.Archive.{ArchiveContents, items_of}
 use Rattle.pcp_model.specs.Disk.{Files}
 use Rattle.pcp_model.specs.Payload.{stamp_of}
-use Rattle.pcp_model.specs.Sound.{IsItemBy, NoItemAfter, IsRecordBy, NoDomainAfter, IsBoundary, PointsWell, IsSoundEntry}
-use Rattle.pcp_model.proofs.Lists.{each-append, each-split, each-map}
+use Rattle.pcp_model.specs.Sound.{IsItemBy, NoItemAfter, NoDomainAfter, PointsWell, IsSoundEntry}
+use Rattle.pcp_model.proofs.Lists.{each-split, each-map}
 use Rattle.archive_loading.specs.Stamps.{domain_stamps}
 use Rattle.archive_loading.proofs.Framed.{domain_stamps-append}
 use Rattle.archive_reader.specs.Searches.{items_before, items_from}
 use Rattle.archive_reader.proofs.Searching.{places_part}
 use Rattle.archive_check.specs.declared.pointing.Look.{Look}
 use Rattle.archive_check.specs.declared.pointing.Look.TheVariants.{Above, Skipped, Misses, Points}
-use Rattle.archive_check.specs.Breaches.{AtBoundary, IsFilled, StandsAbove, PointsToBoundaries, MissesBoundary, first_after, stamps_before, IsTooEarly, IsFirstBad}
-use Rattle.archive_check.specs.Looked.{time_in, is_above, look_at, look_of, misses, is_late, is_bad, IsFirst, MetaSays, VolumeSays, EntryKnown, domains_of}
+use Rattle.archive_check.specs.Breaches.{AtBoundary, IsFilled, StandsAbove, PointsToBoundaries, first_after, IsTooEarly, IsFirstBad}
+use Rattle.archive_check.specs.Looked.{time_in, is_above, look_at, look_of, misses, is_late, IsFirst, MetaSays, VolumeSays, EntryKnown, domains_of}
 use Rattle.archive_check.specs.Marks.{Known}
 use Rattle.archive_check.specs.Stamped.{all_of}
 use Rattle.archive_check.specs.Tallies.{latest}

@@ -1,15 +1,15 @@
 -- Faults that are handed on.
-use Rattle.std.proofs.Common.{◌≡◌, ◌⊎◌, inl, inr, ⊎_elim, ℕ, ◌<◌, ◌≤◌, Result, refl, sym, ap, ◌∙◌, subst, arith}
+use Rattle.std.proofs.Common.{◌≡◌, inl, inr, ⊎_elim, ℕ, ◌<◌, ◌≤◌, Result, sym, subst, arith}
 use Rattle.std.specs.Prelude.{IfErr}
 use Rattle.std.specs.Result.{IsErrAnd}
 use Rattle.std.proofs.lemmas.Result.{err_from_is_err_and}
 use Rattle.pcp_outside.specs.declared.disk.Disk.{Ghosts as DiskGhosts}
 use Rattle.pcp_outside.specs.Causes.{Rose}
-use Rattle.archive_loading.specs.Looks.{Looks, Blames}
+use Rattle.archive_loading.specs.Looks.{Blames}
 use Rattle.archive_loading.specs.declared.lack.Lack.{Lack}
 use Rattle.archive_loading.specs.declared.lack.Lack.TheVariants.{Disk, Memory}
 use Rattle.archive_reader.specs.declared.fault.ReaderFault.{ReaderFault}
-use Rattle.archive_reader.specs.declared.fault.ReaderFault.TheVariants.{Compressed, NotArchive, DiskFault, NoMemory}
+use Rattle.archive_reader.specs.declared.fault.ReaderFault.TheVariants.{DiskFault, NoMemory}
 use Rattle.archive_reader.specs.Lacks.{of_lack}
 use Rattle.archive_check.specs.declared.fault.CheckFault.{CheckFault}
 use Rattle.archive_check.specs.declared.fault.CheckFault.TheVariants.{Items, Boundary, Late, Reader}

@@ -1,5 +1,5 @@
 -- What is decided of a readable archive, from what a pass over it left.
-use Rattle.std.proofs.Common.{zero, suc, ◌≡◌, ◌≢◌, ◌⊎◌, inl, inr, ⊎_elim, ℕ, negsuc, ◌+◌, ◌-◌, ◌<◌, ◌≤◌, Bool, true, false, ◌||◌, List, [], ◌∷◌, ◌++◌, length, take, drop, map, refl, sym, ap, ◌∙◌, subst, arith, Option, Some, None, ltb-true}
+use Rattle.std.proofs.Common.{◌≡◌, inl, inr, ⊎_elim, ℕ, negsuc, ◌<◌, ◌≤◌, Bool, true, false, ◌||◌, List, [], ◌∷◌, length, drop, map, refl, sym, ap, ◌∙◌, subst, arith, Option, Some, None, ltb-true}
 use Rattle.std.specs.Prelude.{nat_lt, MatchOption}
 use Rattle.std.specs.List.{AllByRecursion}
 use Rattle.std.proofs.lemmas.Bool.{cases_lt, le-ltb}
@@ -9,14 +9,13 @@ use Rattle.pcp_base.specs.declared.file.FileId.TheVariants.{Meta, Volume}
 use Rattle.pcp_base.specs.declared.result.Item.{Item}
 use Rattle.pcp_model.specs.declared.records.Entry.{Entry}
 use Rattle.pcp_model.specs.declared.records.MetaRecord.{MetaRecord}
-use Rattle.pcp_model.specs.Archive.{ArchiveContents, ArchiveReading, IsStoppedCreation, Reads, Readable, items_of, scan}
+use Rattle.pcp_model.specs.Archive.{ArchiveContents, ArchiveReading, IsStoppedCreation, Reads, Readable, items_of}
 use Rattle.pcp_model.specs.Disk.{Files}
 use Rattle.pcp_model.specs.LabelFields.{LabelFields}
 use Rattle.pcp_model.specs.Payload.{stamp_of}
 use Rattle.pcp_model.specs.Records.{IsRecord}
 use Rattle.pcp_model.specs.Sound.{NeverFalls, IsSoundEntry}
 use Rattle.pcp_model.proofs.Sound.{labelled_long}
-use Rattle.pcp_outside.specs.Causes.{shown_count}
 use Rattle.archive_loading.specs.Loaded.{Loaded, IsOver, IsKeptOf, IsMeasured, IsLabelledArchive}
 use Rattle.archive_loading.proofs.Volumes.{measured}
 use Rattle.archive_reader.specs.declared.fault.ReaderFault.{ReaderFault}
@@ -25,19 +24,19 @@ use Rattle.archive_reader.specs.LoadFaults.{IsLoadFault}
 use Rattle.archive_reader.specs.Values.{IsWholeFault}
 use Rattle.archive_reader.proofs.Founds.{IsOf}
 use Rattle.archive_check.specs.declared.pointing.Look.{Look}
-use Rattle.archive_check.specs.declared.pointing.Look.TheVariants.{Above, Skipped, Misses, Points}
+use Rattle.archive_check.specs.declared.pointing.Look.TheVariants.{Above, Misses, Points}
 use Rattle.archive_check.specs.declared.fault.CheckFault.{CheckFault}
 use Rattle.archive_check.specs.declared.fault.CheckFault.TheVariants.{Items, Boundary, Late, Reader}
 use Rattle.archive_check.specs.declared.tally.Tally.{Tally}
 use Rattle.archive_check.specs.declared.verdict.Verdict.{Verdict}
 use Rattle.archive_check.specs.declared.verdict.Verdict.TheVariants.{Sound, Unsound}
-use Rattle.archive_check.specs.Breaches.{AtBoundary, IsFilled, StandsAbove, PointsToBoundaries, MissesBoundary, IsBetween, IsTooEarly, IsFirstBad, IsBreachOf, first_after}
-use Rattle.archive_check.specs.Checks.{HoldsSound, IsUnsound, IsCheckFault}
+use Rattle.archive_check.specs.Breaches.{AtBoundary, IsFilled, PointsToBoundaries, MissesBoundary, IsTooEarly, IsFirstBad, first_after}
+use Rattle.archive_check.specs.Checks.{HoldsSound, IsCheckFault}
 use Rattle.archive_check.specs.Looked.{top_of, look_of, misses, is_late, is_bad, IsFirst, EntryKnown, domains_of, IsRead, IsSeen}
 use Rattle.archive_check.specs.Marks.{Known, IsPut}
 use Rattle.archive_check.specs.Sought.{LiesBetween}
-use Rattle.archive_check.specs.Stamped.{Holds, all_of}
-use Rattle.archive_check.specs.Tallies.{IsTally, FallSays, FirstFall}
+use Rattle.archive_check.specs.Stamped.{Holds}
+use Rattle.archive_check.specs.Tallies.{IsTally, FallSays}
 use Rattle.archive_check.specs.Verdicts.{IsStampAfter, IsMissedAt, IsMissing, IsEarlyAt, IsEarly, IsEntryFault, IsJudgedAs, IsVerdict, IsTold, IsToldBy}
 use Rattle.archive_check.specs.Walked.{IsWalked, AreWalked, Walked, AllWalked, stamped, HoldItems}
 use Rattle.archive_check.proofs.Deciding.{Missed, missed, IsLateBy, points_by, too_early_by_domain, too_early_by_item, all_domains, all_point, all_sound, first_known, first_missed, first_late}
@@ -76,9 +75,11 @@ module _ (files : Files) (c : ArchiveContents) (vs : List (ℕ × ℕ)) (entries
 
   pub early_at : (position domain item : ℕ) (stamp : Moment) → Points domain item ≡ look_of known top e → is_late (Points domain item) e.stamp ≡ true → IsStampAfter files vs domain e.stamp (Some stamp) → IsEarlyAt files c position e (Late position stamp)
   early_at position domain item stamp same late found =
-      let l : IsLateBy files c top known e k domain item = points_by files c top known e k domain item (sym same) in
-      (refl, ⊎_elim (λ (lt : microseconds e.stamp < domain). too_early_by_domain files c top known e k domain item l stamp lt (found.of_meta lt (domains_of c.records) r.meta ∙ ap (first_after e.stamp) (all_domains c.records)))
-      (λ (le : domain ≤ microseconds e.stamp). too_early_by_item files c top known e k domain item l stamp le (ltb-true (microseconds e.stamp) item (ap (λ (b : Bool). b || nat_lt (microseconds e.stamp) item) (sym (le-ltb (microseconds e.stamp) domain le)) ∙ late)) (found.of_volumes le c.volumes r.items)) (cases_lt (microseconds e.stamp) domain))
+      let l : IsLateBy files c top known e k domain item = points_by files c top known e k domain item (sym same) in (
+        refl,
+        ⊎_elim (λ (lt : microseconds e.stamp < domain). too_early_by_domain files c top known e k domain item l stamp lt (found.of_meta lt (domains_of c.records) r.meta ∙ ap (first_after e.stamp) (all_domains c.records)))
+            (λ (le : domain ≤ microseconds e.stamp). too_early_by_item files c top known e k domain item l stamp le (ltb-true (microseconds e.stamp) item (ap (λ (b : Bool). b || nat_lt (microseconds e.stamp) item) (sym (le-ltb (microseconds e.stamp) domain le)) ∙ late)) (found.of_volumes le c.volumes r.items)) (cases_lt (microseconds e.stamp) domain),
+      )
 
 -- ---- all entries
 
@@ -91,9 +92,11 @@ module _ (files : Files) (c : ArchiveContents) (vs : List (ℕ × ℕ)) (entries
 
   pub fault_missing : (found : ℕ × Entry) → IsFirst (λ e. is_bad false (look_of known top e) e.stamp) entries found → (fault : CheckFault) → IsMissedAt files found.0 found.1 fault → IsEntryFault files c (Some fault)
   fault_missing found first (Items a b) m = absurd m
-  fault_missing found first (Boundary at file below above) m = λ rise.
-      (rise, subst (λ es. IsFirstBad es (PointsToBoundaries files) (λ e. MissesBoundary files e file below above) at) (sym s.read.entries_are)
-          (first_missed files c top known found (λ e. MissesBoundary files e file below above) entries first s.known_all m.1 at m.0))
+  fault_missing found first (Boundary at file below above) m = λ rise. (
+    rise,
+    subst (λ es. IsFirstBad es (PointsToBoundaries files) (λ e. MissesBoundary files e file below above) at) (sym s.read.entries_are)
+        (first_missed files c top known found (λ e. MissesBoundary files e file below above) entries first s.known_all m.1 at m.0),
+  )
   fault_missing found first (Late at stamp) m = absurd m
   fault_missing found first (Reader f) m = absurd m
 
@@ -104,10 +107,12 @@ module _ (files : Files) (c : ArchiveContents) (vs : List (ℕ × ℕ)) (entries
       → IsEntryFault files c (Some fault)
   fault_early none found first (Items a b) m = absurd m
   fault_early none found first (Boundary at file below above) m = absurd m
-  fault_early none found first (Late at stamp) m = λ rise.
-      (rise, subst (AllByRecursion (PointsToBoundaries files)) (sym s.read.entries_are) (points_all none),
-          subst (λ es. IsFirstBad es (IsSoundEntry files c) (λ e. IsTooEarly files c e stamp) at) (sym s.read.entries_are)
-          (first_late files c top known (climbs files vs c.volumes s.read.items s.read.rises) found (λ e. IsTooEarly files c e stamp) entries first s.known_all (points_all none) m.1 at m.0))
+  fault_early none found first (Late at stamp) m = λ rise. (
+    rise,
+    subst (AllByRecursion (PointsToBoundaries files)) (sym s.read.entries_are) (points_all none),
+    subst (λ es. IsFirstBad es (IsSoundEntry files c) (λ e. IsTooEarly files c e stamp) at) (sym s.read.entries_are)
+        (first_late files c top known (climbs files vs c.volumes s.read.items s.read.rises) found (λ e. IsTooEarly files c e stamp) entries first s.known_all (points_all none) m.1 at m.0),
+  )
   fault_early none found first (Reader f) m = absurd m
 
   pub no_fault : AllByRecursion (λ e. is_bad false (look_of known top e) e.stamp ≡ false) entries → AllByRecursion (λ e. is_bad true (look_of known top e) e.stamp ≡ false) entries → IsEntryFault files c None

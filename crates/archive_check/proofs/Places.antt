@@ -1,5 +1,5 @@
 -- Places among a file's records, and record boundaries.
-use Rattle.std.proofs.Common.{zero, suc, ◌≡◌, inl, inr, ⊎_elim, ℕ, ◌+◌, ◌-◌, ◌<◌, ◌≤◌, List, [], ◌∷◌, ◌++◌, length, take, drop, refl, sym, ap, ◌∙◌, subst, append_assoc, arith, length-append, Option, Some, None}
+use Rattle.std.proofs.Common.{◌≡◌, ℕ, ◌+◌, ◌<◌, ◌≤◌, List, [], ◌∷◌, ◌++◌, length, take, drop, refl, sym, ap, ◌∙◌, subst, append_assoc, arith, length-append, Option}
 use Rattle.std.specs.Prelude.{option_to_list}
 use Rattle.std.specs.List.{AllByRecursion}
 use Rattle.std.proofs.lemmas.List.{take-append-drop, drop_at, drop-drop, append-nil, length-drop, length-take}
@@ -9,7 +9,7 @@ use Rattle.pcp_base.specs.declared.file.FileId.TheVariants.{Meta, Index, Volume}
 use Rattle.pcp_base.specs.declared.result.Item.{Item}
 use Rattle.pcp_model.specs.Archive.{AreRead}
 use Rattle.pcp_model.specs.Frame.{frame, frames, IsFrameable, IsTorn}
-use Rattle.pcp_model.specs.Payload.{stamp_of, IsItem}
+use Rattle.pcp_model.specs.Payload.{stamp_of}
 use Rattle.pcp_model.specs.Sound.{IsBoundary}
 use Rattle.pcp_model.proofs.Boundaries.{front_lists}
 use Rattle.pcp_model.proofs.Cuts.{frameable, as_many, frames-append}
@@ -25,7 +25,7 @@ use Rattle.archive_loading.specs.Stamps.{domain_stamps}
 use Rattle.archive_loading.specs.Standing.{ItemStands, NoItemStands, NoFrameStands, WasTaken}
 use Rattle.archive_loading.proofs.Framed.{stands_in}
 use Rattle.archive_loading.proofs.Frames.{out_of_place, whole_not_torn}
-use Rattle.archive_check.specs.Stamped.{Stamps, Holds, IsAt, IsStep, all_of}
+use Rattle.archive_check.specs.Stamped.{Stamps, Holds, IsAt}
 
 -- ---- boundaries
 

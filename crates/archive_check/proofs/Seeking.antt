@@ -1,8 +1,8 @@
 -- The boundaries around an offset, and the first stamp after a moment.
-use Rattle.std.proofs.Common.{zero, suc, ◌≡◌, ◌≢◌, ◌⊎◌, inl, inr, ⊎_elim, ℕ, ◌+◌, ◌-◌, ◌<◌, ◌≤◌, Bool, true, false, List, [], ◌∷◌, ◌++◌, length, take, drop, map, refl, sym, ap, ◌∙◌, subst, append_assoc, arith, length-append, Option, Some, None}
+use Rattle.std.proofs.Common.{◌≡◌, inl, inr, ⊎_elim, ℕ, ◌<◌, ◌≤◌, Bool, true, false, List, [], ◌∷◌, ◌++◌, length, drop, map, refl, sym, ap, ◌∙◌, subst, arith, length-append, Option, Some, None}
 use Rattle.std.specs.Prelude.{option_to_list, nat_lt, if◌then◌else◌}
 use Rattle.std.proofs.lemmas.Bool.{cases_lt}
-use Rattle.std.proofs.lemmas.List.{append-nil, map-append}
+use Rattle.std.proofs.lemmas.List.{map-append}
 use Rattle.pcp_base.specs.Time.{Moment, microseconds}
 use Rattle.pcp_base.specs.declared.file.FileId.{FileId}
 use Rattle.pcp_base.specs.declared.file.FileId.TheVariants.{Volume}
@@ -12,7 +12,7 @@ use Rattle.pcp_model.specs.Disk.{Files}
 use Rattle.pcp_model.specs.Payload.{stamp_of}
 use Rattle.pcp_model.specs.Sound.{IsBoundary}
 use Rattle.pcp_model.proofs.Sound.{label_boundary}
-use Rattle.archive_check.specs.Breaches.{AtBoundary, IsBelow, IsAbove, IsBetween, first_after}
+use Rattle.archive_check.specs.Breaches.{AtBoundary, IsBetween, first_after}
 use Rattle.archive_check.specs.Sought.{LiesBetween, IsFirstAfter, IsFirstItemAfter}
 use Rattle.archive_check.specs.Stamped.{Holds, IsAt, all_of}
 use Rattle.archive_check.specs.Walked.{stamped, HoldItems}

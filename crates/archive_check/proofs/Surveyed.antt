@@ -1,8 +1,8 @@
 -- After a pass over all files each entry of the index is known.
-use Rattle.std.proofs.Common.{zero, suc, ◌≡◌, ◌≢◌, ◌⊎◌, inl, inr, ⊎_elim, ℕ, pos, ◌+◌, ◌-◌, ◌<◌, ◌≤◌, Bool, true, false, List, [], ◌∷◌, ◌++◌, length, get_or, take, drop, map, refl, sym, ap, ◌∙◌, subst, append_assoc, arith, length-append, Option, Some, None, ltb-true}
-use Rattle.std.specs.Prelude.{nat_lt, Contains}
+use Rattle.std.proofs.Common.{zero, suc, ◌≡◌, ◌⊎◌, inl, inr, ⊎_elim, ℕ, pos, ◌+◌, ◌<◌, ◌≤◌, true, false, List, [], ◌∷◌, ◌++◌, length, get_or, take, drop, map, refl, sym, ap, ◌∙◌, subst, append_assoc, arith, length-append, Option, Some, None, ltb-true}
+use Rattle.std.specs.Prelude.{Contains}
 use Rattle.std.specs.List.{AllByRecursion}
-use Rattle.std.proofs.lemmas.Bool.{cases_lt, ltb-false}
+use Rattle.std.proofs.lemmas.Bool.{ltb-false}
 use Rattle.std.proofs.lemmas.List.{append-nil, drop_at, drop_all}
 use Rattle.pcp_base.specs.Time.{Moment, microseconds}
 use Rattle.pcp_base.specs.declared.file.FileId.TheVariants.{Meta, Volume}
@@ -28,9 +28,9 @@ use Rattle.archive_reader.proofs.Founds.{IsOf, is_of, up}
 use Rattle.archive_check.specs.declared.marks.Mark.{Mark}
 use Rattle.archive_check.specs.declared.marks.Mark.TheVariants.{Ahead, Passed}
 use Rattle.archive_check.specs.declared.tally.Tally.{Tally}
-use Rattle.archive_check.specs.Breaches.{AtBoundary, IsFilled, StandsAbove, Falls}
+use Rattle.archive_check.specs.Breaches.{AtBoundary, IsFilled, Falls}
 use Rattle.archive_check.specs.Looked.{time_in, top_of, is_above, MetaSays, VolumeSays, EntryKnown, domains_of, IsRead, IsSeen}
-use Rattle.archive_check.specs.Marks.{Known, code_of, IsPut}
+use Rattle.archive_check.specs.Marks.{Known, IsPut}
 use Rattle.archive_check.specs.Stamped.{Stamps, Holds, all_of}
 use Rattle.archive_check.specs.Tallies.{Climbs, FirstFall, IsTally, latest}
 use Rattle.archive_check.specs.Walked.{MarkSays, Walked, stamped, HoldItems, AllWalked}
@@ -169,7 +169,7 @@ says_later files before c cs n offset lt (Some (Passed time)) (k, b, is) = (
   k,
   b,
   is ∙ ap (λ l. latest (l ++ map stamp_of (items_before n k cs))) (all_append before (stamped c.1) ∙ ap (λ l. all_of before ++ l) (all_stamped c.1))
-  ∙ ap latest (append_assoc (all_of before) (map stamp_of c.1) (map stamp_of (items_before n k cs)) ∙ ap (λ l. all_of before ++ l) (sym (map_append c.1 (items_before n k cs)) ∙ ap (map stamp_of) (sym (before_later n k c cs lt)))),
+      ∙ ap latest (append_assoc (all_of before) (map stamp_of c.1) (map stamp_of (items_before n k cs)) ∙ ap (λ l. all_of before ++ l) (sym (map_append c.1 (items_before n k cs)) ∙ ap (map stamp_of) (sym (before_later n k c cs lt)))),
 )
   where
     map_append : (xs ys : List Item) → map stamp_of (xs ++ ys) ≡ map stamp_of xs ++ map stamp_of ys

@@ -1,13 +1,13 @@
 -- Stamps, one after another.
-use Rattle.std.proofs.Common.{zero, suc, ◌≡◌, inl, inr, ⊎_elim, ℕ, ◌+◌, ◌<◌, ◌≤◌, Bool, true, false, List, [], ◌∷◌, ◌++◌, length, refl, sym, ap, ◌∙◌, subst, append_assoc, arith, length-append, Option, Some, None, ltb-true}
-use Rattle.std.specs.Prelude.{max, min, nat_lt, if◌then◌else◌, option_to_list}
+use Rattle.std.proofs.Common.{◌≡◌, ℕ, ◌+◌, ◌≤◌, Bool, true, false, List, [], ◌∷◌, ◌++◌, length, refl, sym, ap, ◌∙◌, subst, append_assoc, arith, length-append, Option, Some, None, ltb-true}
+use Rattle.std.specs.Prelude.{max, min, nat_lt, if◌then◌else◌}
 use Rattle.std.proofs.lemmas.Bool.{ltb-false}
 use Rattle.std.proofs.lemmas.List.{append-nil}
 use Rattle.pcp_base.specs.Time.{Moment, microseconds}
 use Rattle.pcp_outside.specs.Causes.{shown_count}
 use Rattle.archive_check.specs.declared.tally.Tally.{Tally}
 use Rattle.archive_check.specs.Stamped.{all_of}
-use Rattle.archive_check.specs.Tallies.{Climbs, LastIs, FirstFall, FallSays, FallsBehind, FallsBy, time_with, latest, IsTally}
+use Rattle.archive_check.specs.Tallies.{Climbs, FallSays, FallsBy, time_with, latest, IsTally}
 
 pub all_append : (xs ys : List (List Moment)) → all_of (xs ++ ys) ≡ all_of xs ++ all_of ys
 all_append [] ys = refl

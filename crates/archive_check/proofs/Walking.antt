@@ -1,7 +1,6 @@
 -- A pass over a file's records, step by step, and over volumes.
-use Rattle.std.proofs.Common.{zero, suc, ◌≡◌, ◌⊎◌, inl, inr, ⊎_elim, ℕ, ◌+◌, ◌-◌, ◌<◌, ◌≤◌, Bool, true, false, nat_eq, List, [], ◌∷◌, ◌++◌, length, get_or, take, drop, map, refl, sym, ap, ◌∙◌, subst, append_assoc, arith, length-append, Option, Some, None}
+use Rattle.std.proofs.Common.{zero, suc, ◌≡◌, ⊎_elim, ℕ, ◌<◌, ◌≤◌, Bool, true, false, nat_eq, List, [], ◌∷◌, ◌++◌, length, get_or, take, drop, refl, sym, ap, ◌∙◌, subst, append_assoc, arith, length-append, Option, Some, None}
 use Rattle.std.specs.List.{AllByRecursion}
-use Rattle.std.specs.Prelude.{option_to_list}
 use Rattle.std.proofs.lemmas.Bool.{eqb-true, eqb-false, cases_lt}
 use Rattle.std.proofs.lemmas.List.{append-nil, take_at}
 use Rattle.pcp_base.specs.Time.{Moment}
@@ -14,7 +13,6 @@ use Rattle.archive_loading.specs.Loaded.{IsMeasured}
 use Rattle.archive_check.specs.declared.marks.Mark.{Mark}
 use Rattle.archive_check.specs.declared.marks.Mark.TheVariants.{Ahead, Passed}
 use Rattle.archive_check.specs.declared.tally.Tally.{Tally}
-use Rattle.archive_check.specs.Breaches.{AtBoundary}
 use Rattle.archive_check.specs.Marks.{Known, code_of, Passes}
 use Rattle.archive_check.specs.Stamped.{Holds, IsAt, all_of}
 use Rattle.archive_check.specs.Tallies.{IsTally, latest}
@@ -90,9 +88,9 @@ module _ (file : FileId) (bytes : List ℕ) (before records : List (List Moment)
     place = place;
     tally = subst (λ l. IsTally l u) (append_assoc before w.front (stamps ∷ [])) tally;
     marks = λ offset ahead. passed_on next offset (λ k b lt. ⊎_elim (λ (low : offset < next). absurd (
-      let more : length w.front < k = order bytes at offset (length w.front) k w.place.boundary b lt in
-      let less : k < length (w.front ++ stamps ∷ []) = order bytes offset next k (length (w.front ++ stamps ∷ [])) b place.boundary low in
-      omega (arith, more, less, length-append w.front (stamps ∷ [])))) (λ (le : next ≤ offset). le) (cases_lt offset next)) ahead;
+        let more : length w.front < k = order bytes at offset (length w.front) k w.place.boundary b lt in
+        let less : k < length (w.front ++ stamps ∷ []) = order bytes offset next k (length (w.front ++ stamps ∷ [])) b place.boundary low in
+        omega (arith, more, less, length-append w.front (stamps ∷ [])))) (λ (le : next ≤ offset). le) (cases_lt offset next)) ahead;
     others = others_on;
   }
 
@@ -105,8 +103,8 @@ module _ (file : FileId) (bytes : List ℕ) (before records : List (List Moment)
   walk_ends holds all = record {
     tally = subst (λ l. IsTally (before ++ l) t) (sym all) w.tally;
     marks = λ offset ahead. says offset (new code offset) (passed_on (suc offset) offset (λ k b lt. absurd (
-      let more : length w.front < k = order bytes at offset (length w.front) k w.place.boundary b lt in
-      omega (arith, more, counted file bytes records offset k holds b, ap length all))) ahead);
+        let more : length w.front < k = order bytes at offset (length w.front) k w.place.boundary b lt in
+        omega (arith, more, counted file bytes records offset k holds b, ap length all))) ahead);
     others = others_on;
   }
 

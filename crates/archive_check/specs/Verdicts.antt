@@ -13,8 +13,8 @@ use Rattle.archive_check.specs.declared.fault.CheckFault.{CheckFault}
 use Rattle.archive_check.specs.declared.fault.CheckFault.TheVariants.{Items, Boundary, Late, Reader}
 use Rattle.archive_check.specs.declared.verdict.Verdict.{Verdict}
 use Rattle.archive_check.specs.declared.verdict.Verdict.TheVariants.{Sound, Unsound}
-use Rattle.archive_check.specs.Breaches.{PointsToBoundaries, MissesBoundary, IsTooEarly, IsFirstBad, IsBreachOf}
-use Rattle.archive_check.specs.Looked.{top_of, look_of, misses, is_late, EntryKnown, IsRead, IsSeen}
+use Rattle.archive_check.specs.Breaches.{MissesBoundary, IsTooEarly, IsBreachOf}
+use Rattle.archive_check.specs.Looked.{look_of, misses, is_late, EntryKnown, IsRead, IsSeen}
 use Rattle.archive_check.specs.Marks.{Known}
 use Rattle.archive_check.specs.Sought.{IsFirstAfter, IsFirstItemAfter}
 

@@ -98,11 +98,7 @@ fn is_late(look: Look, t: Stamp) -> bool
 fn is_bad(late: bool, look: Look, t: Stamp) -> bool
     ensures { result ≡ is_bad late look t }
 {
-    if late {
-        is_late(look, t)
-    } else {
-        misses(look)
-    }
+    if late { is_late(look, t) } else { misses(look) }
 }
 
 fn is_bad_entry(entry: &Entry, top: Option<u32>, marks: &Marks, late: bool) -> bool
@@ -114,12 +110,7 @@ fn is_bad_entry(entry: &Entry, top: Option<u32>, marks: &Marks, late: bool) -> b
 }
 
 /// The first entry that is too early, or the first that points to no boundary, and its position.
-pub fn first_bad(
-    index: &Index,
-    top: Option<u32>,
-    marks: &Marks,
-    late: bool,
-) -> Option<(u64, Entry)>
+pub fn first_bad(index: &Index, top: Option<u32>, marks: &Marks, late: bool) -> Option<(u64, Entry)>
     ensures { MatchOption result (AllByRecursion (λ e. is_bad late (look_of (mark_at marks.now) top e) e.stamp ≡ false) index.now)
         (IsFirst (λ e. is_bad late (look_of (mark_at marks.now) top e) e.stamp) index.now) }
 {

@@ -9,9 +9,9 @@ ghost use Rattle.archive_check.specs.Verdicts.{IsStampAfter, IsMissing, IsEarly,
 
 use crate::afters::{first_after, first_item_after};
 use crate::between::neighbours;
-use crate::pointing::{Look, first_bad, see, top_of};
 use crate::fault::CheckFault;
 use crate::marks::{Marks, marks_of};
+use crate::pointing::{Look, first_bad, see, top_of};
 use crate::tally::no_records;
 use crate::walks::{walk, walk_volumes};
 use archive_loading::{Lack, length_of};

@@ -1,8 +1,7 @@
-use Rattle.std.proofs.Common.{◌≡◌, ◌∙◌, ℕ, List, length, refl, sym, ap, subst}
-use Rattle.pcp_base.specs.Time.{Moment}
+use Rattle.std.proofs.Common.{◌∙◌, ℕ, List, length, refl, sym, ap, subst}
 use Rattle.pcp_model.specs.Disk.{contents_of}
 use Rattle.archive_loading.proofs.Looking.{looks_none, looks_on}
-use Rattle.archive_check.specs.Stamped.{Holds, Steps, IsStep}
+use Rattle.archive_check.specs.Stamped.{Steps, IsStep}
 use Rattle.archive_check.proofs.Seeking.{NoneSoFar, after_begins, after_on, after_none, after_found}
 use Rattle.archive_check.proofs.afters.first_after.Goals as goal
 

@@ -1,6 +1,5 @@
-use Rattle.std.proofs.Common.{◌≡◌, ◌∙◌, ◌<◌, ◌≤◌, ℕ, List, length, refl, sym, ap, subst}
+use Rattle.std.proofs.Common.{◌∙◌, ℕ, List, length, refl, sym, ap, subst}
 use Rattle.std.specs.Prelude.{option_to_list}
-use Rattle.pcp_base.specs.Time.{Moment}
 use Rattle.pcp_model.specs.Disk.{contents_of}
 use Rattle.archive_loading.proofs.Looking.{looks_none, looks_on}
 use Rattle.archive_check.specs.Stamped.{Steps, IsStep}

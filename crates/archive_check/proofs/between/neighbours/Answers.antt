@@ -1,7 +1,4 @@
-use Rattle.std.proofs.Common.{◌∙◌, sym, ap, length, subst}
 use Rattle.pcp_model.specs.Disk.{contents_of}
-use Rattle.archive_loading.proofs.Looking.{looks_on}
-use Rattle.archive_check.specs.Sought.{LiesBetween}
 use Rattle.archive_check.proofs.Seeking.{in_label}
 use Rattle.archive_check.proofs.between.neighbours.Goals as goal
 

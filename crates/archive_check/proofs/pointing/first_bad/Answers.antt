@@ -1,4 +1,4 @@
-use Rattle.std.proofs.Common.{◌≡◌, ◌∙◌, Bool, sym}
+use Rattle.std.proofs.Common.{◌∙◌, Bool, sym}
 use Rattle.pcp_model.specs.declared.records.Entry.{Entry}
 use Rattle.archive_check.specs.Looked.{look_of, is_bad}
 use Rattle.archive_check.specs.Marks.{mark_at}

@@ -1,10 +1,9 @@
-use Rattle.std.proofs.Common.{◌≡◌, ◌+◌, ℕ, List, [], ◌∷◌, ◌++◌, length, sym, ap, ◌∙◌, subst}
+use Rattle.std.proofs.Common.{◌+◌, ℕ, List, [], ◌∷◌, ◌++◌, sym, ap, subst}
 use Rattle.std.specs.Prelude.{option_to_list}
 use Rattle.pcp_base.specs.declared.file.FileId.TheVariants.{Meta}
 use Rattle.pcp_model.specs.declared.records.MetaRecord.{MetaRecord}
 use Rattle.pcp_model.specs.Disk.{contents_of}
 use Rattle.archive_meta.specs.Records.{AreRecords}
-use Rattle.archive_loading.specs.Stamps.{domain_stamps}
 use Rattle.archive_loading.specs.Standing.{IsSized, WasTaken, IsTaken, FitsIn}
 use Rattle.archive_check.specs.Stamped.{IsAt}
 use Rattle.archive_check.proofs.Places.{ended, never_wrong, meta_frame}

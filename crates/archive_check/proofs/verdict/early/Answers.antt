@@ -1,6 +1,5 @@
-use Rattle.std.proofs.Common.{◌≡◌, ◌∙◌, true, sym, ap, subst}
+use Rattle.std.proofs.Common.{◌≡◌, ◌∙◌, true, sym, subst}
 use Rattle.pcp_model.specs.Disk.{contents_of}
-use Rattle.archive_check.specs.declared.pointing.Look.TheVariants.{Points}
 use Rattle.archive_check.specs.Looked.{is_late}
 use Rattle.archive_check.specs.Verdicts.{IsStampAfter}
 use Rattle.archive_check.proofs.Judging.{early_at}

@@ -1,4 +1,3 @@
-use Rattle.std.proofs.Common.{◌∙◌}
 use Rattle.pcp_model.specs.Disk.{contents_of}
 use Rattle.archive_check.specs.Marks.{mark_at}
 use Rattle.archive_check.proofs.Judging.{by_missing, by_early, by_none}

@@ -1,4 +1,4 @@
-use Rattle.std.proofs.Common.{◌≡◌, ◌∙◌, subst}
+use Rattle.std.proofs.Common.{subst}
 use Rattle.pcp_base.specs.declared.file.FileId.TheVariants.{Meta}
 use Rattle.pcp_model.specs.Disk.{contents_of}
 use Rattle.archive_loading.proofs.Looking.{looks_on}

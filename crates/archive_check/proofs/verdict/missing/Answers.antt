@@ -1,9 +1,5 @@
-use Rattle.std.proofs.Common.{sym, ap, subst}
-use Rattle.pcp_base.specs.declared.file.FileId.{FileId}
-use Rattle.pcp_base.specs.declared.file.FileId.TheVariants.{Volume}
+use Rattle.std.proofs.Common.{sym}
 use Rattle.pcp_model.specs.Disk.{contents_of}
-use Rattle.archive_check.specs.declared.pointing.Look.{Look}
-use Rattle.archive_check.specs.declared.pointing.Look.TheVariants.{Above, Misses}
 use Rattle.archive_check.proofs.Judging.{missed_above, missed_at}
 use Rattle.std.proofs.Common.{◌∙◌}
 use Rattle.archive_check.proofs.verdict.missing.Goals as goal

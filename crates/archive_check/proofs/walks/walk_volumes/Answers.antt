@@ -1,10 +1,8 @@
-use Rattle.std.proofs.Common.{◌≡◌, ◌∙◌, ◌+◌, ◌<◌, ◌≤◌, ℕ, List, [], ◌∷◌, length, drop, refl, sym, ap, subst, arith}
+use Rattle.std.proofs.Common.{◌≡◌, ◌∙◌, ◌+◌, ℕ, List, ◌∷◌, length, drop, refl, sym, ap, subst, arith}
 use Rattle.std.specs.Prelude.{slice_index_or}
-use Rattle.std.specs.List.{AllByRecursion}
 use Rattle.std.proofs.lemmas.List.{drop_more, drop_all}
 use Rattle.pcp_base.specs.declared.file.FileId.TheVariants.{Volume}
 use Rattle.pcp_model.specs.Disk.{contents_of}
-use Rattle.archive_loading.specs.Loaded.{IsMeasured}
 use Rattle.archive_loading.proofs.Looking.{looks_none, looks_on}
 use Rattle.archive_check.specs.Marks.{mark_at}
 use Rattle.archive_check.specs.Walked.{IsWalked}
