@@ -20,6 +20,7 @@ use Rattle.fetch_engine.specs.Servers.{IsServer, IsSeated, RowsAscendFrom, Seate
 use Rattle.fetch_engine.specs.Tries.{ReadsKeeping}
 use Rattle.fetch_engine.specs.Visits.{IsReadBy, Visit, IsVisit, AreRead, AreReadKeeping, IsLoaded, AreLoaded, AreNamed, IsAnswered, IsFetched, IsReadIf, IsReadFor, IsReadAtKeeping, IsReadForKeeping, IsReadIfKeeping, lies_in}
 use Rattle.fetch_engine.specs.declared.server.Mounted.{Mounted}
+use Rattle.fetch_answers.specs.declared.names.Named.{Named}
 use Rattle.fetch_answers.specs.declared.shot.Shot.{Shot}
 use Rattle.fetch_engine.proofs.Holding.{kept_set, kept_there, long_kept}
 use Rattle.fetch_engine.proofs.SeatPasses.{is_there, is_here}
@@ -51,7 +52,15 @@ still_seated rows olds news seated h = regions_same olds news h ∙ seated
 -- Visits
 
 abbrev pub seat : List Token → List (Option (List ℕ)) → Seated
-seat tokens kept = record { tokens = tokens; kept = kept }
+seat tokens kept = record { tokens = tokens; kept = kept; named = None }
+
+-- with the names that are kept, which readings don't speak of
+abbrev pub naming : List Token → List (Option (List ℕ)) → Option Named → Seated
+naming tokens kept named = record { tokens = tokens; kept = kept; named = named }
+
+pub named_so : (rows : List Mounted) (olds : List Token) (kolds : List (Option (List ℕ))) (readings : List RegionReading) (news : List Token) (knews : List (Option (List ℕ))) (was is : Option Named)
+    → AreReadKeeping rows (seat olds kolds) readings (seat news knews) → AreReadKeeping rows (naming olds kolds was) readings (naming news knews is)
+named_so rows olds kolds readings news knews was is a = record { read = a.read; kept_are = a.kept_are; keeps_are = a.keeps_are }
 
 none_read : AreReadKeeping [] (seat [] []) [] (seat [] [])
 none_read = record { read = record { visits = []; each = All-nil IsVisit; rows_are = refl; old_are = refl; readings_are = refl; new_are = refl }; kept_are = refl; keeps_are = refl }
@@ -163,19 +172,20 @@ next_read i rows olds news kolds shots spares was shot spare_was spare before ro
     (subst (λ (xs : List Shot). HasRead (i + 1) rows olds (set news i after) kolds (set (kept_in shots spares) i (kept_of shot.image spare)) (map reading_of xs)) (sym (take_more_set shots i shot there)) next)
 
 -- all were read
-pub all_shots_read : (rows : List Mounted) (olds news : List Token) (kolds : List (Option (List ℕ))) (shots : List Shot) (spares : List (Option (List ℕ))) → length olds ≡ length rows → length kolds ≡ length rows → length shots ≡ length rows
-    → HasRead (length rows) rows olds news kolds (kept_in shots spares) (map reading_of (take (length rows) shots)) → AreReadKeeping rows (seat olds kolds) (map reading_of shots) (seat news (kept_in shots spares))
-all_shots_read rows olds news kolds shots spares many kmany wide h =
+pub all_shots_read : (rows : List Mounted) (olds news : List Token) (kolds : List (Option (List ℕ))) (shots : List Shot) (spares : List (Option (List ℕ))) (was is : Option Named) → length olds ≡ length rows → length kolds ≡ length rows → length shots ≡ length rows
+    → HasRead (length rows) rows olds news kolds (kept_in shots spares) (map reading_of (take (length rows) shots)) → AreReadKeeping rows (naming olds kolds was) (map reading_of shots) (naming news (kept_in shots spares) is)
+all_shots_read rows olds news kolds shots spares was is many kmany wide h =
     let n : ℕ = length rows in
     let same = h.many in
     let ksame = h.kept_many in
     let knews : List (Option (List ℕ)) = kept_in shots spares in
-    subst (λ (xs : List Mounted). AreReadKeeping xs (seat olds kolds) (map reading_of shots) (seat news knews)) (take_all n rows (omega arith))
+    named_so rows olds kolds (map reading_of shots) news knews was is
+    (subst (λ (xs : List Mounted). AreReadKeeping xs (seat olds kolds) (map reading_of shots) (seat news knews)) (take_all n rows (omega arith))
     (subst (λ (xs : List Token). AreReadKeeping (take n rows) (seat xs kolds) (map reading_of shots) (seat news knews)) (take_all n olds (omega arith))
     (subst (λ (ks : List (Option (List ℕ))). AreReadKeeping (take n rows) (seat (take n olds) ks) (map reading_of shots) (seat news knews)) (take_all n kolds (omega arith))
     (subst (λ (xs : List Shot). AreReadKeeping (take n rows) (seat (take n olds) (take n kolds)) (map reading_of xs) (seat news knews)) (take_all n shots (omega arith))
     (subst (λ (xs : List Token). AreReadKeeping (take n rows) (seat (take n olds) (take n kolds)) (map reading_of (take n shots)) (seat xs knews)) (take_all n news (omega arith))
-    (subst (λ (ks : List (Option (List ℕ))). AreReadKeeping (take n rows) (seat (take n olds) (take n kolds)) (map reading_of (take n shots)) (seat (take n news) ks)) (take_all n knews (omega arith)) h.read)))))
+    (subst (λ (ks : List (Option (List ℕ))). AreReadKeeping (take n rows) (seat (take n olds) (take n kolds)) (map reading_of (take n shots)) (seat (take n news) ks)) (take_all n knews (omega arith)) h.read))))))
 
 -- Clusters
 
@@ -245,18 +255,18 @@ in_order_by rows old known new server a = in_order rows old.tokens known new.tok
 
 -- One region alone
 
-pub none_for : (word : ℕ) (rows : List Mounted) (tokens : List Token) (kept : List (Option (List ℕ))) (shots : List Shot) → shots ≡ [] → position (lies_in word) rows ≡ None
-    → IsReadForKeeping word rows (seat tokens kept) (map reading_of shots) (seat tokens kept)
-none_for word rows tokens kept shots none nowhere =
-    subst (λ (p : Option ℕ). IsReadIfKeeping rows (seat tokens kept) p (map reading_of shots) (seat tokens kept)) (sym nowhere) (ap (λ (xs : List Shot). map reading_of xs) none, refl)
+pub none_for : (word : ℕ) (rows : List Mounted) (tokens : List Token) (kept : List (Option (List ℕ))) (named : Option Named) (shots : List Shot) → shots ≡ [] → position (lies_in word) rows ≡ None
+    → IsReadForKeeping word rows (naming tokens kept named) (map reading_of shots) (naming tokens kept named)
+none_for word rows tokens kept named shots none nowhere =
+    subst (λ (p : Option ℕ). IsReadIfKeeping rows (naming tokens kept named) p (map reading_of shots) (naming tokens kept named)) (sym nowhere) (ap (λ (xs : List Shot). map reading_of xs) none, refl)
 
-pub read_there : (rows : List Mounted) (olds : List Token) (known : List Shot) (spares : List (Option (List ℕ))) (at : ℕ) (was shot : Shot) (spare_was spare : Option (List ℕ)) (before : Token) (row : Mounted) (after : Token)
+pub read_there : (rows : List Mounted) (olds : List Token) (known : List Shot) (spares : List (Option (List ℕ))) (at : ℕ) (was shot : Shot) (spare_was spare : Option (List ℕ)) (before : Token) (row : Mounted) (after : Token) (named_was named_is : Option Named)
     → at < length rows → at < length olds → at < length known → length spares ≡ length known
     → before ≡ get_or olds at before → row ≡ get_or rows at row → was ≡ get_or known at was → spare_was ≡ get_or spares at spare_was
     → shot.file ≡ row.file → shot.cluster ≡ row.cluster → IsReadBy before (option_map layout_of shot.image) after
     → ReadsKeeping (kept_of was.image spare_was) before.view (option_map layout_of shot.image) (kept_of shot.image spare) after.view
-    → ReadAtKeeping rows (seat olds (kept_in known spares)) at (set known at shot) (seat (set olds at after) (kept_in (set known at shot) (set spares at spare)))
-read_there rows olds known spares at was shot spare_was spare before row after row_there token_there known_there long before_is row_is was_is spare_is file cluster read keeping =
+    → ReadAtKeeping rows (naming olds (kept_in known spares) named_was) at (set known at shot) (naming (set olds at after) (kept_in (set known at shot) (set spares at spare)) named_is)
+read_there rows olds known spares at was shot spare_was spare before row after named_was named_is row_there token_there known_there long before_is row_is was_is spare_is file cluster read keeping =
     let wide = long_kept known spares long in
     let long_known = length-set known at shot in
     let kept_is : kept_of was.image spare_was ≡ get_or (kept_in known spares) at (kept_of was.image spare_was) =

@@ -21,6 +21,7 @@ use Rattle.fetch_engine.specs.Servers.{Seated}
 use Rattle.fetch_engine.specs.Tries.{ShowsBy, RefusesBy}
 use Rattle.fetch_engine.specs.Visits.{IsReadAtKeeping, ShowsAtOnce, IsRefused}
 use Rattle.fetch_answers.specs.Readings.{reading_of}
+use Rattle.fetch_answers.specs.declared.names.Named.{Named}
 use Rattle.fetch_answers.specs.declared.shot.Shot.{Shot}
 use Rattle.fetch_engine.specs.declared.server.Mounted.{Mounted}
 
@@ -54,8 +55,8 @@ kept_in (shot ∷ shots) [] = []
 kept_in (shot ∷ shots) (spare ∷ spares) = kept_of shot.image spare ∷ kept_in shots spares
 
 -- a seat with these passes, and with what is kept so
-abbrev pub seated_by : List Token → List Shot → List (Option (List ℕ)) → Seated
-seated_by tokens shots spares = record { tokens = tokens; kept = kept_in shots spares }
+abbrev pub seated_by : List Token → List Shot → List (Option (List ℕ)) → Option Named → Seated
+seated_by tokens shots spares named = record { tokens = tokens; kept = kept_in shots spares; named = named }
 
 -- the region at a position alone was read, and what it showed is known there
 abbrev pub ReadAtKeeping : List Mounted → Seated → ℕ → List Shot → Seated → Type 0

@@ -4,7 +4,7 @@ ghost use Rattle.fetch_answers.specs.Asks.{desc_asked, instances_asked, AnswerHa
 ghost use Rattle.fetch_answers.specs.Fetches.{IsFetchFault};
 ghost use Rattle.fetch_answers.specs.Readings.{AreInOrder, RegionReading};
 ghost use Rattle.fetch_engine.specs.Servers.{IsSeated};
-ghost use Rattle.fetch_engine.specs.Visits.{AreLoaded, AreNamed, IsAnswered, IsFetched, IsReadFor, ReadKeeping, ReadKeepingFor};
+ghost use Rattle.fetch_engine.specs.Visits.{AreLoaded, AreNamed, AreNamedBy, IsAnswered, IsFetched, IsReadFor, ReadKeeping, ReadKeepingFor};
 
 use crate::seat::Seat;
 use crate::server::Server;
@@ -47,6 +47,7 @@ impl Server {
             &mut seat.passes,
             &mut seat.known,
             &mut seat.spares,
+            &mut seat.named,
         )?;
         Ok(answer_of(alloc, &seat.known, profile, pmids, stamp)?)
     }
@@ -79,6 +80,7 @@ impl Server {
             &mut seat.passes,
             &mut seat.known,
             &mut seat.spares,
+            &mut seat.named,
         )?;
         let sets = sets_of(alloc, &seat.known, profile, pmids)?;
         Ok(PmResult { stamp, sets })
@@ -100,10 +102,24 @@ impl Server {
             &mut seat.passes,
             &mut seat.known,
             &mut seat.spares,
+            &mut seat.named,
         )?;
         let named = names_known(alloc, &seat.known)?;
         Ok(named)
     }
+
+    /// Reads the name space as `names` does, and keeps it in the seat, where `named` finds it; it serves as long as no region
+    /// is read anew. After a refusal the passes have made nothing but loads.
+    pub fn read_names(&self, _alloc: Global, seat: &mut Seat) -> Result<(), NoMemory>
+        requires { IsSeated self.now seat.old.tokens }
+        ensures names { OnOk result (AreNamedBy self.now seat.old.tokens seat.new.named seat.new.tokens) }
+        ensures keeping { OnOk result (ReadKeeping self.now seat.old seat.new) }
+        ensures loads { AreLoaded seat.old.tokens seat.new.tokens }
+        ensures seated { IsSeated self.now seat.new.tokens }
+    {
+        Err(NoMemory)
+    }
+
     /// The description of a metric over a reading of the region in whose cluster it lies (pmLookupDesc(3)), or a status: no
     /// other region is read. After a refusal the passes have made nothing but loads.
     #[tactic(auto, using(crate::proofs::Visited::in_order_for, crate::proofs::Visited::read_for_alone, crate::proofs::Visited::still_seated))]
@@ -120,6 +136,7 @@ impl Server {
             &mut seat.passes,
             &mut seat.known,
             &mut seat.spares,
+            &mut seat.named,
             pmid.word(),
         )?;
         description(alloc, shots.as_slice(), pmid)
@@ -146,6 +163,7 @@ impl Server {
             &mut seat.passes,
             &mut seat.known,
             &mut seat.spares,
+            &mut seat.named,
             indom.word(),
         )?;
         instances(alloc, shots.as_slice(), indom)

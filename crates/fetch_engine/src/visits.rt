@@ -187,16 +187,18 @@ pub fn read_all(
     passes: &mut Vec<Pass>,
     known: &mut Vec<Known>,
     spares: &mut Vec<Option<Told>>,
+    named: &mut Option<Named>,
 ) -> Result<(), NoMemory>
     requires seated { IsSeated rows.now passes.old.items }
     requires clusters { All (λ row. row.cluster < 4096) rows.now }
     requires kept { AreKept passes.old.items (kept_in known.old.items spares.old.items) }
     requires many { length spares.old.items ≡ length known.old.items }
-    ensures read { OnOk result (AreReadKeeping rows.now (seated_by passes.old.items known.old.items spares.old.items) (map reading_of known.new.items) (seated_by passes.new.items known.new.items spares.new.items)) }
+    ensures read { OnOk result (AreReadKeeping rows.now (seated_by passes.old.items known.old.items spares.old.items named.old) (map reading_of known.new.items) (seated_by passes.new.items known.new.items spares.new.items named.new)) }
     ensures kept { AreKept passes.new.items (kept_in known.new.items spares.new.items) }
     ensures many { length spares.new.items ≡ length known.new.items }
     ensures loads { AreLoaded passes.old.items passes.new.items }
 {
+    *named = None;
     for at in 0..rows.len() {
         read_known(
             alloc,
@@ -276,6 +278,7 @@ fn read_at(
     passes: &mut Vec<Pass>,
     known: &mut Vec<Known>,
     spares: &mut Vec<Option<Told>>,
+    named: &mut Option<Named>,
     at: usize,
 ) -> Result<(), NoMemory>
     requires seated { IsSeated rows.now passes.old.items }
@@ -283,12 +286,13 @@ fn read_at(
     requires kept { AreKept passes.old.items (kept_in known.old.items spares.old.items) }
     requires many { length spares.old.items ≡ length known.old.items }
     requires there { at < length rows.now }
-    ensures read { OnOk result (ReadAtKeeping rows.now (seated_by passes.old.items known.old.items spares.old.items) at known.new.items (seated_by passes.new.items known.new.items spares.new.items)) }
+    ensures read { OnOk result (ReadAtKeeping rows.now (seated_by passes.old.items known.old.items spares.old.items named.old) at known.new.items (seated_by passes.new.items known.new.items spares.new.items named.new)) }
     ensures kept { AreKept passes.new.items (kept_in known.new.items spares.new.items) }
     ensures many { length spares.new.items ≡ length known.new.items }
     ensures known { length known.new.items ≡ length known.old.items }
     ensures loads { AreLoaded passes.old.items passes.new.items }
 {
+    *named = None;
     let (pass, row) = (&mut passes[at], &rows[at]);
     read_known(alloc, row, pass, &mut known[at], &mut spares[at])
 }
@@ -301,13 +305,14 @@ pub fn read_for(
     passes: &mut Vec<Pass>,
     known: &mut Vec<Known>,
     spares: &mut Vec<Option<Told>>,
+    named: &mut Option<Named>,
     word: u32,
 ) -> Result<List<Shot>, NoMemory>
     requires seated { IsSeated rows.now passes.old.items }
     requires clusters { All (λ row. row.cluster < 4096) rows.now }
     requires kept { AreKept passes.old.items (kept_in known.old.items spares.old.items) }
     requires many { length spares.old.items ≡ length known.old.items }
-    ensures read { IfOk result (λ shots. IsReadForKeeping word rows.now (seated_by passes.old.items known.old.items spares.old.items) (map reading_of shots) (seated_by passes.new.items known.new.items spares.new.items)) }
+    ensures read { IfOk result (λ shots. IsReadForKeeping word rows.now (seated_by passes.old.items known.old.items spares.old.items named.old) (map reading_of shots) (seated_by passes.new.items known.new.items spares.new.items named.new)) }
     ensures kept { AreKept passes.new.items (kept_in known.new.items spares.new.items) }
     ensures many { length spares.new.items ≡ length known.new.items }
     ensures loads { AreLoaded passes.old.items passes.new.items }
@@ -316,7 +321,7 @@ pub fn read_for(
     let Some(at) = position_for(rows, word) else {
         return Ok(shots);
     };
-    read_at(alloc, rows, passes, known, spares, at)?;
+    read_at(alloc, rows, passes, known, spares, named, at)?;
     shots.push(shot_of(alloc, &known[at])?)?;
     Ok(shots)
 }

@@ -55,5 +55,5 @@ returns-clause-read c =
     let there = is_there c.args.rows.now olds c.requires.seated in
     let many = many_there c.loop-at.at c.args.rows.now olds news kolds knews (map reading_of (take c.loop-at.at c.loop-at.known.items)) c.requires.seated c.loop-at.invariant.read in
     let wide : length c.loop-at.known.items ≡ length c.args.rows.now = sym (long_kept c.loop-at.known.items c.loop-at.spares.items c.loop-at.invariant.many) ∙ c.loop-at.invariant.kept.many ∙ many in
-    all_shots_read c.args.rows.now olds news kolds c.loop-at.known.items c.loop-at.spares.items there (c.requires.kept.many ∙ there) wide
+    all_shots_read c.args.rows.now olds news kolds c.loop-at.known.items c.loop-at.spares.items _ _ there (c.requires.kept.many ∙ there) wide
     (subst (λ (n : ℕ). HasRead n c.args.rows.now olds news kolds knews (map reading_of (take n c.loop-at.known.items))) last c.loop-at.invariant.read)
