@@ -76,7 +76,7 @@ impl MetaState {
     }
 
     /// How many records there are.
-    fn len(&self) -> usize
+    pub fn count(&self) -> usize
         ensures value { result ≡ length self.now }
         ensures consistent { AreConsistent self.now }
     {
@@ -127,8 +127,8 @@ impl MetaState {
         )
     }
 
-    /// Takes away the records behind the first so many.
-    fn cut(&mut self, count: usize)
+    /// Takes away the records behind the first so many: what was added since the state had so many. No memory is taken.
+    pub fn cut(&mut self, count: usize)
         ensures { self.new ≡ take count self.old }
     {
         cut(
@@ -181,7 +181,7 @@ impl MetaState {
         // A refusal changes nothing.
         ensures err { OnErr result (self.new ≡ self.old) }
     {
-        let count = self.len();
+        let count = self.count();
         match self.add_all(alloc, bytes) {
             Ok(()) => Ok(()),
             Err(fault) => {
