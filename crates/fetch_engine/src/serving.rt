@@ -110,6 +110,7 @@ impl Server {
 
     /// Reads the name space as `names` does, and keeps it in the seat, where `named` finds it; it serves as long as no region
     /// is read anew. After a refusal the passes have made nothing but loads.
+    #[tactic(auto, using(crate::proofs::Visited::none_loaded))]
     pub fn read_names(&self, _alloc: Global, seat: &mut Seat) -> Result<(), NoMemory>
         requires { IsSeated self.now seat.old.tokens }
         ensures names { OnOk result (AreNamedBy self.now seat.old.tokens seat.new.named seat.new.tokens) }

@@ -198,7 +198,6 @@ pub fn read_all(
     ensures many { length spares.new.items ≡ length known.new.items }
     ensures loads { AreLoaded passes.old.items passes.new.items }
 {
-    *named = None;
     for at in 0..rows.len() {
         read_known(
             alloc,
@@ -292,9 +291,9 @@ fn read_at(
     ensures known { length known.new.items ≡ length known.old.items }
     ensures loads { AreLoaded passes.old.items passes.new.items }
 {
-    *named = None;
     let (pass, row) = (&mut passes[at], &rows[at]);
-    read_known(alloc, row, pass, &mut known[at], &mut spares[at])
+    read_known(alloc, row, pass, &mut known[at], &mut spares[at])?;
+    Ok(())
 }
 
 /// What was read of the region in whose cluster a number lies, if there is one; the others aren't read.
