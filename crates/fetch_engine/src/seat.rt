@@ -25,15 +25,15 @@ pub struct Seat {
 }
 
 impl Model for Seat {
-    ghost use Rattle.std.specs.Prelude.{◌≡◌, length};
-    ghost use Rattle.fetch_engine.specs.Kept.{AreKept, kept_in, seated_by};
+    ghost use Rattle.std.specs.Prelude.{◌≡◌, length, IfSome};
+    ghost use Rattle.fetch_engine.specs.Kept.{AreKept, AreNamesOf, kept_in, seated_by};
     ghost use Rattle.fetch_engine.specs.Servers.{Seated};
 
     ghost Value = { Seated };
 
     ghost view = { λ a. seated_by a.passes.items a.known.items a.spares.items a.named };
 
-    ghost invariant = { λ a. AreKept a.passes.items (kept_in a.known.items a.spares.items) × (length a.spares.items ≡ length a.known.items) };
+    ghost invariant = { λ a. AreKept a.passes.items (kept_in a.known.items a.spares.items) × (length a.spares.items ≡ length a.known.items) × IfSome a.named (AreNamesOf a.known.items) };
 }
 
 impl Seat {
