@@ -1,5 +1,5 @@
 -- Rows of values by their numbers, and what an image says of them.
-use Rattle.std.proofs.Common.{◌≡◌, ℕ, ℤ, zero, suc, ◌+◌, ◌<◌, Bool, true, false, List, [], ◌∷◌, length, take, get_or, map, fold, Option, Some, ap, sym, subst, ◌∙◌, refl, cond, nat_eq, add-zero, arith}
+use Rattle.std.proofs.Common.{◌≡◌, ℕ, ℤ, zero, suc, ◌+◌, ◌<◌, Bool, true, false, List, [], ◌∷◌, length, take, get_or, map, fold, Option, Some, None, All, ap, sym, subst, ◌∙◌, refl, cond, nat_eq, add-zero, arith}
 use Rattle.std.specs.Cmp.{unsigned_ties}
 use Rattle.std.specs.declared.cmp.Ordering.{Ordering}
 use Rattle.std.specs.declared.cmp.Ordering.TheVariants.{Less, Equal, Greater}
@@ -15,13 +15,13 @@ use Rattle.mmv_layout.specs.declared.rows.MetricRow.{MetricRow}
 use Rattle.mmv_layout.specs.declared.rows.ValueRow.{ValueRow}
 use Rattle.mmv_layout.specs.Rows.{list_below, layout_of, value_row, values_of}
 use Rattle.mmv_layout.proofs.RowLists.{rows_front, rows_length}
-use Rattle.fetch_answers.specs.Indexes.{HasMetrics}
+use Rattle.fetch_answers.specs.Indexes.{HasPlaces}
 use Rattle.fetch_answers.specs.Numbers.{ByNumber, Subject, subject_of, enumeration, with_number, numbers_at, HasNumbers, content_at, contents_at}
-use Rattle.std.specs.Prelude.{IfSome}
+use Rattle.std.specs.Prelude.{IfSome, slice_get}
 use Rattle.fetch_answers.specs.Answers.{metric_with}
 use Rattle.fetch_answers.specs.Bounds.{FitsMetric}
 use Rattle.fetch_answers.proofs.Bounds.{whole}
-use Rattle.fetch_answers.proofs.Indexes.{metric_fits as found_fits}
+use Rattle.fetch_answers.proofs.Indexes.{at_place, find_there, metric_fits as found_fits}
 use Rattle.fetch_answers.specs.Values.{ByInstance, instance_in, with_value, values_with}
 
 -- Tables as they grow
@@ -118,9 +118,19 @@ values_told words item table found has is =
     ap (λ (o : Option (BTreeMap ℤ ℕ)). contents_at words (numbers_at o)) is ∙ ap (contents_at words) (has item)
     ∙ folded (content_at words) item 0 (layout_of words).values [] (content_there words)
 
--- and its metric is the one that is kept
-pub metric_told : (words : List ℕ) (item : ℕ) (table : BTreeMap ℕ MetricRow) (found : Option MetricRow) → HasMetrics table (layout_of words).metrics → found ≡ get nat_cmp table item → found ≡ metric_with item (layout_of words).metrics
-metric_told words item table found has is = is ∙ has item
+-- and its metric is the one at its place
+pub metric_told : (words : List ℕ) (item : ℕ) (metrics : List MetricRow) (places : BTreeMap ℕ ℕ) (place : ℕ) (found : Option MetricRow) → metrics ≡ (layout_of words).metrics → HasPlaces places metrics
+    → get nat_cmp places item ≡ Some place → found ≡ slice_get metrics place → found ≡ metric_with item (layout_of words).metrics
+metric_told words item metrics places place found are has there is =
+    is ∙ ap (λ (o : Option ℕ). at_place metrics o) (sym there ∙ has item) ∙ find_there item [] metrics ∙ ap (λ (rows : List MetricRow). metric_with item rows) are
 
-pub metric_fits : (words : List ℕ) (item : ℕ) (table : BTreeMap ℕ MetricRow) (found : Option MetricRow) → IsImage words → HasMetrics table (layout_of words).metrics → found ≡ get nat_cmp table item → IfSome found FitsMetric
-metric_fits words item table found image has is = found_fits item (layout_of words).metrics found (whole words image).metrics (is ∙ has item)
+pub no_metric : (words : List ℕ) (item : ℕ) (metrics : List MetricRow) (places : BTreeMap ℕ ℕ) → metrics ≡ (layout_of words).metrics → HasPlaces places metrics
+    → get nat_cmp places item ≡ None → None ≡ metric_with item (layout_of words).metrics
+no_metric words item metrics places are has nowhere =
+    ap (λ (o : Option ℕ). at_place metrics o) (sym nowhere ∙ has item) ∙ find_there item [] metrics ∙ ap (λ (rows : List MetricRow). metric_with item rows) are
+
+pub metric_fits : (words : List ℕ) (item : ℕ) (found : Option MetricRow) → IsImage words → found ≡ metric_with item (layout_of words).metrics → IfSome found FitsMetric
+metric_fits words item found image is = found_fits item (layout_of words).metrics found (whole words image).metrics is
+
+pub metrics_fit : (words : List ℕ) (metrics rows : List MetricRow) → IsImage words → metrics ≡ (layout_of words).metrics → rows ≡ metrics → All FitsMetric rows
+metrics_fit words metrics rows image are same = subst (All FitsMetric) (sym (same ∙ are)) (whole words image).metrics

@@ -12,7 +12,7 @@ use Rattle.mmv_layout.specs.declared.rows.Slot.{Slot}
 use Rattle.mmv_layout.specs.declared.rows.ValueRow.{ValueRow}
 use Rattle.mmv_layout.specs.Form.{slots_of}
 use Rattle.mmv_layout.specs.Rows.{content_of, layout_of}
-use Rattle.fetch_answers.specs.Indexes.{HasMetrics}
+use Rattle.fetch_answers.specs.Indexes.{HasPlaces}
 use Rattle.fetch_answers.specs.Values.{ByInstance}
 
 -- the numbers of rows by instance
@@ -55,12 +55,13 @@ abbrev pub value_words : List ℕ → List ℕ
 value_words words = map (λ (slot : Slot). slot.word) (slots_of words)
 
 -- what is kept of an image beside its words
-pub record IsTold (words : List ℕ) (generation : ℕ) (indexes room : List ℕ) (flags : ℕ) (indoms : List IndomRow) (metrics : BTreeMap ℕ MetricRow) (numbers : BTreeMap ℕ (BTreeMap ℤ ℕ)) : Type 0 where
+pub record IsTold (words : List ℕ) (generation : ℕ) (indexes room : List ℕ) (flags : ℕ) (indoms : List IndomRow) (metrics : List MetricRow) (places : BTreeMap ℕ ℕ) (numbers : BTreeMap ℕ (BTreeMap ℤ ℕ)) : Type 0 where
   pub image : IsImage words
   pub generation_is : generation ≡ slice_index words 1
   pub indexes_are : indexes ≡ value_words words
   pub room_is : length room ≡ length indexes
   pub flags_are : flags ≡ (layout_of words).flags
   pub indoms_are : indoms ≡ (layout_of words).indoms
-  pub metrics_by_item : HasMetrics metrics (layout_of words).metrics
+  pub metrics_are : metrics ≡ (layout_of words).metrics
+  pub places_by_item : HasPlaces places metrics
   pub numbers_by_item : HasNumbers numbers (enumeration 0 (map subject_of (layout_of words).values))

@@ -3,58 +3,35 @@ ghost use Rattle.std.specs.Prelude.{◌≡◌, ◌==◌, ℕ, false, if◌then�
 ghost use Rattle.std.specs.Option.{option_or};
 ghost use Rattle.std.specs.Ordering.{nat_cmp};
 ghost use Rattle.std.specs.BTreeMap.{get};
-ghost use Rattle.fetch_answers.specs.Indexes.{HasMetrics};
+ghost use Rattle.fetch_answers.specs.Indexes.{HasPlaces};
 ghost use Rattle.fetch_answers.specs.Numbers.{HasNumbers, enumeration, numbers_at, subject_of, with_number};
 
 use mmv_layout::{MetricRow, ValueRow};
-use pcp_base::{Duplicate, NoMemory};
+use pcp_base::NoMemory;
 use std::alloc::Global;
 use std::collections::BTreeMap;
 
 /// The numbers of values' rows by instance.
 pub type RowNumbers = BTreeMap<i32, u32>;
 
-fn copy_metric(alloc: Global, row: &MetricRow) -> Result<MetricRow, NoMemory>
-    ensures { IfOk result (λ made. made ≡ row.now) }
+/// Keeps the place of an item's metric, unless one was kept before.
+fn keep_place(table: &mut BTreeMap<u32, usize>, item: u32, place: usize) -> Result<(), NoMemory>
+    ensures { OnOk result ((other : ℕ) → get nat_cmp table.new other ≡ option_or (get nat_cmp table.old other) (if item == other then Some place else None)) }
 {
-    Ok(MetricRow {
-        name: row.name.copy(alloc)?,
-        item: row.item,
-        kind: row.kind,
-        semantics: row.semantics,
-        units: row.units,
-        serial: row.serial,
-        short: row.short.copy(alloc)?,
-        long: row.long.copy(alloc)?,
-    })
-}
-
-/// Keeps a metric, unless one of its item was kept before.
-fn keep_metric(
-    alloc: Global,
-    table: &mut BTreeMap<u32, MetricRow>,
-    row: &MetricRow,
-) -> Result<(), NoMemory>
-    ensures { OnOk result ((item : ℕ) → get nat_cmp table.new item ≡ option_or (get nat_cmp table.old item) (if row.now.item == item then Some row.now else None)) }
-{
-    if table.contains_key(&row.item) {
+    if table.contains_key(&item) {
         return Ok(());
     }
-    let made = copy_metric(alloc, row)?;
-    table.insert(row.item, made)?;
+    table.insert(item, place)?;
     Ok(())
 }
 
-/// The metrics by item.
-pub fn metrics_by_item(
-    alloc: Global,
-    rows: &[MetricRow],
-) -> Result<BTreeMap<u32, MetricRow>, NoMemory>
-    ensures { IfOk result (λ table. HasMetrics table rows.now) }
+/// The places of metrics by item.
+pub fn places_by_item(alloc: Global, rows: &[MetricRow]) -> Result<BTreeMap<u32, usize>, NoMemory>
+    ensures { IfOk result (λ table. HasPlaces table rows.now) }
 {
-    let mut table: BTreeMap<u32, MetricRow> = BTreeMap::new(alloc);
-    for row in rows {
-        keep_metric(alloc, &mut table, row)?;
+    let mut table: BTreeMap<u32, usize> = BTreeMap::new(alloc);
+    for place in 0..rows.len() {
+        keep_place(&mut table, rows[place].item, place)?;
     }
     Ok(table)
 }

@@ -19,7 +19,7 @@ mod values;
 pub use asks::{AskFault, description, instances};
 pub use fetch::{FETCH_LIMIT, FetchFault, Fetched, answer, answer_of};
 pub use index::RowNumbers;
-pub use names::{Named, names_of};
+pub use names::{Named, names_known, names_of};
 pub use reading::Known;
 pub use sets::sets_of;
 pub use shot::Shot;

@@ -4,7 +4,8 @@ ghost use Rattle.fetch_answers.specs.Names.{names_of, missed_of, with_missed, wi
 ghost use Rattle.fetch_answers.specs.Readings.{reading_of, AreInOrder};
 
 use crate::pairs::pairs_of;
-use crate::shot::{Shot, layout_in};
+use crate::reading::{Known, all_known};
+use crate::shot::Shot;
 use pcp_base::{List, NoMemory, Pmid, Text};
 use pmns_core::{Names, NamesFault};
 use std::alloc::Global;
@@ -28,34 +29,47 @@ fn add_pairs(alloc: Global, names: &mut Names, pairs: &List<(Text, Pmid)>) -> Re
     }
 }
 
-/// Adds what was read of a region.
-fn add_region(alloc: Global, named: &mut Named, shot: &Shot) -> Result<(), NoMemory>
-    requires { shot.now.cluster < 4096 }
-    ensures names { OnOk result (named.new.names ≡ with_region named.old.names (reading_of shot.now)) }
-    ensures missing { OnOk result (named.new.missing ≡ with_missed named.old.missing (reading_of shot.now).cluster (reading_of shot.now).layout) }
+/// Adds what is known of a region.
+fn add_region(alloc: Global, named: &mut Named, region: &Known) -> Result<(), NoMemory>
+    ensures names { OnOk result (named.new.names ≡ with_region named.old.names (reading_of region.now)) }
+    ensures missing { OnOk result (named.new.missing ≡ with_missed named.old.missing (reading_of region.now).cluster (reading_of region.now).layout) }
 {
-    let Some(image) = &shot.image else {
-        named.missing.push(shot.cluster)?;
+    let Some(told) = &region.told else {
+        named.missing.push(region.cluster)?;
         return Ok(());
     };
-    let layout = layout_in(alloc, image)?;
-    let pairs = pairs_of(alloc, shot.cluster, &shot.file, &layout)?;
+    let pairs = pairs_of(
+        alloc,
+        region.cluster,
+        &region.file,
+        told.flags(),
+        told.metrics(),
+    )?;
     add_pairs(alloc, &mut named.names, &pairs)
 }
 
-/// The name space of regions in ascending cluster. A region whose names don't all fit adds none (pmns(5)), and neither
-/// does one that was missed, whose cluster is told.
-pub fn names_of(alloc: Global, shots: &[Shot]) -> Result<Named, NoMemory>
-    requires { AreInOrder shots.now }
-    ensures names { IfOk result (λ named. named.names ≡ names_of shots.now) }
-    ensures missing { IfOk result (λ named. named.missing ≡ missed_of shots.now) }
+/// The name space of what is known of regions, one region after another. A region whose names don't all fit adds none
+/// (pmns(5)), and neither does one that was missed, whose cluster is told.
+pub fn names_known(alloc: Global, regions: &[Known]) -> Result<Named, NoMemory>
+    ensures names { IfOk result (λ named. named.names ≡ names_of regions.now) }
+    ensures missing { IfOk result (λ named. named.missing ≡ missed_of regions.now) }
 {
     let mut named = Named {
         names: Names::empty(alloc),
         missing: List::empty(alloc),
     };
-    for shot in shots {
-        add_region(alloc, &mut named, shot)?;
+    for region in regions {
+        add_region(alloc, &mut named, region)?;
     }
     Ok(named)
+}
+
+/// The name space of regions in ascending cluster, as `names_known` has it.
+pub fn names_of(alloc: Global, shots: &[Shot]) -> Result<Named, NoMemory>
+    requires { AreInOrder shots.now }
+    ensures names { IfOk result (λ named. named.names ≡ names_of shots.now) }
+    ensures missing { IfOk result (λ named. named.missing ≡ missed_of shots.now) }
+{
+    let regions = all_known(alloc, shots)?;
+    names_known(alloc, regions.as_slice())
 }

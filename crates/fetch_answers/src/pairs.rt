@@ -1,10 +1,10 @@
 //! The names of one region's metrics, as the name space spells them.
-ghost use Rattle.std.specs.Prelude.{◌≡◌, ◌<◌, ◌++◌, All, IfOk};
+ghost use Rattle.std.specs.Prelude.{◌≡◌, ◌<◌, ◌++◌, map, All, IfOk};
 ghost use Rattle.pcp_base.specs.Texts.{IsText};
 ghost use Rattle.fetch_answers.specs.Bounds.{FitsMetric};
-ghost use Rattle.fetch_answers.specs.Names.{served_word, front_of, full_name, pairs_of};
+ghost use Rattle.fetch_answers.specs.Names.{served_word, front_of, full_name, pair_of};
 
-use mmv_layout::Layout;
+use mmv_layout::MetricRow;
 use pcp_base::{List, NoMemory, Pmid, Text};
 use std::alloc::Global;
 
@@ -45,15 +45,16 @@ pub fn pairs_of(
     alloc: Global,
     cluster: u32,
     file: &Text,
-    layout: &Layout,
+    flags: u32,
+    metrics: &[MetricRow],
 ) -> Result<List<(Text, Pmid)>, NoMemory>
     requires cluster { cluster < 4096 }
-    requires metrics { All FitsMetric layout.now.metrics }
-    ensures { IfOk result (λ pairs. pairs ≡ pairs_of cluster file.now layout.now) }
+    requires metrics { All FitsMetric metrics.now }
+    ensures { IfOk result (λ pairs. pairs ≡ map (pair_of cluster file.now flags) metrics.now) }
 {
     let mut pairs = List::empty(alloc);
-    for metric in layout.metrics.as_slice() {
-        let name = full_name(alloc, file, layout.flags, &metric.name)?;
+    for metric in metrics {
+        let name = full_name(alloc, file, flags, &metric.name)?;
         pairs.push((name, Pmid::of_word(served_word(cluster, metric.item))))?;
     }
     Ok(pairs)

@@ -1,6 +1,6 @@
-//! What a region showed when it was read last: its words, with its metrics and the rows of its values by item. As long as the
+//! What a region showed when it was read last: its words, with its metrics, and the rows of its values by item. As long as the
 //! region's generation stands, its value words alone change, for which there is room.
-ghost use Rattle.std.specs.Prelude.{◌≡◌, IfOk, IfSome, slice_index};
+ghost use Rattle.std.specs.Prelude.{◌≡◌, All, IfOk, IfSome, slice_get, slice_index};
 ghost use Rattle.std.specs.Option.{option_copied};
 ghost use Rattle.mmv_layout.specs.Rows.{layout_of};
 ghost use Rattle.fetch_answers.specs.Answers.{metric_with};
@@ -8,7 +8,7 @@ ghost use Rattle.fetch_answers.specs.Bounds.{FitsMetric};
 ghost use Rattle.fetch_answers.specs.Numbers.{contents_at, numbers_at, value_words};
 ghost use Rattle.fetch_answers.specs.Values.{values_with};
 
-use crate::index::{RowNumbers, metrics_by_item, rows_by_item};
+use crate::index::{RowNumbers, places_by_item, rows_by_item};
 use crate::shot::layout_in;
 use mmv_layout::{Image, IndomRow, MetricRow, value_count};
 use pcp_base::{List, NoMemory};
@@ -16,8 +16,8 @@ use std::alloc::Global;
 use std::collections::BTreeMap;
 use std::marker::Model;
 
-/// The words of a region's image, with its metrics and the rows of its values by item. Whoever reads the region again finds
-/// the value words at `indexes`, and room for them in `found`.
+/// The words of a region's image, with its metrics and their places by item, and the rows of its values by item. Whoever
+/// reads the region again finds the value words at `indexes`, and room for them in `found`.
 #[derive(Drop)]
 pub struct Told {
     pub words: Vec<u64>,
@@ -26,7 +26,8 @@ pub struct Told {
     pub found: Vec<u64>,
     pub flags: u32,
     pub indoms: List<IndomRow>,
-    pub metrics: BTreeMap<u32, MetricRow>,
+    pub metrics: List<MetricRow>,
+    pub places: BTreeMap<u32, usize>,
     pub numbers: BTreeMap<u32, RowNumbers>,
 }
 
@@ -38,7 +39,7 @@ impl Model for Told {
 
     ghost view = { λ a. a.words.items };
 
-    ghost invariant = { λ a. IsTold a.words.items a.generation a.indexes.items a.found.items a.flags a.indoms a.metrics a.numbers };
+    ghost invariant = { λ a. IsTold a.words.items a.generation a.indexes.items a.found.items a.flags a.indoms a.metrics a.places a.numbers };
 }
 
 /// The value words of an image, in the order of its values.
@@ -53,6 +54,13 @@ fn indexes_of(alloc: Global, image: &Image) -> Result<Vec<u32>, NoMemory>
     Ok(indexes)
 }
 
+/// The metric at a place, if there is one.
+fn metric_at(rows: &[MetricRow], place: usize) -> Option<&MetricRow>
+    ensures { option_copied result ≡ slice_get rows.now place }
+{
+    rows.get(place)
+}
+
 impl Told {
     /// What an image says, by item.
     pub fn of_image(alloc: Global, image: Image) -> Result<Told, NoMemory>
@@ -61,7 +69,7 @@ impl Told {
         let layout = layout_in(alloc, &image)?;
         let indexes = indexes_of(alloc, &image)?;
         let found = Vec::from_elem(alloc, 0u64, indexes.len())?;
-        let metrics = metrics_by_item(alloc, layout.metrics.as_slice())?;
+        let places = places_by_item(alloc, layout.metrics.as_slice())?;
         let count = value_count(image.words());
         let numbers = rows_by_item(alloc, layout.values.as_slice(), count)?;
         Ok(Told {
@@ -71,7 +79,8 @@ impl Told {
             found,
             flags: layout.flags,
             indoms: layout.indoms,
-            metrics,
+            metrics: layout.metrics,
+            places,
             numbers,
         })
     }
@@ -104,13 +113,25 @@ impl Told {
         self.indoms.as_slice()
     }
 
+    /// The metrics of the image, in the order of their section.
+    #[tactic(auto, using(crate::proofs::Numbers::metrics_fit))]
+    pub fn metrics(&self) -> &[MetricRow]
+        ensures value { result.now ≡ (layout_of self.now).metrics }
+        ensures fit { All FitsMetric result.now }
+    {
+        self.metrics.as_slice()
+    }
+
     /// The metric of an item.
-    #[tactic(auto, using(crate::proofs::Numbers::metric_told, crate::proofs::Numbers::metric_fits))]
+    #[tactic(auto, using(crate::proofs::Numbers::metric_told, crate::proofs::Numbers::no_metric, crate::proofs::Numbers::metric_fits))]
     pub fn metric(&self, item: u32) -> Option<&MetricRow>
         ensures value { option_copied result ≡ metric_with item (layout_of self.now).metrics }
         ensures fits { IfSome (option_copied result) (λ metric. FitsMetric metric) }
     {
-        self.metrics.get(&item)
+        match self.places.get(&item) {
+            Some(place) => metric_at(self.metrics.as_slice(), *place),
+            None => None,
+        }
     }
 
     /// The rows of an item's values by instance, if it has any.

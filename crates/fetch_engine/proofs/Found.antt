@@ -1,5 +1,5 @@
 -- What a search through a list finds.
-use Rattle.std.proofs.Common.{◌≡◌, ℕ, zero, suc, ◌+◌, ◌<◌, Bool, List, [], ◌∷◌, length, Option, Some, None, refl, ◌∙◌, ap, cond, not, nat_lt, All, arith}
+use Rattle.std.proofs.Common.{◌≡◌, ℕ, zero, suc, ◌+◌, Bool, List, [], ◌∷◌, length, Some, None, refl, ◌∙◌, ap, cond, not, nat_lt, All, arith}
 use Rattle.std.specs.List.{position, position_or_len}
 
 -- tests that agree on each item have the same first position

@@ -2,7 +2,6 @@
 use Rattle.std.proofs.Common.{◌≡◌, inl, inr, ℕ, zero, suc, List, [], ◌∷◌, ◌++◌, length, map, drop, get_or, slice_index, Option, Some, None, append_assoc, append-nil, sym, refl, ap, ap₂, ◌∙◌, subst, arith}
 use Rattle.std.specs.List.{zip}
 use Rattle.std.proofs.lemmas.List.{map-append}
-use Rattle.mmv_layout.specs.declared.rows.Layout.{Layout}
 use Rattle.region_core.specs.declared.act.Act.{Act}
 use Rattle.region_core.specs.declared.act.Act.TheVariants.{Load}
 use Rattle.region_core.specs.declared.act.Entry.{Entry}
@@ -15,7 +14,7 @@ use Rattle.region_rule.specs.Reads.{Reads, WholeReading, numbered_from}
 use Rattle.region_rule.proofs.Showing.{Follows, follows_reads, reads_more}
 use Rattle.region_words.specs.Images.{mmv}
 use Rattle.fetch_answers.specs.Numbers.{value_words}
-use Rattle.fetch_engine.specs.Tries.{AreRefusedBy, BeginsAgain, HitsLoadValues, IsTry, ReadsKeeping, loads_of}
+use Rattle.fetch_engine.specs.Tries.{AreRefusedBy, BeginsAgain, HitsLoadValues, IsTry, loads_of}
 use Rattle.fetch_engine.proofs.Tries.{reads_join}
 
 abbrev words_in : List (ℕ × ℕ) → List ℕ

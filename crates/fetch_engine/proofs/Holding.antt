@@ -28,6 +28,7 @@ use Rattle.fetch_engine.specs.Visits.{IsLoaded, IsRefused}
 use Rattle.fetch_engine.specs.declared.server.Mounted.{Mounted}
 use Rattle.fetch_answers.specs.declared.shot.Shot.{Shot}
 use Rattle.fetch_engine.proofs.Keeping.{anew_refused, anew_told, chosen_refused, chosen_shown, image_kept, image_loads, kept_later, refreshes}
+use Rattle.fetch_engine.proofs.Staying.{one_form}
 use Rattle.fetch_engine.proofs.Tries.{whole_loads, loads_follow, loaded_trans, no_loads, one_load, refused_once, refuses, same_trans, shown_once, shows_image, unloaded}
 
 -- One pass
@@ -100,7 +101,7 @@ freshened old new words indexes values fresh generation k image is one long done
       form = f.form;
       generation = f.generation;
       kept = record { start = s.after.start_is; kept = f.kept };
-      reads = record { shows = f.shows; keeping = chosen_shown old.view new.view words values fresh wide wrote reads; form = f.form };
+      reads = record { shows = f.shows; keeping = chosen_shown old.view new.view words values fresh wide wrote reads; form = one_form words fresh image f.image f.form };
     }
 
 pub values_fail : (old new : Token) (words : List ℕ) (generation : ℕ) (indexes : List ℕ) (fault : ValueFault) → generation ≡ slice_index words 1 → indexes ≡ value_words words → ReadsChosenNot mmv old.view generation indexes new.view fault

@@ -2,6 +2,7 @@ pub mod Found
 pub mod Hits
 pub mod Holding
 pub mod Keeping
+pub mod Naming
 pub mod SeatPasses
 pub mod Served
 pub mod Staying

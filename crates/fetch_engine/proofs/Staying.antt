@@ -11,17 +11,28 @@ use Rattle.mmv_layout.proofs.FormSays.{form_said}
 use Rattle.mmv_layout.proofs.Saying.{layout_says}
 use Rattle.region_words.specs.Images.{mmv}
 use Rattle.region_words.proofs.Inside.{slots_inside}
-use Rattle.fetch_answers.specs.Indexes.{HasMetrics}
+use Rattle.fetch_engine.specs.Kept.{IsOneForm}
 use Rattle.fetch_answers.specs.Numbers.{Subject, subject_of, enumeration, HasNumbers, IsTold}
 
 form_tells : (words : List ℕ) → mmv.IsImage words → IsFormOf (form_of words) (layout_of words)
 form_tells words image = form_said words (layout_of words) (layout_says words image)
 
+-- words of one form have the same metrics
+pub one_form : (words fresh : List ℕ) → mmv.IsImage words → mmv.IsImage fresh → form_of fresh ≡ form_of words → IsOneForm words fresh
+one_form words fresh was_image image form =
+    let was = form_tells words was_image in
+    let is = form_tells fresh image in
+    record {
+      form = form;
+      flags = sym is.flags ∙ ap (λ (f : Form). f.flags) form ∙ was.flags;
+      metrics = sym is.metrics ∙ ap (λ (f : Form). f.metrics) form ∙ was.metrics;
+    }
+
 -- what is kept beside words serves for others of their form and generation
-pub told_stays : (words fresh : List ℕ) (generation : ℕ) (indexes room more : List ℕ) (flags : ℕ) (indoms : List IndomRow) (metrics : BTreeMap ℕ MetricRow) (numbers : BTreeMap ℕ (BTreeMap ℤ ℕ))
-    → IsTold words generation indexes room flags indoms metrics numbers → mmv.IsImage fresh → form_of fresh ≡ form_of words → slice_index fresh 1 ≡ slice_index words 1 → length more ≡ length room
-    → IsTold fresh generation indexes more flags indoms metrics numbers
-told_stays words fresh generation indexes room more flags indoms metrics numbers t image form one long =
+pub told_stays : (words fresh : List ℕ) (generation : ℕ) (indexes room more : List ℕ) (flags : ℕ) (indoms : List IndomRow) (metrics : List MetricRow) (places : BTreeMap ℕ ℕ) (numbers : BTreeMap ℕ (BTreeMap ℤ ℕ))
+    → IsTold words generation indexes room flags indoms metrics places numbers → mmv.IsImage fresh → form_of fresh ≡ form_of words → slice_index fresh 1 ≡ slice_index words 1 → length more ≡ length room
+    → IsTold fresh generation indexes more flags indoms metrics places numbers
+told_stays words fresh generation indexes room more flags indoms metrics places numbers t image form one long =
     let was = form_tells words t.image in
     let is = form_tells fresh image in
     let same_metrics : (layout_of words).metrics ≡ (layout_of fresh).metrics = sym was.metrics ∙ sym (ap (λ (f : Form). f.metrics) form) ∙ is.metrics in
@@ -33,6 +44,7 @@ told_stays words fresh generation indexes room more flags indoms metrics numbers
       room_is = long ∙ t.room_is;
       flags_are = t.flags_are ∙ sym was.flags ∙ sym (ap (λ (f : Form). f.flags) form) ∙ is.flags;
       indoms_are = t.indoms_are ∙ sym was.indoms ∙ sym (ap (λ (f : Form). f.indoms) form) ∙ is.indoms;
-      metrics_by_item = subst (HasMetrics metrics) same_metrics t.metrics_by_item;
+      metrics_are = t.metrics_are ∙ same_metrics;
+      places_by_item = t.places_by_item;
       numbers_by_item = subst (λ (subjects : List Subject). HasNumbers numbers (enumeration 0 subjects)) same_subjects t.numbers_by_item;
     }

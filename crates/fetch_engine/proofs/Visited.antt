@@ -1,8 +1,8 @@
 -- Regions that were read one after another, each by its own pass.
-use Rattle.std.proofs.Common.{◌≡◌, ℕ, zero, suc, ◌+◌, ◌<◌, ◌≤◌, List, [], ◌∷◌, ◌++◌, length, take, drop, get_or, set, map, All, add-zero, sym, refl, ap, ap₂, ◌∙◌, subst, arith}
+use Rattle.std.proofs.Common.{◌≡◌, ℕ, zero, suc, ◌+◌, ◌<◌, ◌≤◌, List, [], ◌∷◌, ◌++◌, length, take, drop, get_or, set, map, add-zero, sym, refl, ap, ap₂, ◌∙◌, subst, arith}
 use Rattle.std.proofs.lemmas.List.{map-append, take_more, take_more_set, take_all, length-set, drop-set-lt, get_or-drop, get_or-set_same}
-use Rattle.std.specs.Prelude.{Option, None, Some, option_map, position, slice_get}
-use Rattle.std.proofs.lemmas.Option.{slice_get_read, slice_get_within, get_or_from_slice_get}
+use Rattle.std.specs.Prelude.{Option, None, Some, option_map, position}
+use Rattle.std.proofs.lemmas.Option.{slice_get_read}
 use Rattle.std.proofs.lemmas.List.Elements.{All-append, All-nil, All-cons}
 use Rattle.std.proofs.lemmas.List.Folds.{fold-map}
 use Rattle.pcp_base.specs.Time.{Moment}
@@ -14,12 +14,13 @@ use Rattle.mmv_layout.specs.Rows.{layout_of}
 use Rattle.region_rule.specs.Seats.{Token}
 use Rattle.fetch_answers.specs.Answers.{answer_of, facts_of}
 use Rattle.fetch_answers.specs.Names.{names_of, missed_of, with_region, with_missed}
-use Rattle.fetch_answers.specs.Readings.{RegionReading, reading_of, AreInOrder, AscendFrom}
-use Rattle.fetch_engine.specs.Kept.{ReadAtKeeping, kept_in, kept_of}
-use Rattle.fetch_engine.specs.Servers.{IsServer, IsSeated, RowsAscendFrom, Seated, regions_of}
+use Rattle.fetch_answers.specs.Readings.{RegionReading, reading_of}
+use Rattle.fetch_engine.specs.Kept.{HasNamesOf, ReadAtKeeping, alone, kept_in, kept_of, known_at}
+use Rattle.fetch_engine.specs.Servers.{IsSeated, Seated, regions_of}
 use Rattle.fetch_engine.specs.Tries.{ReadsKeeping}
-use Rattle.fetch_engine.specs.Visits.{IsReadBy, Visit, IsVisit, AreRead, AreReadKeeping, IsLoaded, AreLoaded, AreNamed, IsAnswered, IsFetched, IsReadIf, IsReadFor, IsReadAtKeeping, IsReadForKeeping, IsReadIfKeeping, lies_in}
+use Rattle.fetch_engine.specs.Visits.{IsReadBy, Visit, IsVisit, AreRead, AreReadKeeping, IsLoaded, AreLoaded, AreNamed, AreNamedBy, IsAnswered, IsFetched, IsReadIf, IsReadFor, IsReadAtKeeping, IsReadForKeeping, IsReadIfKeeping, lies_in}
 use Rattle.fetch_engine.specs.declared.server.Mounted.{Mounted}
+use Rattle.fetch_answers.specs.declared.names.Named.{Named}
 use Rattle.fetch_answers.specs.declared.shot.Shot.{Shot}
 use Rattle.fetch_engine.proofs.Holding.{kept_set, kept_there, long_kept}
 use Rattle.fetch_engine.proofs.SeatPasses.{is_there, is_here}
@@ -51,7 +52,15 @@ still_seated rows olds news seated h = regions_same olds news h ∙ seated
 -- Visits
 
 abbrev pub seat : List Token → List (Option (List ℕ)) → Seated
-seat tokens kept = record { tokens = tokens; kept = kept }
+seat tokens kept = record { tokens = tokens; kept = kept; named = None }
+
+-- with the names that are kept, which readings don't speak of
+abbrev pub naming : List Token → List (Option (List ℕ)) → Option Named → Seated
+naming tokens kept named = record { tokens = tokens; kept = kept; named = named }
+
+pub named_so : (rows : List Mounted) (olds : List Token) (kolds : List (Option (List ℕ))) (readings : List RegionReading) (news : List Token) (knews : List (Option (List ℕ))) (was is : Option Named)
+    → AreReadKeeping rows (seat olds kolds) readings (seat news knews) → AreReadKeeping rows (naming olds kolds was) readings (naming news knews is)
+named_so rows olds kolds readings news knews was is a = record { read = a.read; kept_are = a.kept_are; keeps_are = a.keeps_are }
 
 none_read : AreReadKeeping [] (seat [] []) [] (seat [] [])
 none_read = record { read = record { visits = []; each = All-nil IsVisit; rows_are = refl; old_are = refl; readings_are = refl; new_are = refl }; kept_are = refl; keeps_are = refl }
@@ -71,6 +80,11 @@ one_more rows olds kolds readings news knews visit a v = record {
   kept_are = map-append (λ (w : Visit). w.kept) a.read.visits (visit ∷ []) ∙ ap (λ (xs : List (Option (List ℕ))). xs ++ visit.kept ∷ []) a.kept_are;
   keeps_are = map-append (λ (w : Visit). w.keeps) a.read.visits (visit ∷ []) ∙ ap (λ (xs : List (Option (List ℕ))). xs ++ visit.keeps ∷ []) a.keeps_are;
 }
+
+-- and other names may be kept then
+pub named_anew : (rows : List Mounted) (old : Seated) (readings : List RegionReading) (tokens : List Token) (kept : List (Option (List ℕ))) (was is : Option Named)
+    → AreReadKeeping rows old readings (naming tokens kept was) → AreReadKeeping rows old readings (naming tokens kept is)
+named_anew rows old readings tokens kept was is a = record { read = a.read; kept_are = a.kept_are; keeps_are = a.keeps_are }
 
 -- the regions before a place were read, and the passes from there on are as they were, with what is kept
 pub record HasRead (i : ℕ) (rows : List Mounted) (olds news : List Token) (kolds knews : List (Option (List ℕ))) (readings : List RegionReading) : Type 0 where
@@ -163,60 +177,20 @@ next_read i rows olds news kolds shots spares was shot spare_was spare before ro
     (subst (λ (xs : List Shot). HasRead (i + 1) rows olds (set news i after) kolds (set (kept_in shots spares) i (kept_of shot.image spare)) (map reading_of xs)) (sym (take_more_set shots i shot there)) next)
 
 -- all were read
-pub all_shots_read : (rows : List Mounted) (olds news : List Token) (kolds : List (Option (List ℕ))) (shots : List Shot) (spares : List (Option (List ℕ))) → length olds ≡ length rows → length kolds ≡ length rows → length shots ≡ length rows
-    → HasRead (length rows) rows olds news kolds (kept_in shots spares) (map reading_of (take (length rows) shots)) → AreReadKeeping rows (seat olds kolds) (map reading_of shots) (seat news (kept_in shots spares))
-all_shots_read rows olds news kolds shots spares many kmany wide h =
+pub all_shots_read : (rows : List Mounted) (olds news : List Token) (kolds : List (Option (List ℕ))) (shots : List Shot) (spares : List (Option (List ℕ))) (was is : Option Named) → length olds ≡ length rows → length kolds ≡ length rows → length shots ≡ length rows
+    → HasRead (length rows) rows olds news kolds (kept_in shots spares) (map reading_of (take (length rows) shots)) → AreReadKeeping rows (naming olds kolds was) (map reading_of shots) (naming news (kept_in shots spares) is)
+all_shots_read rows olds news kolds shots spares was is many kmany wide h =
     let n : ℕ = length rows in
     let same = h.many in
     let ksame = h.kept_many in
     let knews : List (Option (List ℕ)) = kept_in shots spares in
-    subst (λ (xs : List Mounted). AreReadKeeping xs (seat olds kolds) (map reading_of shots) (seat news knews)) (take_all n rows (omega arith))
+    named_so rows olds kolds (map reading_of shots) news knews was is
+    (subst (λ (xs : List Mounted). AreReadKeeping xs (seat olds kolds) (map reading_of shots) (seat news knews)) (take_all n rows (omega arith))
     (subst (λ (xs : List Token). AreReadKeeping (take n rows) (seat xs kolds) (map reading_of shots) (seat news knews)) (take_all n olds (omega arith))
     (subst (λ (ks : List (Option (List ℕ))). AreReadKeeping (take n rows) (seat (take n olds) ks) (map reading_of shots) (seat news knews)) (take_all n kolds (omega arith))
     (subst (λ (xs : List Shot). AreReadKeeping (take n rows) (seat (take n olds) (take n kolds)) (map reading_of xs) (seat news knews)) (take_all n shots (omega arith))
     (subst (λ (xs : List Token). AreReadKeeping (take n rows) (seat (take n olds) (take n kolds)) (map reading_of (take n shots)) (seat xs knews)) (take_all n news (omega arith))
-    (subst (λ (ks : List (Option (List ℕ))). AreReadKeeping (take n rows) (seat (take n olds) (take n kolds)) (map reading_of (take n shots)) (seat (take n news) ks)) (take_all n knews (omega arith)) h.read)))))
-
--- Clusters
-
--- clusters of readings that are in order
-abbrev pub ReadingsAscendFrom : ℕ → List RegionReading → Type 0
-ReadingsAscendFrom least [] = Unit {0}
-ReadingsAscendFrom least (r ∷ rs) = (least ≤ r.cluster) × (r.cluster < 4096) × ReadingsAscendFrom (r.cluster + 1) rs
-
-head_all : (visit : Visit) (visits : List Visit) → All IsVisit (visit ∷ visits) → IsVisit visit
-head_all visit visits each = each 0 visit (omega arith)
-
-tail_all : (visit : Visit) (visits : List Visit) → All IsVisit (visit ∷ visits) → All IsVisit visits
-tail_all visit visits each i d below = each (suc i) d (omega arith)
-
-rows_below : (visit : Visit) (visits : List Visit) → All (λ (row : Mounted). row.cluster < 4096) (map (λ (v : Visit). v.row) (visit ∷ visits)) → All (λ (row : Mounted). row.cluster < 4096) (map (λ (v : Visit). v.row) visits)
-rows_below visit visits each i d below = each (suc i) d (omega arith)
-
-ascending_readings : (least : ℕ) (visits : List Visit) → All IsVisit visits → RowsAscendFrom least (map (λ (v : Visit). v.row) visits) → All (λ (row : Mounted). row.cluster < 4096) (map (λ (v : Visit). v.row) visits)
-    → ReadingsAscendFrom least (map (λ (v : Visit). v.reading) visits)
-ascending_readings least [] each ascend below = tt
-ascending_readings least (v ∷ vs) each ascend below =
-    let same : v.row.cluster ≡ v.reading.cluster = sym (head_all v vs each).cluster in (
-      subst (λ (c : ℕ). least ≤ c) same ascend.0,
-      subst (λ (c : ℕ). c < 4096) same (below 0 v.row (omega arith)),
-      subst (λ (c : ℕ). ReadingsAscendFrom (c + 1) (map (λ (w : Visit). w.reading) vs)) same (ascending_readings (v.row.cluster + 1) vs (tail_all v vs each) ascend.1 (rows_below v vs below)),
-    )
-
-ascending_shots : (least : ℕ) (shots : List Shot) → ReadingsAscendFrom least (map reading_of shots) → AscendFrom least shots
-ascending_shots least [] h = tt
-ascending_shots least (s ∷ ss) h = (h.0, ascending_shots (s.cluster + 1) ss h.2)
-
-low_shots : (least : ℕ) (shots : List Shot) → ReadingsAscendFrom least (map reading_of shots) → All (λ (shot : Shot). shot.cluster < 4096) shots
-low_shots least [] h = All-nil (λ (shot : Shot). shot.cluster < 4096)
-low_shots least (s ∷ ss) h = All-cons (λ (shot : Shot). shot.cluster < 4096) s ss h.1 (low_shots (s.cluster + 1) ss h.2)
-
-pub in_order : (rows : List Mounted) (olds : List Token) (shots : List Shot) (news : List Token) → IsServer rows → AreRead rows olds (map reading_of shots) news → AreInOrder shots
-in_order rows olds shots news server a =
-    let ascend : RowsAscendFrom 0 (map (λ (v : Visit). v.row) a.visits) = subst (λ (xs : List Mounted). RowsAscendFrom 0 xs) (sym a.rows_are) server.ascend in
-    let below : All (λ (row : Mounted). row.cluster < 4096) (map (λ (v : Visit). v.row) a.visits) = subst (λ (xs : List Mounted). All (λ (row : Mounted). row.cluster < 4096) xs) (sym a.rows_are) server.clusters in
-    let readings : ReadingsAscendFrom 0 (map reading_of shots) = subst (λ (xs : List RegionReading). ReadingsAscendFrom 0 xs) a.readings_are (ascending_readings 0 a.visits a.each ascend below) in
-    record { clusters = low_shots 0 shots readings; ascend = ascending_shots 0 shots readings }
+    (subst (λ (ks : List (Option (List ℕ))). AreReadKeeping (take n rows) (seat (take n olds) (take n kolds)) (map reading_of (take n shots)) (seat (take n news) ks)) (take_all n knews (omega arith)) h.read))))))
 
 -- Answers
 
@@ -240,23 +214,25 @@ are_named rows olds names missing news shots read names_are missing_are = record
   missing_are = missing_are ∙ sym (fold-map (λ clusters (reading : RegionReading). with_missed clusters reading.cluster reading.layout) reading_of [] shots);
 }
 
-pub in_order_by : (rows : List Mounted) (old : Seated) (known : List Shot) (new : Seated) → IsServer rows → AreReadKeeping rows old (map reading_of known) new → AreInOrder known
-in_order_by rows old known new server a = in_order rows old.tokens known new.tokens server a.read
+-- and so are those that are kept
+pub are_named_by : (rows : List Mounted) (olds : List Token) (named : Option Named) (news : List Token) (shots : List Shot) → AreRead rows olds (map reading_of shots) news → HasNamesOf shots named → AreNamedBy rows olds named news
+are_named_by rows olds None news shots read h = absurd h
+are_named_by rows olds (Some named) news shots read h = are_named rows olds named.names named.missing news shots read h.names h.missing
 
 -- One region alone
 
-pub none_for : (word : ℕ) (rows : List Mounted) (tokens : List Token) (kept : List (Option (List ℕ))) (shots : List Shot) → shots ≡ [] → position (lies_in word) rows ≡ None
-    → IsReadForKeeping word rows (seat tokens kept) (map reading_of shots) (seat tokens kept)
-none_for word rows tokens kept shots none nowhere =
-    subst (λ (p : Option ℕ). IsReadIfKeeping rows (seat tokens kept) p (map reading_of shots) (seat tokens kept)) (sym nowhere) (ap (λ (xs : List Shot). map reading_of xs) none, refl)
+pub none_for : (word : ℕ) (rows : List Mounted) (tokens : List Token) (kept : List (Option (List ℕ))) (named : Option Named) (known : List Shot) → position (lies_in word) rows ≡ None
+    → IsReadForKeeping word rows (naming tokens kept named) (map reading_of (known_at known None)) (naming tokens kept named)
+none_for word rows tokens kept named known nowhere =
+    subst (λ (p : Option ℕ). IsReadIfKeeping rows (naming tokens kept named) p [] (naming tokens kept named)) (sym nowhere) (refl, refl)
 
-pub read_there : (rows : List Mounted) (olds : List Token) (known : List Shot) (spares : List (Option (List ℕ))) (at : ℕ) (was shot : Shot) (spare_was spare : Option (List ℕ)) (before : Token) (row : Mounted) (after : Token)
+pub read_there : (rows : List Mounted) (olds : List Token) (known : List Shot) (spares : List (Option (List ℕ))) (at : ℕ) (was shot : Shot) (spare_was spare : Option (List ℕ)) (before : Token) (row : Mounted) (after : Token) (named_was named_is : Option Named)
     → at < length rows → at < length olds → at < length known → length spares ≡ length known
     → before ≡ get_or olds at before → row ≡ get_or rows at row → was ≡ get_or known at was → spare_was ≡ get_or spares at spare_was
     → shot.file ≡ row.file → shot.cluster ≡ row.cluster → IsReadBy before (option_map layout_of shot.image) after
     → ReadsKeeping (kept_of was.image spare_was) before.view (option_map layout_of shot.image) (kept_of shot.image spare) after.view
-    → ReadAtKeeping rows (seat olds (kept_in known spares)) at (set known at shot) (seat (set olds at after) (kept_in (set known at shot) (set spares at spare)))
-read_there rows olds known spares at was shot spare_was spare before row after row_there token_there known_there long before_is row_is was_is spare_is file cluster read keeping =
+    → ReadAtKeeping rows (naming olds (kept_in known spares) named_was) at (set known at shot) (naming (set olds at after) (kept_in (set known at shot) (set spares at spare)) named_is)
+read_there rows olds known spares at was shot spare_was spare before row after named_was named_is row_there token_there known_there long before_is row_is was_is spare_is file cluster read keeping =
     let wide = long_kept known spares long in
     let long_known = length-set known at shot in
     let kept_is : kept_of was.image spare_was ≡ get_or (kept_in known spares) at (kept_of was.image spare_was) =
@@ -278,12 +254,11 @@ read_there rows olds known spares at was shot spare_was spare before row after r
       },
     )
 
-pub one_for : (word : ℕ) (rows : List Mounted) (old : Seated) (known : List Shot) (new : Seated) (at : ℕ) (shots : List Shot) (one : Shot) → position (lies_in word) rows ≡ Some at
-    → ReadAtKeeping rows old at known new → one ≡ get_or known at one → shots ≡ one ∷ [] → IsReadForKeeping word rows old (map reading_of shots) new
-one_for word rows old known new at shots one here (shot, there, read) one_is is =
-    let same : one ≡ shot = one_is ∙ get_or_from_slice_get known at shot one there in
-    subst (λ (p : Option ℕ). IsReadIfKeeping rows old p (map reading_of shots) new) (sym here)
-    (subst (λ (xs : List Shot). IsReadAtKeeping rows old at (map reading_of xs) new) (sym is) (subst (λ (x : Shot). IsReadAtKeeping rows old at (reading_of x ∷ []) new) (sym same) read))
+pub one_for : (word : ℕ) (rows : List Mounted) (old : Seated) (known : List Shot) (new : Seated) (at : ℕ) → position (lies_in word) rows ≡ Some at → ReadAtKeeping rows old at known new
+    → IsReadForKeeping word rows old (map reading_of (known_at known (Some at))) new
+one_for word rows old known new at here (shot, there, read) =
+    subst (λ (p : Option ℕ). IsReadIfKeeping rows old p (map reading_of (known_at known (Some at))) new) (sym here)
+    (subst (λ (found : Option Shot). IsReadAtKeeping rows old at (map reading_of (alone found)) new) (sym there) read)
 
 -- without what is kept
 pub read_for_alone : (word : ℕ) (rows : List Mounted) (old : Seated) (readings : List RegionReading) (new : Seated) → IsReadForKeeping word rows old readings new → IsReadFor word rows old.tokens readings new.tokens
@@ -295,33 +270,3 @@ read_for_alone word rows old readings new h = if_alone (position (lies_in word) 
 
 pub loaded_for : (olds : List Token) (at : ℕ) (before after : Token) → at < length olds → before ≡ get_or olds at before → IsLoaded before after → AreLoaded olds (set olds at after)
 loaded_for olds at before after below is loaded = loaded_at olds olds at before after (none_loaded olds) below (subst (λ (t : Token). IsLoaded t after) is loaded)
-
-low_row : (rows : List Mounted) (at : ℕ) (row : Mounted) → All (λ (r : Mounted). r.cluster < 4096) rows → slice_get rows at ≡ Some row → row.cluster < 4096
-low_row rows at row low is =
-    subst (λ (r : Mounted). r.cluster < 4096) (get_or_from_slice_get rows at row row is) (low at row (slice_get_within rows at row is))
-
-one_in_order : (shots : List Shot) (reading : RegionReading) → reading.cluster < 4096 → map reading_of shots ≡ reading ∷ [] → AreInOrder shots
-one_in_order [] reading low is = absurd (nothing_more reading is)
-  where
-    nothing_more : (r : RegionReading) → [] ≡ r ∷ [] → ⊥
-    nothing_more r e = cc
-one_in_order (s ∷ []) reading low is =
-    let same : s.cluster ≡ reading.cluster = ap cluster_in is in
-    low_shot s (subst (λ (c : ℕ). c < 4096) (sym same) low)
-  where
-    cluster_in : List RegionReading → ℕ
-    cluster_in [] = 0
-    cluster_in (r ∷ rs) = r.cluster
-
-    low_shot : (shot : Shot) → shot.cluster < 4096 → AreInOrder (shot ∷ [])
-    low_shot shot below = record { clusters = All-cons (λ (x : Shot). x.cluster < 4096) shot [] below (All-nil (λ (x : Shot). x.cluster < 4096)); ascend = (omega arith, tt) }
-one_in_order (s ∷ t ∷ ts) reading low is = absurd (omega (arith, ap length is))
-
-if_in_order : (rows : List Mounted) (olds : List Token) (o : Option ℕ) (shots : List Shot) (news : List Token) → IsServer rows → IsReadIf rows olds o (map reading_of shots) news → AreInOrder shots
-if_in_order rows olds None [] news server h = record { clusters = All-nil (λ (x : Shot). x.cluster < 4096); ascend = tt }
-if_in_order rows olds None (s ∷ ss) news server h = absurd (omega (arith, ap length h.0))
-if_in_order rows olds (Some at) shots news server h =
-    one_in_order shots h.visit.reading (subst (λ (c : ℕ). c < 4096) (sym h.is.cluster) (low_row rows at h.visit.row server.clusters h.row_is)) h.readings_are
-
-pub in_order_for : (word : ℕ) (rows : List Mounted) (olds : List Token) (shots : List Shot) (news : List Token) → IsServer rows → IsReadFor word rows olds (map reading_of shots) news → AreInOrder shots
-in_order_for word rows olds shots news server h = if_in_order rows olds (position (lies_in word) rows) shots news server h

@@ -4,6 +4,7 @@ use Rattle.std.specs.List.{list_any}
 use Rattle.pcp_base.specs.Names.{spells_component}
 use Rattle.region_core.specs.declared.mode.Mode.TheVariants.{Idle}
 use Rattle.region_rule.specs.Seats.{Token, IsSame, MadeRegion}
+use Rattle.fetch_answers.specs.declared.names.Named.{Named}
 use Rattle.fetch_engine.specs.declared.server.Mounted.{Mounted}
 use Rattle.fetch_engine.specs.declared.server.ServerFault.{ServerFault}
 use Rattle.fetch_engine.specs.declared.server.ServerFault.TheVariants.{TooMany, Cluster, File}
@@ -62,11 +63,12 @@ pub record IsServerOf (given rows : List Mounted) : Type 0 where
   pub same : IsPermutation given rows
   pub server : IsServer rows
 
--- what contracts see of a seat: a pass of each region, in ascending cluster, and what is kept of each: nothing, or the words
--- of the image that was read last
+-- what contracts see of a seat: a pass of each region, in ascending cluster; what is kept of each: nothing, or the words of
+-- the image that was read last; and the name space that is kept, if there is one
 pub record Seated : Type 0 where
   pub tokens : List Token
   pub kept : List (Option (List ℕ))
+  pub named : Option Named
 
 -- a seat of which nothing is kept yet
 abbrev pub none_kept : List Mounted → List (Option (List ℕ))

@@ -22,6 +22,7 @@ use Rattle.region_words.specs.Images.{mmv}
 use Rattle.fetch_answers.specs.Names.{with_region, with_missed}
 use Rattle.fetch_answers.specs.Answers.{answer_of, facts_of}
 use Rattle.fetch_answers.specs.Readings.{RegionReading}
+use Rattle.fetch_answers.specs.declared.names.Named.{Named}
 use Rattle.fetch_engine.specs.Servers.{Seated}
 use Rattle.fetch_engine.specs.Tries.{ReadsKeeping}
 use Rattle.fetch_engine.specs.declared.server.Mounted.{Mounted}
@@ -195,3 +196,8 @@ pub record AreNamed (rows : List Mounted) (old : List Token) (names : List Pair)
   pub read : AreRead rows old readings new
   pub names_are : names ≡ names_in readings
   pub missing_are : missing ≡ missed_in readings
+
+-- there is a name space, and it is that of one reading of each region
+abbrev pub AreNamedBy : List Mounted → List Token → Option Named → List Token → Type 0
+AreNamedBy rows old None new = ⊥
+AreNamedBy rows old (Some named) new = AreNamed rows old named.names named.missing new

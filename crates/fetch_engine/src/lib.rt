@@ -10,9 +10,7 @@ mod server;
 mod serving;
 mod visits;
 
-pub use fetch_answers::{
-    AskFault, FetchFault, Fetched, Named, Shot, answer, description, instances, names_of,
-};
+pub use fetch_answers::{AskFault, FetchFault, Fetched, Named, Shot, answer, names_of};
 pub use laws::{hits_load_values, misses_are_missed, read_is_shown};
 pub use seat::Seat;
 pub use server::{Mounted, Server, ServerFault};

@@ -1,5 +1,5 @@
 //! Regions that are served under their clusters and FILEs.
-ghost use Rattle.std.specs.Prelude.{◌≡◌, [], length, slice_get, option_map, bytes_eq, List as Sequence, take, Some, All, IfOk, MatchResult, MatchOption, ◌<◌};
+ghost use Rattle.std.specs.Prelude.{◌≡◌, [], length, slice_get, option_map, bytes_eq, List as Sequence, take, Some, None, All, IfOk, MatchResult, MatchOption, ◌<◌};
 ghost use Rattle.std.specs.Option.{option_copied};
 ghost use Rattle.std.specs.List.{list_any};
 ghost use Rattle.fetch_engine.specs.Kept.{AreUnknown};
@@ -173,11 +173,11 @@ impl Server {
         Some(&self.mounted.get(index as usize)?.region)
     }
 
-    /// A seat with these passes, one of each region in ascending cluster; nothing is kept of the regions yet.
+    /// A seat with these passes, one of each region in ascending cluster; nothing is kept of the regions yet, and no names.
     #[tactic(auto, using(crate::proofs::Holding::unknown_kept, crate::proofs::Holding::unknown_none, crate::proofs::SeatPasses::is_there))]
     pub fn seat(&self, alloc: Global, passes: Vec<Pass>) -> Result<Seat, (Vec<Pass>, NoMemory)>
         requires { IsSeated self.now passes.items }
-        ensures { MatchResult result (λ seat. (seat.tokens ≡ passes.items) × (seat.kept ≡ none_kept self.now)) (λ refused. refused.0.items ≡ passes.items) }
+        ensures { MatchResult result (λ seat. (seat.tokens ≡ passes.items) × (seat.kept ≡ none_kept self.now) × (seat.named ≡ None)) (λ refused. refused.0.items ≡ passes.items) }
     {
         let Ok(known) = none_known(alloc, &self.mounted) else {
             return Err((passes, NoMemory));
@@ -187,6 +187,7 @@ impl Server {
                 passes,
                 known,
                 spares,
+                named: None,
             }),
             Err(NoMemory) => Err((passes, NoMemory)),
         }

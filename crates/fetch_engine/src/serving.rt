@@ -2,15 +2,16 @@
 ghost use Rattle.std.specs.Prelude.{◌≡◌, ◌<◌, length, IfOk, IfErr, OnOk, List as Sequence};
 ghost use Rattle.fetch_answers.specs.Asks.{desc_asked, instances_asked, AnswerHas};
 ghost use Rattle.fetch_answers.specs.Fetches.{IsFetchFault};
-ghost use Rattle.fetch_answers.specs.Readings.{AreInOrder, RegionReading};
+ghost use Rattle.fetch_answers.specs.Readings.{RegionReading};
 ghost use Rattle.fetch_engine.specs.Servers.{IsSeated};
-ghost use Rattle.fetch_engine.specs.Visits.{AreLoaded, AreNamed, IsAnswered, IsFetched, IsReadFor, ReadKeeping, ReadKeepingFor};
+ghost use Rattle.fetch_engine.specs.Visits.{AreLoaded, AreNamed, AreNamedBy, IsAnswered, IsFetched, IsReadFor, ReadKeeping, ReadKeepingFor};
 
 use crate::seat::Seat;
 use crate::server::Server;
-use crate::visits::{names_known, read_all, read_for};
+use crate::visits::{keep_names, known_at, read_all, read_for};
 use fetch_answers::{
-    AskFault, FETCH_LIMIT, FetchFault, Fetched, Named, answer_of, description, instances, sets_of,
+    AskFault, FETCH_LIMIT, FetchFault, Fetched, Named, answer_of, description, instances,
+    names_known, sets_of,
 };
 use pcp_base::{Desc, InDom, List, NoMemory, PmResult, Pmid, Stamp, Text};
 use profile_filter::Profile;
@@ -47,6 +48,7 @@ impl Server {
             &mut seat.passes,
             &mut seat.known,
             &mut seat.spares,
+            &mut seat.named,
         )?;
         Ok(answer_of(alloc, &seat.known, profile, pmids, stamp)?)
     }
@@ -79,6 +81,7 @@ impl Server {
             &mut seat.passes,
             &mut seat.known,
             &mut seat.spares,
+            &mut seat.named,
         )?;
         let sets = sets_of(alloc, &seat.known, profile, pmids)?;
         Ok(PmResult { stamp, sets })
@@ -86,7 +89,7 @@ impl Server {
 
     /// The name space of one reading of each region (pmns(5)), and the clusters of the regions that were missed in three
     /// tries. After a refusal the passes have made nothing but loads.
-    #[tactic(auto, using(crate::proofs::Visited::are_named, crate::proofs::Visited::in_order_by, crate::proofs::Visited::still_seated))]
+    #[tactic(auto, using(crate::proofs::Visited::are_named, crate::proofs::Visited::still_seated))]
     pub fn names(&self, alloc: Global, seat: &mut Seat) -> Result<Named, NoMemory>
         requires { IsSeated self.now seat.old.tokens }
         ensures names { IfOk result (λ named. AreNamed self.now seat.old.tokens named.names named.missing seat.new.tokens) }
@@ -100,13 +103,37 @@ impl Server {
             &mut seat.passes,
             &mut seat.known,
             &mut seat.spares,
+            &mut seat.named,
         )?;
         let named = names_known(alloc, &seat.known)?;
         Ok(named)
     }
+
+    /// Reads the name space as `names` does, and keeps it in the seat, where `named` finds it; it serves as long as no region
+    /// is read anew. After a refusal the passes have made nothing but loads.
+    #[tactic(auto, using(crate::proofs::Visited::are_named_by, crate::proofs::Visited::still_seated))]
+    pub fn read_names(&self, alloc: Global, seat: &mut Seat) -> Result<(), NoMemory>
+        requires { IsSeated self.now seat.old.tokens }
+        ensures names { OnOk result (AreNamedBy self.now seat.old.tokens seat.new.named seat.new.tokens) }
+        ensures keeping { OnOk result (ReadKeeping self.now seat.old seat.new) }
+        ensures loads { AreLoaded seat.old.tokens seat.new.tokens }
+        ensures seated { IsSeated self.now seat.new.tokens }
+    {
+        read_all(
+            alloc,
+            &self.mounted,
+            &mut seat.passes,
+            &mut seat.known,
+            &mut seat.spares,
+            &mut seat.named,
+        )?;
+        keep_names(alloc, &seat.known, &mut seat.named)?;
+        Ok(())
+    }
+
     /// The description of a metric over a reading of the region in whose cluster it lies (pmLookupDesc(3)), or a status: no
     /// other region is read. After a refusal the passes have made nothing but loads.
-    #[tactic(auto, using(crate::proofs::Visited::in_order_for, crate::proofs::Visited::read_for_alone, crate::proofs::Visited::still_seated))]
+    #[tactic(auto, using(crate::proofs::Visited::read_for_alone, crate::proofs::Visited::still_seated))]
     pub fn description(&self, alloc: Global, seat: &mut Seat, pmid: Pmid) -> Result<Desc, AskFault>
         requires { IsSeated self.now seat.old.tokens }
         ensures told { AnswerHas result (λ told. (readings : Sequence RegionReading) × IsReadFor pmid self.now seat.old.tokens readings seat.new.tokens × (told ≡ desc_asked readings pmid)) }
@@ -114,20 +141,21 @@ impl Server {
         ensures loads { AreLoaded seat.old.tokens seat.new.tokens }
         ensures seated { IsSeated self.now seat.new.tokens }
     {
-        let shots = read_for(
+        let at = read_for(
             alloc,
             &self.mounted,
             &mut seat.passes,
             &mut seat.known,
             &mut seat.spares,
+            &mut seat.named,
             pmid.word(),
         )?;
-        description(alloc, shots.as_slice(), pmid)
+        description(known_at(&seat.known, at), pmid)
     }
 
     /// The instances of a domain in ascending number over a reading of the region in whose cluster it lies (pmGetInDom(3)),
     /// or a status: no other region is read. After a refusal the passes have made nothing but loads.
-    #[tactic(auto, using(crate::proofs::Visited::in_order_for, crate::proofs::Visited::read_for_alone, crate::proofs::Visited::still_seated))]
+    #[tactic(auto, using(crate::proofs::Visited::read_for_alone, crate::proofs::Visited::still_seated))]
     pub fn instances(
         &self,
         alloc: Global,
@@ -140,14 +168,15 @@ impl Server {
         ensures loads { AreLoaded seat.old.tokens seat.new.tokens }
         ensures seated { IsSeated self.now seat.new.tokens }
     {
-        let shots = read_for(
+        let at = read_for(
             alloc,
             &self.mounted,
             &mut seat.passes,
             &mut seat.known,
             &mut seat.spares,
+            &mut seat.named,
             indom.word(),
         )?;
-        instances(alloc, shots.as_slice(), indom)
+        instances(alloc, known_at(&seat.known, at), indom)
     }
 }

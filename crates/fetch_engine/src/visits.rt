@@ -1,14 +1,14 @@
 //! Reading regions by what is kept of them, each in at most three tries.
-ghost use Rattle.std.specs.Prelude.{◌≡◌, ◌<◌, ◌==◌, ◌/◌, ◌+◌, ◌*◌, ◌&&◌, nat_lt, map, option_map, All, length, position, Ok, Some, None, IfOk, IfSome, OnOk, MatchResult};
+ghost use Rattle.std.specs.Prelude.{◌≡◌, ◌<◌, ◌==◌, ◌/◌, ◌+◌, ◌*◌, ◌&&◌, if◌then◌else◌, true, nat_lt, map, option_map, All, length, position, Ok, Some, None, IfOk, IfSome, OnOk, MatchResult};
+ghost use Rattle.std.specs.Option.{option_copied};
 ghost use Rattle.mmv_layout.specs.Rows.{layout_of};
 ghost use Rattle.region_core.specs.declared.mode.Mode.TheVariants.{Idle};
 ghost use Rattle.region_rule.specs.Reads.{ReadsImage};
 ghost use Rattle.region_rule.specs.Seats.{IsSame};
 ghost use Rattle.region_words.specs.Images.{mmv};
-ghost use Rattle.fetch_answers.specs.Names.{missed_of, names_of};
-ghost use Rattle.fetch_answers.specs.Readings.{AreInOrder, reading_of};
+ghost use Rattle.fetch_answers.specs.Readings.{reading_of};
 ghost use Rattle.fetch_engine.specs.Hows.{shown_by};
-ghost use Rattle.fetch_engine.specs.Kept.{AreKept, HaveOneForm, IsKeptBy, ReadAtKeeping, ShowsTold, TryFails, TryStays, WholeFails, kept_in, kept_of, seated_by};
+ghost use Rattle.fetch_engine.specs.Kept.{AreKept, AreNamesOf, HasNamesOf, HaveOneForm, IsKeptBy, ReadAtKeeping, ShowsTold, TryFails, TryStays, WholeFails, adding_of, alone, kept_in, known_at, kept_of, seated_by};
 ghost use Rattle.fetch_engine.specs.Servers.{IsSeated};
 ghost use Rattle.fetch_engine.specs.Tries.{ReadsKeeping};
 ghost use Rattle.fetch_engine.specs.Visits.{AreLoaded, AreReadKeeping, IsLoaded, IsReadBy, IsReadForKeeping, lies_in};
@@ -16,11 +16,11 @@ ghost use Rattle.fetch_engine.specs.declared.visits.How.TheVariants.{Values};
 
 use crate::again::read_again;
 use crate::server::Mounted;
-use fetch_answers::{Known, Named, Shot, Told, names_of};
-use mmv_layout::Image;
-use pcp_base::{Duplicate, List, NoMemory};
+use fetch_answers::{Known, Named, Told, names_known};
+use pcp_base::{Duplicate, NoMemory};
 use region_words::{Pass, ReadFault, Region, ValueFault};
 use std::alloc::Global;
+use std::slice::from_ref;
 
 /// How often a region is read again while its two generations differ.
 const TRIES: u32 = 3;
@@ -110,19 +110,22 @@ fn read_kept(
     Ok(None)
 }
 
-/// Sees to it that what is known of a region bears its name and cluster.
-fn place_known(alloc: Global, row: &Mounted, known: &mut Known) -> Result<(), NoMemory>
+/// Sees to it that what is known of a region bears its name and cluster. Tells whether it bore them.
+#[tactic(auto, using(crate::proofs::Naming::placed_before))]
+fn place_known(alloc: Global, row: &Mounted, known: &mut Known) -> Result<bool, NoMemory>
     requires cluster { row.now.cluster < 4096 }
     ensures file { OnOk result (known.new.file ≡ row.now.file) }
     ensures cluster { OnOk result (known.new.cluster ≡ row.now.cluster) }
     ensures image { known.new.image ≡ known.old.image }
+    ensures same { IfOk result (λ same. same ≡ true → known.new ≡ known.old) }
 {
+    let same = known.cluster == row.cluster;
     known.cluster = row.cluster;
     if known.file.as_slice() == row.file.as_slice() {
-        return Ok(());
+        return Ok(same);
     }
     known.file = row.file.copy(alloc)?;
-    Ok(())
+    Ok(false)
 }
 
 /// Takes what is kept of a region.
@@ -142,15 +145,16 @@ fn take_kept(known: &mut Known, spare: &mut Option<Told>) -> Option<Told>
     }
 }
 
-/// Reads what is known of a region by what is kept of it. What is kept of a region that was missed is put aside.
-#[tactic(auto, using(crate::proofs::Holding::alone_keeps, crate::proofs::Holding::alone_kept))]
+/// Reads what is known of a region by what is kept of it. What is kept of a region that was missed is put aside. Tells whether
+/// what was known was read again by its value words alone: then the region adds the same names to the name space.
+#[tactic(auto, using(crate::proofs::Holding::alone_keeps, crate::proofs::Holding::alone_kept, crate::proofs::Naming::adds_the_same))]
 fn read_known(
     alloc: Global,
     row: &Mounted,
     pass: &mut Pass,
     known: &mut Known,
     spare: &mut Option<Told>,
-) -> Result<(), NoMemory>
+) -> Result<bool, NoMemory>
     requires here { pass.old.region ≡ row.now.region }
     requires cluster { row.now.cluster < 4096 }
     requires kept { IfSome (kept_of known.old.image spare.old) (IsKeptBy pass.old) }
@@ -159,18 +163,24 @@ fn read_known(
     ensures read { OnOk result (IsReadBy pass.old (option_map layout_of known.new.image) pass.new) }
     ensures keeping { OnOk result (ReadsKeeping (kept_of known.old.image spare.old) pass.old.view (option_map layout_of known.new.image) (kept_of known.new.image spare.new) pass.new.view) }
     ensures kept { IfSome (kept_of known.new.image spare.new) (IsKeptBy pass.new) }
+    ensures names { IfOk result (λ same. same ≡ true → adding_of known.new ≡ adding_of known.old) }
     ensures loads { IsLoaded pass.old pass.new }
 {
-    place_known(alloc, row, known)?;
+    let same = place_known(alloc, row, known)?;
+    let had = known.told.is_some();
     let mut kept = take_kept(known, spare);
     match read_kept(alloc, &row.region, pass, &mut kept) {
-        Ok(Some(_how)) => {
+        Ok(Some(How::Values)) => {
             known.told = kept;
-            Ok(())
+            Ok(same && had)
+        }
+        Ok(Some(How::Image)) => {
+            known.told = kept;
+            Ok(false)
         }
         Ok(None) => {
             *spare = kept;
-            Ok(())
+            Ok(false)
         }
         Err(NoMemory) => {
             *spare = kept;
@@ -179,7 +189,15 @@ fn read_known(
     }
 }
 
-/// Reads what is known of each region, in order, by what is kept of it.
+/// A name space that is kept, where the regions add the same names still.
+fn kept_if(same: bool, named: Option<Named>) -> Option<Named>
+    ensures { result ≡ (if same then named else None) }
+{
+    if same { named } else { None }
+}
+
+/// Reads what is known of each region, in order, by what is kept of it. The name space that is kept is dropped unless each
+/// region adds the same names still.
 #[tactic(auto, using(crate::proofs::Visited::next_read, crate::proofs::Visited::all_shots_read, crate::proofs::Visited::loaded_at, crate::proofs::Visited::many_there, crate::proofs::Visited::one_there, crate::proofs::Holding::known_at, crate::proofs::Holding::known_set, crate::proofs::Holding::long_set, crate::proofs::Holding::long_kept, crate::proofs::SeatPasses::is_there))]
 pub fn read_all(
     alloc: Global,
@@ -187,25 +205,31 @@ pub fn read_all(
     passes: &mut Vec<Pass>,
     known: &mut Vec<Known>,
     spares: &mut Vec<Option<Told>>,
+    named: &mut Option<Named>,
 ) -> Result<(), NoMemory>
     requires seated { IsSeated rows.now passes.old.items }
     requires clusters { All (λ row. row.cluster < 4096) rows.now }
     requires kept { AreKept passes.old.items (kept_in known.old.items spares.old.items) }
     requires many { length spares.old.items ≡ length known.old.items }
-    ensures read { OnOk result (AreReadKeeping rows.now (seated_by passes.old.items known.old.items spares.old.items) (map reading_of known.new.items) (seated_by passes.new.items known.new.items spares.new.items)) }
+    requires named { IfSome named.old (AreNamesOf known.old.items) }
+    ensures read { OnOk result (AreReadKeeping rows.now (seated_by passes.old.items known.old.items spares.old.items named.old) (map reading_of known.new.items) (seated_by passes.new.items known.new.items spares.new.items named.new)) }
     ensures kept { AreKept passes.new.items (kept_in known.new.items spares.new.items) }
     ensures many { length spares.new.items ≡ length known.new.items }
+    ensures named { IfSome named.new (AreNamesOf known.new.items) }
     ensures loads { AreLoaded passes.old.items passes.new.items }
 {
+    let mut still = named.take();
     for at in 0..rows.len() {
-        read_known(
+        let same = read_known(
             alloc,
             &rows[at],
             &mut passes[at],
             &mut known[at],
             &mut spares[at],
         )?;
+        still = kept_if(same, still);
     }
+    *named = still;
     Ok(())
 }
 
@@ -226,74 +250,52 @@ fn position_for(rows: &[Mounted], word: u32) -> Option<usize>
     position_in(rows, word)
 }
 
-/// The image of the words that were read.
-fn image_of(alloc: Global, told: &Option<Told>) -> Result<Option<Image>, NoMemory>
-    ensures { IfOk result (λ image. image ≡ told.now) }
+/// Keeps the name space of what is known of the regions, unless it is kept.
+pub fn keep_names(alloc: Global, known: &[Known], named: &mut Option<Named>) -> Result<(), NoMemory>
+    requires { IfSome named.old (AreNamesOf known.now) }
+    ensures named { IfSome named.new (AreNamesOf known.now) }
+    ensures kept { OnOk result (HasNamesOf known.now named.new) }
 {
-    match told {
-        Some(told) => Ok(Some(Image::of_words(told.words.as_slice().to_vec(alloc)?))),
-        None => Ok(None),
+    if named.is_some() {
+        return Ok(());
     }
+    *named = Some(names_known(alloc, known)?);
+    Ok(())
 }
 
-/// What was read of a region.
-fn shot_of(alloc: Global, known: &Known) -> Result<Shot, NoMemory>
-    ensures { IfOk result (λ shot. shot ≡ known.now) }
-{
-    Ok(Shot {
-        file: known.file.copy(alloc)?,
-        cluster: known.cluster,
-        image: image_of(alloc, &known.told)?,
-    })
-}
-
-/// What was read of each region.
-fn shots_of(alloc: Global, known: &[Known]) -> Result<List<Shot>, NoMemory>
-    ensures { IfOk result (λ shots. shots ≡ known.now) }
-{
-    let mut shots = List::empty(alloc);
-    for one in known {
-        shots.push(shot_of(alloc, one)?)?;
-    }
-    Ok(shots)
-}
-
-/// The name space of what was read of the regions.
-pub fn names_known(alloc: Global, known: &[Known]) -> Result<Named, NoMemory>
-    requires { AreInOrder known.now }
-    ensures names { IfOk result (λ named. named.names ≡ names_of known.now) }
-    ensures missing { IfOk result (λ named. named.missing ≡ missed_of known.now) }
-{
-    let shots = shots_of(alloc, known)?;
-    names_of(alloc, shots.as_slice())
-}
-
-/// Reads what is known of the region at a position; the others aren't read.
-#[tactic(auto, using(crate::proofs::Visited::read_there, crate::proofs::Visited::loaded_for, crate::proofs::Holding::known_at, crate::proofs::Holding::known_set, crate::proofs::Holding::long_set, crate::proofs::Holding::long_kept, crate::proofs::SeatPasses::is_there, crate::proofs::SeatPasses::is_here))]
+/// Reads what is known of the region at a position; the others aren't read. The name space that is kept is dropped unless the
+/// region adds the same names still.
+#[tactic(auto, using(crate::proofs::Visited::read_there, crate::proofs::Visited::loaded_for, crate::proofs::Holding::known_at, crate::proofs::Holding::known_set, crate::proofs::Holding::long_set, crate::proofs::Holding::long_kept, crate::proofs::Naming::names_stay, crate::proofs::SeatPasses::is_there, crate::proofs::SeatPasses::is_here))]
 fn read_at(
     alloc: Global,
     rows: &[Mounted],
     passes: &mut Vec<Pass>,
     known: &mut Vec<Known>,
     spares: &mut Vec<Option<Told>>,
+    named: &mut Option<Named>,
     at: usize,
 ) -> Result<(), NoMemory>
     requires seated { IsSeated rows.now passes.old.items }
     requires clusters { All (λ row. row.cluster < 4096) rows.now }
     requires kept { AreKept passes.old.items (kept_in known.old.items spares.old.items) }
     requires many { length spares.old.items ≡ length known.old.items }
+    requires named { IfSome named.old (AreNamesOf known.old.items) }
     requires there { at < length rows.now }
-    ensures read { OnOk result (ReadAtKeeping rows.now (seated_by passes.old.items known.old.items spares.old.items) at known.new.items (seated_by passes.new.items known.new.items spares.new.items)) }
+    ensures read { OnOk result (ReadAtKeeping rows.now (seated_by passes.old.items known.old.items spares.old.items named.old) at known.new.items (seated_by passes.new.items known.new.items spares.new.items named.new)) }
     ensures kept { AreKept passes.new.items (kept_in known.new.items spares.new.items) }
     ensures many { length spares.new.items ≡ length known.new.items }
-    ensures known { length known.new.items ≡ length known.old.items }
+    ensures named { IfSome named.new (AreNamesOf known.new.items) }
     ensures loads { AreLoaded passes.old.items passes.new.items }
 {
+    let still = named.take();
     let (pass, row) = (&mut passes[at], &rows[at]);
-    read_known(alloc, row, pass, &mut known[at], &mut spares[at])
+    let same = read_known(alloc, row, pass, &mut known[at], &mut spares[at])?;
+    *named = kept_if(same, still);
+    Ok(())
 }
 
-/// What was read of the region in whose cluster a number lies, if there is one; the others aren't read.
+/// Reads what is known of the region in whose cluster a number lies, and tells its position, if there is one; the others aren't
+/// read.
 #[tactic(auto, using(crate::proofs::Visited::none_for, crate::proofs::Visited::none_loaded, crate::proofs::Visited::one_for, crate::proofs::Holding::long_kept, crate::proofs::SeatPasses::is_there))]
 pub fn read_for(
     alloc: Global,
@@ -301,22 +303,43 @@ pub fn read_for(
     passes: &mut Vec<Pass>,
     known: &mut Vec<Known>,
     spares: &mut Vec<Option<Told>>,
+    named: &mut Option<Named>,
     word: u32,
-) -> Result<List<Shot>, NoMemory>
+) -> Result<Option<usize>, NoMemory>
     requires seated { IsSeated rows.now passes.old.items }
     requires clusters { All (λ row. row.cluster < 4096) rows.now }
     requires kept { AreKept passes.old.items (kept_in known.old.items spares.old.items) }
     requires many { length spares.old.items ≡ length known.old.items }
-    ensures read { IfOk result (λ shots. IsReadForKeeping word rows.now (seated_by passes.old.items known.old.items spares.old.items) (map reading_of shots) (seated_by passes.new.items known.new.items spares.new.items)) }
+    requires named { IfSome named.old (AreNamesOf known.old.items) }
+    ensures read { IfOk result (λ at. IsReadForKeeping word rows.now (seated_by passes.old.items known.old.items spares.old.items named.old) (map reading_of (known_at known.new.items at)) (seated_by passes.new.items known.new.items spares.new.items named.new)) }
     ensures kept { AreKept passes.new.items (kept_in known.new.items spares.new.items) }
     ensures many { length spares.new.items ≡ length known.new.items }
+    ensures named { IfSome named.new (AreNamesOf known.new.items) }
     ensures loads { AreLoaded passes.old.items passes.new.items }
 {
-    let mut shots = List::empty(alloc);
     let Some(at) = position_for(rows, word) else {
-        return Ok(shots);
+        return Ok(None);
     };
-    read_at(alloc, rows, passes, known, spares, at)?;
-    shots.push(shot_of(alloc, &known[at])?)?;
-    Ok(shots)
+    read_at(alloc, rows, passes, known, spares, named, at)?;
+    Ok(Some(at))
+}
+
+/// What is known of a region, alone.
+fn alone(found: Option<&Known>) -> &[Known]
+    ensures { result.now ≡ alone (option_copied found.entry) }
+{
+    match found {
+        Some(one) => from_ref(one),
+        None => &[],
+    }
+}
+
+/// What is known of the region at a position, if there is one.
+pub fn known_at(known: &[Known], at: Option<usize>) -> &[Known]
+    ensures { result.now ≡ known_at known.now at }
+{
+    match at {
+        Some(at) => alone(known.get(at)),
+        None => &[],
+    }
 }

@@ -4,4 +4,4 @@ use Rattle.fetch_answers.specs.Names.{pair_of}
 use Rattle.fetch_answers.proofs.pairs.pairs_of.Given as goal
 
 abbrev pub invariant-loop-metric : goal.invariant-loop-metric
-invariant-loop-metric l = l.pairs ≡ map (pair_of l.cluster l.file l.layout.flags) (take l.metric-index l.layout.metrics)
+invariant-loop-metric l = l.pairs ≡ map (pair_of l.cluster l.file l.flags) (take l.metric-index l.metrics)

@@ -45,7 +45,7 @@ invariant_of-told-2 c =
     (wrote c.told.inside.words.items c.write_all.new.words.items c.deref-2.result.now c.deref.result.now c.deref-3.result.now out c.write_all.ensures (c.deref-2.ensures.value ∙ sym c.deref.ensures.value) values)
     c.in_ok-read_values.ensures.reads c.in_ok-read_values.ensures.stays in
     told_stays c.told.inside.words.items c.write_all.new.words.items c.told.inside.generation c.told.inside.indexes.items c.told.inside.found.items _ c.told.inside.flags c.told.inside.indoms c.told.inside.metrics
-    c.told.inside.numbers c.told.invariant f.image f.form f.generation (ap (λ (xs : List ℕ). length xs) back ∙ room)
+    c.told.inside.places c.told.inside.numbers c.told.invariant f.image f.form f.generation (ap (λ (xs : List ℕ). length xs) back ∙ room)
 
 pub returns-clause-reads : goal.returns-clause-reads
 returns-clause-reads c =

@@ -11,6 +11,7 @@ pub invariant_of-result : goal.invariant_of-result
 invariant_of-result c =
     let rows = c.self.inside.mounted.items in
     let seated : IsSeated rows c.args.passes.items = search rules in
-    unknown_kept rows c.args.passes.items c.in-Ok.known.items c.in-Ok-no_spares.spares.items
+    let kept = unknown_kept rows c.args.passes.items c.in-Ok.known.items c.in-Ok-no_spares.spares.items
     (subst (λ (rs : List Mounted). AreUnknown (length rs) c.in-Ok.known.items) c.deref.ensures.value c.in-Ok.ensures)
-    (c.in-Ok-no_spares.ensures ∙ ap (λ (rs : List Mounted). none_kept rs) c.deref-2.ensures.value) (is_there rows c.args.passes.items seated)
+    (c.in-Ok-no_spares.ensures ∙ ap (λ (rs : List Mounted). none_kept rs) c.deref-2.ensures.value) (is_there rows c.args.passes.items seated) in
+    (kept.0, kept.1, tt)
