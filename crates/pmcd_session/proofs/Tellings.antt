@@ -7,6 +7,8 @@ use Rattle.pdu_codec.specs.declared.pdu.Pdu.TheVariants as pdus
 use Rattle.pmns_core.specs.Pairs.{Pair}
 use Rattle.fetch_answers.specs.Asks.{desc_asked, instances_asked}
 use Rattle.fetch_answers.specs.Readings.{RegionReading}
+use Rattle.fetch_answers.specs.declared.names.Named.{Named}
+use Rattle.pmcd_session.specs.Agents.{named_by}
 use Rattle.pmcd_session.specs.declared.standing.Standing.{Standing}
 use Rattle.pmcd_session.specs.Replies.{try_again_error, desc_reply, instance_reply, missing_among, name_reply, names_shown, region_needed, reply_over, unless_missing}
 use Rattle.pmcd_session.specs.Serving.{KeepsRest, ReadsBy, Tells}
@@ -64,20 +66,22 @@ names_tell {A = A} reads s after request names reply rest shown all over is = re
 }
 
 -- where names are told
-pub some_tell : {A : Type 0} (reads : ReadsBy A) (s after : Standing A) (request : Pdu) (names : List Pair) (reply : Pdu) → KeepsRest s after
-    → ((readings : List RegionReading) × reads None s.agent readings after.agent × ShowsNames readings (Some names))
+pub some_tell : {A : Type 0} (reads : ReadsBy A) (s after : Standing A) (request : Pdu) (held : Option Named) (names : List Pair) (reply : Pdu) → KeepsRest s after
+    → ((readings : List RegionReading) × reads None s.agent readings after.agent × (held ≡ Some (named_by readings)))
+    → ((readings : List RegionReading) → held ≡ Some (named_by readings) → ShowsNames readings (Some names))
     → region_needed request ≡ None → ((regions : List RegionReading) → reply_over request regions ≡ unless_missing (missing_among regions) (name_reply (names_shown regions) request))
     → reply ≡ name_reply names request → Tells reads s request (record { moments = []; reply = Some reply; after = after })
 unfolding over_names
-some_tell reads s after request names reply rest shown all over is = names_tell reads s after request (Some names) reply rest shown all over is
+some_tell reads s after request held names reply rest read shown all over is = names_tell reads s after request (Some names) reply rest (read.0, read.1, shown read.0 read.2) all over is
 
 -- and while a region is missing
-pub none_tell : {A : Type 0} (reads : ReadsBy A) (s after : Standing A) (request : Pdu) → KeepsRest s after
-    → ((readings : List RegionReading) × reads None s.agent readings after.agent × ShowsNames readings None)
+pub none_tell : {A : Type 0} (reads : ReadsBy A) (s after : Standing A) (request : Pdu) (held : Option Named) → KeepsRest s after
+    → ((readings : List RegionReading) × reads None s.agent readings after.agent × (held ≡ Some (named_by readings)))
+    → ((readings : List RegionReading) → held ≡ Some (named_by readings) → ShowsNames readings None)
     → region_needed request ≡ None → ((regions : List RegionReading) → reply_over request regions ≡ unless_missing (missing_among regions) (name_reply (names_shown regions) request))
     → Tells reads s request (record { moments = []; reply = Some (pdus.Error try_again_error); after = after })
 unfolding over_names
-none_tell reads s after request rest shown all over = names_tell reads s after request None (pdus.Error try_again_error) rest shown all over refl
+none_tell reads s after request held rest read shown all over = names_tell reads s after request None (pdus.Error try_again_error) rest (read.0, read.1, shown read.0 read.2) all over refl
 
 -- whether there is one
 pub is_empty_list : {X : Type 0} (xs : List X) → (length xs == 0) ≡ true → xs ≡ []

@@ -1,16 +1,18 @@
 //! Who reads the regions for a session.
-ghost use Rattle.std.specs.Prelude.{◌≡◌, ◌≤◌, length, ℕ, List as Sequence, Option, Some, None, IfOk};
+ghost use Rattle.std.specs.Prelude.{◌≡◌, ◌≤◌, length, ℕ, List as Sequence, Option, Some, None, IfOk, OnOk};
+ghost use Rattle.std.specs.Option.{option_copied};
 ghost use Rattle.fetch_answers.specs.Answers.{answer_of};
 ghost use Rattle.fetch_answers.specs.Asks.{AnswerHas, desc_asked, instances_asked};
 ghost use Rattle.fetch_answers.specs.Readings.{RegionReading};
-ghost use Rattle.pmcd_session.specs.Replies.{names_shown, missing_among};
+ghost use Rattle.fetch_answers.specs.declared.names.Named.{Named as NameSpace};
+ghost use Rattle.pmcd_session.specs.Agents.{named_by};
 
 use fetch_engine::{AskFault, Named};
 use pcp_base::{Desc, InDom, List, NoMemory, PmResult, Pmid, Stamp, Text};
 use profile_filter::Profile;
 use std::alloc::Global;
 
-/// Who reads regions and tells what they show, as an agent of pmcd does (PMDA(3)). Each call reads anew.
+/// Who reads regions and tells what they show, as an agent of pmcd does (PMDA(3)). Each call but `named` reads anew.
 pub trait Agent {
     /// What it reads: the regions that all agents of a server share.
     type Regions;
@@ -21,6 +23,9 @@ pub trait Agent {
     /// These readings were made: of the regions that a number of a metric or of a domain needs, or of all, each read once
     /// or missed.
     ghost reads: { Self.Regions → Option ℕ → Self → Sequence RegionReading → Self → Type 0 };
+
+    /// The names that it holds, if it has read the regions for them.
+    ghost named: { Self → Option NameSpace };
 
     /// What a call may leave behind, also where memory was refused.
     ghost loads: { Self.Regions → Self → Self → Type 0 };
@@ -40,12 +45,16 @@ pub trait Agent {
         ensures loads { loads regions.now self.old self.new }
         ensures here { sits regions.now self.new };
 
-    /// The name space (pmns(5)), and the clusters of the regions that were missed.
-    fn names(&mut self, alloc: Global, regions: &Self::Regions) -> Result<Named, NoMemory>
+    /// Reads the name space (pmns(5)), and the clusters of the regions that were missed; `named` tells them.
+    fn read_names(&mut self, alloc: Global, regions: &Self::Regions) -> Result<(), NoMemory>
         requires here { sits regions.now self.old }
-        ensures names { IfOk result (λ named. (readings : Sequence RegionReading) × reads regions.now None self.old readings self.new × (named.names ≡ names_shown readings) × (named.missing ≡ missing_among readings)) }
+        ensures names { OnOk result ((readings : Sequence RegionReading) × reads regions.now None self.old readings self.new × (named self.new ≡ Some (named_by readings))) }
         ensures loads { loads regions.now self.old self.new }
         ensures here { sits regions.now self.new };
+
+    /// What it holds of the name space; nothing is read for it.
+    fn named(&self) -> Option<&Named>
+        ensures { option_copied result ≡ named self.now };
 
     /// The description of a metric (pmLookupDesc(3)).
     fn description(

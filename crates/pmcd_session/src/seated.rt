@@ -1,11 +1,11 @@
 //! A seat at a server is an agent.
-ghost use Rattle.std.specs.Prelude.{◌≡◌, ◌≤◌, length, List as Sequence, Option, Some, None, IfOk};
+ghost use Rattle.std.specs.Prelude.{◌≡◌, ◌≤◌, length, List as Sequence, Option, Some, None, IfOk, OnOk};
+ghost use Rattle.std.specs.Option.{option_copied};
 ghost use Rattle.fetch_answers.specs.Answers.{answer_of};
 ghost use Rattle.fetch_answers.specs.Asks.{AnswerHas, desc_asked, instances_asked};
 ghost use Rattle.fetch_answers.specs.Readings.{RegionReading};
 ghost use Rattle.fetch_engine.specs.Servers.{IsSeated};
-ghost use Rattle.pmcd_session.specs.Agents.{LoadsRegions, ReadsRegions};
-ghost use Rattle.pmcd_session.specs.Replies.{names_shown, missing_among};
+ghost use Rattle.pmcd_session.specs.Agents.{LoadsRegions, ReadsRegions, named_by};
 
 use crate::agent::Agent;
 use fetch_engine::{AskFault, FetchFault, Named, Seat, Server};
@@ -19,6 +19,8 @@ impl Agent for Seat {
     ghost sits = { λ rows seat. IsSeated rows seat.tokens };
 
     ghost reads = { λ rows needed old readings new. ReadsRegions rows needed old readings new };
+
+    ghost named = { λ seat. seat.named };
 
     ghost loads = { λ rows old new. LoadsRegions old new };
 
@@ -37,8 +39,12 @@ impl Agent for Seat {
         }
     }
 
-    fn names(&mut self, alloc: Global, regions: &Server) -> Result<Named, NoMemory> {
-        regions.names(alloc, self)
+    fn read_names(&mut self, alloc: Global, regions: &Server) -> Result<(), NoMemory> {
+        regions.read_names(alloc, self)
+    }
+
+    fn named(&self) -> Option<&Named> {
+        self.named()
     }
 
     fn description(

@@ -1,14 +1,16 @@
 //! Requests that an agent tells the reply of: descriptions, instances and names.
-ghost use Rattle.std.specs.Prelude.{◌≡◌, ℤ, List as Sequence, Some, None, [], IfOk};
+ghost use Rattle.std.specs.Prelude.{◌≡◌, ℤ, List as Sequence, Some, [], IfOk};
+ghost use Rattle.std.specs.Option.{option_copied};
 ghost use Rattle.pdu_codec.specs.declared.pdu.Pdu.TheVariants.{DescReq, InstanceReq, PmnsIds, PmnsNames, PmnsChild, PmnsTraverse};
 ghost use Rattle.fetch_answers.specs.Readings.{RegionReading};
-ghost use Rattle.pmcd_session.specs.Serving.{KeepsRest, Tells};
+ghost use Rattle.pmcd_session.specs.Agents.{named_by};
+ghost use Rattle.pmcd_session.specs.Serving.{Tells};
 ghost use Rattle.pmcd_session.specs.Telling.{ShowsNames};
 
 use crate::agent::Agent;
 use crate::replies::{child_reply, ids_reply, instances_reply, names_reply, traverse_reply};
 use crate::standing::Standing;
-use fetch_engine::{AskFault, Named};
+use fetch_engine::AskFault;
 use pcp_base::{InDom, NoMemory, Pmid, Text};
 use pdu_codec::Pdu;
 use pmns_core::Names;
@@ -56,23 +58,15 @@ pub fn tell_instances<A: Agent>(
     }
 }
 
-/// The name space, or `None` while a region is missing.
-fn names_shown<A: Agent>(
-    alloc: Global,
-    regions: &A::Regions,
-    s: &mut Standing<A>,
-) -> Result<Option<Names>, NoMemory>
-    requires here { A.sits regions.now s.old.agent }
-    ensures shown { IfOk result (λ names. (readings : Sequence RegionReading) × A.reads regions.now None s.old.agent readings s.new.agent × ShowsNames readings names) }
-    ensures rest { KeepsRest s.old s.new }
-    ensures loads { A.loads regions.now s.old.agent s.new.agent }
-    ensures here { A.sits regions.now s.new.agent }
+/// The name space that an agent holds since it read the regions for it, or `None` while one is missing.
+fn names_shown<A: Agent>(agent: &A) -> Option<&Names>
+    ensures { (readings : Sequence RegionReading) → A.named agent.now ≡ Some (named_by readings) → ShowsNames readings (option_copied result) }
 {
-    let Named { names, missing } = s.agent.names(alloc, regions)?;
-    if !missing.is_empty() {
-        return Ok(None);
+    let named = agent.named()?;
+    if !named.missing.is_empty() {
+        return None;
     }
-    Ok(Some(names))
+    Some(&named.names)
 }
 
 /// The identifiers of names; the status that a request has isn't looked at.
@@ -87,8 +81,9 @@ pub fn tell_ids<A: Agent>(
     ensures loads { A.loads regions.now s.old.agent s.new.agent }
     ensures here { A.sits regions.now s.new.agent }
 {
-    match names_shown(alloc, regions, s)? {
-        Some(names) => ids_reply(alloc, &names, asked),
+    s.agent.read_names(alloc, regions)?;
+    match names_shown(&s.agent) {
+        Some(names) => ids_reply(alloc, names, asked),
         None => Ok(Pdu::Error { code: AGAIN }),
     }
 }
@@ -105,8 +100,9 @@ pub fn tell_names<A: Agent>(
     ensures loads { A.loads regions.now s.old.agent s.new.agent }
     ensures here { A.sits regions.now s.new.agent }
 {
-    match names_shown(alloc, regions, s)? {
-        Some(names) => names_reply(alloc, &names, asked),
+    s.agent.read_names(alloc, regions)?;
+    match names_shown(&s.agent) {
+        Some(names) => names_reply(alloc, names, asked),
         None => Ok(Pdu::Error { code: AGAIN }),
     }
 }
@@ -123,8 +119,9 @@ pub fn tell_children<A: Agent>(
     ensures loads { A.loads regions.now s.old.agent s.new.agent }
     ensures here { A.sits regions.now s.new.agent }
 {
-    match names_shown(alloc, regions, s)? {
-        Some(names) => child_reply(alloc, &names, name),
+    s.agent.read_names(alloc, regions)?;
+    match names_shown(&s.agent) {
+        Some(names) => child_reply(alloc, names, name),
         None => Ok(Pdu::Error { code: AGAIN }),
     }
 }
@@ -141,8 +138,9 @@ pub fn tell_below<A: Agent>(
     ensures loads { A.loads regions.now s.old.agent s.new.agent }
     ensures here { A.sits regions.now s.new.agent }
 {
-    match names_shown(alloc, regions, s)? {
-        Some(names) => traverse_reply(alloc, &names, name),
+    s.agent.read_names(alloc, regions)?;
+    match names_shown(&s.agent) {
+        Some(names) => traverse_reply(alloc, names, name),
         None => Ok(Pdu::Error { code: AGAIN }),
     }
 }

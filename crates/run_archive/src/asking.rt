@@ -24,7 +24,10 @@ pub(crate) fn ask(
     ensures asks { IfOk result (λ pmids. (names : Sequence RegionReading) × AreRead server.now seat.old.tokens names seat.new.tokens
         × (plans.new ≡ asking (names_in names) now plans.old) × (pmids ≡ asked_by now plans.new)) }
 {
-    let named = server.names(alloc, seat)?;
+    server.read_names(alloc, seat)?;
+    let Some(named) = seat.named() else {
+        unreachable!()
+    };
     plans.ask(alloc, &named.names, now)?;
     plans.asked_for(alloc, now)
 }
