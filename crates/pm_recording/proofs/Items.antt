@@ -7,16 +7,20 @@ use Rattle.pcp_base.specs.declared.result.Item.TheVariants.{Sample}
 use Rattle.fetch_answers.specs.declared.fetch.Fetched.{Fetched}
 use Rattle.logging_session.specs.Events.{Event, items_by, opening, with_report}
 use Rattle.logging_session.proofs.Events.{items_more, opening_items}
-use Rattle.run_archive.specs.Shown.{events_of, items_of_results, with_results}
+use Rattle.run_archive.specs.Shown.{events_of, items_of_results, with_sure_results}
 use Rattle.script_runs.specs.Archives.{report_of}
 
 report_items : (events : List Event) (f : Fetched) → items_by (with_report events (report_of f)) ≡ items_by events ++ Sample f.result ∷ []
 report_items events f = items_more (opening f.result.stamp events) (Event.logged (report_of f)) ∙ ap (λ (items : List Item). items ++ Sample f.result ∷ []) (opening_items f.result.stamp events)
 
-items_with : (events : List Event) (results : List Fetched) → items_by (with_results events results) ≡ items_by events ++ items_of_results results
+-- a sync logs nothing
+synced_items : (events : List Event) (f : Fetched) → items_by (with_report events (report_of f) ++ Event.synced ∷ []) ≡ items_by events ++ Sample f.result ∷ []
+synced_items events f = items_more (with_report events (report_of f)) Event.synced ∙ append-nil (items_by (with_report events (report_of f))) ∙ report_items events f
+
+items_with : (events : List Event) (results : List Fetched) → items_by (with_sure_results events results) ≡ items_by events ++ items_of_results results
 items_with events [] = sym (append-nil (items_by events))
 items_with events (f ∷ results) =
-    items_with (with_report events (report_of f)) results ∙ ap (λ (items : List Item). items ++ items_of_results results) (report_items events f) ∙ append_assoc (items_by events) (Sample f.result ∷ []) (items_of_results results)
+    items_with (with_report events (report_of f) ++ Event.synced ∷ []) results ∙ ap (λ (items : List Item). items ++ items_of_results results) (synced_items events f) ∙ append_assoc (items_by events) (Sample f.result ∷ []) (items_of_results results)
 
 pub items_are : (results : List Fetched) → items_by (events_of results) ≡ items_of_results results
 items_are results = items_with [] results

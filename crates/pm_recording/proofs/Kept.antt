@@ -6,8 +6,8 @@ use Rattle.pcp_outside.specs.Devices.{LeavesOnly}
 use Rattle.pcp_outside.proofs.Crash.{started, weaker}
 use Rattle.logging_session.specs.ComingBack.{MayBeAfter}
 use Rattle.logging_session.specs.Events.{items_by}
-use Rattle.run_archive.specs.Crashes.{IsAllAfter}
-use Rattle.run_archive.specs.Outcomes.{IsUnrecovered}
+use Rattle.run_archive.specs.Crashes.{IsAllAfter, LosesAtMostOne}
+use Rattle.run_archive.specs.Outcomes.{IsUnrecovered, ended}
 use Rattle.run_archive.specs.Shown.{items_of_results}
 use Rattle.script_runs.specs.declared.ending.Ending.{Ending}
 use Rattle.script_runs.specs.declared.ending.Ending.TheVariants as ends
@@ -101,7 +101,9 @@ module _ {C D : Type 0} (c : CallSide C D) where
   since_by ending answered ran items = record {
     ending = ending;
     ran = ran;
-    gone = λ told. let g = gone_on c ending ran told answered in record { went = g.0; did = g.1; items = items told g.0 g.1 };
+    gone = λ told.
+        let g = gone_on c ending ran told answered in
+        record { went = g.0; did = g.1; items = items told g.0 g.1; loses_one = subst (λ (x : Ending). LosesAtMostOne (ended x (course_of ran told).events)) ran.ended (course_of ran told).loses_one };
   }
 
   late_since : (ending : Ending) → Ran c ending → is_behind (ended_status ending) ≡ true → RecordsSince c

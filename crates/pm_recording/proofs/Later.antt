@@ -38,7 +38,7 @@ use Rattle.script_runs.specs.declared.ending.Ending.TheVariants as ends
 use Rattle.script_runs.specs.Archives.{IsRecovered, IsTurnedAway, ending_of, report_of, run_label}
 use Rattle.script_runs.specs.Groups.{Plan}
 use Rattle.run_archive.specs.Samples.{SampleTaken, stamps_of}
-use Rattle.run_archive.specs.Shown.{AreShown, events_of, result_for, shown_by, with_result, with_results}
+use Rattle.run_archive.specs.Shown.{AreShown, events_of, result_for, shown_by, with_result, with_sure_results}
 use Rattle.record_run.specs.Beside.{IsSampled}
 use Rattle.record_run.specs.Stopping.{ShowsLast, shown_last}
 use Rattle.pm_recording.specs.Good.{AreLater, AreRising}
@@ -100,19 +100,27 @@ module _ (limit : ℕ) (r : Report) (old new : Written) (logs : Logs limit r old
 
 -- ---- the events of results
 
+-- each is made sure
 abbrev reports : List Fetched → List Event
-reports results = map (λ (f : Fetched). Event.logged (report_of f)) results
+reports [] = []
+reports (f ∷ results) = Event.logged (report_of f) ∷ Event.synced ∷ reports results
 
-reports_behind : (e : Event) (events : List Event) (results : List Fetched) → with_results (e ∷ events) results ≡ e ∷ events ++ reports results
+reports_behind : (e : Event) (events : List Event) (results : List Fetched) → with_sure_results (e ∷ events) results ≡ e ∷ events ++ reports results
 reports_behind e events [] = ap (λ (es : List Event). e ∷ es) (sym (append-nil events))
-reports_behind e events (f ∷ results) = reports_behind e (events ++ Event.logged (report_of f) ∷ []) results ∙ ap (λ (es : List Event). e ∷ es) (append_assoc events (Event.logged (report_of f) ∷ []) (reports results))
+reports_behind e events (f ∷ results) =
+    reports_behind e ((events ++ Event.logged (report_of f) ∷ []) ++ Event.synced ∷ []) results
+    ∙ ap (λ (es : List Event). e ∷ es) (append_assoc (events ++ Event.logged (report_of f) ∷ []) (Event.synced ∷ []) (reports results) ∙ append_assoc events (Event.logged (report_of f) ∷ []) (Event.synced ∷ reports results))
 
 -- the first one opens the archive, or else the next result does
 opened_first : (now : Moment) (results : List Fetched) → (stamp : Moment) × (opening now (events_of results) ≡ Event.opened stamp ∷ reports results)
 opened_first now [] = (now, refl)
 opened_first now (f ∷ results) =
-    let are : events_of (f ∷ results) ≡ Event.opened f.result.stamp ∷ reports (f ∷ results) = reports_behind (Event.opened f.result.stamp) (Event.logged (report_of f) ∷ []) results in
+    let are : events_of (f ∷ results) ≡ Event.opened f.result.stamp ∷ reports (f ∷ results) = reports_behind (Event.opened f.result.stamp) (Event.logged (report_of f) ∷ Event.synced ∷ []) results in
     (f.result.stamp, ap (λ (es : List Event). opening now es) are)
+
+-- a sync changes nothing
+synced_leads : (l : LabelFields) (limit : ℕ) (w : Written) (events : List Event) (last : Written) → Lead l limit (Stand.opened w) (Event.synced ∷ events) (Stand.opened last) → Lead l limit (Stand.opened w) events (Stand.opened last)
+synced_leads l limit w events last (next, stays, more) = subst (λ (stand : Stand). Lead l limit stand events (Stand.opened last)) stays more
 
 -- ---- what stands is stamped before a moment
 
@@ -134,7 +142,8 @@ module _ (now : Moment) where
       → AllByRecursion (λ (f : Fetched). IsEarlier f.result.stamp) results → Earlier old → Earlier last
   all_earlier l limit old [] last is before here = let same : last ≡ old = cc in subst Earlier (sym same) here
   all_earlier l limit old (f ∷ results) last (next, (new, logs, is), more) before here =
-      all_earlier l limit new results last (subst (λ (stand : Stand). Lead l limit stand (reports results) (Stand.opened last)) is more) before.1 (logged_earlier limit (report_of f) old new logs before.0)
+      all_earlier l limit new results last (synced_leads l limit new (reports results) last (subst (λ (stand : Stand). Lead l limit stand (Event.synced ∷ reports results) (Stand.opened last)) is more)) before.1
+      (logged_earlier limit (report_of f) old new logs before.0)
 
   led_earlier : (start left : Files) (moments : List Moment) → AreLater start moments → IsRecovered start left → Contains moments now → (l : LabelFields) (limit : ℕ) (stamp : Moment) (results : List Fetched) (last : Written)
       → LeadFrom l limit left (Event.opened stamp ∷ reports results) (Stand.opened last) → AllByRecursion (λ (f : Fetched). IsEarlier f.result.stamp) results → Earlier last

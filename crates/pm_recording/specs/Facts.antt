@@ -14,8 +14,8 @@ use Rattle.record_run.specs.Stopping.{LoggingDid}
 use Rattle.script_runs.specs.declared.ending.Ending.{Ending}
 use Rattle.script_runs.specs.declared.ending.Ending.TheVariants as ends
 use Rattle.script_runs.specs.declared.ending.LimitKind.{LimitKind}
-use Rattle.run_archive.specs.Crashes.{IsAllAfter}
-use Rattle.run_archive.specs.Outcomes.{WentOn, left_of}
+use Rattle.run_archive.specs.Crashes.{IsAllAfter, LosesAtMostOne}
+use Rattle.run_archive.specs.Outcomes.{WentOn, ended, left_of}
 use Rattle.run_archive.specs.Sampling.{HasEnded}
 use Rattle.run_archive.specs.Shown.{items_of_results}
 use Rattle.pm_words.specs.declared.words.Call.TheVariants as calls
@@ -106,9 +106,10 @@ pub record HasGoneOn {C D : Type 0} {c : CallSide C D} {ending : Ending} (ran : 
   pub did : LoggingDid ran.has.was.recording.beside.sampled ran.asks.asked.volume
       (left_of c.run.disk ran.asks.asked.volume (course_of ran told).events (course_of ran told).more c.run.disk_was c.run.disk_is went) ending (course_of ran told).events (course_of ran told).more
   pub items : items_of ran told ≡ items_of_results ran.has.was.recording.results
+  pub loses_one : LosesAtMostOne (ended ending (course_of ran told).events)
 
 -- So it was over any disk that tells, settled or not. A crash from that moment on leaves all items of the start, the first ones of the run's
--- results, and of these all that the events by then acknowledge.
+-- results, and of these all that the events by then acknowledge: of the results that were logged by then all but perhaps the last one.
 pub record RecordsSince {C D : Type 0} (c : CallSide C D) : Type 0 where
   pub ending : Ending
   pub ran : Ran c ending
@@ -166,6 +167,6 @@ pub record Facts {C D : Type 0} (c : CallSide C D) (k : SinkSide) (status : ℕ)
   pub unread : IsUnread c.run.disk c.run.disk_was → Leaves c.run.disk c.run.disk_was c.run.disk_is CrashImage
   -- Once it has ended with 0, each crash leaves all results, until something else touches the disk.
   pub kept : status ≡ 0 → c.run.disk.tells → KeepsAll c
-  -- Over any disk, settled or not: from the moment on at which recovery answered it went by what was logged, event by event, and a
-  -- crash leaves all items of the start, the first ones of the run's results, and all of these that are acknowledged by then.
+  -- Over any disk, settled or not: from the moment on at which recovery answered it went by what was logged, event by event, and a crash
+  -- leaves all items of the start, the first ones of the run's results, and of those that were logged by then all but perhaps the last one.
   pub since : HadRecovered status → RecordsSince c

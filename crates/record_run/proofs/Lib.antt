@@ -15,6 +15,7 @@ pub mod Further
 pub mod Handed
 pub mod Joined
 pub mod Journals
+pub mod Losing
 pub mod Phases
 pub mod Recovered
 pub mod Running

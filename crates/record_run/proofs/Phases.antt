@@ -9,11 +9,13 @@ use Rattle.fetch_answers.specs.declared.fetch.Fetched.{Fetched}
 use Rattle.fetch_engine.specs.declared.server.Mounted.{Mounted}
 use Rattle.fetch_engine.specs.Visits.{AreLoaded}
 use Rattle.log_schedule.specs.declared.config.Group.{Group}
-use Rattle.logging_session.specs.Events.{Event}
+use Rattle.logging_session.specs.Course.{WentBy}
+use Rattle.logging_session.specs.Events.{Event, with_report}
 use Rattle.logging_session.specs.Keeping.{Carried}
 use Rattle.script_runs.specs.declared.ending.Ending.{Ending}
 use Rattle.script_runs.specs.declared.ending.Ending.TheVariants as ends
 use Rattle.script_runs.specs.declared.ending.LimitKind.TheVariants as kinds
+use Rattle.script_runs.specs.Archives.{report_of, run_label}
 use Rattle.script_runs.specs.Groups.{Plan}
 use Rattle.script_runs.specs.Steps.{fetched_from}
 use Rattle.run_archive.specs.declared.sampler.Sampler.{Sampler}
@@ -21,7 +23,7 @@ use Rattle.run_archive.specs.Endings.{EndsUnlogged}
 use Rattle.run_archive.specs.Kept.{KeepsRun, LeavesUnlogged, OverAny}
 use Rattle.run_archive.specs.Samples.{AreTaken, SampleTaken, stamps_of}
 use Rattle.run_archive.specs.Sampling.{GoesOn, StopsSampling}
-use Rattle.run_archive.specs.Shown.{AreShown, pmids_by, with_results}
+use Rattle.run_archive.specs.Shown.{AreShown, pmids_by, with_sure_results}
 use Rattle.run_archive.proofs.Joined.{results_joined, shown_joined}
 use Rattle.run_archive.proofs.Loading.{not_loaded}
 use Rattle.record_run.specs.Beside.{StopsLogging}
@@ -41,7 +43,7 @@ module _ {C D : Type 0} (c : ClockGhosts C) (d : DiskGhosts D) (groups : List Gr
     pub none : unlogged ≡ []
     pub lacks : (lacking ≡ []) ⊎ StopsLogging e
     pub why : EndsLogged e ⊎ AsksMany groups server before after e lacking later
-    pub logs : OverAny d was disk_was (λ left events start. KeepsRun d left (with_results events results) start is disk_is)
+    pub logs : OverAny d was disk_was (λ left events start. KeepsRun d left (with_sure_results events results) start is disk_is)
 
   -- what the last of them shows was not
   pub record Failed (e : Ending) (unlogged : List SampleTaken) (results : List Fetched) (later : Option (List Plan)) : Type 0 where
@@ -50,7 +52,17 @@ module _ {C D : Type 0} (c : ClockGhosts C) (d : DiskGhosts D) (groups : List Gr
     pub why : EndsUnlogged e
     pub some : 0 < length (pmids_by groups later s.names s.stamp)
     pub few : length (pmids_by groups later s.names s.stamp) ≤ 1024
-    pub logs : OverAny d was disk_was (λ left events start. LeavesUnlogged d left (with_results events results) start (shown_at groups later s) is disk_is e)
+    pub logs : OverAny d was disk_was (λ left events start. LeavesUnlogged d left (with_sure_results events results) start (shown_at groups later s) is disk_is e)
+
+  -- all was logged, and the disk failed as the last one was to be made sure
+  pub record Unsure (e : Ending) (unlogged : List SampleTaken) (lacking : List Moment) (results : List Fetched) : Type 0 where
+    pub none : unlogged ≡ []
+    pub lacks : lacking ≡ []
+    pub why : e ≡ ends.DiskFault
+    pub sure : List Fetched
+    pub unsure : Fetched
+    pub are : results ≡ sure ++ unsure ∷ []
+    pub logs : OverAny d was disk_was (λ left events start. WentBy d run_label is.limit left (with_report (with_sure_results events sure) (report_of unsure)) [] start disk_is)
 
   pub record Yields (before after : List Token) (e : Ending) (samples : List SampleTaken) (lacking : List Moment) : Type 0 where
     pub logged : List SampleTaken
@@ -61,7 +73,7 @@ module _ {C D : Type 0} (c : ClockGhosts C) (d : DiskGhosts D) (groups : List Gr
     pub results : List Fetched
     pub later : Option (List Plan)
     pub shown : AreShown groups plans logged results later
-    pub how : Went before after e unlogged lacking results later ⊎ Failed e unlogged results later
+    pub how : Went before after e unlogged lacking results later ⊎ (Failed e unlogged results later ⊎ Unsure e unlogged lacking results)
     pub counted : is.logged ≡ was.logged + length results
 
 -- moments taken one behind another
@@ -72,23 +84,47 @@ moments_joined xs ys lacking first middle behind one two =
 
 module _ {C D : Type 0} (c : ClockGhosts C) (d : DiskGhosts D) (groups : List Group) (server : List Mounted) (first middle last : Sampler) (tokens_first tokens_middle : List Token) (clock_first clock_middle clock_last : C) (disk_first disk_middle disk_last : D)
     (xs : List SampleTaken) (one : GoesOn c d groups server first middle tokens_first tokens_middle clock_first clock_middle disk_first disk_middle xs) where
-  went_joined : (gs : List Fetched) → OverAny d middle.session disk_middle (λ left events start. KeepsRun d left (with_results events gs) start last.session disk_last)
-      → OverAny d first.session disk_first (λ left events start. KeepsRun d left (with_results events (one.results ++ gs)) start last.session disk_last)
+  went_joined : (gs : List Fetched) → OverAny d middle.session disk_middle (λ left events start. KeepsRun d left (with_sure_results events gs) start last.session disk_last)
+      → OverAny d first.session disk_first (λ left events start. KeepsRun d left (with_sure_results events (one.results ++ gs)) start last.session disk_last)
   went_joined gs two = λ tells left events start keeps.
       subst (λ (es : List Event). KeepsRun d left es start last.session disk_last) (results_joined events one.results gs)
-      (two tells left (with_results events one.results) start (one.logs tells left events start keeps))
+      (two tells left (with_sure_results events one.results) start (one.logs tells left events start keeps))
 
-  failed_joined : (gs : List Fetched) (f : Fetched) (e : Ending) → OverAny d middle.session disk_middle (λ left events start. LeavesUnlogged d left (with_results events gs) start f last.session disk_last e)
-      → OverAny d first.session disk_first (λ left events start. LeavesUnlogged d left (with_results events (one.results ++ gs)) start f last.session disk_last e)
+  failed_joined : (gs : List Fetched) (f : Fetched) (e : Ending) → OverAny d middle.session disk_middle (λ left events start. LeavesUnlogged d left (with_sure_results events gs) start f last.session disk_last e)
+      → OverAny d first.session disk_first (λ left events start. LeavesUnlogged d left (with_sure_results events (one.results ++ gs)) start f last.session disk_last e)
   failed_joined gs f e two = λ tells left events start keeps.
       subst (λ (es : List Event). LeavesUnlogged d left es start f last.session disk_last e) (results_joined events one.results gs)
-      (two tells left (with_results events one.results) start (one.logs tells left events start keeps))
+      (two tells left (with_sure_results events one.results) start (one.logs tells left events start keeps))
+
+  unsure_joined : (gs : List Fetched) (f : Fetched) (limit : ℕ) → OverAny d middle.session disk_middle (λ left events start. WentBy d run_label limit left (with_report (with_sure_results events gs) (report_of f)) [] start disk_last)
+      → OverAny d first.session disk_first (λ left events start. WentBy d run_label limit left (with_report (with_sure_results events (one.results ++ gs)) (report_of f)) [] start disk_last)
+  unsure_joined gs f limit two = λ tells left events start keeps.
+      subst (λ (es : List Event). WentBy d run_label limit left (with_report es (report_of f)) [] start disk_last) (results_joined events one.results gs)
+      (two tells left (with_sure_results events one.results) start (one.logs tells left events start keeps))
 
   module _ (before after : List Token) (e : Ending) (unlogged : List SampleTaken) (lacking : List Moment) (gs : List Fetched) (later : Option (List Plan)) where
-    how_joined : Went c d groups server middle.plans clock_middle clock_last disk_middle disk_last middle.session last.session before after e unlogged lacking gs later ⊎ Failed c d groups server middle.plans clock_middle clock_last disk_middle disk_last middle.session last.session e unlogged gs later
-        → Went c d groups server first.plans clock_first clock_last disk_first disk_last first.session last.session before after e unlogged lacking (one.results ++ gs) later ⊎ Failed c d groups server first.plans clock_first clock_last disk_first disk_last first.session last.session e unlogged (one.results ++ gs) later
+    abbrev HowLast : Type 0
+    HowLast = Went c d groups server middle.plans clock_middle clock_last disk_middle disk_last middle.session last.session before after e unlogged lacking gs later
+        ⊎ (Failed c d groups server middle.plans clock_middle clock_last disk_middle disk_last middle.session last.session e unlogged gs later
+        ⊎ Unsure c d groups server middle.plans clock_middle clock_last disk_middle disk_last middle.session last.session e unlogged lacking gs)
+
+    abbrev HowAll : Type 0
+    HowAll = Went c d groups server first.plans clock_first clock_last disk_first disk_last first.session last.session before after e unlogged lacking (one.results ++ gs) later
+        ⊎ (Failed c d groups server first.plans clock_first clock_last disk_first disk_last first.session last.session e unlogged (one.results ++ gs) later
+        ⊎ Unsure c d groups server first.plans clock_first clock_last disk_first disk_last first.session last.session e unlogged lacking (one.results ++ gs))
+
+    how_joined : HowLast → HowAll
     how_joined (inl w) = inl (record { none = w.none; lacks = w.lacks; why = w.why; logs = went_joined gs w.logs })
-    how_joined (inr w) = inr (record { s = w.s; one = w.one; why = w.why; some = w.some; few = w.few; logs = failed_joined gs (shown_at groups later w.s) e w.logs })
+    how_joined (inr (inl w)) = inr (inl (record { s = w.s; one = w.one; why = w.why; some = w.some; few = w.few; logs = failed_joined gs (shown_at groups later w.s) e w.logs }))
+    how_joined (inr (inr w)) = inr (inr (record {
+      none = w.none;
+      lacks = w.lacks;
+      why = w.why;
+      sure = one.results ++ w.sure;
+      unsure = w.unsure;
+      are = ap (λ (fs : List Fetched). one.results ++ fs) w.are ∙ sym (append_assoc one.results w.sure (w.unsure ∷ []));
+      logs = unsure_joined w.sure w.unsure last.session.limit w.logs;
+    }))
 
   pub yields_joined : (before after : List Token) (e : Ending) (ys : List SampleTaken) (lacking : List Moment) → Yields c d groups server middle.plans clock_middle clock_last disk_middle disk_last middle.session last.session before after e ys lacking
       → Yields c d groups server first.plans clock_first clock_last disk_first disk_last first.session last.session before after e (xs ++ ys) lacking
@@ -196,7 +232,7 @@ module _ {C D : Type 0} (c : ClockGhosts C) (d : DiskGhosts D) (groups : List Gr
       counted = a.counted;
     };
   }
-  stops_phase e samples left some (inr (inr s)) =
+  stops_phase e samples left some (inr (inr (inl s))) =
       let t : StopsLogging e × EndsSamples e × ((samples count : ℕ) → count ≤ samples → Took samples count e) = unlogged_ends e s.why in
       record {
         samples = samples ++ s.last ∷ [];
@@ -218,10 +254,34 @@ module _ {C D : Type 0} (c : ClockGhosts C) (d : DiskGhosts D) (groups : List Gr
           results = s.results;
           later = s.plans;
           shown = s.shown;
-          how = inr (record { s = s.last; one = refl; why = s.why; some = s.some; few = s.few; logs = s.logs });
+          how = inr (inl (record { s = s.last; one = refl; why = s.why; some = s.some; few = s.few; logs = s.logs }));
           counted = s.counted;
         };
       }
+  stops_phase e samples left some (inr (inr (inr u))) = record {
+    samples = samples ++ u.last ∷ [];
+    middle = seat_is;
+    taken = u.taken;
+    loaded = not_loaded seat_is;
+    lacking = [];
+    few = omega (arith, length-append samples (u.last ∷ []));
+    so_ends = subst EndsSamples (sym u.why) tt;
+    took = λ before all sum. subst (λ (x : Ending). Took all (before + (length (samples ++ u.last ∷ []) + 0)) x) (sym u.why) (omega (arith, some, sum, length-append samples (u.last ∷ [])));
+    yields = record {
+      logged = samples ++ u.last ∷ [];
+      unlogged = [];
+      are = sym (append-nil (samples ++ u.last ∷ []));
+      one = omega arith;
+      moments = λ tells.
+          u.moments tells ∙ sym (append_assoc (stamps_of samples) (u.last.stamp ∷ []) (c.left clock_is))
+          ∙ ap (λ (ms : List Moment). ms ++ c.left clock_is) (sym (map-append (λ (x : SampleTaken). x.stamp) samples (u.last ∷ [])) ∙ sym (append-nil (stamps_of (samples ++ u.last ∷ []))));
+      results = u.results ++ u.unsure ∷ [];
+      later = is.plans;
+      shown = u.shown;
+      how = inr (inr (record { none = refl; lacks = refl; why = u.why; sure = u.results; unsure = u.unsure; are = refl; logs = u.logs }));
+      counted = omega (arith, u.counted, length-append u.results (u.unsure ∷ []));
+    };
+  }
 
   by_clock : (e : Ending) (left : ℕ) → (e ≡ ends.ClockEnd left) ⊎ (e ≡ ends.ClockFault left) → e ≢ ends.Done
   by_clock e left (inl ended) = λ done. let no : ends.ClockEnd left ≡ ends.Done = sym ended ∙ done in cc
@@ -231,4 +291,5 @@ module _ {C D : Type 0} (c : ClockGhosts C) (d : DiskGhosts D) (groups : List Gr
   pub stops_undone : (e : Ending) (taken : List SampleTaken) (left : ℕ) → StopsSampling c d groups server was is seat_was seat_is clock_was clock_is disk_was disk_is taken left e → e ≢ ends.Done
   stops_undone e taken left (inl b) = by_clock e left b.why
   stops_undone e taken left (inr (inl a)) = logging_undone e (asked e a.why).0
-  stops_undone e taken left (inr (inr s)) = logging_undone e (unlogged_ends e s.why).0
+  stops_undone e taken left (inr (inr (inl s))) = logging_undone e (unlogged_ends e s.why).0
+  stops_undone e taken left (inr (inr (inr u))) = logging_undone e (subst StopsLogging (sym u.why) tt)

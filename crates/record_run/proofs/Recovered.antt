@@ -21,11 +21,13 @@ use Rattle.script_runs.specs.declared.ending.Ending.TheVariants as ends
 use Rattle.run_archive.specs.declared.replayed.Replayed.{Replayed}
 use Rattle.run_archive.specs.Outcomes.{RunsOnFiles, ended_by}
 use Rattle.run_archive.proofs.Beginning.{told_left}
+use Rattle.run_archive.proofs.Losing.{loses_ended, loses_none}
 use Rattle.run_archive.proofs.Outcomes.{unbegun, unrecovered, unrecovered_wants, went_on}
 use Rattle.record_run.specs.Beside.{Beside}
 use Rattle.record_run.specs.Halting.{HasLeft, IsRecorded}
 use Rattle.record_run.specs.Recordings.{Counts, IsRecording, RecordsFiles}
 use Rattle.record_run.specs.Stopping.{LoggingDid, WhyStopped}
+use Rattle.record_run.proofs.Losing.{did_loses}
 
 -- what recovery made
 pub record WasDone {D : Type 0} (d : DiskGhosts D) (old mid : D) (archive : Archive) : Type 0 where
@@ -51,6 +53,7 @@ module _ {C D : Type 0} (c : ClockGhosts C) (d : DiskGhosts D) (only_now : (disk
           events = l.events;
           more = l.more;
           on = went_on d only_now counts_now limit ((f.moments ≡ []) × (f.results ≡ [])) (λ left. LoggingDid f.beside.sampled limit left r.ending l.events l.more) old mid archive done.unwrapped done.w done.sure done.half l.events l.more new r.ending l.finished l.did;
+          loses_one = loses_ended r.ending l.events (did_loses f.beside.sampled limit left l.events l.more r.ending l.did);
         }
 
     pub record_ended : (d.tells → WasDone d old mid archive) → Records clock_is new
@@ -101,6 +104,7 @@ module _ {C D : Type 0} (c : ClockGhosts C) (d : DiskGhosts D) (only_now : (disk
       more = [];
       on = subst (λ (x : D). RunsOnFiles d limit [] [] old x r.ending RanNothing Did) (sym still)
           (unbegun d only_now counts_now limit RanNothing Did old r.ending wants (refl, refl));
+      loses_one = loses_ended r.ending [] loses_none;
     })
 
     module _ (half : d.tells → LeavesOnly d.moment d.left_since old new (MayBeHalfway (d.held old))) (fault : RecoverFault) (cause : d.tells → IsRecoverFault (d.wrapped_file old) (contents_of (d.held old)) fault)
@@ -110,10 +114,16 @@ module _ {C D : Type 0} (c : ClockGhosts C) (d : DiskGhosts D) (only_now : (disk
         events = [];
         more = [];
         on = unrecovered d only_now counts_now limit RanNothing Did old new fault r.ending is (cause tells) (same tells) (half tells) (refl, refl);
+        loses_one = loses_ended r.ending [] loses_none;
       }
 
       by_want : fault ≢ recovery.DiskFault → r.ending ≡ ends.NoMemory → Records clock_was new
-      by_want other wants = refused_as ends.NoMemory wants none_taken tt (λ tells. record { events = []; more = []; on = unrecovered_wants d only_now counts_now limit RanNothing Did old new r.ending wants (same tells other) (half tells) (refl, refl) })
+      by_want other wants = refused_as ends.NoMemory wants none_taken tt (λ tells. record {
+        events = [];
+        more = [];
+        on = unrecovered_wants d only_now counts_now limit RanNothing Did old new r.ending wants (same tells other) (half tells) (refl, refl);
+        loses_one = loses_ended r.ending [] loses_none;
+      })
 
       fault_as : (e : Ending) → ended_by fault ≡ e → Counts samples [] [] r e → WhyStopped beside.sampled e → r.ending ≡ ended_by fault → Records clock_was new
       fault_as e same_end counts why is = refused_as e (is ∙ same_end) counts why (by_fault is)

@@ -20,8 +20,8 @@ use Rattle.record_run.specs.Beside.{EndsBy, IsFinishedUnlessWanting, IsSampled, 
 use Rattle.record_run.specs.Halting.{EndsSamples, Took}
 use Rattle.record_run.specs.Recordings.{LastIsBehind}
 use Rattle.record_run.specs.Stopping.{LoggingDid, ShowsLast, WhyStopped}
-use Rattle.record_run.proofs.Phases.{Failed, Went}
-use Rattle.record_run.proofs.Stopping.{AsksMany, EndsLogged, logged_done, logged_why, many_done, shown_why, unlogged_done, unlogged_ends}
+use Rattle.record_run.proofs.Phases.{Failed, Unsure, Went}
+use Rattle.record_run.proofs.Stopping.{AsksMany, EndsLogged, logged_done, logged_why, many_done, shown_why, unlogged_done, unlogged_ends, unsure_done}
 use Rattle.record_run.proofs.Stretches.{Whole}
 
 pub finished_all : (own : Ending) (P : Type 0) → P → IsFinishedUnlessWanting own P
@@ -74,13 +74,17 @@ module _ {C D : Type 0} (c : ClockGhosts C) (d : DiskGhosts D) (script : Script)
   abbrev LastFailed : Type 0
   LastFailed = Failed c d script.config.groups server was.plans clock_was clock_is disk_was disk_is was.session is.session e unlogged w.yields.results w.yields.later
 
+  abbrev LastUnsure : Type 0
+  LastUnsure = Unsure c d script.config.groups server was.plans clock_was clock_is disk_was disk_is was.session is.session e unlogged w.lacking w.yields.results
+
   stops_lack : unlogged ≡ [] → (w.lacking ≡ []) ⊎ StopsLogging e → ((unlogged ≡ []) × (w.lacking ≡ [])) ⊎ StopsLogging e
   stops_lack all (inl has) = inl (all, has)
   stops_lack all (inr stops) = inr stops
 
-  stops_so : AllWent ⊎ LastFailed → ((unlogged ≡ []) × (w.lacking ≡ [])) ⊎ StopsLogging e
+  stops_so : AllWent ⊎ (LastFailed ⊎ LastUnsure) → ((unlogged ≡ []) × (w.lacking ≡ [])) ⊎ StopsLogging e
   stops_so (inl went) = stops_lack went.none went.lacks
-  stops_so (inr failed) = inr (unlogged_ends e failed.why).0
+  stops_so (inr (inl failed)) = inr (unlogged_ends e failed.why).0
+  stops_so (inr (inr unsure)) = inl (unsure.none, unsure.lacks)
 
   abbrev sampled : IsSampled script server first final e moments w.yields.results
   sampled = record {
@@ -119,9 +123,10 @@ module _ {C D : Type 0} (c : ClockGhosts C) (d : DiskGhosts D) (script : Script)
   abbrev shows_last : LastFailed → ShowsLast sampled
   shows_last failed = record { sample = failed.s; one = failed.one; some = failed.some; few = failed.few }
 
-  why : AllWent ⊎ LastFailed → WhyStopped sampled e
+  why : AllWent ⊎ (LastFailed ⊎ LastUnsure) → WhyStopped sampled e
   why (inl went) = many_why went.why
-  why (inr failed) = shown_why sampled e failed.why (shows_last failed)
+  why (inr (inl failed)) = shown_why sampled e failed.why (shows_last failed)
+  why (inr (inr unsure)) = subst (λ (x : Ending). WhyStopped sampled x) (sym unsure.why) tt
 
   -- ---- what was done to the archive
 
@@ -133,9 +138,10 @@ module _ {C D : Type 0} (c : ClockGhosts C) (d : DiskGhosts D) (script : Script)
     many_did tells went (inl all) = logged_done sampled d was.session.limit left start is.session disk_is e all (went.logs tells left [] start keeps)
     many_did tells went (inr a) = subst (λ (x : Ending). Did x) (sym a.is) (many_done sampled d was.session.limit left start is.session disk_is _ (went.logs tells left [] start keeps))
 
-    did : d.tells → AllWent ⊎ LastFailed → Did e
+    did : d.tells → AllWent ⊎ (LastFailed ⊎ LastUnsure) → Did e
     did tells (inl went) = many_did tells went went.why
-    did tells (inr failed) = unlogged_done sampled d was.session.limit left start is.session disk_is (shows_last failed) limit_same e failed.why (failed.logs tells left [] start keeps)
+    did tells (inr (inl failed)) = unlogged_done sampled d was.session.limit left start is.session disk_is (shows_last failed) limit_same e failed.why (failed.logs tells left [] start keeps)
+    did tells (inr (inr unsure)) = subst (λ (x : Ending). Did x) (sym unsure.why) (unsure_done sampled d was.session.limit left start is.session disk_is unsure.sure unsure.unsure unsure.are (unsure.logs tells left [] start keeps))
 
   pub settled : Settled c d clock_was clock_is was.session is.session disk_was disk_is script samples server first final e
   settled = record {

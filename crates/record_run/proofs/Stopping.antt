@@ -1,5 +1,5 @@
 -- Why a recording ends as it does, and what it did to its archive, from what stopped its samples.
-use Rattle.std.proofs.Common.{◌≡◌, ◌⊎◌, inl, inr, ℕ, ◌<◌, ◌≤◌, List, [], ◌∷◌, length, Option, refl, sym, subst}
+use Rattle.std.proofs.Common.{◌≡◌, ◌⊎◌, inl, inr, ℕ, ◌<◌, ◌≤◌, List, [], ◌∷◌, ◌++◌, length, Option, refl, sym, subst}
 use Rattle.pcp_base.specs.Time.{Moment}
 use Rattle.pcp_base.specs.declared.result.Item.TheVariants.{Sample}
 use Rattle.pcp_model.specs.Disk.{Files}
@@ -11,13 +11,13 @@ use Rattle.fetch_engine.specs.declared.server.Mounted.{Mounted}
 use Rattle.fetch_engine.specs.Visits.{AreRead}
 use Rattle.log_schedule.specs.declared.config.Group.{Group}
 use Rattle.logging_session.specs.Course.{WentBy}
-use Rattle.logging_session.specs.Events.{Event, opening}
+use Rattle.logging_session.specs.Events.{Event, opening, with_report}
 use Rattle.logging_session.specs.Keeping.{Carried}
 use Rattle.run_script.specs.declared.script.Script.{Script}
 use Rattle.script_runs.specs.declared.ending.Ending.{Ending}
 use Rattle.script_runs.specs.declared.ending.Ending.TheVariants as ends
 use Rattle.script_runs.specs.declared.ending.LimitKind.TheVariants as kinds
-use Rattle.script_runs.specs.Archives.{IsTaken, IsTurnedAway, run_label}
+use Rattle.script_runs.specs.Archives.{IsTaken, IsTurnedAway, report_of, run_label}
 use Rattle.script_runs.specs.Groups.{Plan}
 use Rattle.run_archive.specs.Endings.{EndsUnlogged}
 use Rattle.run_archive.specs.Kept.{HasDone, IsLeft, KeepsRun, LeavesUnlogged, TurnsItAway}
@@ -124,6 +124,10 @@ module _ {script : Script} {server : List Mounted} {first final : List Token} {e
     logged_done (ends.NotLater last) all kept = absurd all
     logged_done (ends.Changed pmid) all kept = absurd all
 
+    -- the disk failed as the last one was to be made sure
+    pub unsure_done : (before : List Fetched) (last : Fetched) → results ≡ before ++ last ∷ [] → WentBy d run_label s.limit left (with_report (events_of before) (report_of last)) [] start disk → Did ends.DiskFault
+    unsure_done before last are went = record { events = with_report (events_of before) (report_of last); more = []; did = inr (inr (inr (before, last, are, refl, refl))); stands = went }
+
     -- also where too many metrics are asked for behind it
     pub many_done : (number : ℕ) → KeepsRun d left (events_of results) start s disk → Did (ends.Limit kinds.Sets number)
     many_done number kept = all_done (ends.Limit kinds.Sets number) (refl, refl) kept
@@ -151,7 +155,7 @@ module _ {script : Script} {server : List Mounted} {first final : List Token} {e
       fault_done (inr (went, takes)) = record {
         events = events_of results;
         more = Sample (shown_last sampled x).result ∷ [];
-        did = inr (inr (x, subst (λ (n : ℕ). IsTaken n left (events_of results) (shown_last sampled x)) same takes, refl, refl));
+        did = inr (inr (inl (x, subst (λ (n : ℕ). IsTaken n left (events_of results) (shown_last sampled x)) same takes, refl, refl)));
         stands = went;
       }
 

@@ -14,7 +14,8 @@ use Rattle.script_runs.specs.declared.ending.Ending.{Ending}
 use Rattle.script_runs.specs.declared.ending.Ending.TheVariants as ends
 use Rattle.text_lines.specs.Spelling.{one_number}
 use Rattle.run_archive.specs.declared.replayed.Replayed.{Replayed}
-use Rattle.run_archive.specs.Outcomes.{RunsOnFiles}
+use Rattle.run_archive.specs.Crashes.{LosesAtMostOne}
+use Rattle.run_archive.specs.Outcomes.{RunsOnFiles, ended}
 use Rattle.run_archive.specs.Sampling.{HasEnded}
 use Rattle.record_run.specs.Beside.{Beside, IsSampled}
 use Rattle.record_run.specs.Stopping.{LoggingDid, WhyStopped}
@@ -32,12 +33,13 @@ pub record LastIsBehind {script : Script} {server : List Mounted} {first final :
   pub others : length sampled.beside + 1 ≡ samples
   pub still : sampled.waiting ≡ sampled.middle
 
--- Over a disk that tells, these events were done to its archive: the results were logged, one behind another. Where recovery didn't answer
--- no moment was taken.
+-- Over a disk that tells, these events were done to its archive: the results were logged, one behind another, and each was made sure. Of
+-- those that were logged by any moment a crash loses at most the one that was logged last. Where recovery didn't answer no moment was taken.
 pub record RecordsFiles {D : Type 0} (d : DiskGhosts D) (limit : ℕ) (old new : D) {script : Script} {server : List Mounted} {first final : List Token} {ending : Ending} {moments : List Moment} {results : List Fetched} (sampled : IsSampled script server first final ending moments results) : Type 0 where
   pub events : List Event
   pub more : List Item
   pub on : RunsOnFiles d limit events more old new ending ((moments ≡ []) × (results ≡ [])) (λ left. LoggingDid sampled limit left ending events more)
+  pub loses_one : LosesAtMostOne (ended ending events)
 
 module _ {C D : Type 0} (c : ClockGhosts C) (d : DiskGhosts D) (clock_was clock_is : C) (old new : D) where
   -- which ending any disk and any clock may have

@@ -1,6 +1,6 @@
 -- Why the logging of a recording stopped at the last moment that was taken, and what it did to the archive: too many metrics are asked for
--- there, or what the last sample shows isn't logged.
-use Rattle.std.specs.Prelude.{◌≡◌, ◌⊎◌, ℕ, ◌<◌, ◌≤◌, List, [], ◌∷◌, length}
+-- there, or what the last sample shows isn't logged, or isn't made sure.
+use Rattle.std.specs.Prelude.{◌≡◌, ◌⊎◌, ℕ, ◌<◌, ◌≤◌, List, [], ◌∷◌, ◌++◌, length}
 use Rattle.pcp_base.specs.Time.{Moment}
 use Rattle.pcp_base.specs.declared.result.Item.{Item}
 use Rattle.pcp_base.specs.declared.result.Item.TheVariants.{Sample}
@@ -10,12 +10,12 @@ use Rattle.fetch_answers.specs.declared.fetch.Fetched.{Fetched}
 use Rattle.fetch_answers.specs.Readings.{RegionReading}
 use Rattle.fetch_engine.specs.declared.server.Mounted.{Mounted}
 use Rattle.fetch_engine.specs.Visits.{AreRead}
-use Rattle.logging_session.specs.Events.{Event, opening}
+use Rattle.logging_session.specs.Events.{Event, opening, with_report}
 use Rattle.run_script.specs.declared.script.Script.{Script}
 use Rattle.script_runs.specs.declared.ending.Ending.{Ending}
 use Rattle.script_runs.specs.declared.ending.Ending.TheVariants as ends
 use Rattle.script_runs.specs.declared.ending.LimitKind.TheVariants as kinds
-use Rattle.script_runs.specs.Archives.{IsTaken, IsTurnedAway}
+use Rattle.script_runs.specs.Archives.{IsTaken, IsTurnedAway, report_of}
 use Rattle.script_runs.specs.Steps.{fetched_from}
 use Rattle.run_archive.specs.Samples.{SampleTaken}
 use Rattle.run_archive.specs.Shown.{events_of, pmids_by}
@@ -55,7 +55,7 @@ module _ {script : Script} {server : List Mounted} {first final : List Token} {e
   WhyStopped reason = Unit {0}
 
   -- What was done to the archive that recovery left, event by event, and which items were on their way when the disk failed: the results were
-  -- logged one behind another.
+  -- logged one behind another, and the volume was made sure behind each.
   abbrev pub LogsResults : List Event → List Item → Type 0
   LogsResults events more = (events ≡ events_of results) × (more ≡ [])
 
@@ -73,6 +73,11 @@ module _ {script : Script} {server : List Mounted} {first final : List Token} {e
   FailsTakingLast limit left events more =
       (x : ShowsLast) × IsTaken limit left (events_of results) (shown_last x) × (events ≡ events_of results) × (more ≡ Sample (shown_last x).result ∷ [])
 
+  -- the disk failed as the last one, which was logged, was to be made sure
+  abbrev pub LeavesLastUnsure : List Event → List Item → Type 0
+  LeavesLastUnsure events more =
+      (before : List Fetched) × (last : Fetched) × (results ≡ before ++ last ∷ []) × (events ≡ with_report (events_of before) (report_of last)) × (more ≡ [])
+
   -- No line's condition fails in it, and files that are turned away aren't recovered.
   abbrev pub LoggingDid : ℕ → Files → Ending → List Event → List Item → Type 0
   LoggingDid limit left (ends.Limit kinds.Sets number) events more = LogsResults events more
@@ -80,7 +85,7 @@ module _ {script : Script} {server : List Mounted} {first final : List Token} {e
   LoggingDid limit left (ends.NotLater last) events more = TurnsLastAway limit left (ends.NotLater last) events more
   LoggingDid limit left (ends.Changed pmid) events more = TurnsLastAway limit left (ends.Changed pmid) events more
   LoggingDid limit left ends.NoMemory events more = LogsResults events more ⊎ OpensForLast events more
-  LoggingDid limit left ends.DiskFault events more = LogsResults events more ⊎ (OpensForLast events more ⊎ FailsTakingLast limit left events more)
+  LoggingDid limit left ends.DiskFault events more = LogsResults events more ⊎ (OpensForLast events more ⊎ (FailsTakingLast limit left events more ⊎ LeavesLastUnsure events more))
   LoggingDid limit left (ends.Condition line) events more = ⊥
   LoggingDid limit left (ends.NotArchive file at) events more = ⊥
   LoggingDid limit left (ends.Compressed file) events more = ⊥

@@ -8,7 +8,7 @@ use Rattle.logging_session.specs.Events.{Event, with_report}
 use Rattle.script_runs.specs.Archives.{report_of}
 use Rattle.script_runs.specs.Groups.{Plan}
 use Rattle.run_archive.specs.Samples.{AreTaken, SampleTaken}
-use Rattle.run_archive.specs.Shown.{AreShown, shown_by, with_result, with_results}
+use Rattle.run_archive.specs.Shown.{AreShown, shown_by, with_result, with_sure_results}
 
 pub taken_joined : (server : List Mounted) (xs ys : List SampleTaken) (first middle last : List Token) → AreTaken server first xs middle → AreTaken server middle ys last → AreTaken server first (xs ++ ys) last
 taken_joined server [] ys first middle last one two = subst (λ (t : List Token). AreTaken server t ys last) one two
@@ -31,6 +31,6 @@ shown_joined groups (x ∷ xs) ys first middle last fs gs (next, rest, few, pass
 )
 
 -- results behind results
-pub results_joined : (events : List Event) (fs gs : List Fetched) → with_results (with_results events fs) gs ≡ with_results events (fs ++ gs)
+pub results_joined : (events : List Event) (fs gs : List Fetched) → with_sure_results (with_sure_results events fs) gs ≡ with_sure_results events (fs ++ gs)
 results_joined events [] gs = refl
-results_joined events (f ∷ fs) gs = results_joined (with_report events (report_of f)) fs gs
+results_joined events (f ∷ fs) gs = results_joined (with_report events (report_of f) ++ Event.synced ∷ []) fs gs

@@ -10,6 +10,7 @@ pub mod Joined
 pub mod Keys
 pub mod Loading
 pub mod Logged
+pub mod Losing
 pub mod Outcomes
 pub mod Results
 pub mod Taking

@@ -63,7 +63,7 @@ closing_sure events = flushed_sure (items_by events) events refl
 -- ---- endings
 
 -- the disk failed, or not
-is_failing : (ending : Ending) → (ending ≡ ends.DiskFault) ⊎ (ending ≢ ends.DiskFault)
+pub is_failing : (ending : Ending) → (ending ≡ ends.DiskFault) ⊎ (ending ≢ ends.DiskFault)
 is_failing ends.Done = inr (λ e. cc)
 is_failing (ends.Condition line) = inr (λ e. cc)
 is_failing ends.DiskFault = inl refl
@@ -76,7 +76,7 @@ is_failing ends.NoMemory = inr (λ e. cc)
 is_failing (ends.NotLater last) = inr (λ e. cc)
 is_failing (ends.Changed pmid) = inr (λ e. cc)
 
-ended_closing : (ending : Ending) (events : List Event) → ending ≢ ends.DiskFault → ended ending events ≡ closing events
+pub ended_closing : (ending : Ending) (events : List Event) → ending ≢ ends.DiskFault → ended ending events ≡ closing events
 ended_closing ends.Done events other = refl
 ended_closing (ends.Condition line) events other = refl
 ended_closing ends.DiskFault events other = absurd (other refl)
@@ -89,7 +89,7 @@ ended_closing ends.NoMemory events other = refl
 ended_closing (ends.NotLater last) events other = refl
 ended_closing (ends.Changed pmid) events other = refl
 
-ended_failing : (ending : Ending) (events : List Event) → ending ≡ ends.DiskFault → ended ending events ≡ events
+pub ended_failing : (ending : Ending) (events : List Event) → ending ≡ ends.DiskFault → ended ending events ≡ events
 ended_failing ending events is = ap (λ (e : Ending). ended e events) is
 
 ended_items : (ending : Ending) (events : List Event) → items_by (ended ending events) ≡ items_by events

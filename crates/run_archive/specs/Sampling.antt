@@ -13,13 +13,16 @@ use Rattle.log_schedule.specs.declared.config.Group.{Group}
 use Rattle.script_runs.specs.declared.ending.Ending.{Ending}
 use Rattle.script_runs.specs.declared.ending.Ending.TheVariants as ends
 use Rattle.script_runs.specs.declared.ending.LimitKind.TheVariants as kinds
+use Rattle.logging_session.specs.Course.{WentBy}
+use Rattle.logging_session.specs.Events.{with_report}
+use Rattle.script_runs.specs.Archives.{report_of, run_label}
 use Rattle.script_runs.specs.Groups.{Plan}
 use Rattle.script_runs.specs.Steps.{fetched_from}
 use Rattle.run_archive.specs.Endings.{EndsUnlogged}
 use Rattle.run_archive.specs.Kept.{KeepsRun, LeavesUnlogged, OverAny}
 use Rattle.run_archive.specs.declared.sampler.Sampler.{Sampler}
 use Rattle.run_archive.specs.Samples.{SampleTaken, IsTaken, AreTaken, stamps_of}
-use Rattle.run_archive.specs.Shown.{AreShown, pmids_by, with_results}
+use Rattle.run_archive.specs.Shown.{AreShown, pmids_by, with_results, with_sure_results}
 
 -- the clock's list of moments had ended
 abbrev pub HasEnded : {C : Type 0} → ClockGhosts C → C → Type 0
@@ -85,13 +88,13 @@ module _ {D : Type 0} (d : DiskGhosts D) (groups : List Group) (server : List Mo
   StopsAt ending = AsksInVain ending ⊎ ShowsInVain ending
 
 module _ {C D : Type 0} (c : ClockGhosts C) (d : DiskGhosts D) (groups : List Group) (server : List Mounted) (was is : Sampler) (seat_was seat_is : List Token) (clock_was clock_is : C) (disk_was disk_is : D) where
-  -- These samples were taken, and what they show was logged.
+  -- These samples were taken, and what they show was logged, and made sure behind each of them.
   pub record GoesOn (samples : List SampleTaken) : Type 0 where
     pub taken : AreTaken server seat_was samples seat_is
     pub moments : c.tells → c.left clock_was ≡ stamps_of samples ++ c.left clock_is
     pub results : List Fetched
     pub shown : AreShown groups was.plans samples results is.plans
-    pub logs : OverAny d was.session disk_was (λ left events start. KeepsRun d left (with_results events results) start is.session disk_is)
+    pub logs : OverAny d was.session disk_was (λ left events start. KeepsRun d left (with_sure_results events results) start is.session disk_is)
     pub counted : is.session.logged ≡ was.session.logged + length results
 
   -- The clock gave no further moment.
@@ -113,7 +116,7 @@ module _ {C D : Type 0} (c : ClockGhosts C) (d : DiskGhosts D) (groups : List Gr
     pub names : List RegionReading
     pub why : (ending ≡ ends.NoMemory)
         ⊎ (AreRead server middle names seat_is × (1024 < length (pmids_by groups plans names stamp)) × (ending ≡ ends.Limit kinds.Sets (length (pmids_by groups plans names stamp))))
-    pub logs : OverAny d was.session disk_was (λ left events start. KeepsRun d left (with_results events results) start is.session disk_is)
+    pub logs : OverAny d was.session disk_was (λ left events start. KeepsRun d left (with_sure_results events results) start is.session disk_is)
     pub counted : is.session.logged ≡ was.session.logged + length results
 
   -- Behind these samples one more was taken, and what it shows was not logged.
@@ -127,10 +130,22 @@ module _ {C D : Type 0} (c : ClockGhosts C) (d : DiskGhosts D) (groups : List Gr
     pub some : 0 < length (pmids_by groups plans last.names last.stamp)
     pub few : length (pmids_by groups plans last.names last.stamp) ≤ 1024
     pub why : EndsUnlogged ending
-    pub logs : OverAny d was.session disk_was (λ left events start. LeavesUnlogged d left (with_results events results) start
+    pub logs : OverAny d was.session disk_was (λ left events start. LeavesUnlogged d left (with_sure_results events results) start
         (fetched_from last.values (pmids_by groups plans last.names last.stamp) last.stamp) is.session disk_is ending)
     pub counted : is.session.logged ≡ was.session.logged + length results
 
+  -- Behind these samples one more was taken, and what it shows was logged; the disk failed as that was to be made sure.
+  pub record LoggedUnsure (samples : List SampleTaken) (ending : Ending) : Type 0 where
+    pub last : SampleTaken
+    pub taken : AreTaken server seat_was (samples ++ last ∷ []) seat_is
+    pub moments : c.tells → c.left clock_was ≡ stamps_of samples ++ last.stamp ∷ c.left clock_is
+    pub results : List Fetched
+    pub unsure : Fetched
+    pub shown : AreShown groups was.plans (samples ++ last ∷ []) (results ++ unsure ∷ []) is.plans
+    pub why : ending ≡ ends.DiskFault
+    pub logs : OverAny d was.session disk_was (λ left events start. WentBy d run_label is.session.limit left (with_report (with_sure_results events results) (report_of unsure)) [] start disk_is)
+    pub counted : is.session.logged ≡ was.session.logged + length results + 1
+
   -- sampling stopped, when so many samples were left
   abbrev pub StopsSampling : List SampleTaken → ℕ → Ending → Type 0
-  StopsSampling samples left ending = EndsBefore samples ending left ⊎ (AskedInVain samples ending ⊎ ShownInVain samples ending)
+  StopsSampling samples left ending = EndsBefore samples ending left ⊎ (AskedInVain samples ending ⊎ (ShownInVain samples ending ⊎ LoggedUnsure samples ending))

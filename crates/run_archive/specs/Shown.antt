@@ -1,5 +1,5 @@
 -- What samples ask for, and the results that are logged of them (pmlogger(1)).
-use Rattle.std.specs.Prelude.{◌≡◌, ℕ, ◌<◌, ◌≤◌, List, [], ◌∷◌, length, map, Option, Some, None}
+use Rattle.std.specs.Prelude.{◌≡◌, ℕ, ◌<◌, ◌≤◌, List, [], ◌∷◌, ◌++◌, length, map, Option, Some, None}
 use Rattle.std.specs.List.{AllByRecursion}
 use Rattle.pcp_base.specs.Results.{Fits}
 use Rattle.pcp_base.specs.Time.{Moment}
@@ -57,8 +57,14 @@ abbrev pub with_results : List Event → List Fetched → List Event
 with_results events [] = events
 with_results events (f ∷ results) = with_results (with_report events (report_of f)) results
 
+-- A recording logs results one behind another, and makes the volume sure behind each.
+abbrev pub with_sure_results : List Event → List Fetched → List Event
+with_sure_results events [] = events
+with_sure_results events (f ∷ results) = with_sure_results (with_report events (report_of f) ++ Event.synced ∷ []) results
+
+-- the events of a recording that logged these
 abbrev pub events_of : List Fetched → List Event
-events_of results = with_results [] results
+events_of results = with_sure_results [] results
 
 abbrev pub items_of_results : List Fetched → List Item
 items_of_results results = map (λ (f : Fetched). Sample f.result) results

@@ -12,6 +12,7 @@ use crate::asking::ask;
 use crate::logging::log_shown;
 use crate::plans::Plans;
 use crate::sampler::Sampler;
+use crate::sure::make_sure;
 use fetch_engine::{Seat, Server};
 use pcp_base::Stamp;
 use pcp_outside::{Clock, Disk, LOGGER, Turn};
@@ -83,8 +84,8 @@ pub fn sample_at<'a, D: Disk>(
     Ok(pmids.len() as u64)
 }
 
-/// Takes a sample at the clock's next moment, and logs it. `number` is its number from 0, and `left` how many are left, this one
-/// among them.
+/// Takes a sample at the clock's next moment, logs it, and makes sure what it logged. `number` is its number from 0, and `left` how many are
+/// left, this one among them.
 pub fn sample<'a, D: Disk, C: Clock, T: Turn>(
     alloc: Global,
     disk: &mut D,
@@ -115,11 +116,15 @@ pub fn sample<'a, D: Disk, C: Clock, T: Turn>(
 {
     turn.turn(LOGGER, number);
     let now = next_moment(clock, left)?;
-    sample_at(alloc, disk, sampler, script, server, seat, now)?;
+    let count = sample_at(alloc, disk, sampler, script, server, seat, now)?;
+    if count == 0 {
+        return Ok(());
+    }
+    make_sure(disk, &mut sampler.session)?;
     Ok(())
 }
 
-/// Takes so many samples, the first ones of `samples`, one after another.
+/// Takes so many samples, the first ones of `samples`, one after another: each is sure before the next one is waited for.
 pub fn sample_all<'a, D: Disk, C: Clock, T: Turn>(
     alloc: Global,
     disk: &mut D,
