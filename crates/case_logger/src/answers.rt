@@ -41,6 +41,14 @@ pub fn tell_fault(alloc: Global, fault: LogFault) -> Result<String, NoMemory> {
     Ok(out)
 }
 
+/// A line that names the refusal of a result of a group, and which it is, from 0.
+pub fn tell_place(alloc: Global, k: u32, fault: LogFault) -> Result<String, NoMemory> {
+    let mut out = format!(in alloc; "{k} ")?;
+    let told = tell_fault(alloc, fault)?;
+    out.push_str(told.as_str())?;
+    Ok(out)
+}
+
 /// A line that names the refusal of `recover`, with its file and place.
 pub fn tell_refusal(alloc: Global, fault: RecoverFault) -> Result<String, NoMemory> {
     let mut out = String::new(alloc);

@@ -1,15 +1,17 @@
 //! A logger's calls over the disk of the case.
 ghost use Rattle.std.specs.Prelude.{◌≤◌, IfSome};
 
-use crate::answers::{tell_counts, tell_fault, tell_refusal};
+use crate::answers::{tell_counts, tell_fault, tell_place, tell_refusal};
+use crate::groups::may_be_asked;
 use crate::handed::Handed;
 use crate::images::tell_images;
 use crate::items::tell_items;
+use archive_meta::Facts;
 use archive_recovery::{Archive, recover};
 use case_book::{Answer, Words, text_of};
 use case_outside::Drive;
 use logger_core::{LogFault, Logger};
-use pcp_base::{NoMemory, PmResult, Stamp};
+use pcp_base::{List, NoMemory, PmResult, Stamp};
 use pcp_model::Label;
 use pcp_outside::MemDisk;
 use result_form::fits;
@@ -20,6 +22,7 @@ use std::alloc::Global;
 pub struct Logging {
     logger: Option<Logger>,
     handed: Handed,
+    group: List<(PmResult, Facts)>,
 }
 
 fn line_of(alloc: Global, text: &str) -> Result<String, NoMemory> {
@@ -112,11 +115,31 @@ fn log_all(
     Ok(Some(line_of(alloc, "logged\n")?))
 }
 
+// Logs results together.
+fn log_group(
+    alloc: Global,
+    logger: &mut Logger,
+    disk: &mut MemDisk,
+    group: &List<(PmResult, Facts)>,
+) -> Result<Option<String>, NoMemory> {
+    if group.len() > 64 {
+        return Ok(None);
+    }
+    if !may_be_asked(group.as_slice()) {
+        return Ok(None);
+    }
+    match logger.log_all(alloc, disk, group) {
+        Ok(()) => Ok(Some(line_of(alloc, "logged\n")?)),
+        Err((k, fault)) => Ok(Some(tell_place(alloc, k, fault)?)),
+    }
+}
+
 impl Logging {
     pub fn new(alloc: Global) -> Logging {
         Logging {
             logger: None,
             handed: Handed::none(alloc),
+            group: List::empty(alloc),
         }
     }
 
@@ -216,6 +239,26 @@ impl Logging {
         )
     }
 
+    // `hold SEC USEC`: what is handed is held for the next group, and nothing is handed any more.
+    fn hold(&mut self, alloc: Global, words: &mut Words<'_>) -> Result<Option<String>, NoMemory> {
+        let Some(stamp) = words.stamp() else {
+            return Ok(None);
+        };
+        let handed = std::mem::replace(&mut self.handed, Handed::none(alloc));
+        let Handed { sets, facts } = handed;
+        self.group.push((PmResult { stamp, sets }, facts))?;
+        Ok(Some(line_of(alloc, "held\n")?))
+    }
+
+    // `group`: what is held is logged together.
+    fn group(&mut self, alloc: Global, drive: &mut Drive) -> Result<Option<String>, NoMemory> {
+        let group = std::mem::replace(&mut self.group, List::empty(alloc));
+        let Some(logger) = self.logger.as_mut() else {
+            return Ok(None);
+        };
+        log_group(alloc, logger, &mut drive.disk, &group)
+    }
+
     fn flush(&mut self, alloc: Global, drive: &mut Drive) -> Result<Option<String>, NoMemory> {
         let Some(logger) = self.logger.as_mut() else {
             return Ok(None);
@@ -244,6 +287,8 @@ impl Logging {
             "create" => self.create(alloc, drive, &mut words),
             "reopen" => self.reopen(alloc, drive, &mut words),
             "log" => self.log(alloc, drive, &mut words),
+            "hold" => self.hold(alloc, &mut words),
+            "group" => self.group(alloc, drive),
             "flush" => self.flush(alloc, drive),
             "counts" => self.counts(alloc),
             "images" => Ok(Some(tell_images(alloc, drive)?)),
@@ -256,9 +301,10 @@ impl Logging {
     }
 
     /// `logger create LIMIT PID SEC USEC HOST ZONE`, `reopen LIMIT` behind a recovery, `log SEC USEC COUNT` of what is handed,
-    /// `flush` and `counts` tell their answer, `images` how many items a crash leaves, and `items N`
-    /// those behind the first N; `fact PMID CODE DOMAIN SEMANTICS UNITS NAME`, `domain DOMAIN NUMBER NAME ..`,
-    /// `set PMID INSTANCE VALUE ..`, `many PMID COUNT`, `status PMID STATUS` and `nothing` say what is handed.
+    /// `hold SEC USEC` of it and then `group` of all that is held, `flush` and `counts` tell their answer, `images` how many items
+    /// a crash leaves, and `items N` those behind the first N; `fact PMID CODE DOMAIN SEMANTICS UNITS NAME`,
+    /// `domain DOMAIN NUMBER NAME ..`, `set PMID INSTANCE VALUE ..`, `many PMID COUNT`, `status PMID STATUS` and `nothing` say what
+    /// is handed.
     pub fn call(
         &mut self,
         alloc: Global,

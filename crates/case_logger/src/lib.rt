@@ -4,6 +4,7 @@
 
 mod answers;
 mod calls;
+mod groups;
 mod handed;
 mod images;
 mod items;
