@@ -94,6 +94,48 @@ fn serve_beside(
     }
 }
 
+// Changes a region whole. False where no change begins.
+fn change_whole(server: &Server, changer: Changer) -> bool
+    requires changer { CanChange server.now changer }
+{
+    let Some(region) = server.region(changer.at) else {
+        return false;
+    };
+    match region.begin_change(changer.pass, changer.image, 0) {
+        Ok(change) => {
+            let _pass = change.finish(region);
+            true
+        }
+        Err(_) => false,
+    }
+}
+
+// Two sessions on one seat over the same input, before a change and behind it. None where no change begins.
+fn served_across(
+    alloc: Global,
+    given: &Given,
+    input: &[u8],
+    most: usize,
+) -> Result<Option<Vec<u8>>, NoMemory> {
+    let Some(opening) = open(alloc, &given.script, given.changed)? else {
+        return Ok(None);
+    };
+    let Opening {
+        server,
+        mut seat,
+        changer: Some(changer),
+    } = opening
+    else {
+        return Ok(None);
+    };
+    let mut told = serve(alloc, &server, &mut seat, given, input, most)?;
+    if !change_whole(&server, changer) {
+        return Ok(None);
+    }
+    told.extend_from_slice(&serve(alloc, &server, &mut seat, given, input, most)?)?;
+    Ok(Some(told))
+}
+
 // Serves a first session, beside a change where one is asked for. None where no change begins.
 fn serve_first(
     alloc: Global,
@@ -171,8 +213,9 @@ fn served_torn(alloc: Global, given: &Given, input: &[u8]) -> Result<Option<Vec<
     Ok(Some(out))
 }
 
-/// `session N`: a session whose input comes in pieces of at most so many bytes; `session N again`: two on one seat. Its end and
-/// the moments left come in a line, and behind it the bytes written. `session each`: the same in pieces of every length.
+/// `session N`: a session whose input comes in pieces of at most so many bytes; `session N again`: two on one seat, the first beside
+/// the change where one is given; `session N across`: two on one seat, the change between them. Its end and the moments left come
+/// in a line, and behind it the bytes written. `session each`: the same in pieces of every length.
 /// `session torn`: the end, the moments left and the number of bytes written, over each front of the input.
 pub fn tell_session(
     alloc: Global,
@@ -192,6 +235,7 @@ pub fn tell_session(
     match words.next() {
         "" => served(alloc, given, input, most, false),
         "again" => served(alloc, given, input, most, true),
+        "across" => served_across(alloc, given, input, most),
         _ => Ok(None),
     }
 }

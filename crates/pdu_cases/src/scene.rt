@@ -2,6 +2,7 @@
 use crate::pdus::tell_pdu;
 use crate::streams::tell_pieces;
 use case_book::{Answer, Kept, Line, Subject, Words};
+use case_outside::prepare_input;
 use case_sessions::{Given, tell_session};
 use pcp_base::NoMemory;
 use std::alloc::Global;
@@ -18,17 +19,6 @@ impl Scene {
         Scene {
             input: Vec::new(alloc),
             given: Given::new(alloc),
-        }
-    }
-
-    // `more LITERAL` behind the input.
-    fn add_input(&mut self, alloc: Global, kept: &Kept, rest: &str) -> Result<bool, NoMemory> {
-        match kept.read(alloc, rest)? {
-            Some(more) => {
-                self.input.extend_from_slice(&more)?;
-                Ok(true)
-            }
-            None => Ok(false),
         }
     }
 
@@ -66,11 +56,9 @@ impl Subject for Scene {
         line: Line<'_>,
     ) -> Result<bool, NoMemory> {
         match line.word {
-            "input" => {
-                self.input.clear();
-                self.add_input(alloc, kept, line.rest)
+            "input" | "more" | "set" | "cut" => {
+                prepare_input(alloc, kept, &mut self.input, line)
             }
-            "more" => self.add_input(alloc, kept, line.rest),
             "serve" | "change" | "moment" | "fail" => self.given.prepare(alloc, kept, line),
             _ => self.call(alloc, answer, line),
         }
